@@ -1,0 +1,79 @@
+//! What the parts of a spelling up to the opcode byte say (Intel SDM volume 2, 2.1 and 2.3.5).
+
+ghost use Rattle.std.specs.Prelude.{◌≡◌, ◌<◌, ◌+◌, length};
+ghost use Rattle.instruction_parts.specs.Bytes as spec;
+
+use crate::counting::{counting_repeat, counting_rex, counting_segment, has_66, has_67, has_lock};
+use crate::spelling::{PrefixState, Spelling, Vex};
+use row_types::{Map, Row};
+use x86_values::Bits;
+
+/// The length of the VEX, else of the escape bytes of the map.
+#[tactic(auto, unfolding(crate::specs::Bytes::lead_bytes, crate::specs::Bytes::vex_bytes))]
+pub fn lead_len(map: Map, vex: Option<Vex>) -> u8
+    ensures value { result ≡ length (spec.lead_bytes map vex) }
+    ensures short { result < 4 }
+{
+    match vex {
+        None => match map {
+            Map::One => 0,
+            Map::M0f => 1,
+            Map::M0f38 => 2,
+            Map::M0f3a => 2,
+        },
+        Some(v) => if v.three { 3 } else { 2 },
+    }
+}
+
+/// The map of a spelling.
+fn spelled_map(map: Map, vex: Option<Vex>) -> Map
+    ensures { result ≡ spec.spelled_map map vex }
+{
+    match vex {
+        None => map,
+        Some(v) => v.map,
+    }
+}
+
+/// What prefixes, VEX, map and opcode byte say.
+#[tactic(auto, unfolding(crate::specs::Bytes::state_from))]
+pub fn state_from(
+    bits: Bits,
+    prefixes: &[u8],
+    used: u8,
+    vex: Option<Vex>,
+    map: Map,
+    opcode: u8,
+) -> PrefixState
+    ensures { result ≡ spec.state_from bits prefixes.now used vex map opcode }
+{
+    PrefixState {
+        used,
+        size66: has_66(prefixes),
+        addr67: has_67(prefixes),
+        lock: has_lock(prefixes),
+        rep: counting_repeat(prefixes),
+        seg: counting_segment(bits, prefixes),
+        rex: counting_rex(bits, prefixes),
+        vex,
+        map,
+        opcode,
+    }
+}
+
+/// The state of a spelling of the row.
+#[tactic(auto, unfolding(crate::specs::Bytes::state_of, crate::specs::Bytes::front_bytes))]
+pub fn state_of(bits: Bits, row: &Row, s: &Spelling) -> PrefixState
+    ensures { result ≡ spec.state_of bits row.now s.now }
+{
+    let prefixes = s.prefixes.as_slice();
+    let used = prefixes.len() as u8 + lead_len(row.map, s.vex);
+    state_from(
+        bits,
+        prefixes,
+        used,
+        s.vex,
+        spelled_map(row.map, s.vex),
+        s.opcode,
+    )
+}

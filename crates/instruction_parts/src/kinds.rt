@@ -1,0 +1,224 @@
+//! What each operand kind says: where the operand is read, which registers it names, how much
+//! memory it has.
+
+ghost use Rattle.std.specs.Prelude.{◌≡◌};
+ghost use Rattle.instruction_parts.specs.Kinds.{method_of, file_of, memory_width, immediate_width, fixed_number, IsShort};
+
+use row_types::OpKind;
+
+/// Where an operand is read.
+#[derive(Clone, Copy, PartialEq, Eq, Debug)]
+pub enum Method {
+    Nothing,
+    ModRmReg,
+    RegisterOrMemory,
+    RegisterOnly,
+    MemoryOnly,
+    AnyMode,
+    OpcodeLow,
+    Vvvv,
+    LastByte,
+    Gather,
+    Offset,
+    AsWritten,
+    Extended,
+    Near,
+    Pointer,
+    Fixed,
+    One,
+}
+
+/// Which registers a kind names.
+#[derive(Clone, Copy, PartialEq, Eq, Debug)]
+pub enum File {
+    Byte,
+    Word,
+    Dword,
+    Qword,
+    OperandSize,
+    WordOrDword,
+    ByW,
+    Native,
+    Segment,
+    Control,
+    Debug,
+    Stack,
+    Mmx,
+    Xmm,
+    Vector,
+}
+
+/// How many bytes of memory, or of an immediate, a kind has.
+#[derive(Clone, Copy, PartialEq, Eq, Debug)]
+pub enum Width {
+    Zero,
+    Bytes(u8),
+    OperandSize,
+    TwiceOperandSize,
+    WordOrDword,
+    ByW,
+    Vector,
+    HalfVector,
+    QuarterVector,
+    EighthVector,
+    PointerOfSize,
+}
+
+/// Where an operand is read.
+#[tactic(auto, unfolding(crate::specs::Kinds::method_of))]
+pub fn method_of_kind(kind: OpKind) -> Method
+    ensures { result ≡ method_of kind }
+{
+    match kind {
+        OpKind::Absent => Method::Nothing,
+        OpKind::Gb
+        | OpKind::Gw
+        | OpKind::Gd
+        | OpKind::Gv
+        | OpKind::Gy
+        | OpKind::Sw
+        | OpKind::Cn
+        | OpKind::Dn
+        | OpKind::Pq
+        | OpKind::Vx
+        | OpKind::Vo => Method::ModRmReg,
+        OpKind::Zb | OpKind::Zv => Method::OpcodeLow,
+        OpKind::By | OpKind::Hx | OpKind::Ho => Method::Vvvv,
+        OpKind::Rv | OpKind::Ry | OpKind::Nq | OpKind::Ux | OpKind::StI => Method::RegisterOnly,
+        OpKind::Rm => Method::AnyMode,
+        OpKind::M
+        | OpKind::Mb
+        | OpKind::Mw
+        | OpKind::Md
+        | OpKind::Mq
+        | OpKind::Mt
+        | OpKind::Mv
+        | OpKind::Mx
+        | OpKind::Mo
+        | OpKind::Ma
+        | OpKind::Mp
+        | OpKind::Mf => Method::MemoryOnly,
+        OpKind::Ob | OpKind::Ov => Method::Offset,
+        OpKind::Ib | OpKind::Iw | OpKind::Iv => Method::AsWritten,
+        OpKind::Ibs | OpKind::Iz => Method::Extended,
+        OpKind::Jb | OpKind::Jz => Method::Near,
+        OpKind::Ap => Method::Pointer,
+        OpKind::Lx => Method::LastByte,
+        OpKind::GatherX | OpKind::GatherL => Method::Gather,
+        OpKind::RaxAny
+        | OpKind::EaxZ
+        | OpKind::Al
+        | OpKind::Ax
+        | OpKind::Cl
+        | OpKind::Dx
+        | OpKind::Es
+        | OpKind::Cs
+        | OpKind::Ss
+        | OpKind::Ds
+        | OpKind::Fs
+        | OpKind::Gs
+        | OpKind::St
+        | OpKind::Xmm0 => Method::Fixed,
+        OpKind::One => Method::One,
+        _ => Method::RegisterOrMemory,
+    }
+}
+
+/// Which registers a kind names.
+#[tactic(auto, unfolding(crate::specs::Kinds::file_of))]
+pub fn file_of_kind(kind: OpKind) -> File
+    ensures { result ≡ file_of kind }
+{
+    match kind {
+        OpKind::Eb | OpKind::Gb | OpKind::Zb | OpKind::Ob | OpKind::Al | OpKind::Cl => File::Byte,
+        OpKind::Ew | OpKind::Gw | OpKind::Ax | OpKind::Dx => File::Word,
+        OpKind::Eq => File::Qword,
+        OpKind::Ev
+        | OpKind::Gv
+        | OpKind::Zv
+        | OpKind::Rv
+        | OpKind::Xv
+        | OpKind::Ov
+        | OpKind::RaxAny => File::OperandSize,
+        OpKind::Ez | OpKind::EaxZ => File::WordOrDword,
+        OpKind::Ey | OpKind::Gy | OpKind::By | OpKind::Ry => File::ByW,
+        OpKind::Rm => File::Native,
+        OpKind::Sw | OpKind::Es | OpKind::Cs | OpKind::Ss | OpKind::Ds | OpKind::Fs | OpKind::Gs =>
+            File::Segment,
+        OpKind::Cn => File::Control,
+        OpKind::Dn => File::Debug,
+        OpKind::Pq | OpKind::Qd | OpKind::Qq | OpKind::Nq => File::Mmx,
+        OpKind::Vx | OpKind::Hx | OpKind::Lx | OpKind::Ux | OpKind::Wx | OpKind::GatherL =>
+            File::Vector,
+        OpKind::Vo
+        | OpKind::Ho
+        | OpKind::Wo
+        | OpKind::Wb
+        | OpKind::Ww
+        | OpKind::Wd
+        | OpKind::Wq
+        | OpKind::Wh
+        | OpKind::W4
+        | OpKind::W8
+        | OpKind::GatherX
+        | OpKind::Xmm0 => File::Xmm,
+        OpKind::St | OpKind::StI => File::Stack,
+        _ => File::Dword,
+    }
+}
+
+/// How many bytes an operand has in memory.
+#[tactic(auto, unfolding(crate::specs::Kinds::memory_width))]
+pub fn memory_width_of_kind(kind: OpKind) -> Width
+    ensures value { result ≡ memory_width kind }
+    ensures short { IsShort result }
+{
+    match kind {
+        OpKind::Eb | OpKind::Kb | OpKind::Mb | OpKind::Ob | OpKind::Wb => Width::Bytes(1),
+        OpKind::Ew | OpKind::Xv | OpKind::Kw | OpKind::Mw | OpKind::Ww => Width::Bytes(2),
+        OpKind::Ed | OpKind::Md | OpKind::Qd | OpKind::Wd => Width::Bytes(4),
+        OpKind::Eq | OpKind::Mq | OpKind::Qq | OpKind::Wq => Width::Bytes(8),
+        OpKind::Ev | OpKind::Mv | OpKind::Ov => Width::OperandSize,
+        OpKind::Ez => Width::WordOrDword,
+        OpKind::Ey | OpKind::GatherX | OpKind::GatherL => Width::ByW,
+        OpKind::Mt => Width::Bytes(10),
+        OpKind::Mx | OpKind::Wx => Width::Vector,
+        OpKind::Mo | OpKind::Wo => Width::Bytes(16),
+        OpKind::Ma => Width::TwiceOperandSize,
+        OpKind::Wh => Width::HalfVector,
+        OpKind::W4 => Width::QuarterVector,
+        OpKind::W8 => Width::EighthVector,
+        _ => Width::Zero,
+    }
+}
+
+/// How many bytes of the immediates belong to an operand.
+#[tactic(auto, unfolding(crate::specs::Kinds::immediate_width))]
+pub fn immediate_width_of_kind(kind: OpKind) -> Width
+    ensures value { result ≡ immediate_width kind }
+    ensures short { IsShort result }
+{
+    match kind {
+        OpKind::Ib | OpKind::Ibs | OpKind::Jb | OpKind::Lx => Width::Bytes(1),
+        OpKind::Iw => Width::Bytes(2),
+        OpKind::Iz | OpKind::Jz => Width::WordOrDword,
+        OpKind::Iv => Width::OperandSize,
+        OpKind::Ap => Width::PointerOfSize,
+        _ => Width::Zero,
+    }
+}
+
+/// The number of the register that a fixed operand names.
+#[tactic(auto, unfolding(crate::specs::Kinds::fixed_number))]
+pub fn fixed_number_of_kind(kind: OpKind) -> u8
+    ensures { result ≡ fixed_number kind }
+{
+    match kind {
+        OpKind::Cl | OpKind::Cs => 1,
+        OpKind::Dx | OpKind::Ss => 2,
+        OpKind::Ds => 3,
+        OpKind::Fs => 4,
+        OpKind::Gs => 5,
+        _ => 0,
+    }
+}

@@ -1,0 +1,15 @@
+//! The parts of an instruction's bytes: what prefixes count for, what sizes follow from them, what each operand kind
+//! says, and the front of some bytes (Intel SDM volume 2, chapter 2 and appendix A).
+#![tactic(auto)]
+
+pub mod bytes;
+pub mod counting;
+pub mod kinds;
+pub mod sizes;
+pub mod spelling;
+
+pub use kinds::{
+    File, Method, Width, file_of_kind, fixed_number_of_kind, immediate_width_of_kind,
+    memory_width_of_kind, method_of_kind,
+};
+pub use spelling::{ModRm, PrefixState, Sib, Spelling, Vex};

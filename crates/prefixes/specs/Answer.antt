@@ -1,0 +1,28 @@
+-- What `read_prefixes` answers, by the front of the bytes.
+use Rattle.std.specs.Prelude.{ℕ, Bool, ◌||◌, ◌==◌, nat_le, if◌then◌else◌, Result, Ok, Err}
+use Rattle.x86_values.specs.declared.Bits.{Bits}
+use Rattle.x86_values.specs.declared.Bits.TheVariants.{B16, B32, B64}
+use Rattle.instruction_parts.specs.declared.spelling.PrefixState.{PrefixState}
+use Rattle.instruction_parts.specs.Front.{Front, Open, Forbidden, Known}
+use Rattle.prefixes.specs.declared.PrefixError.{PrefixError}
+use Rattle.prefixes.specs.declared.PrefixError.TheVariants.{Ended, Forbidden as ForbiddenError}
+
+-- the number is that of a mode
+abbrev pub is_mode : ℕ → Bool
+is_mode n = n == 16 || n == 32 || n == 64
+
+-- the mode of a number
+unfoldable pub mode_of : ℕ → Bits
+mode_of n = if n == 16 then B16 else (if n == 32 then B32 else B64)
+
+-- an open front is Ended, a forbidden one Forbidden, and a known one its state
+abbrev pub answer_of : Front → Result PrefixState PrefixError
+answer_of Open = Err Ended
+answer_of Forbidden = Err ForbiddenError
+answer_of (Known state) = Ok state
+
+-- an answer is Forbidden once 15 bytes were read without an opcode byte
+abbrev pub answer_within_15 : ℕ → Result PrefixState PrefixError → Result PrefixState PrefixError
+answer_within_15 given (Ok state) = if nat_le 15 state.used then Err ForbiddenError else Ok state
+answer_within_15 given (Err Ended) = if nat_le 15 given then Err ForbiddenError else Err Ended
+answer_within_15 given (Err ForbiddenError) = Err ForbiddenError

@@ -1,0 +1,325 @@
+//! Prefixes, escape bytes and VEX, read.
+#![tactic(auto)]
+
+ghost use Rattle.std.specs.Prelude.{◌≡◌, ◌<◌, ◌≤◌, ◌+◌, IsTrue, length, take_while, ◌∷◌, min};
+ghost use Rattle.instruction_parts.specs.Front as front;
+ghost use Rattle.instruction_parts.specs.Counting as counting;
+ghost use Rattle.instruction_parts.specs.Bytes.{state_from};
+ghost use Rattle.prefixes.specs.Answer.{is_mode, mode_of, answer_of, answer_within_15};
+
+use row_types::Map;
+use instruction_parts::bytes::state_from;
+use instruction_parts::counting::{forbids_vex, is_64, is_prefix};
+use instruction_parts::sizes::bit_of_byte;
+use instruction_parts::{PrefixState, Vex};
+use x86_values::Bits;
+
+/// Why bytes have no front.
+#[derive(Clone, Copy, PartialEq, Eq, Debug)]
+pub enum PrefixError {
+    Ended,
+    Forbidden,
+}
+
+/// The mode of a number.
+#[tactic(auto, unfolding(crate::specs::Answer::mode_of))]
+fn mode_of<const BITS: u32>() -> Bits
+    ensures { result ≡ mode_of BITS }
+{
+    if BITS == 16 {
+        Bits::B16
+    } else if BITS == 32 {
+        Bits::B32
+    } else {
+        Bits::B64
+    }
+}
+
+/// The length of the run of prefix bytes at the front.
+fn run_len(bits: Bits, bytes: &[u8]) -> usize
+    ensures { result ≡ length (take_while (counting.is_prefix bits) bytes.now) }
+{
+    bytes.iter().take_while(|b| is_prefix(bits, **b)).count()
+}
+
+/// The same within the first 15 bytes.
+fn bounded_run_len(bits: Bits, bytes: &[u8]) -> usize
+    ensures { result ≡ min 15 (length (front.prefix_run bits bytes.now)) }
+{
+    let end = bytes.len().min(15);
+    run_len(bits, &bytes[..end])
+}
+
+/// The map that the number in a three-byte VEX names.
+#[tactic(auto, unfolding(instruction_parts::specs::Front::map_numbered))]
+fn map_numbered(n: u8) -> Option<Map>
+    ensures { result ≡ front.map_numbered n }
+{
+    match n {
+        1 => Some(Map::M0f),
+        2 => Some(Map::M0f38),
+        3 => Some(Map::M0f3a),
+        _ => None,
+    }
+}
+
+/// The VEX of two bytes whose second byte is b.
+#[tactic(auto, unfolding(instruction_parts::specs::Front::short_vex))]
+fn short_vex(b: u8) -> Vex
+    ensures { result ≡ front.short_vex b }
+{
+    Vex {
+        three: false,
+        r: !bit_of_byte(7, b),
+        x: false,
+        b: false,
+        w: false,
+        l: bit_of_byte(2, b),
+        map: Map::M0f,
+        vvvv: 15 - b / 8 % 16,
+        pp: b % 4,
+    }
+}
+
+/// The VEX of three bytes whose second and third bytes are b and c, with this map.
+#[tactic(auto, unfolding(instruction_parts::specs::Front::long_vex))]
+fn long_vex(map: Map, b: u8, c: u8) -> Vex
+    ensures { result ≡ front.long_vex map b c }
+{
+    Vex {
+        three: true,
+        r: !bit_of_byte(7, b),
+        x: !bit_of_byte(6, b),
+        b: !bit_of_byte(5, b),
+        w: bit_of_byte(7, c),
+        l: bit_of_byte(2, c),
+        map,
+        vvvv: 15 - c / 8 % 16,
+        pp: c % 4,
+    }
+}
+
+/// Behind the prefixes and the bytes of a lead: the opcode byte, or the end.
+#[tactic(auto, unfolding(instruction_parts::specs::Front::opcode_front))]
+fn opcode_front(
+    bits: Bits,
+    prefixes: &[u8],
+    lead: u8,
+    vex: Option<Vex>,
+    map: Map,
+    bytes: &[u8],
+) -> Result<PrefixState, PrefixError>
+    requires few { length prefixes.now < 16 }
+    requires lead { lead < 4 }
+    ensures { result ≡ answer_of (front.opcode_front bits prefixes.now lead vex map bytes.now) }
+{
+    match bytes.split_first() {
+        None => Err(PrefixError::Ended),
+        Some((opcode, _)) => {
+            Ok(state_from(
+                bits,
+                prefixes,
+                prefixes.len() as u8 + lead,
+                vex,
+                map,
+                *opcode,
+            ))
+        }
+    }
+}
+
+/// Behind the prefixes and C5.
+#[tactic(auto, unfolding(instruction_parts::specs::Front::short_vex_front))]
+fn short_vex_front(bits: Bits, prefixes: &[u8], bytes: &[u8]) -> Result<PrefixState, PrefixError>
+    requires { length prefixes.now < 16 }
+    ensures { result ≡ answer_of (front.short_vex_front bits prefixes.now bytes.now) }
+{
+    match bytes.split_first() {
+        None => Err(PrefixError::Ended),
+        Some((b, rest)) => opcode_front(bits, prefixes, 2, Some(short_vex(*b)), Map::M0f, rest),
+    }
+}
+
+/// Behind the prefixes, C4 and a byte with this map.
+#[tactic(auto, unfolding(instruction_parts::specs::Front::third_byte_front))]
+fn third_byte_front(
+    bits: Bits,
+    prefixes: &[u8],
+    b: u8,
+    map: Option<Map>,
+    bytes: &[u8],
+) -> Result<PrefixState, PrefixError>
+    requires { length prefixes.now < 16 }
+    ensures { result ≡ answer_of (front.third_byte_front bits prefixes.now b map bytes.now) }
+{
+    match map {
+        None => Err(PrefixError::Forbidden),
+        Some(map) => match bytes.split_first() {
+            None => Err(PrefixError::Ended),
+            Some((c, rest)) => {
+                opcode_front(bits, prefixes, 3, Some(long_vex(map, b, *c)), map, rest)
+            }
+        },
+    }
+}
+
+/// Behind the prefixes and C4.
+#[tactic(auto, unfolding(instruction_parts::specs::Front::long_vex_front))]
+fn long_vex_front(bits: Bits, prefixes: &[u8], bytes: &[u8]) -> Result<PrefixState, PrefixError>
+    requires { length prefixes.now < 16 }
+    ensures { result ≡ answer_of (front.long_vex_front bits prefixes.now bytes.now) }
+{
+    match bytes.split_first() {
+        None => Err(PrefixError::Ended),
+        Some((b, rest)) => third_byte_front(bits, prefixes, *b, map_numbered(*b % 32), rest),
+    }
+}
+
+/// Behind the prefixes and C4 or C5 that is a VEX.
+#[tactic(auto, unfolding(instruction_parts::specs::Front::vex_front))]
+fn vex_front(
+    bits: Bits,
+    prefixes: &[u8],
+    lead: u8,
+    bytes: &[u8],
+) -> Result<PrefixState, PrefixError>
+    requires { length prefixes.now < 16 }
+    ensures { result ≡ answer_of (front.vex_front bits prefixes.now lead bytes.now) }
+{
+    if forbids_vex(bits, prefixes) {
+        Err(PrefixError::Forbidden)
+    } else if lead == 0xC5 {
+        short_vex_front(bits, prefixes, bytes)
+    } else {
+        long_vex_front(bits, prefixes, bytes)
+    }
+}
+
+/// Behind the prefixes and 0F.
+#[tactic(auto, unfolding(instruction_parts::specs::Front::escape_front))]
+fn escape_front(bits: Bits, prefixes: &[u8], bytes: &[u8]) -> Result<PrefixState, PrefixError>
+    requires { length prefixes.now < 16 }
+    ensures { result ≡ answer_of (front.escape_front bits prefixes.now bytes.now) }
+{
+    match bytes.split_first() {
+        None => Err(PrefixError::Ended),
+        Some((b, rest)) => {
+            if *b == 0x38 {
+                opcode_front(bits, prefixes, 2, None, Map::M0f38, rest)
+            } else if *b == 0x3A {
+                opcode_front(bits, prefixes, 2, None, Map::M0f3a, rest)
+            } else if *b == 0x0F {
+                Err(PrefixError::Forbidden)
+            } else {
+                opcode_front(bits, prefixes, 1, None, Map::M0f, bytes)
+            }
+        }
+    }
+}
+
+/// Behind the prefixes, at C4 or C5.
+#[tactic(auto, unfolding(instruction_parts::specs::Front::vex_or_opcode_front))]
+fn vex_or_opcode_front(
+    bits: Bits,
+    prefixes: &[u8],
+    lead: u8,
+    bytes: &[u8],
+    whole: &[u8],
+) -> Result<PrefixState, PrefixError>
+    requires few { length prefixes.now < 16 }
+    requires whole { whole.now ≡ lead ∷ bytes.now }
+    ensures { result ≡ answer_of (front.vex_or_opcode_front bits prefixes.now lead bytes.now) }
+{
+    match bits {
+        Bits::B64 => vex_front(bits, prefixes, lead, bytes),
+        _ => match bytes.split_first() {
+            None => Err(PrefixError::Ended),
+            Some((b, _)) => {
+                if *b / 64 == 3 {
+                    vex_front(bits, prefixes, lead, bytes)
+                } else {
+                    opcode_front(bits, prefixes, 0, None, Map::One, whole)
+                }
+            }
+        },
+    }
+}
+
+/// Behind the prefixes.
+#[tactic(auto, unfolding(instruction_parts::specs::Front::lead_front))]
+fn lead_front(bits: Bits, prefixes: &[u8], bytes: &[u8]) -> Result<PrefixState, PrefixError>
+    requires { length prefixes.now < 16 }
+    ensures { result ≡ answer_of (front.lead_front bits prefixes.now bytes.now) }
+{
+    match bytes.split_first() {
+        None => Err(PrefixError::Ended),
+        Some((b, rest)) => {
+            if *b == 0xC4 || *b == 0xC5 {
+                vex_or_opcode_front(bits, prefixes, *b, rest, bytes)
+            } else if *b == 0x0F {
+                escape_front(bits, prefixes, rest)
+            } else if is_64(bits) && *b == 0x62 {
+                Err(PrefixError::Forbidden)
+            } else {
+                opcode_front(bits, prefixes, 0, None, Map::One, bytes)
+            }
+        }
+    }
+}
+
+/// The front of bytes of any length, given the length of their run of prefixes.
+fn long_front(bits: Bits, bytes: &[u8], n: usize) -> Result<PrefixState, PrefixError>
+    requires run { n ≡ length (front.prefix_run bits bytes.now) }
+    requires few { n < 15 }
+    requires within { n ≤ length bytes.now }
+    ensures { result ≡ answer_of (front.long_front bits bytes.now) }
+{
+    let (prefixes, rest) = bytes.split_at(n);
+    lead_front(bits, prefixes, rest)
+}
+
+/// A front is forbidden once 15 bytes were read without an opcode byte.
+fn bounded(
+    given: usize,
+    answer: Result<PrefixState, PrefixError>,
+) -> Result<PrefixState, PrefixError>
+    ensures { result ≡ answer_within_15 given answer }
+{
+    match answer {
+        Ok(state) => {
+            if state.used >= 15 {
+                Err(PrefixError::Forbidden)
+            } else {
+                Ok(state)
+            }
+        }
+        Err(PrefixError::Ended) => {
+            if given >= 15 {
+                Err(PrefixError::Forbidden)
+            } else {
+                Err(PrefixError::Ended)
+            }
+        }
+        Err(PrefixError::Forbidden) => Err(PrefixError::Forbidden),
+    }
+}
+
+/// The front of the bytes in a mode.
+pub fn read_front(bits: Bits, bytes: &[u8]) -> Result<PrefixState, PrefixError>
+    ensures { result ≡ answer_of (front.front_of bits bytes.now) }
+{
+    let n = bounded_run_len(bits, bytes);
+    if n >= 15 {
+        Err(PrefixError::Forbidden)
+    } else {
+        bounded(bytes.len(), long_front(bits, bytes, n))
+    }
+}
+
+/// The front of the bytes.
+pub fn read_prefixes<const BITS: u32>(bytes: &[u8]) -> Result<PrefixState, PrefixError>
+    requires { IsTrue (is_mode BITS) }
+    ensures { result ≡ answer_of (front.front_of (mode_of BITS) bytes.now) }
+{
+    read_front(mode_of::<BITS>(), bytes)
+}

@@ -1,0 +1,79 @@
+-- The eleven conditions of a fitting spelling, each by its name.
+use Rattle.std.proofs.Common.{◌≡◌, true, ◌&&◌, ◌==◌, nat_lt, length}
+use Rattle.x86_values.specs.declared.Bits.{Bits}
+use Rattle.row_types.specs.declared.Row.{Row}
+use Rattle.instruction_parts.specs.declared.spelling.Spelling.{Spelling}
+use Rattle.instruction_parts.specs.Sizes.{state_size, state_address_size}
+use Rattle.instruction_parts.specs.Bytes.{state_of, state_from}
+use Rattle.row_fit.specs.Fits.{fits, Fits, mode_fits, prefixes_fit, class_fits, vex_fits, opcode_and_modrm_fit, sizes_fit, vvvv_fits, lengths_fit, lock_fits, registers_fit, fields_in_range, state_fits, tail_fits, vex_in_range, modrm_in_range, sib_in_range, are_bytes, address_fits, immediates_bytes}
+use Rattle.instruction_parts.proofs.Tests.{and_left, and_right, equal_from}
+
+-- a fitting spelling meets each condition
+pub all_conditions : (bits : Bits) (row : Row) (s : Spelling) → fits bits row s ≡ true → Fits bits row s
+unfolding fits state_fits tail_fits state_of state_from
+all_conditions bits row s h =
+    let state = state_of bits row s in
+    let disp = length s.disp.items in
+    let imm = length s.imm.items in
+    let mode = mode_fits bits row in
+    let class = class_fits row state in
+    let sizes = sizes_fit bits row state in
+    let vvvv = vvvv_fits row state in
+    let p = prefixes_fit bits s.prefixes.items in
+    let v = vex_fits bits row s.prefixes.items s.vex s.opcode s.modrm in
+    let o = opcode_and_modrm_fit row s.opcode s.modrm in
+    let l = lengths_fit bits row state s.modrm s.sib disp imm in
+    let k = lock_fits row state s.modrm in
+    let g = registers_fit bits row state s.modrm s.sib in
+    let t = tail_fits bits row state s.modrm s.sib disp imm in
+    let r = fields_in_range s in
+    let hs = and_left (mode && (class && (sizes && vvvv))) (p && (v && (t && r))) h in
+    let hs1 = and_right mode (class && (sizes && vvvv)) hs in
+    let hs2 = and_right class (sizes && vvvv) hs1 in
+    let h1 = and_right (mode && (class && (sizes && vvvv))) (p && (v && (t && r))) h in
+    let h2 = and_right p (v && (t && r)) h1 in
+    let h3 = and_right v (t && r) h2 in
+    let ht = and_left t r h3 in
+    let ht1 = and_right o (l && (k && g)) ht in
+    let ht2 = and_right l (k && g) ht1 in
+    record {
+      mode = and_left mode (class && (sizes && vvvv)) hs;
+      prefixes = and_left p (v && (t && r)) h1;
+      class = and_left class (sizes && vvvv) hs1;
+      vex = and_left v (t && r) h2;
+      opcode = and_left o (l && (k && g)) ht;
+      sizes = and_left sizes vvvv hs2;
+      vvvv = and_right sizes vvvv hs2;
+      lengths = and_left l (k && g) ht1;
+      lock = and_left k g ht2;
+      registers = and_right k g ht2;
+      ranges = and_right t r h3;
+    }
+
+-- the ranges of ModRM and SIB
+pub modrm_range : (s : Spelling) → fields_in_range s ≡ true → modrm_in_range s.modrm ≡ true
+unfolding fields_in_range
+modrm_range s h =
+    let bytes = are_bytes s.disp.items && are_bytes s.imm.items in
+    let r1 = modrm_in_range s.modrm && (sib_in_range s.sib && bytes) in
+    let r2 = and_right (are_bytes s.prefixes.items) (vex_in_range s.vex && (nat_lt s.opcode 256 && r1)) h in
+    let r3 = and_right (vex_in_range s.vex) (nat_lt s.opcode 256 && r1) r2 in
+    and_left (modrm_in_range s.modrm) (sib_in_range s.sib && bytes) (and_right (nat_lt s.opcode 256) r1 r3)
+
+pub sib_range : (s : Spelling) → fields_in_range s ≡ true → sib_in_range s.sib ≡ true
+unfolding fields_in_range
+sib_range s h =
+    let bytes = are_bytes s.disp.items && are_bytes s.imm.items in
+    let r1 = modrm_in_range s.modrm && (sib_in_range s.sib && bytes) in
+    let r2 = and_right (are_bytes s.prefixes.items) (vex_in_range s.vex && (nat_lt s.opcode 256 && r1)) h in
+    let r3 = and_right (vex_in_range s.vex) (nat_lt s.opcode 256 && r1) r2 in
+    let r4 = and_right (modrm_in_range s.modrm) (sib_in_range s.sib && bytes) (and_right (nat_lt s.opcode 256) r1 r3) in
+    and_left (sib_in_range s.sib) bytes r4
+
+-- the immediates are as long as the row asks
+pub immediates_length : (bits : Bits) (row : Row) (s : Spelling) → lengths_fit bits row (state_of bits row s) s.modrm s.sib (length s.disp.items) (length s.imm.items) ≡ true → length s.imm.items ≡ immediates_bytes (state_size bits row (state_of bits row s)) row
+unfolding lengths_fit
+immediates_length bits row s h =
+    let state = state_of bits row s in
+    equal_from (length s.imm.items) (immediates_bytes (state_size bits row state) row)
+    (and_right (address_fits (state_address_size bits state) row s.modrm s.sib (length s.disp.items)) (length s.imm.items == immediates_bytes (state_size bits row state) row) h)

@@ -1,0 +1,5 @@
+pub mod FrontLaws
+pub mod FitLaws
+pub mod FrontConverse
+pub mod TailLaws
+pub mod OneSpelling

@@ -1,0 +1,181 @@
+-- When the parts of a row belong together: a test of the row alone.
+use Rattle.std.specs.Prelude.{ℕ, ◌+◌, ◌%◌, Bool, true, false, ◌&&◌, ◌||◌, not, ◌==◌, nat_le, nat_lt, if◌then◌else◌, List, [], ◌∷◌, length}
+use Rattle.std.specs.List.{list_any}
+use Rattle.x86_values.specs.declared.Bits.{Bits}
+use Rattle.x86_values.specs.declared.Bits.TheVariants.{B16, B32, B64}
+use Rattle.row_types.specs.declared.Row.{Row}
+use Rattle.row_types.specs.declared.Map.{Map}
+use Rattle.row_types.specs.declared.Map.TheVariants.{One, M0f}
+use Rattle.row_types.specs.declared.Class.{Class}
+use Rattle.row_types.specs.declared.Class.TheVariants.{Np, P66, F3 as ClassF3, F2 as ClassF2}
+use Rattle.row_types.specs.declared.Plus.TheVariants.{No as NoPlus, Register as PlusRegister, Stack as PlusStack}
+use Rattle.row_types.specs.declared.ModRmRule.{ModRmRule}
+use Rattle.row_types.specs.declared.ModRmRule.TheVariants.{No as NoModRm, Digit, Fixed as FixedByte}
+use Rattle.row_types.specs.declared.Size.{Size}
+use Rattle.row_types.specs.declared.Size.TheVariants.{None as NoSize, W0 as SizeW0, W1 as SizeW1}
+use Rattle.row_types.specs.declared.WBit.{WBit}
+use Rattle.row_types.specs.declared.WBit.TheVariants.{None as NoW}
+use Rattle.row_types.specs.declared.LBit.{LBit}
+use Rattle.row_types.specs.declared.LBit.TheVariants.{None as NoL}
+use Rattle.instruction_parts.specs.declared.kinds.Method.{Method}
+use Rattle.instruction_parts.specs.declared.kinds.Method.TheVariants.{ModRmReg, RegisterOrMemory, RegisterOnly, MemoryOnly, AnyMode, OpcodeLow, Vvvv, LastByte, Gather}
+use Rattle.instruction_parts.specs.declared.kinds.File.{File}
+use Rattle.instruction_parts.specs.declared.kinds.File.TheVariants.{Byte as ByteFile}
+use Rattle.instruction_parts.specs.Kinds.{method_of, file_of}
+use Rattle.instruction_parts.specs.Counting.{is_prefix}
+use Rattle.instruction_parts.specs.Sizes.{exists_in, is_vex_row}
+use Rattle.row_fit.specs.Fits.{reads_by, immediates_bytes, is_offset}
+
+-- ---- how many operands are read from a place
+
+abbrev pub count_where : {T : Type 0} → (T → Bool) → List T → ℕ
+count_where p [] = 0
+count_where p (x ∷ xs) = (if p x then 1 else 0) + count_where p xs
+
+-- at most one operand of the row is read so
+abbrev pub at_most_one : (Method → Bool) → Row → Bool
+at_most_one p row = nat_le (count_where (λ kind. p (method_of kind)) row.ops) 1
+
+abbrev pub reads_reg : Method → Bool
+reads_reg ModRmReg = true
+reads_reg _ = false
+
+abbrev pub reads_rm : Method → Bool
+reads_rm RegisterOrMemory = true
+reads_rm RegisterOnly = true
+reads_rm MemoryOnly = true
+reads_rm AnyMode = true
+reads_rm Gather = true
+reads_rm _ = false
+
+abbrev pub reads_vvvv : Method → Bool
+reads_vvvv Vvvv = true
+reads_vvvv _ = false
+
+abbrev pub reads_opcode : Method → Bool
+reads_opcode OpcodeLow = true
+reads_opcode _ = false
+
+abbrev pub reads_last_byte : Method → Bool
+reads_last_byte LastByte = true
+reads_last_byte _ = false
+
+-- ---- the parts
+
+abbrev pub has_modrm_rule : ModRmRule → Bool
+has_modrm_rule NoModRm = false
+has_modrm_rule _ = true
+
+-- a digit is below 8, a fixed byte is C0 or more
+unfoldable pub rule_in_range : ModRmRule → Bool
+rule_in_range (Digit d) = nat_lt d 8
+rule_in_range (FixedByte b) = nat_le 0xC0 b && nat_lt b 256
+rule_in_range _ = true
+
+-- an added register stands with an opcode byte, an added stack number with a fixed ModRM byte, each a multiple of 8
+unfoldable pub plus_is_proper : Row → Bool
+plus_is_proper row =
+    elim row.plus [
+      | NoPlus ↦ true
+      | PlusRegister ↦ not (is_vex_row row) && row.opcode % 8 == 0
+      | PlusStack ↦ elim row.modrm [ FixedByte b ↦ b % 8 == 0 | _ ↦ false ]
+    ]
+
+-- the opcode byte is no escape byte and no prefix that a class names
+unfoldable pub opcode_is_proper : Map → ℕ → Bool
+opcode_is_proper One b = not (b == 0x0F || b == 0x66 || b == 0xF2 || b == 0xF3)
+opcode_is_proper M0f b = not (b == 0x38 || b == 0x3A)
+opcode_is_proper _ b = true
+
+abbrev pub is_no_w : WBit → Bool
+is_no_w NoW = true
+is_no_w _ = false
+
+abbrev pub is_no_l : LBit → Bool
+is_no_l NoL = true
+is_no_l _ = false
+
+abbrev pub is_class_of_vex : Class → Bool
+is_class_of_vex Np = true
+is_class_of_vex P66 = true
+is_class_of_vex ClassF3 = true
+is_class_of_vex ClassF2 = true
+is_class_of_vex _ = false
+
+abbrev pub is_size_of_vex : Size → Bool
+is_size_of_vex NoSize = true
+is_size_of_vex SizeW0 = true
+is_size_of_vex SizeW1 = true
+is_size_of_vex _ = false
+
+abbrev pub is_one : Map → Bool
+is_one One = true
+is_one _ = false
+
+abbrev pub is_fixed_rule : ModRmRule → Bool
+is_fixed_rule (FixedByte _) = true
+is_fixed_rule _ = false
+
+unfoldable pub legacy_is_proper : Row → Bool
+legacy_is_proper row =
+    is_no_w row.w && (is_no_l row.l && (opcode_is_proper row.map row.opcode
+    && (not (reads_by reads_vvvv row) && not (reads_by reads_last_byte row))))
+
+-- no operand of a VEX row is a byte register
+abbrev pub is_byte_file : File → Bool
+is_byte_file ByteFile = true
+is_byte_file _ = false
+
+unfoldable pub vex_is_proper : Row → Bool
+vex_is_proper row =
+    not (is_no_w row.w) && (not (is_no_l row.l) && (is_class_of_vex row.class && (is_size_of_vex row.size
+    && (not (is_one row.map) && (not (is_fixed_rule row.modrm)
+    && not (list_any (λ kind. is_byte_file (file_of kind)) row.ops))))))
+
+-- the eight opcode bytes of a row that adds a register, else its one, from a number on
+abbrev pub opcodes_of : Row → List ℕ
+opcodes_of row =
+    elim row.plus [
+      | PlusRegister ↦ row.opcode ∷ (row.opcode + 1) ∷ (row.opcode + 2) ∷ (row.opcode + 3)
+          ∷ (row.opcode + 4) ∷ (row.opcode + 5) ∷ (row.opcode + 6) ∷ (row.opcode + 7) ∷ []
+      | _ ↦ row.opcode ∷ []
+    ]
+
+-- in a mode in which a legacy row of the one-byte map exists, its opcode byte is no prefix
+unfoldable pub opcode_is_no_prefix_in : Bits → Row → Bool
+opcode_is_no_prefix_in bits row =
+    not (exists_in bits row) || not (list_any (is_prefix bits) (opcodes_of row))
+
+unfoldable pub opcode_is_no_prefix : Row → Bool
+opcode_is_no_prefix row =
+    not (is_one row.map)
+    || (opcode_is_no_prefix_in B16 row && (opcode_is_no_prefix_in B32 row && opcode_is_no_prefix_in B64 row))
+
+-- operands that read ModRM stand on rows that have one, an absolute address on rows that have none, and a
+-- register of the opcode byte exactly on rows that add one
+unfoldable pub operands_are_proper : Row → Bool
+operands_are_proper row =
+    ((not (reads_by reads_reg row) && not (reads_by reads_rm row)) || has_modrm_rule row.modrm)
+    && ((not (reads_by is_offset row) || not (has_modrm_rule row.modrm))
+    && (elim row.plus [ PlusRegister ↦ reads_by reads_opcode row | _ ↦ not (reads_by reads_opcode row) ]))
+
+-- no two operands are read from one place
+unfoldable pub operands_are_apart : Row → Bool
+operands_are_apart row =
+    at_most_one reads_reg row && (at_most_one reads_rm row && (at_most_one reads_vvvv row
+    && (at_most_one reads_opcode row && (at_most_one reads_last_byte row && at_most_one is_offset row))))
+
+-- the immediates fit their list, whatever the operand size
+unfoldable pub immediates_are_short : Row → Bool
+immediates_are_short row =
+    nat_le (immediates_bytes B16 row) 8
+    && (nat_le (immediates_bytes B32 row) 8 && nat_le (immediates_bytes B64 row) 8)
+
+-- the row is sound
+unfoldable pub sound : Row → Bool
+sound row =
+    (length row.ops == 4)
+    && ((nat_lt row.opcode 256 && nat_lt (row.opcode + (elim row.plus [ PlusRegister ↦ 7 | _ ↦ 0 ])) 256)
+    && (rule_in_range row.modrm && (plus_is_proper row
+    && ((if is_vex_row row then vex_is_proper row else legacy_is_proper row)
+    && (opcode_is_no_prefix row && (operands_are_proper row && (operands_are_apart row && immediates_are_short row)))))))

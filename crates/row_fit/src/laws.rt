@@ -1,0 +1,44 @@
+//! Laws of the definitions, as the contracts of functions that do nothing.
+
+ghost use Rattle.std.specs.Prelude.{◌≡◌, ℕ, List, ◌++◌, IsTrue};
+ghost use Rattle.x86_values.specs.declared.Bits.{Bits};
+ghost use Rattle.row_types.specs.declared.Row.{Row};
+ghost use Rattle.instruction_parts.specs.declared.spelling.Spelling.{Spelling};
+ghost use Rattle.instruction_parts.specs.declared.spelling.PrefixState.{PrefixState};
+ghost use Rattle.row_fit.specs.Fits.{fits, Fits, are_bytes};
+ghost use Rattle.instruction_parts.specs.FrontParts.{Parted};
+ghost use Rattle.instruction_parts.specs.Front.{long_front, Known};
+ghost use Rattle.instruction_parts.specs.Bytes.{bytes_of, state_of};
+
+/// The front of the bytes of a fitting spelling, whatever stands behind them, is its own state.
+pub fn front_is_state()
+    ensures { (bits : Bits) (row : Row) (s : Spelling) (rest : List ℕ)
+        → IsTrue (fits bits row s) → long_front bits (bytes_of row s ++ rest) ≡ Known (state_of bits row s) }
+{}
+
+/// A fitting spelling meets each of the eleven conditions.
+pub fn fits_each_condition()
+    ensures { (bits : Bits) (row : Row) (s : Spelling) → IsTrue (fits bits row s) → Fits bits row s }
+{}
+
+/// Bytes whose front is known are prefixes, a VEX or escape bytes, the opcode byte, and a rest.
+pub fn front_has_parts()
+    ensures { (bits : Bits) (bytes : List ℕ) (f : PrefixState)
+        → IsTrue (are_bytes bytes) → long_front bits bytes ≡ Known f → Parted bits bytes f }
+{}
+
+/// Fitting spellings that begin the same bytes have one state: one VEX, one map, one opcode byte.
+pub fn bytes_fix_state()
+    ensures { (bits : Bits) (row other_row : Row) (s other : Spelling) (rest other_rest : List ℕ)
+        → IsTrue (fits bits row s) → IsTrue (fits bits other_row other)
+        → bytes_of row s ++ rest ≡ bytes_of other_row other ++ other_rest
+        → state_of bits row s ≡ state_of bits other_row other }
+{}
+
+/// Fitting spellings of one row that begin the same bytes are one spelling, with the same rest.
+pub fn one_spelling_of_a_row()
+    ensures { (bits : Bits) (row : Row) (s other : Spelling) (rest other_rest : List ℕ)
+        → IsTrue (fits bits row s) → IsTrue (fits bits row other)
+        → bytes_of row s ++ rest ≡ bytes_of row other ++ other_rest
+        → (s ≡ other) × (rest ≡ other_rest) }
+{}

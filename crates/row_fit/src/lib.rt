@@ -1,0 +1,9 @@
+//! When a spelling fits a row: eleven conditions, each of them a test (Intel SDM volume 2, chapter 2).
+#![tactic(auto)]
+
+pub mod fits;
+pub mod laws;
+mod relation;
+pub mod tail_fits;
+
+pub use relation::row_fits;

@@ -1,0 +1,54 @@
+//! Numbers in bytes.
+
+ghost use Rattle.std.specs.Prelude.{◌≡◌, ◌<◌, ◌≤◌, ◌+◌, ◌*◌, ◌^◌, length};
+ghost use Rattle.row_meaning.specs.Meaning as spec;
+ghost use Rattle.x86_values.specs.Wrapping.{width};
+
+use x86_values::{Bits, wrap};
+
+/// The number whose bytes these are, the lowest first.
+#[tactic(auto, unfolding(crate::specs::Meaning::little_endian))]
+pub fn little_endian(bytes: &[u8]) -> u64
+    requires { length bytes.now ≤ 8 }
+    ensures value { result ≡ spec.little_endian bytes.now }
+    ensures below { result < 2 ^ (8 * length bytes.now) }
+{
+    match bytes.split_first() {
+        None => 0,
+        Some((b, rest)) => *b as u64 + 256 * little_endian(rest),
+    }
+}
+
+/// 2 to the number of bits in so many bytes.
+fn top_of(len: usize) -> u128
+    requires { len ≤ 8 }
+    ensures value { result ≡ 2 ^ (8 * len) }
+    ensures below { result ≤ 2 ^ 64 }
+{
+    match len {
+        0 => 1,
+        1 => 0x100,
+        2 => 0x1_0000,
+        3 => 0x100_0000,
+        4 => 0x1_0000_0000,
+        5 => 0x100_0000_0000,
+        6 => 0x1_0000_0000_0000,
+        7 => 0x100_0000_0000_0000,
+        _ => 0x1_0000_0000_0000_0000,
+    }
+}
+
+/// The number in these bytes, sign-extended and cut to a size.
+#[tactic(auto, unfolding(crate::specs::Meaning::sign_extended))]
+pub fn sign_extended(size: Bits, bytes: &[u8]) -> u64
+    requires { length bytes.now ≤ 8 }
+    ensures { result ≡ spec.sign_extended (width size) bytes.now }
+{
+    let x = little_endian(bytes) as u128;
+    let top = top_of(bytes.len());
+    if 2 * x < top {
+        wrap(size, x)
+    } else {
+        wrap(size, x + (0x1_0000_0000_0000_0000 - top))
+    }
+}

@@ -1,0 +1,567 @@
+//! The operands of a fitting spelling.
+
+ghost use Rattle.std.specs.Prelude.{◌≡◌, ◌<◌, ◌≤◌, ◌+◌, length, IsTrue, take, drop, [], ◌∷◌};
+ghost use Rattle.row_meaning.specs.Meaning as spec;
+ghost use Rattle.row_fit.specs.Fits as fits;
+ghost use Rattle.instruction_parts.specs.Bytes as bytes;
+ghost use Rattle.instruction_parts.specs.Kinds.{method_of};
+ghost use Rattle.instruction_parts.specs.Sizes.{state_size};
+ghost use Rattle.row_fit.specs.Sound.{sound};
+ghost use Rattle.instruction_parts.specs.declared.kinds.Method.TheVariants.{Pointer as PointerMethod};
+
+use instruction_parts::bytes::{lead_len, state_of};
+use instruction_parts::counting::is_64;
+use row_fit::fits::mode_is_memory;
+use instruction_parts::kinds::{File, Method, file_of_kind, fixed_number_of_kind, method_of_kind};
+use crate::meaning::{disp_size_of, general, memory_16, memory_alone, register_of, target};
+use crate::numbers::{little_endian, sign_extended};
+use instruction_parts::sizes::{bit_b, has_address_mark, state_address_size, state_size};
+use instruction_parts::spelling::{ModRm, PrefixState, Sib, Spelling};
+use row_fit::tail_fits::{
+    extended, immediate_bytes, index_number, is_memory_method, kind_at, reg_number, rm_number,
+    vvvv_number,
+};
+use row_types::{Class, OpKind, Row};
+use x86_values::{Bits, Code, Instr, Mem, Operand, Register, Rep, wrap};
+
+/// A register number, which is small.
+fn small(n: u16) -> u8
+    requires { n < 256 }
+    ensures { result ≡ n }
+{
+    n as u8
+}
+
+/// The base of an address with a SIB.
+#[tactic(auto, unfolding(crate::specs::Meaning::sib_base))]
+fn sib_base(bits: Bits, asize: Bits, state: &PrefixState, m: ModRm, s: Sib) -> Option<Register>
+    requires { s.base < 8 }
+    ensures { result ≡ spec.sib_base bits asize state.now m s }
+{
+    if m.mode3 == 0 && s.base == 5 {
+        None
+    } else {
+        Some(general(asize, small(extended(bit_b(bits, state), s.base))))
+    }
+}
+
+/// The index of an address with a SIB.
+#[tactic(auto, unfolding(crate::specs::Meaning::sib_index, row_fit::specs::Fits::index_number))]
+fn sib_index(asize: Bits, state: &PrefixState, s: Sib) -> Option<Register>
+    requires { s.index < 8 }
+    ensures { result ≡ spec.sib_index asize state.now s }
+{
+    let n = index_number(state, Some(s));
+    if n == 4 {
+        None
+    } else {
+        Some(general(asize, small(n)))
+    }
+}
+
+/// The scale, which is 1 without an index.
+fn scale_of(index: Option<Register>, s: Sib) -> u8
+    requires { s.scale < 4 }
+    ensures { result ≡ spec.scale_of index s }
+{
+    match index {
+        None => 1,
+        Some(_) => match s.scale {
+            0 => 1,
+            1 => 2,
+            2 => 4,
+            _ => 8,
+        },
+    }
+}
+
+/// An address with a SIB and this index.
+#[tactic(auto, unfolding(crate::specs::Meaning::memory_with_sib))]
+fn memory_with_sib(
+    bits: Bits,
+    asize: Bits,
+    state: &PrefixState,
+    index: Option<Register>,
+    m: ModRm,
+    s: Sib,
+    disp: &[u8],
+) -> Mem
+    requires base { s.base < 8 }
+    requires scale { s.scale < 4 }
+    requires disp { length disp.now ≤ 8 }
+    ensures { result ≡ spec.memory_with_sib bits asize state.now index m s disp.now }
+{
+    Mem {
+        base: sib_base(bits, asize, state, m, s),
+        index,
+        scale: scale_of(index, s),
+        disp: sign_extended(asize, disp),
+        disp_size: disp_size_of(disp.len()),
+    }
+}
+
+/// An address of a general register.
+#[tactic(auto, unfolding(crate::specs::Meaning::memory_at_base))]
+fn memory_at_base(bits: Bits, asize: Bits, state: &PrefixState, m: ModRm, disp: &[u8]) -> Mem
+    requires rm { m.rm < 8 }
+    requires disp { length disp.now ≤ 8 }
+    ensures { result ≡ spec.memory_at_base bits asize state.now m disp.now }
+{
+    Mem {
+        base: Some(general(asize, small(extended(bit_b(bits, state), m.rm)))),
+        index: None,
+        scale: 1,
+        disp: sign_extended(asize, disp),
+        disp_size: disp_size_of(disp.len()),
+    }
+}
+
+/// An address in 32 and 64-bit addressing.
+#[tactic(auto, unfolding(crate::specs::Meaning::memory_flat, row_fit::specs::Fits::sib_in_range))]
+fn memory_flat(
+    bits: Bits,
+    asize: Bits,
+    state: &PrefixState,
+    m: ModRm,
+    sib: Option<Sib>,
+    next: u64,
+    disp: &[u8],
+) -> Mem
+    requires rm { m.rm < 8 }
+    requires sib { IsTrue (fits.sib_in_range sib) }
+    requires disp { length disp.now ≤ 8 }
+    ensures { result ≡ spec.memory_flat bits asize state.now m sib next disp.now }
+{
+    match sib {
+        Some(s) => memory_with_sib(bits, asize, state, sib_index(asize, state, s), m, s, disp),
+        None => {
+            if m.mode3 == 0 && m.rm == 5 {
+                memory_alone(bits, asize, next, disp)
+            } else {
+                memory_at_base(bits, asize, state, m, disp)
+            }
+        }
+    }
+}
+
+/// An address of any size.
+#[tactic(auto, unfolding(crate::specs::Meaning::memory_of))]
+fn memory_of(
+    bits: Bits,
+    asize: Bits,
+    state: &PrefixState,
+    m: ModRm,
+    sib: Option<Sib>,
+    next: u64,
+    disp: &[u8],
+) -> Mem
+    requires rm { m.rm < 8 }
+    requires sib { IsTrue (fits.sib_in_range sib) }
+    requires disp { length disp.now ≤ 8 }
+    ensures { result ≡ spec.memory_of bits asize state.now m sib next disp.now }
+{
+    match asize {
+        Bits::B16 => memory_16(m, disp),
+        Bits::B32 => memory_flat(bits, Bits::B32, state, m, sib, next, disp),
+        Bits::B64 => memory_flat(bits, Bits::B64, state, m, sib, next, disp),
+    }
+}
+
+/// The operand that is memory by ModRM.
+#[tactic(auto, unfolding(crate::specs::Meaning::memory_operand, row_fit::specs::Fits::modrm_in_range))]
+fn memory_operand(
+    bits: Bits,
+    state: &PrefixState,
+    m: Option<ModRm>,
+    sib: Option<Sib>,
+    disp: &[u8],
+    next: u64,
+) -> Operand
+    requires modrm { IsTrue (fits.modrm_in_range m) }
+    requires sib { IsTrue (fits.sib_in_range sib) }
+    requires disp { length disp.now ≤ 8 }
+    ensures { result ≡ spec.memory_operand bits state.now m sib disp.now next }
+{
+    match m {
+        None => Operand::Absent,
+        Some(m) => {
+            Operand::Mem(memory_of(
+                bits,
+                state_address_size(bits, state),
+                state,
+                m,
+                sib,
+                next,
+                disp,
+            ))
+        }
+    }
+}
+
+/// The address of a gather.
+#[tactic(auto, unfolding(crate::specs::Meaning::gather_memory, row_fit::specs::Fits::sib_in_range, row_fit::specs::Fits::index_number))]
+fn gather_memory(
+    bits: Bits,
+    row: &Row,
+    state: &PrefixState,
+    file: File,
+    m: ModRm,
+    sib: Option<Sib>,
+    disp: &[u8],
+) -> Operand
+    requires sib { IsTrue (fits.sib_in_range sib) }
+    requires disp { length disp.now ≤ 8 }
+    ensures { result ≡ spec.gather_memory bits row.now state.now file m sib disp.now }
+{
+    match sib {
+        None => Operand::Absent,
+        Some(s) => {
+            let index = register_of(bits, row, state, file, small(index_number(state, Some(s))));
+            let asize = state_address_size(bits, state);
+            Operand::Mem(memory_with_sib(bits, asize, state, Some(index), m, s, disp))
+        }
+    }
+}
+
+/// The register number in the upper four bits of the last byte.
+#[tactic(auto, unfolding(crate::specs::Meaning::last_byte_number))]
+fn last_byte_number(bits: Bits, imm: &[u8]) -> u8
+    ensures { result ≡ spec.last_byte_number bits imm.now }
+{
+    let b = if imm.len() > 0 { imm[0] } else { 0 };
+    if is_64(bits) { b / 16 } else { b / 16 % 8 }
+}
+
+/// An absolute address.
+#[tactic(auto, unfolding(crate::specs::Meaning::memory_absolute))]
+fn memory_absolute(asize: Bits, disp: &[u8]) -> Mem
+    requires { length disp.now ≤ 8 }
+    ensures { result ≡ spec.memory_absolute asize disp.now }
+{
+    Mem {
+        base: None,
+        index: None,
+        scale: 1,
+        disp: sign_extended(asize, disp),
+        disp_size: disp_size_of(disp.len()),
+    }
+}
+
+/// A near target.
+#[tactic(auto, unfolding(crate::specs::Meaning::near_target))]
+fn near_target(size: Bits, next: u64, imm: &[u8]) -> Operand
+    requires { length imm.now ≤ 8 }
+    ensures { result ≡ spec.near_target size next imm.now }
+{
+    Operand::Near(target(size, next, imm))
+}
+
+/// The numbers that the fields ask for, each below 16.
+#[tactic(auto, unfolding(row_fit::specs::Fits::modrm_in_range, row_fit::specs::Fits::reg_number))]
+fn small_reg_number(state: &PrefixState, m: Option<ModRm>) -> u8
+    requires { IsTrue (fits.modrm_in_range m) }
+    ensures { result ≡ fits.reg_number state.now m }
+{
+    small(reg_number(state, m))
+}
+
+#[tactic(auto, unfolding(row_fit::specs::Fits::modrm_in_range, row_fit::specs::Fits::rm_number))]
+fn small_rm_number(bits: Bits, state: &PrefixState, m: Option<ModRm>) -> u8
+    requires { IsTrue (fits.modrm_in_range m) }
+    ensures { result ≡ fits.rm_number bits state.now m }
+{
+    small(rm_number(bits, state, m))
+}
+
+/// A far pointer: the offset, then the selector of two bytes.
+#[tactic(auto, unfolding(crate::specs::Meaning::far_pointer))]
+fn far_pointer(imm: &[u8]) -> Operand
+    requires { length imm.now ≤ 6 }
+    ensures { result ≡ spec.far_pointer imm.now }
+{
+    let at = imm.len().saturating_sub(2);
+    let (offset, selector) = imm.split_at(at);
+    Operand::Far {
+        selector: little_endian(selector) as u16,
+        offset: little_endian(offset) as u32,
+    }
+}
+
+/// The operand of a gather.
+fn gather_operand(
+    bits: Bits,
+    row: &Row,
+    state: &PrefixState,
+    file: File,
+    m: Option<ModRm>,
+    sib: Option<Sib>,
+    disp: &[u8],
+) -> Operand
+    requires sib { IsTrue (fits.sib_in_range sib) }
+    requires disp { length disp.now ≤ 8 }
+    ensures { result ≡ spec.with_modrm (λ m. spec.gather_memory bits row.now state.now file m sib disp.now) m }
+{
+    match m {
+        None => Operand::Absent,
+        Some(m) => gather_memory(bits, row, state, file, m, sib, disp),
+    }
+}
+
+/// An operand by how it is read; `imm` are the bytes of the immediates that are its own.
+#[tactic(auto, unfolding(crate::specs::Meaning::operand_by))]
+pub fn operand_by(
+    bits: Bits,
+    row: &Row,
+    state: &PrefixState,
+    m: Option<ModRm>,
+    sib: Option<Sib>,
+    disp: &[u8],
+    next: u64,
+    kind: OpKind,
+    method: Method,
+    imm: &[u8],
+) -> Operand
+    requires modrm { IsTrue (fits.modrm_in_range m) }
+    requires sib { IsTrue (fits.sib_in_range sib) }
+    requires disp { length disp.now ≤ 8 }
+    requires imm { length imm.now ≤ 8 }
+    requires pointer { method ≡ PointerMethod → length imm.now ≤ 6 }
+    ensures { result ≡ spec.operand_by bits row.now state.now (spec.tail m sib disp.now next) kind method imm.now }
+{
+    match method {
+        Method::Nothing => Operand::Absent,
+        Method::ModRmReg => Operand::Reg(register_of(
+            bits,
+            row,
+            state,
+            file_of_kind(kind),
+            small_reg_number(state, m),
+        )),
+        Method::RegisterOrMemory => {
+            if mode_is_memory(m) {
+                memory_operand(bits, state, m, sib, disp, next)
+            } else {
+                Operand::Reg(register_of(
+                    bits,
+                    row,
+                    state,
+                    file_of_kind(kind),
+                    small_rm_number(bits, state, m),
+                ))
+            }
+        }
+        Method::RegisterOnly | Method::AnyMode => Operand::Reg(register_of(
+            bits,
+            row,
+            state,
+            file_of_kind(kind),
+            small_rm_number(bits, state, m),
+        )),
+        Method::MemoryOnly => memory_operand(bits, state, m, sib, disp, next),
+        Method::OpcodeLow => Operand::Reg(register_of(
+            bits,
+            row,
+            state,
+            file_of_kind(kind),
+            small(extended(bit_b(bits, state), state.opcode % 8)),
+        )),
+        Method::Vvvv => Operand::Reg(register_of(
+            bits,
+            row,
+            state,
+            file_of_kind(kind),
+            vvvv_number(bits, state),
+        )),
+        Method::LastByte => Operand::Reg(register_of(
+            bits,
+            row,
+            state,
+            file_of_kind(kind),
+            last_byte_number(bits, imm),
+        )),
+        Method::Gather => gather_operand(bits, row, state, file_of_kind(kind), m, sib, disp),
+        Method::Offset => Operand::Mem(memory_absolute(state_address_size(bits, state), disp)),
+        Method::AsWritten => Operand::Imm(little_endian(imm)),
+        Method::Extended => Operand::Imm(sign_extended(state_size(bits, row, state), imm)),
+        Method::Near => near_target(state_size(bits, row, state), next, imm),
+        Method::Pointer => far_pointer(imm),
+        Method::Fixed => Operand::Reg(register_of(
+            bits,
+            row,
+            state,
+            file_of_kind(kind),
+            fixed_number_of_kind(kind),
+        )),
+        Method::One => Operand::Imm(1),
+    }
+}
+
+/// The bytes of the immediates before those of operand n.
+#[tactic(auto, unfolding(crate::specs::Meaning::immediates_before))]
+fn immediates_before(size: Bits, row: &Row, n: usize) -> usize
+    requires { n < 4 }
+    ensures { result ≡ spec.immediates_before size row.now n }
+{
+    if n == 0 {
+        0
+    } else {
+        immediate_bytes(size, kind_at(row, 0)) as usize
+            + (if n == 1 {
+                0
+            } else {
+                immediate_bytes(size, kind_at(row, 1)) as usize
+                    + (if n == 2 {
+                        0
+                    } else {
+                        immediate_bytes(size, kind_at(row, 2)) as usize
+                    })
+            })
+    }
+}
+
+/// Operand n.
+#[tactic(auto, unfolding(crate::specs::Meaning::operand_at, crate::specs::Meaning::own_immediate))]
+fn operand_at(
+    bits: Bits,
+    row: &Row,
+    state: &PrefixState,
+    m: Option<ModRm>,
+    sib: Option<Sib>,
+    disp: &[u8],
+    next: u64,
+    imm: &[u8],
+    n: usize,
+) -> Operand
+    requires modrm { IsTrue (fits.modrm_in_range m) }
+    requires sib { IsTrue (fits.sib_in_range sib) }
+    requires disp { length disp.now ≤ 8 }
+    requires imm { length imm.now ≤ 8 }
+    requires whole { length imm.now ≡ fits.immediates_bytes (state_size bits row.now state.now) row.now }
+    requires number { n < 4 }
+    ensures { result ≡ spec.operand_at bits row.now state.now (spec.tail m sib disp.now next) imm.now n }
+{
+    let size = state_size(bits, row, state);
+    let kind = kind_at(row, n);
+    let (_, rest) = imm.split_at(immediates_before(size, row, n));
+    let (own, _) = rest.split_at(immediate_bytes(size, kind) as usize);
+    operand_by(
+        bits,
+        row,
+        state,
+        m,
+        sib,
+        disp,
+        next,
+        kind,
+        method_of_kind(kind),
+        own,
+    )
+}
+
+/// The classes any and NF3 keep the counting repeat prefix.
+#[tactic(auto, unfolding(crate::specs::Meaning::kept_repeat))]
+fn kept_repeat(class: Class, rep: Rep) -> Rep
+    ensures { result ≡ spec.kept_repeat class rep }
+{
+    match class {
+        Class::Any => rep,
+        Class::Nf3 => rep,
+        _ => Rep::None,
+    }
+}
+
+/// Whether some operand is memory.
+#[tactic(auto, unfolding(crate::specs::Meaning::has_memory))]
+fn has_memory(row: &Row, m: Option<ModRm>) -> bool
+    ensures { result ≡ spec.has_memory row.now m }
+{
+    row.ops
+        .iter()
+        .any(|kind| is_memory_method(method_of_kind(*kind), m))
+}
+
+/// The address size, where the instruction has a memory operand or the mark a.
+#[tactic(auto, unfolding(crate::specs::Meaning::kept_address_size))]
+fn kept_address_size(bits: Bits, row: &Row, state: &PrefixState, m: Option<ModRm>) -> Option<Bits>
+    ensures { result ≡ spec.kept_address_size bits row.now state.now m }
+{
+    if has_memory(row, m) || has_address_mark(row) {
+        Some(state_address_size(bits, state))
+    } else {
+        None
+    }
+}
+
+/// What a state, a tail and its immediates mean.
+#[tactic(auto, unfolding(crate::specs::Meaning::instr_of))]
+pub fn instr_of(
+    bits: Bits,
+    code: Code,
+    row: &Row,
+    state: &PrefixState,
+    m: Option<ModRm>,
+    sib: Option<Sib>,
+    disp: &[u8],
+    next: u64,
+    imm: &[u8],
+) -> Instr
+    requires modrm { IsTrue (fits.modrm_in_range m) }
+    requires sib { IsTrue (fits.sib_in_range sib) }
+    requires disp { length disp.now ≤ 8 }
+    requires imm { length imm.now ≤ 8 }
+    requires whole { length imm.now ≡ fits.immediates_bytes (state_size bits row.now state.now) row.now }
+    ensures { result ≡ spec.instr_of bits code row.now state.now (spec.tail m sib disp.now next) imm.now }
+{
+    Instr {
+        code,
+        ops: [
+            operand_at(bits, row, state, m, sib, disp, next, imm, 0),
+            operand_at(bits, row, state, m, sib, disp, next, imm, 1),
+            operand_at(bits, row, state, m, sib, disp, next, imm, 2),
+            operand_at(bits, row, state, m, sib, disp, next, imm, 3),
+        ],
+        lock: state.lock,
+        rep: kept_repeat(row.class, state.rep),
+        seg: state.seg,
+        asize: kept_address_size(bits, row, state, m),
+    }
+}
+
+/// The length of a spelling of the row.
+#[tactic(auto, unfolding(instruction_parts::specs::Bytes::bytes_of, instruction_parts::specs::Bytes::front_bytes, instruction_parts::specs::Bytes::tail_bytes))]
+fn spelling_len(row: &Row, s: &Spelling) -> usize
+    ensures value { result ≡ length (bytes.bytes_of row.now s.now) }
+    ensures small { result < 64 }
+{
+    let modrm = if s.modrm.is_some() { 1 } else { 0 };
+    let sib = if s.sib.is_some() { 1 } else { 0 };
+    s.prefixes.len()
+        + lead_len(row.map, s.vex) as usize
+        + 1
+        + modrm
+        + sib
+        + s.disp.len()
+        + s.imm.len()
+}
+
+/// What a fitting spelling means at an address.
+#[tactic(auto, unfolding(crate::specs::Meaning::meaning))]
+pub fn row_meaning(bits: Bits, ip: u64, code: Code, row: &Row, s: &Spelling) -> Instr
+    requires sound { IsTrue (sound row.now) }
+    requires fitting { IsTrue (fits.fits bits row.now s.now) }
+    ensures { result ≡ spec.meaning bits ip code row.now s.now }
+{
+    let state = state_of(bits, row, s);
+    let next = wrap(bits, ip as u128 + spelling_len(row, s) as u128);
+    instr_of(
+        bits,
+        code,
+        row,
+        &state,
+        s.modrm,
+        s.sib,
+        s.disp.as_slice(),
+        next,
+        s.imm.as_slice(),
+    )
+}

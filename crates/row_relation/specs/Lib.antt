@@ -1,0 +1,4 @@
+pub mod Spells
+pub mod PlainFront
+pub mod EveryRule
+pub mod RowReading

@@ -1,0 +1,179 @@
+//! The bytes of a spelling.
+
+ghost use Rattle.std.specs.Prelude.{◌≡◌, ◌<◌, ◌≤◌, ◌+◌, ◌++◌, length, IsTrue, ◌==◌, is_some};
+ghost use Rattle.instruction_parts.specs.Bytes as spec;
+ghost use Rattle.row_fit.specs.Fits as fits;
+ghost use Rattle.instruction_parts.specs.Sizes.{is_vex_row};
+ghost use Rattle.row_fit.specs.Sound.{sound};
+ghost use Rattle.arrayvec.specs.ArrayVec.{array_vec_len};
+
+use arrayvec::ArrayVec;
+use instruction_parts::{ModRm, Sib, Spelling, Vex};
+use row_types::{Map, Row};
+
+/// The escape bytes of a map.
+fn escape_bytes<'a>(map: Map) -> &'a [u8]
+    ensures { result.now ≡ spec.escape_bytes map }
+{
+    match map {
+        Map::One => &[],
+        Map::M0f => &[0x0F],
+        Map::M0f38 => &[0x0F, 0x38],
+        Map::M0f3a => &[0x0F, 0x3A],
+    }
+}
+
+/// The number of a map in a three-byte VEX.
+fn map_number(map: Map) -> u8
+    ensures value { result ≡ spec.map_number map }
+    ensures small { result < 4 }
+{
+    match map {
+        Map::One => 0,
+        Map::M0f => 1,
+        Map::M0f38 => 2,
+        Map::M0f3a => 3,
+    }
+}
+
+fn bit(b: bool) -> u8
+    ensures value { result ≡ spec.bit b }
+    ensures small { result < 2 }
+{
+    if b { 1 } else { 0 }
+}
+
+fn inverted(b: bool) -> u8
+    ensures value { result ≡ spec.inverted b }
+    ensures small { result < 2 }
+{
+    if b { 0 } else { 1 }
+}
+
+/// The byte of a VEX that has vvvv, L and pp, with the bit in front of them.
+#[tactic(auto, unfolding(instruction_parts::specs::Bytes::vex_last_byte))]
+fn vex_last_byte(front: u8, v: Vex) -> u8
+    requires front { front < 2 }
+    requires vvvv { v.vvvv < 16 }
+    requires pp { v.pp < 4 }
+    ensures { result ≡ spec.vex_last_byte front v }
+{
+    let l = bit(v.l);
+    front * 128 + (15 - v.vvvv) * 8 + l * 4 + v.pp
+}
+
+/// The byte of a three-byte VEX that has R, X, B and the map.
+#[tactic(auto, unfolding(instruction_parts::specs::Bytes::vex_map_byte))]
+fn vex_map_byte(v: Vex) -> u8
+    ensures { result ≡ spec.vex_map_byte v }
+{
+    let r = inverted(v.r);
+    let x = inverted(v.x);
+    let b = inverted(v.b);
+    let map = map_number(v.map);
+    r * 128 + x * 64 + b * 32 + map
+}
+
+/// Appends bytes.
+fn append<const N: usize>(out: &mut ArrayVec<u8, N>, bytes: &[u8])
+    requires { array_vec_len out.old + length bytes.now ≤ N }
+    ensures { out.new.items ≡ out.old.items ++ bytes.now }
+{
+    for b in bytes {
+        out.push(*b);
+    }
+}
+
+/// Appends a VEX.
+#[tactic(auto, unfolding(instruction_parts::specs::Bytes::vex_bytes))]
+fn append_vex(out: &mut ArrayVec<u8, 15>, v: Vex)
+    requires vvvv { v.vvvv < 16 }
+    requires pp { v.pp < 4 }
+    requires room { array_vec_len out.old + length (spec.vex_bytes v) ≤ 15 }
+    ensures { out.new.items ≡ out.old.items ++ spec.vex_bytes v }
+{
+    if v.three {
+        append(out, &[0xC4, vex_map_byte(v), vex_last_byte(bit(v.w), v)]);
+    } else {
+        append(out, &[0xC5, vex_last_byte(inverted(v.r), v)]);
+    }
+}
+
+/// Appends the VEX, else the escape bytes of the map.
+#[tactic(auto, unfolding(instruction_parts::specs::Bytes::lead_bytes, row_fit::specs::Fits::vex_in_range))]
+fn append_lead(out: &mut ArrayVec<u8, 15>, map: Map, vex: Option<Vex>)
+    requires range { IsTrue (fits.vex_in_range vex) }
+    requires room { array_vec_len out.old + length (spec.lead_bytes map vex) ≤ 15 }
+    ensures { out.new.items ≡ out.old.items ++ spec.lead_bytes map vex }
+{
+    match vex {
+        None => append(out, escape_bytes(map)),
+        Some(v) => append_vex(out, v),
+    }
+}
+
+/// The ModRM byte.
+pub fn modrm_byte(m: ModRm) -> u8
+    requires mode { m.mode3 < 4 }
+    requires reg { m.reg < 8 }
+    requires rm { m.rm < 8 }
+    ensures { result ≡ spec.modrm_byte m }
+{
+    m.mode3 * 64 + m.reg * 8 + m.rm
+}
+
+/// The SIB byte.
+pub fn sib_byte(s: Sib) -> u8
+    requires scale { s.scale < 4 }
+    requires index { s.index < 8 }
+    requires base { s.base < 8 }
+    ensures { result ≡ spec.sib_byte s }
+{
+    s.scale * 64 + s.index * 8 + s.base
+}
+
+/// Appends ModRM.
+#[tactic(auto, unfolding(row_fit::specs::Fits::modrm_in_range))]
+fn append_modrm(out: &mut ArrayVec<u8, 15>, m: Option<ModRm>)
+    requires range { IsTrue (fits.modrm_in_range m) }
+    requires room { array_vec_len out.old + length (spec.modrm_bytes m) ≤ 15 }
+    ensures { out.new.items ≡ out.old.items ++ spec.modrm_bytes m }
+{
+    match m {
+        None => {}
+        Some(m) => append(out, &[modrm_byte(m)]),
+    }
+}
+
+/// Appends a SIB.
+#[tactic(auto, unfolding(row_fit::specs::Fits::sib_in_range))]
+fn append_sib(out: &mut ArrayVec<u8, 15>, s: Option<Sib>)
+    requires range { IsTrue (fits.sib_in_range s) }
+    requires room { array_vec_len out.old + length (spec.sib_bytes s) ≤ 15 }
+    ensures { out.new.items ≡ out.old.items ++ spec.sib_bytes s }
+{
+    match s {
+        None => {}
+        Some(s) => append(out, &[sib_byte(s)]),
+    }
+}
+
+/// The bytes of a spelling of the row.
+#[tactic(auto, unfolding(instruction_parts::specs::Bytes::bytes_of, instruction_parts::specs::Bytes::front_bytes, instruction_parts::specs::Bytes::tail_bytes, row_fit::specs::Fits::fields_in_range))]
+pub fn spelling_bytes(row: &Row, s: &Spelling) -> ArrayVec<u8, 15>
+    requires sound { IsTrue (sound row.now) }
+    requires short { length (spec.bytes_of row.now s.now) ≤ 15 }
+    requires vex { is_vex_row row.now ≡ is_some s.now.vex }
+    requires ranges { IsTrue (fits.fields_in_range s.now) }
+    ensures { result.items ≡ spec.bytes_of row.now s.now }
+{
+    let mut out = ArrayVec::new();
+    append(&mut out, s.prefixes.as_slice());
+    append_lead(&mut out, row.map, s.vex);
+    out.push(s.opcode);
+    append_modrm(&mut out, s.modrm);
+    append_sib(&mut out, s.sib);
+    append(&mut out, s.disp.as_slice());
+    append(&mut out, s.imm.as_slice());
+    out
+}
