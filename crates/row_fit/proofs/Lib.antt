@@ -3,3 +3,4 @@ pub mod FitLaws
 pub mod FrontConverse
 pub mod TailLaws
 pub mod OneSpelling
+pub mod FrontGrows
