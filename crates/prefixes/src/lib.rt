@@ -23,7 +23,7 @@ pub enum PrefixError {
 
 /// The mode of a number.
 #[tactic(auto, unfolding(crate::specs::Answer::mode_of))]
-fn mode_of<const BITS: u32>() -> Bits
+pub fn mode_of<const BITS: u32>() -> Bits
     ensures { result ≡ mode_of BITS }
 {
     if BITS == 16 {
