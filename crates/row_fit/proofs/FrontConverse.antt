@@ -11,7 +11,7 @@ use Rattle.instruction_parts.specs.Counting.{is_64, is_prefix, bit_of}
 use Rattle.instruction_parts.specs.Bytes.{map_number, bit, inverted, vex_last_byte, vex_map_byte, vex_bytes, lead_bytes, state_from}
 use Rattle.instruction_parts.specs.Front.{Front, Forbidden, Known, prefix_run, forbids_vex, top_two_set, map_numbered, short_vex, long_vex, opcode_front, short_vex_front, third_byte_front, long_vex_front, vex_front, vex_or_opcode_front, escape_front, is_vex_lead, lead_front, long_front}
 use Rattle.row_fit.specs.Fits.{are_bytes, is_map_one, is_opcode, is_vex_of_mode, vex_in_range}
-use Rattle.row_fit.specs.FrontParts.{Parted, LeadIsProper, OpcodeAlone, VexAhead, is_far_load, begins_with_memory}
+use Rattle.row_fit.specs.FrontParts.{Parted, LeadIsProper, OpcodeAlone, VexAhead, is_far_load}
 use borrow.Author.Tests.{ltb-true}
 use Rattle.std.proofs.lemmas.Bool.{lt-ltb}
 use Rattle.std.proofs.Math.Seq.{drop-append-add}

@@ -1,8 +1,7 @@
 -- A front that is known or forbidden stays so, whatever stands behind the bytes; and where the opcode byte is.
-use Rattle.std.proofs.Common.{◌≡◌, ◌⊎◌, inl, inr, ℕ, zero, suc, ◌+◌, ◌-◌, ◌%◌, ◌<◌, Bool, true, false, ◌&&◌, ◌==◌, List, [], ◌∷◌, ◌++◌, length, get_or, drop, Option, Some, None, refl, ap, sym, ◌∙◌, subst, arith, append_assoc, length-drop, if◌then◌else◌, add-zero, add-one}
+use Rattle.std.proofs.Common.{◌≡◌, ◌⊎◌, inl, inr, ℕ, suc, ◌+◌, ◌-◌, ◌%◌, ◌<◌, Bool, true, false, ◌&&◌, ◌==◌, List, [], ◌∷◌, ◌++◌, length, get_or, drop, Option, Some, None, refl, ap, sym, ◌∙◌, arith, append_assoc, length-drop, if◌then◌else◌}
 use Rattle.std.proofs.lemmas.List.{drop_more}
-use Rattle.std.proofs.Math.Seq.{drop-length, drop-append_seam, drop-append-add}
-use Rattle.std.specs.List.{list_all}
+use Rattle.std.proofs.Math.Seq.{drop-length, drop-append-add}
 use Rattle.x86_values.specs.declared.Bits.{Bits}
 use Rattle.x86_values.specs.declared.Bits.TheVariants.{B16, B32, B64}
 use Rattle.row_types.specs.declared.Map.{Map}
@@ -11,7 +10,7 @@ use Rattle.instruction_parts.specs.declared.spelling.Vex.{Vex}
 use Rattle.instruction_parts.specs.declared.spelling.PrefixState.{PrefixState}
 use Rattle.instruction_parts.specs.Counting.{is_64, is_prefix}
 use Rattle.instruction_parts.specs.Bytes.{state_from}
-use Rattle.instruction_parts.specs.Front.{Front, Open, Forbidden, Known, is_open, prefix_run, forbids_vex, top_two_set, map_numbered, short_vex, long_vex, opcode_front, short_vex_front, third_byte_front, long_vex_front, vex_front, vex_or_opcode_front, escape_front, is_vex_lead, lead_front, long_front}
+use Rattle.instruction_parts.specs.Front.{Front, Forbidden, Known, is_open, prefix_run, forbids_vex, top_two_set, map_numbered, short_vex, long_vex, opcode_front, short_vex_front, third_byte_front, long_vex_front, vex_front, vex_or_opcode_front, escape_front, is_vex_lead, lead_front, long_front}
 use Rattle.row_fit.specs.FrontParts.{OpcodeAt}
 use Rattle.row_fit.proofs.FrontLaws.{long_front-run}
 use Rattle.row_fit.proofs.FrontConverse.{run_all, run_front, if_known, else_known, same_state}

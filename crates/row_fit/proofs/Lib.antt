@@ -4,3 +4,4 @@ pub mod FrontConverse
 pub mod TailLaws
 pub mod OneSpelling
 pub mod FrontGrows
+pub mod SoundLaws

@@ -1,6 +1,6 @@
 //! Laws of the definitions, as the contracts of functions that do nothing.
 
-ghost use Rattle.std.specs.Prelude.{◌≡◌, ℕ, List, ◌++◌, IsTrue};
+ghost use Rattle.std.specs.Prelude.{◌≡◌, ℕ, false, List, ◌++◌, IsTrue};
 ghost use Rattle.x86_values.specs.declared.Bits.{Bits};
 ghost use Rattle.row_types.specs.declared.Row.{Row};
 ghost use Rattle.instruction_parts.specs.declared.spelling.Spelling.{Spelling};
@@ -9,6 +9,9 @@ ghost use Rattle.row_fit.specs.Fits.{fits, Fits, are_bytes};
 ghost use Rattle.row_fit.specs.FrontParts.{Parted, OpcodeAt};
 ghost use Rattle.instruction_parts.specs.Front.{long_front, Known, Forbidden};
 ghost use Rattle.instruction_parts.specs.Bytes.{bytes_of, state_of};
+ghost use Rattle.instruction_parts.specs.Sizes.{exists_in, is_vex_row};
+ghost use Rattle.row_fit.specs.Fits.{opcode_fits};
+ghost use Rattle.row_fit.specs.Sound.{sound, Sound, begins_nothing};
 
 /// The front of the bytes of a fitting spelling, whatever stands behind them, is its own state.
 pub fn front_is_state()
@@ -59,4 +62,16 @@ pub fn forbidden_front_stays()
 pub fn opcode_byte_is_behind_front()
     ensures { (bits : Bits) (bytes : List ℕ) (f : PrefixState)
         → long_front bits bytes ≡ Known f → OpcodeAt bytes f }
+{}
+
+/// A sound row meets each of the nine conditions.
+pub fn sound_each_condition()
+    ensures { (row : Row) → IsTrue (sound row) → Sound row }
+{}
+
+/// In a mode in which a sound legacy row exists, its opcode byte is no prefix and no escape byte of its map.
+pub fn opcode_of_sound_row_begins_nothing()
+    ensures { (bits : Bits) (row : Row) (opcode : ℕ)
+        → IsTrue (sound row) → is_vex_row row ≡ false → IsTrue (exists_in bits row) → IsTrue (opcode_fits row opcode)
+        → IsTrue (begins_nothing bits row.map opcode) }
 {}
