@@ -11,6 +11,10 @@ use instruction_parts::bytes::state_from;
 use instruction_parts::counting::{forbids_vex, is_64, is_prefix};
 use instruction_parts::sizes::bit_of_byte;
 use instruction_parts::{PrefixState, Vex};
+
+#[cfg(test)]
+mod tests;
+
 use row_types::Map;
 use x86_values::Bits;
 
