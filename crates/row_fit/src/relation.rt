@@ -1,6 +1,6 @@
 //! Whether a spelling fits a row.
 
-ghost use Rattle.std.specs.Prelude.{◌≡◌, ◌<◌, ◌≤◌, IsTrue, nat_lt};
+ghost use Rattle.std.specs.Prelude.{◌≡◌, ◌<◌, IsTrue, nat_lt};
 ghost use Rattle.row_fit.specs.Fits as spec;
 ghost use Rattle.row_fit.specs.Sound.{sound};
 
