@@ -1,20 +1,15 @@
 //! When a spelling fits a row.
 
-ghost use Rattle.std.specs.Prelude.{◌≡◌, ◌<◌, ◌+◌, length, IsTrue, Option, Bool, false};
-ghost use Rattle.std.specs.List.{list_any, list_all};
+ghost use Rattle.std.specs.Prelude.{◌≡◌, ◌<◌, ◌+◌, Option, false};
+ghost use Rattle.std.specs.List.{list_all};
 ghost use Rattle.row_fit.specs.Fits as spec;
 ghost use Rattle.instruction_parts.specs.Kinds.{method_of};
-ghost use Rattle.instruction_parts.specs.Front as front;
-ghost use Rattle.instruction_parts.specs.Counting as counting;
 
 use instruction_parts::counting::{forbids_vex, is_16, is_32, is_64, is_prefix};
-use instruction_parts::kinds::{Method, Width, immediate_width_of_kind, method_of_kind};
-use instruction_parts::sizes::{
-    bit_b, bit_r, bit_w, bit_x, exists_in, is_lockable, is_vex_row, size_bytes, state_address_size,
-    state_size,
-};
-use instruction_parts::spelling::{ModRm, PrefixState, Sib, Spelling, Vex};
-use row_types::{Class, LBit, Map, ModRmRule, OpKind, Place, Plus, Row, Size, WBit};
+use instruction_parts::kinds::{Method, method_of_kind};
+use instruction_parts::sizes::{bit_w, exists_in, is_vex_row, state_size};
+use instruction_parts::spelling::{ModRm, PrefixState, Vex};
+use row_types::{Class, LBit, Map, ModRmRule, Place, Plus, Row, Size, WBit};
 use x86_values::{Bits, Rep};
 
 pub fn is_map_one(map: Map) -> bool
@@ -311,7 +306,7 @@ fn is_opcode(bits: Bits, map: Map, b: u8) -> bool
 
 /// What ModRM an opcode byte allows.
 #[tactic(auto, unfolding(crate::specs::Fits::opcode_allows))]
-fn opcode_allows(bits: Bits, map: Map, b: u8, m: Option<ModRm>) -> bool
+pub fn opcode_allows(bits: Bits, map: Map, b: u8, m: Option<ModRm>) -> bool
     ensures { result ≡ spec.opcode_allows bits map b m }
 {
     match map {

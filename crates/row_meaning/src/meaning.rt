@@ -1,22 +1,16 @@
 //! What a fitting spelling means.
 
-ghost use Rattle.std.specs.Prelude.{◌≡◌, ◌<◌, ◌≤◌, ◌+◌, length, IsTrue, Option, None, Some, ◌&&◌, ◌==◌};
+ghost use Rattle.std.specs.Prelude.{◌≡◌, ◌<◌, ◌≤◌, ◌+◌, length, Option, None, Some};
 ghost use Rattle.row_meaning.specs.Meaning as spec;
-ghost use Rattle.row_fit.specs.Fits as fits;
 ghost use Rattle.instruction_parts.specs.Bytes as bytes;
-ghost use Rattle.x86_values.specs.Wrapping.{width};
 
-use instruction_parts::counting::is_64;
-use instruction_parts::kinds::{File, Method, file_of_kind, fixed_number_of_kind, method_of_kind};
-use crate::numbers::{little_endian, sign_extended};
-use instruction_parts::sizes::{bit_b, bit_w, has_address_mark, state_address_size, state_size};
-use instruction_parts::spelling::{ModRm, PrefixState, Sib, Spelling};
-use row_fit::tail_fits::{
-    extended, immediate_bytes, index_number, is_displacement_alone, is_memory_method, kind_at,
-    reg_number, rm_number, vvvv_number,
-};
-use row_types::{Class, LBit, OpKind, Row};
-use x86_values::{Bits, Code, DispSize, Instr, Mem, Operand, Register, Rep, Segment, wrap};
+use crate::numbers::sign_extended;
+use instruction_parts::kinds::File;
+use instruction_parts::sizes::{bit_w, state_size};
+use instruction_parts::spelling::{ModRm, PrefixState};
+use row_fit::tail_fits::{extended, is_displacement_alone};
+use row_types::{LBit, Row};
+use x86_values::{Bits, DispSize, Mem, Register, Segment, wrap};
 
 /// The segment register of a number.
 #[tactic(auto, unfolding(crate::specs::Meaning::segment_numbered))]
