@@ -263,7 +263,10 @@ def write_join(table):
         counts[r['part']] = at + 1
         spots.append(f"{r['part']} {at}")
     head = '//! {}, written by tools/write_rows.py from the entries in tools/rows.\n'
-    text = head.format('Where each row lies') + 'use crate::{Part, Spot};\n\n'
+    parts = [part for _, _, _, part in PARTS if part in counts]
+    text = head.format('Where each row lies')
+    text += '/// The crate that has a row.\n#[derive(Clone, Copy)]\npub enum Part {\n' + ''.join(f'    {part},\n' for part in parts) + '}\n\n'
+    text += '/// Where a row lies: the crate, and the place among its rows.\n#[derive(Clone, Copy)]\npub struct Spot {\n    pub part: Part,\n    pub at: u16,\n}\n\n'
     text += 'macro_rules! spots {\n    ($($part:ident $at:literal),*) => {\n        [$(Spot { part: Part::$part, at: $at }),*]\n    };\n}\n\n'
     text += f'/// How many rows the table has.\npub const ROWS: u16 = {len(table)};\n\n'
     text += f'/// Where the rows lie, by code.\npub static SPOTS: [Spot; {len(table)}] = spots! {{\n'

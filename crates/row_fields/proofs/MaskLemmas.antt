@@ -11,7 +11,7 @@ use Rattle.x86_values.specs.declared.Rep.TheVariants as rep
 use Rattle.x86_values.specs.declared.Bits.{Bits}
 use Rattle.x86_values.specs.declared.Bits.TheVariants.{B16, B32, B64}
 use Rattle.instruction_parts.specs.Counting.{is_64}
-use Rattle.instruction_parts.specs.Sizes.{exists_in, operand_size, has_bang, has_caret}
+use Rattle.instruction_parts.specs.Sizes.{exists_in, operand_size, has_bang}
 use Rattle.row_fields.specs.declared.Fields.{Fields}
 use Rattle.row_fields.specs.Holds.{holds, stands_in, map_number, byte_of, byte_holds, prefix_of, prefix_holds, place_holds, reg_holds, rm_holds, size_allows, size_holds, w_holds, l_holds, rex_b_holds}
 use Rattle.row_fields.proofs.Masks.{number_of, nth, allows, meets, two, three, four, reg_mask, rm_mask, plain_size, size_number, marked_size, size_mask, masks, values}

@@ -1,6 +1,6 @@
 -- A computed test that spans say where the rows of each cell lie, and what follows from it.
-use Rattle.std.proofs.Common.{◌≡◌, ℕ, Bool, true, false, zero, suc, ◌+◌, ◌-◌, ◌&&◌, refl, ap, sym, ◌∙◌, arith, List, [], ◌∷◌, ◌<◌, ◌≤◌, map, length, slice_get, option_map, inl, inr, lit<}
-use Rattle.std.specs.Prelude.{Option, Some, None, ◌==◌, IsTrue, ◌↔◌}
+use Rattle.std.proofs.Common.{◌≡◌, ℕ, Bool, true, false, zero, suc, ◌+◌, ◌-◌, refl, ap, sym, ◌∙◌, arith, List, [], ◌∷◌, ◌<◌, map, length, slice_get, option_map, inl, inr, lit<}
+use Rattle.std.specs.Prelude.{Option, Some, None, ◌==◌}
 use Rattle.std.proofs.lemmas.Option.{slice_get-map, slice_get_within}
 use Rattle.std.proofs.lemmas.List.{length-map}
 use Rattle.row_types.specs.declared.Row.{Row}
@@ -8,12 +8,12 @@ use Rattle.row_types.specs.declared.RowKind.{RowKind}
 use Rattle.row_types.specs.declared.RowKind.TheVariants as kind
 use Rattle.row_types.specs.declared.Map.{Map}
 use Rattle.row_types.specs.declared.Map.TheVariants.{One, M0f, M0f38, M0f3a}
-use Rattle.row_fields.specs.Holds.{is_vex, map_number, rows_at, keep_if, stands_in, opcode_holds}
+use Rattle.row_fields.specs.Holds.{is_vex, map_number, keep_if, stands_in}
 use Rattle.row_fields.proofs.Cands.{Coded, coded, of_number, at_opcode, at_opcode-keep_if, below, below-at}
 use Rattle.row_fields.proofs.Cells.{is_run, length-is_run, code-is_run, rows-of_cell, table-at_code}
 use Rattle.row_fields.proofs.Apart.{bool_cases}
 use Rattle.row_lists.specs.declared.Span.{Span}
-use Rattle.row_lists.specs.Cells.{map_index, line_number, stands_in_cell, cell_of, span_of, IsRunOf}
+use Rattle.row_lists.specs.Cells.{map_index, line_number, cell_of, span_of, IsRunOf}
 
 unfoldable pub run_at : Option Span → List Coded → Bool
 unfolding is_run
@@ -36,7 +36,7 @@ spans_fit k spans rows =
     let cs : List Coded = coded 0 rows in
     below 4 (λ line. line_runs spans line (of_number (first_number k + line) cs))
 
-map_index-lt : (m : Map) → map_index m < 4
+pub map_index-lt : (m : Map) → map_index m < 4
 map_index-lt One = lit< tt
 map_index-lt M0f = lit< tt
 map_index-lt M0f38 = lit< tt

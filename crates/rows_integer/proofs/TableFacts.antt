@@ -1,5 +1,5 @@
 -- What is computed of the table.
-use Rattle.std.proofs.Common.{◌≡◌, true, refl, length, List, ◌∷◌, ℕ}
+use Rattle.std.proofs.Common.{◌≡◌, true, refl, length}
 use Rattle.row_types.specs.declared.RowKind.TheVariants.{Legacy}
 use Rattle.row_fields.proofs.Cands.{coded, of_number, at_opcode, below}
 use Rattle.row_fields.proofs.Cells.{is_run}

@@ -1,6 +1,6 @@
 use Rattle.std.proofs.Common.{◌≡◌, ◌<◌, length, arith, Some, slice_get}
 use Rattle.std.proofs.lemmas.Option.{slice_get-get_or}
-use Rattle.row_lists.specs.Cells.{map_index, span_of}
+use Rattle.row_lists.specs.Cells.{map_index}
 use Rattle.row_lists.proofs.Runs.{span-read}
 use Rattle.rows_integer.specs.Table.{spans}
 use Rattle.rows_integer.proofs.span_at.Goals as goal

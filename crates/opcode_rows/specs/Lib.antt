@@ -1,0 +1,4 @@
+pub mod Table
+pub mod Kept
+pub mod Allowed
+pub mod Reading
