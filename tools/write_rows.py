@@ -130,6 +130,8 @@ def row_sizes(e):
     else:
         out = [('None', modes)]
     out = [(size, m) for size, m in out if m]
+    if e['kind'] == 'Vex' and len(names) == len(e['w']) and out[0][0] == 'None':
+        return [('None', modes, names[0])]
     if len(names) > 1 and len(names) != len(out):
         fail(e['where'], f'{len(names)} names for {len(out)} rows')
     return [(size, m, names[k] if len(names) > 1 else names[0]) for k, (size, m) in enumerate(out)]

@@ -5,6 +5,9 @@ use Rattle.std.proofs.lemmas.Option.{slice_get_within}
 use Rattle.row_types.specs.declared.Row.{Row}
 use Rattle.row_fields.proofs.Cands.{and-left, and-right}
 use Rattle.rows_integer.specs.Table.{table as integer_rows, flat_rows as integer_flat}
+use Rattle.rows_x87.specs.Table.{table as x87_rows, flat_rows as x87_flat}
+use Rattle.rows_sse.specs.Table.{table as sse_rows, flat_rows as sse_flat}
+use Rattle.rows_vex.specs.Table.{table as vex_rows, flat_rows as vex_flat}
 use Rattle.opcode_rows.specs.declared.spots.Spot.{Spot}
 use Rattle.opcode_rows.specs.declared.spots.Part.{Part}
 use Rattle.opcode_rows.specs.declared.spots.TheConstants.{ROWS}
@@ -15,7 +18,7 @@ all_there [] = true
 all_there (s ∷ ss) = is_some (slice_get (part_table s.part) s.at) && all_there ss
 
 are_there : all_there places ≡ true
-unfolding all_there places integer_rows integer_flat
+unfolding all_there places integer_rows integer_flat x87_rows x87_flat sse_rows sse_flat vex_rows vex_flat
 are_there = refl
 
 some-known : (o : Option Row) → is_some o ≡ true → (r : Row) × (o ≡ Some r)

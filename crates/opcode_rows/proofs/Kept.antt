@@ -9,6 +9,9 @@ use Rattle.instruction_parts.specs.Sizes.{exists_in}
 use Rattle.row_fit.specs.Fits.{is_opcode}
 use Rattle.row_fields.proofs.Cands.{and-left, and-right}
 use Rattle.rows_integer.specs.Table.{table as integer_rows, flat_rows as integer_flat}
+use Rattle.rows_x87.specs.Table.{table as x87_rows, flat_rows as x87_flat}
+use Rattle.rows_sse.specs.Table.{table as sse_rows, flat_rows as sse_flat}
+use Rattle.rows_vex.specs.Table.{table as vex_rows, flat_rows as vex_flat}
 use Rattle.opcode_rows.specs.Kept.{opcodes_are_kept}
 use Rattle.opcode_rows.specs.declared.spots.Part.{Part}
 use Rattle.opcode_rows.specs.declared.spots.Part.TheVariants as part
@@ -22,8 +25,23 @@ integer-kept : all_rows kept integer_rows ≡ true
 unfolding all_rows kept opcodes_are_kept is_opcode exists_in is_segment is_legacy_prefix is_prefix integer_rows integer_flat
 integer-kept = refl
 
+x87-kept : all_rows kept x87_rows ≡ true
+unfolding all_rows kept opcodes_are_kept is_opcode exists_in is_segment is_legacy_prefix is_prefix x87_rows x87_flat
+x87-kept = refl
+
+sse-kept : all_rows kept sse_rows ≡ true
+unfolding all_rows kept opcodes_are_kept is_opcode exists_in is_segment is_legacy_prefix is_prefix sse_rows sse_flat
+sse-kept = refl
+
+vex-kept : all_rows kept vex_rows ≡ true
+unfolding all_rows kept opcodes_are_kept is_opcode exists_in is_segment is_legacy_prefix is_prefix vex_rows vex_flat
+vex-kept = refl
+
 each-kept : (p : Part) → all_rows kept (part_table p) ≡ true
 each-kept part.Integer = integer-kept
+each-kept part.X87 = x87-kept
+each-kept part.Sse = sse-kept
+each-kept part.Vex = vex-kept
 
 in_mode : (bits : Bits) (row : Row) → kept row ≡ true → IsTrue (opcodes_are_kept bits row)
 unfolding kept

@@ -7,6 +7,9 @@ use Rattle.row_types.specs.declared.Map.{Map}
 use Rattle.row_lists.specs.declared.Span.{Span}
 use Rattle.row_lists.specs.Cells.{cell_of}
 use Rattle.rows_integer.specs.Table.{table as integer_rows}
+use Rattle.rows_x87.specs.Table.{table as x87_rows}
+use Rattle.rows_sse.specs.Table.{table as sse_rows}
+use Rattle.rows_vex.specs.Table.{table as vex_rows}
 use Rattle.opcode_rows.specs.declared.spots.Part.{Part}
 use Rattle.opcode_rows.specs.declared.spots.Part.TheVariants as part
 use Rattle.opcode_rows.specs.declared.spots.Spot.{Spot}
@@ -17,6 +20,9 @@ use Rattle.opcode_rows.specs.declared.names.TheConstants.{NAMES}
 -- the rows of a part
 abbrev pub part_table : Part → List Row
 part_table part.Integer = integer_rows
+part_table part.X87 = x87_rows
+part_table part.Sse = sse_rows
+part_table part.Vex = vex_rows
 
 -- where the rows lie, by code
 unfoldable pub places : List Spot

@@ -94,6 +94,9 @@ fn row_of(spot: Spot) -> Row
 {
     match spot.part {
         Part::Integer => rows_integer::row_at(spot.at),
+        Part::X87 => rows_x87::row_at(spot.at),
+        Part::Sse => rows_sse::row_at(spot.at),
+        Part::Vex => rows_vex::row_at(spot.at),
     }
 }
 
