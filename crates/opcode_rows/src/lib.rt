@@ -132,3 +132,6 @@ fn vex_line_at(line: usize) -> &'static [Span; 256]
 {
     &VEX_SPANS[line]
 }
+
+#[cfg(test)]
+mod tests;

@@ -1,6 +1,7 @@
 //! The integer rows of the opcode table, by place and by cell: the one-byte map, map 0F and map 0F38 (Intel SDM volume 2, appendix A).
 #![tactic(auto)]
 
+pub mod laws;
 mod table;
 
 ghost use Rattle.std.specs.Prelude.{◌≡◌, ◌<◌, length, slice_get, Some};

@@ -1,6 +1,7 @@
 //! The MMX and SSE rows of the opcode table, by place and by cell: the maps 0F, 0F38 and 0F3A (Intel SDM volume 2, appendix A).
 #![tactic(auto)]
 
+pub mod laws;
 mod table;
 
 ghost use Rattle.std.specs.Prelude.{◌≡◌, ◌<◌, length, slice_get, Some};

@@ -1,6 +1,7 @@
 //! The x87 rows of the opcode table, by place and by cell: the opcode bytes D8 to DF (Intel SDM volume 2, A.5.2).
 #![tactic(auto)]
 
+pub mod laws;
 mod table;
 
 ghost use Rattle.std.specs.Prelude.{◌≡◌, ◌<◌, length, slice_get, Some};
