@@ -5,3 +5,4 @@ pub mod CellRuns
 pub mod Apart
 pub mod Named
 pub mod Formed
+pub mod Words

@@ -8,8 +8,9 @@ ghost use Rattle.row_fit.specs.Sound.{sound};
 ghost use Rattle.row_fields.specs.declared.Fields.{Fields};
 ghost use Rattle.row_fields.specs.Holds.{AreApart};
 ghost use Rattle.row_lists.specs.Cells.{IsRunOf};
-ghost use Rattle.opcode_rows.specs.Table.{table, cell};
+ghost use Rattle.opcode_rows.specs.Table.{table, name_of, cell};
 ghost use Rattle.opcode_rows.specs.Kept.{opcodes_are_kept};
+ghost use Rattle.opcode_rows.specs.Words.{is_name, has_one_long_kind};
 ghost use Rattle.opcode_rows.specs.declared.spots.TheConstants.{ROWS};
 
 /// There are as many rows as `ROWS` says.
@@ -36,4 +37,14 @@ pub fn cells_are_runs()
 /// the byte 62.
 pub fn opcodes_are_kept_in_each_mode()
     ensures { (bits : Bits) (code : ℕ) (row : Row) → slice_get table code ≡ Some row → IsTrue (opcodes_are_kept bits row) }
+{}
+
+/// At most one operand of a row can be memory or a far pointer.
+pub fn rows_have_one_long_operand()
+    ensures { (code : ℕ) (row : Row) → slice_get table code ≡ Some row → IsTrue (has_one_long_kind row) }
+{}
+
+/// Each name has 1 to 16 bytes, each a lower-case letter or a digit.
+pub fn names_are_words()
+    ensures { (code : ℕ) → code < ROWS → IsTrue (is_name (name_of code)) }
 {}

@@ -33,10 +33,11 @@ pub fn row<L: Ledger>(code: Code, steps: &mut Steps<L>) -> Row
     row_at(code)
 }
 
-/// The name of the row of a code below `ROWS`, in lower case.
+/// The name of the row of a code below `ROWS`, in lower case: 1 to 16 letters and digits.
 pub fn name(code: Code) -> &'static str
     requires { code.0 < ROWS }
-    ensures { result.now ≡ name_of code.0 }
+    ensures name { result.now ≡ name_of code.0 }
+    ensures short { length result.now ≤ 16 }
 {
     all_names()[code.0 as usize]
 }
