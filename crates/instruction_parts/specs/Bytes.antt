@@ -11,14 +11,14 @@ use Rattle.instruction_parts.specs.declared.spelling.Spelling.{Spelling}
 use Rattle.instruction_parts.specs.declared.spelling.PrefixState.{PrefixState}
 use Rattle.instruction_parts.specs.Counting.{has_lock, has_66, has_67, counting_repeat, counting_segment, counting_rex}
 
--- the escape bytes of a map
+-- the escape bytes of a map: none, 0F, 0F 38, 0F 3A (2.1.2)
 abbrev pub escape_bytes : Map → List ℕ
 escape_bytes One = []
 escape_bytes M0f = 0x0F ∷ []
 escape_bytes M0f38 = 0x0F ∷ 0x38 ∷ []
 escape_bytes M0f3a = 0x0F ∷ 0x3A ∷ []
 
--- the number of a map in a three-byte VEX
+-- the number of a map in a three-byte VEX, its field mmmmm (2.3.6.1)
 abbrev pub map_number : Map → ℕ
 map_number One = 0
 map_number M0f = 1
@@ -33,15 +33,15 @@ bit b = cond b 1 0
 abbrev pub inverted : Bool → ℕ
 inverted b = cond b 0 1
 
--- the byte of a VEX that has vvvv, L and pp, with the bit in front of them
+-- the last byte of a VEX: a bit in front, vvvv inverted, L and pp (2.3.5, figure 2-9)
 unfoldable pub vex_last_byte : ℕ → Vex → ℕ
 vex_last_byte front v = front * 128 + (15 - v.vvvv) * 8 + bit v.l * 4 + v.pp
 
--- the byte of a three-byte VEX that has R, X, B and the map
+-- the second byte of a three-byte VEX: R, X and B inverted, and the map number (2.3.5, figure 2-9)
 unfoldable pub vex_map_byte : Vex → ℕ
 vex_map_byte v = inverted v.r * 128 + inverted v.x * 64 + inverted v.b * 32 + map_number v.map
 
--- the two or three bytes of a VEX
+-- the bytes of a VEX: C5 and one with R, or C4, the byte of the map and one with W (2.3.5)
 unfoldable pub vex_bytes : Vex → List ℕ
 vex_bytes v =
     elim v.three [
@@ -49,16 +49,16 @@ vex_bytes v =
       | false ↦ 0xC5 ∷ vex_last_byte (inverted v.r) v ∷ []
     ]
 
--- the VEX, else the escape bytes of the map
+-- what stands between the prefixes and the opcode byte: the VEX, else the escape bytes of the map (2.1.2, 2.3.1)
 unfoldable pub lead_bytes : Map → Option Vex → List ℕ
 lead_bytes map None = escape_bytes map
 lead_bytes map (Some v) = vex_bytes v
 
--- the ModRM byte
+-- the ModRM byte: mod, reg and rm (2.1.3)
 abbrev pub modrm_byte : ModRm → ℕ
 modrm_byte m = m.mode3 * 64 + m.reg * 8 + m.rm
 
--- the SIB byte
+-- the SIB byte: scale, index and base (2.1.3)
 abbrev pub sib_byte : Sib → ℕ
 sib_byte s = s.scale * 64 + s.index * 8 + s.base
 
@@ -70,15 +70,15 @@ abbrev pub sib_bytes : Option Sib → List ℕ
 sib_bytes None = []
 sib_bytes (Some s) = sib_byte s ∷ []
 
--- what stands behind the opcode byte: ModRM, SIB, displacement, immediates
+-- what stands behind the opcode byte: ModRM, SIB, displacement, immediates (2.1)
 unfoldable pub tail_bytes : Spelling → List ℕ
 tail_bytes s = modrm_bytes s.modrm ++ (sib_bytes s.sib ++ (s.disp.items ++ s.imm.items))
 
--- what stands before the opcode byte: prefixes, then the VEX or the escape bytes
+-- what stands before the opcode byte: prefixes, then the VEX or the escape bytes (2.1, 2.3.1)
 unfoldable pub front_bytes : Row → Spelling → List ℕ
 front_bytes row s = s.prefixes.items ++ lead_bytes row.map s.vex
 
--- the parts of a spelling of the row, in order
+-- the bytes of a spelling of the row: its parts in order (2.1, figure 2-1)
 unfoldable pub bytes_of : Row → Spelling → List ℕ
 bytes_of row s = front_bytes row s ++ (s.opcode ∷ tail_bytes s)
 

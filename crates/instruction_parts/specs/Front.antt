@@ -19,26 +19,26 @@ pub data Front : Type 0 where
   -- they have an opcode byte
   Known : PrefixState → Front
 
--- the longest run of prefix bytes at the front
+-- the longest run of prefix bytes at the front (2.1.1)
 unfoldable pub prefix_run : Bits → List ℕ → List ℕ
 prefix_run bits [] = []
 prefix_run bits (b ∷ bytes) = if is_prefix bits b then b ∷ prefix_run bits bytes else []
 
--- a VEX is forbidden behind 66, F2, F3 or F0, or directly behind a REX
+-- a VEX is forbidden behind 66, F2, F3 or F0, or directly behind a REX (2.3.2, 2.3.3, 2.3.4)
 unfoldable pub forbids_vex : Bits → List ℕ → Bool
 forbids_vex bits prefixes =
     has_lock prefixes || has_66 prefixes || list_any is_repeat prefixes || is_some (counting_rex bits prefixes)
 
--- the top two bits of a byte are 11
+-- the top two bits of a byte are 11: as a ModRM byte it names a register
 abbrev pub top_two_set : ℕ → Bool
 top_two_set b = b / 64 == 3
 
--- the map that the number in a three-byte VEX names
+-- the map that the number in a three-byte VEX names: 1, 2 and 3, and no other is a map (2.3.6.1)
 unfoldable pub map_numbered : ℕ → Option Map
 map_numbered n =
     if n == 1 then Some M0f else (if n == 2 then Some M0f38 else (if n == 3 then Some M0f3a else None))
 
--- the VEX of two bytes whose second byte is b
+-- the VEX of two bytes whose second byte is b (2.3.5, figure 2-9)
 unfoldable pub short_vex : ℕ → Vex
 short_vex b = record {
   three = false;
@@ -52,7 +52,7 @@ short_vex b = record {
   pp = b % 4;
 }
 
--- the VEX of three bytes whose second and third bytes are b and c, with this map
+-- the VEX of three bytes whose second and third bytes are b and c, with this map (2.3.5, figure 2-9)
 unfoldable pub long_vex : Map → ℕ → ℕ → Vex
 long_vex map b c = record {
   three = true;
@@ -90,13 +90,13 @@ unfoldable pub long_vex_front : Bits → List ℕ → List ℕ → Front
 long_vex_front bits prefixes [] = Open
 long_vex_front bits prefixes (b ∷ bytes) = third_byte_front bits prefixes b (map_numbered (b % 32)) bytes
 
--- behind the prefixes and C4 or C5 that is a VEX
+-- behind the prefixes and C4 or C5 that is a VEX: forbidden at once where it may not stand
 unfoldable pub vex_front : Bits → List ℕ → ℕ → List ℕ → Front
 vex_front bits prefixes lead bytes =
     if forbids_vex bits prefixes then Forbidden
     else (if lead == 0xC5 then short_vex_front bits prefixes bytes else long_vex_front bits prefixes bytes)
 
--- behind the prefixes and C4 or C5: outside 64-bit mode it is a VEX only where the top two bits of the next byte are 11
+-- behind the prefixes and C4 or C5: outside 64-bit mode it is a VEX only where the top two bits of the next byte are 11, else LES or LDS (2.3.5.1)
 unfoldable pub vex_or_opcode_front : Bits → List ℕ → ℕ → List ℕ → Front
 vex_or_opcode_front B64 prefixes lead bytes = vex_front B64 prefixes lead bytes
 vex_or_opcode_front bits prefixes lead [] = Open
@@ -104,7 +104,7 @@ vex_or_opcode_front bits prefixes lead (b ∷ bytes) =
     if top_two_set b then vex_front bits prefixes lead (b ∷ bytes)
     else opcode_front bits prefixes 0 None One (lead ∷ b ∷ bytes)
 
--- behind the prefixes and 0F
+-- behind the prefixes and 0F: a second escape byte or an opcode byte, and 0F 0F is none (2.1.2)
 unfoldable pub escape_front : Bits → List ℕ → List ℕ → Front
 escape_front bits prefixes [] = Open
 escape_front bits prefixes (b ∷ bytes) =
@@ -117,7 +117,7 @@ escape_front bits prefixes (b ∷ bytes) =
 abbrev pub is_vex_lead : ℕ → Bool
 is_vex_lead b = b == 0xC4 || b == 0xC5
 
--- behind the prefixes
+-- behind the prefixes: a VEX, escape bytes, or an opcode byte, which in 64-bit mode is not 62
 unfoldable pub lead_front : Bits → List ℕ → List ℕ → Front
 lead_front bits prefixes [] = Open
 lead_front bits prefixes (b ∷ bytes) =
@@ -126,12 +126,12 @@ lead_front bits prefixes (b ∷ bytes) =
     else (if is_64 bits && (b == 0x62) then Forbidden
     else opcode_front bits prefixes 0 None One (b ∷ bytes)))
 
--- the front of the bytes, of any length
+-- the front of the bytes, of any length: the state up to and with the opcode byte
 unfoldable pub long_front : Bits → List ℕ → Front
 long_front bits bytes =
     let prefixes = prefix_run bits bytes in lead_front bits prefixes (drop (length prefixes) bytes)
 
--- the same, where a front is forbidden once 15 bytes were read without an opcode byte
+-- the same within the 15 bytes of an instruction: a front is forbidden once 15 bytes hold no opcode byte (2.3.11)
 unfoldable pub within_15 : ℕ → Front → Front
 within_15 given Open = if nat_le 15 given then Forbidden else Open
 within_15 given Forbidden = Forbidden
@@ -141,7 +141,7 @@ within_15 given (Known state) = if nat_le 15 state.used then Forbidden else Know
 unfoldable pub front_of : Bits → List ℕ → Front
 front_of bits bytes = within_15 (length bytes) (long_front bits bytes)
 
--- the front is open
+-- the front is open: the bytes end before their opcode byte and hold nothing that is forbidden
 abbrev pub is_open : Front → Bool
 is_open Open = true
 is_open _ = false

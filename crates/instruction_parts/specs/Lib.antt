@@ -3,4 +3,3 @@ pub mod Counting
 pub mod Sizes
 pub mod Bytes
 pub mod Front
-pub mod FrontParts

@@ -9,6 +9,7 @@ use row_types::{Map, Row};
 use x86_values::Bits;
 
 /// The length of the VEX, else of the escape bytes of the map.
+#[inline]
 #[tactic(auto, unfolding(crate::specs::Bytes::lead_bytes, crate::specs::Bytes::vex_bytes))]
 pub fn lead_len(map: Map, vex: Option<Vex>) -> u8
     ensures value { result ≡ length (spec.lead_bytes map vex) }
@@ -36,6 +37,7 @@ fn spelled_map(map: Map, vex: Option<Vex>) -> Map
 }
 
 /// What prefixes, VEX, map and opcode byte say.
+#[inline]
 #[tactic(auto, unfolding(crate::specs::Bytes::state_from))]
 pub fn state_from(
     bits: Bits,
@@ -62,6 +64,7 @@ pub fn state_from(
 }
 
 /// The state of a spelling of the row.
+#[inline]
 #[tactic(auto, unfolding(crate::specs::Bytes::state_of, crate::specs::Bytes::front_bytes))]
 pub fn state_of(bits: Bits, row: &Row, s: &Spelling) -> PrefixState
     ensures { result ≡ spec.state_of bits row.now s.now }

@@ -8,6 +8,7 @@ ghost use Rattle.instruction_parts.specs.Front as front;
 use x86_values::{Bits, Rep, Segment};
 
 /// F2 or F3.
+#[inline]
 pub fn is_repeat(b: u8) -> bool
     ensures { result ≡ spec.is_repeat b }
 {
@@ -15,6 +16,7 @@ pub fn is_repeat(b: u8) -> bool
 }
 
 /// A segment prefix.
+#[inline]
 #[tactic(auto, unfolding(crate::specs::Counting::is_segment))]
 pub fn is_segment(b: u8) -> bool
     ensures { result ≡ spec.is_segment b }
@@ -23,6 +25,7 @@ pub fn is_segment(b: u8) -> bool
 }
 
 /// One of the eleven legacy prefixes.
+#[inline]
 #[tactic(auto, unfolding(crate::specs::Counting::is_legacy_prefix))]
 pub fn is_legacy_prefix(b: u8) -> bool
     ensures { result ≡ spec.is_legacy_prefix b }
@@ -31,6 +34,7 @@ pub fn is_legacy_prefix(b: u8) -> bool
 }
 
 /// 40 to 4F, a REX in 64-bit mode.
+#[inline]
 pub fn is_rex(b: u8) -> bool
     ensures { result ≡ spec.is_rex b }
 {
@@ -38,6 +42,7 @@ pub fn is_rex(b: u8) -> bool
 }
 
 /// Whether the mode is 64.
+#[inline]
 pub fn is_64(bits: Bits) -> bool
     ensures { result ≡ spec.is_64 bits }
 {
@@ -48,6 +53,7 @@ pub fn is_64(bits: Bits) -> bool
 }
 
 /// Whether a size is 16.
+#[inline]
 pub fn is_16(bits: Bits) -> bool
     ensures { result ≡ spec.is_16 bits }
 {
@@ -58,6 +64,7 @@ pub fn is_16(bits: Bits) -> bool
 }
 
 /// Whether a size is 32.
+#[inline]
 pub fn is_32(bits: Bits) -> bool
     ensures { result ≡ spec.is_32 bits }
 {
@@ -68,6 +75,7 @@ pub fn is_32(bits: Bits) -> bool
 }
 
 /// A prefix byte of the mode.
+#[inline]
 #[tactic(auto, unfolding(crate::specs::Counting::is_prefix))]
 pub fn is_prefix(bits: Bits, b: u8) -> bool
     ensures { result ≡ spec.is_prefix bits b }
@@ -76,6 +84,7 @@ pub fn is_prefix(bits: Bits, b: u8) -> bool
 }
 
 /// Whether LOCK occurs.
+#[inline]
 #[tactic(auto, unfolding(crate::specs::Counting::has_lock))]
 pub fn has_lock(prefixes: &[u8]) -> bool
     ensures { result ≡ spec.has_lock prefixes.now }
@@ -84,6 +93,7 @@ pub fn has_lock(prefixes: &[u8]) -> bool
 }
 
 /// Whether 66 occurs.
+#[inline]
 #[tactic(auto, unfolding(crate::specs::Counting::has_66))]
 pub fn has_66(prefixes: &[u8]) -> bool
     ensures { result ≡ spec.has_66 prefixes.now }
@@ -92,6 +102,7 @@ pub fn has_66(prefixes: &[u8]) -> bool
 }
 
 /// Whether 67 occurs.
+#[inline]
 #[tactic(auto, unfolding(crate::specs::Counting::has_67))]
 pub fn has_67(prefixes: &[u8]) -> bool
     ensures { result ≡ spec.has_67 prefixes.now }
@@ -107,6 +118,7 @@ fn last_repeat(prefixes: &[u8]) -> Option<u8>
 }
 
 /// The counting repeat prefix.
+#[inline]
 #[tactic(auto, unfolding(crate::specs::Counting::counting_repeat))]
 pub fn counting_repeat(prefixes: &[u8]) -> Rep
     ensures { result ≡ spec.counting_repeat prefixes.now }
@@ -118,6 +130,7 @@ pub fn counting_repeat(prefixes: &[u8]) -> Rep
 }
 
 /// A segment by its prefix byte.
+#[inline]
 #[tactic(auto, unfolding(crate::specs::Counting::segment_named))]
 pub fn segment_named(b: u8) -> Segment
     ensures { result ≡ spec.segment_named b }
@@ -164,6 +177,7 @@ fn counting_segment_byte(bits: Bits, prefixes: &[u8]) -> Option<u8>
 }
 
 /// The counting segment prefix.
+#[inline]
 #[tactic(auto, unfolding(crate::specs::Counting::counting_segment))]
 pub fn counting_segment(bits: Bits, prefixes: &[u8]) -> Option<Segment>
     ensures { result ≡ spec.counting_segment bits prefixes.now }
@@ -175,6 +189,7 @@ pub fn counting_segment(bits: Bits, prefixes: &[u8]) -> Option<Segment>
 }
 
 /// The counting REX: the last byte, where it is a REX and the mode is 64.
+#[inline]
 #[tactic(auto, unfolding(crate::specs::Counting::counting_rex))]
 pub fn counting_rex(bits: Bits, prefixes: &[u8]) -> Option<u8>
     ensures { result ≡ spec.counting_rex bits prefixes.now }
@@ -196,6 +211,7 @@ fn has_repeat(prefixes: &[u8]) -> bool
 }
 
 /// A VEX stands only where nothing in front of it forbids it.
+#[inline]
 #[tactic(auto, unfolding(crate::specs::Front::forbids_vex))]
 pub fn forbids_vex(bits: Bits, prefixes: &[u8]) -> bool
     ensures { result ≡ front.forbids_vex bits prefixes.now }

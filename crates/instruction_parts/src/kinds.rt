@@ -9,22 +9,39 @@ use row_types::OpKind;
 /// Where an operand is read.
 #[derive(Clone, Copy, PartialEq, Eq, Debug)]
 pub enum Method {
+    /// There is no operand.
     Nothing,
+    /// A register by ModRM.reg.
     ModRmReg,
+    /// A register or memory by r/m.
     RegisterOrMemory,
+    /// A register by r/m, with mod 3.
     RegisterOnly,
+    /// Memory by r/m, with another mod.
     MemoryOnly,
+    /// A register by r/m, whatever mod is.
     AnyMode,
+    /// A register by the low three bits of the opcode byte.
     OpcodeLow,
+    /// A register by VEX.vvvv.
     Vvvv,
+    /// A register by the upper four bits of the last byte.
     LastByte,
+    /// Memory by r/m, whose index is a vector register.
     Gather,
+    /// Memory at an absolute address behind the opcode byte.
     Offset,
+    /// An immediate as it is written.
     AsWritten,
+    /// An immediate, sign-extended to the operand size.
     Extended,
+    /// A code offset from the next address.
     Near,
+    /// A far pointer: the offset, then the selector.
     Pointer,
+    /// A register that the opcode fixes.
     Fixed,
+    /// The constant 1.
     One,
 }
 
@@ -35,9 +52,13 @@ pub enum File {
     Word,
     Dword,
     Qword,
+    /// General registers of operand size.
     OperandSize,
+    /// General registers of 16 bits at operand size 16, else of 32.
     WordOrDword,
+    /// General registers of 64 bits where W is 1, else of 32.
     ByW,
+    /// General registers of 64 bits in 64-bit mode, else of 32.
     Native,
     Segment,
     Control,
@@ -45,6 +66,7 @@ pub enum File {
     Stack,
     Mmx,
     Xmm,
+    /// YMM registers on rows with L 256, else XMM registers.
     Vector,
 }
 

@@ -10,6 +10,7 @@ use row_types::{Row, RowKind};
 use x86_values::Bits;
 
 /// Bit n of a byte.
+#[inline]
 pub fn bit_of_byte(n: u8, b: u8) -> bool
     requires { n < 8 }
     ensures { result ≡ bit_of n b }
@@ -18,6 +19,7 @@ pub fn bit_of_byte(n: u8, b: u8) -> bool
 }
 
 /// Bit n of the counting REX, 0 without one.
+#[inline]
 pub fn bit_of_rex(n: u8, rex: Option<u8>) -> bool
     requires { n < 8 }
     ensures { result ≡ rex_bit n rex }
@@ -29,6 +31,7 @@ pub fn bit_of_rex(n: u8, rex: Option<u8>) -> bool
 }
 
 /// Whether the row is lockable.
+#[inline]
 pub fn is_lockable(row: &Row) -> bool
     ensures { result ≡ spec.is_lockable row.now }
 {
@@ -36,6 +39,7 @@ pub fn is_lockable(row: &Row) -> bool
 }
 
 /// Whether the row has the mark a.
+#[inline]
 pub fn has_address_mark(row: &Row) -> bool
     ensures { result ≡ spec.has_address_mark row.now }
 {
@@ -43,6 +47,7 @@ pub fn has_address_mark(row: &Row) -> bool
 }
 
 /// Whether the row has the mark ^.
+#[inline]
 pub fn has_caret(row: &Row) -> bool
     ensures { result ≡ spec.has_caret row.now }
 {
@@ -50,6 +55,7 @@ pub fn has_caret(row: &Row) -> bool
 }
 
 /// Whether the row has the mark !.
+#[inline]
 pub fn has_bang(row: &Row) -> bool
     ensures { result ≡ spec.has_bang row.now }
 {
@@ -57,6 +63,7 @@ pub fn has_bang(row: &Row) -> bool
 }
 
 /// Whether the row exists in the mode.
+#[inline]
 #[tactic(auto, unfolding(crate::specs::Sizes::exists_in))]
 pub fn exists_in(bits: Bits, row: &Row) -> bool
     ensures { result ≡ spec.exists_in bits row.now }
@@ -69,6 +76,7 @@ pub fn exists_in(bits: Bits, row: &Row) -> bool
 }
 
 /// Whether the row is a VEX row.
+#[inline]
 pub fn is_vex_row(row: &Row) -> bool
     ensures { result ≡ spec.is_vex_row row.now }
 {
@@ -79,6 +87,7 @@ pub fn is_vex_row(row: &Row) -> bool
 }
 
 /// The operand size of a row in a mode, under REX.W and 66.
+#[inline]
 #[tactic(auto, unfolding(crate::specs::Sizes::operand_size))]
 pub fn operand_size(bits: Bits, row: &Row, w: bool, size66: bool) -> Bits
     ensures { result ≡ spec.operand_size bits row.now w size66 }
@@ -103,6 +112,7 @@ pub fn operand_size(bits: Bits, row: &Row, w: bool, size66: bool) -> Bits
 }
 
 /// The address size of a mode under 67.
+#[inline]
 #[tactic(auto, unfolding(crate::specs::Sizes::address_size))]
 pub fn address_size(bits: Bits, addr67: bool) -> Bits
     ensures { result ≡ spec.address_size bits addr67 }
@@ -118,6 +128,7 @@ pub fn address_size(bits: Bits, addr67: bool) -> Bits
 }
 
 /// The bytes of a size.
+#[inline]
 pub fn size_bytes(bits: Bits) -> u8
     ensures { result ≡ spec.size_bytes bits }
 {
@@ -129,6 +140,7 @@ pub fn size_bytes(bits: Bits) -> u8
 }
 
 /// R adds 8 to ModRM.reg.
+#[inline]
 #[tactic(auto, unfolding(crate::specs::Sizes::bit_r))]
 pub fn bit_r(state: &PrefixState) -> bool
     ensures { result ≡ spec.bit_r state.now }
@@ -140,6 +152,7 @@ pub fn bit_r(state: &PrefixState) -> bool
 }
 
 /// X adds 8 to SIB.index.
+#[inline]
 #[tactic(auto, unfolding(crate::specs::Sizes::bit_x))]
 pub fn bit_x(state: &PrefixState) -> bool
     ensures { result ≡ spec.bit_x state.now }
@@ -151,6 +164,7 @@ pub fn bit_x(state: &PrefixState) -> bool
 }
 
 /// B adds 8 to ModRM.rm, to SIB.base or to the register in the opcode byte.
+#[inline]
 #[tactic(auto, unfolding(crate::specs::Sizes::bit_b))]
 pub fn bit_b(bits: Bits, state: &PrefixState) -> bool
     ensures { result ≡ spec.bit_b bits state.now }
@@ -163,6 +177,7 @@ pub fn bit_b(bits: Bits, state: &PrefixState) -> bool
 }
 
 /// W, which is ignored outside 64-bit mode.
+#[inline]
 #[tactic(auto, unfolding(crate::specs::Sizes::bit_w))]
 pub fn bit_w(bits: Bits, state: &PrefixState) -> bool
     ensures { result ≡ spec.bit_w bits state.now }
@@ -175,6 +190,7 @@ pub fn bit_w(bits: Bits, state: &PrefixState) -> bool
 }
 
 /// The operand size under the prefixes of a state.
+#[inline]
 #[tactic(auto, unfolding(crate::specs::Sizes::state_size))]
 pub fn state_size(bits: Bits, row: &Row, state: &PrefixState) -> Bits
     ensures { result ≡ spec.state_size bits row.now state.now }
@@ -183,6 +199,7 @@ pub fn state_size(bits: Bits, row: &Row, state: &PrefixState) -> Bits
 }
 
 /// The address size under the prefixes of a state.
+#[inline]
 pub fn state_address_size(bits: Bits, state: &PrefixState) -> Bits
     ensures { result ≡ spec.state_address_size bits state.now }
 {

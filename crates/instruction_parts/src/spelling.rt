@@ -1,12 +1,16 @@
-//! The parts of an instruction's bytes.
+//! The parts of an instruction's bytes (Intel SDM volume 2, 2.1 and 2.3.5).
 
 use arrayvec::ArrayVec;
 use row_types::Map;
 use x86_values::{Rep, Segment};
 
-/// The fields of a VEX; those that are stored inverted are kept after inversion.
+/// The fields of a VEX (2.3.5). Those that are stored inverted, `r`, `x`, `b` and `vvvv`, are kept after inversion.
+///
+/// `vvvv` is 0 to 15 and `pp` 0 to 3. A VEX of two bytes has `x`, `b` and `w` false and the map 0F; no VEX has the
+/// one-byte map.
 #[derive(Clone, Copy, PartialEq, Eq, Debug)]
 pub struct Vex {
+    /// Whether it has three bytes, else two.
     pub three: bool,
     pub r: bool,
     pub x: bool,
@@ -18,7 +22,7 @@ pub struct Vex {
     pub pp: u8,
 }
 
-/// The fields of a ModRM byte.
+/// The fields of a ModRM byte (2.1.3), as they stand in it: `mode3`, the field mod, is 0 to 3, `reg` and `rm` are 0 to 7.
 #[derive(Clone, Copy, PartialEq, Eq, Debug)]
 pub struct ModRm {
     pub mode3: u8,
@@ -26,7 +30,7 @@ pub struct ModRm {
     pub rm: u8,
 }
 
-/// The fields of a SIB byte.
+/// The fields of a SIB byte (2.1.3), as they stand in it: `scale` is 0 to 3, `index` and `base` are 0 to 7.
 #[derive(Clone, Copy, PartialEq, Eq, Debug)]
 pub struct Sib {
     pub scale: u8,
@@ -34,7 +38,11 @@ pub struct Sib {
     pub base: u8,
 }
 
-/// The parts of an instruction's bytes, in order.
+/// The parts of an instruction's bytes, in order (2.1, figure 2-1).
+///
+/// `prefixes` has the legacy prefixes and REX bytes as they stand. The escape bytes of a map are not among the parts:
+/// the row gives them. An absolute address stands in `disp`; code offsets, far pointers and a register in the last byte
+/// stand in `imm`. The parts together may have more than the 15 bytes of an instruction.
 #[derive(Drop)]
 pub struct Spelling {
     pub prefixes: ArrayVec<u8, 15>,
@@ -46,17 +54,25 @@ pub struct Spelling {
     pub imm: ArrayVec<u8, 8>,
 }
 
-/// What the bytes up to and with the opcode byte say.
+/// What the bytes up to and with the opcode byte say: the front of an instruction (2.1.1, 2.2.1, 2.3.5).
 #[derive(Clone, Copy, PartialEq, Eq, Debug)]
 pub struct PrefixState {
+    /// How many bytes stand before the opcode byte: prefixes, and a VEX or escape bytes.
     pub used: u8,
+    /// Whether 66 occurs.
     pub size66: bool,
+    /// Whether 67 occurs.
     pub addr67: bool,
+    /// Whether F0 occurs.
     pub lock: bool,
+    /// The repeat prefix that counts, the last of F2 and F3.
     pub rep: Rep,
+    /// The segment prefix that counts: the last, but in 64-bit mode FS and GS outrank the others.
     pub seg: Option<Segment>,
+    /// The REX byte that counts, 40 to 4F: the one directly before the opcode or its escape bytes, in 64-bit mode.
     pub rex: Option<u8>,
     pub vex: Option<Vex>,
+    /// The map of the VEX, else that of the escape bytes.
     pub map: Map,
     pub opcode: u8,
 }

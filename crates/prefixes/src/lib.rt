@@ -1,4 +1,4 @@
-//! Prefixes, escape bytes and VEX, read.
+//! The front of an instruction, read: prefixes, escape bytes, VEX and the opcode byte (Intel SDM volume 2, 2.1.1, 2.2.1, 2.3.5).
 #![tactic(auto)]
 
 ghost use Rattle.std.specs.Prelude.{◌≡◌, ◌<◌, ◌≤◌, ◌+◌, IsTrue, length, take_while, ◌∷◌, min};
@@ -7,23 +7,30 @@ ghost use Rattle.instruction_parts.specs.Counting as counting;
 ghost use Rattle.instruction_parts.specs.Bytes.{state_from};
 ghost use Rattle.prefixes.specs.Answer.{is_mode, mode_of, answer_of, answer_within_15};
 
-use row_types::Map;
 use instruction_parts::bytes::state_from;
 use instruction_parts::counting::{forbids_vex, is_64, is_prefix};
 use instruction_parts::sizes::bit_of_byte;
 use instruction_parts::{PrefixState, Vex};
+
+#[cfg(test)]
+mod tests;
+
+use row_types::Map;
 use x86_values::Bits;
 
 /// Why bytes have no front.
 #[derive(Clone, Copy, PartialEq, Eq, Debug)]
 pub enum PrefixError {
+    /// The bytes, 14 at most, end before their opcode byte, and nothing that is forbidden was met.
     Ended,
+    /// No opcode byte can follow: the map number of a VEX is none, a VEX stands behind 66, F2, F3, F0 or a REX that
+    /// counts, 62 stands as an opcode byte in 64-bit mode, 0F follows the escape byte 0F, or 15 bytes hold no opcode byte.
     Forbidden,
 }
 
-/// The mode of a number.
+/// The mode of a number, 16, 32 or 64.
 #[tactic(auto, unfolding(crate::specs::Answer::mode_of))]
-fn mode_of<const BITS: u32>() -> Bits
+pub fn mode_of<const BITS: u32>() -> Bits
     ensures { result ≡ mode_of BITS }
 {
     if BITS == 16 {
@@ -304,7 +311,8 @@ fn bounded(
     }
 }
 
-/// The front of the bytes in a mode.
+/// The front of the bytes in a mode that is a value, as [`read_prefixes`] answers it.
+#[inline]
 pub fn read_front(bits: Bits, bytes: &[u8]) -> Result<PrefixState, PrefixError>
     ensures { result ≡ answer_of (front.front_of bits bytes.now) }
 {
@@ -316,7 +324,11 @@ pub fn read_front(bits: Bits, bytes: &[u8]) -> Result<PrefixState, PrefixError>
     }
 }
 
-/// The front of the bytes.
+/// The front of the bytes in the mode `BITS`, which is 16, 32 or 64: what they say up to and with their opcode byte.
+///
+/// Of the bytes only those of the front are looked at; outside 64-bit mode also the byte behind a C4 or C5. ModRM and the
+/// use of vvvv are not looked at. The refusals come exactly where [`PrefixError`] says.
+#[inline]
 pub fn read_prefixes<const BITS: u32>(bytes: &[u8]) -> Result<PrefixState, PrefixError>
     requires { IsTrue (is_mode BITS) }
     ensures { result ≡ answer_of (front.front_of (mode_of BITS) bytes.now) }

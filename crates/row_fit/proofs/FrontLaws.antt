@@ -149,19 +149,19 @@ long_vex-back v three hv hp =
 
 -- ---- bytes that are no prefix
 
-escape_is_no_prefix : (bits : Bits) → is_prefix bits 0x0F ≡ false
+pub escape_is_no_prefix : (bits : Bits) → is_prefix bits 0x0F ≡ false
 unfolding is_prefix is_legacy_prefix is_segment
 escape_is_no_prefix B16 = refl
 escape_is_no_prefix B32 = refl
 escape_is_no_prefix B64 = refl
 
-c4_is_no_prefix : (bits : Bits) → is_prefix bits 0xC4 ≡ false
+pub c4_is_no_prefix : (bits : Bits) → is_prefix bits 0xC4 ≡ false
 unfolding is_prefix is_legacy_prefix is_segment
 c4_is_no_prefix B16 = refl
 c4_is_no_prefix B32 = refl
 c4_is_no_prefix B64 = refl
 
-c5_is_no_prefix : (bits : Bits) → is_prefix bits 0xC5 ≡ false
+pub c5_is_no_prefix : (bits : Bits) → is_prefix bits 0xC5 ≡ false
 unfolding is_prefix is_legacy_prefix is_segment
 c5_is_no_prefix B16 = refl
 c5_is_no_prefix B32 = refl

@@ -3,3 +3,5 @@ pub mod FitLaws
 pub mod FrontConverse
 pub mod TailLaws
 pub mod OneSpelling
+pub mod FrontGrows
+pub mod SoundLaws

@@ -81,7 +81,7 @@ abbrev pub is_offset : Method → Bool
 is_offset Offset = true
 is_offset _ = false
 
--- the row reads ModRM.mod: all do but the moves to and from control and debug registers
+-- the row reads ModRM.mod: all do but the moves to and from control and debug registers (MOV to and from control registers, debug registers)
 unfoldable pub reads_mode : Row → Bool
 reads_mode row = not (reads_by is_any_mode row)
 
@@ -119,20 +119,20 @@ abbrev pub rm_field : Option ModRm → ℕ
 rm_field None = 0
 rm_field (Some m) = m.rm
 
--- the number in ModRM.reg with R
+-- the number in ModRM.reg, to which R adds 8 (2.2.1.2)
 unfoldable pub reg_number : PrefixState → Option ModRm → ℕ
 reg_number state m = extended (bit_r state) (reg_field m)
 
--- the number in ModRM.rm with B
+-- the number in ModRM.rm, to which B adds 8 (2.2.1.2)
 unfoldable pub rm_number : Bits → PrefixState → Option ModRm → ℕ
 rm_number bits state m = extended (bit_b bits state) (rm_field m)
 
--- the number in vvvv, of which outside 64-bit mode the top bit is ignored
+-- the number in vvvv, of which outside 64-bit mode the top bit is ignored (2.3.5.6)
 unfoldable pub vvvv_number : Bits → PrefixState → ℕ
 vvvv_number bits state =
     elim state.vex [ None ↦ 0 | Some v ↦ (if is_64 bits then v.vvvv else v.vvvv % 8) ]
 
--- the number in SIB.index with X, 0 without a SIB
+-- the number in SIB.index, to which X adds 8; without a SIB the field is 0 (2.2.1.2)
 unfoldable pub index_number : PrefixState → Option Sib → ℕ
 index_number state sib = extended (bit_x state) (elim sib [ None ↦ 0 | Some s ↦ s.index ])
 
@@ -148,7 +148,7 @@ prefixes_fit bits prefixes = list_all (is_prefix bits) prefixes
 
 -- ---- 3. the prefix class
 
--- on legacy rows it is a condition on 66 and the counting repeat prefix
+-- on legacy rows it is a condition on 66 and the counting repeat prefix: NP has none of them, NFx no repeat prefix, NF3 no F3, 66 has 66 and no repeat prefix, F3 and F2 have that one (3.1.1.1)
 unfoldable pub legacy_class_fits : Class → PrefixState → Bool
 legacy_class_fits AnyClass state = true
 legacy_class_fits Np state = not state.size66 && is_no_repeat state.rep
@@ -158,7 +158,7 @@ legacy_class_fits P66 state = state.size66 && is_no_repeat state.rep
 legacy_class_fits ClassF3 state = is_repeat_f3 state.rep
 legacy_class_fits ClassF2 state = is_repeat_f2 state.rep
 
--- on VEX rows it names the value of pp
+-- on VEX rows it names the value of pp: none, 66, F3 and F2 are 0 to 3 (2.3.6.3, 3.1.1.2)
 unfoldable pub vex_class_fits : Class → Vex → Bool
 vex_class_fits Np v = v.pp == 0
 vex_class_fits P66 v = v.pp == 1
@@ -172,7 +172,7 @@ class_fits row state =
 
 -- ---- 4. VEX
 
--- outside 64-bit mode the top two bits behind C4 or C5 are 11, by which it is a VEX
+-- outside 64-bit mode the top two bits behind C4 or C5 are 11, by which it is a VEX (2.3.5.1)
 unfoldable pub is_vex_of_mode : Bits → Vex → Bool
 is_vex_of_mode bits v =
     is_64 bits || (not v.r && (if v.three then not v.x else nat_lt v.vvvv 8))
@@ -183,7 +183,7 @@ is_opcode bits One b = not (is_prefix bits b) && (not (b == 0x0F) && not (is_64 
 is_opcode bits M0f b = not (b == 0x0F) && (not (b == 0x38) && not (b == 0x3A))
 is_opcode bits _ b = true
 
--- C4 and C5 are an opcode byte only outside 64-bit mode and with memory; 62 with memory; 8F with reg 0
+-- C4 and C5 are an opcode byte only outside 64-bit mode and with memory, 62 with memory, and 8F with reg 0 (2.3.5.1; LDS, BOUND and POP)
 unfoldable pub opcode_allows : Bits → Map → ℕ → Option ModRm → Bool
 opcode_allows bits One b m =
     (not (b == 0xC4 || b == 0xC5) || (not (is_64 bits) && has_memory_mode m))
@@ -194,7 +194,7 @@ opcode_allows bits _ b m = true
 unfoldable pub opcode_is_kept : Bits → Map → ℕ → Option ModRm → Bool
 opcode_is_kept bits map b m = is_opcode bits map b && opcode_allows bits map b m
 
--- VEX stands exactly on VEX rows, has the row's map, and stands where it may
+-- a VEX stands exactly on VEX rows, has the row's map, stands where it may, and is one in the mode (2.3.2 to 2.3.5)
 unfoldable pub vex_fits : Bits → Row → List ℕ → Option Vex → ℕ → Option ModRm → Bool
 vex_fits bits row prefixes None opcode m = not (is_vex_row row) && opcode_is_kept bits row.map opcode m
 vex_fits bits row prefixes (Some v) opcode m =
@@ -202,7 +202,7 @@ vex_fits bits row prefixes (Some v) opcode m =
 
 -- ---- 5. the opcode byte and ModRM
 
--- the opcode byte, or one of eight with an added register
+-- the opcode byte, or one of eight with an added register (3.1.1.1)
 unfoldable pub opcode_fits : Row → ℕ → Bool
 opcode_fits row opcode =
     elim row.plus [
@@ -210,19 +210,19 @@ opcode_fits row opcode =
       | _ ↦ opcode == row.opcode
     ]
 
--- a fixed ModRM byte, or one of eight with an added stack number
+-- a fixed ModRM byte, or one of eight with an added stack number (3.1.1.1, +i)
 abbrev pub is_fixed_byte : Plus → ℕ → ModRm → Bool
 is_fixed_byte PlusStack b m = m.mode3 * 64 + m.reg * 8 == b
 is_fixed_byte _ b m = modrm_byte m == b
 
--- ModRM stands exactly on the rows that have one, with the digit or the fixed byte
+-- ModRM stands exactly on the rows that have one, with the digit or the fixed byte (3.1.1.1, /r and /digit)
 unfoldable pub modrm_rule_fits : Plus → ModRmRule → Option ModRm → Bool
 modrm_rule_fits plus NoModRm m = is_none m
 modrm_rule_fits plus AnyModRm m = is_some m
 modrm_rule_fits plus (Digit d) m = has_modrm (λ m. m.reg == d) m
 modrm_rule_fits plus (FixedByte b) m = has_modrm (is_fixed_byte plus b) m
 
--- the limit to register or memory
+-- the limit to register or memory, by ModRM.mod (2.1.5)
 unfoldable pub place_allows : Place → ModRm → Bool
 place_allows AnyPlace m = true
 place_allows Memory m = nat_lt m.mode3 3
@@ -247,7 +247,7 @@ opcode_and_modrm_fit row opcode m =
 
 -- ---- 6. operand size, W and L
 
--- the operand size or W that the row asks for; W is ignored outside 64-bit mode
+-- the operand size or W that the row asks for; W is ignored outside 64-bit mode (2.2.1.2)
 unfoldable pub size_fits : Bits → Size → Bits → Bool → Bool
 size_fits bits NoSize size w = true
 size_fits bits O16 size w = is_16 size
@@ -263,12 +263,12 @@ takes_w_as_size SizeW0 = true
 takes_w_as_size SizeW1 = true
 takes_w_as_size _ = false
 
--- W of the notation, as a VEX stores it
+-- W of the notation, as a VEX stores it, in every mode (3.1.1.2)
 unfoldable pub w_fits : Row → Vex → Bool
 w_fits row v =
     takes_w_as_size row.size || elim row.w [ W0 ↦ not v.w | W1 ↦ v.w | _ ↦ true ]
 
--- L of the notation
+-- L of the notation: 128 and LZ are 0, 256 is 1 (2.3.6.2, 3.1.1.2)
 unfoldable pub l_fits : LBit → Vex → Bool
 l_fits L128 v = not v.l
 l_fits L256 v = v.l
@@ -288,7 +288,7 @@ vvvv_fits row state =
 
 -- ---- 8. SIB, displacement and immediates (tables 2-1 to 2-3)
 
--- a SIB stands where rm is 4 with mod other than 3, in 32 and 64-bit addressing
+-- a SIB stands where rm is 4 with mod other than 3, in 32 and 64-bit addressing (2.1.5, table 2-2)
 unfoldable pub needs_sib : Bits → ModRm → Bool
 needs_sib asize m = not (is_16 asize) && (nat_lt m.mode3 3 && m.rm == 4)
 
@@ -297,23 +297,23 @@ abbrev pub base_field : Option Sib → ℕ
 base_field None = 0
 base_field (Some s) = s.base
 
--- mod 0 has a displacement alone
+-- mod 0 has a displacement alone: with rm 6 in 16-bit addressing, else with rm 5, or base 5 of a SIB (2.1.5, tables 2-1 to 2-3)
 unfoldable pub is_displacement_alone : Bits → ModRm → Option Sib → Bool
 is_displacement_alone asize m sib =
     m.mode3 == 0
     && (if is_16 asize then m.rm == 6 else m.rm == 5 || (m.rm == 4 && base_field sib == 5))
 
--- the bytes of a displacement of full length
+-- the bytes of a displacement of full length: 2 in 16-bit addressing, else 4 (2.2.1.3)
 abbrev pub full_displacement : Bits → ℕ
 full_displacement asize = if is_16 asize then 2 else 4
 
--- the bytes of the displacement that ModRM and SIB ask for
+-- the bytes of the displacement that ModRM and SIB ask for: mod 1 has one, mod 2 the full length (2.1.5)
 unfoldable pub displacement_bytes : Bits → ModRm → Option Sib → ℕ
 displacement_bytes asize m sib =
     if is_displacement_alone asize m sib then full_displacement asize
     else (if m.mode3 == 1 then 1 else (if m.mode3 == 2 then full_displacement asize else 0))
 
--- SIB and displacement are as long as ModRM asks for; an absolute address has the address size
+-- SIB and displacement are as long as ModRM asks for; an absolute address has the address size (2.2.1.4)
 unfoldable pub address_fits : Bits → Row → Option ModRm → Option Sib → ℕ → Bool
 address_fits asize row None sib given =
     is_none sib && given == (if reads_by is_offset row then size_bytes asize else 0)
@@ -321,7 +321,7 @@ address_fits asize row (Some m) sib given =
     if reads_mode row then same_bool (is_some sib) (needs_sib asize m) && given == displacement_bytes asize m sib
     else is_none sib && given == 0
 
--- the bytes that an operand has behind the instruction, by operand size
+-- the bytes that an operand has behind the instruction, by operand size (A.2.2)
 unfoldable pub immediate_bytes : Bits → OpKind → ℕ
 immediate_bytes size kind =
     elim (immediate_width kind) [
@@ -363,22 +363,22 @@ lock_fits row state m =
 
 -- ---- 10. registers
 
--- CR0, CR2, CR3, CR4 and, in 64-bit mode, CR8
+-- CR0, CR2, CR3, CR4 and, in 64-bit mode, CR8 (2.2.2; MOV to and from control registers)
 unfoldable pub is_control_number : Bits → ℕ → Bool
 is_control_number bits n = n == 0 || n == 2 || n == 3 || n == 4 || (is_64 bits && n == 8)
 
--- the register in ModRM.reg is one that the kind names
+-- the register in ModRM.reg is one that the kind names: one of six segment registers, a control register, and no debug register with R (2.2.2)
 unfoldable pub register_fits : Bits → PrefixState → Option ModRm → OpKind → Bool
 register_fits bits state m Sw = nat_lt (reg_field m) 6
 register_fits bits state m Cn = is_control_number bits (reg_number state m)
 register_fits bits state m Dn = not (bit_r state)
 register_fits bits state m _ = true
 
--- a segment register that is written is not CS
+-- a segment register that is written is not CS (MOV)
 unfoldable pub destination_fits : Row → Option ModRm → Bool
 destination_fits row m = elim (kind_at row 0) [ Sw ↦ not (reg_field m == 1) | _ ↦ true ]
 
--- a gather has 32 or 64-bit addressing and a SIB, and its three registers differ
+-- a gather has 32 or 64-bit addressing and a SIB, and the numbers of its destination, index and mask differ pairwise (2.3.12)
 unfoldable pub gather_fits : Bits → PrefixState → Option ModRm → Option Sib → Bool
 gather_fits bits state m sib =
     has_modrm (λ m. needs_sib (state_address_size bits state) m) m
@@ -386,7 +386,7 @@ gather_fits bits state m sib =
     && (not (reg_number state m == vvvv_number bits state)
     && not (index_number state sib == vvvv_number bits state)))
 
--- the opcode byte 90 of the one-byte map: NOP has B 0, XCHG has B 1 and no counting F3, PAUSE does not read B
+-- the opcode byte 90 of the one-byte map: NOP has B 0, XCHG has B 1 and no counting F3, PAUSE does not read B (NOP, XCHG, PAUSE)
 unfoldable pub nop_fits : Bits → Row → PrefixState → Bool
 nop_fits bits row state =
     elim row.plus [
@@ -410,7 +410,7 @@ registers_fit bits row state m sib =
 abbrev pub are_bytes : List ℕ → Bool
 are_bytes bytes = list_all (λ b. nat_lt b 256) bytes
 
--- a two-byte VEX has x, b and w 0 and the map 0F, and no VEX has the map One
+-- vvvv is below 16 and pp below 4; a two-byte VEX has x, b and w 0 and the map 0F, and no VEX has the one-byte map (2.3.5)
 unfoldable pub vex_in_range : Option Vex → Bool
 vex_in_range None = true
 vex_in_range (Some v) =
@@ -443,7 +443,7 @@ unfoldable pub state_fits : Bits → Row → PrefixState → Bool
 state_fits bits row state =
     mode_fits bits row && (class_fits row state && (sizes_fit bits row state && vvvv_fits row state))
 
--- the spelling fits the row in the mode
+-- the spelling fits the row in the mode: all eleven conditions hold
 unfoldable pub fits : Bits → Row → Spelling → Bool
 fits bits row s =
     let state = state_of bits row s in

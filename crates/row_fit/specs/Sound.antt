@@ -1,6 +1,6 @@
 -- When the parts of a row belong together: a test of the row alone.
-use Rattle.std.specs.Prelude.{ℕ, ◌+◌, ◌%◌, Bool, true, false, ◌&&◌, ◌||◌, not, ◌==◌, nat_le, nat_lt, if◌then◌else◌, List, [], ◌∷◌, length}
-use Rattle.std.specs.List.{list_any}
+use Rattle.std.specs.Prelude.{ℕ, ◌+◌, ◌%◌, Bool, true, false, ◌&&◌, ◌||◌, not, ◌==◌, nat_le, nat_lt, if◌then◌else◌, List, [], ◌∷◌, length, IsTrue}
+use Rattle.std.specs.List.{list_any, list_all}
 use Rattle.x86_values.specs.declared.Bits.{Bits}
 use Rattle.x86_values.specs.declared.Bits.TheVariants.{B16, B32, B64}
 use Rattle.row_types.specs.declared.Row.{Row}
@@ -11,10 +11,12 @@ use Rattle.row_types.specs.declared.Class.TheVariants.{Np, P66, F3 as ClassF3, F
 use Rattle.row_types.specs.declared.Plus.TheVariants.{No as NoPlus, Register as PlusRegister, Stack as PlusStack}
 use Rattle.row_types.specs.declared.ModRmRule.{ModRmRule}
 use Rattle.row_types.specs.declared.ModRmRule.TheVariants.{No as NoModRm, Digit, Fixed as FixedByte}
+use Rattle.row_types.specs.declared.Place.{Place}
+use Rattle.row_types.specs.declared.Place.TheVariants.{Any as AnyPlace}
 use Rattle.row_types.specs.declared.Size.{Size}
 use Rattle.row_types.specs.declared.Size.TheVariants.{None as NoSize, W0 as SizeW0, W1 as SizeW1}
 use Rattle.row_types.specs.declared.WBit.{WBit}
-use Rattle.row_types.specs.declared.WBit.TheVariants.{None as NoW}
+use Rattle.row_types.specs.declared.WBit.TheVariants.{None as NoW, W0, W1}
 use Rattle.row_types.specs.declared.LBit.{LBit}
 use Rattle.row_types.specs.declared.LBit.TheVariants.{None as NoL}
 use Rattle.instruction_parts.specs.declared.kinds.Method.{Method}
@@ -24,7 +26,7 @@ use Rattle.instruction_parts.specs.declared.kinds.File.TheVariants.{Byte as Byte
 use Rattle.instruction_parts.specs.Kinds.{method_of, file_of}
 use Rattle.instruction_parts.specs.Counting.{is_prefix}
 use Rattle.instruction_parts.specs.Sizes.{exists_in, is_vex_row}
-use Rattle.row_fit.specs.Fits.{reads_by, immediates_bytes, is_offset}
+use Rattle.row_fit.specs.Fits.{reads_by, is_any_mode, immediates_bytes, is_offset}
 
 -- ---- how many operands are read from a place
 
@@ -72,12 +74,12 @@ rule_in_range (Digit d) = nat_lt d 8
 rule_in_range (FixedByte b) = nat_le 0xC0 b && nat_lt b 256
 rule_in_range _ = true
 
--- an added register stands with an opcode byte, an added stack number with a fixed ModRM byte, each a multiple of 8
+-- an added register stands with an opcode byte and no ModRM, an added stack number with a fixed ModRM byte, each a multiple of 8 (3.1.1.1)
 unfoldable pub plus_is_proper : Row → Bool
 plus_is_proper row =
     elim row.plus [
       | NoPlus ↦ true
-      | PlusRegister ↦ not (is_vex_row row) && row.opcode % 8 == 0
+      | PlusRegister ↦ not (is_vex_row row) && (not (has_modrm_rule row.modrm) && row.opcode % 8 == 0)
       | PlusStack ↦ elim row.modrm [ FixedByte b ↦ b % 8 == 0 | _ ↦ false ]
     ]
 
@@ -116,23 +118,7 @@ abbrev pub is_fixed_rule : ModRmRule → Bool
 is_fixed_rule (FixedByte _) = true
 is_fixed_rule _ = false
 
-unfoldable pub legacy_is_proper : Row → Bool
-legacy_is_proper row =
-    is_no_w row.w && (is_no_l row.l && (opcode_is_proper row.map row.opcode
-    && (not (reads_by reads_vvvv row) && not (reads_by reads_last_byte row))))
-
--- no operand of a VEX row is a byte register
-abbrev pub is_byte_file : File → Bool
-is_byte_file ByteFile = true
-is_byte_file _ = false
-
-unfoldable pub vex_is_proper : Row → Bool
-vex_is_proper row =
-    not (is_no_w row.w) && (not (is_no_l row.l) && (is_class_of_vex row.class && (is_size_of_vex row.size
-    && (not (is_one row.map) && (not (is_fixed_rule row.modrm)
-    && not (list_any (λ kind. is_byte_file (file_of kind)) row.ops))))))
-
--- the eight opcode bytes of a row that adds a register, else its one, from a number on
+-- the eight opcode bytes of a row that adds a register, else its one (3.1.1.1)
 abbrev pub opcodes_of : Row → List ℕ
 opcodes_of row =
     elim row.plus [
@@ -141,7 +127,29 @@ opcodes_of row =
       | _ ↦ row.opcode ∷ []
     ]
 
--- in a mode in which a legacy row of the one-byte map exists, its opcode byte is no prefix
+unfoldable pub legacy_is_proper : Row → Bool
+legacy_is_proper row =
+    is_no_w row.w && (is_no_l row.l && (list_all (opcode_is_proper row.map) (opcodes_of row)
+    && (not (reads_by reads_vvvv row) && not (reads_by reads_last_byte row))))
+
+-- no operand of a VEX row is a byte register
+abbrev pub is_byte_file : File → Bool
+is_byte_file ByteFile = true
+is_byte_file _ = false
+
+-- a row that takes W as its operand size says the same W in its notation
+unfoldable pub size_says_w : Size → WBit → Bool
+size_says_w SizeW0 w = elim w [ W0 ↦ true | _ ↦ false ]
+size_says_w SizeW1 w = elim w [ W1 ↦ true | _ ↦ false ]
+size_says_w _ w = true
+
+unfoldable pub vex_is_proper : Row → Bool
+vex_is_proper row =
+    not (is_no_w row.w) && (not (is_no_l row.l) && (is_class_of_vex row.class && (is_size_of_vex row.size
+    && (size_says_w row.size row.w && (not (is_one row.map) && (not (is_fixed_rule row.modrm)
+    && not (list_any (λ kind. is_byte_file (file_of kind)) row.ops)))))))
+
+-- in a mode in which a row of the one-byte map exists, its opcode byte is no prefix
 unfoldable pub opcode_is_no_prefix_in : Bits → Row → Bool
 opcode_is_no_prefix_in bits row =
     not (exists_in bits row) || not (list_any (is_prefix bits) (opcodes_of row))
@@ -151,13 +159,19 @@ opcode_is_no_prefix row =
     not (is_one row.map)
     || (opcode_is_no_prefix_in B16 row && (opcode_is_no_prefix_in B32 row && opcode_is_no_prefix_in B64 row))
 
--- operands that read ModRM stand on rows that have one, an absolute address on rows that have none, and a
--- register of the opcode byte exactly on rows that add one
+-- the row has no limit to register or memory
+abbrev pub is_any_place : Place → Bool
+is_any_place AnyPlace = true
+is_any_place _ = false
+
+-- operands that read ModRM stand on rows that have one, an absolute address on rows that have none, a register of
+-- the opcode byte exactly on rows that add one, and no limit on mod where an operand does not read it
 unfoldable pub operands_are_proper : Row → Bool
 operands_are_proper row =
     ((not (reads_by reads_reg row) && not (reads_by reads_rm row)) || has_modrm_rule row.modrm)
     && ((not (reads_by is_offset row) || not (has_modrm_rule row.modrm))
-    && (elim row.plus [ PlusRegister ↦ reads_by reads_opcode row | _ ↦ not (reads_by reads_opcode row) ]))
+    && ((elim row.plus [ PlusRegister ↦ reads_by reads_opcode row | _ ↦ not (reads_by reads_opcode row) ])
+    && (not (reads_by is_any_mode row) || is_any_place row.place)))
 
 -- no two operands are read from one place
 unfoldable pub operands_are_apart : Row → Bool
@@ -171,11 +185,42 @@ immediates_are_short row =
     nat_le (immediates_bytes B16 row) 8
     && (nat_le (immediates_bytes B32 row) 8 && nat_le (immediates_bytes B64 row) 8)
 
+-- the row has four places for operands
+unfoldable pub has_four_operands : Row → Bool
+has_four_operands row = length row.ops == 4
+
+-- the opcode bytes of the row are bytes
+unfoldable pub opcodes_are_bytes : Row → Bool
+opcodes_are_bytes row =
+    nat_lt row.opcode 256 && nat_lt (row.opcode + (elim row.plus [ PlusRegister ↦ 7 | _ ↦ 0 ])) 256
+
+-- the parts belong to a row of its kind
+unfoldable pub kind_is_proper : Row → Bool
+kind_is_proper row = if is_vex_row row then vex_is_proper row else legacy_is_proper row
+
 -- the row is sound
 unfoldable pub sound : Row → Bool
 sound row =
-    (length row.ops == 4)
-    && ((nat_lt row.opcode 256 && nat_lt (row.opcode + (elim row.plus [ PlusRegister ↦ 7 | _ ↦ 0 ])) 256)
-    && (rule_in_range row.modrm && (plus_is_proper row
-    && ((if is_vex_row row then vex_is_proper row else legacy_is_proper row)
-    && (opcode_is_no_prefix row && (operands_are_proper row && (operands_are_apart row && immediates_are_short row)))))))
+    has_four_operands row && (opcodes_are_bytes row && (rule_in_range row.modrm && (plus_is_proper row
+    && (kind_is_proper row && (opcode_is_no_prefix row && (operands_are_proper row && (operands_are_apart row
+    && immediates_are_short row)))))))
+
+-- the same as a fact, with a name for each condition
+pub record Sound (row : Row) : Type 0 where
+  pub four_operands : IsTrue (has_four_operands row)
+  pub opcodes : IsTrue (opcodes_are_bytes row)
+  pub rule : IsTrue (rule_in_range row.modrm)
+  pub plus : IsTrue (plus_is_proper row)
+  pub kind : IsTrue (kind_is_proper row)
+  pub no_prefix : IsTrue (opcode_is_no_prefix row)
+  pub operands : IsTrue (operands_are_proper row)
+  pub apart : IsTrue (operands_are_apart row)
+  pub immediates : IsTrue (immediates_are_short row)
+
+-- ---- what follows from it
+
+-- the byte is no prefix and no escape byte of the map in the mode: it can only be an opcode byte
+unfoldable pub begins_nothing : Bits → Map → ℕ → Bool
+begins_nothing bits One b = not (is_prefix bits b) && not (b == 0x0F)
+begins_nothing bits M0f b = not (b == 0x38) && not (b == 0x3A)
+begins_nothing bits _ b = true

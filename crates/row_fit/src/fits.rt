@@ -311,7 +311,7 @@ fn is_opcode(bits: Bits, map: Map, b: u8) -> bool
 
 /// What ModRM an opcode byte allows.
 #[tactic(auto, unfolding(crate::specs::Fits::opcode_allows))]
-fn opcode_allows(bits: Bits, map: Map, b: u8, m: Option<ModRm>) -> bool
+pub fn opcode_allows(bits: Bits, map: Map, b: u8, m: Option<ModRm>) -> bool
     ensures { result ≡ spec.opcode_allows bits map b m }
 {
     match map {

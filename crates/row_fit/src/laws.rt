@@ -1,14 +1,17 @@
 //! Laws of the definitions, as the contracts of functions that do nothing.
 
-ghost use Rattle.std.specs.Prelude.{◌≡◌, ℕ, List, ◌++◌, IsTrue};
+ghost use Rattle.std.specs.Prelude.{◌≡◌, ℕ, false, List, ◌++◌, IsTrue};
 ghost use Rattle.x86_values.specs.declared.Bits.{Bits};
 ghost use Rattle.row_types.specs.declared.Row.{Row};
 ghost use Rattle.instruction_parts.specs.declared.spelling.Spelling.{Spelling};
 ghost use Rattle.instruction_parts.specs.declared.spelling.PrefixState.{PrefixState};
 ghost use Rattle.row_fit.specs.Fits.{fits, Fits, are_bytes};
-ghost use Rattle.instruction_parts.specs.FrontParts.{Parted};
-ghost use Rattle.instruction_parts.specs.Front.{long_front, Known};
+ghost use Rattle.row_fit.specs.FrontParts.{Parted, OpcodeAt};
+ghost use Rattle.instruction_parts.specs.Front.{long_front, Known, Forbidden};
 ghost use Rattle.instruction_parts.specs.Bytes.{bytes_of, state_of};
+ghost use Rattle.instruction_parts.specs.Sizes.{exists_in, is_vex_row};
+ghost use Rattle.row_fit.specs.Fits.{opcode_fits};
+ghost use Rattle.row_fit.specs.Sound.{sound, Sound, begins_nothing};
 
 /// The front of the bytes of a fitting spelling, whatever stands behind them, is its own state.
 pub fn front_is_state()
@@ -41,4 +44,34 @@ pub fn one_spelling_of_a_row()
         → IsTrue (fits bits row s) → IsTrue (fits bits row other)
         → bytes_of row s ++ rest ≡ bytes_of row other ++ other_rest
         → (s ≡ other) × (rest ≡ other_rest) }
+{}
+
+/// A known front stays the same, whatever stands behind the bytes.
+pub fn known_front_stays()
+    ensures { (bits : Bits) (bytes more : List ℕ) (f : PrefixState)
+        → long_front bits bytes ≡ Known f → long_front bits (bytes ++ more) ≡ Known f }
+{}
+
+/// A forbidden front stays forbidden, whatever stands behind the bytes.
+pub fn forbidden_front_stays()
+    ensures { (bits : Bits) (bytes more : List ℕ)
+        → long_front bits bytes ≡ Forbidden → long_front bits (bytes ++ more) ≡ Forbidden }
+{}
+
+/// The byte behind the bytes that a known front has used is its opcode byte.
+pub fn opcode_byte_is_behind_front()
+    ensures { (bits : Bits) (bytes : List ℕ) (f : PrefixState)
+        → long_front bits bytes ≡ Known f → OpcodeAt bytes f }
+{}
+
+/// A sound row meets each of the nine conditions.
+pub fn sound_each_condition()
+    ensures { (row : Row) → IsTrue (sound row) → Sound row }
+{}
+
+/// In a mode in which a sound legacy row exists, its opcode byte is no prefix and no escape byte of its map.
+pub fn opcode_of_sound_row_begins_nothing()
+    ensures { (bits : Bits) (row : Row) (opcode : ℕ)
+        → IsTrue (sound row) → is_vex_row row ≡ false → IsTrue (exists_in bits row) → IsTrue (opcode_fits row opcode)
+        → IsTrue (begins_nothing bits row.map opcode) }
 {}

@@ -4,10 +4,10 @@ ghost use Rattle.std.specs.Prelude.{◌≡◌, ◌<◌, ◌≤◌, IsTrue, nat_l
 ghost use Rattle.row_fit.specs.Fits as spec;
 ghost use Rattle.row_fit.specs.Sound.{sound};
 
-use instruction_parts::bytes::state_of;
 use crate::fits::{is_map_one, prefixes_fit, same_map, state_fits, vex_fits};
-use instruction_parts::spelling::{ModRm, Sib, Spelling, Vex};
 use crate::tail_fits::tail_fits;
+use instruction_parts::bytes::state_of;
+use instruction_parts::spelling::{ModRm, Sib, Spelling, Vex};
 use row_types::{Map, Row};
 use x86_values::Bits;
 

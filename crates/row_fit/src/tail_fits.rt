@@ -6,11 +6,11 @@ ghost use Rattle.row_fit.specs.Fits as spec;
 ghost use Rattle.instruction_parts.specs.Bytes as bytes;
 ghost use Rattle.instruction_parts.specs.Kinds.{method_of};
 
-use instruction_parts::counting::{is_16, is_64};
 use crate::fits::{
     is_map_one, is_repeat_f3, mode_is_memory, opcode_and_modrm_fit, reads_gather, reads_mode,
     reads_offset, same_map,
 };
+use instruction_parts::counting::{is_16, is_64};
 use instruction_parts::kinds::{Method, Width, immediate_width_of_kind, method_of_kind};
 use instruction_parts::sizes::{
     bit_b, bit_r, bit_x, is_lockable, is_vex_row, size_bytes, state_address_size, state_size,

@@ -44,7 +44,7 @@ unfoldable pub little_endian : List ℕ → ℕ
 little_endian [] = 0
 little_endian (b ∷ bytes) = b + 256 * little_endian bytes
 
--- the number in these bytes, sign-extended and cut to n bits
+-- the number in these bytes, sign-extended and cut to n bits (2.2.1.3, 2.2.1.5)
 unfoldable pub sign_extended : ℕ → List ℕ → ℕ
 sign_extended n bytes =
     let bits = 8 * length bytes in
@@ -64,12 +64,12 @@ general B16 n = R16 n
 general B32 n = R32 n
 general B64 n = R64 n
 
--- a byte register: without a counting REX the numbers 4 to 7 are AH, CH, DH and BH
+-- a byte register: without a counting REX the numbers 4 to 7 are AH, CH, DH and BH, with one SPL, BPL, SIL and DIL (2.2.1.2)
 unfoldable pub byte_register : Option ℕ → ℕ → Register
 byte_register (Some _) n = Low8 n
 byte_register None n = if nat_lt n 4 then Low8 n else High8 (n - 4)
 
--- a vector register by the row's L
+-- a vector register: YMM on rows with L 256, else XMM (2.3.6.2)
 unfoldable pub vector : LBit → ℕ → Register
 vector L256 n = Ymm n
 vector _ n = Xmm n
@@ -84,7 +84,7 @@ abbrev pub size_by_w : Bool → Bits
 size_by_w true = B64
 size_by_w false = B32
 
--- the size of the mode's control registers: 64 in 64-bit mode, and else 32
+-- the size of a general register that is moved to a control register: 64 in 64-bit mode, and else 32
 abbrev pub native_size : Bits → Bits
 native_size B64 = B64
 native_size _ = B32
@@ -126,7 +126,7 @@ index_16 rm =
     if rm == 0 then Some (R16 6) else (if rm == 1 then Some (R16 7) else (if rm == 2 then Some (R16 6)
     else (if rm == 3 then Some (R16 7) else None)))
 
--- the displacement is kept sign-extended and cut to the address size
+-- a displacement is kept sign-extended and cut to the address size (2.2.1.3)
 abbrev pub displacement : Bits → List ℕ → ℕ
 displacement asize disp = sign_extended (width asize) disp
 
@@ -152,7 +152,7 @@ instruction_pointer _ = Eip
 abbrev pub target_of : Bits → ℕ → List ℕ → ℕ
 target_of size next distance = wrapped size (next + sign_extended 64 distance)
 
--- an address without base and index: RIP-relative in 64-bit mode where it has no SIB
+-- an address without base and index and without a SIB: RIP-relative in 64-bit mode, EIP-relative with 67 (2.2.1.6)
 unfoldable pub memory_alone : Bits → Bits → ℕ → List ℕ → Mem
 memory_alone B64 asize next disp = record {
   base = Some (instruction_pointer asize);
@@ -164,13 +164,13 @@ memory_alone B64 asize next disp = record {
 memory_alone _ asize next disp =
     record { base = None; index = None; scale = 1; disp = displacement asize disp; disp_size = D32 }
 
--- the base of an address with a SIB: base 5 with mod 0 is none, whatever B
+-- the base of an address with a SIB: base 5 with mod 0 is none, whatever B (2.1.5, table 2-3; 2.2.1.2, table 2-5)
 unfoldable pub sib_base : Bits → Bits → PrefixState → ModRm → Sib → Option Register
 sib_base bits asize state m s =
     if m.mode3 == 0 && s.base == 5 then None
     else Some (general asize (extended (bit_b bits state) s.base))
 
--- the index of an address with a SIB: number 4 is none
+-- the index of an address with a SIB: number 4, with X 0, is none (2.1.5, table 2-3; 2.2.1.2, table 2-5)
 unfoldable pub sib_index : Bits → PrefixState → Sib → Option Register
 sib_index asize state s =
     let n = index_number state (Some s) in if n == 4 then None else Some (general asize n)
@@ -214,7 +214,7 @@ memory_of bits B16 state m sib next disp = memory_16 m disp
 memory_of bits B32 state m sib next disp = memory_flat bits B32 state m sib next disp
 memory_of bits B64 state m sib next disp = memory_flat bits B64 state m sib next disp
 
--- an absolute address of address size
+-- an absolute address of address size (2.2.1.4)
 unfoldable pub memory_absolute : Bits → List ℕ → Mem
 memory_absolute asize disp = record {
   base = None;
@@ -231,18 +231,18 @@ abbrev pub with_modrm : (ModRm → Operand) → Option ModRm → Operand
 with_modrm f None = AbsentOperand
 with_modrm f (Some m) = f m
 
--- the address of a gather, whose every index is a vector register
+-- the address of a gather, whose every index is a vector register (2.3.12)
 unfoldable pub gather_memory : Bits → Row → PrefixState → File → ModRm → Option Sib → List ℕ → Operand
 gather_memory bits row state file m None disp = AbsentOperand
 gather_memory bits row state file m (Some s) disp =
     MemOperand (memory_with_sib bits (state_address_size bits state) state
     (Some (register_of bits row state file (index_number state (Some s)))) m s disp)
 
--- the register number in the upper four bits of the last byte, of which outside 64-bit mode the top bit is not read
+-- the register number in the upper four bits of the last byte, of which outside 64-bit mode the top bit is not read (2.3.9)
 unfoldable pub last_byte_number : Bits → List ℕ → ℕ
 last_byte_number bits imm = if is_64 bits then slice_index imm 0 / 16 else slice_index imm 0 / 16 % 8
 
--- a near target, cut to the operand size
+-- a near target: the next address plus the sign-extended offset, cut to the operand size (CALL, JMP, Jcc)
 unfoldable pub near_target : Bits → ℕ → List ℕ → Operand
 near_target size next imm = Near (target_of size next imm)
 
@@ -316,7 +316,7 @@ operand_at bits row state t imm n =
 
 -- ---- the instruction
 
--- the classes any and NF3 keep the counting repeat prefix
+-- the classes any and NF3 keep the counting repeat prefix, and no other does
 unfoldable pub kept_repeat : Class → Rep → Rep
 kept_repeat AnyClass rep = rep
 kept_repeat Nf3 rep = rep
@@ -326,7 +326,7 @@ kept_repeat _ rep = NoRep
 unfoldable pub has_memory : Row → Option ModRm → Bool
 has_memory row m = list_any (λ kind. is_memory_method (method_of kind) m) row.ops
 
--- the address size, where the instruction has a memory operand or the mark a
+-- the address size, where the instruction has a memory operand or the row the mark a
 unfoldable pub kept_address_size : Bits → Row → PrefixState → Option ModRm → Option Bits
 kept_address_size bits row state m =
     if has_memory row m || has_address_mark row then Some (state_address_size bits state) else None

@@ -6,9 +6,9 @@ ghost use Rattle.row_fit.specs.Fits as fits;
 ghost use Rattle.instruction_parts.specs.Bytes as bytes;
 ghost use Rattle.x86_values.specs.Wrapping.{width};
 
+use crate::numbers::{little_endian, sign_extended};
 use instruction_parts::counting::is_64;
 use instruction_parts::kinds::{File, Method, file_of_kind, fixed_number_of_kind, method_of_kind};
-use crate::numbers::{little_endian, sign_extended};
 use instruction_parts::sizes::{bit_b, bit_w, has_address_mark, state_address_size, state_size};
 use instruction_parts::spelling::{ModRm, PrefixState, Sib, Spelling};
 use row_fit::tail_fits::{

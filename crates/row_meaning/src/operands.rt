@@ -9,14 +9,14 @@ ghost use Rattle.instruction_parts.specs.Sizes.{state_size};
 ghost use Rattle.row_fit.specs.Sound.{sound};
 ghost use Rattle.instruction_parts.specs.declared.kinds.Method.TheVariants.{Pointer as PointerMethod};
 
-use instruction_parts::bytes::{lead_len, state_of};
-use instruction_parts::counting::is_64;
-use row_fit::fits::mode_is_memory;
-use instruction_parts::kinds::{File, Method, file_of_kind, fixed_number_of_kind, method_of_kind};
 use crate::meaning::{disp_size_of, general, memory_16, memory_alone, register_of, target};
 use crate::numbers::{little_endian, sign_extended};
+use instruction_parts::bytes::{lead_len, state_of};
+use instruction_parts::counting::is_64;
+use instruction_parts::kinds::{File, Method, file_of_kind, fixed_number_of_kind, method_of_kind};
 use instruction_parts::sizes::{bit_b, has_address_mark, state_address_size, state_size};
 use instruction_parts::spelling::{ModRm, PrefixState, Sib, Spelling};
+use row_fit::fits::mode_is_memory;
 use row_fit::tail_fits::{
     extended, immediate_bytes, index_number, is_memory_method, kind_at, reg_number, rm_number,
     vvvv_number,

@@ -1,1 +1,1 @@
-mod WorkedExamples
+mod Examples

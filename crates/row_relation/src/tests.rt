@@ -1,0 +1,72 @@
+ghost use Rattle.std.specs.Prelude.{◌≡◌, ◌≤◌, false, length, IsTrue, is_some};
+ghost use Rattle.instruction_parts.specs.Bytes.{bytes_of};
+ghost use Rattle.instruction_parts.specs.Sizes.{is_vex_row};
+ghost use Rattle.row_fit.specs.Fits.{fields_in_range};
+ghost use Rattle.row_fit.specs.Sound.{sound};
+
+use crate::{ModRm, Spelling, row_fits, row_meaning, row_memory_size, spelling_bytes};
+use arrayvec::ArrayVec;
+use row_types::{
+    Class, LBit, Map, Marks, ModRmRule, ModeMask, OpKind, Place, Plus, Row, RowKind, Size, WBit,
+};
+use x86_values::{Bits, Code, Operand, Register};
+
+// o32 01 /r add
+#[tactic(auto, unfolding(crate::specs::EveryRule::every_rule))]
+fn add() -> Row
+    ensures sound { IsTrue (sound result) }
+    ensures legacy { is_vex_row result ≡ false }
+{
+    Row {
+        kind: RowKind::Legacy,
+        map: Map::One,
+        class: Class::Any,
+        opcode: 1,
+        plus: Plus::No,
+        modrm: ModRmRule::Any,
+        place: Place::Any,
+        size: Size::O32,
+        w: WBit::None,
+        l: LBit::None,
+        modes: ModeMask(7),
+        ops: [OpKind::Ev, OpKind::Gv, OpKind::Absent, OpKind::Absent],
+        marks: Marks(1),
+    }
+}
+
+// it with two registers
+#[tactic(auto, unfolding(crate::specs::EveryRule::every_rule))]
+fn of_registers(row: &Row) -> Spelling
+    requires { IsTrue (sound row.now) }
+    ensures short { length (bytes_of row.now result) ≤ 15 }
+    ensures vex { is_some result.vex ≡ false }
+    ensures ranges { IsTrue (fields_in_range result) }
+{
+    Spelling {
+        prefixes: ArrayVec::new(),
+        vex: None,
+        opcode: 1,
+        modrm: Some(ModRm {
+            mode3: 3,
+            reg: 0,
+            rm: 1,
+        }),
+        sib: None,
+        disp: ArrayVec::new(),
+        imm: ArrayVec::new(),
+    }
+}
+
+#[test]
+fn add_of_two_registers(rt: HostRuntime) {
+    let row = add();
+    let s = of_registers(&row);
+    assert!(rt; row_fits(Bits::B64, &row, &s));
+    assert!(rt; !row_fits(Bits::B16, &row, &s));
+    assert!(rt; spelling_bytes(&row, &s).as_slice() == [0x01, 0xC1].as_slice());
+    let i = row_meaning(Bits::B64, 0x1000, Code(2), &row, &s);
+    assert!(rt; i.ops[0] == Operand::Reg(Register::R32(1)));
+    assert!(rt; i.ops[1] == Operand::Reg(Register::R32(0)));
+    assert!(rt; i.asize.is_none());
+    assert!(rt; row_memory_size(&row) == 4);
+}
