@@ -1,3 +1,5 @@
+ghost use Rattle.std.specs.Prelude.{◌≡◌, ◌<◌};
+
 use crate::Steps;
 use std::marker::Brand;
 use std::sync::ledger::{Blank, Ledger};
