@@ -1,0 +1,18 @@
+-- Where an instruction is well formed, by its code.
+use Rattle.std.proofs.Common.{◌≡◌, ◌≤◌, false, slice_get, arith, ap}
+use Rattle.std.specs.Prelude.{Some}
+use Rattle.std.proofs.lemmas.Option.{slice_get_past}
+use Rattle.x86_values.specs.declared.Instr.{Instr}
+use Rattle.row_types.specs.declared.Row.{Row}
+use Rattle.opcode_rows.specs.declared.spots.TheConstants.{ROWS}
+use Rattle.opcode_rows.specs.Table.{table}
+use Rattle.opcode_rows.specs.Allowed.{is_formed, is_formed_by, is_well_formed}
+use Rattle.opcode_rows.proofs.JoinFacts.{length-table}
+
+pub well_formed-at : (i : Instr) (row : Row) → slice_get table i.code.0 ≡ Some row → is_well_formed i ≡ is_formed row i
+unfolding is_well_formed
+well_formed-at i row at = ap (λ o. is_formed_by o i) at
+
+pub well_formed-past : (i : Instr) → ROWS ≤ i.code.0 → is_well_formed i ≡ false
+unfolding is_well_formed
+well_formed-past i le = ap (λ o. is_formed_by o i) (slice_get_past table i.code.0 (omega (arith, le, length-table)))

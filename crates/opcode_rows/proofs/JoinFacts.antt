@@ -1,0 +1,96 @@
+-- Each place has its row.
+use Rattle.std.proofs.Common.{◌≡◌, ℕ, zero, suc, Bool, true, ◌&&◌, is_some, List, [], ◌∷◌, length, slice_get, ◌<◌, refl, ap, sym, ◌∙◌, arith}
+use Rattle.std.specs.Prelude.{Option, Some, None}
+use Rattle.std.proofs.lemmas.Option.{slice_get_within}
+use Rattle.row_types.specs.declared.Row.{Row}
+use Rattle.row_fields.proofs.Cands.{and-left, and-right}
+use Rattle.rows_integer.specs.Table.{table as integer_rows, flat_rows as integer_flat}
+use Rattle.rows_x87.specs.Table.{table as x87_rows, flat_rows as x87_flat}
+use Rattle.rows_sse.specs.Table.{table as sse_rows, flat_rows as sse_flat}
+use Rattle.rows_vex.specs.Table.{table as vex_rows, flat_rows as vex_flat}
+use Rattle.opcode_rows.specs.declared.spots.Spot.{Spot}
+use Rattle.opcode_rows.specs.declared.spots.Part.{Part}
+use Rattle.opcode_rows.specs.declared.spots.TheConstants.{ROWS}
+use Rattle.opcode_rows.specs.Table.{part_table, places, with_item, rows_in, table}
+
+unfoldable all_there : List Spot → Bool
+all_there [] = true
+all_there (s ∷ ss) = is_some (slice_get (part_table s.part) s.at) && all_there ss
+
+are_there : all_there places ≡ true
+unfolding all_there places integer_rows integer_flat x87_rows x87_flat sse_rows sse_flat vex_rows vex_flat
+are_there = refl
+
+some-known : (o : Option Row) → is_some o ≡ true → (r : Row) × (o ≡ Some r)
+some-known None h = cc
+some-known (Some r) h = (r, refl)
+
+item-front : (o : Option Row) (r : Row) (rows : List Row) → o ≡ Some r → slice_get (with_item o rows) 0 ≡ Some r
+item-front o r rows e = rw e refl
+
+item-later : (o : Option Row) (r : Row) (rows : List Row) (k : ℕ) → o ≡ Some r → slice_get (with_item o rows) (suc k) ≡ slice_get rows k
+item-later o r rows k e = rw e refl
+
+rows_in-get : (ss : List Spot) (k : ℕ) (s : Spot) → all_there ss ≡ true → slice_get ss k ≡ Some s
+    → (r : Row) × (slice_get (part_table s.part) s.at ≡ Some r) × (slice_get (rows_in ss) k ≡ Some r)
+unfolding all_there rows_in
+rows_in-get [] k s h at = cc
+rows_in-get (x ∷ ss) zero s h at =
+    let same : x ≡ s = cc in
+    let k = some-known (slice_get (part_table x.part) x.at) (and-left (is_some (slice_get (part_table x.part) x.at)) (all_there ss) h) in
+    (k.0, ap (λ y. slice_get (part_table y.part) y.at) (sym same) ∙ k.1, item-front (slice_get (part_table x.part) x.at) k.0 (rows_in ss) k.1)
+rows_in-get (x ∷ ss) (suc k) s h at =
+    let here = some-known (slice_get (part_table x.part) x.at) (and-left (is_some (slice_get (part_table x.part) x.at)) (all_there ss) h) in
+    let t = rows_in-get ss k s (and-right (is_some (slice_get (part_table x.part) x.at)) (all_there ss) h) at in
+    (t.0, t.1, item-later (slice_get (part_table x.part) x.at) here.0 (rows_in ss) k here.1 ∙ t.2)
+
+length-rows_in : (ss : List Spot) → all_there ss ≡ true → length (rows_in ss) ≡ length ss
+unfolding all_there rows_in
+length-rows_in [] h = refl
+length-rows_in (x ∷ ss) h =
+    let here = some-known (slice_get (part_table x.part) x.at) (and-left (is_some (slice_get (part_table x.part) x.at)) (all_there ss) h) in
+    rw here.1 (ap suc (length-rows_in ss (and-right (is_some (slice_get (part_table x.part) x.at)) (all_there ss) h)))
+
+pub length-places : length places ≡ ROWS
+unfolding places
+length-places = refl
+
+pub length-table : length table ≡ ROWS
+unfolding table
+length-table = length-rows_in places are_there ∙ length-places
+
+pub row-there : (k : ℕ) (s : Spot) → slice_get places k ≡ Some s → (r : Row) × (slice_get (part_table s.part) s.at ≡ Some r) × (slice_get table k ≡ Some r)
+unfolding table
+row-there k s at = rows_in-get places k s are_there at
+
+-- ---- a test of every row of every part is one of every row of the table
+
+unfoldable pub all_rows : (Row → Bool) → List Row → Bool
+all_rows p [] = true
+all_rows p (r ∷ rs) = p r && all_rows p rs
+
+all_rows-at : (p : Row → Bool) (rows : List Row) (k : ℕ) (r : Row) → all_rows p rows ≡ true → slice_get rows k ≡ Some r → p r ≡ true
+unfolding all_rows
+all_rows-at p [] k r h at = cc
+all_rows-at p (x ∷ rs) zero r h at =
+    let same : x ≡ r = cc in
+    ap p (sym same) ∙ and-left (p x) (all_rows p rs) h
+all_rows-at p (x ∷ rs) (suc k) r h at = all_rows-at p rs k r (and-right (p x) (all_rows p rs) h) at
+
+slice_get-known : (ss : List Spot) (k : ℕ) → k < length ss → (s : Spot) × (slice_get ss k ≡ Some s)
+slice_get-known [] k lt = absurd (omega arith)
+slice_get-known (s ∷ ss) zero lt = (s, refl)
+slice_get-known (s ∷ ss) (suc k) lt = slice_get-known ss k (omega arith)
+
+some-inj : (q r : Row) → Some q ≡ Some r → q ≡ r
+some-inj q r e = cc
+
+pub in_each_part : (p : Row → Bool) → ((part : Part) → all_rows p (part_table part) ≡ true)
+    → (code : ℕ) (row : Row) → slice_get table code ≡ Some row → p row ≡ true
+in_each_part p h code row at =
+    let lt : code < length table = slice_get_within table code row at in
+    let lt' : code < length places = omega (arith, lt, length-table, length-places) in
+    let s = slice_get-known places code lt' in
+    let t = row-there code s.0 s.1 in
+    let same : t.0 ≡ row = some-inj t.0 row (sym t.2 ∙ at) in
+    ap p (sym same) ∙ all_rows-at p (part_table s.0.part) s.0.at t.0 (h s.0.part) t.1

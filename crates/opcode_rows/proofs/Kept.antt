@@ -1,0 +1,57 @@
+-- The opcode bytes of every row are taken as opcode bytes.
+use Rattle.std.proofs.Common.{◌≡◌, ℕ, Bool, true, ◌&&◌, refl, slice_get}
+use Rattle.std.specs.Prelude.{Some, IsTrue}
+use Rattle.x86_values.specs.declared.Bits.{Bits}
+use Rattle.x86_values.specs.declared.Bits.TheVariants.{B16, B32, B64}
+use Rattle.row_types.specs.declared.Row.{Row}
+use Rattle.instruction_parts.specs.Counting.{is_segment, is_legacy_prefix, is_prefix}
+use Rattle.instruction_parts.specs.Sizes.{exists_in}
+use Rattle.row_fit.specs.Fits.{is_opcode}
+use Rattle.row_fields.proofs.Cands.{and-left, and-right}
+use Rattle.rows_integer.specs.Table.{table as integer_rows, flat_rows as integer_flat}
+use Rattle.rows_x87.specs.Table.{table as x87_rows, flat_rows as x87_flat}
+use Rattle.rows_sse.specs.Table.{table as sse_rows, flat_rows as sse_flat}
+use Rattle.rows_vex.specs.Table.{table as vex_rows, flat_rows as vex_flat}
+use Rattle.opcode_rows.specs.Kept.{opcodes_are_kept}
+use Rattle.opcode_rows.specs.declared.spots.Part.{Part}
+use Rattle.opcode_rows.specs.declared.spots.Part.TheVariants as part
+use Rattle.opcode_rows.specs.Table.{part_table, table}
+use Rattle.opcode_rows.proofs.JoinFacts.{all_rows, in_each_part}
+
+unfoldable kept : Row → Bool
+kept row = opcodes_are_kept B16 row && (opcodes_are_kept B32 row && opcodes_are_kept B64 row)
+
+integer-kept : all_rows kept integer_rows ≡ true
+unfolding all_rows kept opcodes_are_kept is_opcode exists_in is_segment is_legacy_prefix is_prefix integer_rows integer_flat
+integer-kept = refl
+
+x87-kept : all_rows kept x87_rows ≡ true
+unfolding all_rows kept opcodes_are_kept is_opcode exists_in is_segment is_legacy_prefix is_prefix x87_rows x87_flat
+x87-kept = refl
+
+sse-kept : all_rows kept sse_rows ≡ true
+unfolding all_rows kept opcodes_are_kept is_opcode exists_in is_segment is_legacy_prefix is_prefix sse_rows sse_flat
+sse-kept = refl
+
+vex-kept : all_rows kept vex_rows ≡ true
+unfolding all_rows kept opcodes_are_kept is_opcode exists_in is_segment is_legacy_prefix is_prefix vex_rows vex_flat
+vex-kept = refl
+
+each-kept : (p : Part) → all_rows kept (part_table p) ≡ true
+each-kept part.Integer = integer-kept
+each-kept part.X87 = x87-kept
+each-kept part.Sse = sse-kept
+each-kept part.Vex = vex-kept
+
+in_mode : (bits : Bits) (row : Row) → kept row ≡ true → IsTrue (opcodes_are_kept bits row)
+unfolding kept
+in_mode B16 row h = and-left (opcodes_are_kept B16 row) (opcodes_are_kept B32 row && opcodes_are_kept B64 row) h
+in_mode B32 row h =
+    and-left (opcodes_are_kept B32 row) (opcodes_are_kept B64 row)
+    (and-right (opcodes_are_kept B16 row) (opcodes_are_kept B32 row && opcodes_are_kept B64 row) h)
+in_mode B64 row h =
+    and-right (opcodes_are_kept B32 row) (opcodes_are_kept B64 row)
+    (and-right (opcodes_are_kept B16 row) (opcodes_are_kept B32 row && opcodes_are_kept B64 row) h)
+
+pub kept-row : (bits : Bits) (code : ℕ) (row : Row) → slice_get table code ≡ Some row → IsTrue (opcodes_are_kept bits row)
+kept-row bits code row at = in_mode bits row (in_each_part kept each-kept code row at)

@@ -1,0 +1,42 @@
+-- Every row is sound.
+use Rattle.std.proofs.Common.{◌≡◌, ℕ, true, refl, slice_get}
+use Rattle.std.specs.Prelude.{Some, IsTrue}
+use Rattle.row_types.specs.declared.Row.{Row}
+use Rattle.instruction_parts.specs.Kinds.{method_of, file_of, immediate_width}
+use Rattle.instruction_parts.specs.Counting.{is_segment, is_legacy_prefix, is_prefix}
+use Rattle.instruction_parts.specs.Sizes.{exists_in}
+use Rattle.row_fit.specs.Fits.{immediate_bytes, immediates_bytes}
+use Rattle.row_fit.specs.Sound.{has_four_operands, opcodes_are_bytes, kind_is_proper, size_says_w, rule_in_range, plus_is_proper, opcode_is_proper, legacy_is_proper, vex_is_proper, opcode_is_no_prefix_in, opcode_is_no_prefix, operands_are_proper, operands_are_apart, immediates_are_short, sound}
+use Rattle.rows_integer.specs.Table.{table as integer_rows, flat_rows as integer_flat}
+use Rattle.rows_x87.specs.Table.{table as x87_rows, flat_rows as x87_flat}
+use Rattle.rows_sse.specs.Table.{table as sse_rows, flat_rows as sse_flat}
+use Rattle.rows_vex.specs.Table.{table as vex_rows, flat_rows as vex_flat}
+use Rattle.opcode_rows.specs.declared.spots.Part.{Part}
+use Rattle.opcode_rows.specs.declared.spots.Part.TheVariants as part
+use Rattle.opcode_rows.specs.Table.{part_table, table}
+use Rattle.opcode_rows.proofs.JoinFacts.{all_rows, in_each_part}
+
+integer-sound : all_rows sound integer_rows ≡ true
+unfolding all_rows sound has_four_operands opcodes_are_bytes kind_is_proper size_says_w rule_in_range plus_is_proper opcode_is_proper legacy_is_proper vex_is_proper opcode_is_no_prefix_in opcode_is_no_prefix operands_are_proper operands_are_apart immediates_are_short immediate_bytes immediates_bytes exists_in is_segment is_legacy_prefix is_prefix method_of file_of immediate_width integer_rows integer_flat
+integer-sound = refl
+
+x87-sound : all_rows sound x87_rows ≡ true
+unfolding all_rows sound has_four_operands opcodes_are_bytes kind_is_proper size_says_w rule_in_range plus_is_proper opcode_is_proper legacy_is_proper vex_is_proper opcode_is_no_prefix_in opcode_is_no_prefix operands_are_proper operands_are_apart immediates_are_short immediate_bytes immediates_bytes exists_in is_segment is_legacy_prefix is_prefix method_of file_of immediate_width x87_rows x87_flat
+x87-sound = refl
+
+sse-sound : all_rows sound sse_rows ≡ true
+unfolding all_rows sound has_four_operands opcodes_are_bytes kind_is_proper size_says_w rule_in_range plus_is_proper opcode_is_proper legacy_is_proper vex_is_proper opcode_is_no_prefix_in opcode_is_no_prefix operands_are_proper operands_are_apart immediates_are_short immediate_bytes immediates_bytes exists_in is_segment is_legacy_prefix is_prefix method_of file_of immediate_width sse_rows sse_flat
+sse-sound = refl
+
+vex-sound : all_rows sound vex_rows ≡ true
+unfolding all_rows sound has_four_operands opcodes_are_bytes kind_is_proper size_says_w rule_in_range plus_is_proper opcode_is_proper legacy_is_proper vex_is_proper opcode_is_no_prefix_in opcode_is_no_prefix operands_are_proper operands_are_apart immediates_are_short immediate_bytes immediates_bytes exists_in is_segment is_legacy_prefix is_prefix method_of file_of immediate_width vex_rows vex_flat
+vex-sound = refl
+
+each-sound : (p : Part) → all_rows sound (part_table p) ≡ true
+each-sound part.Integer = integer-sound
+each-sound part.X87 = x87-sound
+each-sound part.Sse = sse-sound
+each-sound part.Vex = vex-sound
+
+pub sound-row : (code : ℕ) (row : Row) → slice_get table code ≡ Some row → IsTrue (sound row)
+sound-row code row at = in_each_part sound each-sound code row at

@@ -1,0 +1,77 @@
+-- The names are words, and no row has two operands that can be memory or a far pointer.
+use Rattle.std.proofs.Common.{◌≡◌, ◌<◌, ◌≤◌, ℕ, zero, suc, true, ◌&&◌, Bool, refl, List, [], ◌∷◌, length, slice_get, arith, leb-true}
+use Rattle.std.specs.Prelude.{Some, IsTrue, nat_le, nat_lt, unwrap_or}
+use Rattle.std.specs.List.{list_all}
+use Rattle.row_types.specs.declared.Row.{Row}
+use Rattle.instruction_parts.specs.Kinds.{method_of}
+use Rattle.row_fields.proofs.Cands.{and-left, and-right}
+use Rattle.rows_integer.specs.Table.{table as integer_rows, flat_rows as integer_flat}
+use Rattle.rows_x87.specs.Table.{table as x87_rows, flat_rows as x87_flat}
+use Rattle.rows_sse.specs.Table.{table as sse_rows, flat_rows as sse_flat}
+use Rattle.rows_vex.specs.Table.{table as vex_rows, flat_rows as vex_flat}
+use Rattle.opcode_rows.specs.declared.spots.Part.{Part}
+use Rattle.opcode_rows.specs.declared.spots.Part.TheVariants as part
+use Rattle.opcode_rows.specs.declared.spots.TheConstants.{ROWS}
+use Rattle.opcode_rows.specs.Table.{part_table, table, names, name_of}
+use Rattle.opcode_rows.specs.Words.{is_name_byte, is_name, is_long, has_one_long_kind}
+use Rattle.opcode_rows.proofs.JoinFacts.{all_rows, in_each_part}
+
+integer-long : all_rows has_one_long_kind integer_rows ≡ true
+unfolding all_rows has_one_long_kind is_long method_of integer_rows integer_flat
+integer-long = refl
+
+x87-long : all_rows has_one_long_kind x87_rows ≡ true
+unfolding all_rows has_one_long_kind is_long method_of x87_rows x87_flat
+x87-long = refl
+
+sse-long : all_rows has_one_long_kind sse_rows ≡ true
+unfolding all_rows has_one_long_kind is_long method_of sse_rows sse_flat
+sse-long = refl
+
+vex-long : all_rows has_one_long_kind vex_rows ≡ true
+unfolding all_rows has_one_long_kind is_long method_of vex_rows vex_flat
+vex-long = refl
+
+each-long : (p : Part) → all_rows has_one_long_kind (part_table p) ≡ true
+each-long part.Integer = integer-long
+each-long part.X87 = x87-long
+each-long part.Sse = sse-long
+each-long part.Vex = vex-long
+
+pub one-long-row : (code : ℕ) (row : Row) → slice_get table code ≡ Some row → IsTrue (has_one_long_kind row)
+one-long-row code row at = in_each_part has_one_long_kind each-long code row at
+
+-- ---- names
+
+unfoldable all_names : List (List ℕ) → Bool
+unfolding is_name
+all_names [] = true
+all_names (n ∷ ns) = is_name n && all_names ns
+
+are_names : all_names names ≡ true
+unfolding all_names is_name names
+are_names = refl
+
+length-names : length names ≡ ROWS
+unfolding names
+length-names = refl
+
+all_names-at : (ns : List (List ℕ)) (k : ℕ) → all_names ns ≡ true → k < length ns → is_name (unwrap_or (slice_get ns k) []) ≡ true
+unfolding all_names
+all_names-at [] k h lt = absurd (omega arith)
+all_names-at (n ∷ ns) zero h lt = and-left (is_name n) (all_names ns) h
+all_names-at (n ∷ ns) (suc k) h lt = all_names-at ns k (and-right (is_name n) (all_names ns) h) (omega arith)
+
+pub name-is_name : (code : ℕ) → code < ROWS → IsTrue (is_name (name_of code))
+unfolding name_of
+name-is_name code lt = all_names-at names code are_names (omega (arith, lt, length-names))
+
+-- a name has at most 16 bytes
+pub name-short : (code : ℕ) → code < ROWS → length (name_of code) ≤ 16
+unfolding is_name
+name-short code lt =
+    let n : List ℕ = name_of code in
+    let rest : (nat_le (length n) 16 && list_all is_name_byte n) ≡ true =
+    and-right (nat_lt 0 (length n)) (nat_le (length n) 16 && list_all is_name_byte n) (name-is_name code lt)
+    in
+    leb-true (length n) 16 (and-left (nat_le (length n) 16) (list_all is_name_byte n) rest)

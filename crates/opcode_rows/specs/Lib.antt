@@ -1,0 +1,5 @@
+pub mod Table
+pub mod Kept
+pub mod Words
+pub mod Allowed
+pub mod Reading

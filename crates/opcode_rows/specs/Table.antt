@@ -1,0 +1,66 @@
+-- The opcode table: one list of rows, from those of the crates of rows; a row's code is its position.
+use Rattle.std.specs.Prelude.{ℕ, List, [], ◌∷◌, map, Option, Some, None, slice_get, unwrap_or}
+use Rattle.row_types.specs.declared.Row.{Row}
+use Rattle.row_types.specs.declared.RowKind.{RowKind}
+use Rattle.row_types.specs.declared.RowKind.TheVariants as kind
+use Rattle.row_types.specs.declared.Map.{Map}
+use Rattle.row_lists.specs.declared.Span.{Span}
+use Rattle.row_lists.specs.Cells.{cell_of}
+use Rattle.rows_integer.specs.Table.{table as integer_rows}
+use Rattle.rows_x87.specs.Table.{table as x87_rows}
+use Rattle.rows_sse.specs.Table.{table as sse_rows}
+use Rattle.rows_vex.specs.Table.{table as vex_rows}
+use Rattle.opcode_rows.specs.declared.spots.Part.{Part}
+use Rattle.opcode_rows.specs.declared.spots.Part.TheVariants as part
+use Rattle.opcode_rows.specs.declared.spots.Spot.{Spot}
+use Rattle.opcode_rows.specs.declared.spots.TheConstants.{SPOTS}
+use Rattle.opcode_rows.specs.declared.cells.TheConstants.{LEGACY_SPANS, VEX_SPANS}
+use Rattle.opcode_rows.specs.declared.names.TheConstants.{NAMES}
+
+-- the rows of a part
+abbrev pub part_table : Part → List Row
+part_table part.Integer = integer_rows
+part_table part.X87 = x87_rows
+part_table part.Sse = sse_rows
+part_table part.Vex = vex_rows
+
+-- where the rows lie, by code
+unfoldable pub places : List Spot
+places = SPOTS
+
+abbrev pub with_item : Option Row → List Row → List Row
+with_item None rows = rows
+with_item (Some r) rows = r ∷ rows
+
+-- the rows that lie at these places
+unfoldable pub rows_in : List Spot → List Row
+rows_in [] = []
+rows_in (s ∷ ss) = with_item (slice_get (part_table s.part) s.at) (rows_in ss)
+
+-- the table
+unfoldable pub table : List Row
+unfolding rows_in places
+table = rows_in places
+
+-- the rows that stand at an opcode byte of a kind and map, in their order
+abbrev pub cell : RowKind → Map → ℕ → List Row
+cell kind m op = cell_of table kind m op
+
+-- the names, by code
+unfoldable pub names : List (List ℕ)
+names = map (λ name. name.now) NAMES
+
+-- the name of a row by its code, as bytes
+unfoldable pub name_of : ℕ → List ℕ
+name_of code = unwrap_or (slice_get names code) []
+
+-- where the rows of each cell lie
+unfoldable pub legacy_spans : List (List Span)
+legacy_spans = LEGACY_SPANS
+
+unfoldable pub vex_spans : List (List Span)
+vex_spans = VEX_SPANS
+
+abbrev pub spans_of : RowKind → List (List Span)
+spans_of kind.Legacy = legacy_spans
+spans_of kind.Vex = vex_spans

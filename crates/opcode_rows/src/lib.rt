@@ -1,0 +1,138 @@
+//! The opcode table: the rows of all crates in one order, by code and by cell (Intel SDM volume 2, appendix A).
+#![tactic(auto)]
+
+mod cells;
+mod form;
+pub mod laws;
+mod names;
+mod spots;
+
+ghost use Rattle.std.specs.Prelude.{◌≡◌, ◌+◌, ◌<◌, ◌≤◌, ◌↔◌, length, map, slice_get, Some, IfSome, IsNone};
+ghost use Rattle.row_lists.specs.Cells.{map_index, span_of, IsRunOf};
+ghost use Rattle.opcode_rows.specs.Table.{part_table, places, table, names, name_of, cell, legacy_spans, vex_spans, spans_of};
+
+use cells::{LEGACY_SPANS, VEX_SPANS};
+pub use form::well_formed;
+use names::NAMES;
+use row_lists::{Span, map_number};
+use row_types::{Map, Row, RowKind};
+pub use spots::ROWS;
+use spots::{Part, SPOTS, Spot};
+use std::sync::ledger::Ledger;
+use step_count::Steps;
+use x86_values::Code;
+
+/// The row of a code below `ROWS`. It takes one step.
+#[inline]
+pub fn row<L: Ledger>(code: Code, steps: &mut Steps<L>) -> Row
+    requires { code.0 < ROWS }
+    ensures row { slice_get table code.0 ≡ Some result }
+    ensures step { steps.new ≡ steps.old + 1 }
+{
+    steps.tick();
+    row_at(code)
+}
+
+/// The name of the row of a code below `ROWS`, in lower case: 1 to 16 letters and digits.
+pub fn name(code: Code) -> &'static str
+    requires { code.0 < ROWS }
+    ensures name { result.now ≡ name_of code.0 }
+    ensures short { length result.now ≤ 16 }
+{
+    all_names()[code.0 as usize]
+}
+
+/// The code of the first row that stands at an opcode byte of a kind and map; None exactly where no row does. The rows of the cell have the
+/// codes from it on, one after the other, as many as `cell_len` says. A row that adds a register to its opcode byte stands at eight.
+pub fn first_of(kind: RowKind, map: Map, opcode: u8) -> Option<Code>
+    ensures run { IfSome result (λ first. IsRunOf table kind map opcode first.0 (length (cell kind map opcode))) }
+    ensures within { IfSome result (λ first. first.0 + length (cell kind map opcode) ≤ ROWS) }
+    ensures none { IsNone result ↔ (length (cell kind map opcode) ≡ 0) }
+{
+    let span = span_at(kind, map, opcode);
+    if span.count == 0 {
+        None
+    } else {
+        Some(Code(span.first))
+    }
+}
+
+/// How many rows stand at an opcode byte of a kind and map.
+pub fn cell_len(kind: RowKind, map: Map, opcode: u8) -> u16
+    ensures { result ≡ length (cell kind map opcode) }
+{
+    span_at(kind, map, opcode).count
+}
+
+/// The row of a code, without a step.
+#[inline]
+fn row_at(code: Code) -> Row
+    requires { code.0 < ROWS }
+    ensures { slice_get table code.0 ≡ Some result }
+{
+    row_of(spot_at(code.0))
+}
+
+fn all_names() -> &'static [&'static str; ROWS as usize]
+    ensures names { map (λ name. name.now) result.now ≡ names }
+    ensures count { length result.now ≡ ROWS }
+{
+    &NAMES
+}
+
+#[inline]
+fn spot_at(code: u16) -> Spot
+    requires { code < ROWS }
+    ensures { slice_get places code ≡ Some result }
+{
+    SPOTS[code as usize]
+}
+
+#[inline]
+fn row_of(spot: Spot) -> Row
+    requires { spot.at < length (part_table spot.part) }
+    ensures { slice_get (part_table spot.part) spot.at ≡ Some result }
+{
+    match spot.part {
+        Part::Integer => rows_integer::row_at(spot.at),
+        Part::X87 => rows_x87::row_at(spot.at),
+        Part::Sse => rows_sse::row_at(spot.at),
+        Part::Vex => rows_vex::row_at(spot.at),
+    }
+}
+
+fn span_at(kind: RowKind, map: Map, opcode: u8) -> Span
+    ensures { span_of (spans_of kind) (map_index map) opcode ≡ Some result }
+{
+    line_at(kind, map_number(map))[opcode as usize]
+}
+
+fn line_at(kind: RowKind, line: usize) -> &'static [Span; 256]
+    requires { line < 4 }
+    ensures line { slice_get (spans_of kind) line ≡ Some result.now }
+    ensures width { length result.now ≡ 256 }
+{
+    match kind {
+        RowKind::Legacy => legacy_line_at(line),
+        RowKind::Vex => vex_line_at(line),
+    }
+}
+
+fn legacy_line_at(line: usize) -> &'static [Span; 256]
+    requires { line < 4 }
+    ensures line { slice_get legacy_spans line ≡ Some result.now }
+    ensures width { length result.now ≡ 256 }
+{
+    &LEGACY_SPANS[line]
+}
+
+fn vex_line_at(line: usize) -> &'static [Span; 256]
+    requires { line < 4 }
+    ensures line { slice_get vex_spans line ≡ Some result.now }
+    ensures width { length result.now ≡ 256 }
+{
+    &VEX_SPANS[line]
+}
+
+#[cfg(test)]
+mod tests;

@@ -1,0 +1,127 @@
+ghost use Rattle.std.specs.Prelude.{◌≡◌, ◌<◌};
+
+use crate::{ROWS, cell_len, first_of, name, row, well_formed};
+use row_types::{Map, Row, RowKind, Size};
+use std::marker::Brand;
+use std::sync::ledger::{Blank, Ledger};
+use step_count::Steps;
+use x86_values::{Code, DispSize, Instr, Mem, Operand, Register, Rep};
+
+/// The name of the `n`-th row of a cell, empty where it has fewer rows.
+fn nth_name(kind: RowKind, map: Map, opcode: u8, n: u16) -> &'static str {
+    match first_of(kind, map, opcode) {
+        Some(first) => {
+            if n < cell_len(kind, map, opcode) {
+                name(Code(first.0 + n))
+            } else {
+                ""
+            }
+        }
+        None => "",
+    }
+}
+
+// The instructions of some opcode bytes, by the manual's opcode maps.
+#[test]
+fn names_of_cells(rt: HostRuntime) {
+    let cases = [
+        (RowKind::Legacy, Map::One, 0x00, 0, "add"),
+        (RowKind::Legacy, Map::One, 0x0f, 0, ""),
+        (RowKind::Legacy, Map::One, 0x90, 0, "nop"),
+        (RowKind::Legacy, Map::One, 0x90, 1, "xchg"),
+        (RowKind::Legacy, Map::One, 0x90, 4, "pause"),
+        (RowKind::Legacy, Map::One, 0x90, 5, ""),
+        (RowKind::Legacy, Map::One, 0x97, 0, "xchg"),
+        (RowKind::Legacy, Map::One, 0xc4, 0, "les"),
+        (RowKind::Legacy, Map::M0f, 0x58, 0, "addps"),
+        (RowKind::Legacy, Map::M0f, 0x58, 1, "addpd"),
+        (RowKind::Legacy, Map::M0f, 0x58, 2, "addss"),
+        (RowKind::Legacy, Map::M0f, 0x58, 3, "addsd"),
+        (RowKind::Legacy, Map::M0f38, 0xf1, 3, "crc32"),
+        (RowKind::Vex, Map::M0f, 0x77, 0, "vzeroupper"),
+        (RowKind::Vex, Map::M0f, 0x77, 1, "vzeroall"),
+        (RowKind::Vex, Map::M0f38, 0x92, 0, "vgatherdps"),
+        (RowKind::Vex, Map::M0f38, 0x92, 1, "vgatherdpd"),
+        (RowKind::Vex, Map::One, 0x00, 0, ""),
+    ];
+    for (kind, map, opcode, n, want) in cases {
+        assert_eq!(rt; nth_name(kind, map, opcode, n), want);
+    }
+    assert_eq!(rt; ROWS, 1969);
+    assert_eq!(rt; name(Code(1968)), "rorx");
+}
+
+fn row_of_code<L: Ledger>(blank: Blank, code: Code) -> Row
+    requires name { blank.name ≡ L.name }
+    requires parts { blank.parts ≡ L.parts }
+    requires some { 0 < L.parts }
+    requires code { code.0 < ROWS }
+{
+    let mut steps = Steps::<L>::open(blank);
+    row(code, &mut steps)
+}
+
+// The first five codes are ADD of 00, of 01 at its three sizes, and of 02.
+#[test]
+fn first_rows(rt: HostRuntime) {
+    let cases = [
+        (0, 0x00, Size::None),
+        (1, 0x01, Size::O16),
+        (2, 0x01, Size::O32),
+        (3, 0x01, Size::O64),
+        (4, 0x02, Size::None),
+    ];
+    for (code, opcode, size) in cases {
+        if code < ROWS {
+            let row = row_of_code::<Brand>(Blank::new(1), Code(code));
+            assert_eq!(rt; row.opcode, opcode);
+            assert_eq!(rt; row.size, size);
+        }
+    }
+}
+
+/// An instruction with two operands and no prefix.
+fn instr(code: u16, first: Operand, second: Operand, third: Operand) -> Instr {
+    Instr {
+        code: Code(code),
+        ops: [first, second, third, Operand::Absent],
+        lock: false,
+        rep: Rep::None,
+        seg: None,
+        asize: None,
+    }
+}
+
+/// Memory at a base, with a scale.
+fn memory(base: Register, scale: u8) -> Operand {
+    Operand::Mem(Mem {
+        base: Some(base),
+        index: None,
+        scale,
+        disp: 0,
+        disp_size: DispSize::D0,
+    })
+}
+
+// ADD of a byte register or memory and a byte register: which operands it takes.
+#[test]
+fn operands_of_add(rt: HostRuntime) {
+    let ah = Operand::Reg(Register::High8(0));
+    let none = Operand::Absent;
+    let cases = [
+        (instr(0, Operand::Reg(Register::Low8(15)), ah, none), true),
+        (instr(0, Operand::Reg(Register::Low8(16)), ah, none), false),
+        (instr(0, Operand::Reg(Register::High8(4)), ah, none), false),
+        (instr(0, memory(Register::R64(0), 1), ah, none), true),
+        (instr(0, memory(Register::R64(0), 3), ah, none), false),
+        (instr(0, memory(Register::R64(16), 1), ah, none), false),
+        (instr(0, ah, memory(Register::R64(0), 1), none), false),
+        (instr(0, Operand::Imm(1), ah, none), false),
+        (instr(0, ah, none, none), false),
+        (instr(0, ah, ah, ah), false),
+        (instr(1969, ah, ah, none), false),
+    ];
+    for (case, want) in cases {
+        assert_eq!(rt; well_formed(&case), want);
+    }
+}

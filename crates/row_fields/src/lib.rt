@@ -1,0 +1,27 @@
+//! What the conditions of a row ask of an instruction's bytes, as nine fields.
+#![tactic(auto)]
+
+pub use row_types::Map;
+pub use x86_values::Rep;
+
+/// What the opcode tables see of an instruction's bytes, up to its ModRM.
+#[derive(Clone, Copy, PartialEq, Eq, Debug)]
+pub struct Fields {
+    /// Whether a VEX stands before the opcode byte.
+    pub vex: bool,
+    /// The map that the opcode byte stands in.
+    pub map: Map,
+    pub opcode: u8,
+    /// The counting repeat prefix; of a VEX, F3 and F2 of pp.
+    pub rep: Rep,
+    /// Whether 66 stands; of a VEX, 66 of pp.
+    pub size66: bool,
+    /// The bit W of the counting REX or of the VEX.
+    pub w: bool,
+    /// The bit L of the VEX.
+    pub l: bool,
+    /// The bit B of the counting REX, false without one.
+    pub rex_b: bool,
+    /// The byte behind the opcode byte, where there is one.
+    pub modrm: Option<u8>,
+}

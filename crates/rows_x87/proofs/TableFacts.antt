@@ -1,0 +1,18 @@
+-- What is computed of the table.
+use Rattle.std.proofs.Common.{◌≡◌, true, refl, length}
+use Rattle.row_types.specs.declared.RowKind.TheVariants.{Legacy}
+use Rattle.row_fields.proofs.Cands.{coded, of_number, at_opcode, below}
+use Rattle.row_fields.proofs.Cells.{is_run}
+use Rattle.row_lists.specs.Cells.{span_of}
+use Rattle.row_lists.proofs.Runs.{run_at, line_runs, spans_fit}
+use Rattle.rows_x87.specs.declared.table.TheConstants.{ROWS}
+use Rattle.rows_x87.specs.Table.{flat_rows, table, spans}
+
+pub length-table : length table ≡ ROWS
+unfolding table flat_rows
+length-table = refl
+
+-- the spans say where the rows of each cell lie
+pub are_runs : spans_fit Legacy spans table ≡ true
+unfolding coded of_number at_opcode below is_run run_at line_runs spans_fit spans span_of table flat_rows
+are_runs = refl
