@@ -1,0 +1,171 @@
+//! Operands in AT&T.
+
+ghost use Rattle.std.specs.Prelude.{◌≡◌, ◌<◌, ◌≤◌, ◌+◌, ◌++◌, length};
+ghost use Rattle.arrayvec.specs.ArrayVec.{array_vec_len};
+ghost use Rattle.att_text.specs.Operands as spec;
+
+use crate::names::is_word;
+use row_fit::tail_fits::kind_at;
+use row_types::{OpKind, Row};
+use text_parts::addresses::{
+    append_base, append_lone_displacement, append_scale, append_signed_displacement, is_absolute,
+    is_instruction_pointer,
+};
+use text_parts::layout::{is_far_pointer, nth_operand, separator};
+use text_parts::numbers::append_number;
+use text_parts::prefix_words::text_address_size;
+use text_parts::registers::{append_override, append_register};
+use text_parts::style::Style;
+use text_parts::text::{Text, append};
+use x86_values::{Bits, Instr, Mem, Operand, Segment};
+
+/// Appends an index with its scale, if there is one.
+#[tactic(auto, unfolding(crate::specs::Operands::att_index))]
+fn append_index(out: &mut Text, asize: Bits, m: &Mem)
+    requires { array_vec_len out.old + length (spec.att_index asize m.now) ≤ 160 }
+    ensures { out.new.items ≡ out.old.items ++ spec.att_index asize m.now }
+{
+    match m.index {
+        None => {}
+        Some(r) => {
+            append(out, b",");
+            append_register(out, Style::Att, r);
+            append_scale(out, b",", asize, m.scale);
+        }
+    }
+}
+
+/// Appends base and index in parentheses.
+#[tactic(auto, unfolding(crate::specs::Operands::att_registers))]
+fn append_registers(out: &mut Text, asize: Bits, m: &Mem)
+    requires { array_vec_len out.old + length (spec.att_registers asize m.now) ≤ 160 }
+    ensures { out.new.items ≡ out.old.items ++ spec.att_registers asize m.now }
+{
+    append(out, b"(");
+    append_base(out, Style::Att, m.base);
+    append_index(out, asize, m);
+    append(out, b")");
+}
+
+/// Appends a target in front of the instruction pointer.
+#[tactic(auto, unfolding(crate::specs::Operands::att_relative))]
+fn append_relative(out: &mut Text, m: &Mem)
+    requires { array_vec_len out.old + length (spec.att_relative m.now) ≤ 160 }
+    ensures { out.new.items ≡ out.old.items ++ spec.att_relative m.now }
+{
+    append_number(out, Style::Att, m.disp);
+    append(out, b"(");
+    append_base(out, Style::Att, m.base);
+    append(out, b")");
+}
+
+/// Appends an address.
+#[tactic(auto, unfolding(crate::specs::Operands::att_address))]
+fn append_address(out: &mut Text, asize: Bits, m: &Mem)
+    requires { array_vec_len out.old + length (spec.att_address asize m.now) ≤ 160 }
+    ensures { out.new.items ≡ out.old.items ++ spec.att_address asize m.now }
+{
+    if is_instruction_pointer(m.base) {
+        append_relative(out, m);
+    } else if is_absolute(m) {
+        append_lone_displacement(out, Style::Att, m);
+    } else {
+        append_signed_displacement(out, Style::Att, asize, m);
+        append_registers(out, asize, m);
+    }
+}
+
+/// Appends an address with its segment.
+#[tactic(auto, unfolding(crate::specs::Operands::att_memory))]
+fn append_memory(out: &mut Text, segment: Option<Segment>, asize: Bits, m: &Mem)
+    requires { array_vec_len out.old + length (spec.att_memory segment asize m.now) ≤ 160 }
+    ensures { out.new.items ≡ out.old.items ++ spec.att_memory segment asize m.now }
+{
+    append_override(out, Style::Att, segment);
+    append_address(out, asize, m);
+}
+
+/// Appends an operand.
+#[tactic(auto, unfolding(crate::specs::Operands::att_operand))]
+fn append_operand(out: &mut Text, bits: Bits, instr: &Instr, op: Operand)
+    requires { array_vec_len out.old + length (spec.att_operand bits instr.now op) ≤ 160 }
+    ensures { out.new.items ≡ out.old.items ++ spec.att_operand bits instr.now op }
+{
+    match op {
+        Operand::Absent => {}
+        Operand::Reg(r) => append_register(out, Style::Att, r),
+        Operand::Imm(x) => {
+            append(out, b"$");
+            append_number(out, Style::Att, x);
+        }
+        Operand::Near(x) => append_number(out, Style::Att, x),
+        Operand::Far { selector, offset } => {
+            append(out, b"$");
+            append_number(out, Style::Att, selector as u64);
+            append(out, b", $");
+            append_number(out, Style::Att, offset as u64);
+        }
+        Operand::Mem(m) => append_memory(out, instr.seg, text_address_size(bits, instr), &m),
+    }
+}
+
+/// Whether a kind holds the target of an indirect branch.
+#[inline]
+#[tactic(auto, unfolding(crate::specs::Operands::holds_target))]
+fn holds_target(kind: OpKind) -> bool
+    ensures { result ≡ spec.holds_target kind }
+{
+    match kind {
+        OpKind::Ev => true,
+        _ => is_far_pointer(kind),
+    }
+}
+
+/// Whether a name is that of a call or an unconditional jump.
+#[tactic(auto, unfolding(crate::specs::Operands::is_branch_name))]
+fn is_branch_name(name: &[u8]) -> bool
+    ensures { result ≡ spec.is_branch_name name.now }
+{
+    is_word(name, b"call")
+        || is_word(name, b"jmp")
+        || is_word(name, b"callf")
+        || is_word(name, b"jmpf")
+}
+
+/// The star in front of the target of an indirect call or jump.
+#[tactic(auto, unfolding(crate::specs::Operands::star))]
+fn star(row: &Row, name: &[u8], n: usize) -> &'static [u8]
+    ensures { result.now ≡ spec.star row.now name.now n }
+{
+    if n == 0 && is_branch_name(name) && holds_target(kind_at(row, 0)) {
+        b"*"
+    } else {
+        b""
+    }
+}
+
+/// Whether no operand stands behind operand `n`.
+#[tactic(auto, unfolding(crate::specs::Operands::is_last))]
+fn is_last(instr: &Instr, n: usize) -> bool
+    requires { n < 4 }
+    ensures { result ≡ spec.is_last instr.now n }
+{
+    n == 3
+        || match nth_operand(instr, n + 1) {
+            Operand::Absent => true,
+            _ => false,
+        }
+}
+
+/// Appends operand `n` with what stands in front of it.
+#[tactic(auto, unfolding(crate::specs::Operands::att_part))]
+pub fn append_part(out: &mut Text, bits: Bits, row: &Row, name: &[u8], instr: &Instr, n: usize)
+    requires number { n < 4 }
+    requires room { array_vec_len out.old + length (spec.att_part bits row.now name.now instr.now n) ≤ 160 }
+    ensures { out.new.items ≡ out.old.items ++ spec.att_part bits row.now name.now instr.now n }
+{
+    let op = nth_operand(instr, n);
+    append(out, separator(is_last(instr, n), op));
+    append(out, star(row, name, n));
+    append_operand(out, bits, instr, op);
+}

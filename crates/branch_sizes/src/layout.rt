@@ -1,0 +1,269 @@
+//! The least closed layout, by passes over all items.
+
+ghost use Rattle.std.specs.Prelude.{◌≡◌, ◌↔◌, ◌+◌, ◌<◌, ◌≤◌, ◌^◌, ℕ, IsTrue, IfOk, OnOk, OnErr, length, slice_index, slice_index_or, EachIndex};
+ghost use Rattle.branch_sizes.specs.Plan.{plan_of, no_choice, no_branch, is_fit_reach, IsWellFormed};
+ghost use Rattle.branch_sizes.specs.Layout.{Reaches, ReachesFromBoth, first_layout, ReachesGoal, IsItemClosed, IsLayout, ArePlaces, AreBlocks, GrowsItem, IsLeast, forms_of, AreLeastForms};
+
+use crate::plan::{BlockSpan, Branch, Choice, Form, Goal, Plan, Reach};
+use crate::worklist;
+use std::alloc::{AllocError, Global};
+use thiserror::Error;
+
+/// 2 to the number of bits that an address may have.
+pub(crate) fn end_of_space(bits: u8) -> u128
+    requires { bits < 64 }
+    ensures { result ≡ 2 ^ bits }
+{
+    1 << bits
+}
+
+/// Whether a choice at a place reaches a goal. Places may lie behind the end of the address space.
+pub(crate) fn reaches(choice: &Choice, place: u128, goal: u128) -> bool
+    requires fit { IsTrue (is_fit_reach choice.now.reach) }
+    requires place { place < 2 ^ 66 }
+    requires goal { goal < 2 ^ 66 }
+    ensures { IsTrue result ↔ Reaches choice.now.reach choice.now.len place goal }
+{
+    let end = place + u128::from(choice.len);
+    match choice.reach {
+        Reach::Always => true,
+        Reach::Signed8 => end <= goal + 128 && goal < end + 128,
+        Reach::Signed32 => end <= goal + 0x8000_0000 && goal < end + 0x8000_0000,
+        Reach::Below(bits) => goal < end_of_space(bits),
+        Reach::BridgeBelow { bits, inner } => {
+            goal < end_of_space(bits) && place + u128::from(inner) < end_of_space(bits)
+        }
+    }
+}
+
+/// Whether a choice reaches a goal from each of two places.
+pub(crate) fn reaches_from_both(choice: &Choice, place: u128, first: u128, goal: u128) -> bool
+    requires fit { IsTrue (is_fit_reach choice.now.reach) }
+    requires place { place < 2 ^ 66 }
+    requires first { first < 2 ^ 66 }
+    requires goal { goal < 2 ^ 66 }
+    ensures { IsTrue result ↔ ReachesFromBoth choice.now place first goal }
+{
+    reaches(choice, place, goal) && reaches(choice, first, goal)
+}
+
+/// Whether a choice of item `k` reaches the goal. `first` and `places` are the places in the layout of first choices
+/// and in this one, and `blocks` the numbers of the blocks.
+fn reaches_goal(
+    spans: &[BlockSpan],
+    items: &[Branch],
+    blocks: &[u32],
+    first: &[u128],
+    layout: &[u8],
+    places: &[u128],
+    k: usize,
+    choice: &Choice,
+    goal: Goal,
+) -> bool
+    requires blocks { AreBlocks (plan_of spans.now items.now) blocks.now }
+    requires first { ArePlaces (plan_of spans.now items.now) (first_layout (plan_of spans.now items.now)) first.now }
+    requires places { ArePlaces (plan_of spans.now items.now) layout.now places.now }
+    requires below_first { EachIndex first.now (λ i. slice_index first.now i < 2 ^ 66) }
+    requires below { EachIndex places.now (λ i. slice_index places.now i < 2 ^ 66) }
+    requires item { k < length items.now }
+    requires inside { (j : ℕ) → goal ≡ Goal.Inside j → j < length items.now }
+    requires fit { IsTrue (is_fit_reach choice.now.reach) }
+    ensures { IsTrue result ↔ ReachesGoal (plan_of spans.now items.now) layout.now k choice.now goal }
+{
+    match goal {
+        Goal::None => true,
+        Goal::Outside(t) => reaches_from_both(choice, places[k], first[k], u128::from(t)),
+        Goal::Inside(j) => {
+            let j = j as usize;
+            if blocks[j] == blocks[k] {
+                reaches(choice, places[k], places[j])
+            } else {
+                reaches_from_both(choice, places[k], first[k], places[j])
+                    && reaches_from_both(choice, places[k], first[k], first[j])
+            }
+        }
+    }
+}
+
+/// Whether item `k` has its last choice or reaches its goal.
+fn is_item_closed(
+    spans: &[BlockSpan],
+    items: &[Branch],
+    blocks: &[u32],
+    first: &[u128],
+    layout: &[u8],
+    places: &[u128],
+    k: usize,
+) -> bool
+    requires plan { IsWellFormed (plan_of spans.now items.now) }
+    requires layout { IsLayout (plan_of spans.now items.now) layout.now }
+    requires blocks { AreBlocks (plan_of spans.now items.now) blocks.now }
+    requires first { ArePlaces (plan_of spans.now items.now) (first_layout (plan_of spans.now items.now)) first.now }
+    requires places { ArePlaces (plan_of spans.now items.now) layout.now places.now }
+    requires below_first { EachIndex first.now (λ i. slice_index first.now i < 2 ^ 66) }
+    requires below { EachIndex places.now (λ i. slice_index places.now i < 2 ^ 66) }
+    requires item { k < length items.now }
+    ensures { IsTrue result ↔ IsItemClosed (plan_of spans.now items.now) layout.now k }
+{
+    let item = &items[k];
+    let f = usize::from(layout[k]);
+    f + 1 == item.choices.len()
+        || reaches_goal(
+            spans,
+            items,
+            blocks,
+            first,
+            layout,
+            places,
+            k,
+            &item.choices[f],
+            item.goal,
+        )
+}
+
+/// The number of the block of each item.
+pub(crate) fn block_numbers(
+    alloc: Global,
+    spans: &[BlockSpan],
+    items: &[Branch],
+) -> Result<Vec<u32>, AllocError>
+    requires { IsWellFormed (plan_of spans.now items.now) }
+    ensures { IfOk result (λ blocks. AreBlocks (plan_of spans.now items.now) blocks.items) }
+{
+    let mut blocks = Vec::with_capacity(alloc, items.len())?;
+    for (b, span) in spans.iter().enumerate() {
+        for _ in 0..span.count {
+            blocks.push(b as u32)?;
+        }
+    }
+    Ok(blocks)
+}
+
+/// The length of an item's image under one of its choices.
+pub(crate) fn image_len(item: &Branch, f: u8) -> u8
+    requires { f < length item.now.choices.items }
+    ensures { result ≡ (slice_index_or item.now.choices.items f no_choice).len }
+{
+    item.choices[usize::from(f)].len
+}
+
+/// The place of each item in a layout.
+pub(crate) fn places(
+    alloc: Global,
+    spans: &[BlockSpan],
+    items: &[Branch],
+    layout: &[u8],
+) -> Result<Vec<u128>, AllocError>
+    requires plan { IsWellFormed (plan_of spans.now items.now) }
+    requires layout { IsLayout (plan_of spans.now items.now) layout.now }
+    ensures places { IfOk result (λ places. ArePlaces (plan_of spans.now items.now) layout.now places.items) }
+    ensures below { IfOk result (λ places. EachIndex places.items (λ i. slice_index places.items i < 2 ^ 66)) }
+{
+    let mut places = Vec::with_capacity(alloc, items.len())?;
+    let mut k: usize = 0;
+    for span in spans {
+        let mut at = u128::from(span.new_base);
+        for _ in 0..span.count {
+            places.push(at)?;
+            at += u128::from(image_len(&items[k], layout[k]));
+            k += 1;
+        }
+    }
+    Ok(places)
+}
+
+/// The layout in which each item that is not closed in `layout` has grown, and no other.
+fn next_layout(
+    alloc: Global,
+    spans: &[BlockSpan],
+    items: &[Branch],
+    blocks: &[u32],
+    first: &[u128],
+    layout: &[u8],
+) -> Result<Vec<u8>, AllocError>
+    requires plan { IsWellFormed (plan_of spans.now items.now) }
+    requires layout { IsLayout (plan_of spans.now items.now) layout.now }
+    requires blocks { AreBlocks (plan_of spans.now items.now) blocks.now }
+    requires first { ArePlaces (plan_of spans.now items.now) (first_layout (plan_of spans.now items.now)) first.now }
+    requires below_first { EachIndex first.now (λ i. slice_index first.now i < 2 ^ 66) }
+    ensures len { IfOk result (λ next. length next.items ≡ length items.now) }
+    ensures each { IfOk result (λ next. (k : ℕ) → k < length items.now → GrowsItem (plan_of spans.now items.now) layout.now next.items k) }
+{
+    let places = places(alloc, spans, items, layout)?;
+    let mut next = Vec::with_capacity(alloc, items.len())?;
+    for k in 0..items.len() {
+        let closed = is_item_closed(spans, items, blocks, first, layout, &places, k);
+        next.push(if closed { layout[k] } else { layout[k] + 1 })?;
+    }
+    Ok(next)
+}
+
+/// The least closed layout: grown from the first choices until a pass grows nothing. It is the plain body beside
+/// that of `worklist`.
+pub fn least_choices_by_passes(
+    alloc: Global,
+    spans: &[BlockSpan],
+    items: &[Branch],
+) -> Result<Vec<u8>, AllocError>
+    requires { IsWellFormed (plan_of spans.now items.now) }
+    ensures { IfOk result (λ layout. IsLeast (plan_of spans.now items.now) layout.items) }
+{
+    let blocks = block_numbers(alloc, spans, items)?;
+    let mut layout = vec![in alloc; 0u8; items.len()]?;
+    let first = places(alloc, spans, items, &layout)?;
+    'passes: loop {
+        let next = next_layout(alloc, spans, items, &blocks, &first, &layout)?;
+        if next.as_slice() == layout.as_slice() {
+            break;
+        }
+        layout = next;
+    }
+    Ok(layout)
+}
+
+/// The forms of a layout.
+pub(crate) fn chosen_forms(
+    alloc: Global,
+    items: &[Branch],
+    layout: &[u8],
+) -> Result<Vec<Form>, AllocError>
+    requires len { length layout.now ≡ length items.now }
+    requires valid { (k : ℕ) → k < length items.now → slice_index layout.now k < length (slice_index_or items.now k no_branch).choices.items }
+    ensures { IfOk result (λ forms. forms.items ≡ forms_of items.now layout.now) }
+{
+    let mut forms = Vec::with_capacity(alloc, items.len())?;
+    for (k, f) in layout.iter().enumerate() {
+        forms.push(items[k].choices[usize::from(*f)].form)?;
+    }
+    Ok(forms)
+}
+
+/// Why no layout is given.
+#[derive(Clone, Copy, Debug, PartialEq, Eq, Error)]
+pub enum LayoutError {
+    /// The allocator had no memory left.
+    #[error("Memory")]
+    Memory,
+}
+
+impl From<AllocError> for LayoutError {
+    fn from(_e: AllocError) -> LayoutError {
+        LayoutError::Memory
+    }
+}
+
+/// Sets `forms` to the forms of the least closed layout of a plan, item by item.
+///
+/// In a closed layout each item has its last choice, or its choice reaches its goal: an item of its own block from
+/// where both stand; an address that stays from its place and from its place in the layout of first choices; an item of
+/// another block where both stand, where both stood in that layout, and from each place to where the other one was.
+/// The least one has at each item the earliest choice that any closed layout has there. `Memory` is the only refusal,
+/// and leaves `forms` as it was.
+pub fn least_layout(alloc: Global, plan: &Plan, forms: &mut Vec<Form>) -> Result<(), LayoutError>
+    ensures ok { OnOk result (AreLeastForms plan.now forms.new.items) }
+    ensures err { OnErr result (forms.new.items ≡ forms.old.items) }
+{
+    let layout = worklist::least_choices(alloc, plan.spans(), plan.items())?;
+    *forms = chosen_forms(alloc, plan.items(), &layout)?;
+    Ok(())
+}

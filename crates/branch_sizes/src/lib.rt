@@ -1,0 +1,19 @@
+//! Branch displacement selection: which form each branch of some moved blocks takes.
+#![tactic(auto)]
+
+pub mod laws;
+mod layout;
+mod limits;
+mod order;
+mod plan;
+mod sums;
+mod suspects;
+mod tables;
+mod worklist;
+
+pub use layout::{LayoutError, least_layout};
+pub use plan::{BlockSpan, Branch, Choice, Form, Goal, Plan, Reach};
+pub use sums::Sums;
+
+#[cfg(test)]
+mod tests;

@@ -1,0 +1,188 @@
+ghost use Rattle.std.specs.Prelude.{◌≡◌, ◌<◌, ◌≤◌, ◌∷◌, [], IsTrue, IfOk, length};
+ghost use Rattle.std.specs.List.{list_all};
+ghost use Rattle.branch_sizes.specs.Plan.{is_fit_branch};
+
+use crate::layout::{chosen_forms, least_choices_by_passes};
+use crate::{BlockSpan, Branch, Choice, Form, Goal, Plan, Reach, Sums, least_layout};
+use arrayvec::ArrayVec;
+use std::alloc::{AllocError, Global};
+use std::test::Fail;
+
+/// A branch of two or five bytes.
+fn short_or_near(goal: Goal) -> Branch
+    ensures choices { result.choices.items ≡ record { form = Form.Short; len = 2; reach = Reach.Signed8 }
+        ∷ record { form = Form.Near; len = 5; reach = Reach.Signed32 } ∷ [] }
+    ensures goal { result.goal ≡ goal }
+{
+    let mut choices = ArrayVec::new();
+    choices.push(Choice {
+        form: Form::Short,
+        len: 2,
+        reach: Reach::Signed8,
+    });
+    choices.push(Choice {
+        form: Form::Near,
+        len: 5,
+        reach: Reach::Signed32,
+    });
+    Branch { choices, goal }
+}
+
+/// An instruction of the given length that is no branch.
+fn plain(len: u8) -> Branch
+    requires one { 1 ≤ len }
+    requires most { len ≤ 15 }
+    ensures choices { result.choices.items ≡ record { form = Form.Itself; len = len; reach = Reach.Always } ∷ [] }
+    ensures goal { result.goal ≡ Goal.None }
+{
+    let mut choices = ArrayVec::new();
+    choices.push(Choice {
+        form: Form::Itself,
+        len,
+        reach: Reach::Always,
+    });
+    Branch {
+        choices,
+        goal: Goal::None,
+    }
+}
+
+#[test]
+fn sums_before_and_after_growth(rt: HostRuntime) -> Result<(), Fail> {
+    let mut sums = Sums::make(rt.alloc(), &[2, 5, 1])?;
+    assert_eq!(rt; sums.before(0), 0);
+    assert_eq!(rt; sums.before(2), 7);
+    sums.grow(0, 3);
+    assert_eq!(rt; sums.before(2), 10);
+    assert_eq!(rt; sums.before(3), 11);
+    Ok(())
+}
+
+/// A branch in the second block grows and moves the goal of one in the first out of reach.
+#[test]
+fn growth_in_another_block(rt: HostRuntime) -> Result<(), Fail> {
+    let spans = vec![in rt.alloc();
+        BlockSpan {
+            count: 1,
+            new_base: 0x5002
+        },
+        BlockSpan {
+            count: 2,
+            new_base: 0x5080
+        },
+    ]?;
+    let items = vec![in rt.alloc();
+        short_or_near(Goal::Inside(2)),
+        short_or_near(Goal::Outside(0x1101)),
+        plain(1),
+    ]?;
+    let plan = Plan::of_blocks(spans, items);
+    let mut forms = Vec::new(rt.alloc());
+    least_layout(rt.alloc(), &plan, &mut forms)?;
+    assert_eq!(rt;
+        forms.as_slice(),
+        [Form::Near, Form::Near, Form::Itself].as_slice()
+    );
+    Ok(())
+}
+
+/// A plan's shape.
+#[derive(Clone, Copy)]
+enum Shape {
+    /// Each branch goes 64 items on, and the last of them goes far away: one growth at the end makes each branch in
+    /// front of it grow.
+    Chain,
+    /// All but two items are branches that go far away, in front of an instruction and a branch to it.
+    TargetMovesToo,
+}
+
+/// Item `i` of a plan of `count` items.
+fn item(shape: Shape, i: u32, count: u32) -> Branch
+    requires least { 64 ≤ count }
+    requires most { count ≤ 65536 }
+    requires item { i < count }
+    ensures { IsTrue (is_fit_branch count result) }
+{
+    match shape {
+        Shape::Chain => {
+            if i < count - 64 {
+                short_or_near(Goal::Inside(i + 64))
+            } else if i == count - 2 {
+                short_or_near(Goal::Outside(0x100_0000))
+            } else {
+                plain(2)
+            }
+        }
+        Shape::TargetMovesToo => {
+            if i < count - 2 {
+                short_or_near(Goal::Outside(0x100_0000))
+            } else if i == count - 2 {
+                plain(1)
+            } else {
+                short_or_near(Goal::Inside(count - 2))
+            }
+        }
+    }
+}
+
+/// The items of a plan.
+fn items_of(alloc: Global, shape: Shape, count: u32) -> Result<Vec<Branch>, AllocError>
+    requires least { 64 ≤ count }
+    requires most { count ≤ 65536 }
+    ensures len { IfOk result (λ items. length items.items ≡ count) }
+    ensures fit { IfOk result (λ items. IsTrue (list_all (is_fit_branch count) items.items)) }
+{
+    let mut items = Vec::with_capacity(alloc, count as usize)?;
+    'items: for i in 0..count {
+        items.push(item(shape, i, count))?;
+    }
+    Ok(items)
+}
+
+/// How often a form is among some.
+fn count_of(forms: &[Form], form: Form) -> usize {
+    forms.iter().filter(|f| **f == form).count()
+}
+
+#[test]
+fn chains_and_targets_that_move_too(rt: HostRuntime) -> Result<(), Fail> {
+    let mut forms = Vec::new(rt.alloc());
+    for (shape, count, base, near, short) in [
+        (Shape::Chain, 65536, 0, 65473, 0),
+        (Shape::Chain, 1024, 0, 961, 0),
+        (Shape::TargetMovesToo, 64, 0x5000, 62, 1),
+    ] {
+        let items = items_of(rt.alloc(), shape, count)?;
+        let plan = Plan::new(base, items);
+        least_layout(rt.alloc(), &plan, &mut forms)?;
+        assert_eq!(rt; forms.len(), count as usize);
+        assert_eq!(rt; count_of(&forms, Form::Near), near, "of {count} items");
+        assert_eq!(rt; count_of(&forms, Form::Short), short, "of {count} items");
+    }
+    Ok(())
+}
+
+#[test]
+fn passes_give_the_same(rt: HostRuntime) -> Result<(), Fail> {
+    let items = items_of(rt.alloc(), Shape::Chain, 1024)?;
+    let plan = Plan::new(0, items);
+    let mut forms = Vec::new(rt.alloc());
+    least_layout(rt.alloc(), &plan, &mut forms)?;
+    let choices = least_choices_by_passes(rt.alloc(), plan.spans(), plan.items())?;
+    let by_passes = chosen_forms(rt.alloc(), plan.items(), &choices)?;
+    assert_eq!(rt; forms.as_slice(), by_passes.as_slice());
+    Ok(())
+}
+
+#[test]
+fn no_item_and_one_branch(rt: HostRuntime) -> Result<(), Fail> {
+    let mut forms = vec![in rt.alloc(); Form::Far]?;
+    let empty = Plan::new(0, Vec::new(rt.alloc()));
+    least_layout(rt.alloc(), &empty, &mut forms)?;
+    assert_eq!(rt; forms.len(), 0);
+    let items = vec![in rt.alloc(); short_or_near(Goal::Outside(0x1000))]?;
+    let one = Plan::new(0, items);
+    least_layout(rt.alloc(), &one, &mut forms)?;
+    assert_eq!(rt; forms.as_slice(), [Form::Near].as_slice());
+    Ok(())
+}

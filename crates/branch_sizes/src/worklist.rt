@@ -1,0 +1,244 @@
+//! The least closed layout, by growth from a worklist over running sums.
+
+ghost use Rattle.std.specs.Prelude.{◌≡◌, ◌↔◌, ◌+◌, ◌<◌, ◌≤◌, ◌^◌, ℕ, IsTrue, IfOk, OnOk, IsSome, IsNone, All, length};
+ghost use Rattle.branch_sizes.specs.Plan.{plan_of, is_fit_reach, IsWellFormed};
+ghost use Rattle.branch_sizes.specs.Tables.{plan_in};
+ghost use Rattle.branch_sizes.specs.Layout.{first_layout, place, ReachesGoal, IsItemClosed, IsLayout, IsClosed, IsLeast, ArePlaces, AreBlocks, AreStarts, AreLengths, GrowsTo, room};
+
+use crate::layout::{LayoutError, block_numbers, image_len, places, reaches, reaches_from_both};
+use crate::plan::{BlockSpan, Branch, Choice, Goal};
+use crate::sums::Sums;
+use crate::suspects::Suspects;
+use crate::tables::Tables;
+use std::alloc::{AllocError, Global};
+
+/// The first item of each block.
+fn block_starts(
+    alloc: Global,
+    spans: &[BlockSpan],
+    items: &[Branch],
+) -> Result<Vec<u32>, AllocError>
+    requires { IsWellFormed (plan_of spans.now items.now) }
+    ensures { IfOk result (λ starts. AreStarts (plan_of spans.now items.now) starts.items) }
+{
+    let mut starts = Vec::with_capacity(alloc, spans.len())?;
+    let mut start: u32 = 0;
+    for span in spans {
+        starts.push(start)?;
+        start += span.count;
+    }
+    Ok(starts)
+}
+
+/// The new base of a block.
+fn new_base(span: &BlockSpan) -> u128
+    ensures value { result ≡ span.now.new_base }
+    ensures small { result < 2 ^ 64 }
+{
+    u128::from(span.new_base)
+}
+
+/// The place of item `k` in the layout whose lengths the sums have.
+fn place_now(tables: &Tables, layout: &[u8], sums: &Sums, k: usize) -> u128
+    requires lengths { AreLengths (plan_in tables.now) layout.now sums.now }
+    requires item { k < length tables.now.items.now }
+    ensures place { result ≡ place (plan_in tables.now) layout.now k }
+    ensures small { result < 2 ^ 66 }
+{
+    let block = tables.blocks[k] as usize;
+    let start = tables.starts[block] as usize;
+    let before = sums.before(k) - sums.before(start);
+    new_base(&tables.spans[block]) + u128::from(before)
+}
+
+/// Whether a choice of item `k` reaches the goal. `first` has the places in the layout of first choices.
+fn reaches_goal_now(
+    tables: &Tables,
+    layout: &[u8],
+    sums: &Sums,
+    k: usize,
+    choice: &Choice,
+    goal: Goal,
+) -> bool
+    requires lengths { AreLengths (plan_in tables.now) layout.now sums.now }
+    requires item { k < length tables.now.items.now }
+    requires inside { (j : ℕ) → goal ≡ Goal.Inside j → j < length tables.now.items.now }
+    requires fit { IsTrue (is_fit_reach choice.now.reach) }
+    ensures { IsTrue result ↔ ReachesGoal (plan_in tables.now) layout.now k choice.now goal }
+{
+    let place = place_now(tables, layout, sums, k);
+    match goal {
+        Goal::None => true,
+        Goal::Outside(t) => reaches_from_both(choice, place, tables.first[k], u128::from(t)),
+        Goal::Inside(j) => {
+            let j = j as usize;
+            let goal_place = place_now(tables, layout, sums, j);
+            if tables.blocks[j] == tables.blocks[k] {
+                reaches(choice, place, goal_place)
+            } else {
+                reaches_from_both(choice, place, tables.first[k], goal_place)
+                    && reaches_from_both(choice, place, tables.first[k], tables.first[j])
+            }
+        }
+    }
+}
+
+/// Whether item `k` has its last choice or reaches its goal.
+fn is_item_closed_now(tables: &Tables, layout: &[u8], sums: &Sums, k: usize) -> bool
+    requires layout { IsLayout (plan_in tables.now) layout.now }
+    requires lengths { AreLengths (plan_in tables.now) layout.now sums.now }
+    requires item { k < length tables.now.items.now }
+    ensures { IsTrue result ↔ IsItemClosed (plan_in tables.now) layout.now k }
+{
+    let item = &tables.items[k];
+    let f = usize::from(layout[k]);
+    f + 1 == item.choices.len()
+        || reaches_goal_now(tables, layout, sums, k, &item.choices[f], item.goal)
+}
+
+/// Lets item `k` grow if it is not closed, and says by how many bytes it did.
+fn grow_item(tables: &Tables, layout: &mut [u8], sums: &mut Sums, k: usize) -> Option<u8>
+    requires layout { IsLayout (plan_in tables.now) layout.old }
+    requires lengths { AreLengths (plan_in tables.now) layout.old sums.old }
+    requires item { k < length tables.now.items.now }
+    ensures lengths { AreLengths (plan_in tables.now) layout.new sums.new }
+    ensures grows { GrowsTo (plan_in tables.now) layout.old layout.new }
+    ensures less { IsSome result → room (plan_in tables.now) layout.new < room (plan_in tables.now) layout.old }
+    ensures closed { IsNone result → (layout.new ≡ layout.old) × IsItemClosed (plan_in tables.now) layout.old k }
+{
+    if is_item_closed_now(tables, layout, sums, k) {
+        return None;
+    }
+    let item = &tables.items[k];
+    let f = layout[k];
+    let by = image_len(item, f + 1) - image_len(item, f);
+    layout[k] = f + 1;
+    sums.grow(k, by);
+    Some(by)
+}
+
+/// Lets item `k` grow if it is not closed, with a note of what that may drive apart, and says whether it did.
+fn grow_and_note(
+    tables: &Tables,
+    layout: &mut [u8],
+    sums: &mut Sums,
+    suspects: &mut Suspects,
+    k: usize,
+) -> Result<bool, AllocError>
+    requires layout { IsLayout (plan_in tables.now) layout.old }
+    requires lengths { AreLengths (plan_in tables.now) layout.old sums.old }
+    ensures few { length suspects.new.queue.items ≤ length suspects.old.queue.items + 300 }
+    ensures lengths { AreLengths (plan_in tables.now) layout.new sums.new }
+    ensures grows { GrowsTo (plan_in tables.now) layout.old layout.new }
+    ensures less { IfOk result (λ grew. IsTrue grew → room (plan_in tables.now) layout.new < room (plan_in tables.now) layout.old) }
+    ensures closed { IfOk result (λ grew. (IsTrue grew → ⊥) → k < length tables.now.items.now → (layout.new ≡ layout.old) × IsItemClosed (plan_in tables.now) layout.old k) }
+    ensures idle { IfOk result (λ grew. (IsTrue grew → ⊥) → suspects.new.queue ≡ suspects.old.queue) }
+{
+    if k >= tables.items.len() {
+        return Ok(false);
+    }
+    match grow_item(tables, layout, sums, k) {
+        None => Ok(false),
+        Some(by) => {
+            suspects.note(tables, layout, k, by)?;
+            Ok(true)
+        }
+    }
+}
+
+/// Lets the suspects grow that are not closed, and those that this makes suspects, until none is left.
+fn settle(
+    tables: &Tables,
+    layout: &mut [u8],
+    sums: &mut Sums,
+    suspects: &mut Suspects,
+) -> Result<(), AllocError>
+    requires layout { IsLayout (plan_in tables.now) layout.old }
+    requires lengths { AreLengths (plan_in tables.now) layout.old sums.old }
+    ensures lengths { AreLengths (plan_in tables.now) layout.new sums.new }
+    ensures grows { GrowsTo (plan_in tables.now) layout.old layout.new }
+{
+    'suspects: loop {
+        'queue: while let Some(k) = suspects.pop() {
+            grow_and_note(tables, layout, sums, suspects, k)?;
+        }
+        let Some(k) = suspects.passed() else { break };
+        if !grow_and_note(tables, layout, sums, suspects, k)? {
+            break;
+        }
+    }
+    Ok(())
+}
+
+/// Lets each item grow that is not closed when its turn comes, with what that drives apart, and says whether any did.
+fn pass(
+    tables: &Tables,
+    layout: &mut [u8],
+    sums: &mut Sums,
+    suspects: &mut Suspects,
+) -> Result<bool, AllocError>
+    requires layout { IsLayout (plan_in tables.now) layout.old }
+    requires lengths { AreLengths (plan_in tables.now) layout.old sums.old }
+    ensures lengths { OnOk result (AreLengths (plan_in tables.now) layout.new sums.new) }
+    ensures grows { OnOk result (GrowsTo (plan_in tables.now) layout.old layout.new) }
+    ensures less { IfOk result (λ grew. IsTrue grew → room (plan_in tables.now) layout.new < room (plan_in tables.now) layout.old) }
+    ensures closed { IfOk result (λ grew. (IsTrue grew → ⊥) → IsClosed (plan_in tables.now) layout.new) }
+{
+    let mut grew = false;
+    'turns: for k in 0..tables.items.len() {
+        if grow_and_note(tables, layout, sums, suspects, k)? {
+            settle(tables, layout, sums, suspects)?;
+            grew = true;
+        }
+    }
+    Ok(grew)
+}
+
+/// The lengths of the first choices.
+fn first_lengths(
+    alloc: Global,
+    spans: &[BlockSpan],
+    items: &[Branch],
+) -> Result<Vec<u8>, AllocError>
+    requires { IsWellFormed (plan_of spans.now items.now) }
+    ensures lengths { IfOk result (λ lens. AreLengths (plan_of spans.now items.now) (first_layout (plan_of spans.now items.now)) lens.items) }
+    ensures fit { IfOk result (λ lens. All (λ n. (1 ≤ n) × (n ≤ 15)) lens.items) }
+{
+    let mut lens = Vec::with_capacity(alloc, items.len())?;
+    'lengths: for k in 0..items.len() {
+        lens.push(image_len(&items[k], 0))?;
+    }
+    Ok(lens)
+}
+
+/// The least closed layout.
+pub(crate) fn least_choices(
+    alloc: Global,
+    spans: &[BlockSpan],
+    items: &[Branch],
+) -> Result<Vec<u8>, LayoutError>
+    requires { IsWellFormed (plan_of spans.now items.now) }
+    ensures { IfOk result (λ layout. IsLeast (plan_of spans.now items.now) layout.items) }
+{
+    let blocks = block_numbers(alloc, spans, items)?;
+    let starts = block_starts(alloc, spans, items)?;
+    let mut layout = vec![in alloc; 0u8; items.len()]?;
+    let first = places(alloc, spans, items, &layout)?;
+    let lengths = first_lengths(alloc, spans, items)?;
+    let mut sums = Sums::make(alloc, &lengths)?;
+    let tables = Tables {
+        spans,
+        items,
+        blocks: &blocks,
+        starts: &starts,
+        first: &first,
+    };
+    let mut suspects = Suspects::make(alloc, &tables, &layout)?;
+    'passes: loop {
+        let grew = pass(&tables, &mut layout, &mut sums, &mut suspects)?;
+        if !grew {
+            break;
+        }
+    }
+    Ok(layout)
+}

@@ -1,0 +1,22 @@
+//! Where bytes come from and where they go to: sources and sinks that say when they fail, with fakes for tests.
+#![tactic(auto)]
+
+mod count;
+mod fail_at;
+mod failed;
+mod fault_count;
+mod memory;
+mod ports;
+mod slow;
+mod standard;
+
+pub use count::CountSink;
+pub use fail_at::FailAt;
+pub use failed::Failed;
+pub use memory::{MakeError, MemSink, MemSource};
+pub use ports::{Sink, Source};
+pub use slow::SlowSource;
+pub use standard::{ReaderSource, WriterSink};
+
+#[cfg(test)]
+mod tests;

@@ -1,0 +1,52 @@
+// What gives bytes and what takes them.
+ghost use Rattle.std.specs.Prelude.{◌≡◌, ◌<◌, ◌≤◌, ℕ, List, [], length, take, Option, Result, IfOk, IfSome, OnErr};
+ghost use Rattle.byte_ports.specs.declared.failed.Failed.{Failed};
+ghost use Rattle.byte_ports.specs.Ports.{HasCause, with_front, with_back};
+
+use crate::failed::Failed;
+
+/// Where bytes come from.
+pub trait Source {
+    /// The bytes that are left, or None where they are not told.
+    ghost left: { Self → Option (List ℕ) };
+
+    /// How often it has failed. It never falls.
+    ghost faults: { Self → ℕ };
+
+    /// What a call may give: the source and the buffer before it, its answer, and both after it.
+    ghost pull_gives: { Self → List ℕ → Result ℕ Failed → Self → List ℕ → Type 0 } = { λ _ _ _ _ _. Unit {0} };
+
+    /// Writes the next bytes to the front of `into`, and answers their number, at most the length of `into`.
+    /// 0 for a buffer that is not empty is the end of the input. After `Failed` no byte was taken.
+    fn pull(&mut self, into: &mut [u8]) -> Result<usize, Failed>
+        ensures within { IfOk result (λ n. n ≤ length into.new) }
+        ensures taken { IfOk result (λ n. left self.old ≡ with_front (take n into.new) (left self.new)) }
+
+        // The end is told only where no byte is left.
+        ensures end { IfOk result (λ n. n ≡ 0 → 0 < length into.new → IfSome (left self.old) (λ bytes. bytes ≡ [])) }
+        ensures none_taken { OnErr result (left self.new ≡ left self.old) }
+        ensures cause { HasCause (faults self.old) (faults self.new) result }
+        ensures gives { pull_gives self.old into.old result self.new into.new };
+}
+
+/// Where bytes go to.
+pub trait Sink {
+    /// The bytes that it holds, or None where they are not told.
+    ghost held: { Self → Option (List ℕ) };
+
+    /// How often it has failed. It never falls.
+    ghost faults: { Self → ℕ };
+
+    /// What a call may give: the sink before it, the piece, the answer, and the sink after it.
+    ghost put_gives: { Self → List ℕ → Result ℕ Failed → Self → Type 0 } = { λ _ _ _ _. Unit {0} };
+
+    /// Appends the first bytes of `piece`, and answers their number: at least 1 for a piece that is not empty.
+    /// After `Failed` nothing of the piece was taken.
+    fn put(&mut self, piece: &[u8]) -> Result<usize, Failed>
+        ensures within { IfOk result (λ n. n ≤ length piece.now) }
+        ensures progress { IfOk result (λ n. 0 < length piece.now → 0 < n) }
+        ensures taken { IfOk result (λ n. held self.new ≡ with_back (held self.old) (take n piece.now)) }
+        ensures none_taken { OnErr result (held self.new ≡ held self.old) }
+        ensures cause { HasCause (faults self.old) (faults self.new) result }
+        ensures gives { put_gives self.old piece.now result self.new };
+}

@@ -1,0 +1,68 @@
+// Ports over the readers and writers of std. They tell no bytes.
+ghost use Rattle.std.specs.Prelude.{◌≡◌, None};
+
+use crate::failed::Failed;
+use crate::fault_count::after_fault;
+use crate::ports::{Sink, Source};
+use std::io::{Read, Write};
+
+/// A reader as a source. Each error of the reader is a fault.
+#[derive(Drop)]
+pub struct ReaderSource<R> {
+    inner: R,
+    faults: u64,
+}
+
+impl<R: Read> ReaderSource<R> {
+    /// A source over `inner` without faults.
+    pub fn new(inner: R) -> ReaderSource<R> {
+        ReaderSource { inner, faults: 0 }
+    }
+}
+
+impl<R: Read> Source for ReaderSource<R> {
+    ghost left = { λ _. None };
+
+    ghost faults = { λ s. s.faults };
+
+    fn pull(&mut self, into: &mut [u8]) -> Result<usize, Failed> {
+        match self.inner.read(into) {
+            Ok(count) => Ok(count),
+            Err(_) => {
+                self.faults = after_fault(self.faults);
+                Err(Failed)
+            }
+        }
+    }
+}
+
+/// A writer as a sink. Each error of the writer is a fault, and so is a writer that takes nothing of a piece that
+/// is not empty.
+#[derive(Drop)]
+pub struct WriterSink<W> {
+    inner: W,
+    faults: u64,
+}
+
+impl<W: Write> WriterSink<W> {
+    /// A sink over `inner` without faults.
+    pub fn new(inner: W) -> WriterSink<W> {
+        WriterSink { inner, faults: 0 }
+    }
+}
+
+impl<W: Write> Sink for WriterSink<W> {
+    ghost held = { λ _. None };
+
+    ghost faults = { λ s. s.faults };
+
+    fn put(&mut self, piece: &[u8]) -> Result<usize, Failed> {
+        match self.inner.write(piece) {
+            Ok(count) if count > 0 || piece.is_empty() => Ok(count),
+            _ => {
+                self.faults = after_fault(self.faults);
+                Err(Failed)
+            }
+        }
+    }
+}

@@ -1,0 +1,130 @@
+ghost use Rattle.std.specs.Prelude.{◌≡◌, IfOk};
+
+use super::*;
+use arrayvec::ArrayVec;
+use std::io;
+use std::io::{Read, Write};
+use std::test::Fail;
+
+/// The calls of this list, for a port that fails at them.
+fn calls(numbers: &[u64]) -> ArrayVec<u64, 8> {
+    let mut listed = ArrayVec::new();
+    for number in numbers {
+        let _ = listed.try_push(*number);
+    }
+    listed
+}
+
+#[test]
+fn sources_give_their_bytes(rt: HostRuntime) {
+    let bytes = [1, 2, 3, 4, 5];
+    let mut into = [0; 3];
+
+    let mut memory = MemSource::new(&bytes);
+    assert_eq!(rt; memory.pull(&mut into), Ok(3));
+    assert_eq!(rt; into, [1, 2, 3]);
+    assert_eq!(rt; memory.pull(&mut into), Ok(2));
+    assert_eq!(rt; into, [4, 5, 3]);
+    assert_eq!(rt; memory.pull(&mut into), Ok(0));
+
+    let mut slow = SlowSource::new(MemSource::new(&bytes));
+    assert_eq!(rt; slow.pull(&mut []), Ok(0));
+    for (byte, rest) in [(1, 2), (2, 3), (3, 4)] {
+        assert_eq!(rt; slow.pull(&mut into), Ok(1), "before {rest}");
+        assert_eq!(rt; into, [byte, 5, 3], "before {rest}");
+    }
+}
+
+#[test]
+fn a_port_fails_at_the_listed_calls(rt: HostRuntime) -> Result<(), Fail> {
+    let bytes = [1, 2, 3, 4, 5];
+    let mut source = FailAt::new(SlowSource::new(MemSource::new(&bytes)), calls(&[2, 4]));
+    for (call, answer) in [
+        (1, Ok(1)),
+        (2, Err(Failed)),
+        (3, Ok(1)),
+        (4, Err(Failed)),
+        (5, Ok(1)),
+    ] {
+        let mut into = [0; 3];
+        assert_eq!(rt; source.pull(&mut into), answer, "call {call}");
+    }
+
+    let mut sink = FailAt::new(MemSink::new(rt.alloc(), 4)?, calls(&[1, 3]));
+    for (call, answer) in [
+        (1, Err(Failed)),
+        (2, Ok(3)),
+        (3, Err(Failed)),
+        (4, Ok(1)),
+        (5, Err(Failed)),
+    ] {
+        assert_eq!(rt; sink.put(&[7, 8, 9]), answer, "call {call}");
+    }
+    assert_eq!(rt; sink.inner().bytes(), [7, 8, 9, 7].as_slice());
+    assert_eq!(rt; sink.put(&[]), Ok(0));
+    Ok(())
+}
+
+#[test]
+fn a_counting_sink_counts(rt: HostRuntime) {
+    let mut sink = CountSink::new();
+    assert_eq!(rt; sink.put(&[200, 100]), Ok(2));
+    assert_eq!(rt; sink.put(&[56]), Ok(1));
+    assert_eq!(rt; (sink.count(), sink.sum()), (3, 356));
+}
+
+/// A reader and writer whose second call and whose fourth call fail.
+#[derive(Drop)]
+struct Faulty {
+    calls: u64,
+}
+
+impl Faulty {
+    fn next(&mut self, answer: usize) -> io::Result<usize>
+        ensures { IfOk result (λ n. n ≡ answer) }
+    {
+        self.calls = self.calls.saturating_add(1);
+        match self.calls {
+            2 | 4 => Err(io::Error::from(io::ErrorKind::Other)),
+            _ => Ok(answer),
+        }
+    }
+}
+
+impl Read for Faulty {
+    fn read(&mut self, buf: &mut [u8]) -> io::Result<usize> {
+        buf.fill(9);
+        self.next(buf.len().min(1))
+    }
+}
+
+#[test]
+fn a_reader_is_a_source(rt: HostRuntime) {
+    let mut source = ReaderSource::new(Faulty { calls: 0 });
+    let mut into = [0; 3];
+    for answer in [Ok(1), Err(Failed), Ok(1), Err(Failed), Ok(1)] {
+        assert_eq!(rt; source.pull(&mut into), answer);
+    }
+    assert_eq!(rt; into[0], 9);
+}
+
+impl Write for Faulty {
+    // From the third call on it takes nothing.
+    fn write(&mut self, buf: &[u8]) -> io::Result<usize> {
+        let taken = if self.calls < 2 { buf.len().min(2) } else { 0 };
+        self.next(taken)
+    }
+
+    fn flush(&mut self) -> io::Result<()> {
+        Ok(())
+    }
+}
+
+#[test]
+fn a_writer_is_a_sink(rt: HostRuntime) {
+    let mut sink = WriterSink::new(Faulty { calls: 0 });
+    for answer in [Ok(2), Err(Failed), Err(Failed), Err(Failed)] {
+        assert_eq!(rt; sink.put(&[1, 2, 3]), answer);
+    }
+    assert_eq!(rt; sink.put(&[]), Ok(0));
+}

@@ -1,0 +1,12 @@
+pub mod Overwrites
+pub mod Apart
+pub mod Views
+pub mod Inserting
+pub mod Rewriting
+pub mod Placed
+pub mod Joined
+pub mod Opened
+pub mod Sound
+pub mod Lawful
+pub mod Found
+pub mod Commanded

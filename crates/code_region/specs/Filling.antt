@@ -1,0 +1,22 @@
+-- What a fill makes of a live block.
+use Rattle.std.specs.Prelude.{ℕ, ◌-◌, ◌==◌, nat_le, if◌then◌else◌, Bool, false, List, ◌++◌, map, length, replicate, Option, Some, None}
+use Rattle.code_region.specs.State.{LiveBlock, RegionState, int3, live_block}
+
+-- the block with these first bytes, and INT3 behind them
+abbrev pub with_content : List ℕ → LiveBlock → LiveBlock
+with_content bytes block = record block { content = bytes ++ replicate (block.len - length bytes) int3 }
+
+-- so many bytes fit the block, if there is one
+abbrev pub holds : Option LiveBlock → ℕ → Bool
+holds (Some block) count = nat_le count block.len
+holds None count = false
+
+-- a live block starts at the address, and so many bytes fit it
+unfoldable pub can_fill : RegionState → ℕ → ℕ → Bool
+can_fill state place count = holds (live_block state place) count
+
+-- the region after the bytes are written at the front of the block that starts at the address
+unfoldable pub filled : RegionState → ℕ → List ℕ → RegionState
+filled state place bytes = record state {
+  live = map (λ block. if block.place == place then with_content bytes block else block) state.live;
+}

@@ -1,0 +1,11 @@
+pub mod Gaps
+pub mod State
+pub mod Opening
+pub mod Placing
+pub mod Releasing
+pub mod Filling
+pub mod Contents
+pub mod Running
+pub mod Keeping
+pub mod Searching
+pub mod Laws

@@ -1,0 +1,275 @@
+//! The region: its bytes, and the live blocks in it.
+
+ghost use Rattle.std.specs.Prelude.{◌≡◌, ◌⊎◌, ◌<◌, ◌≤◌, IsTrue, IfSome, IfOk, IfErr, OnErr, Ok, Err, Some, None, insert, length, map, option_map, slice_get, vec_len, vec_capacity};
+ghost use Rattle.code_region.specs.State.{rounded, live_block, image_of, place_and_len, len_of};
+ghost use Rattle.code_region.specs.Opening.{open_refusal, opened};
+ghost use Rattle.code_region.specs.Placing.{place_answer, placed};
+ghost use Rattle.code_region.specs.Releasing.{release_answer, released};
+ghost use Rattle.code_region.specs.Filling.{can_fill, filled};
+ghost use Rattle.code_region.specs.Contents.{bytes_of};
+ghost use Rattle.code_region.specs.Running.{reply_of, after};
+ghost use Rattle.code_region.specs.Keeping.{IsSound};
+
+use crate::commands::{Command, Reply, reply_to_place, reply_to_release};
+use crate::contents::{Content, INT3, erase, write};
+use crate::gaps::{Search, Span, find_place, first_fit};
+use crate::refusals::{NotTaken, OpenError, PlaceError};
+use std::alloc::Global;
+use std::marker::Model;
+
+/// The unit in which places are handed out, in bytes.
+const UNIT: u64 = 16;
+
+/// The greatest multiple of the unit that a `u64` holds.
+const LAST_UNIT: u64 = u64::MAX - (UNIT - 1);
+
+/// The greatest size of a region, in bytes.
+const MAX_SIZE: u64 = 1_048_576;
+
+/// The greatest number of live blocks.
+const MAX_BLOCKS: u64 = 65_536;
+
+/// A fixed range of addresses in which blocks of code find a place.
+///
+/// Each block takes a multiple of 16 bytes at the front of the first gap, by address, that is long enough. Bytes that
+/// are no content of a live block are CC (INT3). All memory is taken by [`Region::make`].
+#[derive(Drop)]
+pub struct Region {
+    base: u64,
+    max_blocks: u64,
+    spans: Vec<Span>,
+    packed: usize,
+    bytes: Vec<u8>,
+}
+
+impl Model for Region {
+    ghost use Rattle.code_region.specs.State.{RegionState};
+    ghost use Rattle.code_region.specs.Keeping.{state_of, IsKept, IsTight};
+    ghost use Rattle.std.specs.Prelude.{vec_capacity};
+
+    ghost Value = { RegionState };
+
+    ghost view = { λ r. state_of r.base r.max_blocks r.bytes.items r.spans.items };
+
+    ghost invariant = { λ r. IsKept r.base r.max_blocks r.bytes.items r.spans.items (vec_capacity r.spans) × IsTight r.packed r.spans.items };
+}
+
+/// Why a region is refused, if it is; memory is another matter.
+fn refusal_of(base: u64, size: u64, max_blocks: u64) -> Option<OpenError>
+    ensures { result ≡ open_refusal base size max_blocks }
+{
+    if size == 0 || size % UNIT != 0 || size > MAX_SIZE {
+        return Some(OpenError::BadSize { size });
+    }
+    if max_blocks == 0 || max_blocks > MAX_BLOCKS {
+        return Some(OpenError::TooManyBlocks { max: max_blocks });
+    }
+    let end = u128::from(base) + u128::from(size);
+    if end > 1 << 64 {
+        return Some(OpenError::Wraps { end });
+    }
+    None
+}
+
+/// A length rounded up to a multiple of the unit; one that rounds to no `u64` counts as the last multiple.
+#[inline]
+fn round_up(len: u64) -> u64
+    ensures { result ≡ rounded len }
+{
+    if len > LAST_UNIT {
+        LAST_UNIT
+    } else {
+        (len + (UNIT - 1)) / UNIT * UNIT
+    }
+}
+
+/// Puts a stretch at its index, where there is room for it.
+fn insert_span(spans: &mut Vec<Span>, index: usize, span: Span)
+    requires inside { index ≤ vec_len spans.old }
+    requires room { vec_len spans.old < vec_capacity spans.old }
+    ensures items { spans.new.items ≡ insert spans.old.items index span }
+    ensures capacity { vec_capacity spans.old ≤ vec_capacity spans.new }
+{
+    match spans.insert(index, span) {
+        Ok(()) => {}
+        Err(_) => unreachable!(),
+    }
+}
+
+impl Region {
+    /// Makes a region of `size` bytes from the address `base` on, with room for `max_blocks` live blocks, and none yet.
+    ///
+    /// Refused, in this order: a size that is 0, no multiple of 16 or above 1,048,576; room for 0 blocks or above
+    /// 65,536; a region that ends behind 2 to the 64th; and at any point where there is no memory.
+    pub fn make(alloc: Global, base: u64, size: u64, max_blocks: u64) -> Result<Region, OpenError>
+        ensures refused { IfSome (open_refusal base size max_blocks) (λ refusal. result ≡ Err refusal) }
+        ensures cause { IfErr result (λ error. (open_refusal base size max_blocks ≡ Some error) ⊎ (error ≡ OpenError.Memory)) }
+        ensures ok { IfOk result (λ region. region ≡ opened base size max_blocks) }
+    {
+        if let Some(refusal) = refusal_of(base, size, max_blocks) {
+            return Err(refusal);
+        }
+        let Ok(bytes) = vec![in alloc; INT3; size as usize] else {
+            return Err(OpenError::Memory);
+        };
+        let Ok(spans) = Vec::with_capacity(alloc, max_blocks as usize) else {
+            return Err(OpenError::Memory);
+        };
+        Ok(Region {
+            base,
+            max_blocks,
+            spans,
+            packed: 0,
+            bytes,
+        })
+    }
+
+    /// Hands out a place for `len` bytes, rounded up to a multiple of 16: the front of the first gap, by address, that
+    /// is so long.
+    ///
+    /// Refused, in this order and with nothing changed: a length of 0; as many live blocks as there is room for; no gap
+    /// of the rounded length.
+    pub fn place(&mut self, len: u64) -> Result<u64, PlaceError>
+        ensures answer { result ≡ place_answer self.old len }
+        ensures state { self.new ≡ placed self.old len }
+        ensures refused { OnErr result (self.new ≡ self.old) }
+    {
+        if len == 0 {
+            return Err(PlaceError::Empty);
+        }
+        if self.spans.len() as u64 == self.max_blocks {
+            return Err(PlaceError::TooManyBlocks {
+                max: self.max_blocks,
+            });
+        }
+        let needed = round_up(len);
+        match first_fit(&self.spans, self.packed, self.bytes.len() as u32, needed) {
+            Search::Found {
+                index,
+                start,
+                packed,
+            } => {
+                let span = Span {
+                    start,
+                    len: needed as u32,
+                };
+                insert_span(&mut self.spans, index, span);
+                self.packed = packed;
+                Ok(self.base + u64::from(start))
+            }
+            Search::Missing { largest } => Err(PlaceError::Full {
+                len: needed,
+                largest: u64::from(largest),
+            }),
+        }
+    }
+
+    /// Ends the live block that starts at `place`, and sets its bytes to CC.
+    ///
+    /// Refused, with nothing changed, exactly where no live block starts there.
+    pub fn release(&mut self, place: u64) -> Result<(), NotTaken>
+        ensures answer { result ≡ release_answer self.old place }
+        ensures state { self.new ≡ released self.old place }
+        ensures refused { OnErr result (self.new ≡ self.old) }
+    {
+        let Some(index) = find_place(&self.spans, self.base, place) else {
+            return Err(NotTaken { place });
+        };
+        let span = self.spans.remove(index);
+        self.packed = self.packed.min(index);
+        erase(&mut self.bytes, span.start as usize, span.len as usize);
+        Ok(())
+    }
+
+    /// Writes `bytes` at the front of the live block that starts at `place`, and CC over the rest of the block.
+    ///
+    /// A live block starts there, and the bytes are no more than its rounded length.
+    pub fn fill(&mut self, place: u64, bytes: &[u8])
+        requires { IsTrue (can_fill self.old place (length bytes.now)) }
+        ensures { self.new ≡ filled self.old place bytes.now }
+    {
+        self.set_content(place, Content::Bytes(bytes));
+    }
+
+    /// Writes `content` at the front of the live block that starts at `place`, and CC over the rest of the block.
+    fn set_content(&mut self, place: u64, content: Content<'_>)
+        requires { IsTrue (can_fill self.old place (length (bytes_of content))) }
+        ensures { self.new ≡ filled self.old place (bytes_of content.entry) }
+    {
+        match find_place(&self.spans, self.base, place) {
+            Some(index) => {
+                let span = self.spans[index];
+                write(
+                    &mut self.bytes,
+                    span.start as usize,
+                    span.len as usize,
+                    content,
+                );
+            }
+            None => unreachable!(),
+        }
+    }
+
+    /// The rounded length of the live block that starts at `place`, if there is one.
+    fn block_len(&self, place: u64) -> Option<u64>
+        ensures { result ≡ option_map len_of (live_block self.now place) }
+    {
+        let index = find_place(&self.spans, self.base, place)?;
+        Some(u64::from(self.spans[index].len))
+    }
+
+    /// Does one command, and answers it.
+    #[tactic(auto, unfolding(crate::specs::Running::reply_of, crate::specs::Running::after))]
+    pub(crate) fn execute(&mut self, command: Command) -> Reply
+        ensures reply { result ≡ reply_of self.old command }
+        ensures state { self.new ≡ after self.old command }
+    {
+        match command {
+            Command::Place { len } => reply_to_place(self.place(len)),
+            Command::Release { place } => reply_to_release(self.release(place)),
+            Command::Fill { place, byte, count } => self.fill_repeated(place, byte, count),
+        }
+    }
+
+    /// Makes the content of the live block that starts at `place` `count` times `byte`, where it fits.
+    fn fill_repeated(&mut self, place: u64, byte: u8, count: u64) -> Reply
+        ensures reply { result ≡ reply_of self.old (Command.Fill place byte count) }
+        ensures state { self.new ≡ after self.old (Command.Fill place byte count) }
+    {
+        match self.block_len(place) {
+            None => Reply::NotLive { place },
+            Some(limit) if limit < count => Reply::TooLong { limit },
+            Some(_) => {
+                let count = count as usize;
+                self.set_content(place, Content::Repeated { byte, count });
+                Reply::Filled
+            }
+        }
+    }
+
+    /// The bytes of the region: the contents of the live blocks, and CC elsewhere.
+    pub fn image(&self) -> &[u8]
+        ensures { result.now ≡ image_of self.now }
+    {
+        &self.bytes
+    }
+
+    /// How many blocks are live.
+    pub fn block_count(&self) -> u64
+        ensures count { result ≡ length self.now.live }
+        ensures sound { IsSound self.now }
+    {
+        self.spans.len() as u64
+    }
+
+    /// The place and the rounded length of the live block of this index, by address.
+    ///
+    /// The index is below [`block_count`](Self::block_count).
+    pub fn block_at(&self, i: u64) -> (u64, u64)
+        requires { i < length self.now.live }
+        ensures { slice_get (map place_and_len self.now.live) i ≡ Some result }
+    {
+        let span = self.spans[i as usize];
+        (self.base + u64::from(span.start), u64::from(span.len))
+    }
+}

@@ -1,0 +1,58 @@
+//! Writing the bytes of one block.
+
+ghost use Rattle.std.specs.Prelude.{◌≡◌, ◌+◌, ◌-◌, ◌≤◌, ◌++◌, length, replicate};
+ghost use Rattle.code_region.specs.Keeping.{overwritten};
+ghost use Rattle.code_region.specs.State.{int3};
+ghost use Rattle.code_region.specs.Contents.{bytes_of};
+
+/// The byte of INT3, which stands wherever no content does.
+pub const INT3: u8 = 0xCC;
+
+/// What a live block is to hold at its front.
+#[derive(Clone, Copy)]
+pub enum Content<'a> {
+    /// These bytes.
+    Bytes(&'a [u8]),
+    /// `count` times `byte`.
+    Repeated { byte: u8, count: usize },
+}
+
+/// Writes INT3 over the `len` bytes from `start` on.
+pub fn erase(image: &mut [u8], start: usize, len: usize)
+    requires { start + len ≤ length image.old }
+    ensures { image.new ≡ overwritten image.old start (replicate len int3) }
+{
+    image[start..start + len].fill(INT3);
+}
+
+/// Writes `content` at `start`, and INT3 over the rest of the `len` bytes from there.
+fn copy(image: &mut [u8], start: usize, len: usize, content: &[u8])
+    requires inside { start + len ≤ length image.old }
+    requires fits { length content.now ≤ len }
+    ensures { image.new ≡ overwritten image.old start (content.now ++ replicate (len - length content.now) int3) }
+{
+    image[start..start + content.len()].copy_from_slice(content);
+    erase(image, start + content.len(), len - content.len());
+}
+
+/// Writes `count` times `byte` at `start`, and INT3 over the rest of the `len` bytes from there.
+fn repeat(image: &mut [u8], start: usize, len: usize, byte: u8, count: usize)
+    requires inside { start + len ≤ length image.old }
+    requires fits { count ≤ len }
+    ensures { image.new ≡ overwritten image.old start (replicate count byte ++ replicate (len - count) int3) }
+{
+    image[start..start + count].fill(byte);
+    erase(image, start + count, len - count);
+}
+
+/// Writes `content` at `start`, and INT3 over the rest of the `len` bytes from there.
+pub fn write(image: &mut [u8], start: usize, len: usize, content: Content<'_>)
+    requires inside { start + len ≤ length image.old }
+    requires fits { length (bytes_of content) ≤ len }
+    ensures { image.new ≡ overwritten image.old start (bytes_of content.entry ++ replicate (len - length (bytes_of content.entry)) int3) }
+{
+    match content {
+        Content::Bytes(bytes) => copy(image, start, len, bytes),
+        Content::Repeated { byte, count } => repeat(image, start, len, byte, count),
+    }
+}

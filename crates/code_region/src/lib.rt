@@ -1,0 +1,18 @@
+//! Places for moved code in a fixed range of addresses.
+//!
+//! A [`Region`] hands out places in units of 16 bytes, each at the front of the first gap by address that is long
+//! enough. Live blocks never overlap, a released place is used again, and each byte that is not content is CC (INT3).
+#![tactic(auto)]
+
+mod blocks;
+mod commands;
+mod contents;
+mod gaps;
+pub mod laws;
+mod refusals;
+#[cfg(test)]
+mod tests;
+
+pub use blocks::Region;
+pub use commands::{Command, Reply, replay};
+pub use refusals::{NotTaken, OpenError, PlaceError};

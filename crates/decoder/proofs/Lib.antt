@@ -1,0 +1,11 @@
+mod Placed
+mod Fronts
+mod ReadingLaws
+mod Scanning
+mod InCell
+mod Moving
+mod FormedRegisters
+mod Formed
+mod ModRmHolds
+mod FieldsHold
+mod Unique

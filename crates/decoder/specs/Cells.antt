@@ -1,0 +1,43 @@
+-- The rows of a cell, and what those say of some bytes that were looked at.
+use Rattle.std.specs.Prelude.{◌≡◌, ℕ, ◌<◌, ◌≤◌, Bool, true, false, List, ◌++◌, length, Some, is_some, IsTrue, slice_get}
+use Rattle.x86_values.specs.declared.Bits.{Bits}
+use Rattle.x86_values.specs.declared.Code.{Code}
+use Rattle.row_types.specs.declared.Row.{Row}
+use Rattle.instruction_parts.specs.declared.spelling.Spelling.{Spelling}
+use Rattle.instruction_parts.specs.declared.spelling.PrefixState.{PrefixState}
+use Rattle.instruction_parts.specs.Sizes.{is_vex_row}
+use Rattle.instruction_parts.specs.Bytes.{bytes_of}
+use Rattle.row_fit.specs.Fits.{fits, opcode_fits}
+use Rattle.row_relation.specs.RowReading.{RowCanGoOn}
+
+-- ---- where a row stands
+
+-- the row has the kind, the map and the opcode byte of the state
+pub record IsPlaced (state : PrefixState) (row : Row) : Type 0 where
+  pub kind : is_vex_row row ≡ is_some state.vex
+  pub map : state.map ≡ row.map
+  pub opcode : opcode_fits row state.opcode ≡ true
+
+-- each row that stands where the state says has a code from first on, up to end
+abbrev pub CellIs : List Row → PrefixState → ℕ → ℕ → Type 0
+CellIs table state first end =
+    (k : ℕ) (row : Row) → slice_get table k ≡ Some row → IsPlaced state row → (first ≤ k) × (k < end)
+
+-- ---- what a row says
+
+-- bytes at the front that are a spelling of the row are more than 15
+abbrev pub RowIsLate : Bits → Row → List ℕ → Type 0
+RowIsLate bits row bytes =
+    (s : Spelling) (rest : List ℕ) → IsTrue (fits bits row s) → bytes ≡ bytes_of row s ++ rest → 15 < length (bytes_of row s)
+
+-- the row has no spelling that a few bytes begin
+abbrev pub RowStops : Bits → Row → List ℕ → Type 0
+RowStops bits row bytes = length bytes < 15 → RowCanGoOn bits row bytes → ⊥
+
+-- ---- what the rows of a cell say
+
+-- the rows with the codes from first up to next read nothing within 15 bytes, and the flag says whether one of them can go on
+pub record Scanned (table : List Row) (bits : Bits) (bytes : List ℕ) (first next : ℕ) (goes_on : Bool) : Type 0 where
+  pub late : (k : ℕ) (row : Row) → first ≤ k → k < next → slice_get table k ≡ Some row → RowIsLate bits row bytes
+  pub stops : goes_on ≡ false → (k : ℕ) (row : Row) → first ≤ k → k < next → slice_get table k ≡ Some row → RowStops bits row bytes
+  pub goes : goes_on ≡ true → (code : Code) × ((row : Row) × ((slice_get table code.0 ≡ Some row) × RowCanGoOn bits row bytes))

@@ -1,0 +1,95 @@
+//! The rows that stand where a front says, and what they read.
+
+ghost use Rattle.std.specs.Prelude.{◌≡◌, ◌+◌, ◌<◌, ◌≤◌, length, is_some, IfOk, IsTrue};
+ghost use Rattle.instruction_parts.specs.Front.{front_of, Known};
+ghost use Rattle.row_relation.specs.Spells.{IsReading};
+ghost use Rattle.row_fields.specs.Holds.{is_vex};
+ghost use Rattle.opcode_rows.specs.Table.{table};
+ghost use Rattle.opcode_rows.specs.Allowed.{is_well_formed};
+ghost use Rattle.decoder.specs.Answer.{reading_of};
+ghost use Rattle.decoder.specs.Cells.{CellIs};
+
+use crate::DecodeError;
+use instruction_parts::PrefixState;
+use modrm_sib::{TailError, read_row};
+use opcode_rows::{ROWS, cell_len, first_of, row};
+use row_types::RowKind;
+use std::sync::ledger::Ledger;
+use step_count::Steps;
+use x86_values::{Bits, Code, Decoded};
+
+/// The most bytes of an instruction (Intel SDM volume 2, 2.3.11).
+const LONGEST: usize = 15;
+
+/// The rows that stand at one opcode byte: the code of the first, and how many they are.
+#[derive(Clone, Copy)]
+pub(crate) struct Cell {
+    first: u16,
+    len: u16,
+}
+
+/// The kind of the rows behind a front.
+#[inline]
+fn kind_of(state: &PrefixState) -> RowKind
+    ensures { is_vex result ≡ is_some state.now.vex }
+{
+    match state.vex {
+        None => RowKind::Legacy,
+        Some(_) => RowKind::Vex,
+    }
+}
+
+/// The rows that have the kind, the map and the opcode byte of a front.
+#[inline]
+pub(crate) fn cell_of(state: &PrefixState) -> Cell
+    ensures within { result.first + result.len ≤ ROWS }
+    ensures rows { CellIs table state.now result.first (result.first + result.len) }
+{
+    let kind = kind_of(state);
+    let opcode = state.opcode;
+    match first_of(kind, state.map, opcode) {
+        None => Cell { first: 0, len: 0 },
+        Some(first) => Cell {
+            first: first.0,
+            len: cell_len(kind, state.map, opcode),
+        },
+    }
+}
+
+/// The reading of bytes whose front is known, by the rows of its cell, one after another. Each row is a step.
+pub(crate) fn scan<L: Ledger>(
+    bits: Bits,
+    ip: u64,
+    state: &PrefixState,
+    bytes: &[u8],
+    cell: Cell,
+    steps: &mut Steps<L>,
+) -> Result<Decoded, DecodeError>
+    requires within { cell.first + cell.len ≤ ROWS }
+    requires rows { CellIs table state.now cell.first (cell.first + cell.len) }
+    requires front { front_of bits bytes.now ≡ Known state.now }
+    ensures reading { IsReading table bits ip bytes.now (reading_of result) }
+    ensures length { IfOk result (λ d. (0 < d.len) × (d.len ≤ 15) × (d.len ≤ length bytes.now)) }
+    ensures form { IfOk result (λ d. IsTrue (is_well_formed d.instr)) }
+    ensures steps { steps.new ≤ steps.old + cell.len }
+{
+    let mut goes_on = false;
+    for n in 0..cell.len {
+        let code = Code(cell.first + n);
+        let row = row(code, steps);
+        match read_row(bits, ip, state, code, &row, bytes) {
+            Ok(decoded) => {
+                if decoded.len as usize <= LONGEST {
+                    return Ok(decoded);
+                }
+            }
+            Err(TailError::Ended) => goes_on = true,
+            Err(TailError::Forbidden) => {}
+        }
+    }
+    if goes_on && bytes.len() < LONGEST {
+        Err(DecodeError::TooShort)
+    } else {
+        Err(DecodeError::Invalid)
+    }
+}

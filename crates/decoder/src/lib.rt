@@ -1,0 +1,21 @@
+//! Reading instructions from bytes (Intel SDM volume 2, chapter 2).
+#![tactic(auto)]
+
+mod cell;
+mod cursor;
+pub mod laws;
+mod reading;
+#[cfg(test)]
+mod tests;
+
+pub use cursor::Decoder;
+pub use reading::decode;
+
+/// Why bytes are not read as an instruction.
+#[derive(Clone, Copy, PartialEq, Eq, Debug)]
+pub enum DecodeError {
+    /// The bytes begin with no instruction, and more bytes behind them make none.
+    Invalid,
+    /// The bytes, fewer than 15, begin with no instruction; they end before their opcode byte, or more bytes behind them make one.
+    TooShort,
+}

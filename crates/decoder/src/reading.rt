@@ -1,0 +1,73 @@
+//! The reading of some bytes.
+
+ghost use Rattle.std.specs.Prelude.{◌≡◌, ◌<◌, ◌≤◌, length, IsTrue, IfOk};
+ghost use Rattle.prefixes.specs.Answer.{is_mode, mode_of};
+ghost use Rattle.row_relation.specs.Spells.{IsReading};
+ghost use Rattle.opcode_rows.specs.Table.{table};
+ghost use Rattle.opcode_rows.specs.Allowed.{is_well_formed};
+ghost use Rattle.opcode_rows.specs.Reading.{IsRead};
+ghost use Rattle.decoder.specs.Answer.{reading_of, IsOnlyReading};
+
+use crate::DecodeError;
+use crate::cell::{cell_of, scan};
+use prefixes::{PrefixError, mode_of, read_front};
+use std::marker::Brand;
+use std::sync::ledger::{Blank, Ledger};
+use step_count::Steps;
+use x86_values::{Bits, Decoded, wrap};
+
+/// The instruction at the front of the bytes, with its length in bytes, 1 to 15.
+///
+/// `BITS` is the mode: 16, 32 or 64. `ip` is the address of the first byte, taken modulo 2 to the number of bits of the mode.
+/// No other instruction and no other length is spelled by the bytes.
+///
+/// `TooShort` where no bytes at the front are an instruction, fewer than 15 are given, and they end before their opcode byte
+/// or more bytes behind them make an instruction. `Invalid` where no bytes at the front are an instruction otherwise
+/// (Intel SDM volume 2, 2.1 to 2.3).
+pub fn decode<const BITS: u32>(ip: u64, bytes: &[u8]) -> Result<Decoded, DecodeError>
+    requires { IsTrue (is_mode BITS) }
+    ensures reading { IsRead (mode_of BITS) ip bytes.now (reading_of result) }
+    ensures length { IfOk result (λ d. (0 < d.len) × (d.len ≤ 15) × (d.len ≤ length bytes.now)) }
+    ensures form { IfOk result (λ d. IsTrue (is_well_formed d.instr)) }
+    ensures alone { IfOk result (λ d. IsOnlyReading (mode_of BITS) ip bytes.now d) }
+{
+    decode_on::<Brand>(Blank::new(1), mode_of::<BITS>(), ip, bytes)
+}
+
+/// The same on a count of its own.
+// A ledger is picked only at a call without const parameters, so the mode is a value here.
+fn decode_on<L: Ledger>(
+    blank: Blank,
+    bits: Bits,
+    ip: u64,
+    bytes: &[u8],
+) -> Result<Decoded, DecodeError>
+    requires name { blank.name ≡ L.name }
+    requires parts { blank.parts ≡ L.parts }
+    requires some { 0 < L.parts }
+    ensures reading { IsRead bits ip bytes.now (reading_of result) }
+    ensures length { IfOk result (λ d. (0 < d.len) × (d.len ≤ 15) × (d.len ≤ length bytes.now)) }
+    ensures form { IfOk result (λ d. IsTrue (is_well_formed d.instr)) }
+    ensures alone { IfOk result (λ d. IsOnlyReading bits ip bytes.now d) }
+{
+    let mut steps = Steps::<L>::open(blank);
+    decode_counting(bits, wrap(bits, u128::from(ip)), bytes, &mut steps)
+}
+
+/// The same, where each row that is looked at is a step.
+fn decode_counting<L: Ledger>(
+    bits: Bits,
+    ip: u64,
+    bytes: &[u8],
+    steps: &mut Steps<L>,
+) -> Result<Decoded, DecodeError>
+    ensures reading { IsReading table bits ip bytes.now (reading_of result) }
+    ensures length { IfOk result (λ d. (0 < d.len) × (d.len ≤ 15) × (d.len ≤ length bytes.now)) }
+    ensures form { IfOk result (λ d. IsTrue (is_well_formed d.instr)) }
+{
+    match read_front(bits, bytes) {
+        Err(PrefixError::Ended) => Err(DecodeError::TooShort),
+        Err(PrefixError::Forbidden) => Err(DecodeError::Invalid),
+        Ok(state) => scan(bits, ip, &state, bytes, cell_of(&state), steps),
+    }
+}

@@ -1,0 +1,249 @@
+use super::*;
+use arrayvec::ArrayVec;
+use byte_ports::{CountSink, FailAt, MemSink, MemSource};
+use std::process::Abort;
+use std::str::from_utf8;
+use std::test::Fail;
+
+const MANY: usize = 16384;
+
+/// Compares what a command line gives for an input.
+fn expect<R: Abort + AllocGlobal>(
+    rt: &R,
+    words: &[&str],
+    input: &[u8],
+    status: Status,
+    written: &str,
+    line: &str,
+) -> Result<(), Fail> {
+    let mut source = MemSource::new(input);
+    let mut out = MemSink::new(rt.alloc(), MANY)?;
+    let mut err = MemSink::new(rt.alloc(), 80)?;
+    let answer = run(rt.alloc(), words, &mut source, &mut out, &mut err);
+    assert_eq!(rt; answer, status, "{words:?}");
+    assert_eq!(rt; from_utf8(out.bytes())?, written, "{words:?}");
+    assert_eq!(rt; from_utf8(err.bytes())?, line, "{words:?}");
+    Ok(())
+}
+
+/// Compares the texts of a listing with these, one line each.
+fn expect_texts<R: Abort + AllocGlobal>(
+    rt: &R,
+    mode: &str,
+    input: &[u8],
+    texts: &str,
+) -> Result<(), Fail> {
+    let mut source = MemSource::new(input);
+    let mut out = MemSink::new(rt.alloc(), MANY)?;
+    let mut err = MemSink::new(rt.alloc(), 80)?;
+    let words = ["list", mode, "0", "intel"];
+    let status = run(rt.alloc(), &words, &mut source, &mut out, &mut err);
+    assert_eq!(rt; status, Status::Done, "{input:?}");
+    let mut found = String::new(rt.alloc());
+    for line in from_utf8(out.bytes())?.lines() {
+        // The text stands behind the address, a space, the 30 places of the bytes and a space.
+        let column = match mode {
+            "16" => 36,
+            "32" => 40,
+            _ => 48,
+        };
+        found.push_str(line.get(column..).unwrap_or("no text"))?;
+        found.push_str("\n")?;
+    }
+    assert_eq!(rt; found.as_str(), texts, "{input:?}");
+    Ok(())
+}
+
+#[test]
+fn a_listing_has_addresses_bytes_and_texts(rt: HostRuntime) -> Result<(), Fail> {
+    expect(
+        &rt,
+        &["list", "64", "7ffac46acda4", "intel"],
+        &[0x48, 0x89, 0x5c, 0x24, 0x10],
+        Status::Done,
+        "00007ffac46acda4 48895c2410                     mov qword [rsp+0x10], rbx\n",
+        "",
+    )?;
+    expect(
+        &rt,
+        &["list", "16", "ffff", "intel"],
+        &[0x90, 0x90],
+        Status::Done,
+        "ffff 90                             nop\n0000 90                             nop\n",
+        "",
+    )?;
+    expect(
+        &rt,
+        &["list", "64", "0", "intel"],
+        &[],
+        Status::Done,
+        "",
+        "",
+    )
+}
+
+#[test]
+fn instructions_and_single_bytes_have_their_texts(rt: HostRuntime) -> Result<(), Fail> {
+    let single = "db 0x66\n";
+    expect_texts(&rt, "64", &[0x66], single)?;
+    expect_texts(&rt, "64", &[0x66, 0x90], "nop\n")?;
+    expect_texts(&rt, "64", &[0x48, 0x66, 0x90], "nop\n")?;
+    expect_texts(&rt, "64", &[0x88, 0xe0], "mov al, ah\n")?;
+    expect_texts(&rt, "64", &[0x40, 0x88, 0xe0], "mov al, spl\n")?;
+    expect_texts(&rt, "32", &[0xc5, 0x00], "lds eax, [eax]\n")?;
+    expect_texts(
+        &rt,
+        "64",
+        &[0xf0, 0x01, 0x00],
+        "lock add dword [rax], eax\n",
+    )?;
+    expect_texts(&rt, "64", &[0xf0, 0x01, 0xc0], "db 0xf0\nadd eax, eax\n")?;
+    expect_texts(&rt, "64", &[0xf0, 0x88], "db 0xf0\ndb 0x88\n")?;
+    expect_texts(&rt, "64", &[0x0f], "db 0xf\n")?;
+    expect_texts(&rt, "16", &[0x8b, 0x00], "mov ax, word [bx+si]\n")?;
+    expect_texts(&rt, "16", &[0x67, 0x8b, 0x00], "mov ax, word [eax]\n")?;
+    expect_texts(&rt, "32", &[0x67, 0x8b, 0x00], "mov eax, dword [bx+si]\n")?;
+    expect_texts(
+        &rt,
+        "64",
+        &[0x64, 0x2e, 0x8b, 0x00],
+        "mov eax, dword fs:[rax]\n",
+    )?;
+    expect_texts(&rt, "64", &[0xf2, 0xf3, 0x90], "pause\n")?;
+    expect_texts(&rt, "64", &[0xf3, 0xf2, 0x90], "repne nop\n")?;
+    expect_texts(
+        &rt,
+        "64",
+        &[0x74, 0xfe, 0x49, 0x89, 0xc0],
+        "je 0x0\nmov r8, rax\n",
+    )
+}
+
+#[test]
+fn an_instruction_has_at_most_fifteen_bytes(rt: HostRuntime) -> Result<(), Fail> {
+    let mut code = [0x66; 16];
+    let fifteen =
+        "db 0x66\ndb 0x66\ndb 0x66\ndb 0x66\ndb 0x66\ndb 0x66\ndb 0x66\ndb 0x66\ndb 0x66\ndb 0x66\ndb 0x66\ndb 0x66\ndb 0x66\ndb 0x66\ndb 0x66\n";
+    expect_texts(&rt, "64", &code[..15], fifteen)?;
+    code[15] = 0x90;
+    expect_texts(&rt, "64", &code[1..], "nop\n")?;
+    expect_texts(&rt, "64", &code, "db 0x66\nnop\n")
+}
+
+#[test]
+fn a_wrong_word_is_named(rt: HostRuntime) -> Result<(), Fail> {
+    for (words, word, line) in [
+        ([].as_slice(), 1, "usage: word 1\n"),
+        (
+            ["lists", "64", "0", "intel"].as_slice(),
+            1,
+            "usage: word 1\n",
+        ),
+        (
+            ["recode", "64", "0", "64", "0"].as_slice(),
+            1,
+            "usage: word 1\n",
+        ),
+        (["list"].as_slice(), 2, "usage: word 2\n"),
+        (["list", "8", "0", "intel"].as_slice(), 2, "usage: word 2\n"),
+        (["--help", "list"].as_slice(), 2, "usage: word 2\n"),
+        (
+            ["list", "16", "10000", "intel"].as_slice(),
+            3,
+            "usage: word 3\n",
+        ),
+        (
+            ["list", "64", "0x10", "intel"].as_slice(),
+            3,
+            "usage: word 3\n",
+        ),
+        (
+            ["list", "64", "00000000000000001", "intel"].as_slice(),
+            3,
+            "usage: word 3\n",
+        ),
+        (["list", "64", "", "intel"].as_slice(), 3, "usage: word 3\n"),
+        (["list", "64", "0"].as_slice(), 4, "usage: word 4\n"),
+        (["list", "64", "0", "att"].as_slice(), 4, "usage: word 4\n"),
+        (
+            ["list", "64", "0", "intel", "intel"].as_slice(),
+            5,
+            "usage: word 5\n",
+        ),
+    ] {
+        expect(&rt, words, &[0x90], Status::Usage { word }, "", line)?;
+    }
+    expect(
+        &rt,
+        &["--version"],
+        &[0x90],
+        Status::Done,
+        "feddurzai 0.1.0\n",
+        "",
+    )
+}
+
+/// A list of calls at which a port fails.
+fn at(call: u64) -> ArrayVec<u64, 8> {
+    let mut calls = ArrayVec::new();
+    calls.push(call);
+    calls
+}
+
+#[test]
+fn a_port_that_fails_ends_the_run(rt: HostRuntime) -> Result<(), Fail> {
+    let words = ["list", "64", "0", "intel"];
+    let code = [0x90, 0x90];
+
+    let mut source = FailAt::new(MemSource::new(&code), at(2));
+    let mut out = MemSink::new(rt.alloc(), MANY)?;
+    let mut err = MemSink::new(rt.alloc(), 80)?;
+    let status = run(rt.alloc(), &words, &mut source, &mut out, &mut err);
+    assert_eq!(rt; (status, status_number(&status)), (Status::ReadFault, 3));
+    assert_eq!(rt; out.bytes(), b"".as_slice());
+    assert_eq!(rt; err.bytes(), b"read fault\n".as_slice());
+
+    let mut source = MemSource::new(&code);
+    let mut out = FailAt::new(MemSink::new(rt.alloc(), MANY)?, at(1));
+    let mut err = MemSink::new(rt.alloc(), 80)?;
+    let status = run(rt.alloc(), &words, &mut source, &mut out, &mut err);
+    assert_eq!(rt; (status, status_number(&status)), (Status::WriteFault, 4));
+    assert_eq!(rt; out.inner().bytes(), b"".as_slice());
+    assert_eq!(rt; err.bytes(), b"write fault\n".as_slice());
+
+    // A sink with less room takes a part of the listing and then fails.
+    let mut source = MemSource::new(&code);
+    let mut out = MemSink::new(rt.alloc(), 60)?;
+    let mut err = FailAt::new(MemSink::new(rt.alloc(), 80)?, at(1));
+    let status = run(rt.alloc(), &words, &mut source, &mut out, &mut err);
+    assert_eq!(rt; status, Status::WriteFault);
+    assert_eq!(rt;
+        out.bytes(),
+        b"0000000000000000 90                             nop\n00000000".as_slice()
+    );
+    assert_eq!(rt; err.inner().bytes(), b"".as_slice());
+    Ok(())
+}
+
+#[test]
+fn the_input_has_a_limit(rt: HostRuntime) -> Result<(), Fail> {
+    let words = ["list", "64", "0", "intel"];
+    let mut flood = Vec::new(rt.alloc());
+    flood.resize(16_777_217, 0x90)?;
+    let mut source = MemSource::new(&flood);
+    let mut out = CountSink::new();
+    let mut err = MemSink::new(rt.alloc(), 80)?;
+    let status = run(rt.alloc(), &words, &mut source, &mut out, &mut err);
+    assert_eq!(rt; status, Status::TooLarge { limit: 16_777_216 });
+    assert_eq!(rt; status_number(&status), 6);
+    assert_eq!(rt; out.count(), 0);
+    assert_eq!(rt; err.bytes(), b"input over 16777216 bytes\n".as_slice());
+
+    let mut prefixes = Vec::new(rt.alloc());
+    prefixes.resize(65536, 0x66)?;
+    let mut source = MemSource::new(&prefixes);
+    let status = run(rt.alloc(), &words, &mut source, &mut out, &mut err);
+    assert_eq!(rt; status, Status::Done);
+    assert_eq!(rt; out.count(), 3_670_016);
+    Ok(())
+}

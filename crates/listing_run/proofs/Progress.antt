@@ -1,0 +1,136 @@
+-- How far a listing has come: the lines of the items so far went to the sink or are held back.
+use Rattle.std.proofs.Common.{◌≡◌, ℕ, ◌+◌, ◌-◌, ◌<◌, ◌≤◌, List, [], ◌∷◌, ◌++◌, length, take, drop, Option, Result, Ok, Err, IfOk, refl, sym, ap, ◌∙◌, subst, arith, append_assoc, append-nil}
+use Rattle.std.proofs.lemmas.List.{length-drop, drop-drop, flat_map_more}
+use Rattle.std.proofs.Math.ListN.{drop_of_length-le}
+use Rattle.std.proofs.Math.Seq.{take-append-add}
+use Rattle.byte_ports.specs.Ports.{with_back}
+use Rattle.x86_values.specs.declared.Bits.{Bits}
+use Rattle.x86_values.specs.declared.Decoded.{Decoded}
+use Rattle.decoder.specs.declared.DecodeError.{DecodeError}
+use Rattle.decoder.specs.declared.DecodeError.TheVariants.{Invalid as InvalidError, TooShort as TooShortError}
+use Rattle.decoder.specs.Answer.{reading_of}
+use Rattle.sweep_text.specs.Sweep.{Item, IsItemAt, Sweeps, item_len}
+use Rattle.sweep_text.specs.Listing.{item_line, listing}
+use Rattle.listing_run.specs.Writing.{HoldsFront, Moves}
+use Rattle.listing_run.specs.Steps.{WritesItem}
+use Rattle.listing_run.specs.Outcome.{WritesListing, WritesListingFront}
+use Rattle.listing_run.proofs.Appending.{with_back-nil, with_back-append}
+
+-- one more item behind the first items of a sweep
+sweeps-append : (bits : Bits) (base offset at : ℕ) (bytes : List ℕ) (items : List Item) (rest : List ℕ) (item : Item) →
+    Sweeps bits base offset bytes items rest → offset + length bytes ≡ at + length rest →
+    IsItemAt bits base at rest item →
+    Sweeps bits base offset bytes (items ++ item ∷ []) (drop (item_len item.reading) rest)
+sweeps-append bits base offset at bytes [] rest item same place is_at =
+    let there : offset ≡ at = omega (arith, ap length same) in
+    let P : ℕ → Type 0 = λ n. IsItemAt bits base n bytes item in
+    let Q : List ℕ → Type 0 = λ xs. IsItemAt bits base at xs item in
+    (subst P (sym there) (subst Q (sym same) is_at), ap (drop (item_len item.reading)) same)
+sweeps-append bits base offset at bytes (first ∷ items) rest item sweeps place is_at =
+    let within = sweeps.0.within in
+    let place' : offset + item_len first.reading + length (drop (item_len first.reading) bytes) ≡ at + length rest
+        = omega (arith, length-drop (item_len first.reading) bytes) in
+    (sweeps.0, sweeps-append bits base (offset + item_len first.reading) at (drop (item_len first.reading) bytes) items rest item sweeps.1 place' is_at)
+
+pub record Progress (bits : Bits) (base : ℕ) (input : List ℕ) (at : ℕ) (start held : Option (List ℕ)) (pending : List ℕ) : Type 0 where
+  pub items : List Item
+  pub written : List ℕ
+  pub within : at ≤ length input
+  pub sweeps : Sweeps bits base 0 input items (drop at input)
+  pub held_is : held ≡ with_back start written
+  pub joined : written ++ pending ≡ listing bits base items
+
+-- before the first item
+pub progress-start : (bits : Bits) (base : ℕ) (input : List ℕ) (start : Option (List ℕ)) (pending : List ℕ) → pending ≡ [] →
+    Progress bits base input 0 start start pending
+progress-start bits base input start pending empty = record {
+  items = [];
+  written = [];
+  within = omega arith;
+  sweeps = refl;
+  held_is = sym (with_back-nil start);
+  joined = empty;
+}
+
+-- one more item
+pub progress-step : (bits : Bits) (base : ℕ) (input : List ℕ) (at : ℕ) (start held held' : Option (List ℕ)) (before after : List ℕ) (count : ℕ) →
+    at < length input → Progress bits base input at start held before →
+    WritesItem bits base at (drop at input) held held' before after count →
+    Progress bits base input (at + count) start held' after
+progress-step bits base input at start held held' before after count lt p w =
+    let within = w.is_at.within in
+    let count_is = w.count_is in
+    let moves = w.moves in
+    let place : 0 + length input ≡ at + length (drop at input) = omega (arith, length-drop at input) in
+    let swept = sweeps-append bits base 0 at input p.items (drop at input) w.item p.sweeps place w.is_at in
+    let rest : drop (item_len w.item.reading) (drop at input) ≡ drop (at + count) input
+        = rw count_is (drop-drop (item_len w.item.reading) at input) in
+    let R : List ℕ → Type 0 = λ xs. Sweeps bits base 0 input (p.items ++ w.item ∷ []) xs in
+    record {
+      items = p.items ++ w.item ∷ [];
+      written = p.written ++ moves.written;
+      within = omega (arith, length-drop at input);
+      sweeps = subst R rest swept;
+      held_is = moves.held_is ∙ (ap (λ (h : Option (List ℕ)). with_back h moves.written) p.held_is ∙ with_back-append start p.written moves.written);
+      joined =
+        append_assoc p.written moves.written after
+        ∙ (ap (λ (xs : List ℕ). p.written ++ xs) moves.joined
+        ∙ (sym (append_assoc p.written before (item_line bits base w.item))
+        ∙ (ap (λ (xs : List ℕ). xs ++ item_line bits base w.item) p.joined
+        ∙ added p.items w.item)));
+    }
+  where
+  added : (items : List Item) (item : Item) → listing bits base items ++ item_line bits base item ≡ listing bits base (items ++ item ∷ [])
+  added items item = flat_map_more (item_line bits base) [] items item
+
+-- the whole listing
+pub progress-end : (bits : Bits) (base : ℕ) (input : List ℕ) (at : ℕ) (start held held' : Option (List ℕ)) (pending : List ℕ) →
+    length input ≤ at → Progress bits base input at start held pending → held' ≡ with_back held pending →
+    WritesListing bits base input start held'
+progress-end bits base input at start held held' pending le p all =
+    let R : List ℕ → Type 0 = λ xs. Sweeps bits base 0 input p.items xs in
+    record {
+      items = p.items;
+      sweep = subst R (drop_of_length-le input le) p.sweeps;
+      written =
+        all
+        ∙ (ap (λ (h : Option (List ℕ)). with_back h pending) p.held_is
+        ∙ (with_back-append start p.written pending ∙ ap (with_back start) p.joined));
+    }
+
+-- a failure while text is held back
+pub progress-failed : (bits : Bits) (base : ℕ) (input : List ℕ) (at : ℕ) (start held held' : Option (List ℕ)) (pending : List ℕ) →
+    Progress bits base input at start held pending → HoldsFront held held' pending →
+    WritesListingFront bits base input start held'
+progress-failed bits base input at start held held' pending p front =
+    let part = take front.0 pending in
+    record {
+      items = p.items;
+      sweep = (drop at input, p.sweeps);
+      written = (
+        length p.written + front.0,
+        front.1
+        ∙ (ap (λ (h : Option (List ℕ)). with_back h part) p.held_is
+        ∙ (with_back-append start p.written part
+        ∙ ap (with_back start) (sym (take-append-add p.written pending front.0) ∙ ap (take (length p.written + front.0)) p.joined))),
+      );
+    }
+
+-- a line behind what is held back, after some of that was written
+pub moves-line : (held held' : Option (List ℕ)) (before between after line : List ℕ) → Moves held held' before between [] →
+    after ≡ between ++ line → Moves held held' before after line
+moves-line held held' before between after line moves e = record {
+  written = moves.written;
+  held_is = moves.held_is;
+  joined =
+    ap (λ (xs : List ℕ). moves.written ++ xs) e
+    ∙ (sym (append_assoc moves.written between line)
+    ∙ ap (λ (xs : List ℕ). xs ++ line) (moves.joined ∙ append-nil before));
+}
+
+-- an item takes some of the bytes
+pub item_within : (r : Result Decoded DecodeError) (n : ℕ) → IfOk r (λ d. (0 < d.len) × (d.len ≤ 15) × (d.len ≤ n)) → 0 < n →
+    (item_len (reading_of r) ≤ n) × (0 < item_len (reading_of r))
+item_within (Ok d) n sized some = (sized.2, sized.0)
+item_within (Err InvalidError) n sized some = (omega arith, omega arith)
+item_within (Err TooShortError) n sized some = (omega arith, omega arith)

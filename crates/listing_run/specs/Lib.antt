@@ -1,0 +1,7 @@
+pub mod Words
+pub mod StatusLine
+pub mod Writing
+pub mod Outcome
+pub mod Texts
+pub mod Reads
+pub mod Steps

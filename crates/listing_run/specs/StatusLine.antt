@@ -1,0 +1,27 @@
+-- The number of a status, and its line on standard error.
+use Rattle.std.specs.Prelude.{ℕ, List, [], ◌++◌, codes, decimal}
+use Rattle.listing_run.specs.declared.status.Status.{Status}
+use Rattle.listing_run.specs.declared.status.Status.TheVariants.{Done, Usage, BadCode, ReadFault, WriteFault, Memory, TooLarge, Wraps, TooFar, RegionFull, TooMany}
+
+-- the exit number of a status
+abbrev pub status_number : Status → ℕ
+status_number Done = 0
+status_number (Usage _) = 1
+status_number (BadCode _ _) = 2
+status_number ReadFault = 3
+status_number WriteFault = 4
+status_number Memory = 5
+status_number (TooLarge _) = 6
+status_number (Wraps _) = 7
+status_number (TooFar _ _) = 8
+status_number (RegionFull _ _) = 9
+status_number (TooMany _) = 10
+
+-- the line of a status; Done has none, nor have the statuses that no command answers yet
+unfoldable pub status_line : Status → List ℕ
+status_line (Usage word) = codes "usage: word " ++ decimal word ++ codes "\n"
+status_line ReadFault = codes "read fault\n"
+status_line WriteFault = codes "write fault\n"
+status_line Memory = codes "out of memory\n"
+status_line (TooLarge limit) = codes "input over " ++ decimal limit ++ codes " bytes\n"
+status_line _ = []

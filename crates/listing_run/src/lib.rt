@@ -1,0 +1,12 @@
+//! The program's one call: it does what the words of a command line ask for, between a source and two sinks.
+#![tactic(auto)]
+
+mod input;
+mod listing;
+mod output;
+mod program;
+mod status;
+mod words;
+
+pub use program::run;
+pub use status::{Status, status_number};

@@ -1,0 +1,131 @@
+//! The call of the program.
+
+ghost use Rattle.std.specs.Prelude.{◌≡◌, ◌↔◌, ◌≤◌, ℕ, List, Option};
+ghost use Rattle.byte_ports.specs.Ports.{Rose};
+ghost use Rattle.listing_run.specs.Words.{command_of, texts};
+ghost use Rattle.listing_run.specs.StatusLine.{status_line};
+ghost use Rattle.listing_run.specs.Writing.{Says};
+ghost use Rattle.listing_run.specs.Texts as text;
+ghost use Rattle.listing_run.specs.Outcome.{RunsAs, ListsAs, WritesAs, Reads, IsWrong, Completes};
+ghost use Rattle.listing_run.specs.declared.words.Command.TheVariants.{Wrong};
+
+use crate::input::{INPUT_LIMIT, ReadError, read_all};
+use crate::listing::write_listing;
+use crate::output::{put_all, say};
+use crate::status::{Status, status_line};
+use crate::words::{Command, command_of};
+use byte_ports::{Sink, Source};
+use std::alloc::Global;
+use x86_values::Bits;
+
+/// What `--help` writes.
+#[tactic(auto, unfolding(crate::specs::Texts::help_text))]
+fn help_text() -> &'static [u8]
+    ensures { result.now ≡ text.help_text }
+{
+    b"usage: listing_program list BITS BASE intel\n       listing_program --help\n       listing_program --version\n\nlist writes one line for each instruction of the machine code on standard input.\nBITS is 16, 32 or 64. BASE is the address of the first byte: 1 to 16 hexadecimal\ndigits below 2 to the power of BITS.\n"
+}
+
+/// What `--version` writes.
+#[tactic(auto, unfolding(crate::specs::Texts::version_text))]
+fn version_text() -> &'static [u8]
+    ensures { result.now ≡ text.version_text }
+{
+    b"feddurzai 0.1.0\n"
+}
+
+/// Writes a text that needs no input.
+fn write_text<K: Sink>(text: &[u8], out: &mut K) -> Status
+    ensures answer { WritesAs text.now (K.held out.old) (K.held out.new) (Rose (K.faults out.old) (K.faults out.new)) result }
+{
+    match put_all(out, text) {
+        Ok(()) => Status::Done,
+        Err(_) => Status::WriteFault,
+    }
+}
+
+/// Lists the source as code of a mode.
+#[tactic(auto, unfolding(crate::specs::Outcome::input_limit))]
+fn list<S: Source, K: Sink>(
+    alloc: Global,
+    bits: Bits,
+    base: u64,
+    source: &mut S,
+    out: &mut K,
+) -> Status
+    ensures answer { ListsAs bits base (S.left source.old) (S.left source.new) (K.held out.old) (K.held out.new)
+        (Rose (S.faults source.old) (S.faults source.new)) (Rose (K.faults out.old) (K.faults out.new)) result }
+{
+    let input = match read_all(alloc, source) {
+        Ok(input) => input,
+        Err(ReadError::Fault) => return Status::ReadFault,
+        Err(ReadError::Memory) => return Status::Memory,
+        Err(ReadError::TooLarge) => return Status::TooLarge {
+            limit: INPUT_LIMIT as u64,
+        },
+    };
+    match write_listing(bits, base, &input, out) {
+        Ok(()) => Status::Done,
+        Err(_) => Status::WriteFault,
+    }
+}
+
+/// Does what a command asks for.
+fn answer<S: Source, K: Sink>(
+    alloc: Global,
+    command: Command,
+    source: &mut S,
+    out: &mut K,
+) -> Status
+    ensures answer { RunsAs command (S.left source.old) (S.left source.new) (K.held out.old) (K.held out.new)
+        (Rose (S.faults source.old) (S.faults source.new)) (Rose (K.faults out.old) (K.faults out.new)) result }
+    ensures unread { (Reads command → ⊥) → source.new ≡ source.old }
+    ensures unwritten { IsWrong command → out.new ≡ out.old }
+{
+    match command {
+        Command::Help => write_text(help_text(), out),
+        Command::Version => write_text(version_text(), out),
+        Command::List { bits, base } => list(alloc, bits, base, source, out),
+        Command::Wrong { word } => Status::Usage { word },
+    }
+}
+
+/// Does what the words of a command line ask for.
+///
+/// `words` are those behind the program's name. `list BITS BASE intel` reads `source` to its end and writes the listing
+/// to `out`, where `BITS` is `16`, `32` or `64` and `BASE` the address of the first byte in 1 to 16 hexadecimal digits,
+/// below 2 to the power of `BITS`. `--help` and `--version` write a text and read nothing. Each status other than `Done`
+/// has a line that is written to `err`.
+pub fn run<S: Source, K: Sink, E: Sink>(
+    alloc: Global,
+    words: &[&str],
+    source: &mut S,
+    out: &mut K,
+    err: &mut E,
+) -> Status
+    // Each status comes only with its cause, and what stands in `out` after it.
+    ensures answer { RunsAs (command_of (texts words.now)) (S.left source.old) (S.left source.new)
+        (K.held out.old) (K.held out.new)
+        (Rose (S.faults source.old) (S.faults source.new)) (Rose (K.faults out.old) (K.faults out.new)) result }
+
+    // A port's fault is told only where its count rose, and nothing is written before any other refusal.
+    ensures read_fault { result ≡ Status.ReadFault → Rose (S.faults source.old) (S.faults source.new) }
+    ensures write_fault { result ≡ Status.WriteFault → Rose (K.faults out.old) (K.faults out.new) }
+    ensures refused { (result ≡ Status.Done → ⊥) → (result ≡ Status.WriteFault → ⊥) → K.held out.new ≡ K.held out.old }
+
+    // The number of the first word that is not allowed, missing or too many. Nothing is read or written then.
+    ensures usage { (word : ℕ) → (result ≡ Status.Usage word) ↔ (command_of (texts words.now) ≡ Wrong word) }
+    ensures unread { (Reads (command_of (texts words.now)) → ⊥) → source.new ≡ source.old }
+    ensures unwritten { IsWrong (command_of (texts words.now)) → out.new ≡ out.old }
+
+    // Where no port fails the command is done, within the limit of its input; a listing may want memory.
+    ensures complete { (Rose (S.faults source.old) (S.faults source.new) → ⊥) → (Rose (K.faults out.old) (K.faults out.new) → ⊥)
+        → Completes (command_of (texts words.now)) (S.left source.old) result }
+
+    // The line of the status, whole where `err` does not fail.
+    ensures err { Says (E.held err.old) (E.held err.new) (status_line result) (Rose (E.faults err.old) (E.faults err.new)) }
+{
+    let status = answer(alloc, command_of(words), source, out);
+    say(err, &status_line(&status));
+    status
+}

@@ -1,0 +1,82 @@
+//! What stands behind the opcode byte, read: ModRM, SIB, displacement and immediates
+//! (Intel SDM volume 2, 2.1.3 to 2.1.5).
+#![tactic(auto)]
+
+ghost use Rattle.std.specs.Prelude.{◌≡◌, ◌<◌, ◌≤◌, IsTrue, length, IfOk};
+ghost use Rattle.instruction_parts.specs.Front.{front_of, Known};
+ghost use Rattle.prefixes.specs.Answer.{is_mode, mode_of};
+ghost use Rattle.row_fit.specs.Sound.{sound};
+ghost use Rattle.row_relation.specs.RowReading.{RowReads, RowReadsNothing, RowCanGoOn};
+
+mod ends;
+mod parts;
+mod read;
+#[cfg(test)]
+mod tests;
+
+use instruction_parts::PrefixState;
+pub use parts::{modrm_of_byte, sib_of_byte};
+use prefixes::mode_of;
+use row_types::Row;
+use x86_values::{Bits, Code, Decoded};
+
+/// Why no tail of a row is read from some bytes.
+#[derive(Clone, Copy, PartialEq, Eq, Debug)]
+pub enum TailError {
+    /// The bytes end, and more bytes behind them make a spelling of the row.
+    Ended,
+    /// No bytes that begin so are a spelling of the row.
+    Forbidden,
+}
+
+/// The instruction of a row whose front these bytes have, with its length in bytes, in a mode that is given as a value.
+///
+/// `state` is the front of `bytes`, and `ip` the address of their first byte.
+/// The length may be above 15: the bound on an instruction is the caller's.
+pub fn read_row(
+    bits: Bits,
+    ip: u64,
+    state: &PrefixState,
+    code: Code,
+    row: &Row,
+    bytes: &[u8],
+) -> Result<Decoded, TailError>
+    requires sound { IsTrue (sound row.now) }
+    requires front { front_of bits bytes.now ≡ Known state.now }
+    ensures ok { IfOk result (λ d. RowReads bits ip code row.now bytes.now d) }
+    ensures len { IfOk result (λ d. (0 < d.len) × (d.len < 64) × (d.len ≤ length bytes.now)) }
+    ensures ended { result ≡ Err TailError.Ended
+        → RowReadsNothing bits row.now bytes.now × RowCanGoOn bits row.now bytes.now }
+    ensures forbidden { result ≡ Err TailError.Forbidden
+        → RowReadsNothing bits row.now bytes.now × (RowCanGoOn bits row.now bytes.now → ⊥) }
+{
+    let (_, tail) = bytes.split_at(state.used as usize + 1);
+    read::read_tail(bits, ip, state, code, row, tail)
+}
+
+/// The instruction of a row whose front these bytes have, with its length in bytes.
+///
+/// `BITS` is 16, 32 or 64. `state` is the front of `bytes`, for which an `Ok` of `read_prefixes` is the test, and `ip`
+/// the address of their first byte. The length may be above 15: the bound on an instruction is the caller's.
+///
+/// `Ended` comes exactly where the bytes end inside the tail and some tail that begins so fits the row, and `Forbidden`
+/// exactly where no tail that begins so does (Intel SDM volume 2, 2.1.3 to 2.1.5, 2.2.1 and 2.3.5 to 2.3.12).
+pub fn read_operands<const BITS: u32>(
+    ip: u64,
+    state: &PrefixState,
+    code: Code,
+    row: &Row,
+    bytes: &[u8],
+) -> Result<Decoded, TailError>
+    requires mode { IsTrue (is_mode BITS) }
+    requires sound { IsTrue (sound row.now) }
+    requires front { front_of (mode_of BITS) bytes.now ≡ Known state.now }
+    ensures ok { IfOk result (λ d. RowReads (mode_of BITS) ip code row.now bytes.now d) }
+    ensures len { IfOk result (λ d. (0 < d.len) × (d.len < 64) × (d.len ≤ length bytes.now)) }
+    ensures ended { result ≡ Err TailError.Ended
+        → RowReadsNothing (mode_of BITS) row.now bytes.now × RowCanGoOn (mode_of BITS) row.now bytes.now }
+    ensures forbidden { result ≡ Err TailError.Forbidden
+        → RowReadsNothing (mode_of BITS) row.now bytes.now × (RowCanGoOn (mode_of BITS) row.now bytes.now → ⊥) }
+{
+    read_row(mode_of::<BITS>(), ip, state, code, row, bytes)
+}

@@ -1,0 +1,387 @@
+-- The notation of each proper shape is a text of the languages.
+use Rattle.std.proofs.Common.{◌≡◌, inl, inr, ℕ, ◌+◌, ◌*◌, ◌/◌, ◌%◌, ◌<◌, List, [], ◌∷◌, ◌++◌, refl, sym, ap, ◌∙◌, subst, arith, Bool, true, false, ◌&&◌, ◌||◌, not, ◌==◌, nat_lt, nat_le, Some}
+use Rattle.std.proofs.lemmas.Bool.{eqb-true}
+use Rattle.std.proofs.lemmas.List.{append-nil}
+use Rattle.row_types.specs.declared.RowKind.{RowKind}
+use Rattle.row_types.specs.declared.RowKind.TheVariants.{Legacy, Vex}
+use Rattle.row_types.specs.declared.Map.{Map}
+use Rattle.row_types.specs.declared.Map.TheVariants as map
+use Rattle.row_types.specs.declared.Class.{Class}
+use Rattle.row_types.specs.declared.Class.TheVariants as class
+use Rattle.row_types.specs.declared.ModRmRule.{ModRmRule}
+use Rattle.row_types.specs.declared.ModRmRule.TheVariants as rule
+use Rattle.row_types.specs.declared.WBit.{WBit}
+use Rattle.row_types.specs.declared.WBit.TheVariants as wbit
+use Rattle.row_types.specs.declared.LBit.{LBit}
+use Rattle.row_types.specs.declared.LBit.TheVariants as lbit
+use Rattle.row_types.specs.declared.SizeWord.{SizeWord}
+use Rattle.row_types.specs.declared.SizeWord.TheVariants as word
+use Rattle.row_types.specs.declared.PlusWord.{PlusWord}
+use Rattle.row_types.specs.declared.PlusWord.TheVariants as added
+use Rattle.row_types.specs.declared.ImmWord.{ImmWord}
+use Rattle.row_types.specs.declared.ImmWord.TheVariants as imm
+use Rattle.row_types.specs.declared.RowShape.{RowShape}
+use Rattle.row_notation.specs.Shape.{is_opcode_of_map, is_rule_in_range, is_stack_proper, is_no_l, is_no_w, is_four_bits, is_no_size_word, is_no_plus_word, is_fixed, is_map_one, is_vex_class, is_legacy_proper, is_vex_proper, is_proper}
+use Rattle.row_notation.specs.Notation.{class_text, size_text, map_text, digit_text, byte_text, plus_text, stack_text, modrm_text, imm_text, l_text, pp_text, vex_map_text, w_text, modrm_part, opcode_part, legacy_text, vex_text, notation}
+use Rattle.row_notation.specs.Texts.{IsTextOf}
+use Rattle.row_notation.specs.Reading.{imm_words, plus_words, maps, size_words, classes, w_words, vex_maps, vex_classes, l_words, blank}
+use Rattle.row_notation.proofs.Languages.{Language, word_then, one_of}
+use Rattle.row_notation.proofs.Grammar.{ends, imm_texts, stack_texts, any_digit, register_digit, modrm_texts, plus_texts, opcode_digit, opcode_texts, map_texts, size_texts, class_texts, w_texts, vex_map_texts, pp_texts, vex_texts, all_texts}
+use Rattle.row_notation.proofs.Parts.{full, before_modrm, and-left, and-right, and-both, choose, nth, imm_allowed, fixed_allowed, plus_allowed, opcode_allowed}
+
+imm-at : (k : RowKind) (shape : RowShape) (n : ℕ) (i : ImmWord) → nth (imm_words k) n ≡ Some i
+    → one_of (imm_words k) (λ x. word_then (imm_text x) (ends (record shape { imm = x }))) (imm_text i) (record shape { imm = i })
+imm-at k shape n i e = choose (imm_words k) n i (λ x. word_then (imm_text x) (ends (record shape { imm = x }))) (imm_text i) (record shape { imm = i }) e
+    ([], sym (append-nil (imm_text i)), (refl, refl))
+
+imm-complete : (k : RowKind) (shape : RowShape) (i : ImmWord) → k ≡ shape.kind → imm_allowed k i ≡ true → one_of (imm_words k) (λ x. word_then (imm_text x) (ends (record shape { imm = x }))) (imm_text i) (record shape { imm = i })
+imm-complete Legacy shape imm.None e h = imm-at Legacy shape 0 imm.None refl
+imm-complete Legacy shape imm.Ib e h = imm-at Legacy shape 1 imm.Ib refl
+imm-complete Legacy shape imm.Iw e h = imm-at Legacy shape 2 imm.Iw refl
+imm-complete Legacy shape imm.Id e h = imm-at Legacy shape 3 imm.Id refl
+imm-complete Legacy shape imm.Io e h = imm-at Legacy shape 4 imm.Io refl
+imm-complete Legacy shape imm.Cb e h = imm-at Legacy shape 5 imm.Cb refl
+imm-complete Legacy shape imm.Cw e h = imm-at Legacy shape 6 imm.Cw refl
+imm-complete Legacy shape imm.Cd e h = imm-at Legacy shape 7 imm.Cd refl
+imm-complete Legacy shape imm.Cp e h = imm-at Legacy shape 8 imm.Cp refl
+imm-complete Legacy shape imm.IwIb e h = imm-at Legacy shape 9 imm.IwIb refl
+imm-complete Legacy shape imm.Is4 e h = absurd cc
+imm-complete Vex shape imm.None e h = imm-at Vex shape 0 imm.None refl
+imm-complete Vex shape imm.Ib e h = imm-at Vex shape 1 imm.Ib refl
+imm-complete Vex shape imm.Iw e h = imm-at Vex shape 2 imm.Iw refl
+imm-complete Vex shape imm.Id e h = imm-at Vex shape 3 imm.Id refl
+imm-complete Vex shape imm.Io e h = imm-at Vex shape 4 imm.Io refl
+imm-complete Vex shape imm.Cb e h = imm-at Vex shape 5 imm.Cb refl
+imm-complete Vex shape imm.Cw e h = imm-at Vex shape 6 imm.Cw refl
+imm-complete Vex shape imm.Cd e h = imm-at Vex shape 7 imm.Cd refl
+imm-complete Vex shape imm.Cp e h = imm-at Vex shape 8 imm.Cp refl
+imm-complete Vex shape imm.IwIb e h = imm-at Vex shape 9 imm.IwIb refl
+imm-complete Vex shape imm.Is4 e h = imm-at Vex shape 10 imm.Is4 refl
+
+-- the immediates of a shape are a text of theirs
+pub imm-text : (shape : RowShape) (i : ImmWord) → imm_allowed shape.kind i ≡ true → imm_texts shape (imm_text i) (record shape { imm = i })
+imm-text shape i h = imm-complete shape.kind shape i refl h
+
+stack-complete : (shape : RowShape) (b : ℕ) (st : Bool) (i : ImmWord) → (not st || b % 8 == 0) ≡ true → imm_allowed shape.kind i ≡ true
+    → stack_texts shape b (stack_text st ++ imm_text i) (record shape { stack = st; imm = i })
+stack-complete shape b false i proper h = inl (imm-text (record shape { stack = false }) i h)
+stack-complete shape b true i proper h = inr (eqb-true (b % 8) 0 proper, (imm_text i, refl, imm-text (record shape { stack = true }) i h))
+
+-- the digits of a byte
+pub high-small : (b : ℕ) → b < 256 → b / 16 < 16
+high-small b h = omega arith
+
+pub low-small : (b : ℕ) → b % 16 < 16
+low-small b = omega arith
+
+pub whole-byte : (b : ℕ) → (b / 16) * 16 + b % 16 ≡ b
+whole-byte b = omega arith
+
+octal-test : (d : ℕ) → nat_lt d 8 ≡ true → d < 16
+octal-test d e = grind arith
+
+register-test : (b : ℕ) → (nat_le 0xC0 b && nat_lt b 256) ≡ true → register_digit (b / 16) ≡ true
+register-test b e = grind arith
+
+byte-small : (b : ℕ) → (nat_le 0xC0 b && nat_lt b 256) ≡ true → b < 256
+byte-small b e = grind arith
+
+low-test : (b : ℕ) → any_digit (b % 16) ≡ true
+low-test b = grind arith
+
+high-test : (b : ℕ) → b < 256 → any_digit (b / 16) ≡ true
+high-test b h = grind arith
+
+-- from ModRM on
+modrm-complete : (k : RowKind) (m : Map) (c : Class) (z : SizeWord) (b : ℕ) (p : PlusWord) (l : LBit) (w : WBit) (r : ModRmRule) (st : Bool) (i : ImmWord)
+    → is_rule_in_range r ≡ true → is_stack_proper r st ≡ true → fixed_allowed k r ≡ true → imm_allowed k i ≡ true
+    → modrm_texts (before_modrm k m c z b p l w) (modrm_text r ++ (stack_text st ++ imm_text i)) (full k m c z b p l w r st i)
+unfolding is_rule_in_range is_stack_proper
+modrm-complete k m c z b p l w rule.No true i range stack fixed h = absurd cc
+modrm-complete k m c z b p l w rule.No false i range stack fixed h = inl (inl (imm-text (before_modrm k m c z b p l w) i h))
+modrm-complete k m c z b p l w rule.Any true i range stack fixed h = absurd cc
+modrm-complete k m c z b p l w rule.Any false i range stack fixed h =
+    inl (inr (imm_text i, refl, imm-text (full k m c z b p l w rule.Any false imm.None) i h))
+modrm-complete k m c z b p l w (rule.Digit d) true i range stack fixed h = absurd cc
+modrm-complete k m c z b p l w (rule.Digit d) false i range stack fixed h =
+    inr (inl (digit_text d ∷ imm_text i, refl, (d, range, octal-test d range, (imm_text i, refl, imm-text (full k m c z b p l w (rule.Digit d) false imm.None) i h))))
+modrm-complete Vex m c z b p l w (rule.Fixed f) st i range stack fixed h = absurd cc
+modrm-complete Legacy m c z b p l w (rule.Fixed f) st i range stack fixed h =
+    inr (inr (
+      byte_text f ++ (stack_text st ++ imm_text i),
+      refl,
+      (
+        f / 16,
+        register-test f range,
+        high-small f (byte-small f range),
+        (
+          digit_text (f % 16) ∷ (stack_text st ++ imm_text i),
+          refl,
+          (
+            f % 16,
+            low-test f,
+            low-small f,
+            (
+              stack_text st ++ imm_text i,
+              refl,
+              subst (λ x. stack_texts (full Legacy m c z b p l w (rule.Fixed x) false imm.None) x (stack_text st ++ imm_text i) (full Legacy m c z b p l w (rule.Fixed f) st i)) (sym (whole-byte f))
+                  (stack-complete (full Legacy m c z b p l w (rule.Fixed f) false imm.None) f st i stack h),
+            ),
+          ),
+        ),
+      ),
+    ))
+
+plus-complete : (k : RowKind) (p : PlusWord) (L : PlusWord → Language) (text : List ℕ) (s : RowShape) → plus_allowed k p ≡ true → L p text s → one_of (plus_words k) L text s
+plus-complete Legacy added.None L text s e h = choose (plus_words Legacy) 0 added.None L text s refl h
+plus-complete Legacy added.Rb L text s e h = choose (plus_words Legacy) 1 added.Rb L text s refl h
+plus-complete Legacy added.Rw L text s e h = choose (plus_words Legacy) 2 added.Rw L text s refl h
+plus-complete Legacy added.Rd L text s e h = choose (plus_words Legacy) 3 added.Rd L text s refl h
+plus-complete Legacy added.Ro L text s e h = choose (plus_words Legacy) 4 added.Ro L text s refl h
+plus-complete Vex added.None L text s e h = choose (plus_words Vex) 0 added.None L text s refl h
+plus-complete Vex added.Rb L text s e h = absurd cc
+plus-complete Vex added.Rw L text s e h = absurd cc
+plus-complete Vex added.Rd L text s e h = absurd cc
+plus-complete Vex added.Ro L text s e h = absurd cc
+
+opcode-test : (k : RowKind) (m : Map) (c : Class) (z : SizeWord) (l : LBit) (w : WBit) (b : ℕ) → opcode_allowed k m b ≡ true
+    → opcode_digit (full k m c z 0 added.None l w rule.No false imm.None) (b / 16) (b % 16) ≡ true
+opcode-test Legacy m c z l w b h =
+    and-both (nat_lt (b % 16) 16) (is_opcode_of_map m ((b / 16) * 16 + b % 16)) (low-test b) (ap (λ x. is_opcode_of_map m x) (whole-byte b) ∙ h)
+opcode-test Vex m c z l w b h = and-both (nat_lt (b % 16) 16) true (low-test b) refl
+
+-- from the opcode byte on
+opcode-complete : (k : RowKind) (m : Map) (c : Class) (z : SizeWord) (b : ℕ) (p : PlusWord) (l : LBit) (w : WBit) (r : ModRmRule) (st : Bool) (i : ImmWord)
+    → b < 256 → opcode_allowed k m b ≡ true → plus_allowed k p ≡ true → is_rule_in_range r ≡ true → is_stack_proper r st ≡ true → fixed_allowed k r ≡ true → imm_allowed k i ≡ true
+    → opcode_texts (full k m c z 0 added.None l w rule.No false imm.None) (byte_text b ++ (plus_text p ++ (modrm_text r ++ (stack_text st ++ imm_text i)))) (full k m c z b p l w r st i)
+opcode-complete k m c z b p l w r st i small opcode plus range stack fixed h =
+    let rest : List ℕ = modrm_text r ++ (stack_text st ++ imm_text i) in
+    let later : plus_texts (full k m c z b added.None l w rule.No false imm.None) (plus_text p ++ rest) (full k m c z b p l w r st i) =
+    plus-complete k p (λ x. word_then (plus_text x) (modrm_texts (full k m c z b x l w rule.No false imm.None))) (plus_text p ++ rest) (full k m c z b p l w r st i) plus
+    (rest, refl, modrm-complete k m c z b p l w r st i range stack fixed h)
+    in (
+      b / 16,
+      high-test b small,
+      high-small b small,
+      (
+        digit_text (b % 16) ∷ (plus_text p ++ rest),
+        refl,
+        (
+          b % 16,
+          opcode-test k m c z l w b opcode,
+          low-small b,
+          (
+            plus_text p ++ rest,
+            refl,
+            subst (λ x. plus_texts (full k m c z x added.None l w rule.No false imm.None) (plus_text p ++ rest) (full k m c z b p l w r st i)) (sym (whole-byte b)) later,
+          ),
+        ),
+      ),
+    )
+
+in-classes : (v : Class) (L : Class → Language) (text : List ℕ) (s : RowShape) → L v text s → one_of classes L text s
+in-classes class.Any L text s h = choose classes 0 class.Any L text s refl h
+in-classes class.Np L text s h = choose classes 1 class.Np L text s refl h
+in-classes class.Nfx L text s h = choose classes 2 class.Nfx L text s refl h
+in-classes class.Nf3 L text s h = choose classes 3 class.Nf3 L text s refl h
+in-classes class.P66 L text s h = choose classes 4 class.P66 L text s refl h
+in-classes class.F3 L text s h = choose classes 5 class.F3 L text s refl h
+in-classes class.F2 L text s h = choose classes 6 class.F2 L text s refl h
+
+in-sizes : (v : SizeWord) (L : SizeWord → Language) (text : List ℕ) (s : RowShape) → L v text s → one_of size_words L text s
+in-sizes word.None L text s h = choose size_words 0 word.None L text s refl h
+in-sizes word.O16 L text s h = choose size_words 1 word.O16 L text s refl h
+in-sizes word.O32 L text s h = choose size_words 2 word.O32 L text s refl h
+in-sizes word.O64 L text s h = choose size_words 3 word.O64 L text s refl h
+in-sizes word.RexW L text s h = choose size_words 4 word.RexW L text s refl h
+
+in-maps : (v : Map) (L : Map → Language) (text : List ℕ) (s : RowShape) → L v text s → one_of maps L text s
+in-maps map.One L text s h = choose maps 0 map.One L text s refl h
+in-maps map.M0f L text s h = choose maps 1 map.M0f L text s refl h
+in-maps map.M0f38 L text s h = choose maps 2 map.M0f38 L text s refl h
+in-maps map.M0f3a L text s h = choose maps 3 map.M0f3a L text s refl h
+
+in-vex_maps : (v : Map) (L : Map → Language) (text : List ℕ) (s : RowShape) → not (is_map_one v) ≡ true → L v text s → one_of vex_maps L text s
+in-vex_maps map.M0f L text s e h = choose vex_maps 0 map.M0f L text s refl h
+in-vex_maps map.M0f38 L text s e h = choose vex_maps 1 map.M0f38 L text s refl h
+in-vex_maps map.M0f3a L text s e h = choose vex_maps 2 map.M0f3a L text s refl h
+in-vex_maps map.One L text s e h = absurd cc
+
+in-vex_classes : (v : Class) (L : Class → Language) (text : List ℕ) (s : RowShape) → is_vex_class v ≡ true → L v text s → one_of vex_classes L text s
+in-vex_classes class.Np L text s e h = choose vex_classes 0 class.Np L text s refl h
+in-vex_classes class.P66 L text s e h = choose vex_classes 1 class.P66 L text s refl h
+in-vex_classes class.F3 L text s e h = choose vex_classes 2 class.F3 L text s refl h
+in-vex_classes class.F2 L text s e h = choose vex_classes 3 class.F2 L text s refl h
+in-vex_classes class.Any L text s e h = absurd cc
+in-vex_classes class.Nfx L text s e h = absurd cc
+in-vex_classes class.Nf3 L text s e h = absurd cc
+
+in-w : (v : WBit) (L : WBit → Language) (text : List ℕ) (s : RowShape) → not (is_no_w v) ≡ true → L v text s → one_of w_words L text s
+in-w wbit.W0 L text s e h = choose w_words 0 wbit.W0 L text s refl h
+in-w wbit.W1 L text s e h = choose w_words 1 wbit.W1 L text s refl h
+in-w wbit.Wig L text s e h = choose w_words 2 wbit.Wig L text s refl h
+in-w wbit.None L text s e h = absurd cc
+
+in-l : (v : LBit) (L : LBit → Language) (text : List ℕ) (s : RowShape) → not (is_no_l v) ≡ true → L v text s → one_of l_words L text s
+in-l lbit.L128 L text s e h = choose l_words 0 lbit.L128 L text s refl h
+in-l lbit.L256 L text s e h = choose l_words 1 lbit.L256 L text s refl h
+in-l lbit.Lig L text s e h = choose l_words 2 lbit.Lig L text s refl h
+in-l lbit.Lz L text s e h = choose l_words 3 lbit.Lz L text s refl h
+in-l lbit.None L text s e h = absurd cc
+
+legacy-complete : (m : Map) (c : Class) (z : SizeWord) (b : ℕ) (p : PlusWord) (r : ModRmRule) (st : Bool) (i : ImmWord)
+    → b < 256 → is_opcode_of_map m b ≡ true → is_rule_in_range r ≡ true → is_stack_proper r st ≡ true → imm_allowed Legacy i ≡ true
+    → class_texts (blank Legacy) (legacy_text (full Legacy m c z b p lbit.None wbit.None r st i)) (full Legacy m c z b p lbit.None wbit.None r st i)
+unfolding legacy_text opcode_part modrm_part
+legacy-complete m c z b p r st i small opcode range stack h =
+    let s : RowShape = full Legacy m c z b p lbit.None wbit.None r st i in
+    let t : List ℕ = byte_text b ++ (plus_text p ++ (modrm_text r ++ (stack_text st ++ imm_text i))) in
+    in-classes c (λ x. word_then (class_text x) (size_texts (record (blank Legacy) { class = x }))) (class_text c ++ (size_text z ++ (map_text m ++ t))) s (
+      size_text z ++ (map_text m ++ t),
+      refl,
+      in-sizes z (λ x. word_then (size_text x) (map_texts (record (blank Legacy) { class = c; size_word = x }))) (size_text z ++ (map_text m ++ t)) s (
+        map_text m ++ t,
+        refl,
+        in-maps m (λ x. word_then (map_text x) (opcode_texts (record (blank Legacy) { class = c; size_word = z; map = x }))) (map_text m ++ t) s
+            (t, refl, opcode-complete Legacy m c z b p lbit.None wbit.None r st i small opcode refl range stack refl h),
+      ),
+    )
+
+vex-complete : (m : Map) (c : Class) (b : ℕ) (l : LBit) (w : WBit) (r : ModRmRule) (st : Bool) (i : ImmWord)
+    → b < 256 → is_rule_in_range r ≡ true → is_stack_proper r st ≡ true → fixed_allowed Vex r ≡ true → not (is_no_l l) ≡ true → not (is_no_w w) ≡ true
+    → is_vex_class c ≡ true → not (is_map_one m) ≡ true
+    → vex_texts (vex_text (full Vex m c word.None b added.None l w r st i)) (full Vex m c word.None b added.None l w r st i)
+unfolding vex_text opcode_part modrm_part
+vex-complete m c b l w r st i small range stack fixed has_l has_w vex_class own =
+    let s : RowShape = full Vex m c word.None b added.None l w r st i in
+    let t : List ℕ = byte_text b ++ (plus_text added.None ++ (modrm_text r ++ (stack_text st ++ imm_text i))) in
+    let tw : List ℕ = w_text w ++ t in
+    let tm : List ℕ = vex_map_text m ++ tw in
+    let tc : List ℕ = pp_text c ++ tm in (
+      l_text l ++ tc,
+      refl,
+      in-l l (λ x. word_then (l_text x) (pp_texts (record (blank Vex) { l = x }))) (l_text l ++ tc) s has_l (
+        tc,
+        refl,
+        in-vex_classes c (λ x. word_then (pp_text x) (vex_map_texts (record (blank Vex) { l = l; class = x }))) tc s vex_class (
+          tm,
+          refl,
+          in-vex_maps m (λ x. word_then (vex_map_text x) (w_texts (record (blank Vex) { l = l; class = c; map = x }))) tm s own (
+            tw,
+            refl,
+            in-w w (λ x. word_then (w_text x) (opcode_texts (record (blank Vex) { l = l; class = c; map = m; w = x }))) tw s has_w
+                (t, refl, opcode-complete Vex m c word.None b added.None l w r st i small refl refl range stack fixed refl),
+          ),
+        ),
+      ),
+    )
+
+-- ---- whole shapes
+
+pub from-legacy : (s : RowShape) → is_legacy_proper s ≡ true → (is_no_l s.l ≡ true) × (is_no_w s.w ≡ true) × (imm_allowed Legacy s.imm ≡ true) × (is_opcode_of_map s.map s.opcode ≡ true)
+unfolding is_legacy_proper
+from-legacy s h =
+    let r1 = and-right (is_no_l s.l) (is_no_w s.w && (not (is_four_bits s.imm) && is_opcode_of_map s.map s.opcode)) h in
+    let r2 = and-right (is_no_w s.w) (not (is_four_bits s.imm) && is_opcode_of_map s.map s.opcode) r1 in (
+      and-left (is_no_l s.l) (is_no_w s.w && (not (is_four_bits s.imm) && is_opcode_of_map s.map s.opcode)) h,
+      and-left (is_no_w s.w) (not (is_four_bits s.imm) && is_opcode_of_map s.map s.opcode) r1,
+      and-left (not (is_four_bits s.imm)) (is_opcode_of_map s.map s.opcode) r2,
+      and-right (not (is_four_bits s.imm)) (is_opcode_of_map s.map s.opcode) r2,
+    )
+
+-- the parts of a proper VEX shape
+pub record VexParts (s : RowShape) : Type 0 where
+  pub has_l : not (is_no_l s.l) ≡ true
+  pub has_w : not (is_no_w s.w) ≡ true
+  pub vex_class : is_vex_class s.class ≡ true
+  pub size : is_no_size_word s.size_word ≡ true
+  pub plus : is_no_plus_word s.plus_word ≡ true
+  pub fixed : not (is_fixed s.modrm) ≡ true
+  pub own : not (is_map_one s.map) ≡ true
+
+pub from-vex : (s : RowShape) → is_vex_proper s ≡ true → VexParts s
+unfolding is_vex_proper
+from-vex s h =
+    let t6 : Bool = not (is_fixed s.modrm) && not (is_map_one s.map) in
+    let t5 : Bool = is_no_plus_word s.plus_word && t6 in
+    let t4 : Bool = is_no_size_word s.size_word && t5 in
+    let t3 : Bool = is_vex_class s.class && t4 in
+    let t2 : Bool = not (is_no_w s.w) && t3 in
+    let r2 = and-right (not (is_no_l s.l)) t2 h in
+    let r3 = and-right (not (is_no_w s.w)) t3 r2 in
+    let r4 = and-right (is_vex_class s.class) t4 r3 in
+    let r5 = and-right (is_no_size_word s.size_word) t5 r4 in
+    let r6 = and-right (is_no_plus_word s.plus_word) t6 r5 in
+    record {
+      has_l = and-left (not (is_no_l s.l)) t2 h;
+      has_w = and-left (not (is_no_w s.w)) t3 r2;
+      vex_class = and-left (is_vex_class s.class) t4 r3;
+      size = and-left (is_no_size_word s.size_word) t5 r4;
+      plus = and-left (is_no_plus_word s.plus_word) t6 r5;
+      fixed = and-left (not (is_fixed s.modrm)) (not (is_map_one s.map)) r6;
+      own = and-right (not (is_fixed s.modrm)) (not (is_map_one s.map)) r6;
+    }
+
+pub no-l : (l : LBit) → is_no_l l ≡ true → l ≡ lbit.None
+no-l lbit.None h = refl
+no-l lbit.L128 h = absurd cc
+no-l lbit.L256 h = absurd cc
+no-l lbit.Lig h = absurd cc
+no-l lbit.Lz h = absurd cc
+
+pub no-w : (w : WBit) → is_no_w w ≡ true → w ≡ wbit.None
+no-w wbit.None h = refl
+no-w wbit.W0 h = absurd cc
+no-w wbit.W1 h = absurd cc
+no-w wbit.Wig h = absurd cc
+
+pub no-size : (z : SizeWord) → is_no_size_word z ≡ true → z ≡ word.None
+no-size word.None h = refl
+no-size word.O16 h = absurd cc
+no-size word.O32 h = absurd cc
+no-size word.O64 h = absurd cc
+no-size word.RexW h = absurd cc
+
+pub no-plus : (p : PlusWord) → is_no_plus_word p ≡ true → p ≡ added.None
+no-plus added.None h = refl
+no-plus added.Rb h = absurd cc
+no-plus added.Rw h = absurd cc
+no-plus added.Rd h = absurd cc
+no-plus added.Ro h = absurd cc
+
+pub small-opcode : (b : ℕ) → nat_lt b 256 ≡ true → b < 256
+small-opcode b h = grind arith
+
+complete-by : (k : RowKind) (m : Map) (c : Class) (z : SizeWord) (b : ℕ) (p : PlusWord) (l : LBit) (w : WBit) (r : ModRmRule) (st : Bool) (i : ImmWord)
+    → b < 256 → is_rule_in_range r ≡ true → is_stack_proper r st ≡ true
+    → (elim k as (λ _. Bool) [ Legacy ↦ is_legacy_proper (full k m c z b p l w r st i) | Vex ↦ is_vex_proper (full k m c z b p l w r st i) ]) ≡ true
+    → all_texts (notation (full k m c z b p l w r st i)) (full k m c z b p l w r st i)
+unfolding notation
+complete-by Legacy m c z b p l w r st i small range stack h =
+    let s : RowShape = full Legacy m c z b p l w r st i in
+    let f = from-legacy s h in
+    let P : LBit → WBit → Type 0 = λ x y. class_texts (blank Legacy) (legacy_text (full Legacy m c z b p x y r st i)) (full Legacy m c z b p x y r st i) in
+    let base : P lbit.None wbit.None = legacy-complete m c z b p r st i small f.3 range stack f.2 in
+    inl (subst (λ x. P x w) (sym (no-l l f.0)) (subst (λ y. P lbit.None y) (sym (no-w w f.1)) base))
+complete-by Vex m c z b p l w r st i small range stack h =
+    let s : RowShape = full Vex m c z b p l w r st i in
+    let f = from-vex s h in
+    let P : SizeWord → PlusWord → Type 0 = λ x y. vex_texts (vex_text (full Vex m c x b y l w r st i)) (full Vex m c x b y l w r st i) in
+    let base : P word.None added.None = vex-complete m c b l w r st i small range stack f.fixed f.has_l f.has_w f.vex_class f.own in
+    inr (subst (λ x. P x p) (sym (no-size z f.size)) (subst (λ y. P word.None y) (sym (no-plus p f.plus)) base))
+
+complete-proper : (s : RowShape) → is_proper s ≡ true → all_texts (notation s) s
+unfolding is_proper
+complete-proper s h =
+    let kind-test : Bool = elim s.kind as (λ _. Bool) [ Legacy ↦ is_legacy_proper s | Vex ↦ is_vex_proper s ] in
+    let t2 : Bool = is_stack_proper s.modrm s.stack && kind-test in
+    let t1 : Bool = is_rule_in_range s.modrm && t2 in
+    let r1 = and-right (nat_lt s.opcode 256) t1 h in
+    let r2 = and-right (is_rule_in_range s.modrm) t2 r1 in
+    complete-by s.kind s.map s.class s.size_word s.opcode s.plus_word s.l s.w s.modrm s.stack s.imm
+    (small-opcode s.opcode (and-left (nat_lt s.opcode 256) t1 h)) (and-left (is_rule_in_range s.modrm) t2 r1)
+    (and-left (is_stack_proper s.modrm s.stack) kind-test r2) (and-right (is_stack_proper s.modrm s.stack) kind-test r2)
+
+-- a shape's text is a text of the languages
+pub complete : (text : List ℕ) (s : RowShape) → IsTextOf text s → all_texts text s
+complete text s h = subst (λ x. all_texts x s) h.written (complete-proper s h.proper)

@@ -1,0 +1,4 @@
+pub mod Shape
+pub mod Notation
+pub mod Texts
+pub mod Reading

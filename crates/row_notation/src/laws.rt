@@ -1,0 +1,10 @@
+//! Laws of the notation, as the contracts of functions that do nothing.
+
+ghost use Rattle.std.specs.Prelude.{◌≡◌, ℕ, List};
+ghost use Rattle.row_types.specs.declared.RowShape.{RowShape};
+ghost use Rattle.row_notation.specs.Texts.{IsTextOf};
+
+/// No text belongs to two shapes.
+pub fn one_shape_of_a_text()
+    ensures { (text : List ℕ) (s t : RowShape) → IsTextOf text s → IsTextOf text t → s ≡ t }
+{}

@@ -1,0 +1,18 @@
+//! The notation of rows, as the manual writes it: `REX.W + 81 /0 id` (Intel SDM volume 2, 3.1.1).
+#![tactic(auto)]
+
+pub mod laws;
+mod reading;
+mod shape;
+#[cfg(test)]
+mod tests;
+mod words;
+mod writing;
+
+pub use reading::{NotationFault, read_notation};
+pub use row_types::{
+    Class, ImmWord, LBit, Map, Marks, ModRmRule, ModeMask, OpKind, Place, Plus, PlusWord, Row,
+    RowKind, RowShape, Size, SizeWord, WBit,
+};
+pub use shape::shape_of;
+pub use writing::write_notation;

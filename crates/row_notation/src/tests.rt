@@ -1,0 +1,103 @@
+//! Notations as the manual prints them, read and written.
+
+use crate::{
+    Class, ImmWord, LBit, Map, Marks, ModRmRule, ModeMask, OpKind, Place, Plus, PlusWord, Row,
+    RowKind, RowShape, Size, SizeWord, WBit, read_notation, write_notation,
+};
+use std::test::Fail;
+
+/// A shape of a kind and map with an opcode byte, and nothing else.
+fn bare(kind: RowKind, map: Map, class: Class, opcode: u8) -> RowShape {
+    RowShape {
+        kind,
+        map,
+        class,
+        size_word: SizeWord::None,
+        opcode,
+        plus_word: PlusWord::None,
+        modrm: ModRmRule::No,
+        stack: false,
+        l: LBit::None,
+        w: WBit::None,
+        imm: ImmWord::None,
+    }
+}
+
+#[test]
+fn texts_are_read(rt: HostRuntime) {
+    let push = RowShape {
+        size_word: SizeWord::O64,
+        plus_word: PlusWord::Ro,
+        ..bare(RowKind::Legacy, Map::One, Class::Any, 0x50)
+    };
+    let zero_upper = RowShape {
+        l: LBit::L128,
+        w: WBit::Wig,
+        ..bare(RowKind::Vex, Map::M0f, Class::Np, 0x77)
+    };
+    let permute = RowShape {
+        l: LBit::L256,
+        w: WBit::W1,
+        modrm: ModRmRule::Any,
+        imm: ImmWord::Ib,
+        ..bare(RowKind::Vex, Map::M0f3a, Class::P66, 0x00)
+    };
+    let add = RowShape {
+        size_word: SizeWord::RexW,
+        modrm: ModRmRule::Digit(0),
+        imm: ImmWord::Id,
+        ..bare(RowKind::Legacy, Map::One, Class::Any, 0x81)
+    };
+    let cases = [
+        ("NF3 90", bare(RowKind::Legacy, Map::One, Class::Nf3, 0x90)),
+        ("o64 50+ro", push),
+        ("VEX.128.0F.WIG 77", zero_upper),
+        ("VEX.256.66.0F3A.W1 00 /r ib", permute),
+        ("REX.W + 81 /0 id", add),
+    ];
+    for (text, want) in cases {
+        assert!(rt;
+            read_notation(text.as_bytes()) == Ok(want),
+            "reading {text}"
+        );
+    }
+}
+
+#[test]
+fn faults_are_told_by_their_place(rt: HostRuntime) {
+    for (text, want) in [
+        ("", 0),
+        ("REX.W + 81 /8 id", 12),
+        ("66", 2),
+        ("VEX.512.0F.WIG 77", 4),
+        ("90 ", 3),
+        ("0F 38 5", 7),
+    ] {
+        match read_notation(text.as_bytes()) {
+            Ok(_) => assert!(rt; false, "{text} was read"),
+            Err(fault) => assert_eq!(rt; fault.at, want, "at {text}"),
+        }
+    }
+}
+
+#[test]
+#[tactic(auto, unfolding(crate::specs::Shape::is_proper, crate::specs::Shape::shape, crate::specs::Shape::size_word, crate::specs::Shape::plus_word, crate::specs::Shape::imm_word, crate::specs::Shape::imm_word_of, crate::specs::Shape::is_legacy_proper, crate::specs::Shape::is_opcode_of_map, crate::specs::Shape::is_rule_in_range, crate::specs::Shape::is_stack_proper))]
+fn a_row_is_written(rt: HostRuntime) {
+    let enter = Row {
+        kind: RowKind::Legacy,
+        map: Map::One,
+        class: Class::Any,
+        opcode: 0xC8,
+        plus: Plus::No,
+        modrm: ModRmRule::No,
+        place: Place::Any,
+        size: Size::O64,
+        w: WBit::None,
+        l: LBit::None,
+        modes: ModeMask(4),
+        ops: [OpKind::Iw, OpKind::Ib, OpKind::Absent, OpKind::Absent],
+        marks: Marks(12),
+    };
+    let text = write_notation(&enter);
+    assert!(rt; text.as_slice() == b"o64 C8 iw ib".as_slice(), "ENTER");
+}

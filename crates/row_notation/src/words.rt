@@ -1,0 +1,142 @@
+//! The words of a notation.
+
+ghost use Rattle.std.specs.Prelude.{◌≡◌, ◌<◌, ◌≤◌, length};
+ghost use Rattle.row_notation.specs.Notation as spec;
+
+use row_types::{Class, ImmWord, LBit, Map, PlusWord, SizeWord, WBit};
+
+/// The class word, with the space behind it.
+pub fn class_text<'a>(class: Class) -> &'a [u8]
+    ensures { result.now ≡ spec.class_text class }
+{
+    match class {
+        Class::Any => b"",
+        Class::Np => b"NP ",
+        Class::Nfx => b"NFx ",
+        Class::Nf3 => b"NF3 ",
+        Class::P66 => b"66 ",
+        Class::F3 => b"F3 ",
+        Class::F2 => b"F2 ",
+    }
+}
+
+/// The size word, with the space behind it.
+pub fn size_text<'a>(word: SizeWord) -> &'a [u8]
+    ensures { result.now ≡ spec.size_text word }
+{
+    match word {
+        SizeWord::None => b"",
+        SizeWord::O16 => b"o16 ",
+        SizeWord::O32 => b"o32 ",
+        SizeWord::O64 => b"o64 ",
+        SizeWord::RexW => b"REX.W + ",
+    }
+}
+
+/// The escape bytes of a legacy map, with the space behind them.
+pub fn map_text<'a>(map: Map) -> &'a [u8]
+    ensures { result.now ≡ spec.map_text map }
+{
+    match map {
+        Map::One => b"",
+        Map::M0f => b"0F ",
+        Map::M0f38 => b"0F 38 ",
+        Map::M0f3a => b"0F 3A ",
+    }
+}
+
+/// The register that is added to the opcode byte.
+pub fn plus_text<'a>(word: PlusWord) -> &'a [u8]
+    ensures { result.now ≡ spec.plus_text word }
+{
+    match word {
+        PlusWord::None => b"",
+        PlusWord::Rb => b"+rb",
+        PlusWord::Rw => b"+rw",
+        PlusWord::Rd => b"+rd",
+        PlusWord::Ro => b"+ro",
+    }
+}
+
+/// The stack number that is added to a ModRM byte.
+pub fn stack_text<'a>(stack: bool) -> &'a [u8]
+    ensures { result.now ≡ spec.stack_text stack }
+{
+    if stack { b"+i" } else { b"" }
+}
+
+/// The immediates, each with the space before it.
+pub fn imm_text<'a>(word: ImmWord) -> &'a [u8]
+    ensures { result.now ≡ spec.imm_text word }
+{
+    match word {
+        ImmWord::None => b"",
+        ImmWord::Ib => b" ib",
+        ImmWord::Iw => b" iw",
+        ImmWord::Id => b" id",
+        ImmWord::Io => b" io",
+        ImmWord::Cb => b" cb",
+        ImmWord::Cw => b" cw",
+        ImmWord::Cd => b" cd",
+        ImmWord::Cp => b" cp",
+        ImmWord::Is4 => b" /is4",
+        ImmWord::IwIb => b" iw ib",
+    }
+}
+
+/// L of a VEX.
+pub fn l_text<'a>(l: LBit) -> &'a [u8]
+    ensures { result.now ≡ spec.l_text l }
+{
+    match l {
+        LBit::None => b"",
+        LBit::L128 => b"128",
+        LBit::L256 => b"256",
+        LBit::Lig => b"LIG",
+        LBit::Lz => b"LZ",
+    }
+}
+
+/// pp of a VEX, with the point before it.
+pub fn pp_text<'a>(class: Class) -> &'a [u8]
+    ensures { result.now ≡ spec.pp_text class }
+{
+    match class {
+        Class::P66 => b".66",
+        Class::F3 => b".F3",
+        Class::F2 => b".F2",
+        _ => b"",
+    }
+}
+
+/// The map of a VEX, with the point before it.
+pub fn vex_map_text<'a>(map: Map) -> &'a [u8]
+    ensures { result.now ≡ spec.vex_map_text map }
+{
+    match map {
+        Map::One => b"",
+        Map::M0f => b".0F",
+        Map::M0f38 => b".0F38",
+        Map::M0f3a => b".0F3A",
+    }
+}
+
+/// W of a VEX, with the point before it and the space behind it.
+pub fn w_text<'a>(w: WBit) -> &'a [u8]
+    ensures { result.now ≡ spec.w_text w }
+{
+    match w {
+        WBit::None => b"",
+        WBit::W0 => b".W0 ",
+        WBit::W1 => b".W1 ",
+        WBit::Wig => b".WIG ",
+    }
+}
+
+/// A hexadecimal digit, of a number below 16.
+pub fn digit_text(d: u8) -> u8
+    requires { d < 16 }
+    ensures { result ≡ spec.digit_text d }
+{
+    if d < 10 { 48 + d } else { 55 + d }
+}

@@ -1,0 +1,2 @@
+pub mod WrappedAddress
+pub mod Lengths

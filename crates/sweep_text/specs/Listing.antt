@@ -1,0 +1,44 @@
+-- The listing: a line of text for each item of a sweep.
+use Rattle.std.specs.Prelude.{ℕ, ◌+◌, ◌-◌, ◌*◌, List, [], ◌∷◌, ◌++◌, length, replicate, slice_index, codes}
+use Rattle.std.specs.List.{flat_map}
+use Rattle.hex.specs.Hex.{encode_lower}
+use Rattle.x86_values.specs.declared.Bits.{Bits}
+use Rattle.x86_values.specs.declared.Bits.TheVariants.{B16, B32, B64}
+use Rattle.x86_values.specs.Wrapping.{wrapped}
+use Rattle.row_relation.specs.Spells.{Reading, Read}
+use Rattle.text_parts.specs.declared.style.Style.TheVariants.{Intel}
+use Rattle.text_parts.specs.Numbers.{last_digits, number}
+use Rattle.intel_text.specs.Text.{text}
+use Rattle.sweep_text.specs.Sweep.{Item}
+
+-- how many hexadecimal digits an address has in a mode
+abbrev pub address_len : Bits → ℕ
+address_len B16 = 4
+address_len B32 = 8
+address_len B64 = 16
+
+-- the address of an offset in lower-case hexadecimal digits
+unfoldable pub address_text : Bits → ℕ → ℕ → List ℕ
+address_text bits base offset = last_digits (address_len bits) (wrapped bits (base + offset))
+
+-- bytes in lower-case hexadecimal digits, filled with spaces to 30 places
+unfoldable pub byte_column : List ℕ → List ℕ
+byte_column bytes = encode_lower bytes ++ replicate (30 - 2 * length bytes) 32
+
+-- the text of a byte at which no instruction is read
+unfoldable pub single_byte_text : ℕ → List ℕ
+single_byte_text byte = codes "db " ++ number Intel byte
+
+-- the text of what is read at the front of some bytes: that of the instruction, or of the single first byte
+unfoldable pub reading_text : Bits → List ℕ → Reading → List ℕ
+reading_text bits bytes (Read d) = text bits d.instr
+reading_text bits bytes _ = single_byte_text (slice_index bytes 0)
+
+-- the line of an item: its address, its bytes and its text, each behind a space, and a line feed
+unfoldable pub item_line : Bits → ℕ → Item → List ℕ
+item_line bits base item =
+    address_text bits base item.offset ++ (32 ∷ (byte_column item.bytes ++ (32 ∷ (reading_text bits item.bytes item.reading ++ 10 ∷ []))))
+
+-- the lines of items, one behind another
+abbrev pub listing : Bits → ℕ → List Item → List ℕ
+listing bits base items = flat_map (item_line bits base) items

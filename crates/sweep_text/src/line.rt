@@ -1,0 +1,155 @@
+//! The listing's line for an item of the sweep.
+
+ghost use Rattle.std.specs.Prelude.{◌≡◌, ◌<◌, ◌≤◌, ◌+◌, ◌-◌, ◌*◌, ◌++◌, ◌∷◌, [], length, replicate, IsTrue, IfOk, slice_index};
+ghost use Rattle.arrayvec.specs.ArrayVec.{array_vec_len};
+ghost use Rattle.hex.specs.Hex.{encode_lower};
+ghost use Rattle.opcode_rows.specs.Table.{well_formed};
+ghost use Rattle.decoder.specs.Answer.{reading_of};
+ghost use Rattle.sweep_text.specs.Sweep.{item_len};
+ghost use Rattle.sweep_text.specs.Listing as spec;
+
+use arrayvec::ArrayVec;
+use decoder::DecodeError;
+use intel_text::print;
+use text_parts::numbers::{append_last_digits, append_number};
+use text_parts::style::Style;
+use text_parts::text::Text;
+use x86_values::{Bits, Decoded, wrap};
+
+/// How many bytes of text are held before they are written.
+pub const CHUNK_LEN: usize = 16384;
+
+/// How many bytes a line of the listing has at most.
+pub const LINE_LEN: usize = 209;
+
+/// Text that is held before it is written.
+pub type Chunk = ArrayVec<u8, 16384>;
+
+/// The places of the byte column: two for each of 15 bytes.
+const COLUMN_LEN: usize = 30;
+
+static SPACES: [u8; 30] = [b' '; 30];
+
+/// Appends bytes.
+#[inline]
+pub fn append(out: &mut Chunk, bytes: &[u8])
+    requires { array_vec_len out.old + length bytes.now ≤ 16384 }
+    ensures items { out.new.items ≡ out.old.items ++ bytes.now }
+    ensures len { array_vec_len out.new ≡ array_vec_len out.old + length bytes.now }
+{
+    match out.try_extend_from_slice(bytes) {
+        Ok(()) => {}
+        Err(_) => unreachable!(),
+    }
+}
+
+/// How many hexadecimal digits an address has.
+#[inline]
+fn address_len(bits: Bits) -> u32
+    ensures value { result ≡ spec.address_len bits }
+    ensures few { result ≤ 16 }
+{
+    match bits {
+        Bits::B16 => 4,
+        Bits::B32 => 8,
+        Bits::B64 => 16,
+    }
+}
+
+/// Appends the address of an offset.
+#[tactic(auto, using(crate::proofs::Lengths::digits_fit), unfolding(crate::specs::Listing::address_text))]
+fn append_address(out: &mut Chunk, bits: Bits, base: u64, offset: usize)
+    requires { array_vec_len out.old + 16 ≤ 16384 }
+    ensures items { out.new.items ≡ out.old.items ++ spec.address_text bits base offset }
+    ensures len { array_vec_len out.new ≤ array_vec_len out.old + 16 }
+{
+    let address = wrap(bits, u128::from(base) + offset as u128);
+    let mut digits = Text::new();
+    append_last_digits(&mut digits, address_len(bits), address);
+    append(out, &digits);
+}
+
+/// Appends the hexadecimal digits of some bytes.
+
+fn append_bytes(out: &mut Chunk, bytes: &[u8])
+    requires few { length bytes.now ≤ 15 }
+    requires room { array_vec_len out.old + 30 ≤ 16384 }
+    ensures items { out.new.items ≡ out.old.items ++ encode_lower bytes.now }
+    ensures len { array_vec_len out.new ≡ array_vec_len out.old + 2 * length bytes.now }
+{
+    let mut places = [b' '; 30];
+    let digits = &mut places[..2 * bytes.len()];
+    match hex::encode_to_slice(bytes, digits) {
+        Ok(()) => append(out, digits),
+        Err(_) => unreachable!(),
+    }
+}
+
+/// Appends spaces, of which there are at most 30.
+fn append_spaces(out: &mut Chunk, count: usize)
+    requires few { count ≤ 30 }
+    requires room { array_vec_len out.old + count ≤ 16384 }
+    ensures items { out.new.items ≡ out.old.items ++ replicate count 32 }
+    ensures len { array_vec_len out.new ≡ array_vec_len out.old + count }
+{
+    append(out, &SPACES[..count]);
+}
+
+/// Appends the byte column: the hexadecimal digits of some bytes, filled with spaces to 30 places.
+#[tactic(auto, unfolding(crate::specs::Listing::byte_column))]
+fn append_column(out: &mut Chunk, bytes: &[u8])
+    requires few { length bytes.now ≤ 15 }
+    requires room { array_vec_len out.old + 30 ≤ 16384 }
+    ensures items { out.new.items ≡ out.old.items ++ spec.byte_column bytes.now }
+    ensures len { array_vec_len out.new ≡ array_vec_len out.old + 30 }
+{
+    append_bytes(out, bytes);
+    append_spaces(out, COLUMN_LEN - 2 * bytes.len());
+}
+
+/// The text of a byte at which no instruction is read.
+#[tactic(auto, using(crate::proofs::Lengths::number_fits), unfolding(crate::specs::Listing::single_byte_text))]
+fn single_byte_text(byte: u8) -> Text
+    ensures { result.items ≡ spec.single_byte_text byte }
+{
+    let mut text = Text::new();
+    text_parts::text::append(&mut text, b"db ");
+    append_number(&mut text, Style::Intel, u64::from(byte));
+    text
+}
+
+/// Appends the text of what is read at the front of some bytes: an instruction, or the single first byte.
+#[tactic(auto, unfolding(crate::specs::Listing::reading_text))]
+fn append_text(out: &mut Chunk, bits: Bits, bytes: &[u8], reading: &Result<Decoded, DecodeError>)
+    requires some { 0 < length bytes.now }
+    requires well { IfOk reading.now (λ d. IsTrue (well_formed d.instr)) }
+    requires room { array_vec_len out.old + 160 ≤ 16384 }
+    ensures items { out.new.items ≡ out.old.items ++ spec.reading_text bits bytes.now (reading_of reading.now) }
+    ensures len { array_vec_len out.new ≤ array_vec_len out.old + 160 }
+{
+    match reading {
+        Ok(d) => append(out, &print(bits, &d.instr)),
+        Err(_) => append(out, &single_byte_text(bytes[0])),
+    }
+}
+
+/// Appends the line of an item: its address, its bytes and its text.
+///
+/// `base` is the address of the first byte of the code, `offset` how far the item stands behind it, `bytes` the bytes
+/// of the item, and `reading` what is read at its front.
+#[tactic(auto, using(crate::proofs::Lengths::line_parts), unfolding(crate::specs::Listing::item_line))]
+pub fn append_line(out: &mut Chunk, bits: Bits, base: u64, offset: usize, bytes: &[u8], reading: &Result<Decoded, DecodeError>)
+    requires some { 0 < length bytes.now }
+    requires few { length bytes.now ≤ 15 }
+    requires well { IfOk reading.now (λ d. IsTrue (well_formed d.instr)) }
+    requires room { array_vec_len out.old + 209 ≤ 16384 }
+    ensures items { out.new.items ≡ out.old.items
+        ++ spec.item_line bits base (record { offset = offset; bytes = bytes.now; reading = reading_of reading.now }) }
+{
+    append_address(out, bits, base, offset);
+    append(out, b" ");
+    append_column(out, bytes);
+    append(out, b" ");
+    append_text(out, bits, bytes, reading);
+    append(out, b"\n");
+}

@@ -1,0 +1,36 @@
+//! What is read at an offset of some code.
+
+ghost use Rattle.std.specs.Prelude.{◌≡◌, ◌<◌, ◌≤◌, length, IsTrue, IfOk};
+ghost use Rattle.opcode_rows.specs.Table.{well_formed};
+ghost use Rattle.decoder.specs.Answer.{reading_of};
+ghost use Rattle.sweep_text.specs.Sweep as spec;
+
+use decoder::{DecodeError, decode};
+use x86_values::{Bits, Decoded, wrap};
+
+/// Reads the bytes from an offset on, of code whose first byte has the address `base`. Addresses wrap in the mode.
+#[inline]
+#[tactic(auto, using(crate::proofs::WrappedAddress::read_at_wrapped), unfolding(prefixes::specs::Answer::mode_of))]
+pub fn read_at(bits: Bits, base: u64, offset: usize, bytes: &[u8]) -> Result<Decoded, DecodeError>
+    ensures reading { spec.IsReadAt bits base offset bytes.now (reading_of result) }
+    ensures length { IfOk result (λ d. (0 < d.len) × (d.len ≤ 15) × (d.len ≤ length bytes.now)) }
+    ensures well { IfOk result (λ d. IsTrue (well_formed d.instr)) }
+{
+    let ip = wrap(bits, u128::from(base) + offset as u128);
+    match bits {
+        Bits::B16 => decode::<16>(ip, bytes),
+        Bits::B32 => decode::<32>(ip, bytes),
+        Bits::B64 => decode::<64>(ip, bytes),
+    }
+}
+
+/// How many bytes an item of the sweep takes: those of its instruction, or one where none is read.
+#[inline]
+pub fn item_len(reading: &Result<Decoded, DecodeError>) -> usize
+    ensures { result ≡ spec.item_len (reading_of reading.now) }
+{
+    match reading {
+        Ok(d) => usize::from(d.len),
+        Err(_) => 1,
+    }
+}

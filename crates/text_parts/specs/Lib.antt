@@ -1,0 +1,5 @@
+pub mod Numbers
+pub mod Registers
+pub mod Addresses
+pub mod PrefixWords
+pub mod Layout

@@ -1,0 +1,245 @@
+//! Addresses in a text.
+
+ghost use Rattle.std.specs.Prelude.{◌≡◌, ◌<◌, ◌≤◌, ◌+◌, ◌^◌, [], ◌++◌, length};
+ghost use Rattle.arrayvec.specs.ArrayVec.{array_vec_len};
+ghost use Rattle.x86_values.specs.Wrapping.{width};
+ghost use Rattle.text_parts.specs.Addresses as spec;
+
+use crate::numbers::{append_decimal, append_number};
+use crate::registers::{append_override, append_register};
+use crate::style::Style;
+use crate::text::{Text, append};
+use x86_values::{Bits, DispSize, Mem, Register, Segment, wrap};
+
+/// Whether a base is the instruction pointer.
+#[inline]
+#[tactic(auto, unfolding(crate::specs::Addresses::is_instruction_pointer))]
+pub fn is_instruction_pointer(base: Option<Register>) -> bool
+    ensures { result ≡ spec.is_instruction_pointer base }
+{
+    match base {
+        Some(Register::Rip) => true,
+        Some(Register::Eip) => true,
+        _ => false,
+    }
+}
+
+/// Whether an address has neither base nor index.
+#[inline]
+pub fn is_absolute(m: &Mem) -> bool
+    ensures { result ≡ spec.is_absolute m.now }
+{
+    m.base.is_none() && m.index.is_none()
+}
+
+/// 2 to the number of bits.
+#[inline]
+fn power_of(bits: Bits) -> u128
+    ensures { result ≡ 2 ^ width bits }
+{
+    match bits {
+        Bits::B16 => 0x1_0000,
+        Bits::B32 => 0x1_0000_0000,
+        Bits::B64 => 0x1_0000_0000_0000_0000,
+    }
+}
+
+/// Whether a number of address size is below zero as a signed number.
+#[inline]
+#[tactic(auto, unfolding(crate::specs::Addresses::is_negative))]
+fn is_negative(asize: Bits, d: u64) -> bool
+    ensures { result ≡ spec.is_negative asize d }
+{
+    power_of(asize) - 1 < 2 * wrap(asize, d as u128) as u128
+}
+
+/// Its distance from zero as a signed number.
+#[inline]
+#[tactic(auto, unfolding(crate::specs::Addresses::is_negative, crate::specs::Addresses::magnitude))]
+fn magnitude(asize: Bits, d: u64) -> u64
+    ensures { result ≡ spec.magnitude asize d }
+{
+    let x = wrap(asize, d as u128);
+    if is_negative(asize, d) {
+        (power_of(asize) - x as u128) as u64
+    } else {
+        x
+    }
+}
+
+/// The sign of a displacement beside a register.
+#[inline]
+#[tactic(auto, unfolding(crate::specs::Addresses::sign))]
+fn sign(style: Style, negative: bool) -> &'static [u8]
+    ensures { result.now ≡ spec.sign style negative }
+{
+    if negative {
+        b"-"
+    } else {
+        match style {
+            Style::Att => b"",
+            _ => b"+",
+        }
+    }
+}
+
+/// Appends a displacement beside a register, as a signed number of address size.
+#[tactic(auto, unfolding(crate::specs::Addresses::signed_displacement))]
+pub fn append_signed_displacement(out: &mut Text, style: Style, asize: Bits, m: &Mem)
+    requires { array_vec_len out.old + length (spec.signed_displacement style asize m.now) ≤ 160 }
+    ensures { out.new.items ≡ out.old.items ++ spec.signed_displacement style asize m.now }
+{
+    match m.disp_size {
+        DispSize::D0 => {}
+        _ => {
+            append(out, sign(style, is_negative(asize, m.disp)));
+            append_number(out, style, magnitude(asize, m.disp));
+        }
+    }
+}
+
+/// Appends a displacement that stands alone, unsigned.
+#[tactic(auto, unfolding(crate::specs::Addresses::lone_displacement))]
+pub fn append_lone_displacement(out: &mut Text, style: Style, m: &Mem)
+    requires { array_vec_len out.old + length (spec.lone_displacement style m.now) ≤ 160 }
+    ensures { out.new.items ≡ out.old.items ++ spec.lone_displacement style m.now }
+{
+    match m.disp_size {
+        DispSize::D0 => {}
+        _ => append_number(out, style, m.disp),
+    }
+}
+
+/// The word in front of a target that is relative to the instruction pointer.
+#[inline]
+#[tactic(auto, unfolding(crate::specs::Addresses::relative_word))]
+fn relative_word(style: Style, base: Option<Register>) -> &'static [u8]
+    ensures { result.now ≡ spec.relative_word style base }
+{
+    match style {
+        Style::Intel => match base {
+            Some(Register::Eip) => b"rel32 ",
+            _ => b"rel ",
+        },
+        _ => b"",
+    }
+}
+
+/// Appends a base, if there is one.
+#[tactic(auto, unfolding(crate::specs::Addresses::base_text))]
+pub fn append_base(out: &mut Text, style: Style, base: Option<Register>)
+    requires { array_vec_len out.old + length (spec.base_text style base) ≤ 160 }
+    ensures { out.new.items ≡ out.old.items ++ spec.base_text style base }
+{
+    match base {
+        None => {}
+        Some(r) => append_register(out, style, r),
+    }
+}
+
+/// The plus between a base and an index.
+#[inline]
+#[tactic(auto, unfolding(crate::specs::Addresses::joint))]
+fn joint(base: Option<Register>) -> &'static [u8]
+    ensures { result.now ≡ spec.joint base }
+{
+    match base {
+        None => b"",
+        Some(_) => b"+",
+    }
+}
+
+/// Appends a scale behind its mark, which 16-bit addressing does not have.
+#[tactic(auto, unfolding(crate::specs::Addresses::scale_text))]
+pub fn append_scale(out: &mut Text, mark: &[u8], asize: Bits, scale: u8)
+    requires { array_vec_len out.old + length (spec.scale_text mark.now asize scale) ≤ 160 }
+    ensures { out.new.items ≡ out.old.items ++ spec.scale_text mark.now asize scale }
+{
+    match asize {
+        Bits::B16 => {}
+        _ => {
+            append(out, mark);
+            append_decimal(out, scale);
+        }
+    }
+}
+
+/// Appends an index with its scale, if there is one.
+#[tactic(auto, unfolding(crate::specs::Addresses::index_text))]
+fn append_index(out: &mut Text, style: Style, asize: Bits, m: &Mem)
+    requires { array_vec_len out.old + length (spec.index_text style asize m.now) ≤ 160 }
+    ensures { out.new.items ≡ out.old.items ++ spec.index_text style asize m.now }
+{
+    match m.index {
+        None => {}
+        Some(r) => {
+            append(out, joint(m.base));
+            append_register(out, style, r);
+            append_scale(out, b"*", asize, m.scale);
+        }
+    }
+}
+
+/// Appends base, index and displacement.
+#[tactic(auto, unfolding(crate::specs::Addresses::sum_text))]
+fn append_sum(out: &mut Text, style: Style, asize: Bits, m: &Mem)
+    requires { array_vec_len out.old + length (spec.sum_text style asize m.now) ≤ 160 }
+    ensures { out.new.items ≡ out.old.items ++ spec.sum_text style asize m.now }
+{
+    append_base(out, style, m.base);
+    append_index(out, style, asize, m);
+    append_signed_displacement(out, style, asize, m);
+}
+
+/// Appends what stands inside the brackets.
+#[tactic(auto, unfolding(crate::specs::Addresses::inside))]
+fn append_inside(out: &mut Text, style: Style, asize: Bits, m: &Mem)
+    requires { array_vec_len out.old + length (spec.inside style asize m.now) ≤ 160 }
+    ensures { out.new.items ≡ out.old.items ++ spec.inside style asize m.now }
+{
+    if is_instruction_pointer(m.base) {
+        append(out, relative_word(style, m.base));
+        append_number(out, style, m.disp);
+    } else if is_absolute(m) {
+        append_lone_displacement(out, style, m);
+    } else {
+        append_sum(out, style, asize, m);
+    }
+}
+
+/// Appends the segment in front of the brackets.
+#[tactic(auto, unfolding(crate::specs::Addresses::bracket_segment, crate::specs::Registers::segment_override))]
+fn append_bracket_segment(out: &mut Text, style: Style, segment: Option<Segment>, m: &Mem)
+    requires { array_vec_len out.old + length (spec.bracket_segment style segment m.now) ≤ 160 }
+    ensures { out.new.items ≡ out.old.items ++ spec.bracket_segment style segment m.now }
+{
+    match style {
+        Style::Masm => match segment {
+            None => {
+                if is_absolute(m) {
+                    append(out, b"ds:");
+                }
+            }
+            Some(_) => append_override(out, style, segment),
+        },
+        _ => append_override(out, style, segment),
+    }
+}
+
+/// Appends an address in brackets.
+#[tactic(auto, unfolding(crate::specs::Addresses::bracketed))]
+pub fn append_bracketed(
+    out: &mut Text,
+    style: Style,
+    segment: Option<Segment>,
+    asize: Bits,
+    m: &Mem,
+)
+    requires { array_vec_len out.old + length (spec.bracketed style segment asize m.now) ≤ 160 }
+    ensures { out.new.items ≡ out.old.items ++ spec.bracketed style segment asize m.now }
+{
+    append_bracket_segment(out, style, segment, m);
+    append(out, b"[");
+    append_inside(out, style, asize, m);
+    append(out, b"]");
+}

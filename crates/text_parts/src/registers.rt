@@ -1,0 +1,185 @@
+//! The names of registers.
+
+ghost use Rattle.std.specs.Prelude.{◌≡◌, ◌≤◌, ◌+◌, [], ◌++◌, length};
+ghost use Rattle.arrayvec.specs.ArrayVec.{array_vec_len};
+ghost use Rattle.text_parts.specs.Registers as spec;
+
+use crate::numbers::append_decimal;
+use crate::style::Style;
+use crate::text::{Text, append};
+use x86_values::{Register, Segment};
+
+/// The name of one of the first eight general registers of 16 bits.
+#[inline]
+#[tactic(auto, unfolding(crate::specs::Registers::word_name))]
+fn word_name(n: u8) -> &'static [u8]
+    ensures { result.now ≡ spec.word_name n }
+{
+    match n {
+        0 => b"ax",
+        1 => b"cx",
+        2 => b"dx",
+        3 => b"bx",
+        4 => b"sp",
+        5 => b"bp",
+        6 => b"si",
+        _ => b"di",
+    }
+}
+
+/// The name of one of the first eight byte registers under REX.
+#[inline]
+#[tactic(auto, unfolding(crate::specs::Registers::low_byte_name))]
+fn low_byte_name(n: u8) -> &'static [u8]
+    ensures { result.now ≡ spec.low_byte_name n }
+{
+    match n {
+        0 => b"al",
+        1 => b"cl",
+        2 => b"dl",
+        3 => b"bl",
+        4 => b"spl",
+        5 => b"bpl",
+        6 => b"sil",
+        _ => b"dil",
+    }
+}
+
+/// The name of the high byte of one of the first four registers.
+#[inline]
+#[tactic(auto, unfolding(crate::specs::Registers::high_byte_name))]
+fn high_byte_name(n: u8) -> &'static [u8]
+    ensures { result.now ≡ spec.high_byte_name n }
+{
+    match n {
+        0 => b"ah",
+        1 => b"ch",
+        2 => b"dh",
+        _ => b"bh",
+    }
+}
+
+/// The name of a segment register.
+#[inline]
+#[tactic(auto, unfolding(crate::specs::Registers::segment_name))]
+pub fn segment_name(segment: Segment) -> &'static [u8]
+    ensures { result.now ≡ spec.segment_name segment }
+{
+    match segment {
+        Segment::Es => b"es",
+        Segment::Cs => b"cs",
+        Segment::Ss => b"ss",
+        Segment::Ds => b"ds",
+        Segment::Fs => b"fs",
+        Segment::Gs => b"gs",
+    }
+}
+
+/// Appends a name that is made of a number.
+fn append_numbered(out: &mut Text, front: &[u8], n: u8, back: &[u8])
+    requires { array_vec_len out.old + length (spec.numbered front.now n back.now) ≤ 160 }
+    ensures { out.new.items ≡ out.old.items ++ spec.numbered front.now n back.now }
+{
+    append(out, front);
+    append_decimal(out, n);
+    append(out, back);
+}
+
+/// Appends the name of a general register.
+fn append_general(out: &mut Text, front: &[u8], n: u8, letter: &[u8])
+    requires { array_vec_len out.old + length (spec.general_name front.now n letter.now) ≤ 160 }
+    ensures { out.new.items ≡ out.old.items ++ spec.general_name front.now n letter.now }
+{
+    if n < 8 {
+        append(out, front);
+        append(out, word_name(n));
+    } else {
+        append_numbered(out, b"r", n, letter);
+    }
+}
+
+/// Appends the name of a byte register other than AH, CH, DH and BH.
+fn append_low_byte(out: &mut Text, n: u8)
+    requires { array_vec_len out.old + length (spec.low_byte n) ≤ 160 }
+    ensures { out.new.items ≡ out.old.items ++ spec.low_byte n }
+{
+    if n < 8 {
+        append(out, low_byte_name(n));
+    } else {
+        append_numbered(out, b"r", n, b"b");
+    }
+}
+
+/// Appends the name of a stack register: `st0`, else `st(0)`.
+#[tactic(auto, unfolding(crate::specs::Registers::stack_name))]
+fn append_stack(out: &mut Text, style: Style, n: u8)
+    requires { array_vec_len out.old + length (spec.stack_name style n) ≤ 160 }
+    ensures { out.new.items ≡ out.old.items ++ spec.stack_name style n }
+{
+    match style {
+        Style::Intel => append_numbered(out, b"st", n, b""),
+        _ => append_numbered(out, b"st(", n, b")"),
+    }
+}
+
+/// Appends the name of a register.
+#[tactic(auto, unfolding(crate::specs::Registers::register_name))]
+fn append_register_name(out: &mut Text, style: Style, r: Register)
+    requires { array_vec_len out.old + length (spec.register_name style r) ≤ 160 }
+    ensures { out.new.items ≡ out.old.items ++ spec.register_name style r }
+{
+    match r {
+        Register::Low8(n) => append_low_byte(out, n),
+        Register::High8(n) => append(out, high_byte_name(n)),
+        Register::R16(n) => append_general(out, b"", n, b"w"),
+        Register::R32(n) => append_general(out, b"e", n, b"d"),
+        Register::R64(n) => append_general(out, b"r", n, b""),
+        Register::Seg(s) => append(out, segment_name(s)),
+        Register::Cr(n) => append_numbered(out, b"cr", n, b""),
+        Register::Dr(n) => append_numbered(out, b"dr", n, b""),
+        Register::St(n) => append_stack(out, style, n),
+        Register::Mm(n) => append_numbered(out, b"mm", n, b""),
+        Register::Xmm(n) => append_numbered(out, b"xmm", n, b""),
+        Register::Ymm(n) => append_numbered(out, b"ymm", n, b""),
+        Register::Eip => append(out, b"eip"),
+        Register::Rip => append(out, b"rip"),
+    }
+}
+
+/// What stands in front of a register's name: `%` in AT&T.
+#[inline]
+#[tactic(auto, unfolding(crate::specs::Registers::sigil))]
+fn sigil(style: Style) -> &'static [u8]
+    ensures { result.now ≡ spec.sigil style }
+{
+    match style {
+        Style::Att => b"%",
+        _ => b"",
+    }
+}
+
+/// Appends a register.
+#[tactic(auto, unfolding(crate::specs::Registers::register))]
+pub fn append_register(out: &mut Text, style: Style, r: Register)
+    requires { array_vec_len out.old + length (spec.register style r) ≤ 160 }
+    ensures { out.new.items ≡ out.old.items ++ spec.register style r }
+{
+    append(out, sigil(style));
+    append_register_name(out, style, r);
+}
+
+/// Appends a segment override: `fs:`, in AT&T `%fs:`.
+#[tactic(auto, unfolding(crate::specs::Registers::segment_override))]
+pub fn append_override(out: &mut Text, style: Style, segment: Option<Segment>)
+    requires { array_vec_len out.old + length (spec.segment_override style segment) ≤ 160 }
+    ensures { out.new.items ≡ out.old.items ++ spec.segment_override style segment }
+{
+    match segment {
+        None => {}
+        Some(s) => {
+            append(out, sigil(style));
+            append(out, segment_name(s));
+            append(out, b":");
+        }
+    }
+}

@@ -1,0 +1,128 @@
+use opcode_rows::{cell_len, first_of, well_formed};
+use row_types::{Map, RowKind};
+use x86_values::{Bits, Code, DispSize, Instr, Mem, Operand, Register, Rep, Segment};
+
+/// The code of the `n`-th row of a cell, or a code past the table.
+fn nth_code(kind: RowKind, map: Map, opcode: u8, n: u16) -> Code {
+    match first_of(kind, map, opcode) {
+        Some(first) => {
+            if n < cell_len(kind, map, opcode) {
+                Code(first.0 + n)
+            } else {
+                Code(u16::MAX)
+            }
+        }
+        None => Code(u16::MAX),
+    }
+}
+
+/// A row of the one-byte map.
+fn one(opcode: u8, n: u16) -> Code {
+    nth_code(RowKind::Legacy, Map::One, opcode, n)
+}
+
+fn plain(code: Code, first: Operand, second: Operand) -> Instr {
+    Instr {
+        code,
+        ops: [first, second, Operand::Absent, Operand::Absent],
+        lock: false,
+        rep: Rep::None,
+        seg: None,
+        asize: None,
+    }
+}
+
+fn memory(base: Option<Register>, disp: u64, disp_size: DispSize) -> Operand {
+    Operand::Mem(Mem {
+        base,
+        index: None,
+        scale: 1,
+        disp,
+        disp_size,
+    })
+}
+
+fn r64(n: u8) -> Operand {
+    Operand::Reg(Register::R64(n))
+}
+
+fn eax() -> Operand {
+    Operand::Reg(Register::R32(0))
+}
+
+/// `gs add eax, 0xffffffff` with LOCK and a memory operand in place of EAX.
+fn locked() -> Instr {
+    let mut instr = plain(
+        one(0x83, 1),
+        memory(Some(Register::Rip), 0x1007, DispSize::D32),
+        Operand::Imm(0xffff_ffff),
+    );
+    instr.lock = true;
+    instr.seg = Some(Segment::Gs);
+    instr
+}
+
+// Texts that assemblers of each style write of the same instruction.
+#[test]
+fn three_styles(rt: HostRuntime) {
+    let rsp = Some(Register::R64(4));
+    let rax = Some(Register::R64(0));
+    let far = Operand::Far {
+        selector: 8,
+        offset: 0x10,
+    };
+    let cases = [
+        (
+            Bits::B64,
+            plain(one(0x89, 2), memory(rsp, 0x10, DispSize::D8), r64(3)),
+            b"mov qword [rsp+0x10], rbx".as_slice(),
+            b"mov qword ptr [rsp+10h], rbx".as_slice(),
+            b"movq %rbx, 0x10(%rsp)".as_slice(),
+        ),
+        (
+            Bits::B64,
+            plain(one(0xff, 8), memory(rax, 0, DispSize::D0), Operand::Absent),
+            b"call qword [rax]".as_slice(),
+            b"call qword ptr [rax]".as_slice(),
+            b"callq *(%rax)".as_slice(),
+        ),
+        (
+            Bits::B32,
+            plain(one(0x9a, 1), far, Operand::Absent),
+            b"callf 0x8:0x10".as_slice(),
+            b"callf 8h:10h".as_slice(),
+            b"callf $0x8, $0x10".as_slice(),
+        ),
+        (
+            Bits::B64,
+            locked(),
+            b"lock add dword gs:[rel 0x1007], 0xffffffff".as_slice(),
+            b"lock add dword ptr gs:[1007h], 0ffffffffh".as_slice(),
+            b"lock addl $0xffffffff, %gs:0x1007(%rip)".as_slice(),
+        ),
+        (
+            Bits::B64,
+            plain(one(0xd8, 4), memory(rax, 0, DispSize::D0), Operand::Absent),
+            b"fsub dword [rax]".as_slice(),
+            b"fsub dword ptr [rax]".as_slice(),
+            b"fsubs (%rax)".as_slice(),
+        ),
+        (
+            Bits::B64,
+            plain(
+                nth_code(RowKind::Legacy, Map::M0f, 0xb6, 1),
+                eax(),
+                memory(Some(Register::R64(7)), 0xffff_ffff_ffff_fff8, DispSize::D8),
+            ),
+            b"movzx eax, byte [rdi-0x8]".as_slice(),
+            b"movzx eax, byte ptr [rdi-8h]".as_slice(),
+            b"movzbl -0x8(%rdi), %eax".as_slice(),
+        ),
+    ];
+    for (bits, instr, intel, masm, att) in cases {
+        assert!(rt; well_formed(&instr));
+        assert_eq!(rt; intel_text::print(bits, &instr).as_slice(), intel);
+        assert_eq!(rt; masm_text::print(bits, &instr).as_slice(), masm);
+        assert_eq!(rt; att_text::print(bits, &instr).as_slice(), att);
+    }
+}
