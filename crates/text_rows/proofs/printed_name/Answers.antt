@@ -8,5 +8,5 @@ name-requires c = code_in_table c.args.instr.now c.requires
 
 pub returns-clause-short : goal.returns-clause-short
 returns-clause-short c =
-    let same = ap length (c.as_bytes.ensures.value ∙ c.name.ensures) in
+    let same = ap length (c.as_bytes.ensures.value ∙ c.name.ensures.name) in
     omega (arith, same, name_of-le c.args.instr.now.code.0)

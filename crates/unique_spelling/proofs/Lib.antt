@@ -1,0 +1,4 @@
+pub mod Parts
+pub mod ModRmParts
+pub mod Bridge
+pub mod Unique

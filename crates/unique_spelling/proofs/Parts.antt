@@ -1,0 +1,252 @@
+-- What each condition of a fit says of the fields: class, place in the table, sizes, W and L.
+use Rattle.std.proofs.Common.{◌≡◌, ℕ, ◌+◌, List, Bool, true, false, not, ◌&&◌, ◌||◌, refl, ap, sym, ◌∙◌, eq-eqb, nat_le, nat_lt}
+use Rattle.std.specs.Prelude.{◌==◌}
+use Rattle.x86_values.specs.declared.Bits.{Bits}
+use Rattle.x86_values.specs.declared.Bits.TheVariants.{B16, B32, B64}
+use Rattle.x86_values.specs.declared.Rep.{Rep}
+use Rattle.x86_values.specs.declared.Rep.TheVariants as rep
+use Rattle.row_types.specs.declared.RowKind.{RowKind}
+use Rattle.row_types.specs.declared.RowKind.TheVariants as kind
+use Rattle.row_types.specs.declared.Map.{Map}
+use Rattle.row_types.specs.declared.Map.TheVariants as map
+use Rattle.row_types.specs.declared.Class.{Class}
+use Rattle.row_types.specs.declared.Class.TheVariants as class
+use Rattle.row_types.specs.declared.Plus.{Plus}
+use Rattle.row_types.specs.declared.Plus.TheVariants as plus
+use Rattle.row_types.specs.declared.Size.{Size}
+use Rattle.row_types.specs.declared.Size.TheVariants as size
+use Rattle.row_types.specs.declared.WBit.{WBit}
+use Rattle.row_types.specs.declared.WBit.TheVariants as w
+use Rattle.row_types.specs.declared.LBit.{LBit}
+use Rattle.row_types.specs.declared.LBit.TheVariants as l
+use Rattle.instruction_parts.specs.declared.spelling.Vex.{Vex}
+use Rattle.instruction_parts.specs.declared.spelling.PrefixState.{PrefixState}
+use Rattle.instruction_parts.specs.Counting.{is_64, rex_bit, counting_rex}
+use Rattle.instruction_parts.proofs.Tests.{equal_from}
+use Rattle.row_fit.specs.Fits.{same_map, is_map_one, is_no_repeat, is_repeat_f3, is_repeat_f2, legacy_class_fits, vex_class_fits, size_fits, takes_w_as_size, l_fits}
+use Rattle.row_fit.specs.Sound.{is_no_w, is_no_l, is_size_of_vex}
+use Rattle.row_fields.specs.Holds.{is_vex, map_number, opcode_holds, prefix_of, class_allows, size_allows, w_as_size, w_allows, l_holds}
+use Rattle.unique_spelling.specs.FieldsOf.{repeat_of_pp}
+
+-- ---- kind and map
+
+-- whether a kind is VEX, as a row says it
+pub kind-vex : (k : RowKind) → is_vex k ≡ (elim k [ kind.Legacy ↦ false | kind.Vex ↦ true ])
+kind-vex kind.Legacy = refl
+kind-vex kind.Vex = refl
+
+pub same_map-eq : (a b : Map) → same_map a b ≡ true → a ≡ b
+same_map-eq map.One map.One h = refl
+same_map-eq map.One map.M0f h = cc
+same_map-eq map.One map.M0f38 h = cc
+same_map-eq map.One map.M0f3a h = cc
+same_map-eq map.M0f map.One h = cc
+same_map-eq map.M0f map.M0f h = refl
+same_map-eq map.M0f map.M0f38 h = cc
+same_map-eq map.M0f map.M0f3a h = cc
+same_map-eq map.M0f38 map.One h = cc
+same_map-eq map.M0f38 map.M0f h = cc
+same_map-eq map.M0f38 map.M0f38 h = refl
+same_map-eq map.M0f38 map.M0f3a h = cc
+same_map-eq map.M0f3a map.One h = cc
+same_map-eq map.M0f3a map.M0f h = cc
+same_map-eq map.M0f3a map.M0f38 h = cc
+same_map-eq map.M0f3a map.M0f3a h = refl
+
+-- the opcode byte 90 of the one-byte map, in both ways of saying it
+pub nop-byte : (k : RowKind) (m : Map) (b : Bool)
+    → ((map_number (is_vex k) m == 0) && b) ≡ (not (elim k [ kind.Legacy ↦ false | kind.Vex ↦ true ]) && (is_map_one m && b))
+nop-byte kind.Legacy map.One b = refl
+nop-byte kind.Legacy map.M0f b = refl
+nop-byte kind.Legacy map.M0f38 b = refl
+nop-byte kind.Legacy map.M0f3a b = refl
+nop-byte kind.Vex map.One b = refl
+nop-byte kind.Vex map.M0f b = refl
+nop-byte kind.Vex map.M0f38 b = refl
+nop-byte kind.Vex map.M0f3a b = refl
+
+pub opcode-held : (p : Plus) (first o : ℕ)
+    → (elim p [ plus.Register ↦ nat_le first o && nat_lt o (first + 8) | _ ↦ o == first ]) ≡ true → opcode_holds p first o ≡ true
+opcode-held plus.Register first o h = h
+opcode-held plus.No first o h = eq-eqb first o (sym (equal_from o first h))
+opcode-held plus.Stack first o h = eq-eqb first o (sym (equal_from o first h))
+
+-- ---- class
+
+np : (s : Bool) (r : Rep) → (not s && is_no_repeat r) ≡ true → (prefix_of r s == 0) ≡ true
+np false rep.None h = refl
+np false rep.F2 h = cc
+np false rep.F3 h = cc
+np true rep.None h = cc
+np true rep.F2 h = cc
+np true rep.F3 h = cc
+
+nfx : (s : Bool) (r : Rep) → is_no_repeat r ≡ true → nat_lt (prefix_of r s) 2 ≡ true
+nfx false rep.None h = refl
+nfx true rep.None h = refl
+nfx s rep.F2 h = cc
+nfx s rep.F3 h = cc
+
+pub nf3 : (s : Bool) (r : Rep) → not (is_repeat_f3 r) ≡ true → not (prefix_of r s == 2) ≡ true
+nf3 false rep.None h = refl
+nf3 true rep.None h = refl
+nf3 s rep.F2 h = refl
+nf3 s rep.F3 h = cc
+
+p66 : (s : Bool) (r : Rep) → (s && is_no_repeat r) ≡ true → (prefix_of r s == 1) ≡ true
+p66 true rep.None h = refl
+p66 true rep.F2 h = cc
+p66 true rep.F3 h = cc
+p66 false r h = cc
+
+f3 : (s : Bool) (r : Rep) → is_repeat_f3 r ≡ true → (prefix_of r s == 2) ≡ true
+f3 s rep.None h = cc
+f3 s rep.F2 h = cc
+f3 s rep.F3 h = refl
+
+f2 : (s : Bool) (r : Rep) → is_repeat_f2 r ≡ true → (prefix_of r s == 3) ≡ true
+f2 s rep.None h = cc
+f2 s rep.F2 h = refl
+f2 s rep.F3 h = cc
+
+pub legacy-class : (c : Class) (state : PrefixState) → legacy_class_fits c state ≡ true → class_allows c (prefix_of state.rep state.size66) ≡ true
+unfolding legacy_class_fits
+legacy-class class.Any state h = refl
+legacy-class class.Np state h = np state.size66 state.rep h
+legacy-class class.Nfx state h = nfx state.size66 state.rep h
+legacy-class class.Nf3 state h = nf3 state.size66 state.rep h
+legacy-class class.P66 state h = p66 state.size66 state.rep h
+legacy-class class.F3 state h = f3 state.size66 state.rep h
+legacy-class class.F2 state h = f2 state.size66 state.rep h
+
+-- the prefix that pp stands for
+abbrev pub prefix_of_pp : ℕ → ℕ
+prefix_of_pp pp = prefix_of (repeat_of_pp pp) (pp == 1)
+
+with_pp : (c : Class) (pp n : ℕ) → pp ≡ n → class_allows c (prefix_of_pp n) ≡ true → class_allows c (prefix_of_pp pp) ≡ true
+with_pp c pp n e h = ap (λ x. class_allows c (prefix_of_pp x)) e ∙ h
+
+pub vex-class : (c : Class) (v : Vex) → vex_class_fits c v ≡ true → class_allows c (prefix_of_pp v.pp) ≡ true
+unfolding vex_class_fits
+vex-class class.Any v h = cc
+vex-class class.Np v h = with_pp class.Np v.pp 0 (equal_from v.pp 0 h) refl
+vex-class class.Nfx v h = cc
+vex-class class.Nf3 v h = cc
+vex-class class.P66 v h = with_pp class.P66 v.pp 1 (equal_from v.pp 1 h) refl
+vex-class class.F3 v h = with_pp class.F3 v.pp 2 (equal_from v.pp 2 h) refl
+vex-class class.F2 v h = with_pp class.F2 v.pp 3 (equal_from v.pp 3 h) refl
+
+-- ---- sizes
+
+-- a REX counts in 64-bit mode alone
+pub rex-64 : (bits : Bits) (prefixes : List ℕ) (n : ℕ)
+    → (is_64 bits && rex_bit n (counting_rex bits prefixes)) ≡ rex_bit n (counting_rex bits prefixes)
+unfolding counting_rex
+rex-64 B16 prefixes n = refl
+rex-64 B32 prefixes n = refl
+rex-64 B64 prefixes n = refl
+
+pub size-allowed : (bits : Bits) (z : Size) (n : Bits) (x : Bool) → size_fits bits z n x ≡ true → size_allows z n ≡ true
+unfolding size_fits
+size-allowed bits size.None n x h = refl
+size-allowed bits size.O16 n x h = h
+size-allowed bits size.O32 n x h = h
+size-allowed bits size.O32or64 n x h = h
+size-allowed bits size.O64 n x h = h
+size-allowed bits size.W0 n x h = refl
+size-allowed bits size.W1 n x h = refl
+
+pub size-of_vex : (z : Size) (n : Bits) → is_size_of_vex z ≡ true → size_allows z n ≡ true
+size-of_vex size.None n h = refl
+size-of_vex size.O16 n h = cc
+size-of_vex size.O32 n h = cc
+size-of_vex size.O32or64 n h = cc
+size-of_vex size.O64 n h = cc
+size-of_vex size.W0 n h = refl
+size-of_vex size.W1 n h = refl
+
+pub w-as_size : (bits : Bits) (z : Size) (n : Bits) (x : Bool) → size_fits bits z n x ≡ true → w_as_size z x ≡ true
+unfolding size_fits
+w-as_size bits size.None n x h = refl
+w-as_size bits size.O16 n x h = refl
+w-as_size bits size.O32 n x h = refl
+w-as_size bits size.O32or64 n x h = refl
+w-as_size bits size.O64 n x h = refl
+w-as_size bits size.W0 n x h = h
+w-as_size bits size.W1 n x h = h
+
+pub w-of_legacy : (z : Size) (x : WBit) (b : Bool) → is_no_w x ≡ true → w_allows z x b ≡ true
+w-of_legacy size.None w.None b h = refl
+w-of_legacy size.None w.W0 b h = cc
+w-of_legacy size.None w.W1 b h = cc
+w-of_legacy size.None w.Wig b h = cc
+w-of_legacy size.O16 w.None b h = refl
+w-of_legacy size.O16 w.W0 b h = cc
+w-of_legacy size.O16 w.W1 b h = cc
+w-of_legacy size.O16 w.Wig b h = cc
+w-of_legacy size.O32 w.None b h = refl
+w-of_legacy size.O32 w.W0 b h = cc
+w-of_legacy size.O32 w.W1 b h = cc
+w-of_legacy size.O32 w.Wig b h = cc
+w-of_legacy size.O32or64 w.None b h = refl
+w-of_legacy size.O32or64 w.W0 b h = cc
+w-of_legacy size.O32or64 w.W1 b h = cc
+w-of_legacy size.O32or64 w.Wig b h = cc
+w-of_legacy size.O64 w.None b h = refl
+w-of_legacy size.O64 w.W0 b h = cc
+w-of_legacy size.O64 w.W1 b h = cc
+w-of_legacy size.O64 w.Wig b h = cc
+w-of_legacy size.W0 w.None b h = refl
+w-of_legacy size.W0 w.W0 b h = refl
+w-of_legacy size.W0 w.W1 b h = refl
+w-of_legacy size.W0 w.Wig b h = refl
+w-of_legacy size.W1 w.None b h = refl
+w-of_legacy size.W1 w.W0 b h = refl
+w-of_legacy size.W1 w.W1 b h = refl
+w-of_legacy size.W1 w.Wig b h = refl
+
+pub w-of_vex : (z : Size) (x : WBit) (b : Bool)
+    → (takes_w_as_size z || elim x [ w.W0 ↦ not b | w.W1 ↦ b | _ ↦ true ]) ≡ true → w_allows z x b ≡ true
+w-of_vex size.None w.None b h = refl
+w-of_vex size.None w.W0 b h = h
+w-of_vex size.None w.W1 b h = h
+w-of_vex size.None w.Wig b h = refl
+w-of_vex size.O16 w.None b h = refl
+w-of_vex size.O16 w.W0 b h = h
+w-of_vex size.O16 w.W1 b h = h
+w-of_vex size.O16 w.Wig b h = refl
+w-of_vex size.O32 w.None b h = refl
+w-of_vex size.O32 w.W0 b h = h
+w-of_vex size.O32 w.W1 b h = h
+w-of_vex size.O32 w.Wig b h = refl
+w-of_vex size.O32or64 w.None b h = refl
+w-of_vex size.O32or64 w.W0 b h = h
+w-of_vex size.O32or64 w.W1 b h = h
+w-of_vex size.O32or64 w.Wig b h = refl
+w-of_vex size.O64 w.None b h = refl
+w-of_vex size.O64 w.W0 b h = h
+w-of_vex size.O64 w.W1 b h = h
+w-of_vex size.O64 w.Wig b h = refl
+w-of_vex size.W0 w.None b h = refl
+w-of_vex size.W0 w.W0 b h = refl
+w-of_vex size.W0 w.W1 b h = refl
+w-of_vex size.W0 w.Wig b h = refl
+w-of_vex size.W1 w.None b h = refl
+w-of_vex size.W1 w.W0 b h = refl
+w-of_vex size.W1 w.W1 b h = refl
+w-of_vex size.W1 w.Wig b h = refl
+
+pub l-of_legacy : (x : LBit) → is_no_l x ≡ true → l_holds x false ≡ true
+l-of_legacy l.None h = refl
+l-of_legacy l.L128 h = cc
+l-of_legacy l.L256 h = cc
+l-of_legacy l.Lig h = cc
+l-of_legacy l.Lz h = cc
+
+pub l-of_vex : (x : LBit) (v : Vex) → l_fits x v ≡ true → l_holds x v.l ≡ true
+unfolding l_fits
+l-of_vex l.None v h = refl
+l-of_vex l.L128 v h = h
+l-of_vex l.L256 v h = h
+l-of_vex l.Lig v h = refl
+l-of_vex l.Lz v h = h

@@ -1,0 +1,27 @@
+//! What holds of the fitting spellings of all rows.
+ghost use Rattle.std.specs.Prelude.{◌≡◌, ℕ, List, ◌++◌, IsTrue, slice_get, Some};
+ghost use Rattle.x86_values.specs.declared.Bits.{Bits};
+ghost use Rattle.row_types.specs.declared.Row.{Row};
+ghost use Rattle.instruction_parts.specs.declared.spelling.Spelling.{Spelling};
+ghost use Rattle.instruction_parts.specs.Bytes.{bytes_of, state_of, tail_bytes};
+ghost use Rattle.row_fit.specs.Fits.{fits};
+ghost use Rattle.row_fields.specs.Holds.{holds};
+ghost use Rattle.opcode_rows.specs.Table.{table};
+ghost use Rattle.unique_spelling.specs.FieldsOf.{fields_of, first_byte};
+
+/// Where a spelling fits a row of the table, the row's conditions hold on the nine fields that the spelling's prefixes, VEX, opcode byte and the
+/// byte behind it give, whatever stands behind the spelling.
+pub fn fitting_rows_hold()
+    ensures { (bits : Bits) (code : ℕ) (row : Row) (s : Spelling) (rest : List ℕ)
+        → slice_get table code ≡ Some row → IsTrue (fits bits row s)
+        → IsTrue (holds bits row (fields_of (state_of bits row s) (first_byte (tail_bytes s ++ rest)))) }
+{}
+
+/// In each mode, fitting spellings of rows of the table that begin the same bytes are the same spelling of the same row, with the same rest. So
+/// bytes have at most one row and spelling, and no bytes of a fitting spelling begin those of another.
+pub fn spellings_are_unique()
+    ensures { (bits : Bits) (j k : ℕ) (q r : Row) (s t : Spelling) (rest others : List ℕ)
+        → slice_get table j ≡ Some q → slice_get table k ≡ Some r → IsTrue (fits bits q s) → IsTrue (fits bits r t)
+        → bytes_of q s ++ rest ≡ bytes_of r t ++ others
+        → (j ≡ k) × (s ≡ t) × (rest ≡ others) }
+{}
