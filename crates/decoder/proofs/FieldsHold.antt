@@ -1,6 +1,6 @@
 -- A row that a spelling fits holds on the nine fields that the spelling's bytes show.
-use Rattle.std.proofs.Common.{◌≡◌, ◌⊎◌, inl, inr, ℕ, ◌+◌, ◌*◌, ◌/◌, ◌%◌, ◌<◌, ◌≤◌, Bool, true, false, ◌&&◌, ◌||◌, not, ◌==◌, nat_le, nat_lt, List, Option, Some, None, is_some, is_none, refl, ap, sym, ◌∙◌, subst, arith, if◌then◌else◌, length}
-use Rattle.std.specs.List.{list_any, list_all}
+use Rattle.std.proofs.Common.{◌≡◌, ◌⊎◌, inl, inr, ℕ, Bool, true, false, ◌&&◌, ◌||◌, not, ◌==◌, List, Option, Some, None, is_some, refl, ap, sym, ◌∙◌, if◌then◌else◌}
+use Rattle.std.specs.List.{list_all}
 use Rattle.x86_values.specs.declared.Bits.{Bits}
 use Rattle.x86_values.specs.declared.Bits.TheVariants.{B16, B32, B64}
 use Rattle.x86_values.specs.declared.Rep.{Rep}
@@ -22,20 +22,19 @@ use Rattle.instruction_parts.specs.declared.spelling.Vex.{Vex}
 use Rattle.instruction_parts.specs.declared.spelling.ModRm.{ModRm}
 use Rattle.instruction_parts.specs.declared.spelling.Spelling.{Spelling}
 use Rattle.instruction_parts.specs.declared.spelling.PrefixState.{PrefixState}
-use Rattle.instruction_parts.specs.Counting.{is_16, is_32, is_64, counting_rex, rex_bit}
-use Rattle.instruction_parts.specs.Sizes.{exists_in, is_vex_row, operand_size, state_size, bit_b, bit_w, shared_bit}
+use Rattle.instruction_parts.specs.Counting.{is_64, counting_rex, rex_bit}
+use Rattle.instruction_parts.specs.Sizes.{is_vex_row, operand_size, state_size, bit_b, bit_w, shared_bit}
 use Rattle.instruction_parts.specs.Bytes.{state_of, state_from}
-use Rattle.row_fit.specs.Fits.{fits, Fits, is_no_repeat, is_repeat_f3, is_repeat_f2, is_map_one, legacy_class_fits, vex_class_fits, class_fits, size_fits, takes_w_as_size, w_fits, l_fits, sizes_fit, is_nop_byte, nop_fits, registers_fit, register_fits, destination_fits, reads_by, is_gather, gather_fits, place_allows, place_fits, opcode_fits, opcode_and_modrm_fit, modrm_rule_fits, vex_fits, mode_fits}
-use Rattle.row_fit.specs.Sound.{Sound, sound, kind_is_proper, vex_is_proper, legacy_is_proper, is_no_w, is_no_l, is_class_of_vex, is_size_of_vex}
+use Rattle.row_fit.specs.Fits.{fits, is_no_repeat, is_repeat_f3, is_repeat_f2, is_map_one, legacy_class_fits, vex_class_fits, class_fits, size_fits, takes_w_as_size, w_fits, l_fits, sizes_fit, is_nop_byte, nop_fits, registers_fit, register_fits, destination_fits, reads_by, is_gather, gather_fits, place_allows, place_fits, opcode_fits, opcode_and_modrm_fit, modrm_rule_fits}
+use Rattle.row_fit.specs.Sound.{sound, kind_is_proper, vex_is_proper, legacy_is_proper, is_no_w, is_no_l, is_class_of_vex, is_size_of_vex}
 use Rattle.row_fit.proofs.SoundLaws.{sound_conditions}
 use Rattle.row_fit.proofs.FitLaws.{all_conditions, modrm_range}
-use Rattle.row_fields.specs.declared.Fields.{Fields}
-use Rattle.row_fields.specs.Holds.{is_vex, map_number, stands_in, at_90, prefix_of, class_allows, adds_register, prefix_holds, rex_b_at_90, rex_b_holds, byte_holds, place_holds, reg_holds, rm_holds, byte_of, size_allows, size_holds, w_as_size, w_allows, w_holds, l_holds, holds}
-use Rattle.instruction_parts.proofs.Tests.{either, and_left, and_right, not_true, or_right, equal_from}
+use Rattle.row_fields.specs.Holds.{is_vex, map_number, at_90, prefix_of, class_allows, adds_register, prefix_holds, rex_b_at_90, rex_b_holds, size_allows, size_holds, w_as_size, w_allows, w_holds, l_holds, holds}
+use Rattle.instruction_parts.proofs.Tests.{and_left, and_right, not_true, or_right, equal_from}
 use Rattle.decoder.specs.Fields.{repeat_of_pp, fields_of, ByteIs}
 use Rattle.decoder.proofs.Placed.{placed}
 use Rattle.decoder.proofs.InCell.{kind_is_vex, stands_by_state}
-use Rattle.decoder.proofs.ModRmHolds.{ModRmHolds, LimitAllows, modrm_holds}
+use Rattle.decoder.proofs.ModRmHolds.{LimitAllows, modrm_holds}
 
 -- ---- REX outside 64-bit mode
 

@@ -1,5 +1,5 @@
 -- What a fitting spelling of a sound row means has the form of the row.
-use Rattle.std.proofs.Common.{◌≡◌, ◌⊎◌, inl, inr, ℕ, zero, suc, ◌+◌, ◌-◌, ◌*◌, ◌/◌, ◌%◌, ◌<◌, ◌≤◌, Bool, true, false, ◌&&◌, ◌||◌, not, ◌==◌, nat_le, nat_lt, List, [], ◌∷◌, length, take, drop, Option, Some, None, is_some, is_none, IsTrue, refl, ap, sym, ◌∙◌, subst, arith, if◌then◌else◌, slice_index, slice_index_or, slice_get}
+use Rattle.std.proofs.Common.{◌≡◌, ◌⊎◌, inl, inr, ℕ, zero, suc, ◌+◌, ◌/◌, ◌%◌, ◌<◌, ◌≤◌, Bool, true, false, ◌&&◌, ◌||◌, not, ◌==◌, nat_lt, List, [], ◌∷◌, length, take, drop, Option, Some, None, is_some, is_none, refl, ap, sym, ◌∙◌, subst, arith, if◌then◌else◌, slice_index, slice_index_or, slice_get}
 use Rattle.std.specs.List.{list_any, list_all}
 use borrow.Author.Tests.{ltb-true, leb-true}
 use Rattle.x86_values.specs.declared.Bits.{Bits}
@@ -8,11 +8,10 @@ use Rattle.x86_values.specs.declared.Instr.{Instr}
 use Rattle.x86_values.specs.declared.Decoded.{Decoded}
 use Rattle.x86_values.specs.declared.Register.{Register}
 use Rattle.x86_values.specs.declared.Operand.{Operand}
-use Rattle.x86_values.specs.declared.Operand.TheVariants.{Absent as AbsentOperand, Reg, Mem as MemOperand}
+use Rattle.x86_values.specs.declared.Operand.TheVariants.{Reg, Mem as MemOperand}
 use Rattle.row_types.specs.declared.Row.{Row}
 use Rattle.row_types.specs.declared.Place.{Place}
 use Rattle.row_types.specs.declared.Place.TheVariants.{Any as AnyPlace, Memory, Register as OnlyRegister}
-use Rattle.row_types.specs.declared.Plus.{Plus}
 use Rattle.row_types.specs.declared.ModRmRule.{ModRmRule}
 use Rattle.row_types.specs.declared.ModRmRule.TheVariants.{No as NoModRm, Any as AnyModRm, Digit, Fixed as FixedByte}
 use Rattle.row_types.specs.declared.OpKind.{OpKind}
@@ -28,9 +27,9 @@ use Rattle.instruction_parts.specs.declared.spelling.Spelling.{Spelling}
 use Rattle.instruction_parts.specs.declared.spelling.PrefixState.{PrefixState}
 use Rattle.instruction_parts.specs.Kinds.{method_of, file_of, fixed_number}
 use Rattle.instruction_parts.specs.Counting.{is_64}
-use Rattle.instruction_parts.specs.Sizes.{state_size, bit_r, bit_x, bit_b, shared_bit, is_vex_row, state_address_size}
+use Rattle.instruction_parts.specs.Sizes.{state_size, bit_r, bit_x, bit_b, is_vex_row, state_address_size}
 use Rattle.instruction_parts.specs.Bytes.{state_of, state_from}
-use Rattle.row_fit.specs.Fits.{fits, Fits, has_modrm, reads_by, is_gather, is_any_mode, reads_mode, extended, reg_field, rm_field, reg_number, rm_number, vvvv_number, index_number, same_bool, place_allows, place_of, place_fits, modrm_rule_fits, opcode_fits, opcode_and_modrm_fit, needs_sib, displacement_bytes, address_fits, kind_at, lengths_fit, immediate_bytes, register_fits, destination_fits, gather_fits, is_nop_byte, nop_fits, registers_fit, are_bytes, vex_in_range, modrm_in_range, sib_in_range, fields_in_range, vex_fits}
+use Rattle.row_fit.specs.Fits.{fits, Fits, has_modrm, reads_by, is_gather, is_any_mode, reads_mode, extended, reg_field, rm_field, reg_number, rm_number, vvvv_number, index_number, same_bool, place_allows, place_fits, modrm_rule_fits, opcode_fits, opcode_and_modrm_fit, needs_sib, displacement_bytes, address_fits, kind_at, lengths_fit, immediate_bytes, register_fits, destination_fits, gather_fits, registers_fit, are_bytes, vex_in_range, modrm_in_range, sib_in_range, fields_in_range, vex_fits}
 use Rattle.row_fit.specs.Sound.{Sound, sound, reads_reg, reads_rm, has_modrm_rule, kind_is_proper, vex_is_proper, legacy_is_proper, is_fixed_rule, is_one, size_says_w, is_size_of_vex, is_class_of_vex, is_no_l, is_no_w, is_byte_file, operands_are_proper, operands_are_apart, count_where, at_most_one}
 use Rattle.row_fit.proofs.SoundLaws.{sound_conditions}
 use Rattle.row_fit.proofs.FitLaws.{all_conditions, modrm_range, sib_range}
@@ -41,7 +40,7 @@ use Rattle.opcode_rows.specs.Allowed.{is_register, is_memory, is_allowed_in, is_
 use Rattle.instruction_parts.proofs.Tests.{either, and_left, and_right, not_true, or_right, equal_from}
 use Rattle.opcode_rows.proofs.Formed.{well_formed-at}
 use Rattle.decoder.proofs.ReadingLaws.{meaning_code}
-use Rattle.decoder.proofs.FormedRegisters.{lt_true, both, IsNumber, register_named, extended_small, extended_low, no_bit, IsAddress, address_numbers, SibRange, SibRangeIf, with_sib_address, memory_address, absolute_address}
+use Rattle.decoder.proofs.FormedRegisters.{both, register_named, extended_small, extended_low, no_bit, address_numbers, SibRangeIf, with_sib_address, memory_address, absolute_address}
 
 -- ---- one operand of a list
 
@@ -145,7 +144,7 @@ gather_reads_mode row one gather = elim (either (reads_by is_any_mode row)) [
   | inl some_mode ↦
       let most : count_where (λ kind. reads_rm (method_of kind)) row.ops ≤ 1 = leb-true _ 1 one in
       let two = count_two (λ kind. is_gather (method_of kind)) (λ kind. is_any_mode (method_of kind)) (λ kind. reads_rm (method_of kind))
-          (λ k. gather_reads_rm (method_of k)) (λ k. any_mode_reads_rm (method_of k)) (λ k. gather_is_not_any_mode (method_of k)) row.ops gather some_mode in
+      (λ k. gather_reads_rm (method_of k)) (λ k. any_mode_reads_rm (method_of k)) (λ k. gather_is_not_any_mode (method_of k)) row.ops gather some_mode in
       absurd (omega (arith, most, two))
 ]
 
@@ -185,6 +184,7 @@ byte_is_legacy row n proper file = by_kind (is_vex_row row) proper
   where
     is_byte : (f : File) → f ≡ ByteFile → is_byte_file f ≡ true
     is_byte f e = ap is_byte_file e
+
     by_kind : (test : Bool) → (if test then vex_is_proper row else legacy_is_proper row) ≡ true → test ≡ false
     by_kind false h = refl
     by_kind true h =
@@ -207,6 +207,7 @@ modrm_there row opcode m h rule =
     some_passes : (p : ModRm → Bool) (o : Option ModRm) → has_modrm p o ≡ true → is_some o ≡ true
     some_passes p None e = cc
     some_passes p (Some x) e = refl
+
     by_rule : (r : ModRmRule) → has_modrm_rule r ≡ true → modrm_rule_fits row.plus r m ≡ true → is_some m ≡ true
     by_rule NoModRm e f = cc
     by_rule AnyModRm e f = f
@@ -296,6 +297,7 @@ vvvv_small bits state h = by_vex state.vex h
     by_mode : (v : Vex) (test : Bool) → v.vvvv < 16 → (if test then v.vvvv else v.vvvv % 8) < 16
     by_mode v true e = e
     by_mode v false e = omega arith
+
     by_vex : (vex : Option Vex) → vex_in_range vex ≡ true → (elim vex [ None ↦ 0 | Some v ↦ (if is_64 bits then v.vvvv else v.vvvv % 8) ]) < 16
     by_vex None e = omega arith
     by_vex (Some v) e = by_mode v (is_64 bits) (ltb-true v.vvvv 16 (and_left (nat_lt v.vvvv 16) _ e))
@@ -340,8 +342,10 @@ low_numbers bits row state m sib f v r =
     and_false : (b c : Bool) → c ≡ false → (b && c) ≡ false
     and_false true c e = e
     and_false false c e = refl
+
     b_is : state.vex ≡ None → state.rex ≡ None → bit_b bits state ≡ false
     b_is a b = and_false (is_64 bits) _ (no_bit (λ v. v.b) 0 state a b)
+
     index_field : (o : Option Sib) → SibRangeIf o → (elim o [ None ↦ 0 | Some s ↦ s.index ]) < 8
     index_field None e = omega arith
     index_field (Some s) e = e.index
@@ -462,6 +466,7 @@ rm_formed bits row state (Some m) sib disp next r there range sibs place named =
   where
     memory : Operand
     memory = MemOperand (memory_of bits (state_address_size bits state) state m sib next disp)
+
     step : (test : Bool) → nat_lt m.mode3 3 ≡ test → (let x : Operand = if test then memory else Reg r in (is_allowed_in row.place x && has_numbers x)) ≡ true
     step true e = both _ _ (allowed_memory row.place m memory (place_of_row row m place) e refl) (modrm_memory bits state m sib disp next range sibs)
     step false e = both _ _ (allowed_register row.place m (Reg r) (place_of_row row m place) e refl) named

@@ -1,13 +1,11 @@
 -- The registers and addresses that a fitting spelling names have numbers of their class.
-use Rattle.std.proofs.Common.{◌≡◌, ◌⊎◌, inl, inr, ℕ, zero, suc, ◌+◌, ◌-◌, ◌*◌, ◌/◌, ◌%◌, ◌^◌, ◌<◌, ◌≤◌, Bool, true, false, ◌&&◌, ◌||◌, not, ◌==◌, nat_lt, List, [], ◌∷◌, length, take, drop, Option, Some, None, is_some, refl, ap, sym, ◌∙◌, subst, arith, if◌then◌else◌, slice_index}
-use Rattle.std.specs.List.{list_any, list_all}
+use Rattle.std.proofs.Common.{◌≡◌, ℕ, zero, suc, ◌-◌, ◌%◌, ◌^◌, ◌<◌, Bool, true, false, ◌&&◌, ◌==◌, nat_lt, List, Option, Some, None, refl, arith, if◌then◌else◌}
 use Rattle.x86_values.specs.declared.Bits.{Bits}
 use Rattle.x86_values.specs.declared.Bits.TheVariants.{B16, B32, B64}
 use Rattle.x86_values.specs.declared.Register.{Register}
 use Rattle.x86_values.specs.declared.Register.TheVariants.{Low8, High8, R16}
 use Rattle.x86_values.specs.declared.Mem.{Mem}
-use Rattle.x86_values.specs.declared.Operand.{Operand}
-use Rattle.x86_values.specs.declared.Operand.TheVariants.{Absent as AbsentOperand, Reg, Mem as MemOperand}
+use Rattle.x86_values.specs.declared.Operand.TheVariants.{Mem as MemOperand}
 use Rattle.row_types.specs.declared.Row.{Row}
 use Rattle.row_types.specs.declared.LBit.{LBit}
 use Rattle.row_types.specs.declared.LBit.TheVariants.{None as NoL, L128, L256, Lig, Lz}
@@ -17,13 +15,10 @@ use Rattle.instruction_parts.specs.declared.spelling.Vex.{Vex}
 use Rattle.instruction_parts.specs.declared.spelling.ModRm.{ModRm}
 use Rattle.instruction_parts.specs.declared.spelling.Sib.{Sib}
 use Rattle.instruction_parts.specs.declared.spelling.PrefixState.{PrefixState}
-use Rattle.instruction_parts.specs.Sizes.{state_size, bit_r, bit_x, bit_b, bit_w, shared_bit}
-use Rattle.instruction_parts.specs.Counting.{is_64}
-use Rattle.instruction_parts.specs.Bytes.{bit}
-use Rattle.row_fit.specs.Fits.{extended, is_displacement_alone, modrm_in_range, sib_in_range, index_number}
-use Rattle.row_meaning.specs.Meaning.{general, byte_register, vector, word_or_dword, size_by_w, native_size, register_of, displacement, base_16, index_16, memory_16, memory_alone, scale_of, sib_base, sib_index, memory_with_sib, memory_at_base, memory_flat, memory_of, memory_absolute}
+use Rattle.instruction_parts.specs.Sizes.{state_size, bit_x, bit_b, bit_w, shared_bit}
+use Rattle.row_fit.specs.Fits.{extended, is_displacement_alone, index_number}
+use Rattle.row_meaning.specs.Meaning.{general, byte_register, vector, word_or_dword, size_by_w, native_size, register_of, base_16, index_16, memory_16, memory_alone, scale_of, sib_base, sib_index, memory_with_sib, memory_at_base, memory_flat, memory_of, memory_absolute}
 use Rattle.opcode_rows.specs.Allowed.{is_named, is_named_if, is_scale, has_numbers}
-use Rattle.instruction_parts.proofs.Tests.{and_left, and_right}
 
 pub lt_true : (a b : ℕ) → a < b → nat_lt a b ≡ true
 lt_true a b h = grind (arith, h)

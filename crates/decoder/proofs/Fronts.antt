@@ -1,9 +1,7 @@
 -- What the front of some bytes says of the bytes behind it.
-use Rattle.std.proofs.Common.{◌≡◌, ◌⊎◌, inl, inr, ℕ, ◌+◌, ◌<◌, ◌≤◌, Bool, true, false, nat_le, List, [], ◌∷◌, ◌++◌, length, refl, ap, sym, ◌∙◌, subst, arith, if◌then◌else◌}
-use Rattle.x86_values.specs.declared.Bits.{Bits}
+use Rattle.std.proofs.Common.{◌≡◌, ℕ, ◌<◌, ◌≤◌, Bool, true, false, nat_le, refl, subst, arith, if◌then◌else◌}
 use Rattle.instruction_parts.specs.declared.spelling.PrefixState.{PrefixState}
-use Rattle.instruction_parts.specs.Front.{Front, Open, Forbidden, Known, long_front, within_15, front_of}
-use borrow.Author.Tests.{leb-true}
+use Rattle.instruction_parts.specs.Front.{Front, Open, Forbidden, Known, within_15}
 
 -- an open front within 15 bytes
 pub open_is : (given : ℕ) (f : Front) → within_15 given f ≡ Open → (f ≡ Open) × (given < 15)

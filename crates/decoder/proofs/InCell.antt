@@ -1,9 +1,8 @@
 -- The rows that stand where a state says, by the cells of the table.
-use Rattle.std.proofs.Common.{◌≡◌, ℕ, ◌+◌, ◌*◌, ◌<◌, ◌≤◌, Bool, true, false, ◌&&◌, ◌==◌, nat_le, nat_lt, List, Some, is_some, IsTrue, slice_get, refl, ap, sym, ◌∙◌, subst, arith, length, eqb}
+use Rattle.std.proofs.Common.{◌≡◌, ℕ, ◌+◌, ◌<◌, Bool, true, false, ◌&&◌, ◌==◌, nat_le, nat_lt, is_some, refl, ap, sym, ◌∙◌, arith, length}
 use Rattle.row_types.specs.declared.Row.{Row}
 use Rattle.row_types.specs.declared.RowKind.{RowKind}
 use Rattle.row_types.specs.declared.RowKind.TheVariants.{Legacy, Vex as VexRow}
-use Rattle.row_types.specs.declared.Map.{Map}
 use Rattle.row_types.specs.declared.Plus.{Plus}
 use Rattle.row_types.specs.declared.Plus.TheVariants.{No as NoPlus, Register as PlusRegister, Stack as PlusStack}
 use Rattle.instruction_parts.specs.declared.spelling.PrefixState.{PrefixState}

@@ -1,7 +1,6 @@
 -- What a row says of ModRM holds on the byte of a fitting spelling.
-use Rattle.std.proofs.Common.{◌≡◌, ◌⊎◌, inl, inr, ℕ, ◌+◌, ◌*◌, ◌/◌, ◌%◌, ◌<◌, ◌≤◌, Bool, true, false, ◌&&◌, ◌||◌, not, ◌==◌, nat_le, nat_lt, Option, Some, None, is_some, is_none, refl, ap, sym, ◌∙◌, subst, arith}
+use Rattle.std.proofs.Common.{◌≡◌, ℕ, ◌+◌, ◌*◌, ◌/◌, ◌%◌, ◌<◌, ◌≤◌, true, false, ◌&&◌, not, ◌==◌, nat_le, nat_lt, Option, Some, None, is_some, refl, ap, sym, ◌∙◌, subst, arith}
 use borrow.Author.Tests.{ltb-true, leb-true}
-use Rattle.row_types.specs.declared.Row.{Row}
 use Rattle.row_types.specs.declared.Plus.{Plus}
 use Rattle.row_types.specs.declared.Plus.TheVariants.{No as NoPlus, Register as PlusRegister, Stack as PlusStack}
 use Rattle.row_types.specs.declared.Place.{Place}
@@ -10,11 +9,11 @@ use Rattle.row_types.specs.declared.ModRmRule.{ModRmRule}
 use Rattle.row_types.specs.declared.ModRmRule.TheVariants.{No as NoModRm, Any as AnyModRm, Digit, Fixed as FixedByte}
 use Rattle.instruction_parts.specs.declared.spelling.ModRm.{ModRm}
 use Rattle.instruction_parts.specs.Bytes.{modrm_byte}
-use Rattle.row_fit.specs.Fits.{has_modrm, is_fixed_byte, modrm_rule_fits, place_allows, modrm_in_range}
+use Rattle.row_fit.specs.Fits.{is_fixed_byte, modrm_rule_fits, place_allows, modrm_in_range}
 use Rattle.row_fit.specs.Sound.{rule_in_range}
 use Rattle.row_fields.specs.Holds.{byte_of, byte_holds, place_holds, reg_holds, rm_holds}
 use Rattle.decoder.specs.Fields.{ByteIs}
-use Rattle.instruction_parts.proofs.Tests.{either, and_left, and_right, not_true, equal_from}
+use Rattle.instruction_parts.proofs.Tests.{and_left, and_right, equal_from}
 
 eqb_of : (a b : ℕ) → a ≡ b → (a == b) ≡ true
 eqb_of a b h = grind (arith, h)

@@ -1,5 +1,5 @@
 -- Where the row of a fitting spelling stands: the kind, the map and the opcode byte that its state shows.
-use Rattle.std.proofs.Common.{◌≡◌, ℕ, ◌+◌, ◌<◌, Bool, true, false, ◌&&◌, not, List, ◌∷◌, ◌++◌, length, Option, Some, None, refl, ap, sym, ◌∙◌, arith, is_some, length-append}
+use Rattle.std.proofs.Common.{◌≡◌, ℕ, ◌<◌, true, ◌&&◌, not, List, ◌∷◌, length, Option, Some, None, refl, arith, is_some, length-append}
 use Rattle.x86_values.specs.declared.Bits.{Bits}
 use Rattle.row_types.specs.declared.Row.{Row}
 use Rattle.row_types.specs.declared.Map.{Map}
@@ -7,7 +7,6 @@ use Rattle.row_types.specs.declared.Map.TheVariants.{One, M0f, M0f38, M0f3a}
 use Rattle.instruction_parts.specs.declared.spelling.Vex.{Vex}
 use Rattle.instruction_parts.specs.declared.spelling.ModRm.{ModRm}
 use Rattle.instruction_parts.specs.declared.spelling.Spelling.{Spelling}
-use Rattle.instruction_parts.specs.declared.spelling.PrefixState.{PrefixState}
 use Rattle.instruction_parts.specs.Sizes.{is_vex_row}
 use Rattle.instruction_parts.specs.Bytes.{front_bytes, tail_bytes, bytes_of, spelled_map, state_from, state_of}
 use Rattle.row_fit.specs.Fits.{fits, vex_fits, opcode_is_kept, opcode_fits, opcode_and_modrm_fit, modrm_rule_fits, place_fits, same_map, is_vex_of_mode}

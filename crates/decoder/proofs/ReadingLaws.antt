@@ -1,5 +1,5 @@
 -- How bytes are read over any table, from what their front and the rows of one cell say.
-use Rattle.std.proofs.Common.{◌≡◌, ◌⊎◌, inl, inr, ℕ, ◌+◌, ◌<◌, ◌≤◌, Bool, true, false, List, [], ◌∷◌, ◌++◌, length, take, drop, Some, IsTrue, slice_get, refl, ap, sym, ◌∙◌, subst, arith, length-append}
+use Rattle.std.proofs.Common.{◌≡◌, inl, inr, ℕ, ◌+◌, ◌<◌, ◌≤◌, false, List, [], ◌∷◌, ◌++◌, length, take, drop, Some, IsTrue, slice_get, refl, ap, sym, ◌∙◌, subst, arith, length-append}
 use Rattle.std.proofs.Math.Seq.{take-append_seam}
 use Rattle.std.proofs.lemmas.List.{take-append-drop, length-take-le}
 use Rattle.x86_values.specs.declared.Bits.{Bits}
@@ -15,10 +15,10 @@ use Rattle.row_fit.specs.Fits.{fits}
 use Rattle.row_fit.proofs.FrontLaws.{front_law}
 use Rattle.row_fit.proofs.FrontGrows.{known-used, forbidden-extends}
 use Rattle.row_meaning.specs.Meaning.{meaning, instr_of}
-use Rattle.row_relation.specs.Spells.{IsSpelledBy, SpellsUnbounded, Spells, ReadsAs, SpellsNothing, BeginsSpelling, CanGoOn, IsTooShort, IsInvalid}
-use Rattle.row_relation.specs.RowReading.{RowReads, RowReadsNothing, RowCanGoOn}
+use Rattle.row_relation.specs.Spells.{IsSpelledBy, ReadsAs, BeginsSpelling, IsTooShort, IsInvalid}
+use Rattle.row_relation.specs.RowReading.{RowReads, RowCanGoOn}
 use Rattle.decoder.proofs.Placed.{used_below}
-use Rattle.decoder.proofs.Fronts.{open_is, known_is, forbidden_is, WhyForbidden, Never, OpenAt15, KnownAt15}
+use Rattle.decoder.proofs.Fronts.{open_is, forbidden_is, WhyForbidden, Never, OpenAt15, KnownAt15}
 
 -- ---- a row that reads the bytes
 

@@ -9,11 +9,11 @@ use Rattle.row_types.specs.declared.Row.{Row}
 use Rattle.instruction_parts.specs.declared.spelling.Spelling.{Spelling}
 use Rattle.instruction_parts.specs.declared.spelling.PrefixState.{PrefixState}
 use Rattle.instruction_parts.specs.Bytes.{bytes_of, state_of}
-use Rattle.instruction_parts.specs.Front.{Front, Known, long_front, front_of}
+use Rattle.instruction_parts.specs.Front.{Known, long_front, front_of}
 use Rattle.row_fit.specs.Fits.{fits}
 use Rattle.row_fit.proofs.OneSpelling.{one_spelling}
 use Rattle.row_fit.proofs.FrontGrows.{front-extends}
-use Rattle.row_relation.specs.Spells.{ReadsAs, IsTooShort, IsInvalid}
+use Rattle.row_relation.specs.Spells.{IsTooShort, IsInvalid}
 use Rattle.row_relation.specs.RowReading.{RowReads, RowReadsNothing, RowCanGoOn}
 use Rattle.decoder.specs.Cells.{IsPlaced, CellIs, RowIsLate, RowStops, Scanned}
 use Rattle.decoder.proofs.Placed.{placed}

@@ -1,5 +1,5 @@
 -- Bytes begin with at most one instruction.
-use Rattle.std.proofs.Common.{◌≡◌, ℕ, ◌+◌, ◌<◌, ◌≤◌, Bool, true, ◌&&◌, nat_lt, List, [], ◌∷◌, ◌++◌, length, drop, Option, Some, None, Result, Ok, Err, IfOk, IsTrue, slice_get, refl, ap, sym, ◌∙◌, subst, arith, append_assoc}
+use Rattle.std.proofs.Common.{◌≡◌, ℕ, ◌+◌, ◌<◌, true, ◌&&◌, nat_lt, List, [], ◌∷◌, ◌++◌, length, drop, Option, Some, None, Result, Ok, Err, IfOk, slice_get, refl, ap, sym, ◌∙◌, subst, arith, append_assoc}
 use Rattle.std.proofs.Math.Seq.{drop-append-add}
 use borrow.Author.Tests.{ltb-true}
 use Rattle.x86_values.specs.declared.Bits.{Bits}
@@ -9,8 +9,8 @@ use Rattle.row_types.specs.declared.Row.{Row}
 use Rattle.instruction_parts.specs.declared.spelling.ModRm.{ModRm}
 use Rattle.instruction_parts.specs.declared.spelling.Spelling.{Spelling}
 use Rattle.instruction_parts.specs.declared.spelling.PrefixState.{PrefixState}
-use Rattle.instruction_parts.specs.Bytes.{modrm_byte, modrm_bytes, sib_bytes, tail_bytes, front_bytes, bytes_of, state_from, state_of}
-use Rattle.instruction_parts.specs.Front.{Known, long_front}
+use Rattle.instruction_parts.specs.Bytes.{modrm_bytes, sib_bytes, tail_bytes, front_bytes, bytes_of, state_from, state_of}
+use Rattle.instruction_parts.specs.Front.{long_front}
 use Rattle.row_fit.specs.Fits.{fits, are_bytes, vex_in_range, modrm_in_range, sib_in_range, fields_in_range}
 use Rattle.row_fit.specs.Sound.{sound}
 use Rattle.row_fit.proofs.FitLaws.{all_conditions}
@@ -32,7 +32,7 @@ use Rattle.decoder.specs.Answer.{reading_of, IsOnlyReading}
 use Rattle.decoder.specs.Fields.{fields_of, ByteIs}
 use Rattle.row_fit.proofs.FrontLaws.{front_law}
 use Rattle.decoder.proofs.FieldsHold.{fit_holds}
-use Rattle.decoder.proofs.ReadingLaws.{IsAtFront, at_front}
+use Rattle.decoder.proofs.ReadingLaws.{at_front}
 
 -- the first byte of some
 abbrev first_byte : List ℕ → Option ℕ

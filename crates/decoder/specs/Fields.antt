@@ -1,5 +1,5 @@
 -- The nine fields that a front shows with the byte behind its opcode byte.
-use Rattle.std.specs.Prelude.{◌≡◌, ℕ, Bool, false, ◌==◌, Option, Some, None, is_some, if◌then◌else◌}
+use Rattle.std.specs.Prelude.{◌≡◌, ℕ, false, ◌==◌, Option, Some, None, is_some, if◌then◌else◌}
 use Rattle.x86_values.specs.declared.Rep.{Rep}
 use Rattle.x86_values.specs.declared.Rep.TheVariants.{None as NoRep, F2 as RepF2, F3 as RepF3}
 use Rattle.instruction_parts.specs.declared.spelling.ModRm.{ModRm}

@@ -83,7 +83,10 @@ impl<'a, const BITS: u32> Decoder<'a, BITS> {
         ensures end { self.old.position ≡ length self.old.bytes → result ≡ Err DecodeError.TooShort }
     {
         let (_, rest) = self.bytes.split_at(self.position);
-        let address = wrap(mode_of::<BITS>(), u128::from(self.ip) + self.position as u128);
+        let address = wrap(
+            mode_of::<BITS>(),
+            u128::from(self.ip) + self.position as u128,
+        );
         let answer = decode::<BITS>(address, rest);
         if let Ok(decoded) = answer {
             self.position += decoded.len as usize;

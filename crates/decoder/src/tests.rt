@@ -31,6 +31,7 @@ fn has_lock(answer: Result<Decoded, DecodeError>) -> bool {
 }
 
 const INVALID: Result<(&'static str, u8), DecodeError> = Err(DecodeError::Invalid);
+
 const TOO_SHORT: Result<(&'static str, u8), DecodeError> = Err(DecodeError::TooShort);
 
 #[test]

@@ -1,13 +1,8 @@
 -- How long the parts of a line are.
 use Rattle.std.proofs.Common.{◌≡◌, ℕ, ◌+◌, ◌≤◌, List, [], ◌∷◌, ◌++◌, length, append_assoc, arith}
 use Rattle.text_parts.specs.declared.style.Style.TheVariants.{Intel}
-use Rattle.text_parts.specs.Numbers.{last_digits, number}
-use Rattle.text_parts.proofs.Digits.{length-last_digits}
+use Rattle.text_parts.specs.Numbers.{number}
 use Rattle.text_parts.proofs.Bounds.{number-le}
-
--- a text has room for the digits of an address
-pub digits_fit : (count n : ℕ) → count ≤ 16 → length (last_digits count n) ≤ 16
-digits_fit count n h = omega (arith, length-last_digits count n)
 
 -- the number of a byte is short
 pub number_fits : (n : ℕ) → length (number Intel n) ≤ 18
@@ -18,8 +13,10 @@ pub line_parts : (out address column text : List ℕ) →
     (((((out ++ address) ++ 32 ∷ []) ++ column) ++ 32 ∷ []) ++ text) ++ 10 ∷ []
     ≡ out ++ (address ++ (32 ∷ (column ++ (32 ∷ (text ++ 10 ∷ [])))))
 line_parts out address column text =
-    rw (append_assoc (((((out ++ address) ++ 32 ∷ []) ++ column) ++ 32 ∷ [])) text (10 ∷ []),
-        append_assoc ((((out ++ address) ++ 32 ∷ []) ++ column)) (32 ∷ []) (text ++ 10 ∷ []),
-        append_assoc (((out ++ address) ++ 32 ∷ [])) column (32 ∷ (text ++ 10 ∷ [])),
-        append_assoc (out ++ address) (32 ∷ []) (column ++ (32 ∷ (text ++ 10 ∷ []))),
-        append_assoc out address (32 ∷ (column ++ (32 ∷ (text ++ 10 ∷ [])))))
+    rw (
+      append_assoc (((((out ++ address) ++ 32 ∷ []) ++ column) ++ 32 ∷ [])) text (10 ∷ []),
+      append_assoc ((((out ++ address) ++ 32 ∷ []) ++ column)) (32 ∷ []) (text ++ 10 ∷ []),
+      append_assoc (((out ++ address) ++ 32 ∷ [])) column (32 ∷ (text ++ 10 ∷ [])),
+      append_assoc (out ++ address) (32 ∷ []) (column ++ (32 ∷ (text ++ 10 ∷ []))),
+      append_assoc out address (32 ∷ (column ++ (32 ∷ (text ++ 10 ∷ [])))),
+    )

@@ -1,25 +1,26 @@
 -- The listing: a line of text for each item of a sweep.
 use Rattle.std.specs.Prelude.{ℕ, ◌+◌, ◌-◌, ◌*◌, List, [], ◌∷◌, ◌++◌, length, replicate, slice_index, codes}
 use Rattle.std.specs.List.{flat_map}
+use Rattle.std.specs.Int.{to_be_bytes, w16, w32, w64}
 use Rattle.hex.specs.Hex.{encode_lower}
 use Rattle.x86_values.specs.declared.Bits.{Bits}
 use Rattle.x86_values.specs.declared.Bits.TheVariants.{B16, B32, B64}
 use Rattle.x86_values.specs.Wrapping.{wrapped}
 use Rattle.row_relation.specs.Spells.{Reading, Read}
 use Rattle.text_parts.specs.declared.style.Style.TheVariants.{Intel}
-use Rattle.text_parts.specs.Numbers.{last_digits, number}
+use Rattle.text_parts.specs.Numbers.{number}
 use Rattle.intel_text.specs.Text.{text}
 use Rattle.sweep_text.specs.Sweep.{Item}
 
--- how many hexadecimal digits an address has in a mode
-abbrev pub address_len : Bits → ℕ
-address_len B16 = 4
-address_len B32 = 8
-address_len B64 = 16
+-- the bytes of an address, the highest first: two, four or eight by the mode
+abbrev pub address_bytes : Bits → ℕ → List ℕ
+address_bytes B16 address = to_be_bytes w16 address
+address_bytes B32 address = to_be_bytes w32 address
+address_bytes B64 address = to_be_bytes w64 address
 
--- the address of an offset in lower-case hexadecimal digits
+-- the address of an offset in 4, 8 or 16 lower-case hexadecimal digits
 unfoldable pub address_text : Bits → ℕ → ℕ → List ℕ
-address_text bits base offset = last_digits (address_len bits) (wrapped bits (base + offset))
+address_text bits base offset = encode_lower (address_bytes bits (wrapped bits (base + offset)))
 
 -- bytes in lower-case hexadecimal digits, filled with spaces to 30 places
 unfoldable pub byte_column : List ℕ → List ℕ

@@ -1,13 +1,13 @@
 -- The sweep: what is read from the front of some bytes to their end, one item behind another.
 use Rattle.std.specs.Prelude.{◌≡◌, ℕ, ◌+◌, ◌<◌, ◌≤◌, List, [], ◌∷◌, length, take, drop}
 use Rattle.x86_values.specs.declared.Bits.{Bits}
-use Rattle.x86_values.specs.Wrapping.{wrapped}
 use Rattle.row_relation.specs.Spells.{Reading, Read, TooShort, Invalid}
-use Rattle.decoder.specs.Answer.{IsRead}
+use Rattle.opcode_rows.specs.Reading.{IsRead}
 
--- what is read at an offset of the code at a base address, where these bytes stand from the offset on
+-- the reading of the table at an offset of the code at a base address, where these bytes stand from the offset on;
+-- the address wraps in the mode
 unfoldable pub IsReadAt : Bits → ℕ → ℕ → List ℕ → Reading → Type 0
-IsReadAt bits base offset bytes reading = IsRead bits (wrapped bits (base + offset)) bytes reading
+IsReadAt bits base offset bytes reading = IsRead bits (base + offset) bytes reading
 
 -- how many bytes an item takes: those of its instruction, or one where none is read
 abbrev pub item_len : Reading → ℕ

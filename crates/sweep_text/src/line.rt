@@ -3,7 +3,7 @@
 ghost use Rattle.std.specs.Prelude.{◌≡◌, ◌<◌, ◌≤◌, ◌+◌, ◌-◌, ◌*◌, ◌++◌, ◌∷◌, [], length, replicate, IsTrue, IfOk, slice_index};
 ghost use Rattle.arrayvec.specs.ArrayVec.{array_vec_len};
 ghost use Rattle.hex.specs.Hex.{encode_lower};
-ghost use Rattle.opcode_rows.specs.Table.{well_formed};
+ghost use Rattle.opcode_rows.specs.Allowed.{is_well_formed};
 ghost use Rattle.decoder.specs.Answer.{reading_of};
 ghost use Rattle.sweep_text.specs.Sweep.{item_len};
 ghost use Rattle.sweep_text.specs.Listing as spec;
@@ -11,7 +11,7 @@ ghost use Rattle.sweep_text.specs.Listing as spec;
 use arrayvec::ArrayVec;
 use decoder::DecodeError;
 use intel_text::print;
-use text_parts::numbers::{append_last_digits, append_number};
+use text_parts::numbers::append_number;
 use text_parts::style::Style;
 use text_parts::text::Text;
 use x86_values::{Bits, Decoded, wrap};
@@ -43,37 +43,11 @@ pub fn append(out: &mut Chunk, bytes: &[u8])
     }
 }
 
-/// How many hexadecimal digits an address has.
-#[inline]
-fn address_len(bits: Bits) -> u32
-    ensures value { result ≡ spec.address_len bits }
-    ensures few { result ≤ 16 }
-{
-    match bits {
-        Bits::B16 => 4,
-        Bits::B32 => 8,
-        Bits::B64 => 16,
-    }
-}
-
-/// Appends the address of an offset.
-#[tactic(auto, using(crate::proofs::Lengths::digits_fit), unfolding(crate::specs::Listing::address_text))]
-fn append_address(out: &mut Chunk, bits: Bits, base: u64, offset: usize)
-    requires { array_vec_len out.old + 16 ≤ 16384 }
-    ensures items { out.new.items ≡ out.old.items ++ spec.address_text bits base offset }
-    ensures len { array_vec_len out.new ≤ array_vec_len out.old + 16 }
-{
-    let address = wrap(bits, u128::from(base) + offset as u128);
-    let mut digits = Text::new();
-    append_last_digits(&mut digits, address_len(bits), address);
-    append(out, &digits);
-}
-
 /// Appends the hexadecimal digits of some bytes.
 
 fn append_bytes(out: &mut Chunk, bytes: &[u8])
     requires few { length bytes.now ≤ 15 }
-    requires room { array_vec_len out.old + 30 ≤ 16384 }
+    requires room { array_vec_len out.old + 2 * length bytes.now ≤ 16384 }
     ensures items { out.new.items ≡ out.old.items ++ encode_lower bytes.now }
     ensures len { array_vec_len out.new ≡ array_vec_len out.old + 2 * length bytes.now }
 {
@@ -82,6 +56,21 @@ fn append_bytes(out: &mut Chunk, bytes: &[u8])
     match hex::encode_to_slice(bytes, digits) {
         Ok(()) => append(out, digits),
         Err(_) => unreachable!(),
+    }
+}
+
+/// Appends the address of an offset.
+#[tactic(auto, unfolding(crate::specs::Listing::address_text))]
+fn append_address(out: &mut Chunk, bits: Bits, base: u64, offset: usize)
+    requires { array_vec_len out.old + 16 ≤ 16384 }
+    ensures items { out.new.items ≡ out.old.items ++ spec.address_text bits base offset }
+    ensures len { array_vec_len out.new ≤ array_vec_len out.old + 16 }
+{
+    let address = wrap(bits, u128::from(base) + offset as u128);
+    match bits {
+        Bits::B16 => append_bytes(out, &(address as u16).to_be_bytes()),
+        Bits::B32 => append_bytes(out, &(address as u32).to_be_bytes()),
+        Bits::B64 => append_bytes(out, &address.to_be_bytes()),
     }
 }
 
@@ -122,7 +111,7 @@ fn single_byte_text(byte: u8) -> Text
 #[tactic(auto, unfolding(crate::specs::Listing::reading_text))]
 fn append_text(out: &mut Chunk, bits: Bits, bytes: &[u8], reading: &Result<Decoded, DecodeError>)
     requires some { 0 < length bytes.now }
-    requires well { IfOk reading.now (λ d. IsTrue (well_formed d.instr)) }
+    requires well { IfOk reading.now (λ d. IsTrue (is_well_formed d.instr)) }
     requires room { array_vec_len out.old + 160 ≤ 16384 }
     ensures items { out.new.items ≡ out.old.items ++ spec.reading_text bits bytes.now (reading_of reading.now) }
     ensures len { array_vec_len out.new ≤ array_vec_len out.old + 160 }
@@ -138,10 +127,17 @@ fn append_text(out: &mut Chunk, bits: Bits, bytes: &[u8], reading: &Result<Decod
 /// `base` is the address of the first byte of the code, `offset` how far the item stands behind it, `bytes` the bytes
 /// of the item, and `reading` what is read at its front.
 #[tactic(auto, using(crate::proofs::Lengths::line_parts), unfolding(crate::specs::Listing::item_line))]
-pub fn append_line(out: &mut Chunk, bits: Bits, base: u64, offset: usize, bytes: &[u8], reading: &Result<Decoded, DecodeError>)
+pub fn append_line(
+    out: &mut Chunk,
+    bits: Bits,
+    base: u64,
+    offset: usize,
+    bytes: &[u8],
+    reading: &Result<Decoded, DecodeError>,
+)
     requires some { 0 < length bytes.now }
     requires few { length bytes.now ≤ 15 }
-    requires well { IfOk reading.now (λ d. IsTrue (well_formed d.instr)) }
+    requires well { IfOk reading.now (λ d. IsTrue (is_well_formed d.instr)) }
     requires room { array_vec_len out.old + 209 ≤ 16384 }
     ensures items { out.new.items ≡ out.old.items
         ++ spec.item_line bits base (record { offset = offset; bytes = bytes.now; reading = reading_of reading.now }) }

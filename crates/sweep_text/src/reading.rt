@@ -1,7 +1,7 @@
 //! What is read at an offset of some code.
 
 ghost use Rattle.std.specs.Prelude.{◌≡◌, ◌<◌, ◌≤◌, length, IsTrue, IfOk};
-ghost use Rattle.opcode_rows.specs.Table.{well_formed};
+ghost use Rattle.opcode_rows.specs.Allowed.{is_well_formed};
 ghost use Rattle.decoder.specs.Answer.{reading_of};
 ghost use Rattle.sweep_text.specs.Sweep as spec;
 
@@ -14,7 +14,7 @@ use x86_values::{Bits, Decoded, wrap};
 pub fn read_at(bits: Bits, base: u64, offset: usize, bytes: &[u8]) -> Result<Decoded, DecodeError>
     ensures reading { spec.IsReadAt bits base offset bytes.now (reading_of result) }
     ensures length { IfOk result (λ d. (0 < d.len) × (d.len ≤ 15) × (d.len ≤ length bytes.now)) }
-    ensures well { IfOk result (λ d. IsTrue (well_formed d.instr)) }
+    ensures well { IfOk result (λ d. IsTrue (is_well_formed d.instr)) }
 {
     let ip = wrap(bits, u128::from(base) + offset as u128);
     match bits {

@@ -1,5 +1,5 @@
-use Rattle.std.proofs.Common.{◌≡◌, length, refl, subst, sym, arith, rules, ℕ, ◌+◌}
-use Rattle.opcode_rows.specs.Table.{table, cell}
+use Rattle.std.proofs.Common.{refl, subst, sym, arith, rules, ℕ, ◌+◌}
+use Rattle.opcode_rows.specs.Table.{table}
 use Rattle.decoder.specs.Cells.{CellIs}
 use Rattle.decoder.proofs.InCell.{cell_from, cell_empty}
 use Rattle.decoder.proofs.cell.cell_of.Goals as goal

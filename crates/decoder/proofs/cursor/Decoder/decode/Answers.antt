@@ -1,5 +1,4 @@
-use Rattle.std.proofs.Common.{◌≡◌, ◌+◌, ◌<◌, ◌≤◌, ℕ, List, Ok, drop, length, ap, sym, ◌∙◌, arith, rules}
-use Rattle.x86_values.specs.declared.Decoded.{Decoded}
+use Rattle.std.proofs.Common.{◌≡◌, ◌+◌, drop, length, ap, ◌∙◌, arith}
 use Rattle.x86_values.specs.Wrapping.{wrapped}
 use Rattle.prefixes.specs.Answer.{mode_of}
 use Rattle.opcode_rows.specs.Table.{table}
