@@ -6,6 +6,4 @@ mod InCell
 mod Moving
 mod FormedRegisters
 mod Formed
-mod ModRmHolds
-mod FieldsHold
-mod Unique
+mod OneReading

@@ -1,4 +1,3 @@
 pub mod Answer
 pub mod Cells
 pub mod Cursor
-pub mod Fields

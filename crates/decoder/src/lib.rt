@@ -3,7 +3,6 @@
 
 mod cell;
 mod cursor;
-pub mod laws;
 mod reading;
 #[cfg(test)]
 mod tests;

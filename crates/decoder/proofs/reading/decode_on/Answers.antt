@@ -3,7 +3,7 @@ use Rattle.x86_values.specs.Wrapping.{wrapped}
 use Rattle.row_relation.specs.Spells.{IsReading}
 use Rattle.opcode_rows.specs.Table.{table}
 use Rattle.decoder.specs.Answer.{reading_of}
-use Rattle.decoder.proofs.Unique.{only_reading}
+use Rattle.decoder.proofs.OneReading.{only_reading}
 use Rattle.decoder.proofs.reading.decode_on.Goals as goal
 
 pub returns-clause-alone : goal.returns-clause-alone

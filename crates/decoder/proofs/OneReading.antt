@@ -1,0 +1,51 @@
+-- Bytes begin with at most one instruction.
+use Rattle.std.proofs.Common.{◌≡◌, ℕ, List, ◌++◌, length, Some, Result, Ok, Err, IfOk, slice_get, ap, sym, ◌∙◌}
+use Rattle.x86_values.specs.declared.Bits.{Bits}
+use Rattle.x86_values.specs.declared.Code.{Code}
+use Rattle.x86_values.specs.declared.Instr.{Instr}
+use Rattle.x86_values.specs.declared.Decoded.{Decoded}
+use Rattle.x86_values.specs.Wrapping.{wrapped}
+use Rattle.row_types.specs.declared.Row.{Row}
+use Rattle.instruction_parts.specs.declared.spelling.Spelling.{Spelling}
+use Rattle.instruction_parts.specs.Bytes.{bytes_of}
+use Rattle.row_meaning.specs.Meaning.{meaning}
+use Rattle.row_relation.specs.Spells.{ReadsAs}
+use Rattle.opcode_rows.specs.Table.{table}
+use Rattle.opcode_rows.specs.Reading.{IsRead}
+use Rattle.unique_spelling.proofs.Unique.{unique}
+use Rattle.decoder.specs.declared.DecodeError.{DecodeError}
+use Rattle.decoder.specs.Answer.{reading_of, IsOnlyReading}
+use Rattle.decoder.proofs.ReadingLaws.{at_front}
+
+same_some : (row other : Row) → Some row ≡ Some other → row ≡ other
+same_some row other h = cc
+
+-- one instruction and one length
+record SameReading (i k : Instr) (n m : ℕ) : Type 0 where
+  instr : i ≡ k
+  len : n ≡ m
+
+-- **bytes begin with at most one instruction**
+one_reading : (bits : Bits) (ip : ℕ) (bytes : List ℕ) (i k : Instr) (n m : ℕ) → ReadsAs table bits ip bytes i n → ReadsAs table bits ip bytes k m → SameReading i k n m
+one_reading bits ip bytes i k n m ri rk =
+    let a = at_front table bits ip bytes i n ri in
+    let b = at_front table bits ip bytes k m rk in
+    let same = unique bits i.code.0 k.code.0 a.row b.row a.spelling b.spelling a.rest b.rest a.there b.there a.fitting b.fitting (sym a.bytes_are ∙ b.bytes_are) in
+    let row : a.row ≡ b.row = same_some a.row b.row (sym a.there ∙ ap (slice_get table) same.0 ∙ b.there) in
+    let codes : i.code ≡ k.code = ap (λ (x : ℕ). code_of x) same.0 in
+    record {
+      instr = sym a.means ∙ ap (λ (c : Code). meaning bits ip c a.row a.spelling) codes
+          ∙ ap (λ (r : Row). meaning bits ip k.code r a.spelling) row
+          ∙ ap (meaning bits ip k.code b.row) same.1 ∙ b.means;
+      len = sym a.length_is ∙ ap (λ (r : Row). length (bytes_of r a.spelling)) row
+          ∙ ap (λ (s : Spelling). length (bytes_of b.row s)) same.1 ∙ b.length_is;
+    }
+  where
+    code_of : ℕ → Code
+    code_of x = record { 0 = x }
+
+-- an answer that is a reading is the only one
+pub only_reading : (bits : Bits) (ip : ℕ) (bytes : List ℕ) (answer : Result Decoded DecodeError) → IsRead bits ip bytes (reading_of answer) → IfOk answer (λ d. IsOnlyReading bits ip bytes d)
+only_reading bits ip bytes (Ok d) h = λ i n r.
+    let same = one_reading bits (wrapped bits ip) bytes i d.instr n d.len r h in (same.instr, same.len)
+only_reading bits ip bytes (Err e) h = tt
