@@ -1,5 +1,5 @@
 -- A fault of a later call is a fault of the whole.
-use Rattle.std.proofs.Common.{◌≡◌, ℕ, ◌<◌, ◌≤◌, Result, Ok, Err, IsErr, IsOk, arith, inl, inr}
+use Rattle.std.proofs.Common.{ℕ, ◌≤◌, Result, Ok, IsErr, arith, inl, inr}
 use Rattle.byte_ports.specs.Ports.{Rose, HasCause}
 
 pub rose_since : (a b c : ℕ) → a ≤ b → Rose b c → Rose a c

@@ -1,5 +1,5 @@
 -- A text that was written whole, or up to a fault.
-use Rattle.std.proofs.Common.{◌≡◌, ℕ, ◌≤◌, List, length, take, Option, Result, Ok, Err, OnOk, OnErr, refl, arith, ap, sym, ◌∙◌, inl, inr}
+use Rattle.std.proofs.Common.{◌≡◌, ℕ, List, length, Option, Result, Ok, Err, OnOk, OnErr, refl, arith, ap, sym, ◌∙◌, inl, inr}
 use Rattle.std.proofs.Math.Seq.{take-length}
 use Rattle.byte_ports.specs.Ports.{Rose, HasCause, with_back}
 use Rattle.listing_run.specs.Writing.{HoldsFront, Says}

@@ -1,5 +1,5 @@
 -- What a run leaves, by its command and its status.
-use Rattle.std.specs.Prelude.{◌≡◌, ◌⊎◌, ℕ, ◌+◌, ◌<◌, ◌≤◌, List, [], length, take, Option, Some, None, IfSome}
+use Rattle.std.specs.Prelude.{◌≡◌, ◌⊎◌, ℕ, ◌+◌, ◌<◌, ◌≤◌, List, [], length, Option, Some, None, IfSome}
 use Rattle.byte_ports.specs.Ports.{with_front, with_back}
 use Rattle.x86_values.specs.declared.Bits.{Bits}
 use Rattle.sweep_text.specs.Sweep.{Item, IsSweep, BeginsSweep}
@@ -7,7 +7,7 @@ use Rattle.sweep_text.specs.Listing.{listing}
 use Rattle.listing_run.specs.declared.words.Command.{Command}
 use Rattle.listing_run.specs.declared.words.Command.TheVariants.{Help, Version, List as ListCommand, Wrong}
 use Rattle.listing_run.specs.declared.status.Status.{Status}
-use Rattle.listing_run.specs.declared.status.Status.TheVariants.{Done, Usage, BadCode, ReadFault, WriteFault, Memory, TooLarge, Wraps, TooFar, RegionFull, TooMany}
+use Rattle.listing_run.specs.declared.status.Status.TheVariants.{Done, Usage, ReadFault, WriteFault, Memory, TooLarge}
 use Rattle.listing_run.specs.Writing.{HoldsFront}
 use Rattle.listing_run.specs.Texts.{help_text, version_text}
 

@@ -1,5 +1,5 @@
 -- What one step of reading a source adds to what was read.
-use Rattle.std.specs.Prelude.{◌≡◌, ℕ, ◌≤◌, List, [], ◌++◌, length, Option, IfSome}
+use Rattle.std.specs.Prelude.{◌≡◌, ℕ, List, [], ◌++◌, length, Option, IfSome}
 use Rattle.byte_ports.specs.Ports.{with_front}
 
 -- a piece of this length was read and stands behind what was there; an empty one says that no byte is left

@@ -1,5 +1,5 @@
 -- What stands in a sink after text was written to it, whole or up to a failure.
-use Rattle.std.specs.Prelude.{◌≡◌, ◌⊎◌, ℕ, ◌+◌, ◌≤◌, List, ◌++◌, length, take, Option}
+use Rattle.std.specs.Prelude.{◌≡◌, ◌⊎◌, ℕ, ◌≤◌, List, ◌++◌, length, take, Option}
 use Rattle.byte_ports.specs.Ports.{with_back}
 
 -- a sink holds what it held and then the first bytes of a text

@@ -1,4 +1,4 @@
-use Rattle.std.proofs.Common.{◌≡◌, ℕ, List, length, take, refl, ap}
+use Rattle.std.proofs.Common.{ℕ, length, take, refl, ap}
 use Rattle.decoder.specs.Answer.{reading_of}
 use Rattle.listing_run.proofs.Progress.{moves-line, item_within}
 use Rattle.listing_run.proofs.listing.write_item.Goals as goal

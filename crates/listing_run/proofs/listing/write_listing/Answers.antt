@@ -1,4 +1,4 @@
-use Rattle.std.proofs.Common.{◌≡◌, ◌≤◌, List, ℕ, OnErr, refl, sym, arith, subst}
+use Rattle.std.proofs.Common.{arith}
 use Rattle.std.proofs.lemmas.Result.{err_from_is_err_and, on_err_weaker}
 use Rattle.listing_run.specs.Writing.{HoldsFront}
 use Rattle.listing_run.specs.Outcome.{WritesListingFront}

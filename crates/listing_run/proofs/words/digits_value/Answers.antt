@@ -1,6 +1,5 @@
-use Rattle.std.proofs.Common.{◌≡◌, ◌<◌, ◌≤◌, ◌+◌, ◌*◌, ◌^◌, ◌∙◌, Some, get_or, sym, rules, arith, ap, subst}
+use Rattle.std.proofs.Common.{◌<◌, ◌+◌, ◌*◌, ◌^◌, ◌∙◌, sym, rules, arith, ap}
 use Rattle.std.proofs.Math.ListN.{drop_of_length-le}
-use Rattle.hex.specs.Hex.{hex_digit_value}
 use Rattle.listing_run.specs.Words.{hex_from}
 use Rattle.listing_run.proofs.Digits.{hex_stops, hex_goes_on, one_more_digit, digit_fits}
 use Rattle.listing_run.proofs.words.digits_value.Goals as goal

@@ -1,0 +1,43 @@
+-- Each row of the table makes a proper shape: computed row by row.
+use Rattle.std.proofs.Common.{◌≡◌, ℕ, Bool, true, refl, slice_get}
+use Rattle.std.specs.Prelude.{Some, IsTrue}
+use Rattle.row_types.specs.declared.Row.{Row}
+use Rattle.row_notation.specs.Shape.{size_word, plus_word, imm_word_of, imm_word, shape, is_opcode_of_map, is_rule_in_range, is_stack_proper, is_legacy_proper, is_vex_proper, is_proper}
+use Rattle.rows_integer.specs.Table.{table as integer_rows, flat_rows as integer_flat}
+use Rattle.rows_x87.specs.Table.{table as x87_rows, flat_rows as x87_flat}
+use Rattle.rows_sse.specs.Table.{table as sse_rows, flat_rows as sse_flat}
+use Rattle.rows_vex.specs.Table.{table as vex_rows, flat_rows as vex_flat}
+use Rattle.opcode_rows.specs.declared.spots.Part.{Part}
+use Rattle.opcode_rows.specs.declared.spots.Part.TheVariants as part
+use Rattle.opcode_rows.specs.Table.{part_table, table}
+use Rattle.opcode_rows.proofs.JoinFacts.{all_rows, in_each_part}
+
+-- the row makes a proper shape
+unfoldable pub has_shape : Row → Bool
+has_shape row = is_proper (shape row)
+
+integer-shapes : all_rows has_shape integer_rows ≡ true
+unfolding all_rows has_shape size_word plus_word imm_word_of imm_word shape is_opcode_of_map is_rule_in_range is_stack_proper is_legacy_proper is_vex_proper is_proper integer_rows integer_flat
+integer-shapes = refl
+
+x87-shapes : all_rows has_shape x87_rows ≡ true
+unfolding all_rows has_shape size_word plus_word imm_word_of imm_word shape is_opcode_of_map is_rule_in_range is_stack_proper is_legacy_proper is_vex_proper is_proper x87_rows x87_flat
+x87-shapes = refl
+
+sse-shapes : all_rows has_shape sse_rows ≡ true
+unfolding all_rows has_shape size_word plus_word imm_word_of imm_word shape is_opcode_of_map is_rule_in_range is_stack_proper is_legacy_proper is_vex_proper is_proper sse_rows sse_flat
+sse-shapes = refl
+
+vex-shapes : all_rows has_shape vex_rows ≡ true
+unfolding all_rows has_shape size_word plus_word imm_word_of imm_word shape is_opcode_of_map is_rule_in_range is_stack_proper is_legacy_proper is_vex_proper is_proper vex_rows vex_flat
+vex-shapes = refl
+
+each-shape : (p : Part) → all_rows has_shape (part_table p) ≡ true
+each-shape part.Integer = integer-shapes
+each-shape part.X87 = x87-shapes
+each-shape part.Sse = sse-shapes
+each-shape part.Vex = vex-shapes
+
+pub proper-row : (code : ℕ) (row : Row) → slice_get table code ≡ Some row → IsTrue (is_proper (shape row))
+unfolding has_shape
+proper-row code row at = in_each_part has_shape each-shape code row at
