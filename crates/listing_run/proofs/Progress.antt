@@ -29,7 +29,7 @@ sweeps-append bits base offset at bytes [] rest item same place is_at =
 sweeps-append bits base offset at bytes (first ∷ items) rest item sweeps place is_at =
     let within = sweeps.0.within in
     let place' : offset + item_len first.reading + length (drop (item_len first.reading) bytes) ≡ at + length rest
-        = omega (arith, length-drop (item_len first.reading) bytes) in
+    = omega (arith, length-drop (item_len first.reading) bytes) in
     (sweeps.0, sweeps-append bits base (offset + item_len first.reading) at (drop (item_len first.reading) bytes) items rest item sweeps.1 place' is_at)
 
 pub record Progress (bits : Bits) (base : ℕ) (input : List ℕ) (at : ℕ) (start held : Option (List ℕ)) (pending : List ℕ) : Type 0 where
@@ -64,7 +64,7 @@ progress-step bits base input at start held held' before after count lt p w =
     let place : 0 + length input ≡ at + length (drop at input) = omega (arith, length-drop at input) in
     let swept = sweeps-append bits base 0 at input p.items (drop at input) w.item p.sweeps place w.is_at in
     let rest : drop (item_len w.item.reading) (drop at input) ≡ drop (at + count) input
-        = rw count_is (drop-drop (item_len w.item.reading) at input) in
+    = rw count_is (drop-drop (item_len w.item.reading) at input) in
     let R : List ℕ → Type 0 = λ xs. Sweeps bits base 0 input (p.items ++ w.item ∷ []) xs in
     record {
       items = p.items ++ w.item ∷ [];
@@ -73,15 +73,15 @@ progress-step bits base input at start held held' before after count lt p w =
       sweeps = subst R rest swept;
       held_is = moves.held_is ∙ (ap (λ (h : Option (List ℕ)). with_back h moves.written) p.held_is ∙ with_back-append start p.written moves.written);
       joined =
-        append_assoc p.written moves.written after
-        ∙ (ap (λ (xs : List ℕ). p.written ++ xs) moves.joined
-        ∙ (sym (append_assoc p.written before (item_line bits base w.item))
-        ∙ (ap (λ (xs : List ℕ). xs ++ item_line bits base w.item) p.joined
-        ∙ added p.items w.item)));
+          append_assoc p.written moves.written after
+          ∙ (ap (λ (xs : List ℕ). p.written ++ xs) moves.joined
+          ∙ (sym (append_assoc p.written before (item_line bits base w.item))
+          ∙ (ap (λ (xs : List ℕ). xs ++ item_line bits base w.item) p.joined
+          ∙ added p.items w.item)));
     }
   where
-  added : (items : List Item) (item : Item) → listing bits base items ++ item_line bits base item ≡ listing bits base (items ++ item ∷ [])
-  added items item = flat_map_more (item_line bits base) [] items item
+    added : (items : List Item) (item : Item) → listing bits base items ++ item_line bits base item ≡ listing bits base (items ++ item ∷ [])
+    added items item = flat_map_more (item_line bits base) [] items item
 
 -- the whole listing
 pub progress-end : (bits : Bits) (base : ℕ) (input : List ℕ) (at : ℕ) (start held held' : Option (List ℕ)) (pending : List ℕ) →
@@ -93,9 +93,9 @@ progress-end bits base input at start held held' pending le p all =
       items = p.items;
       sweep = subst R (drop_of_length-le input le) p.sweeps;
       written =
-        all
-        ∙ (ap (λ (h : Option (List ℕ)). with_back h pending) p.held_is
-        ∙ (with_back-append start p.written pending ∙ ap (with_back start) p.joined));
+          all
+          ∙ (ap (λ (h : Option (List ℕ)). with_back h pending) p.held_is
+          ∙ (with_back-append start p.written pending ∙ ap (with_back start) p.joined));
     }
 
 -- a failure while text is held back
@@ -110,9 +110,9 @@ progress-failed bits base input at start held held' pending p front =
       written = (
         length p.written + front.0,
         front.1
-        ∙ (ap (λ (h : Option (List ℕ)). with_back h part) p.held_is
-        ∙ (with_back-append start p.written part
-        ∙ ap (with_back start) (sym (take-append-add p.written pending front.0) ∙ ap (take (length p.written + front.0)) p.joined))),
+            ∙ (ap (λ (h : Option (List ℕ)). with_back h part) p.held_is
+            ∙ (with_back-append start p.written part
+            ∙ ap (with_back start) (sym (take-append-add p.written pending front.0) ∙ ap (take (length p.written + front.0)) p.joined))),
       );
     }
 
@@ -123,9 +123,9 @@ moves-line held held' before between after line moves e = record {
   written = moves.written;
   held_is = moves.held_is;
   joined =
-    ap (λ (xs : List ℕ). moves.written ++ xs) e
-    ∙ (sym (append_assoc moves.written between line)
-    ∙ ap (λ (xs : List ℕ). xs ++ line) (moves.joined ∙ append-nil before));
+      ap (λ (xs : List ℕ). moves.written ++ xs) e
+      ∙ (sym (append_assoc moves.written between line)
+      ∙ ap (λ (xs : List ℕ). xs ++ line) (moves.joined ∙ append-nil before));
 }
 
 -- an item takes some of the bytes

@@ -30,5 +30,5 @@ returns-clause-err g c =
     let held = g.K.Sink.held c.loop-at.out in
     let held' = g.K.Sink.held c.put_all.new.out in
     let failed : HoldsFront held held' c.deref.result.now → WritesListingFront c.args.bits c.args.base c.args.input.now (g.K.Sink.held c.args.out.now) held'
-        = λ front. progress-failed _ _ _ c.loop-at.at _ held _ c.loop-at.pending.items c.loop-at.invariant.progress (rw c.deref.ensures.0 at front) in
+    = λ front. progress-failed _ _ _ c.loop-at.at _ held _ c.loop-at.pending.items c.loop-at.invariant.progress (rw c.deref.ensures.0 at front) in
     on_err_weaker c.put_all.result failed c.put_all.ensures.err

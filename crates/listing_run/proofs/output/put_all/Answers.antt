@@ -12,10 +12,10 @@ loop-at-preserved g c =
     record {
       within = omega (arith, c.in_ok-at.ensures.within, c.split_at.ensures.back_len);
       held =
-        c.in_ok-at.ensures.taken
-        ∙ (ap (λ (h : Option (List ℕ)). with_back h (take c.in_ok-at.field-0 c.split_at.result.1.now)) here.held
-        ∙ (with_back-append (g.K.Sink.held c.args.out.now) (take c.loop-at.at c.args.bytes.now) (take c.in_ok-at.field-0 c.split_at.result.1.now)
-        ∙ ap (with_back (g.K.Sink.held c.args.out.now))
+          c.in_ok-at.ensures.taken
+          ∙ (ap (λ (h : Option (List ℕ)). with_back h (take c.in_ok-at.field-0 c.split_at.result.1.now)) here.held
+          ∙ (with_back-append (g.K.Sink.held c.args.out.now) (take c.loop-at.at c.args.bytes.now) (take c.in_ok-at.field-0 c.split_at.result.1.now)
+          ∙ ap (with_back (g.K.Sink.held c.args.out.now))
           (ap (λ (xs : List ℕ). take c.loop-at.at c.args.bytes.now ++ take c.in_ok-at.field-0 xs) rest
           ∙ sym (take-add c.loop-at.at c.in_ok-at.field-0 c.args.bytes.now))));
       later = omega arith;

@@ -24,7 +24,7 @@ pub loop-c-preserved : goal.loop-c-preserved
 loop-c-preserved c = record {
   small = rw c.from.ensures (one_more_digit c.loop-c.value c.in-Some.d c.loop-c.c-index c.loop-c.invariant.small c.in-Some.ensures.small);
   rest = rw c.from.ensures (c.loop-c.invariant.rest
-    ∙ hex_goes_on c.loop-c.value c.args.digits.now c.loop-c.c-index c.in-Some.d c.loop-c-test.true (sym c.in-Some.ensures.value));
+      ∙ hex_goes_on c.loop-c.value c.args.digits.now c.loop-c.c-index c.in-Some.d c.loop-c-test.true (sym c.in-Some.ensures.value));
 }
 
 pub returns : goal.returns
