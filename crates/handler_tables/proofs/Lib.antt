@@ -1,0 +1,5 @@
+pub mod FieldLemmas
+pub mod Tree
+pub mod Computed
+pub mod TreeLemmas
+pub mod RootLemmas

@@ -1,0 +1,135 @@
+-- A test of the nested tables against the rows: each node is right for the candidates that are left on its way.
+use Rattle.std.proofs.Common.{ℕ, zero, suc, Bool, true, false, ◌&&◌, List, [], ◌∷◌, slice_get, nat_le}
+use Rattle.std.specs.Prelude.{Option, Some, None}
+use Rattle.x86_values.specs.declared.Bits.{Bits}
+use Rattle.x86_values.specs.declared.Bits.TheVariants.{B16, B32, B64}
+use Rattle.row_types.specs.declared.Row.{Row}
+use Rattle.row_fields.proofs.Masks.{size_number}
+use Rattle.row_fields.proofs.Cands.{Cand, Coded, coded, of_number, at_opcode, cands, keep, is_empty, is_one, below}
+use Rattle.handler_tables.specs.declared.node.Next.{Next}
+use Rattle.handler_tables.specs.declared.node.Next.TheVariants.{Stop, Leaf, N2, N3, N4, N8, N256}
+use Rattle.handler_tables.specs.declared.node.Split.{Split}
+use Rattle.handler_tables.specs.declared.node.Split.TheVariants as split
+use Rattle.handler_tables.specs.Nodes.{nodes2, nodes3, nodes4, nodes8, nodes256, splits2, splits3, splits4, splits8}
+use Rattle.handler_tables.specs.Splits.{width_of}
+
+-- ---- the node behind an entry, below the opcode byte
+
+abbrev pub is_inner : Next → Bool
+is_inner (N2 i) = true
+is_inner (N3 i) = true
+is_inner (N4 i) = true
+is_inner (N8 i) = true
+is_inner _ = false
+
+abbrev pub node_width : Next → ℕ
+node_width (N2 i) = 2
+node_width (N3 i) = 3
+node_width (N4 i) = 4
+node_width (N8 i) = 8
+node_width _ = 0
+
+abbrev pub split_at : Next → Option Split
+split_at (N2 i) = slice_get splits2 i
+split_at (N3 i) = slice_get splits3 i
+split_at (N4 i) = slice_get splits4 i
+split_at (N8 i) = slice_get splits8 i
+split_at _ = None
+
+abbrev pub entries_at : Next → Option (List Next)
+entries_at (N2 i) = slice_get nodes2 i
+entries_at (N3 i) = slice_get nodes3 i
+entries_at (N4 i) = slice_get nodes4 i
+entries_at (N8 i) = slice_get nodes8 i
+entries_at _ = None
+
+-- ---- the test
+
+-- the place of a mask; the mode, the kind and the opcode byte have none
+unfoldable pub mask_of : Split → Option ℕ
+mask_of split.Kind = None
+mask_of split.Opcode = None
+mask_of split.Prefix = Some 1
+mask_of split.Place = Some 2
+mask_of split.Reg = Some 3
+mask_of split.Rm = Some 4
+mask_of split.Mode = None
+mask_of split.Size = Some 5
+mask_of split.W = Some 6
+mask_of split.L = Some 7
+mask_of split.RexB = Some 8
+
+unfoldable pub is_mode_split : Split → Bool
+is_mode_split split.Mode = true
+is_mode_split _ = false
+
+-- a test of an entry, if there is one
+unfoldable pub entry_ok : (Next → List Cand → Bool) → Option Next → List Cand → Bool
+entry_ok go None cs = false
+entry_ok go (Some e) cs = go e cs
+
+-- each entry is right for the candidates that allow its number
+unfoldable pub each_ok : (Next → List Cand → Bool) → ℕ → ℕ → List Next → List Cand → Bool
+unfolding keep
+each_ok go k v [] cs = true
+each_ok go k v (e ∷ es) cs = go e (keep k v cs) && each_ok go k (suc v) es cs
+
+-- of a split by the mode only the mode's own entry is looked at
+unfoldable pub split_ok : (Next → List Cand → Bool) → Bits → Option ℕ → Bool → List Next → List Cand → Bool
+unfolding each_ok entry_ok
+split_ok go bits (Some k) m es cs = each_ok go k 0 es cs
+split_ok go bits None false es cs = false
+split_ok go bits None true es cs = entry_ok go (slice_get es (size_number bits)) cs
+
+unfoldable pub node_ok : (Next → List Cand → Bool) → Bits → ℕ → Option Split → Option (List Next) → List Cand → Bool
+unfolding split_ok mask_of is_mode_split
+node_ok go bits width None _ cs = false
+node_ok go bits width (Some s) None cs = false
+node_ok go bits width (Some s) (Some es) cs = nat_le (width_of s) width && split_ok go bits (mask_of s) (is_mode_split s) es cs
+
+-- an entry is right for these candidates, with so many look-ups left
+unfoldable pub ok : ℕ → Bits → Next → List Cand → Bool
+unfolding node_ok is_empty is_one
+ok zero bits e cs = false
+ok (suc n) bits Stop cs = is_empty cs
+ok (suc n) bits (Leaf code) cs = is_one code.0 cs
+ok (suc n) bits (N256 i) cs = false
+ok (suc n) bits e cs = node_ok (ok n bits) bits (node_width e) (split_at e) (entries_at e) cs
+
+-- ---- the roots
+
+unfoldable pub get_in : Option (List Next) → ℕ → Option Next
+get_in None n = None
+get_in (Some es) n = slice_get es n
+
+-- the entry of an opcode byte, from the root's entry of its kind and map
+unfoldable pub under : Option Next → ℕ → Option Next
+unfolding get_in
+under (Some Stop) op = Some Stop
+under (Some (N256 i)) op = get_in (slice_get nodes256 i) op
+under _ op = None
+
+-- the candidates with a ModRM byte and those without one
+unfoldable pub both_ok : Bits → Option Next → Option Next → List Cand → Bool
+unfolding entry_ok ok keep
+both_ok bits with without cs = entry_ok (ok 10 bits) with (keep 0 1 cs) && entry_ok (ok 10 bits) without (keep 0 0 cs)
+
+unfoldable pub cell_ok : ℕ → Option Next → Option Next → List Coded → Bool
+unfolding both_ok cands
+cell_ok op with without cell =
+    both_ok B16 with without (cands B16 op cell)
+    && (both_ok B32 with without (cands B32 op cell) && both_ok B64 with without (cands B64 op cell))
+
+unfoldable pub kind_ok : Option Next → Option Next → List Coded → Bool
+unfolding below cell_ok under at_opcode
+kind_ok with without rows = below 256 (λ op. cell_ok op (under with op) (under without op) (at_opcode op rows))
+
+-- an entry of a root
+unfoldable pub root_entry : ℕ → ℕ → Option Next
+unfolding get_in
+root_entry root number = get_in (slice_get nodes8 root) number
+
+-- the roots are the nodes 0, with a ModRM byte, and 1, without one
+unfoldable pub tables_ok : List Row → Bool
+unfolding below kind_ok root_entry of_number coded
+tables_ok rows = below 8 (λ number. kind_ok (root_entry 0 number) (root_entry 1 number) (of_number number (coded 0 rows)))

@@ -1,0 +1,12 @@
+use Rattle.std.proofs.Common.{◌<◌, arith}
+use Rattle.prefixes.specs.Answer.{mode_of}
+use Rattle.handler_tables.specs.Splits.{width_of, field_at}
+use Rattle.handler_tables.proofs.FieldLemmas.{field_at-lt}
+use Rattle.handler_tables.proofs.walk.along.Goals as goal
+
+pub next-requires : goal.next-requires
+next-requires g c =
+    let lt : field_at (mode_of g.row.BITS) c.args.split c.args.fields.now < width_of c.args.split =
+    field_at-lt (mode_of g.row.BITS) c.args.split c.args.fields.now (omega arith)
+    in
+    omega (arith, lt)

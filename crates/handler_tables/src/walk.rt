@@ -1,0 +1,138 @@
+//! The walk from the root to a row.
+ghost use Rattle.std.specs.Prelude.{◌≡◌, ◌+◌, ◌<◌, ◌≤◌, length, slice_get, Some, MatchOption, IsSome, IsTrue};
+ghost use Rattle.prefixes.specs.Answer.{is_mode, mode_of};
+ghost use Rattle.row_fields.specs.Holds.{HoldsNowhere, IsOnlyRow};
+ghost use Rattle.opcode_rows.specs.Table.{table};
+ghost use Rattle.handler_tables.specs.Nodes.{nodes2, nodes3, nodes4, nodes8, nodes256, splits2, splits3, splits4, splits8};
+ghost use Rattle.handler_tables.specs.Splits.{width_of, field_at, root_of};
+
+use crate::node::{Next, Node, Split};
+use crate::nodes::{NODES2, NODES3, NODES4, NODES8, NODES256, SPLITS2, SPLITS3, SPLITS4, SPLITS8};
+use crate::splits::field_of;
+use row_fields::Fields;
+use std::sync::ledger::Ledger;
+use step_count::Steps;
+use x86_values::Code;
+
+/// The code of the one row of the table whose conditions hold on the fields in a mode; None exactly where no row's do.
+///
+/// `BITS` is the mode: 16, 32 or 64. Each look-up in a node is a step: at most 11, and at least 2 where a row is found.
+pub fn find<const BITS: u32, L: Ledger>(fields: &Fields, steps: &mut Steps<L>) -> Option<Code>
+    requires { IsTrue (is_mode BITS) }
+    ensures row { MatchOption result
+        (HoldsNowhere (mode_of BITS) table fields.now)
+        (λ code. IsOnlyRow (mode_of BITS) table fields.now code.0) }
+    ensures most { steps.new ≤ steps.old + 11 }
+    ensures least { IsSome result → steps.old + 2 ≤ steps.new }
+{
+    let _opcode = fields.opcode;
+    let root = node8(root_number(fields));
+    let cells = match along::<BITS, 8, L>(&root, Split::Kind, fields, steps) {
+        Next::Stop => return None,
+        Next::N256(cells) => cells,
+        _ => unreachable!(),
+    };
+    let cell = node256(cells);
+    let mut next = along::<BITS, 256, L>(&cell, Split::Opcode, fields, steps);
+    for taken in 0..10_u8 {
+        next = match next {
+            Next::Stop => return None,
+            Next::Leaf(code) => return Some(code),
+            Next::N2(at) => along::<BITS, 2, L>(&node2(at), split2(at), fields, steps),
+            Next::N3(at) => along::<BITS, 3, L>(&node3(at), split3(at), fields, steps),
+            Next::N4(at) => along::<BITS, 4, L>(&node4(at), split4(at), fields, steps),
+            Next::N8(at) => along::<BITS, 8, L>(&node8(at), split8(at), fields, steps),
+            Next::N256(_) => unreachable!(),
+        };
+    }
+    unreachable!()
+}
+
+/// The entry of a node for what it splits by.
+#[inline]
+fn along<const BITS: u32, const N: usize, L: Ledger>(
+    node: &Node<N>,
+    split: Split,
+    fields: &Fields,
+    steps: &mut Steps<L>,
+) -> Next
+    requires { width_of split ≤ N }
+    ensures entry { slice_get node.now (field_at (mode_of BITS) split fields.now) ≡ Some result }
+    ensures step { steps.new ≡ steps.old + 1 }
+{
+    let _opcode = fields.opcode;
+    node.next(field_of::<BITS>(split, fields), steps)
+}
+
+/// The root for fields with a ModRM byte, and for those without one.
+fn root_number(fields: &Fields) -> u16
+    ensures { result ≡ root_of fields.now.modrm }
+{
+    match fields.modrm {
+        Some(_) => 0,
+        None => 1,
+    }
+}
+
+fn node2(at: u16) -> Node<2>
+    requires { at < length nodes2 }
+    ensures { slice_get nodes2 at ≡ Some result }
+{
+    Node::new(&NODES2[at as usize])
+}
+
+fn split2(at: u16) -> Split
+    requires { at < length splits2 }
+    ensures { slice_get splits2 at ≡ Some result }
+{
+    SPLITS2[at as usize]
+}
+
+fn node3(at: u16) -> Node<3>
+    requires { at < length nodes3 }
+    ensures { slice_get nodes3 at ≡ Some result }
+{
+    Node::new(&NODES3[at as usize])
+}
+
+fn split3(at: u16) -> Split
+    requires { at < length splits3 }
+    ensures { slice_get splits3 at ≡ Some result }
+{
+    SPLITS3[at as usize]
+}
+
+fn node4(at: u16) -> Node<4>
+    requires { at < length nodes4 }
+    ensures { slice_get nodes4 at ≡ Some result }
+{
+    Node::new(&NODES4[at as usize])
+}
+
+fn split4(at: u16) -> Split
+    requires { at < length splits4 }
+    ensures { slice_get splits4 at ≡ Some result }
+{
+    SPLITS4[at as usize]
+}
+
+fn node8(at: u16) -> Node<8>
+    requires { at < length nodes8 }
+    ensures { slice_get nodes8 at ≡ Some result }
+{
+    Node::new(&NODES8[at as usize])
+}
+
+fn split8(at: u16) -> Split
+    requires { at < length splits8 }
+    ensures { slice_get splits8 at ≡ Some result }
+{
+    SPLITS8[at as usize]
+}
+
+fn node256(at: u16) -> Node<256>
+    requires { at < length nodes256 }
+    ensures { slice_get nodes256 at ≡ Some result }
+{
+    Node::new(&NODES256[at as usize])
+}

@@ -1,0 +1,247 @@
+#!/usr/bin/env python3
+"""Writes the nested tables of the opcode table as Rattle source, from the rows that tools/write_rows.py wrote.
+
+    tools/write_nodes.py
+
+reads the rows of the crates of rows (src/table.rt) and their order (crates/opcode_rows/src/spots.rt), and writes
+crates/handler_tables/src/nodes.rt. Nothing rests on this program: handler_tables proves of what it writes that each node is right for the rows
+that are left on its way, and a wrong node breaks that proof.
+
+A row's conditions in a mode and at an opcode byte are nine masks, one for each field that a node may split by; a mask has a bit for each value
+that the row allows. A node splits by the field that makes the mean way to a row shortest. Behind it, each entry keeps the rows that allow its
+value, and asks them nothing more of that field. Alike nodes are written once.
+"""
+import functools
+import os
+import re
+
+HERE = os.path.dirname(os.path.abspath(__file__))
+CRATES = os.path.join(os.path.dirname(HERE), 'crates')
+
+PART_CRATES = {'Integer': 'rows_integer', 'X87': 'rows_x87', 'Sse': 'rows_sse', 'Vex': 'rows_vex'}
+KINDS = ['Legacy', 'Vex']
+MAPS = ['One', 'M0f', 'M0f38', 'M0f3a']
+MODES = (16, 32, 64)
+CARET, BANG = 8, 16
+
+ROW = re.compile(r'^    \{ (\w+) (\w+) (0x\w\w) (\w+), (\w+)(?:\((\w+)\))? (\w+), (\w+) (\w+) (\w+) (\d), [\w ]+, (\d+) \}$')
+
+# The fields in the order of their masks, and how many values each has.
+PRESENT, PREFIX, PLACE, REG, RM, SIZE, W, L, REX_B = range(9)
+WIDTHS = (2, 4, 2, 8, 8, 3, 2, 2, 2)
+FULL = tuple((1 << n) - 1 for n in WIDTHS)
+SPLITS = {PREFIX: 'Prefix', PLACE: 'Place', REG: 'Reg', RM: 'Rm', SIZE: 'Size', W: 'W', L: 'L', REX_B: 'RexB'}
+
+
+# ------------------------------------------------------------------ rows
+
+def read(crate, file):
+    with open(os.path.join(CRATES, crate, 'src', file)) as f:
+        return f.read()
+
+
+def read_rows(crate):
+    kind, rows = None, []
+    for line in read(crate, 'table.rt').splitlines():
+        if line.strip() in ('Legacy;', 'Vex;'):
+            kind = line.strip()[:-1]
+        m = ROW.match(line)
+        if m:
+            map_, cls, opcode, plus, rule, byte, place, size, w, l, modes, marks = m.groups()
+            rows.append(dict(kind=kind, map=map_, cls=cls, opcode=int(opcode, 16), plus=plus, rule=rule, byte=int(byte, 0) if byte else None,
+                place=place, size=size, w=w, l=l, modes=int(modes), marks=int(marks)))
+    return rows
+
+
+def read_table():
+    """The rows of the table, by code."""
+    parts = {part: read_rows(crate) for part, crate in PART_CRATES.items()}
+    text = read('opcode_rows', 'spots.rt')
+    spots = text[text.index('= spots! {'):]
+    return [parts[part][int(at)] for part, at in re.findall(r'(\w+) (\d+)', spots)]
+
+
+def opcodes(row):
+    return range(row['opcode'], row['opcode'] + 8) if row['plus'] == 'Register' else (row['opcode'],)
+
+
+# ------------------------------------------------------------------ masks
+
+def mask(count, allows):
+    return sum(1 << value for value in range(count) if allows(value))
+
+
+def masks(bits, opcode, row):
+    """The nine masks of a row."""
+    at_90 = row['kind'] == 'Legacy' and row['map'] == 'One' and opcode == 0x90
+    rule, fixed = row['rule'], row['rule'] == 'Fixed'
+    prefix = {'Any': 0b1111, 'Np': 0b0001, 'Nfx': 0b0011, 'Nf3': 0b1011, 'P66': 0b0010, 'F3': 0b0100, 'F2': 0b1000}[row['cls']]
+    if at_90 and row['plus'] == 'Register':
+        prefix &= 0b1011
+    place = 0b11 if rule == 'No' else 0b10 if fixed else {'Any': 0b11, 'Memory': 0b01, 'Register': 0b10}[row['place']]
+    reg = 1 << row['byte'] if rule == 'Digit' else 1 << row['byte'] // 8 % 8 if fixed else FULL[REG]
+    rm = 1 << row['byte'] % 8 if fixed and row['plus'] != 'Stack' else FULL[RM]
+
+    def size(value):
+        size = MODES[value]
+        if bits == 64 and (row['marks'] & BANG or row['marks'] & CARET and size == 32):
+            size = 64
+        return {'O16': size == 16, 'O32': size == 32, 'O32or64': size != 16, 'O64': size == 64}.get(row['size'], True)
+
+    def w(value):
+        if row['size'] in ('W0', 'W1'):
+            counts = bits == 64 and bool(value)
+            return counts == (row['size'] == 'W1')
+        return {'W0': not value, 'W1': bool(value)}.get(row['w'], True)
+
+    def l(value):
+        return {'L128': not value, 'Lz': not value, 'L256': bool(value)}.get(row['l'], True)
+
+    def rex_b(value):
+        if not at_90:
+            return True
+        return bool(value) if row['plus'] == 'Register' else row['cls'] == 'F3' or not value
+
+    present = 0b11 if rule == 'No' else 0b10
+    return (present, prefix, place, reg, rm, mask(3, size), mask(2, w), mask(2, l), mask(2, rex_b))
+
+
+# ------------------------------------------------------------------ nodes
+
+def keep(rows, field, value):
+    """Of rows, each a code with its masks, those that allow a value, which asks them nothing more."""
+    return tuple((code, ms[:field] + (FULL[field],) + ms[field + 1:]) for code, ms in rows if ms[field] >> value & 1)
+
+
+def behind(state, split):
+    """What each entry of a node is for. A state is the rows that are left in each mode, None in a mode that is another entry's."""
+    if split == 'Mode':
+        return [tuple(rows if k == mode else None for k, rows in enumerate(state)) for mode in range(3)]
+    return [tuple(None if rows is None else keep(rows, split, value) for rows in state) for value in range(WIDTHS[split])]
+
+
+@functools.lru_cache(None)
+def best(state):
+    """The mean number of look-ups from here on, and what to split by: a field, the mode, 'stop' or 'leaf'."""
+    live = [rows for rows in state if rows is not None]
+    if all(rows == () for rows in live):
+        return 0, 'stop'
+    if live[0] and all(rows == ((live[0][0][0], FULL),) for rows in live):
+        return 0, 'leaf'
+    tries = []
+    for field in range(1, 9):
+        if any(ms[field] != FULL[field] for rows in live for _, ms in rows):
+            entries = behind(state, field)
+            tries.append((1 + sum(best(entry)[0] for entry in entries) / len(entries), field))
+    if len(live) > 1:
+        tries.append((1.001 + sum(best(entry)[0] for entry in behind(state, 'Mode')) / 3, 'Mode'))
+    return min(tries, key=lambda t: (t[0], str(t[1])))
+
+
+class Nodes:
+    """The nodes of each width, each once: what it splits by, and its entries."""
+
+    def __init__(self):
+        self.of_width = {2: [], 3: [], 4: [], 8: [], 256: []}
+        self.known = {}
+
+    def node(self, split, entries):
+        width, node = len(entries), (split, tuple(entries))
+        if node not in self.known:
+            self.known[node] = len(self.of_width[width])
+            self.of_width[width].append(node)
+        return f'N{width}({self.known[node]})'
+
+    def entry(self, state):
+        """The entry for what is left."""
+        split = best(state)[1]
+        if split == 'stop':
+            return 'Stop'
+        if split == 'leaf':
+            return f'Leaf({next(rows for rows in state if rows is not None)[0][0]})'
+        return self.node(SPLITS.get(split, split), [self.entry(entry) for entry in behind(state, split)])
+
+    def depth(self, entry):
+        m = re.match(r'N(\d+)\((\d+)\)', entry)
+        return 1 + max(self.depth(e) for e in self.of_width[int(m[1])][int(m[2])][1]) if m else 0
+
+
+def nested(table):
+    """The nodes. Nodes 0 and 1 of width 8 are the roots for fields with a ModRM byte and for those without one."""
+    nodes = Nodes()
+    nodes.of_width[8] = [None, None]
+    cells = {}
+    for code, row in enumerate(table):
+        for opcode in opcodes(row):
+            cells.setdefault((row['kind'], row['map'], opcode), []).append((code, row))
+    for root, present in ((0, 1), (1, 0)):
+        entries = []
+        for kind in KINDS:
+            for map_ in MAPS:
+                line = []
+                for opcode in range(256):
+                    cell = cells.get((kind, map_, opcode), [])
+                    line.append(nodes.entry(tuple(
+                        keep(tuple((code, masks(bits, opcode, row)) for code, row in cell if row['modes'] & bits // 16), PRESENT, present)
+                        for bits in MODES)))
+                entries.append('Stop' if all(entry == 'Stop' for entry in line) else nodes.node('Opcode', line))
+        nodes.of_width[8][root] = ('Kind', tuple(entries))
+    return nodes
+
+
+# ------------------------------------------------------------------ output
+
+HEAD = '''//! The nodes of the nested tables, written by tools/write_nodes.py from the rows of the table.
+use crate::node::{Next, Split};
+use x86_values::Code;
+
+macro_rules! nodes {
+    ($({ $($next:ident $(($at:literal))?)* })*) => {
+        [$([$(entry!($next $(($at))?)),*]),*]
+    };
+}
+
+macro_rules! entry {
+    (Stop) => { Next::Stop };
+    (Leaf($code:literal)) => { Next::Leaf(Code($code)) };
+    ($next:ident($at:literal)) => { Next::$next($at) };
+}
+
+macro_rules! splits {
+    ($($split:ident)*) => {
+        [$(Split::$split),*]
+    };
+}
+'''
+
+
+def wrapped(words, indent, width=150):
+    lines, line = [], ''
+    for word in words:
+        if line and len(indent) + len(line) + 1 + len(word) > width:
+            lines.append(indent + line)
+            line = word
+        else:
+            line = (line + ' ' + word) if line else word
+    return '\n'.join(lines + [indent + line]) + '\n'
+
+
+def main():
+    table = read_table()
+    nodes = nested(table)
+    text = HEAD
+    for width, known in nodes.of_width.items():
+        text += f'\n/// The nodes of {width} entries.\npub static NODES{width}: [[Next; {width}]; {len(known)}] = nodes! {{\n'
+        for _, entries in known:
+            text += '    { ' + ' '.join(entries) + ' }\n' if width < 256 else '    {\n' + wrapped(entries, '        ') + '    }\n'
+        text += '};\n'
+        if width < 256:
+            text += f'\n/// What each of them splits by.\npub static SPLITS{width}: [Split; {len(known)}] = splits! {{\n'
+            text += wrapped([split for split, _ in known], '    ') + '};\n'
+    with open(os.path.join(CRATES, 'handler_tables', 'src', 'nodes.rt'), 'w') as f:
+        f.write(text)
+    print(f'{len(table)} rows; nodes by width:', {width: len(known) for width, known in nodes.of_width.items()},
+        'at most', max(nodes.depth(f'N8({root})') for root in (0, 1)), 'look-ups')
+
+
+main()
