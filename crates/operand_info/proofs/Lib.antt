@@ -1,0 +1,3 @@
+pub mod Lines
+pub mod Uses
+pub mod LawTests

@@ -1,0 +1,7 @@
+-- The lines of the constant table.
+use Rattle.std.specs.Prelude.{List}
+use Rattle.operand_info.specs.declared.columns.Columns.{Columns}
+use Rattle.operand_info.specs.declared.table.TheConstants.{COLUMNS}
+
+unfoldable pub columns : List Columns
+columns = COLUMNS
