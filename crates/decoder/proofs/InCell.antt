@@ -8,12 +8,12 @@ use Rattle.row_types.specs.declared.Plus.TheVariants.{No as NoPlus, Register as 
 use Rattle.instruction_parts.specs.declared.spelling.PrefixState.{PrefixState}
 use Rattle.instruction_parts.specs.Sizes.{is_vex_row}
 use Rattle.row_fit.specs.Fits.{opcode_fits}
-use Rattle.row_fields.specs.Holds.{is_vex, map_number, opcode_holds, stands_in}
-use Rattle.row_lists.specs.Cells.{stands_in_cell, IsRunOf}
+use Rattle.row_fields.specs.Holds.{is_vex, map_number, opcode_holds, stands_in, rows_at}
+use Rattle.row_lists.specs.Cells.{stands_in_cell, cell_of, IsRunOf}
 use Rattle.opcode_rows.specs.Table.{table, cell}
 use Rattle.opcode_rows.proofs.CellRuns.{run-cell}
 use Rattle.instruction_parts.proofs.Tests.{equal_from}
-use Rattle.decoder.specs.Cells.{IsPlaced, CellIs}
+use Rattle.decoder.specs.Cells.{IsPlaced, CellIs, cell_count}
 
 eqb_self : (n : ℕ) → (n == n) ≡ true
 eqb_self n = grind arith
@@ -62,3 +62,8 @@ cell_empty kind state k small none code row there p =
     let run = run-cell kind state.map state.opcode small in
     let within = cell_from kind state run.0 _ k run.1 code row there p in
     absurd (omega (arith, within.0, within.1, none))
+
+-- how many rows the cell has
+pub count_of_cell : (kind : RowKind) (state : PrefixState) → is_vex kind ≡ is_some state.vex → length (cell kind state.map state.opcode) ≡ cell_count state
+unfolding cell_count cell_of
+count_of_cell kind state k = ap (λ b. length (rows_at (map_number b state.map) state.opcode table)) k

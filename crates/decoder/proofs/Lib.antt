@@ -2,6 +2,7 @@ mod Placed
 mod Fronts
 mod ReadingLaws
 mod Scanning
+mod Finding
 mod InCell
 mod Moving
 mod FormedRegisters

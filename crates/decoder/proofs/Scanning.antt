@@ -22,11 +22,11 @@ use Rattle.decoder.proofs.ReadingLaws.{IsAtFront, at_front, IsBegun, begun, begi
 
 -- ---- one row
 
-late_by_nothing : (bits : Bits) (row : Row) (bytes : List ℕ) → RowReadsNothing bits row bytes → RowIsLate bits row bytes
+pub late_by_nothing : (bits : Bits) (row : Row) (bytes : List ℕ) → RowReadsNothing bits row bytes → RowIsLate bits row bytes
 late_by_nothing bits row bytes h s rest fit e = absurd (h s rest fit e)
 
 -- a row has one spelling at the front of the bytes
-late_by_length : (bits : Bits) (ip : ℕ) (code : Code) (row : Row) (bytes : List ℕ) (d : Decoded) → RowReads bits ip code row bytes d → 15 < d.len → RowIsLate bits row bytes
+pub late_by_length : (bits : Bits) (ip : ℕ) (code : Code) (row : Row) (bytes : List ℕ) (d : Decoded) → RowReads bits ip code row bytes d → 15 < d.len → RowIsLate bits row bytes
 late_by_length bits ip code row bytes d r long s rest fit e =
     let one = one_spelling bits row s r.spelling rest r.rest fit r.fitting (sym e ∙ r.bytes_are) in
     omega (arith, ap (λ (t : Spelling). length (bytes_of row t)) one.0, r.length_is)

@@ -1,5 +1,5 @@
 -- The rows of a cell, and what those say of some bytes that were looked at.
-use Rattle.std.specs.Prelude.{◌≡◌, ℕ, ◌<◌, ◌≤◌, Bool, true, false, List, ◌++◌, length, Some, is_some, IsTrue, slice_get}
+use Rattle.std.specs.Prelude.{◌≡◌, ℕ, ◌+◌, ◌<◌, ◌≤◌, Bool, true, false, List, ◌++◌, length, Some, is_some, IsTrue, slice_get}
 use Rattle.x86_values.specs.declared.Bits.{Bits}
 use Rattle.x86_values.specs.declared.Code.{Code}
 use Rattle.row_types.specs.declared.Row.{Row}
@@ -7,7 +7,10 @@ use Rattle.instruction_parts.specs.declared.spelling.Spelling.{Spelling}
 use Rattle.instruction_parts.specs.declared.spelling.PrefixState.{PrefixState}
 use Rattle.instruction_parts.specs.Sizes.{is_vex_row}
 use Rattle.instruction_parts.specs.Bytes.{bytes_of}
+use Rattle.instruction_parts.specs.Front.{Front, Known}
 use Rattle.row_fit.specs.Fits.{fits, opcode_fits}
+use Rattle.row_fields.specs.Holds.{map_number, rows_at}
+use Rattle.opcode_rows.specs.Table.{table}
 use Rattle.row_relation.specs.RowReading.{RowCanGoOn}
 
 -- ---- where a row stands
@@ -22,6 +25,15 @@ pub record IsPlaced (state : PrefixState) (row : Row) : Type 0 where
 abbrev pub CellIs : List Row → PrefixState → ℕ → ℕ → Type 0
 CellIs table state first end =
     (k : ℕ) (row : Row) → slice_get table k ≡ Some row → IsPlaced state row → (first ≤ k) × (k < end)
+
+-- how many rows stand where the state says
+unfoldable pub cell_count : PrefixState → ℕ
+cell_count state = length (rows_at (map_number (is_some state.vex) state.map) state.opcode table)
+
+-- the most look-ups of a reading: 12 to find a row, and each row of the cell to tell why there is none
+abbrev pub most_steps : Front → ℕ
+most_steps (Known state) = 12 + cell_count state
+most_steps _ = 12
 
 -- ---- what a row says
 

@@ -7,7 +7,7 @@ ghost use Rattle.row_fields.specs.Holds.{is_vex};
 ghost use Rattle.opcode_rows.specs.Table.{table};
 ghost use Rattle.opcode_rows.specs.Allowed.{is_well_formed};
 ghost use Rattle.decoder.specs.Answer.{reading_of};
-ghost use Rattle.decoder.specs.Cells.{CellIs};
+ghost use Rattle.decoder.specs.Cells.{CellIs, cell_count};
 
 use crate::DecodeError;
 use instruction_parts::PrefixState;
@@ -19,7 +19,7 @@ use step_count::Steps;
 use x86_values::{Bits, Code, Decoded};
 
 /// The most bytes of an instruction (Intel SDM volume 2, 2.3.11).
-const LONGEST: usize = 15;
+pub(crate) const LONGEST: usize = 15;
 
 /// The rows that stand at one opcode byte: the code of the first, and how many they are.
 #[derive(Clone, Copy)]
@@ -44,6 +44,7 @@ fn kind_of(state: &PrefixState) -> RowKind
 pub(crate) fn cell_of(state: &PrefixState) -> Cell
     ensures within { result.first + result.len ≤ ROWS }
     ensures rows { CellIs table state.now result.first (result.first + result.len) }
+    ensures count { result.len ≡ cell_count state.now }
 {
     let kind = kind_of(state);
     let opcode = state.opcode;

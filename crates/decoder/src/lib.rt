@@ -3,12 +3,13 @@
 
 mod cell;
 mod cursor;
+mod found;
 mod reading;
 #[cfg(test)]
 mod tests;
 
 pub use cursor::Decoder;
-pub use reading::decode;
+pub use reading::{decode, decode_counted};
 
 /// Why bytes are not read as an instruction.
 #[derive(Clone, Copy, PartialEq, Eq, Debug)]

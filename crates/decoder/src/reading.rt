@@ -1,15 +1,19 @@
 //! The reading of some bytes.
 
-ghost use Rattle.std.specs.Prelude.{◌≡◌, ◌<◌, ◌≤◌, length, IsTrue, IfOk};
+ghost use Rattle.std.specs.Prelude.{◌≡◌, ◌+◌, ◌<◌, ◌≤◌, length, IsTrue, IfOk};
+ghost use Rattle.instruction_parts.specs.Front.{front_of, Known};
 ghost use Rattle.prefixes.specs.Answer.{is_mode, mode_of};
 ghost use Rattle.row_relation.specs.Spells.{IsReading};
 ghost use Rattle.opcode_rows.specs.Table.{table};
 ghost use Rattle.opcode_rows.specs.Allowed.{is_well_formed};
 ghost use Rattle.opcode_rows.specs.Reading.{IsRead};
 ghost use Rattle.decoder.specs.Answer.{reading_of, IsOnlyReading};
+ghost use Rattle.decoder.specs.Cells.{cell_count, most_steps};
 
 use crate::DecodeError;
 use crate::cell::{cell_of, scan};
+use crate::found::read_found;
+use instruction_parts::PrefixState;
 use prefixes::{PrefixError, mode_of, read_front};
 use std::marker::Brand;
 use std::sync::ledger::{Blank, Ledger};
@@ -51,23 +55,54 @@ fn decode_on<L: Ledger>(
     ensures alone { IfOk result (λ d. IsOnlyReading bits ip bytes.now d) }
 {
     let mut steps = Steps::<L>::open(blank);
-    decode_counting(bits, wrap(bits, u128::from(ip)), bytes, &mut steps)
+    match bits {
+        Bits::B16 => decode_counted::<16, L>(ip, bytes, &mut steps),
+        Bits::B32 => decode_counted::<32, L>(ip, bytes, &mut steps),
+        Bits::B64 => decode_counted::<64, L>(ip, bytes, &mut steps),
+    }
 }
 
-/// The same, where each row that is looked at is a step.
-fn decode_counting<L: Ledger>(
-    bits: Bits,
+/// The same, where each look-up of a row or in a node is a step.
+///
+/// An instruction takes 3 to 12 steps. An error takes at most 12, and one for each row that stands where the front says, if there is one.
+pub fn decode_counted<const BITS: u32, L: Ledger>(
     ip: u64,
     bytes: &[u8],
     steps: &mut Steps<L>,
 ) -> Result<Decoded, DecodeError>
-    ensures reading { IsReading table bits ip bytes.now (reading_of result) }
+    requires { IsTrue (is_mode BITS) }
+    ensures reading { IsRead (mode_of BITS) ip bytes.now (reading_of result) }
     ensures length { IfOk result (λ d. (0 < d.len) × (d.len ≤ 15) × (d.len ≤ length bytes.now)) }
     ensures form { IfOk result (λ d. IsTrue (is_well_formed d.instr)) }
+    ensures alone { IfOk result (λ d. IsOnlyReading (mode_of BITS) ip bytes.now d) }
+    ensures instruction { IfOk result (λ d. (steps.old + 3 ≤ steps.new) × (steps.new ≤ steps.old + 12)) }
+    ensures most { steps.new ≤ steps.old + most_steps (front_of (mode_of BITS) bytes.now) }
 {
+    let bits = mode_of::<BITS>();
     match read_front(bits, bytes) {
         Err(PrefixError::Ended) => Err(DecodeError::TooShort),
         Err(PrefixError::Forbidden) => Err(DecodeError::Invalid),
-        Ok(state) => scan(bits, ip, &state, bytes, cell_of(&state), steps),
+        Ok(state) => read_known::<BITS, L>(wrap(bits, u128::from(ip)), &state, bytes, steps),
+    }
+}
+
+/// The same of bytes whose front is known. Only where no instruction is found are the rows of the cell looked at, to tell the two errors apart.
+fn read_known<const BITS: u32, L: Ledger>(
+    ip: u64,
+    state: &PrefixState,
+    bytes: &[u8],
+    steps: &mut Steps<L>,
+) -> Result<Decoded, DecodeError>
+    requires mode { IsTrue (is_mode BITS) }
+    requires front { front_of (mode_of BITS) bytes.now ≡ Known state.now }
+    ensures reading { IsReading table (mode_of BITS) ip bytes.now (reading_of result) }
+    ensures length { IfOk result (λ d. (0 < d.len) × (d.len ≤ 15) × (d.len ≤ length bytes.now)) }
+    ensures form { IfOk result (λ d. IsTrue (is_well_formed d.instr)) }
+    ensures instruction { IfOk result (λ d. (steps.old + 3 ≤ steps.new) × (steps.new ≤ steps.old + 12)) }
+    ensures most { steps.new ≤ steps.old + 12 + cell_count state.now }
+{
+    match read_found::<BITS, L>(ip, state, bytes, steps) {
+        Some(decoded) => Ok(decoded),
+        None => scan(mode_of::<BITS>(), ip, state, bytes, cell_of(state), steps),
     }
 }

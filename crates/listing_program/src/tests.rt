@@ -26,23 +26,32 @@ fn expect<R: Abort + AllocGlobal>(
     Ok(())
 }
 
-/// Compares the texts of a listing with these, one line each.
+/// Compares the texts of a listing in the Intel style with these, one line each.
 fn expect_texts<R: Abort + AllocGlobal>(
     rt: &R,
     mode: &str,
     input: &[u8],
     texts: &str,
 ) -> Result<(), Fail> {
+    expect_texts_in(rt, ["list", mode, "0", "intel"], input, texts)
+}
+
+/// Compares the texts of the listing that some words ask for with these, one line each.
+fn expect_texts_in<R: Abort + AllocGlobal>(
+    rt: &R,
+    words: [&str; 4],
+    input: &[u8],
+    texts: &str,
+) -> Result<(), Fail> {
     let mut source = MemSource::new(input);
     let mut out = MemSink::new(rt.alloc(), MANY)?;
     let mut err = MemSink::new(rt.alloc(), 80)?;
-    let words = ["list", mode, "0", "intel"];
     let status = run(rt.alloc(), &words, &mut source, &mut out, &mut err);
     assert_eq!(rt; status, Status::Done, "{input:?}");
     let mut found = String::new(rt.alloc());
     for line in from_utf8(out.bytes())?.lines() {
         // The text stands behind the address, a space, the 30 places of the bytes and a space.
-        let column = match mode {
+        let column = match words[1] {
             "16" => 36,
             "32" => 40,
             _ => 48,
@@ -120,6 +129,121 @@ fn instructions_and_single_bytes_have_their_texts(rt: HostRuntime) -> Result<(),
 }
 
 #[test]
+fn each_style_has_its_texts(rt: HostRuntime) -> Result<(), Fail> {
+    for (mode, base, code, intel, att, masm) in [
+        (
+            "64",
+            "1000",
+            [0x48, 0x8b, 0x05, 0x00, 0x00, 0x00, 0x00].as_slice(),
+            "mov rax, qword [rel 0x1007]\n",
+            "movq 0x1007(%rip), %rax\n",
+            "mov rax, qword ptr [1007h]\n",
+        ),
+        (
+            "64",
+            "0",
+            [0x0f, 0xb6, 0x07].as_slice(),
+            "movzx eax, byte [rdi]\n",
+            "movzbl (%rdi), %eax\n",
+            "movzx eax, byte ptr [rdi]\n",
+        ),
+        (
+            "64",
+            "0",
+            [0xff, 0x10].as_slice(),
+            "call qword [rax]\n",
+            "callq *(%rax)\n",
+            "call qword ptr [rax]\n",
+        ),
+        (
+            "64",
+            "0",
+            [0xd8, 0x20].as_slice(),
+            "fsub dword [rax]\n",
+            "fsubs (%rax)\n",
+            "fsub dword ptr [rax]\n",
+        ),
+        (
+            "32",
+            "0",
+            [0x9a, 0x10, 0x00, 0x00, 0x00, 0x08, 0x00].as_slice(),
+            "callf 0x8:0x10\n",
+            "callf $0x8, $0x10\n",
+            "callf 8h:10h\n",
+        ),
+        (
+            "32",
+            "0",
+            [0x83, 0xc0, 0xff].as_slice(),
+            "add eax, 0xffffffff\n",
+            "add $0xffffffff, %eax\n",
+            "add eax, 0ffffffffh\n",
+        ),
+        (
+            "64",
+            "0",
+            [0x48, 0x89, 0x5c, 0x24, 0x10].as_slice(),
+            "mov qword [rsp+0x10], rbx\n",
+            "movq %rbx, 0x10(%rsp)\n",
+            "mov qword ptr [rsp+10h], rbx\n",
+        ),
+        (
+            "16",
+            "0",
+            [0x0f].as_slice(),
+            "db 0xf\n",
+            ".byte 0xf\n",
+            "db 0fh\n",
+        ),
+        (
+            "64",
+            "0",
+            [0x66].as_slice(),
+            "db 0x66\n",
+            ".byte 0x66\n",
+            "db 66h\n",
+        ),
+    ] {
+        expect_texts_in(&rt, ["list", mode, base, "intel"], code, intel)?;
+        expect_texts_in(&rt, ["list", mode, base, "att"], code, att)?;
+        expect_texts_in(&rt, ["list", mode, base, "masm"], code, masm)?;
+    }
+    Ok(())
+}
+
+#[test]
+fn the_table_has_a_line_for_each_row(rt: HostRuntime) -> Result<(), Fail> {
+    let mut source = MemSource::new(&[0x90]);
+    let mut out = MemSink::new(rt.alloc(), 131_072)?;
+    let mut err = MemSink::new(rt.alloc(), 80)?;
+    let status = run(rt.alloc(), &["rows"], &mut source, &mut out, &mut err);
+    assert_eq!(rt; status, Status::Done);
+    let text = from_utf8(out.bytes())?;
+    assert!(rt;
+        text.starts_with(
+            "0 00 /r add\n1 o16 01 /r add\n2 o32 01 /r add\n3 REX.W + 01 /r add\n4 02 /r add\n"
+        )
+    );
+    assert_eq!(rt; text.lines().count(), 1969);
+    for notation in [
+        " NF3 90 ",
+        " o64 50+ro ",
+        " VEX.128.0F.WIG 77 ",
+        " VEX.256.66.0F3A.W1 00 /r ib ",
+        " REX.W + 81 /0 id ",
+    ] {
+        assert!(rt; text.contains(notation), "{notation}");
+    }
+
+    // A sink with less room takes the front of it.
+    let mut out = MemSink::new(rt.alloc(), 15)?;
+    let status = run(rt.alloc(), &["rows"], &mut source, &mut out, &mut err);
+    assert_eq!(rt; status, Status::WriteFault);
+    assert_eq!(rt; from_utf8(out.bytes())?, "0 00 /r add\n1 o");
+    Ok(())
+}
+
+#[test]
 fn an_instruction_has_at_most_fifteen_bytes(rt: HostRuntime) -> Result<(), Fail> {
     let mut code = [0x66; 16];
     let fifteen =
@@ -164,7 +288,14 @@ fn a_wrong_word_is_named(rt: HostRuntime) -> Result<(), Fail> {
         ),
         (["list", "64", "", "intel"].as_slice(), 3, "usage: word 3\n"),
         (["list", "64", "0"].as_slice(), 4, "usage: word 4\n"),
-        (["list", "64", "0", "att"].as_slice(), 4, "usage: word 4\n"),
+        (["list", "64", "0", "ATT"].as_slice(), 4, "usage: word 4\n"),
+        (["list", "64", "0", "gas"].as_slice(), 4, "usage: word 4\n"),
+        (
+            ["list", "64", "0", "masm", "x"].as_slice(),
+            5,
+            "usage: word 5\n",
+        ),
+        (["rows", "x"].as_slice(), 2, "usage: word 2\n"),
         (
             ["list", "64", "0", "intel", "intel"].as_slice(),
             5,

@@ -1,5 +1,7 @@
 pub mod Appending
 pub mod Digits
 pub mod Causes
+pub mod Held
+pub mod RowLines
 pub mod Progress
 pub mod Saying

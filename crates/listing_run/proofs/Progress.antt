@@ -1,20 +1,20 @@
 -- How far a listing has come: the lines of the items so far went to the sink or are held back.
-use Rattle.std.proofs.Common.{◌≡◌, ℕ, ◌+◌, ◌<◌, ◌≤◌, List, [], ◌∷◌, ◌++◌, length, take, drop, Option, Result, Ok, Err, IfOk, refl, sym, ap, ◌∙◌, subst, arith, append_assoc, append-nil}
+use Rattle.std.proofs.Common.{◌≡◌, ℕ, ◌+◌, ◌<◌, ◌≤◌, List, [], ◌∷◌, ◌++◌, length, drop, Option, Result, Ok, Err, IfOk, refl, sym, ap, ◌∙◌, subst, arith, append_assoc, append-nil}
 use Rattle.std.proofs.lemmas.List.{length-drop, drop-drop, flat_map_more}
 use Rattle.std.proofs.Math.ListN.{drop_of_length-le}
-use Rattle.std.proofs.Math.Seq.{take-append-add}
 use Rattle.byte_ports.specs.Ports.{with_back}
 use Rattle.x86_values.specs.declared.Bits.{Bits}
 use Rattle.x86_values.specs.declared.Decoded.{Decoded}
 use Rattle.decoder.specs.declared.DecodeError.{DecodeError}
 use Rattle.decoder.specs.declared.DecodeError.TheVariants.{Invalid as InvalidError, TooShort as TooShortError}
 use Rattle.decoder.specs.Answer.{reading_of}
+use Rattle.sweep_text.specs.declared.syntax.Syntax.{Syntax}
 use Rattle.sweep_text.specs.Sweep.{Item, IsItemAt, Sweeps, item_len}
 use Rattle.sweep_text.specs.Listing.{item_line, listing}
 use Rattle.listing_run.specs.Writing.{HoldsFront, Moves}
 use Rattle.listing_run.specs.Steps.{WritesItem}
 use Rattle.listing_run.specs.Outcome.{WritesListing, WritesListingFront}
-use Rattle.listing_run.proofs.Appending.{with_back-nil, with_back-append}
+use Rattle.listing_run.proofs.Held.{Held, held-start, held-step, held-end, held-failed}
 
 -- one more item behind the first items of a sweep
 sweeps-append : (bits : Bits) (base offset at : ℕ) (bytes : List ℕ) (items : List Item) (rest : List ℕ) (item : Item) →
@@ -32,88 +32,67 @@ sweeps-append bits base offset at bytes (first ∷ items) rest item sweeps place
     = omega (arith, length-drop (item_len first.reading) bytes) in
     (sweeps.0, sweeps-append bits base (offset + item_len first.reading) at (drop (item_len first.reading) bytes) items rest item sweeps.1 place' is_at)
 
-pub record Progress (bits : Bits) (base : ℕ) (input : List ℕ) (at : ℕ) (start held : Option (List ℕ)) (pending : List ℕ) : Type 0 where
+pub record Progress (bits : Bits) (base : ℕ) (syntax : Syntax) (input : List ℕ) (at : ℕ) (start held : Option (List ℕ)) (pending : List ℕ) : Type 0 where
   pub items : List Item
-  pub written : List ℕ
   pub within : at ≤ length input
   pub sweeps : Sweeps bits base 0 input items (drop at input)
-  pub held_is : held ≡ with_back start written
-  pub joined : written ++ pending ≡ listing bits base items
+  pub lines : Held start held pending (listing bits base syntax items)
 
 -- before the first item
-pub progress-start : (bits : Bits) (base : ℕ) (input : List ℕ) (start : Option (List ℕ)) (pending : List ℕ) → pending ≡ [] →
-    Progress bits base input 0 start start pending
-progress-start bits base input start pending empty = record {
+pub progress-start : (bits : Bits) (base : ℕ) (syntax : Syntax) (input : List ℕ) (start : Option (List ℕ)) (pending : List ℕ) → pending ≡ [] →
+    Progress bits base syntax input 0 start start pending
+progress-start bits base syntax input start pending empty = record {
   items = [];
-  written = [];
   within = omega arith;
   sweeps = refl;
-  held_is = sym (with_back-nil start);
-  joined = empty;
+  lines = held-start start pending empty;
 }
 
 -- one more item
-pub progress-step : (bits : Bits) (base : ℕ) (input : List ℕ) (at : ℕ) (start held held' : Option (List ℕ)) (before after : List ℕ) (count : ℕ) →
-    at < length input → Progress bits base input at start held before →
-    WritesItem bits base at (drop at input) held held' before after count →
-    Progress bits base input (at + count) start held' after
-progress-step bits base input at start held held' before after count lt p w =
+pub progress-step : (bits : Bits) (base : ℕ) (syntax : Syntax) (input : List ℕ) (at : ℕ) (start held held' : Option (List ℕ)) (before after : List ℕ) (count : ℕ) →
+    at < length input → Progress bits base syntax input at start held before →
+    WritesItem bits base syntax at (drop at input) held held' before after count →
+    Progress bits base syntax input (at + count) start held' after
+progress-step bits base syntax input at start held held' before after count lt p w =
     let within = w.is_at.within in
     let count_is = w.count_is in
-    let moves = w.moves in
     let place : 0 + length input ≡ at + length (drop at input) = omega (arith, length-drop at input) in
     let swept = sweeps-append bits base 0 at input p.items (drop at input) w.item p.sweeps place w.is_at in
     let rest : drop (item_len w.item.reading) (drop at input) ≡ drop (at + count) input
     = rw count_is (drop-drop (item_len w.item.reading) at input) in
     let R : List ℕ → Type 0 = λ xs. Sweeps bits base 0 input (p.items ++ w.item ∷ []) xs in
+    let line = item_line bits base syntax w.item in
+    let more : listing bits base syntax p.items ++ line ≡ listing bits base syntax (p.items ++ w.item ∷ [])
+    = flat_map_more (item_line bits base syntax) [] p.items w.item in
+    let H : List ℕ → Type 0 = λ xs. Held start held' after xs in
     record {
       items = p.items ++ w.item ∷ [];
-      written = p.written ++ moves.written;
       within = omega (arith, length-drop at input);
       sweeps = subst R rest swept;
-      held_is = moves.held_is ∙ (ap (λ (h : Option (List ℕ)). with_back h moves.written) p.held_is ∙ with_back-append start p.written moves.written);
-      joined =
-          append_assoc p.written moves.written after
-          ∙ (ap (λ (xs : List ℕ). p.written ++ xs) moves.joined
-          ∙ (sym (append_assoc p.written before (item_line bits base w.item))
-          ∙ (ap (λ (xs : List ℕ). xs ++ item_line bits base w.item) p.joined
-          ∙ added p.items w.item)));
+      lines = subst H more (held-step start held held' before after (listing bits base syntax p.items) line p.lines w.moves);
     }
-  where
-    added : (items : List Item) (item : Item) → listing bits base items ++ item_line bits base item ≡ listing bits base (items ++ item ∷ [])
-    added items item = flat_map_more (item_line bits base) [] items item
 
 -- the whole listing
-pub progress-end : (bits : Bits) (base : ℕ) (input : List ℕ) (at : ℕ) (start held held' : Option (List ℕ)) (pending : List ℕ) →
-    length input ≤ at → Progress bits base input at start held pending → held' ≡ with_back held pending →
-    WritesListing bits base input start held'
-progress-end bits base input at start held held' pending le p all =
+pub progress-end : (bits : Bits) (base : ℕ) (syntax : Syntax) (input : List ℕ) (at : ℕ) (start held held' : Option (List ℕ)) (pending : List ℕ) →
+    length input ≤ at → Progress bits base syntax input at start held pending → held' ≡ with_back held pending →
+    WritesListing bits base syntax input start held'
+progress-end bits base syntax input at start held held' pending le p all =
     let R : List ℕ → Type 0 = λ xs. Sweeps bits base 0 input p.items xs in
     record {
       items = p.items;
       sweep = subst R (drop_of_length-le input le) p.sweeps;
-      written =
-          all
-          ∙ (ap (λ (h : Option (List ℕ)). with_back h pending) p.held_is
-          ∙ (with_back-append start p.written pending ∙ ap (with_back start) p.joined));
+      written = held-end start held held' pending (listing bits base syntax p.items) p.lines all;
     }
 
 -- a failure while text is held back
-pub progress-failed : (bits : Bits) (base : ℕ) (input : List ℕ) (at : ℕ) (start held held' : Option (List ℕ)) (pending : List ℕ) →
-    Progress bits base input at start held pending → HoldsFront held held' pending →
-    WritesListingFront bits base input start held'
-progress-failed bits base input at start held held' pending p front =
-    let part = take front.0 pending in
+pub progress-failed : (bits : Bits) (base : ℕ) (syntax : Syntax) (input : List ℕ) (at : ℕ) (start held held' : Option (List ℕ)) (pending : List ℕ) →
+    Progress bits base syntax input at start held pending → HoldsFront held held' pending →
+    WritesListingFront bits base syntax input start held'
+progress-failed bits base syntax input at start held held' pending p front =
     record {
       items = p.items;
       sweep = (drop at input, p.sweeps);
-      written = (
-        length p.written + front.0,
-        front.1
-            ∙ (ap (λ (h : Option (List ℕ)). with_back h part) p.held_is
-            ∙ (with_back-append start p.written part
-            ∙ ap (with_back start) (sym (take-append-add p.written pending front.0) ∙ ap (take (length p.written + front.0)) p.joined))),
-      );
+      written = held-failed start held held' pending (listing bits base syntax p.items) p.lines front;
     }
 
 -- a line behind what is held back, after some of that was written

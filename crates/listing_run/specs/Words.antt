@@ -6,8 +6,10 @@ use Rattle.hex.specs.Hex.{hex_digit_value}
 use Rattle.x86_values.specs.declared.Bits.{Bits}
 use Rattle.x86_values.specs.declared.Bits.TheVariants.{B16, B32, B64}
 use Rattle.x86_values.specs.Wrapping.{width}
+use Rattle.sweep_text.specs.declared.syntax.Syntax.{Syntax}
+use Rattle.sweep_text.specs.declared.syntax.Syntax.TheVariants.{Intel, Att, Masm}
 use Rattle.listing_run.specs.declared.words.Command.{Command}
-use Rattle.listing_run.specs.declared.words.Command.TheVariants.{Help, Version, List as ListCommand, Wrong}
+use Rattle.listing_run.specs.declared.words.Command.TheVariants.{Help, Version, List as ListCommand, Rows, Wrong}
 
 -- the texts of some words
 abbrev pub texts : List (Bor (List ℕ)) → List (List ℕ)
@@ -24,6 +26,13 @@ mode_named word =
     if same_text word (codes "16") then Some B16
     else (if same_text word (codes "32") then Some B32
     else (if same_text word (codes "64") then Some B64 else None))
+
+-- the style that a word names
+unfoldable pub syntax_named : List ℕ → Option Syntax
+syntax_named word =
+    if same_text word (codes "intel") then Some Intel
+    else (if same_text word (codes "att") then Some Att
+    else (if same_text word (codes "masm") then Some Masm else None))
 
 -- a number and the hexadecimal digits behind it, where all are digits of either case
 unfoldable pub hex_from : ℕ → List ℕ → Option ℕ
@@ -44,12 +53,16 @@ unfoldable pub at_end : List (List ℕ) → ℕ → Command → Command
 at_end [] word command = command
 at_end (_ ∷ _) word command = Wrong word
 
+-- the words behind `list BITS BASE SYNTAX`
+unfoldable pub list_end : Bits → ℕ → Option Syntax → List (List ℕ) → Command
+list_end bits base None words = Wrong 4
+list_end bits base (Some syntax) words = at_end words 5 (ListCommand bits base syntax)
+
 -- the words behind `list BITS BASE`
 unfoldable pub list_style : Bits → Option ℕ → List (List ℕ) → Command
 list_style bits None words = Wrong 3
 list_style bits (Some base) [] = Wrong 4
-list_style bits (Some base) (style ∷ words) =
-    if same_text style (codes "intel") then at_end words 5 (ListCommand bits base) else Wrong 4
+list_style bits (Some base) (style ∷ words) = list_end bits base (syntax_named style) words
 
 -- the words behind `list BITS`
 unfoldable pub list_base : Option Bits → List (List ℕ) → Command
@@ -67,5 +80,6 @@ unfoldable pub command_of : List (List ℕ) → Command
 command_of [] = Wrong 1
 command_of (name ∷ words) =
     if same_text name (codes "list") then list_mode words
+    else (if same_text name (codes "rows") then at_end words 2 Rows
     else (if same_text name (codes "--help") then at_end words 2 Help
-    else (if same_text name (codes "--version") then at_end words 2 Version else Wrong 1))
+    else (if same_text name (codes "--version") then at_end words 2 Version else Wrong 1)))

@@ -5,6 +5,7 @@ mod input;
 mod listing;
 mod output;
 mod program;
+mod rows;
 mod status;
 mod words;
 

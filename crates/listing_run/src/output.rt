@@ -1,10 +1,12 @@
 //! Writing whole texts to a sink.
 
-ghost use Rattle.std.specs.Prelude.{◌≡◌, OnOk, OnErr};
+ghost use Rattle.std.specs.Prelude.{◌≡◌, ◌≤◌, ◌+◌, [], OnOk, OnErr};
+ghost use Rattle.arrayvec.specs.ArrayVec.{array_vec_len};
 ghost use Rattle.byte_ports.specs.Ports.{HasCause, Rose, with_back};
-ghost use Rattle.listing_run.specs.Writing.{HoldsFront, Says};
+ghost use Rattle.listing_run.specs.Writing.{HoldsFront, Moves, Says};
 
 use byte_ports::{Failed, Sink};
+use sweep_text::{CHUNK_LEN, Chunk, LINE_LEN};
 
 /// Writes all the bytes. After `Failed` the first of them were written.
 pub fn put_all<K: Sink>(out: &mut K, bytes: &[u8]) -> Result<(), Failed>
@@ -16,6 +18,20 @@ pub fn put_all<K: Sink>(out: &mut K, bytes: &[u8]) -> Result<(), Failed>
     while at < bytes.len() {
         let (_, rest) = bytes.split_at(at);
         at += out.put(rest)?;
+    }
+    Ok(())
+}
+
+/// Writes what is held back where there is no room behind it for a line.
+pub fn make_room<K: Sink>(pending: &mut Chunk, out: &mut K) -> Result<(), Failed>
+    ensures room { OnOk result (array_vec_len pending.new + 209 ≤ 16384) }
+    ensures ok { OnOk result (Moves (K.held out.old) (K.held out.new) pending.old.items pending.new.items []) }
+    ensures err { OnErr result (HoldsFront (K.held out.old) (K.held out.new) pending.old.items) }
+    ensures cause { HasCause (K.faults out.old) (K.faults out.new) result }
+{
+    if CHUNK_LEN - pending.len() < LINE_LEN {
+        put_all(out, pending)?;
+        pending.clear();
     }
     Ok(())
 }

@@ -6,16 +6,19 @@ ghost use Rattle.listing_run.specs.Words.{command_of, texts};
 ghost use Rattle.listing_run.specs.StatusLine.{status_line};
 ghost use Rattle.listing_run.specs.Writing.{Says};
 ghost use Rattle.listing_run.specs.Texts as text;
+ghost use Rattle.listing_run.specs.Rows.{rows_text};
 ghost use Rattle.listing_run.specs.Outcome.{RunsAs, ListsAs, WritesAs, Reads, IsWrong, Completes};
 ghost use Rattle.listing_run.specs.declared.words.Command.TheVariants.{Wrong};
 
 use crate::input::{INPUT_LIMIT, ReadError, read_all};
 use crate::listing::write_listing;
 use crate::output::{put_all, say};
+use crate::rows::write_rows;
 use crate::status::{Status, status_line};
 use crate::words::{Command, command_of};
 use byte_ports::{Sink, Source};
 use std::alloc::Global;
+use sweep_text::Syntax;
 use x86_values::Bits;
 
 /// What `--help` writes.
@@ -23,7 +26,7 @@ use x86_values::Bits;
 fn help_text() -> &'static [u8]
     ensures { result.now ≡ text.help_text }
 {
-    b"usage: listing_program list BITS BASE intel\n       listing_program --help\n       listing_program --version\n\nlist writes one line for each instruction of the machine code on standard input.\nBITS is 16, 32 or 64. BASE is the address of the first byte: 1 to 16 hexadecimal\ndigits below 2 to the power of BITS.\n"
+    b"usage: listing_program list BITS BASE SYNTAX\n       listing_program rows\n       listing_program --help\n       listing_program --version\n\nlist writes one line for each instruction of the machine code on standard input.\nBITS is 16, 32 or 64. BASE is the address of the first byte: 1 to 16 hexadecimal\ndigits below 2 to the power of BITS. SYNTAX is intel, att or masm.\n\nrows writes one line for each row of the instruction table: its number, its\nnotation and its name. It reads nothing.\n"
 }
 
 /// What `--version` writes.
@@ -50,10 +53,11 @@ fn list<S: Source, K: Sink>(
     alloc: Global,
     bits: Bits,
     base: u64,
+    syntax: Syntax,
     source: &mut S,
     out: &mut K,
 ) -> Status
-    ensures answer { ListsAs bits base (S.left source.old) (S.left source.new) (K.held out.old) (K.held out.new)
+    ensures answer { ListsAs bits base syntax (S.left source.old) (S.left source.new) (K.held out.old) (K.held out.new)
         (Rose (S.faults source.old) (S.faults source.new)) (Rose (K.faults out.old) (K.faults out.new)) result }
 {
     let input = match read_all(alloc, source) {
@@ -64,7 +68,17 @@ fn list<S: Source, K: Sink>(
             limit: INPUT_LIMIT as u64,
         },
     };
-    match write_listing(bits, base, &input, out) {
+    match write_listing(bits, base, syntax, &input, out) {
+        Ok(()) => Status::Done,
+        Err(_) => Status::WriteFault,
+    }
+}
+
+/// Writes the table of instructions.
+fn rows<K: Sink>(out: &mut K) -> Status
+    ensures answer { WritesAs rows_text (K.held out.old) (K.held out.new) (Rose (K.faults out.old) (K.faults out.new)) result }
+{
+    match write_rows(out) {
         Ok(()) => Status::Done,
         Err(_) => Status::WriteFault,
     }
@@ -85,17 +99,19 @@ fn answer<S: Source, K: Sink>(
     match command {
         Command::Help => write_text(help_text(), out),
         Command::Version => write_text(version_text(), out),
-        Command::List { bits, base } => list(alloc, bits, base, source, out),
+        Command::List { bits, base, syntax } => list(alloc, bits, base, syntax, source, out),
+        Command::Rows => rows(out),
         Command::Wrong { word } => Status::Usage { word },
     }
 }
 
 /// Does what the words of a command line ask for.
 ///
-/// `words` are those behind the program's name. `list BITS BASE intel` reads `source` to its end and writes the listing
-/// to `out`, where `BITS` is `16`, `32` or `64` and `BASE` the address of the first byte in 1 to 16 hexadecimal digits,
-/// below 2 to the power of `BITS`. `--help` and `--version` write a text and read nothing. Each status other than `Done`
-/// has a line that is written to `err`.
+/// `words` are those behind the program's name. `list BITS BASE SYNTAX` reads `source` to its end and writes the listing
+/// to `out`, where `BITS` is `16`, `32` or `64`, `BASE` the address of the first byte in 1 to 16 hexadecimal digits,
+/// below 2 to the power of `BITS`, and `SYNTAX` is `intel`, `att` or `masm`. `rows` writes a line for each row of the
+/// table of instructions, and `--help` and `--version` write a text; they read nothing and take no memory. Each status
+/// other than `Done` has a line that is written to `err`.
 pub fn run<S: Source, K: Sink, E: Sink>(
     alloc: Global,
     words: &[&str],

@@ -5,6 +5,7 @@ ghost use Rattle.x86_values.specs.Wrapping.{width};
 ghost use Rattle.hex.specs.Hex.{hex_digit_value};
 ghost use Rattle.listing_run.specs.Words as spec;
 
+use sweep_text::Syntax;
 use x86_values::Bits;
 
 /// What a command line asks for.
@@ -14,10 +15,18 @@ pub enum Command {
     Help,
     /// The name and version.
     Version,
-    /// The listing of the input as code of a mode, whose first byte has the address `base`.
-    List { bits: Bits, base: u64 },
+    /// The listing of the input as code of a mode, whose first byte has the address `base`, in a style.
+    List {
+        bits: Bits,
+        base: u64,
+        syntax: Syntax,
+    },
+    /// The lines of the table's rows.
+    Rows,
     /// The word of this number, from 1, is not allowed, missing or too many.
-    Wrong { word: u64 },
+    Wrong {
+        word: u64,
+    },
 }
 
 /// Whether a word is this name.
@@ -39,6 +48,22 @@ fn mode_named(word: &str) -> Option<Bits>
         Some(Bits::B32)
     } else if is(word, "64") {
         Some(Bits::B64)
+    } else {
+        None
+    }
+}
+
+/// The style that a word names.
+#[tactic(auto, unfolding(crate::specs::Words::syntax_named))]
+fn syntax_named(word: &str) -> Option<Syntax>
+    ensures { result ≡ spec.syntax_named word.now }
+{
+    if is(word, "intel") {
+        Some(Syntax::Intel)
+    } else if is(word, "att") {
+        Some(Syntax::Att)
+    } else if is(word, "masm") {
+        Some(Syntax::Masm)
     } else {
         None
     }
@@ -120,6 +145,17 @@ fn at_end(words: &[&str], word: u64, command: Command) -> Command
     }
 }
 
+/// The words behind `list BITS BASE SYNTAX`.
+#[tactic(auto, unfolding(crate::specs::Words::list_end))]
+fn list_end(bits: Bits, base: u64, syntax: Option<Syntax>, words: &[&str]) -> Command
+    ensures { result ≡ spec.list_end bits base syntax (spec.texts words.now) }
+{
+    match syntax {
+        None => Command::Wrong { word: 4 },
+        Some(syntax) => at_end(words, 5, Command::List { bits, base, syntax }),
+    }
+}
+
 /// The words behind `list BITS BASE`.
 #[tactic(auto, unfolding(crate::specs::Words::list_style))]
 fn list_style(bits: Bits, base: Option<u64>, words: &[&str]) -> Command
@@ -129,13 +165,7 @@ fn list_style(bits: Bits, base: Option<u64>, words: &[&str]) -> Command
         None => Command::Wrong { word: 3 },
         Some(base) => match words {
             [] => Command::Wrong { word: 4 },
-            [style, words @ ..] => {
-                if is(style, "intel") {
-                    at_end(words, 5, Command::List { bits, base })
-                } else {
-                    Command::Wrong { word: 4 }
-                }
-            }
+            [style, words @ ..] => list_end(bits, base, syntax_named(style), words),
         },
     }
 }
@@ -175,6 +205,8 @@ pub fn command_of(words: &[&str]) -> Command
         [name, words @ ..] => {
             if is(name, "list") {
                 list_mode(words)
+            } else if is(name, "rows") {
+                at_end(words, 2, Command::Rows)
             } else if is(name, "--help") {
                 at_end(words, 2, Command::Help)
             } else if is(name, "--version") {

@@ -1,12 +1,12 @@
 -- How long the parts of a line are.
 use Rattle.std.proofs.Common.{◌≡◌, ℕ, ◌≤◌, List, [], ◌∷◌, ◌++◌, length, append_assoc}
-use Rattle.text_parts.specs.declared.style.Style.TheVariants.{Intel}
+use Rattle.text_parts.specs.declared.style.Style.{Style}
 use Rattle.text_parts.specs.Numbers.{number}
 use Rattle.text_parts.proofs.Bounds.{number-le}
 
 -- the number of a byte is short
-pub number_fits : (n : ℕ) → length (number Intel n) ≤ 18
-number_fits n = number-le Intel n
+pub number_fits : (style : Style) (n : ℕ) → length (number style n) ≤ 18
+number_fits style n = number-le style n
 
 -- the parts of a line, appended one behind another, are the line
 pub line_parts : (out address column text : List ℕ) →

@@ -3,6 +3,8 @@
 
 mod line;
 mod reading;
+mod syntax;
 
 pub use line::{CHUNK_LEN, Chunk, LINE_LEN, append, append_line};
 pub use reading::{item_len, read_at};
+pub use syntax::Syntax;

@@ -8,12 +8,9 @@ ghost use Rattle.decoder.specs.Answer.{reading_of};
 ghost use Rattle.sweep_text.specs.Sweep.{item_len};
 ghost use Rattle.sweep_text.specs.Listing as spec;
 
+use crate::syntax::{Syntax, instr_text, single_byte_text};
 use arrayvec::ArrayVec;
 use decoder::DecodeError;
-use intel_text::print;
-use text_parts::numbers::append_number;
-use text_parts::style::Style;
-use text_parts::text::Text;
 use x86_values::{Bits, Decoded, wrap};
 
 /// How many bytes of text are held before they are written.
@@ -96,41 +93,37 @@ fn append_column(out: &mut Chunk, bytes: &[u8])
     append_spaces(out, COLUMN_LEN - 2 * bytes.len());
 }
 
-/// The text of a byte at which no instruction is read.
-#[tactic(auto, using(crate::proofs::Lengths::number_fits), unfolding(crate::specs::Listing::single_byte_text))]
-fn single_byte_text(byte: u8) -> Text
-    ensures { result.items ≡ spec.single_byte_text byte }
-{
-    let mut text = Text::new();
-    text_parts::text::append(&mut text, b"db ");
-    append_number(&mut text, Style::Intel, u64::from(byte));
-    text
-}
-
 /// Appends the text of what is read at the front of some bytes: an instruction, or the single first byte.
 #[tactic(auto, unfolding(crate::specs::Listing::reading_text))]
-fn append_text(out: &mut Chunk, bits: Bits, bytes: &[u8], reading: &Result<Decoded, DecodeError>)
+fn append_text(
+    out: &mut Chunk,
+    bits: Bits,
+    syntax: Syntax,
+    bytes: &[u8],
+    reading: &Result<Decoded, DecodeError>,
+)
     requires some { 0 < length bytes.now }
     requires well { IfOk reading.now (λ d. IsTrue (is_well_formed d.instr)) }
     requires room { array_vec_len out.old + 160 ≤ 16384 }
-    ensures items { out.new.items ≡ out.old.items ++ spec.reading_text bits bytes.now (reading_of reading.now) }
+    ensures items { out.new.items ≡ out.old.items ++ spec.reading_text bits syntax bytes.now (reading_of reading.now) }
     ensures len { array_vec_len out.new ≤ array_vec_len out.old + 160 }
 {
     match reading {
-        Ok(d) => append(out, &print(bits, &d.instr)),
-        Err(_) => append(out, &single_byte_text(bytes[0])),
+        Ok(d) => append(out, &instr_text(syntax, bits, &d.instr)),
+        Err(_) => append(out, &single_byte_text(syntax, bytes[0])),
     }
 }
 
 /// Appends the line of an item: its address, its bytes and its text.
 ///
 /// `base` is the address of the first byte of the code, `offset` how far the item stands behind it, `bytes` the bytes
-/// of the item, and `reading` what is read at its front.
+/// of the item, and `reading` what is read at its front; its text is written in the style `syntax`.
 #[tactic(auto, using(crate::proofs::Lengths::line_parts), unfolding(crate::specs::Listing::item_line))]
 pub fn append_line(
     out: &mut Chunk,
     bits: Bits,
     base: u64,
+    syntax: Syntax,
     offset: usize,
     bytes: &[u8],
     reading: &Result<Decoded, DecodeError>,
@@ -140,12 +133,12 @@ pub fn append_line(
     requires well { IfOk reading.now (λ d. IsTrue (is_well_formed d.instr)) }
     requires room { array_vec_len out.old + 209 ≤ 16384 }
     ensures items { out.new.items ≡ out.old.items
-        ++ spec.item_line bits base (record { offset = offset; bytes = bytes.now; reading = reading_of reading.now }) }
+        ++ spec.item_line bits base syntax (record { offset = offset; bytes = bytes.now; reading = reading_of reading.now }) }
 {
     append_address(out, bits, base, offset);
     append(out, b" ");
     append_column(out, bytes);
     append(out, b" ");
-    append_text(out, bits, bytes, reading);
+    append_text(out, bits, syntax, bytes, reading);
     append(out, b"\n");
 }

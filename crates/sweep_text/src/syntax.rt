@@ -1,0 +1,69 @@
+//! The styles in which a listing is written, and the text of an instruction or of a single byte in each.
+
+ghost use Rattle.std.specs.Prelude.{◌≡◌, ◌≤◌, length, IsTrue};
+ghost use Rattle.opcode_rows.specs.Allowed.{is_well_formed};
+ghost use Rattle.sweep_text.specs.Listing as spec;
+
+use text_parts::numbers::append_number;
+use text_parts::style::Style;
+use text_parts::text::{Text, append};
+use x86_values::{Bits, Instr};
+
+/// A style of assembly text, in which a listing is written.
+#[derive(Clone, Copy, PartialEq, Eq, Debug)]
+pub enum Syntax {
+    /// The Intel manual's order and numbers, as `mov qword [rsp+0x10], rbx`.
+    Intel,
+    /// As the GNU assembler reads it by default, as `movq %rbx, 0x10(%rsp)`.
+    Att,
+    /// As MASM reads it, as `mov qword ptr [rsp+10h], rbx`.
+    Masm,
+}
+
+/// The style of a syntax's numbers.
+#[inline]
+fn style_of(syntax: Syntax) -> Style
+    ensures { result ≡ spec.style_of syntax }
+{
+    match syntax {
+        Syntax::Intel => Style::Intel,
+        Syntax::Att => Style::Att,
+        Syntax::Masm => Style::Masm,
+    }
+}
+
+/// The directive that stands before the number of a single byte.
+#[inline]
+#[tactic(auto, unfolding(crate::specs::Listing::byte_directive))]
+fn byte_directive(syntax: Syntax) -> &'static [u8]
+    ensures text { result.now ≡ spec.byte_directive syntax }
+    ensures short { length result.now ≤ 6 }
+{
+    match syntax {
+        Syntax::Att => b".byte ",
+        _ => b"db ",
+    }
+}
+
+/// The text of a byte at which no instruction is read.
+#[tactic(auto, using(crate::proofs::Lengths::number_fits), unfolding(crate::specs::Listing::single_byte_text))]
+pub(crate) fn single_byte_text(syntax: Syntax, byte: u8) -> Text
+    ensures { result.items ≡ spec.single_byte_text syntax byte }
+{
+    let mut text = Text::new();
+    append(&mut text, byte_directive(syntax));
+    append_number(&mut text, style_of(syntax), u64::from(byte));
+    text
+}
+
+/// The text of a well-formed instruction.
+pub(crate) fn instr_text(syntax: Syntax, bits: Bits, instr: &Instr) -> Text
+    requires { IsTrue (is_well_formed instr.now) }
+    ensures { result.items ≡ spec.instr_text syntax bits instr.now }
+{
+    match syntax {
+        Syntax::Intel => intel_text::print(bits, instr),
+        Syntax::Att => att_text::print(bits, instr),
+        Syntax::Masm => masm_text::print(bits, instr),
+    }
+}
