@@ -14,13 +14,11 @@ value, and asks them nothing more of that field. Alike nodes are written once.
 import functools
 import os
 import re
+import sys
 
-HERE = os.path.dirname(os.path.abspath(__file__))
-CRATES = os.path.join(os.path.dirname(HERE), 'crates')
+sys.dont_write_bytecode = True
+from write_rows import CRATES, KINDS, MAP_ORDER, PARTS, opcodes, wrapped, write
 
-PART_CRATES = {'Integer': 'rows_integer', 'X87': 'rows_x87', 'Sse': 'rows_sse', 'Vex': 'rows_vex'}
-KINDS = ['Legacy', 'Vex']
-MAPS = ['One', 'M0f', 'M0f38', 'M0f3a']
 MODES = (16, 32, 64)
 CARET, BANG = 8, 16
 
@@ -40,11 +38,9 @@ def read(crate, file):
         return f.read()
 
 
-def read_rows(crate):
-    kind, rows = None, []
+def read_rows(crate, kind):
+    rows = []
     for line in read(crate, 'table.rt').splitlines():
-        if line.strip() in ('Legacy;', 'Vex;'):
-            kind = line.strip()[:-1]
         m = ROW.match(line)
         if m:
             map_, cls, opcode, plus, rule, byte, place, size, w, l, modes, marks = m.groups()
@@ -55,14 +51,10 @@ def read_rows(crate):
 
 def read_table():
     """The rows of the table, by code."""
-    parts = {part: read_rows(crate) for part, crate in PART_CRATES.items()}
+    parts = {part: read_rows(crate, kind) for crate, _, kind, part in PARTS}
     text = read('opcode_rows', 'spots.rt')
     spots = text[text.index('= spots! {'):]
     return [parts[part][int(at)] for part, at in re.findall(r'(\w+) (\d+)', spots)]
-
-
-def opcodes(row):
-    return range(row['opcode'], row['opcode'] + 8) if row['plus'] == 'Register' else (row['opcode'],)
 
 
 # ------------------------------------------------------------------ masks
@@ -177,7 +169,7 @@ def nested(table):
     for root, present in ((0, 1), (1, 0)):
         entries = []
         for kind in KINDS:
-            for map_ in MAPS:
+            for map_ in MAP_ORDER:
                 line = []
                 for opcode in range(256):
                     cell = cells.get((kind, map_, opcode), [])
@@ -215,17 +207,6 @@ macro_rules! splits {
 '''
 
 
-def wrapped(words, indent, width=150):
-    lines, line = [], ''
-    for word in words:
-        if line and len(indent) + len(line) + 1 + len(word) > width:
-            lines.append(indent + line)
-            line = word
-        else:
-            line = (line + ' ' + word) if line else word
-    return '\n'.join(lines + [indent + line]) + '\n'
-
-
 def main():
     table = read_table()
     nodes = nested(table)
@@ -238,10 +219,10 @@ def main():
         if width < 256:
             text += f'\n/// What each of them splits by.\npub static SPLITS{width}: [Split; {len(known)}] = splits! {{\n'
             text += wrapped([split for split, _ in known], '    ') + '};\n'
-    with open(os.path.join(CRATES, 'handler_tables', 'src', 'nodes.rt'), 'w') as f:
-        f.write(text)
+    write('handler_tables', 'nodes.rt', text)
     print(f'{len(table)} rows; nodes by width:', {width: len(known) for width, known in nodes.of_width.items()},
         'at most', max(nodes.depth(f'N8({root})') for root in (0, 1)), 'look-ups')
 
 
-main()
+if __name__ == '__main__':
+    main()

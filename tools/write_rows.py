@@ -300,4 +300,5 @@ def main():
         f'at most {max(c for kind in KINDS for line in cells(table, kind) for _, c in line)} rows in a cell')
 
 
-main()
+if __name__ == '__main__':
+    main()
