@@ -10,6 +10,8 @@ program: that crate proves of each line that it is what the rules say. Run it ag
 import os
 import re
 
+from write_rows import wrapped
+
 CRATES = os.path.join(os.path.dirname(os.path.dirname(os.path.abspath(__file__))), 'crates')
 PARTS = {'Integer': 'rows_integer', 'X87': 'rows_x87', 'Sse': 'rows_sse', 'Vex': 'rows_vex'}
 
@@ -133,17 +135,6 @@ def memory(r):
 
 
 # ------------------------------------------------------------------ output
-
-def wrapped(words, indent, width=150):
-    lines, line = [], ''
-    for w in words:
-        if line and len(indent) + len(line) + 1 + len(w) > width:
-            lines.append(indent + line)
-            line = w
-        else:
-            line = (line + ' ' + w) if line else w
-    return '\n'.join(lines + [indent + line]) + '\n'
-
 
 def main():
     rows = table()
