@@ -1,0 +1,195 @@
+-- Examples of plain spellings and of the first condition that fails, each proved by computing; their values come from outside.
+use Rattle.std.proofs.Common.{◌≡◌, ℕ, Bool, true, false, List, [], ◌∷◌, refl, Option, Some, None}
+use Rattle.x86_values.specs.declared.Bits.{Bits}
+use Rattle.x86_values.specs.declared.Bits.TheVariants.{B16, B32, B64}
+use Rattle.x86_values.specs.declared.Segment.{Segment}
+use Rattle.x86_values.specs.declared.Segment.TheVariants.{Fs as SFs}
+use Rattle.x86_values.specs.declared.Register.{Register}
+use Rattle.x86_values.specs.declared.Register.TheVariants.{Low8, High8, R16, R32, R64, Xmm, Rip}
+use Rattle.x86_values.specs.declared.DispSize.{DispSize}
+use Rattle.x86_values.specs.declared.DispSize.TheVariants.{D0, D8, D32}
+use Rattle.x86_values.specs.declared.Operand.{Operand}
+use Rattle.x86_values.specs.declared.Operand.TheVariants.{Absent as NoOperand, Reg, Mem as MemOperand, Imm, Near}
+use Rattle.x86_values.specs.declared.Rep.{Rep}
+use Rattle.x86_values.specs.declared.Rep.TheVariants.{None as NoRep, F2 as RepF2}
+use Rattle.x86_values.specs.declared.Instr.{Instr}
+use Rattle.row_types.specs.declared.Row.{Row}
+use Rattle.row_types.specs.declared.RowKind.{RowKind}
+use Rattle.row_types.specs.declared.RowKind.TheVariants.{Legacy as LegacyRow, Vex as VexRow}
+use Rattle.row_types.specs.declared.Map.{Map}
+use Rattle.row_types.specs.declared.Map.TheVariants.{One as MapOne, M0f}
+use Rattle.row_types.specs.declared.Class.{Class}
+use Rattle.row_types.specs.declared.Class.TheVariants.{Any as AnyClass, Np}
+use Rattle.row_types.specs.declared.Plus.{Plus}
+use Rattle.row_types.specs.declared.Plus.TheVariants.{No as NoPlus}
+use Rattle.row_types.specs.declared.ModRmRule.{ModRmRule}
+use Rattle.row_types.specs.declared.ModRmRule.TheVariants.{No as NoModRm, Any as AnyModRm, Digit}
+use Rattle.row_types.specs.declared.Place.{Place}
+use Rattle.row_types.specs.declared.Place.TheVariants.{Any as AnyPlace}
+use Rattle.row_types.specs.declared.Size.{Size}
+use Rattle.row_types.specs.declared.Size.TheVariants.{None as NoSize, O16, O32, O64}
+use Rattle.row_types.specs.declared.WBit.{WBit}
+use Rattle.row_types.specs.declared.WBit.TheVariants.{None as NoW, Wig}
+use Rattle.row_types.specs.declared.LBit.{LBit}
+use Rattle.row_types.specs.declared.LBit.TheVariants.{None as NoL, L128}
+use Rattle.row_types.specs.declared.OpKind.{OpKind}
+use Rattle.row_types.specs.declared.OpKind.TheVariants.{Eb as KEb, Ev as KEv, Gb as KGb, Gv as KGv, Vx as KVx, Hx as KHx, Wx as KWx, Ibs as KIbs, Jb as KJb, Absent as KAbsent}
+use Rattle.plain_spelling.specs.declared.NoSpelling.{NoSpelling}
+use Rattle.plain_spelling.specs.declared.NoSpelling.TheVariants as cause
+use Rattle.instruction_parts.specs.Bytes.{bytes_of, vex_bytes, vex_last_byte, vex_map_byte, lead_bytes, tail_bytes, front_bytes, bytes_of, state_from, state_of}
+use Rattle.instruction_parts.specs.Kinds.{method_of, file_of, immediate_width, fixed_number}
+use Rattle.instruction_parts.specs.Counting.{is_segment, is_legacy_prefix, is_prefix, has_lock, has_66, has_67, counting_repeat, segment_named, counting_segment, counting_rex}
+use Rattle.instruction_parts.specs.Sizes.{exists_in, operand_size, address_size, bit_r, bit_x, bit_b, bit_w, state_size}
+use Rattle.instruction_parts.specs.Front.{forbids_vex}
+use Rattle.row_fit.specs.Fits.{fits, reads_mode, reg_number, rm_number, vvvv_number, index_number, prefixes_fit, legacy_class_fits, vex_class_fits, class_fits, is_vex_of_mode, is_opcode, opcode_allows, opcode_is_kept, vex_fits, opcode_fits, modrm_rule_fits, place_allows, place_fits, opcode_and_modrm_fit, size_fits, w_fits, l_fits, sizes_fit, vvvv_fits, needs_sib, is_displacement_alone, displacement_bytes, address_fits, immediate_bytes, immediates_bytes, lengths_fit, is_memory_method, lock_fits, is_control_number, register_fits, destination_fits, gather_fits, nop_fits, registers_fit, vex_in_range, modrm_in_range, sib_in_range, fields_in_range, tail_fits, state_fits}
+use Rattle.row_meaning.specs.Meaning.{meaning, little_endian, sign_extended, segment_numbered, general, byte_register, vector, register_of, disp_size_of, base_16, index_16, memory_16, memory_alone, sib_base, sib_index, memory_with_sib, memory_at_base, memory_flat, memory_of, memory_absolute, gather_memory, last_byte_number, near_target, far_pointer, memory_operand, operand_by, immediates_before, own_immediate, operand_at, kept_repeat, has_memory, kept_address_size, instr_of}
+use Rattle.plain_spelling.specs.Values.{low_bytes, is_extended_of, distance}
+use Rattle.plain_spelling.specs.Forms.{is_allowed_in, is_variant_of}
+use Rattle.plain_spelling.specs.Comparing.{same_register}
+use Rattle.plain_spelling.specs.PlainFront.{register_number, is_low_byte_of_rex, number_in_reg, number_in_rm, number_in_index, number_in_vvvv, number_in_opcode, asks_r, asks_x, asks_b, asks_rex_w, asks_vex_w, asks_66, asks_67, asked_repeat, asked_rex, class_pp, asked_vex, asked_opcode, asked_used, plain_front_of}
+use Rattle.plain_spelling.specs.Addresses.{register_count, has_address_size, general_size, pointer_size, shown_size, written_size, form_of, rm_of_one, rm_of_two, rm_of_short, is_address_register, is_base, is_index, scale_suits, is_flat_size, is_flat_shape, is_shape, index_named, is_vector_index, is_gather_base, is_gather_shape, shape_suits, displacement_count, flat_offers, short_offers, form_offers, offers, is_displacement, displacement_suits, mode_of_count, scale_field, base_bits, index_bits, plain_sib, flat_needs_sib, flat_fields, alone_fields, address_fields}
+use Rattle.plain_spelling.specs.PlainTail.{prefixes_of, plain_size, rm_fields, fixed_rm, plain_modrm, plain_sib_of, displacement_of, operand_immediate, immediate_at, plain_immediates, plain_len, plain_next, plain_spelling}
+use Rattle.plain_spelling.specs.Expressible.{kind_suits, exists_in_mode, is_of_kind, is_not_nop, kind_allows, is_nameable, gather_numbers_differ, register_suits, address_suits, offered, immediate_suits_how, immediate_suits, near_reaches, address_reaches, target_suits, lock_suits, repeat_suits, prefixes_suit, has_memory_operand, told_size, size_agrees, is_size_of, address_size_suits, first_failing, tail_failure, failure}
+
+abbrev pub row : RowKind → Map → Class → ℕ → Plus → ModRmRule → Place → Size → WBit → LBit → ℕ → OpKind → OpKind → OpKind → OpKind → ℕ → Row
+row kind map class opcode plus modrm place size w l modes a b c d marks = record {
+  kind = kind;
+  map = map;
+  class = class;
+  opcode = opcode;
+  plus = plus;
+  modrm = modrm;
+  place = place;
+  size = size;
+  w = w;
+  l = l;
+  modes = record { 0 = modes };
+  ops = a ∷ b ∷ c ∷ d ∷ [];
+  marks = record { 0 = marks };
+}
+
+abbrev pub memory : Option Register → Option Register → ℕ → ℕ → DispSize → Operand
+memory base index scale disp disp_size =
+    MemOperand (record { base = base; index = index; scale = scale; disp = disp; disp_size = disp_size })
+
+abbrev pub instr : Operand → Operand → Operand → Operand → Bool → Rep → Option Segment → Option Bits → Instr
+instr a b c d lock rep seg asize = record {
+  code = record { 0 = 0 };
+  ops = a ∷ b ∷ c ∷ d ∷ [];
+  lock = lock;
+  rep = rep;
+  seg = seg;
+  asize = asize;
+}
+
+abbrev pub two : Operand → Operand → Option Bits → Instr
+two a b asize = instr a b NoOperand NoOperand false NoRep None asize
+
+-- what an instruction of a row gives: the cause, or else the bytes, whether they fit, and what they mean
+pub data Outcome : Type 0 where
+  Refused : NoSpelling → Outcome
+  Written : List ℕ → Bool → Instr → Outcome
+
+abbrev pub outcome_by : Bits → ℕ → Row → Instr → Option NoSpelling → Outcome
+outcome_by bits ip row i (Some why) = Refused why
+outcome_by bits ip row i None =
+    Written (bytes_of row (plain_spelling bits ip row i)) (fits bits row (plain_spelling bits ip row i)) (meaning bits ip (record { 0 = 0 }) row (plain_spelling bits ip row i))
+
+abbrev pub outcome : Bits → ℕ → Row → Instr → Outcome
+outcome bits ip row i = outcome_by bits ip row i (failure bits ip row i)
+
+abbrev pub add_o32 : Row
+add_o32 = row LegacyRow MapOne AnyClass 0x01 NoPlus AnyModRm AnyPlace O32 NoW NoL 7 KEv KGv KAbsent KAbsent 1
+
+abbrev pub add_o16 : Row
+add_o16 = row LegacyRow MapOne AnyClass 0x01 NoPlus AnyModRm AnyPlace O16 NoW NoL 7 KEv KGv KAbsent KAbsent 1
+
+abbrev pub add_o64 : Row
+add_o64 = row LegacyRow MapOne AnyClass 0x01 NoPlus AnyModRm AnyPlace O64 NoW NoL 4 KEv KGv KAbsent KAbsent 1
+
+abbrev pub add_ibs : Row
+add_ibs = row LegacyRow MapOne AnyClass 0x83 NoPlus (Digit 0) AnyPlace O32 NoW NoL 7 KEv KIbs KAbsent KAbsent 1
+
+abbrev pub mov_byte : Row
+mov_byte = row LegacyRow MapOne AnyClass 0x88 NoPlus AnyModRm AnyPlace NoSize NoW NoL 7 KEb KGb KAbsent KAbsent 0
+
+abbrev pub jmp_short : Row
+jmp_short = row LegacyRow MapOne AnyClass 0xEB NoPlus NoModRm AnyPlace O64 NoW NoL 4 KJb KAbsent KAbsent KAbsent 20
+
+abbrev pub vaddps : Row
+vaddps = row VexRow M0f Np 0x58 NoPlus AnyModRm AnyPlace NoSize Wig L128 7 KVx KHx KWx KAbsent 0
+
+abbrev pub eax : Operand
+eax = Reg (R32 0)
+
+absent_second : outcome B64 0 add_o32 (two eax NoOperand None) ≡ Refused (cause.OperandKind 1)
+unfolding forbids_vex failure tail_failure first_failing kind_suits is_variant_of is_allowed_in method_of exists_in file_of immediate_width fixed_number is_segment is_legacy_prefix is_prefix has_lock has_66 has_67 counting_repeat segment_named counting_segment counting_rex operand_size address_size bit_r bit_x bit_b bit_w state_size vex_last_byte vex_map_byte vex_bytes lead_bytes tail_bytes front_bytes bytes_of state_from state_of fits reads_mode reg_number rm_number vvvv_number index_number prefixes_fit legacy_class_fits vex_class_fits class_fits is_vex_of_mode is_opcode opcode_allows opcode_is_kept vex_fits opcode_fits modrm_rule_fits place_allows place_fits opcode_and_modrm_fit size_fits w_fits l_fits sizes_fit vvvv_fits needs_sib is_displacement_alone displacement_bytes address_fits immediate_bytes immediates_bytes lengths_fit is_memory_method lock_fits is_control_number register_fits destination_fits gather_fits nop_fits registers_fit vex_in_range modrm_in_range sib_in_range fields_in_range tail_fits state_fits meaning little_endian sign_extended segment_numbered general byte_register vector register_of disp_size_of base_16 index_16 memory_16 memory_alone sib_base sib_index memory_with_sib memory_at_base memory_flat memory_of memory_absolute gather_memory last_byte_number near_target far_pointer memory_operand operand_by immediates_before own_immediate operand_at kept_repeat has_memory kept_address_size instr_of low_bytes is_extended_of distance same_register register_number is_low_byte_of_rex number_in_reg number_in_rm number_in_index number_in_vvvv number_in_opcode asks_r asks_x asks_b asks_rex_w asks_vex_w asks_66 asks_67 asked_repeat asked_rex class_pp asked_vex asked_opcode asked_used plain_front_of register_count has_address_size general_size pointer_size shown_size written_size form_of rm_of_one rm_of_two rm_of_short is_address_register is_base is_index scale_suits is_flat_size is_flat_shape is_shape index_named is_vector_index is_gather_base is_gather_shape shape_suits displacement_count flat_offers short_offers form_offers offers is_displacement displacement_suits mode_of_count scale_field base_bits index_bits plain_sib flat_needs_sib flat_fields alone_fields address_fields prefixes_of plain_size rm_fields fixed_rm plain_modrm plain_sib_of displacement_of operand_immediate immediate_at plain_immediates plain_len plain_next plain_spelling exists_in_mode is_of_kind is_not_nop kind_allows is_nameable gather_numbers_differ register_suits address_suits offered immediate_suits_how immediate_suits near_reaches address_reaches target_suits lock_suits repeat_suits prefixes_suit has_memory_operand told_size size_agrees is_size_of address_size_suits
+absent_second = refl
+
+ah_with_spl : outcome B64 0 mov_byte (two (Reg (High8 0)) (Reg (Low8 4)) None) ≡ Refused (cause.Register 0)
+unfolding forbids_vex failure tail_failure first_failing kind_suits is_variant_of is_allowed_in method_of exists_in file_of immediate_width fixed_number is_segment is_legacy_prefix is_prefix has_lock has_66 has_67 counting_repeat segment_named counting_segment counting_rex operand_size address_size bit_r bit_x bit_b bit_w state_size vex_last_byte vex_map_byte vex_bytes lead_bytes tail_bytes front_bytes bytes_of state_from state_of fits reads_mode reg_number rm_number vvvv_number index_number prefixes_fit legacy_class_fits vex_class_fits class_fits is_vex_of_mode is_opcode opcode_allows opcode_is_kept vex_fits opcode_fits modrm_rule_fits place_allows place_fits opcode_and_modrm_fit size_fits w_fits l_fits sizes_fit vvvv_fits needs_sib is_displacement_alone displacement_bytes address_fits immediate_bytes immediates_bytes lengths_fit is_memory_method lock_fits is_control_number register_fits destination_fits gather_fits nop_fits registers_fit vex_in_range modrm_in_range sib_in_range fields_in_range tail_fits state_fits meaning little_endian sign_extended segment_numbered general byte_register vector register_of disp_size_of base_16 index_16 memory_16 memory_alone sib_base sib_index memory_with_sib memory_at_base memory_flat memory_of memory_absolute gather_memory last_byte_number near_target far_pointer memory_operand operand_by immediates_before own_immediate operand_at kept_repeat has_memory kept_address_size instr_of low_bytes is_extended_of distance same_register register_number is_low_byte_of_rex number_in_reg number_in_rm number_in_index number_in_vvvv number_in_opcode asks_r asks_x asks_b asks_rex_w asks_vex_w asks_66 asks_67 asked_repeat asked_rex class_pp asked_vex asked_opcode asked_used plain_front_of register_count has_address_size general_size pointer_size shown_size written_size form_of rm_of_one rm_of_two rm_of_short is_address_register is_base is_index scale_suits is_flat_size is_flat_shape is_shape index_named is_vector_index is_gather_base is_gather_shape shape_suits displacement_count flat_offers short_offers form_offers offers is_displacement displacement_suits mode_of_count scale_field base_bits index_bits plain_sib flat_needs_sib flat_fields alone_fields address_fields prefixes_of plain_size rm_fields fixed_rm plain_modrm plain_sib_of displacement_of operand_immediate immediate_at plain_immediates plain_len plain_next plain_spelling exists_in_mode is_of_kind is_not_nop kind_allows is_nameable gather_numbers_differ register_suits address_suits offered immediate_suits_how immediate_suits near_reaches address_reaches target_suits lock_suits repeat_suits prefixes_suit has_memory_operand told_size size_agrees is_size_of address_size_suits
+ah_with_spl = refl
+
+scale_three : outcome B64 0 add_o32 (two (memory (Some (R64 0)) (Some (R64 1)) 3 0 D0) eax (Some B64)) ≡ Refused cause.Memory
+unfolding forbids_vex failure tail_failure first_failing kind_suits is_variant_of is_allowed_in method_of exists_in file_of immediate_width fixed_number is_segment is_legacy_prefix is_prefix has_lock has_66 has_67 counting_repeat segment_named counting_segment counting_rex operand_size address_size bit_r bit_x bit_b bit_w state_size vex_last_byte vex_map_byte vex_bytes lead_bytes tail_bytes front_bytes bytes_of state_from state_of fits reads_mode reg_number rm_number vvvv_number index_number prefixes_fit legacy_class_fits vex_class_fits class_fits is_vex_of_mode is_opcode opcode_allows opcode_is_kept vex_fits opcode_fits modrm_rule_fits place_allows place_fits opcode_and_modrm_fit size_fits w_fits l_fits sizes_fit vvvv_fits needs_sib is_displacement_alone displacement_bytes address_fits immediate_bytes immediates_bytes lengths_fit is_memory_method lock_fits is_control_number register_fits destination_fits gather_fits nop_fits registers_fit vex_in_range modrm_in_range sib_in_range fields_in_range tail_fits state_fits meaning little_endian sign_extended segment_numbered general byte_register vector register_of disp_size_of base_16 index_16 memory_16 memory_alone sib_base sib_index memory_with_sib memory_at_base memory_flat memory_of memory_absolute gather_memory last_byte_number near_target far_pointer memory_operand operand_by immediates_before own_immediate operand_at kept_repeat has_memory kept_address_size instr_of low_bytes is_extended_of distance same_register register_number is_low_byte_of_rex number_in_reg number_in_rm number_in_index number_in_vvvv number_in_opcode asks_r asks_x asks_b asks_rex_w asks_vex_w asks_66 asks_67 asked_repeat asked_rex class_pp asked_vex asked_opcode asked_used plain_front_of register_count has_address_size general_size pointer_size shown_size written_size form_of rm_of_one rm_of_two rm_of_short is_address_register is_base is_index scale_suits is_flat_size is_flat_shape is_shape index_named is_vector_index is_gather_base is_gather_shape shape_suits displacement_count flat_offers short_offers form_offers offers is_displacement displacement_suits mode_of_count scale_field base_bits index_bits plain_sib flat_needs_sib flat_fields alone_fields address_fields prefixes_of plain_size rm_fields fixed_rm plain_modrm plain_sib_of displacement_of operand_immediate immediate_at plain_immediates plain_len plain_next plain_spelling exists_in_mode is_of_kind is_not_nop kind_allows is_nameable gather_numbers_differ register_suits address_suits offered immediate_suits_how immediate_suits near_reaches address_reaches target_suits lock_suits repeat_suits prefixes_suit has_memory_operand told_size size_agrees is_size_of address_size_suits
+scale_three = refl
+
+disp8_of_80 : outcome B64 0 add_o32 (two (memory (Some (R64 0)) None 1 0x80 D8) eax (Some B64)) ≡ Refused cause.Displacement
+unfolding forbids_vex failure tail_failure first_failing kind_suits is_variant_of is_allowed_in method_of exists_in file_of immediate_width fixed_number is_segment is_legacy_prefix is_prefix has_lock has_66 has_67 counting_repeat segment_named counting_segment counting_rex operand_size address_size bit_r bit_x bit_b bit_w state_size vex_last_byte vex_map_byte vex_bytes lead_bytes tail_bytes front_bytes bytes_of state_from state_of fits reads_mode reg_number rm_number vvvv_number index_number prefixes_fit legacy_class_fits vex_class_fits class_fits is_vex_of_mode is_opcode opcode_allows opcode_is_kept vex_fits opcode_fits modrm_rule_fits place_allows place_fits opcode_and_modrm_fit size_fits w_fits l_fits sizes_fit vvvv_fits needs_sib is_displacement_alone displacement_bytes address_fits immediate_bytes immediates_bytes lengths_fit is_memory_method lock_fits is_control_number register_fits destination_fits gather_fits nop_fits registers_fit vex_in_range modrm_in_range sib_in_range fields_in_range tail_fits state_fits meaning little_endian sign_extended segment_numbered general byte_register vector register_of disp_size_of base_16 index_16 memory_16 memory_alone sib_base sib_index memory_with_sib memory_at_base memory_flat memory_of memory_absolute gather_memory last_byte_number near_target far_pointer memory_operand operand_by immediates_before own_immediate operand_at kept_repeat has_memory kept_address_size instr_of low_bytes is_extended_of distance same_register register_number is_low_byte_of_rex number_in_reg number_in_rm number_in_index number_in_vvvv number_in_opcode asks_r asks_x asks_b asks_rex_w asks_vex_w asks_66 asks_67 asked_repeat asked_rex class_pp asked_vex asked_opcode asked_used plain_front_of register_count has_address_size general_size pointer_size shown_size written_size form_of rm_of_one rm_of_two rm_of_short is_address_register is_base is_index scale_suits is_flat_size is_flat_shape is_shape index_named is_vector_index is_gather_base is_gather_shape shape_suits displacement_count flat_offers short_offers form_offers offers is_displacement displacement_suits mode_of_count scale_field base_bits index_bits plain_sib flat_needs_sib flat_fields alone_fields address_fields prefixes_of plain_size rm_fields fixed_rm plain_modrm plain_sib_of displacement_of operand_immediate immediate_at plain_immediates plain_len plain_next plain_spelling exists_in_mode is_of_kind is_not_nop kind_allows is_nameable gather_numbers_differ register_suits address_suits offered immediate_suits_how immediate_suits near_reaches address_reaches target_suits lock_suits repeat_suits prefixes_suit has_memory_operand told_size size_agrees is_size_of address_size_suits
+disp8_of_80 = refl
+
+imm_80 : outcome B64 0 add_ibs (two eax (Imm 0x80) None) ≡ Refused (cause.Immediate 1)
+unfolding forbids_vex failure tail_failure first_failing kind_suits is_variant_of is_allowed_in method_of exists_in file_of immediate_width fixed_number is_segment is_legacy_prefix is_prefix has_lock has_66 has_67 counting_repeat segment_named counting_segment counting_rex operand_size address_size bit_r bit_x bit_b bit_w state_size vex_last_byte vex_map_byte vex_bytes lead_bytes tail_bytes front_bytes bytes_of state_from state_of fits reads_mode reg_number rm_number vvvv_number index_number prefixes_fit legacy_class_fits vex_class_fits class_fits is_vex_of_mode is_opcode opcode_allows opcode_is_kept vex_fits opcode_fits modrm_rule_fits place_allows place_fits opcode_and_modrm_fit size_fits w_fits l_fits sizes_fit vvvv_fits needs_sib is_displacement_alone displacement_bytes address_fits immediate_bytes immediates_bytes lengths_fit is_memory_method lock_fits is_control_number register_fits destination_fits gather_fits nop_fits registers_fit vex_in_range modrm_in_range sib_in_range fields_in_range tail_fits state_fits meaning little_endian sign_extended segment_numbered general byte_register vector register_of disp_size_of base_16 index_16 memory_16 memory_alone sib_base sib_index memory_with_sib memory_at_base memory_flat memory_of memory_absolute gather_memory last_byte_number near_target far_pointer memory_operand operand_by immediates_before own_immediate operand_at kept_repeat has_memory kept_address_size instr_of low_bytes is_extended_of distance same_register register_number is_low_byte_of_rex number_in_reg number_in_rm number_in_index number_in_vvvv number_in_opcode asks_r asks_x asks_b asks_rex_w asks_vex_w asks_66 asks_67 asked_repeat asked_rex class_pp asked_vex asked_opcode asked_used plain_front_of register_count has_address_size general_size pointer_size shown_size written_size form_of rm_of_one rm_of_two rm_of_short is_address_register is_base is_index scale_suits is_flat_size is_flat_shape is_shape index_named is_vector_index is_gather_base is_gather_shape shape_suits displacement_count flat_offers short_offers form_offers offers is_displacement displacement_suits mode_of_count scale_field base_bits index_bits plain_sib flat_needs_sib flat_fields alone_fields address_fields prefixes_of plain_size rm_fields fixed_rm plain_modrm plain_sib_of displacement_of operand_immediate immediate_at plain_immediates plain_len plain_next plain_spelling exists_in_mode is_of_kind is_not_nop kind_allows is_nameable gather_numbers_differ register_suits address_suits offered immediate_suits_how immediate_suits near_reaches address_reaches target_suits lock_suits repeat_suits prefixes_suit has_memory_operand told_size size_agrees is_size_of address_size_suits
+imm_80 = refl
+
+imm_ffffff80 : outcome B64 0 add_ibs (two eax (Imm 0xFFFFFF80) None) ≡ Written (0x83 ∷ 0xC0 ∷ 0x80 ∷ []) true (two eax (Imm 0xFFFFFF80) None)
+unfolding forbids_vex failure tail_failure first_failing kind_suits is_variant_of is_allowed_in method_of exists_in file_of immediate_width fixed_number is_segment is_legacy_prefix is_prefix has_lock has_66 has_67 counting_repeat segment_named counting_segment counting_rex operand_size address_size bit_r bit_x bit_b bit_w state_size vex_last_byte vex_map_byte vex_bytes lead_bytes tail_bytes front_bytes bytes_of state_from state_of fits reads_mode reg_number rm_number vvvv_number index_number prefixes_fit legacy_class_fits vex_class_fits class_fits is_vex_of_mode is_opcode opcode_allows opcode_is_kept vex_fits opcode_fits modrm_rule_fits place_allows place_fits opcode_and_modrm_fit size_fits w_fits l_fits sizes_fit vvvv_fits needs_sib is_displacement_alone displacement_bytes address_fits immediate_bytes immediates_bytes lengths_fit is_memory_method lock_fits is_control_number register_fits destination_fits gather_fits nop_fits registers_fit vex_in_range modrm_in_range sib_in_range fields_in_range tail_fits state_fits meaning little_endian sign_extended segment_numbered general byte_register vector register_of disp_size_of base_16 index_16 memory_16 memory_alone sib_base sib_index memory_with_sib memory_at_base memory_flat memory_of memory_absolute gather_memory last_byte_number near_target far_pointer memory_operand operand_by immediates_before own_immediate operand_at kept_repeat has_memory kept_address_size instr_of low_bytes is_extended_of distance same_register register_number is_low_byte_of_rex number_in_reg number_in_rm number_in_index number_in_vvvv number_in_opcode asks_r asks_x asks_b asks_rex_w asks_vex_w asks_66 asks_67 asked_repeat asked_rex class_pp asked_vex asked_opcode asked_used plain_front_of register_count has_address_size general_size pointer_size shown_size written_size form_of rm_of_one rm_of_two rm_of_short is_address_register is_base is_index scale_suits is_flat_size is_flat_shape is_shape index_named is_vector_index is_gather_base is_gather_shape shape_suits displacement_count flat_offers short_offers form_offers offers is_displacement displacement_suits mode_of_count scale_field base_bits index_bits plain_sib flat_needs_sib flat_fields alone_fields address_fields prefixes_of plain_size rm_fields fixed_rm plain_modrm plain_sib_of displacement_of operand_immediate immediate_at plain_immediates plain_len plain_next plain_spelling exists_in_mode is_of_kind is_not_nop kind_allows is_nameable gather_numbers_differ register_suits address_suits offered immediate_suits_how immediate_suits near_reaches address_reaches target_suits lock_suits repeat_suits prefixes_suit has_memory_operand told_size size_agrees is_size_of address_size_suits
+imm_ffffff80 = refl
+
+lock_registers : outcome B64 0 add_o32 (instr eax eax NoOperand NoOperand true NoRep None None) ≡ Refused cause.Prefix
+unfolding forbids_vex failure tail_failure first_failing kind_suits is_variant_of is_allowed_in method_of exists_in file_of immediate_width fixed_number is_segment is_legacy_prefix is_prefix has_lock has_66 has_67 counting_repeat segment_named counting_segment counting_rex operand_size address_size bit_r bit_x bit_b bit_w state_size vex_last_byte vex_map_byte vex_bytes lead_bytes tail_bytes front_bytes bytes_of state_from state_of fits reads_mode reg_number rm_number vvvv_number index_number prefixes_fit legacy_class_fits vex_class_fits class_fits is_vex_of_mode is_opcode opcode_allows opcode_is_kept vex_fits opcode_fits modrm_rule_fits place_allows place_fits opcode_and_modrm_fit size_fits w_fits l_fits sizes_fit vvvv_fits needs_sib is_displacement_alone displacement_bytes address_fits immediate_bytes immediates_bytes lengths_fit is_memory_method lock_fits is_control_number register_fits destination_fits gather_fits nop_fits registers_fit vex_in_range modrm_in_range sib_in_range fields_in_range tail_fits state_fits meaning little_endian sign_extended segment_numbered general byte_register vector register_of disp_size_of base_16 index_16 memory_16 memory_alone sib_base sib_index memory_with_sib memory_at_base memory_flat memory_of memory_absolute gather_memory last_byte_number near_target far_pointer memory_operand operand_by immediates_before own_immediate operand_at kept_repeat has_memory kept_address_size instr_of low_bytes is_extended_of distance same_register register_number is_low_byte_of_rex number_in_reg number_in_rm number_in_index number_in_vvvv number_in_opcode asks_r asks_x asks_b asks_rex_w asks_vex_w asks_66 asks_67 asked_repeat asked_rex class_pp asked_vex asked_opcode asked_used plain_front_of register_count has_address_size general_size pointer_size shown_size written_size form_of rm_of_one rm_of_two rm_of_short is_address_register is_base is_index scale_suits is_flat_size is_flat_shape is_shape index_named is_vector_index is_gather_base is_gather_shape shape_suits displacement_count flat_offers short_offers form_offers offers is_displacement displacement_suits mode_of_count scale_field base_bits index_bits plain_sib flat_needs_sib flat_fields alone_fields address_fields prefixes_of plain_size rm_fields fixed_rm plain_modrm plain_sib_of displacement_of operand_immediate immediate_at plain_immediates plain_len plain_next plain_spelling exists_in_mode is_of_kind is_not_nop kind_allows is_nameable gather_numbers_differ register_suits address_suits offered immediate_suits_how immediate_suits near_reaches address_reaches target_suits lock_suits repeat_suits prefixes_suit has_memory_operand told_size size_agrees is_size_of address_size_suits
+lock_registers = refl
+
+no_asize : outcome B64 0 add_o32 (two (memory (Some (R64 0)) None 1 0 D0) eax None) ≡ Refused cause.AddressSize
+unfolding forbids_vex failure tail_failure first_failing kind_suits is_variant_of is_allowed_in method_of exists_in file_of immediate_width fixed_number is_segment is_legacy_prefix is_prefix has_lock has_66 has_67 counting_repeat segment_named counting_segment counting_rex operand_size address_size bit_r bit_x bit_b bit_w state_size vex_last_byte vex_map_byte vex_bytes lead_bytes tail_bytes front_bytes bytes_of state_from state_of fits reads_mode reg_number rm_number vvvv_number index_number prefixes_fit legacy_class_fits vex_class_fits class_fits is_vex_of_mode is_opcode opcode_allows opcode_is_kept vex_fits opcode_fits modrm_rule_fits place_allows place_fits opcode_and_modrm_fit size_fits w_fits l_fits sizes_fit vvvv_fits needs_sib is_displacement_alone displacement_bytes address_fits immediate_bytes immediates_bytes lengths_fit is_memory_method lock_fits is_control_number register_fits destination_fits gather_fits nop_fits registers_fit vex_in_range modrm_in_range sib_in_range fields_in_range tail_fits state_fits meaning little_endian sign_extended segment_numbered general byte_register vector register_of disp_size_of base_16 index_16 memory_16 memory_alone sib_base sib_index memory_with_sib memory_at_base memory_flat memory_of memory_absolute gather_memory last_byte_number near_target far_pointer memory_operand operand_by immediates_before own_immediate operand_at kept_repeat has_memory kept_address_size instr_of low_bytes is_extended_of distance same_register register_number is_low_byte_of_rex number_in_reg number_in_rm number_in_index number_in_vvvv number_in_opcode asks_r asks_x asks_b asks_rex_w asks_vex_w asks_66 asks_67 asked_repeat asked_rex class_pp asked_vex asked_opcode asked_used plain_front_of register_count has_address_size general_size pointer_size shown_size written_size form_of rm_of_one rm_of_two rm_of_short is_address_register is_base is_index scale_suits is_flat_size is_flat_shape is_shape index_named is_vector_index is_gather_base is_gather_shape shape_suits displacement_count flat_offers short_offers form_offers offers is_displacement displacement_suits mode_of_count scale_field base_bits index_bits plain_sib flat_needs_sib flat_fields alone_fields address_fields prefixes_of plain_size rm_fields fixed_rm plain_modrm plain_sib_of displacement_of operand_immediate immediate_at plain_immediates plain_len plain_next plain_spelling exists_in_mode is_of_kind is_not_nop kind_allows is_nameable gather_numbers_differ register_suits address_suits offered immediate_suits_how immediate_suits near_reaches address_reaches target_suits lock_suits repeat_suits prefixes_suit has_memory_operand told_size size_agrees is_size_of address_size_suits
+no_asize = refl
+
+rsp_r12 : outcome B64 0 add_o64 (two (memory (Some (R64 4)) (Some (R64 12)) 4 0x10 D8) (Reg (R64 9)) (Some B64)) ≡ Written (0x4E ∷ 0x01 ∷ 0x4C ∷ 0xA4 ∷ 0x10 ∷ []) true (two (memory (Some (R64 4)) (Some (R64 12)) 4 0x10 D8) (Reg (R64 9)) (Some B64))
+unfolding forbids_vex failure tail_failure first_failing kind_suits is_variant_of is_allowed_in method_of exists_in file_of immediate_width fixed_number is_segment is_legacy_prefix is_prefix has_lock has_66 has_67 counting_repeat segment_named counting_segment counting_rex operand_size address_size bit_r bit_x bit_b bit_w state_size vex_last_byte vex_map_byte vex_bytes lead_bytes tail_bytes front_bytes bytes_of state_from state_of fits reads_mode reg_number rm_number vvvv_number index_number prefixes_fit legacy_class_fits vex_class_fits class_fits is_vex_of_mode is_opcode opcode_allows opcode_is_kept vex_fits opcode_fits modrm_rule_fits place_allows place_fits opcode_and_modrm_fit size_fits w_fits l_fits sizes_fit vvvv_fits needs_sib is_displacement_alone displacement_bytes address_fits immediate_bytes immediates_bytes lengths_fit is_memory_method lock_fits is_control_number register_fits destination_fits gather_fits nop_fits registers_fit vex_in_range modrm_in_range sib_in_range fields_in_range tail_fits state_fits meaning little_endian sign_extended segment_numbered general byte_register vector register_of disp_size_of base_16 index_16 memory_16 memory_alone sib_base sib_index memory_with_sib memory_at_base memory_flat memory_of memory_absolute gather_memory last_byte_number near_target far_pointer memory_operand operand_by immediates_before own_immediate operand_at kept_repeat has_memory kept_address_size instr_of low_bytes is_extended_of distance same_register register_number is_low_byte_of_rex number_in_reg number_in_rm number_in_index number_in_vvvv number_in_opcode asks_r asks_x asks_b asks_rex_w asks_vex_w asks_66 asks_67 asked_repeat asked_rex class_pp asked_vex asked_opcode asked_used plain_front_of register_count has_address_size general_size pointer_size shown_size written_size form_of rm_of_one rm_of_two rm_of_short is_address_register is_base is_index scale_suits is_flat_size is_flat_shape is_shape index_named is_vector_index is_gather_base is_gather_shape shape_suits displacement_count flat_offers short_offers form_offers offers is_displacement displacement_suits mode_of_count scale_field base_bits index_bits plain_sib flat_needs_sib flat_fields alone_fields address_fields prefixes_of plain_size rm_fields fixed_rm plain_modrm plain_sib_of displacement_of operand_immediate immediate_at plain_immediates plain_len plain_next plain_spelling exists_in_mode is_of_kind is_not_nop kind_allows is_nameable gather_numbers_differ register_suits address_suits offered immediate_suits_how immediate_suits near_reaches address_reaches target_suits lock_suits repeat_suits prefixes_suit has_memory_operand told_size size_agrees is_size_of address_size_suits
+rsp_r12 = refl
+
+rip : outcome B64 4096 add_o64 (two (memory (Some Rip) None 1 0x1007 D32) (Reg (R64 0)) (Some B64)) ≡ Written (0x48 ∷ 0x01 ∷ 0x05 ∷ 0x00 ∷ 0x00 ∷ 0x00 ∷ 0x00 ∷ []) true (two (memory (Some Rip) None 1 0x1007 D32) (Reg (R64 0)) (Some B64))
+unfolding forbids_vex failure tail_failure first_failing kind_suits is_variant_of is_allowed_in method_of exists_in file_of immediate_width fixed_number is_segment is_legacy_prefix is_prefix has_lock has_66 has_67 counting_repeat segment_named counting_segment counting_rex operand_size address_size bit_r bit_x bit_b bit_w state_size vex_last_byte vex_map_byte vex_bytes lead_bytes tail_bytes front_bytes bytes_of state_from state_of fits reads_mode reg_number rm_number vvvv_number index_number prefixes_fit legacy_class_fits vex_class_fits class_fits is_vex_of_mode is_opcode opcode_allows opcode_is_kept vex_fits opcode_fits modrm_rule_fits place_allows place_fits opcode_and_modrm_fit size_fits w_fits l_fits sizes_fit vvvv_fits needs_sib is_displacement_alone displacement_bytes address_fits immediate_bytes immediates_bytes lengths_fit is_memory_method lock_fits is_control_number register_fits destination_fits gather_fits nop_fits registers_fit vex_in_range modrm_in_range sib_in_range fields_in_range tail_fits state_fits meaning little_endian sign_extended segment_numbered general byte_register vector register_of disp_size_of base_16 index_16 memory_16 memory_alone sib_base sib_index memory_with_sib memory_at_base memory_flat memory_of memory_absolute gather_memory last_byte_number near_target far_pointer memory_operand operand_by immediates_before own_immediate operand_at kept_repeat has_memory kept_address_size instr_of low_bytes is_extended_of distance same_register register_number is_low_byte_of_rex number_in_reg number_in_rm number_in_index number_in_vvvv number_in_opcode asks_r asks_x asks_b asks_rex_w asks_vex_w asks_66 asks_67 asked_repeat asked_rex class_pp asked_vex asked_opcode asked_used plain_front_of register_count has_address_size general_size pointer_size shown_size written_size form_of rm_of_one rm_of_two rm_of_short is_address_register is_base is_index scale_suits is_flat_size is_flat_shape is_shape index_named is_vector_index is_gather_base is_gather_shape shape_suits displacement_count flat_offers short_offers form_offers offers is_displacement displacement_suits mode_of_count scale_field base_bits index_bits plain_sib flat_needs_sib flat_fields alone_fields address_fields prefixes_of plain_size rm_fields fixed_rm plain_modrm plain_sib_of displacement_of operand_immediate immediate_at plain_immediates plain_len plain_next plain_spelling exists_in_mode is_of_kind is_not_nop kind_allows is_nameable gather_numbers_differ register_suits address_suits offered immediate_suits_how immediate_suits near_reaches address_reaches target_suits lock_suits repeat_suits prefixes_suit has_memory_operand told_size size_agrees is_size_of address_size_suits
+rip = refl
+
+abs64 : outcome B64 0 add_o32 (two (memory None None 1 0x1000 D32) eax (Some B64)) ≡ Written (0x01 ∷ 0x04 ∷ 0x25 ∷ 0x00 ∷ 0x10 ∷ 0x00 ∷ 0x00 ∷ []) true (two (memory None None 1 0x1000 D32) eax (Some B64))
+unfolding forbids_vex failure tail_failure first_failing kind_suits is_variant_of is_allowed_in method_of exists_in file_of immediate_width fixed_number is_segment is_legacy_prefix is_prefix has_lock has_66 has_67 counting_repeat segment_named counting_segment counting_rex operand_size address_size bit_r bit_x bit_b bit_w state_size vex_last_byte vex_map_byte vex_bytes lead_bytes tail_bytes front_bytes bytes_of state_from state_of fits reads_mode reg_number rm_number vvvv_number index_number prefixes_fit legacy_class_fits vex_class_fits class_fits is_vex_of_mode is_opcode opcode_allows opcode_is_kept vex_fits opcode_fits modrm_rule_fits place_allows place_fits opcode_and_modrm_fit size_fits w_fits l_fits sizes_fit vvvv_fits needs_sib is_displacement_alone displacement_bytes address_fits immediate_bytes immediates_bytes lengths_fit is_memory_method lock_fits is_control_number register_fits destination_fits gather_fits nop_fits registers_fit vex_in_range modrm_in_range sib_in_range fields_in_range tail_fits state_fits meaning little_endian sign_extended segment_numbered general byte_register vector register_of disp_size_of base_16 index_16 memory_16 memory_alone sib_base sib_index memory_with_sib memory_at_base memory_flat memory_of memory_absolute gather_memory last_byte_number near_target far_pointer memory_operand operand_by immediates_before own_immediate operand_at kept_repeat has_memory kept_address_size instr_of low_bytes is_extended_of distance same_register register_number is_low_byte_of_rex number_in_reg number_in_rm number_in_index number_in_vvvv number_in_opcode asks_r asks_x asks_b asks_rex_w asks_vex_w asks_66 asks_67 asked_repeat asked_rex class_pp asked_vex asked_opcode asked_used plain_front_of register_count has_address_size general_size pointer_size shown_size written_size form_of rm_of_one rm_of_two rm_of_short is_address_register is_base is_index scale_suits is_flat_size is_flat_shape is_shape index_named is_vector_index is_gather_base is_gather_shape shape_suits displacement_count flat_offers short_offers form_offers offers is_displacement displacement_suits mode_of_count scale_field base_bits index_bits plain_sib flat_needs_sib flat_fields alone_fields address_fields prefixes_of plain_size rm_fields fixed_rm plain_modrm plain_sib_of displacement_of operand_immediate immediate_at plain_immediates plain_len plain_next plain_spelling exists_in_mode is_of_kind is_not_nop kind_allows is_nameable gather_numbers_differ register_suits address_suits offered immediate_suits_how immediate_suits near_reaches address_reaches target_suits lock_suits repeat_suits prefixes_suit has_memory_operand told_size size_agrees is_size_of address_size_suits
+abs64 = refl
+
+abs32 : outcome B32 0 add_o32 (two (memory None None 1 0x1000 D32) eax (Some B32)) ≡ Written (0x01 ∷ 0x05 ∷ 0x00 ∷ 0x10 ∷ 0x00 ∷ 0x00 ∷ []) true (two (memory None None 1 0x1000 D32) eax (Some B32))
+unfolding forbids_vex failure tail_failure first_failing kind_suits is_variant_of is_allowed_in method_of exists_in file_of immediate_width fixed_number is_segment is_legacy_prefix is_prefix has_lock has_66 has_67 counting_repeat segment_named counting_segment counting_rex operand_size address_size bit_r bit_x bit_b bit_w state_size vex_last_byte vex_map_byte vex_bytes lead_bytes tail_bytes front_bytes bytes_of state_from state_of fits reads_mode reg_number rm_number vvvv_number index_number prefixes_fit legacy_class_fits vex_class_fits class_fits is_vex_of_mode is_opcode opcode_allows opcode_is_kept vex_fits opcode_fits modrm_rule_fits place_allows place_fits opcode_and_modrm_fit size_fits w_fits l_fits sizes_fit vvvv_fits needs_sib is_displacement_alone displacement_bytes address_fits immediate_bytes immediates_bytes lengths_fit is_memory_method lock_fits is_control_number register_fits destination_fits gather_fits nop_fits registers_fit vex_in_range modrm_in_range sib_in_range fields_in_range tail_fits state_fits meaning little_endian sign_extended segment_numbered general byte_register vector register_of disp_size_of base_16 index_16 memory_16 memory_alone sib_base sib_index memory_with_sib memory_at_base memory_flat memory_of memory_absolute gather_memory last_byte_number near_target far_pointer memory_operand operand_by immediates_before own_immediate operand_at kept_repeat has_memory kept_address_size instr_of low_bytes is_extended_of distance same_register register_number is_low_byte_of_rex number_in_reg number_in_rm number_in_index number_in_vvvv number_in_opcode asks_r asks_x asks_b asks_rex_w asks_vex_w asks_66 asks_67 asked_repeat asked_rex class_pp asked_vex asked_opcode asked_used plain_front_of register_count has_address_size general_size pointer_size shown_size written_size form_of rm_of_one rm_of_two rm_of_short is_address_register is_base is_index scale_suits is_flat_size is_flat_shape is_shape index_named is_vector_index is_gather_base is_gather_shape shape_suits displacement_count flat_offers short_offers form_offers offers is_displacement displacement_suits mode_of_count scale_field base_bits index_bits plain_sib flat_needs_sib flat_fields alone_fields address_fields prefixes_of plain_size rm_fields fixed_rm plain_modrm plain_sib_of displacement_of operand_immediate immediate_at plain_immediates plain_len plain_next plain_spelling exists_in_mode is_of_kind is_not_nop kind_allows is_nameable gather_numbers_differ register_suits address_suits offered immediate_suits_how immediate_suits near_reaches address_reaches target_suits lock_suits repeat_suits prefixes_suit has_memory_operand told_size size_agrees is_size_of address_size_suits
+abs32 = refl
+
+bp16 : outcome B32 0 add_o16 (two (memory (Some (R16 5)) (Some (R16 7)) 1 0xFFFE D8) (Reg (R16 3)) (Some B16)) ≡ Written (0x66 ∷ 0x67 ∷ 0x01 ∷ 0x5B ∷ 0xFE ∷ []) true (two (memory (Some (R16 5)) (Some (R16 7)) 1 0xFFFE D8) (Reg (R16 3)) (Some B16))
+unfolding forbids_vex failure tail_failure first_failing kind_suits is_variant_of is_allowed_in method_of exists_in file_of immediate_width fixed_number is_segment is_legacy_prefix is_prefix has_lock has_66 has_67 counting_repeat segment_named counting_segment counting_rex operand_size address_size bit_r bit_x bit_b bit_w state_size vex_last_byte vex_map_byte vex_bytes lead_bytes tail_bytes front_bytes bytes_of state_from state_of fits reads_mode reg_number rm_number vvvv_number index_number prefixes_fit legacy_class_fits vex_class_fits class_fits is_vex_of_mode is_opcode opcode_allows opcode_is_kept vex_fits opcode_fits modrm_rule_fits place_allows place_fits opcode_and_modrm_fit size_fits w_fits l_fits sizes_fit vvvv_fits needs_sib is_displacement_alone displacement_bytes address_fits immediate_bytes immediates_bytes lengths_fit is_memory_method lock_fits is_control_number register_fits destination_fits gather_fits nop_fits registers_fit vex_in_range modrm_in_range sib_in_range fields_in_range tail_fits state_fits meaning little_endian sign_extended segment_numbered general byte_register vector register_of disp_size_of base_16 index_16 memory_16 memory_alone sib_base sib_index memory_with_sib memory_at_base memory_flat memory_of memory_absolute gather_memory last_byte_number near_target far_pointer memory_operand operand_by immediates_before own_immediate operand_at kept_repeat has_memory kept_address_size instr_of low_bytes is_extended_of distance same_register register_number is_low_byte_of_rex number_in_reg number_in_rm number_in_index number_in_vvvv number_in_opcode asks_r asks_x asks_b asks_rex_w asks_vex_w asks_66 asks_67 asked_repeat asked_rex class_pp asked_vex asked_opcode asked_used plain_front_of register_count has_address_size general_size pointer_size shown_size written_size form_of rm_of_one rm_of_two rm_of_short is_address_register is_base is_index scale_suits is_flat_size is_flat_shape is_shape index_named is_vector_index is_gather_base is_gather_shape shape_suits displacement_count flat_offers short_offers form_offers offers is_displacement displacement_suits mode_of_count scale_field base_bits index_bits plain_sib flat_needs_sib flat_fields alone_fields address_fields prefixes_of plain_size rm_fields fixed_rm plain_modrm plain_sib_of displacement_of operand_immediate immediate_at plain_immediates plain_len plain_next plain_spelling exists_in_mode is_of_kind is_not_nop kind_allows is_nameable gather_numbers_differ register_suits address_suits offered immediate_suits_how immediate_suits near_reaches address_reaches target_suits lock_suits repeat_suits prefixes_suit has_memory_operand told_size size_agrees is_size_of address_size_suits
+bp16 = refl
+
+lock_fs : outcome B64 0 add_o32 (instr (memory (Some (R64 13)) None 1 0 D8) (Reg (R32 8)) NoOperand NoOperand true RepF2 (Some SFs) (Some B64)) ≡ Written (0x64 ∷ 0xF0 ∷ 0xF2 ∷ 0x45 ∷ 0x01 ∷ 0x45 ∷ 0x00 ∷ []) true (instr (memory (Some (R64 13)) None 1 0 D8) (Reg (R32 8)) NoOperand NoOperand true RepF2 (Some SFs) (Some B64))
+unfolding forbids_vex failure tail_failure first_failing kind_suits is_variant_of is_allowed_in method_of exists_in file_of immediate_width fixed_number is_segment is_legacy_prefix is_prefix has_lock has_66 has_67 counting_repeat segment_named counting_segment counting_rex operand_size address_size bit_r bit_x bit_b bit_w state_size vex_last_byte vex_map_byte vex_bytes lead_bytes tail_bytes front_bytes bytes_of state_from state_of fits reads_mode reg_number rm_number vvvv_number index_number prefixes_fit legacy_class_fits vex_class_fits class_fits is_vex_of_mode is_opcode opcode_allows opcode_is_kept vex_fits opcode_fits modrm_rule_fits place_allows place_fits opcode_and_modrm_fit size_fits w_fits l_fits sizes_fit vvvv_fits needs_sib is_displacement_alone displacement_bytes address_fits immediate_bytes immediates_bytes lengths_fit is_memory_method lock_fits is_control_number register_fits destination_fits gather_fits nop_fits registers_fit vex_in_range modrm_in_range sib_in_range fields_in_range tail_fits state_fits meaning little_endian sign_extended segment_numbered general byte_register vector register_of disp_size_of base_16 index_16 memory_16 memory_alone sib_base sib_index memory_with_sib memory_at_base memory_flat memory_of memory_absolute gather_memory last_byte_number near_target far_pointer memory_operand operand_by immediates_before own_immediate operand_at kept_repeat has_memory kept_address_size instr_of low_bytes is_extended_of distance same_register register_number is_low_byte_of_rex number_in_reg number_in_rm number_in_index number_in_vvvv number_in_opcode asks_r asks_x asks_b asks_rex_w asks_vex_w asks_66 asks_67 asked_repeat asked_rex class_pp asked_vex asked_opcode asked_used plain_front_of register_count has_address_size general_size pointer_size shown_size written_size form_of rm_of_one rm_of_two rm_of_short is_address_register is_base is_index scale_suits is_flat_size is_flat_shape is_shape index_named is_vector_index is_gather_base is_gather_shape shape_suits displacement_count flat_offers short_offers form_offers offers is_displacement displacement_suits mode_of_count scale_field base_bits index_bits plain_sib flat_needs_sib flat_fields alone_fields address_fields prefixes_of plain_size rm_fields fixed_rm plain_modrm plain_sib_of displacement_of operand_immediate immediate_at plain_immediates plain_len plain_next plain_spelling exists_in_mode is_of_kind is_not_nop kind_allows is_nameable gather_numbers_differ register_suits address_suits offered immediate_suits_how immediate_suits near_reaches address_reaches target_suits lock_suits repeat_suits prefixes_suit has_memory_operand told_size size_agrees is_size_of address_size_suits
+lock_fs = refl
+
+vaddps2 : outcome B64 0 vaddps (instr (Reg (Xmm 0)) (Reg (Xmm 0)) (Reg (Xmm 1)) NoOperand false NoRep None None) ≡ Written (0xC5 ∷ 0xF8 ∷ 0x58 ∷ 0xC1 ∷ []) true (instr (Reg (Xmm 0)) (Reg (Xmm 0)) (Reg (Xmm 1)) NoOperand false NoRep None None)
+unfolding forbids_vex failure tail_failure first_failing kind_suits is_variant_of is_allowed_in method_of exists_in file_of immediate_width fixed_number is_segment is_legacy_prefix is_prefix has_lock has_66 has_67 counting_repeat segment_named counting_segment counting_rex operand_size address_size bit_r bit_x bit_b bit_w state_size vex_last_byte vex_map_byte vex_bytes lead_bytes tail_bytes front_bytes bytes_of state_from state_of fits reads_mode reg_number rm_number vvvv_number index_number prefixes_fit legacy_class_fits vex_class_fits class_fits is_vex_of_mode is_opcode opcode_allows opcode_is_kept vex_fits opcode_fits modrm_rule_fits place_allows place_fits opcode_and_modrm_fit size_fits w_fits l_fits sizes_fit vvvv_fits needs_sib is_displacement_alone displacement_bytes address_fits immediate_bytes immediates_bytes lengths_fit is_memory_method lock_fits is_control_number register_fits destination_fits gather_fits nop_fits registers_fit vex_in_range modrm_in_range sib_in_range fields_in_range tail_fits state_fits meaning little_endian sign_extended segment_numbered general byte_register vector register_of disp_size_of base_16 index_16 memory_16 memory_alone sib_base sib_index memory_with_sib memory_at_base memory_flat memory_of memory_absolute gather_memory last_byte_number near_target far_pointer memory_operand operand_by immediates_before own_immediate operand_at kept_repeat has_memory kept_address_size instr_of low_bytes is_extended_of distance same_register register_number is_low_byte_of_rex number_in_reg number_in_rm number_in_index number_in_vvvv number_in_opcode asks_r asks_x asks_b asks_rex_w asks_vex_w asks_66 asks_67 asked_repeat asked_rex class_pp asked_vex asked_opcode asked_used plain_front_of register_count has_address_size general_size pointer_size shown_size written_size form_of rm_of_one rm_of_two rm_of_short is_address_register is_base is_index scale_suits is_flat_size is_flat_shape is_shape index_named is_vector_index is_gather_base is_gather_shape shape_suits displacement_count flat_offers short_offers form_offers offers is_displacement displacement_suits mode_of_count scale_field base_bits index_bits plain_sib flat_needs_sib flat_fields alone_fields address_fields prefixes_of plain_size rm_fields fixed_rm plain_modrm plain_sib_of displacement_of operand_immediate immediate_at plain_immediates plain_len plain_next plain_spelling exists_in_mode is_of_kind is_not_nop kind_allows is_nameable gather_numbers_differ register_suits address_suits offered immediate_suits_how immediate_suits near_reaches address_reaches target_suits lock_suits repeat_suits prefixes_suit has_memory_operand told_size size_agrees is_size_of address_size_suits
+vaddps2 = refl
+
+vaddps3 : outcome B64 0 vaddps (instr (Reg (Xmm 0)) (Reg (Xmm 0)) (Reg (Xmm 9)) NoOperand false NoRep None None) ≡ Written (0xC4 ∷ 0xC1 ∷ 0x78 ∷ 0x58 ∷ 0xC1 ∷ []) true (instr (Reg (Xmm 0)) (Reg (Xmm 0)) (Reg (Xmm 9)) NoOperand false NoRep None None)
+unfolding forbids_vex failure tail_failure first_failing kind_suits is_variant_of is_allowed_in method_of exists_in file_of immediate_width fixed_number is_segment is_legacy_prefix is_prefix has_lock has_66 has_67 counting_repeat segment_named counting_segment counting_rex operand_size address_size bit_r bit_x bit_b bit_w state_size vex_last_byte vex_map_byte vex_bytes lead_bytes tail_bytes front_bytes bytes_of state_from state_of fits reads_mode reg_number rm_number vvvv_number index_number prefixes_fit legacy_class_fits vex_class_fits class_fits is_vex_of_mode is_opcode opcode_allows opcode_is_kept vex_fits opcode_fits modrm_rule_fits place_allows place_fits opcode_and_modrm_fit size_fits w_fits l_fits sizes_fit vvvv_fits needs_sib is_displacement_alone displacement_bytes address_fits immediate_bytes immediates_bytes lengths_fit is_memory_method lock_fits is_control_number register_fits destination_fits gather_fits nop_fits registers_fit vex_in_range modrm_in_range sib_in_range fields_in_range tail_fits state_fits meaning little_endian sign_extended segment_numbered general byte_register vector register_of disp_size_of base_16 index_16 memory_16 memory_alone sib_base sib_index memory_with_sib memory_at_base memory_flat memory_of memory_absolute gather_memory last_byte_number near_target far_pointer memory_operand operand_by immediates_before own_immediate operand_at kept_repeat has_memory kept_address_size instr_of low_bytes is_extended_of distance same_register register_number is_low_byte_of_rex number_in_reg number_in_rm number_in_index number_in_vvvv number_in_opcode asks_r asks_x asks_b asks_rex_w asks_vex_w asks_66 asks_67 asked_repeat asked_rex class_pp asked_vex asked_opcode asked_used plain_front_of register_count has_address_size general_size pointer_size shown_size written_size form_of rm_of_one rm_of_two rm_of_short is_address_register is_base is_index scale_suits is_flat_size is_flat_shape is_shape index_named is_vector_index is_gather_base is_gather_shape shape_suits displacement_count flat_offers short_offers form_offers offers is_displacement displacement_suits mode_of_count scale_field base_bits index_bits plain_sib flat_needs_sib flat_fields alone_fields address_fields prefixes_of plain_size rm_fields fixed_rm plain_modrm plain_sib_of displacement_of operand_immediate immediate_at plain_immediates plain_len plain_next plain_spelling exists_in_mode is_of_kind is_not_nop kind_allows is_nameable gather_numbers_differ register_suits address_suits offered immediate_suits_how immediate_suits near_reaches address_reaches target_suits lock_suits repeat_suits prefixes_suit has_memory_operand told_size size_agrees is_size_of address_size_suits
+vaddps3 = refl
+
+jmp_back : outcome B64 4096 jmp_short (instr (Near 0x1000) NoOperand NoOperand NoOperand false NoRep None None) ≡ Written (0xEB ∷ 0xFE ∷ []) true (instr (Near 0x1000) NoOperand NoOperand NoOperand false NoRep None None)
+unfolding forbids_vex failure tail_failure first_failing kind_suits is_variant_of is_allowed_in method_of exists_in file_of immediate_width fixed_number is_segment is_legacy_prefix is_prefix has_lock has_66 has_67 counting_repeat segment_named counting_segment counting_rex operand_size address_size bit_r bit_x bit_b bit_w state_size vex_last_byte vex_map_byte vex_bytes lead_bytes tail_bytes front_bytes bytes_of state_from state_of fits reads_mode reg_number rm_number vvvv_number index_number prefixes_fit legacy_class_fits vex_class_fits class_fits is_vex_of_mode is_opcode opcode_allows opcode_is_kept vex_fits opcode_fits modrm_rule_fits place_allows place_fits opcode_and_modrm_fit size_fits w_fits l_fits sizes_fit vvvv_fits needs_sib is_displacement_alone displacement_bytes address_fits immediate_bytes immediates_bytes lengths_fit is_memory_method lock_fits is_control_number register_fits destination_fits gather_fits nop_fits registers_fit vex_in_range modrm_in_range sib_in_range fields_in_range tail_fits state_fits meaning little_endian sign_extended segment_numbered general byte_register vector register_of disp_size_of base_16 index_16 memory_16 memory_alone sib_base sib_index memory_with_sib memory_at_base memory_flat memory_of memory_absolute gather_memory last_byte_number near_target far_pointer memory_operand operand_by immediates_before own_immediate operand_at kept_repeat has_memory kept_address_size instr_of low_bytes is_extended_of distance same_register register_number is_low_byte_of_rex number_in_reg number_in_rm number_in_index number_in_vvvv number_in_opcode asks_r asks_x asks_b asks_rex_w asks_vex_w asks_66 asks_67 asked_repeat asked_rex class_pp asked_vex asked_opcode asked_used plain_front_of register_count has_address_size general_size pointer_size shown_size written_size form_of rm_of_one rm_of_two rm_of_short is_address_register is_base is_index scale_suits is_flat_size is_flat_shape is_shape index_named is_vector_index is_gather_base is_gather_shape shape_suits displacement_count flat_offers short_offers form_offers offers is_displacement displacement_suits mode_of_count scale_field base_bits index_bits plain_sib flat_needs_sib flat_fields alone_fields address_fields prefixes_of plain_size rm_fields fixed_rm plain_modrm plain_sib_of displacement_of operand_immediate immediate_at plain_immediates plain_len plain_next plain_spelling exists_in_mode is_of_kind is_not_nop kind_allows is_nameable gather_numbers_differ register_suits address_suits offered immediate_suits_how immediate_suits near_reaches address_reaches target_suits lock_suits repeat_suits prefixes_suit has_memory_operand told_size size_agrees is_size_of address_size_suits
+jmp_back = refl
+
+jmp_far : outcome B64 0 jmp_short (instr (Near 0x82) NoOperand NoOperand NoOperand false NoRep None None) ≡ Refused cause.Target
+unfolding forbids_vex failure tail_failure first_failing kind_suits is_variant_of is_allowed_in method_of exists_in file_of immediate_width fixed_number is_segment is_legacy_prefix is_prefix has_lock has_66 has_67 counting_repeat segment_named counting_segment counting_rex operand_size address_size bit_r bit_x bit_b bit_w state_size vex_last_byte vex_map_byte vex_bytes lead_bytes tail_bytes front_bytes bytes_of state_from state_of fits reads_mode reg_number rm_number vvvv_number index_number prefixes_fit legacy_class_fits vex_class_fits class_fits is_vex_of_mode is_opcode opcode_allows opcode_is_kept vex_fits opcode_fits modrm_rule_fits place_allows place_fits opcode_and_modrm_fit size_fits w_fits l_fits sizes_fit vvvv_fits needs_sib is_displacement_alone displacement_bytes address_fits immediate_bytes immediates_bytes lengths_fit is_memory_method lock_fits is_control_number register_fits destination_fits gather_fits nop_fits registers_fit vex_in_range modrm_in_range sib_in_range fields_in_range tail_fits state_fits meaning little_endian sign_extended segment_numbered general byte_register vector register_of disp_size_of base_16 index_16 memory_16 memory_alone sib_base sib_index memory_with_sib memory_at_base memory_flat memory_of memory_absolute gather_memory last_byte_number near_target far_pointer memory_operand operand_by immediates_before own_immediate operand_at kept_repeat has_memory kept_address_size instr_of low_bytes is_extended_of distance same_register register_number is_low_byte_of_rex number_in_reg number_in_rm number_in_index number_in_vvvv number_in_opcode asks_r asks_x asks_b asks_rex_w asks_vex_w asks_66 asks_67 asked_repeat asked_rex class_pp asked_vex asked_opcode asked_used plain_front_of register_count has_address_size general_size pointer_size shown_size written_size form_of rm_of_one rm_of_two rm_of_short is_address_register is_base is_index scale_suits is_flat_size is_flat_shape is_shape index_named is_vector_index is_gather_base is_gather_shape shape_suits displacement_count flat_offers short_offers form_offers offers is_displacement displacement_suits mode_of_count scale_field base_bits index_bits plain_sib flat_needs_sib flat_fields alone_fields address_fields prefixes_of plain_size rm_fields fixed_rm plain_modrm plain_sib_of displacement_of operand_immediate immediate_at plain_immediates plain_len plain_next plain_spelling exists_in_mode is_of_kind is_not_nop kind_allows is_nameable gather_numbers_differ register_suits address_suits offered immediate_suits_how immediate_suits near_reaches address_reaches target_suits lock_suits repeat_suits prefixes_suit has_memory_operand told_size size_agrees is_size_of address_size_suits
+jmp_far = refl

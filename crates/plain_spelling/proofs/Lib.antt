@@ -1,0 +1,13 @@
+mod Examples
+pub mod Values
+pub mod PlainFrontLaws
+pub mod Sizes
+pub mod PartLengths
+pub mod AddressCases
+pub mod AddressForms
+pub mod Asked
+pub mod ImmediateBytes
+pub mod Compared
+pub mod FrontRange
+pub mod ImmediateRoom
+pub mod Failures

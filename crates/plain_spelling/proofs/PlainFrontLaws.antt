@@ -1,0 +1,65 @@
+-- The plain front in bytes: its opcode byte and its length, and where a vvvv of at most 255 makes no difference.
+use Rattle.std.proofs.Common.{◌≡◌, ℕ, ◌+◌, ◌<◌, Bool, true, false, length, refl, ap, sym, ◌∙◌, inl, inr, arith, min}
+use Rattle.std.specs.Prelude.{Some, None, is_some, cond}
+use borrow.Author.Tests.{ltb-true}
+use Rattle.x86_values.specs.declared.Bits.{Bits}
+use Rattle.x86_values.specs.declared.Instr.{Instr}
+use Rattle.row_types.specs.declared.Row.{Row}
+use Rattle.row_types.specs.declared.Map.{Map}
+use Rattle.row_types.specs.declared.Plus.TheVariants.{Register as PlusRegister}
+use Rattle.instruction_parts.specs.declared.kinds.File.{File}
+use Rattle.instruction_parts.specs.declared.kinds.File.TheVariants.{ByW as ByWFile}
+use Rattle.instruction_parts.specs.declared.spelling.Vex.{Vex}
+use Rattle.instruction_parts.specs.Bytes.{bit, vex_bytes, lead_bytes}
+use Rattle.instruction_parts.specs.Sizes.{is_vex_row, state_size, bit_w}
+use Rattle.instruction_parts.proofs.Tests.{either, and_right}
+use Rattle.row_fit.specs.Sound.{sound, opcodes_are_bytes}
+use Rattle.row_fit.proofs.SoundLaws.{sound_conditions}
+use Rattle.row_meaning.specs.Meaning.{general, size_by_w, register_of}
+use Rattle.plain_spelling.specs.PlainFront.{number_in_vvvv, asked, asks_66, asks_67, asked_repeat, asked_rex, count_repeat, vex_with, asked_vex, asked_used, plain_front_of, byte_front}
+
+-- the eight opcode bytes of a row that adds a register are bytes
+pub opcode_room : (row : Row) → sound row ≡ true → row.plus ≡ PlusRegister → row.opcode + 7 < 256
+unfolding opcodes_are_bytes
+opcode_room row h e = ltb-true _ 256 (and_right _ _ (rw e at (sound_conditions row h).opcodes))
+
+-- the length of a VEX
+vex_len : (v : Vex) → length (vex_bytes v) ≡ cond v.three 3 2
+unfolding vex_bytes
+vex_len v = elim (either v.three) [ inl e ↦ rw e refl | inr e ↦ rw e refl ]
+
+lead_alike : (map : Map) (vex : Bool) (s t : Vex) → s.three ≡ t.three → length (lead_bytes map (cond vex (Some s) None)) ≡ length (lead_bytes map (cond vex (Some t) None))
+unfolding lead_bytes
+lead_alike map true s t e = vex_len s ∙ ap (λ b. cond b 3 2) e ∙ sym (vex_len t)
+lead_alike map false s t e = refl
+
+-- the length of the lead does not depend on vvvv
+pub lead_len-with : (row : Row) (i : Instr) (v w : ℕ) → length (lead_bytes row.map (vex_with row i v)) ≡ length (lead_bytes row.map (vex_with row i w))
+lead_len-with row i v w = lead_alike row.map (is_vex_row row) _ _ refl
+
+-- nor does that of the front
+pub used-with : (bits : Bits) (row : Row) (i : Instr) (v : ℕ)
+    → bit i.lock + (count_repeat (asked_repeat row i) + (bit (is_some i.seg) + (bit (asks_66 bits row) + (bit (asks_67 bits i.asize)
+    + (bit (is_some (asked_rex row i)) + length (lead_bytes row.map (vex_with row i v))))))) ≡ asked_used bits row i
+unfolding asked_used asked_vex
+used-with bits row i v =
+    ap (λ n. bit i.lock + (count_repeat (asked_repeat row i) + (bit (is_some i.seg) + (bit (asks_66 bits row) + (bit (asks_67 bits i.asize)
+    + (bit (is_some (asked_rex row i)) + n)))))) (lead_len-with row i v (asked number_in_vvvv row i))
+
+-- where vvvv fits a byte, the front is the plain one
+pub byte_front-exact : (bits : Bits) (row : Row) (i : Instr) → asked number_in_vvvv row i < 256 → byte_front bits row i ≡ plain_front_of bits row i
+unfolding byte_front plain_front_of asked_vex
+byte_front-exact bits row i h =
+    let e : min 255 (asked number_in_vvvv row i) ≡ asked number_in_vvvv row i = omega arith in
+    ap (λ v. record (plain_front_of bits row i) { vex = vex_with row i v }) e
+
+-- W is read alike from both
+w_with : (bits : Bits) (row : Row) (i : Instr) → bit_w bits (byte_front bits row i) ≡ bit_w bits (plain_front_of bits row i)
+unfolding byte_front plain_front_of asked_vex bit_w
+w_with bits row i = elim (either (is_vex_row row)) [ inl e ↦ rw e refl | inr e ↦ rw e refl ]
+
+-- and so are the registers that the kinds name
+pub byte_front-names : (bits : Bits) (row : Row) (i : Instr) (file : File) (n : ℕ) → register_of bits row (byte_front bits row i) file n ≡ register_of bits row (plain_front_of bits row i) file n
+unfolding byte_front plain_front_of register_of state_size
+byte_front-names bits row i ByWFile n = ap (λ w. general (size_by_w w) n) (w_with bits row i)
+byte_front-names bits row i _ n = refl

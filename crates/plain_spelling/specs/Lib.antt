@@ -1,0 +1,9 @@
+pub mod Values
+pub mod Forms
+pub mod Comparing
+pub mod PlainFront
+pub mod Addresses
+pub mod PlainTail
+pub mod Expressible
+pub mod Writable
+pub mod Parts

@@ -1,0 +1,527 @@
+//! When an instruction has a plain spelling: the conditions 2 to 9, in their order.
+
+ghost use Rattle.std.specs.Prelude.{◌≡◌, ◌<◌, ◌≤◌, ◌&&◌, not, true, false, if◌then◌else◌, Some, None};
+ghost use Rattle.row_types.specs.declared.Plus.TheVariants.{Register as PlusRegister};
+ghost use Rattle.row_fit.specs.Fits as fits;
+ghost use Rattle.plain_spelling.specs.PlainFront as front;
+ghost use Rattle.plain_spelling.specs.PlainTail as tail;
+ghost use Rattle.plain_spelling.specs.Parts.{ArePartsOf};
+ghost use Rattle.plain_spelling.specs.Expressible as spec;
+ghost use Rattle.plain_spelling.specs.declared.NoSpelling.TheVariants as cause;
+
+use crate::NoSpelling;
+use crate::addresses::{
+    AddressForm, displacement_suits, form_of, has_address_size, register_count, shape_suits,
+    told_size, written_size,
+};
+use crate::comparing::{same_bits, same_register};
+use crate::forms::{is_memory, is_variant_of, operand_at};
+use crate::numbers::{distance, is_below_bytes, is_extended_of, is_of_width};
+use crate::parts::{PlainParts, immediate_len};
+use crate::registers::{asked_in_index, asked_in_reg, asked_in_vvvv, register_number};
+use instruction_parts::counting::{is_16, is_64};
+use instruction_parts::kinds::{Method, file_of_kind, fixed_number_of_kind, method_of_kind};
+use instruction_parts::sizes::{has_address_mark, is_lockable};
+use instruction_parts::spelling::PrefixState;
+use row_fit::fits::{is_no_repeat, is_repeat_f3, reads_gather};
+use row_fit::tail_fits::{is_control_number, is_nop_byte, kind_at};
+use row_meaning::meaning::register_of;
+use row_types::{Class, OpKind, Plus, Row};
+use x86_values::{Bits, Instr, Mem, Operand, Register};
+
+// ---- 2. each operand has a variant that its kind allows
+
+#[tactic(auto, unfolding(crate::specs::Expressible::kind_suits))]
+fn kind_suits(row: &Row, instr: &Instr, n: usize) -> bool
+    requires { n < 4 }
+    ensures { result ≡ spec.kind_suits row.now instr.now n }
+{
+    is_variant_of(
+        row.place,
+        method_of_kind(kind_at(row, n)),
+        operand_at(instr, n),
+    )
+}
+
+// ---- 3. each register operand is one that its kind can name in the mode
+
+/// SPL to DIL and R8B to R15B exist in 64-bit mode alone (2.2.1.2).
+#[tactic(auto, unfolding(crate::specs::Expressible::exists_in_mode))]
+fn exists_in_mode(bits: Bits, register: Register) -> bool
+    ensures { result ≡ spec.exists_in_mode bits register }
+{
+    match register {
+        Register::Low8(n) => n < 4 || is_64(bits),
+        _ => true,
+    }
+}
+
+/// The number that names a register by its kind: a fixed operand has its own.
+fn naming_number(method: Method, kind: OpKind, register: Register) -> u8
+    requires { front.register_number register < 256 }
+    ensures { result ≡ spec.naming_number method kind register }
+{
+    match method {
+        Method::Fixed => fixed_number_of_kind(kind),
+        _ => register_number(register) as u8,
+    }
+}
+
+/// Whether the register is the one that the kind names by this number under the plain prefixes.
+#[tactic(auto, unfolding(crate::specs::Expressible::is_of_kind))]
+fn is_of_kind(
+    bits: Bits,
+    row: &Row,
+    instr: &Instr,
+    state: &PrefixState,
+    kind: OpKind,
+    register: Register,
+) -> bool
+    requires state { state.now ≡ front.byte_front bits row.now instr.now }
+    requires number { front.register_number register < 256 }
+    ensures { result ≡ spec.is_of_kind bits row.now instr.now kind register }
+{
+    let n = naming_number(method_of_kind(kind), kind, register);
+    same_register(
+        register,
+        register_of(bits, row, state, file_of_kind(kind), n),
+    )
+}
+
+/// XCHG of the opcode byte 90 cannot name register 0, which is NOP.
+#[tactic(auto, unfolding(crate::specs::Expressible::is_not_nop))]
+fn is_not_nop(row: &Row, method: Method, register: Register) -> bool
+    ensures { result ≡ spec.is_not_nop row.now method register }
+{
+    match method {
+        Method::OpcodeLow => { !(is_nop_byte(row, row.opcode) && register_number(register) == 0) }
+        _ => true,
+    }
+}
+
+/// What a kind asks besides: a segment register that is written is not CS, the control registers that exist, a debug register without R.
+#[tactic(auto, unfolding(crate::specs::Expressible::kind_allows))]
+fn kind_allows(bits: Bits, n: usize, kind: OpKind, register: Register) -> bool
+    ensures { result ≡ spec.kind_allows bits n kind register }
+{
+    match kind {
+        OpKind::Sw => !(n == 0 && register_number(register) == 1),
+        OpKind::Cn => is_control_number(bits, register_number(register)),
+        OpKind::Dn => register_number(register) < 8,
+        _ => true,
+    }
+}
+
+/// Whether the register can be named as operand n.
+#[tactic(auto, unfolding(crate::specs::Expressible::is_nameable))]
+fn is_nameable(
+    bits: Bits,
+    row: &Row,
+    instr: &Instr,
+    state: &PrefixState,
+    n: usize,
+    register: Register,
+) -> bool
+    requires place { n < 4 }
+    requires state { state.now ≡ front.byte_front bits row.now instr.now }
+    ensures { result ≡ spec.is_nameable bits row.now instr.now n register }
+{
+    let kind = kind_at(row, n);
+    exists_in_mode(bits, register)
+        && register_number(register) < register_count(bits)
+        && is_of_kind(bits, row, instr, state, kind, register)
+        && is_not_nop(row, method_of_kind(kind), register)
+        && kind_allows(bits, n, kind, register)
+}
+
+/// The numbers of a gather's destination, index and mask differ pairwise (2.3.12).
+#[tactic(auto, unfolding(crate::specs::Expressible::gather_numbers_differ))]
+fn gather_numbers_differ(row: &Row, instr: &Instr) -> bool
+    ensures { result ≡ spec.gather_numbers_differ row.now instr.now }
+{
+    let destination = asked_in_reg(row, instr);
+    let index = asked_in_index(row, instr);
+    let mask = asked_in_vvvv(row, instr);
+    !(destination == index) && !(destination == mask) && !(index == mask)
+}
+
+fn gather_suits(row: &Row, instr: &Instr, n: usize) -> bool
+    ensures { result ≡ spec.gather_suits row.now instr.now n }
+{
+    !(n == 0) || !reads_gather(row) || gather_numbers_differ(row, instr)
+}
+
+#[tactic(auto, unfolding(crate::specs::Expressible::register_suits))]
+fn register_suits(bits: Bits, row: &Row, instr: &Instr, state: &PrefixState, n: usize) -> bool
+    requires place { n < 4 }
+    requires state { state.now ≡ front.byte_front bits row.now instr.now }
+    ensures { result ≡ spec.register_suits bits row.now instr.now n }
+{
+    (match operand_at(instr, n) {
+        Operand::Reg(register) => is_nameable(bits, row, instr, state, n, register),
+        _ => true,
+    }) && gather_suits(row, instr, n)
+}
+
+// ---- 4. base, index and scale of each memory operand are a shape
+
+#[tactic(auto, unfolding(crate::specs::Expressible::address_suits))]
+fn address_suits(bits: Bits, row: &Row, instr: &Instr, n: usize) -> bool
+    requires { n < 4 }
+    ensures { result ≡ spec.address_suits bits row.now instr.now n }
+{
+    match operand_at(instr, n) {
+        Operand::Mem(memory) => {
+            let kind = kind_at(row, n);
+            shape_suits(bits, row, method_of_kind(kind), file_of_kind(kind), memory)
+        }
+        _ => true,
+    }
+}
+
+// ---- 5. the shape offers the displacement
+
+#[tactic(auto, unfolding(crate::specs::Expressible::offered))]
+fn offered(bits: Bits, row: &Row, instr: &Instr, n: usize) -> bool
+    requires { n < 4 }
+    ensures { result ≡ spec.offered bits row.now instr.now n }
+{
+    match operand_at(instr, n) {
+        Operand::Mem(memory) => displacement_suits(
+            written_size(bits, instr.asize, memory),
+            method_of_kind(kind_at(row, n)),
+            memory,
+        ),
+        _ => true,
+    }
+}
+
+// ---- 6. each immediate is a value of its written size
+
+/// An immediate of n bytes: as it is written, or sign-extended to the operand size; `1` is not written.
+#[tactic(auto, unfolding(crate::specs::Expressible::immediate_suits_how))]
+fn immediate_suits_how(size: Bits, method: Method, n: u8, operand: Operand) -> bool
+    requires { n ≤ 8 }
+    ensures { result ≡ spec.immediate_suits_how size method n operand }
+{
+    match (method, operand) {
+        (Method::AsWritten, Operand::Imm(x)) => is_below_bytes(n, x),
+        (Method::Extended, Operand::Imm(x)) => is_extended_of(n, size, x),
+        (Method::One, Operand::Imm(x)) => x == 1,
+        (Method::Pointer, Operand::Far { selector, offset }) => {
+            let _selector = selector;
+            is_below_bytes(n.saturating_sub(2), offset as u64)
+        }
+        _ => true,
+    }
+}
+
+#[tactic(auto, unfolding(crate::specs::Expressible::immediate_suits))]
+fn immediate_suits(bits: Bits, row: &Row, instr: &Instr, size: Bits, n: usize) -> bool
+    requires place { n < 4 }
+    requires size { size ≡ tail.plain_size bits row.now }
+    ensures { result ≡ spec.immediate_suits bits row.now instr.now n }
+{
+    let kind = kind_at(row, n);
+    immediate_suits_how(
+        size,
+        method_of_kind(kind),
+        immediate_len(size, kind),
+        operand_at(instr, n),
+    )
+}
+
+// ---- 7. each near, RIP or EIP target is reached from the next address
+
+/// A near target is an address of the operand size, and n bytes of offset come to it.
+#[tactic(auto, unfolding(crate::specs::Expressible::near_reaches))]
+fn near_reaches(size: Bits, next: u64, n: u8, target: u64) -> bool
+    requires { n ≤ 8 }
+    ensures { result ≡ spec.near_reaches size next n target }
+{
+    is_of_width(size, target) && is_extended_of(n, size, distance(size, next, target))
+}
+
+/// Four bytes of displacement come to an address at RIP or EIP (2.2.1.6).
+#[tactic(auto, unfolding(crate::specs::Expressible::address_reaches))]
+fn address_reaches(next: u64, memory: Mem) -> bool
+    ensures { result ≡ spec.address_reaches next memory }
+{
+    match form_of(memory.base, memory.index) {
+        AddressForm::Relative(size) => {
+            is_extended_of(4, size, distance(size, next, memory.disp))
+        }
+        _ => true,
+    }
+}
+
+#[tactic(auto, unfolding(crate::specs::Expressible::target_suits))]
+fn target_suits(bits: Bits, row: &Row, instr: &Instr, parts: &PlainParts, n: usize) -> bool
+    requires place { n < 4 }
+    requires parts { ArePartsOf bits row.now instr.now parts.now }
+    ensures { result ≡ spec.target_suits bits parts.now.ip row.now instr.now n }
+{
+    match operand_at(instr, n) {
+        Operand::Near(target) => {
+            let count = immediate_len(parts.size, kind_at(row, n));
+            near_reaches(parts.size, parts.next, count, target)
+        }
+        Operand::Mem(memory) => address_reaches(parts.next, memory),
+        _ => true,
+    }
+}
+
+// ---- 8. LOCK and the repeat prefix are allowed
+
+#[tactic(auto, unfolding(crate::specs::Expressible::lock_suits))]
+fn lock_suits(row: &Row, instr: &Instr) -> bool
+    ensures { result ≡ spec.lock_suits row.now instr.now }
+{
+    !instr.lock || (is_lockable(row) && is_memory(operand_at(instr, 0)))
+}
+
+fn is_exchange_of_90(row: &Row, opcode: u8) -> bool
+    ensures { result ≡ ((elim row.now.plus [ PlusRegister ↦ true | _ ↦ false ]) && fits.is_nop_byte row.now opcode) }
+{
+    (match row.plus {
+        Plus::Register => true,
+        _ => false,
+    }) && is_nop_byte(row, opcode)
+}
+
+/// A repeat prefix is kept on the classes without a condition on it; F3 with the byte 90 is PAUSE.
+#[tactic(auto, unfolding(crate::specs::Expressible::repeat_suits))]
+fn repeat_suits(row: &Row, instr: &Instr, opcode: u8) -> bool
+    requires { opcode ≡ front.asked_opcode row.now instr.now }
+    ensures { result ≡ spec.repeat_suits row.now instr.now }
+{
+    match row.class {
+        Class::Any => !(is_repeat_f3(instr.rep) && is_exchange_of_90(row, opcode)),
+        Class::Nf3 => !is_repeat_f3(instr.rep),
+        _ => is_no_repeat(instr.rep),
+    }
+}
+
+#[tactic(auto, unfolding(crate::specs::Expressible::prefixes_suit))]
+fn prefixes_suit(row: &Row, instr: &Instr, opcode: u8) -> bool
+    requires { opcode ≡ front.asked_opcode row.now instr.now }
+    ensures { result ≡ spec.prefixes_suit row.now instr.now }
+{
+    lock_suits(row, instr) && repeat_suits(row, instr, opcode)
+}
+
+// ---- 9. the address size is that of the operand, and one of the mode
+
+/// Whether some operand is memory.
+#[tactic(auto, unfolding(crate::specs::Expressible::has_memory_operand))]
+fn has_memory_operand(instr: &Instr) -> bool
+    ensures { result ≡ spec.has_memory_operand instr.now }
+{
+    is_memory(operand_at(instr, 0))
+        || is_memory(operand_at(instr, 1))
+        || is_memory(operand_at(instr, 2))
+        || is_memory(operand_at(instr, 3))
+}
+
+/// An address size agrees with what an operand shows.
+#[tactic(auto, unfolding(crate::specs::Expressible::size_agrees))]
+fn size_agrees(asize: Bits, operand: Operand) -> bool
+    ensures { result ≡ spec.size_agrees asize operand }
+{
+    match operand {
+        Operand::Mem(memory) => match told_size(memory) {
+            None => true,
+            Some(size) => same_bits(size, asize),
+        },
+        _ => true,
+    }
+}
+
+/// An address size of the mode that agrees with all operands, and not 16 on a gather.
+#[tactic(auto, unfolding(crate::specs::Expressible::is_size_of))]
+fn is_size_of(bits: Bits, row: &Row, instr: &Instr, asize: Bits) -> bool
+    ensures { result ≡ spec.is_size_of bits row.now instr.now asize }
+{
+    has_address_size(bits, asize)
+        && (size_agrees(asize, operand_at(instr, 0))
+            && size_agrees(asize, operand_at(instr, 1))
+            && size_agrees(asize, operand_at(instr, 2))
+            && size_agrees(asize, operand_at(instr, 3)))
+        && !(is_16(asize) && reads_gather(row))
+}
+
+/// An address size stands exactly where an operand is memory or the row uses one without.
+#[tactic(auto, unfolding(crate::specs::Expressible::address_size_suits))]
+fn address_size_suits(bits: Bits, row: &Row, instr: &Instr) -> bool
+    ensures { result ≡ spec.address_size_suits bits row.now instr.now }
+{
+    if has_memory_operand(instr) || has_address_mark(row) {
+        match instr.asize {
+            None => false,
+            Some(asize) => is_size_of(bits, row, instr, asize),
+        }
+    } else {
+        instr.asize.is_none()
+    }
+}
+
+// ---- all of them, in order
+
+/// The number of the first that fails of four tests.
+fn first_failing(first: bool, second: bool, third: bool, fourth: bool) -> Option<u8>
+    ensures value { result ≡ (if not first then Some 0 else (if not second then Some 1 else (if not third then Some 2 else (if not fourth then Some 3 else None)))) }
+{
+    if !first {
+        Some(0)
+    } else if !second {
+        Some(1)
+    } else if !third {
+        Some(2)
+    } else if !fourth {
+        Some(3)
+    } else {
+        None
+    }
+}
+
+fn caused_unless(holds: bool, why: NoSpelling) -> Option<NoSpelling>
+    ensures { result ≡ spec.caused_unless holds why }
+{
+    if holds { None } else { Some(why) }
+}
+
+#[tactic(auto, unfolding(crate::specs::Expressible::first_failing))]
+fn kind_failure(row: &Row, instr: &Instr) -> Option<NoSpelling>
+    ensures { result ≡ spec.caused_at cause.OperandKind (spec.first_failing (spec.kind_suits row.now instr.now)) }
+{
+    let failing = first_failing(
+        kind_suits(row, instr, 0),
+        kind_suits(row, instr, 1),
+        kind_suits(row, instr, 2),
+        kind_suits(row, instr, 3),
+    );
+    match failing {
+        None => None,
+        Some(n) => Some(NoSpelling::OperandKind(n)),
+    }
+}
+
+#[tactic(auto, unfolding(crate::specs::Expressible::first_failing))]
+fn register_failure(bits: Bits, row: &Row, instr: &Instr, state: &PrefixState) -> Option<NoSpelling>
+    requires { state.now ≡ front.byte_front bits row.now instr.now }
+    ensures { result ≡ spec.caused_at cause.Register (spec.first_failing (spec.register_suits bits row.now instr.now)) }
+{
+    let failing = first_failing(
+        register_suits(bits, row, instr, state, 0),
+        register_suits(bits, row, instr, state, 1),
+        register_suits(bits, row, instr, state, 2),
+        register_suits(bits, row, instr, state, 3),
+    );
+    match failing {
+        None => None,
+        Some(n) => Some(NoSpelling::Register(n)),
+    }
+}
+
+fn memory_failure(bits: Bits, row: &Row, instr: &Instr) -> Option<NoSpelling>
+    ensures { result ≡ spec.caused_unless (spec.each_operand (spec.address_suits bits row.now instr.now)) cause.Memory }
+{
+    let all = address_suits(bits, row, instr, 0)
+        && address_suits(bits, row, instr, 1)
+        && address_suits(bits, row, instr, 2)
+        && address_suits(bits, row, instr, 3);
+    caused_unless(all, NoSpelling::Memory)
+}
+
+fn displacement_failure(bits: Bits, row: &Row, instr: &Instr) -> Option<NoSpelling>
+    ensures { result ≡ spec.caused_unless (spec.each_operand (spec.offered bits row.now instr.now)) cause.Displacement }
+{
+    let all = offered(bits, row, instr, 0)
+        && offered(bits, row, instr, 1)
+        && offered(bits, row, instr, 2)
+        && offered(bits, row, instr, 3);
+    caused_unless(all, NoSpelling::Displacement)
+}
+
+#[tactic(auto, unfolding(crate::specs::Expressible::first_failing))]
+fn immediate_failure(bits: Bits, row: &Row, instr: &Instr, size: Bits) -> Option<NoSpelling>
+    requires { size ≡ tail.plain_size bits row.now }
+    ensures { result ≡ spec.caused_at cause.Immediate (spec.first_failing (spec.immediate_suits bits row.now instr.now)) }
+{
+    let failing = first_failing(
+        immediate_suits(bits, row, instr, size, 0),
+        immediate_suits(bits, row, instr, size, 1),
+        immediate_suits(bits, row, instr, size, 2),
+        immediate_suits(bits, row, instr, size, 3),
+    );
+    match failing {
+        None => None,
+        Some(n) => Some(NoSpelling::Immediate(n)),
+    }
+}
+
+fn target_failure(bits: Bits, row: &Row, instr: &Instr, parts: &PlainParts) -> Option<NoSpelling>
+    requires { ArePartsOf bits row.now instr.now parts.now }
+    ensures { result ≡ spec.caused_unless (spec.each_operand (spec.target_suits bits parts.now.ip row.now instr.now)) cause.Target }
+{
+    let all = target_suits(bits, row, instr, parts, 0)
+        && target_suits(bits, row, instr, parts, 1)
+        && target_suits(bits, row, instr, parts, 2)
+        && target_suits(bits, row, instr, parts, 3);
+    caused_unless(all, NoSpelling::Target)
+}
+
+#[tactic(auto, unfolding(crate::specs::PlainFront::byte_front, crate::specs::PlainFront::plain_front_of))]
+fn prefix_failure(bits: Bits, row: &Row, instr: &Instr, state: &PrefixState) -> Option<NoSpelling>
+    requires { state.now ≡ front.byte_front bits row.now instr.now }
+    ensures { result ≡ spec.caused_unless (spec.prefixes_suit row.now instr.now) cause.Prefix }
+{
+    let _bits = bits;
+    caused_unless(prefixes_suit(row, instr, state.opcode), NoSpelling::Prefix)
+}
+
+fn address_size_failure(bits: Bits, row: &Row, instr: &Instr) -> Option<NoSpelling>
+    ensures { result ≡ spec.caused_unless (spec.address_size_suits bits row.now instr.now) cause.AddressSize }
+{
+    caused_unless(
+        address_size_suits(bits, row, instr),
+        NoSpelling::AddressSize,
+    )
+}
+
+/// The first that fails of the conditions 2 to 9 on an instruction of a row, None where all hold. `parts` are those of its plain spelling at
+/// the address at which it is to stand.
+#[tactic(auto, unfolding(crate::specs::Expressible::tail_failure))]
+pub fn tail_failure(bits: Bits, row: &Row, instr: &Instr, parts: &PlainParts) -> Option<NoSpelling>
+    requires { ArePartsOf bits row.now instr.now parts.now }
+    ensures { result ≡ spec.tail_failure bits parts.now.ip row.now instr.now }
+{
+    match kind_failure(row, instr) {
+        Some(why) => return Some(why),
+        None => {}
+    }
+    match register_failure(bits, row, instr, &parts.state) {
+        Some(why) => return Some(why),
+        None => {}
+    }
+    match memory_failure(bits, row, instr) {
+        Some(why) => return Some(why),
+        None => {}
+    }
+    match displacement_failure(bits, row, instr) {
+        Some(why) => return Some(why),
+        None => {}
+    }
+    match immediate_failure(bits, row, instr, parts.size) {
+        Some(why) => return Some(why),
+        None => {}
+    }
+    match target_failure(bits, row, instr, parts) {
+        Some(why) => return Some(why),
+        None => {}
+    }
+    match prefix_failure(bits, row, instr, &parts.state) {
+        Some(why) => Some(why),
+        None => address_size_failure(bits, row, instr),
+    }
+}

@@ -1,0 +1,68 @@
+//! Which variant of an operand a row asks for.
+
+ghost use Rattle.std.specs.Prelude.{◌≡◌, ◌<◌};
+ghost use Rattle.plain_spelling.specs.Forms as spec;
+
+use instruction_parts::kinds::Method;
+use row_types::Place;
+use x86_values::{Instr, Operand};
+
+/// Operand n.
+#[inline]
+pub fn operand_at(instr: &Instr, n: usize) -> Operand
+    requires { n < 4 }
+    ensures { result ≡ spec.operand_at instr.now n }
+{
+    instr.ops[n]
+}
+
+/// Whether an operand is a register.
+#[inline]
+pub fn is_register(operand: Operand) -> bool
+    ensures { result ≡ spec.is_register operand }
+{
+    matches!(operand, Operand::Reg(_))
+}
+
+/// Whether an operand is memory.
+#[inline]
+pub fn is_memory(operand: Operand) -> bool
+    ensures { result ≡ spec.is_memory operand }
+{
+    matches!(operand, Operand::Mem(_))
+}
+
+#[tactic(auto, unfolding(crate::specs::Forms::is_allowed_in))]
+fn is_allowed_in(place: Place, operand: Operand) -> bool
+    ensures { result ≡ spec.is_allowed_in place operand }
+{
+    match place {
+        Place::Any => is_register(operand) || is_memory(operand),
+        Place::Memory => is_memory(operand),
+        Place::Register => is_register(operand),
+    }
+}
+
+/// Whether an operand has a variant that its kind allows: a register, memory, either, an immediate, a near or far target, or nothing.
+#[tactic(auto, unfolding(crate::specs::Forms::is_variant_of))]
+pub fn is_variant_of(place: Place, method: Method, operand: Operand) -> bool
+    ensures { result ≡ spec.is_variant_of place method operand }
+{
+    match method {
+        Method::Nothing => matches!(operand, Operand::Absent),
+        Method::RegisterOrMemory => is_allowed_in(place, operand),
+        Method::MemoryOnly | Method::Gather | Method::Offset => is_memory(operand),
+        Method::AsWritten | Method::Extended | Method::One => matches!(operand, Operand::Imm(_)),
+        Method::Near => matches!(operand, Operand::Near(_)),
+        Method::Pointer => matches!(operand, Operand::Far { .. }),
+        _ => is_register(operand),
+    }
+}
+
+/// Whether a number is a scale of a SIB: 1, 2, 4 or 8 (table 2-3).
+#[inline]
+pub fn is_scale(scale: u8) -> bool
+    ensures { result ≡ spec.is_scale scale }
+{
+    scale == 1 || scale == 2 || scale == 4 || scale == 8
+}

@@ -1,0 +1,251 @@
+//! The front of a plain spelling: prefixes, VEX, map and opcode byte.
+
+ghost use Rattle.std.specs.Prelude.{◌≡◌, ◌<◌, min, IsTrue};
+ghost use Rattle.instruction_parts.specs.Bytes as bytes;
+ghost use Rattle.row_fit.specs.Sound.{sound};
+ghost use Rattle.plain_spelling.specs.PlainFront as spec;
+ghost use Rattle.plain_spelling.specs.Expressible.{each_operand, register_suits};
+ghost use Rattle.plain_spelling.specs.PlainTail as tail;
+
+use crate::comparing::same_bits;
+use crate::registers::{
+    asked_in_index, asked_in_opcode, asked_in_reg, asked_in_rm, asked_in_vvvv, asks_low_byte,
+};
+use instruction_parts::bytes::lead_len;
+use instruction_parts::counting::is_16;
+use instruction_parts::sizes::{has_bang, has_caret, is_vex_row, operand_size};
+use instruction_parts::spelling::{PrefixState, Vex};
+use row_fit::fits::same_map;
+use row_types::{Class, LBit, Map, Plus, Row, Size, WBit};
+use x86_values::{Bits, Instr, Rep};
+
+fn bit(flag: bool) -> u8
+    ensures value { result ≡ bytes.bit flag }
+    ensures small { result < 2 }
+{
+    if flag { 1 } else { 0 }
+}
+
+/// R adds 8 to the number in ModRM.reg.
+#[tactic(auto, unfolding(crate::specs::PlainFront::asks_r))]
+fn asks_r(row: &Row, instr: &Instr) -> bool
+    ensures { result ≡ spec.asks_r row.now instr.now }
+{
+    8 <= asked_in_reg(row, instr)
+}
+
+/// X adds 8 to the number in the SIB's index.
+#[tactic(auto, unfolding(crate::specs::PlainFront::asks_x))]
+fn asks_x(row: &Row, instr: &Instr) -> bool
+    ensures { result ≡ spec.asks_x row.now instr.now }
+{
+    8 <= asked_in_index(row, instr)
+}
+
+/// B adds 8 to the number in r/m, in the SIB's base or in the opcode byte.
+#[tactic(auto, unfolding(crate::specs::PlainFront::asks_b))]
+fn asks_b(row: &Row, instr: &Instr) -> bool
+    ensures { result ≡ spec.asks_b row.now instr.now }
+{
+    8 <= asked_in_rm(row, instr)
+}
+
+/// W 1 of a legacy row.
+#[tactic(auto, unfolding(crate::specs::PlainFront::asks_rex_w))]
+fn asks_rex_w(row: &Row) -> bool
+    ensures { result ≡ spec.asks_rex_w row.now }
+{
+    match row.size {
+        Size::O64 => !(has_caret(row) || has_bang(row)),
+        Size::W1 => true,
+        _ => false,
+    }
+}
+
+/// W 1 of a VEX row.
+#[tactic(auto, unfolding(crate::specs::PlainFront::asks_vex_w))]
+fn asks_vex_w(row: &Row) -> bool
+    ensures { result ≡ spec.asks_vex_w row.now }
+{
+    match row.w {
+        WBit::W1 => true,
+        _ => false,
+    }
+}
+
+/// 66: for the class, or for an operand size of 16 or 32 that is not the row's default in the mode.
+#[tactic(auto, unfolding(crate::specs::PlainFront::asks_66))]
+fn asks_66(bits: Bits, row: &Row) -> bool
+    ensures { result ≡ spec.asks_66 bits row.now }
+{
+    !is_vex_row(row)
+        && match row.class {
+            Class::P66 => true,
+            _ => match row.size {
+                Size::O16 => !is_16(bits),
+                Size::O32 => is_16(bits),
+                Size::O32or64 => is_16(bits),
+                _ => false,
+            },
+        }
+}
+
+/// 67: for an address size that is not the mode's.
+#[tactic(auto, unfolding(crate::specs::PlainFront::asks_67))]
+fn asks_67(bits: Bits, asize: Option<Bits>) -> bool
+    ensures { result ≡ spec.asks_67 bits asize }
+{
+    match asize {
+        None => false,
+        Some(asize) => !same_bits(asize, bits),
+    }
+}
+
+/// F2 or F3: for the class of a legacy row, else for the repeat prefix that the instruction keeps.
+#[tactic(auto, unfolding(crate::specs::PlainFront::asked_repeat))]
+fn asked_repeat(row: &Row, instr: &Instr) -> Rep
+    ensures { result ≡ spec.asked_repeat row.now instr.now }
+{
+    if is_vex_row(row) {
+        instr.rep
+    } else {
+        match row.class {
+            Class::F2 => Rep::F2,
+            Class::F3 => Rep::F3,
+            _ => instr.rep,
+        }
+    }
+}
+
+/// The REX of a legacy row, where something needs one: `r`, `x` and `b` are what the instruction asks of R, X and B.
+#[tactic(auto, unfolding(crate::specs::PlainFront::asked_rex))]
+fn asked_rex(row: &Row, instr: &Instr, r: bool, x: bool, b: bool) -> Option<u8>
+    requires r { r ≡ spec.asks_r row.now instr.now }
+    requires x { x ≡ spec.asks_x row.now instr.now }
+    requires b { b ≡ spec.asks_b row.now instr.now }
+    ensures { result ≡ spec.asked_rex row.now instr.now }
+{
+    let w = asks_rex_w(row);
+    if !is_vex_row(row) && (w || r || x || b || asks_low_byte(instr)) {
+        Some(0x40 + (bit(w) * 8 + (bit(r) * 4 + (bit(x) * 2 + bit(b)))))
+    } else {
+        None
+    }
+}
+
+/// The value of pp by the class of a VEX row.
+#[tactic(auto, unfolding(crate::specs::PlainFront::class_pp))]
+fn class_pp(class: Class) -> u8
+    ensures { result ≡ spec.class_pp class }
+{
+    match class {
+        Class::P66 => 1,
+        Class::F3 => 2,
+        Class::F2 => 3,
+        _ => 0,
+    }
+}
+
+/// The VEX of a VEX row; a vvvv of more than 255, which no spelling has, is 255.
+#[tactic(auto, unfolding(crate::specs::PlainFront::asked_vex))]
+fn byte_vex(row: &Row, instr: &Instr, r: bool, x: bool, b: bool) -> Option<Vex>
+    requires r { r ≡ spec.asks_r row.now instr.now }
+    requires x { x ≡ spec.asks_x row.now instr.now }
+    requires b { b ≡ spec.asks_b row.now instr.now }
+    ensures { result ≡ spec.vex_with row.now instr.now (min 255 (spec.asked spec.number_in_vvvv row.now instr.now)) }
+{
+    let w = asks_vex_w(row);
+    if is_vex_row(row) {
+        Some(Vex {
+            three: !same_map(row.map, Map::M0f) || x || b || w,
+            r,
+            x,
+            b,
+            w,
+            l: match row.l {
+                LBit::L256 => true,
+                _ => false,
+            },
+            map: row.map,
+            vvvv: asked_in_vvvv(row, instr).min(255) as u8,
+            pp: class_pp(row.class),
+        })
+    } else {
+        None
+    }
+}
+
+/// The opcode byte, with the low three bits of a register that it adds.
+#[tactic(auto, unfolding(crate::specs::PlainFront::asked_opcode))]
+pub fn asked_opcode(row: &Row, instr: &Instr) -> u8
+    requires { IsTrue (sound row.now) }
+    ensures { result ≡ spec.asked_opcode row.now instr.now }
+{
+    match row.plus {
+        Plus::Register => row.opcode + (asked_in_opcode(row, instr) % 8) as u8,
+        _ => row.opcode,
+    }
+}
+
+fn count_repeat(rep: Rep) -> u8
+    ensures value { result ≡ spec.count_repeat rep }
+    ensures small { result < 2 }
+{
+    match rep {
+        Rep::None => 0,
+        _ => 1,
+    }
+}
+
+/// The front of the plain spelling of an instruction of a row: the prefixes that stand in it, the VEX, the map and the opcode byte.
+///
+/// It is exact where each register operand is one that its kind can name in the mode; elsewhere a vvvv of more than 255 is 255.
+#[tactic(auto, unfolding(crate::specs::PlainFront::byte_front, crate::specs::PlainFront::plain_front_of, crate::specs::PlainFront::asked_used))]
+pub fn plain_front(bits: Bits, row: &Row, instr: &Instr) -> PrefixState
+    requires { IsTrue (sound row.now) }
+    ensures value { result ≡ spec.byte_front bits row.now instr.now }
+    ensures exact { IsTrue (each_operand (register_suits bits row.now instr.now)) → result ≡ spec.plain_front_of bits row.now instr.now }
+    ensures small { result.used < 16 }
+{
+    let size66 = asks_66(bits, row);
+    let addr67 = asks_67(bits, instr.asize);
+    let rep = asked_repeat(row, instr);
+    let r = asks_r(row, instr);
+    let x = asks_x(row, instr);
+    let b = asks_b(row, instr);
+    let rex = asked_rex(row, instr, r, x, b);
+    let vex = byte_vex(row, instr, r, x, b);
+    PrefixState {
+        used: bit(instr.lock)
+            + (count_repeat(rep)
+                + (bit(instr.seg.is_some())
+                    + (bit(size66)
+                        + (bit(addr67) + (bit(rex.is_some()) + lead_len(row.map, vex)))))),
+        size66,
+        addr67,
+        lock: instr.lock,
+        rep,
+        seg: instr.seg,
+        rex,
+        vex,
+        map: row.map,
+        opcode: asked_opcode(row, instr),
+    }
+}
+
+/// The operand size under the plain prefixes: that of the row.
+#[tactic(auto, unfolding(crate::specs::PlainTail::plain_size))]
+pub fn plain_size(bits: Bits, row: &Row) -> Bits
+    ensures { result ≡ tail.plain_size bits row.now }
+{
+    operand_size(
+        bits,
+        row,
+        if is_vex_row(row) {
+            false
+        } else {
+            asks_rex_w(row)
+        },
+        asks_66(bits, row),
+    )
+}

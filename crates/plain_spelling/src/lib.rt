@@ -1,0 +1,40 @@
+//! The plain spelling of an instruction, and why an instruction has none (Intel SDM volume 2, chapter 2).
+#![tactic(auto)]
+
+pub mod addresses;
+mod comparing;
+pub mod conditions;
+pub mod forms;
+pub mod front;
+pub mod numbers;
+pub mod parts;
+pub mod registers;
+pub mod tail;
+
+/// Why an instruction has no plain spelling in a mode at an address: the first of ten conditions that fails.
+///
+/// The number of an operand is 0 to 3.
+#[derive(Clone, Copy, PartialEq, Eq, Debug)]
+pub enum NoSpelling {
+    /// The code is no row of the table, or its row does not exist in the mode.
+    Row,
+    /// An operand has a variant that its kind does not allow.
+    OperandKind(u8),
+    /// A register that the operand's kind cannot name in the mode, AH to BH beside a register that needs a REX, or the registers of
+    /// a gather, which have to differ (operand 0).
+    Register(u8),
+    /// Base, index and scale are no address of the mode.
+    Memory,
+    /// The address has no displacement of this size, or the displacement is no value of its size.
+    Displacement,
+    /// An immediate is no value of its written size.
+    Immediate(u8),
+    /// A near, RIP or EIP target is out of reach of its offset.
+    Target,
+    /// LOCK or a repeat prefix is not allowed.
+    Prefix,
+    /// The address size is absent or given needlessly, is none of the mode, or is not that of the operand.
+    AddressSize,
+    /// The plain spelling has more than 15 bytes.
+    Length,
+}

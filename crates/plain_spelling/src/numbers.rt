@@ -1,0 +1,100 @@
+//! Numbers as they are written in bytes.
+
+ghost use Rattle.std.specs.Prelude.{◌≡◌, ◌<◌, ◌≤◌, ◌+◌, ◌*◌, ◌^◌, ◌++◌, nat_lt};
+ghost use Rattle.arrayvec.specs.ArrayVec.{array_vec_len};
+ghost use Rattle.x86_values.specs.Wrapping.{width};
+ghost use Rattle.plain_spelling.specs.Values as spec;
+
+use arrayvec::ArrayVec;
+use x86_values::{Bits, wrap};
+
+/// Appends the low n bytes of a number, the lowest first.
+#[tactic(auto, unfolding(crate::specs::Values::low_bytes))]
+pub fn append_low_bytes(bytes: &mut ArrayVec<u8, 8>, n: u8, x: u64)
+    requires { array_vec_len bytes.old + n ≤ 8 }
+    ensures items { bytes.new.items ≡ bytes.old.items ++ spec.low_bytes n x }
+    ensures len { array_vec_len bytes.new ≡ array_vec_len bytes.old + n }
+{
+    if n > 0 {
+        bytes.push((x % 256) as u8);
+        append_low_bytes(bytes, n - 1, x / 256);
+    }
+}
+
+/// 2 to the number of bits of a size.
+fn top_of_width(size: Bits) -> u128
+    ensures value { result ≡ 2 ^ width size }
+    ensures small { result ≤ 2 ^ 64 }
+{
+    match size {
+        Bits::B16 => 0x1_0000,
+        Bits::B32 => 0x1_0000_0000,
+        Bits::B64 => 0x1_0000_0000_0000_0000,
+    }
+}
+
+fn bits_of(size: Bits) -> u8
+    ensures value { result ≡ width size }
+    ensures small { result ≤ 64 }
+{
+    match size {
+        Bits::B16 => 16,
+        Bits::B32 => 32,
+        Bits::B64 => 64,
+    }
+}
+
+/// 2 to the number of bits in n bytes.
+pub fn top_of_bytes(n: u8) -> u128
+    requires { n ≤ 8 }
+    ensures value { result ≡ 2 ^ (8 * n) }
+    ensures small { result ≤ 2 ^ 64 }
+{
+    match n {
+        0 => 1,
+        1 => 0x100,
+        2 => 0x1_0000,
+        3 => 0x100_0000,
+        4 => 0x1_0000_0000,
+        5 => 0x100_0000_0000,
+        6 => 0x1_0000_0000_0000,
+        7 => 0x100_0000_0000_0000,
+        _ => 0x1_0000_0000_0000_0000,
+    }
+}
+
+/// Whether a number is below 2 to the number of bits of a size.
+pub fn is_of_width(size: Bits, x: u64) -> bool
+    ensures { result ≡ nat_lt x (2 ^ width size) }
+{
+    (x as u128) < top_of_width(size)
+}
+
+/// Whether a number of a size is what n sign-extended bytes give, cut to that size.
+#[tactic(auto, unfolding(crate::specs::Values::is_extended_of))]
+pub fn is_extended_of(n: u8, size: Bits, x: u64) -> bool
+    requires { n ≤ 8 }
+    ensures { result ≡ spec.is_extended_of n (width size) x }
+{
+    let top = top_of_bytes(n);
+    is_of_width(size, x)
+        && (bits_of(size) <= 8 * n
+            || 2 * (x as u128) < top
+            || 2 * top_of_width(size) <= 2 * (x as u128) + top)
+}
+
+/// What has to be added to an address to come to another one, modulo 2 to the size.
+#[tactic(auto, unfolding(crate::specs::Values::distance))]
+pub fn distance(size: Bits, from: u64, to: u64) -> u64
+    ensures { result ≡ spec.distance size from to }
+{
+    wrap(size, to as u128 + (0x1_0000_0000_0000_0000 - from as u128))
+}
+
+/// Whether a number is below 2 to the number of bits in n bytes.
+pub fn is_below_bytes(n: u8, x: u64) -> bool
+    requires { n ≤ 8 }
+    ensures { result ≡ nat_lt x (2 ^ (8 * n)) }
+{
+    (x as u128) < top_of_bytes(n)
+}

@@ -1,0 +1,90 @@
+//! What the plain spelling of an instruction is made of, computed once.
+
+ghost use Rattle.std.specs.Prelude.{◌≡◌, ◌<◌, ◌≤◌, ◌+◌, IsTrue};
+ghost use Rattle.row_fit.specs.Fits.{immediate_bytes as bytes_of_kind};
+ghost use Rattle.row_fit.specs.Sound.{sound};
+ghost use Rattle.plain_spelling.specs.PlainFront as front;
+ghost use Rattle.plain_spelling.specs.PlainTail as spec;
+ghost use Rattle.plain_spelling.specs.Parts.{ArePartsOf};
+
+use crate::front::{plain_front, plain_size};
+use crate::tail::{Addressing, address_operand, operand_displacement, plain_addressing};
+use instruction_parts::spelling::PrefixState;
+use row_fit::tail_fits::{immediate_bytes, kind_at};
+use row_types::{OpKind, Row};
+use x86_values::{Bits, Instr, wrap};
+
+/// What the plain spelling of an instruction at an address is made of.
+#[derive(Clone, Copy, PartialEq, Eq, Debug)]
+pub struct PlainParts {
+    /// The address.
+    pub ip: u64,
+    /// The front, with a vvvv of at most 255.
+    pub state: PrefixState,
+    pub addressing: Addressing,
+    /// The operand size.
+    pub size: Bits,
+    /// How many bytes it has, 1 to 63.
+    pub len: u8,
+    /// The address behind it.
+    pub next: u64,
+}
+
+/// The bytes that an operand has behind the instruction, at most 8.
+pub fn immediate_len(size: Bits, kind: OpKind) -> u8
+    ensures value { result ≡ bytes_of_kind size kind }
+    ensures small { result ≤ 8 }
+{
+    immediate_bytes(size, kind)
+}
+
+/// How many bytes the plain spelling has.
+#[tactic(auto, unfolding(crate::specs::PlainTail::plain_len))]
+fn plain_len(
+    bits: Bits,
+    row: &Row,
+    instr: &Instr,
+    used: u8,
+    addressing: Addressing,
+    size: Bits,
+) -> u8
+    requires used { used ≡ (front.plain_front_of bits row.now instr.now).used }
+    requires few { used < 16 }
+    requires modrm { addressing.modrm ≡ spec.plain_modrm bits row.now instr.now }
+    requires sib { addressing.sib ≡ spec.plain_sib_of bits row.now instr.now }
+    requires size { size ≡ spec.plain_size bits row.now }
+    ensures value { result ≡ spec.plain_len bits row.now instr.now }
+    ensures small { result < 64 }
+{
+    let modrm = if addressing.modrm.is_some() { 1 } else { 0 };
+    let sib = if addressing.sib.is_some() { 1 } else { 0 };
+    let displacement = operand_displacement(address_operand(row, instr));
+    let first = immediate_len(size, kind_at(row, 0));
+    let second = immediate_len(size, kind_at(row, 1));
+    let third = immediate_len(size, kind_at(row, 2));
+    let fourth = immediate_len(size, kind_at(row, 3));
+    used + (1 + (modrm + (sib + (displacement + (first + (second + (third + fourth)))))))
+}
+
+/// The parts of the plain spelling of an instruction of a row at an address.
+#[tactic(auto, unfolding(crate::specs::PlainTail::plain_next, crate::specs::PlainFront::byte_front, crate::specs::PlainFront::plain_front_of))]
+pub fn plain_parts(bits: Bits, ip: u64, row: &Row, instr: &Instr) -> PlainParts
+    requires { IsTrue (sound row.now) }
+    ensures parts { ArePartsOf bits row.now instr.now result }
+    ensures ip { result.ip ≡ ip }
+    ensures small { result.len < 64 }
+{
+    let state = plain_front(bits, row, instr);
+    let addressing = plain_addressing(bits, row, instr);
+    let size = plain_size(bits, row);
+    let len = plain_len(bits, row, instr, state.used, addressing, size);
+    let next = wrap(bits, ip as u128 + len as u128);
+    PlainParts {
+        ip,
+        state,
+        addressing,
+        size,
+        len,
+        next,
+    }
+}

@@ -1,0 +1,358 @@
+//! The plain spelling from the opcode byte on.
+
+ghost use Rattle.std.specs.Prelude.{◌≡◌, ◌<◌, ◌≤◌, ◌+◌, ◌++◌, ◌||◌, if◌then◌else◌, ℕ, IsTrue};
+ghost use Rattle.arrayvec.specs.ArrayVec.{array_vec_len};
+ghost use Rattle.instruction_parts.specs.declared.kinds.Method.TheVariants.{Pointer as PointerMethod, LastByte as LastByteMethod};
+ghost use Rattle.row_fit.specs.Fits as fits;
+ghost use Rattle.row_fit.specs.Fits.{immediate_bytes as bytes_of_kind, kind_at as kind_of_row};
+ghost use Rattle.row_fit.specs.Sound as sound_rule;
+ghost use Rattle.plain_spelling.specs.PlainFront.{operand_number};
+ghost use Rattle.plain_spelling.specs.Forms.{operand_at as spec_operand_at};
+ghost use Rattle.plain_spelling.specs.Expressible.{each_operand, register_suits};
+ghost use Rattle.plain_spelling.specs.Parts.{ArePartsOf};
+ghost use Rattle.plain_spelling.specs.PlainTail as spec;
+
+use crate::addresses::{
+    AddressFields, AddressForm, address_fields, displacement_count, form_of, written_size,
+};
+use crate::forms::operand_at;
+use crate::front::plain_size;
+use crate::numbers::{append_low_bytes, distance};
+use crate::parts::PlainParts;
+use crate::registers::{asked_in_reg, asked_in_rm, register_number};
+use arrayvec::ArrayVec;
+use instruction_parts::kinds::{Method, method_of_kind};
+use instruction_parts::spelling::{ModRm, Sib, Spelling};
+use row_fit::tail_fits::{immediate_bytes, immediates_bytes, kind_at};
+use row_types::{ModRmRule, Place, Plus, Row};
+use x86_values::{Bits, Instr, Mem, Operand, wrap};
+
+/// The ModRM and the SIB of a spelling.
+#[derive(Clone, Copy, PartialEq, Eq, Debug)]
+pub struct Addressing {
+    pub modrm: Option<ModRm>,
+    pub sib: Option<Sib>,
+}
+
+fn reads_rm(method: Method) -> bool
+    ensures { result ≡ sound_rule.reads_rm method }
+{
+    match method {
+        Method::RegisterOrMemory
+        | Method::RegisterOnly
+        | Method::MemoryOnly
+        | Method::AnyMode
+        | Method::Gather => true,
+        _ => false,
+    }
+}
+
+fn reads_rm_or_offset(method: Method) -> bool
+    ensures { result ≡ (sound_rule.reads_rm method || fits.is_offset method) }
+{
+    match method {
+        Method::Offset => true,
+        _ => reads_rm(method),
+    }
+}
+
+fn picked(is_it: bool, operand: Operand, otherwise: Operand) -> Operand
+    ensures { result ≡ (if is_it then operand else otherwise) }
+{
+    if is_it { operand } else { otherwise }
+}
+
+/// The operand that ModRM.rm names, absent without one.
+fn rm_operand(row: &Row, instr: &Instr) -> Operand
+    ensures { result ≡ spec.rm_operand row.now instr.now }
+{
+    let [k0, k1, k2, k3] = row.ops;
+    let [a, b, c, d] = instr.ops;
+    let fourth = picked(reads_rm(method_of_kind(k3)), d, Operand::Absent);
+    let third = picked(reads_rm(method_of_kind(k2)), c, fourth);
+    let second = picked(reads_rm(method_of_kind(k1)), b, third);
+    picked(reads_rm(method_of_kind(k0)), a, second)
+}
+
+/// The operand that may have a displacement, absent without one.
+pub fn address_operand(row: &Row, instr: &Instr) -> Operand
+    ensures { result ≡ spec.address_operand row.now instr.now }
+{
+    let [k0, k1, k2, k3] = row.ops;
+    let [a, b, c, d] = instr.ops;
+    let fourth = picked(reads_rm_or_offset(method_of_kind(k3)), d, Operand::Absent);
+    let third = picked(reads_rm_or_offset(method_of_kind(k2)), c, fourth);
+    let second = picked(reads_rm_or_offset(method_of_kind(k1)), b, third);
+    picked(reads_rm_or_offset(method_of_kind(k0)), a, second)
+}
+
+fn lone_mode(place: Place) -> u8
+    ensures { result ≡ spec.lone_mode place }
+{
+    match place {
+        Place::Register => 3,
+        _ => 0,
+    }
+}
+
+/// The fields mod and rm and the SIB of the operand in r/m: a register has mod 3 (2.1.5).
+#[tactic(auto, unfolding(crate::specs::PlainTail::rm_fields))]
+fn rm_fields(bits: Bits, asize: Option<Bits>, place: Place, operand: Operand) -> AddressFields
+    ensures { result ≡ spec.rm_fields bits asize place operand }
+{
+    match operand {
+        Operand::Reg(register) => AddressFields {
+            mode3: 3,
+            rm: (register_number(register) % 8) as u8,
+            sib: None,
+        },
+        Operand::Mem(memory) => { address_fields(bits, written_size(bits, asize, memory), memory) }
+        _ => AddressFields {
+            mode3: lone_mode(place),
+            rm: 0,
+            sib: None,
+        },
+    }
+}
+
+fn fields_of(bits: Bits, row: &Row, instr: &Instr) -> AddressFields
+    ensures { result ≡ spec.fields_of bits row.now instr.now }
+{
+    rm_fields(bits, instr.asize, row.place, rm_operand(row, instr))
+}
+
+/// The field rm of a fixed ModRM byte: its own, or the stack number that the row adds (3.1.1.1, +i).
+#[tactic(auto, unfolding(crate::specs::PlainTail::fixed_rm))]
+fn fixed_rm(row: &Row, instr: &Instr, b: u8) -> u8
+    ensures { result ≡ spec.fixed_rm row.now instr.now b }
+{
+    match row.plus {
+        Plus::Stack => (asked_in_rm(row, instr) % 8) as u8,
+        _ => b % 8,
+    }
+}
+
+fn modrm_with(reg: u8, fields: AddressFields) -> ModRm
+    ensures { result ≡ spec.modrm_with reg fields }
+{
+    ModRm {
+        mode3: fields.mode3,
+        reg,
+        rm: fields.rm,
+    }
+}
+
+/// ModRM and SIB of the plain spelling: reg is the digit, or the low three bits of the register (2.1.5, 3.1.1.1).
+#[tactic(auto, unfolding(crate::specs::PlainTail::plain_modrm, crate::specs::PlainTail::plain_sib_of))]
+pub fn plain_addressing(bits: Bits, row: &Row, instr: &Instr) -> Addressing
+    ensures modrm { result.modrm ≡ spec.plain_modrm bits row.now instr.now }
+    ensures sib { result.sib ≡ spec.plain_sib_of bits row.now instr.now }
+{
+    match row.modrm {
+        ModRmRule::No => Addressing {
+            modrm: None,
+            sib: None,
+        },
+        ModRmRule::Any => {
+            let fields = fields_of(bits, row, instr);
+            Addressing {
+                modrm: Some(modrm_with((asked_in_reg(row, instr) % 8) as u8, fields)),
+                sib: fields.sib,
+            }
+        }
+        ModRmRule::Digit(d) => {
+            let fields = fields_of(bits, row, instr);
+            Addressing {
+                modrm: Some(modrm_with(d, fields)),
+                sib: fields.sib,
+            }
+        }
+        ModRmRule::Fixed(b) => Addressing {
+            modrm: Some(ModRm {
+                mode3: b / 64,
+                reg: b / 8 % 8,
+                rm: fixed_rm(row, instr, b),
+            }),
+            sib: None,
+        },
+    }
+}
+
+/// How many bytes the displacement of an operand has.
+pub fn operand_displacement(operand: Operand) -> u8
+    ensures value { result ≡ spec.operand_displacement operand }
+    ensures small { result ≤ 8 }
+{
+    match operand {
+        Operand::Mem(memory) => displacement_count(memory.disp_size),
+        _ => 0,
+    }
+}
+
+/// The bytes of a displacement before the next address: at RIP and EIP the distance to the address (2.2.1.6).
+#[tactic(auto, unfolding(crate::specs::PlainTail::displacement_of))]
+fn append_displacement(bytes: &mut ArrayVec<u8, 8>, next: u64, memory: Mem)
+    requires { array_vec_len bytes.old ≡ 0 }
+    ensures { bytes.new.items ≡ bytes.old.items ++ spec.displacement_of next memory }
+{
+    let count = displacement_count(memory.disp_size);
+    match form_of(memory.base, memory.index) {
+        AddressForm::Relative(size) => {
+            append_low_bytes(bytes, count, distance(size, next, memory.disp));
+        }
+        _ => append_low_bytes(bytes, count, memory.disp),
+    }
+}
+
+/// The displacement of an operand before the next address.
+fn displacement(next: u64, operand: Operand) -> ArrayVec<u8, 8>
+    ensures { result ≡ spec.listed (spec.displacement_of_operand next operand) }
+{
+    let mut bytes = ArrayVec::new();
+    match operand {
+        Operand::Mem(memory) => append_displacement(&mut bytes, next, memory),
+        _ => {}
+    }
+    bytes
+}
+
+/// Appends the low n bytes of an immediate.
+fn append_number(bytes: &mut ArrayVec<u8, 8>, n: u8, operand: Operand)
+    requires room { array_vec_len bytes.old + n ≤ 8 }
+    ensures items { bytes.new.items ≡ bytes.old.items ++ spec.immediate_of n operand }
+    ensures len { array_vec_len bytes.new ≤ array_vec_len bytes.old + n }
+{
+    match operand {
+        Operand::Imm(x) => append_low_bytes(bytes, n, x),
+        _ => {}
+    }
+}
+
+/// Appends the offset of a near branch, in n bytes before the next address.
+fn append_offset(bytes: &mut ArrayVec<u8, 8>, size: Bits, next: u64, n: u8, operand: Operand)
+    requires room { array_vec_len bytes.old + n ≤ 8 }
+    ensures items { bytes.new.items ≡ bytes.old.items ++ spec.offset_of size next n operand }
+    ensures len { array_vec_len bytes.new ≤ array_vec_len bytes.old + n }
+{
+    match operand {
+        Operand::Near(target) => append_low_bytes(bytes, n, distance(size, next, target)),
+        _ => {}
+    }
+}
+
+/// Appends a far pointer in n bytes: the offset, then the selector.
+fn append_pointer(bytes: &mut ArrayVec<u8, 8>, n: u8, operand: Operand)
+    requires selector { 2 ≤ n }
+    requires room { array_vec_len bytes.old + n ≤ 8 }
+    ensures items { bytes.new.items ≡ bytes.old.items ++ spec.pointer_of n operand }
+    ensures len { array_vec_len bytes.new ≤ array_vec_len bytes.old + n }
+{
+    match operand {
+        Operand::Far { selector, offset } => {
+            append_low_bytes(bytes, n - 2, offset as u64);
+            append_low_bytes(bytes, 2, selector as u64);
+        }
+        _ => {}
+    }
+}
+
+/// Appends a register number in the upper four bits of a byte (2.3.9).
+fn append_last_byte(bytes: &mut ArrayVec<u8, 8>, operand: Operand)
+    requires number { operand_number operand < 16 }
+    requires room { array_vec_len bytes.old < 8 }
+    ensures items { bytes.new.items ≡ bytes.old.items ++ spec.last_byte_of operand }
+    ensures len { array_vec_len bytes.new ≤ array_vec_len bytes.old + 1 }
+{
+    match operand {
+        Operand::Reg(register) => bytes.push((register_number(register) * 16) as u8),
+        _ => {}
+    }
+}
+
+/// Appends the bytes of an operand that is read so and has n bytes behind the instruction.
+#[tactic(auto, unfolding(crate::specs::PlainTail::operand_immediate))]
+fn append_immediate(
+    bytes: &mut ArrayVec<u8, 8>,
+    size: Bits,
+    next: u64,
+    method: Method,
+    n: u8,
+    operand: Operand,
+)
+    requires number { operand_number operand < 16 }
+    requires room { array_vec_len bytes.old + n ≤ 8 }
+    requires pointer { method ≡ PointerMethod → 2 ≤ n }
+    requires last { method ≡ LastByteMethod → 1 ≤ n }
+    ensures items { bytes.new.items ≡ bytes.old.items ++ spec.operand_immediate size next method n operand }
+    ensures len { array_vec_len bytes.new ≤ array_vec_len bytes.old + n }
+{
+    match method {
+        Method::AsWritten | Method::Extended => append_number(bytes, n, operand),
+        Method::Near => append_offset(bytes, size, next, n, operand),
+        Method::Pointer => append_pointer(bytes, n, operand),
+        Method::LastByte => append_last_byte(bytes, operand),
+        _ => {}
+    }
+}
+
+/// Appends the bytes of operand n.
+#[tactic(auto, unfolding(crate::specs::PlainTail::immediate_at))]
+fn append_immediate_at(
+    bytes: &mut ArrayVec<u8, 8>,
+    size: Bits,
+    row: &Row,
+    instr: &Instr,
+    next: u64,
+    n: usize,
+)
+    requires place { n < 4 }
+    requires number { operand_number (spec_operand_at instr.now n) < 16 }
+    requires room { array_vec_len bytes.old + bytes_of_kind size (kind_of_row row.now n) ≤ 8 }
+    ensures items { bytes.new.items ≡ bytes.old.items ++ spec.immediate_at size row.now instr.now next n }
+    ensures len { array_vec_len bytes.new ≤ array_vec_len bytes.old + bytes_of_kind size (kind_of_row row.now n) }
+{
+    let kind = kind_at(row, n);
+    append_immediate(
+        bytes,
+        size,
+        next,
+        method_of_kind(kind),
+        immediate_bytes(size, kind),
+        operand_at(instr, n),
+    );
+}
+
+/// The bytes of all immediates, in the order of the operands.
+#[tactic(auto, unfolding(crate::specs::PlainTail::plain_immediates, row_fit::specs::Fits::immediates_bytes))]
+fn plain_immediates(size: Bits, row: &Row, instr: &Instr, next: u64) -> ArrayVec<u8, 8>
+    requires numbers { (n : ℕ) → n < 4 → operand_number (spec_operand_at instr.now n) < 16 }
+    requires room { fits.immediates_bytes size row.now ≤ 8 }
+    ensures { result ≡ spec.listed (spec.plain_immediates size row.now instr.now next) }
+{
+    let mut bytes = ArrayVec::new();
+    append_immediate_at(&mut bytes, size, row, instr, next, 0);
+    append_immediate_at(&mut bytes, size, row, instr, next, 1);
+    append_immediate_at(&mut bytes, size, row, instr, next, 2);
+    append_immediate_at(&mut bytes, size, row, instr, next, 3);
+    bytes
+}
+
+/// The plain spelling of an instruction of a row from the opcode byte on: with the empty list of prefixes and without a VEX. `parts` are those of
+/// the plain spelling.
+#[tactic(auto, unfolding(crate::specs::PlainTail::plain_tail, crate::specs::PlainTail::plain_spelling, crate::specs::PlainFront::byte_front))]
+pub fn plain_tail(bits: Bits, row: &Row, instr: &Instr, parts: &PlainParts) -> Spelling
+    requires sound { IsTrue (sound_rule.sound row.now) }
+    requires parts { ArePartsOf bits row.now instr.now parts.now }
+    requires registers { IsTrue (each_operand (register_suits bits row.now instr.now)) }
+    ensures { result ≡ spec.plain_tail bits parts.now.ip row.now instr.now }
+{
+    Spelling {
+        prefixes: ArrayVec::new(),
+        vex: None,
+        opcode: parts.state.opcode,
+        modrm: parts.addressing.modrm,
+        sib: parts.addressing.sib,
+        disp: displacement(parts.next, address_operand(row, instr)),
+        imm: plain_immediates(parts.size, row, instr, parts.next),
+    }
+}
