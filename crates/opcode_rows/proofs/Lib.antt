@@ -1,5 +1,6 @@
 pub mod JoinFacts
 pub mod Sound
+pub mod Writable
 pub mod Kept
 pub mod CellRuns
 pub mod Apart

@@ -4,10 +4,11 @@ ghost use Rattle.std.specs.Prelude.{◌≡◌, ◌<◌};
 ghost use Rattle.opcode_rows.specs.Allowed as spec;
 
 use crate::spots::ROWS;
-use instruction_parts::kinds::{Method, method_of_kind};
+use instruction_parts::kinds::method_of_kind;
+use plain_spelling::forms::{is_scale, is_variant_of, operand_at};
 use row_fit::tail_fits::kind_at;
-use row_types::{Place, Row};
-use x86_values::{Instr, Mem, Operand, Register};
+use row_types::Row;
+use x86_values::{Instr, Operand, Register};
 
 /// Whether the code is below `ROWS`, each operand's variant is one that the row's kind allows, each scale is 1, 2, 4 or 8, and each register's
 /// number is below the size of its class: 4 for the high byte registers, 8 for the stack, MMX and debug registers, 16 for all others.
@@ -41,69 +42,17 @@ fn operand_is_formed(row: &Row, instr: &Instr, n: usize) -> bool
     is_variant_of(row.place, method_of_kind(kind_at(row, n)), operand) && has_numbers(operand)
 }
 
-fn operand_at(instr: &Instr, n: usize) -> Operand
-    requires { n < 4 }
-    ensures { result ≡ spec.operand_at instr.now n }
-{
-    instr.ops[n]
-}
-
-#[tactic(auto, unfolding(crate::specs::Allowed::is_variant_of))]
-fn is_variant_of(place: Place, method: Method, operand: Operand) -> bool
-    ensures { result ≡ spec.is_variant_of place method operand }
-{
-    match method {
-        Method::Nothing => matches!(operand, Operand::Absent),
-        Method::RegisterOrMemory => is_allowed_in(place, operand),
-        Method::MemoryOnly | Method::Gather | Method::Offset => is_memory(operand),
-        Method::AsWritten | Method::Extended | Method::One => matches!(operand, Operand::Imm(_)),
-        Method::Near => matches!(operand, Operand::Near(_)),
-        Method::Pointer => matches!(operand, Operand::Far { .. }),
-        _ => is_register(operand),
-    }
-}
-
-#[tactic(auto, unfolding(crate::specs::Allowed::is_allowed_in))]
-fn is_allowed_in(place: Place, operand: Operand) -> bool
-    ensures { result ≡ spec.is_allowed_in place operand }
-{
-    match place {
-        Place::Any => is_register(operand) || is_memory(operand),
-        Place::Memory => is_memory(operand),
-        Place::Register => is_register(operand),
-    }
-}
-
-fn is_register(operand: Operand) -> bool
-    ensures { result ≡ spec.is_register operand }
-{
-    matches!(operand, Operand::Reg(_))
-}
-
-fn is_memory(operand: Operand) -> bool
-    ensures { result ≡ spec.is_memory operand }
-{
-    matches!(operand, Operand::Mem(_))
-}
-
 #[tactic(auto, unfolding(crate::specs::Allowed::has_numbers))]
 fn has_numbers(operand: Operand) -> bool
     ensures { result ≡ spec.has_numbers operand }
 {
     match operand {
         Operand::Reg(register) => is_named(register),
-        Operand::Mem(memory) => has_scale(memory)
+        Operand::Mem(memory) => is_scale(memory.scale)
             && is_named_if(memory.base)
             && is_named_if(memory.index),
         _ => true,
     }
-}
-
-fn has_scale(memory: Mem) -> bool
-    ensures { result ≡ spec.is_scale memory.scale }
-{
-    let scale = memory.scale;
-    scale == 1 || scale == 2 || scale == 4 || scale == 8
 }
 
 #[tactic(auto, unfolding(crate::specs::Allowed::is_named_if))]

@@ -5,6 +5,7 @@ ghost use Rattle.row_types.specs.declared.Row.{Row};
 ghost use Rattle.row_types.specs.declared.RowKind.{RowKind};
 ghost use Rattle.row_types.specs.declared.Map.{Map};
 ghost use Rattle.row_fit.specs.Sound.{sound};
+ghost use Rattle.plain_spelling.specs.Writable.{writable};
 ghost use Rattle.row_fields.specs.declared.Fields.{Fields};
 ghost use Rattle.row_fields.specs.Holds.{AreApart};
 ghost use Rattle.row_lists.specs.Cells.{IsRunOf};
@@ -21,6 +22,11 @@ pub fn rows_are_counted()
 /// Every row is sound.
 pub fn rows_are_sound()
     ensures { (code : ℕ) (row : Row) → slice_get table code ≡ Some row → IsTrue (sound row) }
+{}
+
+/// Every row has plain spellings in each mode in which it exists.
+pub fn rows_are_writable()
+    ensures { (code : ℕ) (row : Row) → slice_get table code ≡ Some row → IsTrue (writable row) }
 {}
 
 /// In each mode and on all values of the nine fields, two rows whose conditions hold are one row.

@@ -6,7 +6,7 @@ use Rattle.x86_values.specs.declared.Register.TheVariants.{Eip, Rip}
 use Rattle.x86_values.specs.declared.Operand.{Operand}
 use Rattle.x86_values.specs.declared.Operand.TheVariants.{Reg, Mem as Memory, Near}
 use Rattle.x86_values.specs.declared.Instr.{Instr}
-use Rattle.opcode_rows.specs.Allowed.{operand_at}
+use Rattle.plain_spelling.specs.Forms.{operand_at}
 use Rattle.operand_info.specs.declared.columns.Access.{Access}
 use Rattle.operand_info.specs.declared.columns.Access.TheVariants.{None as NoAccess, Read}
 use Rattle.operand_info.specs.declared.registers.RegUse.{RegUse}

@@ -21,7 +21,8 @@ use Rattle.opcode_rows.specs.declared.spots.Part.{Part}
 use Rattle.opcode_rows.specs.declared.spots.Part.TheVariants as part
 use Rattle.opcode_rows.specs.declared.spots.TheConstants.{ROWS}
 use Rattle.opcode_rows.specs.Table.{part_table, table}
-use Rattle.opcode_rows.specs.Allowed.{is_variant_of, has_numbers, operand_at, operand_is_formed, is_formed, is_formed_by, is_well_formed}
+use Rattle.plain_spelling.specs.Forms.{is_variant_of, operand_at}
+use Rattle.opcode_rows.specs.Allowed.{has_numbers, operand_is_formed, is_formed, is_formed_by, is_well_formed}
 use Rattle.opcode_rows.proofs.JoinFacts.{all_rows, in_each_part, length-table}
 use Rattle.text_parts.specs.Layout.{is_long, long_at, has_one_long}
 
