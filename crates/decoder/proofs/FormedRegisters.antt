@@ -18,7 +18,8 @@ use Rattle.instruction_parts.specs.declared.spelling.PrefixState.{PrefixState}
 use Rattle.instruction_parts.specs.Sizes.{state_size, bit_x, bit_b, bit_w, shared_bit}
 use Rattle.row_fit.specs.Fits.{extended, is_displacement_alone, index_number}
 use Rattle.row_meaning.specs.Meaning.{general, byte_register, vector, word_or_dword, size_by_w, native_size, register_of, base_16, index_16, memory_16, memory_alone, scale_of, sib_base, sib_index, memory_with_sib, memory_at_base, memory_flat, memory_of, memory_absolute}
-use Rattle.opcode_rows.specs.Allowed.{is_named, is_named_if, is_scale, has_numbers}
+use Rattle.plain_spelling.specs.Forms.{is_scale}
+use Rattle.opcode_rows.specs.Allowed.{is_named, is_named_if, has_numbers}
 
 pub lt_true : (a b : ℕ) → a < b → nat_lt a b ≡ true
 lt_true a b h = grind (arith, h)

@@ -7,4 +7,4 @@ mod InCell
 mod Moving
 mod FormedRegisters
 mod Formed
-mod OneReading
+pub mod OneReading

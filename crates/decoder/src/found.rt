@@ -47,10 +47,9 @@ pub(crate) fn read_found<const BITS: u32, L: Ledger>(
             match read_row(mode_of::<BITS>(), ip, state, code, &row, bytes) {
                 Ok(decoded) => {
                     if decoded.len as usize <= LONGEST {
-                        Some(decoded)
-                    } else {
-                        None
+                        return Some(decoded);
                     }
+                    None
                 }
                 Err(_) => None,
             }

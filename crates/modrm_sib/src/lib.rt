@@ -9,15 +9,18 @@ ghost use Rattle.row_fit.specs.Sound.{sound};
 ghost use Rattle.row_relation.specs.RowReading.{RowReads, RowReadsNothing, RowCanGoOn};
 
 mod ends;
+pub mod laws;
 mod parts;
 mod read;
 #[cfg(test)]
 mod tests;
+mod write;
 
 use instruction_parts::PrefixState;
 pub use parts::{modrm_of_byte, sib_of_byte};
 use prefixes::mode_of;
 use row_types::Row;
+pub use write::{write_operands, write_tail};
 use x86_values::{Bits, Code, Decoded};
 
 /// Why no tail of a row is read from some bytes.

@@ -6,10 +6,9 @@ ghost use Rattle.row_fit.specs.Fits as spec;
 ghost use Rattle.instruction_parts.specs.Kinds.{method_of};
 
 use instruction_parts::counting::{forbids_vex, is_16, is_32, is_64, is_prefix};
-use instruction_parts::kinds::{Method, method_of_kind};
 use instruction_parts::sizes::{bit_w, exists_in, is_vex_row, state_size};
 use instruction_parts::spelling::{ModRm, PrefixState, Vex};
-use row_types::{Class, LBit, Map, ModRmRule, Place, Plus, Row, Size, WBit};
+use row_types::{Class, LBit, Map, ModRmRule, OpKind, Place, Plus, Row, Size, WBit};
 use x86_values::{Bits, Rep};
 
 pub fn is_map_one(map: Map) -> bool
@@ -60,38 +59,50 @@ pub fn is_repeat_f2(rep: Rep) -> bool
     }
 }
 
-fn is_any_mode(method: Method) -> bool
-    ensures { result ≡ spec.is_any_mode method }
+/// Whether an operand of the kind is read by r/m whatever mod is.
+#[inline]
+#[tactic(auto, unfolding(instruction_parts::specs::Kinds::method_of))]
+fn is_any_mode_kind(kind: OpKind) -> bool
+    ensures { result ≡ spec.is_any_mode (method_of kind) }
 {
-    match method {
-        Method::AnyMode => true,
+    match kind {
+        OpKind::Rm => true,
         _ => false,
     }
 }
 
-fn is_vvvv(method: Method) -> bool
-    ensures { result ≡ spec.is_vvvv method }
+/// Whether an operand of the kind is read from vvvv.
+#[inline]
+#[tactic(auto, unfolding(instruction_parts::specs::Kinds::method_of))]
+fn is_vvvv_kind(kind: OpKind) -> bool
+    ensures { result ≡ spec.is_vvvv (method_of kind) }
 {
-    match method {
-        Method::Vvvv => true,
+    match kind {
+        OpKind::By | OpKind::Hx | OpKind::Ho => true,
         _ => false,
     }
 }
 
-fn is_gather(method: Method) -> bool
-    ensures { result ≡ spec.is_gather method }
+/// Whether the kind is a gather.
+#[inline]
+#[tactic(auto, unfolding(instruction_parts::specs::Kinds::method_of))]
+fn is_gather_kind(kind: OpKind) -> bool
+    ensures { result ≡ spec.is_gather (method_of kind) }
 {
-    match method {
-        Method::Gather => true,
+    match kind {
+        OpKind::GatherX | OpKind::GatherL => true,
         _ => false,
     }
 }
 
-fn is_offset(method: Method) -> bool
-    ensures { result ≡ spec.is_offset method }
+/// Whether an operand of the kind has an absolute address.
+#[inline]
+#[tactic(auto, unfolding(instruction_parts::specs::Kinds::method_of))]
+fn is_offset_kind(kind: OpKind) -> bool
+    ensures { result ≡ spec.is_offset (method_of kind) }
 {
-    match method {
-        Method::Offset => true,
+    match kind {
+        OpKind::Ob | OpKind::Ov => true,
         _ => false,
     }
 }
@@ -101,30 +112,28 @@ fn is_offset(method: Method) -> bool
 pub fn reads_mode(row: &Row) -> bool
     ensures { result ≡ spec.reads_mode row.now }
 {
-    !row.ops
-        .iter()
-        .any(|kind| is_any_mode(method_of_kind(*kind)))
+    !row.ops.iter().any(|kind| is_any_mode_kind(*kind))
 }
 
 /// Whether some operand of the row is read from vvvv.
 pub fn reads_vvvv(row: &Row) -> bool
     ensures { result ≡ spec.reads_by spec.is_vvvv row.now }
 {
-    row.ops.iter().any(|kind| is_vvvv(method_of_kind(*kind)))
+    row.ops.iter().any(|kind| is_vvvv_kind(*kind))
 }
 
 /// Whether the row is a gather.
 pub fn reads_gather(row: &Row) -> bool
     ensures { result ≡ spec.reads_by spec.is_gather row.now }
 {
-    row.ops.iter().any(|kind| is_gather(method_of_kind(*kind)))
+    row.ops.iter().any(|kind| is_gather_kind(*kind))
 }
 
 /// Whether the row has an absolute address.
 pub fn reads_offset(row: &Row) -> bool
     ensures { result ≡ spec.reads_by spec.is_offset row.now }
 {
-    row.ops.iter().any(|kind| is_offset(method_of_kind(*kind)))
+    row.ops.iter().any(|kind| is_offset_kind(*kind))
 }
 
 /// Whether each prefix byte is one of the mode.
@@ -404,13 +413,28 @@ fn place_allows(place: Place, m: ModRm) -> bool
 }
 
 /// The limit that an operand's kind sets by itself.
-fn place_of(method: Method) -> Place
-    ensures { result ≡ spec.place_of method }
+#[inline]
+#[tactic(auto, unfolding(instruction_parts::specs::Kinds::method_of))]
+fn place_of_kind(kind: OpKind) -> Place
+    ensures { result ≡ spec.place_of (method_of kind) }
 {
-    match method {
-        Method::RegisterOnly => Place::Register,
-        Method::MemoryOnly => Place::Memory,
-        Method::Gather => Place::Memory,
+    match kind {
+        OpKind::Absent => Place::Any,
+        OpKind::Rv | OpKind::Ry | OpKind::Nq | OpKind::Ux | OpKind::StI => Place::Register,
+        OpKind::M
+        | OpKind::Mb
+        | OpKind::Mw
+        | OpKind::Md
+        | OpKind::Mq
+        | OpKind::Mt
+        | OpKind::Mv
+        | OpKind::Mx
+        | OpKind::Mo
+        | OpKind::Ma
+        | OpKind::Mp
+        | OpKind::Mf
+        | OpKind::GatherX
+        | OpKind::GatherL => Place::Memory,
         _ => Place::Any,
     }
 }
@@ -421,7 +445,7 @@ fn kinds_allow(row: &Row, m: ModRm) -> bool
 {
     row.ops
         .iter()
-        .all(|kind| place_allows(place_of(method_of_kind(*kind)), m))
+        .all(|kind| place_allows(place_of_kind(*kind), m))
 }
 
 /// The limit of the row, and of each of its kinds.

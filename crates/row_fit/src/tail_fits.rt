@@ -168,6 +168,7 @@ fn address_fits(asize: Bits, row: &Row, m: Option<ModRm>, sib: Option<Sib>, give
 }
 
 /// The bytes that an operand has behind the instruction, by operand size.
+#[inline(always)]
 #[tactic(auto, unfolding(crate::specs::Fits::immediate_bytes))]
 pub fn immediate_bytes(size: Bits, kind: OpKind) -> u8
     ensures value { result ≡ spec.immediate_bytes size kind }
@@ -244,7 +245,7 @@ pub fn lock_fits(row: &Row, state: &PrefixState, m: Option<ModRm>) -> bool
 
 /// CR0, CR2, CR3, CR4 and, in 64-bit mode, CR8.
 #[tactic(auto, unfolding(crate::specs::Fits::is_control_number))]
-fn is_control_number(bits: Bits, n: u16) -> bool
+pub fn is_control_number(bits: Bits, n: u16) -> bool
     ensures { result ≡ spec.is_control_number bits n }
 {
     n == 0 || n == 2 || n == 3 || n == 4 || (is_64(bits) && n == 8)
@@ -320,7 +321,8 @@ fn nop_fits(bits: Bits, row: &Row, state: &PrefixState) -> bool
     }
 }
 
-fn is_nop_byte(row: &Row, opcode: u8) -> bool
+/// Whether the byte is 90 of the one-byte map.
+pub fn is_nop_byte(row: &Row, opcode: u8) -> bool
     ensures { result ≡ spec.is_nop_byte row.now opcode }
 {
     !is_vex_row(row) && is_map_one(row.map) && opcode == 0x90

@@ -4,6 +4,7 @@ ghost use Rattle.std.specs.Prelude.{◌≡◌, ◌<◌, ◌≤◌, ◌+◌, leng
 ghost use Rattle.row_meaning.specs.Meaning as spec;
 ghost use Rattle.row_fit.specs.Fits as fits;
 ghost use Rattle.instruction_parts.specs.Bytes as bytes;
+ghost use Rattle.instruction_parts.specs.Kinds.{method_of};
 ghost use Rattle.instruction_parts.specs.Sizes.{state_size};
 ghost use Rattle.row_fit.specs.Sound.{sound};
 ghost use Rattle.instruction_parts.specs.declared.kinds.Method.TheVariants.{Pointer as PointerMethod};
@@ -307,6 +308,7 @@ fn gather_operand(
 }
 
 /// An operand by how it is read; `imm` are the bytes of the immediates that are its own.
+#[inline(always)]
 #[tactic(auto, unfolding(crate::specs::Meaning::operand_by))]
 pub fn operand_by(
     bits: Bits,
@@ -418,10 +420,61 @@ fn immediates_before(size: Bits, row: &Row, n: usize) -> usize
     }
 }
 
-/// Operand n.
+/// The bytes of the immediates that are those of operand n, which has so many.
+#[tactic(auto, unfolding(crate::specs::Meaning::own_immediate))]
+fn own_immediate<'a>(size: Bits, row: &Row, n: usize, imm: &'a [u8], len: usize) -> &'a [u8]
+    requires whole { length imm.now ≡ fits.immediates_bytes size row.now }
+    requires number { n < 4 }
+    requires len { len ≡ fits.immediate_bytes size (fits.kind_at row.now n) }
+    ensures { result.now ≡ spec.own_immediate size row.now n imm.now }
+{
+    let (_, rest) = imm.split_at(immediates_before(size, row, n));
+    let (own, _) = rest.split_at(len);
+    own
+}
+
+/// Operand n, where there is one.
+#[inline(never)]
 #[tactic(auto, unfolding(crate::specs::Meaning::operand_at, crate::specs::Meaning::own_immediate))]
+fn present_at(
+    bits: Bits,
+    size: Bits,
+    row: &Row,
+    state: &PrefixState,
+    m: Option<ModRm>,
+    sib: Option<Sib>,
+    disp: &[u8],
+    next: u64,
+    imm: &[u8],
+    n: usize,
+    kind: OpKind,
+) -> Operand
+    requires size { size ≡ state_size bits row.now state.now }
+    requires modrm { IsTrue (fits.modrm_in_range m) }
+    requires sib { IsTrue (fits.sib_in_range sib) }
+    requires disp { length disp.now ≤ 8 }
+    requires imm { length imm.now ≤ 8 }
+    requires whole { length imm.now ≡ fits.immediates_bytes size row.now }
+    requires number { n < 4 }
+    requires kind { kind ≡ fits.kind_at row.now n }
+    ensures { result ≡ spec.operand_at bits row.now state.now (spec.tail m sib disp.now next) imm.now n }
+{
+    let len = immediate_bytes(size, kind) as usize;
+    let method = method_of_kind(kind);
+    if len == 0 {
+        operand_by(bits, row, state, m, sib, disp, next, kind, method, &[])
+    } else {
+        let own = own_immediate(size, row, n, imm, len);
+        operand_by(bits, row, state, m, sib, disp, next, kind, method, own)
+    }
+}
+
+/// Operand n.
+#[inline(always)]
+#[tactic(auto, unfolding(crate::specs::Meaning::operand_at))]
 fn operand_at(
     bits: Bits,
+    size: Bits,
     row: &Row,
     state: &PrefixState,
     m: Option<ModRm>,
@@ -431,30 +484,20 @@ fn operand_at(
     imm: &[u8],
     n: usize,
 ) -> Operand
+    requires size { size ≡ state_size bits row.now state.now }
     requires modrm { IsTrue (fits.modrm_in_range m) }
     requires sib { IsTrue (fits.sib_in_range sib) }
     requires disp { length disp.now ≤ 8 }
     requires imm { length imm.now ≤ 8 }
-    requires whole { length imm.now ≡ fits.immediates_bytes (state_size bits row.now state.now) row.now }
+    requires whole { length imm.now ≡ fits.immediates_bytes size row.now }
     requires number { n < 4 }
     ensures { result ≡ spec.operand_at bits row.now state.now (spec.tail m sib disp.now next) imm.now n }
 {
-    let size = state_size(bits, row, state);
     let kind = kind_at(row, n);
-    let (_, rest) = imm.split_at(immediates_before(size, row, n));
-    let (own, _) = rest.split_at(immediate_bytes(size, kind) as usize);
-    operand_by(
-        bits,
-        row,
-        state,
-        m,
-        sib,
-        disp,
-        next,
-        kind,
-        method_of_kind(kind),
-        own,
-    )
+    match kind {
+        OpKind::Absent => Operand::Absent,
+        _ => present_at(bits, size, row, state, m, sib, disp, next, imm, n, kind),
+    }
 }
 
 /// The classes any and NF3 keep the counting repeat prefix.
@@ -469,14 +512,24 @@ fn kept_repeat(class: Class, rep: Rep) -> Rep
     }
 }
 
+/// Whether an operand of the kind is memory.
+#[inline(always)]
+#[tactic(auto, unfolding(instruction_parts::specs::Kinds::method_of, row_fit::specs::Fits::is_memory_method))]
+fn is_memory_kind(kind: OpKind, m: Option<ModRm>) -> bool
+    ensures { result ≡ fits.is_memory_method (method_of kind) m }
+{
+    match kind {
+        OpKind::Absent => false,
+        _ => is_memory_method(method_of_kind(kind), m),
+    }
+}
+
 /// Whether some operand is memory.
 #[tactic(auto, unfolding(crate::specs::Meaning::has_memory))]
 fn has_memory(row: &Row, m: Option<ModRm>) -> bool
     ensures { result ≡ spec.has_memory row.now m }
 {
-    row.ops
-        .iter()
-        .any(|kind| is_memory_method(method_of_kind(*kind), m))
+    row.ops.iter().any(|kind| is_memory_kind(*kind, m))
 }
 
 /// The address size, where the instruction has a memory operand or the mark a.
@@ -511,13 +564,14 @@ pub fn instr_of(
     requires whole { length imm.now ≡ fits.immediates_bytes (state_size bits row.now state.now) row.now }
     ensures { result ≡ spec.instr_of bits code row.now state.now (spec.tail m sib disp.now next) imm.now }
 {
+    let size = state_size(bits, row, state);
     Instr {
         code,
         ops: [
-            operand_at(bits, row, state, m, sib, disp, next, imm, 0),
-            operand_at(bits, row, state, m, sib, disp, next, imm, 1),
-            operand_at(bits, row, state, m, sib, disp, next, imm, 2),
-            operand_at(bits, row, state, m, sib, disp, next, imm, 3),
+            operand_at(bits, size, row, state, m, sib, disp, next, imm, 0),
+            operand_at(bits, size, row, state, m, sib, disp, next, imm, 1),
+            operand_at(bits, size, row, state, m, sib, disp, next, imm, 2),
+            operand_at(bits, size, row, state, m, sib, disp, next, imm, 3),
         ],
         lock: state.lock,
         rep: kept_repeat(row.class, state.rep),

@@ -9,3 +9,7 @@ read_rest-requires-clause-modrm c = refl
 pub read_rest-requires-clause-sib : goal.read_rest-requires-clause-sib
 unfolding sib_in_range
 read_rest-requires-clause-sib c = refl
+
+pub read_rest-requires-then-not-takes_sib-clause-sib : goal.read_rest-requires-then-not-takes_sib-clause-sib
+unfolding sib_in_range
+read_rest-requires-then-not-takes_sib-clause-sib c = refl
