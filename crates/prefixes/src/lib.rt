@@ -1,4 +1,4 @@
-//! The front of an instruction, read: prefixes, escape bytes, VEX and the opcode byte (Intel SDM volume 2, 2.1.1, 2.2.1, 2.3.5).
+//! The front of an instruction, read and written: prefixes, escape bytes, VEX and the opcode byte (Intel SDM volume 2, 2.1.1, 2.2.1, 2.3.5).
 #![tactic(auto)]
 
 ghost use Rattle.std.specs.Prelude.{◌≡◌, ◌<◌, ◌≤◌, ◌+◌, IsTrue, length, take_while, ◌∷◌, min};
@@ -12,10 +12,13 @@ use instruction_parts::counting::{forbids_vex, is_64, is_prefix};
 use instruction_parts::sizes::bit_of_byte;
 use instruction_parts::{PrefixState, Vex};
 
+pub mod laws;
 #[cfg(test)]
 mod tests;
+mod write;
 
 use row_types::Map;
+pub use write::write_prefixes;
 use x86_values::Bits;
 
 /// Why bytes have no front.

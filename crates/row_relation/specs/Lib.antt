@@ -1,4 +1,3 @@
 pub mod Spells
-pub mod PlainFront
 pub mod EveryRule
 pub mod RowReading

@@ -1,6 +1,6 @@
 //! The bytes of a spelling.
 
-ghost use Rattle.std.specs.Prelude.{◌≡◌, ◌<◌, ◌≤◌, ◌+◌, ◌++◌, length, IsTrue, is_some};
+ghost use Rattle.std.specs.Prelude.{◌≡◌, ◌<◌, ◌≤◌, ◌+◌, ◌∷◌, ◌++◌, length, IsTrue, is_some};
 ghost use Rattle.instruction_parts.specs.Bytes as spec;
 ghost use Rattle.row_fit.specs.Fits as fits;
 ghost use Rattle.instruction_parts.specs.Sizes.{is_vex_row};
@@ -99,9 +99,9 @@ fn append_vex(out: &mut ArrayVec<u8, 15>, v: Vex)
     }
 }
 
-/// Appends the VEX, else the escape bytes of the map.
+/// Appends the bytes between the prefixes and the opcode byte: those of the VEX, else the escape bytes of the map (2.1.2, 2.3.5).
 #[tactic(auto, unfolding(instruction_parts::specs::Bytes::lead_bytes, row_fit::specs::Fits::vex_in_range))]
-fn append_lead(out: &mut ArrayVec<u8, 15>, map: Map, vex: Option<Vex>)
+pub fn append_lead(out: &mut ArrayVec<u8, 15>, map: Map, vex: Option<Vex>)
     requires range { IsTrue (fits.vex_in_range vex) }
     requires room { array_vec_len out.old + length (spec.lead_bytes map vex) ≤ 15 }
     ensures { out.new.items ≡ out.old.items ++ spec.lead_bytes map vex }
@@ -158,6 +158,21 @@ fn append_sib(out: &mut ArrayVec<u8, 15>, s: Option<Sib>)
     }
 }
 
+/// Appends the opcode byte of a spelling and what stands behind it: ModRM, SIB, displacement and immediates (2.1).
+#[tactic(auto, unfolding(instruction_parts::specs::Bytes::tail_bytes))]
+pub fn append_tail(out: &mut ArrayVec<u8, 15>, s: &Spelling)
+    requires room { array_vec_len out.old + (1 + length (spec.tail_bytes s.now)) ≤ 15 }
+    requires modrm { IsTrue (fits.modrm_in_range s.now.modrm) }
+    requires sib { IsTrue (fits.sib_in_range s.now.sib) }
+    ensures { out.new.items ≡ out.old.items ++ s.now.opcode ∷ spec.tail_bytes s.now }
+{
+    out.push(s.opcode);
+    append_modrm(out, s.modrm);
+    append_sib(out, s.sib);
+    append(out, s.disp.as_slice());
+    append(out, s.imm.as_slice());
+}
+
 /// The bytes of a spelling of the row.
 #[tactic(auto, unfolding(instruction_parts::specs::Bytes::bytes_of, instruction_parts::specs::Bytes::front_bytes, instruction_parts::specs::Bytes::tail_bytes, row_fit::specs::Fits::fields_in_range))]
 pub fn spelling_bytes(row: &Row, s: &Spelling) -> ArrayVec<u8, 15>
@@ -170,10 +185,6 @@ pub fn spelling_bytes(row: &Row, s: &Spelling) -> ArrayVec<u8, 15>
     let mut out = ArrayVec::new();
     append(&mut out, s.prefixes.as_slice());
     append_lead(&mut out, row.map, s.vex);
-    out.push(s.opcode);
-    append_modrm(&mut out, s.modrm);
-    append_sib(&mut out, s.sib);
-    append(&mut out, s.disp.as_slice());
-    append(&mut out, s.imm.as_slice());
+    append_tail(&mut out, s);
     out
 }

@@ -2,10 +2,13 @@
 #![tactic(auto)]
 
 mod bytes;
+mod front;
 #[cfg(test)]
 mod tests;
 
-pub use bytes::spelling_bytes;
+pub use bytes::{append_lead, append_tail, spelling_bytes};
+pub use front::plain_front;
 pub use instruction_parts::{ModRm, PrefixState, Sib, Spelling, Vex};
+pub use plain_spelling::NoSpelling;
 pub use row_fit::row_fits;
 pub use row_meaning::{row_meaning, row_memory_size};
