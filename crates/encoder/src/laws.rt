@@ -1,0 +1,27 @@
+//! Laws of the encoding over the table, as the contracts of functions that do nothing.
+
+ghost use Rattle.std.specs.Prelude.{◌≡◌, ◌↔◌, ◌≤◌, ℕ, List, false, None, length, slice_get};
+ghost use Rattle.x86_values.specs.declared.Bits.{Bits};
+ghost use Rattle.x86_values.specs.declared.Instr.{Instr};
+ghost use Rattle.row_relation.specs.Spells.{Spells, SpellsUnbounded};
+ghost use Rattle.plain_spelling.specs.Expressible.{failure_of};
+ghost use Rattle.plain_laws.specs.Plain.{IsPlainlySpelled, has_target};
+ghost use Rattle.opcode_rows.specs.Table.{table};
+
+/// The ten conditions hold exactly where a plain spelling of at most 15 bytes exists.
+pub fn ten_conditions_are_exact()
+    ensures { (bits : Bits) (ip : ℕ) (i : Instr) → length i.ops ≡ 4
+        → (failure_of bits ip (slice_get table i.code.0) i ≡ None) ↔ ((bytes : List ℕ) × IsPlainlySpelled table bits ip bytes i) }
+{}
+
+/// Bytes that spell an instruction at an address are at least as many as those of its plain spelling there.
+pub fn plain_spelling_is_shortest()
+    ensures { (bits : Bits) (ip : ℕ) (bytes others : List ℕ) (i : Instr)
+        → IsPlainlySpelled table bits ip bytes i → SpellsUnbounded table bits ip others i → length bytes ≤ length others }
+{}
+
+/// An instruction without a near target and without an address at RIP or EIP has a spelling exactly where it has a plain one.
+pub fn without_target_spelled_is_plain()
+    ensures { (bits : Bits) (ip : ℕ) (i : Instr) → has_target i ≡ false
+        → ((bytes : List ℕ) × Spells table bits ip bytes i) ↔ ((bytes : List ℕ) × IsPlainlySpelled table bits ip bytes i) }
+{}

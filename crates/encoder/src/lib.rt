@@ -1,0 +1,136 @@
+//! Instructions, written as bytes (Intel SDM volume 2, chapter 2).
+#![tactic(auto)]
+
+ghost use Rattle.std.specs.Prelude.{◌≡◌, ℕ, ◌≤◌, ◌<◌, ◌++◌, List, length, IfOk, IsErr, IfSome, IsNone, IsTrue, slice_get, Some};
+ghost use Rattle.x86_values.specs.Wrapping.{wrapped};
+ghost use Rattle.instruction_parts.specs.Sizes as sizes;
+ghost use Rattle.instruction_parts.specs.Bytes.{bytes_of};
+ghost use Rattle.row_fit.specs.Sound.{sound};
+ghost use Rattle.row_relation.specs.Spells.{SpellsUnbounded};
+ghost use Rattle.plain_spelling.specs.PlainTail.{plain_spelling};
+ghost use Rattle.plain_spelling.specs.Expressible.{failure};
+ghost use Rattle.plain_spelling.specs.Writable.{writable};
+ghost use Rattle.plain_laws.specs.Plain.{IsPlainlySpelled};
+ghost use Rattle.opcode_rows.specs.Table.{table};
+ghost use Rattle.opcode_rows.specs.Reading.{IsRead};
+ghost use Rattle.encoder.specs.Encoding.{encoding, encoded_by, written, length_of, reading_of_bytes};
+
+use arrayvec::ArrayVec;
+use instruction_parts::sizes::exists_in;
+use modrm_sib::write_tail;
+use opcode_rows::{ROWS, row};
+pub use plain_spelling::NoSpelling;
+use plain_spelling::conditions::tail_failure;
+use plain_spelling::parts::plain_parts;
+use prefixes::write_prefixes;
+use row_relation::append_tail;
+use row_types::Row;
+use std::marker::Brand;
+use std::sync::ledger::{Blank, Ledger};
+use step_count::Steps;
+use x86_values::{Bits, Code, Instr, wrap};
+
+pub mod laws;
+#[cfg(test)]
+mod tests;
+
+/// The row of a code below `ROWS`, looked up on a count of its own.
+fn row_on<L: Ledger>(blank: Blank, code: Code) -> Row
+    requires code { code.0 < ROWS }
+    requires name { blank.name ≡ L.name }
+    requires parts { blank.parts ≡ L.parts }
+    requires some { 0 < L.parts }
+    ensures { slice_get table code.0 ≡ Some result }
+{
+    let mut steps = Steps::<L>::open(blank);
+    row(code, &mut steps)
+}
+
+/// The encoding of an instruction of a row that exists in the mode, at an address of the mode.
+fn encode_row(bits: Bits, ip: u64, row: &Row, instr: &Instr) -> Result<ArrayVec<u8, 15>, NoSpelling>
+    requires sound { IsTrue (sound row.now) }
+    requires writable { IsTrue (writable row.now) }
+    requires exists { IsTrue (sizes.exists_in bits row.now) }
+    ensures { written result ≡ encoded_by (failure bits ip row.now instr.now) (bytes_of row.now (plain_spelling bits ip row.now instr.now)) }
+{
+    let [_first, _second, _third, _fourth] = instr.ops;
+    let parts = plain_parts(bits, ip, row, instr);
+    let tail = match write_tail(bits, row, instr, &parts) {
+        Ok(tail) => tail,
+        Err(why) => return Err(why),
+    };
+    if parts.len > 15 {
+        return Err(NoSpelling::Length);
+    }
+    let mut bytes = write_prefixes(bits, row, &parts.state);
+    append_tail(&mut bytes, &tail);
+    Ok(bytes)
+}
+
+/// The encoding of an instruction at an address.
+fn encode_by_row(bits: Bits, ip: u64, instr: &Instr) -> Result<ArrayVec<u8, 15>, NoSpelling>
+    ensures { written result ≡ encoding bits ip instr.now }
+{
+    if instr.code.0 >= ROWS {
+        return Err(NoSpelling::Row);
+    }
+    let row = row_on::<Brand>(Blank::new(1), instr.code);
+    if !exists_in(bits, &row) {
+        return Err(NoSpelling::Row);
+    }
+    encode_row(bits, wrap(bits, u128::from(ip)), &row, instr)
+}
+
+/// The bytes of the plain spelling of an instruction at an address, 1 to 15: the shortest that are read as it there.
+///
+/// `ip` is the address of the first byte, taken modulo 2 to the number of bits of the mode. Each needed prefix stands in the
+/// bytes once and no other does, and each part has its shortest form.
+///
+/// An instruction is refused exactly where it has no plain spelling of at most 15 bytes, with the first condition that fails (Intel
+/// SDM volume 2, 2.1 to 2.3).
+pub fn encode(bits: Bits, ip: u64, instr: &Instr) -> Result<ArrayVec<u8, 15>, NoSpelling>
+    ensures encoding { written result ≡ encoding bits ip instr.now }
+
+    // The bytes are the plain spelling; where they are refused there is none.
+    ensures plain { IfOk result (λ bytes. IsPlainlySpelled table bits (wrapped bits ip) bytes.items instr.now) }
+    ensures refused { IsErr result → (bytes : List ℕ) → IsPlainlySpelled table bits (wrapped bits ip) bytes instr.now → ⊥ }
+
+    // Whatever follows them, they are read as the instruction.
+    ensures read_back { IfOk result (λ bytes. (rest : List ℕ) → IsRead bits ip (bytes.items ++ rest) (reading_of_bytes instr.now bytes.items)) }
+
+    // No bytes that spell the instruction there are fewer.
+    ensures shortest { IfOk result (λ bytes. (others : List ℕ) → SpellsUnbounded table bits (wrapped bits ip) others instr.now → length bytes.items ≤ length others) }
+{
+    let [_first, _second, _third, _fourth] = instr.ops;
+    encode_by_row(bits, ip, instr)
+}
+
+/// The length of the plain spelling of an instruction at an address, 1 to 15 bytes, with the refusals of [`encode`].
+pub fn encoded_len(bits: Bits, ip: u64, instr: &Instr) -> Result<u8, NoSpelling>
+    ensures { result ≡ length_of (encoding bits ip instr.now) }
+{
+    if instr.code.0 >= ROWS {
+        return Err(NoSpelling::Row);
+    }
+    let row = row_on::<Brand>(Blank::new(1), instr.code);
+    if !exists_in(bits, &row) {
+        return Err(NoSpelling::Row);
+    }
+    row_len(bits, wrap(bits, u128::from(ip)), &row, instr)
+}
+
+/// The length of the encoding of an instruction of a row that exists in the mode, at an address of the mode.
+fn row_len(bits: Bits, ip: u64, row: &Row, instr: &Instr) -> Result<u8, NoSpelling>
+    requires sound { IsTrue (sound row.now) }
+    requires writable { IsTrue (writable row.now) }
+    requires exists { IsTrue (sizes.exists_in bits row.now) }
+    ensures { result ≡ length_of (encoded_by (failure bits ip row.now instr.now) (bytes_of row.now (plain_spelling bits ip row.now instr.now))) }
+{
+    let [_first, _second, _third, _fourth] = instr.ops;
+    let parts = plain_parts(bits, ip, row, instr);
+    match tail_failure(bits, row, instr, &parts) {
+        Some(why) => Err(why),
+        None if parts.len > 15 => Err(NoSpelling::Length),
+        None => Ok(parts.len),
+    }
+}

@@ -1,0 +1,221 @@
+use crate::{encode, encoded_len};
+use opcode_rows::{ROWS, first_of};
+use plain_spelling::NoSpelling;
+use row_types::{Map, RowKind};
+use x86_values::{Bits, Code, DispSize, Instr, Mem, Operand, Register, Rep};
+
+/// The code of the `n`-th row of a cell, one that no row has where the cell is empty.
+fn code(kind: RowKind, map: Map, opcode: u8, n: u16) -> Code {
+    match first_of(kind, map, opcode) {
+        Some(first) => Code(first.0.saturating_add(n)),
+        None => Code(0xFFFF),
+    }
+}
+
+fn instr(code: Code, first: Operand, second: Operand, asize: Option<Bits>) -> Instr {
+    Instr {
+        code,
+        ops: [first, second, Operand::Absent, Operand::Absent],
+        lock: false,
+        rep: Rep::None,
+        seg: None,
+        asize,
+    }
+}
+
+/// An address of a base and a displacement.
+fn at(base: Register, disp: u64, disp_size: DispSize) -> Operand {
+    Operand::Mem(Mem {
+        base: Some(base),
+        index: None,
+        scale: 1,
+        disp,
+        disp_size,
+    })
+}
+
+// Bytes of 64-bit mode, by the manual's notation of ADD, MOV, JMP, VADDPS and NOP.
+#[test]
+fn bytes_in_64_bit_mode(rt: HostRuntime) {
+    let legacy = RowKind::Legacy;
+    let add16 = code(legacy, Map::One, 0x01, 0);
+    let add32 = code(legacy, Map::One, 0x01, 1);
+    let add64 = code(legacy, Map::One, 0x01, 2);
+    let add8 = code(legacy, Map::One, 0x00, 0);
+    let add_byte = code(legacy, Map::One, 0x83, 1);
+    let nop = code(legacy, Map::One, 0x90, 0);
+    let none = Operand::Absent;
+    let r32 = |n: u8| Operand::Reg(Register::R32(n));
+    let r64 = |n: u8| Operand::Reg(Register::R64(n));
+    let rsp = at(Register::R64(4), 16, DispSize::D8);
+    let rbp = at(Register::R64(5), 0, DispSize::D8);
+    let rip = at(Register::Rip, 0x1010, DispSize::D32);
+    let b64 = Some(Bits::B64);
+    let ax = Operand::Reg(Register::R16(0));
+    let sil = Operand::Reg(Register::Low8(6));
+    let al = Operand::Reg(Register::Low8(0));
+    let dh = Operand::Reg(Register::High8(2));
+    let cases = [
+        (instr(nop, none, none, None), &[0x90][..]),
+        (instr(add32, r32(0), r32(1), None), &[0x01, 0xC8][..]),
+        (instr(add32, r32(8), r32(1), None), &[0x41, 0x01, 0xC8][..]),
+        (instr(add64, r64(0), r64(9), None), &[0x4C, 0x01, 0xC8][..]),
+        (instr(add16, ax, ax, None), &[0x66, 0x01, 0xC0][..]),
+        (instr(add8, al, dh, None), &[0x00, 0xF0][..]),
+        (instr(add8, al, sil, None), &[0x40, 0x00, 0xF0][..]),
+        (
+            instr(add32, rsp, r32(3), b64),
+            &[0x01, 0x5C, 0x24, 0x10][..],
+        ),
+        (instr(add32, rbp, r32(3), b64), &[0x01, 0x5D, 0x00][..]),
+        (
+            instr(add32, rip, r32(3), b64),
+            &[0x01, 0x1D, 0x0A, 0x00, 0x00, 0x00][..],
+        ),
+        (
+            instr(add_byte, r32(0), Operand::Imm(0xFFFF_FF80), None),
+            &[0x83, 0xC0, 0x80][..],
+        ),
+    ];
+    for (given, want) in cases {
+        match encode(Bits::B64, 0x1000, &given) {
+            Ok(bytes) => assert!(rt; bytes.as_slice() == want),
+            Err(_) => assert!(rt; false),
+        }
+        match encoded_len(Bits::B64, 0x1000, &given) {
+            Ok(len) => assert!(rt; len as usize == want.len()),
+            Err(_) => assert!(rt; false),
+        }
+    }
+}
+
+// One refusal of each kind that a code, a register, an address, a displacement, a target and a prefix can have.
+#[test]
+fn refusals(rt: HostRuntime) {
+    let legacy = RowKind::Legacy;
+    let add32 = code(legacy, Map::One, 0x01, 1);
+    let add64 = code(legacy, Map::One, 0x01, 2);
+    let add8 = code(legacy, Map::One, 0x00, 0);
+    let r32 = |n: u8| Operand::Reg(Register::R32(n));
+    let r64 = |n: u8| Operand::Reg(Register::R64(n));
+    let byte = |n: u8| Operand::Reg(Register::Low8(n));
+    let dh = Operand::Reg(Register::High8(2));
+    let ah = Operand::Reg(Register::High8(0));
+    let mov8 = code(legacy, Map::One, 0x88, 0);
+    let add_byte = code(legacy, Map::One, 0x83, 1);
+    let by_three = Operand::Mem(Mem {
+        base: Some(Register::R64(0)),
+        index: Some(Register::R64(1)),
+        scale: 3,
+        disp: 0,
+        disp_size: DispSize::D0,
+    });
+    let b64 = Some(Bits::B64);
+    let far = at(Register::Rip, 0x1_8000_0000_0000, DispSize::D32);
+    let bare = at(Register::R64(5), 0, DispSize::D0);
+    let wide = at(Register::R64(5), 0x80, DispSize::D8);
+    let xmm = at(Register::Xmm(0), 0, DispSize::D0);
+    let rax = at(Register::R64(0), 0, DispSize::D0);
+    let mut locked = instr(add32, r32(0), r32(1), None);
+    locked.lock = true;
+    let cases = [
+        (
+            Bits::B64,
+            instr(Code(0xFFFF), r32(0), r32(1), None),
+            NoSpelling::Row,
+        ),
+        (
+            Bits::B32,
+            instr(add64, r64(0), r64(1), None),
+            NoSpelling::Row,
+        ),
+        (
+            Bits::B64,
+            instr(add32, r32(0), Operand::Imm(1), None),
+            NoSpelling::OperandKind(1),
+        ),
+        (
+            Bits::B64,
+            instr(Code(ROWS), r32(0), r32(1), None),
+            NoSpelling::Row,
+        ),
+        (
+            Bits::B64,
+            instr(add32, r32(0), Operand::Absent, None),
+            NoSpelling::OperandKind(1),
+        ),
+        (
+            Bits::B64,
+            instr(add32, r32(0), r32(16), None),
+            NoSpelling::Register(1),
+        ),
+        (
+            Bits::B64,
+            instr(mov8, ah, byte(4), None),
+            NoSpelling::Register(0),
+        ),
+        (
+            Bits::B64,
+            instr(add32, by_three, r32(0), b64),
+            NoSpelling::Memory,
+        ),
+        (
+            Bits::B64,
+            instr(add_byte, r32(0), Operand::Imm(0x80), None),
+            NoSpelling::Immediate(1),
+        ),
+        (
+            Bits::B32,
+            instr(add32, r32(8), r32(0), None),
+            NoSpelling::Register(0),
+        ),
+        (
+            Bits::B64,
+            instr(add8, byte(8), dh, None),
+            NoSpelling::Register(1),
+        ),
+        (
+            Bits::B64,
+            instr(add8, dh, Operand::Reg(Register::High8(255)), None),
+            NoSpelling::Register(0),
+        ),
+        (
+            Bits::B64,
+            instr(add8, byte(0), Operand::Reg(Register::High8(255)), None),
+            NoSpelling::Register(1),
+        ),
+        (
+            Bits::B64,
+            instr(add32, xmm, r32(1), b64),
+            NoSpelling::Memory,
+        ),
+        (
+            Bits::B64,
+            instr(add32, bare, r32(1), b64),
+            NoSpelling::Displacement,
+        ),
+        (
+            Bits::B64,
+            instr(add32, wide, r32(1), b64),
+            NoSpelling::Displacement,
+        ),
+        (
+            Bits::B64,
+            instr(add32, far, r32(1), b64),
+            NoSpelling::Target,
+        ),
+        (Bits::B64, locked, NoSpelling::Prefix),
+        (
+            Bits::B64,
+            instr(add32, rax, r32(1), None),
+            NoSpelling::AddressSize,
+        ),
+    ];
+    for (bits, given, want) in cases {
+        match encode(bits, 0x1000, &given) {
+            Ok(_) => assert!(rt; false),
+            Err(why) => assert!(rt; why == want),
+        }
+        assert!(rt; encoded_len(bits, 0x1000, &given) == Err(want));
+    }
+}
