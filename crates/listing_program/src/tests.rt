@@ -1,6 +1,7 @@
 use super::*;
 use arrayvec::ArrayVec;
 use byte_ports::{CountSink, FailAt, MemSink, MemSource};
+use decoder::DecodeError;
 use std::process::Abort;
 use std::str::from_utf8;
 use std::test::Fail;
@@ -211,6 +212,229 @@ fn each_style_has_its_texts(rt: HostRuntime) -> Result<(), Fail> {
     Ok(())
 }
 
+/// Compares the lines that tell what the instructions of some code at address 0 do, behind their addresses, with these.
+fn expect_info<R: Abort + AllocGlobal>(
+    rt: &R,
+    mode: &str,
+    input: &[u8],
+    texts: &str,
+) -> Result<(), Fail> {
+    let mut source = MemSource::new(input);
+    let mut out = MemSink::new(rt.alloc(), MANY)?;
+    let mut err = MemSink::new(rt.alloc(), 80)?;
+    let words = ["info", mode, "0"];
+    let status = run(rt.alloc(), &words, &mut source, &mut out, &mut err);
+    assert_eq!(rt; status, Status::Done, "{input:?}");
+    let mut found = String::new(rt.alloc());
+    for line in from_utf8(out.bytes())?.lines() {
+        let column = match mode {
+            "16" => 5,
+            "32" => 9,
+            _ => 17,
+        };
+        found.push_str(line.get(column..).unwrap_or("no text"))?;
+        found.push_str("\n")?;
+    }
+    assert_eq!(rt; found.as_str(), texts, "{input:?}");
+    Ok(())
+}
+
+#[test]
+fn what_instructions_do_is_told(rt: HostRuntime) -> Result<(), Fail> {
+    expect(
+        &rt,
+        &["info", "64", "401000"],
+        &[
+            0x55, 0x48, 0x89, 0xe5, 0x48, 0x83, 0xec, 0x20, 0xe8, 0xf6, 0x0f, 0x00, 0x00, 0xc9,
+            0xc3,
+        ],
+        Status::Done,
+        "0000000000401000 Next r\n0000000000401001 Next w r\n0000000000401004 Next rw r\n0000000000401008 Call r -> 0x402003\n000000000040100d Next\n000000000040100e Return\n",
+        "",
+    )?;
+    expect(
+        &rt,
+        &["info", "16", "FFFE"],
+        &[0xeb, 0xfe, 0x90],
+        Status::Done,
+        "fffe UnconditionalBranch r -> 0xfffe\n0000 Next\n",
+        "",
+    )?;
+    for (mode, code, texts) in [
+        (
+            "64",
+            [0x48, 0x8b, 0x05, 0x01, 0x00, 0x00, 0x00].as_slice(),
+            "Next w r m8 @ 0x8\n",
+        ),
+        (
+            "64",
+            [0x67, 0x8b, 0x05, 0xf8, 0xff, 0xff, 0xff].as_slice(),
+            "Next w r m4 @ 0xffffffff\n",
+        ),
+        ("64", [0x48, 0x8d, 0x04, 0x0b].as_slice(), "Next w n\n"),
+        (
+            "64",
+            [0xe2, 0xfe].as_slice(),
+            "ConditionalBranch r -> 0x0\n",
+        ),
+        ("64", [0x01, 0x04, 0x8b].as_slice(), "Next rw r m4\n"),
+        ("64", [0xff, 0x10].as_slice(), "IndirectCall r m8\n"),
+        (
+            "64",
+            [0xff, 0x25, 0x00, 0x00, 0x00, 0x00].as_slice(),
+            "IndirectBranch r m8 @ 0x6\n",
+        ),
+        ("64", [0xc5, 0xfc, 0x10, 0x00].as_slice(), "Next w r m32\n"),
+        (
+            "64",
+            [0xcc, 0x0f, 0x0b, 0x0f, 0x05].as_slice(),
+            "Interrupt\nException\nCall\n",
+        ),
+        ("64", [0x0f, 0xae, 0x00].as_slice(), "Next w\n"),
+        (
+            "32",
+            [0x9a, 0x10, 0x00, 0x00, 0x00, 0x08, 0x00].as_slice(),
+            "Call r\n",
+        ),
+        ("16", [0x8b, 0x00].as_slice(), "Next w r m2\n"),
+        ("64", [].as_slice(), ""),
+    ] {
+        expect_info(&rt, mode, code, texts)?;
+    }
+    Ok(())
+}
+
+#[test]
+fn bad_code_ends_what_is_told(rt: HostRuntime) -> Result<(), Fail> {
+    let words = ["info", "64", "0"];
+    for (code, offset, error, written, line) in [
+        (
+            [0x90, 0x0f, 0x04].as_slice(),
+            1,
+            DecodeError::Invalid,
+            "0000000000000000 Next\n",
+            "bad code at 1: invalid\n",
+        ),
+        (
+            [0x90, 0x0f].as_slice(),
+            1,
+            DecodeError::TooShort,
+            "0000000000000000 Next\n",
+            "bad code at 1: too short\n",
+        ),
+        (
+            [0x48, 0x0f, 0x04, 0x90].as_slice(),
+            0,
+            DecodeError::Invalid,
+            "",
+            "bad code at 0: invalid\n",
+        ),
+    ] {
+        let status = Status::BadCode { offset, error };
+        assert_eq!(rt; status_number(&status), 2);
+        expect(&rt, &words, code, status, written, line)?;
+    }
+
+    // Past the first lines, which were written before.
+    let mut code = Vec::new(rt.alloc());
+    code.resize(2000, 0x90)?;
+    code.push(0x06)?;
+    code.push(0x90)?;
+    let mut source = MemSource::new(&code);
+    let mut out = CountSink::new();
+    let mut err = MemSink::new(rt.alloc(), 80)?;
+    let status = run(rt.alloc(), &words, &mut source, &mut out, &mut err);
+    let (offset, error) = (2000, DecodeError::Invalid);
+    assert_eq!(rt; status, Status::BadCode { offset, error });
+    assert_eq!(rt; out.count(), 44_000);
+    Ok(())
+}
+
+#[test]
+fn instructions_are_written_for_another_mode(rt: HostRuntime) -> Result<(), Fail> {
+    for (from, old, to, new, code, written) in [
+        (
+            "64",
+            "0",
+            "32",
+            "0",
+            [0x40, 0x88, 0xe0].as_slice(),
+            "0000000000000000 ! 3 1\n",
+        ),
+        (
+            "64",
+            "0",
+            "32",
+            "0",
+            [0x8b, 0x00].as_slice(),
+            "0000000000000000 ! 4\n",
+        ),
+        ("32", "0", "64", "0", [0x40].as_slice(), "00000000 ! 1\n"),
+        (
+            "64",
+            "0",
+            "64",
+            "0",
+            [0x66, 0xeb, 0x7f].as_slice(),
+            "0000000000000000 ! 7\n",
+        ),
+        (
+            "64",
+            "0",
+            "64",
+            "0",
+            [0xc4, 0xe1, 0x78, 0x58, 0xc1].as_slice(),
+            "0000000000000000 c5f858c1\n",
+        ),
+        (
+            "64",
+            "0",
+            "64",
+            "0",
+            [0x48, 0x66, 0x90].as_slice(),
+            "0000000000000000 90\n",
+        ),
+        (
+            "64",
+            "1000",
+            "16",
+            "0",
+            [0x01, 0xc0, 0x48, 0x01, 0xc0].as_slice(),
+            "0000000000001000 6601c0\n0000000000001002 ! 1\n",
+        ),
+        (
+            "32",
+            "0",
+            "16",
+            "0",
+            [
+                0xf0, 0xf2, 0x2e, 0x81, 0x84, 0x98, 0x44, 0x33, 0x22, 0x11, 0x78, 0x56, 0x34, 0x12,
+            ]
+            .as_slice(),
+            "00000000 ! 10\n",
+        ),
+        ("64", "0", "64", "0", [].as_slice(), ""),
+    ] {
+        expect(
+            &rt,
+            &["recode", from, old, to, new],
+            code,
+            Status::Done,
+            written,
+            "",
+        )?;
+    }
+    let (offset, error) = (1, DecodeError::Invalid);
+    expect(
+        &rt,
+        &["recode", "64", "0", "64", "0"],
+        &[0x90, 0x0f, 0x04],
+        Status::BadCode { offset, error },
+        "0000000000000000 90\n",
+        "bad code at 1: invalid\n",
+    )
+}
+
 #[test]
 fn the_table_has_a_line_for_each_row(rt: HostRuntime) -> Result<(), Fail> {
     let mut source = MemSource::new(&[0x90]);
@@ -263,11 +487,6 @@ fn a_wrong_word_is_named(rt: HostRuntime) -> Result<(), Fail> {
             1,
             "usage: word 1\n",
         ),
-        (
-            ["recode", "64", "0", "64", "0"].as_slice(),
-            1,
-            "usage: word 1\n",
-        ),
         (["list"].as_slice(), 2, "usage: word 2\n"),
         (["list", "8", "0", "intel"].as_slice(), 2, "usage: word 2\n"),
         (["--help", "list"].as_slice(), 2, "usage: word 2\n"),
@@ -296,10 +515,42 @@ fn a_wrong_word_is_named(rt: HostRuntime) -> Result<(), Fail> {
             "usage: word 5\n",
         ),
         (["rows", "x"].as_slice(), 2, "usage: word 2\n"),
+        (["info"].as_slice(), 2, "usage: word 2\n"),
+        (["info", "8", "0"].as_slice(), 2, "usage: word 2\n"),
+        (["info", "64"].as_slice(), 3, "usage: word 3\n"),
+        (["info", "16", "10000"].as_slice(), 3, "usage: word 3\n"),
+        (
+            ["info", "64", "0", "intel"].as_slice(),
+            4,
+            "usage: word 4\n",
+        ),
         (
             ["list", "64", "0", "intel", "intel"].as_slice(),
             5,
             "usage: word 5\n",
+        ),
+        (["recode"].as_slice(), 2, "usage: word 2\n"),
+        (
+            ["recode", "32", "100000000", "64", "0"].as_slice(),
+            3,
+            "usage: word 3\n",
+        ),
+        (["recode", "64", "0"].as_slice(), 4, "usage: word 4\n"),
+        (
+            ["recode", "64", "1000", "10", "0"].as_slice(),
+            4,
+            "usage: word 4\n",
+        ),
+        (["recode", "64", "0", "64"].as_slice(), 5, "usage: word 5\n"),
+        (
+            ["recode", "64", "0", "16", "10000"].as_slice(),
+            5,
+            "usage: word 5\n",
+        ),
+        (
+            ["recode", "64", "0", "16", "ffff", "0"].as_slice(),
+            6,
+            "usage: word 6\n",
         ),
     ] {
         expect(&rt, words, &[0x90], Status::Usage { word }, "", line)?;
@@ -357,22 +608,57 @@ fn a_port_that_fails_ends_the_run(rt: HostRuntime) -> Result<(), Fail> {
 }
 
 #[test]
+fn a_port_that_fails_ends_what_is_told(rt: HostRuntime) -> Result<(), Fail> {
+    let words = ["info", "64", "0"];
+    let code = [0x90, 0x0f, 0x04];
+
+    let mut source = FailAt::new(MemSource::new(&code), at(2));
+    let mut out = MemSink::new(rt.alloc(), MANY)?;
+    let mut err = MemSink::new(rt.alloc(), 80)?;
+    let status = run(rt.alloc(), &words, &mut source, &mut out, &mut err);
+    assert_eq!(rt; status, Status::ReadFault);
+    assert_eq!(rt; out.bytes(), b"".as_slice());
+
+    // The line before the bad code finds no room for its end.
+    let mut source = MemSource::new(&code);
+    let mut out = MemSink::new(rt.alloc(), 18)?;
+    let status = run(rt.alloc(), &words, &mut source, &mut out, &mut err);
+    assert_eq!(rt; status, Status::WriteFault);
+    assert_eq!(rt; out.bytes(), b"0000000000000000 N".as_slice());
+
+    let mut source = MemSource::new(&code[..1]);
+    let mut out = FailAt::new(MemSink::new(rt.alloc(), MANY)?, at(1));
+    let status = run(rt.alloc(), &words, &mut source, &mut out, &mut err);
+    assert_eq!(rt; status, Status::WriteFault);
+    assert_eq!(rt; out.inner().bytes(), b"".as_slice());
+    Ok(())
+}
+
+#[test]
 fn the_input_has_a_limit(rt: HostRuntime) -> Result<(), Fail> {
     let words = ["list", "64", "0", "intel"];
     let mut flood = Vec::new(rt.alloc());
+    flood.push(0x06)?;
     flood.resize(16_777_217, 0x90)?;
-    let mut source = MemSource::new(&flood);
     let mut out = CountSink::new();
-    let mut err = MemSink::new(rt.alloc(), 80)?;
-    let status = run(rt.alloc(), &words, &mut source, &mut out, &mut err);
-    assert_eq!(rt; status, Status::TooLarge { limit: 16_777_216 });
-    assert_eq!(rt; status_number(&status), 6);
-    assert_eq!(rt; out.count(), 0);
-    assert_eq!(rt; err.bytes(), b"input over 16777216 bytes\n".as_slice());
+    for words in [
+        words.as_slice(),
+        ["info", "64", "0"].as_slice(),
+        ["recode", "64", "0", "64", "0"].as_slice(),
+    ] {
+        let mut source = MemSource::new(&flood);
+        let mut err = MemSink::new(rt.alloc(), 80)?;
+        let status = run(rt.alloc(), words, &mut source, &mut out, &mut err);
+        assert_eq!(rt; status, Status::TooLarge { limit: 16_777_216 });
+        assert_eq!(rt; status_number(&status), 6);
+        assert_eq!(rt; out.count(), 0);
+        assert_eq!(rt; err.bytes(), b"input over 16777216 bytes\n".as_slice());
+    }
 
     let mut prefixes = Vec::new(rt.alloc());
     prefixes.resize(65536, 0x66)?;
     let mut source = MemSource::new(&prefixes);
+    let mut err = MemSink::new(rt.alloc(), 80)?;
     let status = run(rt.alloc(), &words, &mut source, &mut out, &mut err);
     assert_eq!(rt; status, Status::Done);
     assert_eq!(rt; out.count(), 3_670_016);

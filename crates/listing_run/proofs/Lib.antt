@@ -4,4 +4,5 @@ pub mod Causes
 pub mod Held
 pub mod RowLines
 pub mod Progress
+pub mod Completing
 pub mod Saying

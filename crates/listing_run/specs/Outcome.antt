@@ -1,19 +1,21 @@
 -- What a run leaves, by its command and its status.
-use Rattle.std.specs.Prelude.{◌≡◌, ◌⊎◌, ℕ, ◌+◌, ◌<◌, ◌≤◌, List, [], length, Option, Some, None, IfSome}
+use Rattle.std.specs.Prelude.{◌≡◌, ◌⊎◌, ℕ, ◌+◌, ◌<◌, ◌≤◌, List, [], ◌∷◌, ◌++◌, All, length, Option, Some, None, IfSome}
 use Rattle.byte_ports.specs.Ports.{with_front, with_back}
 use Rattle.x86_values.specs.declared.Bits.{Bits}
-use Rattle.sweep_text.specs.declared.syntax.Syntax.{Syntax}
+use Rattle.decoder.specs.declared.DecodeError.{DecodeError}
+use Rattle.sweep_text.specs.declared.lines.Lines.{Lines}
+use Rattle.sweep_text.specs.declared.lines.Lines.TheVariants.{Listing, Info as InfoLines, Recode as RecodeLines}
 use Rattle.sweep_text.specs.Sweep.{Item, IsSweep, BeginsSweep}
-use Rattle.sweep_text.specs.Listing.{listing}
+use Rattle.sweep_text.specs.Lines.{stop_of, GoesOn, lines_of}
 use Rattle.listing_run.specs.declared.words.Command.{Command}
-use Rattle.listing_run.specs.declared.words.Command.TheVariants.{Help, Version, List as ListCommand, Rows, Wrong}
+use Rattle.listing_run.specs.declared.words.Command.TheVariants.{Help, Version, List as ListCommand, Info, Recode, Rows, Wrong}
 use Rattle.listing_run.specs.declared.status.Status.{Status}
-use Rattle.listing_run.specs.declared.status.Status.TheVariants.{Done, Usage, ReadFault, WriteFault, Memory, TooLarge}
+use Rattle.listing_run.specs.declared.status.Status.TheVariants.{Done, Usage, BadCode, ReadFault, WriteFault, Memory, TooLarge}
 use Rattle.listing_run.specs.Writing.{HoldsFront}
 use Rattle.listing_run.specs.Texts.{help_text, version_text}
 use Rattle.listing_run.specs.Rows.{rows_text}
 
--- how many bytes `list` reads at most
+-- how many bytes a command that goes through code reads at most
 unfoldable pub input_limit : ℕ
 input_limit = 16777216
 
@@ -32,29 +34,43 @@ pub record ReadsTooMany (left left' : Option (List ℕ)) (bytes : List ℕ) : Ty
   pub read : left ≡ with_front bytes left'
   pub over : length bytes ≡ input_limit + 1
 
--- the listing of some bytes was written: a line for each item of their sweep
-pub record WritesListing (bits : Bits) (base : ℕ) (syntax : Syntax) (bytes : List ℕ) (held held' : Option (List ℕ)) : Type 0 where
+-- the lines of all items of the sweep of some bytes were written, and the command goes on behind each of them
+pub record WritesLines (bits : Bits) (base : ℕ) (lines : Lines) (bytes : List ℕ) (held held' : Option (List ℕ)) : Type 0 where
   pub items : List Item
   pub sweep : IsSweep bits base bytes items
-  pub written : held' ≡ with_back held (listing bits base syntax items)
+  pub all : All (GoesOn lines) items
+  pub written : held' ≡ with_back held (lines_of bits base lines items)
 
--- the front of the listing of some bytes was written: first bytes of the lines of first items of their sweep
-pub record WritesListingFront (bits : Bits) (base : ℕ) (syntax : Syntax) (bytes : List ℕ) (held held' : Option (List ℕ)) : Type 0 where
+-- the front of the lines was written: first bytes of the lines of first items, behind each of which the command goes on
+pub record WritesLinesFront (bits : Bits) (base : ℕ) (lines : Lines) (bytes : List ℕ) (held held' : Option (List ℕ)) : Type 0 where
   pub items : List Item
   pub sweep : BeginsSweep bits base bytes items
-  pub written : HoldsFront held held' (listing bits base syntax items)
+  pub all : All (GoesOn lines) items
+  pub written : HoldsFront held held' (lines_of bits base lines items)
 
--- `list` by its status: when each may come, and what was written then
-abbrev pub ListsAs : Bits → ℕ → Syntax → Option (List ℕ) → Option (List ℕ) → Option (List ℕ) → Option (List ℕ) → Type 0 → Type 0 → Status → Type 0
-ListsAs bits base syntax left left' held held' source_rose out_rose Done =
-    (bytes : List ℕ) × (ReadsAll left left' bytes × WritesListing bits base syntax bytes held held')
-ListsAs bits base syntax left left' held held' source_rose out_rose ReadFault = source_rose × (held' ≡ held)
-ListsAs bits base syntax left left' held held' source_rose out_rose WriteFault =
-    out_rose × ((bytes : List ℕ) × (ReadsAll left left' bytes × WritesListingFront bits base syntax bytes held held'))
-ListsAs bits base syntax left left' held held' source_rose out_rose Memory = held' ≡ held
-ListsAs bits base syntax left left' held held' source_rose out_rose (TooLarge limit) =
+-- the lines before an offset were written: there stands the first item at which the command ends, with this error
+pub record WritesLinesBefore (bits : Bits) (base : ℕ) (lines : Lines) (bytes : List ℕ) (offset : ℕ) (error : DecodeError) (held held' : Option (List ℕ)) : Type 0 where
+  pub items : List Item
+  pub last : Item
+  pub sweep : BeginsSweep bits base bytes (items ++ last ∷ [])
+  pub all : All (GoesOn lines) items
+  pub offset_is : last.offset ≡ offset
+  pub stops : stop_of lines last.reading ≡ Some error
+  pub written : held' ≡ with_back held (lines_of bits base lines items)
+
+-- a command that goes through code, by its status: when each may come, and what was written then
+abbrev pub GoesThroughAs : Bits → ℕ → Lines → Option (List ℕ) → Option (List ℕ) → Option (List ℕ) → Option (List ℕ) → Type 0 → Type 0 → Status → Type 0
+GoesThroughAs bits base lines left left' held held' source_rose out_rose Done =
+    (bytes : List ℕ) × (ReadsAll left left' bytes × WritesLines bits base lines bytes held held')
+GoesThroughAs bits base lines left left' held held' source_rose out_rose (BadCode offset error) =
+    (bytes : List ℕ) × (ReadsAll left left' bytes × WritesLinesBefore bits base lines bytes offset error held held')
+GoesThroughAs bits base lines left left' held held' source_rose out_rose ReadFault = source_rose × (held' ≡ held)
+GoesThroughAs bits base lines left left' held held' source_rose out_rose WriteFault =
+    out_rose × ((bytes : List ℕ) × (ReadsAll left left' bytes × WritesLinesFront bits base lines bytes held held'))
+GoesThroughAs bits base lines left left' held held' source_rose out_rose Memory = held' ≡ held
+GoesThroughAs bits base lines left left' held held' source_rose out_rose (TooLarge limit) =
     (limit ≡ input_limit) × (((bytes : List ℕ) × ReadsTooMany left left' bytes) × (held' ≡ held))
-ListsAs bits base syntax left left' held held' source_rose out_rose _ = ⊥
+GoesThroughAs bits base lines left left' held held' source_rose out_rose _ = ⊥
 
 -- a command that reads nothing and writes a text, by its status
 abbrev pub WritesAs : List ℕ → Option (List ℕ) → Option (List ℕ) → Type 0 → Status → Type 0
@@ -69,11 +85,17 @@ RunsAs Help left left' held held' source_rose out_rose status = WritesAs help_te
 RunsAs Version left left' held held' source_rose out_rose status = WritesAs version_text held held' out_rose status
 RunsAs Rows left left' held held' source_rose out_rose status = WritesAs rows_text held held' out_rose status
 RunsAs (ListCommand bits base syntax) left left' held held' source_rose out_rose status =
-    ListsAs bits base syntax left left' held held' source_rose out_rose status
+    GoesThroughAs bits base (Listing syntax) left left' held held' source_rose out_rose status
+RunsAs (Info bits base) left left' held held' source_rose out_rose status =
+    GoesThroughAs bits base InfoLines left left' held held' source_rose out_rose status
+RunsAs (Recode bits base to new_base) left left' held held' source_rose out_rose status =
+    GoesThroughAs bits base (RecodeLines to new_base) left left' held held' source_rose out_rose status
 
 -- the command reads
 abbrev pub Reads : Command → Type 0
 Reads (ListCommand bits base syntax) = Unit {0}
+Reads (Info bits base) = Unit {0}
+Reads (Recode bits base to new_base) = Unit {0}
 Reads _ = ⊥
 
 -- the command is one
@@ -81,11 +103,31 @@ abbrev pub IsWrong : Command → Type 0
 IsWrong (Wrong word) = Unit {0}
 IsWrong _ = ⊥
 
--- the command of a run that meets no fault is done: a listing may want memory besides, or have too many bytes
+-- the status says at which offset no instruction is read
+abbrev pub IsBadCode : Status → Type 0
+IsBadCode (BadCode offset error) = Unit {0}
+IsBadCode _ = ⊥
+
+-- how a command that goes through the items of a sweep ends: at the first item behind which it does not go on, else behind all
+abbrev pub end_of : Lines → List Item → Status
+end_of lines [] = Done
+end_of lines (item ∷ items) = elim (stop_of lines item.reading) [ None ↦ end_of lines items | Some error ↦ BadCode item.offset error ]
+
+-- such a command that meets no fault ends as the sweep of its bytes says; it may want memory besides, or have too many bytes
+abbrev pub CompletesThrough : Bits → ℕ → Lines → Option (List ℕ) → Status → Type 0
+CompletesThrough bits base lines (Some bytes) status =
+    (length bytes ≤ input_limit → (items : List Item) → IsSweep bits base bytes items → (status ≡ end_of lines items) ⊎ (status ≡ Memory))
+    × (input_limit < length bytes → (status ≡ TooLarge input_limit) ⊎ (status ≡ Memory))
+CompletesThrough bits base lines None status =
+    (status ≡ Done) ⊎ ((status ≡ Memory) ⊎ ((status ≡ TooLarge input_limit) ⊎ IsBadCode status))
+
+-- The command of a run that meets no fault is done. A listing is done whatever the bytes are, but it may want memory, or have too many bytes.
 abbrev pub Completes : Command → Option (List ℕ) → Status → Type 0
 Completes (Wrong word) left status = status ≡ Usage word
 Completes (ListCommand bits base syntax) (Some bytes) status =
     (length bytes ≤ input_limit → (status ≡ Done) ⊎ (status ≡ Memory))
     × (input_limit < length bytes → (status ≡ TooLarge input_limit) ⊎ (status ≡ Memory))
 Completes (ListCommand bits base syntax) None status = (status ≡ Done) ⊎ ((status ≡ Memory) ⊎ (status ≡ TooLarge input_limit))
+Completes (Info bits base) left status = CompletesThrough bits base InfoLines left status
+Completes (Recode bits base to new_base) left status = CompletesThrough bits base (RecodeLines to new_base) left status
 Completes _ left status = status ≡ Done

@@ -1,5 +1,7 @@
 -- The number of a status, and its line on standard error.
 use Rattle.std.specs.Prelude.{ℕ, List, [], ◌++◌, codes, decimal}
+use Rattle.decoder.specs.declared.DecodeError.{DecodeError}
+use Rattle.decoder.specs.declared.DecodeError.TheVariants.{Invalid, TooShort}
 use Rattle.listing_run.specs.declared.status.Status.{Status}
 use Rattle.listing_run.specs.declared.status.Status.TheVariants.{Done, Usage, BadCode, ReadFault, WriteFault, Memory, TooLarge, Wraps, TooFar, RegionFull, TooMany}
 
@@ -17,9 +19,15 @@ status_number (TooFar _ _) = 8
 status_number (RegionFull _ _) = 9
 status_number (TooMany _) = 10
 
+-- the end of the line of an offset at which no instruction is read
+unfoldable pub bad_code_end : DecodeError → List ℕ
+bad_code_end Invalid = codes ": invalid\n"
+bad_code_end TooShort = codes ": too short\n"
+
 -- the line of a status; Done has none, nor have the statuses that no command answers yet
 unfoldable pub status_line : Status → List ℕ
 status_line (Usage word) = codes "usage: word " ++ decimal word ++ codes "\n"
+status_line (BadCode offset error) = codes "bad code at " ++ decimal offset ++ bad_code_end error
 status_line ReadFault = codes "read fault\n"
 status_line WriteFault = codes "write fault\n"
 status_line Memory = codes "out of memory\n"

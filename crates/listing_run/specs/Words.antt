@@ -9,7 +9,9 @@ use Rattle.x86_values.specs.Wrapping.{width}
 use Rattle.sweep_text.specs.declared.syntax.Syntax.{Syntax}
 use Rattle.sweep_text.specs.declared.syntax.Syntax.TheVariants.{Intel, Att, Masm}
 use Rattle.listing_run.specs.declared.words.Command.{Command}
-use Rattle.listing_run.specs.declared.words.Command.TheVariants.{Help, Version, List as ListCommand, Rows, Wrong}
+use Rattle.listing_run.specs.declared.words.Command.TheVariants.{Help, Version, List as ListCommand, Info, Recode, Rows, Wrong}
+use Rattle.listing_run.specs.declared.words.Through.{Through}
+use Rattle.listing_run.specs.declared.words.Through.TheVariants.{List as ThroughList, Info as ThroughInfo, Recode as ThroughRecode}
 
 -- the texts of some words
 abbrev pub texts : List (Bor (List ℕ)) → List (List ℕ)
@@ -59,27 +61,55 @@ list_end bits base None words = Wrong 4
 list_end bits base (Some syntax) words = at_end words 5 (ListCommand bits base syntax)
 
 -- the words behind `list BITS BASE`
-unfoldable pub list_style : Bits → Option ℕ → List (List ℕ) → Command
-list_style bits None words = Wrong 3
-list_style bits (Some base) [] = Wrong 4
-list_style bits (Some base) (style ∷ words) = list_end bits base (syntax_named style) words
+unfoldable pub list_style : Bits → ℕ → List (List ℕ) → Command
+list_style bits base [] = Wrong 4
+list_style bits base (style ∷ words) = list_end bits base (syntax_named style) words
 
--- the words behind `list BITS`
-unfoldable pub list_base : Option Bits → List (List ℕ) → Command
-list_base None words = Wrong 2
-list_base (Some bits) [] = Wrong 3
-list_base (Some bits) (base ∷ words) = list_style bits (address_in bits (number_named base)) words
+-- the words behind `recode BITS1 OLD BITS2` and a word for NEW
+unfoldable pub recode_base : Bits → ℕ → Bits → Option ℕ → List (List ℕ) → Command
+recode_base bits base to None words = Wrong 5
+recode_base bits base to (Some new_base) words = at_end words 6 (Recode bits base to new_base)
 
--- the words behind `list`
-unfoldable pub list_mode : List (List ℕ) → Command
-list_mode [] = Wrong 2
-list_mode (mode ∷ words) = list_base (mode_named mode) words
+-- the words behind `recode BITS1 OLD` and a word for BITS2
+unfoldable pub recode_bits : Bits → ℕ → Option Bits → List (List ℕ) → Command
+recode_bits bits base None words = Wrong 4
+recode_bits bits base (Some to) [] = Wrong 5
+recode_bits bits base (Some to) (new_base ∷ words) = recode_base bits base to (address_in to (number_named new_base)) words
+
+-- the words behind `recode BITS1 OLD`
+unfoldable pub recode_words : Bits → ℕ → List (List ℕ) → Command
+recode_words bits base [] = Wrong 4
+recode_words bits base (mode ∷ words) = recode_bits bits base (mode_named mode) words
+
+-- the words behind BITS BASE
+unfoldable pub code_end : Through → Bits → ℕ → List (List ℕ) → Command
+code_end ThroughList bits base words = list_style bits base words
+code_end ThroughInfo bits base words = at_end words 4 (Info bits base)
+code_end ThroughRecode bits base words = recode_words bits base words
+
+-- the words behind BITS and a word for BASE
+unfoldable pub code_base : Through → Bits → Option ℕ → List (List ℕ) → Command
+code_base through bits None words = Wrong 3
+code_base through bits (Some base) words = code_end through bits base words
+
+-- the words behind a word for BITS
+unfoldable pub code_bits : Through → Option Bits → List (List ℕ) → Command
+code_bits through None words = Wrong 2
+code_bits through (Some bits) [] = Wrong 3
+code_bits through (Some bits) (base ∷ words) = code_base through bits (address_in bits (number_named base)) words
+
+-- the words behind the name of a command that goes through code
+unfoldable pub code_words : Through → List (List ℕ) → Command
+code_words through [] = Wrong 2
+code_words through (mode ∷ words) = code_bits through (mode_named mode) words
 
 -- the command of some words, or the number of the first word, counted from 1, that is not allowed, missing or too many
 unfoldable pub command_of : List (List ℕ) → Command
 command_of [] = Wrong 1
 command_of (name ∷ words) =
-    if same_text name (codes "list") then list_mode words
+    if same_text name (codes "list") then code_words ThroughList words
+    else (if same_text name (codes "info") then code_words ThroughInfo words
+    else (if same_text name (codes "recode") then code_words ThroughRecode words
     else (if same_text name (codes "rows") then at_end words 2 Rows
     else (if same_text name (codes "--help") then at_end words 2 Help
-    else (if same_text name (codes "--version") then at_end words 2 Version else Wrong 1)))
+    else (if same_text name (codes "--version") then at_end words 2 Version else Wrong 1)))))

@@ -2,11 +2,11 @@
 #![tactic(auto)]
 
 mod input;
-mod listing;
 mod output;
 mod program;
 mod rows;
 mod status;
+mod through;
 mod words;
 
 pub use program::run;

@@ -7,18 +7,18 @@ ghost use Rattle.listing_run.specs.StatusLine.{status_line};
 ghost use Rattle.listing_run.specs.Writing.{Says};
 ghost use Rattle.listing_run.specs.Texts as text;
 ghost use Rattle.listing_run.specs.Rows.{rows_text};
-ghost use Rattle.listing_run.specs.Outcome.{RunsAs, ListsAs, WritesAs, Reads, IsWrong, Completes};
+ghost use Rattle.listing_run.specs.Outcome.{RunsAs, GoesThroughAs, WritesAs, Reads, IsWrong, IsBadCode, Completes};
 ghost use Rattle.listing_run.specs.declared.words.Command.TheVariants.{Wrong};
 
 use crate::input::{INPUT_LIMIT, ReadError, read_all};
-use crate::listing::write_listing;
 use crate::output::{put_all, say};
 use crate::rows::write_rows;
 use crate::status::{Status, status_line};
+use crate::through::{End, write_lines};
 use crate::words::{Command, command_of};
 use byte_ports::{Sink, Source};
 use std::alloc::Global;
-use sweep_text::Syntax;
+use sweep_text::Lines;
 use x86_values::Bits;
 
 /// What `--help` writes.
@@ -26,7 +26,7 @@ use x86_values::Bits;
 fn help_text() -> &'static [u8]
     ensures { result.now ≡ text.help_text }
 {
-    b"usage: listing_program list BITS BASE SYNTAX\n       listing_program rows\n       listing_program --help\n       listing_program --version\n\nlist writes one line for each instruction of the machine code on standard input.\nBITS is 16, 32 or 64. BASE is the address of the first byte: 1 to 16 hexadecimal\ndigits below 2 to the power of BITS. SYNTAX is intel, att or masm.\n\nrows writes one line for each row of the instruction table: its number, its\nnotation and its name. It reads nothing.\n"
+    b"usage: listing_program list BITS BASE SYNTAX\n       listing_program info BITS BASE\n       listing_program recode BITS1 OLD BITS2 NEW\n       listing_program rows\n       listing_program --help\n       listing_program --version\n\nlist writes one line for each instruction of the machine code on standard input.\nBITS is 16, 32 or 64. BASE is the address of the first byte: 1 to 16 hexadecimal\ndigits below 2 to the power of BITS. SYNTAX is intel, att or masm.\n\ninfo writes what each instruction does: where control goes behind it; n, r, w or\nrw for each operand that it leaves alone, reads, writes, or reads and writes; m\nand the size of its memory operand in bytes; -> and the target of a near branch;\n@ and the address of an operand relative to the instruction pointer. It ends at\nthe first byte at which no instruction is read.\n\nrecode writes the bytes of each instruction in mode BITS2, where the code begins\nat address NEW: it is read as info reads it, in mode BITS1 at address OLD, and\nkeeps its operands. An instruction that has no such bytes has ! and a number from\n1 to 10, that of the first condition that fails, and behind 2, 3 and 6 the number\nof the operand that fails it.\n\nrows writes one line for each row of the instruction table: its number, its\nnotation and its name. It reads nothing.\n"
 }
 
 /// What `--version` writes.
@@ -47,17 +47,17 @@ fn write_text<K: Sink>(text: &[u8], out: &mut K) -> Status
     }
 }
 
-/// Lists the source as code of a mode.
+/// Goes through the source as code of a mode.
 #[tactic(auto, unfolding(crate::specs::Outcome::input_limit))]
-fn list<S: Source, K: Sink>(
+fn go_through<S: Source, K: Sink>(
     alloc: Global,
     bits: Bits,
     base: u64,
-    syntax: Syntax,
+    lines: Lines,
     source: &mut S,
     out: &mut K,
 ) -> Status
-    ensures answer { ListsAs bits base syntax (S.left source.old) (S.left source.new) (K.held out.old) (K.held out.new)
+    ensures answer { GoesThroughAs bits base lines (S.left source.old) (S.left source.new) (K.held out.old) (K.held out.new)
         (Rose (S.faults source.old) (S.faults source.new)) (Rose (K.faults out.old) (K.faults out.new)) result }
 {
     let input = match read_all(alloc, source) {
@@ -68,8 +68,9 @@ fn list<S: Source, K: Sink>(
             limit: INPUT_LIMIT as u64,
         },
     };
-    match write_listing(bits, base, syntax, &input, out) {
-        Ok(()) => Status::Done,
+    match write_lines(bits, base, lines, &input, out) {
+        Ok(End::Whole) => Status::Done,
+        Ok(End::BadCode { offset, error }) => Status::BadCode { offset, error },
         Err(_) => Status::WriteFault,
     }
 }
@@ -99,7 +100,23 @@ fn answer<S: Source, K: Sink>(
     match command {
         Command::Help => write_text(help_text(), out),
         Command::Version => write_text(version_text(), out),
-        Command::List { bits, base, syntax } => list(alloc, bits, base, syntax, source, out),
+        Command::List { bits, base, syntax } => {
+            go_through(alloc, bits, base, Lines::Listing { syntax }, source, out)
+        }
+        Command::Info { bits, base } => go_through(alloc, bits, base, Lines::Info, source, out),
+        Command::Recode {
+            bits,
+            base,
+            to,
+            new_base,
+        } => go_through(
+            alloc,
+            bits,
+            base,
+            Lines::Recode { to, new_base },
+            source,
+            out,
+        ),
         Command::Rows => rows(out),
         Command::Wrong { word } => Status::Usage { word },
     }
@@ -109,9 +126,11 @@ fn answer<S: Source, K: Sink>(
 ///
 /// `words` are those behind the program's name. `list BITS BASE SYNTAX` reads `source` to its end and writes the listing
 /// to `out`, where `BITS` is `16`, `32` or `64`, `BASE` the address of the first byte in 1 to 16 hexadecimal digits,
-/// below 2 to the power of `BITS`, and `SYNTAX` is `intel`, `att` or `masm`. `rows` writes a line for each row of the
-/// table of instructions, and `--help` and `--version` write a text; they read nothing and take no memory. Each status
-/// other than `Done` has a line that is written to `err`.
+/// below 2 to the power of `BITS`, and `SYNTAX` is `intel`, `att` or `masm`. `info BITS BASE` reads it too, writes what each
+/// instruction does, and ends with `BadCode` at the first offset at which none is read. `recode BITS1 OLD BITS2 NEW` ends there
+/// too, and writes the bytes of each instruction in mode `BITS2`, where the first byte has the address `NEW`. `rows` writes a
+/// line for each row of the table of instructions, and `--help` and `--version` write a text; they read nothing and take no
+/// memory. Each status other than `Done` has a line that is written to `err`.
 pub fn run<S: Source, K: Sink, E: Sink>(
     alloc: Global,
     words: &[&str],
@@ -124,17 +143,19 @@ pub fn run<S: Source, K: Sink, E: Sink>(
         (K.held out.old) (K.held out.new)
         (Rose (S.faults source.old) (S.faults source.new)) (Rose (K.faults out.old) (K.faults out.new)) result }
 
-    // A port's fault is told only where its count rose, and nothing is written before any other refusal.
+    // A port's fault is told only where its count rose, and nothing is written before any other refusal but that of bad code.
     ensures read_fault { result ≡ Status.ReadFault → Rose (S.faults source.old) (S.faults source.new) }
     ensures write_fault { result ≡ Status.WriteFault → Rose (K.faults out.old) (K.faults out.new) }
-    ensures refused { (result ≡ Status.Done → ⊥) → (result ≡ Status.WriteFault → ⊥) → K.held out.new ≡ K.held out.old }
+    ensures refused { (result ≡ Status.Done → ⊥) → (result ≡ Status.WriteFault → ⊥) → (IsBadCode result → ⊥)
+        → K.held out.new ≡ K.held out.old }
 
     // The number of the first word that is not allowed, missing or too many. Nothing is read or written then.
     ensures usage { (word : ℕ) → (result ≡ Status.Usage word) ↔ (command_of (texts words.now) ≡ Wrong word) }
     ensures unread { (Reads (command_of (texts words.now)) → ⊥) → source.new ≡ source.old }
     ensures unwritten { IsWrong (command_of (texts words.now)) → out.new ≡ out.old }
 
-    // Where no port fails the command is done, within the limit of its input; a listing may want memory.
+    // Where no port fails the command is done, within the limit of its input, or ends at the first bad code; what reads may
+    // want memory.
     ensures complete { (Rose (S.faults source.old) (S.faults source.new) → ⊥) → (Rose (K.faults out.old) (K.faults out.new) → ⊥)
         → Completes (command_of (texts words.now)) (S.left source.old) result }
 

@@ -76,6 +76,18 @@ fn plain(words: &[u8]) -> Text
     text
 }
 
+/// The end of the line of an offset at which no instruction is read.
+#[tactic(auto, unfolding(crate::specs::StatusLine::bad_code_end))]
+fn bad_code_end(error: DecodeError) -> &'static [u8]
+    ensures text { result.now ≡ spec.bad_code_end error }
+    ensures short { length result.now ≤ 20 }
+{
+    match error {
+        DecodeError::Invalid => b": invalid\n",
+        DecodeError::TooShort => b": too short\n",
+    }
+}
+
 /// The line of a status on standard error.
 #[tactic(auto, unfolding(crate::specs::StatusLine::status_line))]
 pub(crate) fn status_line(status: &Status) -> Text
@@ -83,6 +95,9 @@ pub(crate) fn status_line(status: &Status) -> Text
 {
     match status {
         Status::Usage { word } => numbered(b"usage: word ", *word, b"\n"),
+        Status::BadCode { offset, error } => {
+            numbered(b"bad code at ", *offset, bad_code_end(*error))
+        }
         Status::ReadFault => plain(b"read fault\n"),
         Status::WriteFault => plain(b"write fault\n"),
         Status::Memory => plain(b"out of memory\n"),

@@ -21,12 +21,33 @@ pub enum Command {
         base: u64,
         syntax: Syntax,
     },
+    /// What each instruction of the input does, the input being code of a mode whose first byte has the address `base`.
+    Info {
+        bits: Bits,
+        base: u64,
+    },
+    /// The bytes of each instruction of the input in the mode `to`, where the first byte has the address `new_base`, the input
+    /// being code of a mode whose first byte has the address `base`.
+    Recode {
+        bits: Bits,
+        base: u64,
+        to: Bits,
+        new_base: u64,
+    },
     /// The lines of the table's rows.
     Rows,
     /// The word of this number, from 1, is not allowed, missing or too many.
     Wrong {
         word: u64,
     },
+}
+
+/// A command that goes through code. The words behind its name begin with `BITS BASE`.
+#[derive(Clone, Copy, PartialEq, Eq, Debug)]
+pub enum Through {
+    List,
+    Info,
+    Recode,
 }
 
 /// Whether a word is this name.
@@ -158,40 +179,114 @@ fn list_end(bits: Bits, base: u64, syntax: Option<Syntax>, words: &[&str]) -> Co
 
 /// The words behind `list BITS BASE`.
 #[tactic(auto, unfolding(crate::specs::Words::list_style))]
-fn list_style(bits: Bits, base: Option<u64>, words: &[&str]) -> Command
+fn list_style(bits: Bits, base: u64, words: &[&str]) -> Command
     ensures { result ≡ spec.list_style bits base (spec.texts words.now) }
 {
-    match base {
-        None => Command::Wrong { word: 3 },
-        Some(base) => match words {
-            [] => Command::Wrong { word: 4 },
-            [style, words @ ..] => list_end(bits, base, syntax_named(style), words),
+    match words {
+        [] => Command::Wrong { word: 4 },
+        [style, words @ ..] => list_end(bits, base, syntax_named(style), words),
+    }
+}
+
+/// The words behind `recode BITS1 OLD BITS2` and a word for `NEW`.
+#[tactic(auto, unfolding(crate::specs::Words::recode_base))]
+fn recode_base(bits: Bits, base: u64, to: Bits, new_base: Option<u64>, words: &[&str]) -> Command
+    ensures { result ≡ spec.recode_base bits base to new_base (spec.texts words.now) }
+{
+    match new_base {
+        None => Command::Wrong { word: 5 },
+        Some(new_base) => {
+            let command = Command::Recode {
+                bits,
+                base,
+                to,
+                new_base,
+            };
+            at_end(words, 6, command)
+        }
+    }
+}
+
+/// The words behind `recode BITS1 OLD` and a word for `BITS2`.
+#[tactic(auto, unfolding(crate::specs::Words::recode_bits))]
+fn recode_bits(bits: Bits, base: u64, to: Option<Bits>, words: &[&str]) -> Command
+    ensures { result ≡ spec.recode_bits bits base to (spec.texts words.now) }
+{
+    match to {
+        None => Command::Wrong { word: 4 },
+        Some(to) => match words {
+            [] => Command::Wrong { word: 5 },
+            [new_base, words @ ..] => {
+                recode_base(
+                    bits,
+                    base,
+                    to,
+                    address_in(to, number_named(new_base)),
+                    words,
+                )
+            }
         },
     }
 }
 
-/// The words behind `list BITS`.
-#[tactic(auto, unfolding(crate::specs::Words::list_base))]
-fn list_base(bits: Option<Bits>, words: &[&str]) -> Command
-    ensures { result ≡ spec.list_base bits (spec.texts words.now) }
+/// The words behind `recode BITS1 OLD`.
+#[tactic(auto, unfolding(crate::specs::Words::recode_words))]
+fn recode_words(bits: Bits, base: u64, words: &[&str]) -> Command
+    ensures { result ≡ spec.recode_words bits base (spec.texts words.now) }
+{
+    match words {
+        [] => Command::Wrong { word: 4 },
+        [mode, words @ ..] => recode_bits(bits, base, mode_named(mode), words),
+    }
+}
+
+/// The words behind `BITS BASE`.
+#[tactic(auto, unfolding(crate::specs::Words::code_end))]
+fn code_end(through: Through, bits: Bits, base: u64, words: &[&str]) -> Command
+    ensures { result ≡ spec.code_end through bits base (spec.texts words.now) }
+{
+    match through {
+        Through::List => list_style(bits, base, words),
+        Through::Info => at_end(words, 4, Command::Info { bits, base }),
+        Through::Recode => recode_words(bits, base, words),
+    }
+}
+
+/// The words behind `BITS` and a word for `BASE`.
+#[tactic(auto, unfolding(crate::specs::Words::code_base))]
+fn code_base(through: Through, bits: Bits, base: Option<u64>, words: &[&str]) -> Command
+    ensures { result ≡ spec.code_base through bits base (spec.texts words.now) }
+{
+    match base {
+        None => Command::Wrong { word: 3 },
+        Some(base) => code_end(through, bits, base, words),
+    }
+}
+
+/// The words behind a word for `BITS`.
+#[tactic(auto, unfolding(crate::specs::Words::code_bits))]
+fn code_bits(through: Through, bits: Option<Bits>, words: &[&str]) -> Command
+    ensures { result ≡ spec.code_bits through bits (spec.texts words.now) }
 {
     match bits {
         None => Command::Wrong { word: 2 },
         Some(bits) => match words {
             [] => Command::Wrong { word: 3 },
-            [base, words @ ..] => list_style(bits, address_in(bits, number_named(base)), words),
+            [base, words @ ..] => {
+                code_base(through, bits, address_in(bits, number_named(base)), words)
+            }
         },
     }
 }
 
-/// The words behind `list`.
-#[tactic(auto, unfolding(crate::specs::Words::list_mode))]
-fn list_mode(words: &[&str]) -> Command
-    ensures { result ≡ spec.list_mode (spec.texts words.now) }
+/// The words behind the name of a command that goes through code.
+#[tactic(auto, unfolding(crate::specs::Words::code_words))]
+fn code_words(through: Through, words: &[&str]) -> Command
+    ensures { result ≡ spec.code_words through (spec.texts words.now) }
 {
     match words {
         [] => Command::Wrong { word: 2 },
-        [mode, words @ ..] => list_base(mode_named(mode), words),
+        [mode, words @ ..] => code_bits(through, mode_named(mode), words),
     }
 }
 
@@ -204,7 +299,11 @@ pub fn command_of(words: &[&str]) -> Command
         [] => Command::Wrong { word: 1 },
         [name, words @ ..] => {
             if is(name, "list") {
-                list_mode(words)
+                code_words(Through::List, words)
+            } else if is(name, "info") {
+                code_words(Through::Info, words)
+            } else if is(name, "recode") {
+                code_words(Through::Recode, words)
             } else if is(name, "rows") {
                 at_end(words, 2, Command::Rows)
             } else if is(name, "--help") {

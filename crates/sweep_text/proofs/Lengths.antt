@@ -20,3 +20,13 @@ line_parts out address column text =
       append_assoc (out ++ address) (32 ∷ []) (column ++ (32 ∷ (text ++ 10 ∷ []))),
       append_assoc out address (32 ∷ (column ++ (32 ∷ (text ++ 10 ∷ [])))),
     )
+
+-- the parts of an instruction's line, appended one behind another, are the line
+pub two_parts : (out address text : List ℕ) →
+    (((out ++ address) ++ 32 ∷ []) ++ text) ++ 10 ∷ [] ≡ out ++ (address ++ (32 ∷ (text ++ 10 ∷ [])))
+two_parts out address text =
+    rw (
+      append_assoc ((out ++ address) ++ 32 ∷ []) text (10 ∷ []),
+      append_assoc (out ++ address) (32 ∷ []) (text ++ 10 ∷ []),
+      append_assoc out address (32 ∷ (text ++ 10 ∷ [])),
+    )

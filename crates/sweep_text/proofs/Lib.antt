@@ -1,2 +1,3 @@
 pub mod WrappedAddress
 pub mod Lengths
+pub mod OneSweep

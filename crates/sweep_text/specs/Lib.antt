@@ -1,2 +1,5 @@
 pub mod Sweep
 pub mod Listing
+pub mod Info
+pub mod Recode
+pub mod Lines

@@ -1,10 +1,16 @@
-//! The sweep over the bytes of code, and the listing's line for each of its items.
+//! The sweep over the bytes of code, and the lines that are written of its items: those of a listing, and those that tell
+//! something of each instruction.
 #![tactic(auto)]
 
+mod info;
+pub mod laws;
 mod line;
+mod lines;
 mod reading;
+mod recode;
 mod syntax;
 
-pub use line::{CHUNK_LEN, Chunk, LINE_LEN, append, append_line};
+pub use line::{CHUNK_LEN, Chunk, LINE_LEN, append};
+pub use lines::{Lines, append_line, stop_of};
 pub use reading::{item_len, read_at};
 pub use syntax::Syntax;

@@ -29,8 +29,8 @@ static SPACES: [u8; 30] = [b' '; 30];
 
 /// Appends bytes.
 #[inline]
-pub fn append(out: &mut Chunk, bytes: &[u8])
-    requires { array_vec_len out.old + length bytes.now ≤ 16384 }
+pub fn append<const N: usize>(out: &mut ArrayVec<u8, N>, bytes: &[u8])
+    requires { array_vec_len out.old + length bytes.now ≤ N }
     ensures items { out.new.items ≡ out.old.items ++ bytes.now }
     ensures len { array_vec_len out.new ≡ array_vec_len out.old + length bytes.now }
 {
@@ -41,10 +41,9 @@ pub fn append(out: &mut Chunk, bytes: &[u8])
 }
 
 /// Appends the hexadecimal digits of some bytes.
-
-fn append_bytes(out: &mut Chunk, bytes: &[u8])
+pub(crate) fn append_bytes<const N: usize>(out: &mut ArrayVec<u8, N>, bytes: &[u8])
     requires few { length bytes.now ≤ 15 }
-    requires room { array_vec_len out.old + 2 * length bytes.now ≤ 16384 }
+    requires room { array_vec_len out.old + 2 * length bytes.now ≤ N }
     ensures items { out.new.items ≡ out.old.items ++ encode_lower bytes.now }
     ensures len { array_vec_len out.new ≡ array_vec_len out.old + 2 * length bytes.now }
 {
@@ -58,7 +57,7 @@ fn append_bytes(out: &mut Chunk, bytes: &[u8])
 
 /// Appends the address of an offset.
 #[tactic(auto, unfolding(crate::specs::Listing::address_text))]
-fn append_address(out: &mut Chunk, bits: Bits, base: u64, offset: usize)
+pub(crate) fn append_address(out: &mut Chunk, bits: Bits, base: u64, offset: usize)
     requires { array_vec_len out.old + 16 ≤ 16384 }
     ensures items { out.new.items ≡ out.old.items ++ spec.address_text bits base offset }
     ensures len { array_vec_len out.new ≤ array_vec_len out.old + 16 }
@@ -119,7 +118,7 @@ fn append_text(
 /// `base` is the address of the first byte of the code, `offset` how far the item stands behind it, `bytes` the bytes
 /// of the item, and `reading` what is read at its front; its text is written in the style `syntax`.
 #[tactic(auto, using(crate::proofs::Lengths::line_parts), unfolding(crate::specs::Listing::item_line))]
-pub fn append_line(
+pub(crate) fn append_item_line(
     out: &mut Chunk,
     bits: Bits,
     base: u64,

@@ -1,0 +1,95 @@
+//! The lines of the commands that go through a sweep, item by item.
+
+ghost use Rattle.std.specs.Prelude.{◌≡◌, ◌<◌, ◌≤◌, ◌+◌, ◌++◌, length, IsTrue, IfOk};
+ghost use Rattle.arrayvec.specs.ArrayVec.{array_vec_len};
+ghost use Rattle.opcode_rows.specs.Allowed.{is_well_formed};
+ghost use Rattle.decoder.specs.Answer.{reading_of};
+ghost use Rattle.sweep_text.specs.Lines as spec;
+
+use crate::info::info_text;
+use crate::line::{Chunk, append, append_address, append_item_line};
+use crate::recode::recode_text;
+use crate::syntax::Syntax;
+use decoder::DecodeError;
+use x86_values::{Bits, Decoded};
+
+/// What a command writes of the items of a sweep, a line each.
+#[derive(Clone, Copy, PartialEq, Eq, Debug)]
+pub enum Lines {
+    /// The address, the bytes and the text of each item, in a style.
+    Listing { syntax: Syntax },
+    /// What each instruction does, as `Next w r m8 @ 0x8`: its flow, the access of each operand (`n` none, `r`, `w`, `rw`),
+    /// the size of its memory operand in bytes, its near target, and the address of its operand relative to the next
+    /// instruction. There is no line for a single byte.
+    Info,
+    /// The bytes of the plain spelling of each instruction in the mode `to`, as far behind the address `new_base` as the
+    /// instruction stands behind the first byte. Where it has none, as `! 3 1`: the number of the first condition that fails,
+    /// and the operand that it names. There is no line for a single byte.
+    Recode { to: Bits, new_base: u64 },
+}
+
+/// The error at which a command ends, where it has no line for what is read.
+#[inline]
+pub fn stop_of(lines: Lines, reading: &Result<Decoded, DecodeError>) -> Option<DecodeError>
+    ensures { result ≡ spec.stop_of lines (reading_of reading.now) }
+{
+    match lines {
+        Lines::Listing { .. } => None,
+        Lines::Info | Lines::Recode { .. } => match reading {
+            Ok(_) => None,
+            Err(error) => Some(*error),
+        },
+    }
+}
+
+/// Appends the line of an instruction with what is told of it.
+#[tactic(auto, using(crate::proofs::Lengths::two_parts), unfolding(crate::specs::Lines::instr_line))]
+fn append_instr_line(out: &mut Chunk, bits: Bits, base: u64, offset: usize, told: &[u8])
+    requires told { length told.now ≤ 160 }
+    requires room { array_vec_len out.old + 209 ≤ 16384 }
+    ensures { out.new.items ≡ out.old.items ++ spec.instr_line bits base offset told.now }
+{
+    append_address(out, bits, base, offset);
+    append(out, b" ");
+    append(out, told);
+    append(out, b"\n");
+}
+
+/// Appends the line of an item, nothing where the command has none.
+///
+/// `base` is the address of the first byte of the code, `offset` how far the item stands behind it, `bytes` the bytes
+/// of the item, and `reading` what is read at its front.
+#[tactic(auto, using(operand_info::proofs::Uses::code_in_table))]
+pub fn append_line(
+    out: &mut Chunk,
+    bits: Bits,
+    base: u64,
+    lines: Lines,
+    offset: usize,
+    bytes: &[u8],
+    reading: &Result<Decoded, DecodeError>,
+)
+    requires some { 0 < length bytes.now }
+    requires few { length bytes.now ≤ 15 }
+    requires well { IfOk reading.now (λ d. IsTrue (is_well_formed d.instr)) }
+    requires room { array_vec_len out.old + 209 ≤ 16384 }
+    ensures items { out.new.items ≡ out.old.items
+        ++ spec.line_of bits base lines (record { offset = offset; bytes = bytes.now; reading = reading_of reading.now }) }
+{
+    match lines {
+        Lines::Listing { syntax } => {
+            append_item_line(out, bits, base, syntax, offset, bytes, reading);
+        }
+        Lines::Info => {
+            if let Ok(d) = reading {
+                append_instr_line(out, bits, base, offset, &info_text(&d.instr));
+            }
+        }
+        Lines::Recode { to, new_base } => {
+            if let Ok(d) = reading {
+                let told = recode_text(to, new_base, offset, &d.instr);
+                append_instr_line(out, bits, base, offset, &told);
+            }
+        }
+    }
+}
