@@ -1,0 +1,4 @@
+use Rattle.row_samples.proofs.reading.answers.Given as goal
+
+abbrev pub ghosts-answers_on : goal.ghosts-answers_on
+ghosts-answers_on a = record { name = a.blank.name; parts = a.blank.parts }
