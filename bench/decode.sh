@@ -1,0 +1,127 @@
+#!/usr/bin/env bash
+# Measures how fast a file of code is read, here and by other libraries: bench/README.md.
+#
+#     bench/decode.sh FILE [BITS]
+set -euo pipefail
+
+if [ $# -lt 1 ] || [ $# -gt 2 ]; then
+    echo "usage: $0 FILE [BITS]" >&2
+    exit 1
+fi
+file=$(realpath "$1")
+bits=${2:-64}
+rounds=${ROUNDS:-2}
+top=$(realpath "$(dirname "$0")/..")
+folder=${BENCH_FOLDER:-${TMPDIR:-/tmp}/feddurzai-bench}
+mkdir -p "$folder/crates" "$folder/peers"
+
+# Prints what the crates on a line of crates.txt stand on, and those crates themselves.
+below() {
+    local name
+    for name in "$@"; do
+        sed -n "s/^$name://p" "$top/crates.txt" | tr ' ' '\n'
+        echo "$name"
+    done | grep . | sort -u | tr '\n' ' '
+}
+
+# A copy of the repository's crates with the program of the measurement beside them. What was proved before, there or here, is kept.
+build() {
+    local needed crate
+    needed=$(below decoder encoder intel_text)
+    for crate in $needed decode_speed; do
+        local from=$top/crates/$crate to=$folder/crates/$crate
+        [ "$crate" = decode_speed ] || [ -d "$from" ] || continue
+        mkdir -p "$to"
+        find "$to" -mindepth 1 -maxdepth 1 ! -name out -exec rm -rf {} +
+        if [ "$crate" = decode_speed ]; then
+            mkdir "$to/src"
+            cp "$top/bench/decode_speed/main.rt.txt" "$to/src/main.rt"
+            continue
+        fi
+        find "$from" -mindepth 1 -maxdepth 1 ! -name out -exec cp -r {} "$to/" \;
+        if [ -f "$from/out/rlib/stamp" ] && ! [ -f "$to/out/rlib/stamp" ]; then
+            mkdir -p "$to/out"
+            cp -r "$from/out/rlib" "$to/out/"
+        fi
+    done
+    cp "$top/HANDLES" "$folder/"
+    {
+        for crate in $needed; do
+            grep "^$crate:" "$top/crates.txt" || true
+        done
+        echo "decode_speed: $needed"
+    } >"$folder/crates.txt"
+    (cd "$folder/crates/decode_speed" && rt run -- read "$bits" 1 </dev/null)
+}
+
+# Builds a peer, or says that its library is not there: NAME SOURCE FLAG..
+peer() {
+    local name=$1 source=$2
+    shift 2
+    rm -f "$folder/peers/$name"
+    cc -O2 -o "$folder/peers/$name" "$top/bench/peers/$source" "$@" 2>"$folder/peers/$name.log" || echo "$name: not built, its library is not there" >&2
+}
+
+# Runs one measurement over a file: NAME FILE PASSES. With COUNTER set, under that command.
+run() {
+    case $1 in
+    feddurzai) ${COUNTER:-} "$folder/crates/decode_speed/out/decode_speed" read "$bits" "$3" <"$2" ;;
+    feddurzai_encode) ${COUNTER:-} "$folder/crates/decode_speed/out/decode_speed" encode "$bits" "$3" <"$2" ;;
+    feddurzai_text) ${COUNTER:-} "$folder/crates/decode_speed/out/decode_speed" print "$bits" "$3" <"$2" ;;
+    *) [ ! -x "$folder/peers/$1" ] || ${COUNTER:-} "$folder/peers/$1" "$2" "$bits" "$3" ;;
+    esac
+}
+
+# Adds MB/s and ns for each item to the lines `NAME: B bytes I items E errors S sum P passes U us`.
+with_rates() {
+    awk '{
+        match($0, /: [0-9]+ bytes/); name = substr($0, 1, RSTART - 1); $0 = substr($0, RSTART + 2)
+        passes = $9 > 0 ? $9 : 1; micros = $11 > 0 ? $11 : 1
+        printf "%-22s %9d bytes %8d items %6d errors %3d passes %7.3f s %8.2f MB/s %8.1f ns/item\n",
+            name, $1, $3, $5, passes, micros / 1e6, $1 * passes / micros, micros * 1000 / (($3 + $5) * passes)
+    }'
+}
+
+# objdump, one pass, with its start and its output, which goes nowhere.
+objdump_line() {
+    local machine items used
+    case $bits in 16) machine=i8086 ;; 32) machine=i386 ;; *) machine=i386:x86-64 ;; esac
+    items=$(objdump -D -b binary -m "$machine" --no-show-raw-insn "$file" | grep -c '^ *[0-9a-f]*:')
+    TIMEFORMAT='%U %S'
+    used=$({ time objdump -D -b binary -m "$machine" --no-show-raw-insn "$file" >/dev/null; } 2>&1)
+    echo "$used" | awk -v size="$(stat -c %s "$file")" -v items="$items" '{ printf "objdump: %d bytes %d items 0 errors 0 sum 1 passes %d us\n", size, items, ($1 + $2) * 1e6 }'
+}
+
+build >&2
+peer capstone_detail capstone.c -lcapstone
+peer capstone_plain capstone.c -DNO_DETAIL -lcapstone
+peer zydis_operands zydis.c -lZydis
+peer zydis_plain zydis.c -DNO_OPERANDS -lZydis
+peer distorm distorm.c -ldistorm3
+peer llvm llvm.c $(llvm-config-14 --cflags --ldflags 2>/dev/null || true) -lLLVM-14
+names="feddurzai feddurzai_text feddurzai_encode zydis_operands zydis_plain distorm capstone_detail capstone_plain llvm"
+
+for round in $(seq "$rounds"); do
+    echo "round $round, processor time"
+    for name in $names; do
+        run "$name" "$file" 0
+    done | with_rates
+    objdump_line | with_rates
+done
+
+echo "each instruction encoded at its own address and read again"
+"$folder/crates/decode_speed/out/decode_speed" check "$bits" 1 <"$file"
+
+if command -v valgrind >/dev/null; then
+    echo "machine instructions of one pass over the first 500,000 bytes, by valgrind (two passes less one)"
+    head -c 500000 "$file" >"$folder/part"
+    for name in $names; do
+        seen=()
+        for passes in 1 2; do
+            COUNTER="valgrind --tool=cachegrind --cache-sim=no --cachegrind-out-file=/dev/null" run "$name" "$folder/part" "$passes" >"$folder/line" 2>"$folder/count" || true
+            seen+=("$(sed -n 's/.*I *refs: *//p' "$folder/count" | tr -d ,)")
+        done
+        [ -z "${seen[1]}" ] || sed 's/^[^:]*: //' "$folder/line" | awk -v name="$name" -v one="${seen[0]}" -v two="${seen[1]}" '{
+            printf "%-22s %12d instructions %8.1f a byte %8.1f an item\n", name, two - one, (two - one) / $1, (two - one) / ($3 + $5) }'
+    done
+fi
