@@ -135,7 +135,7 @@ impl Plan {
     }
 
     /// The blocks.
-    pub(crate) fn spans(&self) -> &[BlockSpan]
+    pub fn spans(&self) -> &[BlockSpan]
         ensures spans { result.now ≡ self.now.spans }
         ensures plan { IsWellFormed self.now }
     {
@@ -146,7 +146,7 @@ impl Plan {
     }
 
     /// The items of all blocks in order.
-    pub(crate) fn items(&self) -> &[Branch]
+    pub fn items(&self) -> &[Branch]
         ensures { result.now ≡ self.now.items }
     {
         &self.items

@@ -18,33 +18,18 @@ ghost use Rattle.encoder.specs.Encoding.{encoding, encoded_by, written, length_o
 use arrayvec::ArrayVec;
 use instruction_parts::sizes::exists_in;
 use modrm_sib::write_tail;
-use opcode_rows::{ROWS, row};
+use opcode_rows::{ROWS, row_of};
 pub use plain_spelling::NoSpelling;
 use plain_spelling::conditions::tail_failure;
 use plain_spelling::parts::plain_parts;
 use prefixes::write_prefixes;
 use row_relation::append_tail;
 use row_types::Row;
-use std::marker::Brand;
-use std::sync::ledger::{Blank, Ledger};
-use step_count::Steps;
-use x86_values::{Bits, Code, Instr, wrap};
+use x86_values::{Bits, Instr, wrap};
 
 pub mod laws;
 #[cfg(test)]
 mod tests;
-
-/// The row of a code below `ROWS`, looked up on a count of its own.
-fn row_on<L: Ledger>(blank: Blank, code: Code) -> Row
-    requires code { code.0 < ROWS }
-    requires name { blank.name ≡ L.name }
-    requires parts { blank.parts ≡ L.parts }
-    requires some { 0 < L.parts }
-    ensures { slice_get table code.0 ≡ Some result }
-{
-    let mut steps = Steps::<L>::open(blank);
-    row(code, &mut steps)
-}
 
 /// The encoding of an instruction of a row that exists in the mode, at an address of the mode.
 fn encode_row(bits: Bits, ip: u64, row: &Row, instr: &Instr) -> Result<ArrayVec<u8, 15>, NoSpelling>
@@ -74,7 +59,7 @@ fn encode_by_row(bits: Bits, ip: u64, instr: &Instr) -> Result<ArrayVec<u8, 15>,
     if instr.code.0 >= ROWS {
         return Err(NoSpelling::Row);
     }
-    let row = row_on::<Brand>(Blank::new(1), instr.code);
+    let row = row_of(instr.code);
     if !exists_in(bits, &row) {
         return Err(NoSpelling::Row);
     }
@@ -112,7 +97,7 @@ pub fn encoded_len(bits: Bits, ip: u64, instr: &Instr) -> Result<u8, NoSpelling>
     if instr.code.0 >= ROWS {
         return Err(NoSpelling::Row);
     }
-    let row = row_on::<Brand>(Blank::new(1), instr.code);
+    let row = row_of(instr.code);
     if !exists_in(bits, &row) {
         return Err(NoSpelling::Row);
     }

@@ -6,7 +6,7 @@ use Rattle.decoder.specs.declared.DecodeError.{DecodeError}
 use Rattle.sweep_text.specs.declared.syntax.Syntax.{Syntax}
 use Rattle.sweep_text.specs.declared.lines.Lines.{Lines}
 use Rattle.sweep_text.specs.declared.lines.Lines.TheVariants.{Listing, Info as InfoLines, Recode as RecodeLines}
-use Rattle.sweep_text.specs.Sweep.{Item, IsSweep}
+use Rattle.opcode_rows.specs.Sweep.{Item, IsSweep}
 use Rattle.sweep_text.specs.Lines.{stop_of, GoesOn}
 use Rattle.sweep_text.proofs.OneSweep.{sweep_begins, sweep_unique}
 use Rattle.listing_run.specs.declared.words.Command.{Command}

@@ -11,7 +11,7 @@ use Rattle.decoder.specs.declared.DecodeError.{DecodeError}
 use Rattle.decoder.specs.declared.DecodeError.TheVariants.{Invalid as InvalidError, TooShort as TooShortError}
 use Rattle.decoder.specs.Answer.{reading_of}
 use Rattle.sweep_text.specs.declared.lines.Lines.{Lines}
-use Rattle.sweep_text.specs.Sweep.{Item, IsItemAt, Sweeps, item_len}
+use Rattle.opcode_rows.specs.Sweep.{Item, IsItemAt, Sweeps, item_len}
 use Rattle.sweep_text.specs.Lines.{GoesOn, line_of, lines_of}
 use Rattle.listing_run.specs.Writing.{HoldsFront, Moves}
 use Rattle.listing_run.specs.Steps.{WritesItem, StopsAtItem}

@@ -5,7 +5,7 @@ use Rattle.x86_values.specs.declared.Bits.{Bits}
 use Rattle.decoder.specs.declared.DecodeError.{DecodeError}
 use Rattle.sweep_text.specs.declared.lines.Lines.{Lines}
 use Rattle.sweep_text.specs.declared.lines.Lines.TheVariants.{Listing, Info as InfoLines, Recode as RecodeLines}
-use Rattle.sweep_text.specs.Sweep.{Item, IsSweep, BeginsSweep}
+use Rattle.opcode_rows.specs.Sweep.{Item, IsSweep, BeginsSweep}
 use Rattle.sweep_text.specs.Lines.{stop_of, GoesOn, lines_of}
 use Rattle.listing_run.specs.declared.words.Command.{Command}
 use Rattle.listing_run.specs.declared.words.Command.TheVariants.{Help, Version, List as ListCommand, Info, Recode, Rows, Wrong}

@@ -3,7 +3,7 @@ use Rattle.std.specs.Prelude.{◌≡◌, ℕ, List, Option, Some}
 use Rattle.x86_values.specs.declared.Bits.{Bits}
 use Rattle.decoder.specs.declared.DecodeError.{DecodeError}
 use Rattle.sweep_text.specs.declared.lines.Lines.{Lines}
-use Rattle.sweep_text.specs.Sweep.{Item, IsItemAt, item_len}
+use Rattle.opcode_rows.specs.Sweep.{Item, IsItemAt, item_len}
 use Rattle.sweep_text.specs.Lines.{stop_of, GoesOn, line_of}
 use Rattle.listing_run.specs.declared.through.Step.{Step}
 use Rattle.listing_run.specs.declared.through.Step.TheVariants.{Line, Stop}

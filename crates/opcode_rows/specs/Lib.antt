@@ -3,3 +3,4 @@ pub mod Kept
 pub mod Words
 pub mod Allowed
 pub mod Reading
+pub mod Sweep

@@ -33,6 +33,15 @@ pub fn row<L: Ledger>(code: Code, steps: &mut Steps<L>) -> Row
     row_at(code)
 }
 
+/// The row of a code below `ROWS`, where no look-up is counted.
+#[inline]
+pub fn row_of(code: Code) -> Row
+    requires { code.0 < ROWS }
+    ensures { slice_get table code.0 ≡ Some result }
+{
+    row_at(code)
+}
+
 /// The name of the row of a code below `ROWS`, in lower case: 1 to 16 letters and digits.
 pub fn name(code: Code) -> &'static str
     requires { code.0 < ROWS }
@@ -70,7 +79,7 @@ fn row_at(code: Code) -> Row
     requires { code.0 < ROWS }
     ensures { slice_get table code.0 ≡ Some result }
 {
-    row_of(spot_at(code.0))
+    spot_row(spot_at(code.0))
 }
 
 fn all_names() -> &'static [&'static str; ROWS as usize]
@@ -89,7 +98,7 @@ fn spot_at(code: u16) -> Spot
 }
 
 #[inline]
-fn row_of(spot: Spot) -> Row
+fn spot_row(spot: Spot) -> Row
     requires { spot.at < length (part_table spot.part) }
     ensures { slice_get (part_table spot.part) spot.at ≡ Some result }
 {

@@ -14,33 +14,18 @@ ghost use Rattle.row_lines.specs.Lines as spec;
 
 use arrayvec::ArrayVec;
 use itoa::Buffer;
-use opcode_rows::{ROWS, name, row};
+use opcode_rows::{ROWS, name, row_of};
 use row_notation::write_notation;
 use row_types::Row;
-use std::marker::Brand;
-use std::sync::ledger::{Blank, Ledger};
-use step_count::Steps;
 use x86_values::Code;
 
-/// The row of a code, on a count of its own.
-fn row_on<L: Ledger>(blank: Blank, code: Code) -> Row
-    requires name { blank.name ≡ L.name }
-    requires parts { blank.parts ≡ L.parts }
-    requires some { 0 < L.parts }
-    requires code { code.0 < ROWS }
-    ensures { slice_get table code.0 ≡ Some result }
-{
-    let mut steps = Steps::<L>::open(blank);
-    row(code, &mut steps)
-}
-
 /// The row of a code, which makes a proper shape.
-fn row_of(code: Code) -> Row
+fn proper_row(code: Code) -> Row
     requires { code.0 < ROWS }
     ensures row { slice_get table code.0 ≡ Some result }
     ensures proper { IsTrue (is_proper (shape result)) }
 {
-    row_on::<Brand>(Blank::new(1), code)
+    row_of(code)
 }
 
 /// Appends a piece of a line.
@@ -60,7 +45,7 @@ pub fn notation_of(code: Code) -> ArrayVec<u8, 64>
     requires { code.0 < ROWS }
     ensures { result.items ≡ spec.notation_at code.0 }
 {
-    write_notation(&row_of(code))
+    write_notation(&proper_row(code))
 }
 
 /// The line of a code below `ROWS`: the code in decimal, the row's notation and its name, with a space between them and a

@@ -7,7 +7,7 @@ use Rattle.row_relation.specs.Spells.{Reading, Read, TooShort, Invalid}
 use Rattle.opcode_rows.specs.Reading.{IsRead}
 use Rattle.decoder.specs.declared.DecodeError.{DecodeError}
 use Rattle.decoder.proofs.OneReading.{only_reading}
-use Rattle.sweep_text.specs.Sweep.{Item, IsReadAt, IsItemAt, Sweeps, IsSweep, item_len}
+use Rattle.opcode_rows.specs.Sweep.{Item, IsReadAt, IsItemAt, Sweeps, IsSweep, item_len}
 
 read_same : (d e : Decoded) → e.instr ≡ d.instr → e.len ≡ d.len → Read d ≡ Read e
 read_same d e instr len =

@@ -7,7 +7,7 @@ use Rattle.row_relation.specs.Spells.{Reading}
 use Rattle.row_relation.specs.Spells.{IsReading}
 use Rattle.opcode_rows.specs.Table.{table}
 use Rattle.opcode_rows.specs.Reading.{IsRead}
-use Rattle.sweep_text.specs.Sweep.{IsReadAt}
+use Rattle.opcode_rows.specs.Sweep.{IsReadAt}
 
 wrapped-wrapped : (bits : Bits) (x : ℕ) → wrapped bits (wrapped bits x) ≡ wrapped bits x
 wrapped-wrapped B16 x = omega arith

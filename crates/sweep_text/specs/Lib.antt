@@ -1,4 +1,3 @@
-pub mod Sweep
 pub mod Listing
 pub mod Info
 pub mod Recode

@@ -8,7 +8,7 @@ use Rattle.decoder.specs.declared.DecodeError.{DecodeError}
 use Rattle.decoder.specs.declared.DecodeError.TheVariants.{Invalid as InvalidError, TooShort as TooShortError}
 use Rattle.sweep_text.specs.declared.lines.Lines.{Lines}
 use Rattle.sweep_text.specs.declared.lines.Lines.TheVariants.{Listing, Info, Recode}
-use Rattle.sweep_text.specs.Sweep.{Item}
+use Rattle.opcode_rows.specs.Sweep.{Item}
 use Rattle.sweep_text.specs.Listing.{address_text, item_line}
 use Rattle.sweep_text.specs.Info.{info_text}
 use Rattle.sweep_text.specs.Recode.{recode_text}

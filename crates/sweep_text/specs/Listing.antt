@@ -16,7 +16,7 @@ use Rattle.att_text.specs.Text.{text as att_text}
 use Rattle.masm_text.specs.Text.{text as masm_text}
 use Rattle.sweep_text.specs.declared.syntax.Syntax.{Syntax}
 use Rattle.sweep_text.specs.declared.syntax.Syntax.TheVariants.{Intel, Att, Masm}
-use Rattle.sweep_text.specs.Sweep.{Item}
+use Rattle.opcode_rows.specs.Sweep.{Item}
 
 -- the bytes of an address, the highest first: two, four or eight by the mode
 abbrev pub address_bytes : Bits → ℕ → List ℕ

@@ -3,7 +3,7 @@
 ghost use Rattle.std.specs.Prelude.{◌≡◌, ℕ, List};
 ghost use Rattle.x86_values.specs.declared.Bits.{Bits};
 ghost use Rattle.row_relation.specs.Spells.{Reading};
-ghost use Rattle.sweep_text.specs.Sweep.{Item, IsReadAt, IsSweep};
+ghost use Rattle.opcode_rows.specs.Sweep.{Item, IsReadAt, IsSweep};
 
 /// Some bytes at an offset are read in one way alone.
 pub fn readings_are_unique()

@@ -5,7 +5,7 @@ ghost use Rattle.arrayvec.specs.ArrayVec.{array_vec_len};
 ghost use Rattle.hex.specs.Hex.{encode_lower};
 ghost use Rattle.opcode_rows.specs.Allowed.{is_well_formed};
 ghost use Rattle.decoder.specs.Answer.{reading_of};
-ghost use Rattle.sweep_text.specs.Sweep.{item_len};
+ghost use Rattle.opcode_rows.specs.Sweep.{item_len};
 ghost use Rattle.sweep_text.specs.Listing as spec;
 
 use crate::syntax::{Syntax, instr_text, single_byte_text};

@@ -3,7 +3,7 @@
 ghost use Rattle.std.specs.Prelude.{◌≡◌, ◌<◌, ◌≤◌, length, IsTrue, IfOk};
 ghost use Rattle.opcode_rows.specs.Allowed.{is_well_formed};
 ghost use Rattle.decoder.specs.Answer.{reading_of};
-ghost use Rattle.sweep_text.specs.Sweep as spec;
+ghost use Rattle.opcode_rows.specs.Sweep as spec;
 
 use decoder::{DecodeError, decode};
 use x86_values::{Bits, Decoded, wrap};

@@ -1,38 +1,15 @@
 //! The row and the name that a well-formed instruction is printed by, with what keeps its text short.
 #![tactic(auto)]
 
-ghost use Rattle.std.specs.Prelude.{◌≡◌, ◌<◌, ◌≤◌, length, slice_get, Some, IsTrue};
+ghost use Rattle.std.specs.Prelude.{◌≡◌, ◌≤◌, length, slice_get, Some, IsTrue};
 ghost use Rattle.row_fit.specs.Sound.{sound};
 ghost use Rattle.opcode_rows.specs.Table.{table, name_of};
 ghost use Rattle.opcode_rows.specs.Allowed.{is_well_formed};
 ghost use Rattle.text_parts.specs.Layout.{has_one_long};
 
-use opcode_rows::{ROWS, name, row};
+use opcode_rows::{name, row_of};
 use row_types::Row;
-use std::marker::Brand;
-use std::sync::ledger::{Blank, Ledger};
-use step_count::Steps;
-use x86_values::{Code, Instr};
-
-/// The row of a code, on a count of steps of its own.
-fn row_on<L: Ledger>(blank: Blank, code: Code) -> Row
-    requires name { blank.name ≡ L.name }
-    requires parts { blank.parts ≡ L.parts }
-    requires some { 0 < L.parts }
-    requires code { code.0 < ROWS }
-    ensures { slice_get table code.0 ≡ Some result }
-{
-    let mut steps = Steps::<L>::open(blank);
-    row(code, &mut steps)
-}
-
-/// The row of a code below `ROWS`.
-fn row_of(code: Code) -> Row
-    requires { code.0 < ROWS }
-    ensures { slice_get table code.0 ≡ Some result }
-{
-    row_on::<Brand>(Blank::new(1), code)
-}
+use x86_values::Instr;
 
 /// The row of a well-formed instruction: it is sound, and at most one operand of the instruction
 /// is memory or a far pointer.

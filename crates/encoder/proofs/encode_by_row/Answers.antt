@@ -19,22 +19,22 @@ returns-then-instr-ge-ROWS c =
 pub returns-then-not-exists_in : goal.returns-then-not-exists_in
 returns-then-not-exists_in c =
     let i = c.args.instr.now in
-    let row = c.row_on-row.result in
+    let row = c.row_of-row.result in
     let ip = wrapped c.args.bits c.args.ip in
     ap (λ why. encoded_by why (bytes_of row (plain_spelling c.args.bits ip row i))) (sym (row_fails c.args.bits ip row i (sym c.exists_in.ensures ∙ c.if-not-exists_in.true)))
-    ∙ by_row c.args.bits c.args.ip row i c.row_on-row.ensures
+    ∙ by_row c.args.bits c.args.ip row i c.row_of-row.ensures
 
 pub encode_row-requires-clause-sound : goal.encode_row-requires-clause-sound
-encode_row-requires-clause-sound c = sound-row c.args.instr.now.code.0 c.row_on-row.result c.row_on-row.ensures
+encode_row-requires-clause-sound c = sound-row c.args.instr.now.code.0 c.row_of-row.result c.row_of-row.ensures
 
 pub encode_row-requires-clause-writable : goal.encode_row-requires-clause-writable
-encode_row-requires-clause-writable c = writable-row c.args.instr.now.code.0 c.row_on-row.result c.row_on-row.ensures
+encode_row-requires-clause-writable c = writable-row c.args.instr.now.code.0 c.row_of-row.result c.row_of-row.ensures
 
 pub returns : goal.returns
 returns c =
     let i = c.args.instr.now in
-    let row = c.row_on-row.result in
+    let row = c.row_of-row.result in
     let at = c.wrap.ensures ∙ ap (λ (x : ℕ). wrapped c.args.bits x) c.from.ensures in
     c.encode_row.ensures
     ∙ ap (λ (ip : ℕ). encoded_by (failure c.args.bits ip row i) (bytes_of row (plain_spelling c.args.bits ip row i))) at
-    ∙ by_row c.args.bits c.args.ip row i c.row_on-row.ensures
+    ∙ by_row c.args.bits c.args.ip row i c.row_of-row.ensures

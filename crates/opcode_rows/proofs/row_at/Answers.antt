@@ -4,12 +4,12 @@ use Rattle.opcode_rows.specs.Table.{part_table}
 use Rattle.opcode_rows.proofs.JoinFacts.{row-there}
 use Rattle.opcode_rows.proofs.row_at.Goals as goal
 
-pub row_of-requires : goal.row_of-requires
-row_of-requires c =
+pub spot_row-requires : goal.spot_row-requires
+spot_row-requires c =
     let t = row-there c.args.code.0 c.spot_at.result c.spot_at.ensures in
     slice_get_within (part_table c.spot_at.result.part) c.spot_at.result.at t.0 t.1
 
 pub returns : goal.returns
 returns c =
     let t = row-there c.args.code.0 c.spot_at.result c.spot_at.ensures in
-    t.2 ∙ sym t.1 ∙ c.row_of.ensures
+    t.2 ∙ sym t.1 ∙ c.spot_row.ensures

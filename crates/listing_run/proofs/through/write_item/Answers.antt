@@ -1,6 +1,6 @@
 use Rattle.std.proofs.Common.{ℕ, length, take, refl, sym, ap}
 use Rattle.decoder.specs.Answer.{reading_of}
-use Rattle.sweep_text.specs.Sweep.{item_len}
+use Rattle.opcode_rows.specs.Sweep.{item_len}
 use Rattle.listing_run.proofs.Progress.{moves-line, item_within}
 use Rattle.listing_run.proofs.through.write_item.Goals as goal
 

@@ -7,7 +7,7 @@ use Rattle.rows_sse.specs.Table.{table as sse_rows}
 use Rattle.rows_sse.proofs.TableFacts.{length-table as length-sse}
 use Rattle.rows_vex.specs.Table.{table as vex_rows}
 use Rattle.rows_vex.proofs.TableFacts.{length-table as length-vex}
-use Rattle.opcode_rows.proofs.row_of.Goals as goal
+use Rattle.opcode_rows.proofs.spot_row.Goals as goal
 
 pub row_at-requires : goal.row_at-requires
 row_at-requires c =

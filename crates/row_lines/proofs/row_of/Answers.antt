@@ -1,5 +1,0 @@
-use Rattle.row_lines.proofs.Shapes.{proper-row}
-use Rattle.row_lines.proofs.row_of.Goals as goal
-
-pub returns-clause-proper : goal.returns-clause-proper
-returns-clause-proper c = proper-row c.args.code.0 c.row_on.result c.row_on.ensures

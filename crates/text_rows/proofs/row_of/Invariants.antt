@@ -1,4 +1,0 @@
-use Rattle.text_rows.proofs.row_of.Given as goal
-
-abbrev pub ghosts-row_on : goal.ghosts-row_on
-ghosts-row_on a = record { name = a.blank.name; parts = a.blank.parts }
