@@ -9,13 +9,14 @@ use Rattle.sweep_text.specs.declared.lines.Lines.TheVariants.{Listing, Info as I
 use Rattle.opcode_rows.specs.Sweep.{Item, IsSweep}
 use Rattle.sweep_text.specs.Lines.{stop_of, GoesOn}
 use Rattle.sweep_text.proofs.OneSweep.{sweep_begins, sweep_unique}
-use Rattle.listing_run.specs.declared.words.Command.{Command}
-use Rattle.listing_run.specs.declared.words.Command.TheVariants.{Help, Version, List as ListCommand, Info, Recode, Rows, Wrong}
-use Rattle.listing_run.specs.declared.status.Status.{Status}
-use Rattle.listing_run.specs.declared.status.Status.TheVariants.{Done, BadCode, ReadFault, WriteFault, Memory, TooLarge}
+use Rattle.command_words.specs.declared.commands.Command.{Command}
+use Rattle.command_words.specs.declared.commands.Command.TheVariants.{Help, Version, List as ListCommand, Info, Recode, Rows, Wrong}
+use Rattle.run_parts.specs.declared.status.Status.{Status}
+use Rattle.run_parts.specs.declared.status.Status.TheVariants.{Done, BadCode, ReadFault, WriteFault, Memory, TooLarge}
 use Rattle.listing_run.specs.Texts.{help_text, version_text}
 use Rattle.listing_run.specs.Rows.{rows_text}
-use Rattle.listing_run.specs.Outcome.{input_limit, ReadsAll, ReadsTooMany, WritesLines, WritesLinesBefore, GoesThroughAs, WritesAs, RunsAs, end_of, CompletesThrough, Completes}
+use Rattle.run_parts.specs.Reads.{code_limit, ReadsAll, ReadsTooMany}
+use Rattle.listing_run.specs.Outcome.{WritesLines, WritesLinesBefore, GoesThroughAs, WritesAs, RunsAs, end_of, CompletesThrough, Completes}
 
 -- ---- the end of a sweep
 
@@ -51,13 +52,13 @@ end-last lines (item ∷ items) last more error all stops =
 -- ---- the bytes that were read
 
 -- bytes that are told and were read to their end
-all-bytes : (bytes : List ℕ) (left' : Option (List ℕ)) (read : List ℕ) → ReadsAll (Some bytes) left' read → bytes ≡ read
+all-bytes : (bytes : List ℕ) (left' : Option (List ℕ)) (read : List ℕ) → ReadsAll code_limit (Some bytes) left' read → bytes ≡ read
 all-bytes bytes None read h = let e = h.read in cc
 all-bytes bytes (Some rest) read h =
     let e : Some bytes ≡ Some (read ++ rest) = h.read in
     let same : bytes ≡ read ++ rest = cc in same ∙ (ap (λ (xs : List ℕ). read ++ xs) h.ended ∙ append-nil read)
 
-too_many : (bytes : List ℕ) (left' : Option (List ℕ)) (read : List ℕ) → ReadsTooMany (Some bytes) left' read → input_limit < length bytes
+too_many : (bytes : List ℕ) (left' : Option (List ℕ)) (read : List ℕ) → ReadsTooMany code_limit (Some bytes) left' read → code_limit < length bytes
 too_many bytes None read h = let e = h.read in cc
 too_many bytes (Some rest) read h =
     let e : Some bytes ≡ Some (read ++ rest) = h.read in

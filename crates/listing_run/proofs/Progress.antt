@@ -13,10 +13,10 @@ use Rattle.decoder.specs.Answer.{reading_of}
 use Rattle.sweep_text.specs.declared.lines.Lines.{Lines}
 use Rattle.opcode_rows.specs.Sweep.{Item, IsItemAt, Sweeps, item_len}
 use Rattle.sweep_text.specs.Lines.{GoesOn, line_of, lines_of}
-use Rattle.listing_run.specs.Writing.{HoldsFront, Moves}
+use Rattle.run_parts.specs.Writing.{HoldsFront, Moves}
 use Rattle.listing_run.specs.Steps.{WritesItem, StopsAtItem}
 use Rattle.listing_run.specs.Outcome.{WritesLines, WritesLinesFront, WritesLinesBefore}
-use Rattle.listing_run.proofs.Held.{Held, held-start, held-step, held-end, held-failed}
+use Rattle.run_parts.proofs.Held.{Held, held-start, held-step, held-end, held-failed}
 
 -- one more item behind the first items of a sweep
 sweeps-append : (bits : Bits) (base offset at : ℕ) (bytes : List ℕ) (items : List Item) (rest : List ℕ) (item : Item) →

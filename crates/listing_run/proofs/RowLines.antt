@@ -6,9 +6,9 @@ use Rattle.std.proofs.lemmas.List.Folds.{flat_map-map}
 use Rattle.std.proofs.lemmas.List.FromFn.{map-range_with_len_more}
 use Rattle.row_lines.specs.Lines.{row_line}
 use Rattle.byte_ports.specs.Ports.{with_back}
-use Rattle.listing_run.specs.Writing.{HoldsFront, Moves}
+use Rattle.run_parts.specs.Writing.{HoldsFront, Moves}
 use Rattle.listing_run.specs.Rows.{lines_below}
-use Rattle.listing_run.proofs.Held.{Held, held-start, held-step, held-end, held-failed, front-longer}
+use Rattle.run_parts.proofs.Held.{Held, held-start, held-step, held-end, held-failed, front-longer}
 
 lines-none : lines_below 0 ≡ []
 unfolding lines_below

@@ -1,38 +1,20 @@
 -- What a run leaves, by its command and its status.
-use Rattle.std.specs.Prelude.{◌≡◌, ◌⊎◌, ℕ, ◌+◌, ◌<◌, ◌≤◌, List, [], ◌∷◌, ◌++◌, All, length, Option, Some, None, IfSome}
-use Rattle.byte_ports.specs.Ports.{with_front, with_back}
+use Rattle.std.specs.Prelude.{◌≡◌, ◌⊎◌, ℕ, ◌<◌, ◌≤◌, List, [], ◌∷◌, ◌++◌, All, length, Option, Some, None}
+use Rattle.byte_ports.specs.Ports.{with_back}
 use Rattle.x86_values.specs.declared.Bits.{Bits}
 use Rattle.decoder.specs.declared.DecodeError.{DecodeError}
 use Rattle.sweep_text.specs.declared.lines.Lines.{Lines}
 use Rattle.sweep_text.specs.declared.lines.Lines.TheVariants.{Listing, Info as InfoLines, Recode as RecodeLines}
 use Rattle.opcode_rows.specs.Sweep.{Item, IsSweep, BeginsSweep}
 use Rattle.sweep_text.specs.Lines.{stop_of, GoesOn, lines_of}
-use Rattle.listing_run.specs.declared.words.Command.{Command}
-use Rattle.listing_run.specs.declared.words.Command.TheVariants.{Help, Version, List as ListCommand, Info, Recode, Rows, Wrong}
-use Rattle.listing_run.specs.declared.status.Status.{Status}
-use Rattle.listing_run.specs.declared.status.Status.TheVariants.{Done, Usage, BadCode, ReadFault, WriteFault, Memory, TooLarge}
-use Rattle.listing_run.specs.Writing.{HoldsFront}
+use Rattle.command_words.specs.declared.commands.Command.{Command}
+use Rattle.command_words.specs.declared.commands.Command.TheVariants.{Help, Version, List as ListCommand, Info, Recode, Rows, Wrong}
+use Rattle.run_parts.specs.declared.status.Status.{Status}
+use Rattle.run_parts.specs.declared.status.Status.TheVariants.{Done, Usage, BadCode, ReadFault, WriteFault, Memory, TooLarge}
+use Rattle.run_parts.specs.Reads.{code_limit, ReadsAll, ReadsTooMany}
+use Rattle.run_parts.specs.Writing.{HoldsFront}
 use Rattle.listing_run.specs.Texts.{help_text, version_text}
 use Rattle.listing_run.specs.Rows.{rows_text}
-
--- how many bytes a command that goes through code reads at most
-unfoldable pub input_limit : ℕ
-input_limit = 16777216
-
--- no byte is left, where the bytes are told
-abbrev pub IsAtEnd : Option (List ℕ) → Type 0
-IsAtEnd left = IfSome left (λ bytes. bytes ≡ [])
-
--- these bytes were read, within the limit, and they are all
-pub record ReadsAll (left left' : Option (List ℕ)) (bytes : List ℕ) : Type 0 where
-  pub read : left ≡ with_front bytes left'
-  pub ended : IsAtEnd left'
-  pub within : length bytes ≤ input_limit
-
--- one byte more was read than the limit
-pub record ReadsTooMany (left left' : Option (List ℕ)) (bytes : List ℕ) : Type 0 where
-  pub read : left ≡ with_front bytes left'
-  pub over : length bytes ≡ input_limit + 1
 
 -- the lines of all items of the sweep of some bytes were written, and the command goes on behind each of them
 pub record WritesLines (bits : Bits) (base : ℕ) (lines : Lines) (bytes : List ℕ) (held held' : Option (List ℕ)) : Type 0 where
@@ -61,15 +43,15 @@ pub record WritesLinesBefore (bits : Bits) (base : ℕ) (lines : Lines) (bytes :
 -- a command that goes through code, by its status: when each may come, and what was written then
 abbrev pub GoesThroughAs : Bits → ℕ → Lines → Option (List ℕ) → Option (List ℕ) → Option (List ℕ) → Option (List ℕ) → Type 0 → Type 0 → Status → Type 0
 GoesThroughAs bits base lines left left' held held' source_rose out_rose Done =
-    (bytes : List ℕ) × (ReadsAll left left' bytes × WritesLines bits base lines bytes held held')
+    (bytes : List ℕ) × (ReadsAll code_limit left left' bytes × WritesLines bits base lines bytes held held')
 GoesThroughAs bits base lines left left' held held' source_rose out_rose (BadCode offset error) =
-    (bytes : List ℕ) × (ReadsAll left left' bytes × WritesLinesBefore bits base lines bytes offset error held held')
+    (bytes : List ℕ) × (ReadsAll code_limit left left' bytes × WritesLinesBefore bits base lines bytes offset error held held')
 GoesThroughAs bits base lines left left' held held' source_rose out_rose ReadFault = source_rose × (held' ≡ held)
 GoesThroughAs bits base lines left left' held held' source_rose out_rose WriteFault =
-    out_rose × ((bytes : List ℕ) × (ReadsAll left left' bytes × WritesLinesFront bits base lines bytes held held'))
+    out_rose × ((bytes : List ℕ) × (ReadsAll code_limit left left' bytes × WritesLinesFront bits base lines bytes held held'))
 GoesThroughAs bits base lines left left' held held' source_rose out_rose Memory = held' ≡ held
 GoesThroughAs bits base lines left left' held held' source_rose out_rose (TooLarge limit) =
-    (limit ≡ input_limit) × (((bytes : List ℕ) × ReadsTooMany left left' bytes) × (held' ≡ held))
+    (limit ≡ code_limit) × (((bytes : List ℕ) × ReadsTooMany code_limit left left' bytes) × (held' ≡ held))
 GoesThroughAs bits base lines left left' held held' source_rose out_rose _ = ⊥
 
 -- a command that reads nothing and writes a text, by its status
@@ -116,18 +98,18 @@ end_of lines (item ∷ items) = elim (stop_of lines item.reading) [ None ↦ end
 -- such a command that meets no fault ends as the sweep of its bytes says; it may want memory besides, or have too many bytes
 abbrev pub CompletesThrough : Bits → ℕ → Lines → Option (List ℕ) → Status → Type 0
 CompletesThrough bits base lines (Some bytes) status =
-    (length bytes ≤ input_limit → (items : List Item) → IsSweep bits base bytes items → (status ≡ end_of lines items) ⊎ (status ≡ Memory))
-    × (input_limit < length bytes → (status ≡ TooLarge input_limit) ⊎ (status ≡ Memory))
+    (length bytes ≤ code_limit → (items : List Item) → IsSweep bits base bytes items → (status ≡ end_of lines items) ⊎ (status ≡ Memory))
+    × (code_limit < length bytes → (status ≡ TooLarge code_limit) ⊎ (status ≡ Memory))
 CompletesThrough bits base lines None status =
-    (status ≡ Done) ⊎ ((status ≡ Memory) ⊎ ((status ≡ TooLarge input_limit) ⊎ IsBadCode status))
+    (status ≡ Done) ⊎ ((status ≡ Memory) ⊎ ((status ≡ TooLarge code_limit) ⊎ IsBadCode status))
 
 -- The command of a run that meets no fault is done. A listing is done whatever the bytes are, but it may want memory, or have too many bytes.
 abbrev pub Completes : Command → Option (List ℕ) → Status → Type 0
 Completes (Wrong word) left status = status ≡ Usage word
 Completes (ListCommand bits base syntax) (Some bytes) status =
-    (length bytes ≤ input_limit → (status ≡ Done) ⊎ (status ≡ Memory))
-    × (input_limit < length bytes → (status ≡ TooLarge input_limit) ⊎ (status ≡ Memory))
-Completes (ListCommand bits base syntax) None status = (status ≡ Done) ⊎ ((status ≡ Memory) ⊎ (status ≡ TooLarge input_limit))
+    (length bytes ≤ code_limit → (status ≡ Done) ⊎ (status ≡ Memory))
+    × (code_limit < length bytes → (status ≡ TooLarge code_limit) ⊎ (status ≡ Memory))
+Completes (ListCommand bits base syntax) None status = (status ≡ Done) ⊎ ((status ≡ Memory) ⊎ (status ≡ TooLarge code_limit))
 Completes (Info bits base) left status = CompletesThrough bits base InfoLines left status
 Completes (Recode bits base to new_base) left status = CompletesThrough bits base (RecodeLines to new_base) left status
 Completes _ left status = status ≡ Done

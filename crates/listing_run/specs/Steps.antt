@@ -9,7 +9,7 @@ use Rattle.listing_run.specs.declared.through.Step.{Step}
 use Rattle.listing_run.specs.declared.through.Step.TheVariants.{Line, Stop}
 use Rattle.listing_run.specs.declared.through.End.{End}
 use Rattle.listing_run.specs.declared.through.End.TheVariants.{Whole, BadCode}
-use Rattle.listing_run.specs.Writing.{Moves}
+use Rattle.run_parts.specs.Writing.{Moves}
 use Rattle.listing_run.specs.Outcome.{WritesLines, WritesLinesBefore}
 
 -- the line of the item at the front of some bytes went to the sink or is held back, behind what was held back before

@@ -2,21 +2,19 @@
 
 ghost use Rattle.std.specs.Prelude.{◌≡◌, ◌↔◌, ◌≤◌, ℕ, List, Option};
 ghost use Rattle.byte_ports.specs.Ports.{Rose};
-ghost use Rattle.listing_run.specs.Words.{command_of, texts};
-ghost use Rattle.listing_run.specs.StatusLine.{status_line};
-ghost use Rattle.listing_run.specs.Writing.{Says};
+ghost use Rattle.command_words.specs.Words.{command_of, texts};
+ghost use Rattle.run_parts.specs.StatusLine.{status_line};
+ghost use Rattle.run_parts.specs.Writing.{Says};
 ghost use Rattle.listing_run.specs.Texts as text;
 ghost use Rattle.listing_run.specs.Rows.{rows_text};
 ghost use Rattle.listing_run.specs.Outcome.{RunsAs, GoesThroughAs, WritesAs, Reads, IsWrong, IsBadCode, Completes};
-ghost use Rattle.listing_run.specs.declared.words.Command.TheVariants.{Wrong};
+ghost use Rattle.command_words.specs.declared.commands.Command.TheVariants.{Wrong};
 
-use crate::input::{INPUT_LIMIT, ReadError, read_all};
-use crate::output::{put_all, say};
 use crate::rows::write_rows;
-use crate::status::{Status, status_line};
 use crate::through::{End, write_lines};
-use crate::words::{Command, command_of};
 use byte_ports::{Sink, Source};
+use command_words::{Command, command_of};
+use run_parts::{CODE_LIMIT, ReadError, Status, put_all, read_all, say, status_line};
 use std::alloc::Global;
 use sweep_text::Lines;
 use x86_values::Bits;
@@ -48,7 +46,7 @@ fn write_text<K: Sink>(text: &[u8], out: &mut K) -> Status
 }
 
 /// Goes through the source as code of a mode.
-#[tactic(auto, unfolding(crate::specs::Outcome::input_limit))]
+#[tactic(auto, unfolding(run_parts::specs::Reads::code_limit))]
 fn go_through<S: Source, K: Sink>(
     alloc: Global,
     bits: Bits,
@@ -60,12 +58,12 @@ fn go_through<S: Source, K: Sink>(
     ensures answer { GoesThroughAs bits base lines (S.left source.old) (S.left source.new) (K.held out.old) (K.held out.new)
         (Rose (S.faults source.old) (S.faults source.new)) (Rose (K.faults out.old) (K.faults out.new)) result }
 {
-    let input = match read_all(alloc, source) {
+    let input = match read_all(alloc, source, CODE_LIMIT) {
         Ok(input) => input,
         Err(ReadError::Fault) => return Status::ReadFault,
         Err(ReadError::Memory) => return Status::Memory,
         Err(ReadError::TooLarge) => return Status::TooLarge {
-            limit: INPUT_LIMIT as u64,
+            limit: u64::from(CODE_LIMIT),
         },
     };
     match write_lines(bits, base, lines, &input, out) {

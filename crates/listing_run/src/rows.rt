@@ -3,13 +3,13 @@
 ghost use Rattle.std.specs.Prelude.{◌≡◌, ◌<◌, ◌≤◌, ◌+◌, OnOk, OnErr};
 ghost use Rattle.byte_ports.specs.Ports.{HasCause, with_back};
 ghost use Rattle.row_lines.specs.Lines.{row_line as line_of};
-ghost use Rattle.listing_run.specs.Writing.{HoldsFront, Moves};
+ghost use Rattle.run_parts.specs.Writing.{HoldsFront, Moves};
 ghost use Rattle.listing_run.specs.Rows.{rows_text};
 
-use crate::output::{make_room, put_all};
 use byte_ports::{Failed, Sink};
 use opcode_rows::ROWS;
 use row_lines::row_line;
+use run_parts::{make_room, put_all};
 use sweep_text::{Chunk, append};
 use x86_values::Code;
 

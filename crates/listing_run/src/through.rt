@@ -2,13 +2,13 @@
 
 ghost use Rattle.std.specs.Prelude.{◌<◌, ◌≤◌, length, IfOk, OnOk, OnErr};
 ghost use Rattle.byte_ports.specs.Ports.{HasCause};
-ghost use Rattle.listing_run.specs.Writing.{HoldsFront};
+ghost use Rattle.run_parts.specs.Writing.{HoldsFront};
 ghost use Rattle.listing_run.specs.Outcome.{WritesLinesFront};
 ghost use Rattle.listing_run.specs.Steps.{TakesStep, EndsAs};
 
-use crate::output::{make_room, put_all};
 use byte_ports::{Failed, Sink};
 use decoder::DecodeError;
+use run_parts::{make_room, put_all};
 use sweep_text::{Chunk, Lines, append_line, item_len, read_at, stop_of};
 use x86_values::Bits;
 

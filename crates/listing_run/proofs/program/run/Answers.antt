@@ -1,5 +1,5 @@
 use Rattle.listing_run.proofs.Completing.{completes}
-use Rattle.listing_run.specs.Words.{command_of, texts}
+use Rattle.command_words.specs.Words.{command_of, texts}
 use Rattle.listing_run.proofs.program.run.Goals as goal
 
 pub returns-clause-complete : goal.returns-clause-complete

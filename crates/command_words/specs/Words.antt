@@ -1,0 +1,115 @@
+-- What the words of a command line ask for.
+use Rattle.std.specs.Prelude.{ℕ, ◌+◌, ◌*◌, ◌^◌, Bool, ◌&&◌, nat_eq, nat_lt, nat_le, if◌then◌else◌, List, [], ◌∷◌, length, codes, Option, Some, None}
+use Rattle.std.specs.Borrow.{Bor}
+use Rattle.std.specs.Cmp.Lexicographic.{pointwise}
+use Rattle.hex.specs.Hex.{hex_digit_value}
+use Rattle.x86_values.specs.declared.Bits.{Bits}
+use Rattle.x86_values.specs.declared.Bits.TheVariants.{B16, B32, B64}
+use Rattle.x86_values.specs.Wrapping.{width}
+use Rattle.sweep_text.specs.declared.syntax.Syntax.{Syntax}
+use Rattle.sweep_text.specs.declared.syntax.Syntax.TheVariants.{Intel, Att, Masm}
+use Rattle.command_words.specs.declared.commands.Command.{Command}
+use Rattle.command_words.specs.declared.commands.Command.TheVariants.{Help, Version, List as ListCommand, Info, Recode, Rows, Wrong}
+use Rattle.command_words.specs.declared.commands.Through.{Through}
+use Rattle.command_words.specs.declared.commands.Through.TheVariants.{List as ThroughList, Info as ThroughInfo, Recode as ThroughRecode}
+
+-- the texts of some words
+abbrev pub texts : List (Bor (List ℕ)) → List (List ℕ)
+texts [] = []
+texts (word ∷ words) = word.now ∷ texts words
+
+-- two texts have the same bytes
+abbrev pub same_text : List ℕ → List ℕ → Bool
+same_text word name = pointwise nat_eq word name
+
+-- the mode that a word names
+unfoldable pub mode_named : List ℕ → Option Bits
+mode_named word =
+    if same_text word (codes "16") then Some B16
+    else (if same_text word (codes "32") then Some B32
+    else (if same_text word (codes "64") then Some B64 else None))
+
+-- the style that a word names
+unfoldable pub syntax_named : List ℕ → Option Syntax
+syntax_named word =
+    if same_text word (codes "intel") then Some Intel
+    else (if same_text word (codes "att") then Some Att
+    else (if same_text word (codes "masm") then Some Masm else None))
+
+-- a number and the hexadecimal digits behind it, where all are digits of either case
+unfoldable pub hex_from : ℕ → List ℕ → Option ℕ
+hex_from value [] = Some value
+hex_from value (c ∷ digits) = elim (hex_digit_value c) [ None ↦ None | Some d ↦ hex_from (16 * value + d) digits ]
+
+-- the number that a word of 1 to 16 hexadecimal digits names
+unfoldable pub number_named : List ℕ → Option ℕ
+number_named word = if nat_lt 0 (length word) && nat_le (length word) 16 then hex_from 0 word else None
+
+-- the number, where it is an address of the mode
+unfoldable pub address_in : Bits → Option ℕ → Option ℕ
+address_in bits None = None
+address_in bits (Some n) = if nat_lt n (2 ^ width bits) then Some n else None
+
+-- the command, where no word is left behind it; else the word of this number is one too many
+unfoldable pub at_end : List (List ℕ) → ℕ → Command → Command
+at_end [] word command = command
+at_end (_ ∷ _) word command = Wrong word
+
+-- the words behind `list BITS BASE SYNTAX`
+unfoldable pub list_end : Bits → ℕ → Option Syntax → List (List ℕ) → Command
+list_end bits base None words = Wrong 4
+list_end bits base (Some syntax) words = at_end words 5 (ListCommand bits base syntax)
+
+-- the words behind `list BITS BASE`
+unfoldable pub list_style : Bits → ℕ → List (List ℕ) → Command
+list_style bits base [] = Wrong 4
+list_style bits base (style ∷ words) = list_end bits base (syntax_named style) words
+
+-- the words behind `recode BITS1 OLD BITS2` and a word for NEW
+unfoldable pub recode_base : Bits → ℕ → Bits → Option ℕ → List (List ℕ) → Command
+recode_base bits base to None words = Wrong 5
+recode_base bits base to (Some new_base) words = at_end words 6 (Recode bits base to new_base)
+
+-- the words behind `recode BITS1 OLD` and a word for BITS2
+unfoldable pub recode_bits : Bits → ℕ → Option Bits → List (List ℕ) → Command
+recode_bits bits base None words = Wrong 4
+recode_bits bits base (Some to) [] = Wrong 5
+recode_bits bits base (Some to) (new_base ∷ words) = recode_base bits base to (address_in to (number_named new_base)) words
+
+-- the words behind `recode BITS1 OLD`
+unfoldable pub recode_words : Bits → ℕ → List (List ℕ) → Command
+recode_words bits base [] = Wrong 4
+recode_words bits base (mode ∷ words) = recode_bits bits base (mode_named mode) words
+
+-- the words behind BITS BASE
+unfoldable pub code_end : Through → Bits → ℕ → List (List ℕ) → Command
+code_end ThroughList bits base words = list_style bits base words
+code_end ThroughInfo bits base words = at_end words 4 (Info bits base)
+code_end ThroughRecode bits base words = recode_words bits base words
+
+-- the words behind BITS and a word for BASE
+unfoldable pub code_base : Through → Bits → Option ℕ → List (List ℕ) → Command
+code_base through bits None words = Wrong 3
+code_base through bits (Some base) words = code_end through bits base words
+
+-- the words behind a word for BITS
+unfoldable pub code_bits : Through → Option Bits → List (List ℕ) → Command
+code_bits through None words = Wrong 2
+code_bits through (Some bits) [] = Wrong 3
+code_bits through (Some bits) (base ∷ words) = code_base through bits (address_in bits (number_named base)) words
+
+-- the words behind the name of a command that goes through code
+unfoldable pub code_words : Through → List (List ℕ) → Command
+code_words through [] = Wrong 2
+code_words through (mode ∷ words) = code_bits through (mode_named mode) words
+
+-- the command of some words, or the number of the first word, counted from 1, that is not allowed, missing or too many
+unfoldable pub command_of : List (List ℕ) → Command
+command_of [] = Wrong 1
+command_of (name ∷ words) =
+    if same_text name (codes "list") then code_words ThroughList words
+    else (if same_text name (codes "info") then code_words ThroughInfo words
+    else (if same_text name (codes "recode") then code_words ThroughRecode words
+    else (if same_text name (codes "rows") then at_end words 2 Rows
+    else (if same_text name (codes "--help") then at_end words 2 Help
+    else (if same_text name (codes "--version") then at_end words 2 Version else Wrong 1)))))

@@ -1,0 +1,8 @@
+//! What the words of a command line ask for.
+#![tactic(auto)]
+
+mod commands;
+mod words;
+
+pub use commands::{Command, Through};
+pub use words::command_of;

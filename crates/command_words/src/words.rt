@@ -1,0 +1,277 @@
+//! Reading the words of a command line.
+
+ghost use Rattle.std.specs.Prelude.{◌≡◌, ◌<◌, ◌≤◌, ◌^◌, ◌↔◌, IsTrue, IfSome, length};
+ghost use Rattle.x86_values.specs.Wrapping.{width};
+ghost use Rattle.hex.specs.Hex.{hex_digit_value};
+ghost use Rattle.command_words.specs.Words as spec;
+
+use crate::commands::{Command, Through};
+use sweep_text::Syntax;
+use x86_values::Bits;
+
+/// Whether a word is this name.
+#[inline]
+fn is(word: &str, name: &str) -> bool
+    ensures { result ≡ spec.same_text word.now name.now }
+{
+    word == name
+}
+
+/// The mode that a word names.
+#[tactic(auto, unfolding(crate::specs::Words::mode_named))]
+fn mode_named(word: &str) -> Option<Bits>
+    ensures { result ≡ spec.mode_named word.now }
+{
+    if is(word, "16") {
+        Some(Bits::B16)
+    } else if is(word, "32") {
+        Some(Bits::B32)
+    } else if is(word, "64") {
+        Some(Bits::B64)
+    } else {
+        None
+    }
+}
+
+/// The style that a word names.
+#[tactic(auto, unfolding(crate::specs::Words::syntax_named))]
+fn syntax_named(word: &str) -> Option<Syntax>
+    ensures { result ≡ spec.syntax_named word.now }
+{
+    if is(word, "intel") {
+        Some(Syntax::Intel)
+    } else if is(word, "att") {
+        Some(Syntax::Att)
+    } else if is(word, "masm") {
+        Some(Syntax::Masm)
+    } else {
+        None
+    }
+}
+
+/// The value of a hexadecimal digit of either case.
+#[inline]
+fn digit_value(c: u8) -> Option<u8>
+    ensures value { result ≡ hex_digit_value c }
+    ensures small { IfSome result (λ d. d < 16) }
+{
+    match c {
+        b'A'..=b'F' => Some(c - b'A' + 10),
+        b'a'..=b'f' => Some(c - b'a' + 10),
+        b'0'..=b'9' => Some(c - b'0'),
+        _ => None,
+    }
+}
+
+/// The number that at most 16 hexadecimal digits name.
+fn digits_value(digits: &[u8]) -> Option<u64>
+    requires { length digits.now ≤ 16 }
+    ensures { result ≡ spec.hex_from 0 digits.now }
+{
+    let mut value = 0;
+    for c in digits {
+        match digit_value(*c) {
+            None => return None,
+            Some(d) => value = 16 * value + u64::from(d),
+        }
+    }
+    Some(value)
+}
+
+/// The number that a word of 1 to 16 hexadecimal digits names.
+#[tactic(auto, unfolding(crate::specs::Words::number_named))]
+fn number_named(word: &str) -> Option<u64>
+    ensures { result ≡ spec.number_named word.now }
+{
+    let digits = word.as_bytes();
+    if !digits.is_empty() && digits.len() <= 16 {
+        digits_value(digits)
+    } else {
+        None
+    }
+}
+
+/// Whether a number is an address of the mode.
+#[inline]
+fn is_address(bits: Bits, n: u64) -> bool
+    ensures { IsTrue result ↔ (n < 2 ^ width bits) }
+{
+    match bits {
+        Bits::B16 => n < 0x1_0000,
+        Bits::B32 => n < 0x1_0000_0000,
+        Bits::B64 => true,
+    }
+}
+
+/// The number, where it is an address of the mode.
+#[tactic(auto, unfolding(crate::specs::Words::address_in))]
+fn address_in(bits: Bits, number: Option<u64>) -> Option<u64>
+    ensures { result ≡ spec.address_in bits number }
+{
+    match number {
+        Some(n) if is_address(bits, n) => Some(n),
+        _ => None,
+    }
+}
+
+/// The command, where no word is left behind it; else the word of this number is one too many.
+#[tactic(auto, unfolding(crate::specs::Words::at_end))]
+fn at_end(words: &[&str], word: u64, command: Command) -> Command
+    ensures { result ≡ spec.at_end (spec.texts words.now) word command }
+{
+    match words {
+        [] => command,
+        [_, _rest @ ..] => Command::Wrong { word },
+    }
+}
+
+/// The words behind `list BITS BASE SYNTAX`.
+#[tactic(auto, unfolding(crate::specs::Words::list_end))]
+fn list_end(bits: Bits, base: u64, syntax: Option<Syntax>, words: &[&str]) -> Command
+    ensures { result ≡ spec.list_end bits base syntax (spec.texts words.now) }
+{
+    match syntax {
+        None => Command::Wrong { word: 4 },
+        Some(syntax) => at_end(words, 5, Command::List { bits, base, syntax }),
+    }
+}
+
+/// The words behind `list BITS BASE`.
+#[tactic(auto, unfolding(crate::specs::Words::list_style))]
+fn list_style(bits: Bits, base: u64, words: &[&str]) -> Command
+    ensures { result ≡ spec.list_style bits base (spec.texts words.now) }
+{
+    match words {
+        [] => Command::Wrong { word: 4 },
+        [style, words @ ..] => list_end(bits, base, syntax_named(style), words),
+    }
+}
+
+/// The words behind `recode BITS1 OLD BITS2` and a word for `NEW`.
+#[tactic(auto, unfolding(crate::specs::Words::recode_base))]
+fn recode_base(bits: Bits, base: u64, to: Bits, new_base: Option<u64>, words: &[&str]) -> Command
+    ensures { result ≡ spec.recode_base bits base to new_base (spec.texts words.now) }
+{
+    match new_base {
+        None => Command::Wrong { word: 5 },
+        Some(new_base) => {
+            let command = Command::Recode {
+                bits,
+                base,
+                to,
+                new_base,
+            };
+            at_end(words, 6, command)
+        }
+    }
+}
+
+/// The words behind `recode BITS1 OLD` and a word for `BITS2`.
+#[tactic(auto, unfolding(crate::specs::Words::recode_bits))]
+fn recode_bits(bits: Bits, base: u64, to: Option<Bits>, words: &[&str]) -> Command
+    ensures { result ≡ spec.recode_bits bits base to (spec.texts words.now) }
+{
+    match to {
+        None => Command::Wrong { word: 4 },
+        Some(to) => match words {
+            [] => Command::Wrong { word: 5 },
+            [new_base, words @ ..] => {
+                recode_base(
+                    bits,
+                    base,
+                    to,
+                    address_in(to, number_named(new_base)),
+                    words,
+                )
+            }
+        },
+    }
+}
+
+/// The words behind `recode BITS1 OLD`.
+#[tactic(auto, unfolding(crate::specs::Words::recode_words))]
+fn recode_words(bits: Bits, base: u64, words: &[&str]) -> Command
+    ensures { result ≡ spec.recode_words bits base (spec.texts words.now) }
+{
+    match words {
+        [] => Command::Wrong { word: 4 },
+        [mode, words @ ..] => recode_bits(bits, base, mode_named(mode), words),
+    }
+}
+
+/// The words behind `BITS BASE`.
+#[tactic(auto, unfolding(crate::specs::Words::code_end))]
+fn code_end(through: Through, bits: Bits, base: u64, words: &[&str]) -> Command
+    ensures { result ≡ spec.code_end through bits base (spec.texts words.now) }
+{
+    match through {
+        Through::List => list_style(bits, base, words),
+        Through::Info => at_end(words, 4, Command::Info { bits, base }),
+        Through::Recode => recode_words(bits, base, words),
+    }
+}
+
+/// The words behind `BITS` and a word for `BASE`.
+#[tactic(auto, unfolding(crate::specs::Words::code_base))]
+fn code_base(through: Through, bits: Bits, base: Option<u64>, words: &[&str]) -> Command
+    ensures { result ≡ spec.code_base through bits base (spec.texts words.now) }
+{
+    match base {
+        None => Command::Wrong { word: 3 },
+        Some(base) => code_end(through, bits, base, words),
+    }
+}
+
+/// The words behind a word for `BITS`.
+#[tactic(auto, unfolding(crate::specs::Words::code_bits))]
+fn code_bits(through: Through, bits: Option<Bits>, words: &[&str]) -> Command
+    ensures { result ≡ spec.code_bits through bits (spec.texts words.now) }
+{
+    match bits {
+        None => Command::Wrong { word: 2 },
+        Some(bits) => match words {
+            [] => Command::Wrong { word: 3 },
+            [base, words @ ..] => {
+                code_base(through, bits, address_in(bits, number_named(base)), words)
+            }
+        },
+    }
+}
+
+/// The words behind the name of a command that goes through code.
+#[tactic(auto, unfolding(crate::specs::Words::code_words))]
+fn code_words(through: Through, words: &[&str]) -> Command
+    ensures { result ≡ spec.code_words through (spec.texts words.now) }
+{
+    match words {
+        [] => Command::Wrong { word: 2 },
+        [mode, words @ ..] => code_bits(through, mode_named(mode), words),
+    }
+}
+
+/// The command of some words, or the first word that is not allowed, missing or too many.
+#[tactic(auto, unfolding(crate::specs::Words::command_of))]
+pub fn command_of(words: &[&str]) -> Command
+    ensures { result ≡ spec.command_of (spec.texts words.now) }
+{
+    match words {
+        [] => Command::Wrong { word: 1 },
+        [name, words @ ..] => {
+            if is(name, "list") {
+                code_words(Through::List, words)
+            } else if is(name, "info") {
+                code_words(Through::Info, words)
+            } else if is(name, "recode") {
+                code_words(Through::Recode, words)
+            } else if is(name, "rows") {
+                at_end(words, 2, Command::Rows)
+            } else if is(name, "--help") {
+                at_end(words, 2, Command::Help)
+            } else if is(name, "--version") {
+                at_end(words, 2, Command::Version)
+            } else {
+                Command::Wrong { word: 1 }
+            }
+        }
+    }
+}

@@ -1,0 +1,5 @@
+pub mod Appending
+pub mod Causes
+pub mod Held
+pub mod HexDigits
+pub mod Saying

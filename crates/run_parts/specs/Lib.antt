@@ -1,0 +1,4 @@
+pub mod Hexadecimal
+pub mod Reads
+pub mod StatusLine
+pub mod Writing

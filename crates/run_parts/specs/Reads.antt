@@ -1,0 +1,34 @@
+-- What reading a source gives, in one step and to its end.
+use Rattle.std.specs.Prelude.{◌≡◌, ℕ, ◌+◌, ◌≤◌, List, [], ◌++◌, length, Option, IfSome}
+use Rattle.byte_ports.specs.Ports.{with_front}
+
+-- how many bytes a command that takes its input as a whole reads at most
+unfoldable pub whole_limit : ℕ
+whole_limit = 1048576
+
+-- how many bytes a command that goes through code reads at most
+unfoldable pub code_limit : ℕ
+code_limit = 16777216
+
+-- no byte is left, where the bytes are told
+abbrev pub IsAtEnd : Option (List ℕ) → Type 0
+IsAtEnd left = IfSome left (λ bytes. bytes ≡ [])
+
+-- these bytes were read, within the limit, and they are all
+pub record ReadsAll (limit : ℕ) (left left' : Option (List ℕ)) (bytes : List ℕ) : Type 0 where
+  pub read : left ≡ with_front bytes left'
+  pub ended : IsAtEnd left'
+  pub within : length bytes ≤ limit
+
+-- one byte more was read than the limit
+pub record ReadsTooMany (limit : ℕ) (left left' : Option (List ℕ)) (bytes : List ℕ) : Type 0 where
+  pub read : left ≡ with_front bytes left'
+  pub over : length bytes ≡ limit + 1
+
+-- a piece of this length was read and stands behind what was there; an empty one says that no byte is left
+pub record ReadsPiece (left left' : Option (List ℕ)) (before after : List ℕ) (count : ℕ) : Type 0 where
+  pub piece : List ℕ
+  pub read : left ≡ with_front piece left'
+  pub appended : after ≡ before ++ piece
+  pub count_is : length piece ≡ count
+  pub ended : count ≡ 0 → IsAtEnd left'

@@ -1,0 +1,44 @@
+//! Writing whole texts to a sink.
+
+ghost use Rattle.std.specs.Prelude.{◌≡◌, ◌≤◌, ◌+◌, [], OnOk, OnErr};
+ghost use Rattle.arrayvec.specs.ArrayVec.{array_vec_len};
+ghost use Rattle.byte_ports.specs.Ports.{HasCause, Rose, with_back};
+ghost use Rattle.run_parts.specs.Writing.{HoldsFront, Moves, Says};
+
+use byte_ports::{Failed, Sink};
+use sweep_text::{CHUNK_LEN, Chunk, LINE_LEN};
+
+/// Writes all the bytes. After `Failed` the first of them were written.
+pub fn put_all<K: Sink>(out: &mut K, bytes: &[u8]) -> Result<(), Failed>
+    ensures ok { OnOk result (K.held out.new ≡ with_back (K.held out.old) bytes.now) }
+    ensures err { OnErr result (HoldsFront (K.held out.old) (K.held out.new) bytes.now) }
+    ensures cause { HasCause (K.faults out.old) (K.faults out.new) result }
+{
+    let mut at = 0;
+    while at < bytes.len() {
+        let (_, rest) = bytes.split_at(at);
+        at += out.put(rest)?;
+    }
+    Ok(())
+}
+
+/// Writes what is held back where there is no room behind it for a line.
+pub fn make_room<K: Sink>(pending: &mut Chunk, out: &mut K) -> Result<(), Failed>
+    ensures room { OnOk result (array_vec_len pending.new + 209 ≤ 16384) }
+    ensures ok { OnOk result (Moves (K.held out.old) (K.held out.new) pending.old.items pending.new.items []) }
+    ensures err { OnErr result (HoldsFront (K.held out.old) (K.held out.new) pending.old.items) }
+    ensures cause { HasCause (K.faults out.old) (K.faults out.new) result }
+{
+    if CHUNK_LEN - pending.len() < LINE_LEN {
+        put_all(out, pending)?;
+        pending.clear();
+    }
+    Ok(())
+}
+
+/// Writes a text, of which no more than the front may come where the sink fails.
+pub fn say<E: Sink>(err: &mut E, text: &[u8])
+    ensures { Says (E.held err.old) (E.held err.new) text.now (Rose (E.faults err.old) (E.faults err.new)) }
+{
+    let _ = put_all(err, text);
+}
