@@ -1,5 +1,5 @@
 -- What the words of a command line ask for.
-use Rattle.std.specs.Prelude.{ℕ, ◌+◌, ◌*◌, ◌^◌, Bool, ◌&&◌, nat_eq, nat_lt, nat_le, if◌then◌else◌, List, [], ◌∷◌, length, codes, Option, Some, None}
+use Rattle.std.specs.Prelude.{ℕ, zero, suc, ◌+◌, ◌*◌, ◌^◌, Bool, ◌&&◌, nat_eq, nat_lt, nat_le, if◌then◌else◌, List, [], ◌∷◌, ◌++◌, length, drop, codes, Option, Some, None, Result, Ok, Err}
 use Rattle.std.specs.Borrow.{Bor}
 use Rattle.std.specs.Cmp.Lexicographic.{pointwise}
 use Rattle.hex.specs.Hex.{hex_digit_value}
@@ -9,9 +9,10 @@ use Rattle.x86_values.specs.Wrapping.{width}
 use Rattle.sweep_text.specs.declared.syntax.Syntax.{Syntax}
 use Rattle.sweep_text.specs.declared.syntax.Syntax.TheVariants.{Intel, Att, Masm}
 use Rattle.command_words.specs.declared.commands.Command.{Command}
-use Rattle.command_words.specs.declared.commands.Command.TheVariants.{Help, Version, List as ListCommand, Info, Recode, Rows, Wrong}
+use Rattle.command_words.specs.declared.commands.Command.TheVariants.{Help, Version, List as ListCommand, Info, Recode, Move, Map, Blocks, Rows, Wrong}
+use Rattle.command_words.specs.declared.commands.BlockWords.{BlockWords}
 use Rattle.command_words.specs.declared.commands.Through.{Through}
-use Rattle.command_words.specs.declared.commands.Through.TheVariants.{List as ThroughList, Info as ThroughInfo, Recode as ThroughRecode}
+use Rattle.command_words.specs.declared.commands.Through.TheVariants.{List as ThroughList, Info as ThroughInfo, Recode as ThroughRecode, Move as ThroughMove, Map as ThroughMap}
 
 -- the texts of some words
 abbrev pub texts : List (Bor (List ℕ)) → List (List ℕ)
@@ -81,11 +82,34 @@ unfoldable pub recode_words : Bits → ℕ → List (List ℕ) → Command
 recode_words bits base [] = Wrong 4
 recode_words bits base (mode ∷ words) = recode_bits bits base (mode_named mode) words
 
+-- the words behind a word for NEW, which is the last: the address, or the number of the word that is not allowed or too many
+unfoldable pub new_end : Option ℕ → List (List ℕ) → Result ℕ ℕ
+new_end None words = Err 4
+new_end (Some new) [] = Ok new
+new_end (Some new) (_ ∷ _) = Err 5
+
+-- the words behind `move BITS OLD` and `map BITS OLD`: the address NEW, or the number of the first word that is not allowed, missing or too many
+unfoldable pub new_words : Bits → List (List ℕ) → Result ℕ ℕ
+new_words bits [] = Err 4
+new_words bits (new ∷ words) = new_end (address_in bits (number_named new)) words
+
+-- the command `move`, or a wrong word
+unfoldable pub move_end : Bits → ℕ → Result ℕ ℕ → Command
+move_end bits old (Ok new) = Move bits old new
+move_end bits old (Err word) = Wrong word
+
+-- the command `map`, or a wrong word
+unfoldable pub map_end : Bits → ℕ → Result ℕ ℕ → Command
+map_end bits old (Ok new) = Map bits old new
+map_end bits old (Err word) = Wrong word
+
 -- the words behind BITS BASE
 unfoldable pub code_end : Through → Bits → ℕ → List (List ℕ) → Command
 code_end ThroughList bits base words = list_style bits base words
 code_end ThroughInfo bits base words = at_end words 4 (Info bits base)
 code_end ThroughRecode bits base words = recode_words bits base words
+code_end ThroughMove bits base words = move_end bits base (new_words bits words)
+code_end ThroughMap bits base words = map_end bits base (new_words bits words)
 
 -- the words behind BITS and a word for BASE
 unfoldable pub code_base : Through → Bits → Option ℕ → List (List ℕ) → Command
@@ -103,6 +127,51 @@ unfoldable pub code_words : Through → List (List ℕ) → Command
 code_words through [] = Wrong 2
 code_words through (mode ∷ words) = code_bits through (mode_named mode) words
 
+-- a block whose addresses are named, and a word for LEN; else 2, the words of the block before that word
+unfoldable pub block_len : ℕ → ℕ → Option ℕ → Result BlockWords ℕ
+block_len old new None = Err 2
+block_len old new (Some len) = Ok (record { old = old; new = new; len = Some len })
+
+-- the words behind OLD of a block and a word for NEW: the block, the last one where no word is left; else how many words of the block stand before the
+-- first that is not allowed
+unfoldable pub block_new : ℕ → Option ℕ → List (List ℕ) → Result BlockWords ℕ
+block_new old None words = Err 1
+block_new old (Some new) [] = Ok (record { old = old; new = new; len = None })
+block_new old (Some new) (len ∷ words) = block_len old new (number_named len)
+
+-- the words behind a word for OLD of a block
+unfoldable pub block_old : Bits → Option ℕ → List (List ℕ) → Result BlockWords ℕ
+block_old bits None words = Err 0
+block_old bits (Some old) [] = Err 1
+block_old bits (Some old) (new ∷ words) = block_new old (address_in bits (number_named new)) words
+
+-- the block at the front of some words; else how many words of it stand before the first that is not allowed or missing
+unfoldable pub block_at : Bits → List (List ℕ) → Result BlockWords ℕ
+block_at bits [] = Err 0
+block_at bits (old ∷ words) = block_old bits (address_in bits (number_named old)) words
+
+-- the words behind `blocks BITS` and some blocks, where so many more may stand: a block, and others where it has a length. Behind all that may stand the
+-- LEN of the last is one word too many.
+unfoldable pub blocks_from : ℕ → Bits → List BlockWords → List (List ℕ) → Command
+blocks_from zero bits blocks words = Wrong (2 + 3 * length blocks)
+blocks_from (suc room) bits blocks words = elim (block_at bits words) [
+  | Err before ↦ Wrong (3 + 3 * length blocks + before)
+  | Ok block ↦ elim block.len [
+    | None ↦ Blocks bits (record { items = blocks ++ block ∷ [] })
+    | Some _ ↦ blocks_from room bits (blocks ++ block ∷ []) (drop 3 words)
+  ]
+]
+
+-- the words behind a word for BITS of `blocks`
+unfoldable pub blocks_bits : Option Bits → List (List ℕ) → Command
+blocks_bits None words = Wrong 2
+blocks_bits (Some bits) words = blocks_from 16 bits [] words
+
+-- the words behind `blocks`
+unfoldable pub blocks_words : List (List ℕ) → Command
+blocks_words [] = Wrong 2
+blocks_words (mode ∷ words) = blocks_bits (mode_named mode) words
+
 -- the command of some words, or the number of the first word, counted from 1, that is not allowed, missing or too many
 unfoldable pub command_of : List (List ℕ) → Command
 command_of [] = Wrong 1
@@ -110,6 +179,9 @@ command_of (name ∷ words) =
     if same_text name (codes "list") then code_words ThroughList words
     else (if same_text name (codes "info") then code_words ThroughInfo words
     else (if same_text name (codes "recode") then code_words ThroughRecode words
+    else (if same_text name (codes "move") then code_words ThroughMove words
+    else (if same_text name (codes "map") then code_words ThroughMap words
+    else (if same_text name (codes "blocks") then blocks_words words
     else (if same_text name (codes "rows") then at_end words 2 Rows
     else (if same_text name (codes "--help") then at_end words 2 Help
-    else (if same_text name (codes "--version") then at_end words 2 Version else Wrong 1)))))
+    else (if same_text name (codes "--version") then at_end words 2 Version else Wrong 1))))))))

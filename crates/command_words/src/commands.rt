@@ -1,10 +1,11 @@
 //! The commands of the program.
 
+use arrayvec::ArrayVec;
 use sweep_text::Syntax;
 use x86_values::Bits;
 
 /// What a command line asks for.
-#[derive(Clone, Copy, PartialEq, Eq, Debug)]
+#[derive(PartialEq, Eq, Debug, Drop)]
 pub enum Command {
     /// The help text.
     Help,
@@ -29,6 +30,23 @@ pub enum Command {
         to: Bits,
         new_base: u64,
     },
+    /// The bytes of the input, which is code of a mode whose first byte has the address `old`, moved to the address `new`.
+    Move {
+        bits: Bits,
+        old: u64,
+        new: u64,
+    },
+    /// Where each instruction of the input goes when it is so moved, and in which form.
+    Map {
+        bits: Bits,
+        old: u64,
+        new: u64,
+    },
+    /// The bytes of the input, cut into 1 to 16 blocks of code of a mode, moved. Every block but the last has a length.
+    Blocks {
+        bits: Bits,
+        blocks: ArrayVec<BlockWords, 16>,
+    },
     /// The lines of the table's rows.
     Rows,
     /// The word of this number, from 1, is not allowed, missing or too many.
@@ -37,10 +55,21 @@ pub enum Command {
     },
 }
 
+/// A block of code as the words name it: the old address of its first byte, its new one, and how many bytes of the input
+/// it takes; the last block takes the rest.
+#[derive(Clone, Copy, PartialEq, Eq, Debug, Default)]
+pub struct BlockWords {
+    pub old: u64,
+    pub new: u64,
+    pub len: Option<u64>,
+}
+
 /// A command that goes through code. The words behind its name begin with `BITS BASE`.
 #[derive(Clone, Copy, PartialEq, Eq, Debug)]
 pub enum Through {
     List,
     Info,
     Recode,
+    Move,
+    Map,
 }

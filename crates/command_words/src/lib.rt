@@ -4,5 +4,5 @@
 mod commands;
 mod words;
 
-pub use commands::{Command, Through};
+pub use commands::{BlockWords, Command, Through};
 pub use words::command_of;

@@ -1,11 +1,12 @@
 //! Reading the words of a command line.
 
-ghost use Rattle.std.specs.Prelude.{◌≡◌, ◌<◌, ◌≤◌, ◌^◌, ◌↔◌, IsTrue, IfSome, length};
+ghost use Rattle.std.specs.Prelude.{◌≡◌, ◌<◌, ◌≤◌, ◌^◌, ◌↔◌, IsTrue, IfSome, [], length};
 ghost use Rattle.x86_values.specs.Wrapping.{width};
 ghost use Rattle.hex.specs.Hex.{hex_digit_value};
 ghost use Rattle.command_words.specs.Words as spec;
 
-use crate::commands::{Command, Through};
+use crate::commands::{BlockWords, Command, Through};
+use arrayvec::ArrayVec;
 use sweep_text::Syntax;
 use x86_values::Bits;
 
@@ -199,6 +200,55 @@ fn recode_words(bits: Bits, base: u64, words: &[&str]) -> Command
     }
 }
 
+/// The words behind a word for `NEW`, which is the last: the address, or the number of the word that is not allowed or too
+/// many.
+#[tactic(auto, unfolding(crate::specs::Words::new_end))]
+fn new_end(new: Option<u64>, words: &[&str]) -> Result<u64, u64>
+    ensures { result ≡ spec.new_end new (spec.texts words.now) }
+{
+    match new {
+        None => Err(4),
+        Some(new) => match words {
+            [] => Ok(new),
+            [_, _rest @ ..] => Err(5),
+        },
+    }
+}
+
+/// The words behind `move BITS OLD` and `map BITS OLD`: the address `NEW`, or the number of the first word that is not
+/// allowed, missing or too many.
+#[tactic(auto, unfolding(crate::specs::Words::new_words))]
+fn new_words(bits: Bits, words: &[&str]) -> Result<u64, u64>
+    ensures { result ≡ spec.new_words bits (spec.texts words.now) }
+{
+    match words {
+        [] => Err(4),
+        [new, words @ ..] => new_end(address_in(bits, number_named(new)), words),
+    }
+}
+
+/// The command `move`, or a wrong word.
+#[tactic(auto, unfolding(crate::specs::Words::move_end))]
+fn move_end(bits: Bits, old: u64, new: Result<u64, u64>) -> Command
+    ensures { result ≡ spec.move_end bits old new }
+{
+    match new {
+        Ok(new) => Command::Move { bits, old, new },
+        Err(word) => Command::Wrong { word },
+    }
+}
+
+/// The command `map`, or a wrong word.
+#[tactic(auto, unfolding(crate::specs::Words::map_end))]
+fn map_end(bits: Bits, old: u64, new: Result<u64, u64>) -> Command
+    ensures { result ≡ spec.map_end bits old new }
+{
+    match new {
+        Ok(new) => Command::Map { bits, old, new },
+        Err(word) => Command::Wrong { word },
+    }
+}
+
 /// The words behind `BITS BASE`.
 #[tactic(auto, unfolding(crate::specs::Words::code_end))]
 fn code_end(through: Through, bits: Bits, base: u64, words: &[&str]) -> Command
@@ -208,6 +258,8 @@ fn code_end(through: Through, bits: Bits, base: u64, words: &[&str]) -> Command
         Through::List => list_style(bits, base, words),
         Through::Info => at_end(words, 4, Command::Info { bits, base }),
         Through::Recode => recode_words(bits, base, words),
+        Through::Move => move_end(bits, base, new_words(bits, words)),
+        Through::Map => map_end(bits, base, new_words(bits, words)),
     }
 }
 
@@ -249,6 +301,106 @@ fn code_words(through: Through, words: &[&str]) -> Command
     }
 }
 
+/// A block whose addresses are named, and a word for `LEN`; else 2, the words of the block before that word.
+#[tactic(auto, unfolding(crate::specs::Words::block_len))]
+fn block_len(old: u64, new: u64, len: Option<u64>) -> Result<BlockWords, u64>
+    ensures { result ≡ spec.block_len old new len }
+{
+    match len {
+        None => Err(2),
+        Some(_) => Ok(BlockWords { old, new, len }),
+    }
+}
+
+/// The words behind `OLD` of a block and a word for `NEW`: the block, the last one where no word is left; else how many words
+/// of the block stand before the first that is not allowed.
+#[tactic(auto, unfolding(crate::specs::Words::block_new))]
+fn block_new(old: u64, new: Option<u64>, words: &[&str]) -> Result<BlockWords, u64>
+    ensures { result ≡ spec.block_new old new (spec.texts words.now) }
+{
+    match new {
+        None => Err(1),
+        Some(new) => match words {
+            [] => Ok(BlockWords {
+                old,
+                new,
+                len: None,
+            }),
+            [len, _rest @ ..] => block_len(old, new, number_named(len)),
+        },
+    }
+}
+
+/// The words behind a word for `OLD` of a block.
+#[tactic(auto, unfolding(crate::specs::Words::block_old))]
+fn block_old(bits: Bits, old: Option<u64>, words: &[&str]) -> Result<BlockWords, u64>
+    ensures { result ≡ spec.block_old bits old (spec.texts words.now) }
+{
+    match old {
+        None => Err(0),
+        Some(old) => match words {
+            [] => Err(1),
+            [new, words @ ..] => block_new(old, address_in(bits, number_named(new)), words),
+        },
+    }
+}
+
+/// The block at the front of some words; else how many words of it stand before the first that is not allowed or missing.
+#[tactic(auto, unfolding(crate::specs::Words::block_at))]
+fn block_at(bits: Bits, words: &[&str]) -> Result<BlockWords, u64>
+    ensures { result ≡ spec.block_at bits (spec.texts words.now) }
+{
+    match words {
+        [] => Err(0),
+        [old, words @ ..] => block_old(bits, address_in(bits, number_named(old)), words),
+    }
+}
+
+/// The words behind `blocks BITS`.
+fn blocks_from(bits: Bits, words: &[&str]) -> Command
+    ensures { result ≡ spec.blocks_from 16 bits [] (spec.texts words.now) }
+{
+    let mut blocks = ArrayVec::<BlockWords, 16>::new();
+    while blocks.len() < 16 {
+        let at = 3 * blocks.len();
+        let (_, rest) = words.split_at(at);
+        match block_at(bits, rest) {
+            Err(before) => return Command::Wrong {
+                word: 3 + at as u64 + before,
+            },
+            Ok(block) => {
+                blocks.push(block);
+                if block.len.is_none() {
+                    return Command::Blocks { bits, blocks };
+                }
+            }
+        }
+    }
+    Command::Wrong { word: 50 }
+}
+
+/// The words behind a word for `BITS` of `blocks`.
+#[tactic(auto, unfolding(crate::specs::Words::blocks_bits))]
+fn blocks_bits(bits: Option<Bits>, words: &[&str]) -> Command
+    ensures { result ≡ spec.blocks_bits bits (spec.texts words.now) }
+{
+    match bits {
+        None => Command::Wrong { word: 2 },
+        Some(bits) => blocks_from(bits, words),
+    }
+}
+
+/// The words behind `blocks`.
+#[tactic(auto, unfolding(crate::specs::Words::blocks_words))]
+fn blocks_words(words: &[&str]) -> Command
+    ensures { result ≡ spec.blocks_words (spec.texts words.now) }
+{
+    match words {
+        [] => Command::Wrong { word: 2 },
+        [mode, words @ ..] => blocks_bits(mode_named(mode), words),
+    }
+}
+
 /// The command of some words, or the first word that is not allowed, missing or too many.
 #[tactic(auto, unfolding(crate::specs::Words::command_of))]
 pub fn command_of(words: &[&str]) -> Command
@@ -263,6 +415,12 @@ pub fn command_of(words: &[&str]) -> Command
                 code_words(Through::Info, words)
             } else if is(name, "recode") {
                 code_words(Through::Recode, words)
+            } else if is(name, "move") {
+                code_words(Through::Move, words)
+            } else if is(name, "map") {
+                code_words(Through::Map, words)
+            } else if is(name, "blocks") {
+                blocks_words(words)
             } else if is(name, "rows") {
                 at_end(words, 2, Command::Rows)
             } else if is(name, "--help") {

@@ -9,6 +9,8 @@ use std::alloc::AllocError;
 use std::process::ExitCode;
 
 #[cfg(test)]
+mod moving_tests;
+#[cfg(test)]
 mod tests;
 
 /// Carries out the words of the command line on the standard streams.

@@ -566,7 +566,7 @@ fn a_wrong_word_is_named(rt: HostRuntime) -> Result<(), Fail> {
 }
 
 /// A list of calls at which a port fails.
-fn at(call: u64) -> ArrayVec<u64, 8> {
+pub(crate) fn at(call: u64) -> ArrayVec<u64, 8> {
     let mut calls = ArrayVec::new();
     calls.push(call);
     calls

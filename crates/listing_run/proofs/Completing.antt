@@ -3,20 +3,14 @@ use Rattle.std.proofs.Common.{◌≡◌, inl, inr, ℕ, suc, ◌<◌, List, [], 
 use Rattle.std.specs.Prelude.{All}
 use Rattle.x86_values.specs.declared.Bits.{Bits}
 use Rattle.decoder.specs.declared.DecodeError.{DecodeError}
-use Rattle.sweep_text.specs.declared.syntax.Syntax.{Syntax}
 use Rattle.sweep_text.specs.declared.lines.Lines.{Lines}
-use Rattle.sweep_text.specs.declared.lines.Lines.TheVariants.{Listing, Info as InfoLines, Recode as RecodeLines}
 use Rattle.opcode_rows.specs.Sweep.{Item, IsSweep}
 use Rattle.sweep_text.specs.Lines.{stop_of, GoesOn}
 use Rattle.sweep_text.proofs.OneSweep.{sweep_begins, sweep_unique}
-use Rattle.command_words.specs.declared.commands.Command.{Command}
-use Rattle.command_words.specs.declared.commands.Command.TheVariants.{Help, Version, List as ListCommand, Info, Recode, Rows, Wrong}
 use Rattle.run_parts.specs.declared.status.Status.{Status}
 use Rattle.run_parts.specs.declared.status.Status.TheVariants.{Done, BadCode, ReadFault, WriteFault, Memory, TooLarge}
-use Rattle.listing_run.specs.Texts.{help_text, version_text}
-use Rattle.listing_run.specs.Rows.{rows_text}
 use Rattle.run_parts.specs.Reads.{code_limit, ReadsAll, ReadsTooMany}
-use Rattle.listing_run.specs.Outcome.{WritesLines, WritesLinesBefore, GoesThroughAs, WritesAs, RunsAs, end_of, CompletesThrough, Completes}
+use Rattle.listing_run.specs.Outcome.{WritesLines, WritesLinesBefore, GoesThroughAs, end_of, CompletesThrough}
 
 -- ---- the end of a sweep
 
@@ -83,82 +77,35 @@ lines-stop bits base lines bytes read offset error held held' items same w sweep
     ∙ (end-last lines w.items w.last more.0 error w.all w.stops
     ∙ ap (λ (n : ℕ). BadCode n error) w.offset_is)
 
-completes-through : (bits : Bits) (base : ℕ) (lines : Lines) (left left' held held' : Option (List ℕ)) (source_rose out_rose : Type 0) (status : Status) →
+-- **a command that goes through code and meets no fault ends as the code says**
+pub completes_through : (bits : Bits) (base : ℕ) (lines : Lines) (left left' held held' : Option (List ℕ)) (source_rose out_rose : Type 0) (status : Status) →
     GoesThroughAs bits base lines left left' held held' source_rose out_rose status → (source_rose → ⊥) → (out_rose → ⊥) →
     CompletesThrough bits base lines left status
-completes-through bits base lines (Some bytes) left' held held' source_rose out_rose Done h s o =
+completes_through bits base lines (Some bytes) left' held held' source_rose out_rose Done h s o =
     let same = all-bytes bytes left' h.0 h.1.0 in
     let within = h.1.0.within in (
       λ few items sweep. inl (sym (lines-done bits base lines bytes h.0 held held' items same h.1.1 sweep)),
       λ many. absurd (omega (arith, ap length same)),
     )
-completes-through bits base lines (Some bytes) left' held held' source_rose out_rose (BadCode offset error) h s o =
+completes_through bits base lines (Some bytes) left' held held' source_rose out_rose (BadCode offset error) h s o =
     let same = all-bytes bytes left' h.0 h.1.0 in
     let within = h.1.0.within in (
       λ few items sweep. inl (sym (lines-stop bits base lines bytes h.0 offset error held held' items same h.1.1 sweep)),
       λ many. absurd (omega (arith, ap length same)),
     )
-completes-through bits base lines (Some bytes) left' held held' source_rose out_rose ReadFault h s o = absurd (s h.0)
-completes-through bits base lines (Some bytes) left' held held' source_rose out_rose WriteFault h s o = absurd (o h.0)
-completes-through bits base lines (Some bytes) left' held held' source_rose out_rose Memory h s o = (λ few items sweep. inr refl, λ many. inr refl)
-completes-through bits base lines (Some bytes) left' held held' source_rose out_rose (TooLarge limit) h s o =
+completes_through bits base lines (Some bytes) left' held held' source_rose out_rose ReadFault h s o = absurd (s h.0)
+completes_through bits base lines (Some bytes) left' held held' source_rose out_rose WriteFault h s o = absurd (o h.0)
+completes_through bits base lines (Some bytes) left' held held' source_rose out_rose Memory h s o = (λ few items sweep. inr refl, λ many. inr refl)
+completes_through bits base lines (Some bytes) left' held held' source_rose out_rose (TooLarge limit) h s o =
     let over = too_many bytes left' h.1.0.0 h.1.0.1 in (
       λ few items sweep. absurd (omega arith),
       λ many. inl (ap TooLarge h.0),
     )
-completes-through bits base lines (Some bytes) left' held held' source_rose out_rose _ h s o = absurd h
-completes-through bits base lines None left' held held' source_rose out_rose Done h s o = inl refl
-completes-through bits base lines None left' held held' source_rose out_rose (BadCode offset error) h s o = inr (inr (inr tt))
-completes-through bits base lines None left' held held' source_rose out_rose ReadFault h s o = absurd (s h.0)
-completes-through bits base lines None left' held held' source_rose out_rose WriteFault h s o = absurd (o h.0)
-completes-through bits base lines None left' held held' source_rose out_rose Memory h s o = inr (inl refl)
-completes-through bits base lines None left' held held' source_rose out_rose (TooLarge limit) h s o = inr (inr (inl (ap TooLarge h.0)))
-completes-through bits base lines None left' held held' source_rose out_rose _ h s o = absurd h
-
--- a listing goes on behind every item
-no-stop : (bits : Bits) (base : ℕ) (syntax : Syntax) (bytes : List ℕ) (offset : ℕ) (error : DecodeError) (held held' : Option (List ℕ)) →
-    WritesLinesBefore bits base (Listing syntax) bytes offset error held held' → ⊥
-no-stop bits base syntax bytes offset error held held' w = let stops = w.stops in cc
-
-completes-list : (bits : Bits) (base : ℕ) (syntax : Syntax) (left left' held held' : Option (List ℕ)) (source_rose out_rose : Type 0) (status : Status) →
-    GoesThroughAs bits base (Listing syntax) left left' held held' source_rose out_rose status → (source_rose → ⊥) → (out_rose → ⊥) →
-    Completes (ListCommand bits base syntax) left status
-completes-list bits base syntax (Some bytes) left' held held' source_rose out_rose Done h s o =
-    let same = all-bytes bytes left' h.0 h.1.0 in
-    let within = h.1.0.within in (λ few. inl refl, λ many. absurd (omega (arith, ap length same)))
-completes-list bits base syntax (Some bytes) left' held held' source_rose out_rose (BadCode offset error) h s o =
-    absurd (no-stop bits base syntax h.0 offset error held held' h.1.1)
-completes-list bits base syntax (Some bytes) left' held held' source_rose out_rose ReadFault h s o = absurd (s h.0)
-completes-list bits base syntax (Some bytes) left' held held' source_rose out_rose WriteFault h s o = absurd (o h.0)
-completes-list bits base syntax (Some bytes) left' held held' source_rose out_rose Memory h s o = (λ few. inr refl, λ many. inr refl)
-completes-list bits base syntax (Some bytes) left' held held' source_rose out_rose (TooLarge limit) h s o =
-    let over = too_many bytes left' h.1.0.0 h.1.0.1 in (λ few. absurd (omega arith), λ many. inl (ap TooLarge h.0))
-completes-list bits base syntax (Some bytes) left' held held' source_rose out_rose _ h s o = absurd h
-completes-list bits base syntax None left' held held' source_rose out_rose Done h s o = inl refl
-completes-list bits base syntax None left' held held' source_rose out_rose (BadCode offset error) h s o =
-    absurd (no-stop bits base syntax h.0 offset error held held' h.1.1)
-completes-list bits base syntax None left' held held' source_rose out_rose ReadFault h s o = absurd (s h.0)
-completes-list bits base syntax None left' held held' source_rose out_rose WriteFault h s o = absurd (o h.0)
-completes-list bits base syntax None left' held held' source_rose out_rose Memory h s o = inr (inl refl)
-completes-list bits base syntax None left' held held' source_rose out_rose (TooLarge limit) h s o = inr (inr (ap TooLarge h.0))
-completes-list bits base syntax None left' held held' source_rose out_rose _ h s o = absurd h
-
-completes-text : (text : List ℕ) (held held' : Option (List ℕ)) (out_rose : Type 0) (status : Status) → WritesAs text held held' out_rose status →
-    (out_rose → ⊥) → status ≡ Done
-completes-text text held held' out_rose Done h o = refl
-completes-text text held held' out_rose WriteFault h o = absurd (o h.0)
-completes-text text held held' out_rose _ h o = absurd h
-
--- **a run that meets no fault is done, or ends as the code says**
-pub completes : (command : Command) (left left' held held' : Option (List ℕ)) (source_rose out_rose : Type 0) (status : Status) →
-    RunsAs command left left' held held' source_rose out_rose status → (source_rose → ⊥) → (out_rose → ⊥) → Completes command left status
-completes (Wrong word) left left' held held' source_rose out_rose status h s o = h
-completes Help left left' held held' source_rose out_rose status h s o = completes-text help_text held held' out_rose status h o
-completes Version left left' held held' source_rose out_rose status h s o = completes-text version_text held held' out_rose status h o
-completes Rows left left' held held' source_rose out_rose status h s o = completes-text rows_text held held' out_rose status h o
-completes (ListCommand bits base syntax) left left' held held' source_rose out_rose status h s o =
-    completes-list bits base syntax left left' held held' source_rose out_rose status h s o
-completes (Info bits base) left left' held held' source_rose out_rose status h s o =
-    completes-through bits base InfoLines left left' held held' source_rose out_rose status h s o
-completes (Recode bits base to new_base) left left' held held' source_rose out_rose status h s o =
-    completes-through bits base (RecodeLines to new_base) left left' held held' source_rose out_rose status h s o
+completes_through bits base lines (Some bytes) left' held held' source_rose out_rose _ h s o = absurd h
+completes_through bits base lines None left' held held' source_rose out_rose Done h s o = inl refl
+completes_through bits base lines None left' held held' source_rose out_rose (BadCode offset error) h s o = inr (inr (inr tt))
+completes_through bits base lines None left' held held' source_rose out_rose ReadFault h s o = absurd (s h.0)
+completes_through bits base lines None left' held held' source_rose out_rose WriteFault h s o = absurd (o h.0)
+completes_through bits base lines None left' held held' source_rose out_rose Memory h s o = inr (inl refl)
+completes_through bits base lines None left' held held' source_rose out_rose (TooLarge limit) h s o = inr (inr (inl (ap TooLarge h.0)))
+completes_through bits base lines None left' held held' source_rose out_rose _ h s o = absurd h

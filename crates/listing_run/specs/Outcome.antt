@@ -8,11 +8,14 @@ use Rattle.sweep_text.specs.declared.lines.Lines.TheVariants.{Listing, Info as I
 use Rattle.opcode_rows.specs.Sweep.{Item, IsSweep, BeginsSweep}
 use Rattle.sweep_text.specs.Lines.{stop_of, GoesOn, lines_of}
 use Rattle.command_words.specs.declared.commands.Command.{Command}
-use Rattle.command_words.specs.declared.commands.Command.TheVariants.{Help, Version, List as ListCommand, Info, Recode, Rows, Wrong}
+use Rattle.command_words.specs.declared.commands.Command.TheVariants.{Help, Version, List as ListCommand, Info, Recode, Move, Map, Blocks, Rows, Wrong}
+use Rattle.command_words.specs.declared.commands.BlockWords.{BlockWords}
 use Rattle.run_parts.specs.declared.status.Status.{Status}
 use Rattle.run_parts.specs.declared.status.Status.TheVariants.{Done, Usage, BadCode, ReadFault, WriteFault, Memory, TooLarge}
 use Rattle.run_parts.specs.Reads.{code_limit, ReadsAll, ReadsTooMany}
 use Rattle.run_parts.specs.Writing.{HoldsFront}
+use Rattle.moving_run.specs.declared.moving.Wanted.TheVariants.{MovedBytes, MapLines}
+use Rattle.moving_run.specs.Moving.{MovesAs, CompletesMoving}
 use Rattle.listing_run.specs.Texts.{help_text, version_text}
 use Rattle.listing_run.specs.Rows.{rows_text}
 
@@ -60,6 +63,10 @@ WritesAs text held held' out_rose Done = held' ≡ with_back held text
 WritesAs text held held' out_rose WriteFault = out_rose × HoldsFront held held' text
 WritesAs text held held' out_rose _ = ⊥
 
+-- the input as one block of code: all its bytes, at an old and at a new address
+abbrev pub one_block : ℕ → ℕ → List BlockWords
+one_block old new = record { old = old; new = new; len = None } ∷ []
+
 -- a run by its command and its status
 abbrev pub RunsAs : Command → Option (List ℕ) → Option (List ℕ) → Option (List ℕ) → Option (List ℕ) → Type 0 → Type 0 → Status → Type 0
 RunsAs (Wrong word) left left' held held' source_rose out_rose status = status ≡ Usage word
@@ -72,13 +79,29 @@ RunsAs (Info bits base) left left' held held' source_rose out_rose status =
     GoesThroughAs bits base InfoLines left left' held held' source_rose out_rose status
 RunsAs (Recode bits base to new_base) left left' held held' source_rose out_rose status =
     GoesThroughAs bits base (RecodeLines to new_base) left left' held held' source_rose out_rose status
+RunsAs (Move bits old new) left left' held held' source_rose out_rose status =
+    MovesAs MovedBytes bits (one_block old new) left left' held held' source_rose out_rose status
+RunsAs (Map bits old new) left left' held held' source_rose out_rose status =
+    MovesAs MapLines bits (one_block old new) left left' held held' source_rose out_rose status
+RunsAs (Blocks bits blocks) left left' held held' source_rose out_rose status =
+    MovesAs MovedBytes bits blocks.items left left' held held' source_rose out_rose status
 
 -- the command reads
 abbrev pub Reads : Command → Type 0
 Reads (ListCommand bits base syntax) = Unit {0}
 Reads (Info bits base) = Unit {0}
 Reads (Recode bits base to new_base) = Unit {0}
+Reads (Move bits old new) = Unit {0}
+Reads (Map bits old new) = Unit {0}
+Reads (Blocks bits blocks) = Unit {0}
 Reads _ = ⊥
+
+-- the command writes lines as it goes through the code, before it has seen all of it
+abbrev pub Streams : Command → Type 0
+Streams (ListCommand bits base syntax) = Unit {0}
+Streams (Info bits base) = Unit {0}
+Streams (Recode bits base to new_base) = Unit {0}
+Streams _ = ⊥
 
 -- the command is one
 abbrev pub IsWrong : Command → Type 0
@@ -103,7 +126,8 @@ CompletesThrough bits base lines (Some bytes) status =
 CompletesThrough bits base lines None status =
     (status ≡ Done) ⊎ ((status ≡ Memory) ⊎ ((status ≡ TooLarge code_limit) ⊎ IsBadCode status))
 
--- The command of a run that meets no fault is done. A listing is done whatever the bytes are, but it may want memory, or have too many bytes.
+-- The command of a run that meets no fault is done. A listing is done whatever the bytes are, but it may want memory, or have too many bytes;
+-- the other commands that read end as their bytes say.
 abbrev pub Completes : Command → Option (List ℕ) → Status → Type 0
 Completes (Wrong word) left status = status ≡ Usage word
 Completes (ListCommand bits base syntax) (Some bytes) status =
@@ -112,4 +136,7 @@ Completes (ListCommand bits base syntax) (Some bytes) status =
 Completes (ListCommand bits base syntax) None status = (status ≡ Done) ⊎ ((status ≡ Memory) ⊎ (status ≡ TooLarge code_limit))
 Completes (Info bits base) left status = CompletesThrough bits base InfoLines left status
 Completes (Recode bits base to new_base) left status = CompletesThrough bits base (RecodeLines to new_base) left status
+Completes (Move bits old new) left status = CompletesMoving MovedBytes bits (one_block old new) left status
+Completes (Map bits old new) left status = CompletesMoving MapLines bits (one_block old new) left status
+Completes (Blocks bits blocks) left status = CompletesMoving MovedBytes bits blocks.items left status
 Completes _ left status = status ≡ Done

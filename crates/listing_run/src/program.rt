@@ -7,13 +7,15 @@ ghost use Rattle.run_parts.specs.StatusLine.{status_line};
 ghost use Rattle.run_parts.specs.Writing.{Says};
 ghost use Rattle.listing_run.specs.Texts as text;
 ghost use Rattle.listing_run.specs.Rows.{rows_text};
-ghost use Rattle.listing_run.specs.Outcome.{RunsAs, GoesThroughAs, WritesAs, Reads, IsWrong, IsBadCode, Completes};
+ghost use Rattle.listing_run.specs.Outcome.{RunsAs, GoesThroughAs, WritesAs, Reads, Streams, IsWrong, IsBadCode, Completes, one_block};
+ghost use Rattle.moving_run.specs.Moving.{MovesAs, CompletesMoving};
 ghost use Rattle.command_words.specs.declared.commands.Command.TheVariants.{Wrong};
 
 use crate::rows::write_rows;
 use crate::through::{End, write_lines};
 use byte_ports::{Sink, Source};
-use command_words::{Command, command_of};
+use command_words::{BlockWords, Command, command_of};
+use moving_run::{Wanted, move_code};
 use run_parts::{CODE_LIMIT, ReadError, Status, put_all, read_all, say, status_line};
 use std::alloc::Global;
 use sweep_text::Lines;
@@ -24,7 +26,7 @@ use x86_values::Bits;
 fn help_text() -> &'static [u8]
     ensures { result.now ≡ text.help_text }
 {
-    b"usage: listing_program list BITS BASE SYNTAX\n       listing_program info BITS BASE\n       listing_program recode BITS1 OLD BITS2 NEW\n       listing_program rows\n       listing_program --help\n       listing_program --version\n\nlist writes one line for each instruction of the machine code on standard input.\nBITS is 16, 32 or 64. BASE is the address of the first byte: 1 to 16 hexadecimal\ndigits below 2 to the power of BITS. SYNTAX is intel, att or masm.\n\ninfo writes what each instruction does: where control goes behind it; n, r, w or\nrw for each operand that it leaves alone, reads, writes, or reads and writes; m\nand the size of its memory operand in bytes; -> and the target of a near branch;\n@ and the address of an operand relative to the instruction pointer. It ends at\nthe first byte at which no instruction is read.\n\nrecode writes the bytes of each instruction in mode BITS2, where the code begins\nat address NEW: it is read as info reads it, in mode BITS1 at address OLD, and\nkeeps its operands. An instruction that has no such bytes has ! and a number from\n1 to 10, that of the first condition that fails, and behind 2, 3 and 6 the number\nof the operand that fails it.\n\nrows writes one line for each row of the instruction table: its number, its\nnotation and its name. It reads nothing.\n"
+    b"usage: listing_program list BITS BASE SYNTAX\n       listing_program info BITS BASE\n       listing_program recode BITS1 OLD BITS2 NEW\n       listing_program move BITS OLD NEW\n       listing_program map BITS OLD NEW\n       listing_program blocks BITS OLD1 NEW1 LEN1 OLD2 NEW2 ..\n       listing_program rows\n       listing_program --help\n       listing_program --version\n\nlist writes one line for each instruction of the machine code on standard input.\nBITS is 16, 32 or 64. BASE is the address of the first byte: 1 to 16 hexadecimal\ndigits below 2 to the power of BITS. SYNTAX is intel, att or masm.\n\ninfo writes what each instruction does: where control goes behind it; n, r, w or\nrw for each operand that it leaves alone, reads, writes, or reads and writes; m\nand the size of its memory operand in bytes; -> and the target of a near branch;\n@ and the address of an operand relative to the instruction pointer. It ends at\nthe first byte at which no instruction is read.\n\nrecode writes the bytes of each instruction in mode BITS2, where the code begins\nat address NEW: it is read as info reads it, in mode BITS1 at address OLD, and\nkeeps its operands. An instruction that has no such bytes has ! and a number from\n1 to 10, that of the first condition that fails, and behind 2, 3 and 6 the number\nof the operand that fails it.\n\nmove writes the bytes of the machine code on standard input, in mode BITS, moved\nfrom address OLD to address NEW. Each near branch and each operand relative to\nthe instruction pointer keeps its target, or follows it where that is moved too.\nNothing is written where an instruction cannot reach its target.\n\nmap writes one line for each instruction that move would move: its old and its\nnew address, and its form there: itself, short, near, far, bridge or farbridge.\n\nblocks moves 1 to 16 blocks of code as move moves one. Every block but the last\nhas LEN, the number of its bytes in 1 to 16 hexadecimal digits.\n\nrows writes one line for each row of the instruction table: its number, its\nnotation and its name. It reads nothing.\n"
 }
 
 /// What `--version` writes.
@@ -83,6 +85,29 @@ fn rows<K: Sink>(out: &mut K) -> Status
     }
 }
 
+/// Moves the source as one block of code of a mode.
+fn move_whole<S: Source, K: Sink>(
+    alloc: Global,
+    wanted: Wanted,
+    bits: Bits,
+    old: u64,
+    new: u64,
+    source: &mut S,
+    out: &mut K,
+) -> Status
+    ensures answer { MovesAs wanted bits (one_block old new) (S.left source.old) (S.left source.new) (K.held out.old) (K.held out.new)
+        (Rose (S.faults source.old) (S.faults source.new)) (Rose (K.faults out.old) (K.faults out.new)) result }
+    ensures complete { (Rose (S.faults source.old) (S.faults source.new) → ⊥) → (Rose (K.faults out.old) (K.faults out.new) → ⊥)
+        → CompletesMoving wanted bits (one_block old new) (S.left source.old) result }
+{
+    let block = BlockWords {
+        old,
+        new,
+        len: None,
+    };
+    move_code(alloc, wanted, bits, &[block], source, out)
+}
+
 /// Does what a command asks for.
 fn answer<S: Source, K: Sink>(
     alloc: Global,
@@ -94,6 +119,8 @@ fn answer<S: Source, K: Sink>(
         (Rose (S.faults source.old) (S.faults source.new)) (Rose (K.faults out.old) (K.faults out.new)) result }
     ensures unread { (Reads command → ⊥) → source.new ≡ source.old }
     ensures unwritten { IsWrong command → out.new ≡ out.old }
+    ensures complete { (Rose (S.faults source.old) (S.faults source.new) → ⊥) → (Rose (K.faults out.old) (K.faults out.new) → ⊥)
+        → Completes command (S.left source.old) result }
 {
     match command {
         Command::Help => write_text(help_text(), out),
@@ -115,6 +142,15 @@ fn answer<S: Source, K: Sink>(
             source,
             out,
         ),
+        Command::Move { bits, old, new } => {
+            move_whole(alloc, Wanted::MovedBytes, bits, old, new, source, out)
+        }
+        Command::Map { bits, old, new } => {
+            move_whole(alloc, Wanted::MapLines, bits, old, new, source, out)
+        }
+        Command::Blocks { bits, blocks } => {
+            move_code(alloc, Wanted::MovedBytes, bits, &blocks, source, out)
+        }
         Command::Rows => rows(out),
         Command::Wrong { word } => Status::Usage { word },
     }
@@ -122,13 +158,29 @@ fn answer<S: Source, K: Sink>(
 
 /// Does what the words of a command line ask for.
 ///
-/// `words` are those behind the program's name. `list BITS BASE SYNTAX` reads `source` to its end and writes the listing
-/// to `out`, where `BITS` is `16`, `32` or `64`, `BASE` the address of the first byte in 1 to 16 hexadecimal digits,
-/// below 2 to the power of `BITS`, and `SYNTAX` is `intel`, `att` or `masm`. `info BITS BASE` reads it too, writes what each
-/// instruction does, and ends with `BadCode` at the first offset at which none is read. `recode BITS1 OLD BITS2 NEW` ends there
-/// too, and writes the bytes of each instruction in mode `BITS2`, where the first byte has the address `NEW`. `rows` writes a
-/// line for each row of the table of instructions, and `--help` and `--version` write a text; they read nothing and take no
-/// memory. Each status other than `Done` has a line that is written to `err`.
+/// For every mode, every address and all bytes:
+///
+/// - The listing shows exactly the instructions that the table spells, with their lengths, and single bytes elsewhere: `answer` says so by
+///   `WritesLines`, over the sweep of the bytes that were read, and `complete` that nothing but want of memory or a stated limit hinders it.
+/// - `recode` shows the plain spelling of each instruction that has one, and names why another has none: `answer`, by the same lines.
+/// - Moved blocks decode to the images of the old instructions in the least layout, each target moved along or kept: `answer` says by `MovesAs` that the
+///   blocks `IsMoved`, and `moved_code_is_read_as_images` that such blocks so decode. They are refused only at the first operand that does not reach or
+///   for a stated limit: `answer` says when each refusal may come, and `complete` by `CompletesMoving` that it comes then.
+///
+/// `words` are those behind the program's name. `list BITS BASE SYNTAX` reads `source` to its end and writes the listing to `out`, where `BITS` is
+/// `16`, `32` or `64`, `BASE` the address of the first byte in 1 to 16 hexadecimal digits, below 2 to the power of `BITS`, and `SYNTAX` is `intel`,
+/// `att` or `masm`. `info BITS BASE` reads it too, writes what each instruction does, and ends with `BadCode` at the first offset at which none is
+/// read. `recode BITS1 OLD BITS2 NEW` ends there too, and writes the bytes of each instruction in mode `BITS2`, where the first byte has the address
+/// `NEW`.
+///
+/// `move BITS OLD NEW` moves the whole source from the address `OLD` to the address `NEW` and writes its bytes there; `map BITS OLD NEW` writes the old
+/// and the new address and the form of each instruction instead; `blocks BITS OLD1 NEW1 LEN1 OLD2 NEW2 ..` moves 1 to 16 blocks, where every block but
+/// the last takes `LEN` bytes of the source, in 1 to 16 hexadecimal digits. They write nothing but for `Done` and `WriteFault`, and answer `BadCode` at
+/// the first offset of the source at which no instruction is read, `TooMany` above 65,536 instructions, `Wraps` where an old or new block passes the
+/// address space, and `TooFar` at the first instruction that does not reach its target.
+///
+/// `rows` writes a line for each row of the table of instructions, and `--help` and `--version` write a text; they read nothing and take no memory.
+/// Each status other than `Done` has a line that is written to `err`.
 pub fn run<S: Source, K: Sink, E: Sink>(
     alloc: Global,
     words: &[&str],
@@ -141,11 +193,12 @@ pub fn run<S: Source, K: Sink, E: Sink>(
         (K.held out.old) (K.held out.new)
         (Rose (S.faults source.old) (S.faults source.new)) (Rose (K.faults out.old) (K.faults out.new)) result }
 
-    // A port's fault is told only where its count rose, and nothing is written before any other refusal but that of bad code.
+    // A port's fault is told only where its count rose. Nothing is written before any other refusal, but that list, info and recode write the lines
+    // before bad code.
     ensures read_fault { result ≡ Status.ReadFault → Rose (S.faults source.old) (S.faults source.new) }
     ensures write_fault { result ≡ Status.WriteFault → Rose (K.faults out.old) (K.faults out.new) }
-    ensures refused { (result ≡ Status.Done → ⊥) → (result ≡ Status.WriteFault → ⊥) → (IsBadCode result → ⊥)
-        → K.held out.new ≡ K.held out.old }
+    ensures refused { (result ≡ Status.Done → ⊥) → (result ≡ Status.WriteFault → ⊥)
+        → (IsBadCode result → Streams (command_of (texts words.now)) → ⊥) → K.held out.new ≡ K.held out.old }
 
     // The number of the first word that is not allowed, missing or too many. Nothing is read or written then.
     ensures usage { (word : ℕ) → (result ≡ Status.Usage word) ↔ (command_of (texts words.now) ≡ Wrong word) }

@@ -1,0 +1,176 @@
+use Rattle.std.proofs.Common.{◌≡◌, ◌+◌, ◌-◌, ◌<◌, [], ◌∷◌, ◌++◌, length, arith, ap, ◌∙◌}
+use Rattle.std.proofs.lemmas.Result.{err_from_is_err_and}
+use Rattle.branch_sizes.specs.Layout.{span_at}
+use Rattle.block_encoder.proofs.Writing.{item_step}
+use Rattle.block_encoder.proofs.Steps.{item_facts, item_refuses, end_facts, end_step, blocks_moved}
+use Rattle.block_encoder.proofs.write.write_blocks.Goals as goal
+
+pub index-requires : goal.index-requires
+index-requires c =
+    let bl : c.loop-b.b < length c.args.plan.now.spans = omega (arith, c.loop-b-test.true, ap length c.spans-spans.ensures.spans) in
+    let f = item_facts c.args.bits c.args.items.now c.args.plan.now c.args.laid.now c.spans-spans.ensures.plan c.requires.plan c.requires.laid c.requires.ends
+    c.loop-b.b c.loop.counter c.loop.bytes.items c.loop.starts.items c.loop.forms.items c.loop-b.slots.items c.loop-b.ends.items
+    (c.loop.invariant.written c.requires.laid.0 c.requires.laid.2) bl
+    (omega (arith, c.loop-test.true, c.loop.invariant.count_is)) c.len-k.result (c.len-k.ensures ∙ c.loop.starts.ok.0) in
+    omega (arith, f.in_seats, c.args.laid.now.seats.ok.0)
+
+pub offset_bounds-items-k : goal.offset_bounds-items-k
+offset_bounds-items-k c =
+    let bl : c.loop-b.b < length c.args.plan.now.spans = omega (arith, c.loop-b-test.true, ap length c.spans-spans.ensures.spans) in
+    let f = item_facts c.args.bits c.args.items.now c.args.plan.now c.args.laid.now c.spans-spans.ensures.plan c.requires.plan c.requires.laid c.requires.ends
+    c.loop-b.b c.loop.counter c.loop.bytes.items c.loop.starts.items c.loop.forms.items c.loop-b.slots.items c.loop-b.ends.items
+    (c.loop.invariant.written c.requires.laid.0 c.requires.laid.2) bl
+    (omega (arith, c.loop-test.true, c.loop.invariant.count_is)) c.len-k.result (c.len-k.ensures ∙ c.loop.starts.ok.0) in
+    omega (arith, f.small)
+
+pub bounds-items-k : goal.bounds-items-k
+bounds-items-k c =
+    let bl : c.loop-b.b < length c.args.plan.now.spans = omega (arith, c.loop-b-test.true, ap length c.spans-spans.ensures.spans) in
+    let f = item_facts c.args.bits c.args.items.now c.args.plan.now c.args.laid.now c.spans-spans.ensures.plan c.requires.plan c.requires.laid c.requires.ends
+    c.loop-b.b c.loop.counter c.loop.bytes.items c.loop.starts.items c.loop.forms.items c.loop-b.slots.items c.loop-b.ends.items
+    (c.loop.invariant.written c.requires.laid.0 c.requires.laid.2) bl
+    (omega (arith, c.loop-test.true, c.loop.invariant.count_is)) c.len-k.result (c.len-k.ensures ∙ c.loop.starts.ok.0) in
+    f.in_items
+
+pub offset_bounds-branches-k : goal.offset_bounds-branches-k
+offset_bounds-branches-k c =
+    let bl : c.loop-b.b < length c.args.plan.now.spans = omega (arith, c.loop-b-test.true, ap length c.spans-spans.ensures.spans) in
+    let f = item_facts c.args.bits c.args.items.now c.args.plan.now c.args.laid.now c.spans-spans.ensures.plan c.requires.plan c.requires.laid c.requires.ends
+    c.loop-b.b c.loop.counter c.loop.bytes.items c.loop.starts.items c.loop.forms.items c.loop-b.slots.items c.loop-b.ends.items
+    (c.loop.invariant.written c.requires.laid.0 c.requires.laid.2) bl
+    (omega (arith, c.loop-test.true, c.loop.invariant.count_is)) c.len-k.result (c.len-k.ensures ∙ c.loop.starts.ok.0) in
+    omega (arith, f.small)
+
+pub bounds-branches-k : goal.bounds-branches-k
+bounds-branches-k c =
+    let bl : c.loop-b.b < length c.args.plan.now.spans = omega (arith, c.loop-b-test.true, ap length c.spans-spans.ensures.spans) in
+    let f = item_facts c.args.bits c.args.items.now c.args.plan.now c.args.laid.now c.spans-spans.ensures.plan c.requires.plan c.requires.laid c.requires.ends
+    c.loop-b.b c.loop.counter c.loop.bytes.items c.loop.starts.items c.loop.forms.items c.loop-b.slots.items c.loop-b.ends.items
+    (c.loop.invariant.written c.requires.laid.0 c.requires.laid.2) bl
+    (omega (arith, c.loop-test.true, c.loop.invariant.count_is)) c.len-k.result (c.len-k.ensures ∙ c.loop.starts.ok.0) in
+    omega (arith, f.in_plan, ap length c.items-branches.ensures)
+
+pub write_item-requires : goal.write_item-requires
+write_item-requires c =
+    let bl : c.loop-b.b < length c.args.plan.now.spans = omega (arith, c.loop-b-test.true, ap length c.spans-spans.ensures.spans) in
+    let f = item_facts c.args.bits c.args.items.now c.args.plan.now c.args.laid.now c.spans-spans.ensures.plan c.requires.plan c.requires.laid c.requires.ends
+    c.loop-b.b c.loop.counter c.loop.bytes.items c.loop.starts.items c.loop.forms.items c.loop-b.slots.items c.loop-b.ends.items
+    (c.loop.invariant.written c.requires.laid.0 c.requires.laid.2) bl
+    (omega (arith, c.loop-test.true, c.loop.invariant.count_is)) c.len-k.result (c.len-k.ensures ∙ c.loop.starts.ok.0) in
+    f.seat_for c.index.result.now c.index-branches-k.result c.index.ensures (rw c.items-branches.ensures at c.index-branches-k.is)
+
+pub returns-in_err-write_item : goal.returns-in_err-write_item
+returns-in_err-write_item c =
+    let bl : c.loop-b.b < length c.args.plan.now.spans = omega (arith, c.loop-b-test.true, ap length c.spans-spans.ensures.spans) in
+    let f = item_facts c.args.bits c.args.items.now c.args.plan.now c.args.laid.now c.spans-spans.ensures.plan c.requires.plan c.requires.laid c.requires.ends
+    c.loop-b.b c.loop.counter c.loop.bytes.items c.loop.starts.items c.loop.forms.items c.loop-b.slots.items c.loop-b.ends.items
+    (c.loop.invariant.written c.requires.laid.0 c.requires.laid.2) bl
+    (omega (arith, c.loop-test.true, c.loop.invariant.count_is)) c.len-k.result (c.len-k.ensures ∙ c.loop.starts.ok.0) in
+    let p = err_from_is_err_and c.from_residual-in_err-write_item.result c.from_residual-in_err-write_item.ensures.1 in
+    rw (p.1, p.2)
+    (item_refuses c.args.bits c.args.items.now c.args.plan.now c.args.laid.now c.spans-spans.ensures.plan c.requires.plan c.requires.laid c.requires.ends
+    c.loop-b.b c.loop.counter c.loop.bytes.items c.loop.starts.items c.loop.forms.items c.loop-b.slots.items c.loop-b.ends.items
+    (c.loop.invariant.written c.requires.laid.0 c.requires.laid.2) bl c.requires.old c.len-k.result f c.index.result.now c.index.ensures
+    c.loop.bytes.items c.write_item.new.bytes.items c.in_err-write_item.field-0.0 c.in_err-write_item.ensures)
+
+pub overflow_cast-seat : goal.overflow_cast-seat
+overflow_cast-seat c =
+    let bl : c.loop-b.b < length c.args.plan.now.spans = omega (arith, c.loop-b-test.true, ap length c.spans-spans.ensures.spans) in
+    let f = item_facts c.args.bits c.args.items.now c.args.plan.now c.args.laid.now c.spans-spans.ensures.plan c.requires.plan c.requires.laid c.requires.ends
+    c.loop-b.b c.loop.counter c.loop.bytes.items c.loop.starts.items c.loop.forms.items c.loop-b.slots.items c.loop-b.ends.items
+    (c.loop.invariant.written c.requires.laid.0 c.requires.laid.2) bl
+    (omega (arith, c.loop-test.true, c.loop.invariant.count_is)) c.len-k.result (c.len-k.ensures ∙ c.loop.starts.ok.0) in
+    let s = f.seat_for c.index.result.now c.index-branches-k.result c.index.ensures (rw c.items-branches.ensures at c.index-branches-k.is) in
+    omega (arith, s.place)
+
+pub loop-preserved : goal.loop-preserved
+loop-preserved c =
+    let bl : c.loop-b.b < length c.args.plan.now.spans = omega (arith, c.loop-b-test.true, ap length c.spans-spans.ensures.spans) in
+    let f = item_facts c.args.bits c.args.items.now c.args.plan.now c.args.laid.now c.spans-spans.ensures.plan c.requires.plan c.requires.laid c.requires.ends
+    c.loop-b.b c.loop.counter c.loop.bytes.items c.loop.starts.items c.loop.forms.items c.loop-b.slots.items c.loop-b.ends.items
+    (c.loop.invariant.written c.requires.laid.0 c.requires.laid.2) bl
+    (omega (arith, c.loop-test.true, c.loop.invariant.count_is)) c.len-k.result (c.len-k.ensures ∙ c.loop.starts.ok.0) in
+    record {
+      count_is = c.loop.invariant.count_is;
+      written = λ layout is.
+          item_step c.args.bits c.args.items.now c.args.plan.now layout c.loop-b.b c.loop.counter
+          c.loop.bytes.items c.loop.starts.items c.loop.forms.items c.loop-b.slots.items c.loop-b.ends.items (c.loop.invariant.written layout is)
+          c.len-k.result f.at c.index.result.now (f.seat_is c.index.result.now c.index.ensures ∙ is.seats c.len-k.result f.in_plan)
+          c.write_item.new.bytes.items c.push.new.self.items c.push-in-loop.new.self.items
+          c.in_ok-write_item.ensures.0 c.in_ok-write_item.ensures.1 c.in_ok-push.ensures.items c.in_ok-push-2.ensures.items;
+    }
+
+pub overflow_add-goals : goal.overflow_add-goals
+overflow_add-goals c =
+    let bl : c.loop-b.b < length c.args.plan.now.spans = omega (arith, c.loop-b-test.true, ap length c.spans-spans.ensures.spans) in
+    let f = end_facts c.args.bits c.args.items.now c.args.plan.now c.args.laid.now c.spans-spans.ensures.plan c.requires.plan c.requires.laid c.requires.ends
+    c.loop-b.b c.loop.counter c.loop.bytes.items c.loop.starts.items c.loop.forms.items c.loop-b.slots.items c.loop-b.ends.items
+    (c.loop.invariant.written c.requires.laid.0 c.requires.laid.2) bl
+    (omega (arith, c.loop-test.false, c.loop.auto.counter-end, c.loop.invariant.count_is)) c.len-first.result (c.len-first.ensures ∙ c.loop-b.slots.ok.0)
+    c.index-in-loop-b.result.now c.index-in-loop-b.ensures in
+    omega (arith, f.few)
+
+pub offset_bounds-deref-first : goal.offset_bounds-deref-first
+offset_bounds-deref-first c =
+    let bl : c.loop-b.b < length c.args.plan.now.spans = omega (arith, c.loop-b-test.true, ap length c.spans-spans.ensures.spans) in
+    let f = end_facts c.args.bits c.args.items.now c.args.plan.now c.args.laid.now c.spans-spans.ensures.plan c.requires.plan c.requires.laid c.requires.ends
+    c.loop-b.b c.loop.counter c.loop.bytes.items c.loop.starts.items c.loop.forms.items c.loop-b.slots.items c.loop-b.ends.items
+    (c.loop.invariant.written c.requires.laid.0 c.requires.laid.2) bl
+    (omega (arith, c.loop-test.false, c.loop.auto.counter-end, c.loop.invariant.count_is)) c.len-first.result (c.len-first.ensures ∙ c.loop-b.slots.ok.0)
+    c.index-in-loop-b.result.now c.index-in-loop-b.ensures in
+    omega (arith, f.few)
+
+pub slice_bounds-goals-end : goal.slice_bounds-goals-end
+slice_bounds-goals-end c =
+    let bl : c.loop-b.b < length c.args.plan.now.spans = omega (arith, c.loop-b-test.true, ap length c.spans-spans.ensures.spans) in
+    let f = end_facts c.args.bits c.args.items.now c.args.plan.now c.args.laid.now c.spans-spans.ensures.plan c.requires.plan c.requires.laid c.requires.ends
+    c.loop-b.b c.loop.counter c.loop.bytes.items c.loop.starts.items c.loop.forms.items c.loop-b.slots.items c.loop-b.ends.items
+    (c.loop.invariant.written c.requires.laid.0 c.requires.laid.2) bl
+    (omega (arith, c.loop-test.false, c.loop.auto.counter-end, c.loop.invariant.count_is)) c.len-first.result (c.len-first.ensures ∙ c.loop-b.slots.ok.0)
+    c.index-in-loop-b.result.now c.index-in-loop-b.ensures in
+    omega (arith, f.fits, ap length c.deref-in-loop-b.ensures.value)
+
+pub write_end-requires-clause-images : goal.write_end-requires-clause-images
+write_end-requires-clause-images c =
+    let bl : c.loop-b.b < length c.args.plan.now.spans = omega (arith, c.loop-b-test.true, ap length c.spans-spans.ensures.spans) in
+    let f = end_facts c.args.bits c.args.items.now c.args.plan.now c.args.laid.now c.spans-spans.ensures.plan c.requires.plan c.requires.laid c.requires.ends
+    c.loop-b.b c.loop.counter c.loop.bytes.items c.loop.starts.items c.loop.forms.items c.loop-b.slots.items c.loop-b.ends.items
+    (c.loop.invariant.written c.requires.laid.0 c.requires.laid.2) bl
+    (omega (arith, c.loop-test.false, c.loop.auto.counter-end, c.loop.invariant.count_is)) c.len-first.result (c.len-first.ensures ∙ c.loop-b.slots.ok.0)
+    c.index-in-loop-b.result.now c.index-in-loop-b.ensures in
+    f.images
+
+pub write_end-requires-clause-goals : goal.write_end-requires-clause-goals
+write_end-requires-clause-goals c =
+    let bl : c.loop-b.b < length c.args.plan.now.spans = omega (arith, c.loop-b-test.true, ap length c.spans-spans.ensures.spans) in
+    let f = end_facts c.args.bits c.args.items.now c.args.plan.now c.args.laid.now c.spans-spans.ensures.plan c.requires.plan c.requires.laid c.requires.ends
+    c.loop-b.b c.loop.counter c.loop.bytes.items c.loop.starts.items c.loop.forms.items c.loop-b.slots.items c.loop-b.ends.items
+    (c.loop.invariant.written c.requires.laid.0 c.requires.laid.2) bl
+    (omega (arith, c.loop-test.false, c.loop.auto.counter-end, c.loop.invariant.count_is)) c.len-first.result (c.len-first.ensures ∙ c.loop-b.slots.ok.0)
+    c.index-in-loop-b.result.now c.index-in-loop-b.ensures in
+    f.goals c.deref-in-loop-b.result.now (c.len-first.result + c.index-in-loop-b.result.now.slots - c.len-first.result)
+    c.deref-in-loop-b.ensures.value (omega arith)
+
+pub loop-b-preserved : goal.loop-b-preserved
+loop-b-preserved c =
+    let bl : c.loop-b.b < length c.args.plan.now.spans = omega (arith, c.loop-b-test.true, ap length c.spans-spans.ensures.spans) in
+    let whole : (span_at c.args.plan.now.spans c.loop-b.b).count ≡ c.loop.counter =
+    omega (arith, c.loop-test.false, c.loop.auto.counter-end, c.loop.invariant.count_is) in
+    let f = end_facts c.args.bits c.args.items.now c.args.plan.now c.args.laid.now c.spans-spans.ensures.plan c.requires.plan c.requires.laid c.requires.ends
+    c.loop-b.b c.loop.counter c.loop.bytes.items c.loop.starts.items c.loop.forms.items c.loop-b.slots.items c.loop-b.ends.items
+    (c.loop.invariant.written c.requires.laid.0 c.requires.laid.2) bl whole c.len-first.result (c.len-first.ensures ∙ c.loop-b.slots.ok.0)
+    c.index-in-loop-b.result.now c.index-in-loop-b.ensures in
+    λ layout is.
+    end_step c.args.bits c.args.items.now c.args.plan.now c.args.laid.now layout is c.loop-b.b c.loop.counter
+    c.loop.bytes.items c.loop.starts.items c.loop.forms.items c.loop-b.slots.items c.loop-b.ends.items (c.loop.invariant.written layout is) bl whole
+    c.len-first.result (c.len-first.ensures ∙ c.loop-b.slots.ok.0) c.index-in-loop-b.result.now f.end_is
+    c.deref-in-loop-b.result.now (c.len-first.result + c.index-in-loop-b.result.now.slots - c.len-first.result)
+    c.deref-in-loop-b.ensures.value (omega arith) c.write_end.new.bytes.items c.write_end.new.slots.items c.push-in-loop-b.new.self.items
+    c.in_ok-write_end.ensures.bytes c.in_ok-write_end.ensures.slots
+    (c.in_ok-push-3.ensures.items ∙ ap (λ n. c.loop-b.ends.items ++ n ∷ []) (c.len-in-loop-b.ensures ∙ c.write_end.new.bytes.ok.0))
+
+pub returns : goal.returns
+returns c =
+    blocks_moved c.args.bits c.args.items.now c.args.plan.now c.args.laid.now c.spans-spans.ensures.plan c.requires.plan c.requires.laid c.requires.ends
+    c.requires.old c.loop-b.b (omega (arith, c.loop-b-test.false, c.loop-b.auto.b-end, ap length c.spans-spans.ensures.spans))
+    _ (c.loop-b.invariant c.requires.laid.0 c.requires.laid.2)

@@ -1,0 +1,5 @@
+pub mod Bytes
+pub mod Moved
+pub mod Read
+pub mod Written
+pub mod Aims

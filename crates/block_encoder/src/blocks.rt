@@ -1,0 +1,104 @@
+//! Moving blocks.
+
+ghost use Rattle.std.specs.Prelude.{◌≡◌};
+ghost use Rattle.move_goals.specs.Items as old;
+ghost use Rattle.block_encoder.specs.Moved.{IsAnswer, one_span};
+ghost use Rattle.block_encoder.specs.Written.{first_end_past};
+
+use crate::error::MoveError;
+use crate::moved::{Moved, MovedBlocks};
+use crate::write::write_blocks;
+use branch_sizes::BlockSpan;
+use move_goals::{Placed, first_disorder, first_old_pass, plan_for};
+use move_layout::{BlockEnd, lay_out};
+use std::alloc::Global;
+use x86_values::Bits;
+
+/// Whether an address lies behind the address space of a mode.
+fn passes(bits: Bits, end: u128) -> bool
+    ensures { result ≡ old.passes bits end }
+{
+    let width = match bits {
+        Bits::B16 => 16,
+        Bits::B32 => 32,
+        Bits::B64 => 64,
+    };
+    end > 1 << width
+}
+
+/// The first new end that passes the address space of the mode.
+fn first_new_pass(bits: Bits, ends: &[BlockEnd]) -> Option<u128>
+    ensures { result ≡ first_end_past bits ends.now }
+{
+    for end in ends {
+        if passes(bits, end.end) {
+            return Some(end.end);
+        }
+    }
+    None
+}
+
+/// Moves blocks of code to new addresses.
+///
+/// `items` are the instructions of all blocks in order; the first span has the first of them, and so on. Each was read, or could have been written, at
+/// its old address. A target goes with the instruction of the same block that began there, else with the first one of another block, else it stays; the
+/// forms of branches are those of the least layout, in which no branch is longer than in any other that reaches all its goals.
+///
+/// `TooMany`: there are more than 65,536 items. `OldOrder`: an item that is not the first of its block does not begin where the one before it ended.
+/// `Wraps`: an old end, else a new end, passes the address space of the mode, the first that does. `TooFar`: an item does not reach its goal, the
+/// first that does not. `Memory` may stand in place of what comes behind `OldOrder`.
+pub fn move_blocks(
+    alloc: Global,
+    bits: Bits,
+    items: &[Placed],
+    spans: &[BlockSpan],
+) -> Result<MovedBlocks, MoveError>
+    requires spans { old.AreSpansOf items.now spans.now }
+    requires placed { old.ArePlaced bits items.now }
+    ensures { IsAnswer bits items.now spans.now result }
+{
+    if items.len() > 65_536 {
+        return Err(MoveError::TooMany {
+            count: items.len() as u64,
+        });
+    }
+    if let Some(at) = first_disorder(items, spans) {
+        return Err(MoveError::OldOrder { at: at as u64 });
+    }
+    if let Some(end) = first_old_pass(bits, items, spans) {
+        return Err(MoveError::Wraps { end });
+    }
+    let plan = match plan_for(alloc, bits, items, spans) {
+        Ok(plan) => plan,
+        Err(_) => return Err(MoveError::Memory),
+    };
+    let laid = match lay_out(alloc, &plan) {
+        Ok(laid) => laid,
+        Err(_) => return Err(MoveError::Memory),
+    };
+    if let Some(end) = first_new_pass(bits, &laid.ends) {
+        return Err(MoveError::Wraps { end });
+    }
+    write_blocks(alloc, bits, items, &plan, &laid)
+}
+
+/// Moves one block of code to a new address, by the rules and with the refusals of [`move_blocks`].
+pub fn move_block(
+    alloc: Global,
+    bits: Bits,
+    items: &[Placed],
+    new_base: u64,
+) -> Result<Moved, MoveError>
+    requires { old.ArePlaced bits items.now }
+    ensures { IsAnswer bits items.now (one_span items.now new_base) result }
+{
+    let Ok(count) = u32::try_from(items.len()) else {
+        return Err(MoveError::TooMany {
+            count: items.len() as u64,
+        });
+    };
+    match move_blocks(alloc, bits, items, &[BlockSpan { count, new_base }]) {
+        Ok(blocks) => Ok(Moved { blocks }),
+        Err(why) => Err(why),
+    }
+}

@@ -1,0 +1,44 @@
+//! Why blocks are not moved.
+
+ghost use Rattle.std.specs.Prelude.{◌≡◌};
+ghost use Rattle.block_encoder.specs.declared.error.MoveError.TheVariants as why;
+
+use std::alloc::{AllocError, AllocFailed};
+use thiserror::Error;
+
+/// Why blocks are not moved. Where causes stand together the first of these in the order `TooMany`, `OldOrder`, `Wraps`, `TooFar` is told; `Memory`
+/// may stand in place of what comes after `OldOrder`.
+#[derive(Clone, Copy, PartialEq, Eq, Debug, Error)]
+pub enum MoveError {
+    /// There was not enough memory.
+    #[error("Memory")]
+    Memory,
+    /// There are this many items, more than 65,536.
+    #[error("TooMany")]
+    TooMany { count: u64 },
+    /// The item of this number, from 0, is not the first of its block and does not begin where the one before it ended.
+    #[error("OldOrder")]
+    OldOrder { at: u64 },
+    /// A block passes the address space of the mode: its old or its new end is this address.
+    #[error("Wraps")]
+    Wraps { end: u128 },
+    /// The item of this number, from 0, does not reach its goal, which is this address.
+    #[error("TooFar")]
+    TooFar { at: u64, target: u64 },
+}
+
+impl From<AllocError> for MoveError {
+    ghost from_gives = { λ _ e. e ≡ why.Memory };
+
+    fn from(_e: AllocError) -> MoveError {
+        MoveError::Memory
+    }
+}
+
+impl<T: Drop> From<AllocFailed<T>> for MoveError {
+    ghost from_gives = { λ _ e. e ≡ why.Memory };
+
+    fn from(_e: AllocFailed<T>) -> MoveError {
+        MoveError::Memory
+    }
+}

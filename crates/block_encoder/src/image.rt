@@ -1,0 +1,132 @@
+//! The bytes of one moved instruction.
+
+ghost use Rattle.std.specs.Prelude.{◌≡◌, ◌↔◌, ◌+◌, ◌^◌, ◌<◌, ◌≤◌, IsTrue, IfOk, IfSome, MatchBool};
+ghost use Rattle.encoder.specs.Encoding.{encoding};
+ghost use Rattle.branch_sizes.specs.Layout.{Reaches};
+ghost use Rattle.branch_forms.specs.Images.{instrs_of};
+ghost use Rattle.block_encoder.specs.Bytes.{bytes_from};
+ghost use Rattle.block_encoder.specs.Moved as moved;
+ghost use Rattle.block_encoder.specs.Written.{IsPieceAppended, AreAppended, IsSeatWritten};
+
+use branch_forms::{Image, image_of};
+use branch_sizes::{Form, Reach};
+use encoder::encode;
+use move_layout::Seat;
+use moved_targets::target_reach;
+use std::alloc::AllocError;
+use x86_values::{Bits, Instr, wrap};
+
+/// Whether an address is below 2 to a number of bits.
+fn is_below(address: u128, bits: u8) -> bool
+    requires { address < 2 ^ 96 }
+    ensures { IsTrue result ↔ (address < 2 ^ bits) }
+{
+    bits >= 96 || address < 1 << bits
+}
+
+/// Whether an image of some bytes at a place reaches a goal.
+fn reaches(reach: Reach, len: u8, place: u128, goal: u128) -> bool
+    requires place { place < 2 ^ 66 }
+    requires goal { goal < 2 ^ 66 }
+    ensures { IsTrue result ↔ Reaches reach len place goal }
+{
+    let end = place + u128::from(len);
+    match reach {
+        Reach::Always => true,
+        Reach::Signed8 => end <= goal + 128 && goal < end + 128,
+        Reach::Signed32 => end <= goal + 0x8000_0000 && goal < end + 0x8000_0000,
+        Reach::Below(bits) => is_below(goal, bits),
+        Reach::BridgeBelow { bits, inner } => {
+            is_below(goal, bits) && is_below(place + u128::from(inner), bits)
+        }
+    }
+}
+
+/// What an instruction in a seat reaches.
+fn seat_reach(instr: &Instr, form: Form, reach: Reach) -> Reach
+    ensures { result ≡ moved.seat_reach instr.now form reach }
+{
+    match form {
+        Form::Itself => target_reach(instr),
+        _ => reach,
+    }
+}
+
+/// Appends the plain spelling of an instruction at an address, which is taken modulo 2 to the number of bits of the mode. The address behind it, or
+/// `None` where the instruction has no plain spelling there.
+fn append_piece(
+    bits: Bits,
+    at: u128,
+    instr: &Instr,
+    bytes: &mut Vec<u8>,
+) -> Result<Option<u128>, AllocError>
+    requires { at < 2 ^ 66 }
+    ensures piece { IfOk result (λ next. IsPieceAppended (encoding bits at instr.now) at bytes.old.items bytes.new.items next) }
+    ensures near { IfOk result (λ next. IfSome next (λ n. n ≤ at + 15)) }
+{
+    match encode(bits, wrap(bits, at), instr) {
+        Ok(piece) => {
+            bytes.extend_from_slice(&piece)?;
+            Ok(Some(at + piece.len() as u128))
+        }
+        Err(_) => Ok(None),
+    }
+}
+
+/// Appends the plain spellings of an image at an address. `false`: one of them has none there, and those before it may be appended.
+fn append_image(
+    bits: Bits,
+    at: u128,
+    image: &Image,
+    bytes: &mut Vec<u8>,
+) -> Result<bool, AllocError>
+    requires { at < 2 ^ 65 }
+    ensures { IfOk result (λ done. AreAppended (bytes_from bits at (instrs_of image.now)) bytes.old.items bytes.new.items done) }
+{
+    match image {
+        Image::One(a) => Ok(append_piece(bits, at, a, bytes)?.is_some()),
+        Image::Two(a, b) => {
+            let Some(at) = append_piece(bits, at, a, bytes)? else {
+                return Ok(false);
+            };
+            Ok(append_piece(bits, at, b, bytes)?.is_some())
+        }
+        Image::Three(a, b, c) => {
+            let Some(at) = append_piece(bits, at, a, bytes)? else {
+                return Ok(false);
+            };
+            let Some(at) = append_piece(bits, at, b, bytes)? else {
+                return Ok(false);
+            };
+            Ok(append_piece(bits, at, c, bytes)?.is_some())
+        }
+    }
+}
+
+/// Appends the bytes of an instruction in its seat, aimed at its goal. `false`: it does not reach the goal, and some of its bytes may be appended.
+pub(crate) fn write_image(
+    bits: Bits,
+    instr: &Instr,
+    seat: &Seat,
+    goal: u64,
+    bytes: &mut Vec<u8>,
+) -> Result<bool, AllocError>
+    requires place { seat.now.place < 2 ^ 64 }
+    requires slot { seat.now.slot < 2 ^ 64 }
+    requires goal { goal ≡ seat.now.goal }
+    ensures { IfOk result (λ reached. MatchBool reached (IsSeatWritten bits instr.now seat.now bytes.old.items bytes.new.items) (moved.IsSeatReached bits instr.now seat.now → ⊥)) }
+{
+    let reach = seat_reach(instr, seat.form, seat.reach);
+    if !reaches(reach, seat.len, seat.place, u128::from(goal)) {
+        return Ok(false);
+    }
+    let image = image_of(
+        bits,
+        instr,
+        seat.form,
+        seat.place as u64,
+        goal,
+        seat.slot as u64,
+    );
+    append_image(bits, seat.place, &image, bytes)
+}

@@ -1,0 +1,20 @@
+//! Moving blocks of code: the instructions at new addresses, each branch and each operand at RIP or EIP aimed at what it was aimed at, in the least
+//! layout.
+#![tactic(auto)]
+
+mod blocks;
+mod ends;
+mod error;
+mod image;
+pub mod laws;
+mod moved;
+mod write;
+
+pub use blocks::{move_block, move_blocks};
+pub use branch_sizes::{BlockSpan, Form};
+pub use error::MoveError;
+pub use move_goals::Placed;
+pub use moved::{Moved, MovedBlocks};
+
+#[cfg(test)]
+mod tests;

@@ -1,0 +1,108 @@
+//! The bytes of moved blocks.
+
+ghost use Rattle.std.specs.Prelude.{◌≡◌, None};
+ghost use Rattle.branch_sizes.specs.Layout.{IsLeast};
+ghost use Rattle.move_goals.specs.Items.{AreSpansOf};
+ghost use Rattle.move_goals.specs.Plan.{plan_for};
+ghost use Rattle.move_layout.specs.Laid.{IsLaid, IsLaidLeast};
+ghost use Rattle.block_encoder.specs.Moved.{IsOldSound, IsAnswer};
+ghost use Rattle.block_encoder.specs.Written.{IsGoalAddress, IsSeatOf, IsItemWritten, first_end_past};
+
+use crate::ends::write_end;
+use crate::error::MoveError;
+use crate::image::write_image;
+use crate::moved::MovedBlocks;
+use branch_sizes::{BlockSpan, Branch, Goal, Plan};
+use move_goals::Placed;
+use move_layout::{BlockEnd, Layout, Seat};
+use std::alloc::Global;
+use x86_values::{Bits, Instr};
+
+/// A goal as an address.
+fn goal_address(goal: Goal, address: u128) -> u64
+    requires { IsGoalAddress goal address }
+    ensures { result ≡ address }
+{
+    match goal {
+        Goal::None => 0,
+        Goal::Inside(_) => address as u64,
+        Goal::Outside(target) => target,
+    }
+}
+
+/// Appends the bytes of item `k` in its seat, or refuses it where it does not reach its goal.
+fn write_item(
+    bits: Bits,
+    k: usize,
+    instr: &Instr,
+    branch: &Branch,
+    seat: &Seat,
+    bytes: &mut Vec<u8>,
+) -> Result<(), MoveError>
+    requires { IsSeatOf branch.now seat.now }
+    ensures { IsItemWritten bits instr.now seat.now k bytes.old.items bytes.new.items result }
+{
+    let target = goal_address(branch.goal, seat.goal);
+    if write_image(bits, instr, seat, target, bytes)? {
+        Ok(())
+    } else {
+        Err(MoveError::TooFar {
+            at: k as u64,
+            target,
+        })
+    }
+}
+
+/// How many bytes of memory blocks take that end there.
+fn byte_count(spans: &[BlockSpan], ends: &[BlockEnd]) -> usize {
+    let mut count: usize = 0;
+    for (span, end) in spans.iter().zip(ends.iter()) {
+        let len = end.end.saturating_sub(u128::from(span.new_base));
+        count = count.saturating_add(usize::try_from(len).unwrap_or(usize::MAX));
+    }
+    count
+}
+
+/// Writes blocks that are laid out.
+pub(crate) fn write_blocks(
+    alloc: Global,
+    bits: Bits,
+    items: &[Placed],
+    plan: &Plan,
+    laid: &Layout,
+) -> Result<MovedBlocks, MoveError>
+    requires plan { plan.now ≡ plan_for bits plan.now.spans items.now }
+    requires old { IsOldSound bits items.now plan.now.spans }
+    requires laid { IsLaidLeast plan.now laid.now }
+    requires ends { first_end_past bits laid.now.ends.items ≡ None }
+    ensures { IsAnswer bits items.now plan.now.spans result }
+{
+    let spans = plan.spans();
+    let branches = plan.items();
+    let mut bytes = Vec::with_capacity(alloc, byte_count(spans, &laid.ends))?;
+    let mut starts = Vec::with_capacity(alloc, items.len())?;
+    let mut forms = Vec::with_capacity(alloc, items.len())?;
+    let mut slots = Vec::with_capacity(alloc, laid.slots.len())?;
+    let mut ends = Vec::with_capacity(alloc, spans.len())?;
+    for b in 0..spans.len() {
+        for _ in 0..spans[b].count {
+            let k = starts.len();
+            let seat = laid.seats[k];
+            write_item(bits, k, &items[k].instr, &branches[k], &seat, &mut bytes)?;
+            starts.push(seat.place as u64)?;
+            forms.push(seat.form)?;
+        }
+        let end = laid.ends[b];
+        let first = slots.len();
+        let goals = &laid.slots[first..first + end.slots];
+        write_end(&end, goals, &mut bytes, &mut slots)?;
+        ends.push(bytes.len() as u64)?;
+    }
+    Ok(MovedBlocks {
+        bytes,
+        starts,
+        forms,
+        slots,
+        ends,
+    })
+}

@@ -1,0 +1,85 @@
+-- Relative branches: the rows with an offset as their operand, and the code numbers of the rows that their images use (Intel SDM volume 2, CALL, JMP,
+-- Jcc, LOOP).
+use Rattle.std.specs.Prelude.{ℕ, ◌+◌, ◌*◌, ◌%◌, ◌==◌, true, false, nat_lt, if◌then◌else◌, Option, Some, None, slice_get, is_some, bit_xor}
+use Rattle.x86_values.specs.declared.Bits.{Bits}
+use Rattle.x86_values.specs.declared.Bits.TheVariants.{B16, B32, B64}
+use Rattle.x86_values.specs.declared.Instr.{Instr}
+use Rattle.row_types.specs.declared.Row.{Row}
+use Rattle.row_types.specs.declared.Size.{Size}
+use Rattle.row_types.specs.declared.Size.TheVariants.{O16, O32}
+use Rattle.row_types.specs.declared.OpKind.TheVariants.{Jb, Jz}
+use Rattle.row_fit.specs.Fits.{kind_at}
+use Rattle.opcode_rows.specs.Table.{table}
+use Rattle.operand_info.specs.Operands.{near_value, first_value}
+use Rattle.branch_forms.specs.declared.branch.Action.{Action}
+use Rattle.branch_forms.specs.declared.branch.Action.TheVariants.{Jump, Call, Condition, Count}
+use Rattle.branch_forms.specs.declared.branch.RelativeBranch.{RelativeBranch}
+
+-- ---- which instructions are relative branches
+
+-- the operand size of the row of a relative branch
+unfoldable pub size_of : Size → Bits
+size_of O16 = B16
+size_of O32 = B32
+size_of _ = B64
+
+-- what a branch with an offset of 8 bits does: EB jumps, 70 to 7F jump on a condition, E0 to E3 on a counter
+unfoldable pub short_action : ℕ → Action
+short_action op = if op == 0xEB then Jump else (if nat_lt op 0x80 then Condition (op % 16) else Count (op % 4))
+
+-- what a branch with an offset of 16 or 32 bits does: E8 calls, E9 jumps, 0F 80 to 0F 8F jump on a condition
+unfoldable pub near_action : ℕ → Action
+near_action op = if op == 0xE8 then Call else (if op == 0xE9 then Jump else Condition (op % 16))
+
+-- the relative branch of a row: one whose first operand is an offset
+unfoldable pub branch_in : Row → Option RelativeBranch
+branch_in row =
+    elim (kind_at row 0) [
+      | Jb ↦ Some (record { action = short_action row.opcode; is_short = true; size = size_of row.size })
+      | Jz ↦ Some (record { action = near_action row.opcode; is_short = false; size = size_of row.size })
+      | _ ↦ None
+    ]
+
+-- the same of a row that may be absent
+abbrev pub branch_by : Option Row → Option RelativeBranch
+branch_by None = None
+branch_by (Some row) = branch_in row
+
+-- the relative branch that an instruction is, if it has a near target
+unfoldable pub branch_of : Instr → Option RelativeBranch
+branch_of i = if is_some (first_value near_value i) then branch_by (slice_get table i.code.0) else None
+
+-- ---- codes
+
+-- rows that differ in the operand size alone stand one behind another: 16, 32, 64
+unfoldable pub size_number : Bits → ℕ
+size_number B16 = 0
+size_number B32 = 1
+size_number B64 = 2
+
+-- the code of the branch with an offset of 8 bits; a CALL has none, and its own code stands for it
+unfoldable pub short_code : Action → Bits → ℕ
+short_code Jump size = 629 + size_number size
+short_code Call size = 621 + size_number size
+short_code (Condition n) size = 152 + 3 * n + size_number size
+short_code (Count n) size = 603 + 3 * n + size_number size
+
+-- the code of the branch with an offset of 16 or 32 bits; a branch on a counter has none, and that of JMP stands for it
+unfoldable pub near_code : Action → Bits → ℕ
+near_code Jump size = 624 + size_number size
+near_code Call size = 621 + size_number size
+near_code (Condition n) size = 992 + 3 * n + size_number size
+near_code (Count n) size = 624 + size_number size
+
+-- the code of a branch as it stands
+abbrev pub own_code : RelativeBranch → ℕ
+own_code b = if b.is_short then short_code b.action b.size else near_code b.action b.size
+
+-- the code of CALL and JMP through memory in 64-bit mode
+unfoldable pub far_code : Action → ℕ
+far_code Call = 685
+far_code _ = 691
+
+-- the other condition: the lowest bit of its number changes (B.1.4.7)
+unfoldable pub inverted : ℕ → ℕ
+inverted n = bit_xor n 1

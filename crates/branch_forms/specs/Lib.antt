@@ -1,0 +1,4 @@
+pub mod Branches
+pub mod Rows
+pub mod Images
+pub mod Choices

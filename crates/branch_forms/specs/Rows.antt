@@ -1,0 +1,30 @@
+-- The rows that the codes of branches name.
+use Rattle.std.specs.Prelude.{◌≡◌, ℕ, Some, slice_get}
+use Rattle.x86_values.specs.declared.Bits.{Bits}
+use Rattle.x86_values.specs.declared.Bits.TheVariants.{B16, B32, B64}
+use Rattle.row_types.specs.declared.Row.{Row}
+use Rattle.row_types.specs.declared.RowKind.TheVariants.{Legacy}
+use Rattle.row_types.specs.declared.Map.{Map}
+use Rattle.row_types.specs.declared.ModRmRule.{ModRmRule}
+use Rattle.row_types.specs.declared.OpKind.{OpKind}
+use Rattle.row_types.specs.declared.Size.{Size}
+use Rattle.row_types.specs.declared.Size.TheVariants.{O16, O32, O64}
+use Rattle.row_fit.specs.Fits.{kind_at}
+use Rattle.opcode_rows.specs.Table.{table}
+
+-- the condition of a row on an operand size
+abbrev pub size_word : Bits → Size
+size_word B16 = O16
+size_word B32 = O32
+size_word B64 = O64
+
+-- the code is that of a legacy row with this map, opcode byte, ModRM, first operand and operand size
+pub record NamesRow (code : ℕ) (map : Map) (opcode : ℕ) (modrm : ModRmRule) (kind : OpKind) (size : Bits) : Type 0 where
+  pub row : Row
+  pub stands : slice_get table code ≡ Some row
+  pub is_legacy : row.kind ≡ Legacy
+  pub has_map : row.map ≡ map
+  pub has_opcode : row.opcode ≡ opcode
+  pub has_modrm : row.modrm ≡ modrm
+  pub has_kind : kind_at row 0 ≡ kind
+  pub has_size : row.size ≡ size_word size

@@ -1,0 +1,12 @@
+//! The forms that a relative branch may take at a new place, and the instructions that each form stands for (Intel SDM volume 2, CALL, JMP, Jcc,
+//! LOOP).
+#![tactic(auto)]
+
+mod branch;
+mod choices;
+mod image;
+pub mod laws;
+
+pub use branch::{Action, RelativeBranch, branch_of};
+pub use choices::choices_of;
+pub use image::{Image, image_of};

@@ -1,0 +1,7 @@
+pub mod WrappedAddress
+pub mod OneReading
+pub mod Leaving
+pub mod Arriving
+pub mod Walking
+pub mod Listing
+pub mod Unique

@@ -1,0 +1,16 @@
+use Rattle.std.proofs.Common.{sym, subst}
+use Rattle.flow_graph.specs.Control.{code_bytes}
+use Rattle.flow_graph.specs.Marks.{AreMarks}
+use Rattle.flow_graph.proofs.Listing.{chained, graph_right}
+use Rattle.flow_graph.proofs.graph.flow_graph_in.Goals as goal
+
+pub blocks_of-requires-clause-chained : goal.blocks_of-requires-clause-chained
+blocks_of-requires-clause-chained c =
+    let code = code_bytes c.args.bits c.args.base c.args.bytes.now in
+    chained code c.deref.result.now (subst (AreMarks code) (sym c.deref.ensures.value) c.in_ok-marks.ensures)
+
+pub returns : goal.returns
+returns c =
+    let code = code_bytes c.args.bits c.args.base c.args.bytes.now in
+    graph_right code c.deref.result.now (subst (AreMarks code) (sym c.deref.ensures.value) c.in_ok-marks.ensures)
+    c.in_ok-blocks.blocks.starts.items c.in_ok-blocks.blocks.leaders.items c.in_ok-blocks.ensures

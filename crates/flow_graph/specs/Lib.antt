@@ -1,0 +1,6 @@
+pub mod Control
+pub mod Exits
+pub mod Reached
+pub mod Marks
+pub mod Walks
+pub mod Graphs

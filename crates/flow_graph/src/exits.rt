@@ -1,0 +1,130 @@
+//! Where control goes behind an instruction.
+
+ghost use Rattle.std.specs.Prelude.{◌≡◌, ◌+◌, ◌<◌, ◌≤◌, length, Some, IsTrue, IfSome};
+ghost use Rattle.opcode_rows.specs.Allowed.{is_well_formed};
+ghost use Rattle.flow_graph.specs.Control as control;
+ghost use Rattle.flow_graph.specs.Control.{code_bytes};
+ghost use Rattle.flow_graph.specs.Exits as spec;
+ghost use Rattle.flow_graph.specs.Exits.{AreExits};
+
+use crate::reading::read_at;
+use operand_info::{Flow, flow_of, near_target};
+use plain_spelling::numbers::distance;
+use x86_values::{Bits, Decoded, Instr};
+
+/// Where control goes from an instruction, as far as there are bytes.
+#[derive(Clone, Copy)]
+pub(crate) struct Exits {
+    /// The length of the instruction where control goes to its end, else 0.
+    pub(crate) next: u8,
+    /// The offset of its target, where that is another one than its end.
+    pub(crate) target: Option<usize>,
+}
+
+/// Whether control may go on behind an instruction.
+#[tactic(auto, unfolding(crate::specs::Control::goes_on))]
+fn goes_on(flow: Flow) -> bool
+    ensures { result ≡ control.goes_on flow }
+{
+    match flow {
+        Flow::Next | Flow::ConditionalBranch | Flow::Call | Flow::IndirectCall | Flow::Interrupt =>
+            true,
+        Flow::UnconditionalBranch | Flow::IndirectBranch | Flow::Return | Flow::Exception => false,
+    }
+}
+
+/// Whether control may go to the near target of an instruction.
+#[tactic(auto, unfolding(crate::specs::Control::goes_to_target))]
+fn goes_to_target(flow: Flow) -> bool
+    ensures { result ≡ control.goes_to_target flow }
+{
+    match flow {
+        Flow::UnconditionalBranch | Flow::ConditionalBranch | Flow::Call => true,
+        Flow::Next
+        | Flow::IndirectBranch
+        | Flow::Return
+        | Flow::IndirectCall
+        | Flow::Interrupt
+        | Flow::Exception => false,
+    }
+}
+
+/// How far the target to which control may go stands behind the first byte.
+#[tactic(auto, unfolding(crate::specs::Exits::target_offset))]
+fn target_offset(bits: Bits, base: u64, flow: Flow, instr: &Instr) -> Option<u64>
+    ensures { result ≡ spec.target_offset bits base flow instr.now }
+{
+    if goes_to_target(flow) {
+        match near_target(instr) {
+            Some(target) => Some(distance(bits, base, target)),
+            None => None,
+        }
+    } else {
+        None
+    }
+}
+
+/// The length of an instruction where control goes to its end, before the end of the code.
+#[tactic(auto, unfolding(crate::specs::Exits::next_exit))]
+fn next_exit(goes_on: bool, target: Option<u64>, end: usize, len: u8, count: usize) -> u8
+    ensures value { result ≡ spec.next_exit goes_on target end len count }
+    ensures short { result ≤ len }
+{
+    let is_target = match target {
+        Some(target) => target == end as u64,
+        None => false,
+    };
+    if (goes_on || is_target) && end < count {
+        len
+    } else {
+        0
+    }
+}
+
+/// The target where that is not the end of the instruction, before the end of the code.
+#[tactic(auto, unfolding(crate::specs::Exits::target_exit))]
+fn target_exit(target: Option<u64>, end: usize, count: usize) -> Option<usize>
+    ensures value { result ≡ spec.target_exit target end count }
+    ensures inside { IfSome result (λ q. q < count) }
+{
+    match target {
+        Some(target) if target != end as u64 && target < count as u64 => Some(target as usize),
+        _ => None,
+    }
+}
+
+/// Where control goes from an instruction at an offset.
+#[tactic(auto, using(operand_info::proofs::Uses::code_in_table))]
+fn exits_of(bits: Bits, base: u64, bytes: &[u8], offset: usize, decoded: &Decoded) -> Exits
+    requires inside { offset < length bytes.now }
+    requires few { length bytes.now ≤ 1048576 }
+    requires well { IsTrue (is_well_formed decoded.now.instr) }
+    ensures value { result ≡ spec.exits_of (code_bytes bits base bytes.now) offset decoded.now }
+    ensures short { result.next ≤ decoded.now.len }
+    ensures inside { IfSome result.target (λ q. q < length bytes.now) }
+{
+    let flow = flow_of(decoded.instr.code);
+    let end = offset + usize::from(decoded.len);
+    let target = target_offset(bits, base, flow, &decoded.instr);
+    Exits {
+        next: next_exit(goes_on(flow), target, end, decoded.len, bytes.len()),
+        target: target_exit(target, end, bytes.len()),
+    }
+}
+
+/// Where control goes from an offset.
+pub(crate) fn exits_at(bits: Bits, base: u64, bytes: &[u8], offset: usize) -> Exits
+    requires inside { offset < length bytes.now }
+    requires few { length bytes.now ≤ 1048576 }
+    ensures exits { AreExits (code_bytes bits base bytes.now) offset result }
+    ensures short { result.next ≤ 15 }
+    ensures inside { IfSome result.target (λ q. q < length bytes.now) }
+{
+    match read_at(bits, base, offset, &bytes[offset..]) {
+        Ok(decoded) => exits_of(bits, base, bytes, offset, &decoded),
+        Err(_) => Exits {
+            next: 0,
+            target: None,
+        },
+    }
+}

@@ -1,0 +1,100 @@
+//! The offsets that control reaches, and their leaders.
+
+ghost use Rattle.std.specs.Prelude.{◌≤◌, length, IsTrue, IfOk};
+ghost use Rattle.prefixes.specs.Answer.{is_mode, mode_of};
+ghost use Rattle.flow_graph.specs.Control.{code_bytes};
+ghost use Rattle.flow_graph.specs.Graphs.{IsFlowGraph};
+
+use crate::blocks::{Blocks, blocks_of};
+use crate::walk::marks_of;
+use prefixes::mode_of;
+use std::alloc::{AllocError, Global};
+use std::marker::Model;
+use thiserror::Error;
+use x86_values::Bits;
+
+/// Why no graph is given.
+#[derive(Clone, Copy, Debug, PartialEq, Eq, Error)]
+pub enum FlowError {
+    /// The allocator had no memory left.
+    #[error("Memory")]
+    Memory,
+}
+
+impl From<AllocError> for FlowError {
+    fn from(_e: AllocError) -> FlowError {
+        FlowError::Memory
+    }
+}
+
+/// The offsets that control reaches from the first byte of some code, each with the leader of its basic block.
+///
+/// From an instruction control goes to its end, unless it is a jump, a return or an undefined instruction, and to its near
+/// target, if it has one, as far as there are bytes; where no instruction is read, it goes nowhere. A reached offset is a
+/// follower where control comes to it from one reached instruction alone, which ends there and from which control goes
+/// nowhere else. The other reached offsets are leaders. A basic block is a leader and the followers behind it.
+#[derive(Drop)]
+pub struct FlowGraph {
+    blocks: Blocks,
+}
+
+impl Model for FlowGraph {
+    ghost use Rattle.std.specs.Prelude.{◌≡◌, length};
+    ghost use Rattle.flow_graph.specs.Graphs.{Graph};
+
+    ghost Value = { Graph };
+
+    ghost view = { λ g. record { starts = g.blocks.starts.items; leaders = g.blocks.leaders.items } };
+
+    ghost invariant = { λ g. length g.blocks.leaders.items ≡ length g.blocks.starts.items };
+}
+
+impl FlowGraph {
+    ghost use Rattle.std.specs.Prelude.{◌≡◌, length};
+
+    /// The reached offsets, in ascending order.
+    pub fn starts(&self) -> &[u32]
+        ensures { result.now ≡ self.now.starts }
+    {
+        &self.blocks.starts
+    }
+
+    /// The leaders of the reached offsets, in the order of those.
+    pub fn leaders(&self) -> &[u32]
+        ensures leaders { result.now ≡ self.now.leaders }
+        ensures len { length result.now ≡ length self.now.starts }
+    {
+        &self.blocks.leaders
+    }
+}
+
+/// The graph of code of at most 1,048,576 bytes, the first of which has the address `base`. `BITS` is the mode: 16, 32 or 64.
+///
+/// Addresses are taken modulo 2 to the number of bits of the mode. Each reached offset is read once. `Memory` is the only
+/// refusal.
+pub fn flow_graph<const BITS: u32>(
+    alloc: Global,
+    base: u64,
+    bytes: &[u8],
+) -> Result<FlowGraph, FlowError>
+    requires mode { IsTrue (is_mode BITS) }
+    requires few { length bytes.now ≤ 1048576 }
+    ensures { IfOk result (λ graph. IsFlowGraph (code_bytes (mode_of BITS) base bytes.now) graph) }
+{
+    flow_graph_in(alloc, mode_of::<BITS>(), base, bytes)
+}
+
+/// The same in a mode that is a value.
+pub fn flow_graph_in(
+    alloc: Global,
+    bits: Bits,
+    base: u64,
+    bytes: &[u8],
+) -> Result<FlowGraph, FlowError>
+    requires { length bytes.now ≤ 1048576 }
+    ensures { IfOk result (λ graph. IsFlowGraph (code_bytes bits base bytes.now) graph) }
+{
+    let marks = marks_of(alloc, bits, base, bytes)?;
+    let blocks = blocks_of(alloc, &marks)?;
+    Ok(FlowGraph { blocks })
+}

@@ -1,0 +1,14 @@
+//! The code that control reaches from the first byte of some bytes, and its basic blocks.
+#![tactic(auto)]
+
+mod blocks;
+mod exits;
+mod graph;
+pub mod laws;
+mod reading;
+mod walk;
+
+pub use graph::{FlowError, FlowGraph, flow_graph, flow_graph_in};
+
+#[cfg(test)]
+mod tests;

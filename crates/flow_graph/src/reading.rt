@@ -1,0 +1,29 @@
+//! What is read at an offset of some code.
+
+ghost use Rattle.std.specs.Prelude.{◌<◌, ◌≤◌, IsTrue, IfOk};
+ghost use Rattle.opcode_rows.specs.Allowed.{is_well_formed};
+ghost use Rattle.opcode_rows.specs.Sweep.{IsReadAt};
+ghost use Rattle.decoder.specs.Answer.{reading_of};
+
+use decoder::{DecodeError, decode};
+use x86_values::{Bits, Decoded, wrap};
+
+/// Reads the bytes that stand from an offset on, in code whose first byte has the address `base`. Addresses wrap in the mode.
+#[tactic(auto, using(crate::proofs::WrappedAddress::read_at_wrapped), unfolding(prefixes::specs::Answer::mode_of))]
+pub(crate) fn read_at(
+    bits: Bits,
+    base: u64,
+    offset: usize,
+    bytes: &[u8],
+) -> Result<Decoded, DecodeError>
+    ensures reading { IsReadAt bits base offset bytes.now (reading_of result) }
+    ensures length { IfOk result (λ d. (0 < d.len) × (d.len ≤ 15)) }
+    ensures well { IfOk result (λ d. IsTrue (is_well_formed d.instr)) }
+{
+    let ip = wrap(bits, u128::from(base) + offset as u128);
+    match bits {
+        Bits::B16 => decode::<16>(ip, bytes),
+        Bits::B32 => decode::<32>(ip, bytes),
+        Bits::B64 => decode::<64>(ip, bytes),
+    }
+}

@@ -1,0 +1,36 @@
+-- Which item of a block began at an address.
+use Rattle.std.proofs.Common.{◌≡◌, ℕ, ◌<◌, ◌≤◌, false, ◌&&◌, List, length, Some, None, inl, inr, arith}
+use Rattle.std.proofs.lemmas.Bool.{cases_lt, and_parts, false_from_ne_true, leb-true, ltb-true, le-leb, lt-ltb, eqb-true, eq-eqb}
+use Rattle.std.specs.Prelude.{nat_le, nat_lt}
+use Rattle.move_goals.specs.declared.items.Placed.{Placed}
+use Rattle.move_goals.specs.Items.{item_at}
+use Rattle.move_goals.specs.Goals.{begins_at}
+use Rattle.move_goals.specs.Starts.{Ascend, is_between, first_between}
+use Rattle.move_goals.proofs.First.{first_below_none, first_below_hit}
+
+module _ (items : List Placed) (from to t : ℕ) where
+  -- an item fails the test where it does not begin at the address
+  fails : (j : ℕ) → (from ≤ j → j < to → (item_at items j).ip ≡ t → ⊥) → (is_between from to j && begins_at items t j) ≡ false
+  fails j apart =
+      false_from_ne_true (is_between from to j && begins_at items t j) (λ h.
+      let parts = and_parts (is_between from to j) (begins_at items t j) h in
+      let ends = and_parts (nat_le from j) (nat_lt j to) parts.0 in
+      apart (leb-true from j ends.0) (ltb-true j to ends.1) (eqb-true (item_at items j).ip t parts.1))
+
+  -- those below a number began before the address, and the others behind it
+  pub none_between : (low high : ℕ) → high ≤ low → ((j : ℕ) → from ≤ j → j < low → (item_at items j).ip < t)
+      → ((j : ℕ) → high ≤ j → j < to → t < (item_at items j).ip) → first_between items from to t ≡ None
+  none_between low high le below above =
+      first_below_none (λ j. is_between from to j && begins_at items t j) (length items)
+      (λ j lt. fails j (λ a b e. elim (cases_lt j low) [
+        | inl l ↦ omega (arith, below j a l, e)
+        | inr g ↦ omega (arith, above j (omega arith) b, e)
+      ]))
+
+  -- one began there, and the addresses ascend
+  pub one_between : Ascend items from to → to ≤ length items → (k : ℕ) → from ≤ k → k < to → (item_at items k).ip ≡ t
+      → first_between items from to t ≡ Some k
+  one_between ascend le k fk kt e =
+      first_below_hit (λ j. is_between from to j && begins_at items t j) (length items) k (omega arith)
+      (rw (le-leb from k fk, lt-ltb k to kt) (eq-eqb (item_at items k).ip t e))
+      (λ j lt. fails j (λ a b h. omega (arith, ascend.each j k a lt kt, e, h)))

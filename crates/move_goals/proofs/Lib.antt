@@ -1,0 +1,5 @@
+pub mod First
+pub mod Blocks
+pub mod Began
+pub mod Aims
+pub mod Planned

@@ -1,0 +1,4 @@
+pub mod Items
+pub mod Goals
+pub mod Starts
+pub mod Plan

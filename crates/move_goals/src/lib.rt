@@ -1,0 +1,14 @@
+//! The instructions that are moved, where their targets go, and the plan by which the forms of branches are chosen.
+#![tactic(auto)]
+
+mod items;
+mod order;
+mod plan;
+mod starts;
+
+pub use items::Placed;
+pub use order::{first_disorder, first_old_pass};
+pub use plan::plan_for;
+
+#[cfg(test)]
+mod tests;

@@ -1,0 +1,81 @@
+//! Whether the items of each block stood one behind another, and where they ended.
+
+ghost use Rattle.std.specs.Prelude.{◌≡◌, ◌≤◌, ◌+◌, ◌-◌, ◌<◌, ◌==◌, if◌then◌else◌, length};
+ghost use Rattle.move_goals.specs.Items as spec;
+
+use crate::items::Placed;
+use branch_sizes::BlockSpan;
+use x86_values::Bits;
+
+/// The address behind an item, which may lie behind the end of all addresses.
+fn old_end(item: &Placed) -> u128
+    ensures { result ≡ spec.old_end item.now }
+{
+    u128::from(item.ip) + u128::from(item.len)
+}
+
+/// Whether item `k` begins where the one before it ends.
+fn follows(items: &[Placed], k: usize) -> bool
+    requires later { 1 ≤ k }
+    requires item { k < length items.now }
+    ensures { result ≡ ((spec.item_at items.now k).ip == spec.old_end (spec.item_at items.now (k - 1))) }
+{
+    u128::from(items[k].ip) == old_end(&items[k - 1])
+}
+
+/// The number of the first item that is not the first of its block and does not begin where the one before it ends.
+pub fn first_disorder(items: &[Placed], spans: &[BlockSpan]) -> Option<usize>
+    requires { spec.AreSpansOf items.now spans.now }
+    ensures { result ≡ spec.first_disorder spans.now items.now }
+{
+    let mut start: usize = 0;
+    for span in spans {
+        let end = start + span.count as usize;
+        'rest: for k in start + 1..end {
+            if !follows(items, k) {
+                return Some(k);
+            }
+        }
+        start = end;
+    }
+    None
+}
+
+/// Whether an address lies behind the address space of a mode.
+fn passes(bits: Bits, end: u128) -> bool
+    ensures { result ≡ spec.passes bits end }
+{
+    let width = match bits {
+        Bits::B16 => 16,
+        Bits::B32 => 32,
+        Bits::B64 => 64,
+    };
+    end > 1 << width
+}
+
+/// The address behind the last item of a block, of which `start` is the first; the new base of an empty one.
+fn block_old_end(items: &[Placed], span: &BlockSpan, start: usize) -> u128
+    requires { start + span.now.count ≤ length items.now }
+    ensures { result ≡ (if span.now.count == 0 then span.now.new_base else spec.old_end (spec.item_at items.now (start + span.now.count - 1))) }
+{
+    if span.count == 0 {
+        return u128::from(span.new_base);
+    }
+    old_end(&items[start + span.count as usize - 1])
+}
+
+/// The first address behind the old items of a block that passes the address space of the mode. The old end of an empty block is its new base.
+pub fn first_old_pass(bits: Bits, items: &[Placed], spans: &[BlockSpan]) -> Option<u128>
+    requires { spec.AreSpansOf items.now spans.now }
+    ensures { result ≡ spec.first_old_pass bits spans.now items.now }
+{
+    let mut start: usize = 0;
+    for span in spans {
+        let end = block_old_end(items, span, start);
+        if passes(bits, end) {
+            return Some(end);
+        }
+        start += span.count as usize;
+    }
+    None
+}

@@ -1,0 +1,5 @@
+pub mod Choosing
+pub mod Slotting
+pub mod Standing
+pub mod Laid
+pub mod Blocks

@@ -1,0 +1,61 @@
+use Rattle.std.proofs.Common.{◌≡◌, ◌+◌, ◌-◌, arith, ap}
+use Rattle.branch_sizes.specs.Layout.{span_at, image_length, place}
+use Rattle.branch_sizes.proofs.Now.{first_below}
+use Rattle.move_layout.specs.Tables.{plan_in}
+use Rattle.move_layout.proofs.Standing.{images-none, item-below, place-last}
+use Rattle.move_layout.proofs.places.images_end_of.Goals as goal
+
+pub returns-then-span-eq0-clause-value : goal.returns-then-span-eq0-clause-value
+returns-then-span-eq0-clause-value c =
+    omega (arith, c.from.ensures, images-none (plan_in c.args.tables.now) c.args.tables.now.plan c.args.tables.now.layout.now c.args.b c.if-span-eq0.true)
+
+pub overflow_add-last : goal.overflow_add-last
+overflow_add-last c =
+    omega (
+      arith,
+      c.requires.first,
+      c.args.tables.now.plan.few_items,
+      c.args.tables.now.plan.counts,
+      first_below c.args.tables.now.spans.now c.args.b c.requires.block,
+    )
+
+pub offset_bounds-tables-last : goal.offset_bounds-tables-last
+offset_bounds-tables-last c =
+    omega (
+      arith,
+      c.requires.first,
+      c.args.tables.now.plan.few_items,
+      c.args.tables.now.plan.counts,
+      first_below c.args.tables.now.spans.now c.args.b c.requires.block,
+    )
+
+pub bounds-tables-last : goal.bounds-tables-last
+bounds-tables-last c =
+    omega (
+      arith,
+      c.requires.first,
+      c.args.tables.now.right_places.len,
+      c.args.tables.now.plan.counts,
+      first_below c.args.tables.now.spans.now c.args.b c.requires.block,
+    )
+
+pub choice_of-requires : goal.choice_of-requires
+choice_of-requires c =
+    omega (
+      arith,
+      c.requires.first,
+      c.args.tables.now.plan.counts,
+      first_below c.args.tables.now.spans.now c.args.b c.requires.block,
+    )
+
+pub returns-clause-value : goal.returns-clause-value
+returns-clause-value c =
+    let t = c.args.tables.now in
+    let p = plan_in t in
+    let n = (span_at t.spans.now c.args.b).count in
+    let k = c.args.first + n - 1 in
+    let at : place p t.layout.now k + image_length p t.layout.now k ≡ _ =
+    place-last p t.plan t.layout.now c.args.b (n - 1) k c.requires.block (omega arith) (omega (arith, c.requires.first)) (omega arith) in
+    let here = t.right_places.each k (item-below p t.plan t.layout.now c.args.b (n - 1) k c.requires.block (omega arith) (omega (arith, c.requires.first))) in
+    let len : c.choice_of.result.len ≡ image_length p t.layout.now k = ap (λ x. x.len) c.choice_of.ensures in
+    omega (arith, at, here, len, c.from-2.ensures)

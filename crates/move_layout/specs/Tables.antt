@@ -1,0 +1,20 @@
+-- The plan and the layout of some tables, and how far a layout is laid out.
+use Rattle.std.specs.Prelude.{◌≡◌, ℕ, ◌<◌, List, length, slice_index_or}
+use Rattle.branch_sizes.specs.Plan.{BlockPlan, plan_of}
+use Rattle.move_layout.specs.declared.layout.Seat.{Seat}
+use Rattle.move_layout.specs.declared.layout.BlockEnd.{BlockEnd}
+use Rattle.move_layout.specs.declared.tables.Tables.{Tables}
+use Rattle.move_layout.specs.Laid.{seat_at, end_at, no_seat, no_end}
+
+abbrev pub plan_in : Tables → BlockPlan
+plan_in t = plan_of t.spans.now t.items.now
+
+-- where the first n items stand
+pub record AreSeats (p : BlockPlan) (layout : List ℕ) (n : ℕ) (seats : List Seat) : Type 0 where
+  pub len : length seats ≡ n
+  pub each : (k : ℕ) → k < n → slice_index_or seats k no_seat ≡ seat_at p layout k
+
+-- where the first n blocks end
+pub record AreEnds (p : BlockPlan) (layout : List ℕ) (n : ℕ) (ends : List BlockEnd) : Type 0 where
+  pub len : length ends ≡ n
+  pub each : (b : ℕ) → b < n → slice_index_or ends b no_end ≡ end_at p layout b

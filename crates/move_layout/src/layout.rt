@@ -1,0 +1,145 @@
+//! What stands where in the least layout.
+
+ghost use Rattle.std.specs.Prelude.{◌≡◌, ◌++◌, ◌+◌, ◌<◌, ◌^◌, IfOk, OnOk, length};
+ghost use Rattle.branch_sizes.specs.Layout.{first_of_block};
+ghost use Rattle.move_layout.specs.Laid as spec;
+ghost use Rattle.move_layout.specs.Slots.{seat_over, IsNumbering};
+ghost use Rattle.move_layout.specs.Tables.{plan_in, AreSeats, AreEnds};
+
+use crate::choices::least_choices;
+use crate::places::{choice_of, goal_of, images_end_of, places};
+use crate::slots::{block_end, is_far_form, next_multiple_of_8, slot_number};
+use crate::tables::Tables;
+use branch_sizes::{Form, LayoutError, Plan, Reach};
+use std::alloc::{AllocError, Global};
+use std::collections::BTreeMap;
+
+/// Where an item stands, and what it is aimed at. Addresses are whole numbers that do not wrap.
+#[derive(Clone, Copy, PartialEq, Eq, Debug)]
+pub struct Seat {
+    /// The form that it takes.
+    pub form: Form,
+    /// The bytes of its image.
+    pub len: u8,
+    /// What that form reaches.
+    pub reach: Reach,
+    /// The address of its image.
+    pub place: u128,
+    /// The address of its goal, 0 without one.
+    pub goal: u128,
+    /// The address of the slot that a far form goes through, 0 for every other form.
+    pub slot: u128,
+}
+
+/// Where a block ends.
+#[derive(Clone, Copy, PartialEq, Eq, Debug)]
+pub struct BlockEnd {
+    /// The address behind its images.
+    pub images: u128,
+    /// How many slots it has.
+    pub slots: usize,
+    /// The address behind the block with its gap and its slots.
+    pub end: u128,
+}
+
+/// A layout: of each item where it stands, of each block where it ends, and the goals in the slots of all blocks in order.
+#[derive(Drop)]
+pub struct Layout {
+    pub seats: Vec<Seat>,
+    pub ends: Vec<BlockEnd>,
+    pub slots: Vec<u128>,
+}
+
+/// Where item `k` stands in a block whose slots begin at `start`. `goals` are those in the slots of the items before
+/// it, `numbers` their numbers, and a new far goal is added to both.
+fn seat_of(
+    tables: &Tables,
+    k: usize,
+    start: u128,
+    numbers: &mut BTreeMap<u128, usize>,
+    goals: &mut Vec<u128>,
+) -> Result<Seat, AllocError>
+    requires item { k < length tables.now.items.now }
+    requires start { start < 2 ^ 68 }
+    requires numbering { IsNumbering numbers.old goals.old.items }
+    ensures seat { IfOk result (λ seat. seat ≡ seat_over (plan_in tables.now) tables.now.layout.now k start goals.new.items) }
+    ensures goals { OnOk result (goals.new.items ≡ spec.with_goal goals.old.items (spec.is_far_at (plan_in tables.now) tables.now.layout.now k) (spec.goal_address (plan_in tables.now) tables.now.layout.now k)) }
+    ensures numbering { OnOk result (IsNumbering numbers.new goals.new.items) }
+{
+    let choice = choice_of(tables, k);
+    let goal = goal_of(tables, k);
+    let slot = if is_far_form(choice.form) {
+        start + 8 * slot_number(numbers, goals, goal)? as u128
+    } else {
+        0
+    };
+    Ok(Seat {
+        form: choice.form,
+        len: choice.len,
+        reach: choice.reach,
+        place: tables.places[k],
+        goal,
+        slot,
+    })
+}
+
+/// Lays out block `b` behind the blocks before it: adds its items to `seats` and its slots to `slots`, and says where
+/// it ends.
+fn lay_block(
+    alloc: Global,
+    tables: &Tables,
+    b: usize,
+    seats: &mut Vec<Seat>,
+    slots: &mut Vec<u128>,
+) -> Result<BlockEnd, AllocError>
+    requires block { b < length tables.now.spans.now }
+    requires seats { AreSeats (plan_in tables.now) tables.now.layout.now (first_of_block tables.now.spans.now b) seats.old.items }
+    ensures seats { OnOk result (AreSeats (plan_in tables.now) tables.now.layout.now (first_of_block tables.now.spans.now (b + 1)) seats.new.items) }
+    ensures slots { OnOk result (slots.new.items ≡ slots.old.items ++ spec.slots_of (plan_in tables.now) tables.now.layout.now b) }
+    ensures end { IfOk result (λ end. end ≡ spec.end_at (plan_in tables.now) tables.now.layout.now b) }
+{
+    let images = images_end_of(tables, b, seats.len());
+    let start = next_multiple_of_8(images);
+    let mut goals = Vec::new(alloc);
+    let mut numbers = BTreeMap::new(alloc);
+    'items: for _ in 0..tables.spans[b].count {
+        let seat = seat_of(tables, seats.len(), start, &mut numbers, &mut goals)?;
+        seats.push(seat)?;
+    }
+    slots.extend_from_slice(&goals)?;
+    let count = goals.len();
+    Ok(BlockEnd {
+        images,
+        slots: count,
+        end: block_end(images, start, count),
+    })
+}
+
+/// Lays out all blocks.
+fn lay_blocks(alloc: Global, tables: &Tables) -> Result<Layout, AllocError>
+    ensures { IfOk result (λ laid. spec.IsLaid (plan_in tables.now) tables.now.layout.now laid) }
+{
+    let mut seats = Vec::with_capacity(alloc, tables.items.len())?;
+    let mut ends = Vec::with_capacity(alloc, tables.spans.len())?;
+    let mut slots = Vec::new(alloc);
+    'spans: for b in 0..tables.spans.len() {
+        let end = lay_block(alloc, tables, b, &mut seats, &mut slots)?;
+        ends.push(end)?;
+    }
+    Ok(Layout { seats, ends, slots })
+}
+
+/// The least layout of a plan. The only refusal is want of memory.
+pub fn lay_out(alloc: Global, plan: &Plan) -> Result<Layout, LayoutError>
+    ensures { IfOk result (λ laid. spec.IsLaidLeast plan.now laid) }
+{
+    let layout = least_choices(alloc, plan)?;
+    let places = places(alloc, plan.spans(), plan.items(), &layout)?;
+    let tables = Tables {
+        spans: plan.spans(),
+        items: plan.items(),
+        layout: &layout,
+        places: &places,
+    };
+    Ok(lay_blocks(alloc, &tables)?)
+}

@@ -1,0 +1,96 @@
+//! Where an instruction is aimed, and the same instruction aimed elsewhere (Intel SDM volume 2, 2.2.1.6; CALL, JMP, Jcc).
+#![tactic(auto)]
+
+ghost use Rattle.std.specs.Prelude.{◌≡◌, ◌<◌};
+ghost use Rattle.moved_targets.specs.Targets as spec;
+
+use branch_sizes::Reach;
+use opcode_rows::{ROWS, row_of};
+use operand_info::{ip_operand, near_target};
+use plain_spelling::parts::plain_parts;
+use x86_values::{Bits, Instr, Mem, Operand, Register};
+
+pub mod laws;
+
+/// The address that an instruction is aimed at: the target of a near branch, else the address of an operand at RIP or EIP. None where it
+/// has neither; far pointers and absolute addresses are no targets.
+#[tactic(auto, unfolding(crate::specs::Targets::target_of))]
+pub fn target_of(instr: &Instr) -> Option<u64>
+    ensures { result ≡ spec.target_of instr.now }
+{
+    near_target(instr).or(ip_operand(instr))
+}
+
+/// The operand with another target, where it is one.
+#[inline]
+#[tactic(auto, unfolding(crate::specs::Targets::aimed_operand, crate::specs::Targets::aimed_base))]
+fn aimed_operand(operand: Operand, target: u64) -> Operand
+    ensures { result ≡ spec.aimed_operand target operand }
+{
+    match operand {
+        Operand::Near(_) => Operand::Near(target),
+        Operand::Mem(m) => match m.base {
+            Some(Register::Rip | Register::Eip) => Operand::Mem(Mem { disp: target, ..m }),
+            _ => operand,
+        },
+        _ => operand,
+    }
+}
+
+/// The instruction aimed at another address: each near target and each address at RIP or EIP is replaced, and all else stays.
+#[tactic(auto, unfolding(crate::specs::Targets::aimed))]
+pub fn aimed(instr: &Instr, target: u64) -> Instr
+    ensures { result ≡ spec.aimed target instr.now }
+{
+    let [first, second, third, fourth] = instr.ops;
+    Instr {
+        ops: [
+            aimed_operand(first, target),
+            aimed_operand(second, target),
+            aimed_operand(third, target),
+            aimed_operand(fourth, target),
+        ],
+        ..*instr
+    }
+}
+
+/// What an operand reaches, where it is an address at RIP or EIP.
+#[inline]
+#[tactic(auto, unfolding(crate::specs::Targets::operand_reach, crate::specs::Targets::base_reach))]
+fn operand_reach(operand: Operand) -> Option<Reach>
+    ensures { result ≡ spec.operand_reach operand }
+{
+    match operand {
+        Operand::Mem(m) => match m.base {
+            Some(Register::Rip) => Some(Reach::Signed32),
+            Some(Register::Eip) => Some(Reach::Below(32)),
+            _ => None,
+        },
+        _ => None,
+    }
+}
+
+/// Which targets an instruction reaches by an operand at RIP or EIP: at RIP those at a distance of a signed number of 32 bits from its end,
+/// at EIP those below 2 to the power of 32. Without such an operand there is nothing to reach.
+#[tactic(auto, unfolding(crate::specs::Targets::target_reach))]
+pub fn target_reach(instr: &Instr) -> Reach
+    ensures { result ≡ spec.target_reach instr.now }
+{
+    let [first, second, third, fourth] = instr.ops;
+    operand_reach(first)
+        .or(operand_reach(second).or(operand_reach(third).or(operand_reach(fourth))))
+        .unwrap_or(Reach::Always)
+}
+
+/// How many bytes the plain spelling of an instruction has, wherever it stands and is aimed; 0 where its code is not one of the table.
+#[tactic(auto, unfolding(crate::specs::Targets::plain_length))]
+pub fn plain_length(bits: Bits, instr: &Instr) -> u8
+    ensures value { result ≡ spec.plain_length bits instr.now }
+    ensures small { result < 64 }
+{
+    let [_first, _second, _third, _fourth] = instr.ops;
+    if instr.code.0 >= ROWS {
+        return 0;
+    }
+    plain_parts(bits, 0, &row_of(instr.code), instr).len
+}

@@ -1,0 +1,70 @@
+-- How a command that moves code ends when it meets no fault.
+use Rattle.std.proofs.Common.{◌≡◌, ◌⊎◌, inl, inr, ℕ, ◌<◌, List, ◌++◌, length, Option, Some, None, refl, sym, ap, ◌∙◌, subst, arith, append-nil, length-append}
+use Rattle.x86_values.specs.declared.Bits.{Bits}
+use Rattle.command_words.specs.declared.commands.BlockWords.{BlockWords}
+use Rattle.run_parts.specs.declared.status.Status.{Status}
+use Rattle.run_parts.specs.declared.status.Status.TheVariants.{Done, BadCode, ReadFault, WriteFault, Memory, TooLarge, Wraps, TooFar, TooMany}
+use Rattle.run_parts.specs.Reads.{whole_limit, ReadsAll, ReadsTooMany}
+use Rattle.moving_run.specs.declared.moving.Wanted.{Wanted}
+use Rattle.moving_run.specs.Moving.{IsCodeAnswer, RefusesAs, MovesAs, CompletesMoving}
+use Rattle.moving_run.proofs.Unique.{answer_unique}
+
+-- ---- the bytes that were read
+
+-- bytes that are told and were read to their end
+all_bytes : (limit : ℕ) (bytes : List ℕ) (left' : Option (List ℕ)) (read : List ℕ) → ReadsAll limit (Some bytes) left' read → bytes ≡ read
+all_bytes limit bytes None read h = let e = h.read in cc
+all_bytes limit bytes (Some rest) read h =
+    let e : Some bytes ≡ Some (read ++ rest) = h.read in
+    let same : bytes ≡ read ++ rest = cc in same ∙ (ap (λ (xs : List ℕ). read ++ xs) h.ended ∙ append-nil read)
+
+too_many : (limit : ℕ) (bytes : List ℕ) (left' : Option (List ℕ)) (read : List ℕ) → ReadsTooMany limit (Some bytes) left' read → limit < length bytes
+too_many limit bytes None read h = let e = h.read in cc
+too_many limit bytes (Some rest) read h =
+    let e : Some bytes ≡ Some (read ++ rest) = h.read in
+    let same : bytes ≡ read ++ rest = cc in omega (arith, ap length same, length-append read rest, h.over)
+
+-- ---- the status
+
+module _ (wanted : Wanted) (bits : Bits) (words : List BlockWords) where
+  -- an answer for all bytes
+  answered : (bytes : List ℕ) (left' : Option (List ℕ)) (read : List ℕ) (status : Status) → ReadsAll whole_limit (Some bytes) left' read →
+      IsCodeAnswer wanted bits words read status → CompletesMoving wanted bits words (Some bytes) status
+  answered bytes left' read status reads h =
+      let same = all_bytes whole_limit bytes left' read reads in
+      let within = reads.within in
+      let there = subst (λ (xs : List ℕ). IsCodeAnswer wanted bits words xs status) (sym same) h in (
+        λ few answer is. inl (answer_unique wanted bits words bytes status answer there is),
+        λ many. absurd (omega (arith, ap length same)),
+      )
+
+  refused : (left left' held held' : Option (List ℕ)) (status : Status) → RefusesAs wanted bits words left left' held held' status →
+      ((status ≡ ReadFault) ⊎ (status ≡ WriteFault) → ⊥) → CompletesMoving wanted bits words left status
+  refused (Some bytes) left' held held' status h told = answered bytes left' h.0.0 status h.0.1.0 h.0.1.1
+  refused None left' held held' status h told = told
+
+  -- **a command that meets no fault answers what the code says**
+  pub completes : (left left' held held' : Option (List ℕ)) (source_rose out_rose : Type 0) (status : Status) →
+      MovesAs wanted bits words left left' held held' source_rose out_rose status → (source_rose → ⊥) → (out_rose → ⊥) →
+      CompletesMoving wanted bits words left status
+  completes (Some bytes) left' held held' source_rose out_rose Done h s o = answered bytes left' h.0 Done h.1.0 (h.1.1.0, h.1.1.1.0)
+  completes None left' held held' source_rose out_rose Done h s o = λ e. elim e [ inl x ↦ cc | inr x ↦ cc ]
+  completes (Some bytes) left' held held' source_rose out_rose Memory h s o = (λ few answer is. inr refl, λ many. inr refl)
+  completes None left' held held' source_rose out_rose Memory h s o = λ e. elim e [ inl x ↦ cc | inr x ↦ cc ]
+  completes (Some bytes) left' held held' source_rose out_rose (TooLarge limit) h s o =
+      let over = too_many whole_limit bytes left' h.1.0.0 h.1.0.1 in (
+        λ few answer is. absurd (omega arith),
+        λ many. inl (ap TooLarge h.0),
+      )
+  completes None left' held held' source_rose out_rose (TooLarge limit) h s o = λ e. elim e [ inl x ↦ cc | inr x ↦ cc ]
+  completes left left' held held' source_rose out_rose ReadFault h s o = absurd (s h.0)
+  completes left left' held held' source_rose out_rose WriteFault h s o = absurd (o h.0)
+  completes left left' held held' source_rose out_rose (BadCode offset error) h s o =
+      refused left left' held held' (BadCode offset error) h (λ e. elim e [ inl x ↦ cc | inr x ↦ cc ])
+  completes left left' held held' source_rose out_rose (TooMany count) h s o =
+      refused left left' held held' (TooMany count) h (λ e. elim e [ inl x ↦ cc | inr x ↦ cc ])
+  completes left left' held held' source_rose out_rose (Wraps end) h s o =
+      refused left left' held held' (Wraps end) h (λ e. elim e [ inl x ↦ cc | inr x ↦ cc ])
+  completes left left' held held' source_rose out_rose (TooFar at target) h s o =
+      refused left left' held held' (TooFar at target) h (λ e. elim e [ inl x ↦ cc | inr x ↦ cc ])
+  completes left left' held held' source_rose out_rose _ h s o = absurd h

@@ -1,0 +1,9 @@
+pub mod Cutting
+pub mod Reading
+pub mod Blocks
+pub mod Order
+pub mod Wholes
+pub mod Unique
+pub mod Completing
+pub mod Moved
+pub mod MapLines

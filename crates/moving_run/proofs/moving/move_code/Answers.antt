@@ -1,0 +1,40 @@
+use Rattle.std.proofs.Common.{refl}
+use Rattle.run_parts.specs.Reads.{whole_limit}
+use Rattle.run_parts.specs.declared.status.Status.TheVariants.{Done}
+use Rattle.moving_run.proofs.Moved.{starts_length, forms_length, moves_code, refusal}
+use Rattle.moving_run.proofs.Completing.{completes}
+use Rattle.moving_run.proofs.moving.move_code.Goals as goal
+
+pub returns-in-Err-clause-complete : goal.returns-in-Err-clause-complete
+unfolding whole_limit
+returns-in-Err-clause-complete g c =
+    let reads = c.in-Ok.ensures.ok in
+    let refused = rw c.deref.ensures.value at c.in-Err.ensures in
+    let answer = refusal c.args.wanted _ _ _ _ _ (g.K.Sink.held c.args.out.now) _ _ _ c.in-Err.status reads refl refused in
+    completes c.args.wanted _ _ _ _ (g.K.Sink.held c.args.out.now) _ _ _ c.in-Err.status answer
+
+pub write_wanted-requires-clause-starts : goal.write_wanted-requires-clause-starts
+write_wanted-requires-clause-starts g c = rw c.deref-2.ensures.value (starts_length _ _ _ _ _ c.in-Ok-move_input.ensures)
+
+pub write_wanted-requires-clause-forms : goal.write_wanted-requires-clause-forms
+write_wanted-requires-clause-forms g c = rw c.deref-2.ensures.value (forms_length _ _ _ _ _ c.in-Ok-move_input.ensures)
+
+pub returns-in-Ok-write_wanted-clause-complete : goal.returns-in-Ok-write_wanted-clause-complete
+unfolding whole_limit
+returns-in-Ok-write_wanted-clause-complete g c =
+    let reads = c.in-Ok.ensures.ok in
+    let moved = rw c.deref.ensures.value at c.in-Ok-move_input.ensures in
+    let written = rw c.deref-2.ensures.value at c.in-Ok-write_wanted.ensures.ok in
+    let code = moves_code c.args.wanted _ _ _ _ _ moved in
+    completes
+    c.args.wanted
+    _
+    _
+    _
+    _
+    (g.K.Sink.held c.args.out.now)
+    (g.K.Sink.held c.write_wanted.new.out)
+    _
+    _
+    Done
+    (c.in-Ok.input.items, (reads, (_, (code, written))))

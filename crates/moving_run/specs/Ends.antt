@@ -1,0 +1,19 @@
+-- The old ends of blocks, from their lengths.
+use Rattle.std.specs.Prelude.{ℕ, ◌+◌, ◌==◌, if◌then◌else◌, List, [], ◌∷◌, length, Option, Some, None}
+use Rattle.x86_values.specs.declared.Bits.{Bits}
+use Rattle.move_goals.specs.Items.{passes}
+use Rattle.command_words.specs.declared.commands.BlockWords.{BlockWords}
+use Rattle.moving_run.specs.Code.{taken, left_by}
+
+-- the old end of a block that takes n bytes; that of an empty block is its new base
+abbrev pub end_of : BlockWords → ℕ → ℕ
+end_of w n = if n == 0 then w.new else w.old + n
+
+-- an end, where it passes the address space, else another answer
+abbrev pub end_or : Bits → ℕ → Option ℕ → Option ℕ
+end_or bits end other = if passes bits end then Some end else other
+
+-- the first old end of the blocks of some bytes that passes the address space
+abbrev pub first_pass : Bits → List BlockWords → List ℕ → Option ℕ
+first_pass bits [] bytes = None
+first_pass bits (w ∷ ws) bytes = end_or bits (end_of w (length (taken w.len bytes))) (first_pass bits ws (left_by w.len bytes))

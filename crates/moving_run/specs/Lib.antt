@@ -1,0 +1,5 @@
+pub mod Code
+pub mod Ends
+pub mod Map
+pub mod Moving
+pub mod Read

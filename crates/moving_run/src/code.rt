@@ -1,0 +1,188 @@
+//! The input cut into blocks, and the instructions of each.
+
+ghost use Rattle.std.specs.Prelude.{◌≡◌, ◌≤◌, ◌+◌, ◌++◌, ◌∷◌, [], length, vec_len, IfOk, OnOk, MatchResult};
+ghost use Rattle.move_goals.specs.Items as item_spec;
+ghost use Rattle.moving_run.specs.Code.{taken, left_by};
+ghost use Rattle.moving_run.specs.Ends as end_spec;
+ghost use Rattle.moving_run.specs.Read as spec;
+
+use branch_sizes::BlockSpan;
+use command_words::BlockWords;
+use decoder::DecodeError;
+use move_goals::Placed;
+use std::alloc::{AllocError, Global};
+use sweep_text::read_at;
+use x86_values::Bits;
+
+/// How many instructions are moved together at most.
+pub const MOST: usize = 65_536;
+
+/// The instructions of the blocks.
+#[derive(Drop)]
+pub struct Code {
+    /// The first of them, as many as are moved together at most. Each has its old address, where no block passes the address space.
+    pub items: Vec<Placed>,
+    /// How many each block has, and its new base.
+    pub spans: Vec<BlockSpan>,
+    /// How many there are.
+    pub count: u64,
+}
+
+/// Why the blocks are not read.
+#[derive(Clone, Copy, PartialEq, Eq, Debug)]
+pub enum CodeError {
+    /// No instruction is read at this offset of the input.
+    BadCode { offset: u64, error: DecodeError },
+    /// There was not enough memory.
+    Memory,
+}
+
+impl From<AllocError> for CodeError {
+    ghost use Rattle.moving_run.specs.declared.code.CodeError.TheVariants.{Memory};
+
+    ghost from_gives = { λ _ e. e ≡ Memory };
+
+    fn from(_e: AllocError) -> CodeError {
+        CodeError::Memory
+    }
+}
+
+/// The bytes of a block at the front of some bytes, and those behind them.
+fn cut(len: Option<u64>, bytes: &[u8]) -> (&[u8], &[u8])
+    ensures block { result.0.now ≡ taken len bytes.now }
+    ensures rest { result.1.now ≡ left_by len bytes.now }
+{
+    match len {
+        Some(len) if len < bytes.len() as u64 => bytes.split_at(len as usize),
+        _ => bytes.split_at(bytes.len()),
+    }
+}
+
+/// The old end of a block that takes `len` bytes. That of an empty block is its new base.
+fn end_of(word: &BlockWords, len: usize) -> u128
+    ensures { result ≡ end_spec.end_of word.now len }
+{
+    if len == 0 {
+        u128::from(word.new)
+    } else {
+        u128::from(word.old) + len as u128
+    }
+}
+
+/// Whether an address lies past the address space of a mode.
+fn passes(bits: Bits, end: u128) -> bool
+    ensures { result ≡ item_spec.passes bits end }
+{
+    let width = match bits {
+        Bits::B16 => 16,
+        Bits::B32 => 32,
+        Bits::B64 => 64,
+    };
+    end > 1 << width
+}
+
+/// The first old end of the blocks that passes the address space of the mode.
+pub fn first_pass(bits: Bits, words: &[BlockWords], input: &[u8]) -> Option<u128>
+    ensures { result ≡ end_spec.first_pass bits words.now input.now }
+{
+    let mut rest = input;
+    for word in words {
+        let (front, after) = cut(word.len, rest);
+        let end = end_of(word, front.len());
+        if passes(bits, end) {
+            return Some(end);
+        }
+        rest = after;
+    }
+    None
+}
+
+/// Puts an instruction behind others, where these are fewer than are moved together.
+fn keep(items: &mut Vec<Placed>, item: Placed) -> Result<(), AllocError>
+    requires { vec_len items.old ≤ 65536 }
+    ensures kept { OnOk result (items.new.items ≡ spec.first_items (items.old.items ++ item ∷ [])) }
+    ensures few { OnOk result (vec_len items.new ≤ 65536) }
+{
+    if items.len() < MOST {
+        items.push(item)?;
+    }
+    Ok(())
+}
+
+/// Reads the instructions of a block, whose first byte is the one of number `start` of the input, puts them behind `items`, and answers how many they are.
+fn read_block(
+    bits: Bits,
+    base: u64,
+    start: usize,
+    bytes: &[u8],
+    items: &mut Vec<Placed>,
+) -> Result<u32, CodeError>
+    requires short { start + length bytes.now ≤ 1048576 }
+    requires few { vec_len items.old ≤ 65536 }
+    ensures read { MatchResult result (λ count. spec.ReadsBlock bits base bytes.now items.old.items items.new.items count) (λ e. spec.IsBlockError bits base start bytes.now e) }
+    ensures few { IfOk result (λ count. vec_len items.new ≤ 65536) }
+{
+    let mut count: u32 = 0;
+    let mut at: usize = 0;
+    while at < bytes.len() {
+        let (_, rest) = bytes.split_at(at);
+        match read_at(bits, base, at, rest) {
+            Ok(d) => {
+                let ip = base.wrapping_add(at as u64);
+                keep(
+                    items,
+                    Placed {
+                        ip,
+                        len: d.len,
+                        instr: d.instr,
+                    },
+                )?;
+                count += 1;
+                at += usize::from(d.len);
+            }
+            Err(error) => {
+                let offset = (start + at) as u64;
+                return Err(CodeError::BadCode { offset, error });
+            }
+        }
+    }
+    Ok(count)
+}
+
+/// Puts a block behind others.
+fn add_span(spans: &mut Vec<BlockSpan>, count: u32, new_base: u64) -> Result<(), AllocError>
+    ensures { OnOk result (spans.new.items ≡ spans.old.items ++ record { count = count; new_base = new_base } ∷ []) }
+{
+    spans.push(BlockSpan { count, new_base })?;
+    Ok(())
+}
+
+/// Cuts the input into blocks and reads the instructions of each.
+pub fn read_code(
+    alloc: Global,
+    bits: Bits,
+    words: &[BlockWords],
+    input: &[u8],
+) -> Result<Code, CodeError>
+    requires few { length words.now ≤ 16 }
+    requires short { length input.now ≤ 1048576 }
+    ensures { MatchResult result (λ code. spec.IsCode bits words.now input.now code) (λ e. spec.IsCodeError bits words.now input.now e) }
+{
+    let mut items = Vec::new(alloc);
+    let mut spans = Vec::new(alloc);
+    let mut count: u64 = 0;
+    let mut rest = input;
+    for word in words {
+        let (block, after) = cut(word.len, rest);
+        let start = input.len() - rest.len();
+        let found = read_block(bits, word.old, start, block, &mut items)?;
+        add_span(&mut spans, found, word.new)?;
+        count += u64::from(found);
+        rest = after;
+    }
+    Ok(Code {
+        items,
+        spans,
+        count,
+    })
+}

@@ -1,0 +1,8 @@
+//! The commands that move code: the input cut into blocks and read, the blocks moved, and the moved bytes or the map written.
+#![tactic(auto)]
+
+mod code;
+mod map;
+mod moving;
+
+pub use moving::{Wanted, move_code};

@@ -1,0 +1,131 @@
+//! Moving the code of a source.
+
+ghost use Rattle.std.specs.Prelude.{◌≡◌, ◌≤◌, length, OnOk, OnErr, MatchResult};
+ghost use Rattle.byte_ports.specs.Ports.{HasCause, Rose, with_back};
+ghost use Rattle.run_parts.specs.Writing.{HoldsFront};
+ghost use Rattle.moving_run.specs.Moving as spec;
+
+use crate::code::{Code, CodeError, MOST, first_pass, read_code};
+use crate::map::write_map;
+use block_encoder::{MoveError, MovedBlocks, move_blocks};
+use byte_ports::{Failed, Sink, Source};
+use command_words::BlockWords;
+use move_goals::Placed;
+use run_parts::{ReadError, Status, WHOLE_LIMIT, put_all, read_all};
+use std::alloc::Global;
+use x86_values::Bits;
+
+/// What is written of moved code.
+#[derive(Clone, Copy, PartialEq, Eq, Debug)]
+pub enum Wanted {
+    /// The bytes of the moved blocks, one behind another.
+    MovedBytes,
+    /// A line for each instruction: its old and its new address and its form.
+    MapLines,
+}
+
+/// The instructions of some code, and the blocks that they were moved to.
+#[derive(Drop)]
+struct MovedCode {
+    items: Vec<Placed>,
+    blocks: MovedBlocks,
+}
+
+/// Cuts the input into blocks of code of a mode and moves them, or tells by a status why not.
+fn move_input(
+    alloc: Global,
+    bits: Bits,
+    words: &[BlockWords],
+    input: &[u8],
+) -> Result<MovedCode, Status>
+    requires few { length words.now ≤ 16 }
+    requires short { length input.now ≤ 1048576 }
+    ensures { MatchResult result (λ m. spec.MovesInput bits words.now input.now m.items.items m.blocks) (λ status. spec.IsRefusal bits words.now input.now status) }
+{
+    let Code {
+        items,
+        spans,
+        count,
+    } = match read_code(alloc, bits, words, input) {
+        Ok(code) => code,
+        Err(CodeError::BadCode { offset, error }) => return Err(Status::BadCode { offset, error }),
+        Err(CodeError::Memory) => return Err(Status::Memory),
+    };
+    if count > MOST as u64 {
+        return Err(Status::TooMany { count });
+    }
+    if let Some(end) = first_pass(bits, words, input) {
+        return Err(Status::Wraps { end });
+    }
+    match move_blocks(alloc, bits, &items, &spans) {
+        Ok(moved) => Ok(MovedCode {
+            items,
+            blocks: moved,
+        }),
+        Err(MoveError::TooMany { count }) => Err(Status::TooMany { count }),
+        Err(MoveError::OldOrder { .. }) => unreachable!(),
+        Err(MoveError::Wraps { end }) => Err(Status::Wraps { end }),
+        Err(MoveError::TooFar { at, target }) => Err(Status::TooFar { at, target }),
+        Err(MoveError::Memory) => Err(Status::Memory),
+    }
+}
+
+/// Writes what is wanted of moved blocks.
+fn write_wanted<K: Sink>(
+    wanted: Wanted,
+    bits: Bits,
+    items: &[Placed],
+    blocks: &MovedBlocks,
+    out: &mut K,
+) -> Result<(), Failed>
+    requires starts { length blocks.now.starts ≡ length items.now }
+    requires forms { length blocks.now.forms ≡ length items.now }
+    ensures ok { OnOk result (K.held out.new ≡ with_back (K.held out.old) (spec.wanted_text wanted bits items.now blocks.now)) }
+    ensures err { OnErr result (HoldsFront (K.held out.old) (K.held out.new) (spec.wanted_text wanted bits items.now blocks.now)) }
+    ensures cause { HasCause (K.faults out.old) (K.faults out.new) result }
+{
+    match wanted {
+        Wanted::MovedBytes => put_all(out, blocks.bytes()),
+        Wanted::MapLines => write_map(bits, items, blocks.starts(), blocks.forms(), out),
+    }
+}
+
+/// Reads the source to its end, cuts it into blocks of code of a mode, moves them, and writes what is wanted.
+///
+/// Each block has an old and a new base, addresses of the mode; all but the last have a length. In this order: `ReadFault`, `TooLarge` above 1,048,576
+/// bytes, `BadCode` at the first single byte of a block's sweep, `TooMany` above 65,536 instructions, `Wraps`, `TooFar`, `WriteFault`; `Memory` at any
+/// point. Nothing is written before all but `WriteFault` are past.
+#[tactic(auto, unfolding(run_parts::specs::Reads::whole_limit))]
+pub fn move_code<S: Source, K: Sink>(
+    alloc: Global,
+    wanted: Wanted,
+    bits: Bits,
+    words: &[BlockWords],
+    source: &mut S,
+    out: &mut K,
+) -> Status
+    requires few { length words.now ≤ 16 }
+    ensures answer { spec.MovesAs wanted bits words.now (S.left source.old) (S.left source.new) (K.held out.old) (K.held out.new)
+        (Rose (S.faults source.old) (S.faults source.new)) (Rose (K.faults out.old) (K.faults out.new)) result }
+    ensures complete { (Rose (S.faults source.old) (S.faults source.new) → ⊥) → (Rose (K.faults out.old) (K.faults out.new) → ⊥)
+        → spec.CompletesMoving wanted bits words.now (S.left source.old) result }
+{
+    let input = match read_all(alloc, source, WHOLE_LIMIT) {
+        Ok(input) => input,
+        Err(ReadError::Fault) => return Status::ReadFault,
+        Err(ReadError::Memory) => return Status::Memory,
+        Err(ReadError::TooLarge) => {
+            return Status::TooLarge {
+                limit: u64::from(WHOLE_LIMIT),
+            };
+        }
+    };
+    let moved = match move_input(alloc, bits, words, &input) {
+        Ok(moved) => moved,
+        Err(status) => return status,
+    };
+    match write_wanted(wanted, bits, &moved.items, &moved.blocks, out) {
+        Ok(()) => Status::Done,
+        Err(_) => Status::WriteFault,
+    }
+}
