@@ -42,3 +42,38 @@ fn addresses_wrap_in_each_mode(rt: HostRuntime) {
         assert!(rt; wrap(bits, x) == want);
     }
 }
+
+#[test]
+fn register_constants_have_the_numbers_and_bytes_of_their_names(rt: HostRuntime) {
+    for (register, number, bytes) in [
+        (Register::BL, 3, 1),
+        (Register::SPL, 4, 1),
+        (Register::R8B, 8, 1),
+        (Register::BH, 3, 1),
+        (Register::SI, 6, 2),
+        (Register::R9W, 9, 2),
+        (Register::ESP, 4, 4),
+        (Register::R10D, 10, 4),
+        (Register::RDI, 7, 8),
+        (Register::R15, 15, 8),
+        (Register::GS, 5, 2),
+        (Register::CR8, 8, 8),
+        (Register::DR7, 7, 8),
+        (Register::ST2, 2, 10),
+        (Register::MM1, 1, 8),
+        (Register::XMM15, 15, 16),
+        (Register::YMM12, 12, 32),
+        (Register::Rip, 0, 8),
+    ] {
+        assert_eq!(rt; register.number(), number);
+        assert_eq!(rt; register.size(), bytes);
+    }
+}
+
+#[test]
+fn operands_are_counted_and_the_address_is_found(rt: HostRuntime) {
+    let instr = load(Register::RBX);
+    assert_eq!(rt; instr.op_count(), 2);
+    assert_eq!(rt; instr.memory_operand(), instr.ops[1].memory());
+    assert!(rt; instr.ops[1].is_memory() && instr.ops[3].is_absent());
+}

@@ -1,0 +1,62 @@
+//! What the operands of an instruction are.
+
+ghost use Rattle.std.specs.Prelude.{◌≡◌, find, position};
+ghost use Rattle.x86_values.specs.Operands as spec;
+
+use crate::{Instr, Mem, Operand};
+
+impl Operand {
+    /// Whether the instruction has no such operand.
+    pub fn is_absent(&self) -> bool
+        ensures { result ≡ spec.is_absent self.now }
+    {
+        matches!(self, Operand::Absent)
+    }
+
+    /// Whether the operand is an address.
+    pub fn is_memory(&self) -> bool
+        ensures { result ≡ spec.is_memory self.now }
+    {
+        matches!(self, Operand::Mem(_))
+    }
+
+    /// The address that the operand is, if it is one.
+    pub fn memory(&self) -> Option<Mem>
+        ensures { result ≡ spec.memory self.now }
+    {
+        match self {
+            Operand::Mem(m) => Some(*m),
+            _ => None,
+        }
+    }
+}
+
+fn first_absent(ops: &[Operand; 4]) -> Option<usize>
+    ensures { result ≡ position spec.is_absent ops.now }
+{
+    ops.iter().position(|operand| operand.is_absent())
+}
+
+fn first_address(ops: &[Operand; 4]) -> Option<Operand>
+    ensures { result ≡ find spec.is_memory ops.now }
+{
+    ops.iter().copied().find(|operand| operand.is_memory())
+}
+
+impl Instr {
+    /// How many operands stand in front of the first absent one: 0 to 4.
+    ///
+    /// In an instruction of the table no operand stands behind an absent one, so these are all.
+    pub fn op_count(&self) -> usize
+        ensures { result ≡ spec.count_of self.now.ops }
+    {
+        first_absent(&self.ops).unwrap_or(self.ops.len())
+    }
+
+    /// The first operand that is an address; an instruction of the table has at most one.
+    pub fn memory_operand(&self) -> Option<Mem>
+        ensures { result ≡ spec.first_memory self.now.ops }
+    {
+        first_address(&self.ops)?.memory()
+    }
+}
