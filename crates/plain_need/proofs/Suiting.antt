@@ -188,8 +188,11 @@ asked_vvvv bits code row st t imm sound w =
     asked_is v reads_vvvv number_in_vvvv row.ops _ w.vvvv (apart row sound.apart).vvvv
     (hold_all names_vectors (Gives v reads_vvvv number_in_vvvv) row.ops _ w.vectors
     (each_read (λ kind op. names_vectors kind ≡ true → Gives v reads_vvvv number_in_vvvv kind op) bits code row st t imm sound.four_operands
-    (λ kind own k. (λ h. given_vvvv bits row st t kind (method_of kind) own
-    (vectors_named kind k (or_more (reads_reg (method_of kind)) _ (or_more (reads_rm (method_of kind)) _ h))) h, silent_vvvv _ (method_of kind)))))
+    (λ kind own k. (
+      λ h. given_vvvv bits row st t kind (method_of kind) own
+          (vectors_named kind k (or_more (reads_reg (method_of kind)) _ (or_more (reads_rm (method_of kind)) _ h))) h,
+      silent_vvvv _ (method_of kind),
+    ))))
 
 any_weaker : (p q : Method → Bool) → ((how : Method) → p how ≡ true → q how ≡ true) → (kinds : List OpKind) → list_any (λ kind. p (method_of kind)) kinds ≡ true → list_any (λ kind. q (method_of kind)) kinds ≡ true
 any_weaker p q w [] h = cc
@@ -208,8 +211,11 @@ asked_index bits code row st t imm sound w gather m s =
     (hold_all names_vectors (Gives v reads_rm number_in_index) row.ops _ w.vectors
     (hold_all gather_or_not (λ kind op. names_vectors kind ≡ true → Gives v reads_rm number_in_index kind op) row.ops _ (only_gather row.ops gather one)
     (each_read (λ kind op. gather_or_not kind ≡ true → names_vectors kind ≡ true → Gives v reads_rm number_in_index kind op) bits code row st t imm sound.four_operands
-    (λ kind own g k. (λ h. given_index bits row st t kind (method_of kind) own m s
-    (vectors_named kind k (or_more (reads_reg (method_of kind)) _ (or_first (reads_rm (method_of kind)) _ h))) g h, silent_index bits row st t kind (method_of kind) own)))))
+    (λ kind own g k. (
+      λ h. given_index bits row st t kind (method_of kind) own m s
+          (vectors_named kind k (or_more (reads_reg (method_of kind)) _ (or_first (reads_rm (method_of kind)) _ h))) g h,
+      silent_index bits row st t kind (method_of kind) own,
+    )))))
 
 differ_by : (bits : Bits) (st : PrefixState) (m : Option ModRm) (sib : Option Sib) (a b c : ℕ) → gather_fits bits st m sib ≡ true → a ≡ reg_number st m → b ≡ index_number st sib → c ≡ vvvv_number bits st → (not (a == b) && (not (a == c) && not (b == c))) ≡ true
 unfolding gather_fits
