@@ -2,7 +2,7 @@ use crate::{encode, encoded_len};
 use opcode_rows::{ROWS, first_of};
 use plain_spelling::NoSpelling;
 use row_types::{Map, RowKind};
-use x86_values::{Bits, Code, DispSize, Instr, Mem, Operand, Register, Rep};
+use x86_values::{Bits, Code, DispSize, Instr, Mem, Operand, Register, Rep, Segment};
 
 /// The code of the `n`-th row of a cell, one that no row has where the cell is empty.
 fn code(kind: RowKind, map: Map, opcode: u8, n: u16) -> Code {
@@ -32,6 +32,22 @@ fn at(base: Register, disp: u64, disp_size: DispSize) -> Operand {
         disp,
         disp_size,
     })
+}
+
+/// VGATHERDPS of XMM registers at RAX with an index, and a mask.
+fn gather(destination: u8, index: Option<Register>, mask: Register) -> Instr {
+    let address = Operand::Mem(Mem {
+        base: Some(Register::R64(0)),
+        index,
+        scale: 1,
+        disp: 0,
+        disp_size: DispSize::D0,
+    });
+    let row = code(RowKind::Vex, Map::M0f38, 0x92, 0);
+    let first = Operand::Reg(Register::Xmm(destination));
+    let mut given = instr(row, first, address, Some(Bits::B64));
+    given.ops[2] = Operand::Reg(mask);
+    given
 }
 
 // Bytes of 64-bit mode, by the manual's notation of ADD, MOV, JMP, VADDPS and NOP.
@@ -76,6 +92,10 @@ fn bytes_in_64_bit_mode(rt: HostRuntime) {
             instr(add_byte, r32(0), Operand::Imm(0xFFFF_FF80), None),
             &[0x83, 0xC0, 0x80][..],
         ),
+        (
+            gather(0, Some(Register::Xmm(2)), Register::Xmm(1)),
+            &[0xC4, 0xE2, 0x71, 0x92, 0x04, 0x10][..],
+        ),
     ];
     for (given, want) in cases {
         match encode(Bits::B64, 0x1000, &given) {
@@ -101,7 +121,9 @@ fn refusals(rt: HostRuntime) {
     let byte = |n: u8| Operand::Reg(Register::Low8(n));
     let dh = Operand::Reg(Register::High8(2));
     let ah = Operand::Reg(Register::High8(0));
+    let ch = Operand::Reg(Register::High8(1));
     let mov8 = code(legacy, Map::One, 0x88, 0);
+    let shl_by_cl = code(legacy, Map::One, 0xD2, 4);
     let add_byte = code(legacy, Map::One, 0x83, 1);
     let by_three = Operand::Mem(Mem {
         base: Some(Register::R64(0)),
@@ -210,6 +232,11 @@ fn refusals(rt: HostRuntime) {
             instr(add32, rax, r32(1), None),
             NoSpelling::AddressSize,
         ),
+        (
+            Bits::B64,
+            instr(shl_by_cl, ch, byte(8), None),
+            NoSpelling::Register(1),
+        ),
     ];
     for (bits, given, want) in cases {
         match encode(bits, 0x1000, &given) {
@@ -217,5 +244,35 @@ fn refusals(rt: HostRuntime) {
             Err(why) => assert!(rt; why == want),
         }
         assert!(rt; encoded_len(bits, 0x1000, &given) == Err(want));
+    }
+}
+
+// Of a gather's registers those that are vector registers are compared; each of another class fails as its own operand.
+#[test]
+fn gather_refusals(rt: HostRuntime) {
+    let xmm = |n: u8| Some(Register::Xmm(n));
+    let of_address = NoSpelling::Memory;
+    let of_mask = NoSpelling::Register(2);
+    let of_numbers = NoSpelling::Register(0);
+    let cases = [
+        (gather(0, None, Register::Xmm(1)), of_address),
+        (
+            gather(0, Some(Register::R64(1)), Register::Xmm(1)),
+            of_address,
+        ),
+        (gather(0, xmm(2), Register::Rip), of_mask),
+        (gather(3, xmm(2), Register::Rip), of_mask),
+        (gather(1, xmm(2), Register::Seg(Segment::Cs)), of_mask),
+        (gather(4, xmm(2), Register::High8(0)), of_mask),
+        (gather(0, None, Register::Xmm(16)), of_mask),
+        (gather(2, xmm(2), Register::Xmm(1)), of_numbers),
+        (gather(1, xmm(2), Register::Xmm(1)), of_numbers),
+        (gather(0, xmm(1), Register::Xmm(1)), of_numbers),
+    ];
+    for (given, want) in cases {
+        match encode(Bits::B64, 0x1000, &given) {
+            Ok(_) => assert!(rt; false),
+            Err(why) => assert!(rt; why == want),
+        }
     }
 }

@@ -1,5 +1,5 @@
 -- How many bytes the plain spelling has, whatever it means.
-use Rattle.std.proofs.Common.{◌≡◌, ℕ, ◌+◌, Bool, true, false, List, [], ◌∷◌, ◌++◌, length, Option, Some, None, refl, arith, length-append, is_some}
+use Rattle.std.proofs.Common.{◌≡◌, ℕ, ◌+◌, Bool, true, false, ◌++◌, length, Option, Some, None, refl, arith, length-append, is_some}
 use Rattle.x86_values.specs.declared.Bits.{Bits}
 use Rattle.x86_values.specs.declared.Segment.{Segment}
 use Rattle.x86_values.specs.declared.Rep.{Rep}
@@ -11,7 +11,7 @@ use Rattle.instruction_parts.specs.Bytes.{bit, bytes_of, lead_bytes}
 use Rattle.plain_spelling.specs.PlainFront.{count_repeat, asked_used, plain_front_of}
 use Rattle.plain_spelling.specs.PlainTail.{byte_if, segment_prefix, repeat_prefix, rex_prefix, prefixes_of, address_operand, plain_len, plain_next, plain_spelling}
 use Rattle.plain_spelling.specs.Expressible.{each_operand, kind_suits}
-use Rattle.plain_fit.proofs.Parts.{PartLengths, plain_length}
+use Rattle.plain_fit.proofs.Parts.{plain_length}
 use Rattle.plain_fit.proofs.Immediates.{immediates-length}
 use Rattle.plain_fit.proofs.AddressBytes.{displacement_length}
 

@@ -1,5 +1,5 @@
 -- A plain spelling whose parts fit, fits; one whose operands are read back, means the instruction.
-use Rattle.std.proofs.Common.{◌≡◌, ℕ, ◌+◌, ◌<◌, Bool, true, false, ◌&&◌, ◌==◌, List, [], ◌∷◌, ◌++◌, length, Option, Some, None, refl, ap, sym, ◌∙◌, arith, append_assoc, length-append, eq-eqb, is_some, slice_index_or}
+use Rattle.std.proofs.Common.{◌≡◌, ℕ, ◌<◌, Bool, true, ◌&&◌, List, [], ◌∷◌, ◌++◌, length, Option, refl, sym, ◌∙◌, arith, slice_index_or}
 use Rattle.x86_values.specs.declared.Bits.{Bits}
 use Rattle.x86_values.specs.declared.Code.{Code}
 use Rattle.x86_values.specs.declared.Segment.{Segment}
@@ -7,19 +7,13 @@ use Rattle.x86_values.specs.declared.Operand.{Operand}
 use Rattle.x86_values.specs.declared.Operand.TheVariants.{Absent as AbsentOperand}
 use Rattle.x86_values.specs.declared.Rep.{Rep}
 use Rattle.x86_values.specs.declared.Instr.{Instr}
-use Rattle.x86_values.specs.Wrapping.{wrapped}
 use Rattle.row_types.specs.declared.Row.{Row}
-use Rattle.instruction_parts.specs.declared.spelling.ModRm.{ModRm}
-use Rattle.instruction_parts.specs.declared.spelling.Sib.{Sib}
-use Rattle.instruction_parts.specs.declared.spelling.PrefixState.{PrefixState}
-use Rattle.instruction_parts.specs.declared.spelling.Spelling.{Spelling}
-use Rattle.instruction_parts.specs.Sizes.{state_size, state_address_size}
-use Rattle.instruction_parts.specs.Bytes.{bytes_of, front_bytes, tail_bytes, lead_bytes, modrm_bytes, sib_bytes, state_of}
-use Rattle.row_fit.specs.Fits.{fits, mode_fits, class_fits, sizes_fit, vvvv_fits, prefixes_fit, vex_fits, opcode_and_modrm_fit, lengths_fit, address_fits, immediates_bytes, immediate_bytes, kind_at, lock_fits, registers_fit, state_fits, tail_fits, fields_in_range, are_bytes, vex_in_range, modrm_in_range, sib_in_range}
-use Rattle.row_meaning.specs.Meaning.{Tail, meaning, instr_of, operand_at as operand_read, tail, kept_repeat, kept_address_size}
+use Rattle.instruction_parts.specs.Bytes.{bytes_of, front_bytes, lead_bytes, state_of}
+use Rattle.row_fit.specs.Fits.{fits, mode_fits, class_fits, sizes_fit, vvvv_fits, prefixes_fit, vex_fits, opcode_and_modrm_fit, lengths_fit, immediates_bytes, lock_fits, registers_fit, state_fits, tail_fits, fields_in_range}
+use Rattle.row_meaning.specs.Meaning.{meaning, instr_of, operand_at as operand_read, tail, kept_repeat, kept_address_size}
 use Rattle.plain_spelling.specs.Forms.{operand_at}
 use Rattle.plain_spelling.specs.PlainFront.{plain_front_of}
-use Rattle.plain_spelling.specs.PlainTail.{prefixes_of, plain_modrm, plain_sib_of, displacement_of_operand, operand_displacement, address_operand, plain_immediates, plain_size, plain_len, plain_next, plain_spelling, byte_count}
+use Rattle.plain_spelling.specs.PlainTail.{prefixes_of, plain_modrm, plain_sib_of, displacement_of_operand, operand_displacement, address_operand, plain_immediates, plain_size, plain_len, plain_next, plain_spelling}
 use Rattle.plain_spelling.proofs.PartLengths.{modrm_count, sib_count, parts_length}
 
 both : (a b : Bool) → a ≡ true → b ≡ true → (a && b) ≡ true

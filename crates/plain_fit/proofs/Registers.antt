@@ -1,5 +1,6 @@
 -- The registers that the plain spelling names fit: their numbers in the fields, and what kinds, gathers and the byte 90 ask of them.
-use Rattle.std.proofs.Common.{◌≡◌, inl, inr, ℕ, zero, suc, ◌+◌, ◌%◌, ◌<◌, Bool, true, false, ◌&&◌, ◌||◌, not, ◌==◌, nat_le, nat_lt, refl, ap, sym, ◌∙◌, subst, arith, if◌then◌else◌, Option, Some, None, is_none, is_some, eq-eqb}
+use Rattle.std.proofs.Common.{◌≡◌, inl, inr, ℕ, zero, suc, ◌+◌, ◌%◌, ◌<◌, Bool, true, false, ◌&&◌, ◌||◌, not, ◌==◌, nat_le, nat_lt, refl, ap, sym, ◌∙◌, subst, arith, if◌then◌else◌, Option, Some, None, is_none, is_some, eq-eqb, List, [], ◌∷◌, length}
+use Rattle.std.specs.Prelude.{slice_index_or}
 use Rattle.std.proofs.lemmas.Bool.{leb-true}
 use Rattle.std.specs.List.{list_all}
 use borrow.Author.Tests.{ltb-true}
@@ -23,11 +24,15 @@ use Rattle.row_types.specs.declared.Plus.TheVariants.{No as NoPlus, Register as 
 use Rattle.row_types.specs.declared.ModRmRule.{ModRmRule}
 use Rattle.row_types.specs.declared.ModRmRule.TheVariants.{Any as AnyModRm}
 use Rattle.row_types.specs.declared.Place.{Place}
+use Rattle.row_types.specs.declared.LBit.{LBit}
+use Rattle.row_types.specs.declared.LBit.TheVariants.{L256}
 use Rattle.row_types.specs.declared.OpKind.{OpKind}
 use Rattle.row_types.specs.declared.OpKind.TheVariants.{Absent, Sw, Cn, Dn}
 use Rattle.instruction_parts.specs.declared.kinds.Method.{Method}
 use Rattle.instruction_parts.specs.declared.kinds.Method.TheVariants as method
 use Rattle.instruction_parts.specs.declared.kinds.File.{File}
+use Rattle.instruction_parts.specs.declared.kinds.File.TheVariants as file
+use Rattle.instruction_parts.specs.declared.spelling.PrefixState.{PrefixState}
 use Rattle.instruction_parts.specs.declared.spelling.ModRm.{ModRm}
 use Rattle.instruction_parts.specs.declared.spelling.Sib.{Sib}
 use Rattle.instruction_parts.specs.Kinds.{method_of, file_of}
@@ -35,17 +40,19 @@ use Rattle.instruction_parts.specs.Counting.{is_16}
 use Rattle.instruction_parts.specs.Sizes.{is_vex_row, bit_r, bit_b, state_address_size}
 use Rattle.row_fit.specs.Fits.{kind_at, reads_by, is_gather, is_map_one, is_repeat_f3, is_no_repeat, has_modrm, extended, reg_field, rm_field, reg_number, rm_number, index_number, vvvv_number, needs_sib, register_fits, destination_fits, gather_fits, nop_fits, is_nop_byte, is_control_number, registers_fit}
 use Rattle.row_fit.specs.Sound.{reads_reg, reads_rm, reads_vvvv, reads_opcode}
-use Rattle.row_meaning.specs.Meaning.{register_of}
+use Rattle.row_meaning.specs.Meaning.{vector, register_of}
 use Rattle.instruction_parts.proofs.Tests.{either, and_left, and_right, not_true, or_right, equal_from}
 use Rattle.plain_spelling.specs.Forms.{operand_at, is_variant_of, is_register, is_memory, is_scale}
 use Rattle.plain_spelling.specs.PlainFront.{segment_number, register_number, number_or_zero, operand_number, operand_index_number, base_or_register_number, number_in_reg, number_in_rm, number_in_index, number_in_vvvv, number_in_opcode, asked, asks_r, asks_x, asks_b, asked_opcode, asked_repeat, plain_front_of}
 use Rattle.plain_spelling.specs.declared.addresses.AddressForm.TheVariants.{Flat}
 use Rattle.plain_spelling.specs.declared.addresses.AddressFields.{AddressFields}
-use Rattle.plain_spelling.specs.Addresses.{register_count, general_size, has_address_size, is_flat_size, is_address_register, form_of, written_size, index_bits, plain_sib, flat_needs_sib, flat_fields, address_fields, is_gather_base, is_vector_index, is_gather_shape, shape_suits}
+use Rattle.plain_spelling.specs.Addresses.{register_count, general_size, has_address_size, is_flat_size, is_address_register, form_of, written_size, index_bits, plain_sib, flat_needs_sib, flat_fields, address_fields, is_gather_base, index_named, is_vector_index, is_gather_shape, shape_suits}
 use Rattle.plain_spelling.specs.PlainTail.{modrm_with, plain_modrm, plain_sib_of}
-use Rattle.plain_spelling.specs.Expressible.{each_operand, kind_suits, naming_number, is_of_kind, is_not_nop, kind_allows, is_nameable, gather_numbers_differ, gather_suits, register_suits, address_suits, is_exchange_of_90, repeat_suits, prefixes_suit, lock_suits, has_memory_operand, size_agrees, is_size_of, address_size_suits}
-use Rattle.plain_spelling.specs.Writable.{nop_is_bare, keeps_number, gather_is_whole}
+use Rattle.plain_spelling.specs.Expressible.{each_operand, kind_suits, naming_number, is_of_kind, is_not_nop, kind_allows, is_nameable, is_vector_register, vector_in_reg, vector_in_index, vector_in_vvvv, passes, differ as two_differ, gather_numbers_differ, gather_suits, register_suits, address_suits, is_exchange_of_90, repeat_suits, prefixes_suit, lock_suits, has_memory_operand, size_agrees, is_size_of, address_size_suits}
+use Rattle.plain_spelling.specs.Writable.{nop_is_bare, is_vector_file, names_vectors, gather_is_whole}
+use Rattle.plain_spelling.specs.Comparing.{same_register}
 use Rattle.plain_spelling.proofs.Compared.{same_register-is}
+use Rattle.plain_spelling.proofs.AddressForms.{vectors_named}
 use Rattle.plain_spelling.proofs.Asked.{adds_register, proper, plus_register, four_kinds, each-at, asked_reg-at, asked_rm-at, asked_rm-none, asked_index-at, asked_opcode-at, index_in_rm, reads_b}
 use Rattle.plain_fit.proofs.Given.{Given}
 use Rattle.plain_fit.proofs.Numbers.{kind_that_passes, Nameable, nameable-at, numbers_suit}
@@ -306,21 +313,22 @@ gather_fields bits row file asize m h =
       index = plain_sib_index m ∙ index_field m.index index;
     }
 
+or_first : (a b : Bool) → a ≡ true → (a || b) ≡ true
+or_first true b h = refl
+or_first false b h = cc
+
+-- a test that one of the four operands passes
+among : (p : ℕ → Bool) (n : ℕ) → n < 4 → p n ≡ true → (p 0 || (p 1 || (p 2 || p 3))) ≡ true
+among p zero below h = or_first (p 0) (p 1 || (p 2 || p 3)) h
+among p (suc zero) below h = or_true (p 0) _ (or_first (p 1) (p 2 || p 3) h)
+among p (suc (suc zero)) below h = or_true (p 0) _ (or_true (p 1) _ (or_first (p 2) (p 3) h))
+among p (suc (suc (suc zero))) below h = or_true (p 0) _ (or_true (p 1) _ (or_true (p 2) (p 3) h))
+among p (suc (suc (suc (suc n)))) below h = absurd (omega arith)
+
 -- an operand that is memory
 memory_among : (i : Instr) (n : ℕ) → n < 4 → is_memory (operand_at i n) ≡ true → has_memory_operand i ≡ true
 unfolding has_memory_operand
 memory_among i n below h = among (λ k. is_memory (operand_at i k)) n below h
-  where
-    or_first : (a b : Bool) → a ≡ true → (a || b) ≡ true
-    or_first true b h = refl
-    or_first false b h = cc
-
-    among : (p : ℕ → Bool) (n : ℕ) → n < 4 → p n ≡ true → (p 0 || (p 1 || (p 2 || p 3))) ≡ true
-    among p zero below h = or_first (p 0) (p 1 || (p 2 || p 3)) h
-    among p (suc zero) below h = or_true (p 0) _ (or_first (p 1) (p 2 || p 3) h)
-    among p (suc (suc zero)) below h = or_true (p 0) _ (or_true (p 1) _ (or_first (p 2) (p 3) h))
-    among p (suc (suc (suc zero))) below h = or_true (p 0) _ (or_true (p 1) _ (or_true (p 2) (p 3) h))
-    among p (suc (suc (suc (suc n)))) below h = absurd (omega arith)
 
 -- the address size of an instruction with a memory operand
 pub record HasSize (bits : Bits) (row : Row) (i : Instr) : Type 0 where
@@ -357,21 +365,107 @@ not_word bits row i a h gather =
 record Whole (row : Row) : Type 0 where
   vex : is_vex_row row ≡ true
   rule : row.modrm ≡ AnyModRm
+  reg : reads_by reads_reg row ≡ true
+  vvvv : reads_by reads_vvvv row ≡ true
+  vectors : list_all names_vectors row.ops ≡ true
 
-any_rule : (rule : ModRmRule) (x : Bool) → (elim rule [ AnyModRm ↦ x | _ ↦ false ]) ≡ true → rule ≡ AnyModRm
-any_rule AnyModRm x h = refl
+any_rule : (rule : ModRmRule) (x : Bool) → (elim rule [ AnyModRm ↦ x | _ ↦ false ]) ≡ true → (rule ≡ AnyModRm) × (x ≡ true)
+any_rule AnyModRm x h = (refl, h)
 any_rule _ x h = cc
 
 whole : (row : Row) → gather_is_whole row ≡ true → reads_by is_gather row ≡ true → Whole row
 unfolding gather_is_whole
 whole row h gather =
-    let both_read = reads_by reads_reg row && (reads_by reads_vvvv row && list_all (λ kind. keeps_number (file_of kind)) row.ops) in
+    let mask = reads_by reads_vvvv row && list_all names_vectors row.ops in
+    let both_read = reads_by reads_reg row && mask in
     let rule : Bool = elim row.modrm [ AnyModRm ↦ both_read | _ ↦ false ] in
     let k = or_right (not (reads_by is_gather row)) (is_vex_row row && rule) (ap not gather) h in
+    let any = any_rule row.modrm both_read (and_right (is_vex_row row) rule k) in
+    let masked = and_right (reads_by reads_reg row) mask any.1 in
     record {
       vex = and_left (is_vex_row row) rule k;
-      rule = any_rule row.modrm both_read (and_right (is_vex_row row) rule k);
+      rule = any.0;
+      reg = and_left (reads_by reads_reg row) mask any.1;
+      vvvv = and_left (reads_by reads_vvvv row) (list_all names_vectors row.ops) masked;
+      vectors = and_right (reads_by reads_vvvv row) (list_all names_vectors row.ops) masked;
     }
+
+-- ---- the registers of a gather are vector registers
+
+vector_is : (l : LBit) (n : ℕ) → is_vector_register (vector l n) ≡ true
+unfolding vector
+vector_is L256 n = refl
+vector_is _ n = refl
+
+vector_file : (bits : Bits) (row : Row) (f : PrefixState) (file : File) (n : ℕ) → is_vector_file file ≡ true → is_vector_register (register_of bits row f file n) ≡ true
+unfolding register_of
+vector_file bits row f file.Xmm n h = refl
+vector_file bits row f file.Vector n h = vector_is row.l n
+vector_file bits row f _ n h = cc
+
+names-at : (kinds : List OpKind) (n : ℕ) → n < length kinds → list_all names_vectors kinds ≡ true → names_vectors (slice_index_or kinds n Absent) ≡ true
+names-at [] n below h = absurd (omega arith)
+names-at (kind ∷ kinds) zero below h = and_left (names_vectors kind) (list_all names_vectors kinds) h
+names-at (kind ∷ kinds) (suc n) below h = names-at kinds n (omega arith) (and_right (names_vectors kind) (list_all names_vectors kinds) h)
+
+-- a register operand of a gather, read from reg, r/m or vvvv
+vector-at : (bits : Bits) (ip : ℕ) (row : Row) (i : Instr) (n : ℕ) (r : Register) → Given bits ip row i → Whole row → n < 4 → operand_at i n ≡ Reg r
+    → (reads_reg (method_of (kind_at row n)) || (reads_rm (method_of (kind_at row n)) || reads_vvvv (method_of (kind_at row n)))) ≡ true → is_vector_register r ≡ true
+vector-at bits ip row i n r g w below e reads =
+    let four = four_kinds row g.is_sound in
+    let file = vectors_named (kind_at row n) (names-at row.ops n (omega arith) w.vectors) reads in
+    ap is_vector_register (register-at bits ip row i n r g below e)
+    ∙ vector_file bits row (plain_front_of bits row i) (file_of (kind_at row n)) (naming_number (method_of (kind_at row n)) (kind_at row n) r) file
+
+reg_passes : (how : Method) (r : Register) → reads_reg how ≡ true → is_vector_register r ≡ true → vector_in_reg how (Reg r) ≡ true
+unfolding vector_in_reg
+reg_passes method.ModRmReg r h k = k
+reg_passes _ r h k = cc
+
+vvvv_passes : (how : Method) (r : Register) → reads_vvvv how ≡ true → is_vector_register r ≡ true → vector_in_vvvv how (Reg r) ≡ true
+unfolding vector_in_vvvv
+vvvv_passes method.Vvvv r h k = k
+vvvv_passes _ r h k = cc
+
+index_named_is : (row : Row) (file : File) (n : ℕ) → is_vector_register (index_named row file n) ≡ true
+unfolding index_named
+index_named_is row file.Xmm n = refl
+index_named_is row _ n = vector_is row.l n
+
+index_is : (bits : Bits) (row : Row) (file : File) (index : Option Register) → is_vector_index bits row file index ≡ true → (elim index [ None ↦ false | Some r ↦ is_vector_register r ]) ≡ true
+unfolding is_vector_index
+index_is bits row file None h = h
+index_is bits row file (Some r) h =
+    let named = index_named row file (register_number r) in
+    ap is_vector_register (same_register-is r named (and_left (same_register r named) (nat_lt (register_number r) (register_count bits)) h))
+    ∙ index_named_is row file (register_number r)
+
+index_passes : (bits : Bits) (row : Row) (how : Method) (file : File) (m : Mem) → is_gather how ≡ true → shape_suits bits row how file m ≡ true → vector_in_index how (MemOperand m) ≡ true
+unfolding shape_suits is_gather_shape vector_in_index
+index_passes bits row method.Gather file m h k =
+    let b = is_gather_base bits m.base in
+    let i = is_vector_index bits row file m.index in
+    let s = is_scale m.scale in
+    index_is bits row file m.index (and_left i s (and_right b (i && s) k))
+index_passes bits row _ file m h k = cc
+
+-- some operand passes a test
+abbrev some_passes : (Method → Operand → Bool) → Row → Instr → Bool
+some_passes p row i = passes p row i 0 || (passes p row i 1 || (passes p row i 2 || passes p row i 3))
+
+passes-at : (p : Method → Operand → Bool) (row : Row) (i : Instr) (n : ℕ) (op : Operand) → n < 4 → operand_at i n ≡ op → p (method_of (kind_at row n)) op ≡ true → some_passes p row i ≡ true
+passes-at p row i n op below e h = among (passes p row i) n below (ap (p (method_of (kind_at row n))) e ∙ h)
+
+vvvv_variant : (place : Place) (how : Method) (op : Operand) → reads_vvvv how ≡ true → is_variant_of place how op ≡ true → is_register op ≡ true
+unfolding is_variant_of
+vvvv_variant place method.Vvvv op h k = k
+vvvv_variant place _ op h k = cc
+
+-- all three are vector registers
+record AreVectors (row : Row) (i : Instr) : Type 0 where
+  reg : some_passes vector_in_reg row i ≡ true
+  index : some_passes vector_in_index row i ≡ true
+  vvvv : some_passes vector_in_vvvv row i ≡ true
 
 differ : (bits : Bits) (row : Row) (i : Instr) → each_operand (register_suits bits row i) ≡ true → reads_by is_gather row ≡ true → gather_numbers_differ row i ≡ true
 unfolding register_suits
@@ -384,12 +478,27 @@ differ bits row i h gather =
 abbrev differ_pairwise : ℕ → ℕ → ℕ → Bool
 differ_pairwise a b c = not (a == b) && (not (a == c) && not (b == c))
 
+all_differ : (a b c : Bool) (x y z : ℕ) → a ≡ true → b ≡ true → c ≡ true
+    → (two_differ (if a then Some x else None) (if b then Some y else None)
+    && (two_differ (if a then Some x else None) (if c then Some z else None) && two_differ (if b then Some y else None) (if c then Some z else None))) ≡ true
+    → differ_pairwise x y z ≡ true
+all_differ true true true x y z ea eb ec h = h
+all_differ false b c x y z ea eb ec h = cc
+all_differ true false c x y z ea eb ec h = cc
+all_differ true true false x y z ea eb ec h = cc
+
+vectors_differ : (row : Row) (i : Instr) → AreVectors row i → gather_numbers_differ row i ≡ true → differ_pairwise (asked number_in_reg row i) (asked number_in_index row i) (asked number_in_vvvv row i) ≡ true
+unfolding gather_numbers_differ
+vectors_differ row i v h =
+    all_differ (some_passes vector_in_reg row i) (some_passes vector_in_index row i) (some_passes vector_in_vvvv row i)
+    (asked number_in_reg row i) (asked number_in_index row i) (asked number_in_vvvv row i) v.reg v.index v.vvvv h
+
 gather_by : (bits : Bits) (row : Row) (i : Instr) (asize : Bits) (m : Option ModRm) (sib : Option Sib)
     → state_address_size bits (plain_front_of bits row i) ≡ asize → has_modrm (λ m. needs_sib asize m) m ≡ true
     → reg_number (plain_front_of bits row i) m ≡ asked number_in_reg row i → index_number (plain_front_of bits row i) sib ≡ asked number_in_index row i
     → vvvv_number bits (plain_front_of bits row i) ≡ asked number_in_vvvv row i
-    → gather_numbers_differ row i ≡ true → gather_fits bits (plain_front_of bits row i) m sib ≡ true
-unfolding gather_fits gather_numbers_differ
+    → differ_pairwise (asked number_in_reg row i) (asked number_in_index row i) (asked number_in_vvvv row i) ≡ true → gather_fits bits (plain_front_of bits row i) m sib ≡ true
+unfolding gather_fits
 gather_by bits row i asize m sib size needs reg index vvvv h =
     both (has_modrm (λ m. needs_sib (state_address_size bits (plain_front_of bits row i)) m) m) _
     (subst (λ (a : Bits). has_modrm (λ m. needs_sib a m) m ≡ true) (sym size) needs)
@@ -431,6 +540,7 @@ record GatherOperand (bits : Bits) (row : Row) (i : Instr) : Type 0 where
   rm : MemoryInRm bits row i m
   fields : GatherFields m (address_fields bits (written_size bits i.asize m) m)
   index : asked number_in_index row i ≡ number_or_zero m.index
+  vector : some_passes vector_in_index row i ≡ true
 
 gather_operand-at : (bits : Bits) (ip : ℕ) (row : Row) (i : Instr) (n : ℕ) → Given bits ip row i → reads_by is_gather row ≡ true → n < 4 → is_gather (method_of (kind_at row n)) ≡ true → GatherOperand bits row i
 gather_operand-at bits ip row i n g gather below how =
@@ -439,6 +549,7 @@ gather_operand-at bits ip row i n g gather below how =
     let m = memory_variant (operand_at i n) memory in
     let size = size_of_memory bits row i n g.suits.address_size below memory in
     let word = not_word bits row i size.size size.suits gather in
+    let shape = shape-at bits row i n m.0 g.suits.addresses below m.1 in
     record {
       m = m.0;
       asize = size.size;
@@ -446,9 +557,31 @@ gather_operand-at bits ip row i n g gather below how =
       word = word.1;
       rm = memory_in_rm bits row i n m.0 g.is_sound g.is_writable.rule g.four g.suits.kinds below reads m.1;
       fields = gather_fields bits row (file_of (kind_at row n)) (written_size bits i.asize m.0) m.0
-          (gather_shape bits row (method_of (kind_at row n)) (file_of (kind_at row n)) m.0 how (shape-at bits row i n m.0 g.suits.addresses below m.1));
+          (gather_shape bits row (method_of (kind_at row n)) (file_of (kind_at row n)) m.0 how shape);
       index = asked_index-at row i n g.is_sound g.four below (index_in_rm bits row i g.suits.kinds g.suits.addresses) reads ∙ ap operand_index_number m.1;
+      vector = passes-at vector_in_index row i n (MemOperand m.0) below m.1 (index_passes bits row (method_of (kind_at row n)) (file_of (kind_at row n)) m.0 how shape);
     }
+
+-- the destination
+reg_vector : (bits : Bits) (ip : ℕ) (row : Row) (i : Instr) → Given bits ip row i → Whole row → some_passes vector_in_reg row i ≡ true
+reg_vector bits ip row i g w =
+    let k = kind_that_passes (λ kind. reads_reg (method_of kind)) row.ops Absent w.reg in
+    let four = four_kinds row g.is_sound in
+    let below : k.0 < 4 = omega arith in
+    let how = method_of (kind_at row k.0) in
+    let r = register_in_reg row i k.0 g.suits.kinds below k.2 in
+    passes-at vector_in_reg row i k.0 (Reg r.0) below r.1 (reg_passes how r.0 k.2 (vector-at bits ip row i k.0 r.0 g w below r.1 (or_first (reads_reg how) _ k.2)))
+
+-- the mask
+vvvv_vector : (bits : Bits) (ip : ℕ) (row : Row) (i : Instr) → Given bits ip row i → Whole row → some_passes vector_in_vvvv row i ≡ true
+vvvv_vector bits ip row i g w =
+    let k = kind_that_passes (λ kind. reads_vvvv (method_of kind)) row.ops Absent w.vvvv in
+    let four = four_kinds row g.is_sound in
+    let below : k.0 < 4 = omega arith in
+    let how = method_of (kind_at row k.0) in
+    let r = register_variant (operand_at i k.0) (vvvv_variant row.place how (operand_at i k.0) k.2 (variant-at row i k.0 g.suits.kinds below)) in
+    passes-at vector_in_vvvv row i k.0 (Reg r.0) below r.1
+    (vvvv_passes how r.0 k.2 (vector-at bits ip row i k.0 r.0 g w below r.1 (or_true (reads_reg how) _ (or_true (reads_rm how) _ k.2))))
 
 gather_needs : (bits : Bits) (row : Row) (i : Instr) (o : GatherOperand bits row i) → has_modrm (λ m. needs_sib o.asize m) (plain_modrm bits row i) ≡ true
 gather_needs bits row i o =
@@ -471,7 +604,8 @@ gathers_fit bits ip row i g gather =
     go o =
         let w = whole row g.is_writable.gather gather in
         gather_by bits row i o.asize (plain_modrm bits row i) (plain_sib_of bits row i) o.size_is (gather_needs bits row i o)
-        (reg_number_asked bits ip row i g w.rule) (gather_index bits ip row i g o) ((says bits ip row i g).vvvv w.vex) (differ bits row i g.suits.registers gather)
+        (reg_number_asked bits ip row i g w.rule) (gather_index bits ip row i g o) ((says bits ip row i g).vvvv w.vex)
+        (vectors_differ row i (record { reg = reg_vector bits ip row i g w; index = o.vector; vvvv = vvvv_vector bits ip row i g w }) (differ bits row i g.suits.registers gather))
 
 -- ---- the byte 90
 

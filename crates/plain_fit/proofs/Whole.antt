@@ -1,25 +1,23 @@
 -- The plain spelling of an instruction that meets its conditions fits its row and means the instruction.
-use Rattle.std.proofs.Common.{◌≡◌, ℕ, ◌+◌, ◌<◌, ◌≤◌, Bool, true, false, ◌&&◌, ◌||◌, ◌==◌, List, ◌++◌, length, Option, Some, None, refl, ap, sym, ◌∙◌, subst, arith, nat_lt, eq-eqb, if◌then◌else◌, is_none, inl, inr}
+use Rattle.std.proofs.Common.{◌≡◌, ℕ, ◌<◌, true, false, ◌||◌, length, Option, Some, None, refl, ap, ◌∙◌, nat_lt, eq-eqb, if◌then◌else◌, is_none, inl, inr}
 use Rattle.x86_values.specs.declared.Bits.{Bits}
 use Rattle.x86_values.specs.declared.Operand.{Operand}
 use Rattle.x86_values.specs.declared.Operand.TheVariants.{Absent as AbsentOperand, Reg, Mem as MemOperand, Imm, Near, Far}
 use Rattle.x86_values.specs.declared.Instr.{Instr}
 use Rattle.row_types.specs.declared.Row.{Row}
-use Rattle.instruction_parts.specs.declared.spelling.ModRm.{ModRm}
-use Rattle.instruction_parts.specs.Sizes.{state_size, state_address_size, has_address_mark}
+use Rattle.instruction_parts.specs.Sizes.{state_address_size, has_address_mark}
 use Rattle.instruction_parts.specs.Kinds.{method_of}
-use Rattle.instruction_parts.specs.Bytes.{bytes_of, state_of}
+use Rattle.instruction_parts.specs.Bytes.{state_of}
 use Rattle.instruction_parts.proofs.Tests.{either, and_left}
-use Rattle.row_fit.specs.Fits.{fits, opcode_fits, opcode_and_modrm_fit, modrm_rule_fits, place_fits, lengths_fit, address_fits, immediates_bytes, kind_at, are_bytes, vex_in_range, modrm_in_range, sib_in_range, fields_in_range}
-use Rattle.row_fit.specs.Sound.{Sound}
-use Rattle.row_meaning.specs.Meaning.{Tail, tail, meaning, operand_by, operand_at as operand_read, own_immediate, kept_address_size, has_memory}
+use Rattle.row_fit.specs.Fits.{fits, opcode_fits, opcode_and_modrm_fit, modrm_rule_fits, lengths_fit, address_fits, immediates_bytes, kind_at, are_bytes, vex_in_range, modrm_in_range, sib_in_range, fields_in_range}
+use Rattle.row_meaning.specs.Meaning.{Tail, tail, meaning, operand_by, operand_at as operand_read, kept_address_size}
 use Rattle.plain_spelling.specs.Forms.{operand_at}
 use Rattle.plain_spelling.specs.PlainFront.{plain_front_of}
 use Rattle.plain_spelling.specs.Addresses.{has_address_size}
-use Rattle.plain_spelling.specs.PlainTail.{prefixes_of, plain_modrm, plain_sib_of, displacement_of_operand, operand_displacement, address_operand, immediate_at, plain_immediates, plain_size, plain_len, plain_next, plain_spelling}
-use Rattle.plain_spelling.specs.Expressible.{each_operand, kind_suits, address_size_suits, is_size_of, has_memory_operand}
+use Rattle.plain_spelling.specs.PlainTail.{prefixes_of, plain_modrm, plain_sib_of, operand_displacement, address_operand, immediate_at, plain_size, plain_next, plain_spelling}
+use Rattle.plain_spelling.specs.Expressible.{address_size_suits, is_size_of, has_memory_operand}
 use Rattle.plain_fit.proofs.Given.{Given}
-use Rattle.plain_fit.proofs.Parts.{plain_disp, plain_imm, PartsFit, parts_fit, PartsRead, parts_mean}
+use Rattle.plain_fit.proofs.Parts.{plain_disp, plain_imm, parts_fit, parts_mean}
 use Rattle.plain_fit.proofs.Lengths.{plain_long}
 use Rattle.plain_fit.proofs.Numbers.{numbers_suit}
 use Rattle.plain_fit.proofs.FrontBits.{FrontBits}
@@ -29,7 +27,7 @@ use Rattle.plain_fit.proofs.Registers.{registers_are_fit}
 use Rattle.plain_fit.proofs.RegistersBack.{has_memory_is, locks_fit, register_back, absent_back}
 use Rattle.plain_fit.proofs.Immediates.{immediates-length, immediates-bytes, own-immediate, value-read_back, is_value}
 use Rattle.plain_fit.proofs.AddressBytes.{displacement_are_bytes, displacement_length}
-use Rattle.plain_fit.proofs.AddressLengths.{TailFits, tail_fits}
+use Rattle.plain_fit.proofs.AddressLengths.{tail_fits}
 use Rattle.plain_fit.proofs.Addresses.{memory_back}
 
 -- the front of an instruction that meets its conditions

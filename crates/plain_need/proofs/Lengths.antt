@@ -1,12 +1,10 @@
 -- The plain spelling is at most as long as any other that means the same.
-use Rattle.std.proofs.Common.{◌≡◌, ℕ, ◌+◌, ◌≤◌, Bool, true, false, List, [], ◌∷◌, ◌++◌, length, Option, Some, None, refl, arith, length-append, is_some}
+use Rattle.std.proofs.Common.{◌≡◌, ◌≤◌, Bool, true, false, length, refl, arith, is_some}
 use Rattle.x86_values.specs.declared.Bits.{Bits}
 use Rattle.x86_values.specs.declared.Instr.{Instr}
 use Rattle.row_types.specs.declared.Row.{Row}
-use Rattle.instruction_parts.specs.declared.spelling.ModRm.{ModRm}
-use Rattle.instruction_parts.specs.declared.spelling.Sib.{Sib}
 use Rattle.instruction_parts.specs.declared.spelling.Spelling.{Spelling}
-use Rattle.instruction_parts.specs.Bytes.{bytes_of, front_bytes, tail_bytes, modrm_bytes, sib_bytes}
+use Rattle.instruction_parts.specs.Bytes.{bytes_of, front_bytes, modrm_bytes}
 use Rattle.row_fit.specs.Fits.{immediates_bytes}
 use Rattle.plain_spelling.specs.PlainFront.{plain_front_of}
 use Rattle.plain_spelling.specs.PlainTail.{plain_modrm, plain_sib_of, operand_displacement, address_operand, plain_size, plain_len, byte_count}

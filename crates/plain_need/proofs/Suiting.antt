@@ -1,5 +1,5 @@
 -- The registers, LOCK and the repeat prefix of an instruction that a fitting spelling means are those that its row allows.
-use Rattle.std.proofs.Common.{◌≡◌, inl, inr, ℕ, ◌+◌, ◌%◌, ◌<◌, ◌≤◌, Bool, true, false, ◌&&◌, ◌||◌, not, ◌==◌, nat_lt, List, [], ◌∷◌, length, Option, Some, None, is_some, refl, ap, sym, ◌∙◌, subst, arith}
+use Rattle.std.proofs.Common.{◌≡◌, inl, inr, ℕ, ◌+◌, ◌%◌, ◌<◌, ◌≤◌, Bool, true, false, ◌&&◌, ◌||◌, not, ◌==◌, nat_lt, List, [], ◌∷◌, length, Option, Some, None, is_some, refl, ap, sym, ◌∙◌, subst, arith, if◌then◌else◌}
 use Rattle.std.specs.List.{list_any, list_all}
 use Rattle.x86_values.specs.declared.Bits.{Bits}
 use Rattle.x86_values.specs.declared.Rep.{Rep}
@@ -31,14 +31,15 @@ use Rattle.row_fit.specs.Sound.{Sound, has_four_operands, reads_reg, reads_rm, r
 use Rattle.row_meaning.specs.Meaning.{register_of, memory_with_sib, with_modrm, gather_memory, kept_repeat, Tail, tail_of, instr_of, operand_by, own_immediate}
 use Rattle.plain_spelling.specs.Forms.{is_variant_of, is_memory, operand_at}
 use Rattle.plain_spelling.specs.PlainFront.{register_number, number_in_reg, number_in_index, number_in_vvvv, number_in_opcode, operand_index_number, asked, asked_opcode}
-use Rattle.plain_spelling.specs.Expressible.{each_operand, kind_suits, gather_numbers_differ, gather_suits, register_suits, lock_suits, is_exchange_of_90, repeat_suits, prefixes_suit, row_exists}
-use Rattle.plain_spelling.specs.Writable.{keeps_number, gather_is_whole}
+use Rattle.plain_spelling.specs.Expressible.{each_operand, kind_suits, vector_in_reg, vector_in_index, vector_in_vvvv, passes, differ as two_differ, gather_numbers_differ, gather_suits, register_suits, lock_suits, is_exchange_of_90, repeat_suits, prefixes_suit, row_exists}
+use Rattle.plain_spelling.specs.Writable.{is_vector_file, names_vectors, gather_is_whole}
+use Rattle.plain_spelling.proofs.AddressForms.{vectors_named}
 use Rattle.plain_spelling.proofs.Asked.{each-from}
 use Rattle.instruction_parts.proofs.Tests.{either, and_left, and_right, not_true, or_right, equal_from}
 use Rattle.plain_need.proofs.Given.{Given}
 use Rattle.plain_need.proofs.Immediates.{own-bytes, bytes_behind}
 use Rattle.plain_need.proofs.Walking.{Gives, hold_all, readers, readers_yes, readers_no, readers_none, readers_left, asked_is}
-use Rattle.plain_need.proofs.Numbers.{number-general, number-vector, number-byte}
+use Rattle.plain_need.proofs.Numbers.{number-vector}
 use Rattle.plain_need.proofs.Asks.{apart, placed, each_read, differ, silent_reg, silent_vvvv, silent_opcode, silent_index}
 use Rattle.plain_need.proofs.States.{StateIs, state_is}
 use Rattle.plain_need.proofs.Used.{read, read_is, bits_of, tail_range, kept_of}
@@ -82,33 +83,23 @@ reading bits ip code row s i n g h =
 
 -- ---- gathers
 
-kept_number : (bits : Bits) (row : Row) (st : PrefixState) (f : File) (n : ℕ) → keeps_number f ≡ true → register_number (register_of bits row st f n) ≡ n
+kept_number : (bits : Bits) (row : Row) (st : PrefixState) (f : File) (n : ℕ) → is_vector_file f ≡ true → register_number (register_of bits row st f n) ≡ n
 unfolding register_of register_number
-kept_number bits row st file.Byte n h = number-byte st.rex n
-kept_number bits row st file.OperandSize n h = number-general (state_size bits row st) n
-kept_number bits row st file.WordOrDword n h = number-general _ n
-kept_number bits row st file.ByW n h = number-general _ n
-kept_number bits row st file.Native n h = number-general _ n
+kept_number bits row st file.Xmm n h = refl
 kept_number bits row st file.Vector n h = number-vector row.l n
-kept_number bits row st file.Segment n h = cc
-kept_number bits row st file.Stack n h = cc
-kept_number bits row st file.Mmx n h = cc
-kept_number bits row st _ n h = refl
+kept_number bits row st _ n h = cc
 
-abbrev keeps : OpKind → Bool
-keeps kind = keeps_number (file_of kind)
-
-given_reg : (bits : Bits) (row : Row) (st : PrefixState) (t : Tail) (kind : OpKind) (how : Method) (own : List ℕ) → keeps kind ≡ true → reads_reg how ≡ true → number_in_reg how (operand_by bits row st t kind how own) ≡ reg_number st t.modrm
+given_reg : (bits : Bits) (row : Row) (st : PrefixState) (t : Tail) (kind : OpKind) (how : Method) (own : List ℕ) → is_vector_file (file_of kind) ≡ true → reads_reg how ≡ true → number_in_reg how (operand_by bits row st t kind how own) ≡ reg_number st t.modrm
 unfolding number_in_reg operand_by
 given_reg bits row st t kind method.ModRmReg own k h = kept_number bits row st (file_of kind) (reg_number st t.modrm) k
 given_reg bits row st t kind _ own k h = cc
 
-given_vvvv : (bits : Bits) (row : Row) (st : PrefixState) (t : Tail) (kind : OpKind) (how : Method) (own : List ℕ) → keeps kind ≡ true → reads_vvvv how ≡ true → number_in_vvvv how (operand_by bits row st t kind how own) ≡ vvvv_number bits st
+given_vvvv : (bits : Bits) (row : Row) (st : PrefixState) (t : Tail) (kind : OpKind) (how : Method) (own : List ℕ) → is_vector_file (file_of kind) ≡ true → reads_vvvv how ≡ true → number_in_vvvv how (operand_by bits row st t kind how own) ≡ vvvv_number bits st
 unfolding number_in_vvvv operand_by
 given_vvvv bits row st t kind method.Vvvv own k h = kept_number bits row st (file_of kind) (vvvv_number bits st) k
 given_vvvv bits row st t kind _ own k h = cc
 
-gather_index : (bits : Bits) (row : Row) (st : PrefixState) (f : File) (m : Option ModRm) (sib : Option Sib) (disp : List ℕ) → is_some m ≡ true → is_some sib ≡ true → keeps_number f ≡ true → operand_index_number (with_modrm (λ m. gather_memory bits row st f m sib disp) m) ≡ index_number st sib
+gather_index : (bits : Bits) (row : Row) (st : PrefixState) (f : File) (m : Option ModRm) (sib : Option Sib) (disp : List ℕ) → is_some m ≡ true → is_some sib ≡ true → is_vector_file f ≡ true → operand_index_number (with_modrm (λ m. gather_memory bits row st f m sib disp) m) ≡ index_number st sib
 unfolding gather_memory memory_with_sib
 gather_index bits row st f None sib disp h k e = cc
 gather_index bits row st f (Some m) None disp h k e = cc
@@ -118,7 +109,7 @@ gather_index bits row st f (Some m) (Some s) disp h k e = kept_number bits row s
 abbrev gather_or_not : OpKind → Bool
 gather_or_not kind = is_gather (method_of kind) || not (reads_rm (method_of kind))
 
-given_index : (bits : Bits) (row : Row) (st : PrefixState) (t : Tail) (kind : OpKind) (how : Method) (own : List ℕ) → is_some t.modrm ≡ true → is_some t.sib ≡ true → keeps kind ≡ true → (is_gather how || not (reads_rm how)) ≡ true → reads_rm how ≡ true → number_in_index how (operand_by bits row st t kind how own) ≡ index_number st t.sib
+given_index : (bits : Bits) (row : Row) (st : PrefixState) (t : Tail) (kind : OpKind) (how : Method) (own : List ℕ) → is_some t.modrm ≡ true → is_some t.sib ≡ true → is_vector_file (file_of kind) ≡ true → (is_gather how || not (reads_rm how)) ≡ true → reads_rm how ≡ true → number_in_index how (operand_by bits row st t kind how own) ≡ index_number st t.sib
 unfolding number_in_index operand_by
 given_index bits row st t kind method.Gather own m s k g h = gather_index bits row st (file_of kind) t.modrm t.sib t.disp m s k
 given_index bits row st t kind method.RegisterOrMemory own m s k g h = cc
@@ -153,11 +144,19 @@ only_gather (kind ∷ kinds) g n = elim (either (is_gather (method_of kind))) [
       ])
 ]
 
+or_first : (a b : Bool) → a ≡ true → (a || b) ≡ true
+or_first true b h = refl
+or_first false b h = cc
+
+or_more : (a b : Bool) → b ≡ true → (a || b) ≡ true
+or_more true b h = refl
+or_more false b h = h
+
 -- what a row with a gather is
 record Whole (row : Row) : Type 0 where
   reg : reads_by reads_reg row ≡ true
   vvvv : reads_by reads_vvvv row ≡ true
-  keep : list_all keeps row.ops ≡ true
+  vectors : list_all names_vectors row.ops ≡ true
 
 any_rule : (rule : ModRmRule) (x : Bool) → (elim rule [ AnyModRm ↦ x | _ ↦ false ]) ≡ true → x ≡ true
 any_rule AnyModRm x h = h
@@ -172,24 +171,28 @@ whole row h gather =
     record {
       reg = and_left (reads_by reads_reg row) _ rule;
       vvvv = and_left (reads_by reads_vvvv row) _ rest;
-      keep = and_right (reads_by reads_vvvv row) _ rest;
+      vectors = and_right (reads_by reads_vvvv row) _ rest;
     }
 
 asked_reg : (bits : Bits) (code : Code) (row : Row) (st : PrefixState) (t : Tail) (imm : List ℕ) → Sound row → Whole row → asked number_in_reg row (instr_of bits code row st t imm) ≡ reg_number st t.modrm
 asked_reg bits code row st t imm sound w =
     let v = reg_number st t.modrm in
     asked_is v reads_reg number_in_reg row.ops _ w.reg (apart row sound.apart).reg
-    (hold_all keeps (Gives v reads_reg number_in_reg) row.ops _ w.keep
-    (each_read (λ kind op. keeps kind ≡ true → Gives v reads_reg number_in_reg kind op) bits code row st t imm sound.four_operands
-    (λ kind own k. (λ h. given_reg bits row st t kind (method_of kind) own k h, silent_reg _ (method_of kind)))))
+    (hold_all names_vectors (Gives v reads_reg number_in_reg) row.ops _ w.vectors
+    (each_read (λ kind op. names_vectors kind ≡ true → Gives v reads_reg number_in_reg kind op) bits code row st t imm sound.four_operands
+    (λ kind own k. (λ h. given_reg bits row st t kind (method_of kind) own (vectors_named kind k (or_first (reads_reg (method_of kind)) _ h)) h, silent_reg _ (method_of kind)))))
 
 asked_vvvv : (bits : Bits) (code : Code) (row : Row) (st : PrefixState) (t : Tail) (imm : List ℕ) → Sound row → Whole row → asked number_in_vvvv row (instr_of bits code row st t imm) ≡ vvvv_number bits st
 asked_vvvv bits code row st t imm sound w =
     let v = vvvv_number bits st in
     asked_is v reads_vvvv number_in_vvvv row.ops _ w.vvvv (apart row sound.apart).vvvv
-    (hold_all keeps (Gives v reads_vvvv number_in_vvvv) row.ops _ w.keep
-    (each_read (λ kind op. keeps kind ≡ true → Gives v reads_vvvv number_in_vvvv kind op) bits code row st t imm sound.four_operands
-    (λ kind own k. (λ h. given_vvvv bits row st t kind (method_of kind) own k h, silent_vvvv _ (method_of kind)))))
+    (hold_all names_vectors (Gives v reads_vvvv number_in_vvvv) row.ops _ w.vectors
+    (each_read (λ kind op. names_vectors kind ≡ true → Gives v reads_vvvv number_in_vvvv kind op) bits code row st t imm sound.four_operands
+    (λ kind own k. (
+      λ h. given_vvvv bits row st t kind (method_of kind) own
+          (vectors_named kind k (or_more (reads_reg (method_of kind)) _ (or_more (reads_rm (method_of kind)) _ h))) h,
+      silent_vvvv _ (method_of kind),
+    ))))
 
 any_weaker : (p q : Method → Bool) → ((how : Method) → p how ≡ true → q how ≡ true) → (kinds : List OpKind) → list_any (λ kind. p (method_of kind)) kinds ≡ true → list_any (λ kind. q (method_of kind)) kinds ≡ true
 any_weaker p q w [] h = cc
@@ -205,14 +208,37 @@ asked_index bits code row st t imm sound w gather m s =
     let v = index_number st t.sib in
     let one = (apart row sound.apart).rm in
     asked_is v reads_rm number_in_index row.ops _ (any_weaker is_gather reads_rm gather_reads_rm row.ops gather) one
-    (hold_all keeps (Gives v reads_rm number_in_index) row.ops _ w.keep
-    (hold_all gather_or_not (λ kind op. keeps kind ≡ true → Gives v reads_rm number_in_index kind op) row.ops _ (only_gather row.ops gather one)
-    (each_read (λ kind op. gather_or_not kind ≡ true → keeps kind ≡ true → Gives v reads_rm number_in_index kind op) bits code row st t imm sound.four_operands
-    (λ kind own g k. (λ h. given_index bits row st t kind (method_of kind) own m s k g h, silent_index bits row st t kind (method_of kind) own)))))
+    (hold_all names_vectors (Gives v reads_rm number_in_index) row.ops _ w.vectors
+    (hold_all gather_or_not (λ kind op. names_vectors kind ≡ true → Gives v reads_rm number_in_index kind op) row.ops _ (only_gather row.ops gather one)
+    (each_read (λ kind op. gather_or_not kind ≡ true → names_vectors kind ≡ true → Gives v reads_rm number_in_index kind op) bits code row st t imm sound.four_operands
+    (λ kind own g k. (
+      λ h. given_index bits row st t kind (method_of kind) own m s
+          (vectors_named kind k (or_more (reads_reg (method_of kind)) _ (or_first (reads_rm (method_of kind)) _ h))) g h,
+      silent_index bits row st t kind (method_of kind) own,
+    )))))
 
 differ_by : (bits : Bits) (st : PrefixState) (m : Option ModRm) (sib : Option Sib) (a b c : ℕ) → gather_fits bits st m sib ≡ true → a ≡ reg_number st m → b ≡ index_number st sib → c ≡ vvvv_number bits st → (not (a == b) && (not (a == c) && not (b == c))) ≡ true
 unfolding gather_fits
 differ_by bits st m sib a b c h ea eb ec = rw (ea, eb, ec) (and_right (has_modrm (λ m. needs_sib (state_address_size bits st) m) m) _ h)
+
+-- numbers that differ do so also where only those of vector registers are compared
+two_of_them : (a b : Bool) (x y : ℕ) → not (x == y) ≡ true → two_differ (if a then Some x else None) (if b then Some y else None) ≡ true
+two_of_them true true x y h = h
+two_of_them true false x y h = refl
+two_of_them false b x y h = refl
+
+some_of_them : (a b c : Bool) (x y z : ℕ) → (not (x == y) && (not (x == z) && not (y == z))) ≡ true
+    → (two_differ (if a then Some x else None) (if b then Some y else None)
+    && (two_differ (if a then Some x else None) (if c then Some z else None) && two_differ (if b then Some y else None) (if c then Some z else None))) ≡ true
+some_of_them a b c x y z h =
+    let rest = and_right (not (x == y)) _ h in
+    both (two_differ (if a then Some x else None) (if b then Some y else None)) _ (two_of_them a b x y (and_left (not (x == y)) _ h))
+    (both (two_differ (if a then Some x else None) (if c then Some z else None)) _ (two_of_them a c x z (and_left (not (x == z)) _ rest))
+    (two_of_them b c y z (and_right (not (x == z)) _ rest)))
+
+-- some operand passes a test
+abbrev some_passes : (Method → Operand → Bool) → Row → Instr → Bool
+some_passes p row i = passes p row i 0 || (passes p row i 1 || (passes p row i 2 || passes p row i 3))
 
 has_some : (p : ModRm → Bool) (m : Option ModRm) → has_modrm p m ≡ true → is_some m ≡ true
 has_some p None h = h
@@ -232,10 +258,12 @@ gathers_differ bits ip code row s i g gather =
     let fit = tail.gather gather in
     let same = sym (read_is bits ip code row s i g) in
     let at = λ (f : Method → Operand → ℕ). ap (λ (x : Instr). asked f row x) same in
-    differ_by bits st t.modrm t.sib _ _ _ fit
+    some_of_them (some_passes vector_in_reg row i) (some_passes vector_in_index row i) (some_passes vector_in_vvvv row i)
+    (asked number_in_reg row i) (asked number_in_index row i) (asked number_in_vvvv row i)
+    (differ_by bits st t.modrm t.sib _ _ _ fit
     (at number_in_reg ∙ asked_reg bits code row st t s.imm.items g.is_sound w)
     (at number_in_index ∙ asked_index bits code row st t s.imm.items g.is_sound w gather (gather_modrm bits st t.modrm t.sib fit) (tail.sib gather))
-    (at number_in_vvvv ∙ asked_vvvv bits code row st t s.imm.items g.is_sound w)
+    (at number_in_vvvv ∙ asked_vvvv bits code row st t s.imm.items g.is_sound w))
 
 or_last : (a b c : Bool) → (b ≡ true → c ≡ true) → (a || (not b || c)) ≡ true
 or_last true b c h = refl

@@ -1,5 +1,5 @@
 -- What any fitting spelling means meets the conditions, and the plain spelling is at most as long.
-use Rattle.std.proofs.Common.{◌≡◌, ℕ, ◌≤◌, Bool, true, length}
+use Rattle.std.proofs.Common.{◌≡◌, ℕ, ◌≤◌, true, length}
 use Rattle.x86_values.specs.declared.Bits.{Bits}
 use Rattle.x86_values.specs.declared.Code.{Code}
 use Rattle.x86_values.specs.declared.Instr.{Instr}
@@ -17,7 +17,7 @@ use Rattle.plain_need.proofs.Addresses.{addresses_suit, displacements_suit, addr
 use Rattle.plain_need.proofs.AddressLengths.{displacement_within, sib_within, modrm_alike}
 use Rattle.plain_need.proofs.Immediates.{immediates-len, immediates-suit}
 use Rattle.plain_need.proofs.Targets.{targets-suit}
-use Rattle.plain_need.proofs.Lengths.{PartsNeeded, parts_least}
+use Rattle.plain_need.proofs.Lengths.{parts_least}
 
 -- the conditions that hold of what a spelling means: all but the reach of targets, which holds too where the plain spelling is as long,
 -- and the length

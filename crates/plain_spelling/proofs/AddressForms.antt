@@ -12,9 +12,11 @@ use Rattle.instruction_parts.specs.declared.kinds.File.TheVariants.{Xmm as XmmFi
 use Rattle.instruction_parts.specs.Kinds.{method_of, file_of}
 use Rattle.instruction_parts.specs.Counting.{is_64}
 use Rattle.row_fit.specs.Fits.{full_displacement}
+use Rattle.row_fit.specs.Sound.{reads_reg, reads_rm, reads_vvvv}
 use Rattle.plain_spelling.specs.Values.{is_extended_of}
 use Rattle.plain_spelling.specs.Forms.{operand_at, is_memory}
 use Rattle.plain_spelling.specs.Expressible.{has_memory_operand}
+use Rattle.plain_spelling.specs.Writable.{is_vector_file, names_vectors}
 use Rattle.plain_spelling.proofs.AddressCases.{impossible}
 use Rattle.plain_spelling.specs.declared.addresses.AddressForm.{AddressForm}
 use Rattle.plain_spelling.specs.declared.addresses.AddressForm.TheVariants.{Relative, Alone, Short, Flat}
@@ -81,3 +83,12 @@ unfolding method_of file_of
 gather_file GatherX h = inl refl
 gather_file GatherL h = inr refl
 gather_file kind h = impossible cc
+
+or_left_not : (a b : Bool) → (a || not b) ≡ true → b ≡ true → a ≡ true
+or_left_not true b h e = refl
+or_left_not false true h e = h
+or_left_not false false h e = e
+
+-- a kind that names vector registers, where it is read from reg, r/m or vvvv
+pub vectors_named : (kind : OpKind) → names_vectors kind ≡ true → (reads_reg (method_of kind) || (reads_rm (method_of kind) || reads_vvvv (method_of kind))) ≡ true → is_vector_file (file_of kind) ≡ true
+vectors_named kind h e = or_left_not (is_vector_file (file_of kind)) _ h e

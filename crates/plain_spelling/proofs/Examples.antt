@@ -3,9 +3,9 @@ use Rattle.std.proofs.Common.{◌≡◌, ℕ, Bool, true, false, List, [], ◌�
 use Rattle.x86_values.specs.declared.Bits.{Bits}
 use Rattle.x86_values.specs.declared.Bits.TheVariants.{B16, B32, B64}
 use Rattle.x86_values.specs.declared.Segment.{Segment}
-use Rattle.x86_values.specs.declared.Segment.TheVariants.{Fs as SFs}
+use Rattle.x86_values.specs.declared.Segment.TheVariants.{Cs as SCs, Fs as SFs}
 use Rattle.x86_values.specs.declared.Register.{Register}
-use Rattle.x86_values.specs.declared.Register.TheVariants.{Low8, High8, R16, R32, R64, Xmm, Rip}
+use Rattle.x86_values.specs.declared.Register.TheVariants.{Low8, High8, R16, R32, R64, Seg, Xmm, Rip}
 use Rattle.x86_values.specs.declared.DispSize.{DispSize}
 use Rattle.x86_values.specs.declared.DispSize.TheVariants.{D0, D8, D32}
 use Rattle.x86_values.specs.declared.Operand.{Operand}
@@ -17,23 +17,23 @@ use Rattle.row_types.specs.declared.Row.{Row}
 use Rattle.row_types.specs.declared.RowKind.{RowKind}
 use Rattle.row_types.specs.declared.RowKind.TheVariants.{Legacy as LegacyRow, Vex as VexRow}
 use Rattle.row_types.specs.declared.Map.{Map}
-use Rattle.row_types.specs.declared.Map.TheVariants.{One as MapOne, M0f}
+use Rattle.row_types.specs.declared.Map.TheVariants.{One as MapOne, M0f, M0f38}
 use Rattle.row_types.specs.declared.Class.{Class}
-use Rattle.row_types.specs.declared.Class.TheVariants.{Any as AnyClass, Np}
+use Rattle.row_types.specs.declared.Class.TheVariants.{Any as AnyClass, Np, P66}
 use Rattle.row_types.specs.declared.Plus.{Plus}
 use Rattle.row_types.specs.declared.Plus.TheVariants.{No as NoPlus}
 use Rattle.row_types.specs.declared.ModRmRule.{ModRmRule}
 use Rattle.row_types.specs.declared.ModRmRule.TheVariants.{No as NoModRm, Any as AnyModRm, Digit}
 use Rattle.row_types.specs.declared.Place.{Place}
-use Rattle.row_types.specs.declared.Place.TheVariants.{Any as AnyPlace}
+use Rattle.row_types.specs.declared.Place.TheVariants.{Any as AnyPlace, Memory as OnlyMemory}
 use Rattle.row_types.specs.declared.Size.{Size}
 use Rattle.row_types.specs.declared.Size.TheVariants.{None as NoSize, O16, O32, O64}
 use Rattle.row_types.specs.declared.WBit.{WBit}
-use Rattle.row_types.specs.declared.WBit.TheVariants.{None as NoW, Wig}
+use Rattle.row_types.specs.declared.WBit.TheVariants.{None as NoW, W0, Wig}
 use Rattle.row_types.specs.declared.LBit.{LBit}
 use Rattle.row_types.specs.declared.LBit.TheVariants.{None as NoL, L128}
 use Rattle.row_types.specs.declared.OpKind.{OpKind}
-use Rattle.row_types.specs.declared.OpKind.TheVariants.{Eb as KEb, Ev as KEv, Gb as KGb, Gv as KGv, Vx as KVx, Hx as KHx, Wx as KWx, Ibs as KIbs, Jb as KJb, Absent as KAbsent}
+use Rattle.row_types.specs.declared.OpKind.TheVariants.{Eb as KEb, Ev as KEv, Gb as KGb, Gv as KGv, Vx as KVx, Hx as KHx, Wx as KWx, GatherL as KGatherL, Ibs as KIbs, Jb as KJb, Absent as KAbsent}
 use Rattle.plain_spelling.specs.declared.NoSpelling.{NoSpelling}
 use Rattle.plain_spelling.specs.declared.NoSpelling.TheVariants as cause
 use Rattle.instruction_parts.specs.Bytes.{bytes_of, vex_bytes, vex_last_byte, vex_map_byte, lead_bytes, tail_bytes, front_bytes, bytes_of, state_from, state_of}
@@ -49,7 +49,7 @@ use Rattle.plain_spelling.specs.Comparing.{same_register}
 use Rattle.plain_spelling.specs.PlainFront.{register_number, is_low_byte_of_rex, number_in_reg, number_in_rm, number_in_index, number_in_vvvv, number_in_opcode, asks_r, asks_x, asks_b, asks_rex_w, asks_vex_w, asks_66, asks_67, asked_repeat, asked_rex, class_pp, asked_vex, asked_opcode, asked_used, plain_front_of}
 use Rattle.plain_spelling.specs.Addresses.{register_count, has_address_size, general_size, pointer_size, shown_size, written_size, form_of, rm_of_one, rm_of_two, rm_of_short, is_address_register, is_base, is_index, scale_suits, is_flat_size, is_flat_shape, is_shape, index_named, is_vector_index, is_gather_base, is_gather_shape, shape_suits, displacement_count, flat_offers, short_offers, form_offers, offers, is_displacement, displacement_suits, mode_of_count, scale_field, base_bits, index_bits, plain_sib, flat_needs_sib, flat_fields, alone_fields, address_fields}
 use Rattle.plain_spelling.specs.PlainTail.{prefixes_of, plain_size, rm_fields, fixed_rm, plain_modrm, plain_sib_of, displacement_of, operand_immediate, immediate_at, plain_immediates, plain_len, plain_next, plain_spelling}
-use Rattle.plain_spelling.specs.Expressible.{kind_suits, exists_in_mode, is_of_kind, is_not_nop, kind_allows, is_nameable, gather_numbers_differ, register_suits, address_suits, offered, immediate_suits_how, immediate_suits, near_reaches, address_reaches, target_suits, lock_suits, repeat_suits, prefixes_suit, has_memory_operand, told_size, size_agrees, is_size_of, address_size_suits, first_failing, tail_failure, failure}
+use Rattle.plain_spelling.specs.Expressible.{kind_suits, exists_in_mode, is_of_kind, is_not_nop, kind_allows, is_nameable, vector_in_reg, vector_in_index, vector_in_vvvv, gather_numbers_differ, register_suits, address_suits, offered, immediate_suits_how, immediate_suits, near_reaches, address_reaches, target_suits, lock_suits, repeat_suits, prefixes_suit, has_memory_operand, told_size, size_agrees, is_size_of, address_size_suits, first_failing, tail_failure, failure}
 
 abbrev pub row : RowKind → Map → Class → ℕ → Plus → ModRmRule → Place → Size → WBit → LBit → ℕ → OpKind → OpKind → OpKind → OpKind → ℕ → Row
 row kind map class opcode plus modrm place size w l modes a b c d marks = record {
@@ -118,6 +118,9 @@ jmp_short = row LegacyRow MapOne AnyClass 0xEB NoPlus NoModRm AnyPlace O64 NoW N
 
 abbrev pub vaddps : Row
 vaddps = row VexRow M0f Np 0x58 NoPlus AnyModRm AnyPlace NoSize Wig L128 7 KVx KHx KWx KAbsent 0
+
+abbrev pub vgatherdps : Row
+vgatherdps = row VexRow M0f38 P66 0x92 NoPlus AnyModRm OnlyMemory NoSize W0 L128 7 KVx KGatherL KHx KAbsent 0
 
 abbrev pub eax : Operand
 eax = Reg (R32 0)
@@ -193,3 +196,29 @@ jmp_back = refl
 jmp_far : outcome B64 0 jmp_short (instr (Near 0x82) NoOperand NoOperand NoOperand false NoRep None None) ≡ Refused cause.Target
 unfolding forbids_vex failure tail_failure first_failing kind_suits is_variant_of is_allowed_in method_of exists_in file_of immediate_width fixed_number is_segment is_legacy_prefix is_prefix has_lock has_66 has_67 counting_repeat segment_named counting_segment counting_rex operand_size address_size bit_r bit_x bit_b bit_w state_size vex_last_byte vex_map_byte vex_bytes lead_bytes tail_bytes front_bytes bytes_of state_from state_of fits reads_mode reg_number rm_number vvvv_number index_number prefixes_fit legacy_class_fits vex_class_fits class_fits is_vex_of_mode is_opcode opcode_allows opcode_is_kept vex_fits opcode_fits modrm_rule_fits place_allows place_fits opcode_and_modrm_fit size_fits w_fits l_fits sizes_fit vvvv_fits needs_sib is_displacement_alone displacement_bytes address_fits immediate_bytes immediates_bytes lengths_fit is_memory_method lock_fits is_control_number register_fits destination_fits gather_fits nop_fits registers_fit vex_in_range modrm_in_range sib_in_range fields_in_range tail_fits state_fits meaning little_endian sign_extended segment_numbered general byte_register vector register_of disp_size_of base_16 index_16 memory_16 memory_alone sib_base sib_index memory_with_sib memory_at_base memory_flat memory_of memory_absolute gather_memory last_byte_number near_target far_pointer memory_operand operand_by immediates_before own_immediate operand_at kept_repeat has_memory kept_address_size instr_of low_bytes is_extended_of distance same_register register_number is_low_byte_of_rex number_in_reg number_in_rm number_in_index number_in_vvvv number_in_opcode asks_r asks_x asks_b asks_rex_w asks_vex_w asks_66 asks_67 asked_repeat asked_rex class_pp asked_vex asked_opcode asked_used plain_front_of register_count has_address_size general_size pointer_size shown_size written_size form_of rm_of_one rm_of_two rm_of_short is_address_register is_base is_index scale_suits is_flat_size is_flat_shape is_shape index_named is_vector_index is_gather_base is_gather_shape shape_suits displacement_count flat_offers short_offers form_offers offers is_displacement displacement_suits mode_of_count scale_field base_bits index_bits plain_sib flat_needs_sib flat_fields alone_fields address_fields prefixes_of plain_size rm_fields fixed_rm plain_modrm plain_sib_of displacement_of operand_immediate immediate_at plain_immediates plain_len plain_next plain_spelling exists_in_mode is_of_kind is_not_nop kind_allows is_nameable gather_numbers_differ register_suits address_suits offered immediate_suits_how immediate_suits near_reaches address_reaches target_suits lock_suits repeat_suits prefixes_suit has_memory_operand told_size size_agrees is_size_of address_size_suits
 jmp_far = refl
+
+-- VGATHERDPS of an XMM register at RAX with an index, and a mask
+abbrev pub gather_of : ℕ → Option Register → Register → Instr
+gather_of destination index mask =
+    instr (Reg (Xmm destination)) (memory (Some (R64 0)) index 1 0 D0) (Reg mask) NoOperand false NoRep None (Some B64)
+
+abbrev pub gather : ℕ → Option Register → Register → Outcome
+gather destination index mask = outcome B64 0 vgatherdps (gather_of destination index mask)
+
+-- an index that is no vector register fails as the address
+gather_index : (gather 0 None (Xmm 1) ∷ gather 0 (Some (R64 1)) (Xmm 1) ∷ []) ≡ (Refused cause.Memory ∷ Refused cause.Memory ∷ [])
+unfolding forbids_vex failure tail_failure first_failing kind_suits is_variant_of is_allowed_in method_of exists_in file_of immediate_width fixed_number is_segment is_legacy_prefix is_prefix has_lock has_66 has_67 counting_repeat segment_named counting_segment counting_rex operand_size address_size bit_r bit_x bit_b bit_w state_size vex_last_byte vex_map_byte vex_bytes lead_bytes tail_bytes front_bytes bytes_of state_from state_of fits reads_mode reg_number rm_number vvvv_number index_number prefixes_fit legacy_class_fits vex_class_fits class_fits is_vex_of_mode is_opcode opcode_allows opcode_is_kept vex_fits opcode_fits modrm_rule_fits place_allows place_fits opcode_and_modrm_fit size_fits w_fits l_fits sizes_fit vvvv_fits needs_sib is_displacement_alone displacement_bytes address_fits immediate_bytes immediates_bytes lengths_fit is_memory_method lock_fits is_control_number register_fits destination_fits gather_fits nop_fits registers_fit vex_in_range modrm_in_range sib_in_range fields_in_range tail_fits state_fits meaning little_endian sign_extended segment_numbered general byte_register vector register_of disp_size_of base_16 index_16 memory_16 memory_alone sib_base sib_index memory_with_sib memory_at_base memory_flat memory_of memory_absolute gather_memory last_byte_number near_target far_pointer memory_operand operand_by immediates_before own_immediate operand_at kept_repeat has_memory kept_address_size instr_of low_bytes is_extended_of distance same_register register_number is_low_byte_of_rex number_in_reg number_in_rm number_in_index number_in_vvvv number_in_opcode asks_r asks_x asks_b asks_rex_w asks_vex_w asks_66 asks_67 asked_repeat asked_rex class_pp asked_vex asked_opcode asked_used plain_front_of register_count has_address_size general_size pointer_size shown_size written_size form_of rm_of_one rm_of_two rm_of_short is_address_register is_base is_index scale_suits is_flat_size is_flat_shape is_shape index_named is_vector_index is_gather_base is_gather_shape shape_suits displacement_count flat_offers short_offers form_offers offers is_displacement displacement_suits mode_of_count scale_field base_bits index_bits plain_sib flat_needs_sib flat_fields alone_fields address_fields prefixes_of plain_size rm_fields fixed_rm plain_modrm plain_sib_of displacement_of operand_immediate immediate_at plain_immediates plain_len plain_next plain_spelling exists_in_mode is_of_kind is_not_nop kind_allows is_nameable vector_in_reg vector_in_index vector_in_vvvv gather_numbers_differ register_suits address_suits offered immediate_suits_how immediate_suits near_reaches address_reaches target_suits lock_suits repeat_suits prefixes_suit has_memory_operand told_size size_agrees is_size_of address_size_suits
+gather_index = refl
+
+-- a mask that is none, or that is not of the mode, fails as its own operand, whatever the destination
+gather_mask : (gather 0 (Some (Xmm 2)) Rip ∷ gather 1 (Some (Xmm 2)) (Seg SCs) ∷ gather 4 (Some (Xmm 2)) (High8 0) ∷ gather 3 (Some (Xmm 2)) Rip ∷ gather 0 None (Xmm 16) ∷ [])
+    ≡ (Refused (cause.Register 2) ∷ Refused (cause.Register 2) ∷ Refused (cause.Register 2) ∷ Refused (cause.Register 2) ∷ Refused (cause.Register 2) ∷ [])
+unfolding forbids_vex failure tail_failure first_failing kind_suits is_variant_of is_allowed_in method_of exists_in file_of immediate_width fixed_number is_segment is_legacy_prefix is_prefix has_lock has_66 has_67 counting_repeat segment_named counting_segment counting_rex operand_size address_size bit_r bit_x bit_b bit_w state_size vex_last_byte vex_map_byte vex_bytes lead_bytes tail_bytes front_bytes bytes_of state_from state_of fits reads_mode reg_number rm_number vvvv_number index_number prefixes_fit legacy_class_fits vex_class_fits class_fits is_vex_of_mode is_opcode opcode_allows opcode_is_kept vex_fits opcode_fits modrm_rule_fits place_allows place_fits opcode_and_modrm_fit size_fits w_fits l_fits sizes_fit vvvv_fits needs_sib is_displacement_alone displacement_bytes address_fits immediate_bytes immediates_bytes lengths_fit is_memory_method lock_fits is_control_number register_fits destination_fits gather_fits nop_fits registers_fit vex_in_range modrm_in_range sib_in_range fields_in_range tail_fits state_fits meaning little_endian sign_extended segment_numbered general byte_register vector register_of disp_size_of base_16 index_16 memory_16 memory_alone sib_base sib_index memory_with_sib memory_at_base memory_flat memory_of memory_absolute gather_memory last_byte_number near_target far_pointer memory_operand operand_by immediates_before own_immediate operand_at kept_repeat has_memory kept_address_size instr_of low_bytes is_extended_of distance same_register register_number is_low_byte_of_rex number_in_reg number_in_rm number_in_index number_in_vvvv number_in_opcode asks_r asks_x asks_b asks_rex_w asks_vex_w asks_66 asks_67 asked_repeat asked_rex class_pp asked_vex asked_opcode asked_used plain_front_of register_count has_address_size general_size pointer_size shown_size written_size form_of rm_of_one rm_of_two rm_of_short is_address_register is_base is_index scale_suits is_flat_size is_flat_shape is_shape index_named is_vector_index is_gather_base is_gather_shape shape_suits displacement_count flat_offers short_offers form_offers offers is_displacement displacement_suits mode_of_count scale_field base_bits index_bits plain_sib flat_needs_sib flat_fields alone_fields address_fields prefixes_of plain_size rm_fields fixed_rm plain_modrm plain_sib_of displacement_of operand_immediate immediate_at plain_immediates plain_len plain_next plain_spelling exists_in_mode is_of_kind is_not_nop kind_allows is_nameable vector_in_reg vector_in_index vector_in_vvvv gather_numbers_differ register_suits address_suits offered immediate_suits_how immediate_suits near_reaches address_reaches target_suits lock_suits repeat_suits prefixes_suit has_memory_operand told_size size_agrees is_size_of address_size_suits
+gather_mask = refl
+
+-- of vector registers the numbers are compared, as operand 0
+gather_numbers : (gather 2 (Some (Xmm 2)) (Xmm 1) ∷ gather 1 (Some (Xmm 2)) (Xmm 1) ∷ gather 0 (Some (Xmm 1)) (Xmm 1) ∷ gather 1 None (Xmm 1) ∷ gather 0 (Some (Xmm 2)) (Xmm 1) ∷ [])
+    ≡ (Refused (cause.Register 0) ∷ Refused (cause.Register 0) ∷ Refused (cause.Register 0) ∷ Refused (cause.Register 0)
+    ∷ Written (0xC4 ∷ 0xE2 ∷ 0x71 ∷ 0x92 ∷ 0x04 ∷ 0x10 ∷ []) true (gather_of 0 (Some (Xmm 2)) (Xmm 1)) ∷ [])
+unfolding forbids_vex failure tail_failure first_failing kind_suits is_variant_of is_allowed_in method_of exists_in file_of immediate_width fixed_number is_segment is_legacy_prefix is_prefix has_lock has_66 has_67 counting_repeat segment_named counting_segment counting_rex operand_size address_size bit_r bit_x bit_b bit_w state_size vex_last_byte vex_map_byte vex_bytes lead_bytes tail_bytes front_bytes bytes_of state_from state_of fits reads_mode reg_number rm_number vvvv_number index_number prefixes_fit legacy_class_fits vex_class_fits class_fits is_vex_of_mode is_opcode opcode_allows opcode_is_kept vex_fits opcode_fits modrm_rule_fits place_allows place_fits opcode_and_modrm_fit size_fits w_fits l_fits sizes_fit vvvv_fits needs_sib is_displacement_alone displacement_bytes address_fits immediate_bytes immediates_bytes lengths_fit is_memory_method lock_fits is_control_number register_fits destination_fits gather_fits nop_fits registers_fit vex_in_range modrm_in_range sib_in_range fields_in_range tail_fits state_fits meaning little_endian sign_extended segment_numbered general byte_register vector register_of disp_size_of base_16 index_16 memory_16 memory_alone sib_base sib_index memory_with_sib memory_at_base memory_flat memory_of memory_absolute gather_memory last_byte_number near_target far_pointer memory_operand operand_by immediates_before own_immediate operand_at kept_repeat has_memory kept_address_size instr_of low_bytes is_extended_of distance same_register register_number is_low_byte_of_rex number_in_reg number_in_rm number_in_index number_in_vvvv number_in_opcode asks_r asks_x asks_b asks_rex_w asks_vex_w asks_66 asks_67 asked_repeat asked_rex class_pp asked_vex asked_opcode asked_used plain_front_of register_count has_address_size general_size pointer_size shown_size written_size form_of rm_of_one rm_of_two rm_of_short is_address_register is_base is_index scale_suits is_flat_size is_flat_shape is_shape index_named is_vector_index is_gather_base is_gather_shape shape_suits displacement_count flat_offers short_offers form_offers offers is_displacement displacement_suits mode_of_count scale_field base_bits index_bits plain_sib flat_needs_sib flat_fields alone_fields address_fields prefixes_of plain_size rm_fields fixed_rm plain_modrm plain_sib_of displacement_of operand_immediate immediate_at plain_immediates plain_len plain_next plain_spelling exists_in_mode is_of_kind is_not_nop kind_allows is_nameable vector_in_reg vector_in_index vector_in_vvvv gather_numbers_differ register_suits address_suits offered immediate_suits_how immediate_suits near_reaches address_reaches target_suits lock_suits repeat_suits prefixes_suit has_memory_operand told_size size_agrees is_size_of address_size_suits
+gather_numbers = refl

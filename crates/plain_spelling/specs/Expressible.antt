@@ -2,7 +2,7 @@
 use Rattle.std.specs.Prelude.{◌≡◌, ℕ, ◌-◌, ◌*◌, ◌^◌, Bool, true, false, ◌&&◌, ◌||◌, not, ◌==◌, nat_le, nat_lt, if◌then◌else◌, Option, Some, None, is_none}
 use Rattle.x86_values.specs.declared.Bits.{Bits}
 use Rattle.x86_values.specs.declared.Register.{Register}
-use Rattle.x86_values.specs.declared.Register.TheVariants.{Low8}
+use Rattle.x86_values.specs.declared.Register.TheVariants.{Low8, Xmm, Ymm}
 use Rattle.x86_values.specs.declared.Mem.{Mem}
 use Rattle.x86_values.specs.declared.Operand.{Operand}
 use Rattle.x86_values.specs.declared.Operand.TheVariants.{Reg, Mem as MemOperand, Imm, Near, Far}
@@ -77,13 +77,49 @@ is_nameable bits row i n r =
     exists_in_mode bits r && (nat_lt (register_number r) (register_count bits)
     && (is_of_kind bits row i (kind_at row n) r && (is_not_nop row (method_of (kind_at row n)) r && kind_allows bits n (kind_at row n) r)))
 
--- the numbers of a gather's destination, index and mask differ pairwise (2.3.12)
+-- XMM0 to XMM15 or YMM0 to YMM15
+abbrev pub is_vector_register : Register → Bool
+is_vector_register (Xmm n) = true
+is_vector_register (Ymm n) = true
+is_vector_register _ = false
+
+-- a vector register that is read from ModRM.reg
+unfoldable pub vector_in_reg : Method → Operand → Bool
+vector_in_reg method.ModRmReg (Reg r) = is_vector_register r
+vector_in_reg _ op = false
+
+-- an address of a gather whose index is a vector register
+unfoldable pub vector_in_index : Method → Operand → Bool
+vector_in_index method.Gather (MemOperand m) = elim m.index [ None ↦ false | Some r ↦ is_vector_register r ]
+vector_in_index _ op = false
+
+-- a vector register that is read from vvvv
+unfoldable pub vector_in_vvvv : Method → Operand → Bool
+vector_in_vvvv method.Vvvv (Reg r) = is_vector_register r
+vector_in_vvvv _ op = false
+
+-- operand n, and how it is read, pass a test
+abbrev pub passes : (Method → Operand → Bool) → Row → Instr → ℕ → Bool
+passes p row i n = p (method_of (kind_at row n)) (operand_at i n)
+
+-- the number that the instruction asks of a field, where an operand asks it for a vector register
+abbrev pub asked_vector : (Method → Operand → Bool) → (Method → Operand → ℕ) → Row → Instr → Option ℕ
+asked_vector is_vector number row i =
+    if passes is_vector row i 0 || (passes is_vector row i 1 || (passes is_vector row i 2 || passes is_vector row i 3))
+    then Some (asked number row i) else None
+
+-- of two numbers one is absent, or they differ
+abbrev pub differ : Option ℕ → Option ℕ → Bool
+differ (Some m) (Some n) = not (m == n)
+differ _ _ = true
+
+-- of a gather's destination, index and mask those that are vector registers have numbers that differ pairwise (2.3.12)
 unfoldable pub gather_numbers_differ : Row → Instr → Bool
 gather_numbers_differ row i =
-    let destination = asked number_in_reg row i in
-    let index = asked number_in_index row i in
-    let mask = asked number_in_vvvv row i in
-    not (destination == index) && (not (destination == mask) && not (index == mask))
+    let destination = asked_vector vector_in_reg number_in_reg row i in
+    let index = asked_vector vector_in_index number_in_index row i in
+    let mask = asked_vector vector_in_vvvv number_in_vvvv row i in
+    differ destination index && (differ destination mask && differ index mask)
 
 -- the rule on a gather's numbers counts with operand 0
 abbrev pub gather_suits : Row → Instr → ℕ → Bool

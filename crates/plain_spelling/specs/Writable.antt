@@ -146,19 +146,23 @@ place_is_plain row =
       | OnlyRegister ↦ not (reads_by is_memory_only row) && not (reads_by is_gather row)
     ]
 
--- the registers of the file have the number that names them; segment, stack and MMX registers have three bits of it
-abbrev pub keeps_number : File → Bool
-keeps_number file.Segment = false
-keeps_number file.Stack = false
-keeps_number file.Mmx = false
-keeps_number _ = true
+-- the file is that of the XMM registers or of the row's vectors
+abbrev pub is_vector_file : File → Bool
+is_vector_file file.Xmm = true
+is_vector_file file.Vector = true
+is_vector_file _ = false
 
--- a gather has a destination in reg and a mask in vvvv, whose numbers are those of their registers (2.3.12)
+-- a kind that is read from reg, r/m or vvvv names vector registers
+abbrev pub names_vectors : OpKind → Bool
+names_vectors kind =
+    is_vector_file (file_of kind) || not (reads_reg (method_of kind) || (reads_rm (method_of kind) || reads_vvvv (method_of kind)))
+
+-- a gather has a destination in reg and a mask in vvvv, and they and its index are vector registers (2.3.12)
 unfoldable pub gather_is_whole : Row → Bool
 gather_is_whole row =
     not (reads_by is_gather row)
     || (is_vex_row row
-    && (elim row.modrm [ AnyModRm ↦ reads_by reads_reg row && (reads_by reads_vvvv row && list_all (λ kind. keeps_number (file_of kind)) row.ops) | _ ↦ false ]))
+    && (elim row.modrm [ AnyModRm ↦ reads_by reads_reg row && (reads_by reads_vvvv row && list_all names_vectors row.ops) | _ ↦ false ]))
 
 -- ---- all of it
 

@@ -134,15 +134,109 @@ fn is_nameable(
         && kind_allows(bits, n, kind, register)
 }
 
-/// The numbers of a gather's destination, index and mask differ pairwise (2.3.12).
+fn is_vector_register(register: Register) -> bool
+    ensures { result ≡ spec.is_vector_register register }
+{
+    match register {
+        Register::Xmm(_) | Register::Ymm(_) => true,
+        _ => false,
+    }
+}
+
+/// Whether the operand is a vector register that is read from ModRM.reg.
+#[tactic(auto, unfolding(crate::specs::Expressible::vector_in_reg))]
+fn vector_in_reg(method: Method, operand: Operand) -> bool
+    ensures { result ≡ spec.vector_in_reg method operand }
+{
+    match (method, operand) {
+        (Method::ModRmReg, Operand::Reg(register)) => is_vector_register(register),
+        _ => false,
+    }
+}
+
+/// Whether the operand is an address of a gather whose index is a vector register.
+#[tactic(auto, unfolding(crate::specs::Expressible::vector_in_index))]
+fn vector_in_index(method: Method, operand: Operand) -> bool
+    ensures { result ≡ spec.vector_in_index method operand }
+{
+    match (method, operand) {
+        (Method::Gather, Operand::Mem(memory)) => match memory.index {
+            None => false,
+            Some(register) => is_vector_register(register),
+        },
+        _ => false,
+    }
+}
+
+/// Whether the operand is a vector register that is read from vvvv.
+#[tactic(auto, unfolding(crate::specs::Expressible::vector_in_vvvv))]
+fn vector_in_vvvv(method: Method, operand: Operand) -> bool
+    ensures { result ≡ spec.vector_in_vvvv method operand }
+{
+    match (method, operand) {
+        (Method::Vvvv, Operand::Reg(register)) => is_vector_register(register),
+        _ => false,
+    }
+}
+
+fn number_if(is_vector: bool, number: u16) -> Option<u16>
+    ensures { result ≡ (if is_vector then Some number else None) }
+{
+    if is_vector { Some(number) } else { None }
+}
+
+/// The number of a gather's destination, where that is a vector register.
+fn destination_number(row: &Row, instr: &Instr) -> Option<u16>
+    ensures { result ≡ spec.asked_vector spec.vector_in_reg front.number_in_reg row.now instr.now }
+{
+    let is_vector = vector_in_reg(method_of_kind(kind_at(row, 0)), operand_at(instr, 0))
+        || vector_in_reg(method_of_kind(kind_at(row, 1)), operand_at(instr, 1))
+        || vector_in_reg(method_of_kind(kind_at(row, 2)), operand_at(instr, 2))
+        || vector_in_reg(method_of_kind(kind_at(row, 3)), operand_at(instr, 3));
+    number_if(is_vector, asked_in_reg(row, instr))
+}
+
+/// The number of a gather's index, where that is a vector register.
+fn index_number(row: &Row, instr: &Instr) -> Option<u16>
+    ensures { result ≡ spec.asked_vector spec.vector_in_index front.number_in_index row.now instr.now }
+{
+    let is_vector = vector_in_index(method_of_kind(kind_at(row, 0)), operand_at(instr, 0))
+        || vector_in_index(method_of_kind(kind_at(row, 1)), operand_at(instr, 1))
+        || vector_in_index(method_of_kind(kind_at(row, 2)), operand_at(instr, 2))
+        || vector_in_index(method_of_kind(kind_at(row, 3)), operand_at(instr, 3));
+    number_if(is_vector, asked_in_index(row, instr))
+}
+
+/// The number of a gather's mask, where that is a vector register.
+fn mask_number(row: &Row, instr: &Instr) -> Option<u16>
+    ensures { result ≡ spec.asked_vector spec.vector_in_vvvv front.number_in_vvvv row.now instr.now }
+{
+    let is_vector = vector_in_vvvv(method_of_kind(kind_at(row, 0)), operand_at(instr, 0))
+        || vector_in_vvvv(method_of_kind(kind_at(row, 1)), operand_at(instr, 1))
+        || vector_in_vvvv(method_of_kind(kind_at(row, 2)), operand_at(instr, 2))
+        || vector_in_vvvv(method_of_kind(kind_at(row, 3)), operand_at(instr, 3));
+    number_if(is_vector, asked_in_vvvv(row, instr))
+}
+
+/// Whether of two numbers one is absent, or they differ.
+fn differ(first: Option<u16>, second: Option<u16>) -> bool
+    ensures { result ≡ spec.differ first second }
+{
+    match (first, second) {
+        (Some(m), Some(n)) => m != n,
+        _ => true,
+    }
+}
+
+/// Of a gather's destination, index and mask those that are vector registers have numbers that differ pairwise (2.3.12).
 #[tactic(auto, unfolding(crate::specs::Expressible::gather_numbers_differ))]
 fn gather_numbers_differ(row: &Row, instr: &Instr) -> bool
     ensures { result ≡ spec.gather_numbers_differ row.now instr.now }
 {
-    let destination = asked_in_reg(row, instr);
-    let index = asked_in_index(row, instr);
-    let mask = asked_in_vvvv(row, instr);
-    !(destination == index) && !(destination == mask) && !(index == mask)
+    let destination = destination_number(row, instr);
+    let index = index_number(row, instr);
+    let mask = mask_number(row, instr);
+    differ(destination, index) && differ(destination, mask) && differ(index, mask)
 }
 
 fn gather_suits(row: &Row, instr: &Instr, n: usize) -> bool

@@ -20,8 +20,8 @@ pub enum NoSpelling {
     Row,
     /// An operand has a variant that its kind does not allow.
     OperandKind(u8),
-    /// A register that the operand's kind cannot name in the mode, AH to BH beside a register that needs a REX, or the registers of
-    /// a gather, which have to differ (operand 0).
+    /// A register that the operand's kind cannot name in the mode, AH to BH beside a register that needs a REX, or two vector registers
+    /// of a gather with one number (operand 0).
     Register(u8),
     /// Base, index and scale are no address of the mode.
     Memory,
