@@ -10,12 +10,14 @@ use std::io::{Read, Write};
 #[derive(Drop)]
 pub struct ReaderSource<R> {
     inner: R,
-    faults: u64,
+    pub(crate) faults: u64,
 }
 
 impl<R: Read> ReaderSource<R> {
     /// A source over `inner` without faults.
-    pub fn new(inner: R) -> ReaderSource<R> {
+    pub fn new(inner: R) -> ReaderSource<R>
+        ensures { ⟦<ReaderSource<R> as Source>⟧.faults result ≡ 0 }
+    {
         ReaderSource { inner, faults: 0 }
     }
 }
@@ -41,12 +43,14 @@ impl<R: Read> Source for ReaderSource<R> {
 #[derive(Drop)]
 pub struct WriterSink<W> {
     inner: W,
-    faults: u64,
+    pub(crate) faults: u64,
 }
 
 impl<W: Write> WriterSink<W> {
     /// A sink over `inner` without faults.
-    pub fn new(inner: W) -> WriterSink<W> {
+    pub fn new(inner: W) -> WriterSink<W>
+        ensures { ⟦<WriterSink<W> as Sink>⟧.faults result ≡ 0 }
+    {
         WriterSink { inner, faults: 0 }
     }
 }

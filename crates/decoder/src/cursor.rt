@@ -4,7 +4,7 @@ ghost use Rattle.std.specs.Prelude.{◌≡◌, ◌+◌, ◌<◌, ◌≤◌, List
 ghost use Rattle.prefixes.specs.Answer.{is_mode, mode_of};
 ghost use Rattle.opcode_rows.specs.Allowed.{is_well_formed};
 ghost use Rattle.opcode_rows.specs.Reading.{IsRead};
-ghost use Rattle.decoder.specs.Answer.{reading_of, length_of};
+ghost use Rattle.decoder.specs.Answer.{reading_of, length_of, IsOnlyReading};
 ghost use Rattle.decoder.specs.Cursor.{Cursor};
 
 use crate::DecodeError;
@@ -71,7 +71,7 @@ impl<'a, const BITS: u32> Decoder<'a, BITS> {
     /// The instruction at the position, whose address is `ip` and the position modulo 2 to the number of bits of the mode.
     ///
     /// The position moves on by its length. Where no instruction is read it stays.
-    /// At the end of the bytes the answer is `TooShort`; otherwise it is that of `decode`.
+    /// At the end of the bytes the answer is `TooShort`; otherwise it is that of `decode`, and so the only instruction that the bytes there begin with.
     pub fn decode(&mut self) -> Result<Decoded, DecodeError>
         requires { IsTrue (is_mode BITS) }
         ensures reading { IsRead (mode_of BITS) (self.old.ip + self.old.position)
@@ -80,6 +80,8 @@ impl<'a, const BITS: u32> Decoder<'a, BITS> {
         ensures length { IfOk result
             (λ d. (0 < d.len) × (d.len ≤ 15) × (self.old.position + d.len ≤ length self.old.bytes)) }
         ensures form { IfOk result (λ d. IsTrue (is_well_formed d.instr)) }
+        ensures alone { IfOk result
+            (λ d. IsOnlyReading (mode_of BITS) (self.old.ip + self.old.position) (drop self.old.position self.old.bytes) d) }
         ensures end { self.old.position ≡ length self.old.bytes → result ≡ Err DecodeError.TooShort }
     {
         let (_, rest) = self.bytes.split_at(self.position);

@@ -1,4 +1,4 @@
-//! Reading instructions from bytes (Intel SDM volume 2, chapter 2).
+//! Reading instructions from bytes (Intel SDM volume 2, chapter 2). `laws` has that no bytes have two spellings.
 #![tactic(auto)]
 
 mod cell;
@@ -10,6 +10,7 @@ mod tests;
 
 pub use cursor::Decoder;
 pub use reading::{decode, decode_counted};
+pub use unique_spelling::laws;
 
 /// Why bytes are not read as an instruction.
 #[derive(Clone, Copy, PartialEq, Eq, Debug)]

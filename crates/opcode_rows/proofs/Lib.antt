@@ -7,3 +7,4 @@ pub mod Apart
 pub mod Named
 pub mod Formed
 pub mod Words
+pub mod Order

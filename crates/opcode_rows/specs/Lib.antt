@@ -4,3 +4,4 @@ pub mod Words
 pub mod Allowed
 pub mod Reading
 pub mod Sweep
+pub mod Order

@@ -1,5 +1,5 @@
 //! What holds of the whole table.
-ghost use Rattle.std.specs.Prelude.{◌≡◌, ◌<◌, ℕ, IsTrue, length, slice_get, Some};
+ghost use Rattle.std.specs.Prelude.{◌≡◌, ◌<◌, ◌≤◌, ℕ, IsTrue, length, slice_get, Some};
 ghost use Rattle.x86_values.specs.declared.Bits.{Bits};
 ghost use Rattle.row_types.specs.declared.Row.{Row};
 ghost use Rattle.row_types.specs.declared.RowKind.{RowKind};
@@ -9,14 +9,27 @@ ghost use Rattle.plain_spelling.specs.Writable.{writable};
 ghost use Rattle.row_fields.specs.declared.Fields.{Fields};
 ghost use Rattle.row_fields.specs.Holds.{AreApart};
 ghost use Rattle.row_lists.specs.Cells.{IsRunOf};
-ghost use Rattle.opcode_rows.specs.Table.{table, name_of, cell};
+ghost use Rattle.opcode_rows.specs.Table.{part_table, table, name_of, cell};
+ghost use Rattle.opcode_rows.specs.Order.{opcode_number, LiesAt, HasOneCode};
 ghost use Rattle.opcode_rows.specs.Kept.{opcodes_are_kept};
 ghost use Rattle.opcode_rows.specs.Words.{is_name, has_one_long_kind};
+ghost use Rattle.opcode_rows.specs.declared.spots.Part.{Part};
 ghost use Rattle.opcode_rows.specs.declared.spots.TheConstants.{ROWS};
 
 /// There are as many rows as `ROWS` says.
 pub fn rows_are_counted()
     ensures { length table ≡ ROWS }
+{}
+
+/// Each row of each of the four parts stands in the table, at exactly one code.
+pub fn each_row_has_one_code()
+    ensures { (part : Part) (at : ℕ) (row : Row) → slice_get (part_table part) at ≡ Some row → HasOneCode part at row }
+{}
+
+/// Codes ascend by kind, map and opcode byte. Those of the rows of one part ascend in the order of its list, at one opcode byte as everywhere.
+pub fn codes_ascend()
+    ensures by_opcode { (j k : ℕ) (q r : Row) → j < k → slice_get table j ≡ Some q → slice_get table k ≡ Some r → opcode_number q ≤ opcode_number r }
+    ensures in_part { (j k : ℕ) (part : Part) (a b : ℕ) → j < k → LiesAt part a j → LiesAt part b k → a < b }
 {}
 
 /// Every row is sound.

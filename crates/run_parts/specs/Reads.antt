@@ -1,5 +1,6 @@
 -- What reading a source gives, in one step and to its end.
-use Rattle.std.specs.Prelude.{◌≡◌, ℕ, ◌+◌, ◌≤◌, List, [], ◌++◌, length, Option, IfSome}
+use Rattle.std.specs.Prelude.{◌≡◌, ℕ, ◌+◌, ◌≤◌, List, [], ◌++◌, length, Option, IfSome, Result, Err}
+use Rattle.byte_ports.specs.declared.failed.Failed.{Failed}
 use Rattle.byte_ports.specs.Ports.{with_front}
 
 -- how many bytes a command that takes its input as a whole reads at most
@@ -32,3 +33,18 @@ pub record ReadsPiece (left left' : Option (List ℕ)) (before after : List ℕ)
   pub appended : after ≡ before ++ piece
   pub count_is : length piece ≡ count
   pub ended : count ≡ 0 → IsAtEnd left'
+
+-- what was taken of a source, whatever came of it: at most one byte more than the limit
+pub record Takes (limit : ℕ) (left left' : Option (List ℕ)) : Type 0 where
+  pub bytes : List ℕ
+  pub read : left ≡ with_front bytes left'
+  pub within : length bytes ≤ limit + 1
+
+-- The last call of the source was a pull that failed: the source is as that call left it, and the bytes that were left before it are left still.
+pub record EndsAtFault {S : Type 0} (gives : S → List ℕ → Result ℕ Failed → S → List ℕ → Type 0) (left : S → Option (List ℕ)) (source : S) : Type 0 where
+  pub before : S
+  pub buffer : List ℕ
+  pub filled : List ℕ
+  pub why : Failed
+  pub gave : gives before buffer (Err why) source filled
+  pub kept : left source ≡ left before

@@ -1,8 +1,8 @@
 //! Reading a source to its end.
 
 ghost use Rattle.std.specs.Prelude.{◌≡◌, ◌<◌, ◌≤◌, ℕ, List, [], length, IfOk, OnOk, IsErrOf};
-ghost use Rattle.byte_ports.specs.Ports.{Rose};
-ghost use Rattle.run_parts.specs.Reads.{ReadsAll, ReadsPiece, ReadsTooMany};
+ghost use Rattle.byte_ports.specs.Ports.{Rose, with_front};
+ghost use Rattle.run_parts.specs.Reads.{ReadsAll, ReadsPiece, ReadsTooMany, Takes, EndsAtFault};
 
 use byte_ports::{Failed, Source};
 use std::alloc::Global;
@@ -36,6 +36,8 @@ fn read_piece<S: Source>(
     ensures ok { IfOk result (λ n. ReadsPiece (S.left source.old) (S.left source.new) input.old.items input.new.items n) }
     ensures within { IfOk result (λ n. n ≤ room) }
     ensures fault { IsErrOf result ReadError.Fault → Rose (S.faults source.old) (S.faults source.new) }
+    ensures last { IsErrOf result ReadError.Fault → EndsAtFault S.pull_gives S.left source.new }
+    ensures taken { (piece : List ℕ) × ((S.left source.old ≡ with_front piece (S.left source.new)) × (length piece ≤ room)) }
     ensures no_more { IsErrOf result ReadError.TooLarge → ⊥ }
     ensures later { S.faults source.old ≤ S.faults source.new }
 {
@@ -61,6 +63,8 @@ fn read_chunks<S: Source>(
     requires empty { input.old.items ≡ [] }
     ensures ok { OnOk result (ReadsAll limit (S.left source.old) (S.left source.new) input.new.items) }
     ensures fault { IsErrOf result ReadError.Fault → Rose (S.faults source.old) (S.faults source.new) }
+    ensures last { IsErrOf result ReadError.Fault → EndsAtFault S.pull_gives S.left source.new }
+    ensures taken { Takes limit (S.left source.old) (S.left source.new) }
     ensures too_large { IsErrOf result ReadError.TooLarge → ReadsTooMany limit (S.left source.old) (S.left source.new) input.new.items }
     ensures later { S.faults source.old ≤ S.faults source.new }
 {
@@ -75,12 +79,14 @@ fn read_chunks<S: Source>(
     Err(ReadError::TooLarge)
 }
 
-/// Reads a source to its end, where it has at most `limit` bytes. It takes at most one byte more.
+/// Reads a source to its end, where it has at most `limit` bytes. Whatever the answer is, it takes at most one byte more.
 ///
-/// `Fault` comes only where the source failed, `TooLarge` only where one byte more than the limit was taken, and `Memory` at any point.
+/// `Fault` comes only where the source failed, and the source is not asked again; `TooLarge` only where one byte more than the limit was taken, and `Memory` at any point.
 pub fn read_all<S: Source>(alloc: Global, source: &mut S, limit: u32) -> Result<Vec<u8>, ReadError>
     ensures ok { IfOk result (λ input. ReadsAll limit (S.left source.old) (S.left source.new) input.items) }
     ensures fault { IsErrOf result ReadError.Fault → Rose (S.faults source.old) (S.faults source.new) }
+    ensures last { IsErrOf result ReadError.Fault → EndsAtFault S.pull_gives S.left source.new }
+    ensures taken { Takes limit (S.left source.old) (S.left source.new) }
     ensures too_large { IsErrOf result ReadError.TooLarge → (bytes : List ℕ) × ReadsTooMany limit (S.left source.old) (S.left source.new) bytes }
     ensures later { S.faults source.old ≤ S.faults source.new }
 {
