@@ -4,6 +4,7 @@ pub mod Writable
 pub mod Kept
 pub mod CellRuns
 pub mod Apart
+pub mod ByName
 pub mod Named
 pub mod Formed
 pub mod Words

@@ -1,6 +1,7 @@
 //! The opcode table: the rows of all crates in one order, by code and by cell (Intel SDM volume 2, appendix A).
 #![tactic(auto)]
 
+mod by_name;
 mod cells;
 mod form;
 pub mod laws;
@@ -11,6 +12,7 @@ ghost use Rattle.std.specs.Prelude.{◌≡◌, ◌+◌, ◌<◌, ◌≤◌, ◌�
 ghost use Rattle.row_lists.specs.Cells.{map_index, span_of, IsRunOf};
 ghost use Rattle.opcode_rows.specs.Table.{part_table, places, table, names, name_of, cell, legacy_spans, vex_spans, spans_of};
 
+pub use by_name::code_of;
 use cells::{LEGACY_SPANS, VEX_SPANS};
 pub use form::well_formed;
 use names::NAMES;

@@ -1,6 +1,6 @@
 ghost use Rattle.std.specs.Prelude.{◌≡◌, ◌<◌};
 
-use crate::{ROWS, cell_len, first_of, name, row, well_formed};
+use crate::{ROWS, cell_len, code_of, first_of, name, row, well_formed};
 use row_types::{Map, Row, RowKind, Size};
 use std::marker::Brand;
 use std::sync::ledger::{Blank, Ledger};
@@ -49,6 +49,24 @@ fn names_of_cells(rt: HostRuntime) {
     }
     assert_eq!(rt; ROWS, 1969);
     assert_eq!(rt; name(Code(1968)), "rorx");
+}
+
+// Codes count the rows in the order of the opcode maps, and RORX is the last entry of the last map.
+#[test]
+fn rows_of_names(rt: HostRuntime) {
+    for (name, n, want) in [
+        ("add", 0, Some(0)),
+        ("add", 3, Some(3)),
+        ("push", 1, Some(13)),
+        ("rorx", 1, Some(1968)),
+        ("rorx", 2, None),
+        ("vzeroall", 0, Some(1636)),
+        ("vzeroall", 1, None),
+        ("ADD", 0, None),
+        ("", 0, None),
+    ] {
+        assert_eq!(rt; code_of(name, n).map(|code| code.0), want);
+    }
 }
 
 fn row_of_code<L: Ledger>(blank: Blank, code: Code) -> Row

@@ -1,0 +1,29 @@
+//! The rows of a name.
+
+ghost use Rattle.std.specs.Prelude.{◌≡◌, ◌<◌, ◌≤◌, ◌↔◌, IfSome, IsNone};
+ghost use Rattle.opcode_rows.specs.Table.{name_of};
+ghost use Rattle.opcode_rows.specs.ByName.{rows_named, rows_named_before};
+
+use crate::{ROWS, all_names};
+use x86_values::Code;
+
+/// The code of the `n`-th row of a name, from 0, in the order of the codes; None exactly where the name has no more than `n` rows.
+///
+/// The name is a mnemonic in lower case, as `name` gives it.
+pub fn code_of(name: &str, n: usize) -> Option<Code>
+    ensures row { IfSome result (λ code. code.0 < ROWS) }
+    ensures named { IfSome result (λ code. name_of code.0 ≡ name.now) }
+    ensures order { IfSome result (λ code. rows_named_before name.now code.0 ≡ n) }
+    ensures none { IsNone result ↔ (rows_named name.now ≤ n) }
+{
+    let mut passed = 0;
+    for (code, other) in all_names().iter().enumerate() {
+        if *other == name {
+            if passed == n {
+                return Some(Code(code as u16));
+            }
+            passed += 1;
+        }
+    }
+    None
+}
