@@ -4,10 +4,12 @@ ghost use Rattle.std.specs.Prelude.{◌≡◌, ◌↔◌, ◌≤◌, ℕ, List, 
 ghost use Rattle.byte_ports.specs.Ports.{Rose};
 ghost use Rattle.command_words.specs.Words.{command_of, texts};
 ghost use Rattle.run_parts.specs.StatusLine.{status_line};
+ghost use Rattle.run_parts.specs.Reads.{code_limit, whole_limit, Takes, EndsAtFault};
 ghost use Rattle.run_parts.specs.Writing.{Says};
 ghost use Rattle.listing_run.specs.Texts as text;
 ghost use Rattle.listing_run.specs.Rows.{rows_text};
 ghost use Rattle.listing_run.specs.Outcome.{RunsAs, GoesThroughAs, WritesAs, Reads, Streams, IsWrong, IsBadCode, Completes, one_block};
+ghost use Rattle.listing_run.specs.Taken.{limit_of};
 ghost use Rattle.moving_run.specs.Moving.{MovesAs, CompletesMoving};
 ghost use Rattle.command_words.specs.declared.commands.Command.TheVariants.{Wrong};
 
@@ -59,6 +61,8 @@ fn go_through<S: Source, K: Sink>(
 ) -> Status
     ensures answer { GoesThroughAs bits base lines (S.left source.old) (S.left source.new) (K.held out.old) (K.held out.new)
         (Rose (S.faults source.old) (S.faults source.new)) (Rose (K.faults out.old) (K.faults out.new)) result }
+    ensures taken { Takes code_limit (S.left source.old) (S.left source.new)
+        × (result ≡ Status.ReadFault → EndsAtFault S.pull_gives S.left source.new) }
 {
     let input = match read_all(alloc, source, CODE_LIMIT) {
         Ok(input) => input,
@@ -99,6 +103,8 @@ fn move_whole<S: Source, K: Sink>(
         (Rose (S.faults source.old) (S.faults source.new)) (Rose (K.faults out.old) (K.faults out.new)) result }
     ensures complete { (Rose (S.faults source.old) (S.faults source.new) → ⊥) → (Rose (K.faults out.old) (K.faults out.new) → ⊥)
         → CompletesMoving wanted bits (one_block old new) (S.left source.old) result }
+    ensures taken { Takes whole_limit (S.left source.old) (S.left source.new)
+        × (result ≡ Status.ReadFault → EndsAtFault S.pull_gives S.left source.new) }
 {
     let block = BlockWords {
         old,
@@ -121,6 +127,8 @@ fn answer<S: Source, K: Sink>(
     ensures unwritten { IsWrong command → out.new ≡ out.old }
     ensures complete { (Rose (S.faults source.old) (S.faults source.new) → ⊥) → (Rose (K.faults out.old) (K.faults out.new) → ⊥)
         → Completes command (S.left source.old) result }
+    ensures taken { Takes (limit_of command) (S.left source.old) (S.left source.new)
+        × (result ≡ Status.ReadFault → EndsAtFault S.pull_gives S.left source.new) }
 {
     match command {
         Command::Help => write_text(help_text(), out),
@@ -204,6 +212,10 @@ pub fn run<S: Source, K: Sink, E: Sink>(
     ensures usage { (word : ℕ) → (result ≡ Status.Usage word) ↔ (command_of (texts words.now) ≡ Wrong word) }
     ensures unread { (Reads (command_of (texts words.now)) → ⊥) → source.new ≡ source.old }
     ensures unwritten { IsWrong (command_of (texts words.now)) → out.new ≡ out.old }
+
+    // Whatever the status is, what was taken of the source is at most one byte more than the limit of the command. A pull that failed is the last one.
+    ensures taken { Takes (limit_of (command_of (texts words.now))) (S.left source.old) (S.left source.new)
+        × (result ≡ Status.ReadFault → EndsAtFault S.pull_gives S.left source.new) }
 
     // Where no port fails the command is done, within the limit of its input, or ends at the first bad code; what reads may
     // want memory.

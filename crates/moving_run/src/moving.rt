@@ -2,6 +2,7 @@
 
 ghost use Rattle.std.specs.Prelude.{◌≡◌, ◌≤◌, length, OnOk, OnErr, MatchResult};
 ghost use Rattle.byte_ports.specs.Ports.{HasCause, Rose, with_back};
+ghost use Rattle.run_parts.specs.Reads.{whole_limit, Takes, EndsAtFault};
 ghost use Rattle.run_parts.specs.Writing.{HoldsFront};
 ghost use Rattle.moving_run.specs.Moving as spec;
 
@@ -94,7 +95,7 @@ fn write_wanted<K: Sink>(
 ///
 /// Each block has an old and a new base, addresses of the mode; all but the last have a length. In this order: `ReadFault`, `TooLarge` above 1,048,576
 /// bytes, `BadCode` at the first single byte of a block's sweep, `TooMany` above 65,536 instructions, `Wraps`, `TooFar`, `WriteFault`; `Memory` at any
-/// point. Nothing is written before all but `WriteFault` are past.
+/// point. Nothing is written before all but `WriteFault` are past. At most 1,048,577 bytes are taken, and after `ReadFault` the source is not asked again.
 #[tactic(auto, unfolding(run_parts::specs::Reads::whole_limit))]
 pub fn move_code<S: Source, K: Sink>(
     alloc: Global,
@@ -109,6 +110,8 @@ pub fn move_code<S: Source, K: Sink>(
         (Rose (S.faults source.old) (S.faults source.new)) (Rose (K.faults out.old) (K.faults out.new)) result }
     ensures complete { (Rose (S.faults source.old) (S.faults source.new) → ⊥) → (Rose (K.faults out.old) (K.faults out.new) → ⊥)
         → spec.CompletesMoving wanted bits words.now (S.left source.old) result }
+    ensures taken { Takes whole_limit (S.left source.old) (S.left source.new)
+        × (result ≡ Status.ReadFault → EndsAtFault S.pull_gives S.left source.new) }
 {
     let input = match read_all(alloc, source, WHOLE_LIMIT) {
         Ok(input) => input,
