@@ -25,7 +25,7 @@ returns-in-Ok-write_wanted-clause-complete g c =
     let reads = c.in-Ok.ensures.ok in
     let moved = rw c.deref.ensures.value at c.in-Ok-move_input.ensures in
     let written = rw c.deref-2.ensures.value at c.in-Ok-write_wanted.ensures.ok in
-    let code = moves_code c.args.wanted _ _ _ _ _ moved in
+    let code = moves_code c.args.wanted _ _ _ _ _ c.requires moved in
     completes
     c.args.wanted
     _
