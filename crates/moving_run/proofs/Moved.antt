@@ -99,7 +99,7 @@ moves_code wanted bits words bytes placed m few h = record {
   moved = m;
   is_moved = h.is_moved;
   read_back = reads_back bits (all_placed words h.items) (all_spans words h.items) (spans_of bits words bytes h.items h.swept few)
-  (are_placed bits words bytes h.items h.swept) m h.is_moved;
+      (are_placed bits words bytes h.items h.swept) m h.is_moved;
   text_is = ap (λ (items : List Placed). wanted_text wanted bits items m) h.placed_is;
 }
 
