@@ -35,7 +35,7 @@ returns-clause-answer g c =
     let moved = rw c.deref.ensures.value at c.in-Ok-move_input.ensures in
     let front = rw c.deref-2.ensures.value at c.in-Err-write_wanted.ensures.err in
     let code = moves_code c.args.wanted _ _ _ _ _ c.requires.few moved in
-    (c.in-Err-write_wanted.ensures.cause, (c.in-Ok.input.items, (reads, (_, (code, front)))))
+    (c.in-Err-write_wanted.ensures.cause.failed refl, (c.in-Ok.input.items, (reads, (_, (code, front)))))
 
 pub returns-in-Ok-write_wanted-clause-complete : goal.returns-in-Ok-write_wanted-clause-complete
 unfolding whole_limit
