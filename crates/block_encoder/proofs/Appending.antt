@@ -87,3 +87,10 @@ last_piece bits at i old new None done h e =
 last_piece bits at i old new (Some n) done h e =
     subst (λ b. AreAppended (bytes_from bits at (i ∷ [])) old new b) (sym e)
     (more_pieces bits at n i [] old new new (Some n) true refl h (no_more bits n new))
+
+-- an instruction that is its own image
+pub own_piece : (bits : Bits) (at : ℕ) (i : Instr) (image : List Instr) (old new : List ℕ) (next : Option ℕ) (done : Bool)
+    → image ≡ i ∷ [] → IsPieceAppended (encoding bits at i) at old new next → done ≡ is_some next
+    → AreAppended (bytes_from bits at image) old new done
+own_piece bits at i image old new next done own h e =
+    subst (λ is. AreAppended (bytes_from bits at is) old new done) (sym own) (last_piece bits at i old new next done h e)

@@ -21,7 +21,8 @@ use Rattle.branch_forms.specs.Branches.{short_code, near_code, far_code, inverte
 use Rattle.branch_forms.specs.Images.{branch_to, through_slot, counter_size, short_branch, skip, bridge_jump, bridge_inner, bridge, far_image, branch_image, pieces_length}
 use Rattle.branch_forms.specs.Choices.{near_reach, bridge_reach, form_reach}
 use Rattle.branch_forms.proofs.Codes.{short-jump, short-condition, short-count, near-jump, near-call, near-condition, far-call, far-jump}
-use Rattle.branch_forms.proofs.Pieces.{count_byte, short_jump-length, short_condition-length, short_count-length, near_jump-length, near_call-length, near_condition-length, slot_call-length, slot_jump-length, inverted-small}
+use Rattle.branch_forms.specs.Lengths.{address_byte}
+use Rattle.branch_forms.proofs.Pieces.{short_jump-length, short_condition-length, short_count-length, near_jump-length, near_call-length, near_condition-length, slot_call-length, slot_jump-length, inverted-small}
 use Rattle.branch_forms.proofs.Offsets.{in_range}
 use Rattle.move_layout.specs.Laid.{is_far}
 use Rattle.block_encoder.specs.Bytes.{in_front, bytes_from}
@@ -63,18 +64,18 @@ more-some at i is (bytes, h) more =
 
 -- ---- pieces
 
-count-small : (asize : Option Bits) → (asize ≡ Some B32) ⊎ (asize ≡ Some B64) → count_byte B64 asize ≤ 1
+count-small : (asize : Option Bits) → (asize ≡ Some B32) ⊎ (asize ≡ Some B64) → address_byte B64 asize ≤ 1
 count-small asize (inl e) = rw e (omega arith)
 count-small asize (inr e) = rw e (omega arith)
 
 short-size : (action : Action) (short : Bool) (asize : Option Bits) (t : ℕ) → in_range action true ≡ true → CountFits action asize
     → (2 ≤ plain_length B64 (short_branch (sized action short) asize t)) × (plain_length B64 (short_branch (sized action short) asize t) ≤ 3)
 unfolding short_branch counter_size
-short-size Jump short asize t range counts = let e = short_jump-length B64 B64 refl t in (omega (arith, e), omega (arith, e))
+short-size Jump short asize t range counts = let e = short_jump-length B64 B64 t in (omega (arith, e), omega (arith, e))
 short-size Call short asize t range counts = cc
-short-size (Condition n) short asize t range counts = let e = short_condition-length B64 B64 refl n (ltb-true n 16 range) t in (omega (arith, e), omega (arith, e))
+short-size (Condition n) short asize t range counts = let e = short_condition-length B64 B64 n (ltb-true n 16 range) t in (omega (arith, e), omega (arith, e))
 short-size (Count n) short asize t range counts =
-    let e = short_count-length B64 B64 refl n (ltb-true n 4 range) asize t in
+    let e = short_count-length B64 B64 n (ltb-true n 4 range) asize t in
     let c = count-small asize counts in
     (omega (arith, e), omega (arith, e, c))
 
@@ -83,27 +84,27 @@ short-piece : (action : Action) (short : Bool) (asize : Option Bits) (t at : ℕ
 unfolding short_branch counter_size
 short-piece Jump short asize t at range counts below near =
     short-encoded One false 0xEB (short_code Jump B64) None t at (short-jump B64) (no_size One 0xEB (short_code Jump B64) t)
-    (omega (arith, short_jump-length B64 B64 refl t)) below near
+    (omega (arith, short_jump-length B64 B64 t)) below near
 short-piece Call short asize t at range counts below near = cc
 short-piece (Condition n) short asize t at range counts below near =
     let lt = ltb-true n 16 range in
     short-encoded One false (0x70 + n) (short_code (Condition n) B64) None t at (short-condition n B64 lt) (no_size One (0x70 + n) (short_code (Condition n) B64) t)
-    (omega (arith, short_condition-length B64 B64 refl n lt t)) below near
+    (omega (arith, short_condition-length B64 B64 n lt t)) below near
 short-piece (Count n) short asize t at range counts below near =
     let lt = ltb-true n 4 range in
     let c = count-small asize counts in
     short-encoded One true (0xE0 + n) (short_code (Count n) B64) asize t at (short-count n B64 lt) (count_size One (0xE0 + n) (short_code (Count n) B64) asize t counts)
-    (omega (arith, c, short_count-length B64 B64 refl n lt asize t)) below near
+    (omega (arith, c, short_count-length B64 B64 n lt asize t)) below near
 
 skip-size : (t : ℕ) → plain_length B64 (skip B64 t) ≡ 2
 unfolding skip
-skip-size t = short_jump-length B64 B64 refl t
+skip-size t = short_jump-length B64 B64 t
 
 skip-piece : (t at : ℕ) → t < 2 ^ 64 → IsNear 1 at (plain_length B64 (skip B64 t)) t → IsEncoded at (skip B64 t)
 unfolding skip
 skip-piece t at below near =
     short-encoded One false 0xEB (short_code Jump B64) None t at (short-jump B64) (no_size One 0xEB (short_code Jump B64) t)
-    (omega (arith, short_jump-length B64 B64 refl t)) below near
+    (omega (arith, short_jump-length B64 B64 t)) below near
 
 -- an action that has a near form
 abbrev pub is_counting : Action → Bool
@@ -112,9 +113,9 @@ is_counting _ = false
 
 near-size : (action : Action) (short : Bool) (t : ℕ) → is_counting action ≡ false → in_range action short ≡ true
     → (1 ≤ plain_length B64 (branch_to (near_code action B64) None t)) × (plain_length B64 (branch_to (near_code action B64) None t) ≤ 6)
-near-size Jump short t h range = let e = near_jump-length B64 B64 refl t in (omega (arith, e), omega (arith, e))
-near-size Call short t h range = let e = near_call-length B64 B64 refl t in (omega (arith, e), omega (arith, e))
-near-size (Condition n) short t h range = let e = near_condition-length B64 B64 refl n (ltb-true n 16 range) t in (omega (arith, e), omega (arith, e))
+near-size Jump short t h range = let e = near_jump-length B64 B64 t in (omega (arith, e), omega (arith, e))
+near-size Call short t h range = let e = near_call-length B64 B64 t in (omega (arith, e), omega (arith, e))
+near-size (Condition n) short t h range = let e = near_condition-length B64 B64 n (ltb-true n 16 range) t in (omega (arith, e), omega (arith, e))
 near-size (Count n) short t h range = cc
 
 near-piece : (action : Action) (short : Bool) (t at : ℕ) → is_counting action ≡ false → in_range action short ≡ true → t < 2 ^ 64
@@ -122,17 +123,17 @@ near-piece : (action : Action) (short : Bool) (t at : ℕ) → is_counting actio
 near-piece Jump short t at h range below near =
     near-encoded One 0xE9 (near_code Jump B64) t at (near-jump B64) (omega (arith, near-size Jump short t refl refl)) below near
 near-piece Call short t at h range below near =
-    near-encoded One 0xE8 (near_code Call B64) t at (near-call B64) (omega (arith, near_call-length B64 B64 refl t)) below near
+    near-encoded One 0xE8 (near_code Call B64) t at (near-call B64) (omega (arith, near_call-length B64 B64 t)) below near
 near-piece (Condition n) short t at h range below near =
     let lt = ltb-true n 16 range in
-    near-encoded M0f (0x80 + n) (near_code (Condition n) B64) t at (near-condition n B64 lt) (omega (arith, near_condition-length B64 B64 refl n lt t)) below near
+    near-encoded M0f (0x80 + n) (near_code (Condition n) B64) t at (near-condition n B64 lt) (omega (arith, near_condition-length B64 B64 n lt t)) below near
 near-piece (Count n) short t at h range below near = cc
 
 jump-piece : (slot at : ℕ) → slot < 2 ^ 64 → IsNear 4 at (plain_length B64 (through_slot (far_code Jump) slot)) slot → IsEncoded at (through_slot (far_code Jump) slot)
-jump-piece slot at below near = slot-encoded 4 (far_code Jump) slot at far-jump (omega (arith, slot_jump-length slot)) below near
+jump-piece slot at below near = slot-encoded 4 (far_code Jump) slot at far-jump (omega (arith, slot_jump-length B64 slot)) below near
 
 call-piece : (slot at : ℕ) → slot < 2 ^ 64 → IsNear 4 at (plain_length B64 (through_slot (far_code Call) slot)) slot → IsEncoded at (through_slot (far_code Call) slot)
-call-piece slot at below near = slot-encoded 2 (far_code Call) slot at far-call (omega (arith, slot_call-length slot)) below near
+call-piece slot at below near = slot-encoded 2 (far_code Call) slot at far-call (omega (arith, slot_call-length B64 slot)) below near
 
 -- ---- images
 
@@ -177,21 +178,21 @@ far-spelled : (action : Action) (short : Bool) (at slot : ℕ) → is_counting a
     → IsSome (bytes_from B64 at (far_image B64 (sized action short) at action slot))
 unfolding far_image
 far-spelled Jump short at slot h range within (below, low, high) =
-    let len = slot_jump-length slot in
+    let len = slot_jump-length B64 slot in
     one-some at (through_slot (far_code Jump) slot)
     (jump-piece slot at below (reached 4 (2 ^ 31) refl (omega arith) at (plain_length B64 (through_slot (far_code Jump) slot)) slot (omega (arith, len)) (omega (arith, within)) below (omega (arith, low), omega (arith, high))))
 far-spelled Call short at slot h range within (below, low, high) =
-    let len = slot_call-length slot in
+    let len = slot_call-length B64 slot in
     one-some at (through_slot (far_code Call) slot)
     (call-piece slot at below (reached 4 (2 ^ 31) refl (omega arith) at (plain_length B64 (through_slot (far_code Call) slot)) slot (omega (arith, len)) (omega (arith, within)) below (omega (arith, low), omega (arith, high))))
 far-spelled (Condition n) short at slot h range within (below, low, high) =
     let lt = inverted-small n (ltb-true n 16 range) in
     let code = short_code (Condition (inverted n)) B64 in
     let last = through_slot (far_code Jump) slot in
-    let len = slot_jump-length slot in
+    let len = slot_jump-length B64 slot in
     let one = plain_length B64 (branch_to code None 0) in
     let over = wrapped B64 (at + one + plain_length B64 last) in
-    let long = short_condition-length B64 B64 refl (inverted n) lt 0 in
+    let long = short_condition-length B64 B64 (inverted n) lt 0 in
     let same = branch_to-length B64 code None over in
     let near = over-reached at one (plain_length B64 last) (omega (arith, long)) (omega (arith, within, same)) (omega (arith, len)) in
     let first = short-encoded One false (0x70 + inverted n) code None over at (short-condition (inverted n) B64 lt) (no_size One (0x70 + inverted n) code over)
@@ -240,7 +241,7 @@ far_bridged i action short at slot range counts within (below, low, high) =
     let b = sized action short in
     let last = through_slot (far_code Jump) slot in
     let size = bridge-size b i.asize at last in
-    let long = slot_jump-length slot in
+    let long = slot_jump-length B64 slot in
     let at_last = at + bridge_inner B64 b i.asize in
     let e = jump-piece slot at_last below
     (reached 4 (2 ^ 31) refl (omega arith) at_last (plain_length B64 last) slot (omega (arith, long)) (omega (arith, within, size)) below

@@ -172,6 +172,12 @@ branched bits ip bytes i t s h = by_branch (branch_of i) refl
     by_branch None e = let k = no_branch-no_near bits ip bytes i s e in cc
     by_branch (Some b) e = (b, e)
 
+-- **what has no target stays as it is**
+pub untargeted-image : (bits : Bits) (i : Instr) (form : Form) (place goal slot : ℕ) → length i.ops ≡ 4 → target_of i ≡ None
+    → image_of bits i form place goal slot ≡ i ∷ []
+untargeted-image bits i form place goal slot four none =
+    image-address bits i form place goal slot (no_near i none) ∙ ap (λ (x : Instr). x ∷ []) (untargeted-aimed goal i four none)
+
 -- ---- items
 
 cond_true : (b : Bool) (x y : ℕ) → b ≡ true → (if b then x else y) ≡ x
@@ -215,8 +221,9 @@ module _ (bits : Bits) (items : List Placed) (spans : List BlockSpan) (layout : 
     goes-nowhere none =
         let i = placed k lt in
         let four = spelled-four bits (wrapped bits (item_at items k).ip) i.bytes (item_at items k).instr i.spelled in
-        goes-address (no_near (item_at items k).instr none)
-        ∙ ap (λ (x : Instr). x ∷ []) (untargeted-aimed (goal_address (plan_for bits spans items) layout k) (item_at items k).instr four none)
+        image-is
+        ∙ untargeted-image bits (item_at items k).instr (chosen (plan_for bits spans items) layout k).form (place (plan_for bits spans items) layout k)
+        (goal_address (plan_for bits spans items) layout k) (seat_at (plan_for bits spans items) layout k).slot four none
 
     -- the image of a branch
     image-branch : (t : ℕ) → first_value near_value (item_at items k).instr ≡ Some t

@@ -1,14 +1,18 @@
 -- Where the images of moved instructions stand and go.
-use Rattle.std.specs.Prelude.{◌≡◌, ℕ, ◌+◌, ◌-◌, ◌%◌, ◌≤◌, List, [], ◌∷◌, take, drop}
+use Rattle.std.specs.Prelude.{◌≡◌, ℕ, ◌+◌, ◌-◌, ◌%◌, ◌<◌, ◌≤◌, true, false, List, [], ◌∷◌, None, Some, length, take, drop, slice_index_or}
 use Rattle.x86_values.specs.declared.Bits.{Bits}
 use Rattle.x86_values.specs.declared.Instr.{Instr}
+use Rattle.x86_values.specs.Wrapping.{wrapped}
 use Rattle.plain_spelling.specs.Values.{low_bytes}
+use Rattle.operand_info.specs.Operands.{near_value, ip_value, first_value}
 use Rattle.branch_sizes.specs.Plan.{BlockPlan}
 use Rattle.branch_sizes.specs.Layout.{span_at, image_length, place}
+use Rattle.moved_targets.specs.Targets.{target_of, aimed}
+use Rattle.branch_forms.specs.Images.{pieces_length}
 use Rattle.move_goals.specs.declared.items.Placed.{Placed}
-use Rattle.move_goals.specs.Items.{no_instr}
-use Rattle.move_layout.specs.Laid.{images_end, new_end, slot_address}
-use Rattle.block_encoder.specs.Bytes.{bytes_at, block_bytes}
+use Rattle.move_goals.specs.Items.{item_at, no_instr}
+use Rattle.move_layout.specs.Laid.{goal_address, images_end, is_far_at, new_end, slot_address}
+use Rattle.block_encoder.specs.Bytes.{bytes_at, block_bytes, image_at}
 
 -- the last of some instructions
 abbrev pub last_instr : List Instr → Instr
@@ -32,3 +36,18 @@ pub record HasSlot (bits : Bits) (items : List Placed) (p : BlockPlan) (layout :
   pub within : slot_address p layout b goal + 8 ≤ new_end p layout b
   pub aligned : slot_address p layout b goal % 8 ≡ 0
   pub bytes : bytes_of_block_at bits items p layout b (slot_address p layout b goal) 8 ≡ low_bytes 8 goal
+
+-- The image of item k of block b goes to the goal of the item. What has no target stays as it is; what is aimed at RIP or EIP is aimed at the goal
+-- instead; of a branch the last instruction goes to the goal, or through the slot that has it, and each instruction before the last goes over the next.
+pub record GoesToGoal (bits : Bits) (items : List Placed) (p : BlockPlan) (layout : List ℕ) (b k : ℕ) : Type 0 where
+  pub stays : target_of (item_at items k).instr ≡ None → image_at bits items p layout k ≡ (item_at items k).instr ∷ []
+  pub address : first_value near_value (item_at items k).instr ≡ None
+      → image_at bits items p layout k ≡ aimed (goal_address p layout k) (item_at items k).instr ∷ []
+  pub near : (t : ℕ) → first_value near_value (item_at items k).instr ≡ Some t → is_far_at p layout k ≡ false
+      → first_value near_value (last_instr (image_at bits items p layout k)) ≡ Some (goal_address p layout k)
+  pub far : (t : ℕ) → first_value near_value (item_at items k).instr ≡ Some t → is_far_at p layout k ≡ true
+      → first_value ip_value (last_instr (image_at bits items p layout k)) ≡ Some (slot_address p layout b (goal_address p layout k))
+  pub slot : is_far_at p layout k ≡ true → HasSlot bits items p layout b (goal_address p layout k)
+  pub over : (n : ℕ) → n + 1 < length (image_at bits items p layout k)
+      → first_value near_value (slice_index_or (image_at bits items p layout k) n no_instr)
+      ≡ Some (wrapped bits (place p layout k + pieces_length bits (take (n + 2) (image_at bits items p layout k))))

@@ -4,7 +4,7 @@ ghost use Rattle.std.specs.Prelude.{◌≡◌, ◌↔◌, ◌+◌, ◌^◌, ◌<
 ghost use Rattle.encoder.specs.Encoding.{encoding};
 ghost use Rattle.branch_sizes.specs.Layout.{Reaches};
 ghost use Rattle.branch_forms.specs.Images.{instrs_of};
-ghost use Rattle.block_encoder.specs.Bytes.{bytes_from};
+ghost use Rattle.block_encoder.specs.Bytes.{bytes_from, seated_bytes};
 ghost use Rattle.block_encoder.specs.Moved as moved;
 ghost use Rattle.block_encoder.specs.Written.{IsPieceAppended, AreAppended, IsSeatWritten};
 
@@ -12,7 +12,7 @@ use branch_forms::{Image, image_of};
 use branch_sizes::{Form, Reach};
 use encoder::encode;
 use move_layout::Seat;
-use moved_targets::target_reach;
+use moved_targets::{target_of, target_reach};
 use std::alloc::AllocError;
 use x86_values::{Bits, Instr, wrap};
 
@@ -103,6 +103,35 @@ fn append_image(
     }
 }
 
+/// Appends the plain spellings of the image of an instruction in its seat, which is the instruction itself where it has no target. `false`: one of
+/// them has none there, and those before it may be appended.
+fn append_seated(
+    bits: Bits,
+    instr: &Instr,
+    seat: &Seat,
+    goal: u64,
+    bytes: &mut Vec<u8>,
+) -> Result<bool, AllocError>
+    requires place { seat.now.place < 2 ^ 64 }
+    requires slot { seat.now.slot < 2 ^ 64 }
+    requires goal { goal ≡ seat.now.goal }
+    ensures { IfOk result (λ done. AreAppended (seated_bytes bits instr.now seat.now) bytes.old.items bytes.new.items done) }
+{
+    let [_first, _second, _third, _fourth] = instr.ops;
+    if target_of(instr).is_none() {
+        return Ok(append_piece(bits, seat.place, instr, bytes)?.is_some());
+    }
+    let image = image_of(
+        bits,
+        instr,
+        seat.form,
+        seat.place as u64,
+        goal,
+        seat.slot as u64,
+    );
+    append_image(bits, seat.place, &image, bytes)
+}
+
 /// Appends the bytes of an instruction in its seat, aimed at its goal. `false`: it does not reach the goal, and some of its bytes may be appended.
 pub(crate) fn write_image(
     bits: Bits,
@@ -120,13 +149,5 @@ pub(crate) fn write_image(
     if !reaches(reach, seat.len, seat.place, u128::from(goal)) {
         return Ok(false);
     }
-    let image = image_of(
-        bits,
-        instr,
-        seat.form,
-        seat.place as u64,
-        goal,
-        seat.slot as u64,
-    );
-    append_image(bits, seat.place, &image, bytes)
+    append_seated(bits, instr, seat, goal, bytes)
 }

@@ -26,8 +26,9 @@ use Rattle.branch_forms.specs.declared.branch.Action.TheVariants.{Jump, Call, Co
 use Rattle.branch_forms.specs.declared.branch.RelativeBranch.{RelativeBranch}
 use Rattle.branch_forms.specs.Branches.{branch_of, far_code, inverted}
 use Rattle.branch_forms.specs.Images.{counter_size, short_branch, skip, bridge_jump, bridge_inner, through_slot, form_length}
+use Rattle.branch_forms.specs.Lengths.{size_byte, address_byte, offset_bytes}
 use Rattle.branch_forms.specs.Choices.{in_64, branch_forms, near_reach, bridge_reach, form_reach, branch_choice, choices_by, choices_of}
-use Rattle.branch_forms.proofs.Pieces.{is_pair, by_pair, size_byte, count_byte, offset_bytes, short_jump-length, short_condition-length, short_count-length, near_jump-length, near_call-length, near_condition-length, slot_call-length, slot_jump-length, inverted-small}
+use Rattle.branch_forms.proofs.Pieces.{is_pair, by_pair, short_jump-length, short_condition-length, short_count-length, near_jump-length, near_call-length, near_condition-length, slot_call-length, slot_jump-length, inverted-small}
 use Rattle.branch_forms.proofs.Lengths.{far_size, form_size, branch-length, other-length}
 use Rattle.branch_forms.proofs.Offsets.{in_range, branch-range, branch-pair}
 
@@ -73,24 +74,33 @@ size_byte-small B64 B16 = omega arith
 size_byte-small B64 B32 = omega arith
 size_byte-small B64 B64 = omega arith
 
-own-size : (bits : Bits) → is_pair bits bits ≡ true
-own-size B16 = refl
-own-size B32 = refl
-own-size B64 = refl
-
 own-size_byte : (bits : Bits) → size_byte bits bits ≡ 0
 own-size_byte B16 = refl
 own-size_byte B32 = refl
 own-size_byte B64 = refl
 
-count_byte-small : (bits : Bits) (asize : Option Bits) → count_byte bits asize ≤ 1
-count_byte-small bits None = omega arith
-count_byte-small bits (Some asize) = elim (same_bits asize bits) as (λ b. bit (not b) ≤ 1) [ true ↦ omega arith | false ↦ omega arith ]
+address_byte-small : (bits : Bits) (asize : Option Bits) → address_byte bits asize ≤ 1
+address_byte-small bits None = omega arith
+address_byte-small B16 (Some B16) = omega arith
+address_byte-small B16 (Some B32) = omega arith
+address_byte-small B16 (Some B64) = omega arith
+address_byte-small B32 (Some B16) = omega arith
+address_byte-small B32 (Some B32) = omega arith
+address_byte-small B32 (Some B64) = omega arith
+address_byte-small B64 (Some B16) = omega arith
+address_byte-small B64 (Some B32) = omega arith
+address_byte-small B64 (Some B64) = omega arith
 
-offset_bytes-small : (size : Bits) → (2 ≤ offset_bytes size) × (offset_bytes size ≤ 4)
-offset_bytes-small B16 = (omega arith, omega arith)
-offset_bytes-small B32 = (omega arith, omega arith)
-offset_bytes-small B64 = (omega arith, omega arith)
+offset_bytes-small : (bits size : Bits) → (2 ≤ offset_bytes bits size) × (offset_bytes bits size ≤ 4)
+offset_bytes-small B16 B16 = (omega arith, omega arith)
+offset_bytes-small B16 B32 = (omega arith, omega arith)
+offset_bytes-small B16 B64 = (omega arith, omega arith)
+offset_bytes-small B32 B16 = (omega arith, omega arith)
+offset_bytes-small B32 B32 = (omega arith, omega arith)
+offset_bytes-small B32 B64 = (omega arith, omega arith)
+offset_bytes-small B64 B16 = (omega arith, omega arith)
+offset_bytes-small B64 B32 = (omega arith, omega arith)
+offset_bytes-small B64 B64 = (omega arith, omega arith)
 
 -- ---- lengths that rise
 
@@ -113,38 +123,38 @@ rises-three c d e low next last high =
 slot_call-in : (bits : Bits) → is_64 bits ≡ true → plain_length bits (through_slot (far_code Call) 0) ≡ 6
 slot_call-in B16 h = cc
 slot_call-in B32 h = cc
-slot_call-in B64 h = slot_call-length 0
+slot_call-in B64 h = slot_call-length B64 0
 
 slot_jump-in : (bits : Bits) → is_64 bits ≡ true → plain_length bits (through_slot (far_code Jump) 0) ≡ 6
 slot_jump-in B16 h = cc
 slot_jump-in B32 h = cc
-slot_jump-in B64 h = slot_jump-length 0
+slot_jump-in B64 h = slot_jump-length B64 0
 
 jump-short : (bits size : Bits) (i : Instr) (s : Bool) → is_pair bits size ≡ true → form_size bits i (branch_with Jump s size) Short ≡ 2 + size_byte bits size
 unfolding form_size short_branch counter_size
-jump-short bits size i s h = short_jump-length bits size h 0
+jump-short bits size i s h = short_jump-length bits size 0
 
 condition-short : (bits size : Bits) (i : Instr) (s : Bool) (n : ℕ) → n < 16 → is_pair bits size ≡ true → form_size bits i (branch_with (Condition n) s size) Short ≡ 2 + size_byte bits size
 unfolding form_size short_branch counter_size
-condition-short bits size i s n lt h = short_condition-length bits size h n lt 0
+condition-short bits size i s n lt h = short_condition-length bits size n lt 0
 
 count-short : (bits size : Bits) (i : Instr) (s : Bool) (n : ℕ) → n < 4 → is_pair bits size ≡ true
-    → form_size bits i (branch_with (Count n) s size) Short ≡ 2 + size_byte bits size + count_byte bits i.asize
+    → form_size bits i (branch_with (Count n) s size) Short ≡ 2 + size_byte bits size + address_byte bits i.asize
 unfolding form_size short_branch counter_size
-count-short bits size i s n lt h = short_count-length bits size h n lt i.asize 0
+count-short bits size i s n lt h = short_count-length bits size n lt i.asize 0
 
-jump-near : (bits size : Bits) (i : Instr) (s : Bool) → is_pair bits size ≡ true → form_size bits i (branch_with Jump s size) NearForm ≡ 1 + size_byte bits size + offset_bytes size
+jump-near : (bits size : Bits) (i : Instr) (s : Bool) → is_pair bits size ≡ true → form_size bits i (branch_with Jump s size) NearForm ≡ 1 + size_byte bits size + offset_bytes bits size
 unfolding form_size
-jump-near bits size i s h = near_jump-length bits size h 0
+jump-near bits size i s h = near_jump-length bits size 0
 
-call-near : (bits size : Bits) (i : Instr) (s : Bool) → is_pair bits size ≡ true → form_size bits i (branch_with Call s size) NearForm ≡ 1 + size_byte bits size + offset_bytes size
+call-near : (bits size : Bits) (i : Instr) (s : Bool) → is_pair bits size ≡ true → form_size bits i (branch_with Call s size) NearForm ≡ 1 + size_byte bits size + offset_bytes bits size
 unfolding form_size
-call-near bits size i s h = near_call-length bits size h 0
+call-near bits size i s h = near_call-length bits size 0
 
 condition-near : (bits size : Bits) (i : Instr) (s : Bool) (n : ℕ) → n < 16 → is_pair bits size ≡ true
-    → form_size bits i (branch_with (Condition n) s size) NearForm ≡ 2 + size_byte bits size + offset_bytes size
+    → form_size bits i (branch_with (Condition n) s size) NearForm ≡ 2 + size_byte bits size + offset_bytes bits size
 unfolding form_size
-condition-near bits size i s n lt h = near_condition-length bits size h n lt 0
+condition-near bits size i s n lt h = near_condition-length bits size n lt 0
 
 jump-far : (bits size : Bits) (i : Instr) (s : Bool) → is_64 bits ≡ true → form_size bits i (branch_with Jump s size) Far ≡ 6
 unfolding form_size far_size
@@ -158,22 +168,22 @@ condition-far : (bits size : Bits) (i : Instr) (s : Bool) (n : ℕ) → n < 16 �
     → form_size bits i (branch_with (Condition n) s size) Far ≡ 2 + size_byte bits size + 6
 unfolding form_size far_size
 condition-far bits size i s n lt pair h =
-    omega (arith, short_condition-length bits size pair (inverted n) (inverted-small n lt) 0, slot_jump-in bits h)
+    omega (arith, short_condition-length bits size (inverted n) (inverted-small n lt) 0, slot_jump-in bits h)
 
 -- the two branches before the last jump of a bridge
 count-inner : (bits size : Bits) (asize : Option Bits) (s : Bool) (n : ℕ) → n < 4 → is_pair bits size ≡ true
-    → bridge_inner bits (branch_with (Count n) s size) asize ≡ 2 + size_byte bits size + count_byte bits asize + 2
+    → bridge_inner bits (branch_with (Count n) s size) asize ≡ 2 + size_byte bits size + address_byte bits asize + 2
 unfolding bridge_inner short_branch counter_size skip
 count-inner bits size asize s n lt h =
-    omega (arith, short_count-length bits size h n lt asize 0, short_jump-length bits bits (own-size bits) 0, own-size_byte bits)
+    omega (arith, short_count-length bits size n lt asize 0, short_jump-length bits bits 0, own-size_byte bits)
 
 count-bridge : (bits size : Bits) (i : Instr) (s : Bool) (n : ℕ) → n < 4 → is_pair bits size ≡ true
-    → form_size bits i (branch_with (Count n) s size) Bridge ≡ 2 + size_byte bits size + count_byte bits i.asize + 2 + (1 + size_byte bits size + offset_bytes size)
+    → form_size bits i (branch_with (Count n) s size) Bridge ≡ 2 + size_byte bits size + address_byte bits i.asize + 2 + (1 + size_byte bits size + offset_bytes bits size)
 unfolding form_size bridge_jump
-count-bridge bits size i s n lt h = omega (arith, count-inner bits size i.asize s n lt h, near_jump-length bits size h 0)
+count-bridge bits size i s n lt h = omega (arith, count-inner bits size i.asize s n lt h, near_jump-length bits size 0)
 
 count-far : (bits size : Bits) (i : Instr) (s : Bool) (n : ℕ) → n < 4 → is_pair bits size ≡ true → is_64 bits ≡ true
-    → form_size bits i (branch_with (Count n) s size) FarBridge ≡ 2 + size_byte bits size + count_byte bits i.asize + 2 + 6
+    → form_size bits i (branch_with (Count n) s size) FarBridge ≡ 2 + size_byte bits size + address_byte bits i.asize + 2 + 6
 unfolding form_size
 count-far bits size i s n lt pair h = omega (arith, count-inner bits size i.asize s n lt pair, slot_jump-in bits h)
 
@@ -219,20 +229,20 @@ branch-rise bits size i Jump true e pair range =
     let short = jump-short bits size i true pair in
     let near = jump-near bits size i true pair in
     let sb = size_byte-small bits size in
-    let ob = offset_bytes-small size in
+    let ob = offset_bytes-small bits size in
     rise-two bits i (branch_with Jump true size) Short NearForm Far e (omega (arith, short)) (omega (arith, short, near, ob.0)) (omega (arith, near, sb, ob.1))
     (λ h. (omega (arith, near, sb, ob.1, jump-far bits size i true h), omega (arith, jump-far bits size i true h)))
 branch-rise bits size i Jump false e pair range =
     let near = jump-near bits size i false pair in
     let sb = size_byte-small bits size in
-    let ob = offset_bytes-small size in
+    let ob = offset_bytes-small bits size in
     rise-one bits i (branch_with Jump false size) NearForm Far e (omega (arith, near)) (omega (arith, near, sb, ob.1))
     (λ h. (omega (arith, near, sb, ob.1, jump-far bits size i false h), omega (arith, jump-far bits size i false h)))
 branch-rise bits size i Call true e pair range = cc
 branch-rise bits size i Call false e pair range =
     let near = call-near bits size i false pair in
     let sb = size_byte-small bits size in
-    let ob = offset_bytes-small size in
+    let ob = offset_bytes-small bits size in
     rise-one bits i (branch_with Call false size) NearForm Far e (omega (arith, near)) (omega (arith, near, sb, ob.1))
     (λ h. (omega (arith, near, sb, ob.1, call-far bits size i false h), omega (arith, call-far bits size i false h)))
 branch-rise bits size i (Condition n) true e pair range =
@@ -240,14 +250,14 @@ branch-rise bits size i (Condition n) true e pair range =
     let short = condition-short bits size i true n lt pair in
     let near = condition-near bits size i true n lt pair in
     let sb = size_byte-small bits size in
-    let ob = offset_bytes-small size in
+    let ob = offset_bytes-small bits size in
     rise-two bits i (branch_with (Condition n) true size) Short NearForm Far e (omega (arith, short)) (omega (arith, short, near, ob.0)) (omega (arith, near, sb, ob.1))
     (λ h. (omega (arith, near, sb, ob.1, condition-far bits size i true n lt pair h), omega (arith, sb, condition-far bits size i true n lt pair h)))
 branch-rise bits size i (Condition n) false e pair range =
     let lt = ltb-true n 16 range in
     let near = condition-near bits size i false n lt pair in
     let sb = size_byte-small bits size in
-    let ob = offset_bytes-small size in
+    let ob = offset_bytes-small bits size in
     rise-one bits i (branch_with (Condition n) false size) NearForm Far e (omega (arith, near)) (omega (arith, near, sb, ob.1))
     (λ h. (omega (arith, near, sb, ob.1, condition-far bits size i false n lt pair h), omega (arith, sb, condition-far bits size i false n lt pair h)))
 branch-rise bits size i (Count n) true e pair range =
@@ -255,8 +265,8 @@ branch-rise bits size i (Count n) true e pair range =
     let short = count-short bits size i true n lt pair in
     let bridged = count-bridge bits size i true n lt pair in
     let sb = size_byte-small bits size in
-    let cb = count_byte-small bits i.asize in
-    let ob = offset_bytes-small size in
+    let cb = address_byte-small bits i.asize in
+    let ob = offset_bytes-small bits size in
     rise-two bits i (branch_with (Count n) true size) Short Bridge FarBridge e
     (omega (arith, short)) (omega (arith, short, bridged)) (omega (arith, bridged, sb, cb, ob.1))
     (λ h. (omega (arith, bridged, sb, ob.1, count-far bits size i true n lt pair h), omega (arith, sb, cb, count-far bits size i true n lt pair h)))

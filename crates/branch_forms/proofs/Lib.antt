@@ -5,3 +5,4 @@ pub mod Lengths
 pub mod Offsets
 pub mod Own
 pub mod Fit
+pub mod Sized

@@ -1,6 +1,6 @@
 -- How long the instructions of an image are.
 use Rattle.std.proofs.Common.{◌≡◌, ℕ, ◌+◌, ◌<◌, Bool, true, false, refl, ◌∙◌, slice_get, arith}
-use Rattle.std.specs.Prelude.{Option, Some, None, not}
+use Rattle.std.specs.Prelude.{Option, Some, None}
 use Rattle.std.proofs.lemmas.Nat.{xor_lt}
 use Rattle.x86_values.specs.declared.Bits.{Bits}
 use Rattle.x86_values.specs.declared.Bits.TheVariants.{B16, B32, B64}
@@ -8,7 +8,7 @@ use Rattle.x86_values.specs.declared.Instr.{Instr}
 use Rattle.row_types.specs.declared.Row.{Row}
 use Rattle.row_types.specs.declared.Map.TheVariants.{One, M0f}
 use Rattle.row_types.specs.declared.OpKind.TheVariants.{Jb, Jz}
-use Rattle.instruction_parts.specs.Bytes.{bit, lead_bytes}
+use Rattle.instruction_parts.specs.Bytes.{lead_bytes}
 use Rattle.instruction_parts.specs.Kinds.{method_of, immediate_width}
 use Rattle.instruction_parts.specs.Sizes.{operand_size}
 use Rattle.row_fit.specs.Fits.{immediate_bytes}
@@ -21,6 +21,7 @@ use Rattle.moved_targets.specs.Targets.{plain_length}
 use Rattle.branch_forms.specs.declared.branch.Action.TheVariants.{Jump, Call, Condition, Count}
 use Rattle.branch_forms.specs.Branches.{short_code, near_code, far_code, inverted}
 use Rattle.branch_forms.specs.Images.{branch_to, through_slot}
+use Rattle.branch_forms.specs.Lengths.{size_byte, address_byte, offset_bytes, slot_bytes}
 use Rattle.branch_forms.proofs.Codes.{offset_row, memory_row, short-jump, short-condition, short-count, near-jump, near-call, near-condition, far-call, far-jump}
 
 -- ---- modes and sizes
@@ -43,21 +44,18 @@ by_pair P a b c d e B64 B16 h = cc
 by_pair P a b c d e B64 B32 h = cc
 by_pair P a b c d e B64 B64 h = e
 
--- 66 stands for an operand size that is not the mode's own
-abbrev pub size_byte : Bits → Bits → ℕ
-size_byte B16 B32 = 1
-size_byte B32 B16 = 1
-size_byte _ _ = 0
-
--- 67 stands for an address size that is not the mode's own
-abbrev pub count_byte : Bits → Option Bits → ℕ
-count_byte bits None = 0
-count_byte bits (Some asize) = bit (not (same_bits asize bits))
-
--- the bytes of an offset of the operand size
-abbrev pub offset_bytes : Bits → ℕ
-offset_bytes B16 = 2
-offset_bytes _ = 4
+-- the nine pairs
+by_sizes : (P : Bits → Bits → Type 0) → P B16 B16 → P B16 B32 → P B16 B64 → P B32 B16 → P B32 B32 → P B32 B64 → P B64 B16 → P B64 B32 → P B64 B64
+    → (bits size : Bits) → P bits size
+by_sizes P a b c d e f g h i B16 B16 = a
+by_sizes P a b c d e f g h i B16 B32 = b
+by_sizes P a b c d e f g h i B16 B64 = c
+by_sizes P a b c d e f g h i B32 B16 = d
+by_sizes P a b c d e f g h i B32 B32 = e
+by_sizes P a b c d e f g h i B32 B64 = f
+by_sizes P a b c d e f g h i B64 B16 = g
+by_sizes P a b c d e f g h i B64 B32 = h
+by_sizes P a b c d e f g h i B64 B64 = i
 
 -- ---- by row
 
@@ -66,39 +64,41 @@ unfolding plain_length
 row-length bits row i at = rw at refl
 
 -- a branch of 8 bits without an address size
-short-len : (opcode code t : ℕ) (bits size : Bits) → is_pair bits size ≡ true → plain_len bits (offset_row One opcode Jb 20 size) (branch_to code None t) ≡ 2 + size_byte bits size
+short-len : (opcode code t : ℕ) (bits size : Bits) → plain_len bits (offset_row One opcode Jb 20 size) (branch_to code None t) ≡ 2 + size_byte bits size
 unfolding branch_to plain_len plain_size plain_modrm plain_sib_of rm_fields fixed_rm operand_size immediate_bytes immediate_width method_of plain_front_of asked_used asked_repeat asked_rex asks_rex_w asks_r asks_x asks_b asks_66 asks_67 asked_vex asks_vex_w asked_opcode class_pp lead_bytes number_in_reg number_in_rm number_in_index number_in_vvvv number_in_opcode is_low_byte_of_rex register_number
 short-len opcode code t =
-    by_pair (λ bits size. plain_len bits (offset_row One opcode Jb 20 size) (branch_to code None t) ≡ 2 + size_byte bits size) refl refl refl refl refl
+    by_sizes (λ bits size. plain_len bits (offset_row One opcode Jb 20 size) (branch_to code None t) ≡ 2 + size_byte bits size) refl refl refl refl refl refl refl refl refl
 
 -- one on a counter
-count-len-of : (opcode code t : ℕ) (asize : Option Bits) (bits size : Bits) → is_pair bits size ≡ true → plain_len bits (offset_row One opcode Jb 22 size) (branch_to code asize t) ≡ 2 + size_byte bits size + count_byte bits asize
+count-len-of : (opcode code t : ℕ) (asize : Option Bits) (bits size : Bits) → plain_len bits (offset_row One opcode Jb 22 size) (branch_to code asize t) ≡ 2 + size_byte bits size + address_byte bits asize
 unfolding branch_to plain_len plain_size plain_modrm plain_sib_of rm_fields fixed_rm operand_size immediate_bytes immediate_width method_of plain_front_of asked_used asked_repeat asked_rex asks_rex_w asks_r asks_x asks_b asks_66 asks_67 asked_vex asks_vex_w asked_opcode class_pp lead_bytes number_in_reg number_in_rm number_in_index number_in_vvvv number_in_opcode is_low_byte_of_rex register_number
 count-len-of opcode code t None =
-    by_pair (λ bits size. plain_len bits (offset_row One opcode Jb 22 size) (branch_to code None t) ≡ 2 + size_byte bits size + 0) refl refl refl refl refl
+    by_sizes (λ bits size. plain_len bits (offset_row One opcode Jb 22 size) (branch_to code None t) ≡ 2 + size_byte bits size + 0) refl refl refl refl refl refl refl refl refl
 count-len-of opcode code t (Some B16) =
-    by_pair (λ bits size. plain_len bits (offset_row One opcode Jb 22 size) (branch_to code (Some B16) t) ≡ 2 + size_byte bits size + count_byte bits (Some B16)) refl refl refl refl refl
+    by_sizes (λ bits size. plain_len bits (offset_row One opcode Jb 22 size) (branch_to code (Some B16) t) ≡ 2 + size_byte bits size + address_byte bits (Some B16)) refl refl refl refl refl refl refl refl refl
 count-len-of opcode code t (Some B32) =
-    by_pair (λ bits size. plain_len bits (offset_row One opcode Jb 22 size) (branch_to code (Some B32) t) ≡ 2 + size_byte bits size + count_byte bits (Some B32)) refl refl refl refl refl
+    by_sizes (λ bits size. plain_len bits (offset_row One opcode Jb 22 size) (branch_to code (Some B32) t) ≡ 2 + size_byte bits size + address_byte bits (Some B32)) refl refl refl refl refl refl refl refl refl
 count-len-of opcode code t (Some B64) =
-    by_pair (λ bits size. plain_len bits (offset_row One opcode Jb 22 size) (branch_to code (Some B64) t) ≡ 2 + size_byte bits size + count_byte bits (Some B64)) refl refl refl refl refl
+    by_sizes (λ bits size. plain_len bits (offset_row One opcode Jb 22 size) (branch_to code (Some B64) t) ≡ 2 + size_byte bits size + address_byte bits (Some B64)) refl refl refl refl refl refl refl refl refl
 
 -- JMP and CALL with an offset of the operand size
-near-len : (opcode code t : ℕ) (bits size : Bits) → is_pair bits size ≡ true → plain_len bits (offset_row One opcode Jz 20 size) (branch_to code None t) ≡ 1 + size_byte bits size + offset_bytes size
+near-len : (opcode code t : ℕ) (bits size : Bits) → plain_len bits (offset_row One opcode Jz 20 size) (branch_to code None t) ≡ 1 + size_byte bits size + offset_bytes bits size
 unfolding branch_to plain_len plain_size plain_modrm plain_sib_of rm_fields fixed_rm operand_size immediate_bytes immediate_width method_of plain_front_of asked_used asked_repeat asked_rex asks_rex_w asks_r asks_x asks_b asks_66 asks_67 asked_vex asks_vex_w asked_opcode class_pp lead_bytes number_in_reg number_in_rm number_in_index number_in_vvvv number_in_opcode is_low_byte_of_rex register_number
 near-len opcode code t =
-    by_pair (λ bits size. plain_len bits (offset_row One opcode Jz 20 size) (branch_to code None t) ≡ 1 + size_byte bits size + offset_bytes size) refl refl refl refl refl
+    by_sizes (λ bits size. plain_len bits (offset_row One opcode Jz 20 size) (branch_to code None t) ≡ 1 + size_byte bits size + offset_bytes bits size) refl refl refl refl refl refl refl refl refl
 
 -- Jcc with one
-condition-len : (opcode code t : ℕ) (bits size : Bits) → is_pair bits size ≡ true → plain_len bits (offset_row M0f opcode Jz 20 size) (branch_to code None t) ≡ 2 + size_byte bits size + offset_bytes size
+condition-len : (opcode code t : ℕ) (bits size : Bits) → plain_len bits (offset_row M0f opcode Jz 20 size) (branch_to code None t) ≡ 2 + size_byte bits size + offset_bytes bits size
 unfolding branch_to plain_len plain_size plain_modrm plain_sib_of rm_fields fixed_rm operand_size immediate_bytes immediate_width method_of plain_front_of asked_used asked_repeat asked_rex asks_rex_w asks_r asks_x asks_b asks_66 asks_67 asked_vex asks_vex_w asked_opcode class_pp lead_bytes number_in_reg number_in_rm number_in_index number_in_vvvv number_in_opcode is_low_byte_of_rex register_number
 condition-len opcode code t =
-    by_pair (λ bits size. plain_len bits (offset_row M0f opcode Jz 20 size) (branch_to code None t) ≡ 2 + size_byte bits size + offset_bytes size) refl refl refl refl refl
+    by_sizes (λ bits size. plain_len bits (offset_row M0f opcode Jz 20 size) (branch_to code None t) ≡ 2 + size_byte bits size + offset_bytes bits size) refl refl refl refl refl refl refl refl refl
 
 -- JMP and CALL through a slot
-slot-len : (digit code slot : ℕ) → plain_len B64 (memory_row digit) (through_slot code slot) ≡ 6
+slot-len : (digit code slot : ℕ) (bits : Bits) → plain_len bits (memory_row digit) (through_slot code slot) ≡ slot_bytes bits
 unfolding through_slot plain_len plain_size plain_modrm plain_sib_of rm_fields fixed_rm operand_size immediate_bytes immediate_width method_of plain_front_of asked_used asked_repeat asked_rex asks_rex_w asks_r asks_x asks_b asks_66 asks_67 asked_vex asks_vex_w asked_opcode class_pp lead_bytes number_in_reg number_in_rm number_in_index number_in_vvvv number_in_opcode is_low_byte_of_rex register_number written_size shown_size general_size pointer_size form_of address_fields alone_fields flat_fields flat_needs_sib displacement_count
-slot-len digit code slot = refl
+slot-len digit code slot B16 = refl
+slot-len digit code slot B32 = refl
+slot-len digit code slot B64 = refl
 
 -- ---- by code
 
@@ -110,38 +110,38 @@ slot-row : (bits : Bits) (row : Row) (code slot : ℕ) → slice_get table code 
 unfolding through_slot
 slot-row bits row code slot at = row-length bits row (through_slot code slot) at
 
-pub short_jump-length : (bits size : Bits) → is_pair bits size ≡ true → (t : ℕ) → plain_length bits (branch_to (short_code Jump size) None t) ≡ 2 + size_byte bits size
-short_jump-length bits size h t =
-    branch-row bits (offset_row One 0xEB Jb 20 size) (short_code Jump size) None t (short-jump size) ∙ short-len 0xEB (short_code Jump size) t bits size h
+pub short_jump-length : (bits size : Bits) → (t : ℕ) → plain_length bits (branch_to (short_code Jump size) None t) ≡ 2 + size_byte bits size
+short_jump-length bits size t =
+    branch-row bits (offset_row One 0xEB Jb 20 size) (short_code Jump size) None t (short-jump size) ∙ short-len 0xEB (short_code Jump size) t bits size
 
-pub short_condition-length : (bits size : Bits) → is_pair bits size ≡ true → (n : ℕ) → n < 16 → (t : ℕ) → plain_length bits (branch_to (short_code (Condition n) size) None t) ≡ 2 + size_byte bits size
-short_condition-length bits size h n lt t =
+pub short_condition-length : (bits size : Bits) → (n : ℕ) → n < 16 → (t : ℕ) → plain_length bits (branch_to (short_code (Condition n) size) None t) ≡ 2 + size_byte bits size
+short_condition-length bits size n lt t =
     branch-row bits (offset_row One (0x70 + n) Jb 20 size) (short_code (Condition n) size) None t (short-condition n size lt)
-    ∙ short-len (0x70 + n) (short_code (Condition n) size) t bits size h
+    ∙ short-len (0x70 + n) (short_code (Condition n) size) t bits size
 
-pub short_count-length : (bits size : Bits) → is_pair bits size ≡ true → (n : ℕ) → n < 4 → (asize : Option Bits) (t : ℕ) → plain_length bits (branch_to (short_code (Count n) size) asize t) ≡ 2 + size_byte bits size + count_byte bits asize
-short_count-length bits size h n lt asize t =
+pub short_count-length : (bits size : Bits) → (n : ℕ) → n < 4 → (asize : Option Bits) (t : ℕ) → plain_length bits (branch_to (short_code (Count n) size) asize t) ≡ 2 + size_byte bits size + address_byte bits asize
+short_count-length bits size n lt asize t =
     branch-row bits (offset_row One (0xE0 + n) Jb 22 size) (short_code (Count n) size) asize t (short-count n size lt)
-    ∙ count-len-of (0xE0 + n) (short_code (Count n) size) t asize bits size h
+    ∙ count-len-of (0xE0 + n) (short_code (Count n) size) t asize bits size
 
-pub near_jump-length : (bits size : Bits) → is_pair bits size ≡ true → (t : ℕ) → plain_length bits (branch_to (near_code Jump size) None t) ≡ 1 + size_byte bits size + offset_bytes size
-near_jump-length bits size h t =
-    branch-row bits (offset_row One 0xE9 Jz 20 size) (near_code Jump size) None t (near-jump size) ∙ near-len 0xE9 (near_code Jump size) t bits size h
+pub near_jump-length : (bits size : Bits) → (t : ℕ) → plain_length bits (branch_to (near_code Jump size) None t) ≡ 1 + size_byte bits size + offset_bytes bits size
+near_jump-length bits size t =
+    branch-row bits (offset_row One 0xE9 Jz 20 size) (near_code Jump size) None t (near-jump size) ∙ near-len 0xE9 (near_code Jump size) t bits size
 
-pub near_call-length : (bits size : Bits) → is_pair bits size ≡ true → (t : ℕ) → plain_length bits (branch_to (near_code Call size) None t) ≡ 1 + size_byte bits size + offset_bytes size
-near_call-length bits size h t =
-    branch-row bits (offset_row One 0xE8 Jz 20 size) (near_code Call size) None t (near-call size) ∙ near-len 0xE8 (near_code Call size) t bits size h
+pub near_call-length : (bits size : Bits) → (t : ℕ) → plain_length bits (branch_to (near_code Call size) None t) ≡ 1 + size_byte bits size + offset_bytes bits size
+near_call-length bits size t =
+    branch-row bits (offset_row One 0xE8 Jz 20 size) (near_code Call size) None t (near-call size) ∙ near-len 0xE8 (near_code Call size) t bits size
 
-pub near_condition-length : (bits size : Bits) → is_pair bits size ≡ true → (n : ℕ) → n < 16 → (t : ℕ) → plain_length bits (branch_to (near_code (Condition n) size) None t) ≡ 2 + size_byte bits size + offset_bytes size
-near_condition-length bits size h n lt t =
+pub near_condition-length : (bits size : Bits) → (n : ℕ) → n < 16 → (t : ℕ) → plain_length bits (branch_to (near_code (Condition n) size) None t) ≡ 2 + size_byte bits size + offset_bytes bits size
+near_condition-length bits size n lt t =
     branch-row bits (offset_row M0f (0x80 + n) Jz 20 size) (near_code (Condition n) size) None t (near-condition n size lt)
-    ∙ condition-len (0x80 + n) (near_code (Condition n) size) t bits size h
+    ∙ condition-len (0x80 + n) (near_code (Condition n) size) t bits size
 
-pub slot_call-length : (slot : ℕ) → plain_length B64 (through_slot (far_code Call) slot) ≡ 6
-slot_call-length slot = slot-row B64 (memory_row 2) (far_code Call) slot far-call ∙ slot-len 2 (far_code Call) slot
+pub slot_call-length : (bits : Bits) (slot : ℕ) → plain_length bits (through_slot (far_code Call) slot) ≡ slot_bytes bits
+slot_call-length bits slot = slot-row bits (memory_row 2) (far_code Call) slot far-call ∙ slot-len 2 (far_code Call) slot bits
 
-pub slot_jump-length : (slot : ℕ) → plain_length B64 (through_slot (far_code Jump) slot) ≡ 6
-slot_jump-length slot = slot-row B64 (memory_row 4) (far_code Jump) slot far-jump ∙ slot-len 4 (far_code Jump) slot
+pub slot_jump-length : (bits : Bits) (slot : ℕ) → plain_length bits (through_slot (far_code Jump) slot) ≡ slot_bytes bits
+slot_jump-length bits slot = slot-row bits (memory_row 4) (far_code Jump) slot far-jump ∙ slot-len 4 (far_code Jump) slot bits
 
 pub inverted-small : (n : ℕ) → n < 16 → inverted n < 16
 unfolding inverted

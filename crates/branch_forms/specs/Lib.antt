@@ -2,3 +2,4 @@ pub mod Branches
 pub mod Rows
 pub mod Images
 pub mod Choices
+pub mod Lengths

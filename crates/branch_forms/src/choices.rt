@@ -1,13 +1,16 @@
 //! The forms that a moved instruction may take.
 
 ghost use Rattle.std.specs.Prelude.{◌≡◌, ◌≤◌, ◌++◌, length, map};
+ghost use Rattle.branch_forms.specs.Branches.{branch_of};
 ghost use Rattle.x86_values.specs.Wrapping.{width as bits_of};
 ghost use Rattle.branch_forms.specs.Choices as spec;
 
 use crate::branch::{Action, RelativeBranch, branch_of};
-use crate::image::{bridge_inner, form_length};
+use crate::form_lengths::branch_length;
+use crate::image::bridge_inner;
 use arrayvec::ArrayVec;
 use branch_sizes::{Choice, Form, Reach};
+use moved_targets::plain_length;
 use x86_values::{Bits, Instr};
 
 /// The number of bits that a size says.
@@ -61,11 +64,12 @@ fn form_reach(bits: Bits, branch: RelativeBranch, asize: Option<Bits>, form: For
 
 /// The choice of a form by a relative branch.
 fn branch_choice(bits: Bits, instr: &Instr, branch: RelativeBranch, form: Form) -> Choice
+    requires { branch_of instr.now ≡ Some branch }
     ensures { result ≡ spec.branch_choice bits instr.now branch form }
 {
     Choice {
         form,
-        len: form_length(bits, instr, form),
+        len: branch_length(bits, instr, branch, form),
         reach: form_reach(bits, branch, instr.asize, form),
     }
 }
@@ -78,7 +82,8 @@ fn choices_with(
     forms: &[Form],
     last: Form,
 ) -> ArrayVec<Choice, 3>
-    requires { length forms.now ≤ 2 }
+    requires branch { branch_of instr.now ≡ Some branch }
+    requires few { length forms.now ≤ 2 }
     ensures { result.items ≡ map (spec.branch_choice bits instr.now branch) (forms.now ++ spec.in_64 bits last) }
 {
     let mut choices = ArrayVec::new();
@@ -94,6 +99,7 @@ fn choices_with(
 /// The choices of a relative branch: one on a counter has no near form, but a bridge onto a near jump; what is near stays near.
 #[tactic(auto, unfolding(crate::specs::Choices::branch_forms))]
 fn branch_choices(bits: Bits, instr: &Instr, branch: RelativeBranch) -> ArrayVec<Choice, 3>
+    requires { branch_of instr.now ≡ Some branch }
     ensures { result.items ≡ map (spec.branch_choice bits instr.now branch) (spec.branch_forms bits branch.action branch.is_short) }
 {
     match branch.action {
@@ -118,12 +124,13 @@ fn branch_choices(bits: Bits, instr: &Instr, branch: RelativeBranch) -> ArrayVec
 /// The choice of what is no relative branch.
 #[inline]
 fn own_choice(bits: Bits, instr: &Instr) -> ArrayVec<Choice, 3>
+    requires { branch_of instr.now ≡ None }
     ensures { result.items ≡ spec.choices_by bits instr.now None }
 {
     let mut choices = ArrayVec::new();
     choices.push(Choice {
         form: Form::Itself,
-        len: form_length(bits, instr, Form::Itself),
+        len: plain_length(bits, instr),
         reach: Reach::Always,
     });
     choices

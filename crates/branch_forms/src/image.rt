@@ -55,7 +55,7 @@ fn through_slot(code: u16, slot: u64) -> Instr
 
 /// The address size that a branch keeps: that of a branch on a counter, which says how wide the counter is.
 #[tactic(auto, unfolding(crate::specs::Images::counter_size))]
-fn counter_size(action: Action, asize: Option<Bits>) -> Option<Bits>
+pub(crate) fn counter_size(action: Action, asize: Option<Bits>) -> Option<Bits>
     ensures { result ≡ spec.counter_size action asize }
 {
     match action {
@@ -173,24 +173,4 @@ pub fn image_of(bits: Bits, instr: &Instr, form: Form, place: u64, goal: u64, sl
         None => Image::One(aimed(instr, goal)),
         Some(branch) => branch_image(bits, instr, branch, form, place, goal, slot),
     }
-}
-
-/// How many bytes the plain spellings of an image have.
-fn image_length(bits: Bits, image: &Image) -> u8
-    ensures { result ≡ spec.pieces_length bits (spec.instrs_of image.now) }
-{
-    match image {
-        Image::One(a) => plain_length(bits, a),
-        Image::Two(a, b) => plain_length(bits, a) + plain_length(bits, b),
-        Image::Three(a, b, c) => plain_length(bits, a)
-            + (plain_length(bits, b) + plain_length(bits, c)),
-    }
-}
-
-/// How many bytes the image of an instruction in a form has, wherever it stands and is aimed.
-#[tactic(auto, unfolding(crate::specs::Images::form_length))]
-pub fn form_length(bits: Bits, instr: &Instr, form: Form) -> u8
-    ensures { result ≡ spec.form_length bits instr.now form }
-{
-    image_length(bits, &image_of(bits, instr, form, 0, 0, 0))
 }

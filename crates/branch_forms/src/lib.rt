@@ -4,6 +4,7 @@
 
 mod branch;
 mod choices;
+mod form_lengths;
 mod image;
 pub mod laws;
 

@@ -1,12 +1,13 @@
 -- Which item of a block began at an address.
-use Rattle.std.proofs.Common.{◌≡◌, ℕ, ◌<◌, ◌≤◌, false, ◌&&◌, List, length, Some, None, inl, inr, arith}
+use Rattle.std.proofs.Common.{◌≡◌, ℕ, ◌-◌, ◌<◌, ◌≤◌, true, false, ◌&&◌, List, length, Some, None, inl, inr, arith, refl, sym, ap, ◌∙◌}
 use Rattle.std.proofs.lemmas.Bool.{cases_lt, and_parts, false_from_ne_true, leb-true, ltb-true, le-leb, lt-ltb, eqb-true, eq-eqb}
 use Rattle.std.specs.Prelude.{nat_le, nat_lt}
+use Rattle.branch_sizes.specs.declared.plan.Goal.TheVariants.{Outside}
 use Rattle.move_goals.specs.declared.items.Placed.{Placed}
-use Rattle.move_goals.specs.Items.{item_at}
-use Rattle.move_goals.specs.Goals.{begins_at}
-use Rattle.move_goals.specs.Starts.{Ascend, is_between, first_between}
-use Rattle.move_goals.proofs.First.{first_below_none, first_below_hit}
+use Rattle.move_goals.specs.Items.{first_below, item_at}
+use Rattle.move_goals.specs.Goals.{begins_at, goal_among}
+use Rattle.move_goals.specs.Starts.{Ascend, is_between, first_between, goal_between}
+use Rattle.move_goals.proofs.First.{first_below_none, first_below_hit, first_below_congr}
 
 module _ (items : List Placed) (from to t : ℕ) where
   -- an item fails the test where it does not begin at the address
@@ -34,3 +35,17 @@ module _ (items : List Placed) (from to t : ℕ) where
       first_below_hit (λ j. is_between from to j && begins_at items t j) (length items) k (omega arith)
       (rw (le-leb from k fk, lt-ltb k to kt) (eq-eqb (item_at items k).ip t e))
       (λ j lt. fails j (λ a b h. omega (arith, ascend.each j k a lt kt, e, h)))
+
+  -- none of all items began there, where all are among them
+  none_at_all : to ≤ length items → to - from ≡ length items → first_between items from to t ≡ None → first_below (begins_at items t) (length items) ≡ None
+  none_at_all le all none =
+      first_below_congr (begins_at items t) (λ j. is_between from to j && begins_at items t j) (length items)
+      (λ j lt. sym (ap (λ b. b && begins_at items t j) (inside j (omega arith) (omega arith)))) ∙ none
+    where
+      inside : (j : ℕ) → from ≤ j → j < to → is_between from to j ≡ true
+      inside j a b = rw (le-leb from j a, lt-ltb j to b) refl
+
+  -- then the target stays
+  pub stays : to ≤ length items → to - from ≡ length items → first_between items from to t ≡ None → Outside t ≡ goal_between items from to t
+  stays le all none =
+      sym (ap (λ o. goal_among o (first_below (begins_at items t) (length items)) t) none ∙ ap (λ o. goal_among None o t) (none_at_all le all none))

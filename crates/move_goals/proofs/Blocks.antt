@@ -39,6 +39,16 @@ module _ (items : List Placed) (spans : List BlockSpan) (s : AreSpansOf items sp
     pub end_below : start + (span_at spans b).count ≤ length items
     end_below = omega (arith, e, total_rises (λ n. (span_at spans n).count) (suc b) (length spans) bl, first_of_end spans, s.counts)
 
+    -- where a block has not all items there is another one
+    pub other_block : start + (span_at spans b).count - start < length items → 1 < length spans
+    other_block less =
+        elim (cases_lt 1 (length spans)) [
+          | inl more ↦ more
+          | inr few ↦
+              let first : b ≡ 0 = omega arith in
+              absurd (omega (arith, less, e, end_is (suc b) (omega (arith, bl)), ap (first_of_block spans) first))
+        ]
+
     -- where its items have their first item
     first_is : (k : ℕ) → start ≤ k → k < start + (span_at spans b).count → first_of_block spans (block_number spans k) ≡ start
     first_is k le lt = ap (first_of_block spans) (block_at spans b k bl (omega (arith, e)) (omega (arith, e))) ∙ sym e

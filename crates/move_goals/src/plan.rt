@@ -1,6 +1,6 @@
 //! The plan of some moved blocks.
 
-ghost use Rattle.std.specs.Prelude.{◌≡◌, ◌<◌, ◌≤◌, None, IfOk, length};
+ghost use Rattle.std.specs.Prelude.{◌≡◌, ◌-◌, ◌<◌, ◌≤◌, None, IfOk, length};
 ghost use Rattle.move_goals.specs.Items as old;
 ghost use Rattle.move_goals.specs.Plan as spec;
 ghost use Rattle.move_goals.specs.Starts.{AreStartsBelow, Ascend};
@@ -23,7 +23,7 @@ fn branch_between(
     k: usize,
 ) -> Branch
     requires few { length items.now ≤ 65536 }
-    requires starts { AreStartsBelow items.now (length items.now) starts.now }
+    requires starts { to - from < length items.now → AreStartsBelow items.now (length items.now) starts.now }
     requires order { from ≤ to }
     requires end { to ≤ length items.now }
     requires ascend { Ascend items.now from to }
@@ -50,7 +50,7 @@ fn branches_of(
     requires order { old.first_disorder spans.now items.now ≡ None }
     ensures { IfOk result (λ branches. branches.items ≡ (spec.plan_for bits spans.now items.now).items) }
 {
-    let starts = starts_of(alloc, items)?;
+    let starts = starts_of(alloc, items, spans)?;
     let mut branches = Vec::with_capacity(alloc, items.len())?;
     let mut from: usize = 0;
     for span in spans {

@@ -1,22 +1,29 @@
 //! Which item began at an address.
 
-ghost use Rattle.std.specs.Prelude.{◌≡◌, ◌≤◌, IfOk, length};
+ghost use Rattle.std.specs.Prelude.{◌≡◌, ◌-◌, ◌<◌, ◌≤◌, IfOk, length};
 ghost use Rattle.move_goals.specs.Starts.{AreStartsBelow, Ascend, first_between, goal_between, goal_in};
 
 use crate::items::Placed;
-use branch_sizes::Goal;
+use branch_sizes::{BlockSpan, Goal};
 use std::alloc::{AllocError, Global};
 use std::collections::BTreeMap;
 
 /// At each old address the number of the first item that began there.
 pub(crate) type Starts = BTreeMap<u64, u32>;
 
-/// The old starts of some items, at most 65,536.
-pub(crate) fn starts_of(alloc: Global, items: &[Placed]) -> Result<Starts, AllocError>
+/// The old starts of the items of several blocks, at most 65,536 items. Of one block there are none: it has no other block's items.
+pub(crate) fn starts_of(
+    alloc: Global,
+    items: &[Placed],
+    spans: &[BlockSpan],
+) -> Result<Starts, AllocError>
     requires { length items.now ≤ 65536 }
-    ensures { IfOk result (λ starts. AreStartsBelow items.now (length items.now) starts) }
+    ensures { IfOk result (λ starts. 1 < length spans.now → AreStartsBelow items.now (length items.now) starts) }
 {
     let mut starts = BTreeMap::new(alloc);
+    if spans.len() < 2 {
+        return Ok(starts);
+    }
     'items: for k in 0..items.len() {
         let start = items[k].ip;
         if !starts.contains_key(&start) {
@@ -55,7 +62,7 @@ fn item_between(items: &[Placed], from: usize, to: usize, target: u64) -> Option
 /// stays.
 fn goal_between(items: &[Placed], starts: &Starts, from: usize, to: usize, target: u64) -> Goal
     requires few { length items.now ≤ 65536 }
-    requires starts { AreStartsBelow items.now (length items.now) starts.now }
+    requires starts { to - from < length items.now → AreStartsBelow items.now (length items.now) starts.now }
     requires order { from ≤ to }
     requires end { to ≤ length items.now }
     requires ascend { Ascend items.now from to }
@@ -63,6 +70,9 @@ fn goal_between(items: &[Placed], starts: &Starts, from: usize, to: usize, targe
 {
     if let Some(j) = item_between(items, from, to, target) {
         return Goal::Inside(j);
+    }
+    if to - from == items.len() {
+        return Goal::Outside(target);
     }
     match starts.get(&target) {
         Some(j) => Goal::Inside(*j),
@@ -79,7 +89,7 @@ pub(crate) fn goal_in(
     target: Option<u64>,
 ) -> Goal
     requires few { length items.now ≤ 65536 }
-    requires starts { AreStartsBelow items.now (length items.now) starts.now }
+    requires starts { to - from < length items.now → AreStartsBelow items.now (length items.now) starts.now }
     requires order { from ≤ to }
     requires end { to ≤ length items.now }
     requires ascend { Ascend items.now from to }

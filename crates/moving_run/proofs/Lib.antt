@@ -5,5 +5,6 @@ pub mod Order
 pub mod Wholes
 pub mod Unique
 pub mod Completing
+pub mod ReadBack
 pub mod Moved
 pub mod MapLines

@@ -17,6 +17,7 @@ use Rattle.moving_run.specs.Code.{all_placed, all_spans}
 use Rattle.moving_run.specs.Ends.{first_pass}
 use Rattle.moving_run.specs.Moving.{MovesInput, MovesCode, RefusesCode, IsRefusal, MovesAs, wanted_text}
 use Rattle.moving_run.specs.Read.{IsCode}
+use Rattle.moving_run.proofs.ReadBack.{reads_back}
 use Rattle.moving_run.proofs.Reading.{first_items-few}
 use Rattle.moving_run.proofs.Wholes.{spans_of, are_placed, no_disorder, ends_are}
 
@@ -90,13 +91,15 @@ forms_length bits words bytes placed m h =
     ap length h.is_moved.lists.forms ∙ (length-map-range_with_len _ 0 (length items) ∙ ap length (sym h.placed_is))
 
 -- what is written of them
-pub moves_code : (wanted : Wanted) (bits : Bits) (words : List BlockWords) (bytes : List ℕ) (placed : List Placed) (m : MovedLists) →
+pub moves_code : (wanted : Wanted) (bits : Bits) (words : List BlockWords) (bytes : List ℕ) (placed : List Placed) (m : MovedLists) → length words ≤ 16 →
     MovesInput bits words bytes placed m → MovesCode wanted bits words bytes (wanted_text wanted bits placed m)
-moves_code wanted bits words bytes placed m h = record {
+moves_code wanted bits words bytes placed m few h = record {
   items = h.items;
   swept = h.swept;
   moved = m;
   is_moved = h.is_moved;
+  read_back = reads_back bits (all_placed words h.items) (all_spans words h.items) (spans_of bits words bytes h.items h.swept few)
+      (are_placed bits words bytes h.items h.swept) m h.is_moved;
   text_is = ap (λ (items : List Placed). wanted_text wanted bits items m) h.placed_is;
 }
 

@@ -3,9 +3,14 @@ use Rattle.std.specs.Prelude.{◌≡◌, ◌⊎◌, ℕ, ◌<◌, ◌≤◌, Lis
 use Rattle.x86_values.specs.declared.Bits.{Bits}
 use Rattle.opcode_rows.specs.Sweep.{Item}
 use Rattle.byte_ports.specs.Ports.{with_back}
+use Rattle.branch_sizes.specs.declared.plan.BlockSpan.{BlockSpan}
+use Rattle.branch_sizes.specs.Layout.{block_number}
 use Rattle.move_goals.specs.declared.items.Placed.{Placed}
+use Rattle.move_goals.specs.Plan.{plan_for}
 use Rattle.block_encoder.specs.declared.error.MoveError.TheVariants as error
+use Rattle.block_encoder.specs.Aims.{StandsAtPlace, GoesToGoal}
 use Rattle.block_encoder.specs.Moved.{MovedLists, IsMoved, IsRefused}
+use Rattle.block_encoder.specs.Read.{IsReadAsImages}
 use Rattle.command_words.specs.declared.commands.BlockWords.{BlockWords}
 use Rattle.run_parts.specs.declared.status.Status.{Status}
 use Rattle.run_parts.specs.declared.status.Status.TheVariants.{Done, BadCode, ReadFault, WriteFault, Memory, TooLarge, Wraps, TooFar, TooMany}
@@ -21,12 +26,20 @@ abbrev pub wanted_text : Wanted → Bits → List Placed → MovedLists → List
 wanted_text MovedBytes bits items m = m.bytes
 wanted_text MapLines bits items m = map_lines bits items m.starts m.forms (length items)
 
--- the blocks of the input have instructions alone, and are moved
+-- Moved blocks are read as they were written: of each block the sweep from its new base of the bytes before its gap gives the instructions of the images
+-- in order, with their lengths; each image stands at its place and goes to the goal of its item.
+pub record IsReadBack (bits : Bits) (items : List Placed) (spans : List BlockSpan) (layout : List ℕ) : Type 0 where
+  pub blocks : (b : ℕ) → b < length spans → IsReadAsImages bits items (plan_for bits spans items) layout b
+  pub places : (k : ℕ) → k < length items → StandsAtPlace bits items (plan_for bits spans items) layout (block_number spans k) k
+  pub goals : (k : ℕ) → k < length items → GoesToGoal bits items (plan_for bits spans items) layout (block_number spans k) k
+
+-- the blocks of the input have instructions alone, and are moved; what is written is read back as the images
 pub record MovesCode (wanted : Wanted) (bits : Bits) (words : List BlockWords) (bytes text : List ℕ) : Type 0 where
   pub items : List (List Item)
   pub swept : AreSwept bits words bytes items
   pub moved : MovedLists
   pub is_moved : IsMoved bits (all_placed words items) (all_spans words items) moved
+  pub read_back : IsReadBack bits (all_placed words items) (all_spans words items) is_moved.layout
   pub text_is : text ≡ wanted_text wanted bits (all_placed words items) moved
 
 -- the blocks of the input have instructions alone, and their moving is refused

@@ -1,7 +1,7 @@
 use Rattle.std.proofs.Common.{◌≡◌, arith, ap, map, ◌∙◌, length}
 use Rattle.std.specs.List.{range_with_len}
 use Rattle.move_goals.specs.Plan.{branch_at, plan_for}
-use Rattle.move_goals.proofs.Blocks.{end_is, end_below}
+use Rattle.move_goals.proofs.Blocks.{end_is, end_below, other_block}
 use Rattle.move_goals.proofs.Aims.{ascend}
 use Rattle.move_goals.proofs.Planned.{one_more, planned_item}
 use Rattle.move_goals.proofs.plan.branches_of.Goals as goal
@@ -9,6 +9,13 @@ use Rattle.move_goals.proofs.plan.branches_of.Goals as goal
 pub overflow_add-to : goal.overflow_add-to
 overflow_add-to c =
     omega (arith, end_below c.args.items.now c.args.spans.now c.requires.spans c.loop-span.span-index c.loop-span.from c.loop-span-test.true c.loop-span.invariant.from_is)
+
+pub branch_between-requires-clause-starts : goal.branch_between-requires-clause-starts
+branch_between-requires-clause-starts c = λ less.
+    let to_is = c.items.invariant.to_is in
+    c.in_ok-starts.ensures
+    (other_block c.args.items.now c.args.spans.now c.requires.spans c.loop-span.span-index c.loop-span.from c.loop-span-test.true c.loop-span.invariant.from_is
+    (omega (arith, less)))
 
 pub branch_between-requires-clause-end : goal.branch_between-requires-clause-end
 branch_between-requires-clause-end c =

@@ -19,13 +19,31 @@ write_wanted-requires-clause-starts g c = rw c.deref-2.ensures.value (starts_len
 pub write_wanted-requires-clause-forms : goal.write_wanted-requires-clause-forms
 write_wanted-requires-clause-forms g c = rw c.deref-2.ensures.value (forms_length _ _ _ _ _ c.in-Ok-move_input.ensures)
 
+pub returns-in-Ok-write_wanted-clause-answer : goal.returns-in-Ok-write_wanted-clause-answer
+unfolding whole_limit
+returns-in-Ok-write_wanted-clause-answer g c =
+    let reads = c.in-Ok.ensures.ok in
+    let moved = rw c.deref.ensures.value at c.in-Ok-move_input.ensures in
+    let written = rw c.deref-2.ensures.value at c.in-Ok-write_wanted.ensures.ok in
+    let code = moves_code c.args.wanted _ _ _ _ _ c.requires.few moved in
+    (c.in-Ok.input.items, (reads, (_, (code, written))))
+
+pub returns-clause-answer : goal.returns-clause-answer
+unfolding whole_limit
+returns-clause-answer g c =
+    let reads = c.in-Ok.ensures.ok in
+    let moved = rw c.deref.ensures.value at c.in-Ok-move_input.ensures in
+    let front = rw c.deref-2.ensures.value at c.in-Err-write_wanted.ensures.err in
+    let code = moves_code c.args.wanted _ _ _ _ _ c.requires.few moved in
+    (c.in-Err-write_wanted.ensures.cause.failed refl, (c.in-Ok.input.items, (reads, (_, (code, front)))))
+
 pub returns-in-Ok-write_wanted-clause-complete : goal.returns-in-Ok-write_wanted-clause-complete
 unfolding whole_limit
 returns-in-Ok-write_wanted-clause-complete g c =
     let reads = c.in-Ok.ensures.ok in
     let moved = rw c.deref.ensures.value at c.in-Ok-move_input.ensures in
     let written = rw c.deref-2.ensures.value at c.in-Ok-write_wanted.ensures.ok in
-    let code = moves_code c.args.wanted _ _ _ _ _ moved in
+    let code = moves_code c.args.wanted _ _ _ _ _ c.requires.few moved in
     completes
     c.args.wanted
     _

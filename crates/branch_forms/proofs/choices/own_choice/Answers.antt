@@ -1,0 +1,11 @@
+use Rattle.std.proofs.Common.{◌≡◌, rules, sym, ◌∙◌}
+use Rattle.branch_sizes.specs.declared.plan.Form.TheVariants.{Itself}
+use Rattle.branch_forms.specs.Images.{form_length}
+use Rattle.branch_forms.proofs.Lengths.{other-length}
+use Rattle.branch_forms.proofs.choices.own_choice.Goals as goal
+
+pub returns : goal.returns
+returns c =
+    let long : c.plain_length.result ≡ form_length c.args.bits c.args.instr.now Itself =
+    c.plain_length.ensures.value ∙ sym (other-length c.args.bits c.args.instr.now Itself c.requires) in
+    rw (← long) (search rules)
