@@ -40,12 +40,12 @@ class Instruction:
         self.flow = flow
         self.length, self.text = listed if listed else (None, None)
 
-    def line(self, digits):
-        """The line of the box."""
+    def line(self, width):
+        """The line of the box, with the address in so many places."""
         text = self.text if self.text is not None else "(not in the listing)"
         if self.flow in ("invalid", "too short"):
             text += f"  ({self.flow})"
-        return f"{self.address:0{digits}x}  {text}"
+        return f"{self.address:0{width}x}  {text}"
 
     def edges(self, space):
         """The addresses to which control may go from here, each with the kind of the edge."""
@@ -99,8 +99,9 @@ def dot(blocks, digits):
         '  edge [arrowsize="0.7"];',
     ]
     space = 16**digits
+    width = max((len(f"{i.address:x}") for block in blocks.values() for i in block), default=0)
     for leader, instructions in blocks.items():
-        label = "".join(escaped(i.line(digits)) + "\\l" for i in instructions)
+        label = "".join(escaped(i.line(width)) + "\\l" for i in instructions)
         border = ' style="dashed"' if any(i.text is None for i in instructions) else ""
         lines.append(f'  b{leader:x} [label="{label}"{border}];')
         followers = {i.address for i in instructions[1:]}
