@@ -7,7 +7,7 @@ use Rattle.std.proofs.lemmas.List.Elements.{All-nil, All-cons, All-append, All-g
 use Rattle.byte_ports.specs.Ports.{with_back}
 use Rattle.x86_values.specs.declared.Bits.{Bits}
 use Rattle.flow_graph.specs.Control.{CodeBytes, IsReadIn, code_bytes}
-use Rattle.flow_graph.specs.Reached.{Reaches, start, step}
+use Rattle.flow_graph.specs.Reached.{Reaches, start as entry, step as further}
 use Rattle.flow_graph.specs.Graphs.{Graph, IsFlowGraph}
 use Rattle.run_parts.specs.Writing.{HoldsFront}
 use Rattle.run_parts.proofs.Held.{Held, held-start, held-step, held-end, held-failed}
@@ -17,8 +17,8 @@ use Rattle.flow_run.specs.Flowing.{WritesFlow, WritesFlowFront}
 
 -- a reached offset has a byte
 reached_inside : (code : CodeBytes) (q : ℕ) → Reaches code q → q < length code.bytes
-reached_inside code _ (start h) = h
-reached_inside code _ (step p q h s) = s.inside
+reached_inside code _ (entry h) = h
+reached_inside code _ (further p q h s) = s.inside
 
 pub start_inside : (code : CodeBytes) (graph : Graph) (k : ℕ) → IsFlowGraph code graph → k < length graph.starts →
     get_or graph.starts k 0 ≤ length code.bytes

@@ -1,4 +1,4 @@
-use Rattle.std.proofs.Common.{◌≡◌, arith}
+use Rattle.std.proofs.Common.{◌≡◌, length, ap, arith}
 use Rattle.byte_ports.specs.Ports.{with_back}
 use Rattle.std.proofs.lemmas.Result.{err_from_is_err_and, on_err_weaker, on_ok_weaker}
 use Rattle.run_parts.specs.Writing.{HoldsFront}
@@ -15,9 +15,10 @@ loop-k-init g c = record {
 pub loop-k-preserved : goal.loop-k-preserved
 loop-k-preserved g c =
     let later = c.write_flow_line.ensures.cause.later in
-    let written = c.in_ok-write_flow_line.ensures.ok in
+    let written = rw (c.starts-starts.ensures, c.leaders-leaders.ensures.leaders) at c.in_ok-write_flow_line.ensures.ok in
+    let below = rw c.starts-starts.ensures at c.loop-k-test.true in
     record {
-      progress = progress-step _ _ c.loop-k.k _ (g.K.Sink.held c.loop-k.out) _ c.loop-k.pending.items _ c.requires c.loop-k-test.true c.loop-k.invariant.progress written;
+      progress = progress-step _ _ c.loop-k.k _ (g.K.Sink.held c.loop-k.out) _ c.loop-k.pending.items _ c.requires below c.loop-k.invariant.progress written;
       later = omega (arith, c.loop-k.invariant.later);
     }
 
@@ -37,5 +38,5 @@ pub returns-clause-ok : goal.returns-clause-ok
 returns-clause-ok g c =
     let whole : g.K.Sink.held c.put_all.new.out ≡ with_back (g.K.Sink.held c.loop-k.out) c.deref.result.now → WritesFlow c.args.bits c.args.base c.args.bytes.now (g.K.Sink.held c.args.out.now) (g.K.Sink.held c.put_all.new.out)
     = λ all.
-    progress-end _ _ _ _ c.loop-k.k _ (g.K.Sink.held c.loop-k.out) _ c.loop-k.pending.items c.requires (omega (arith, c.loop-k.auto.k-end, c.loop-k-test.false)) c.loop-k.invariant.progress (rw c.deref.ensures.0 at all) in
+    progress-end _ _ _ _ c.loop-k.k _ (g.K.Sink.held c.loop-k.out) _ c.loop-k.pending.items c.requires (omega (arith, ap length c.starts-starts.ensures, c.loop-k.auto.k-end, c.loop-k-test.false)) c.loop-k.invariant.progress (rw c.deref.ensures.0 at all) in
     on_ok_weaker c.put_all.result whole c.put_all.ensures.ok
