@@ -75,7 +75,14 @@ fn write_flow_line<K: Sink>(
     let (_, rest) = bytes.split_at(at);
     let reading = read_at(bits, base, at, rest);
     make_room(pending, out)?;
-    append_flow_line(pending, bits, base, at, leader as usize, flow_word(&reading));
+    append_flow_line(
+        pending,
+        bits,
+        base,
+        at,
+        leader as usize,
+        flow_word(&reading),
+    );
     Ok(())
 }
 

@@ -29,7 +29,11 @@ fn each_reached_offset_has_its_line(rt: HostRuntime) -> Result<(), Fail> {
             0000000000000002 0000000000000000 Return\n",
         ),
         // nop; push es, which 64-bit mode does not have
-        ("flow 32 0", "9006", "00000000 00000000 Next\n00000001 00000000 Next\n"),
+        (
+            "flow 32 0",
+            "9006",
+            "00000000 00000000 Next\n00000001 00000000 Next\n",
+        ),
         (
             "flow 64 0",
             "9006",
@@ -44,7 +48,11 @@ fn each_reached_offset_has_its_line(rt: HostRuntime) -> Result<(), Fail> {
             00007f0000001001 00007f0000001000 IndirectCall\n\
             00007f0000001003 00007f0000001000 Exception\n",
         ),
-        ("flow 32 1000", "ffe090", "00001000 00001000 IndirectBranch\n"),
+        (
+            "flow 32 1000",
+            "ffe090",
+            "00001000 00001000 IndirectBranch\n",
+        ),
     ] {
         let input = hex::decode(rt.alloc(), input)?;
         expect(&rt, command, &input, Status::Done, written.as_bytes(), "")?;
@@ -186,7 +194,14 @@ fn flow_that_is_refused_leaves_nothing(rt: HostRuntime) -> Result<(), Fail> {
     flood.resize(1_048_577, 0xc3)?;
     let limit = 1_048_576;
     let line = "input over 1048576 bytes\n";
-    expect(&rt, "flow 64 0", &flood, Status::TooLarge { limit }, &[], line)
+    expect(
+        &rt,
+        "flow 64 0",
+        &flood,
+        Status::TooLarge { limit },
+        &[],
+        line,
+    )
 }
 
 #[test]
