@@ -9,10 +9,10 @@ use Rattle.x86_values.specs.Wrapping.{width}
 use Rattle.sweep_text.specs.declared.syntax.Syntax.{Syntax}
 use Rattle.sweep_text.specs.declared.syntax.Syntax.TheVariants.{Intel, Att, Masm}
 use Rattle.command_words.specs.declared.commands.Command.{Command}
-use Rattle.command_words.specs.declared.commands.Command.TheVariants.{Help, Version, List as ListCommand, Info, Recode, Move, Map, Blocks, Rows, Wrong}
+use Rattle.command_words.specs.declared.commands.Command.TheVariants.{Help, Version, List as ListCommand, Info, Recode, Flow, Move, Map, Blocks, Rows, Wrong}
 use Rattle.command_words.specs.declared.commands.BlockWords.{BlockWords}
 use Rattle.command_words.specs.declared.commands.Through.{Through}
-use Rattle.command_words.specs.declared.commands.Through.TheVariants.{List as ThroughList, Info as ThroughInfo, Recode as ThroughRecode, Move as ThroughMove, Map as ThroughMap}
+use Rattle.command_words.specs.declared.commands.Through.TheVariants.{List as ThroughList, Info as ThroughInfo, Recode as ThroughRecode, Flow as ThroughFlow, Move as ThroughMove, Map as ThroughMap}
 
 -- the texts of some words
 abbrev pub texts : List (Bor (List ℕ)) → List (List ℕ)
@@ -108,6 +108,7 @@ unfoldable pub code_end : Through → Bits → ℕ → List (List ℕ) → Comma
 code_end ThroughList bits base words = list_style bits base words
 code_end ThroughInfo bits base words = at_end words 4 (Info bits base)
 code_end ThroughRecode bits base words = recode_words bits base words
+code_end ThroughFlow bits base words = at_end words 4 (Flow bits base)
 code_end ThroughMove bits base words = move_end bits base (new_words bits words)
 code_end ThroughMap bits base words = map_end bits base (new_words bits words)
 
@@ -179,9 +180,10 @@ command_of (name ∷ words) =
     if same_text name (codes "list") then code_words ThroughList words
     else (if same_text name (codes "info") then code_words ThroughInfo words
     else (if same_text name (codes "recode") then code_words ThroughRecode words
+    else (if same_text name (codes "flow") then code_words ThroughFlow words
     else (if same_text name (codes "move") then code_words ThroughMove words
     else (if same_text name (codes "map") then code_words ThroughMap words
     else (if same_text name (codes "blocks") then blocks_words words
     else (if same_text name (codes "rows") then at_end words 2 Rows
     else (if same_text name (codes "--help") then at_end words 2 Help
-    else (if same_text name (codes "--version") then at_end words 2 Version else Wrong 1))))))))
+    else (if same_text name (codes "--version") then at_end words 2 Version else Wrong 1)))))))))

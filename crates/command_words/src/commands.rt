@@ -30,6 +30,12 @@ pub enum Command {
         to: Bits,
         new_base: u64,
     },
+    /// What control reaches from the first byte of the input, the input being code of a mode whose first byte has the address
+    /// `base`.
+    Flow {
+        bits: Bits,
+        base: u64,
+    },
     /// The bytes of the input, which is code of a mode whose first byte has the address `old`, moved to the address `new`.
     Move {
         bits: Bits,
@@ -70,6 +76,7 @@ pub enum Through {
     List,
     Info,
     Recode,
+    Flow,
     Move,
     Map,
 }

@@ -258,6 +258,7 @@ fn code_end(through: Through, bits: Bits, base: u64, words: &[&str]) -> Command
         Through::List => list_style(bits, base, words),
         Through::Info => at_end(words, 4, Command::Info { bits, base }),
         Through::Recode => recode_words(bits, base, words),
+        Through::Flow => at_end(words, 4, Command::Flow { bits, base }),
         Through::Move => move_end(bits, base, new_words(bits, words)),
         Through::Map => map_end(bits, base, new_words(bits, words)),
     }
@@ -415,6 +416,8 @@ pub fn command_of(words: &[&str]) -> Command
                 code_words(Through::Info, words)
             } else if is(name, "recode") {
                 code_words(Through::Recode, words)
+            } else if is(name, "flow") {
+                code_words(Through::Flow, words)
             } else if is(name, "move") {
                 code_words(Through::Move, words)
             } else if is(name, "map") {

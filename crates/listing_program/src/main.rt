@@ -9,6 +9,8 @@ use std::alloc::AllocError;
 use std::process::ExitCode;
 
 #[cfg(test)]
+mod flow_tests;
+#[cfg(test)]
 mod moving_tests;
 #[cfg(test)]
 mod tests;

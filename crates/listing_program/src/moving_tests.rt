@@ -9,7 +9,7 @@ use std::test::Fail;
 const MANY: usize = 16384;
 
 /// Compares what a command line, whose words are parted by spaces, gives for an input.
-fn expect<R: Abort + AllocGlobal>(
+pub(crate) fn expect<R: Abort + AllocGlobal>(
     rt: &R,
     command: &str,
     input: &[u8],

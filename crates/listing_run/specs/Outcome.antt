@@ -8,12 +8,13 @@ use Rattle.sweep_text.specs.declared.lines.Lines.TheVariants.{Listing, Info as I
 use Rattle.opcode_rows.specs.Sweep.{Item, IsSweep, BeginsSweep}
 use Rattle.sweep_text.specs.Lines.{stop_of, GoesOn, lines_of}
 use Rattle.command_words.specs.declared.commands.Command.{Command}
-use Rattle.command_words.specs.declared.commands.Command.TheVariants.{Help, Version, List as ListCommand, Info, Recode, Move, Map, Blocks, Rows, Wrong}
+use Rattle.command_words.specs.declared.commands.Command.TheVariants.{Help, Version, List as ListCommand, Info, Recode, Flow, Move, Map, Blocks, Rows, Wrong}
 use Rattle.command_words.specs.declared.commands.BlockWords.{BlockWords}
 use Rattle.run_parts.specs.declared.status.Status.{Status}
 use Rattle.run_parts.specs.declared.status.Status.TheVariants.{Done, Usage, BadCode, ReadFault, WriteFault, Memory, TooLarge}
 use Rattle.run_parts.specs.Reads.{code_limit, ReadsAll, ReadsTooMany}
 use Rattle.run_parts.specs.Writing.{HoldsFront}
+use Rattle.flow_run.specs.Flowing.{FlowsAs, CompletesFlow}
 use Rattle.moving_run.specs.declared.moving.Wanted.TheVariants.{MovedBytes, MapLines}
 use Rattle.moving_run.specs.Moving.{MovesAs, CompletesMoving}
 use Rattle.listing_run.specs.Texts.{help_text, version_text}
@@ -79,6 +80,7 @@ RunsAs (Info bits base) left left' held held' source_rose out_rose status =
     GoesThroughAs bits base InfoLines left left' held held' source_rose out_rose status
 RunsAs (Recode bits base to new_base) left left' held held' source_rose out_rose status =
     GoesThroughAs bits base (RecodeLines to new_base) left left' held held' source_rose out_rose status
+RunsAs (Flow bits base) left left' held held' source_rose out_rose status = FlowsAs bits base left left' held held' source_rose out_rose status
 RunsAs (Move bits old new) left left' held held' source_rose out_rose status =
     MovesAs MovedBytes bits (one_block old new) left left' held held' source_rose out_rose status
 RunsAs (Map bits old new) left left' held held' source_rose out_rose status =
@@ -91,6 +93,7 @@ abbrev pub Reads : Command → Type 0
 Reads (ListCommand bits base syntax) = Unit {0}
 Reads (Info bits base) = Unit {0}
 Reads (Recode bits base to new_base) = Unit {0}
+Reads (Flow bits base) = Unit {0}
 Reads (Move bits old new) = Unit {0}
 Reads (Map bits old new) = Unit {0}
 Reads (Blocks bits blocks) = Unit {0}
@@ -136,6 +139,7 @@ Completes (ListCommand bits base syntax) (Some bytes) status =
 Completes (ListCommand bits base syntax) None status = (status ≡ Done) ⊎ ((status ≡ Memory) ⊎ (status ≡ TooLarge code_limit))
 Completes (Info bits base) left status = CompletesThrough bits base InfoLines left status
 Completes (Recode bits base to new_base) left status = CompletesThrough bits base (RecodeLines to new_base) left status
+Completes (Flow bits base) left status = CompletesFlow left status
 Completes (Move bits old new) left status = CompletesMoving MovedBytes bits (one_block old new) left status
 Completes (Map bits old new) left status = CompletesMoving MapLines bits (one_block old new) left status
 Completes (Blocks bits blocks) left status = CompletesMoving MovedBytes bits blocks.items left status

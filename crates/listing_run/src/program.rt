@@ -17,6 +17,7 @@ use crate::rows::write_rows;
 use crate::through::{End, write_lines};
 use byte_ports::{Sink, Source};
 use command_words::{BlockWords, Command, command_of};
+use flow_run::flow_code;
 use moving_run::{Wanted, move_code};
 use run_parts::{CODE_LIMIT, ReadError, Status, put_all, read_all, say, status_line};
 use std::alloc::Global;
@@ -28,7 +29,7 @@ use x86_values::Bits;
 fn help_text() -> &'static [u8]
     ensures { result.now ≡ text.help_text }
 {
-    b"usage: listing_program list BITS BASE SYNTAX\n       listing_program info BITS BASE\n       listing_program recode BITS1 OLD BITS2 NEW\n       listing_program move BITS OLD NEW\n       listing_program map BITS OLD NEW\n       listing_program blocks BITS OLD1 NEW1 LEN1 OLD2 NEW2 ..\n       listing_program rows\n       listing_program --help\n       listing_program --version\n\nlist writes one line for each instruction of the machine code on standard input.\nBITS is 16, 32 or 64. BASE is the address of the first byte: 1 to 16 hexadecimal\ndigits below 2 to the power of BITS. SYNTAX is intel, att or masm.\n\ninfo writes what each instruction does: where control goes behind it; n, r, w or\nrw for each operand that it leaves alone, reads, writes, or reads and writes; m\nand the size of its memory operand in bytes; -> and the target of a near branch;\n@ and the address of an operand relative to the instruction pointer. It ends at\nthe first byte at which no instruction is read.\n\nrecode writes the bytes of each instruction in mode BITS2, where the code begins\nat address NEW: it is read as info reads it, in mode BITS1 at address OLD, and\nkeeps its operands. An instruction that has no such bytes has ! and a number from\n1 to 10, that of the first condition that fails, and behind 2, 3 and 6 the number\nof the operand that fails it.\n\nmove writes the bytes of the machine code on standard input, in mode BITS, moved\nfrom address OLD to address NEW. Each near branch and each operand relative to\nthe instruction pointer keeps its target, or follows it where that is moved too.\nNothing is written where an instruction cannot reach its target.\n\nmap writes one line for each instruction that move would move: its old and its\nnew address, and its form there: itself, short, near, far, bridge or farbridge.\n\nblocks moves 1 to 16 blocks of code as move moves one. Every block but the last\nhas LEN, the number of its bytes in 1 to 16 hexadecimal digits.\n\nrows writes one line for each row of the instruction table: its number, its\nnotation and its name. It reads nothing.\n"
+    b"usage: listing_program list BITS BASE SYNTAX\n       listing_program info BITS BASE\n       listing_program recode BITS1 OLD BITS2 NEW\n       listing_program flow BITS BASE\n       listing_program move BITS OLD NEW\n       listing_program map BITS OLD NEW\n       listing_program blocks BITS OLD1 NEW1 LEN1 OLD2 NEW2 ..\n       listing_program rows\n       listing_program --help\n       listing_program --version\n\nlist writes one line for each instruction of the machine code on standard input.\nBITS is 16, 32 or 64. BASE is the address of the first byte: 1 to 16 hexadecimal\ndigits below 2 to the power of BITS. SYNTAX is intel, att or masm.\n\ninfo writes what each instruction does: where control goes behind it; n, r, w or\nrw for each operand that it leaves alone, reads, writes, or reads and writes; m\nand the size of its memory operand in bytes; -> and the target of a near branch;\n@ and the address of an operand relative to the instruction pointer. It ends at\nthe first byte at which no instruction is read.\n\nrecode writes the bytes of each instruction in mode BITS2, where the code begins\nat address NEW: it is read as info reads it, in mode BITS1 at address OLD, and\nkeeps its operands. An instruction that has no such bytes has ! and a number from\n1 to 10, that of the first condition that fails, and behind 2, 3 and 6 the number\nof the operand that fails it.\n\nflow follows control from the first byte of the machine code. It writes one line\nfor each instruction that is reached: its address, the address of the first\ninstruction of its basic block, and where control goes behind it; or invalid or\ntoo short where no instruction is read.\n\nmove writes the bytes of the machine code on standard input, in mode BITS, moved\nfrom address OLD to address NEW. Each near branch and each operand relative to\nthe instruction pointer keeps its target, or follows it where that is moved too.\nNothing is written where an instruction cannot reach its target.\n\nmap writes one line for each instruction that move would move: its old and its\nnew address, and its form there: itself, short, near, far, bridge or farbridge.\n\nblocks moves 1 to 16 blocks of code as move moves one. Every block but the last\nhas LEN, the number of its bytes in 1 to 16 hexadecimal digits.\n\nrows writes one line for each row of the instruction table: its number, its\nnotation and its name. It reads nothing.\n"
 }
 
 /// What `--version` writes.
@@ -150,6 +151,7 @@ fn answer<S: Source, K: Sink>(
             source,
             out,
         ),
+        Command::Flow { bits, base } => flow_code(alloc, bits, base, source, out),
         Command::Move { bits, old, new } => {
             move_whole(alloc, Wanted::MovedBytes, bits, old, new, source, out)
         }
@@ -171,6 +173,8 @@ fn answer<S: Source, K: Sink>(
 /// - The listing shows exactly the instructions that the table spells, with their lengths, and single bytes elsewhere: `answer` says so by
 ///   `WritesLines`, over the sweep of the bytes that were read, and `complete` that nothing but want of memory or a stated limit hinders it.
 /// - `recode` shows the plain spelling of each instruction that has one, and names why another has none: `answer`, by the same lines.
+/// - `flow` shows exactly the offsets that control reaches from the first byte, each with the leader of its basic block: `answer` by `FlowsAs`, over
+///   `IsFlowGraph`, and `complete` by `CompletesFlow`.
 /// - Moved blocks decode to the images of the old instructions in the least layout, each target moved along or kept: `answer` says by `MovesAs` that the
 ///   blocks `IsMoved`, and `moved_code_is_read_as_images` that such blocks so decode. They are refused only at the first operand that does not reach or
 ///   for a stated limit: `answer` says when each refusal may come, and `complete` by `CompletesMoving` that it comes then.
@@ -180,6 +184,9 @@ fn answer<S: Source, K: Sink>(
 /// `att` or `masm`. `info BITS BASE` reads it too, writes what each instruction does, and ends with `BadCode` at the first offset at which none is
 /// read. `recode BITS1 OLD BITS2 NEW` ends there too, and writes the bytes of each instruction in mode `BITS2`, where the first byte has the address
 /// `NEW`.
+///
+/// `flow BITS BASE` follows control from the first byte of the source and writes, for each offset that is reached, its address, the address of the leader
+/// of its basic block, and the flow of the instruction there, or `invalid` or `too short`. It writes nothing but for `Done` and `WriteFault`.
 ///
 /// `move BITS OLD NEW` moves the whole source from the address `OLD` to the address `NEW` and writes its bytes there; `map BITS OLD NEW` writes the old
 /// and the new address and the form of each instruction instead; `blocks BITS OLD1 NEW1 LEN1 OLD2 NEW2 ..` moves 1 to 16 blocks, where every block but

@@ -14,9 +14,9 @@ use text_parts::style::Style;
 use text_parts::text::{Text, append};
 use x86_values::{Instr, Operand};
 
-/// The name of a flow.
+/// The name of a flow, as `info` and `flow` print it.
 #[tactic(auto, unfolding(crate::specs::Info::flow_name))]
-fn flow_name(flow: Flow) -> &'static [u8]
+pub fn flow_name(flow: Flow) -> &'static [u8]
     ensures text { result.now ≡ spec.flow_name flow }
     ensures short { length result.now ≤ 19 }
 {

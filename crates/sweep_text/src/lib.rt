@@ -10,6 +10,7 @@ mod reading;
 mod recode;
 mod syntax;
 
+pub use info::flow_name;
 pub use line::{CHUNK_LEN, Chunk, LINE_LEN, append, append_address};
 pub use lines::{Lines, append_line, stop_of};
 pub use reading::{item_len, read_at};

@@ -1,0 +1,3 @@
+pub mod Flowing
+pub mod Lines
+pub mod Steps

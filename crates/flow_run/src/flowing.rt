@@ -1,0 +1,54 @@
+//! What control reaches in the code of a source.
+
+ghost use Rattle.std.specs.Prelude.{◌≡◌};
+ghost use Rattle.byte_ports.specs.Ports.{Rose};
+ghost use Rattle.run_parts.specs.Reads.{whole_limit, Takes, EndsAtFault};
+ghost use Rattle.flow_run.specs.Flowing.{FlowsAs, CompletesFlow};
+
+use crate::lines::write_flow;
+use byte_ports::{Sink, Source};
+use flow_graph::flow_graph_in;
+use run_parts::{ReadError, Status, WHOLE_LIMIT, read_all};
+use std::alloc::Global;
+use x86_values::Bits;
+
+/// Reads the source to its end, as code of a mode whose first byte has the address `base`, and writes a line for each offset that control reaches from the
+/// first byte, in ascending order: its address, the address of the leader of its basic block, and the flow of its instruction, or `invalid` or `too short`
+/// where none is read.
+///
+/// In this order: `ReadFault`, `TooLarge` above 1,048,576 bytes, `WriteFault`; `Memory` at any point before something is written. Nothing is written before
+/// all but `WriteFault` are past. At most 1,048,577 bytes are taken, and after `ReadFault` the source is not asked again.
+#[tactic(auto, unfolding(run_parts::specs::Reads::whole_limit))]
+pub fn flow_code<S: Source, K: Sink>(
+    alloc: Global,
+    bits: Bits,
+    base: u64,
+    source: &mut S,
+    out: &mut K,
+) -> Status
+    ensures answer { FlowsAs bits base (S.left source.old) (S.left source.new) (K.held out.old) (K.held out.new)
+        (Rose (S.faults source.old) (S.faults source.new)) (Rose (K.faults out.old) (K.faults out.new)) result }
+    ensures complete { (Rose (S.faults source.old) (S.faults source.new) → ⊥) → (Rose (K.faults out.old) (K.faults out.new) → ⊥)
+        → CompletesFlow (S.left source.old) result }
+    ensures taken { Takes whole_limit (S.left source.old) (S.left source.new)
+        × (result ≡ Status.ReadFault → EndsAtFault S.pull_gives S.left source.new) }
+{
+    let input = match read_all(alloc, source, WHOLE_LIMIT) {
+        Ok(input) => input,
+        Err(ReadError::Fault) => return Status::ReadFault,
+        Err(ReadError::Memory) => return Status::Memory,
+        Err(ReadError::TooLarge) => {
+            return Status::TooLarge {
+                limit: u64::from(WHOLE_LIMIT),
+            };
+        }
+    };
+    let graph = match flow_graph_in(alloc, bits, base, &input) {
+        Ok(graph) => graph,
+        Err(_) => return Status::Memory,
+    };
+    match write_flow(bits, base, &input, &graph, out) {
+        Ok(()) => Status::Done,
+        Err(_) => Status::WriteFault,
+    }
+}
