@@ -1,0 +1,6 @@
+pub mod Prefixes
+pub mod Bits
+pub mod FrontIs
+pub mod TailIs
+pub mod Addresses
+pub mod Rm

@@ -1,0 +1,2 @@
+//! What makes a spelling plain, as a property of any spelling of a row, apart from how the plain one is made.
+#![tactic(auto)]
