@@ -4,3 +4,5 @@ pub mod FrontIs
 pub mod TailIs
 pub mod Addresses
 pub mod Rm
+pub mod PlainIs
+pub mod FrontSame
