@@ -1,5 +1,6 @@
 -- The front of a plain spelling is the plain front of what it means.
-use Rattle.std.proofs.Common.{◌≡◌, ◌⊎◌, inl, inr, ℕ, ◌+◌, ◌*◌, ◌/◌, ◌%◌, ◌<◌, Bool, true, false, ◌&&◌, ◌||◌, not, ◌==◌, nat_lt, Option, Some, None, is_some, refl, ap, sym, ◌∙◌, subst, arith, if◌then◌else◌, List, length, slice_index, ◌-◌}
+use Rattle.std.proofs.Common.{◌≡◌, ◌⊎◌, inl, inr, ℕ, zero, suc, ◌+◌, ◌*◌, ◌/◌, ◌%◌, ◌<◌, Bool, true, false, ◌&&◌, ◌||◌, not, ◌==◌, nat_lt, Option, Some, None, is_some, refl, ap, sym, ◌∙◌, subst, arith, if◌then◌else◌, List, [], ◌∷◌, length, slice_index, ◌-◌}
+use Rattle.std.specs.List.{list_any}
 use borrow.Author.Tests.{ltb-true}
 use Rattle.x86_values.specs.declared.Bits.{Bits}
 use Rattle.x86_values.specs.declared.Bits.TheVariants.{B16, B32, B64}
@@ -21,10 +22,11 @@ use Rattle.row_types.specs.declared.WBit.TheVariants.{None as NoW, W0, W1, Wig}
 use Rattle.row_types.specs.declared.LBit.{LBit}
 use Rattle.row_types.specs.declared.LBit.TheVariants.{None as NoL, L128, L256, Lig, Lz}
 use Rattle.row_types.specs.declared.OpKind.{OpKind}
-use Rattle.row_types.specs.declared.OpKind.TheVariants.{Absent}
+use Rattle.row_types.specs.declared.OpKind.TheVariants.{Absent, By, Hx, Ho}
 use Rattle.instruction_parts.specs.declared.kinds.Method.{Method}
 use Rattle.instruction_parts.specs.declared.kinds.Method.TheVariants as method
 use Rattle.instruction_parts.specs.declared.spelling.Vex.{Vex}
+use Rattle.instruction_parts.specs.declared.spelling.ModRm.{ModRm}
 use Rattle.instruction_parts.specs.declared.spelling.Spelling.{Spelling}
 use Rattle.instruction_parts.specs.declared.spelling.PrefixState.{PrefixState}
 use Rattle.instruction_parts.specs.Kinds.{method_of, file_of}
@@ -34,7 +36,7 @@ use Rattle.instruction_parts.specs.Bytes.{bit, state_of}
 use Rattle.instruction_parts.proofs.Tests.{either, and_left, and_right, not_true, equal_from}
 use Rattle.row_fit.specs.Fits.{Fits, reads_by, is_vvvv, kind_at, same_bool, same_map, size_fits, w_fits, l_fits, sizes_fit, vvvv_fits, vvvv_number, takes_w_as_size, vex_class_fits, opcode_fits, opcode_and_modrm_fit, modrm_rule_fits, place_fits}
 use Rattle.row_fit.specs.Sound.{Sound, kind_is_proper, vex_is_proper, legacy_is_proper, size_says_w, is_no_w, is_no_l, is_class_of_vex, is_size_of_vex, reads_vvvv}
-use Rattle.row_meaning.specs.Meaning.{operand_by, own_immediate, register_of, tail_of}
+use Rattle.row_meaning.specs.Meaning.{Tail, operand_by, register_of, tail_of}
 use Rattle.plain_spelling.specs.Forms.{operand_at}
 use Rattle.plain_spelling.specs.PlainFront.{register_number, operand_number, number_in_vvvv, asked, asks_r, asks_x, asks_b, asks_low_byte, asks_rex_w, asks_vex_w, asked_rex, class_pp, asked_vex, asked_opcode, plain_front_of}
 use Rattle.plain_spelling.specs.PlainTail.{prefixes_of}
@@ -45,7 +47,7 @@ use Rattle.plain_fit.proofs.Numbers.{kind_that_passes}
 use Rattle.plain_need.proofs.Given.{Given}
 use Rattle.plain_need.proofs.Asks.{AskedBits, differ}
 use Rattle.plain_need.proofs.Numbers.{number-general, number-vector, number-byte}
-use Rattle.plain_need.proofs.States.{VexIs, StateIs, state_is, state_vex, state_rex}
+use Rattle.plain_need.proofs.States.{StateIs, state_is, state_vex, state_rex, state_opcode}
 use Rattle.plain_need.proofs.Front.{needs_rex_w, needs_rex}
 use Rattle.plain_need.proofs.Used.{read_is, bits_of}
 use Rattle.plain_need.proofs.Variants.{read_at}
@@ -183,8 +185,8 @@ low_bit : (n : ℕ) → bit (n % 2 == 1) ≡ n % 2
 low_bit n = by_value (n % 2) (omega arith)
   where
     by_value : (m : ℕ) → m < 2 → bit (m == 1) ≡ m
-    by_value 0 h = refl
-    by_value 1 h = refl
+    by_value zero h = refl
+    by_value (suc zero) h = refl
     by_value (suc (suc m)) h = absurd (omega arith)
 
 rex_value : (v : ℕ) → v / 16 ≡ 4 → v ≡ 0x40 + (bit (bit_of 3 v) * 8 + (bit (bit_of 2 v) * 4 + (bit (bit_of 1 v) * 2 + bit (bit_of 0 v))))
@@ -245,3 +247,230 @@ rex_by row i (Some v) low l w r x b same asks is needed =
     let asked_is : (asks_rex_w row || (asks_r row i || (asks_x row i || (asks_b row i || asks_low_byte i.ops)))) ≡ true = rw (← w, ← r, ← x, ← b, ← same) needs in
     let number : v ≡ 0x40 + (bit (asks_rex_w row) * 8 + (bit (asks_r row i) * 4 + (bit (asks_x row i) * 2 + bit (asks_b row i)))) = rw (← w, ← r, ← x, ← b) value in
     some_rex _ _ v asked_is number ∙ sym (rex_of_legacy row i l)
+
+raw_bits : (st : PrefixState) (field : Vex → Bool) (n : ℕ) → st.vex ≡ None → shared_bit field n st ≡ rex_bit n st.rex
+raw_bits st field n e = rw e refl
+
+bit_r_is : (st : PrefixState) → bit_r st ≡ shared_bit (λ v. v.r) 2 st
+unfolding bit_r
+bit_r_is st = refl
+
+bit_x_is : (st : PrefixState) → bit_x st ≡ shared_bit (λ v. v.x) 1 st
+unfolding bit_x
+bit_x_is st = refl
+
+-- **the REX is the plain one**
+rex_same : (bits : Bits) (ip : ℕ) (code : Code) (row : Row) (s : Spelling) (i : Instr) → Given bits ip code row s i → IsPlain bits ip row s → (state_of bits row s).rex ≡ asked_rex row i
+rex_same bits ip code row s i g p =
+    let st = state_of bits row s in
+    let f = state_is bits row s g.fitting in
+    let k = bits_of bits ip code row s i g in
+    let n = needs_are bits ip code row s i g in
+    let b = bits_are bits ip code row s i g p in
+    elim (either (is_vex_row row)) [
+      | inl e ↦ f.vex_rex e ∙ sym (rex_of_vex row i e)
+      | inr e ↦ (let none = f.legacy e in
+          rex_by row i st.rex true e
+          (sym (raw_bits st (λ v. v.w) 3 none) ∙ b.w ∙ if_no (is_vex_row row) (asks_vex_w row) (asks_rex_w row) e)
+          (sym (raw_bits st (λ v. v.r) 2 none) ∙ sym (bit_r_is st) ∙ b.r)
+          (sym (raw_bits st (λ v. v.x) 1 none) ∙ sym (bit_x_is st) ∙ b.x)
+          (sym (raw_bits st (λ v. v.b) 0 none) ∙ b.b) n.low (needs_rex bits row st i f k)
+          (λ v h. rex_is_rex bits s.prefixes.items v (sym (state_rex bits row s) ∙ h))
+          (subst (λ (ops : List Operand). rex_is_needed st.rex ops ≡ true) (meant_are bits ip code row s i g) p.rex))
+    ]
+
+-- ---- the VEX
+
+three_by : (t m x b w : Bool) → same_bool t (not (m && (not x && (not b && not w)))) ≡ true → t ≡ (not m || (x || (b || w)))
+three_by true true true b w h = refl
+three_by true true false true w h = refl
+three_by true true false false true h = refl
+three_by true true false false false h = impossible (sym h)
+three_by true false x b w h = refl
+three_by false true true b w h = impossible (sym h)
+three_by false true false true w h = impossible (sym h)
+three_by false true false false true h = impossible (sym h)
+three_by false true false false false h = refl
+three_by false false x b w h = impossible (sym h)
+
+l_by : (l : LBit) (v : Vex) → l_fits l v ≡ true → only_if (elim l [ L256 ↦ true | _ ↦ false ]) v.l ≡ true → v.l ≡ (elim l [ L256 ↦ true | _ ↦ false ])
+unfolding l_fits
+l_by NoL v h k = no_l v.l k
+  where
+    no_l : (b : Bool) → only_if false b ≡ true → b ≡ false
+    no_l true h = impossible (sym h)
+    no_l false h = refl
+l_by L128 v h k = not_true v.l h
+l_by L256 v h k = h
+l_by Lig v h k = no_l v.l k
+  where
+    no_l : (b : Bool) → only_if false b ≡ true → b ≡ false
+    no_l true h = impossible (sym h)
+    no_l false h = refl
+l_by Lz v h k = not_true v.l h
+
+pp_by : (class : Class) (v : Vex) → vex_class_fits class v ≡ true → v.pp ≡ class_pp class
+unfolding vex_class_fits class_pp
+pp_by Np v h = equal_from v.pp 0 h
+pp_by P66 v h = equal_from v.pp 1 h
+pp_by ClassF3 v h = equal_from v.pp 2 h
+pp_by ClassF2 v h = equal_from v.pp 3 h
+pp_by AnyClass v h = impossible (sym h)
+pp_by Nfx v h = impossible (sym h)
+pp_by Nf3 v h = impossible (sym h)
+
+-- the register of a kind in vvvv has the number that names it
+vvvv_kept : (bits : Bits) (row : Row) (st : PrefixState) (kind : OpKind) (n : ℕ) → method_of kind ≡ method.Vvvv → register_number (register_of bits row st (file_of kind) n) ≡ n
+unfolding method_of file_of register_of register_number
+vvvv_kept bits row st By n h = number-general _ n
+vvvv_kept bits row st Hx n h = number-vector row.l n
+vvvv_kept bits row st Ho n h = refl
+vvvv_kept bits row st kind n h = impossible cc
+
+vvvv_operand : (bits : Bits) (row : Row) (st : PrefixState) (t : Tail) (kind : OpKind) (how : Method) (imm : List ℕ) → method_of kind ≡ how → reads_vvvv how ≡ true → operand_number (operand_by bits row st t kind how imm) ≡ vvvv_number bits st
+unfolding operand_by
+vvvv_operand bits row st t kind method.Vvvv imm e h = vvvv_kept bits row st kind (vvvv_number bits st) e
+vvvv_operand bits row st t kind _ imm e h = impossible (sym h)
+
+vvvv_at : (bits : Bits) (ip : ℕ) (code : Code) (row : Row) (s : Spelling) (i : Instr) (n : ℕ) → Given bits ip code row s i → n < 4 → reads_vvvv (method_of (kind_at row n)) ≡ true → operand_number (operand_at i n) ≡ vvvv_number bits (state_of bits row s)
+vvvv_at bits ip code row s i n g below reads =
+    let st = state_of bits row s in
+    let t = tail_of bits ip row s in
+    ap (λ (x : Instr). operand_number (operand_at x n)) (sym (read_is bits ip code row s i g))
+    ∙ ap operand_number (read_at bits code row st t s.imm.items n below)
+    ∙ vvvv_operand bits row st t (kind_at row n) (method_of (kind_at row n)) _ refl reads
+
+number_of_vvvv : (bits : Bits) (st : PrefixState) (v : Vex) → st.vex ≡ Some v → (is_64 bits || nat_lt v.vvvv 8) ≡ true → vvvv_number bits st ≡ v.vvvv
+unfolding vvvv_number
+number_of_vvvv bits st v e h = rw e (by_mode (is_64 bits) h)
+  where
+    by_mode : (long : Bool) → (long || nat_lt v.vvvv 8) ≡ true → (if long then v.vvvv else v.vvvv % 8) ≡ v.vvvv
+    by_mode true h = refl
+    by_mode false h = (let k = ltb-true v.vvvv 8 h in omega arith)
+
+is_vvvv_same : (how : Method) → is_vvvv how ≡ reads_vvvv how
+is_vvvv_same method.Vvvv = refl
+is_vvvv_same _ = refl
+
+any_same : (p q : OpKind → Bool) (kinds : List OpKind) → ((kind : OpKind) → p kind ≡ q kind) → list_any p kinds ≡ list_any q kinds
+any_same p q [] h = refl
+any_same p q (kind ∷ kinds) h = rw (h kind) (rw (any_same p q kinds h) refl)
+
+reads_vvvv_same : (row : Row) → reads_by is_vvvv row ≡ reads_by reads_vvvv row
+reads_vvvv_same row = any_same (λ kind. is_vvvv (method_of kind)) (λ kind. reads_vvvv (method_of kind)) row.ops (λ kind. is_vvvv_same (method_of kind))
+
+unused_vvvv : (row : Row) (st : PrefixState) (v : Vex) → st.vex ≡ Some v → vvvv_fits row st ≡ true → reads_by is_vvvv row ≡ false → v.vvvv ≡ 0
+unfolding vvvv_fits
+unused_vvvv row st v e h none =
+    let k : (v.vvvv == 0 || reads_by is_vvvv row) ≡ true = rw e at h in
+    equal_from v.vvvv 0 (or_left (v.vvvv == 0) (reads_by is_vvvv row) none k)
+  where
+    or_left : (a b : Bool) → b ≡ false → (a || b) ≡ true → a ≡ true
+    or_left true b n h = refl
+    or_left false b n h = impossible (sym h ∙ n)
+
+vvvv_same : (bits : Bits) (ip : ℕ) (code : Code) (row : Row) (s : Spelling) (i : Instr) (v : Vex) → Given bits ip code row s i → length i.ops ≡ 4 → (state_of bits row s).vex ≡ Some v → (is_64 bits || nat_lt v.vvvv 8) ≡ true → v.vvvv ≡ asked number_in_vvvv row i
+vvvv_same bits ip code row s i v g four e h = elim (either (reads_by reads_vvvv row)) [
+  | inr none ↦ unused_vvvv row (state_of bits row s) v e g.fitting.vvvv (reads_vvvv_same row ∙ none) ∙ sym (asked_vvvv-none row i none)
+  | inl some ↦ (let k = kind_that_passes (λ kind. reads_vvvv (method_of kind)) row.ops Absent some in
+      let kinds = four_kinds row g.is_sound in
+      let below : k.0 < 4 = omega (arith, k.1, kinds) in
+      sym (number_of_vvvv bits (state_of bits row s) v e h) ∙ sym (vvvv_at bits ip code row s i k.0 g below k.2) ∙ sym (asked_vvvv-at row i k.0 g.is_sound four below k.2))
+]
+
+-- a VEX of its parts
+abbrev vex_of : Bool → Bool → Bool → Bool → Bool → Bool → Map → ℕ → ℕ → Vex
+vex_of three r x b w l map vvvv pp = record { three = three; r = r; x = x; b = b; w = w; l = l; map = map; vvvv = vvvv; pp = pp }
+
+same_vex : (t t1 r r1 x x1 b b1 w w1 l l1 : Bool) (m m1 : Map) (v v1 p p1 : ℕ) → t ≡ t1 → r ≡ r1 → x ≡ x1 → b ≡ b1 → w ≡ w1 → l ≡ l1 → m ≡ m1 → v ≡ v1 → p ≡ p1 → vex_of t r x b w l m v p ≡ vex_of t1 r1 x1 b1 w1 l1 m1 v1 p1
+same_vex t t1 r r1 x x1 b b1 w w1 l l1 m m1 v v1 p p1 ht hr hx hb hw hl hm hv hp =
+    ap (λ (z : Bool). vex_of z r x b w l m v p) ht ∙ ap (λ (z : Bool). vex_of t1 z x b w l m v p) hr ∙ ap (λ (z : Bool). vex_of t1 r1 z b w l m v p) hx
+    ∙ ap (λ (z : Bool). vex_of t1 r1 x1 z w l m v p) hb ∙ ap (λ (z : Bool). vex_of t1 r1 x1 b1 z l m v p) hw ∙ ap (λ (z : Bool). vex_of t1 r1 x1 b1 w1 z m v p) hl
+    ∙ ap (λ (z : Map). vex_of t1 r1 x1 b1 w1 l1 z v p) hm ∙ ap (λ (z : ℕ). vex_of t1 r1 x1 b1 w1 l1 m1 z p) hv ∙ ap (λ (z : ℕ). vex_of t1 r1 x1 b1 w1 l1 m1 v1 z) hp
+
+shared_vex : (st : PrefixState) (v : Vex) (field : Vex → Bool) (n : ℕ) → st.vex ≡ Some v → field v ≡ shared_bit field n st
+shared_vex st v field n e = rw e refl
+
+l_of_fit : (bits : Bits) (row : Row) (st : PrefixState) (v : Vex) → sizes_fit bits row st ≡ true → st.vex ≡ Some v → l_fits row.l v ≡ true
+unfolding sizes_fit
+l_of_fit bits row st v h e =
+    let k = and_right (size_fits bits row.size (state_size bits row st) (bit_w bits st)) _ h in
+    let z : (w_fits row v && l_fits row.l v) ≡ true = rw e at k in
+    and_right (w_fits row v) (l_fits row.l v) z
+
+vex_short : (v : Vex) → vex_is_short (Some v) ≡ true → same_bool v.three (not (same_map v.map M0f && (not v.x && (not v.b && not v.w)))) ≡ true
+unfolding vex_is_short
+vex_short v h = h
+
+l_read : (row : Row) (v : Vex) → l_is_needed row (Some v) ≡ true → only_if (elim row.l [ L256 ↦ true | _ ↦ false ]) v.l ≡ true
+unfolding l_is_needed
+l_read row v h = h
+
+vvvv_read : (bits : Bits) (v : Vex) → vvvv_is_read bits (Some v) ≡ true → (is_64 bits || nat_lt v.vvvv 8) ≡ true
+unfolding vvvv_is_read
+vvvv_read bits v h = h
+
+asked_pp : (row : Row) (i : Instr) → vex_for row i ≡ vex_of (not (same_map row.map M0f) || (asks_x row i || (asks_b row i || asks_vex_w row))) (asks_r row i) (asks_x row i) (asks_b row i) (asks_vex_w row) (elim row.l [ L256 ↦ true | _ ↦ false ]) row.map (asked number_in_vvvv row i) (class_pp row.class)
+asked_pp row i = refl
+
+-- **the VEX is the plain one**
+vex_same : (bits : Bits) (ip : ℕ) (code : Code) (row : Row) (s : Spelling) (i : Instr) → Given bits ip code row s i → length i.ops ≡ 4 → IsPlain bits ip row s → s.vex ≡ asked_vex row i
+vex_same bits ip code row s i g four p =
+    let st = state_of bits row s in
+    let f = state_is bits row s g.fitting in
+    let k = bits_are bits ip code row s i g p in
+    let own = state_vex bits row s in
+    elim (either (is_vex_row row)) [
+      | inr e ↦ sym own ∙ f.legacy e ∙ sym (vex_of_legacy row i e)
+      | inl e ↦ (let a = f.vex e in
+          let v = a.v in
+          let there : s.vex ≡ Some v = sym own ∙ a.stands in
+          let x : v.x ≡ asks_x row i = shared_vex st v (λ v. v.x) 1 a.stands ∙ sym (bit_x_is st) ∙ k.x in
+          let b : v.b ≡ asks_b row i = shared_vex st v (λ v. v.b) 0 a.stands ∙ k.b in
+          let w : v.w ≡ asks_vex_w row = shared_vex st v (λ v. v.w) 3 a.stands ∙ k.w ∙ if_yes (is_vex_row row) (asks_vex_w row) (asks_rex_w row) e in
+          let r : v.r ≡ asks_r row i = shared_vex st v (λ v. v.r) 2 a.stands ∙ sym (bit_r_is st) ∙ k.r in
+          let short = vex_short v (subst (λ (o : Option Vex). vex_is_short o ≡ true) there p.vex) in
+          let three = three_by v.three (same_map v.map M0f) v.x v.b v.w short in
+          let three_is : v.three ≡ (not (same_map row.map M0f) || (asks_x row i || (asks_b row i || asks_vex_w row))) = three ∙ rw (a.map_is, x, b, w) refl in
+          let l = l_by row.l v (l_of_fit bits row st v g.fitting.sizes a.stands) (l_read row v (subst (λ (o : Option Vex). l_is_needed row o ≡ true) there p.l)) in
+          let vvvv = vvvv_same bits ip code row s i v g four a.stands (vvvv_read bits v (subst (λ (o : Option Vex). vvvv_is_read bits o ≡ true) there p.vvvv)) in
+          there ∙ ap (λ (z : Vex). Some z) (same_vex v.three _ v.r _ v.x _ v.b _ v.w _ v.l _ v.map _ v.vvvv _ v.pp _ three_is r x b w l a.map_is vvvv (pp_by row.class v a.class)) ∙ sym (vex_of_vex row i e))
+    ]
+
+-- ---- the opcode byte
+
+fit_opcode : (row : Row) (opcode : ℕ) (m : Option ModRm) → opcode_and_modrm_fit row opcode m ≡ true → opcode_fits row opcode ≡ true
+unfolding opcode_and_modrm_fit
+fit_opcode row opcode m h = and_left (opcode_fits row opcode) _ h
+
+by_fit : (row : Row) (opcode : ℕ) (i : Instr) (plus : Plus) → row.plus ≡ plus → (plus ≡ PlusRegister → ⊥) → opcode_fits row opcode ≡ true → opcode ≡ asked_opcode row i
+unfolding opcode_fits asked_opcode
+by_fit row opcode i NoPlus e h k = rw e (equal_from opcode row.opcode (rw e at k))
+by_fit row opcode i PlusStack e h k = rw e (equal_from opcode row.opcode (rw e at k))
+by_fit row opcode i PlusRegister e h k = absurd (h refl)
+
+opcode_same : (bits : Bits) (ip : ℕ) (code : Code) (row : Row) (s : Spelling) (i : Instr) → Given bits ip code row s i → s.opcode ≡ asked_opcode row i
+opcode_same bits ip code row s i g = go row.plus refl
+  where
+    fixed : (plus : Plus) → row.plus ≡ plus → (plus ≡ PlusRegister → ⊥) → s.opcode ≡ asked_opcode row i
+    fixed plus e h = by_fit row s.opcode i plus e h (fit_opcode row s.opcode s.modrm g.fitting.opcode)
+
+    go : (plus : Plus) → row.plus ≡ plus → s.opcode ≡ asked_opcode row i
+    go PlusRegister e = sym (state_opcode bits row s) ∙ sym (same_opcode_byte bits ip code row s i g e)
+    go NoPlus e = fixed NoPlus e (λ h. impossible (let z : true ≡ false = cc in z))
+    go PlusStack e = fixed PlusStack e (λ h. impossible (let z : true ≡ false = cc in z))
+
+-- ---- all of it
+
+-- **the prefixes, the VEX and the opcode byte are the plain ones**
+pub record FrontSame (bits : Bits) (row : Row) (s : Spelling) (i : Instr) : Type 0 where
+  pub prefixes : s.prefixes.items ≡ prefixes_of (plain_front_of bits row i)
+  pub vex : s.vex ≡ asked_vex row i
+  pub opcode : s.opcode ≡ asked_opcode row i
+
+pub front_same : (bits : Bits) (ip : ℕ) (code : Code) (row : Row) (s : Spelling) (i : Instr) → Given bits ip code row s i → length i.ops ≡ 4 → IsPlain bits ip row s → FrontSame bits row s i
+front_same bits ip code row s i g four p = record {
+  prefixes = p.prefixes ∙ needed_are bits row (state_of bits row s) s.modrm i (state_is bits row s g.fitting) (keeps_of bits ip code row s i g) (rex_same bits ip code row s i g p);
+  vex = vex_same bits ip code row s i g four p;
+  opcode = opcode_same bits ip code row s i g;
+}

@@ -6,3 +6,4 @@ pub mod Addresses
 pub mod Rm
 pub mod PlainIs
 pub mod FrontSame
+pub mod RmSame

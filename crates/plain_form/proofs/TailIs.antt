@@ -66,7 +66,7 @@ lone_same : (place : Place) → (lone_mode place == (elim place [ OnlyRegister �
 lone_same OnlyRegister = refl
 lone_same _ = refl
 
-fields_none : (bits : Bits) (row : Row) (i : Instr) → reads_by reads_rm row ≡ false → fields_of bits row i ≡ no_address (lone_mode row.place) 0
+pub fields_none : (bits : Bits) (row : Row) (i : Instr) → reads_by reads_rm row ≡ false → fields_of bits row i ≡ no_address (lone_mode row.place) 0
 unfolding rm_fields
 fields_none bits row i none = ap (λ (op : Operand). rm_fields bits i.asize row.place op) (rm_operand-none row i none)
 
