@@ -7,3 +7,4 @@ pub mod Rm
 pub mod PlainIs
 pub mod FrontSame
 pub mod RmSame
+pub mod TailSame

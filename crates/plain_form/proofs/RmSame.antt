@@ -87,7 +87,7 @@ low_kept bits row st file.Segment n h = impossible h
 low_kept bits row st _ n h = refl
 
 -- a register in r/m: its low three bits are rm, and mod is 3 where it is read
-abbrev RegIs : ModRm → Method → Operand → Type 0
+abbrev pub RegIs : ModRm → Method → Operand → Type 0
 RegIs m how (Reg r) = (register_number r % 8 ≡ m.rm) × (is_any_mode how ≡ false → m.mode3 ≡ 3)
 RegIs m how _ = Unit {0}
 
@@ -96,9 +96,9 @@ unfolding rm_number
 rm_low bits row st kind m h small = low_kept bits row st (file_of kind) (extended (bit_b bits st) m.rm) (no_segment kind h) ∙ extended_low (bit_b bits st) m.rm small
 
 not_below : (n : ℕ) → nat_lt n 3 ≡ false → n < 4 → n ≡ 3
-not_below zero h k = impossible (sym h)
-not_below (suc zero) h k = impossible (sym h)
-not_below (suc (suc zero)) h k = impossible (sym h)
+not_below zero h k = impossible h
+not_below (suc zero) h k = impossible h
+not_below (suc (suc zero)) h k = impossible h
 not_below (suc (suc (suc zero))) h k = refl
 not_below (suc (suc (suc (suc n)))) h k = absurd (omega arith)
 
@@ -108,7 +108,7 @@ memory_reg bits st m how None sib d next = tt
 memory_reg bits st m how (Some x) sib d next = tt
 
 reg_read : (bits : Bits) (row : Row) (st : PrefixState) (t : Tail) (kind : OpKind) (how : Method) (imm : List ℕ) (m : ModRm) → method_of kind ≡ how → t.modrm ≡ Some m → reads_rm how ≡ true → m.rm < 8 → m.mode3 < 4 → place_allows (place_of how) m ≡ true → RegIs m how (operand_by bits row st t kind how imm)
-unfolding operand_by place_allows
+unfolding operand_by place_allows gather_memory
 reg_read bits row st t kind method.RegisterOrMemory imm m e k r small mode place =
     subst (λ (o : Option ModRm). RegIs m method.RegisterOrMemory (if has_modrm (λ m. nat_lt m.mode3 3) o then memory_operand bits st o t.sib t.disp t.next else Reg (register_of bits row st (file_of kind) (rm_number bits st o)))) (sym k)
     (by_test (nat_lt m.mode3 3) refl)
@@ -158,7 +158,7 @@ small_of m h =
 pub small_at : (bits : Bits) (ip : ℕ) (code : Code) (row : Row) (s : Spelling) (i : Instr) (m : ModRm) → Given bits ip code row s i → s.modrm ≡ Some m → Small m
 small_at bits ip code row s i m g e = small_of m (subst (λ (o : Option ModRm). modrm_in_range o ≡ true) e (modrm_range s g.fitting.ranges))
 
-register_at : (bits : Bits) (ip : ℕ) (code : Code) (row : Row) (s : Spelling) (i : Instr) (n : ℕ) (m : ModRm) → Given bits ip code row s i → n < 4 → reads_rm (method_of (kind_at row n)) ≡ true → s.modrm ≡ Some m → RegIs m (method_of (kind_at row n)) (operand_at i n)
+pub register_at : (bits : Bits) (ip : ℕ) (code : Code) (row : Row) (s : Spelling) (i : Instr) (n : ℕ) (m : ModRm) → Given bits ip code row s i → n < 4 → reads_rm (method_of (kind_at row n)) ≡ true → s.modrm ≡ Some m → RegIs m (method_of (kind_at row n)) (operand_at i n)
 register_at bits ip code row s i n m g below reads e =
     let st = state_of bits row s in
     let t = tail_of bits ip row s in
@@ -180,7 +180,7 @@ none_from : {T : Type 0} → (o : Option T) → is_some o ≡ false → o ≡ No
 none_from None h = refl
 none_from (Some x) h = impossible h
 
-is_none_from : {T : Type 0} → (o : Option T) → is_none o ≡ true → o ≡ None
+pub is_none_from : {T : Type 0} → (o : Option T) → is_none o ≡ true → o ≡ None
 is_none_from None h = refl
 is_none_from (Some x) h = impossible (sym h)
 
@@ -196,7 +196,7 @@ sib_without asize row m sib given h e = by_test (reads_mode row) h
     by_test true h = none_from sib (same_false (is_some sib) (needs_sib asize m) (and_left (same_bool (is_some sib) (needs_sib asize m)) _ h) e)
     by_test false h = is_none_from sib (and_left (is_none sib) _ h)
 
-needs_none : (asize : Bits) (m : ModRm) → m.mode3 ≡ 3 → needs_sib asize m ≡ false
+pub needs_none : (asize : Bits) (m : ModRm) → m.mode3 ≡ 3 → needs_sib asize m ≡ false
 unfolding needs_sib
 needs_none B16 m h = refl
 needs_none B32 m h = rw h refl
