@@ -8,3 +8,4 @@ pub mod PlainIs
 pub mod FrontSame
 pub mod RmSame
 pub mod TailSame
+pub mod Lengths

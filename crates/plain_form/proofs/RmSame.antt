@@ -243,7 +243,7 @@ any_mode_reads : (row : Row) → reads_by is_any_mode row ≡ true → reads_mod
 unfolding reads_mode
 any_mode_reads row h = rw h refl
 
-variant_rm : (place : Place) (how : Method) (op : Operand) → reads_rm how ≡ true → is_variant_of place how op ≡ true → (is_register op || is_memory op) ≡ true
+pub variant_rm : (place : Place) (how : Method) (op : Operand) → reads_rm how ≡ true → is_variant_of place how op ≡ true → (is_register op || is_memory op) ≡ true
 unfolding is_variant_of is_allowed_in
 variant_rm AnyPlace method.RegisterOrMemory op h k = k
 variant_rm OnlyMemory method.RegisterOrMemory op h k = memory_or op k
