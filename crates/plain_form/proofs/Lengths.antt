@@ -41,7 +41,13 @@ use Rattle.plain_need.proofs.Given.{Given}
 use Rattle.plain_need.proofs.Immediates.{immediates-len}
 use Rattle.plain_need.proofs.Variants.{kinds_suit}
 use Rattle.plain_need.proofs.Addresses.{spelled_asize}
+use Rattle.row_fit.specs.Fits.{fits}
+use Rattle.row_fit.specs.Sound.{Sound}
+use Rattle.row_fit.proofs.FitLaws.{all_conditions}
+use Rattle.row_meaning.specs.Meaning.{meaning, instr_of}
+use Rattle.plain_spelling.specs.Writable.{Writable}
 use Rattle.plain_form.specs.IsPlain.{IsPlain}
+use Rattle.plain_form.specs.Alike.{IsAlike}
 use Rattle.plain_form.proofs.TailIs.{fields_none}
 use Rattle.plain_form.proofs.Rm.{count_at}
 use Rattle.plain_form.proofs.RmSame.{address_part, variant_rm}
@@ -189,17 +195,46 @@ own_parts : (bits : Bits) (ip : ℕ) (row : Row) (i : Instr) → OwnParts bits i
 unfolding plain_spelling plain_front_of
 own_parts bits ip row i = record { prefixes = refl; vex = refl; opcode = refl; modrm = refl; sib = refl; disp = refl; imm = refl }
 
--- **a plain spelling has the length of the constructed one**
-pub length_same : (bits : Bits) (ip : ℕ) (code : Code) (row : Row) (s : Spelling) (i : Instr) → Given bits ip code row s i → length i.ops ≡ 4 → IsPlain bits ip row s → plain_len bits row i ≡ length (bytes_of row s)
-length_same bits ip code row s i g four p =
+-- **a plain spelling has the parts and the length of the constructed one**
+pub alike : (bits : Bits) (ip : ℕ) (code : Code) (row : Row) (s : Spelling) (i : Instr) → Given bits ip code row s i → length i.ops ≡ 4 → IsPlain bits ip row s → IsAlike row s (plain_spelling bits ip row i)
+alike bits ip code row s i g four p =
     let t = plain_spelling bits ip row i in
     let own = own_parts bits ip row i in
     let f = front_same bits ip code row s i g four p in
     let m = tail_same bits ip code row s i g four p in
     let kinds = kinds_suit bits ip code row s i g in
     let next = plain_next bits ip row i in
+    let prefixes = f.prefixes ∙ sym own.prefixes in
+    let vex = f.vex ∙ sym own.vex in
+    let modrm = m.modrm ∙ sym own.modrm in
+    let sib = m.sib ∙ sym own.sib in
     let disp : length s.disp.items ≡ length t.disp.items = sym (displacement_same bits ip code row s i g four m) ∙ sym (displacement_length next (address_operand row i)) ∙ ap (λ (x : List ℕ). length x) (sym own.disp) in
     let imm : length s.imm.items ≡ length t.imm.items =
     sym (immediates-len bits ip code row s i g) ∙ sym (immediates_is (plain_size bits row) row) ∙ sym (immediates-length bits row i next kinds) ∙ ap (λ (x : List ℕ). length x) (sym own.imm) in
-    sym (plain_long bits ip row i kinds)
-    ∙ sym (len_same row s t (front_len row s t (f.prefixes ∙ sym own.prefixes) (f.vex ∙ sym own.vex)) (tail_len s t (m.modrm ∙ sym own.modrm) (m.sib ∙ sym own.sib) disp imm))
+    record {
+      prefixes = prefixes;
+      vex = vex;
+      opcode = f.opcode ∙ sym own.opcode;
+      modrm = modrm;
+      sib = sib;
+      disp_length = disp;
+      imm_length = imm;
+      same_length = len_same row s t (front_len row s t prefixes vex) (tail_len s t modrm sib disp imm);
+    }
+
+-- **its length is that of the constructed one**
+pub length_same : (bits : Bits) (ip : ℕ) (code : Code) (row : Row) (s : Spelling) (i : Instr) → Given bits ip code row s i → length i.ops ≡ 4 → IsPlain bits ip row s → plain_len bits row i ≡ length (bytes_of row s)
+length_same bits ip code row s i g four p =
+    sym (plain_long bits ip row i (kinds_suit bits ip code row s i g)) ∙ sym (alike bits ip code row s i g four p).same_length
+
+-- ---- from fit and meaning
+
+four_of_meaning : (bits : Bits) (ip : ℕ) (code : Code) (row : Row) (s : Spelling) → length (meaning bits ip code row s).ops ≡ 4
+unfolding meaning instr_of
+four_of_meaning bits ip code row s = refl
+
+pub four_of : (bits : Bits) (ip : ℕ) (row : Row) (s : Spelling) (i : Instr) → meaning bits ip i.code row s ≡ i → length i.ops ≡ 4
+four_of bits ip row s i e = subst (λ (x : Instr). length x.ops ≡ 4) e (four_of_meaning bits ip i.code row s)
+
+pub given_from : (bits : Bits) (ip : ℕ) (row : Row) (s : Spelling) (i : Instr) → Sound row → Writable bits row → fits bits row s ≡ true → meaning bits ip i.code row s ≡ i → Given bits ip i.code row s i
+given_from bits ip row s i sound w f e = record { is_sound = sound; is_writable = w; fitting = all_conditions bits row s f; means = e }

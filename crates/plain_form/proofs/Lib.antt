@@ -9,3 +9,4 @@ pub mod FrontSame
 pub mod RmSame
 pub mod TailSame
 pub mod Lengths
+pub mod Values
