@@ -1,3 +1,4 @@
+mod Examples
 pub mod Prefixes
 pub mod Bits
 pub mod FrontIs
