@@ -10,4 +10,3 @@ pub mod FrontSame
 pub mod RmSame
 pub mod TailSame
 pub mod Lengths
-pub mod Values
