@@ -32,6 +32,8 @@ use Rattle.plain_fit.proofs.Lengths.{plain_long}
 use Rattle.plain_fit.proofs.Whole.{plain_fits, plain_means}
 use Rattle.plain_need.proofs.Given as need
 use Rattle.plain_need.proofs.Whole.{NeedsHold, needs_hold}
+use Rattle.plain_form.proofs.PlainIs.{plain_is}
+use Rattle.plain_form.proofs.Lengths.{length_same}
 use Rattle.row_relation.specs.Spells.{IsSpelledBy, SpellsUnbounded}
 use Rattle.plain_laws.specs.Plain.{IsPlainlySpelled, IsWritable, is_target, has_target}
 use Rattle.plain_spelling.proofs.Failures.{failure-suits, suits-failure}
@@ -104,8 +106,10 @@ plain_from table bits ip row i w at four h =
     record {
       row = row;
       row_is = at;
+      spelling = plain_spelling bits ip row i;
       bytes_are = refl;
       fitting = plain_fits bits ip row i g;
+      plain = plain_is bits ip row i g;
       means = plain_means bits ip row i g;
       is_short = rw n (le_true (plain_len bits row i) 15 a.1);
     }
@@ -139,26 +143,38 @@ all_hold bits ip row s i n targets = record {
 same_row : (table : List Row) (code : ℕ) (row other : Row) → slice_get table code ≡ Some row → slice_get table code ≡ Some other → row ≡ other
 same_row table code row other a b = cc
 
+-- a meaning has four operands
+four_of_meaning : (bits : Bits) (ip : ℕ) (code : Code) (row : Row) (s : Spelling) → length (meaning bits ip code row s).ops ≡ 4
+unfolding meaning instr_of
+four_of_meaning bits ip code row s = refl
+
+four_of : (bits : Bits) (ip : ℕ) (row : Row) (s : Spelling) (i : Instr) → meaning bits ip i.code row s ≡ i → length i.ops ≡ 4
+four_of bits ip row s i e = subst (λ (x : Instr). length x.ops ≡ 4) e (four_of_meaning bits ip i.code row s)
+
+-- what is plainly spelled is as long as the constructed spelling
+constructed_long : (table : List Row) (bits : Bits) (ip : ℕ) (bytes : List ℕ) (i : Instr) → IsWritable table → (p : IsPlainlySpelled table bits ip bytes i) → plain_len bits p.row i ≡ length (bytes_of p.row p.spelling)
+constructed_long table bits ip bytes i w p =
+    length_same bits ip i.code p.row p.spelling i (given_need table bits ip p.row p.spelling i w p.row_is p.fitting p.means) (four_of bits ip p.row p.spelling i p.means) p.plain
+
 -- **where an instruction is plainly spelled, all ten conditions hold**
 pub holds_of_plain : (table : List Row) (bits : Bits) (ip : ℕ) (bytes : List ℕ) (row : Row) (i : Instr) → IsWritable table → slice_get table i.code.0 ≡ Some row → IsPlainlySpelled table bits ip bytes i → failure bits ip row i ≡ None
 holds_of_plain table bits ip bytes row i w at p =
-    let s = plain_spelling bits ip p.row i in
+    let s = p.spelling in
     let g = given_need table bits ip p.row s i w p.row_is p.fitting p.means in
     let n = needs_hold bits ip i.code p.row s i g in
-    let l = plain_long bits ip p.row i n.kinds in
-    let short : plain_len bits p.row i ≤ 15 = rw (← l, ← p.bytes_are) p.is_short in
+    let l = constructed_long table bits ip bytes i w p in
+    let short : plain_len bits p.row i ≤ 15 = rw (l, ← p.bytes_are) p.is_short in
     subst (λ (r : Row). failure bits ip r i ≡ None) (same_row table i.code.0 p.row row p.row_is at)
-    (suits-failure bits ip p.row i (all_hold bits ip p.row s i n (n.targets (sym l))) (true_le (plain_len bits p.row i) 15 short))
+    (suits-failure bits ip p.row i (all_hold bits ip p.row s i n (n.targets l)) (true_le (plain_len bits p.row i) 15 short))
 
 -- **every spelling of an instruction is at least as long as its plain one**
 pub plain_is_least : (table : List Row) (bits : Bits) (ip : ℕ) (bytes others : List ℕ) (i : Instr) → IsWritable table → IsPlainlySpelled table bits ip bytes i → SpellsUnbounded table bits ip others i → length bytes ≤ length others
 plain_is_least table bits ip bytes others i w p (row, at, (s, e)) =
     let g = given_need table bits ip row s i w at e.fitting e.means in
     let n = needs_hold bits ip i.code row s i g in
-    let l = plain_long bits ip row i n.kinds in
     let same = same_row table i.code.0 p.row row p.row_is at in
-    let b : bytes ≡ bytes_of row (plain_spelling bits ip row i) = p.bytes_are ∙ ap (λ (r : Row). bytes_of r (plain_spelling bits ip r i)) same in
-    omega (arith, ap length b, l, n.least, ap length e.bytes_are)
+    let l : length bytes ≡ plain_len bits row i = ap length p.bytes_are ∙ sym (constructed_long table bits ip bytes i w p) ∙ ap (λ (r : Row). plain_len bits r i) same in
+    omega (arith, l, n.least, ap length e.bytes_are)
 
 -- ---- without a target
 
@@ -208,17 +224,12 @@ all_untargeted bits ip row i h =
       untargeted bits ip row i 3 (or_false_right (t 2) (t 3) r2),
     ) refl
 
--- a meaning has four operands
-four_of_meaning : (bits : Bits) (ip : ℕ) (code : Code) (row : Row) (s : Spelling) → length (meaning bits ip code row s).ops ≡ 4
-unfolding meaning instr_of
-four_of_meaning bits ip code row s = refl
-
 -- **an instruction without a target that has a spelling has a plain one**
 pub plain_of_spelled : (table : List Row) (bits : Bits) (ip : ℕ) (bytes : List ℕ) (i : Instr) → IsWritable table → has_target i ≡ false → length bytes ≤ 15 → SpellsUnbounded table bits ip bytes i → (plain : List ℕ) × IsPlainlySpelled table bits ip plain i
 plain_of_spelled table bits ip bytes i w none short (row, at, (s, e)) =
     let g = given_need table bits ip row s i w at e.fitting e.means in
     let n = needs_hold bits ip i.code row s i g in
-    let four : length i.ops ≡ 4 = subst (λ (x : Instr). length x.ops ≡ 4) e.means (four_of_meaning bits ip i.code row s) in
+    let four = four_of bits ip row s i e.means in
     let all = all_hold bits ip row s i n (all_untargeted bits ip row i none) in
     let within = true_le (plain_len bits row i) 15 (omega (arith, n.least, ap length e.bytes_are)) in
     (bytes_of row (plain_spelling bits ip row i), plain_from table bits ip row i w at four (suits-failure bits ip row i all within))

@@ -4,13 +4,12 @@ use Rattle.std.proofs.Math.Seq.{take-append_seam}
 use Rattle.x86_values.specs.declared.Bits.{Bits}
 use Rattle.x86_values.specs.declared.Instr.{Instr}
 use Rattle.row_types.specs.declared.Row.{Row}
-use Rattle.plain_spelling.specs.PlainTail.{plain_spelling}
 use Rattle.row_relation.specs.Spells.{Spells, ReadsAs}
 use Rattle.plain_laws.specs.Plain.{IsPlainlySpelled}
 
 pub plain_spells : (table : List Row) (bits : Bits) (ip : ℕ) (bytes : List ℕ) (i : Instr) → IsPlainlySpelled table bits ip bytes i → Spells table bits ip bytes i
 plain_spells table bits ip bytes i p =
-    (p.is_short, (p.row, p.row_is, (plain_spelling bits ip p.row i, record { bytes_are = sym p.bytes_are; fitting = p.fitting; means = p.means })))
+    (p.is_short, (p.row, p.row_is, (p.spelling, record { bytes_are = sym p.bytes_are; fitting = p.fitting; means = p.means })))
 
 -- **the bytes of a plain spelling are read as the instruction, and all of them**
 pub plain_reads : (table : List Row) (bits : Bits) (ip : ℕ) (bytes rest : List ℕ) (i : Instr) → IsPlainlySpelled table bits ip bytes i → ReadsAs table bits ip (bytes ++ rest) i (length bytes)

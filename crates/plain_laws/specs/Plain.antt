@@ -6,6 +6,7 @@ use Rattle.x86_values.specs.declared.Operand.{Operand}
 use Rattle.x86_values.specs.declared.Operand.TheVariants.{Mem as MemOperand, Near}
 use Rattle.x86_values.specs.declared.Instr.{Instr}
 use Rattle.row_types.specs.declared.Row.{Row}
+use Rattle.instruction_parts.specs.declared.spelling.Spelling.{Spelling}
 use Rattle.instruction_parts.specs.Bytes.{bytes_of}
 use Rattle.row_fit.specs.Fits.{fits}
 use Rattle.row_fit.specs.Sound.{sound}
@@ -13,17 +14,19 @@ use Rattle.row_meaning.specs.Meaning.{meaning}
 use Rattle.plain_spelling.specs.Forms.{operand_at}
 use Rattle.plain_spelling.specs.declared.addresses.AddressForm.TheVariants.{Relative}
 use Rattle.plain_spelling.specs.Addresses.{form_of}
-use Rattle.plain_spelling.specs.PlainTail.{plain_spelling}
 use Rattle.plain_spelling.specs.Writable.{writable}
+use Rattle.plain_form.specs.IsPlain.{IsPlain}
 
--- the bytes are the plain spelling of the instruction at an address: it fits the row of the code, means the instruction there, and has at
--- most 15 bytes (2.3.11)
+-- the bytes are those of a plain spelling of the instruction at an address: it fits the row of the code, is plain, means the instruction
+-- there, and has at most 15 bytes (2.3.11)
 pub record IsPlainlySpelled (table : List Row) (bits : Bits) (ip : ℕ) (bytes : List ℕ) (i : Instr) : Type 0 where
   pub row : Row
   pub row_is : slice_get table i.code.0 ≡ Some row
-  pub bytes_are : bytes ≡ bytes_of row (plain_spelling bits ip row i)
-  pub fitting : IsTrue (fits bits row (plain_spelling bits ip row i))
-  pub means : meaning bits ip i.code row (plain_spelling bits ip row i) ≡ i
+  pub spelling : Spelling
+  pub bytes_are : bytes ≡ bytes_of row spelling
+  pub fitting : IsTrue (fits bits row spelling)
+  pub plain : IsPlain bits ip row spelling
+  pub means : meaning bits ip i.code row spelling ≡ i
   pub is_short : length bytes ≤ 15
 
 -- each row of a table is sound and has plain spellings

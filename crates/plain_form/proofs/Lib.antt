@@ -1,0 +1,12 @@
+mod Examples
+pub mod Prefixes
+pub mod Bits
+pub mod FrontIs
+pub mod TailIs
+pub mod Addresses
+pub mod Rm
+pub mod PlainIs
+pub mod FrontSame
+pub mod RmSame
+pub mod TailSame
+pub mod Lengths

@@ -1,0 +1,2 @@
+pub mod IsPlain
+pub mod Alike

@@ -1,0 +1,4 @@
+//! What makes a spelling plain, as a property of any spelling of a row, apart from how the plain one is made (Intel SDM volume 2, chapter 2).
+#![tactic(auto)]
+
+pub mod laws;
