@@ -17,7 +17,7 @@ pub next_item : (before : Items) (item : Item) (after : Items) (len : ℕ) → i
 next_item before item after len address read n some within front mode moved back = record {
   address = address;
   reading =
-  reading_at table before.bits item.ip before.ip before.bytes.now before.bytes.now (reading_of item.reading) address refl read;
+      reading_at table before.bits item.ip before.ip before.bytes.now before.bytes.now (reading_of item.reading) address refl read;
   some = omega (arith, n, some);
   within = omega (arith, n, within);
   bytes = front ∙ ap (λ k. take k before.bytes.now) (sym n);

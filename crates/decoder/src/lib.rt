@@ -10,12 +10,11 @@ mod reading;
 #[cfg(test)]
 mod tests;
 
-use thiserror::Error;
-
 pub use by_mode::decode_in;
 pub use cursor::Decoder;
 pub use items::{Item, Items};
 pub use reading::{decode, decode_counted};
+use thiserror::Error;
 
 /// Why bytes are not read as an instruction.
 #[derive(Clone, Copy, PartialEq, Eq, Debug, Error)]

@@ -17,15 +17,15 @@ returns-clause-steps c =
     in
     elim c.match-reading.branch [
       | in-Ok w ↦
-        let fit = w.in-Ok.ensures.length in
-        let same : c.match-reading.reading ≡ c.decode_in-reading.result = w.reading-is ∙ sym w.in-Ok.is in
-        next_item _ _ _ c.match-reading.len address
-        (subst (λ r. IsRead bits c.wrap-ip.result bytes (reading_of r)) (sym same) c.decode_in-reading.ensures.reading)
-        (ap item_len w.reading-is ∙ sym w.len-is) (omega (arith, w.len-is, fit.0)) (omega (arith, w.len-is, fit.2)) c.split_at.ensures.front
-        refl moved c.split_at.ensures.back
+          let fit = w.in-Ok.ensures.length in
+          let same : c.match-reading.reading ≡ c.decode_in-reading.result = w.reading-is ∙ sym w.in-Ok.is in
+          next_item _ _ _ c.match-reading.len address
+          (subst (λ r. IsRead bits c.wrap-ip.result bytes (reading_of r)) (sym same) c.decode_in-reading.ensures.reading)
+          (ap item_len w.reading-is ∙ sym w.len-is) (omega (arith, w.len-is, fit.0)) (omega (arith, w.len-is, fit.2)) c.split_at.ensures.front
+          refl moved c.split_at.ensures.back
       | in-Err w ↦
-        next_item _ _ _ c.match-reading.len address
-        (subst (λ r. IsRead bits c.wrap-ip.result bytes (reading_of r)) (sym w.reading-is) c.decode_in-reading.ensures.reading)
-        (ap item_len (w.reading-is ∙ w.in-Err.is) ∙ sym w.len-is) (omega (arith, w.len-is))
-        (grind (arith, w.len-is, c.is_empty.ensures, c.if-is_empty.false)) c.split_at.ensures.front refl moved c.split_at.ensures.back
+          next_item _ _ _ c.match-reading.len address
+          (subst (λ r. IsRead bits c.wrap-ip.result bytes (reading_of r)) (sym w.reading-is) c.decode_in-reading.ensures.reading)
+          (ap item_len (w.reading-is ∙ w.in-Err.is) ∙ sym w.len-is) (omega (arith, w.len-is))
+          (grind (arith, w.len-is, c.is_empty.ensures, c.if-is_empty.false)) c.split_at.ensures.front refl moved c.split_at.ensures.back
     ]
