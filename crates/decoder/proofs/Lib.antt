@@ -5,6 +5,7 @@ mod Scanning
 mod Finding
 mod InCell
 mod Moving
+mod NextItem
 mod FormedRegisters
 mod Formed
 pub mod OneReading

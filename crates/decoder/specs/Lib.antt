@@ -1,3 +1,4 @@
 pub mod Answer
 pub mod Cells
 pub mod Cursor
+pub mod Items

@@ -1,6 +1,7 @@
 //! Reading instructions one behind another.
 
-ghost use Rattle.std.specs.Prelude.{◌≡◌, ◌+◌, ◌<◌, ◌≤◌, List, length, drop, IsTrue, IfOk, Err};
+ghost use Rattle.std.specs.Prelude.{◌≡◌, ◌+◌, ◌<◌, ◌≤◌, ◌↔◌, List, length, drop, IsTrue, IfOk, Err};
+ghost use Rattle.x86_values.specs.Wrapping.{wrapped};
 ghost use Rattle.prefixes.specs.Answer.{is_mode, mode_of};
 ghost use Rattle.opcode_rows.specs.Allowed.{is_well_formed};
 ghost use Rattle.opcode_rows.specs.Reading.{IsRead};
@@ -48,6 +49,23 @@ impl<'a, const BITS: u32> Decoder<'a, BITS> {
         ensures within { result ≤ length self.now.bytes }
     {
         self.position
+    }
+
+    /// The address of the next byte that is read: `ip` of the first byte and the position modulo 2 to the number of bits of the mode.
+    #[inline]
+    pub fn ip(&self) -> u64
+        ensures { result ≡ wrapped (mode_of BITS) (self.now.ip + self.now.position) }
+    {
+        let address = self.position as u128 + u128::from(self.ip);
+        wrap(mode_of::<BITS>(), address)
+    }
+
+    /// Whether bytes are left to read.
+    #[inline]
+    pub fn can_decode(&self) -> bool
+        ensures { IsTrue result ↔ (self.now.position < length self.now.bytes) }
+    {
+        self.position < self.bytes.len()
     }
 
     /// Goes to the place behind the first `p` bytes, of which there are as many.

@@ -1,22 +1,30 @@
 //! Reading instructions from bytes (Intel SDM volume 2, chapter 2). `laws` has that no bytes have two spellings.
 #![tactic(auto)]
 
+mod by_mode;
 mod cell;
 mod cursor;
 mod found;
+mod items;
 mod reading;
 #[cfg(test)]
 mod tests;
 
+pub use by_mode::decode_in;
 pub use cursor::Decoder;
+pub use items::{Item, Items};
 pub use reading::{decode, decode_counted};
 pub use unique_spelling::laws;
 
+use thiserror::Error;
+
 /// Why bytes are not read as an instruction.
-#[derive(Clone, Copy, PartialEq, Eq, Debug)]
+#[derive(Clone, Copy, PartialEq, Eq, Debug, Error)]
 pub enum DecodeError {
     /// The bytes begin with no instruction, and more bytes behind them make none.
+    #[error("no instruction begins with these bytes")]
     Invalid,
     /// The bytes, fewer than 15, begin with no instruction; they end before their opcode byte, or more bytes behind them make one.
+    #[error("the bytes end before an instruction does")]
     TooShort,
 }

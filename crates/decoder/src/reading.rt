@@ -40,7 +40,7 @@ pub fn decode<const BITS: u32>(ip: u64, bytes: &[u8]) -> Result<Decoded, DecodeE
 
 /// The same on a count of its own.
 // A ledger is picked only at a call without const parameters, so the mode is a value here.
-fn decode_on<L: Ledger>(
+pub fn decode_on<L: Ledger>(
     blank: Blank,
     bits: Bits,
     ip: u64,

@@ -1,15 +1,11 @@
 use crate::{encode, encoded_len};
-use opcode_rows::{ROWS, first_of};
+use opcode_rows::{ROWS, code_of};
 use plain_spelling::NoSpelling;
-use row_types::{Map, RowKind};
 use x86_values::{Bits, Code, DispSize, Instr, Mem, Operand, Register, Rep, Segment};
 
-/// The code of the `n`-th row of a cell, one that no row has where the cell is empty.
-fn code(kind: RowKind, map: Map, opcode: u8, n: u16) -> Code {
-    match first_of(kind, map, opcode) {
-        Some(first) => Code(first.0.saturating_add(n)),
-        None => Code(0xFFFF),
-    }
+/// The code of the `n`-th row of a name, one that no row has where there is none.
+fn code(name: &str, n: usize) -> Code {
+    code_of(name, n).unwrap_or(Code(0xFFFF))
 }
 
 fn instr(code: Code, first: Operand, second: Operand, asize: Option<Bits>) -> Instr {
@@ -43,7 +39,7 @@ fn gather(destination: u8, index: Option<Register>, mask: Register) -> Instr {
         disp: 0,
         disp_size: DispSize::D0,
     });
-    let row = code(RowKind::Vex, Map::M0f38, 0x92, 0);
+    let row = code("vgatherdps", 0);
     let first = Operand::Reg(Register::Xmm(destination));
     let mut given = instr(row, first, address, Some(Bits::B64));
     given.ops[2] = Operand::Reg(mask);
@@ -53,13 +49,12 @@ fn gather(destination: u8, index: Option<Register>, mask: Register) -> Instr {
 // Bytes of 64-bit mode, by the manual's notation of ADD, MOV, JMP, VADDPS and NOP.
 #[test]
 fn bytes_in_64_bit_mode(rt: HostRuntime) {
-    let legacy = RowKind::Legacy;
-    let add16 = code(legacy, Map::One, 0x01, 0);
-    let add32 = code(legacy, Map::One, 0x01, 1);
-    let add64 = code(legacy, Map::One, 0x01, 2);
-    let add8 = code(legacy, Map::One, 0x00, 0);
-    let add_byte = code(legacy, Map::One, 0x83, 1);
-    let nop = code(legacy, Map::One, 0x90, 0);
+    let add16 = code("add", 1);
+    let add32 = code("add", 2);
+    let add64 = code("add", 3);
+    let add8 = code("add", 0);
+    let add_byte = code("add", 18);
+    let nop = code("nop", 0);
     let none = Operand::Absent;
     let r32 = |n: u8| Operand::Reg(Register::R32(n));
     let r64 = |n: u8| Operand::Reg(Register::R64(n));
@@ -112,19 +107,18 @@ fn bytes_in_64_bit_mode(rt: HostRuntime) {
 // One refusal of each kind that a code, a register, an address, a displacement, a target and a prefix can have.
 #[test]
 fn refusals(rt: HostRuntime) {
-    let legacy = RowKind::Legacy;
-    let add32 = code(legacy, Map::One, 0x01, 1);
-    let add64 = code(legacy, Map::One, 0x01, 2);
-    let add8 = code(legacy, Map::One, 0x00, 0);
+    let add32 = code("add", 2);
+    let add64 = code("add", 3);
+    let add8 = code("add", 0);
     let r32 = |n: u8| Operand::Reg(Register::R32(n));
     let r64 = |n: u8| Operand::Reg(Register::R64(n));
     let byte = |n: u8| Operand::Reg(Register::Low8(n));
     let dh = Operand::Reg(Register::High8(2));
     let ah = Operand::Reg(Register::High8(0));
     let ch = Operand::Reg(Register::High8(1));
-    let mov8 = code(legacy, Map::One, 0x88, 0);
-    let shl_by_cl = code(legacy, Map::One, 0xD2, 4);
-    let add_byte = code(legacy, Map::One, 0x83, 1);
+    let mov8 = code("mov", 0);
+    let shl_by_cl = code("shl", 8);
+    let add_byte = code("add", 18);
     let by_three = Operand::Mem(Mem {
         base: Some(Register::R64(0)),
         index: Some(Register::R64(1)),

@@ -60,7 +60,7 @@ fn rows_of_names(rt: HostRuntime) {
         ("push", 1, Some(13)),
         ("rorx", 1, Some(1968)),
         ("rorx", 2, None),
-        ("vzeroall", 0, Some(1636)),
+        ("vzeroall", 0, Some(1611)),
         ("vzeroall", 1, None),
         ("ADD", 0, None),
         ("", 0, None),

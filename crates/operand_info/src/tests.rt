@@ -2,23 +2,13 @@ use crate::{
     Access, Flow, RegUse, access_of, flow_of, ip_operand, memory_size, near_target, used_registers,
 };
 use arrayvec::ArrayVec;
-use opcode_rows::{ROWS, cell_len, first_of, well_formed};
-use row_types::{Map, RowKind};
+use opcode_rows::{ROWS, code_of, well_formed};
 use std::test::Fail;
 use x86_values::{Code, DispSize, Instr, Mem, Operand, Register, Rep};
 
-/// The code of the `n`-th row at an opcode byte of the one-byte map, or a code past the table.
-fn one(opcode: u8, n: u16) -> Code {
-    match first_of(RowKind::Legacy, Map::One, opcode) {
-        Some(first) => {
-            if n < cell_len(RowKind::Legacy, Map::One, opcode) {
-                Code(first.0 + n)
-            } else {
-                Code(u16::MAX)
-            }
-        }
-        None => Code(u16::MAX),
-    }
+/// The code of the `n`-th row of a name, or a code past the table.
+fn code(name: &str, n: usize) -> Code {
+    code_of(name, n).unwrap_or(Code(u16::MAX))
 }
 
 /// The flow, the access of the first two operands and the memory size of a code, if the table has it.
@@ -40,29 +30,29 @@ fn columns(code: Code) -> Option<(Flow, Access, Access, u8)> {
 #[test]
 fn columns_of_codes(rt: HostRuntime) {
     let cases = [
-        (one(0x55, 2), Flow::Next, Access::Read, Access::None, 0),
-        (one(0x89, 2), Flow::Next, Access::Write, Access::Read, 8),
+        (code("push", 10), Flow::Next, Access::Read, Access::None, 0),
+        (code("mov", 3), Flow::Next, Access::Write, Access::Read, 8),
         (
-            one(0x83, 17),
+            code("sub", 19),
             Flow::Next,
             Access::ReadWrite,
             Access::Read,
             8,
         ),
-        (one(0xe8, 2), Flow::Call, Access::Read, Access::None, 0),
-        (one(0xc9, 2), Flow::Next, Access::None, Access::None, 0),
-        (one(0xc3, 2), Flow::Return, Access::None, Access::None, 0),
-        (one(0x8b, 2), Flow::Next, Access::Write, Access::Read, 8),
-        (one(0x8d, 2), Flow::Next, Access::Write, Access::None, 0),
+        (code("call", 2), Flow::Call, Access::Read, Access::None, 0),
+        (code("leave", 2), Flow::Next, Access::None, Access::None, 0),
+        (code("ret", 5), Flow::Return, Access::None, Access::None, 0),
+        (code("mov", 7), Flow::Next, Access::Write, Access::Read, 8),
+        (code("lea", 2), Flow::Next, Access::Write, Access::None, 0),
         (
-            one(0xe2, 2),
+            code("loop", 2),
             Flow::ConditionalBranch,
             Access::Read,
             Access::None,
             0,
         ),
-        (one(0x01, 1), Flow::Next, Access::ReadWrite, Access::Read, 4),
-        (one(0x38, 0), Flow::Next, Access::Read, Access::Read, 1),
+        (code("add", 2), Flow::Next, Access::ReadWrite, Access::Read, 4),
+        (code("cmp", 0), Flow::Next, Access::Read, Access::Read, 1),
     ];
     for (code, flow, first, second, memory) in cases {
         assert_eq!(rt; columns(code), Some((flow, first, second, memory)));
@@ -108,9 +98,9 @@ fn registers_of_instructions(rt: HostRuntime) -> Result<(), Fail> {
     let (rax, rbx, rcx) = (Register::R64(0), Register::R64(3), Register::R64(1));
     let eax = Register::R32(0);
     let address = memory(rbx, Some(rcx), 1, 0);
-    let lea = plain(one(0x8d, 2), Operand::Reg(rax), address);
+    let lea = plain(code("lea", 2), Operand::Reg(rax), address);
     let scaled = memory(rbx, Some(rcx), 4, 0);
-    let add = plain(one(0x01, 1), scaled, Operand::Reg(eax));
+    let add = plain(code("add", 2), scaled, Operand::Reg(eax));
     let read = [uses(rbx, Access::Read), uses(rcx, Access::Read)];
     let of_lea = used(&lea).ok_or("not well formed")?;
     assert_eq!(rt;
@@ -129,9 +119,9 @@ fn registers_of_instructions(rt: HostRuntime) -> Result<(), Fail> {
 #[test]
 fn targets_of_instructions(rt: HostRuntime) {
     let rax = Operand::Reg(Register::R64(0));
-    let near = |x| plain(one(0xe8, 2), Operand::Near(x), Operand::Absent);
-    let relative = plain(one(0x8b, 2), rax, memory(Register::Rip, None, 1, 8));
-    let based = plain(one(0x8d, 2), rax, memory(Register::R64(3), None, 1, 8));
+    let near = |x| plain(code("call", 2), Operand::Near(x), Operand::Absent);
+    let relative = plain(code("mov", 7), rax, memory(Register::Rip, None, 1, 8));
+    let based = plain(code("lea", 2), rax, memory(Register::R64(3), None, 1, 8));
     let cases = [
         (near(0x402003), Some(0x402003), None),
         (near(0), Some(0), None),

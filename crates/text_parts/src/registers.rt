@@ -183,3 +183,12 @@ pub fn append_override(out: &mut Text, style: Style, segment: Option<Segment>)
         }
     }
 }
+
+/// The text of a register in a style: `rax`, in AT&T `%rax`.
+pub fn register_text(style: Style, r: Register) -> Text
+    ensures { result.items ≡ spec.register style r }
+{
+    let mut text = Text::new();
+    append_register(&mut text, style, r);
+    text
+}

@@ -1,24 +1,9 @@
-use opcode_rows::{cell_len, first_of, well_formed};
-use row_types::{Map, RowKind};
+use opcode_rows::{code_of, well_formed};
 use x86_values::{Bits, Code, DispSize, Instr, Mem, Operand, Register, Rep, Segment};
 
-/// The code of the `n`-th row of a cell, or a code past the table.
-fn nth_code(kind: RowKind, map: Map, opcode: u8, n: u16) -> Code {
-    match first_of(kind, map, opcode) {
-        Some(first) => {
-            if n < cell_len(kind, map, opcode) {
-                Code(first.0 + n)
-            } else {
-                Code(u16::MAX)
-            }
-        }
-        None => Code(u16::MAX),
-    }
-}
-
-/// A row of the one-byte map.
-fn one(opcode: u8, n: u16) -> Code {
-    nth_code(RowKind::Legacy, Map::One, opcode, n)
+/// The code of the `n`-th row of a name, or a code past the table.
+fn code(name: &str, n: usize) -> Code {
+    code_of(name, n).unwrap_or(Code(u16::MAX))
 }
 
 fn plain(code: Code, first: Operand, second: Operand) -> Instr {
@@ -53,7 +38,7 @@ fn eax() -> Operand {
 /// `gs add eax, 0xffffffff` with LOCK and a memory operand in place of EAX.
 fn locked() -> Instr {
     let mut instr = plain(
-        one(0x83, 1),
+        code("add", 18),
         memory(Some(Register::Rip), 0x1007, DispSize::D32),
         Operand::Imm(0xffff_ffff),
     );
@@ -74,21 +59,21 @@ fn three_styles(rt: HostRuntime) {
     let cases = [
         (
             Bits::B64,
-            plain(one(0x89, 2), memory(rsp, 0x10, DispSize::D8), r64(3)),
+            plain(code("mov", 3), memory(rsp, 0x10, DispSize::D8), r64(3)),
             b"mov qword [rsp+0x10], rbx".as_slice(),
             b"mov qword ptr [rsp+10h], rbx".as_slice(),
             b"movq %rbx, 0x10(%rsp)".as_slice(),
         ),
         (
             Bits::B64,
-            plain(one(0xff, 8), memory(rax, 0, DispSize::D0), Operand::Absent),
+            plain(code("call", 5), memory(rax, 0, DispSize::D0), Operand::Absent),
             b"call qword [rax]".as_slice(),
             b"call qword ptr [rax]".as_slice(),
             b"callq *(%rax)".as_slice(),
         ),
         (
             Bits::B32,
-            plain(one(0x9a, 1), far, Operand::Absent),
+            plain(code("callf", 1), far, Operand::Absent),
             b"callf 0x8:0x10".as_slice(),
             b"callf 8h:10h".as_slice(),
             b"callf $0x8, $0x10".as_slice(),
@@ -102,7 +87,7 @@ fn three_styles(rt: HostRuntime) {
         ),
         (
             Bits::B64,
-            plain(one(0xd8, 4), memory(rax, 0, DispSize::D0), Operand::Absent),
+            plain(code("fsub", 0), memory(rax, 0, DispSize::D0), Operand::Absent),
             b"fsub dword [rax]".as_slice(),
             b"fsub dword ptr [rax]".as_slice(),
             b"fsubs (%rax)".as_slice(),
@@ -110,7 +95,7 @@ fn three_styles(rt: HostRuntime) {
         (
             Bits::B64,
             plain(
-                nth_code(RowKind::Legacy, Map::M0f, 0xb6, 1),
+                code("movzx", 1),
                 eax(),
                 memory(Some(Register::R64(7)), 0xffff_ffff_ffff_fff8, DispSize::D8),
             ),

@@ -1,0 +1,22 @@
+//! The reading of some bytes in a mode that is a value.
+
+ghost use Rattle.std.specs.Prelude.{◌<◌, ◌≤◌, length, IsTrue, IfOk};
+ghost use Rattle.opcode_rows.specs.Allowed.{is_well_formed};
+ghost use Rattle.opcode_rows.specs.Reading.{IsRead};
+ghost use Rattle.decoder.specs.Answer.{reading_of, IsOnlyReading};
+
+use crate::DecodeError;
+use crate::reading::decode_on;
+use std::marker::Brand;
+use std::sync::ledger::Blank;
+use x86_values::{Bits, Decoded};
+
+/// The same as `decode`, where the mode is a value.
+pub fn decode_in(bits: Bits, ip: u64, bytes: &[u8]) -> Result<Decoded, DecodeError>
+    ensures reading { IsRead bits ip bytes.now (reading_of result) }
+    ensures length { IfOk result (λ d. (0 < d.len) × (d.len ≤ 15) × (d.len ≤ length bytes.now)) }
+    ensures form { IfOk result (λ d. IsTrue (is_well_formed d.instr)) }
+    ensures alone { IfOk result (λ d. IsOnlyReading bits ip bytes.now d) }
+{
+    decode_on::<Brand>(Blank::new(1), bits, ip, bytes)
+}

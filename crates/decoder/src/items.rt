@@ -1,0 +1,70 @@
+//! The items of some bytes, one behind another.
+
+ghost use Rattle.std.specs.Prelude.{◌≡◌, length, IsTrue};
+ghost use Rattle.std.specs.Result.{ForOk};
+ghost use Rattle.opcode_rows.specs.Allowed.{is_well_formed};
+
+use crate::DecodeError;
+use crate::by_mode::decode_in;
+use x86_values::{Bits, Decoded, wrap};
+
+/// An instruction that stands among some bytes, or a single byte where none is read.
+#[derive(Clone, Copy, PartialEq, Eq, Debug)]
+pub struct Item<'a> {
+    /// The address of the first byte.
+    pub ip: u64,
+    /// The bytes: those of the instruction, or the single one.
+    pub bytes: &'a [u8],
+    /// The instruction, or why none is read.
+    pub reading: Result<Decoded, DecodeError>,
+    ghost formed: { ForOk reading (λ d. IsTrue (is_well_formed d.instr)) },
+}
+
+/// Reads some bytes item by item: an instruction, and behind it what follows its last byte; where none is read a single byte.
+#[derive(Clone, Copy, Debug)]
+pub struct Items<'a> {
+    /// The mode.
+    pub bits: Bits,
+    /// The address of the next byte, taken modulo 2 to the number of bits of the mode.
+    pub ip: u64,
+    /// The bytes that are left.
+    pub bytes: &'a [u8],
+}
+
+impl<'a> Items<'a> {
+    /// The items of some bytes, the first of which has the address `ip`.
+    pub fn new(bits: Bits, ip: u64, bytes: &'a [u8]) -> Self
+        ensures mode { result.bits ≡ bits }
+        ensures address { result.ip ≡ ip }
+        ensures bytes { result.bytes.now ≡ bytes.now }
+    {
+        Items { bits, ip, bytes }
+    }
+}
+
+impl<'a> Iterator for Items<'a> {
+    ghost use Rattle.std.specs.Iterator.{at_most};
+    ghost use Rattle.decoder.specs.Items.{GivesItem};
+
+    type Item = Item<'a>;
+
+    ghost next_gives = { GivesItem };
+
+    ghost remaining = { λ s. at_most (length s.bytes.now) };
+
+    fn next(&mut self) -> Option<Item<'a>> {
+        if self.bytes.is_empty() {
+            return None;
+        }
+        let ip = wrap(self.bits, u128::from(self.ip));
+        let reading = decode_in(self.bits, ip, self.bytes);
+        let len = match reading {
+            Ok(decoded) => decoded.len as usize,
+            Err(_) => 1,
+        };
+        let (bytes, rest) = self.bytes.split_at(len);
+        self.ip = wrap(self.bits, u128::from(ip) + len as u128);
+        self.bytes = rest;
+        Some(Item { ip, bytes, reading })
+    }
+}

@@ -1,0 +1,83 @@
+//! Instructions of 16, 32 and 64-bit x86: reading, writing, telling what they do, and moving them. One crate to depend on.
+//!
+//! Each module hands on what a user of the library calls from the crate that it stands in; what is proved of a call stands
+//! there, below it.
+#![tactic(auto)]
+
+mod intel;
+#[cfg(test)]
+mod tests;
+
+/// Registers, operands and instructions as data.
+pub mod values {
+    pub use x86_values::{
+        Bits, Code, Decoded, DispSize, Instr, Mem, Operand, Register, Rep, Segment, same, wrap,
+    };
+}
+
+/// Reading bytes: whole instructions, items one behind another, and the parts of one.
+pub mod decoding {
+    pub use decoder::{DecodeError, Decoder, Item, Items, decode, decode_counted, decode_in};
+    pub use modrm_sib::{TailError, modrm_of_byte, read_operands, read_row, sib_of_byte};
+    pub use prefixes::{PrefixError, mode_of, read_front, read_prefixes};
+    pub use step_count::Steps;
+}
+
+/// Writing instructions: the shortest bytes of one, and its parts.
+pub mod encoding {
+    pub use encoder::{NoSpelling, encode, encoded_len};
+    pub use modrm_sib::{write_operands, write_tail};
+    pub use prefixes::write_prefixes;
+    pub use row_relation::{append_lead, append_tail, plain_front, spelling_bytes};
+}
+
+/// The text of instructions and registers in three styles.
+pub mod format {
+    pub use crate::intel::Intel;
+    pub use att_text::print as print_att;
+    pub use intel_text::print as print_intel;
+    pub use masm_text::print as print_masm;
+    pub use text_parts::registers::{register_text, segment_name};
+    pub use text_parts::style::Style;
+    pub use text_parts::text::Text;
+}
+
+/// What an instruction does: its flow, the access of its operands, its registers and targets.
+pub mod info {
+    pub use operand_info::{
+        Access, Flow, RegUse, access_of, flow_of, ip_operand, memory_size, near_target,
+        used_registers,
+    };
+}
+
+/// The rows of the table, by code, name and opcode byte, and their notation.
+pub mod rows {
+    pub use opcode_rows::{ROWS, cell_len, code_of, first_of, name, row, row_of, well_formed};
+    pub use row_lines::{notation_of, row_line};
+    pub use row_notation::{NotationFault, read_notation, shape_of, write_notation};
+    pub use row_relation::{
+        ModRm, PrefixState, Sib, Spelling, Vex, row_fits, row_meaning, row_memory_size,
+    };
+    pub use row_types::{
+        Class, ImmWord, LBit, Map, Marks, ModRmRule, ModeMask, OpKind, Place, Plus, PlusWord, Row,
+        RowKind, RowShape, Size, SizeWord, WBit,
+    };
+}
+
+/// Moving blocks of code to other addresses.
+pub mod moving {
+    pub use block_encoder::{
+        BlockSpan, Form, MoveError, Moved, MovedBlocks, Placed, move_block, move_blocks,
+    };
+    pub use branch_sizes::{Branch, Choice, Goal, LayoutError, Plan, Reach, least_layout};
+}
+
+/// Places for code in a fixed range of addresses.
+pub mod region {
+    pub use code_region::{Command, NotTaken, OpenError, PlaceError, Region, Reply, replay};
+}
+
+/// The offsets that control reaches, and their basic blocks.
+pub mod flow {
+    pub use flow_graph::{FlowError, FlowGraph, flow_graph, flow_graph_in};
+}

@@ -1,0 +1,36 @@
+use crate::decoding::decode_in;
+use crate::encoding::{NoSpelling, encode, encoded_len};
+use crate::flow::flow_graph_in;
+use crate::format::Intel;
+use crate::info::{Flow, flow_of};
+use crate::moving::move_block;
+use crate::region::Region;
+use crate::rows::code_of;
+use crate::values::Bits;
+use std::test::Fail;
+
+// `jne` over 16 bytes: each module is called once, and what it says is the manual's.
+#[test]
+#[tactic(auto, using(operand_info::proofs::Uses::code_in_table))]
+fn each_module_has_its_call(rt: HostRuntime) -> Result<(), Fail> {
+    let bytes = [0x75, 0x10];
+    let read = decode_in(Bits::B64, 0x1000, &bytes)?;
+    assert_eq!(rt; Some(read.instr.code), code_of("jne", 2));
+    assert_eq!(rt; flow_of(read.instr.code), Flow::ConditionalBranch);
+    let shown = Intel {
+        bits: Bits::B64,
+        instr: read.instr,
+    };
+    assert_eq!(rt; shown.to_string(rt.alloc())?.as_str(), "jne 0x1012");
+    let encoded = encode(Bits::B64, 0x1000, &read.instr)?;
+    assert_eq!(rt; encoded.as_slice(), bytes.as_slice());
+    let far = encoded_len(Bits::B64, 0x2000, &read.instr);
+    assert_eq!(rt; far, Err(NoSpelling::Target));
+    let moved = move_block(rt.alloc(), Bits::B64, &[], 0x2000)?;
+    assert!(rt; moved.bytes().is_empty());
+    let graph = flow_graph_in(rt.alloc(), Bits::B64, 0x1000, &bytes)?;
+    assert_eq!(rt; graph.starts(), [0].as_slice());
+    let mut region = Region::make(rt.alloc(), 0x2000, 64, 2)?;
+    assert_eq!(rt; region.place(6)?, 0x2000);
+    Ok(())
+}
