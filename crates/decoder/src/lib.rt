@@ -14,9 +14,8 @@ pub use by_mode::decode_in;
 pub use cursor::Decoder;
 pub use items::{Item, Items};
 pub use reading::{decode, decode_counted};
-pub use unique_spelling::laws;
-
 use thiserror::Error;
+pub use unique_spelling::laws;
 
 /// Why bytes are not read as an instruction.
 #[derive(Clone, Copy, PartialEq, Eq, Debug, Error)]

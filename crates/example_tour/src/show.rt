@@ -15,7 +15,11 @@ pub fn show(rt: &HostRuntime, bits: Bits, ip: u64, code: &[u8]) -> anyhow::Resul
                 let intel = Intel { bits, instr };
                 let att = print_att(bits, &instr);
                 let att = from_utf8(&att)?;
-                print!(rt; "{:x}  {intel:<34}{att:<34}{:?}", item.ip, flow_of(instr.code))?;
+                print!(rt;
+                    "{:x}  {intel:<34}{att:<34}{:?}",
+                    item.ip,
+                    flow_of(instr.code)
+                )?;
                 for used in used_registers(&instr).iter() {
                     let name = register_text(Style::Intel, used.reg);
                     print!(rt; " {}:{:?}", from_utf8(&name)?, used.access)?;

@@ -51,7 +51,13 @@ fn columns_of_codes(rt: HostRuntime) {
             Access::None,
             0,
         ),
-        (code("add", 2), Flow::Next, Access::ReadWrite, Access::Read, 4),
+        (
+            code("add", 2),
+            Flow::Next,
+            Access::ReadWrite,
+            Access::Read,
+            4,
+        ),
         (code("cmp", 0), Flow::Next, Access::Read, Access::Read, 1),
     ];
     for (code, flow, first, second, memory) in cases {

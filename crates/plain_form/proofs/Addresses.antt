@@ -259,10 +259,10 @@ neither_is bits asize st m s d scale disp size w g alone none =
     let f = fields_neither bits asize scale disp size w in
     record {
       forth = λ needed scaled. (
-      let long : is_64 bits ≡ true = and_right (m.mode3 == 0 && s.base == 5) (is_64 bits) (or_left (s.base == 4) _ no_four needed) in
-      f ∙ if_there (is_64 bits) _ _ long
-      ∙ same_fields 0 m.mode3 4 m.rm (Some (sib_with 0 4 5)) (Some s) (sym (equal_from m.mode3 0 (and_left (m.mode3 == 0) (s.base == 5) alone))) (sym four)
-      (ap (λ (x : Sib). Some x) (same_sib 0 s.scale 4 s.index 5 s.base (sym (equal_from s.scale 0 scaled)) (sym (index_four (bit_x st) s.index none)) (sym base))));
+          let long : is_64 bits ≡ true = and_right (m.mode3 == 0 && s.base == 5) (is_64 bits) (or_left (s.base == 4) _ no_four needed) in
+          f ∙ if_there (is_64 bits) _ _ long
+          ∙ same_fields 0 m.mode3 4 m.rm (Some (sib_with 0 4 5)) (Some s) (sym (equal_from m.mode3 0 (and_left (m.mode3 == 0) (s.base == 5) alone))) (sym four)
+          (ap (λ (x : Sib). Some x) (same_sib 0 s.scale 4 s.index 5 s.base (sym (equal_from s.scale 0 scaled)) (sym (index_four (bit_x st) s.index none)) (sym base))));
       back = λ h. back_neither bits m s (is_64 bits) alone (ap (λ (x : AddressFields). x.sib) (sym f) ∙ h) refl;
     }
 
@@ -284,11 +284,11 @@ base_is bits asize st m s d scale disp w g beside none =
     let same : (k % 8 == 4) ≡ (s.base == 4) = ap (λ (n : ℕ). n == 4) low in
     record {
       forth = λ needed scaled. (
-      let is : (s.base == 4) ≡ true = base_four (s.base == 4) (m.mode3 == 0 && s.base == 5) (is_64 bits) beside needed in
-      f
-      ∙ same_fields _ m.mode3 _ m.rm _ (Some s) (mode_back bits asize st m (Some s) d g (alone_sib asize m s w four ∙ beside)) (if_there (k % 8 == 4) 4 (k % 8) (same ∙ is) ∙ sym four)
-      (if_there (k % 8 == 4) _ None (same ∙ is)
-      ∙ ap (λ (x : Sib). Some x) (same_sib 0 s.scale 4 s.index (k % 8) s.base (sym (equal_from s.scale 0 scaled)) (sym (index_four (bit_x st) s.index none)) low)));
+          let is : (s.base == 4) ≡ true = base_four (s.base == 4) (m.mode3 == 0 && s.base == 5) (is_64 bits) beside needed in
+          f
+          ∙ same_fields _ m.mode3 _ m.rm _ (Some s) (mode_back bits asize st m (Some s) d g (alone_sib asize m s w four ∙ beside)) (if_there (k % 8 == 4) 4 (k % 8) (same ∙ is) ∙ sym four)
+          (if_there (k % 8 == 4) _ None (same ∙ is)
+          ∙ ap (λ (x : Sib). Some x) (same_sib 0 s.scale 4 s.index (k % 8) s.base (sym (equal_from s.scale 0 scaled)) (sym (index_four (bit_x st) s.index none)) low)));
       back = λ h. back_base bits m s (k % 8 == 4) (k % 8) (sym same) (ap (λ (x : AddressFields). x.sib) (sym f) ∙ h);
     }
   where

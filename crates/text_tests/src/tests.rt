@@ -66,7 +66,11 @@ fn three_styles(rt: HostRuntime) {
         ),
         (
             Bits::B64,
-            plain(code("call", 5), memory(rax, 0, DispSize::D0), Operand::Absent),
+            plain(
+                code("call", 5),
+                memory(rax, 0, DispSize::D0),
+                Operand::Absent,
+            ),
             b"call qword [rax]".as_slice(),
             b"call qword ptr [rax]".as_slice(),
             b"callq *(%rax)".as_slice(),
@@ -87,7 +91,11 @@ fn three_styles(rt: HostRuntime) {
         ),
         (
             Bits::B64,
-            plain(code("fsub", 0), memory(rax, 0, DispSize::D0), Operand::Absent),
+            plain(
+                code("fsub", 0),
+                memory(rax, 0, DispSize::D0),
+                Operand::Absent,
+            ),
             b"fsub dword [rax]".as_slice(),
             b"fsub dword ptr [rax]".as_slice(),
             b"fsubs (%rax)".as_slice(),
