@@ -104,10 +104,10 @@ nothing_there bits ip code row s i g t none far = go row.modrm refl
     go (Digit d) e = lone d (modrm_digit bits row i d e)
     go (FixedByte b) e = with_modrm bits ip code row s i _ g (t.modrm ∙ modrm_fixed bits row i b e) (register_bytes (spelled_asize bits row s) _ s.sib (fixed_mode_is row b g.is_sound e))
 
-rm_is_address : (how : Method) → reads_rm how ≡ true → reads_address how ≡ true
+pub rm_is_address : (how : Method) → reads_rm how ≡ true → reads_address how ≡ true
 rm_is_address how h = rw h refl
 
-offset_is_address : (how : Method) → is_offset how ≡ true → reads_address how ≡ true
+pub offset_is_address : (how : Method) → is_offset how ≡ true → reads_address how ≡ true
 offset_is_address method.Offset h = refl
 offset_is_address _ h = impossible (sym h)
 
@@ -129,7 +129,7 @@ of_rm bits ip code row s i n (Near x) g four t below reads e v = impossible (sym
 of_rm bits ip code row s i n (Far a b) g four t below reads e v = impossible (sym v)
 
 -- **the displacement is as long as the constructed one**
-displacement_same : (bits : Bits) (ip : ℕ) (code : Code) (row : Row) (s : Spelling) (i : Instr) → Given bits ip code row s i → length i.ops ≡ 4 → TailSame bits row s i → operand_displacement (address_operand row i) ≡ length s.disp.items
+pub displacement_same : (bits : Bits) (ip : ℕ) (code : Code) (row : Row) (s : Spelling) (i : Instr) → Given bits ip code row s i → length i.ops ≡ 4 → TailSame bits row s i → operand_displacement (address_operand row i) ≡ length s.disp.items
 displacement_same bits ip code row s i g four t =
     let kinds = kinds_suit bits ip code row s i g in
     let four_of = four_kinds row g.is_sound in

@@ -10,3 +10,7 @@ pub mod FrontSame
 pub mod RmSame
 pub mod TailSame
 pub mod Lengths
+pub mod Values
+pub mod Tails
+pub mod Immediates
+pub mod One
