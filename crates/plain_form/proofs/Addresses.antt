@@ -1,5 +1,5 @@
 -- The fields of an address that is read are the plain ones of it exactly where its SIB is needed, and has no scale that is not read.
-use Rattle.std.proofs.Common.{◌≡◌, eq-eqb, inl, inr, ℕ, zero, suc, ◌+◌, ◌%◌, ◌^◌, ◌<◌, Bool, true, false, ◌&&◌, ◌||◌, not, ◌==◌, List, length, Option, Some, None, is_some, refl, ap, sym, ◌∙◌, subst, arith, if◌then◌else◌}
+use Rattle.std.proofs.Common.{◌≡◌, eq-eqb, inl, inr, ℕ, zero, suc, ◌%◌, ◌^◌, ◌<◌, Bool, true, false, ◌&&◌, ◌||◌, not, ◌==◌, List, length, Option, Some, None, is_some, refl, ap, sym, ◌∙◌, subst, arith, if◌then◌else◌}
 use Rattle.std.proofs.lemmas.Bool.{lt-ltb}
 use Rattle.x86_values.specs.declared.Bits.{Bits}
 use Rattle.x86_values.specs.declared.Bits.TheVariants.{B16, B32, B64}
@@ -18,8 +18,8 @@ use Rattle.instruction_parts.specs.declared.spelling.PrefixState.{PrefixState}
 use Rattle.instruction_parts.specs.Counting.{is_16, is_64}
 use Rattle.instruction_parts.specs.Sizes.{bit_b, bit_x}
 use Rattle.instruction_parts.proofs.Tests.{either, and_left, and_right, equal_from}
-use Rattle.row_fit.specs.Fits.{extended, is_displacement_alone, displacement_bytes, full_displacement, needs_sib, index_number}
-use Rattle.row_meaning.specs.Meaning.{general, vector, register_of, displacement, disp_size_of, index_16, memory_16, memory_alone, memory_with_sib, memory_flat, memory_of, sib_index, scale_of}
+use Rattle.row_fit.specs.Fits.{extended, is_displacement_alone, displacement_bytes, needs_sib, index_number}
+use Rattle.row_meaning.specs.Meaning.{general, vector, register_of, displacement, disp_size_of, index_16, memory_16, memory_alone, memory_with_sib, memory_flat, memory_of, sib_index}
 use Rattle.plain_spelling.specs.PlainFront.{register_number}
 use Rattle.plain_spelling.specs.declared.addresses.AddressFields.{AddressFields}
 use Rattle.plain_spelling.specs.Addresses.{form_of, displacement_count, mode_of_count, scale_field, base_bits, index_bits, plain_sib, flat_needs_sib, flat_fields, alone_fields, address_fields, or_zero, rm_of_short}
@@ -259,10 +259,10 @@ neither_is bits asize st m s d scale disp size w g alone none =
     let f = fields_neither bits asize scale disp size w in
     record {
       forth = λ needed scaled. (
-      let long : is_64 bits ≡ true = and_right (m.mode3 == 0 && s.base == 5) (is_64 bits) (or_left (s.base == 4) _ no_four needed) in
-      f ∙ if_there (is_64 bits) _ _ long
-      ∙ same_fields 0 m.mode3 4 m.rm (Some (sib_with 0 4 5)) (Some s) (sym (equal_from m.mode3 0 (and_left (m.mode3 == 0) (s.base == 5) alone))) (sym four)
-      (ap (λ (x : Sib). Some x) (same_sib 0 s.scale 4 s.index 5 s.base (sym (equal_from s.scale 0 scaled)) (sym (index_four (bit_x st) s.index none)) (sym base))));
+          let long : is_64 bits ≡ true = and_right (m.mode3 == 0 && s.base == 5) (is_64 bits) (or_left (s.base == 4) _ no_four needed) in
+          f ∙ if_there (is_64 bits) _ _ long
+          ∙ same_fields 0 m.mode3 4 m.rm (Some (sib_with 0 4 5)) (Some s) (sym (equal_from m.mode3 0 (and_left (m.mode3 == 0) (s.base == 5) alone))) (sym four)
+          (ap (λ (x : Sib). Some x) (same_sib 0 s.scale 4 s.index 5 s.base (sym (equal_from s.scale 0 scaled)) (sym (index_four (bit_x st) s.index none)) (sym base))));
       back = λ h. back_neither bits m s (is_64 bits) alone (ap (λ (x : AddressFields). x.sib) (sym f) ∙ h) refl;
     }
 
@@ -284,11 +284,11 @@ base_is bits asize st m s d scale disp w g beside none =
     let same : (k % 8 == 4) ≡ (s.base == 4) = ap (λ (n : ℕ). n == 4) low in
     record {
       forth = λ needed scaled. (
-      let is : (s.base == 4) ≡ true = base_four (s.base == 4) (m.mode3 == 0 && s.base == 5) (is_64 bits) beside needed in
-      f
-      ∙ same_fields _ m.mode3 _ m.rm _ (Some s) (mode_back bits asize st m (Some s) d g (alone_sib asize m s w four ∙ beside)) (if_there (k % 8 == 4) 4 (k % 8) (same ∙ is) ∙ sym four)
-      (if_there (k % 8 == 4) _ None (same ∙ is)
-      ∙ ap (λ (x : Sib). Some x) (same_sib 0 s.scale 4 s.index (k % 8) s.base (sym (equal_from s.scale 0 scaled)) (sym (index_four (bit_x st) s.index none)) low)));
+          let is : (s.base == 4) ≡ true = base_four (s.base == 4) (m.mode3 == 0 && s.base == 5) (is_64 bits) beside needed in
+          f
+          ∙ same_fields _ m.mode3 _ m.rm _ (Some s) (mode_back bits asize st m (Some s) d g (alone_sib asize m s w four ∙ beside)) (if_there (k % 8 == 4) 4 (k % 8) (same ∙ is) ∙ sym four)
+          (if_there (k % 8 == 4) _ None (same ∙ is)
+          ∙ ap (λ (x : Sib). Some x) (same_sib 0 s.scale 4 s.index (k % 8) s.base (sym (equal_from s.scale 0 scaled)) (sym (index_four (bit_x st) s.index none)) low)));
       back = λ h. back_base bits m s (k % 8 == 4) (k % 8) (sym same) (ap (λ (x : AddressFields). x.sib) (sym f) ∙ h);
     }
   where

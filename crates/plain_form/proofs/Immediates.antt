@@ -1,19 +1,15 @@
 -- Immediates that are read as the same operand are the same bytes.
-use Rattle.std.proofs.Common.{◌≡◌, inl, inr, ℕ, zero, suc, ◌+◌, ◌-◌, ◌*◌, ◌/◌, ◌%◌, ◌<◌, ◌≤◌, Bool, true, false, ◌&&◌, ◌||◌, ◌==◌, nat_lt, List, [], ◌∷◌, ◌++◌, length, take, drop, slice_index, Option, refl, ap, sym, ◌∙◌, subst, arith, take-append-drop, length-take, length-drop, if◌then◌else◌}
+use Rattle.std.proofs.Common.{◌≡◌, ℕ, ◌-◌, ◌*◌, ◌/◌, ◌%◌, ◌≤◌, Bool, true, false, ◌||◌, ◌==◌, nat_lt, List, [], ◌∷◌, ◌++◌, length, take, drop, refl, ap, sym, ◌∙◌, arith, take-append-drop, length-take, length-drop, if◌then◌else◌}
 use borrow.Author.Tests.{ltb-true}
 use Rattle.x86_values.specs.declared.Bits.{Bits}
 use Rattle.x86_values.specs.declared.Bits.TheVariants.{B16, B32, B64}
-use Rattle.x86_values.specs.declared.Register.{Register}
-use Rattle.x86_values.specs.declared.Operand.{Operand}
-use Rattle.x86_values.specs.declared.Operand.TheVariants.{Reg, Imm, Near, Far}
+use Rattle.x86_values.specs.declared.Operand.TheVariants.{Imm, Near, Far}
 use Rattle.x86_values.specs.Wrapping.{width}
 use Rattle.row_types.specs.declared.Row.{Row}
 use Rattle.row_types.specs.declared.OpKind.{OpKind}
 use Rattle.row_types.specs.declared.OpKind.TheVariants.{Lx, Ibs, Iz, Jb, Jz}
 use Rattle.instruction_parts.specs.declared.kinds.Method.{Method}
 use Rattle.instruction_parts.specs.declared.kinds.Method.TheVariants as method
-use Rattle.instruction_parts.specs.declared.spelling.ModRm.{ModRm}
-use Rattle.instruction_parts.specs.declared.spelling.Sib.{Sib}
 use Rattle.instruction_parts.specs.declared.spelling.PrefixState.{PrefixState}
 use Rattle.instruction_parts.specs.Kinds.{method_of, file_of, immediate_width}
 use Rattle.instruction_parts.specs.Counting.{is_64}
@@ -21,7 +17,7 @@ use Rattle.instruction_parts.specs.Sizes.{state_size}
 use Rattle.instruction_parts.proofs.Tests.{and_left, and_right, equal_from}
 use Rattle.row_fit.specs.Fits.{are_bytes, immediate_bytes}
 use Rattle.row_fit.specs.Sound.{reads_last_byte}
-use Rattle.row_meaning.specs.Meaning.{Tail, operand_by, register_of, little_endian, sign_extended, target_of, near_target, far_pointer, last_byte_number}
+use Rattle.row_meaning.specs.Meaning.{Tail, operand_by, register_of, little_endian, target_of, near_target, far_pointer, last_byte_number}
 use Rattle.plain_spelling.specs.PlainFront.{register_number, operand_number}
 use Rattle.plain_spelling.proofs.AddressCases.{impossible}
 use Rattle.plain_spelling.proofs.Values.{width-le}

@@ -1,6 +1,5 @@
 -- **A fitting plain spelling that means an instruction is the constructed one.**
-use Rattle.std.proofs.Common.{◌≡◌, inl, inr, ℕ, zero, suc, ◌+◌, ◌<◌, Bool, true, false, ◌&&◌, ◌||◌, not, List, [], ◌∷◌, ◌++◌, length, take, drop, Option, Some, None, refl, ap, sym, ◌∙◌, subst, arith, take-append-drop, length-drop, drop-drop}
-use Rattle.arrayvec.specs.ArrayVec.{ArrayVec}
+use Rattle.std.proofs.Common.{◌≡◌, inl, inr, ℕ, zero, suc, ◌+◌, ◌<◌, Bool, true, false, ◌&&◌, ◌||◌, not, List, [], ◌∷◌, ◌++◌, length, take, drop, Option, refl, ap, sym, ◌∙◌, subst, arith, take-append-drop, length-drop, drop-drop}
 use Rattle.x86_values.specs.declared.Bits.{Bits}
 use Rattle.x86_values.specs.declared.Code.{Code}
 use Rattle.x86_values.specs.declared.Operand.{Operand}
@@ -17,7 +16,7 @@ use Rattle.instruction_parts.specs.Kinds.{method_of}
 use Rattle.instruction_parts.specs.Sizes.{state_size}
 use Rattle.instruction_parts.specs.Bytes.{lead_bytes, front_bytes, spelled_map, bytes_of, state_from, state_of}
 use Rattle.instruction_parts.proofs.Tests.{either, and_left, and_right}
-use Rattle.row_fit.specs.Fits.{reads_by, is_offset, are_bytes, immediate_bytes, kind_at}
+use Rattle.row_fit.specs.Fits.{reads_by, is_offset, immediate_bytes, kind_at}
 use Rattle.row_fit.specs.Sound.{reads_rm, reads_last_byte}
 use Rattle.row_meaning.specs.Meaning.{Tail, tail, tail_of, next_address, operand_by, own_immediate, immediates_before}
 use Rattle.row_meaning.specs.Meaning as meant
@@ -35,7 +34,7 @@ use Rattle.plain_need.proofs.Immediates.{operand-meant, immediates-len, spelled_
 use Rattle.plain_need.proofs.ReadOperands.{TailReads}
 use Rattle.plain_need.proofs.ReadTails.{tail_reads}
 use Rattle.plain_form.specs.IsPlain.{IsPlain, last_byte_is_bare, last_byte_is_read, immediates_are_read}
-use Rattle.plain_form.specs.Alike.{IsAlike}
+use Rattle.plain_form.proofs.Alike.{IsAlike}
 use Rattle.plain_form.proofs.Lengths.{displacement_same, rm_is_address, offset_is_address, alike, length_same}
 use Rattle.plain_form.proofs.FrontIs.{given_of}
 use Rattle.plain_form.proofs.PlainIs.{plain_is}

@@ -1,12 +1,9 @@
 -- Tails that are read as the same operands have the same displacement and the same immediates.
-use Rattle.std.proofs.Common.{◌≡◌, inl, inr, ℕ, zero, suc, ◌+◌, ◌-◌, ◌*◌, ◌/◌, ◌%◌, ◌<◌, ◌≤◌, Bool, true, false, ◌&&◌, ◌||◌, ◌==◌, nat_lt, List, [], ◌∷◌, ◌++◌, length, take, drop, slice_index, Option, Some, None, is_some, refl, ap, sym, ◌∙◌, subst, arith, if◌then◌else◌, take-append-drop, length-take, length-drop}
-use borrow.Author.Tests.{ltb-true}
+use Rattle.std.proofs.Common.{◌≡◌, inl, inr, ℕ, ◌*◌, ◌≤◌, Bool, true, false, ◌&&◌, ◌==◌, nat_lt, List, length, Option, Some, None, refl, ap, sym, ◌∙◌, subst, arith, if◌then◌else◌}
 use Rattle.x86_values.specs.declared.Bits.{Bits}
 use Rattle.x86_values.specs.declared.Bits.TheVariants.{B16, B32, B64}
-use Rattle.x86_values.specs.declared.Register.{Register}
 use Rattle.x86_values.specs.declared.Mem.{Mem}
-use Rattle.x86_values.specs.declared.Operand.{Operand}
-use Rattle.x86_values.specs.declared.Operand.TheVariants.{Absent as AbsentOperand, Reg, Mem as MemOperand, Imm, Near, Far}
+use Rattle.x86_values.specs.declared.Operand.TheVariants.{Reg, Mem as MemOperand}
 use Rattle.x86_values.specs.Wrapping.{width}
 use Rattle.row_types.specs.declared.Row.{Row}
 use Rattle.row_types.specs.declared.OpKind.{OpKind}
@@ -17,18 +14,17 @@ use Rattle.instruction_parts.specs.declared.spelling.ModRm.{ModRm}
 use Rattle.instruction_parts.specs.declared.spelling.Sib.{Sib}
 use Rattle.instruction_parts.specs.declared.spelling.PrefixState.{PrefixState}
 use Rattle.instruction_parts.specs.Kinds.{file_of}
-use Rattle.instruction_parts.specs.Counting.{is_16, is_64}
 use Rattle.instruction_parts.specs.Sizes.{size_bytes, state_address_size}
-use Rattle.instruction_parts.proofs.Tests.{either, and_left, and_right, equal_from}
-use Rattle.row_fit.specs.Fits.{are_bytes, has_modrm, rm_number, index_number, is_displacement_alone, displacement_bytes, full_displacement, is_memory_method}
-use Rattle.row_meaning.specs.Meaning.{Tail, tail, operand_by, register_of, displacement, memory_16, memory_alone, memory_with_sib, memory_flat, memory_of, memory_absolute, memory_operand, gather_memory, with_modrm, sign_extended, target_of, near_target, far_pointer}
+use Rattle.instruction_parts.proofs.Tests.{either}
+use Rattle.row_fit.specs.Fits.{are_bytes, has_modrm, rm_number, is_displacement_alone, displacement_bytes, is_memory_method}
+use Rattle.row_meaning.specs.Meaning.{tail, operand_by, register_of, displacement, memory_16, memory_alone, memory_with_sib, memory_flat, memory_of, memory_absolute, memory_operand, gather_memory, with_modrm, target_of}
 use Rattle.plain_spelling.specs.Forms.{is_memory}
 use Rattle.plain_spelling.proofs.AddressCases.{impossible, flat-alone, flat-register}
 use Rattle.plain_spelling.proofs.Asked.{reads_address}
 use Rattle.plain_spelling.proofs.Values.{width-le}
 use Rattle.plain_need.proofs.ReadShapes.{Reading}
 use Rattle.plain_need.proofs.ReadOperands.{TailReads}
-use Rattle.plain_form.proofs.Values.{value_same, extended_same, target_same}
+use Rattle.plain_form.proofs.Values.{extended_same, target_same}
 
 -- ---- an address
 
