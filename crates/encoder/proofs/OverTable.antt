@@ -8,7 +8,7 @@ use Rattle.row_relation.specs.Spells.{Spells, SpellsUnbounded}
 use Rattle.plain_spelling.specs.PlainTail.{plain_spelling}
 use Rattle.plain_spelling.specs.Expressible.{failure_of}
 use Rattle.plain_laws.specs.Plain.{IsPlainlySpelled, IsWritable, has_target}
-use Rattle.plain_laws.proofs.Exact.{plain_from, holds_of_plain, plain_is_least, plain_of_spelled}
+use Rattle.plain_laws.proofs.Exact.{plain_from, holds_of_plain, plain_is_least, plain_is_one, plain_of_spelled}
 use Rattle.plain_laws.proofs.ReadBack.{plain_spells}
 use Rattle.opcode_rows.specs.Table.{table}
 use Rattle.opcode_rows.proofs.Sound.{sound-row}
@@ -41,3 +41,6 @@ untargeted bits ip i none = (
   λ (bytes, s). plain_of_spelled table bits ip bytes i written_table none s.0 s.1,
   λ (bytes, p). (bytes, plain_spells table bits ip bytes i p),
 )
+
+pub only_one : (bits : Bits) (ip : ℕ) (bytes others : List ℕ) (i : Instr) → IsPlainlySpelled table bits ip bytes i → IsPlainlySpelled table bits ip others i → bytes ≡ others
+only_one bits ip bytes others i p q = plain_is_one table bits ip bytes others i written_table p q

@@ -14,6 +14,12 @@ pub fn ten_conditions_are_exact()
         → (failure_of bits ip (slice_get table i.code.0) i ≡ None) ↔ ((bytes : List ℕ) × IsPlainlySpelled table bits ip bytes i) }
 {}
 
+/// At most one byte string is a plain spelling of an instruction at an address.
+pub fn plain_spelling_is_one()
+    ensures { (bits : Bits) (ip : ℕ) (bytes others : List ℕ) (i : Instr)
+        → IsPlainlySpelled table bits ip bytes i → IsPlainlySpelled table bits ip others i → bytes ≡ others }
+{}
+
 /// Bytes that spell an instruction at an address are at least as many as those of its plain spelling there.
 pub fn plain_spelling_is_shortest()
     ensures { (bits : Bits) (ip : ℕ) (bytes others : List ℕ) (i : Instr)

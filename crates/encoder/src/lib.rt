@@ -76,7 +76,7 @@ fn encode_by_row(bits: Bits, ip: u64, instr: &Instr) -> Result<ArrayVec<u8, 15>,
 pub fn encode(bits: Bits, ip: u64, instr: &Instr) -> Result<ArrayVec<u8, 15>, NoSpelling>
     ensures encoding { written result ≡ encoding bits ip instr.now }
 
-    // The bytes are the plain spelling; where they are refused there is none.
+    // The bytes are those of a fitting spelling that is plain and means the instruction; where they are refused there is none.
     ensures plain { IfOk result (λ bytes. IsPlainlySpelled table bits (wrapped bits ip) bytes.items instr.now) }
     ensures refused { IsErr result → (bytes : List ℕ) → IsPlainlySpelled table bits (wrapped bits ip) bytes instr.now → ⊥ }
 

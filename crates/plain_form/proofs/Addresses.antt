@@ -1,5 +1,5 @@
 -- The fields of an address that is read are the plain ones of it exactly where its SIB is needed, and has no scale that is not read.
-use Rattle.std.proofs.Common.{◌≡◌, eq-eqb, inl, inr, ℕ, zero, suc, ◌+◌, ◌%◌, ◌^◌, ◌<◌, Bool, true, false, ◌&&◌, ◌||◌, not, ◌==◌, List, length, Option, Some, None, is_some, refl, ap, sym, ◌∙◌, subst, arith, if◌then◌else◌}
+use Rattle.std.proofs.Common.{◌≡◌, eq-eqb, inl, inr, ℕ, zero, suc, ◌%◌, ◌^◌, ◌<◌, Bool, true, false, ◌&&◌, ◌||◌, not, ◌==◌, List, length, Option, Some, None, is_some, refl, ap, sym, ◌∙◌, subst, arith, if◌then◌else◌}
 use Rattle.std.proofs.lemmas.Bool.{lt-ltb}
 use Rattle.x86_values.specs.declared.Bits.{Bits}
 use Rattle.x86_values.specs.declared.Bits.TheVariants.{B16, B32, B64}
@@ -18,8 +18,8 @@ use Rattle.instruction_parts.specs.declared.spelling.PrefixState.{PrefixState}
 use Rattle.instruction_parts.specs.Counting.{is_16, is_64}
 use Rattle.instruction_parts.specs.Sizes.{bit_b, bit_x}
 use Rattle.instruction_parts.proofs.Tests.{either, and_left, and_right, equal_from}
-use Rattle.row_fit.specs.Fits.{extended, is_displacement_alone, displacement_bytes, full_displacement, needs_sib, index_number}
-use Rattle.row_meaning.specs.Meaning.{general, vector, register_of, displacement, disp_size_of, index_16, memory_16, memory_alone, memory_with_sib, memory_flat, memory_of, sib_index, scale_of}
+use Rattle.row_fit.specs.Fits.{extended, is_displacement_alone, displacement_bytes, needs_sib, index_number}
+use Rattle.row_meaning.specs.Meaning.{general, vector, register_of, displacement, disp_size_of, index_16, memory_16, memory_alone, memory_with_sib, memory_flat, memory_of, sib_index}
 use Rattle.plain_spelling.specs.PlainFront.{register_number}
 use Rattle.plain_spelling.specs.declared.addresses.AddressFields.{AddressFields}
 use Rattle.plain_spelling.specs.Addresses.{form_of, displacement_count, mode_of_count, scale_field, base_bits, index_bits, plain_sib, flat_needs_sib, flat_fields, alone_fields, address_fields, or_zero, rm_of_short}

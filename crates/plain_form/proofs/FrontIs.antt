@@ -1,5 +1,5 @@
 -- The constructed front is plain: its prefixes, REX and VEX.
-use Rattle.std.proofs.Common.{◌≡◌, inl, inr, ℕ, ◌+◌, ◌*◌, ◌<◌, ◌≤◌, Bool, true, false, ◌&&◌, ◌||◌, not, nat_lt, List, Option, Some, None, refl, ap, sym, ◌∙◌, subst, arith, if◌then◌else◌}
+use Rattle.std.proofs.Common.{◌≡◌, inl, inr, ℕ, ◌+◌, ◌*◌, ◌<◌, Bool, true, false, ◌&&◌, ◌||◌, not, nat_lt, List, Option, Some, None, refl, ap, sym, ◌∙◌, subst, if◌then◌else◌}
 use Rattle.std.proofs.lemmas.Bool.{lt-ltb}
 use Rattle.x86_values.specs.declared.Bits.{Bits}
 use Rattle.x86_values.specs.declared.Operand.{Operand}
@@ -14,11 +14,11 @@ use Rattle.instruction_parts.specs.Counting.{is_64, rex_bit}
 use Rattle.instruction_parts.specs.Sizes.{is_vex_row, shared_bit, bit_r, bit_x, bit_b}
 use Rattle.instruction_parts.specs.Bytes.{bit, state_of}
 use Rattle.instruction_parts.proofs.Tests.{either}
-use Rattle.row_fit.specs.Fits.{same_bool, same_map, fits}
+use Rattle.row_fit.specs.Fits.{same_bool, same_map}
 use Rattle.row_fit.proofs.FitLaws.{all_conditions}
-use Rattle.row_meaning.specs.Meaning.{meaning, instr_of, tail_of}
+use Rattle.row_meaning.specs.Meaning.{instr_of}
 use Rattle.plain_spelling.specs.PlainFront.{number_in_vvvv, asked, asks_r, asks_x, asks_b, asks_low_byte, asks_rex_w, asks_vex_w, asked_rex, asked_vex, plain_front_of}
-use Rattle.plain_spelling.specs.PlainTail.{prefixes_of, plain_modrm, plain_sib_of, plain_spelling}
+use Rattle.plain_spelling.specs.PlainTail.{prefixes_of, plain_spelling}
 use Rattle.plain_spelling.proofs.FrontRange.{vex_for, vex_of_vex, vex_of_legacy}
 use Rattle.plain_fit.proofs.Given as fit
 use Rattle.plain_fit.proofs.Numbers.{numbers_suit}
@@ -30,7 +30,7 @@ use Rattle.plain_need.proofs.Given as need
 use Rattle.plain_need.proofs.States.{StateIs, state_is}
 use Rattle.plain_need.proofs.Agreeing.{plain_rex_w}
 use Rattle.plain_need.proofs.Used.{read, read_is}
-use Rattle.plain_form.specs.IsPlain.{needed_by, needed_prefixes, only_if, needs_r, needs_x, needs_b, needs_w, names_low_byte, rex_is_needed, vex_is_short, l_is_needed, vvvv_is_read}
+use Rattle.plain_form.specs.IsPlain.{needed_prefixes, only_if, needs_r, needs_x, needs_b, needs_w, names_low_byte, rex_is_needed, vex_is_short, l_is_needed, vvvv_is_read}
 use Rattle.plain_form.proofs.Prefixes.{Keeps, needed_are}
 use Rattle.plain_form.proofs.Bits.{NeedsAre}
 

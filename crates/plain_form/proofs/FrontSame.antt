@@ -6,7 +6,6 @@ use Rattle.x86_values.specs.declared.Bits.{Bits}
 use Rattle.x86_values.specs.declared.Bits.TheVariants.{B16, B32, B64}
 use Rattle.x86_values.specs.declared.Code.{Code}
 use Rattle.x86_values.specs.declared.Operand.{Operand}
-use Rattle.x86_values.specs.declared.Operand.TheVariants.{Reg}
 use Rattle.x86_values.specs.declared.Instr.{Instr}
 use Rattle.row_types.specs.declared.Row.{Row}
 use Rattle.row_types.specs.declared.Map.{Map}
@@ -34,7 +33,7 @@ use Rattle.instruction_parts.specs.Counting.{is_64, is_rex, bit_of, rex_bit, kep
 use Rattle.instruction_parts.specs.Sizes.{is_vex_row, state_size, shared_bit, bit_r, bit_x, bit_b, bit_w}
 use Rattle.instruction_parts.specs.Bytes.{bit, state_of}
 use Rattle.instruction_parts.proofs.Tests.{either, and_left, and_right, not_true, equal_from}
-use Rattle.row_fit.specs.Fits.{Fits, reads_by, is_vvvv, kind_at, same_bool, same_map, size_fits, w_fits, l_fits, sizes_fit, vvvv_fits, vvvv_number, takes_w_as_size, vex_class_fits, opcode_fits, opcode_and_modrm_fit, modrm_rule_fits, place_fits}
+use Rattle.row_fit.specs.Fits.{reads_by, is_vvvv, kind_at, same_bool, same_map, size_fits, w_fits, l_fits, sizes_fit, vvvv_fits, vvvv_number, takes_w_as_size, vex_class_fits, opcode_fits, opcode_and_modrm_fit}
 use Rattle.row_fit.specs.Sound.{Sound, kind_is_proper, vex_is_proper, legacy_is_proper, size_says_w, is_no_w, is_no_l, is_class_of_vex, is_size_of_vex, reads_vvvv}
 use Rattle.row_meaning.specs.Meaning.{Tail, operand_by, register_of, tail_of}
 use Rattle.plain_spelling.specs.Forms.{operand_at}
@@ -45,16 +44,16 @@ use Rattle.plain_spelling.proofs.FrontRange.{vex_for, vex_of_vex, vex_of_legacy}
 use Rattle.plain_spelling.proofs.Asked.{asked_vvvv-at, asked_vvvv-none, four_kinds}
 use Rattle.plain_fit.proofs.Numbers.{kind_that_passes}
 use Rattle.plain_need.proofs.Given.{Given}
-use Rattle.plain_need.proofs.Asks.{AskedBits, differ}
-use Rattle.plain_need.proofs.Numbers.{number-general, number-vector, number-byte}
+use Rattle.plain_need.proofs.Asks.{differ}
+use Rattle.plain_need.proofs.Numbers.{number-general, number-vector}
 use Rattle.plain_need.proofs.States.{StateIs, state_is, state_vex, state_rex, state_opcode}
 use Rattle.plain_need.proofs.Front.{needs_rex_w, needs_rex}
 use Rattle.plain_need.proofs.Used.{read_is, bits_of}
 use Rattle.plain_need.proofs.Variants.{read_at}
 use Rattle.plain_need.proofs.Suiting.{same_opcode_byte}
 use Rattle.plain_form.specs.IsPlain.{IsPlain, meant_operands, only_if, needs_r, needs_x, needs_b, needs_w, names_low_byte, rex_is_needed, vex_is_short, l_is_needed, vvvv_is_read}
-use Rattle.plain_form.proofs.Prefixes.{Keeps, needed_are}
-use Rattle.plain_form.proofs.Bits.{NeedsAre, needs_are, meant_are}
+use Rattle.plain_form.proofs.Prefixes.{needed_are}
+use Rattle.plain_form.proofs.Bits.{needs_are, meant_are}
 use Rattle.plain_form.proofs.FrontIs.{keeps_of}
 
 -- ---- the bits

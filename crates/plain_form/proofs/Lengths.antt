@@ -1,9 +1,8 @@
 -- A plain spelling is as long as the constructed one of what it means.
-use Rattle.std.proofs.Common.{◌≡◌, inl, inr, ℕ, ◌+◌, ◌<◌, Bool, true, false, ◌&&◌, ◌||◌, not, ◌==◌, List, ◌∷◌, ◌++◌, length, Option, Some, None, is_some, is_none, refl, ap, sym, ◌∙◌, subst, arith, if◌then◌else◌, length-append}
+use Rattle.std.proofs.Common.{◌≡◌, inl, inr, ℕ, ◌+◌, ◌<◌, Bool, true, false, ◌&&◌, ◌||◌, ◌==◌, List, ◌∷◌, ◌++◌, length, Option, Some, None, is_some, is_none, refl, ap, sym, ◌∙◌, subst, arith, if◌then◌else◌, length-append}
 use Rattle.x86_values.specs.declared.Bits.{Bits}
 use Rattle.x86_values.specs.declared.Bits.TheVariants.{B16, B32, B64}
 use Rattle.x86_values.specs.declared.Code.{Code}
-use Rattle.x86_values.specs.declared.Mem.{Mem}
 use Rattle.x86_values.specs.declared.Operand.{Operand}
 use Rattle.x86_values.specs.declared.Operand.TheVariants.{Absent as AbsentOperand, Reg, Mem as MemOperand, Imm, Near, Far}
 use Rattle.x86_values.specs.declared.Instr.{Instr}
@@ -20,7 +19,6 @@ use Rattle.instruction_parts.specs.declared.spelling.ModRm.{ModRm}
 use Rattle.instruction_parts.specs.declared.spelling.Sib.{Sib}
 use Rattle.instruction_parts.specs.declared.spelling.Spelling.{Spelling}
 use Rattle.instruction_parts.specs.Kinds.{method_of}
-use Rattle.instruction_parts.specs.Sizes.{size_bytes}
 use Rattle.instruction_parts.specs.Bytes.{modrm_bytes, sib_bytes, lead_bytes, front_bytes, tail_bytes, bytes_of}
 use Rattle.instruction_parts.proofs.Tests.{either, and_right, equal_from}
 use Rattle.row_fit.specs.Fits.{reads_by, reads_mode, is_offset, same_bool, needs_sib, is_displacement_alone, displacement_bytes, address_fits, immediate_bytes, immediates_bytes, kind_at}
@@ -47,11 +45,11 @@ use Rattle.row_fit.proofs.FitLaws.{all_conditions}
 use Rattle.row_meaning.specs.Meaning.{meaning, instr_of}
 use Rattle.plain_spelling.specs.Writable.{Writable}
 use Rattle.plain_form.specs.IsPlain.{IsPlain}
-use Rattle.plain_form.specs.Alike.{IsAlike}
+use Rattle.plain_form.proofs.Alike.{IsAlike}
 use Rattle.plain_form.proofs.TailIs.{fields_none}
 use Rattle.plain_form.proofs.Rm.{count_at}
 use Rattle.plain_form.proofs.RmSame.{address_part, variant_rm}
-use Rattle.plain_form.proofs.FrontSame.{FrontSame, front_same}
+use Rattle.plain_form.proofs.FrontSame.{front_same}
 use Rattle.plain_form.proofs.TailSame.{TailSame, tail_same}
 
 -- ---- the displacement
@@ -104,10 +102,10 @@ nothing_there bits ip code row s i g t none far = go row.modrm refl
     go (Digit d) e = lone d (modrm_digit bits row i d e)
     go (FixedByte b) e = with_modrm bits ip code row s i _ g (t.modrm ∙ modrm_fixed bits row i b e) (register_bytes (spelled_asize bits row s) _ s.sib (fixed_mode_is row b g.is_sound e))
 
-rm_is_address : (how : Method) → reads_rm how ≡ true → reads_address how ≡ true
+pub rm_is_address : (how : Method) → reads_rm how ≡ true → reads_address how ≡ true
 rm_is_address how h = rw h refl
 
-offset_is_address : (how : Method) → is_offset how ≡ true → reads_address how ≡ true
+pub offset_is_address : (how : Method) → is_offset how ≡ true → reads_address how ≡ true
 offset_is_address method.Offset h = refl
 offset_is_address _ h = impossible (sym h)
 
@@ -129,7 +127,7 @@ of_rm bits ip code row s i n (Near x) g four t below reads e v = impossible (sym
 of_rm bits ip code row s i n (Far a b) g four t below reads e v = impossible (sym v)
 
 -- **the displacement is as long as the constructed one**
-displacement_same : (bits : Bits) (ip : ℕ) (code : Code) (row : Row) (s : Spelling) (i : Instr) → Given bits ip code row s i → length i.ops ≡ 4 → TailSame bits row s i → operand_displacement (address_operand row i) ≡ length s.disp.items
+pub displacement_same : (bits : Bits) (ip : ℕ) (code : Code) (row : Row) (s : Spelling) (i : Instr) → Given bits ip code row s i → length i.ops ≡ 4 → TailSame bits row s i → operand_displacement (address_operand row i) ≡ length s.disp.items
 displacement_same bits ip code row s i g four t =
     let kinds = kinds_suit bits ip code row s i g in
     let four_of = four_kinds row g.is_sound in

@@ -9,4 +9,9 @@ pub mod PlainIs
 pub mod FrontSame
 pub mod RmSame
 pub mod TailSame
+pub mod Alike
 pub mod Lengths
+pub mod Values
+pub mod Tails
+pub mod Immediates
+pub mod One

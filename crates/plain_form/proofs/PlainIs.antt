@@ -1,5 +1,5 @@
 -- **The constructed spelling is plain.**
-use Rattle.std.proofs.Common.{◌≡◌, inl, inr, ℕ, ◌<◌, Bool, true, false, Option, Some, None, refl, ap, sym, ◌∙◌, subst, arith}
+use Rattle.std.proofs.Common.{◌≡◌, inl, inr, ℕ, ◌<◌, true, false, Option, Some, None, refl, ap, sym, ◌∙◌, subst, arith}
 use Rattle.x86_values.specs.declared.Bits.{Bits}
 use Rattle.x86_values.specs.declared.Mem.{Mem}
 use Rattle.x86_values.specs.declared.Operand.{Operand}
@@ -11,8 +11,6 @@ use Rattle.row_types.specs.declared.ModRmRule.{ModRmRule}
 use Rattle.row_types.specs.declared.ModRmRule.TheVariants.{No as NoModRm, Any as AnyModRm, Digit, Fixed as FixedByte}
 use Rattle.instruction_parts.specs.declared.spelling.ModRm.{ModRm}
 use Rattle.instruction_parts.specs.declared.spelling.Sib.{Sib}
-use Rattle.instruction_parts.specs.declared.spelling.Vex.{Vex}
-use Rattle.instruction_parts.specs.declared.spelling.Spelling.{Spelling}
 use Rattle.instruction_parts.specs.declared.spelling.PrefixState.{PrefixState}
 use Rattle.instruction_parts.specs.Kinds.{method_of}
 use Rattle.instruction_parts.specs.Sizes.{shared_bit, bit_r, bit_x}
@@ -23,7 +21,6 @@ use Rattle.row_fit.specs.Sound.{reads_rm}
 use Rattle.plain_spelling.specs.Forms.{operand_at}
 use Rattle.plain_spelling.specs.PlainFront.{asked_rex, asked_vex, plain_front_of}
 use Rattle.plain_spelling.specs.Addresses.{address_fields, written_size}
-use Rattle.plain_spelling.specs.declared.addresses.AddressFields.{AddressFields}
 use Rattle.plain_spelling.specs.PlainTail.{modrm_with, rm_operand, rm_fields, fields_of, plain_modrm, plain_sib_of, plain_spelling}
 use Rattle.plain_spelling.proofs.AddressCases.{impossible}
 use Rattle.plain_spelling.proofs.Asked.{four_kinds, rm_operand-at, rm_operand-none}
@@ -32,11 +29,11 @@ use Rattle.plain_fit.proofs.Numbers.{numbers_suit, kind_that_passes}
 use Rattle.plain_fit.proofs.Places.{memory_in_rm}
 use Rattle.plain_need.proofs.States.{StateIs, state_is}
 use Rattle.plain_need.proofs.Addresses.{spelled_asize}
-use Rattle.plain_form.specs.IsPlain.{IsPlain, meant_operands, only_if, needs_r, needs_x, needs_b, needs_w, rex_is_needed, sib_is_needed, scale_is_read}
+use Rattle.plain_form.specs.IsPlain.{IsPlain, only_if, needs_r, needs_x, needs_b, needs_w, sib_is_needed, scale_is_read}
 use Rattle.plain_form.proofs.Bits.{needs_are, meant_are}
 use Rattle.plain_form.proofs.FrontIs.{front_fits, own_state, given_of, prefixes_plain, r_plain, x_plain, b_plain, w_plain, rex_plain, vex_plain, l_plain, vvvv_plain}
 use Rattle.plain_form.proofs.TailIs.{reg_plain, rm_plain, mode_plain, last_plain}
-use Rattle.plain_form.proofs.Rm.{SibPlain, AddressIs, OperandIs, address_at, written_at}
+use Rattle.plain_form.proofs.Rm.{AddressIs, OperandIs, address_at, written_at}
 
 -- ---- the SIB
 

@@ -1,53 +1,43 @@
 -- What a fitting spelling has in r/m and SIB, by the operand that is read from it.
-use Rattle.std.proofs.Common.{◌≡◌, inl, inr, ℕ, zero, suc, ◌%◌, ◌<◌, Bool, true, false, ◌&&◌, ◌||◌, not, ◌==◌, nat_lt, List, length, Option, Some, None, is_some, is_none, refl, ap, sym, ◌∙◌, subst, arith, if◌then◌else◌}
-use Rattle.std.specs.List.{list_all}
-use Rattle.std.proofs.lemmas.Bool.{lt-ltb}
-use borrow.Author.Tests.{ltb-true}
+use Rattle.std.proofs.Common.{◌≡◌, inl, inr, ℕ, ◌<◌, Bool, true, false, nat_lt, List, length, Option, Some, None, refl, ap, sym, ◌∙◌, subst, arith, if◌then◌else◌}
 use Rattle.x86_values.specs.declared.Bits.{Bits}
 use Rattle.x86_values.specs.declared.Code.{Code}
-use Rattle.x86_values.specs.declared.Register.{Register}
 use Rattle.x86_values.specs.declared.Mem.{Mem}
 use Rattle.x86_values.specs.declared.Operand.{Operand}
-use Rattle.x86_values.specs.declared.Operand.TheVariants.{Absent as AbsentOperand, Reg, Mem as MemOperand, Imm, Near, Far}
+use Rattle.x86_values.specs.declared.Operand.TheVariants.{Reg, Mem as MemOperand}
 use Rattle.x86_values.specs.declared.Instr.{Instr}
 use Rattle.row_types.specs.declared.Row.{Row}
 use Rattle.row_types.specs.declared.OpKind.{OpKind}
-use Rattle.row_types.specs.declared.OpKind.TheVariants.{Absent, Sw}
+use Rattle.row_types.specs.declared.OpKind.TheVariants.{Absent}
 use Rattle.instruction_parts.specs.declared.kinds.Method.{Method}
 use Rattle.instruction_parts.specs.declared.kinds.Method.TheVariants as method
 use Rattle.instruction_parts.specs.declared.kinds.File.{File}
-use Rattle.instruction_parts.specs.declared.kinds.File.TheVariants as file
 use Rattle.instruction_parts.specs.declared.spelling.ModRm.{ModRm}
 use Rattle.instruction_parts.specs.declared.spelling.Sib.{Sib}
 use Rattle.instruction_parts.specs.declared.spelling.Spelling.{Spelling}
 use Rattle.instruction_parts.specs.declared.spelling.PrefixState.{PrefixState}
 use Rattle.instruction_parts.specs.Kinds.{method_of, file_of}
-use Rattle.instruction_parts.specs.Counting.{is_16, is_64}
-use Rattle.instruction_parts.specs.Sizes.{state_size, state_address_size, bit_w, bit_b}
+use Rattle.instruction_parts.specs.Sizes.{state_size, state_address_size}
 use Rattle.instruction_parts.specs.Bytes.{state_of}
-use Rattle.instruction_parts.proofs.Tests.{either, and_left, and_right, equal_from, not_true}
-use Rattle.row_fit.specs.Fits.{Fits, reads_by, reads_mode, is_gather, has_modrm, extended, rm_number, rm_field, index_number, needs_sib, same_bool, address_fits, lengths_fit, place_allows, place_of, place_fits, opcode_and_modrm_fit, opcode_fits, modrm_rule_fits, modrm_in_range, displacement_bytes, is_memory_method, kind_at}
+use Rattle.instruction_parts.proofs.Tests.{either}
+use Rattle.row_fit.specs.Fits.{reads_by, is_gather, has_modrm, rm_number, index_number, is_memory_method, kind_at}
 use Rattle.row_fit.specs.Sound.{Sound, reads_rm}
-use Rattle.row_fit.proofs.FitLaws.{modrm_range}
-use Rattle.row_meaning.specs.Meaning.{Tail, tail_of, operand_by, own_immediate, memory_of, memory_operand, memory_with_sib, gather_memory, with_modrm, register_of, word_or_dword, size_by_w, native_size}
+use Rattle.row_meaning.specs.Meaning.{Tail, tail_of, operand_by, own_immediate, memory_of, memory_operand, memory_with_sib, gather_memory, with_modrm, register_of}
 use Rattle.plain_spelling.specs.Forms.{operand_at, is_memory}
-use Rattle.plain_spelling.specs.PlainFront.{register_number}
 use Rattle.plain_spelling.specs.Addresses.{address_fields, written_size, displacement_count}
-use Rattle.plain_spelling.proofs.AddressCases.{impossible, agrees, written_is}
+use Rattle.plain_spelling.proofs.AddressCases.{impossible, written_is}
 use Rattle.plain_spelling.proofs.AddressForms.{IsVectorFile, gather_file}
 use Rattle.plain_spelling.proofs.Asked.{four_kinds, one_rm}
 use Rattle.plain_fit.proofs.Numbers.{kind_that_passes}
 use Rattle.plain_need.proofs.Given.{Given}
-use Rattle.plain_need.proofs.Walking.{all_kinds}
-use Rattle.plain_need.proofs.Numbers.{number-general, number-vector, number-byte}
-use Rattle.plain_need.proofs.Used.{read, read_is}
+use Rattle.plain_need.proofs.Used.{read_is}
 use Rattle.plain_need.proofs.Variants.{read_at, reads_at}
-use Rattle.plain_need.proofs.ReadShapes.{Reading, extended_low}
+use Rattle.plain_need.proofs.ReadShapes.{Reading}
 use Rattle.plain_need.proofs.ReadOperands.{MemoryFits, OperandFits, TailReads}
 use Rattle.plain_need.proofs.ReadTails.{tail_reads}
-use Rattle.plain_need.proofs.Addresses.{spelled_asize, FitsAt, fits_at, asize_of_memory}
+use Rattle.plain_need.proofs.Addresses.{spelled_asize, fits_at, asize_of_memory}
 use Rattle.plain_form.specs.IsPlain.{has_index, sib_is_needed, scale_is_read}
-use Rattle.plain_form.proofs.Addresses.{fields, names_index, sib_needed, scale_needed, SibIs, without_sib, with_sib, gather_is}
+use Rattle.plain_form.proofs.Addresses.{fields, names_index, sib_needed, scale_needed, without_sib, with_sib, gather_is}
 
 -- ---- an address
 

@@ -1,21 +1,16 @@
 -- The fields of ModRM and SIB of a plain spelling are the plain ones of what it means.
-use Rattle.std.proofs.Common.{◌≡◌, inl, inr, ℕ, zero, suc, ◌+◌, ◌*◌, ◌/◌, ◌%◌, ◌<◌, Bool, true, false, ◌&&◌, ◌||◌, not, ◌==◌, nat_lt, List, length, Option, Some, None, is_some, is_none, refl, ap, sym, ◌∙◌, subst, arith, if◌then◌else◌}
+use Rattle.std.proofs.Common.{◌≡◌, inl, inr, ℕ, zero, suc, ◌%◌, ◌<◌, Bool, true, false, ◌&&◌, ◌||◌, ◌==◌, nat_lt, List, length, Option, Some, None, is_some, is_none, refl, ap, sym, ◌∙◌, subst, arith, if◌then◌else◌}
 use Rattle.std.specs.List.{list_all}
-use Rattle.std.proofs.lemmas.Bool.{lt-ltb}
 use borrow.Author.Tests.{ltb-true}
 use Rattle.x86_values.specs.declared.Bits.{Bits}
 use Rattle.x86_values.specs.declared.Bits.TheVariants.{B16, B32, B64}
 use Rattle.x86_values.specs.declared.Code.{Code}
-use Rattle.x86_values.specs.declared.Mem.{Mem}
-use Rattle.x86_values.specs.declared.Register.{Register}
 use Rattle.x86_values.specs.declared.Operand.{Operand}
 use Rattle.x86_values.specs.declared.Operand.TheVariants.{Absent as AbsentOperand, Reg, Mem as MemOperand, Imm, Near, Far}
 use Rattle.x86_values.specs.declared.Instr.{Instr}
 use Rattle.row_types.specs.declared.Row.{Row}
 use Rattle.row_types.specs.declared.Place.{Place}
 use Rattle.row_types.specs.declared.Place.TheVariants.{Any as AnyPlace, Memory as OnlyMemory, Register as OnlyRegister}
-use Rattle.row_types.specs.declared.ModRmRule.{ModRmRule}
-use Rattle.row_types.specs.declared.ModRmRule.TheVariants.{No as NoModRm, Any as AnyModRm, Digit, Fixed as FixedByte}
 use Rattle.row_types.specs.declared.OpKind.{OpKind}
 use Rattle.row_types.specs.declared.OpKind.TheVariants.{Absent, Sw, Es, Cs, Ss, Ds, Fs, Gs}
 use Rattle.instruction_parts.specs.declared.kinds.Method.{Method}
@@ -27,18 +22,17 @@ use Rattle.instruction_parts.specs.declared.spelling.Sib.{Sib}
 use Rattle.instruction_parts.specs.declared.spelling.Spelling.{Spelling}
 use Rattle.instruction_parts.specs.declared.spelling.PrefixState.{PrefixState}
 use Rattle.instruction_parts.specs.Kinds.{method_of, file_of}
-use Rattle.instruction_parts.specs.Sizes.{bit_b, state_size, state_address_size}
+use Rattle.instruction_parts.specs.Sizes.{bit_b, state_size}
 use Rattle.instruction_parts.specs.Bytes.{state_of}
-use Rattle.instruction_parts.proofs.Tests.{either, and_left, and_right, equal_from, not_true}
-use Rattle.row_fit.specs.Fits.{reads_by, reads_mode, is_any_mode, is_offset, has_modrm, extended, rm_number, needs_sib, same_bool, address_fits, lengths_fit, immediates_bytes, displacement_bytes, place_allows, place_of, place_fits, opcode_and_modrm_fit, opcode_fits, modrm_rule_fits, modrm_in_range, kind_at}
-use Rattle.row_fit.specs.Sound.{Sound, reads_rm}
+use Rattle.instruction_parts.proofs.Tests.{either, and_left, and_right, equal_from}
+use Rattle.row_fit.specs.Fits.{reads_by, reads_mode, is_any_mode, has_modrm, extended, rm_number, needs_sib, same_bool, address_fits, lengths_fit, displacement_bytes, place_allows, place_of, place_fits, opcode_and_modrm_fit, opcode_fits, modrm_rule_fits, modrm_in_range, kind_at}
+use Rattle.row_fit.specs.Sound.{reads_rm}
 use Rattle.row_fit.proofs.FitLaws.{modrm_range}
 use Rattle.row_meaning.specs.Meaning.{Tail, tail_of, operand_by, own_immediate, memory_operand, register_of, gather_memory, with_modrm}
 use Rattle.plain_spelling.specs.Forms.{is_variant_of, is_allowed_in, is_register, is_memory, operand_at}
 use Rattle.plain_spelling.specs.PlainFront.{register_number}
-use Rattle.plain_spelling.specs.Addresses.{address_fields, written_size}
-use Rattle.plain_spelling.specs.declared.addresses.AddressFields.{AddressFields}
-use Rattle.plain_spelling.specs.PlainTail.{no_address, lone_mode, rm_operand, rm_fields, fields_of}
+use Rattle.plain_spelling.specs.Addresses.{address_fields}
+use Rattle.plain_spelling.specs.PlainTail.{lone_mode, rm_fields, fields_of}
 use Rattle.plain_spelling.proofs.AddressCases.{impossible}
 use Rattle.plain_spelling.proofs.Asked.{four_kinds, rm_operand-at}
 use Rattle.plain_fit.proofs.Numbers.{kind_that_passes}

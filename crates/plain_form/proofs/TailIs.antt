@@ -1,11 +1,10 @@
 -- The constructed tail is plain: the fields of ModRM, and the last byte.
-use Rattle.std.proofs.Common.{◌≡◌, inl, inr, ℕ, ◌*◌, ◌%◌, ◌<◌, Bool, true, false, ◌&&◌, ◌||◌, not, ◌==◌, nat_lt, List, [], ◌∷◌, eq-eqb, slice_index, Option, Some, None, refl, ap, sym, ◌∙◌, subst, arith}
-use Rattle.std.specs.List.{list_any}
+use Rattle.std.proofs.Common.{◌≡◌, inl, inr, ℕ, ◌*◌, ◌%◌, ◌<◌, Bool, true, false, ◌&&◌, ◌||◌, not, ◌==◌, nat_lt, List, [], ◌∷◌, eq-eqb, Option, Some, refl, ap, sym, ◌∙◌, subst, arith}
 use Rattle.std.proofs.lemmas.Bool.{lt-ltb}
 use Rattle.x86_values.specs.declared.Bits.{Bits}
 use Rattle.x86_values.specs.declared.Register.{Register}
 use Rattle.x86_values.specs.declared.Operand.{Operand}
-use Rattle.x86_values.specs.declared.Operand.TheVariants.{Absent as AbsentOperand, Reg}
+use Rattle.x86_values.specs.declared.Operand.TheVariants.{Reg}
 use Rattle.x86_values.specs.declared.Instr.{Instr}
 use Rattle.row_types.specs.declared.Row.{Row}
 use Rattle.row_types.specs.declared.OpKind.TheVariants.{Absent}
@@ -16,21 +15,20 @@ use Rattle.row_types.specs.declared.ModRmRule.TheVariants.{No as NoModRm, Any as
 use Rattle.instruction_parts.specs.declared.kinds.Method.{Method}
 use Rattle.instruction_parts.specs.declared.kinds.Method.TheVariants as method
 use Rattle.instruction_parts.specs.declared.spelling.ModRm.{ModRm}
-use Rattle.instruction_parts.specs.declared.spelling.PrefixState.{PrefixState}
 use Rattle.instruction_parts.specs.Kinds.{method_of}
 use Rattle.instruction_parts.specs.Counting.{is_64}
 use Rattle.instruction_parts.specs.Sizes.{state_size}
 use Rattle.instruction_parts.specs.Bytes.{state_of}
-use Rattle.instruction_parts.proofs.Tests.{either, not_true}
+use Rattle.instruction_parts.proofs.Tests.{either}
 use Rattle.row_fit.specs.Fits.{has_modrm, reg_field, reads_by, reads_mode, is_any_mode, kind_at, immediate_bytes}
-use Rattle.row_fit.specs.Sound.{Sound, reads_reg, reads_rm, reads_last_byte}
+use Rattle.row_fit.specs.Sound.{reads_reg, reads_rm, reads_last_byte}
 use Rattle.row_meaning.specs.Meaning.{own_immediate}
 use Rattle.plain_spelling.specs.Forms.{is_variant_of, is_register, operand_at}
 use Rattle.plain_spelling.specs.PlainFront.{register_number, number_in_reg, asked, plain_front_of}
 use Rattle.plain_spelling.specs.Addresses.{register_count}
 use Rattle.plain_spelling.specs.declared.addresses.AddressFields.{AddressFields}
-use Rattle.plain_spelling.specs.PlainTail.{no_address, lone_mode, rm_fields, fields_of, modrm_with, plain_modrm, operand_immediate, immediate_at, plain_immediates, plain_size, plain_next, plain_spelling, last_byte_of}
-use Rattle.plain_spelling.proofs.Asked.{asked_reg-none, rm_operand-none, four_kinds, each-at}
+use Rattle.plain_spelling.specs.PlainTail.{no_address, lone_mode, rm_fields, fields_of, modrm_with, plain_modrm, operand_immediate, immediate_at, plain_immediates, plain_size, plain_next, plain_spelling}
+use Rattle.plain_spelling.proofs.Asked.{asked_reg-none, rm_operand-none, four_kinds}
 use Rattle.plain_fit.proofs.Given.{Given}
 use Rattle.plain_fit.proofs.Numbers.{kind_that_passes, nameable-at}
 use Rattle.plain_fit.proofs.FrontBits.{FrontBits, asked-small}

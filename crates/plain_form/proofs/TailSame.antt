@@ -1,5 +1,5 @@
 -- ModRM and SIB of a plain spelling are the constructed ones of what it means.
-use Rattle.std.proofs.Common.{◌≡◌, inl, inr, ℕ, zero, suc, ◌+◌, ◌*◌, ◌/◌, ◌%◌, ◌<◌, Bool, true, false, ◌&&◌, ◌||◌, not, ◌==◌, nat_lt, List, length, Option, Some, None, is_some, is_none, refl, ap, sym, ◌∙◌, subst, arith}
+use Rattle.std.proofs.Common.{◌≡◌, inl, inr, ℕ, zero, suc, ◌+◌, ◌*◌, ◌/◌, ◌%◌, ◌<◌, Bool, true, false, ◌&&◌, ◌||◌, not, ◌==◌, List, length, Option, Some, None, is_none, refl, ap, sym, ◌∙◌, subst, arith}
 use Rattle.std.specs.List.{list_all}
 use borrow.Author.Tests.{ltb-true}
 use Rattle.x86_values.specs.declared.Bits.{Bits}
@@ -25,13 +25,13 @@ use Rattle.instruction_parts.specs.Kinds.{method_of, file_of}
 use Rattle.instruction_parts.specs.Sizes.{bit_r, state_size}
 use Rattle.instruction_parts.specs.Bytes.{state_of, modrm_byte}
 use Rattle.instruction_parts.proofs.Tests.{either, and_left, and_right, equal_from}
-use Rattle.row_fit.specs.Fits.{reads_by, has_modrm, extended, reg_field, reg_number, needs_sib, address_fits, is_fixed_byte, modrm_rule_fits, register_fits, registers_fit, kind_at}
-use Rattle.row_fit.specs.Sound.{reads_reg, reads_rm, rule_in_range}
+use Rattle.row_fit.specs.Fits.{reads_by, extended, reg_number, address_fits, is_fixed_byte, modrm_rule_fits, register_fits, registers_fit, kind_at}
+use Rattle.row_fit.specs.Sound.{reads_reg, reads_rm}
 use Rattle.row_meaning.specs.Meaning.{Tail, tail_of, operand_by, own_immediate, register_of, segment_numbered}
 use Rattle.plain_spelling.specs.Forms.{is_variant_of, is_register, operand_at}
 use Rattle.plain_spelling.specs.PlainFront.{register_number, segment_number, operand_number, base_or_register_number, number_in_reg, number_in_rm, asked}
 use Rattle.plain_spelling.specs.declared.addresses.AddressFields.{AddressFields}
-use Rattle.plain_spelling.specs.PlainTail.{modrm_with, fields_of, fixed_rm, plain_modrm, plain_sib_of}
+use Rattle.plain_spelling.specs.PlainTail.{modrm_with, fixed_rm, plain_modrm, plain_sib_of}
 use Rattle.plain_spelling.specs.Writable.{rule_is_plain, is_register_only}
 use Rattle.plain_spelling.proofs.AddressCases.{impossible}
 use Rattle.plain_spelling.proofs.Asked.{four_kinds, asked_reg-at, asked_reg-none, asked_rm-at}

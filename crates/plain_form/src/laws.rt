@@ -5,7 +5,6 @@ ghost use Rattle.x86_values.specs.declared.Bits.{Bits};
 ghost use Rattle.x86_values.specs.declared.Instr.{Instr};
 ghost use Rattle.row_types.specs.declared.Row.{Row};
 ghost use Rattle.instruction_parts.specs.declared.spelling.Spelling.{Spelling};
-ghost use Rattle.instruction_parts.specs.Bytes.{bytes_of};
 ghost use Rattle.row_fit.specs.Fits.{fits};
 ghost use Rattle.row_fit.specs.Sound.{Sound};
 ghost use Rattle.row_meaning.specs.Meaning.{meaning};
@@ -13,7 +12,6 @@ ghost use Rattle.plain_spelling.specs.PlainTail.{plain_spelling};
 ghost use Rattle.plain_spelling.specs.Expressible.{Suits};
 ghost use Rattle.plain_spelling.specs.Writable.{Writable};
 ghost use Rattle.plain_form.specs.IsPlain.{IsPlain};
-ghost use Rattle.plain_form.specs.Alike.{IsAlike};
 
 /// Where an instruction meets the conditions on everything but the length, the constructed spelling is plain.
 pub fn constructed_spelling_is_plain()
@@ -21,10 +19,9 @@ pub fn constructed_spelling_is_plain()
         → Sound row → Writable bits row → length i.ops ≡ 4 → Suits bits ip row i → IsPlain bits ip row (plain_spelling bits ip row i) }
 {}
 
-/// A fitting plain spelling that means an instruction has the prefixes, the VEX, the opcode byte, the ModRM and the SIB of the constructed one, and
-/// its length.
-pub fn plain_spelling_is_alike()
+/// A fitting plain spelling that means an instruction at an address is the constructed one. So there is at most one.
+pub fn plain_spelling_is_constructed()
     ensures { (bits : Bits) (ip : ℕ) (row : Row) (s : Spelling) (i : Instr)
         → Sound row → Writable bits row → IsTrue (fits bits row s) → IsPlain bits ip row s → meaning bits ip i.code row s ≡ i
-        → IsAlike row s (plain_spelling bits ip row i) }
+        → s ≡ plain_spelling bits ip row i }
 {}

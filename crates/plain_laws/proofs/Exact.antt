@@ -34,6 +34,7 @@ use Rattle.plain_need.proofs.Given as need
 use Rattle.plain_need.proofs.Whole.{NeedsHold, needs_hold}
 use Rattle.plain_form.proofs.PlainIs.{plain_is}
 use Rattle.plain_form.proofs.Lengths.{length_same}
+use Rattle.plain_form.proofs.One.{one_plain}
 use Rattle.row_relation.specs.Spells.{IsSpelledBy, SpellsUnbounded}
 use Rattle.plain_laws.specs.Plain.{IsPlainlySpelled, IsWritable, is_target, has_target}
 use Rattle.plain_spelling.proofs.Failures.{failure-suits, suits-failure}
@@ -166,6 +167,17 @@ holds_of_plain table bits ip bytes row i w at p =
     let short : plain_len bits p.row i ≤ 15 = rw (l, ← p.bytes_are) p.is_short in
     subst (λ (r : Row). failure bits ip r i ≡ None) (same_row table i.code.0 p.row row p.row_is at)
     (suits-failure bits ip p.row i (all_hold bits ip p.row s i n (n.targets l)) (true_le (plain_len bits p.row i) 15 short))
+
+-- **an instruction is plainly spelled by one byte string at most**
+constructed_bytes : (table : List Row) (bits : Bits) (ip : ℕ) (bytes : List ℕ) (i : Instr) → IsWritable table → (p : IsPlainlySpelled table bits ip bytes i) → bytes ≡ bytes_of p.row (plain_spelling bits ip p.row i)
+constructed_bytes table bits ip bytes i w p =
+    p.bytes_are
+    ∙ ap (bytes_of p.row) (one_plain bits ip p.row p.spelling i (given_need table bits ip p.row p.spelling i w p.row_is p.fitting p.means) (four_of bits ip p.row p.spelling i p.means) p.plain)
+
+pub plain_is_one : (table : List Row) (bits : Bits) (ip : ℕ) (bytes others : List ℕ) (i : Instr) → IsWritable table → IsPlainlySpelled table bits ip bytes i → IsPlainlySpelled table bits ip others i → bytes ≡ others
+plain_is_one table bits ip bytes others i w p q =
+    constructed_bytes table bits ip bytes i w p ∙ ap (λ (r : Row). bytes_of r (plain_spelling bits ip r i)) (same_row table i.code.0 p.row q.row p.row_is q.row_is)
+    ∙ sym (constructed_bytes table bits ip others i w q)
 
 -- **every spelling of an instruction is at least as long as its plain one**
 pub plain_is_least : (table : List Row) (bits : Bits) (ip : ℕ) (bytes others : List ℕ) (i : Instr) → IsWritable table → IsPlainlySpelled table bits ip bytes i → SpellsUnbounded table bits ip others i → length bytes ≤ length others
