@@ -6,10 +6,10 @@ usage: compare_flow.py PROGRAM ELF [SYMBOL]
 PROGRAM is the program of this repository, ELF a 64-bit executable. Control is
 followed from the entry of ELF, or from SYMBOL. So that all of the text (of a long
 one the mebibyte around the entry) can be reached, a jump to the entry stands before
-it. Each reached offset has to be an instruction's start in the listing by objdump.
-Prints how many are reached, how many of the instructions listed there are not, and
-how many of the targets of direct branches in the listing are reached. Ends with
-status 1 where a reached offset is no start.
+it. Each reached offset has to be an instruction's start in the listing by objdump,
+or to stand behind its LOCK: where there is one thread, glibc jumps over that byte.
+Prints how many are reached, and how many of the targets of direct branches in the
+listing are among them. Ends with status 1 where a reached offset is no start.
 """
 import re
 import struct
@@ -45,18 +45,20 @@ def text_of(elf):
 
 
 def listing_of(elf, low, high):
-    """The instructions' starts by objdump between two addresses, and the targets of direct branches there."""
-    starts, targets = set(), set()
+    """The instructions' starts by objdump between two addresses, the places behind a LOCK, and the targets of direct branches there."""
+    starts, locked, targets = set(), set(), set()
     options = ["-d", "-j", ".text", "--no-show-raw-insn", f"--start-address={low}", f"--stop-address={high}"]
     for line in output("objdump", *options, elf).decode().splitlines():
         found = re.match(r"\s+([0-9a-f]+):\t(.*)", line)
         if not found:
             continue
         starts.add(int(found.group(1), 16))
-        branch = re.match(r"(?:(?:bnd|notrack|data16|cs|ds) )*(?:j\w+|call\w*|loop\w*|xbegin)(?:,p[nt])?\s+([0-9a-f]+)\b", found.group(2))
+        if found.group(2).startswith("lock "):
+            locked.add(int(found.group(1), 16) + 1)
+        branch = re.match(r"(?:(?:bnd|notrack|data16|cs|ds) )*(?:j\w+|call\w*|loop\w*|xbegin)(?:,p[nt])?\s+(?:0x)?([0-9a-f]+)\b", found.group(2))
         if branch:
             targets.add(int(branch.group(1), 16))
-    return starts, {target for target in targets if low <= target < high}
+    return starts, locked - starts, {target for target in targets if low <= target < high}
 
 
 def main(words):
@@ -71,13 +73,15 @@ def main(words):
     jump = b"\xe9" + struct.pack("<i", entry - low)
     lines = output(program, "flow", "64", f"{low - 5:x}", data=jump + code).decode().splitlines()
     reached = {int(line[:16], 16): line[34:] for line in lines[1:]}
-    starts, targets = listing_of(elf, low, low + len(code))
-    wrong = sorted(set(reached) - starts)
+    starts, locked, targets = listing_of(elf, low, low + len(code))
+    behind_lock = set(reached) & locked
+    wrong = sorted(set(reached) - starts - locked)
     unread = sum(1 for word in reached.values() if word in ("invalid", "too short"))
     print(f"{len(code)} bytes from {low:#x}, entry {entry:#x}")
     print(f"{len(reached)} offsets are reached of {len(starts)} instructions; no instruction is read at {unread}")
     print(f"{len(targets & set(reached))} of {len(targets)} targets of direct branches are reached")
-    print(f"{len(wrong)} reached offsets are no instruction's start")
+    print(f"{len(behind_lock)} reached offsets stand behind the LOCK of an instruction")
+    print(f"{len(wrong)} other reached offsets are no instruction's start")
     for at in wrong[:20]:
         print(f"  {at:#x} {reached[at]}")
     sys.exit(1 if wrong else 0)
