@@ -1,0 +1,215 @@
+-- The jump back of a step block has its bytes wherever the block stands.
+use Rattle.std.proofs.Common.{◌≡◌, ℕ, zero, suc, ◌+◌, ◌-◌, ◌%◌, ◌^◌, ◌≤◌, ◌<◌, inl, inr, Bool, true, false, ◌&&◌, ◌||◌, List, [], ◌∷◌, length, map, get_or, Option, Some, None, Result, Ok, Err, nat_lt, nat_le, slice_get, refl, ap, sym, ◌∙◌, subst, arith}
+use Rattle.std.specs.Prelude.{IsSome, is_some, if◌then◌else◌, unwrap_or}
+use Rattle.std.specs.Option.{option_or}
+use Rattle.x86_values.specs.declared.Bits.{Bits}
+use Rattle.x86_values.specs.declared.Bits.TheVariants.{B16, B32, B64}
+use Rattle.x86_values.specs.declared.Instr.{Instr}
+use Rattle.x86_values.specs.Wrapping.{width, wrapped}
+use Rattle.row_types.specs.declared.Row.{Row}
+use Rattle.row_types.specs.declared.Map.TheVariants.{One}
+use Rattle.row_types.specs.declared.OpKind.TheVariants.{Jz}
+use Rattle.instruction_parts.specs.Bytes.{bytes_of}
+use Rattle.instruction_parts.specs.Kinds.{method_of, immediate_width}
+use Rattle.instruction_parts.specs.Sizes.{exists_in, operand_size}
+use Rattle.row_fit.specs.Fits.{immediate_bytes}
+use Rattle.plain_spelling.specs.declared.NoSpelling.{NoSpelling}
+use Rattle.plain_spelling.specs.Values.{is_extended_of, distance}
+use Rattle.plain_spelling.specs.Forms.{is_variant_of}
+use Rattle.plain_spelling.specs.PlainTail.{plain_size, plain_len, plain_next, plain_spelling}
+use Rattle.plain_spelling.specs.Expressible.{Suits, kind_suits, register_suits, address_suits, offered, immediate_suits, immediate_suits_how, near_reaches, target_suits, lock_suits, repeat_suits, prefixes_suit, has_memory_operand, address_size_suits}
+use Rattle.plain_spelling.proofs.Failures.{suits-failure}
+use Rattle.plain_laws.proofs.ReadBack.{plain_spells}
+use Rattle.opcode_rows.specs.Table.{table}
+use Rattle.operand_info.specs.Operands.{near_value, ip_value, first_value}
+use Rattle.encoder.specs.Encoding.{encoding}
+use Rattle.encoder.proofs.Causes.{by_row, plain_bytes_are}
+use Rattle.branch_sizes.specs.declared.plan.Choice.{Choice}
+use Rattle.branch_sizes.specs.declared.plan.Form.{Form}
+use Rattle.branch_sizes.specs.declared.plan.Form.TheVariants.{Near as NearForm}
+use Rattle.branch_sizes.specs.declared.plan.Goal.{Goal}
+use Rattle.branch_sizes.specs.declared.plan.Goal.TheVariants.{Outside}
+use Rattle.branch_sizes.specs.declared.plan.Reach.TheVariants.{Below}
+use Rattle.branch_sizes.specs.Plan.{BlockPlan, IsWellFormed, no_choice}
+use Rattle.branch_sizes.specs.Layout.{IsLayout, IsLeast, Reaches, ReachesGoal, chosen, place}
+use Rattle.moved_targets.specs.Targets.{target_of, plain_length}
+use Rattle.moved_targets.proofs.Lengths.{plain_length-row, spelled-length}
+use Rattle.branch_forms.specs.declared.branch.Action.TheVariants.{Jump}
+use Rattle.branch_forms.specs.declared.branch.RelativeBranch.{RelativeBranch}
+use Rattle.branch_forms.specs.Branches.{size_of, near_action, branch_in, branch_by, branch_of, near_code}
+use Rattle.branch_forms.specs.Images.{branch_to, branch_image, image_by, image_of}
+use Rattle.branch_forms.specs.Choices.{branch_forms, near_reach, form_reach, branch_choice, choices_by, choices_of}
+use Rattle.branch_forms.proofs.Codes.{offset_row, near-jump}
+use Rattle.branch_forms.proofs.Pieces.{size_byte, offset_bytes, near_jump-length}
+use Rattle.move_goals.specs.declared.items.Placed.{Placed}
+use Rattle.move_goals.specs.Items.{IsPlaced, ArePlaced, item_at, one_span}
+use Rattle.move_goals.specs.Plan.{plan_with, kept_goal, kept_goals, plan_outside}
+use Rattle.move_goals.proofs.Planned.{one_span-of, outside-fit}
+use Rattle.move_layout.specs.Laid.{goal_value, goal_address, seat_at}
+use Rattle.block_encoder.specs.Bytes.{in_front, bytes_from}
+use Rattle.block_encoder.specs.Moved.{IsReached, first_new_pass}
+use Rattle.block_encoder.proofs.Chosen.{choice-is, choice-below}
+use Rattle.block_encoder.proofs.Nearby.{signed}
+use Rattle.block_encoder.proofs.Spelled.{near-encoded}
+use Rattle.block_encoder.proofs.Last.{kept-address}
+use Rattle.block_encoder.proofs.Branching.{branch-reached-in_64}
+use Rattle.step_slots.specs.Block.{jump_to}
+
+true_lt : (a b : ℕ) → a < b → nat_lt a b ≡ true
+true_lt a b h = grind (arith, h)
+
+true_le : (a b : ℕ) → a ≤ b → nat_le a b ≡ true
+true_le a b h = grind (arith, h)
+
+first_two : (a b : Bool) → a ≡ true → b ≡ true → ((a && b) && (true && (true && true))) ≡ true
+first_two a b p q = rw (p, q) refl
+
+-- an instruction has an encoding at an address
+abbrev IsEncodedIn : Bits → ℕ → Instr → Type 0
+IsEncodedIn bits at i = (bytes : List ℕ) × (encoding bits at i ≡ Ok bytes)
+
+jump-size : (bits : Bits) (t : ℕ) → (1 ≤ plain_length bits (jump_to bits t)) × (plain_length bits (jump_to bits t) ≤ 15)
+unfolding jump_to
+jump-size B16 t = let e = near_jump-length B16 B16 refl t in (omega (arith, e), omega (arith, e))
+jump-size B32 t = let e = near_jump-length B32 B32 refl t in (omega (arith, e), omega (arith, e))
+jump-size B64 t = let e = near_jump-length B64 B64 refl t in (omega (arith, e), omega (arith, e))
+
+-- ---- outside 64-bit mode an offset of the operand size comes to every address
+
+all_near-16 : (next t : ℕ) → is_extended_of 2 16 (distance B16 next t) ≡ true
+unfolding is_extended_of distance
+all_near-16 next t = rw (true_lt ((t + (2 ^ 64 - next)) % 2 ^ 16) (2 ^ 16) (omega arith)) refl
+
+all_near-32 : (next t : ℕ) → is_extended_of 4 32 (distance B32 next t) ≡ true
+unfolding is_extended_of distance
+all_near-32 next t = rw (true_lt ((t + (2 ^ 64 - next)) % 2 ^ 32) (2 ^ 32) (omega arith)) refl
+
+suits-16 : (t ip : ℕ) → t < 2 ^ 16 → Suits B16 ip (offset_row One 0xE9 Jz 20 B16) (branch_to (near_code Jump B16) None t)
+unfolding branch_to exists_in kind_suits is_variant_of method_of register_suits address_suits offered immediate_suits immediate_suits_how target_suits near_reaches plain_size operand_size immediate_bytes immediate_width prefixes_suit lock_suits repeat_suits address_size_suits has_memory_operand
+suits-16 t ip below = record {
+  exists = refl;
+  kinds = refl;
+  registers = refl;
+  addresses = refl;
+  displacements = refl;
+  immediates = refl;
+  targets =
+      first_two (nat_lt t (2 ^ 16)) (is_extended_of 2 16 (distance B16 (plain_next B16 ip (offset_row One 0xE9 Jz 20 B16) (branch_to (near_code Jump B16) None t)) t))
+      (true_lt t (2 ^ 16) below) (all_near-16 (plain_next B16 ip (offset_row One 0xE9 Jz 20 B16) (branch_to (near_code Jump B16) None t)) t);
+  prefixes = refl;
+  address_size = refl;
+}
+
+suits-32 : (t ip : ℕ) → t < 2 ^ 32 → Suits B32 ip (offset_row One 0xE9 Jz 20 B32) (branch_to (near_code Jump B32) None t)
+unfolding branch_to exists_in kind_suits is_variant_of method_of register_suits address_suits offered immediate_suits immediate_suits_how target_suits near_reaches plain_size operand_size immediate_bytes immediate_width prefixes_suit lock_suits repeat_suits address_size_suits has_memory_operand
+suits-32 t ip below = record {
+  exists = refl;
+  kinds = refl;
+  registers = refl;
+  addresses = refl;
+  displacements = refl;
+  immediates = refl;
+  targets =
+      first_two (nat_lt t (2 ^ 32)) (is_extended_of 4 32 (distance B32 (plain_next B32 ip (offset_row One 0xE9 Jz 20 B32) (branch_to (near_code Jump B32) None t)) t))
+      (true_lt t (2 ^ 32) below) (all_near-32 (plain_next B32 ip (offset_row One 0xE9 Jz 20 B32) (branch_to (near_code Jump B32) None t)) t);
+  prefixes = refl;
+  address_size = refl;
+}
+
+row-encoded : (bits : Bits) (at : ℕ) (row : Row) (i : Instr) → slice_get table i.code.0 ≡ Some row → Suits bits (wrapped bits at) row i → plain_length bits i ≤ 15
+    → IsEncodedIn bits at i
+row-encoded bits at row i there suits short =
+    let l = plain_length-row bits i row there in
+    let holds = suits-failure bits (wrapped bits at) row i suits (true_le (plain_len bits row i) 15 (omega (arith, l, short))) in
+    (bytes_of row (plain_spelling bits (wrapped bits at) row i), sym (by_row bits at row i there) ∙ rw holds refl)
+
+branch_to-code : (bits : Bits) (t : ℕ) → (branch_to (near_code Jump bits) None t).code.0 ≡ near_code Jump bits
+unfolding branch_to
+branch_to-code bits t = refl
+
+-- **outside 64-bit mode the jump is encoded at every address**
+jump-encoded-16 : (at t : ℕ) → t < 2 ^ 16 → IsEncodedIn B16 at (jump_to B16 t)
+unfolding jump_to
+jump-encoded-16 at t below =
+    row-encoded B16 at (offset_row One 0xE9 Jz 20 B16) (branch_to (near_code Jump B16) None t) (ap (slice_get table) (branch_to-code B16 t) ∙ near-jump B16)
+    (suits-16 t (wrapped B16 at) below) (let e = near_jump-length B16 B16 refl t in omega (arith, e))
+
+jump-encoded-32 : (at t : ℕ) → t < 2 ^ 32 → IsEncodedIn B32 at (jump_to B32 t)
+unfolding jump_to
+jump-encoded-32 at t below =
+    row-encoded B32 at (offset_row One 0xE9 Jz 20 B32) (branch_to (near_code Jump B32) None t) (ap (slice_get table) (branch_to-code B32 t) ∙ near-jump B32)
+    (suits-32 t (wrapped B32 at) below) (let e = near_jump-length B32 B32 refl t in omega (arith, e))
+
+-- ---- the jump as one that stands at its target
+
+back_by : (t n : ℕ) → t < 2 ^ 64 → n ≡ 5 → 2 ^ 64 ≤ (t + (2 ^ 64 - (t % 2 ^ 64 + n) % 2 ^ 64)) % 2 ^ 64 + 2 ^ 31
+back_by t n below e = omega (arith, below, e)
+
+jump-encoded-64 : (t : ℕ) → t < 2 ^ 64 → IsEncodedIn B64 t (jump_to B64 t)
+unfolding jump_to distance
+jump-encoded-64 t below =
+    let e = near_jump-length B64 B64 refl t in
+    let len : plain_length B64 (branch_to (near_code Jump B64) None t) ≡ 5 = omega (arith, e) in
+    let n = plain_length B64 (branch_to (near_code Jump B64) None t) in
+    near-encoded One 0xE9 (near_code Jump B64) t t (near-jump B64) (omega (arith, len)) below
+    (signed 4 (2 ^ 31) ((t + (2 ^ 64 - (t % 2 ^ 64 + n) % 2 ^ 64)) % 2 ^ 64) refl (omega arith) (inr (back_by t n below len)))
+
+encoded-there : (bits : Bits) (t : ℕ) → t < 2 ^ width bits → IsEncodedIn bits t (jump_to bits t)
+encoded-there B16 t below = jump-encoded-16 t t below
+encoded-there B32 t below = jump-encoded-32 t t below
+encoded-there B64 t below = jump-encoded-64 t below
+
+jump-four : (bits : Bits) (t : ℕ) → length (jump_to bits t).ops ≡ 4
+unfolding jump_to branch_to
+jump-four bits t = refl
+
+-- **it is well placed**
+pub jump-placed : (bits : Bits) (t len : ℕ) → t < 2 ^ width bits → 1 ≤ len → len ≤ 15 → IsPlaced bits (record { ip = t; len = len; instr = jump_to bits t })
+jump-placed bits t len below some few =
+    let e = encoded-there bits t below in
+    record {
+      some = some;
+      few = few;
+      bytes = e.0;
+      spelled = plain_spells table bits (wrapped bits t) e.0 (jump_to bits t) (plain_bytes_are bits t (jump_to bits t) e.0 (jump-four bits t) (sym e.1));
+    }
+
+pub jump-length : (bits : Bits) (t : ℕ) → (1 ≤ plain_length bits (jump_to bits t)) × (plain_length bits (jump_to bits t) ≤ 15)
+jump-length bits t = jump-size bits t
+
+-- ---- the jump in a step block
+
+abbrev back_branch : Bits → RelativeBranch
+back_branch bits = record { action = Jump; is_short = false; size = bits }
+
+jump-near : (bits : Bits) (t : ℕ) → first_value near_value (jump_to bits t) ≡ Some t
+unfolding jump_to branch_to near_value
+jump-near bits t = refl
+
+jump-target : (bits : Bits) (t : ℕ) → target_of (jump_to bits t) ≡ Some t
+unfolding target_of
+jump-target bits t = ap (λ (o : Option ℕ). option_or o (first_value ip_value (jump_to bits t))) (jump-near bits t)
+
+branch_by-row : (bits : Bits) → branch_by (slice_get table (near_code Jump bits)) ≡ Some (back_branch bits)
+branch_by-row bits = ap branch_by (near-jump bits) ∙ in_row bits
+  where
+    in_row : (size : Bits) → branch_in (offset_row One 0xE9 Jz 20 size) ≡ Some (back_branch size)
+    unfolding branch_in near_action size_of
+    in_row B16 = refl
+    in_row B32 = refl
+    in_row B64 = refl
+
+jump-branch : (bits : Bits) (t : ℕ) → branch_of (jump_to bits t) ≡ Some (back_branch bits)
+unfolding branch_of jump_to
+jump-branch bits t =
+    ap (λ (o : Option ℕ). if is_some o then branch_by (slice_get table (branch_to (near_code Jump bits) None t).code.0) else None) (near_is bits t)
+    ∙ (ap (λ (c : ℕ). branch_by (slice_get table c)) (branch_to-code bits t) ∙ branch_by-row bits)
+  where
+    near_is : (size : Bits) (x : ℕ) → first_value near_value (branch_to (near_code Jump size) None x) ≡ Some x
+    unfolding branch_to near_value
+    near_is size x = refl
+
+one-some : (bits : Bits) (at : ℕ) (i : Instr) → IsEncodedIn bits at i → IsSome (bytes_from bits at (i ∷ []))
+unfolding bytes_from
+one-some bits at i (bytes, h) =
+    ap (λ (r : Result (List ℕ) NoSpelling). is_some (elim r as (λ (x : Result (List ℕ) NoSpelling). Option (List ℕ)) [ Ok b ↦ in_front b (Some []) | Err why ↦ None ])) h

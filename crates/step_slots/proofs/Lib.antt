@@ -1,0 +1,4 @@
+pub mod Order
+pub mod JumpBack
+pub mod Blocks
+pub mod Region
