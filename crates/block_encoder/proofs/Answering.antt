@@ -1,16 +1,16 @@
 -- The answers of a moving, by the plan of the blocks.
-use Rattle.std.proofs.Common.{◌≡◌, ℕ, List, Some, None, Result, Ok, Err, inr, sym, subst, ◌∙◌}
+use Rattle.std.proofs.Common.{◌≡◌, ◌≤◌, ℕ, List, length, Some, None, Result, Ok, Err, inr, sym, subst, ◌∙◌}
 use Rattle.x86_values.specs.declared.Bits.{Bits}
 use Rattle.branch_sizes.specs.declared.plan.BlockSpan.{BlockSpan}
 use Rattle.branch_sizes.specs.Plan.{BlockPlan}
 use Rattle.move_goals.specs.declared.items.Placed.{Placed}
-use Rattle.move_goals.specs.Plan.{plan_for}
+use Rattle.move_goals.specs.Plan.{plan_for, plan_outside}
 use Rattle.move_layout.specs.declared.layout.Layout.{Layout}
 use Rattle.move_layout.specs.Laid.{IsLaidLeast}
 use Rattle.block_encoder.specs.declared.error.MoveError.{MoveError}
 use Rattle.block_encoder.specs.declared.error.MoveError.TheVariants.{Memory, TooMany, OldOrder, Wraps, TooFar}
 use Rattle.block_encoder.specs.Moved.{MovedLists, IsOldSound, IsAnswer}
-use Rattle.block_encoder.specs.ByPlan.{IsPassBy, IsPlanAnswer}
+use Rattle.block_encoder.specs.ByPlan.{IsPassBy, IsPlanAnswer, IsOutsideAnswer}
 use Rattle.block_encoder.specs.Written.{first_end_past}
 use Rattle.block_encoder.proofs.Seats.{same_pass}
 
@@ -36,3 +36,13 @@ module _ (bits : Bits) (items : List Placed) (spans : List BlockSpan) (old : IsO
 
   pub answer_is : (p : BlockPlan) → p ≡ plan_for bits spans items → (r : Result MovedLists MoveError) → IsPlanAnswer bits items p r → IsAnswer bits items spans r
   answer_is p planned r h = sound_answer r (subst (λ q. IsPlanAnswer bits items q r) planned h)
+
+-- where there are few items the plan decides a moving from which every target stays
+pub outside_answer : (bits : Bits) (items : List Placed) (new_base : ℕ) → length items ≤ 65536 → (r : Result MovedLists MoveError)
+    → IsPlanAnswer bits items (plan_outside bits items new_base) r → IsOutsideAnswer bits items new_base r
+outside_answer bits items new_base few (Ok m) h = (few, h)
+outside_answer bits items new_base few (Err Memory) h = (few, h)
+outside_answer bits items new_base few (Err (TooMany n)) h = absurd h
+outside_answer bits items new_base few (Err (OldOrder n)) h = (few, h)
+outside_answer bits items new_base few (Err (Wraps end)) h = (few, h)
+outside_answer bits items new_base few (Err (TooFar at target)) h = (few, h)

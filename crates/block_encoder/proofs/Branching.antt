@@ -124,7 +124,7 @@ images_small p layout b h = omega (arith, h)
 
 -- ---- items
 
-module _ (items : List Placed) (spans : List BlockSpan) (goals : ℕ → Goal) (s : AreSpansOf items spans) (placed : ArePlaced B64 items)
+module _ (items : List Placed) (spans : List BlockSpan) (goals : ℕ → Goal) (s : AreSpansOf items spans) (placed : ArePlaced B64 items) (few : length items ≤ 65536)
     (fit : IsWellFormed (plan_with B64 spans items goals)) (layout : List ℕ) (least : IsLeast (plan_with B64 spans items goals) layout) (inside : first_new_pass B64 (plan_with B64 spans items goals) layout ≡ None)
     (k : ℕ) (lt : k < length items)
     (there : (c : Choice) → ReachesGoal (plan_with B64 spans items goals) layout k c (goals k)
@@ -299,5 +299,5 @@ module _ (items : List Placed) (spans : List BlockSpan) (s : AreSpansOf items sp
 
   pub reached-in_64 : IsReached B64 items (plan_for B64 spans items) layout k
   reached-in_64 =
-      branch-reached-in_64 items spans (goal_at spans items) s placed (well_formed B64 spans items placed few s) layout least inside k lt goal-reached goal-fits
+      branch-reached-in_64 items spans (goal_at spans items) s placed few (well_formed B64 spans items placed few s) layout least inside k lt goal-reached goal-fits
       t near

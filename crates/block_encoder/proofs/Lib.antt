@@ -19,4 +19,4 @@ pub mod Spelled
 pub mod Formed
 pub mod Counting
 pub mod Branching
-pub mod Last
+pub mod LastForms

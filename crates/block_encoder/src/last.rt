@@ -1,10 +1,9 @@
 //! How long a block may become.
 
-ghost use Rattle.std.specs.Prelude.{◌≡◌, ◌<◌, ◌≤◌, true, length, get_or};
+ghost use Rattle.std.specs.Prelude.{◌≡◌, ◌<◌, ◌≤◌, length, unwrap_or};
 ghost use Rattle.arrayvec.specs.ArrayVec.{array_vec_len};
-ghost use Rattle.branch_forms.specs.Choices.{choices_of};
-ghost use Rattle.branch_sizes.specs.Plan.{no_choice};
-ghost use Rattle.move_goals.specs.Items.{ArePlaced, IsPlaced};
+ghost use Rattle.moved_targets.specs.Targets.{target_of};
+ghost use Rattle.move_goals.specs.Items.{ArePlaced, IsPlaced, item_at};
 ghost use Rattle.move_layout.specs.Laid.{with_goal};
 ghost use Rattle.block_encoder.specs.Last as spec;
 
@@ -25,12 +24,29 @@ fn last_choice(bits: Bits, item: &Placed) -> Choice
     choices[choices.len() - 1]
 }
 
-/// Puts a goal behind others, where it is not yet among them.
-fn add_goal(goals: &mut ArrayVec<u64, 2>, goal: u64)
-    requires { array_vec_len goals.old < 2 }
-    ensures { goals.new.items ≡ with_goal goals.old.items true goal }
+/// The last of the forms that item `k` may take.
+fn last_choice_at(bits: Bits, items: &[Placed], k: usize) -> Choice
+    requires item { k < length items.now }
+    requires placed { IsPlaced bits (item_at items.now k) }
+    ensures { result ≡ spec.last_choice bits (item_at items.now k).instr }
 {
-    if !goals.contains(&goal) {
+    last_choice(bits, &items[k])
+}
+
+/// The target of item `k`, 0 without one.
+fn kept_target(items: &[Placed], k: usize) -> u64
+    requires { k < length items.now }
+    ensures { result ≡ unwrap_or (target_of (item_at items.now k).instr) 0 }
+{
+    target_of(&items[k].instr).unwrap_or(0)
+}
+
+/// Puts the goal of a far form behind others, where it is not yet among them.
+fn add_goal(goals: &mut ArrayVec<u64, 2>, far: bool, goal: u64)
+    requires { array_vec_len goals.old < 2 }
+    ensures { goals.new.items ≡ with_goal goals.old.items far goal }
+{
+    if far && !goals.contains(&goal) {
         goals.push(goal);
     }
 }
@@ -46,11 +62,9 @@ pub fn last_len(bits: Bits, items: &[Placed], new_base: u64) -> u64
     let mut images = u128::from(new_base);
     let mut goals: ArrayVec<u64, 2> = ArrayVec::new();
     'items: for k in 0..items.len() {
-        let choice = last_choice(bits, &items[k]);
+        let choice = last_choice_at(bits, items, k);
         images += u128::from(choice.len);
-        if is_far_form(choice.form) {
-            add_goal(&mut goals, target_of(&items[k].instr).unwrap_or(0));
-        }
+        add_goal(&mut goals, is_far_form(choice.form), kept_target(items, k));
     }
     let end = block_end(images, next_multiple_of_8(images), goals.len());
     (end - u128::from(new_base)) as u64

@@ -1,14 +1,25 @@
 //! Moving from which every target stays.
 
+ghost use Rattle.std.specs.Prelude.{◌≡◌};
 ghost use Rattle.move_goals.specs.Items.{ArePlaced};
 ghost use Rattle.block_encoder.specs.ByPlan.{IsOutsideAnswer};
 
 use crate::by_plan::move_by_plan;
 use crate::error::MoveError;
-use crate::moved::Moved;
+use crate::moved::{Moved, MovedBlocks};
 use move_goals::{Placed, plan_outside};
 use std::alloc::Global;
 use x86_values::Bits;
+
+/// One moved block, where blocks were moved.
+fn one_block(answer: Result<MovedBlocks, MoveError>) -> Result<Moved, MoveError>
+    ensures { result ≡ answer }
+{
+    match answer {
+        Ok(blocks) => Ok(Moved { blocks }),
+        Err(why) => Err(why),
+    }
+}
 
 /// Moves instructions to a new address, one behind another, and keeps every target: a branch to one of them goes to where that was.
 ///
@@ -34,8 +45,5 @@ pub fn move_outside(
         Ok(plan) => plan,
         Err(_) => return Err(MoveError::Memory),
     };
-    match move_by_plan(alloc, bits, items, &plan) {
-        Ok(blocks) => Ok(Moved { blocks }),
-        Err(why) => Err(why),
-    }
+    one_block(move_by_plan(alloc, bits, items, &plan))
 }

@@ -1,4 +1,7 @@
-pub mod Order
+pub mod Ranks
 pub mod JumpBack
-pub mod Blocks
 pub mod Region
+pub mod Blocks
+pub mod Stepped
+pub mod StepAnswers
+pub mod Runs

@@ -3,8 +3,11 @@ use Rattle.std.specs.Prelude.{◌≡◌, ℕ, ◌+◌, ◌^◌, ◌==◌, not, n
 use Rattle.x86_values.specs.declared.Bits.{Bits}
 use Rattle.x86_values.specs.Wrapping.{width}
 use Rattle.move_goals.specs.declared.items.Placed.{Placed}
+use Rattle.block_encoder.specs.declared.error.MoveError.{MoveError}
+use Rattle.block_encoder.specs.declared.error.MoveError.TheVariants as move_error
 use Rattle.code_region.specs.declared.refusals.OpenError.{OpenError}
 use Rattle.code_region.specs.declared.refusals.OpenError.TheVariants as open_error
+use Rattle.code_region.specs.declared.refusals.PlaceError.{PlaceError}
 use Rattle.code_region.specs.declared.refusals.PlaceError.TheVariants as place_error
 use Rattle.code_region.specs.State.{RegionState, rounded}
 use Rattle.code_region.specs.Opening.{is_bad_size, is_bad_room}
@@ -29,6 +32,27 @@ abbrev pub past_refusal : ℕ → Option OpenError → OpenError
 past_refusal end (Some (open_error.BadSize size)) = open_error.BadSize size
 past_refusal end (Some (open_error.TooManyBlocks max)) = open_error.TooManyBlocks max
 past_refusal end why = open_error.Wraps end
+
+-- a refusal of a place for a length that is not 0, and why a step is refused then
+abbrev pub IsOfLength : PlaceError → Type 0
+IsOfLength place_error.Empty = ⊥
+IsOfLength (place_error.TooManyBlocks max) = Unit {0}
+IsOfLength (place_error.Full len largest) = Unit {0}
+
+abbrev pub place_refusal_of : PlaceError → ℕ → StepError
+place_refusal_of (place_error.TooManyBlocks max) rounded_len = TooManyBlocks max rounded_len
+place_refusal_of (place_error.Full len largest) rounded_len = Full len largest
+place_refusal_of place_error.Empty rounded_len = Memory
+
+-- a refusal of a block that ends inside the address space, and why a step is refused then
+abbrev pub IsOfReach : MoveError → Type 0
+IsOfReach (move_error.TooFar at target) = Unit {0}
+IsOfReach move_error.Memory = Unit {0}
+IsOfReach why = ⊥
+
+abbrev pub move_refusal_of : MoveError → StepError
+move_refusal_of (move_error.TooFar at target) = TooFar target
+move_refusal_of why = Memory
 
 -- The region after a step: its block is placed and filled, or nothing changed. Full comes where there is no place for the reserved length, TooFar where
 -- the instruction does not reach at the place that there is.

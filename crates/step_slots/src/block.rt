@@ -5,9 +5,9 @@ ghost use Rattle.x86_values.specs.Wrapping.{width};
 ghost use Rattle.code_region.specs.Keeping.{IsSound};
 ghost use Rattle.code_region.specs.Laws.{AreInUnits};
 ghost use Rattle.code_region.specs.State.{rounded as rounded_len};
-ghost use Rattle.move_goals.specs.Items.{IsPlaced, ArePlaced};
+ghost use Rattle.move_goals.specs.Items.{IsPlaced};
 ghost use Rattle.step_slots.specs.Block as spec;
-ghost use Rattle.step_slots.specs.Stepping.{IsBlockStepped};
+ghost use Rattle.step_slots.specs.Stepping.{IsBlockStepped, IsOfLength, IsOfReach, place_refusal_of, move_refusal_of};
 
 use crate::refusals::StepError;
 use block_encoder::{MoveError, Placed, last_len, move_outside};
@@ -33,23 +33,49 @@ fn jump_to(bits: Bits, target: u64) -> Instr
     }
 }
 
-/// An instruction, and the jump back to the address behind it.
-fn step_items(bits: Bits, item: Placed) -> [Placed; 2]
-    requires { IsPlaced bits item }
-    ensures items { result ≡ spec.step_items bits item }
-    ensures placed { ArePlaced bits result }
+/// The jump to an address, as one that stands there.
+fn jump_at(bits: Bits, back: u64) -> Placed
+    ensures { result ≡ spec.jump_at bits back }
 {
-    let back = wrap(bits, u128::from(item.ip) + u128::from(item.len));
     let instr = jump_to(bits, back);
     let len = plain_length(bits, &instr);
-    [
-        item,
-        Placed {
-            ip: back,
-            len,
-            instr,
-        },
-    ]
+    Placed {
+        ip: back,
+        len,
+        instr,
+    }
+}
+
+/// An instruction, and the jump back to the address behind it.
+fn step_items(bits: Bits, item: Placed) -> [Placed; 2]
+    ensures { result ≡ spec.step_items bits item }
+{
+    let back = wrap(bits, u128::from(item.ip) + u128::from(item.len));
+    [item, jump_at(bits, back)]
+}
+
+/// Why a step is refused, by why it gets no place; `len` is the rounded length of its block.
+fn place_refusal(why: PlaceError, len: u64) -> StepError
+    requires { IsOfLength why }
+    ensures { result ≡ place_refusal_of why len }
+{
+    match why {
+        PlaceError::TooManyBlocks { max } => StepError::TooManyBlocks { max, len },
+        PlaceError::Full { len, largest } => StepError::Full { len, largest },
+        PlaceError::Empty => unreachable!(),
+    }
+}
+
+/// Why a step is refused, by why its block is not moved.
+fn move_refusal(why: MoveError) -> StepError
+    requires { IsOfReach why }
+    ensures { result ≡ move_refusal_of why }
+{
+    match why {
+        MoveError::TooFar { target, .. } => StepError::TooFar { target },
+        MoveError::Memory => StepError::Memory,
+        _ => unreachable!(),
+    }
 }
 
 /// A length rounded up to a multiple of 16.
@@ -79,24 +105,16 @@ pub(crate) fn step_block(
     let len = last_len(bits, &items, base);
     let place = match region.place(len) {
         Ok(place) => place,
-        Err(PlaceError::Empty) => unreachable!(),
-        Err(PlaceError::TooManyBlocks { max }) => {
-            return Err(StepError::TooManyBlocks {
-                max,
-                len: rounded(len),
-            });
-        }
-        Err(PlaceError::Full { len, largest }) => return Err(StepError::Full { len, largest }),
+        Err(why) => return Err(place_refusal(why, rounded(len))),
     };
-    let refusal = match move_outside(alloc, bits, &items, place) {
+    match move_outside(alloc, bits, &items, place) {
         Ok(moved) => {
             region.fill(place, moved.bytes());
-            return Ok(place);
+            Ok(place)
         }
-        Err(MoveError::TooFar { target, .. }) => StepError::TooFar { target },
-        Err(MoveError::Memory) => StepError::Memory,
-        Err(_) => unreachable!(),
-    };
-    let _ = region.release(place);
-    Err(refusal)
+        Err(why) => {
+            let _ = region.release(place);
+            Err(move_refusal(why))
+        }
+    }
 }

@@ -1,6 +1,6 @@
 -- The layout of last forms of one block from which every target stays: it is at least as long as the least one, and as long at addresses a multiple of 16
 -- bytes apart.
-use Rattle.std.proofs.Common.{◌≡◌, ℕ, zero, suc, ◌+◌, ◌-◌, ◌*◌, ◌/◌, ◌%◌, ◌<◌, ◌≤◌, ◌⊎◌, inl, inr, Bool, true, false, not, ◌&&◌, List, [], ◌∷◌, ◌++◌, length, map, get_or, Option, Some, None, refl, ap, sym, ◌∙◌, subst, arith, zero-add}
+use Rattle.std.proofs.Common.{◌≡◌, ℕ, zero, suc, ◌+◌, ◌-◌, ◌*◌, ◌/◌, ◌%◌, ◌<◌, ◌≤◌, ◌⊎◌, inl, inr, Bool, true, false, not, ◌&&◌, List, [], ◌∷◌, ◌++◌, length, map, get_or, Option, Some, None, refl, ap, sym, ◌∙◌, subst, arith, zero-add, add-one}
 use Rattle.std.specs.Prelude.{◌==◌, if◌then◌else◌, unwrap_or}
 use Rattle.std.specs.List.{range_with_len}
 use Rattle.std.proofs.lemmas.Bool.{cases_Bool, cond_both}
@@ -27,6 +27,7 @@ use Rattle.move_goals.specs.declared.items.Placed.{Placed}
 use Rattle.move_goals.specs.Items.{ArePlaced, item_at, one_span}
 use Rattle.move_goals.specs.Plan.{plan_with, kept_goal, kept_goals, plan_outside}
 use Rattle.move_goals.proofs.Planned.{one_span-of, outside-fit}
+use Rattle.move_layout.proofs.Blocks.{length-far_goals}
 use Rattle.move_layout.specs.Laid.{is_far, is_far_at, goal_value, goal_address, with_goal, has_number, far_goals, slots_of, next_eighth, images_end, new_end}
 use Rattle.block_encoder.specs.Bytes.{block_bytes, bytes_of_blocks}
 use Rattle.block_encoder.specs.Moved.{MovedLists}
@@ -149,19 +150,42 @@ end_with at bytes slots = if slots == 0 then at + bytes else next_eighth (at + b
 
 end-rises : (at a b m n : ℕ) → a ≤ b → m ≤ n → end_with at a m ≤ end_with at b n
 end-rises at a b zero zero le few = omega (arith, le)
-end-rises at a b zero (suc n) le few = omega (arith, le)
+end-rises at a b zero (suc n) le few =
+    let f : end_with at b (suc n) ≡ (at + b + 7) / 8 * 8 + 8 * suc n = refl in
+    omega (arith, f, le)
 end-rises at a b (suc m) zero le few = absurd (omega (arith, few))
-end-rises at a b (suc m) (suc n) le few = omega (arith, le, few)
+end-rises at a b (suc m) (suc n) le few =
+    let e : end_with at a (suc m) ≡ (at + a + 7) / 8 * 8 + 8 * suc m = refl in
+    let f : end_with at b (suc n) ≡ (at + b + 7) / 8 * 8 + 8 * suc n = refl in
+    omega (arith, e, f, le, few)
 
 end-some : (at bytes slots : ℕ) → 0 < bytes → at < end_with at bytes slots
 end-some at bytes zero some = omega (arith, some)
-end-some at bytes (suc n) some = omega (arith, some)
+end-some at bytes (suc n) some =
+    let e : end_with at bytes (suc n) ≡ (at + bytes + 7) / 8 * 8 + 8 * suc n = refl in
+    omega (arith, e, some)
+
+end-most : (at bytes slots : ℕ) → bytes ≤ 30 → slots ≤ 2 → end_with at bytes slots ≤ at + 53
+end-most at bytes zero short few = omega (arith, short)
+end-most at bytes (suc n) short few =
+    let e : end_with at bytes (suc n) ≡ (at + bytes + 7) / 8 * 8 + 8 * suc n = refl in
+    omega (arith, e, short, few)
 
 end-moves : (at to bytes slots : ℕ) → at ≤ to → (to - at) % 16 ≡ 0 → end_with to bytes slots - to ≡ end_with at bytes slots - at
 end-moves at to bytes zero le units = omega (arith, le)
-end-moves at to bytes (suc n) le units = omega (arith, le, units)
+end-moves at to bytes (suc n) le units =
+    let e : end_with at bytes (suc n) ≡ (at + bytes + 7) / 8 * 8 + 8 * suc n = refl in
+    let f : end_with to bytes (suc n) ≡ (to + bytes + 7) / 8 * 8 + 8 * suc n = refl in
+    omega (arith, e, f, le, units)
 
 -- ---- the plan
+
+-- the bytes of the one block are all
+one_block-bytes : (bits : Bits) (items : List Placed) (new_base : ℕ) (layout : List ℕ)
+    → bytes_of_blocks bits items (plan_outside bits items new_base) layout (length (plan_outside bits items new_base).spans)
+    ≡ block_bytes bits items (plan_outside bits items new_base) layout 0
+unfolding plan_with
+one_block-bytes bits items new_base layout = append-nil (block_bytes bits items (plan_outside bits items new_base) layout 0)
 
 module _ (bits : Bits) (items : List Placed) (new_base : ℕ) where
   -- the block of all items ends there
@@ -200,6 +224,44 @@ module _ (bits : Bits) (items : List Placed) (new_base : ℕ) where
         kept-value None = refl
         kept-value (Some t) = refl
 
+  -- the length, by its parts
+  pub last-is : (images start count end : ℕ)
+      → images ≡ new_base + total (image_length (plan_outside bits items new_base) (last_layout (plan_outside bits items new_base))) (length items)
+      → count ≡ length (far_goals (plan_outside bits items new_base) (last_layout (plan_outside bits items new_base)) 0 (length items))
+      → start ≡ next_eighth images → end ≡ (if count == 0 then images else start + 8 * count) → end - new_base ≡ last_len bits items new_base
+  unfolding last_len
+  last-is images start count end i c s e =
+      let p = plan_outside bits items new_base in
+      let whole : end ≡ end_with new_base (total (image_length p (last_layout p)) (length items)) (length (far_goals p (last_layout p) 0 (length items))) =
+      e ∙ (ap (λ (n : ℕ). if count == 0 then images else n + 8 * count) s
+      ∙ (ap (λ (n : ℕ). if n == 0 then images else next_eighth images + 8 * n) c
+      ∙ ap (λ (n : ℕ). if length (far_goals p (last_layout p) 0 (length items)) == 0 then n else next_eighth n + 8 * length (far_goals p (last_layout p) 0 (length items))) i)) in
+      ap (λ (n : ℕ). n - new_base) (whole ∙ sym (one_end (last_layout p)))
+
+  -- one item more
+  pub images-next : (k : ℕ) → k < length items
+      → total (image_length (plan_outside bits items new_base) (last_layout (plan_outside bits items new_base))) (k + 1)
+      ≡ total (image_length (plan_outside bits items new_base) (last_layout (plan_outside bits items new_base))) k + (last_choice bits (item_at items k).instr).len
+  images-next k lt =
+      let p = plan_outside bits items new_base in
+      let f = image_length p (last_layout p) in
+      let step : total f (k + 1) ≡ total f k + f k = rw add-one refl in
+      omega (arith, step, ap (λ (c : Choice). c.len) (last-chosen k lt))
+
+  pub goals-next : (k : ℕ) → k < length items
+      → far_goals (plan_outside bits items new_base) (last_layout (plan_outside bits items new_base)) 0 (k + 1)
+      ≡ with_goal (far_goals (plan_outside bits items new_base) (last_layout (plan_outside bits items new_base)) 0 k)
+      (is_far (last_choice bits (item_at items k).instr).form) (unwrap_or (target_of (item_at items k).instr) 0)
+  goals-next k lt =
+      let p = plan_outside bits items new_base in
+      let l = last_layout p in
+      let goals = far_goals p l 0 k in
+      let step : far_goals p l 0 (k + 1) ≡ with_goal goals (is_far_at p l (0 + k)) (goal_address p l (0 + k)) = rw add-one refl in
+      let here : with_goal goals (is_far_at p l (0 + k)) (goal_address p l (0 + k)) ≡ with_goal goals (is_far_at p l k) (goal_address p l k) =
+      ap (λ (n : ℕ). with_goal goals (is_far_at p l n) (goal_address p l n)) (zero-add k) in
+      step ∙ (here ∙ (ap (λ (f : Bool). with_goal goals f (goal_address p l k)) (ap (λ (c : Choice). is_far c.form) (last-chosen k lt))
+      ∙ ap (with_goal goals (is_far (last_choice bits (item_at items k).instr).form)) (kept-address k lt l)))
+
   module _ (placed : ArePlaced bits items) (few : length items ≤ 2) where
     fit : IsWellFormed (plan_outside bits items new_base)
     fit = outside-fit bits items new_base placed (omega (arith, few))
@@ -209,6 +271,18 @@ module _ (bits : Bits) (items : List Placed) (new_base : ℕ) where
     last-small n =
         let p = plan_outside bits items new_base in
         total_small (image_length p (last_layout p)) 15 (image_short p fit (last_layout p)) n
+
+    -- **it is short**
+    pub last-bound : last_len bits items new_base ≤ 53
+    unfolding last_len
+    last-bound =
+        let p = plan_outside bits items new_base in
+        omega (
+          arith,
+          one_end (last_layout p),
+          end-most new_base (total (image_length p (last_layout p)) (length items)) (length (far_goals p (last_layout p) 0 (length items)))
+              (omega (arith, last-small (length items), few)) (omega (arith, length-far_goals p (last_layout p) 0 (length items), few)),
+        )
 
     choices-some : (k : ℕ) → k < length (plan_outside bits items new_base).items → 0 < length (plan.choices_at (plan_outside bits items new_base) k)
     choices-some k lt = (fit_item (plan_outside bits items new_base) fit k lt).some
@@ -293,6 +367,7 @@ module _ (bits : Bits) (items : List Placed) (new_base : ℕ) where
               (fewer-goals f0 f1 l0 l1 (has_number (g0 ∷ []) g1) (far-rises 0 lt0) (far-rises 1 lt1) g0 g1 refl))
           by_count (suc (suc (suc n))) e le = absurd (omega arith)
 
+      -- **the least layout ends no later**
       pub end-below : new_end (plan_outside bits items new_base) layout 0
           ≤ new_end (plan_outside bits items new_base) (last_layout (plan_outside bits items new_base)) 0
       end-below =
@@ -312,13 +387,8 @@ module _ (bits : Bits) (items : List Placed) (new_base : ℕ) where
         let only : 0 < length (one_span items new_base) = omega arith in
         let len = block-length bits items (one_span items new_base) (kept_goals items) moved.layout moved.least.closed.is_layout (one_span-of items new_base) 0 only
         (λ k lt. (moved.reached k lt).1) in
-        let bytes : m.bytes ≡ block_bytes bits items p moved.layout 0 = moved.lists.bytes ∙ one_block-bytes moved.layout in
+        let bytes : m.bytes ≡ block_bytes bits items p moved.layout 0 = moved.lists.bytes ∙ one_block-bytes bits items new_base moved.layout in
         omega (arith, len, ap length bytes, end-below moved.layout moved.least)
-      where
-        one_block-bytes : (layout : List ℕ) → bytes_of_blocks bits items (plan_outside bits items new_base) layout (length (plan_outside bits items new_base).spans)
-            ≡ block_bytes bits items (plan_outside bits items new_base) layout 0
-        unfolding plan_with
-        one_block-bytes layout = append-nil (block_bytes bits items (plan_outside bits items new_base) layout 0)
 
 -- ---- other addresses
 
