@@ -3,7 +3,7 @@
 use Rattle.std.proofs.Common.{◌≡◌, ℕ, zero, suc, ◌+◌, ◌-◌, ◌*◌, ◌/◌, ◌%◌, ◌<◌, ◌≤◌, ◌⊎◌, inl, inr, Bool, true, false, not, ◌&&◌, List, [], ◌∷◌, ◌++◌, length, map, get_or, Option, Some, None, refl, ap, sym, ◌∙◌, subst, arith, zero-add, add-one}
 use Rattle.std.specs.Prelude.{◌==◌, if◌then◌else◌, unwrap_or}
 use Rattle.std.specs.List.{range_with_len}
-use Rattle.std.proofs.lemmas.Bool.{cases_Bool, cond_both}
+use Rattle.std.proofs.lemmas.Bool.{ne_eqb}
 use Rattle.std.proofs.lemmas.List.{append-nil, get_or-map, length-map}
 use Rattle.x86_values.specs.declared.Bits.{Bits}
 use Rattle.x86_values.specs.declared.Bits.TheVariants.{B16, B32, B64}
@@ -148,34 +148,38 @@ far-congr p q a c (suc n) h g =
 abbrev pub end_with : ℕ → ℕ → ℕ → ℕ
 end_with at bytes slots = if slots == 0 then at + bytes else next_eighth (at + bytes) + 8 * slots
 
+end-suc : (at bytes n : ℕ) → end_with at bytes (suc n) ≡ (at + bytes + 7) / 8 * 8 + 8 * suc n
+end-suc at bytes n =
+    ap (λ (b : Bool). if b then at + bytes else (at + bytes + 7) / 8 * 8 + 8 * suc n) (ne_eqb (suc n) 0 (λ e. absurd (omega (arith, e))))
+
 end-rises : (at a b m n : ℕ) → a ≤ b → m ≤ n → end_with at a m ≤ end_with at b n
 end-rises at a b zero zero le few = omega (arith, le)
 end-rises at a b zero (suc n) le few =
-    let f : end_with at b (suc n) ≡ (at + b + 7) / 8 * 8 + 8 * suc n = refl in
+    let f = end-suc at b n in
     omega (arith, f, le)
 end-rises at a b (suc m) zero le few = absurd (omega (arith, few))
 end-rises at a b (suc m) (suc n) le few =
-    let e : end_with at a (suc m) ≡ (at + a + 7) / 8 * 8 + 8 * suc m = refl in
-    let f : end_with at b (suc n) ≡ (at + b + 7) / 8 * 8 + 8 * suc n = refl in
+    let e = end-suc at a m in
+    let f = end-suc at b n in
     omega (arith, e, f, le, few)
 
 end-some : (at bytes slots : ℕ) → 0 < bytes → at < end_with at bytes slots
 end-some at bytes zero some = omega (arith, some)
 end-some at bytes (suc n) some =
-    let e : end_with at bytes (suc n) ≡ (at + bytes + 7) / 8 * 8 + 8 * suc n = refl in
+    let e = end-suc at bytes n in
     omega (arith, e, some)
 
 end-most : (at bytes slots : ℕ) → bytes ≤ 30 → slots ≤ 2 → end_with at bytes slots ≤ at + 53
 end-most at bytes zero short few = omega (arith, short)
 end-most at bytes (suc n) short few =
-    let e : end_with at bytes (suc n) ≡ (at + bytes + 7) / 8 * 8 + 8 * suc n = refl in
+    let e = end-suc at bytes n in
     omega (arith, e, short, few)
 
 end-moves : (at to bytes slots : ℕ) → at ≤ to → (to - at) % 16 ≡ 0 → end_with to bytes slots - to ≡ end_with at bytes slots - at
 end-moves at to bytes zero le units = omega (arith, le)
 end-moves at to bytes (suc n) le units =
-    let e : end_with at bytes (suc n) ≡ (at + bytes + 7) / 8 * 8 + 8 * suc n = refl in
-    let f : end_with to bytes (suc n) ≡ (to + bytes + 7) / 8 * 8 + 8 * suc n = refl in
+    let e = end-suc at bytes n in
+    let f = end-suc to bytes n in
     omega (arith, e, f, le, units)
 
 -- ---- the plan

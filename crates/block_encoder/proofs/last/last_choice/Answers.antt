@@ -11,4 +11,4 @@ overflow_sub-result c =
 pub bounds-deref-len : goal.bounds-deref-len
 bounds-deref-len c =
     let some = (spelled-fit c.args.bits (wrapped c.args.bits c.args.item.now.ip) c.requires.bytes c.args.item.now.instr c.requires.spelled).0 in
-    omega (arith, some, ap length c.choices_of-choices.ensures)
+    omega (arith, some, ap length c.choices_of-choices.ensures, ap length c.deref.ensures.0, c.len.ensures.value)

@@ -43,7 +43,7 @@ overflow_cast-result c =
     let images = c.items.invariant.images_is ∙ ap (λ (n : ℕ). c.args.new_base + total (image_length p (last_layout p)) n) all in
     let goals = c.items.invariant.goals_is ∙ ap (far_goals p (last_layout p) 0) all in
     let value = last-is c.args.bits items c.args.new_base c.items.images c.next_multiple_of_8.result c.len.result c.block_end-end.result images
-    (c.len.ensures ∙ ap length goals) c.next_multiple_of_8.ensures.value c.block_end-end.ensures in
+    (c.len.ensures.value ∙ ap length goals) c.next_multiple_of_8.ensures.value c.block_end-end.ensures in
     omega (arith, value, last-bound c.args.bits items c.args.new_base c.requires.placed c.requires.few)
 
 pub returns-clause-value : goal.returns-clause-value
@@ -53,8 +53,9 @@ returns-clause-value c =
     let all : c.items.k ≡ length items = omega (arith, c.items-test.false, c.items.auto.k-end) in
     let images = c.items.invariant.images_is ∙ ap (λ (n : ℕ). c.args.new_base + total (image_length p (last_layout p)) n) all in
     let goals = c.items.invariant.goals_is ∙ ap (far_goals p (last_layout p) 0) all in
-    last-is c.args.bits items c.args.new_base c.items.images c.next_multiple_of_8.result c.len.result c.block_end-end.result images
-    (c.len.ensures ∙ ap length goals) c.next_multiple_of_8.ensures.value c.block_end-end.ensures
+    ap (λ (n : ℕ). c.block_end-end.result - n) c.from.ensures
+    ∙ last-is c.args.bits items c.args.new_base c.items.images c.next_multiple_of_8.result c.len.result c.block_end-end.result images
+    (c.len.ensures.value ∙ ap length goals) c.next_multiple_of_8.ensures.value c.block_end-end.ensures
 
 pub returns-clause-small : goal.returns-clause-small
 returns-clause-small c =
@@ -64,5 +65,5 @@ returns-clause-small c =
     let images = c.items.invariant.images_is ∙ ap (λ (n : ℕ). c.args.new_base + total (image_length p (last_layout p)) n) all in
     let goals = c.items.invariant.goals_is ∙ ap (far_goals p (last_layout p) 0) all in
     let value = last-is c.args.bits items c.args.new_base c.items.images c.next_multiple_of_8.result c.len.result c.block_end-end.result images
-    (c.len.ensures ∙ ap length goals) c.next_multiple_of_8.ensures.value c.block_end-end.ensures in
+    (c.len.ensures.value ∙ ap length goals) c.next_multiple_of_8.ensures.value c.block_end-end.ensures in
     omega (arith, value, last-bound c.args.bits items c.args.new_base c.requires.placed c.requires.few)
