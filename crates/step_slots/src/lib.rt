@@ -13,6 +13,3 @@ pub use code_region::{NotTaken, OpenError};
 pub use commands::{StepCommand, StepReply, replay};
 pub use refusals::StepError;
 pub use slots::{StepSlot, StepSlots};
-
-#[cfg(test)]
-mod tests;
