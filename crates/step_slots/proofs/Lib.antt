@@ -1,7 +1,0 @@
-pub mod Ranks
-pub mod JumpBack
-pub mod Region
-pub mod Blocks
-pub mod Stepped
-pub mod StepAnswers
-pub mod Runs
