@@ -1,18 +1,16 @@
 -- The choices of an instruction are those of an item of a plan.
 use Rattle.std.proofs.Common.{◌≡◌, ℕ, ◌+◌, ◌<◌, ◌≤◌, Bool, true, false, ◌&&◌, List, [], ◌∷◌, map, length, refl, slice_get, arith}
-use Rattle.std.specs.Prelude.{Option, Some, None, not, nat_lt, nat_le, IsTrue}
+use Rattle.std.specs.Prelude.{Option, Some, None, nat_lt, nat_le, IsTrue}
 use Rattle.std.specs.List.{list_all}
 use Rattle.std.proofs.lemmas.Bool.{le-leb, leb-true, ltb-true}
 use Rattle.x86_values.specs.declared.Bits.{Bits}
 use Rattle.x86_values.specs.declared.Bits.TheVariants.{B16, B32, B64}
 use Rattle.x86_values.specs.declared.Instr.{Instr}
-use Rattle.instruction_parts.specs.Bytes.{bit}
 use Rattle.instruction_parts.specs.Counting.{is_64}
 use Rattle.instruction_parts.specs.Sizes.{exists_in}
 use Rattle.row_types.specs.declared.Row.{Row}
 use Rattle.row_relation.specs.Spells.{Spells}
 use Rattle.opcode_rows.specs.Table.{table}
-use Rattle.plain_spelling.specs.Comparing.{same_bits}
 use Rattle.row_fields.proofs.Cands.{and-left, and-right}
 use Rattle.branch_sizes.specs.declared.plan.Choice.{Choice}
 use Rattle.branch_sizes.specs.declared.plan.Form.{Form}

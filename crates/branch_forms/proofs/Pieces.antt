@@ -12,7 +12,6 @@ use Rattle.instruction_parts.specs.Bytes.{lead_bytes}
 use Rattle.instruction_parts.specs.Kinds.{method_of, immediate_width}
 use Rattle.instruction_parts.specs.Sizes.{operand_size}
 use Rattle.row_fit.specs.Fits.{immediate_bytes}
-use Rattle.plain_spelling.specs.Comparing.{same_bits}
 use Rattle.plain_spelling.specs.PlainFront.{register_number, is_low_byte_of_rex, number_in_reg, number_in_rm, number_in_index, number_in_vvvv, number_in_opcode, asks_r, asks_x, asks_b, asks_rex_w, asks_vex_w, asks_66, asks_67, asked_repeat, asked_rex, class_pp, asked_vex, asked_opcode, asked_used, plain_front_of}
 use Rattle.plain_spelling.specs.Addresses.{written_size, shown_size, general_size, pointer_size, form_of, address_fields, alone_fields, flat_fields, flat_needs_sib, displacement_count}
 use Rattle.plain_spelling.specs.PlainTail.{plain_size, rm_fields, fixed_rm, plain_modrm, plain_sib_of, plain_len}

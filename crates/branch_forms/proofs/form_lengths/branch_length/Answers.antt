@@ -1,7 +1,5 @@
-use Rattle.std.proofs.Common.{◌≡◌, ℕ, sym, ap, ◌∙◌, arith}
-use Rattle.x86_values.specs.declared.Bits.{Bits}
+use Rattle.std.proofs.Common.{sym, ◌∙◌, arith}
 use Rattle.branch_sizes.specs.declared.plan.Form.TheVariants.{Itself, Short, Near, Far, Bridge, FarBridge}
-use Rattle.branch_forms.specs.Lengths.{short_bytes}
 use Rattle.branch_forms.proofs.Sized.{is-in-range, itself-form, short-form, near-form, far_condition-form, far_other-form, bridge-form, far_bridge-form, sized, short-told}
 use Rattle.branch_forms.proofs.form_lengths.branch_length.Goals as goal
 
