@@ -5,6 +5,7 @@ use Rattle.x86_values.specs.declared.Bits.{Bits}
 use Rattle.x86_values.specs.declared.Bits.TheVariants.{B16, B32, B64}
 use Rattle.x86_values.specs.declared.Instr.{Instr}
 use Rattle.branch_sizes.specs.declared.plan.BlockSpan.{BlockSpan}
+use Rattle.branch_sizes.specs.declared.plan.Goal.{Goal}
 use Rattle.branch_sizes.specs.declared.plan.Form.{Form}
 use Rattle.branch_sizes.specs.declared.plan.Form.TheVariants.{Itself, Far, FarBridge}
 use Rattle.branch_sizes.specs.Plan.{BlockPlan, no_choice, no_branch}
@@ -18,7 +19,7 @@ use Rattle.branch_forms.specs.Images.{form_length}
 use Rattle.branch_forms.specs.Choices.{in_64, branch_forms, branch_choice, choices_by, choices_of}
 use Rattle.move_goals.specs.declared.items.Placed.{Placed}
 use Rattle.move_goals.specs.Items.{item_at}
-use Rattle.move_goals.specs.Plan.{branch_at, plan_for}
+use Rattle.move_goals.specs.Plan.{branch_with, plan_with}
 use Rattle.move_layout.specs.Laid.{seat_at}
 
 -- ---- choices
@@ -92,24 +93,24 @@ own-form bits i f lt e = own_by bits i (branch_of i) f lt e
 
 -- ---- the plan
 
-module _ (bits : Bits) (spans : List BlockSpan) (items : List Placed) where
-  pub plan-spans : (plan_for bits spans items).spans ≡ spans
-  unfolding plan_for
+module _ (bits : Bits) (spans : List BlockSpan) (items : List Placed) (goals : ℕ → Goal) where
+  pub plan-spans : (plan_with bits spans items goals).spans ≡ spans
+  unfolding plan_with
   plan-spans = refl
 
-  pub plan-count : length (plan_for bits spans items).items ≡ length items
-  unfolding plan_for
-  plan-count = length-map-range_with_len (branch_at bits spans items) 0 (length items)
+  pub plan-count : length (plan_with bits spans items goals).items ≡ length items
+  unfolding plan_with
+  plan-count = length-map-range_with_len (branch_with bits items goals) 0 (length items)
 
-  pub plan-item : (k : ℕ) → k < length items → plan.item_at (plan_for bits spans items) k ≡ branch_at bits spans items k
-  unfolding plan_for
-  plan-item k lt = get_or-map-range_with_len (branch_at bits spans items) 0 (length items) k k no_branch lt (omega arith)
+  pub plan-item : (k : ℕ) → k < length items → plan.item_at (plan_with bits spans items goals) k ≡ branch_with bits items goals k
+  unfolding plan_with
+  plan-item k lt = get_or-map-range_with_len (branch_with bits items goals) 0 (length items) k k no_branch lt (omega arith)
 
   -- ---- seats
 
-  module _ (layout : List ℕ) (l : IsLayout (plan_for bits spans items) layout) (k : ℕ) (lt : k < length items) where
+  module _ (layout : List ℕ) (l : IsLayout (plan_with bits spans items goals) layout) (k : ℕ) (lt : k < length items) where
     -- the choice of an item
-    pub choice-is : chosen (plan_for bits spans items) layout k ≡ get_or (choices_of bits (item_at items k).instr) (get_or layout k 0) no_choice
+    pub choice-is : chosen (plan_with bits spans items goals) layout k ≡ get_or (choices_of bits (item_at items k).instr) (get_or layout k 0) no_choice
     choice-is = ap (λ b. get_or b.choices.items (get_or layout k 0) no_choice) (plan-item k lt)
 
     pub choice-below : get_or layout k 0 < length (choices_of bits (item_at items k).instr)
@@ -118,21 +119,21 @@ module _ (bits : Bits) (spans : List BlockSpan) (items : List Placed) where
         (l.valid k (subst (λ n. k < n) (sym plan-count) lt))
 
     -- the seat is as long as the image in its form
-    pub seat-length : (seat_at (plan_for bits spans items) layout k).len ≡ form_length bits (item_at items k).instr (seat_at (plan_for bits spans items) layout k).form
+    pub seat-length : (seat_at (plan_with bits spans items goals) layout k).len ≡ form_length bits (item_at items k).instr (seat_at (plan_with bits spans items goals) layout k).form
     unfolding seat_at
     seat-length = rw choice-is (choice-length bits (item_at items k).instr (get_or layout k 0) choice-below)
 
-    pub seat-no_branch : (seat_at (plan_for bits spans items) layout k).form ≡ Itself → branch_of (item_at items k).instr ≡ None
+    pub seat-no_branch : (seat_at (plan_with bits spans items goals) layout k).form ≡ Itself → branch_of (item_at items k).instr ≡ None
     unfolding seat_at
     seat-no_branch e = own-form bits (item_at items k).instr (get_or layout k 0) choice-below (sym (ap (λ x. x.form) choice-is) ∙ e)
 
-    pub seat-own : (b : RelativeBranch) → branch_of (item_at items k).instr ≡ Some b → is_own (chosen (plan_for bits spans items) layout k).form ≡ false
+    pub seat-own : (b : RelativeBranch) → branch_of (item_at items k).instr ≡ Some b → is_own (chosen (plan_with bits spans items goals) layout k).form ≡ false
     seat-own b e = ap (λ c. is_own c.form) choice-is ∙ moved-form bits (item_at items k).instr b (get_or layout k 0) e choice-below
 
-    pub seat-image_length : (seat_at (plan_for bits spans items) layout k).len ≡ image_length (plan_for bits spans items) layout k
+    pub seat-image_length : (seat_at (plan_with bits spans items goals) layout k).len ≡ image_length (plan_with bits spans items goals) layout k
     unfolding seat_at
     seat-image_length = refl
 
-    pub seat-place : (seat_at (plan_for bits spans items) layout k).place ≡ place (plan_for bits spans items) layout k
+    pub seat-place : (seat_at (plan_with bits spans items goals) layout k).place ≡ place (plan_with bits spans items goals) layout k
     unfolding seat_at
     seat-place = refl

@@ -11,6 +11,7 @@ use Rattle.operand_info.specs.Operands.{near_value, ip_value, first_value}
 use Rattle.branch_sizes.specs.declared.plan.BlockSpan.{BlockSpan}
 use Rattle.branch_sizes.specs.declared.plan.Form.{Form}
 use Rattle.branch_sizes.specs.declared.plan.Form.TheVariants.{Itself, Short, Near as NearForm, Far, Bridge, FarBridge}
+use Rattle.branch_sizes.specs.Plan.{BlockPlan}
 use Rattle.branch_sizes.specs.Layout.{IsLayout, block_number, chosen, place}
 use Rattle.moved_targets.specs.Targets.{target_of, aimed, aimed_operand, plain_length}
 use Rattle.moved_targets.proofs.Lengths.{aimed-length}
@@ -22,8 +23,9 @@ use Rattle.branch_forms.specs.Branches.{branch_of, short_code, near_code, far_co
 use Rattle.branch_forms.specs.Images.{branch_to, through_slot, counter_size, short_branch, skip, bridge_jump, bridge_inner, bridge, far_image, branch_image, image_by, image_of, pieces_length}
 use Rattle.move_goals.specs.declared.items.Placed.{Placed}
 use Rattle.move_goals.specs.Items.{ArePlaced, no_instr, item_at}
-use Rattle.move_goals.specs.Plan.{plan_for}
+use Rattle.move_goals.specs.Plan.{plan_with, plan_for}
 use Rattle.move_layout.specs.Laid.{is_far, is_far_at, goal_address, slot_address, seat_at}
+use Rattle.move_goals.specs.Goals.{goal_at}
 use Rattle.block_encoder.specs.Bytes.{image_at}
 use Rattle.block_encoder.specs.Aims.{last_instr}
 use Rattle.block_encoder.proofs.Pieces.{spelled-four}
@@ -184,6 +186,12 @@ cond_true : (b : Bool) (x y : ℕ) → b ≡ true → (if b then x else y) ≡ x
 cond_true true x y h = refl
 cond_true false x y h = cc
 
+-- a far form has the slot of its goal
+pub slot-is : (p : BlockPlan) (layout : List ℕ) (k : ℕ) → is_far_at p layout k ≡ true
+    → (seat_at p layout k).slot ≡ slot_address p layout (block_number p.spans k) (goal_address p layout k)
+unfolding seat_at
+slot-is p layout k far = cond_true (is_far_at p layout k) (slot_address p layout (block_number p.spans k) (goal_address p layout k)) 0 far
+
 module _ (bits : Bits) (items : List Placed) (spans : List BlockSpan) (layout : List ℕ) (k : ℕ) where
   -- the image, by the parts of the seat
   image-is : image_at bits items (plan_for bits spans items) layout k
@@ -191,12 +199,6 @@ module _ (bits : Bits) (items : List Placed) (spans : List BlockSpan) (layout : 
       (goal_address (plan_for bits spans items) layout k) (seat_at (plan_for bits spans items) layout k).slot
   unfolding seat_at
   image-is = refl
-
-  pub slot-is : is_far_at (plan_for bits spans items) layout k ≡ true
-      → (seat_at (plan_for bits spans items) layout k).slot ≡ slot_address (plan_for bits spans items) layout (block_number spans k) (goal_address (plan_for bits spans items) layout k)
-  unfolding seat_at plan_for
-  slot-is far =
-      cond_true (is_far_at (plan_for bits spans items) layout k) (slot_address (plan_for bits spans items) layout (block_number spans k) (goal_address (plan_for bits spans items) layout k)) 0 far
 
   -- **each instruction of an image but the last goes over the next one**
   pub goes-over : (n : ℕ) → n + 1 < length (image_at bits items (plan_for bits spans items) layout k)
@@ -246,7 +248,7 @@ module _ (bits : Bits) (items : List Placed) (spans : List BlockSpan) (layout : 
         → first_value near_value (last_instr (image_at bits items (plan_for bits spans items) layout k)) ≡ Some (goal_address (plan_for bits spans items) layout k)
     goes-near l t some far =
         let b = image-branch t some in
-        let moved = seat-own bits spans items layout l k lt b.0 b.1 in
+        let moved = seat-own bits spans items (goal_at spans items) layout l k lt b.0 b.1 in
         ap (λ (is : List Instr). first_value near_value (last_instr is)) b.2
         ∙ branch-near bits (item_at items k).instr b.0 (chosen (plan_for bits spans items) layout k).form (place (plan_for bits spans items) layout k)
         (goal_address (plan_for bits spans items) layout k) (seat_at (plan_for bits spans items) layout k).slot moved far
@@ -256,9 +258,10 @@ module _ (bits : Bits) (items : List Placed) (spans : List BlockSpan) (layout : 
         → is_far_at (plan_for bits spans items) layout k ≡ true
         → first_value ip_value (last_instr (image_at bits items (plan_for bits spans items) layout k))
         ≡ Some (slot_address (plan_for bits spans items) layout (block_number spans k) (goal_address (plan_for bits spans items) layout k))
+    unfolding plan_with
     goes-far t some far =
         let b = image-branch t some in
         ap (λ (is : List Instr). first_value ip_value (last_instr is)) b.2
         ∙ (branch-far bits (item_at items k).instr b.0 (chosen (plan_for bits spans items) layout k).form (place (plan_for bits spans items) layout k)
         (goal_address (plan_for bits spans items) layout k) (seat_at (plan_for bits spans items) layout k).slot far
-        ∙ ap Some (slot-is far))
+        ∙ ap Some (slot-is (plan_for bits spans items) layout k far))

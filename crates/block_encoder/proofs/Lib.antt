@@ -19,3 +19,4 @@ pub mod Spelled
 pub mod Formed
 pub mod Counting
 pub mod Branching
+pub mod LastForms

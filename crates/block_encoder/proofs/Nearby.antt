@@ -22,7 +22,7 @@ or_second false true = refl
 or_second false false = refl
 
 -- a number of 64 bits that is a signed one of n bytes, of which half the range is h
-signed : (n h x : ℕ) → 2 ^ (8 * n) ≡ 2 * h → x < 2 ^ 64 → (x < h) ⊎ (2 ^ 64 ≤ x + h) → is_extended_of n 64 x ≡ true
+pub signed : (n h x : ℕ) → 2 ^ (8 * n) ≡ 2 * h → x < 2 ^ 64 → (x < h) ⊎ (2 ^ 64 ≤ x + h) → is_extended_of n 64 x ≡ true
 unfolding is_extended_of
 signed n h x e below (inl lt) =
     rw (true_lt x (2 ^ 64) below, true_lt (2 * x) (2 ^ (8 * n)) (omega (arith, e, lt))) (or_first (nat_le 64 (8 * n)) (nat_le (2 * 2 ^ 64) (2 * x + 2 ^ (8 * n))))

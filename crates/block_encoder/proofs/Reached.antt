@@ -22,8 +22,8 @@ use Rattle.branch_forms.proofs.Lengths.{other-length}
 use Rattle.branch_forms.proofs.Fit.{spelled-fit}
 use Rattle.move_goals.specs.declared.items.Placed.{Placed}
 use Rattle.move_goals.specs.Items.{AreSpansOf, ArePlaced, item_at}
-use Rattle.move_goals.specs.Goals.{is_in_block_of, begins_at, own_item, other_item, goal_among, goal_of_target, goal_of}
-use Rattle.move_goals.specs.Plan.{plan_for}
+use Rattle.move_goals.specs.Goals.{is_in_block_of, begins_at, own_item, other_item, goal_among, goal_of_target, goal_of, goal_at}
+use Rattle.move_goals.specs.Plan.{plan_with, plan_for}
 use Rattle.move_goals.proofs.First.{some_below}
 use Rattle.move_layout.specs.Laid.{goal_value, goal_address, seat_at}
 use Rattle.block_encoder.specs.Bytes.{in_front, bytes_from}
@@ -54,12 +54,12 @@ module _ (bits : Bits) (items : List Placed) (spans : List BlockSpan) (s : AreSp
   some_byte k lt =
       let i = placed k lt in
       let fit = spelled-fit bits (wrapped bits (item_at items k).ip) i.bytes (item_at items k).instr i.spelled in
-      let low = length_at_least 1 (choices_of bits (item_at items k).instr) (get_or layout k 0) fit.2 (choice-below bits spans items layout l k lt) in
-      omega (arith, low, ap (λ c. c.len) (choice-is bits spans items layout l k lt))
+      let low = length_at_least 1 (choices_of bits (item_at items k).instr) (get_or layout k 0) fit.2 (choice-below bits spans items (goal_at spans items) layout l k lt) in
+      omega (arith, low, ap (λ c. c.len) (choice-is bits spans items (goal_at spans items) layout l k lt))
 
   -- an image ends inside the address space
   ends : (k : ℕ) → k < length items → place (plan_for bits spans items) layout k + image_length (plan_for bits spans items) layout k ≤ 2 ^ width bits
-  unfolding plan_for
+  unfolding plan_with
   ends k lt = image-within bits (plan_for bits spans items) layout inside k (omega (arith, lt, s.counts))
 
   place_below : (k : ℕ) → k < length items → place (plan_for bits spans items) layout k < 2 ^ 64
@@ -87,7 +87,7 @@ module _ (bits : Bits) (items : List Placed) (spans : List BlockSpan) (s : AreSp
     -- **the goal of an address is an address**
     pub goal-below : ((t : ℕ) → target_of (item_at items k).instr ≡ Some t → t < 2 ^ 64) → goal_address (plan_for bits spans items) layout k < 2 ^ 64
     goal-below below =
-        subst (λ b. goal_value (plan_for bits spans items) layout b.goal < 2 ^ 64) (sym (plan-item bits spans items k lt))
+        subst (λ b. goal_value (plan_for bits spans items) layout b.goal < 2 ^ 64) (sym (plan-item bits spans items (goal_at spans items) k lt))
         (by_target (target_of (item_at items k).instr) below)
 
     goal_below : first_value near_value (item_at items k).instr ≡ None → goal_address (plan_for bits spans items) layout k < 2 ^ 64
@@ -108,15 +108,15 @@ module _ (bits : Bits) (items : List Placed) (spans : List BlockSpan) (s : AreSp
         let instr = (item_at items k).instr in
         let i = placed k lt in
         let old = wrapped bits (item_at items k).ip in
-        let no_branch = seat-no_branch bits spans items layout l k lt own in
+        let no_branch = seat-no_branch bits spans items (goal_at spans items) layout l k lt own in
         let none = no_branch-no_near bits old i.bytes instr i.spelled no_branch in
-        let len : seat.len ≡ plain_length bits instr = seat-length bits spans items layout l k lt ∙ other-length bits instr seat.form no_branch in
+        let len : seat.len ≡ plain_length bits instr = seat-length bits spans items (goal_at spans items) layout l k lt ∙ other-length bits instr seat.form no_branch in
         let target : Reaches (target_reach instr) seat.len seat.place seat.goal =
         subst (λ (form : Form). Reaches (seat_reach instr form seat.reach) seat.len seat.place seat.goal) own reaches in
         let there : Reaches (target_reach instr) (plain_length bits instr) seat.place seat.goal =
         subst (λ (n : ℕ). Reaches (target_reach instr) n seat.place seat.goal) len target in
         let within : seat.place + plain_length bits instr ≤ 2 ^ width bits =
-        omega (arith, len, ends k lt, seat-place bits spans items layout l k lt, seat-image_length bits spans items layout l k lt) in
+        omega (arith, len, ends k lt, seat-place bits spans items (goal_at spans items) layout l k lt, seat-image_length bits spans items (goal_at spans items) layout l k lt) in
         let below : seat.goal < 2 ^ 64 = omega (arith, seat_goal, goal_below none) in
         let e = encoded-elsewhere bits old seat.place seat.goal i.bytes instr i.spelled none there within below in (
           reaches,

@@ -9,10 +9,11 @@ use Rattle.x86_values.specs.declared.Bits.{Bits}
 use Rattle.plain_spelling.specs.Values.{low_bytes}
 use Rattle.plain_spelling.proofs.Values.{low_bytes-length}
 use Rattle.branch_sizes.specs.declared.plan.BlockSpan.{BlockSpan}
+use Rattle.branch_sizes.specs.declared.plan.Goal.{Goal}
 use Rattle.branch_sizes.specs.Layout.{IsLayout, first_of_block, span_at, place}
 use Rattle.move_goals.specs.declared.items.Placed.{Placed}
 use Rattle.move_goals.specs.Items.{AreSpansOf}
-use Rattle.move_goals.specs.Plan.{plan_for}
+use Rattle.move_goals.specs.Plan.{plan_with}
 use Rattle.move_layout.specs.Laid.{slots_of, images_end, slots_start, new_end, slot_address, goal_address, is_far_at}
 use Rattle.move_layout.specs.Slots.{place_among}
 use Rattle.move_layout.proofs.Laid.{end-without-slots, end-with-slots, images-le-slots, slots-aligned, slot-number-below, slot-has-goal, slot-within}
@@ -103,71 +104,71 @@ drop_both a b c n =
 
 -- ---- a block
 
-module _ (bits : Bits) (items : List Placed) (spans : List BlockSpan) (layout : List ℕ) (l : IsLayout (plan_for bits spans items) layout)
+module _ (bits : Bits) (items : List Placed) (spans : List BlockSpan) (goals : ℕ → Goal) (layout : List ℕ) (l : IsLayout (plan_with bits spans items goals) layout)
     (s : AreSpansOf items spans) (b : ℕ) (bl : b < length spans)
-    (some : (k : ℕ) → k < length items → IsSome (image_bytes bits items (plan_for bits spans items) layout k)) where
-  are-from : AreFrom (bytes_at bits items (plan_for bits spans items) layout) (place_in (plan_for bits spans items) layout b) (first_of_block spans b) (span_at spans b).count
-  unfolding plan_for
+    (some : (k : ℕ) → k < length items → IsSome (image_bytes bits items (plan_with bits spans items goals) layout k)) where
+  are-from : AreFrom (bytes_at bits items (plan_with bits spans items goals) layout) (place_in (plan_with bits spans items goals) layout b) (first_of_block spans b) (span_at spans b).count
+  unfolding plan_with
   are-from = record {
     next = λ k from below.
         let lt : k < length items = omega (arith, in_block-below spans b k bl from below, s.counts) in
-        place-next (plan_for bits spans items) layout b k from
-        ∙ ap (λ (n : ℕ). place_in (plan_for bits spans items) layout b k + n) (sym (bytes-length bits items spans layout l k lt (some k lt)));
-    rises = λ j k le. place-rises (plan_for bits spans items) layout b j k le;
+        place-next (plan_with bits spans items goals) layout b k from
+        ∙ ap (λ (n : ℕ). place_in (plan_with bits spans items goals) layout b k + n) (sym (bytes-length bits items spans goals layout l k lt (some k lt)));
+    rises = λ j k le. place-rises (plan_with bits spans items goals) layout b j k le;
   }
 
-  images-length : (span_at spans b).new_base + length (block_images bits items (plan_for bits spans items) layout b) ≡ images_end (plan_for bits spans items) layout b
-  unfolding plan_for block_images
+  images-length : (span_at spans b).new_base + length (block_images bits items (plan_with bits spans items goals) layout b) ≡ images_end (plan_with bits spans items goals) layout b
+  unfolding plan_with block_images
   images-length =
       omega (
         arith,
-        pieces-length (bytes_at bits items (plan_for bits spans items) layout) (place_in (plan_for bits spans items) layout b) (first_of_block spans b) (span_at spans b).count are-from,
-        place-first (plan_for bits spans items) layout b,
-        place-last (plan_for bits spans items) layout b,
+        pieces-length (bytes_at bits items (plan_with bits spans items goals) layout) (place_in (plan_with bits spans items goals) layout b) (first_of_block spans b) (span_at spans b).count are-from,
+        place-first (plan_with bits spans items goals) layout b,
+        place-last (plan_with bits spans items goals) layout b,
       )
 
-  gap-length : 0 < length (slots_of (plan_for bits spans items) layout b)
-      → length (gap_bytes (plan_for bits spans items) layout b) ≡ slots_start (plan_for bits spans items) layout b - images_end (plan_for bits spans items) layout b
+  gap-length : 0 < length (slots_of (plan_with bits spans items goals) layout b)
+      → length (gap_bytes (plan_with bits spans items goals) layout b) ≡ slots_start (plan_with bits spans items goals) layout b - images_end (plan_with bits spans items goals) layout b
   unfolding gap_bytes
   gap-length more =
-      gap_by (length (slots_of (plan_for bits spans items) layout b) == 0) (slots_start (plan_for bits spans items) layout b - images_end (plan_for bits spans items) layout b)
-      (ne_eqb (length (slots_of (plan_for bits spans items) layout b)) 0 (λ e. omega arith))
+      gap_by (length (slots_of (plan_with bits spans items goals) layout b) == 0) (slots_start (plan_with bits spans items goals) layout b - images_end (plan_with bits spans items goals) layout b)
+      (ne_eqb (length (slots_of (plan_with bits spans items goals) layout b)) 0 (λ e. omega arith))
 
   -- **a block ends at its new end**
-  pub block-length : (span_at spans b).new_base + length (block_bytes bits items (plan_for bits spans items) layout b) ≡ new_end (plan_for bits spans items) layout b
+  pub block-length : (span_at spans b).new_base + length (block_bytes bits items (plan_with bits spans items goals) layout b) ≡ new_end (plan_with bits spans items goals) layout b
   unfolding block_bytes gap_bytes
-  block-length = by_slots (cases_lt 0 (length (slots_of (plan_for bits spans items) layout b)))
+  block-length = by_slots (cases_lt 0 (length (slots_of (plan_with bits spans items goals) layout b)))
     where
       images : List ℕ
-      images = block_images bits items (plan_for bits spans items) layout b
+      images = block_images bits items (plan_with bits spans items goals) layout b
 
       gap : List ℕ
-      gap = gap_bytes (plan_for bits spans items) layout b
+      gap = gap_bytes (plan_with bits spans items goals) layout b
 
       slots : List ℕ
-      slots = slots_of (plan_for bits spans items) layout b
+      slots = slots_of (plan_with bits spans items goals) layout b
 
       together : length (images ++ (gap ++ slot_bytes slots)) ≡ length images + (length gap + 8 * length slots)
       together = omega (arith, length-append images (gap ++ slot_bytes slots), length-append gap (slot_bytes slots), slots-length slots)
 
-      by_slots : (0 < length slots) ⊎ (length slots ≤ 0) → (span_at spans b).new_base + length (images ++ (gap ++ slot_bytes slots)) ≡ new_end (plan_for bits spans items) layout b
+      by_slots : (0 < length slots) ⊎ (length slots ≤ 0) → (span_at spans b).new_base + length (images ++ (gap ++ slot_bytes slots)) ≡ new_end (plan_with bits spans items goals) layout b
       by_slots (inl more) =
           let g = gap-length more in
-          omega (arith, together, g, images-length, end-with-slots (plan_for bits spans items) layout b more, images-le-slots (plan_for bits spans items) layout b)
+          omega (arith, together, g, images-length, end-with-slots (plan_with bits spans items goals) layout b more, images-le-slots (plan_with bits spans items goals) layout b)
       by_slots (inr none) =
           let empty : length slots ≡ 0 = omega arith in
-          let g = no_gap (length slots == 0) (slots_start (plan_for bits spans items) layout b - images_end (plan_for bits spans items) layout b) (rw empty refl) in
-          omega (arith, together, g, images-length, end-without-slots (plan_for bits spans items) layout b empty)
+          let g = no_gap (length slots == 0) (slots_start (plan_with bits spans items goals) layout b - images_end (plan_with bits spans items goals) layout b) (rw empty refl) in
+          omega (arith, together, g, images-length, end-without-slots (plan_with bits spans items goals) layout b empty)
 
   -- **an item of the block stands at its place**
-  pub item-stands : (k : ℕ) → first_of_block spans b ≤ k → k < first_of_block spans b + (span_at spans b).count → StandsAtPlace bits items (plan_for bits spans items) layout b k
-  unfolding plan_for block_bytes block_images
+  pub item-stands : (k : ℕ) → first_of_block spans b ≤ k → k < first_of_block spans b + (span_at spans b).count → StandsAtPlace bits items (plan_with bits spans items goals) layout b k
+  unfolding plan_with block_bytes block_images
   item-stands k from below =
-      let p = plan_for bits spans items in
+      let p = plan_with bits spans items goals in
       let lt : k < length items = omega (arith, in_block-below spans b k bl from below, s.counts) in
       let here = place-is p layout b k bl from below in
       let begin = place-first p layout b in
-      let len = bytes-length bits items spans layout l k lt (some k lt) in
+      let len = bytes-length bits items spans goals layout l k lt (some k lt) in
       let at : place p layout k - (span_at spans b).new_base ≡ place_in p layout b k - place_in p layout b (first_of_block spans b) = omega (arith, here, begin) in
       let rest = gap_bytes p layout b ++ slot_bytes (slots_of p layout b) in
       record {
@@ -180,11 +181,11 @@ module _ (bits : Bits) (items : List Placed) (spans : List BlockSpan) (layout : 
       }
 
   -- **the slot of a far form has its goal**
-  pub slot-stands : (k : ℕ) → first_of_block spans b ≤ k → k < first_of_block spans b + (span_at spans b).count → is_far_at (plan_for bits spans items) layout k ≡ true
-      → HasSlot bits items (plan_for bits spans items) layout b (goal_address (plan_for bits spans items) layout k)
-  unfolding plan_for block_bytes slot_address
+  pub slot-stands : (k : ℕ) → first_of_block spans b ≤ k → k < first_of_block spans b + (span_at spans b).count → is_far_at (plan_with bits spans items goals) layout k ≡ true
+      → HasSlot bits items (plan_with bits spans items goals) layout b (goal_address (plan_with bits spans items goals) layout k)
+  unfolding plan_with block_bytes slot_address
   slot-stands k from below far =
-      let p = plan_for bits spans items in
+      let p = plan_with bits spans items goals in
       let goal = goal_address p layout k in
       let i : ℕ = k - first_of_block spans b in
       let il : i < (span_at spans b).count = omega arith in

@@ -12,7 +12,6 @@ use Rattle.branch_sizes.proofs.Totals.{first_of_end}
 use Rattle.branch_sizes.proofs.Now.{first_below}
 use Rattle.move_goals.specs.declared.items.Placed.{Placed}
 use Rattle.move_goals.specs.Items.{item_at as instr_at}
-use Rattle.move_goals.specs.Plan.{plan_for, branch_at}
 use Rattle.move_layout.specs.declared.layout.Seat.{Seat}
 use Rattle.move_layout.specs.declared.layout.BlockEnd.{BlockEnd}
 use Rattle.move_layout.specs.declared.layout.Layout.{Layout}
@@ -21,17 +20,12 @@ use Rattle.move_layout.proofs.Standing.{item-below}
 use Rattle.move_layout.proofs.Laid.{end-images, end-slots, images-le-end, few-slots, length-all_slots}
 use Rattle.block_encoder.specs.declared.error.MoveError.{MoveError}
 use Rattle.block_encoder.specs.declared.error.MoveError.TheVariants.{Memory, TooMany, OldOrder, Wraps, TooFar}
-use Rattle.block_encoder.specs.Moved.{MovedLists, IsOldSound, IsMoved, IsRefused, IsSeatReached, IsReached, IsFirstUnreached, AreListsOf, first_new_pass}
+use Rattle.block_encoder.specs.Moved.{MovedLists, IsSeatReached, IsReached, IsFirstUnreached, AreListsOf, first_new_pass}
+use Rattle.block_encoder.specs.ByPlan.{IsMovedBy, IsPlanAnswer}
 use Rattle.block_encoder.specs.Written.{IsItemWritten, IsSeatOf, gap_behind, first_end_past}
 use Rattle.block_encoder.specs.Bytes.{slot_bytes}
 use Rattle.block_encoder.proofs.Seats.{end_fits, seat_of, slots_below, slots_within, slots_part, same_pass}
 use Rattle.block_encoder.proofs.Writing.{AreWritten, item_stops, block_step, all_written}
-
--- the plan has as many items
-pub planned_count : (bits : Bits) (items : List Placed) (p : BlockPlan) → p ≡ plan_for bits p.spans items → length p.items ≡ length items
-unfolding plan_for
-planned_count bits items p e =
-    ap (λ (x : BlockPlan). length x.items) e ∙ length-map-range_with_len (branch_at bits p.spans items) 0 (length items)
 
 -- the items that are written are as many as their places
 placed_count : (f : ℕ → ℕ) (starts : List ℕ) (n k : ℕ) → starts ≡ map f (range_with_len 0 n) → k ≡ length starts → k ≡ n
@@ -69,7 +63,7 @@ seat_goal_is : (p : BlockPlan) (layout : List ℕ) (k : ℕ) (seat : Seat) → s
 unfolding seat_at
 seat_goal_is p layout k seat is = ap (λ (s : Seat). s.goal) is
 
-module _ (bits : Bits) (items : List Placed) (p : BlockPlan) (laid : Layout) (w : IsWellFormed p) (planned : p ≡ plan_for bits p.spans items)
+module _ (bits : Bits) (items : List Placed) (p : BlockPlan) (laid : Layout) (w : IsWellFormed p) (count : length p.items ≡ length items)
     (ll : IsLaidLeast p laid) (none : first_end_past bits laid.ends.items ≡ None) (b i : ℕ)
     (bytes starts : List ℕ) (forms : List Form) (slots ends : List ℕ)
     (written : AreWritten bits items p ll.0 b i bytes starts forms slots ends) (bl : b < length p.spans) where
@@ -80,7 +74,7 @@ module _ (bits : Bits) (items : List Placed) (p : BlockPlan) (laid : Layout) (w 
       let in_seats : k < length laid.seats.items = omega (arith, in_plan, ll.2.seat_count) in
       record {
         at = at;
-        in_items = omega (arith, in_plan, planned_count bits items p planned);
+        in_items = omega (arith, in_plan, count);
         in_plan = in_plan;
         in_seats = in_seats;
         small = omega (arith, in_plan, w.few_items);
@@ -94,27 +88,24 @@ module _ (bits : Bits) (items : List Placed) (p : BlockPlan) (laid : Layout) (w 
       }
 
   -- an item that is not written refuses the blocks
-  pub item_refuses : IsOldSound bits items p.spans → (k : ℕ) → ItemFacts items p laid b i k
+  pub item_refuses : (k : ℕ) → ItemFacts items p laid b i k
       → (seat : Seat) → seat ≡ get_or laid.seats.items k seat → (old new : List ℕ) (why : MoveError)
-      → IsItemWritten bits (instr_at items k).instr seat k old new (Err why) → IsRefused bits items p.spans why
-  item_refuses sound k f seat is old new Memory h = (sound.few, sound.order)
-  item_refuses sound k f seat is old new (TooMany n) h = absurd h
-  item_refuses sound k f seat is old new (OldOrder n) h = absurd h
-  item_refuses sound k f seat is old new (Wraps n) h = absurd h
-  item_refuses sound k f seat is old new (TooFar j t) h =
+      → IsItemWritten bits (instr_at items k).instr seat k old new (Err why) → IsPlanAnswer bits items p (Err why)
+  item_refuses k f seat is old new Memory h = tt
+  item_refuses k f seat is old new (TooMany n) h = absurd h
+  item_refuses k f seat is old new (OldOrder n) h = absurd h
+  item_refuses k f seat is old new (Wraps n) h = absurd h
+  item_refuses k f seat is old new (TooFar j t) h =
       let s : seat ≡ seat_at p ll.0 k = f.seat_is seat is ∙ ll.2.seats k f.in_plan in
       let goal : seat.goal ≡ goal_address p ll.0 k = seat_goal_is p ll.0 k seat s in
       let stuck : IsReached bits items p ll.0 k → ⊥ = subst (λ a. IsSeatReached bits (instr_at items k).instr a → ⊥) s h.1.1 in
-      let first : IsFirstUnreached bits items p ll.0 j =
-      subst (IsFirstUnreached bits items p ll.0) (sym h.0)
-      (item_stops bits items p ll.0 b i bytes starts forms slots ends written k f.at seat s f.in_items stuck) in
       record {
-        old = sound;
         layout = ll.0;
-        least = subst (λ x. IsLeast x ll.0) planned ll.1;
-        ends = subst (λ x. first_new_pass bits x ll.0 ≡ None) planned (sym (same_pass bits p ll.0 laid ll.2) ∙ none);
-        first = subst (λ x. IsFirstUnreached bits items x ll.0 j) planned first;
-        target_is = subst (λ x. t ≡ goal_address x ll.0 j) planned ((h.1.0 ∙ goal) ∙ ap (goal_address p ll.0) (sym h.0));
+        least = ll.1;
+        ends = sym (same_pass bits p ll.0 laid ll.2) ∙ none;
+        first = subst (IsFirstUnreached bits items p ll.0) (sym h.0)
+            (item_stops bits items p ll.0 b i bytes starts forms slots ends written k f.at seat s f.in_items stuck);
+        target_is = (h.1.0 ∙ goal) ∙ ap (goal_address p ll.0) (sym h.0);
       }
 
   pub end_facts : (span_at p.spans b).count ≡ i → (first : ℕ) → first ≡ length slots → (end : BlockEnd)
@@ -152,18 +143,17 @@ end_step bits items p laid layout is b i bytes starts forms slots ends written b
     bytes2 slots2 ends2 hb hs he
 
 -- behind the last block the blocks are moved
-pub blocks_moved : (bits : Bits) (items : List Placed) (p : BlockPlan) (laid : Layout) → IsWellFormed p → p ≡ plan_for bits p.spans items
-    → (ll : IsLaidLeast p laid) → first_end_past bits laid.ends.items ≡ None → IsOldSound bits items p.spans → (b : ℕ) → b ≡ length p.spans
-    → (m : MovedLists) → AreWritten bits items p ll.0 b 0 m.bytes m.starts m.forms m.slots m.ends → IsMoved bits items p.spans m
-blocks_moved bits items p laid w planned ll none sound b last m written =
-    let count : first_of_block p.spans b ≡ length items =
-    omega (arith, ap (first_of_block p.spans) last, first_of_end p.spans, w.counts, planned_count bits items p planned) in
-    let all = all_written bits items p ll.0 b m last count written in
+pub blocks_moved : (bits : Bits) (items : List Placed) (p : BlockPlan) (laid : Layout) → IsWellFormed p → length p.items ≡ length items
+    → (ll : IsLaidLeast p laid) → first_end_past bits laid.ends.items ≡ None → (b : ℕ) → b ≡ length p.spans
+    → (m : MovedLists) → AreWritten bits items p ll.0 b 0 m.bytes m.starts m.forms m.slots m.ends → IsMovedBy bits items p m
+blocks_moved bits items p laid w count ll none b last m written =
+    let whole : first_of_block p.spans b ≡ length items =
+    omega (arith, ap (first_of_block p.spans) last, first_of_end p.spans, w.counts, count) in
+    let all = all_written bits items p ll.0 b m last whole written in
     record {
-      old = sound;
       layout = ll.0;
-      least = subst (λ x. IsLeast x ll.0) planned ll.1;
-      ends = subst (λ x. first_new_pass bits x ll.0 ≡ None) planned (sym (same_pass bits p ll.0 laid ll.2) ∙ none);
-      reached = subst (λ x. (k : ℕ) → k < length items → IsReached bits items x ll.0 k) planned all.0;
-      lists = subst (λ x. AreListsOf bits items x ll.0 m) planned all.1;
+      least = ll.1;
+      ends = sym (same_pass bits p ll.0 laid ll.2) ∙ none;
+      reached = all.0;
+      lists = all.1;
     }

@@ -3,3 +3,5 @@ pub mod Moved
 pub mod Read
 pub mod Written
 pub mod Aims
+pub mod ByPlan
+pub mod Last

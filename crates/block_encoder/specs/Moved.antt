@@ -1,5 +1,5 @@
 -- Moved blocks: what a moving gives, and when it is refused.
-use Rattle.std.specs.Prelude.{◌≡◌, ◌⊎◌, ℕ, ◌+◌, ◌<◌, ◌≤◌, List, [], ◌∷◌, length, map, Option, Some, None, IsSome, Result, Ok, Err}
+use Rattle.std.specs.Prelude.{◌≡◌, ◌⊎◌, ℕ, ◌+◌, ◌<◌, ◌≤◌, List, length, map, Option, Some, None, IsSome, Result, Ok, Err}
 use Rattle.std.specs.List.{range_with_len}
 use Rattle.x86_values.specs.declared.Bits.{Bits}
 use Rattle.x86_values.specs.declared.Instr.{Instr}
@@ -113,7 +113,3 @@ IsRefused bits items spans Memory = (length items ≤ 65536) × (first_disorder 
 abbrev pub IsAnswer : Bits → List Placed → List BlockSpan → Result MovedLists MoveError → Type 0
 IsAnswer bits items spans (Ok m) = IsMoved bits items spans m
 IsAnswer bits items spans (Err why) = IsRefused bits items spans why
-
--- all items in one block
-abbrev pub one_span : List Placed → ℕ → List BlockSpan
-one_span items new_base = record { count = length items; new_base = new_base } ∷ []

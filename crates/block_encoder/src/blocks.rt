@@ -2,41 +2,15 @@
 
 ghost use Rattle.std.specs.Prelude.{◌≡◌};
 ghost use Rattle.move_goals.specs.Items as old;
-ghost use Rattle.block_encoder.specs.Moved.{IsAnswer, one_span};
-ghost use Rattle.block_encoder.specs.Written.{first_end_past};
+ghost use Rattle.block_encoder.specs.Moved.{IsAnswer};
 
+use crate::by_plan::move_by_plan;
 use crate::error::MoveError;
 use crate::moved::{Moved, MovedBlocks};
-use crate::write::write_blocks;
 use branch_sizes::BlockSpan;
 use move_goals::{Placed, first_disorder, first_old_pass, plan_for};
-use move_layout::{BlockEnd, lay_out};
 use std::alloc::Global;
 use x86_values::Bits;
-
-/// Whether an address lies behind the address space of a mode.
-fn passes(bits: Bits, end: u128) -> bool
-    ensures { result ≡ old.passes bits end }
-{
-    let width = match bits {
-        Bits::B16 => 16,
-        Bits::B32 => 32,
-        Bits::B64 => 64,
-    };
-    end > 1 << width
-}
-
-/// The first new end that passes the address space of the mode.
-fn first_new_pass(bits: Bits, ends: &[BlockEnd]) -> Option<u128>
-    ensures { result ≡ first_end_past bits ends.now }
-{
-    for end in ends {
-        if passes(bits, end.end) {
-            return Some(end.end);
-        }
-    }
-    None
-}
 
 /// Moves blocks of code to new addresses.
 ///
@@ -72,14 +46,7 @@ pub fn move_blocks(
         Ok(plan) => plan,
         Err(_) => return Err(MoveError::Memory),
     };
-    let laid = match lay_out(alloc, &plan) {
-        Ok(laid) => laid,
-        Err(_) => return Err(MoveError::Memory),
-    };
-    if let Some(end) = first_new_pass(bits, &laid.ends) {
-        return Err(MoveError::Wraps { end });
-    }
-    write_blocks(alloc, bits, items, &plan, &laid)
+    move_by_plan(alloc, bits, items, &plan)
 }
 
 /// Moves one block of code to a new address, by the rules and with the refusals of [`move_blocks`].
@@ -90,7 +57,7 @@ pub fn move_block(
     new_base: u64,
 ) -> Result<Moved, MoveError>
     requires { old.ArePlaced bits items.now }
-    ensures { IsAnswer bits items.now (one_span items.now new_base) result }
+    ensures { IsAnswer bits items.now (old.one_span items.now new_base) result }
 {
     let Ok(count) = u32::try_from(items.len()) else {
         return Err(MoveError::TooMany {

@@ -3,18 +3,23 @@
 #![tactic(auto)]
 
 mod blocks;
+mod by_plan;
 mod ends;
 mod error;
 mod image;
+mod last;
 pub mod laws;
 mod moved;
+mod outside;
 mod write;
 
 pub use blocks::{move_block, move_blocks};
 pub use branch_sizes::{BlockSpan, Form};
 pub use error::MoveError;
+pub use last::last_len;
 pub use move_goals::Placed;
 pub use moved::{Moved, MovedBlocks};
+pub use outside::move_outside;
 
 #[cfg(test)]
 mod tests;

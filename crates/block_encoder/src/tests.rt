@@ -2,7 +2,7 @@ ghost use Rattle.std.specs.Prelude.{◌≡◌, IfOk, IfSome};
 ghost use Rattle.x86_values.specs.declared.Bits.{Bits};
 ghost use Rattle.move_goals.specs.Items.{AreSpansOf, ArePlaced, IsPlaced};
 
-use crate::{BlockSpan, Form, MoveError, Placed, move_block, move_blocks};
+use crate::{BlockSpan, Form, MoveError, Placed, last_len, move_block, move_blocks, move_outside};
 use encoder::encode;
 use std::alloc::{AllocError, Global};
 use std::test::Fail;
@@ -174,5 +174,64 @@ fn too_many(rt: HostRuntime) -> Result<(), Fail> {
     let items = all_placed(rt.alloc(), &copies(rt.alloc(), 65_537)?)?;
     let refusal = move_block(rt.alloc(), Bits::B64, &items, 0x2000).err();
     assert_eq!(rt; refusal, Some(MoveError::TooMany { count: 65_537 }));
+    Ok(())
+}
+
+// A JMP to itself goes to where it stood, alone and before the jump back to what followed it.
+#[test]
+fn kept_targets(rt: HostRuntime) -> Result<(), Fail> {
+    let here = (0x1000, 2, jump(0x1000));
+    let back = (0x1002, 5, instr(626, None, Operand::Near(0x1002)));
+    for (all, new_base, bytes, len) in [
+        (
+            &[here][..],
+            0x2000,
+            &[0xE9, 0xFB, 0xEF, 0xFF, 0xFF][..],
+            16,
+        ),
+        (
+            &[here, back][..],
+            0x7FFF_0000_0000,
+            &[
+                0xFF, 0x25, 0x0A, 0, 0, 0, 0xFF, 0x25, 0x0C, 0, 0, 0, 0xCC, 0xCC, 0xCC, 0xCC, 0,
+                0x10, 0, 0, 0, 0, 0, 0, 2, 0x10, 0, 0, 0, 0, 0, 0,
+            ][..],
+            32,
+        ),
+    ] {
+        let items = all_placed(rt.alloc(), all)?;
+        if items.len() > 2 {
+            return Err(Fail::new("there are more than two items"));
+        }
+        let moved = move_outside(rt.alloc(), Bits::B64, &items, new_base)?;
+        assert_eq!(rt; moved.bytes(), bytes);
+        assert_eq!(rt; last_len(Bits::B64, &items, new_base), len);
+    }
+    Ok(())
+}
+
+#[test]
+fn refusals_of_kept_targets(rt: HostRuntime) -> Result<(), Fail> {
+    for (item, new_base, why) in [
+        (
+            (0x1000, 2, jump(0x1000)),
+            u64::MAX,
+            MoveError::Wraps {
+                end: 0x1_0000_0000_0000_0010,
+            },
+        ),
+        (
+            (0x1000, 6, jump_through(0x1010)),
+            0x1_0000_0000_0000,
+            MoveError::TooFar {
+                at: 0,
+                target: 0x1010,
+            },
+        ),
+    ] {
+        let items = all_placed(rt.alloc(), &[item])?;
+        let refusal = move_outside(rt.alloc(), Bits::B64, &items, new_base).err();
+        assert_eq!(rt; refusal, Some(why));
+    }
     Ok(())
 }

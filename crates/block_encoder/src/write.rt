@@ -1,11 +1,8 @@
 //! The bytes of moved blocks.
 
-ghost use Rattle.std.specs.Prelude.{◌≡◌, None};
-ghost use Rattle.branch_sizes.specs.Layout.{IsLeast};
-ghost use Rattle.move_goals.specs.Items.{AreSpansOf};
-ghost use Rattle.move_goals.specs.Plan.{plan_for};
-ghost use Rattle.move_layout.specs.Laid.{IsLaid, IsLaidLeast};
-ghost use Rattle.block_encoder.specs.Moved.{IsOldSound, IsAnswer};
+ghost use Rattle.std.specs.Prelude.{◌≡◌, None, length};
+ghost use Rattle.move_layout.specs.Laid.{IsLaidLeast};
+ghost use Rattle.block_encoder.specs.ByPlan.{IsPlanAnswer};
 ghost use Rattle.block_encoder.specs.Written.{IsGoalAddress, IsSeatOf, IsItemWritten, first_end_past};
 
 use crate::ends::write_end;
@@ -71,11 +68,10 @@ pub(crate) fn write_blocks(
     plan: &Plan,
     laid: &Layout,
 ) -> Result<MovedBlocks, MoveError>
-    requires plan { plan.now ≡ plan_for bits plan.now.spans items.now }
-    requires old { IsOldSound bits items.now plan.now.spans }
+    requires plan { length plan.now.items ≡ length items.now }
     requires laid { IsLaidLeast plan.now laid.now }
     requires ends { first_end_past bits laid.now.ends.items ≡ None }
-    ensures { IsAnswer bits items.now plan.now.spans result }
+    ensures { IsPlanAnswer bits items.now plan.now result }
 {
     let spans = plan.spans();
     let branches = plan.items();

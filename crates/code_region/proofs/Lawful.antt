@@ -9,7 +9,7 @@ use Rattle.code_region.specs.Laws.{AreInside, AreDisjoint, Restores}
 use Rattle.code_region.proofs.Sound.{AreLaid-le, answer-fits}
 
 -- each block is inside
-laid-inside : (from limit : ℕ) (live : List LiveBlock) (k : ℕ) (d : LiveBlock) → AreLaid from limit live → k < length live →
+pub laid-inside : (from limit : ℕ) (live : List LiveBlock) (k : ℕ) (d : LiveBlock) → AreLaid from limit live → k < length live →
     (from ≤ (get_or live k d).place) × ((get_or live k d).place + (get_or live k d).len ≤ limit)
 laid-inside from limit [] k d laid h = absurd (omega arith)
 laid-inside from limit (block ∷ live) zero d laid h =

@@ -10,3 +10,5 @@ pub mod Sound
 pub mod Lawful
 pub mod Found
 pub mod Commanded
+pub mod Holding
+pub mod Units

@@ -145,7 +145,7 @@ answer-fits state len place sound e =
     (found.0, gap-fits state.base (state.base + state.size) (rounded len) state.live found.0 f.some sound f.first, f.front)
 
 -- each command leaves a sound region
-placed-sound : (state : RegionState) (len : ℕ) (answer : Result ℕ PlaceError) → IsSound state → place_answer state len ≡ answer →
+pub placed-sound : (state : RegionState) (len : ℕ) (answer : Result ℕ PlaceError) → IsSound state → place_answer state len ≡ answer →
     IsSound (placed_as answer state len)
 placed-sound state len (Ok place) sound e =
     let fits = answer-fits state len place sound e in
@@ -153,7 +153,7 @@ placed-sound state len (Ok place) sound e =
     subst P fits.2 fits.1.laid
 placed-sound state len (Err refusal) sound e = sound
 
-filter-laid : (p : LiveBlock → Bool) (from limit : ℕ) (live : List LiveBlock) → AreLaid from limit live → AreLaid from limit (filter p live)
+pub filter-laid : (p : LiveBlock → Bool) (from limit : ℕ) (live : List LiveBlock) → AreLaid from limit live → AreLaid from limit (filter p live)
 filter-laid p from limit [] laid = laid
 filter-laid p from limit (block ∷ live) laid =
     let rest = filter-laid p (block.place + block.len) limit live laid.3 in
@@ -163,7 +163,7 @@ filter-laid p from limit (block ∷ live) laid =
       | false ↦ AreLaid-lower (block.place + block.len) from limit (filter p live) (omega arith) rest
     ]
 
-fill-laid : (place from limit : ℕ) (bytes : List ℕ) (live : List LiveBlock) → AreLaid from limit live →
+pub fill-laid : (place from limit : ℕ) (bytes : List ℕ) (live : List LiveBlock) → AreLaid from limit live →
     IsTrue (holds (find (λ block. nat_eq block.place place) live) (length bytes)) →
     AreLaid from limit (map (λ block. if nat_eq block.place place then with_content bytes block else block) live)
 fill-laid place from limit bytes [] laid h = laid

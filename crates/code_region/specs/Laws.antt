@@ -1,6 +1,6 @@
 -- Laws over whole runs.
-use Rattle.std.specs.Prelude.{◌≡◌, ℕ, ◌+◌, ◌≤◌, All, AllPairs, Ok}
-use Rattle.code_region.specs.State.{RegionState, image_of}
+use Rattle.std.specs.Prelude.{◌≡◌, ◌⊎◌, ℕ, ◌+◌, ◌-◌, ◌%◌, ◌<◌, ◌≤◌, List, All, AllPairs, Ok, slice_index_or, take, drop}
+use Rattle.code_region.specs.State.{RegionState, int3, image_of}
 use Rattle.code_region.specs.Placing.{place_answer, placed}
 use Rattle.code_region.specs.Releasing.{release_answer, released}
 
@@ -19,3 +19,13 @@ pub record Restores (state : RegionState) (len place : ℕ) : Type 0 where
   pub blocks : released (placed state len) place ≡ state
   pub bytes : image_of (released (placed state len) place) ≡ image_of state
   pub again : place_answer (released (placed state len) place) len ≡ Ok place
+
+-- each live block stands a multiple of 16 bytes behind the base, and takes a multiple of 16 bytes
+abbrev pub AreInUnits : RegionState → Type 0
+AreInUnits state = All (λ block. ((block.place - state.base) % 16 ≡ 0) × (block.len % 16 ≡ 0)) state.live
+
+-- in the image each live block has its content at its place, and each byte that no live block takes is INT3
+pub record HoldsContents (state : RegionState) (image : List ℕ) : Type 0 where
+  pub contents : All (λ block. take block.len (drop (block.place - state.base) image) ≡ block.content) state.live
+  pub elsewhere : (k : ℕ) → k < state.size
+      → All (λ block. (state.base + k < block.place) ⊎ (block.place + block.len ≤ state.base + k)) state.live → slice_index_or image k 0 ≡ int3

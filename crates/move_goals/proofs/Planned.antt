@@ -1,5 +1,5 @@
 -- The items of a plan of moved blocks: each is fit.
-use Rattle.std.proofs.Common.{◌≡◌, ℕ, zero, suc, ◌+◌, ◌<◌, ◌≤◌, Bool, true, List, [], ◌∷◌, ◌++◌, length, map, Option, Some, None, arith, refl, sym, subst, ap, ◌∙◌}
+use Rattle.std.proofs.Common.{◌≡◌, ℕ, zero, suc, ◌+◌, ◌<◌, ◌≤◌, Bool, true, List, [], ◌∷◌, ◌++◌, length, map, Option, Some, None, arith, zero-add, refl, sym, subst, ap, ◌∙◌}
 use Rattle.std.proofs.lemmas.Bool.{and_from, lt-ltb, le-leb, eq-eqb}
 use Rattle.std.proofs.lemmas.List.FromFn.{length-map-range_with_len, map-range_with_len_more}
 use Rattle.std.specs.Prelude.{if◌then◌else◌, is_some, slice_get}
@@ -15,15 +15,15 @@ use Rattle.branch_sizes.specs.declared.plan.Branch.{Branch}
 use Rattle.branch_sizes.specs.declared.plan.Choice.{Choice}
 use Rattle.branch_sizes.specs.declared.plan.Goal.{Goal}
 use Rattle.branch_sizes.specs.Layout.{span_at, first_of_block}
-use Rattle.branch_sizes.specs.Plan.{plan_of, is_fit_goal, is_fit_branch, IsWellFormed}
+use Rattle.branch_sizes.specs.Plan.{is_fit_goal, is_fit_branch, IsWellFormed}
 use Rattle.moved_targets.specs.Targets.{target_of}
 use Rattle.branch_forms.specs.Branches.{branch_of, branch_by}
 use Rattle.branch_forms.specs.Choices.{choices_of, choices_by}
 use Rattle.branch_forms.proofs.Fit.{spelled-fit}
 use Rattle.move_goals.specs.declared.items.Placed.{Placed}
-use Rattle.move_goals.specs.Items.{AreSpansOf, ArePlaced, item_at}
+use Rattle.move_goals.specs.Items.{AreSpansOf, ArePlaced, item_at, one_span}
 use Rattle.move_goals.specs.Goals.{own_item, other_item, goal_among, goal_of_target, goal_of, goal_at}
-use Rattle.move_goals.specs.Plan.{branch_at, branch_between}
+use Rattle.move_goals.specs.Plan.{branch_with, plan_with, plan_for, branch_at, branch_between, kept_goal, kept_goals, plan_outside}
 use Rattle.move_goals.proofs.First.{some_below}
 use Rattle.move_goals.proofs.Aims.{goal_at_is}
 
@@ -79,29 +79,52 @@ goal_fits bits spans items k i (Some t) is = target_below spans items k t (lengt
 
 -- ---- the items
 
-module _ (bits : Bits) (spans : List BlockSpan) (items : List Placed) (placed : ArePlaced bits items) where
-  fit_item : (k : ℕ) → k < length items → is_fit_branch (length items) (branch_at bits spans items k) ≡ true
+module _ (bits : Bits) (spans : List BlockSpan) (items : List Placed) (placed : ArePlaced bits items) (goals : ℕ → Goal)
+    (fit : (k : ℕ) → is_fit_goal (length items) (length (choices_of bits (item_at items k).instr)) (goals k) ≡ true) where
+  fit_item : (k : ℕ) → k < length items → is_fit_branch (length items) (branch_with bits items goals k) ≡ true
   fit_item k lt =
       let p = placed k lt in
       let i = (item_at items k).instr in
       let cs = choices_of bits i in
       let h = spelled-fit bits (wrapped bits (item_at items k).ip) p.bytes i p.spelled in
-      let goal_fit : is_fit_goal (length items) (length cs) (goal_at spans items k) ≡ true = goal_fits bits spans items k i (target_of i) refl in
       and_from _ _ (and_from _ _ (lt-ltb 0 (length cs) h.0) (le-leb (length cs) 3 h.1))
-      (and_from _ _ h.2 (and_from _ _ h.3 (and_from _ _ goal_fit h.4)))
+      (and_from _ _ h.2 (and_from _ _ h.3 (and_from _ _ (fit k) h.4)))
 
-  pub well_formed : length items ≤ 65536 → AreSpansOf items spans
-      → IsWellFormed (plan_of spans (map (branch_at bits spans items) (range_with_len 0 (length items))))
-  well_formed few s =
-      let len : length (map (branch_at bits spans items) (range_with_len 0 (length items))) ≡ length items =
-      length-map-range_with_len (branch_at bits spans items) 0 (length items) in
+  -- a plan whose goals are fit is well formed
+  pub well_formed_with : length items ≤ 65536 → AreSpansOf items spans → IsWellFormed (plan_with bits spans items goals)
+  unfolding plan_with
+  well_formed_with few s =
+      let len : length (map (branch_with bits items goals) (range_with_len 0 (length items))) ≡ length items =
+      length-map-range_with_len (branch_with bits items goals) 0 (length items) in
       record {
         few_items = omega (arith, len, few);
         few_spans = s.few;
         counts = omega (arith, len, s.counts);
-        fit = subst (λ n. list_all (is_fit_branch n) (map (branch_at bits spans items) (range_with_len 0 (length items))) ≡ true) (sym len)
-            (all_of_range (is_fit_branch (length items)) (branch_at bits spans items) 0 (length items) (λ k le lt. fit_item k (omega (arith, lt))));
+        fit = subst (λ n. list_all (is_fit_branch n) (map (branch_with bits items goals) (range_with_len 0 (length items))) ≡ true) (sym len)
+            (all_of_range (is_fit_branch (length items)) (branch_with bits items goals) 0 (length items) (λ k le lt. fit_item k (omega (arith, lt))));
       }
+
+pub well_formed : (bits : Bits) (spans : List BlockSpan) (items : List Placed) → ArePlaced bits items → length items ≤ 65536 → AreSpansOf items spans
+    → IsWellFormed (plan_for bits spans items)
+well_formed bits spans items placed few s =
+    well_formed_with bits spans items placed (goal_at spans items)
+    (λ k. goal_fits bits spans items k (item_at items k).instr (target_of (item_at items k).instr) refl) few s
+
+-- ---- targets that stay
+
+kept_fits : (bits : Bits) (count : ℕ) (i : Instr) (target : Option ℕ) → target_of i ≡ target → is_fit_goal count (length (choices_of bits i)) (kept_goal target) ≡ true
+kept_fits bits count i None is = eq-eqb (length (choices_of bits i)) 1 (one_choice bits i is)
+kept_fits bits count i (Some t) is = refl
+
+-- one block takes all items
+pub one_span-of : (items : List Placed) (new_base : ℕ) → AreSpansOf items (one_span items new_base)
+one_span-of items new_base = record { few = omega arith; counts = zero-add (length items) }
+
+pub outside-fit : (bits : Bits) (items : List Placed) (new_base : ℕ) → ArePlaced bits items → length items ≤ 65536
+    → IsWellFormed (plan_outside bits items new_base)
+outside-fit bits items new_base placed few =
+    well_formed_with bits (one_span items new_base) items placed (kept_goals items)
+    (λ k. kept_fits bits (length items) (item_at items k).instr (target_of (item_at items k).instr) refl) few (one_span-of items new_base)
 
 -- the item of a plan, found from the items of its block
 pub planned_item : (bits : Bits) (items : List Placed) (spans : List BlockSpan) → AreSpansOf items spans → (b start : ℕ) → b < length spans

@@ -1,5 +1,5 @@
 -- The instructions that are moved, in blocks: which of them are well placed, and where the blocks end.
-use Rattle.std.specs.Prelude.{◌≡◌, ℕ, zero, suc, ◌+◌, ◌-◌, ◌^◌, ◌<◌, ◌≤◌, ◌==◌, nat_lt, Bool, false, not, ◌||◌, if◌then◌else◌, List, [], length, slice_index_or, sum_by, Option, Some, None}
+use Rattle.std.specs.Prelude.{◌≡◌, ℕ, zero, suc, ◌+◌, ◌-◌, ◌^◌, ◌<◌, ◌≤◌, ◌==◌, nat_lt, Bool, false, not, ◌||◌, if◌then◌else◌, List, [], ◌∷◌, length, slice_index_or, sum_by, Option, Some, None}
 use Rattle.x86_values.specs.declared.Bits.{Bits}
 use Rattle.x86_values.specs.declared.Instr.{Instr}
 use Rattle.x86_values.specs.declared.Rep.TheVariants.{None as NoRep}
@@ -45,6 +45,10 @@ ArePlaced bits items = (k : ℕ) → k < length items → IsPlaced bits (item_at
 pub record AreSpansOf (items : List Placed) (spans : List BlockSpan) : Type 0 where
   pub few : length spans ≤ 65536
   pub counts : sum_by (λ s. s.count) spans ≡ length items
+
+-- all items in one block
+abbrev pub one_span : List Placed → ℕ → List BlockSpan
+one_span items new_base = record { count = length items; new_base = new_base } ∷ []
 
 -- ---- the order of the old addresses
 

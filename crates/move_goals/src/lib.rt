@@ -3,11 +3,13 @@
 
 mod items;
 mod order;
+mod outside;
 mod plan;
 mod starts;
 
 pub use items::Placed;
 pub use order::{first_disorder, first_old_pass};
+pub use outside::plan_outside;
 pub use plan::plan_for;
 
 #[cfg(test)]

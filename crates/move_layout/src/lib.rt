@@ -8,6 +8,7 @@ mod slots;
 mod tables;
 
 pub use layout::{BlockEnd, Layout, Seat, lay_out};
+pub use slots::{block_end, is_far_form, next_multiple_of_8};
 
 #[cfg(test)]
 mod tests;

@@ -9,14 +9,14 @@ use std::alloc::AllocError;
 use std::collections::BTreeMap;
 
 /// Whether a form goes through a slot.
-pub(crate) fn is_far_form(form: Form) -> bool
+pub fn is_far_form(form: Form) -> bool
     ensures { result ≡ is_far form }
 {
     matches!(form, Form::Far | Form::FarBridge)
 }
 
 /// The next multiple of 8.
-pub(crate) fn next_multiple_of_8(n: u128) -> u128
+pub fn next_multiple_of_8(n: u128) -> u128
     requires { n < 2 ^ 67 }
     ensures value { result ≡ next_eighth n }
     ensures small { result < 2 ^ 68 }
@@ -25,7 +25,7 @@ pub(crate) fn next_multiple_of_8(n: u128) -> u128
 }
 
 /// The end of a block: that of its images, or that of its slots, which begin at `start`, where it has some.
-pub(crate) fn block_end(images: u128, start: u128, count: usize) -> u128
+pub fn block_end(images: u128, start: u128, count: usize) -> u128
     requires { start < 2 ^ 68 }
     ensures { result ≡ (if count == 0 then images else start + 8 * count) }
 {

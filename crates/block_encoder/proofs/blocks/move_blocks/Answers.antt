@@ -1,27 +1,20 @@
-use Rattle.std.proofs.Common.{rules, inr, sym, ap, ◌∙◌}
+use Rattle.std.proofs.Common.{rules, ap, ◌∙◌}
+use Rattle.branch_sizes.specs.Plan.{BlockPlan}
+use Rattle.move_goals.specs.Plan.{plan_with}
+use Rattle.std.proofs.Common.{length}
 use Rattle.block_encoder.specs.Moved.{IsOldSound}
-use Rattle.block_encoder.specs.Written.{first_end_past}
-use Rattle.block_encoder.proofs.Answering.{planned_again, sound_again, answer_is, new_pass}
+use Rattle.block_encoder.proofs.Chosen.{plan-count}
+use Rattle.move_goals.specs.Goals.{goal_at}
+use Rattle.block_encoder.proofs.Answering.{answer_is}
 use Rattle.block_encoder.proofs.blocks.move_blocks.Goals as goal
 
-pub returns-in-Some-first_new_pass : goal.returns-in-Some-first_new_pass
-returns-in-Some-first_new_pass c =
-    let sound : IsOldSound c.args.bits c.args.items.now c.args.spans.now =
-    record { few = search rules; order = search rules; ends = search rules } in
-    inr (new_pass c.args.bits c.args.items.now c.args.spans.now c.in-Ok.plan c.in-Ok.ensures c.in-Ok-lay_out.laid sound c.in-Ok-lay_out.ensures
-    c.in-Some-first_new_pass.end
-    (sym (c.in-Some-first_new_pass.ensures ∙ ap (λ xs. first_end_past c.args.bits xs) c.deref.ensures.value)))
-
-pub write_blocks-requires-clause-plan : goal.write_blocks-requires-clause-plan
-write_blocks-requires-clause-plan c =
-    planned_again c.args.bits c.args.items.now c.args.spans.now c.in-Ok.plan c.in-Ok.ensures
-
-pub write_blocks-requires-clause-old : goal.write_blocks-requires-clause-old
-write_blocks-requires-clause-old c =
-    let sound : IsOldSound c.args.bits c.args.items.now c.args.spans.now =
-    record { few = search rules; order = search rules; ends = search rules } in
-    sound_again c.args.bits c.args.items.now c.args.spans.now c.in-Ok.plan c.in-Ok.ensures sound
+pub move_by_plan-requires : goal.move_by_plan-requires
+move_by_plan-requires c =
+    ap (λ (p : BlockPlan). length p.items) c.in-Ok.ensures
+    ∙ plan-count c.args.bits c.args.spans.now c.args.items.now (goal_at c.args.spans.now c.args.items.now)
 
 pub returns : goal.returns
 returns c =
-    answer_is c.args.bits c.args.items.now c.args.spans.now c.in-Ok.plan c.in-Ok.ensures c.write_blocks.result c.write_blocks.ensures
+    let sound : IsOldSound c.args.bits c.args.items.now c.args.spans.now =
+    record { few = search rules; order = search rules; ends = search rules } in
+    answer_is c.args.bits c.args.items.now c.args.spans.now sound c.in-Ok.plan c.in-Ok.ensures c.move_by_plan.result c.move_by_plan.ensures

@@ -1,7 +1,8 @@
 -- The images of each block are read as their instructions, since each has its bytes.
+use Rattle.move_goals.specs.Goals.{goal_at}
 use Rattle.block_encoder.proofs.Joined.{block-read}
 use Rattle.block_encoder.proofs.laws.moved_code_is_read_as_images.Goals as goal
 
 pub returns : goal.returns
 returns c = λ bits items spans s placed m moved b bl.
-    block-read bits items spans moved.layout moved.least.closed.is_layout s placed b bl (λ k lt. (moved.reached k lt).1)
+    block-read bits items spans (goal_at spans items) moved.layout moved.least.closed.is_layout s placed b bl (λ k lt. (moved.reached k lt).1)

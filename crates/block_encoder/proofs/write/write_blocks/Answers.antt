@@ -70,7 +70,7 @@ returns-in_err-write_item c =
     rw (p.1, p.2)
     (item_refuses c.args.bits c.args.items.now c.args.plan.now c.args.laid.now c.spans-spans.ensures.plan c.requires.plan c.requires.laid c.requires.ends
     c.loop-b.b c.loop.counter c.loop.bytes.items c.loop.starts.items c.loop.forms.items c.loop-b.slots.items c.loop-b.ends.items
-    (c.loop.invariant.written c.requires.laid.0 c.requires.laid.2) bl c.requires.old c.len-k.result f c.index.result.now c.index.ensures
+    (c.loop.invariant.written c.requires.laid.0 c.requires.laid.2) bl c.len-k.result f c.index.result.now c.index.ensures
     c.loop.bytes.items c.write_item.new.bytes.items c.in_err-write_item.field-0.0 c.in_err-write_item.ensures)
 
 pub overflow_cast-seat : goal.overflow_cast-seat
@@ -172,5 +172,5 @@ loop-b-preserved c =
 pub returns : goal.returns
 returns c =
     blocks_moved c.args.bits c.args.items.now c.args.plan.now c.args.laid.now c.spans-spans.ensures.plan c.requires.plan c.requires.laid c.requires.ends
-    c.requires.old c.loop-b.b (omega (arith, c.loop-b-test.false, c.loop-b.auto.b-end, ap length c.spans-spans.ensures.spans))
+    c.loop-b.b (omega (arith, c.loop-b-test.false, c.loop-b.auto.b-end, ap length c.spans-spans.ensures.spans))
     _ (c.loop-b.invariant c.requires.laid.0 c.requires.laid.2)

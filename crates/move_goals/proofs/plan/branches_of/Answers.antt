@@ -1,6 +1,6 @@
 use Rattle.std.proofs.Common.{◌≡◌, arith, ap, map, ◌∙◌, length}
 use Rattle.std.specs.List.{range_with_len}
-use Rattle.move_goals.specs.Plan.{branch_at, plan_for}
+use Rattle.move_goals.specs.Plan.{plan_with, branch_at, plan_for}
 use Rattle.move_goals.proofs.Blocks.{end_is, end_below, other_block}
 use Rattle.move_goals.proofs.Aims.{ascend}
 use Rattle.move_goals.proofs.Planned.{one_more, planned_item}
@@ -42,7 +42,7 @@ items-preserved c = record {
 }
 
 pub returns : goal.returns
-unfolding plan_for
+unfolding plan_with
 returns c =
     let all : c.loop-span.from ≡ length c.args.items.now =
     c.loop-span.invariant.from_is ∙ end_is c.args.items.now c.args.spans.now c.requires.spans c.loop-span.span-index (omega arith) in

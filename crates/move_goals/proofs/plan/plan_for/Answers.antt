@@ -1,11 +1,11 @@
 use Rattle.std.proofs.Common.{ap, ◌∙◌, sym, subst}
 use Rattle.branch_sizes.specs.Plan.{plan_of, IsWellFormed}
-use Rattle.move_goals.specs.Plan.{plan_for}
+use Rattle.move_goals.specs.Plan.{plan_with, plan_for}
 use Rattle.move_goals.proofs.Planned.{well_formed}
 use Rattle.move_goals.proofs.plan.plan_for.Goals as goal
 
 pub of_blocks-requires : goal.of_blocks-requires
-unfolding plan_for
+unfolding plan_with
 of_blocks-requires c =
     let spans = c.in_ok-from_slice.ensures.items in
     let branches = c.in_ok-branches.ensures in
@@ -14,7 +14,7 @@ of_blocks-requires c =
     (well_formed c.args.bits c.args.spans.now c.args.items.now c.requires.placed c.requires.few c.requires.spans))
 
 pub returns : goal.returns
-unfolding plan_for
+unfolding plan_with
 returns c =
     let spans = c.in_ok-from_slice.ensures.items in
     let branches = c.in_ok-branches.ensures in

@@ -3,7 +3,7 @@ use borrow.Author.Count.{below_more}
 use Rattle.move_goals.specs.Items.{passes}
 use Rattle.move_goals.proofs.First.{first_below_none, first_below_hit}
 use Rattle.move_layout.specs.Laid.{no_end}
-use Rattle.block_encoder.proofs.blocks.first_new_pass.Goals as goal
+use Rattle.block_encoder.proofs.by_plan.first_new_pass.Goals as goal
 
 pub returns-then-passes : goal.returns-then-passes
 returns-then-passes c =

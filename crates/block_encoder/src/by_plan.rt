@@ -1,0 +1,59 @@
+//! Moving blocks by a plan of them.
+
+ghost use Rattle.std.specs.Prelude.{◌≡◌, length};
+ghost use Rattle.move_goals.specs.Items as old;
+ghost use Rattle.block_encoder.specs.ByPlan.{IsPlanAnswer};
+ghost use Rattle.block_encoder.specs.Written.{first_end_past};
+
+use crate::error::MoveError;
+use crate::moved::MovedBlocks;
+use crate::write::write_blocks;
+use branch_sizes::Plan;
+use move_goals::Placed;
+use move_layout::{BlockEnd, lay_out};
+use std::alloc::Global;
+use x86_values::Bits;
+
+/// Whether an address lies behind the address space of a mode.
+fn passes(bits: Bits, end: u128) -> bool
+    ensures { result ≡ old.passes bits end }
+{
+    let width = match bits {
+        Bits::B16 => 16,
+        Bits::B32 => 32,
+        Bits::B64 => 64,
+    };
+    end > 1 << width
+}
+
+/// The first new end that passes the address space of the mode.
+fn first_new_pass(bits: Bits, ends: &[BlockEnd]) -> Option<u128>
+    ensures { result ≡ first_end_past bits ends.now }
+{
+    for end in ends {
+        if passes(bits, end.end) {
+            return Some(end.end);
+        }
+    }
+    None
+}
+
+/// Moves the items of a plan, which has the forms and the goal of each, in its least layout.
+pub(crate) fn move_by_plan(
+    alloc: Global,
+    bits: Bits,
+    items: &[Placed],
+    plan: &Plan,
+) -> Result<MovedBlocks, MoveError>
+    requires { length plan.now.items ≡ length items.now }
+    ensures { IsPlanAnswer bits items.now plan.now result }
+{
+    let laid = match lay_out(alloc, plan) {
+        Ok(laid) => laid,
+        Err(_) => return Err(MoveError::Memory),
+    };
+    if let Some(end) = first_new_pass(bits, &laid.ends) {
+        return Err(MoveError::Wraps { end });
+    }
+    write_blocks(alloc, bits, items, plan, &laid)
+}

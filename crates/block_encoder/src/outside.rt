@@ -1,0 +1,49 @@
+//! Moving from which every target stays.
+
+ghost use Rattle.std.specs.Prelude.{◌≡◌};
+ghost use Rattle.move_goals.specs.Items.{ArePlaced};
+ghost use Rattle.block_encoder.specs.ByPlan.{IsOutsideAnswer};
+
+use crate::by_plan::move_by_plan;
+use crate::error::MoveError;
+use crate::moved::{Moved, MovedBlocks};
+use move_goals::{Placed, plan_outside};
+use std::alloc::Global;
+use x86_values::Bits;
+
+/// One moved block, where blocks were moved.
+fn one_block(answer: Result<MovedBlocks, MoveError>) -> Result<Moved, MoveError>
+    ensures { result ≡ answer }
+{
+    match answer {
+        Ok(blocks) => Ok(Moved { blocks }),
+        Err(why) => Err(why),
+    }
+}
+
+/// Moves instructions to a new address, one behind another, and keeps every target: a branch to one of them goes to where that was.
+///
+/// Each was read, or could have been written, at its old address; how the old addresses lie to one another is not looked at.
+///
+/// `TooMany`: there are more than 65,536 items. `Wraps`: the new end passes the address space of the mode. `TooFar`: an item does not reach its target,
+/// the first that does not. `Memory` may stand in place of what comes behind `TooMany`. `OldOrder` never comes.
+pub fn move_outside(
+    alloc: Global,
+    bits: Bits,
+    items: &[Placed],
+    new_base: u64,
+) -> Result<Moved, MoveError>
+    requires { ArePlaced bits items.now }
+    ensures { IsOutsideAnswer bits items.now new_base result }
+{
+    if items.len() > 65_536 {
+        return Err(MoveError::TooMany {
+            count: items.len() as u64,
+        });
+    }
+    let plan = match plan_outside(alloc, bits, items, new_base) {
+        Ok(plan) => plan,
+        Err(_) => return Err(MoveError::Memory),
+    };
+    one_block(move_by_plan(alloc, bits, items, &plan))
+}
