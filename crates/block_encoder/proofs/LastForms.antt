@@ -318,8 +318,12 @@ module _ (bits : Bits) (items : List Placed) (new_base : ℕ) where
         let in_plan : 0 < length p.items = omega (arith, some, plan-count bits (one_span items new_base) items (kept_goals items)) in
         let byte : 1 ≤ f 0 = length_at_least 1 (plan.choices_at p 0) (get_or (last_layout p) 0 0) (fit_item p fit 0 in_plan).rises (last-layout.valid 0 in_plan) in
         let first : total f 1 ≡ 0 + f 0 = refl in
-        omega (arith, one_end (last_layout p), end-some new_base (total f (length items)) (length (far_goals p (last_layout p) 0 (length items)))
-        (omega (arith, first, byte, total_rises f 1 (length items) (omega (arith, some)))))
+        omega (
+          arith,
+          one_end (last_layout p),
+          end-some new_base (total f (length items)) (length (far_goals p (last_layout p) 0 (length items)))
+              (omega (arith, first, byte, total_rises f 1 (length items) (omega (arith, some)))),
+        )
 
     -- ---- beside the least layout
 

@@ -183,12 +183,7 @@ fn kept_targets(rt: HostRuntime) -> Result<(), Fail> {
     let here = (0x1000, 2, jump(0x1000));
     let back = (0x1002, 5, instr(626, None, Operand::Near(0x1002)));
     for (all, new_base, bytes, len) in [
-        (
-            &[here][..],
-            0x2000,
-            &[0xE9, 0xFB, 0xEF, 0xFF, 0xFF][..],
-            16,
-        ),
+        (&[here][..], 0x2000, &[0xE9, 0xFB, 0xEF, 0xFF, 0xFF][..], 16),
         (
             &[here, back][..],
             0x7FFF_0000_0000,
