@@ -7,6 +7,7 @@ use Rattle.branch_sizes.proofs.Totals.{first_le}
 use Rattle.branch_sizes.proofs.Now.{block_below}
 use Rattle.move_goals.specs.declared.items.Placed.{Placed}
 use Rattle.move_goals.specs.Items.{AreSpansOf, ArePlaced}
+use Rattle.move_goals.specs.Goals.{goal_at}
 use Rattle.move_goals.proofs.Blocks.{block_below as within_block}
 use Rattle.block_encoder.specs.Moved.{MovedLists, IsMoved}
 use Rattle.block_encoder.proofs.Going.{goes-nowhere, goes-address, goes-near, goes-far, goes-over}
@@ -19,16 +20,16 @@ module _ (bits : Bits) (items : List Placed) (spans : List BlockSpan) (s : AreSp
   reads_back m moved =
       let layout = moved.layout in
       let laid = moved.least.closed.is_layout in record {
-        blocks = λ b bl. block-read bits items spans layout laid s placed b bl (λ k lt. (moved.reached k lt).1);
+        blocks = λ b bl. block-read bits items spans (goal_at spans items) layout laid s placed b bl (λ k lt. (moved.reached k lt).1);
         places = λ k lt. let b = block_number spans k in
-            item-stands bits items spans layout laid s b (block_below spans k (omega (arith, lt, s.counts))) (λ j jl. (moved.reached j jl).1) k
+            item-stands bits items spans (goal_at spans items) layout laid s b (block_below spans k (omega (arith, lt, s.counts))) (λ j jl. (moved.reached j jl).1) k
             (first_le spans k) (within_block spans k (omega (arith, lt, s.counts)));
         goals = λ k lt. let b = block_number spans k in record {
           stays = λ none. goes-nowhere bits items spans layout k placed lt none;
           address = λ none. goes-address bits items spans layout k none;
           near = λ t some far. goes-near bits items spans layout k placed lt laid t some far;
           far = λ t some far. goes-far bits items spans layout k placed lt t some far;
-          slot = λ far. slot-stands bits items spans layout laid s b (block_below spans k (omega (arith, lt, s.counts))) (λ j jl. (moved.reached j jl).1) k
+          slot = λ far. slot-stands bits items spans (goal_at spans items) layout laid s b (block_below spans k (omega (arith, lt, s.counts))) (λ j jl. (moved.reached j jl).1) k
               (first_le spans k) (within_block spans k (omega (arith, lt, s.counts))) far;
           over = λ n more. goes-over bits items spans layout k n more;
         };
