@@ -15,9 +15,9 @@ pub mod values {
     };
 }
 
-/// Reading bytes: whole instructions, items one behind another, and the parts of one.
+/// Reading bytes: whole instructions, items one behind another, and the parts of one. `laws` has that no bytes have two spellings.
 pub mod decoding {
-    pub use decoder::{DecodeError, Decoder, Item, Items, decode, decode_counted, decode_in};
+    pub use decoder::{DecodeError, Decoder, Item, Items, decode, decode_counted, decode_in, laws};
     pub use modrm_sib::{TailError, modrm_of_byte, read_operands, read_row, sib_of_byte};
     pub use prefixes::{PrefixError, mode_of, read_front, read_prefixes};
     pub use step_count::Steps;
@@ -67,7 +67,8 @@ pub mod rows {
 /// Moving blocks of code to other addresses.
 pub mod moving {
     pub use block_encoder::{
-        BlockSpan, Form, MoveError, Moved, MovedBlocks, Placed, move_block, move_blocks,
+        BlockSpan, Form, MoveError, Moved, MovedBlocks, Placed, last_len, move_block, move_blocks,
+        move_outside,
     };
     pub use branch_sizes::{Branch, Choice, Goal, LayoutError, Plan, Reach, least_layout};
 }
