@@ -30,9 +30,13 @@ fn main(rt: HostRuntime) -> anyhow::Result<()> {
             asize: None,
             ops: [Reg(Register::R12), Reg(Register::RAX), Absent, Absent],
         };
-        let bytes = encode(bits, old, &sum)?;
-        println!(rt; "{}", hex::encode(rt.alloc(), &bytes)?)?;
-        show(&rt, bits, old, &bytes)?;
+        match encode(bits, old, &sum) {
+            Ok(bytes) => {
+                println!(rt; "{}", hex::encode(rt.alloc(), &bytes)?)?;
+                show(&rt, bits, old, &bytes)?;
+            }
+            Err(why) => println!(rt; "no bytes: {why:?}")?,
+        }
     }
 
     let items = read_items(rt.alloc(), bits, old, &FUNCTION)?;

@@ -18,8 +18,9 @@ use Rattle.instruction_parts.specs.Kinds.{method_of, file_of}
 use Rattle.row_fit.specs.Fits.{kind_at, immediate_bytes, is_nop_byte, is_repeat_f3, is_no_repeat}
 use Rattle.plain_spelling.specs.Forms.{is_memory, is_allowed_in, is_variant_of, operand_at}
 use Rattle.plain_spelling.specs.Addresses.{shown_size, is_flat_shape, is_shape, is_gather_shape, shape_suits}
+use Rattle.plain_spelling.specs.PlainFront.{asked, number_in_reg, number_in_index, number_in_vvvv}
 use Rattle.plain_spelling.specs.PlainTail.{plain_size}
-use Rattle.plain_spelling.specs.Expressible.{each_operand, kind_suits, is_of_kind, is_nameable, gather_numbers_differ, gather_suits, register_suits, address_suits, immediate_suits_how, immediate_suits, lock_suits, repeat_suits, prefixes_suit, has_memory_operand, told_size, size_agrees, is_size_of, address_size_suits}
+use Rattle.plain_spelling.specs.Expressible.{each_operand, kind_suits, is_of_kind, is_nameable, vector_in_reg, vector_in_index, vector_in_vvvv, passes, asked_vector, differ, gather_numbers_differ, gather_suits, register_suits, address_suits, immediate_suits_how, immediate_suits, lock_suits, repeat_suits, prefixes_suit, has_memory_operand, told_size, size_agrees, is_size_of, address_size_suits}
 use Rattle.moved_targets.specs.Targets.{aimed}
 use Rattle.moved_targets.proofs.Ignored.{IgnoresTarget, at-aimed}
 use Rattle.moved_targets.proofs.Unchanged.{reg-aimed, index-aimed, vvvv-aimed, asked_opcode-aimed, front-aimed}
@@ -52,9 +53,38 @@ nameable : (bits : Bits) (t : ℕ) (row : Row) (i : Instr) (n : ℕ) (r : Regist
 unfolding is_nameable is_of_kind
 nameable bits t row i n r = rw (front-aimed bits t row i) refl
 
+vectors_in_reg : (how : Method) → IgnoresTarget (vector_in_reg how)
+unfolding vector_in_reg
+vectors_in_reg _ = record { memory = λ m disp. refl; near = λ x y. refl }
+
+vectors_in_index : (how : Method) → IgnoresTarget (vector_in_index how)
+unfolding vector_in_index
+vectors_in_index _ = record { memory = λ m disp. refl; near = λ x y. refl }
+
+vectors_in_vvvv : (how : Method) → IgnoresTarget (vector_in_vvvv how)
+unfolding vector_in_vvvv
+vectors_in_vvvv _ = record { memory = λ m disp. refl; near = λ x y. refl }
+
+-- the number that is asked for a vector register, where the test and the number do not look at the target
+asked_vector-aimed : (p : Method → Operand → Bool) → ((how : Method) → IgnoresTarget (p how)) → (number : Method → Operand → ℕ) → (t : ℕ) (row : Row) (i : Instr) → asked number row (aimed t i) ≡ asked number row i → asked_vector p number row (aimed t i) ≡ asked_vector p number row i
+asked_vector-aimed p h number t row i e =
+    let at : (n : ℕ) → passes p row (aimed t i) n ≡ passes p row i n =
+    λ n. at-aimed (p (method_of (kind_at row n))) (h (method_of (kind_at row n))) t i n in
+    rw (at 0, at 1, at 2, at 3, e) refl
+
+-- of three numbers those that are there differ pairwise
+abbrev all_differ : Option ℕ → Option ℕ → Option ℕ → Bool
+all_differ a b c = differ a b && (differ a c && differ b c)
+
 numbers_differ : (t : ℕ) (row : Row) (i : Instr) → gather_numbers_differ row (aimed t i) ≡ gather_numbers_differ row i
 unfolding gather_numbers_differ
-numbers_differ t row i = rw (reg-aimed t row i, index-aimed t row i, vvvv-aimed t row i) refl
+numbers_differ t row i =
+    let index = asked_vector vector_in_index number_in_index row in
+    let mask = asked_vector vector_in_vvvv number_in_vvvv row in
+    let destination = asked_vector vector_in_reg number_in_reg row in
+    ap (λ (n : Option ℕ). all_differ n (index (aimed t i)) (mask (aimed t i))) (asked_vector-aimed vector_in_reg vectors_in_reg number_in_reg t row i (reg-aimed t row i))
+    ∙ ap (λ (n : Option ℕ). all_differ (destination i) n (mask (aimed t i))) (asked_vector-aimed vector_in_index vectors_in_index number_in_index t row i (index-aimed t row i))
+    ∙ ap (all_differ (destination i) (index i)) (asked_vector-aimed vector_in_vvvv vectors_in_vvvv number_in_vvvv t row i (vvvv-aimed t row i))
 
 -- what a register operand has to be
 abbrev named : (Register → Bool) → Operand → Bool
