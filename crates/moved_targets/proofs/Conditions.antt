@@ -55,14 +55,17 @@ nameable bits t row i n r = rw (front-aimed bits t row i) refl
 
 vectors_in_reg : (how : Method) → IgnoresTarget (vector_in_reg how)
 unfolding vector_in_reg
+vectors_in_reg method.ModRmReg = record { memory = λ m disp. refl; near = λ x y. refl }
 vectors_in_reg _ = record { memory = λ m disp. refl; near = λ x y. refl }
 
 vectors_in_index : (how : Method) → IgnoresTarget (vector_in_index how)
 unfolding vector_in_index
+vectors_in_index method.Gather = record { memory = λ m disp. refl; near = λ x y. refl }
 vectors_in_index _ = record { memory = λ m disp. refl; near = λ x y. refl }
 
 vectors_in_vvvv : (how : Method) → IgnoresTarget (vector_in_vvvv how)
 unfolding vector_in_vvvv
+vectors_in_vvvv method.Vvvv = record { memory = λ m disp. refl; near = λ x y. refl }
 vectors_in_vvvv _ = record { memory = λ m disp. refl; near = λ x y. refl }
 
 -- the number that is asked for a vector register, where the test and the number do not look at the target
