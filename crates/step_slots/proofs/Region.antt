@@ -1,0 +1,172 @@
+-- One block more in a region: where it stands, and what it holds once it is filled.
+use Rattle.std.proofs.Common.{◌≡◌, ℕ, ◌+◌, ◌≤◌, ◌<◌, inl, inr, Bool, true, false, List, [], ◌∷◌, length, map, filter, find, not, arith, ap, refl, subst, sym, ◌∙◌, nat_lt, nat_eq, cond, Option, Some, None, Result, Ok, Err}
+use Rattle.std.specs.Prelude.{IsTrue, if◌then◌else◌}
+use Rattle.std.proofs.lemmas.Bool.{cases_Bool, eqb-true, eqb-false, eq-eqb, ne_eqb, le-leb}
+use Rattle.code_region.specs.declared.gaps.Span.{Span}
+use Rattle.code_region.specs.declared.refusals.NotTaken.{NotTaken}
+use Rattle.code_region.specs.declared.refusals.PlaceError.{PlaceError}
+use Rattle.code_region.specs.declared.refusals.PlaceError.TheVariants.{Empty}
+use Rattle.code_region.specs.State.{LiveBlock, RegionState, rounded, gaps_of, live_block}
+use Rattle.code_region.specs.Gaps.{first_gap, longest}
+use Rattle.code_region.specs.Placing.{front_of, place_answer, with_block, unfilled, placed_as, placed}
+use Rattle.code_region.specs.Releasing.{release_of, release_answer}
+use Rattle.code_region.specs.Filling.{with_content, holds, can_fill, filled}
+use Rattle.code_region.specs.Keeping.{AreLaid, IsSound}
+use Rattle.code_region.proofs.Sound.{AreLaid-le, answer-fits, placed-sound, fill-laid}
+
+-- no live block starts at an address
+abbrev pub NoneAt : ℕ → List LiveBlock → Type 0
+NoneAt place [] = Unit {0}
+NoneAt place (block ∷ live) = (block.place ≡ place → ⊥) × NoneAt place live
+
+shorter : (p : LiveBlock → Bool) (live : List LiveBlock) → length (filter p live) ≤ length live
+shorter p [] = omega arith
+shorter p (block ∷ live) =
+    let rest = shorter p live in
+    elim (p block) as (λ t. length (cond t (block ∷ filter p live) (filter p live)) ≤ length (block ∷ live)) [
+      | true ↦ omega (arith, rest)
+      | false ↦ omega (arith, rest)
+    ]
+
+fresh-none : (place : ℕ) (live : List LiveBlock) → filter (λ b. not (nat_eq b.place place)) live ≡ live → NoneAt place live
+fresh-none place [] e = tt
+fresh-none place (block ∷ live) e =
+    elim (cases_Bool (nat_eq block.place place)) [
+      | inl same ↦ (
+          let f : filter (λ b. not (nat_eq b.place place)) live ≡ block ∷ live = rw same at e in
+          absurd (omega (arith, ap length f, shorter (λ b. not (nat_eq b.place place)) live)))
+      | inr differs ↦ (
+          let f : block ∷ filter (λ b. not (nat_eq b.place place)) live ≡ block ∷ live = rw differs at e in
+          let g : filter (λ b. not (nat_eq b.place place)) live ≡ live = cc in
+          (eqb-false block.place place differs, fresh-none place live g))
+    ]
+
+-- the block that was put in
+find-put : (block : LiveBlock) (place : ℕ) (live : List LiveBlock) → block.place ≡ place → NoneAt place live
+    → find (λ b. nat_eq b.place place) (with_block block live) ≡ Some block
+find-put block place [] e none = rw (eq-eqb block.place place e) refl
+find-put block place (other ∷ live) e none =
+    elim (cases_Bool (nat_lt block.place other.place)) [
+      | inl before ↦ rw (before, eq-eqb block.place place e) refl
+      | inr behind ↦ rw (behind, ne_eqb other.place place none.0) (find-put block place live e none.1)
+    ]
+
+fill_none : (place : ℕ) (bytes : List ℕ) (live : List LiveBlock) → NoneAt place live
+    → map (λ block. if nat_eq block.place place then with_content bytes block else block) live ≡ live
+fill_none place bytes [] none = refl
+fill_none place bytes (block ∷ live) none =
+    rw (ne_eqb block.place place none.0) (ap (λ bs. block ∷ bs) (fill_none place bytes live none.1))
+
+fill-put : (block : LiveBlock) (place : ℕ) (bytes : List ℕ) (live : List LiveBlock) → block.place ≡ place → NoneAt place live
+    → map (λ b. if nat_eq b.place place then with_content bytes b else b) (with_block block live) ≡ with_block (with_content bytes block) live
+fill-put block place bytes [] e none = rw (eq-eqb block.place place e) refl
+fill-put block place bytes (other ∷ live) e none =
+    elim (cases_Bool (nat_lt block.place other.place)) [
+      | inl before ↦ rw (before, eq-eqb block.place place e, ne_eqb other.place place none.0)
+          (ap (λ bs. with_content bytes block ∷ other ∷ bs) (fill_none place bytes live none.1))
+      | inr behind ↦ rw (behind, ne_eqb other.place place none.0) (ap (λ bs. other ∷ bs) (fill-put block place bytes live e none.1))
+    ]
+
+put-inside : (from limit : ℕ) (block : LiveBlock) (live : List LiveBlock) → AreLaid from limit (with_block block live) → block.place + block.len ≤ limit
+put-inside from limit block [] laid = laid.3
+put-inside from limit block (other ∷ live) laid =
+    elim (cases_Bool (nat_lt block.place other.place)) [
+      | inl before ↦ (
+          let l : AreLaid from limit (block ∷ other ∷ live) = rw before at laid in
+          AreLaid-le (block.place + block.len) limit (other ∷ live) l.3)
+      | inr behind ↦ (
+          let l : AreLaid from limit (other ∷ with_block block live) = rw behind at laid in
+          put-inside (other.place + other.len) limit block live l.3)
+    ]
+
+-- ---- a place that is handed out
+
+module _ (state : RegionState) (len place : ℕ) (sound : IsSound state) (e : place_answer state len ≡ Ok place) where
+  pub placed-none : NoneAt place state.live
+  placed-none =
+      let fits = answer-fits state len place sound e in
+      let P : ℕ → Type 0 = λ p. filter (λ b. not (nat_eq b.place p)) state.live ≡ state.live in
+      fresh-none place state.live (subst P fits.2 fits.1.fresh)
+
+  pub placed-inside : place + rounded len ≤ state.base + state.size
+  placed-inside =
+      let fits = answer-fits state len place sound e in
+      let P : ℕ → Type 0 = λ p. AreLaid state.base (state.base + state.size) (with_block (unfilled p (rounded len)) state.live) in
+      put-inside state.base (state.base + state.size) (unfilled place (rounded len)) state.live (subst P fits.2 fits.1.laid)
+
+  placed-is : placed state len ≡ record state { live = with_block (unfilled place (rounded len)) state.live }
+  unfolding placed
+  placed-is = ap (λ (a : Result ℕ PlaceError). placed_as a state len) e
+
+  pub placed-can_fill : (n : ℕ) → n ≤ rounded len → IsTrue (can_fill (placed state len) place n)
+  unfolding can_fill live_block
+  placed-can_fill n le =
+      let P : RegionState → Type 0 = λ s. IsTrue (holds (find (λ b. nat_eq b.place place) s.live) n) in
+      let Q : Option LiveBlock → Type 0 = λ o. IsTrue (holds o n) in
+      subst P (sym placed-is)
+      (subst Q (sym (find-put (unfilled place (rounded len)) place state.live refl placed-none)) (le-leb n (rounded len) le))
+
+  module _ (bytes : List ℕ) (fits : length bytes ≤ rounded len) where
+    -- the region with the block filled
+    pub filled-is : filled (placed state len) place bytes
+        ≡ record state { live = with_block (with_content bytes (unfilled place (rounded len))) state.live }
+    unfolding filled
+    filled-is =
+        let with_live : List LiveBlock → RegionState = λ live. record state { live = live } in
+        ap (λ (s : RegionState). filled s place bytes) placed-is
+        ∙ ap with_live (fill-put (unfilled place (rounded len)) place bytes state.live refl placed-none)
+
+    pub filled-sound : IsSound (filled (placed state len) place bytes)
+    unfolding filled placed can_fill live_block
+    filled-sound =
+        let s = placed state len in
+        let ok : IsTrue (holds (find (λ b. nat_eq b.place place) s.live) (length bytes)) = placed-can_fill (length bytes) fits in
+        fill-laid place s.base (s.base + s.size) bytes s.live (placed-sound state len (place_answer state len) sound refl) ok
+
+  -- it is handed out where there is room
+  pub placed-room : (length state.live ≡ state.max_blocks → ⊥)
+  unfolding place_answer
+  placed-room same =
+      elim (cases_Bool (nat_eq len 0)) [
+        | inl zero_len ↦ (let f = rw zero_len at e in absurd cc)
+        | inr some_len ↦ (
+            let f = rw (some_len, eq-eqb (length state.live) state.max_blocks same) at e in
+            absurd cc)
+      ]
+
+front-not_empty : (o : Option Span) (n m : ℕ) → front_of o n m ≡ Err Empty → ⊥
+front-not_empty None n m e = cc
+front-not_empty (Some gap) n m e = cc
+
+pub answer-not_empty : (state : RegionState) (len : ℕ) → 0 < len → place_answer state len ≡ Err Empty → ⊥
+unfolding place_answer
+answer-not_empty state len some e =
+    elim (cases_Bool (nat_eq len 0)) [
+      | inl zero_len ↦ (let z = eqb-true len 0 zero_len in absurd (omega (arith, z, some)))
+      | inr some_len ↦ elim (cases_Bool (nat_eq (length state.live) state.max_blocks)) [
+        | inl all_live ↦ (let f = rw (some_len, all_live) at e in absurd cc)
+        | inr room ↦ (
+            let f = rw (some_len, room) at e in
+            front-not_empty (first_gap (rounded len) (gaps_of state)) (rounded len) (longest (gaps_of state)) f)
+      ]
+    ]
+
+-- ---- a block that is released
+
+pub release-found : (state : RegionState) (place : ℕ) → release_answer state place ≡ Ok tt → (block : LiveBlock) × (find (λ b. nat_eq b.place place) state.live ≡ Some block)
+unfolding release_answer live_block
+release-found state place e = by_found (find (λ b. nat_eq b.place place) state.live) refl e
+  where
+    by_found : (o : Option LiveBlock) → find (λ b. nat_eq b.place place) state.live ≡ o → release_of o place ≡ Ok tt
+        → (block : LiveBlock) × (find (λ b. nat_eq b.place place) state.live ≡ Some block)
+    by_found None is h = cc
+    by_found (Some block) is h = (block, is)
+
+pub release-none : (state : RegionState) (place : ℕ) (why : NotTaken) → release_answer state place ≡ Err why → find (λ b. nat_eq b.place place) state.live ≡ None
+unfolding release_answer live_block
+release-none state place why e = by_found (find (λ b. nat_eq b.place place) state.live) refl e
+  where
+    by_found : (o : Option LiveBlock) → find (λ b. nat_eq b.place place) state.live ≡ o → release_of o place ≡ Err why
+        → find (λ b. nat_eq b.place place) state.live ≡ None
+    by_found None is h = is
+    by_found (Some block) is h = cc

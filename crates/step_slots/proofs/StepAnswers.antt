@@ -1,0 +1,94 @@
+-- What a step answers, by what the region and the moving answer.
+use Rattle.std.proofs.Common.{◌≡◌, ℕ, ◌+◌, ◌^◌, ◌≤◌, List, length, refl, sym, subst, ap, ◌∙◌, Result, Ok, Err, arith}
+use Rattle.std.specs.Prelude.{IsTrue}
+use Rattle.x86_values.specs.declared.Bits.{Bits}
+use Rattle.x86_values.specs.Wrapping.{width}
+use Rattle.move_goals.specs.declared.items.Placed.{Placed}
+use Rattle.move_goals.specs.Items.{IsPlaced, ArePlaced}
+use Rattle.block_encoder.specs.declared.error.MoveError.{MoveError}
+use Rattle.block_encoder.specs.declared.error.MoveError.TheVariants.{Memory, TooMany, OldOrder, Wraps, TooFar}
+use Rattle.block_encoder.specs.Moved.{MovedLists}
+use Rattle.block_encoder.specs.ByPlan.{IsOutsideAnswer}
+use Rattle.block_encoder.specs.Last.{last_len}
+use Rattle.code_region.specs.declared.refusals.PlaceError.{PlaceError}
+use Rattle.code_region.specs.declared.refusals.PlaceError.TheVariants as place_error
+use Rattle.code_region.specs.State.{RegionState, rounded}
+use Rattle.code_region.specs.Placing.{place_answer, placed}
+use Rattle.code_region.specs.Releasing.{released}
+use Rattle.code_region.specs.Filling.{filled, can_fill}
+use Rattle.code_region.specs.Keeping.{IsSound}
+use Rattle.code_region.specs.Laws.{AreInUnits}
+use Rattle.code_region.proofs.Lawful.{sound-restores}
+use Rattle.step_slots.specs.Block.{step_items, reserved}
+use Rattle.step_slots.specs.Stepping.{IsBlockStepped, IsOfLength, IsOfReach, place_refusal_of, move_refusal_of}
+use Rattle.step_slots.proofs.Region.{answer-not_empty, placed-can_fill}
+use Rattle.step_slots.proofs.Stepped.{step-placed, reserved-some, block-fits, never-passes, only-first}
+
+pub items-placed : (bits : Bits) (item : Placed) → IsPlaced bits item → (items : List Placed) → items ≡ step_items bits item → ArePlaced bits items
+items-placed bits item spelled items are = subst (ArePlaced bits) (sym are) (step-placed bits item spelled)
+
+pub reserved-is : (bits : Bits) (item : Placed) (region : RegionState) (base : ℕ) → base ≡ region.base → (items : List Placed) → items ≡ step_items bits item
+    → (len : ℕ) → len ≡ last_len bits items base → len ≡ reserved bits region.base item
+reserved-is bits item region base at items are len is =
+    is ∙ (ap (λ (xs : List Placed). last_len bits xs base) are ∙ ap (λ (b : ℕ). last_len bits (step_items bits item) b) at)
+
+pub answer-is : (region : RegionState) (len reserved_len : ℕ) → len ≡ reserved_len → (answer told : Result ℕ PlaceError) → answer ≡ place_answer region len
+    → answer ≡ told → place_answer region reserved_len ≡ told
+answer-is region len reserved_len same answer told is e = sym (ap (place_answer region) same) ∙ (sym is ∙ e)
+
+pub outside-is : (bits : Bits) (given items : List Placed) → given ≡ items → (place : ℕ) (answer told : Result MovedLists MoveError) → answer ≡ told
+    → IsOutsideAnswer bits given place answer → IsOutsideAnswer bits items place told
+outside-is bits given items same place answer told is h =
+    subst (λ (xs : List Placed). IsOutsideAnswer bits xs place told) same
+    (subst (λ (r : Result MovedLists MoveError). IsOutsideAnswer bits given place r) is h)
+
+module _ (bits : Bits) (item : Placed) (spelled : IsPlaced bits item) (region : RegionState) where
+  pub length-refusal : (why : PlaceError) → place_answer region (reserved bits region.base item) ≡ Err why → IsOfLength why
+  length-refusal place_error.Empty e = answer-not_empty region (reserved bits region.base item) (reserved-some bits item spelled region.base) e
+  length-refusal (place_error.TooManyBlocks max) e = tt
+  length-refusal (place_error.Full len largest) e = tt
+
+  pub no-place : (why : PlaceError) (len : ℕ) → len ≡ rounded (reserved bits region.base item) → place_answer region (reserved bits region.base item) ≡ Err why
+      → (new : RegionState) → new ≡ region → IsBlockStepped bits region item (Err (place_refusal_of why len)) new
+  no-place place_error.Empty len l e new same = same
+  no-place (place_error.TooManyBlocks max) len l e new same = ((e, l), same)
+  no-place (place_error.Full n largest) len l e new same = (e, same)
+
+  module _ (inside : region.base + region.size ≤ 2 ^ width bits) (sound : IsSound region) (units : AreInUnits region) (place : ℕ)
+      (e : place_answer region (reserved bits region.base item) ≡ Ok place) where
+    pub reach-refusal : (why : MoveError) → IsOutsideAnswer bits (step_items bits item) place (Err why) → IsOfReach why
+    reach-refusal Memory h = tt
+    reach-refusal (TooMany n) h = let many = h.0 in absurd (omega (arith, many))
+    reach-refusal (OldOrder n) h = h.1
+    reach-refusal (Wraps end) h = never-passes bits item spelled region inside sound units place e end h.1
+    reach-refusal (TooFar at target) h = tt
+
+    pub not-moved : (why : MoveError) → IsOutsideAnswer bits (step_items bits item) place (Err why) → (new : RegionState) → new ≡ region
+        → IsBlockStepped bits region item (Err (move_refusal_of why)) new
+    not-moved Memory h new same = same
+    not-moved (TooMany n) h new same = same
+    not-moved (OldOrder n) h new same = same
+    not-moved (Wraps end) h new same = same
+    not-moved (TooFar at target) h new same =
+        ((place, (e, only-first bits item spelled region inside sound units place e at target h.1)), same)
+
+    pub moved-fits : (m : MovedLists) → IsOutsideAnswer bits (step_items bits item) place (Ok m) → length m.bytes ≤ rounded (reserved bits region.base item)
+    moved-fits m h = block-fits bits item spelled region inside sound units place e m h.1
+
+    -- so they can be filled in
+    pub moved-can_fill : (m : MovedLists) → IsOutsideAnswer bits (step_items bits item) place (Ok m) → (now : RegionState)
+        → now ≡ placed region (reserved bits region.base item) → (bytes : List ℕ) → bytes ≡ m.bytes → IsTrue (can_fill now place (length bytes))
+    moved-can_fill m h now is bytes same =
+        let fits = moved-fits m h in
+        let long = ap length same in
+        subst (λ (r : RegionState). IsTrue (can_fill r place (length bytes))) (sym is)
+        (placed-can_fill region (reserved bits region.base item) place sound e (length bytes) (omega (arith, fits, long)))
+
+    -- a place that is given back leaves the region as it was
+    pub given-back : (now : RegionState) → now ≡ placed region (reserved bits region.base item) → (new : RegionState) → new ≡ released now place → new ≡ region
+    given-back now is new same =
+        same ∙ (ap (λ (r : RegionState). released r place) is ∙ (sound-restores region (reserved bits region.base item) place sound e).blocks)
+
+    pub moved-steps : (m : MovedLists) → IsOutsideAnswer bits (step_items bits item) place (Ok m) → (new : RegionState)
+        → new ≡ filled (placed region (reserved bits region.base item)) place m.bytes → IsBlockStepped bits region item (Ok place) new
+    moved-steps m h new is = (e, (m.bytes, ((m, (h.1, refl)), is)))

@@ -1,0 +1,6 @@
+pub mod Block
+pub mod State
+pub mod Stepping
+pub mod Running
+pub mod Holding
+pub mod Keeping

@@ -1,0 +1,39 @@
+-- What a list of commands leaves.
+use Rattle.std.specs.Prelude.{◌≡◌, ℕ, List, [], ◌∷◌, Result, Ok, Err}
+use Rattle.x86_values.specs.declared.Bits.{Bits}
+use Rattle.move_goals.specs.Items.{IsPlaced}
+use Rattle.code_region.specs.declared.refusals.NotTaken.{NotTaken}
+use Rattle.code_region.specs.Releasing.{release_answer}
+use Rattle.step_slots.specs.declared.refusals.StepError.{StepError}
+use Rattle.step_slots.specs.declared.commands.StepCommand.{StepCommand}
+use Rattle.step_slots.specs.declared.commands.StepCommand.TheVariants.{Step, Finish}
+use Rattle.step_slots.specs.declared.commands.StepReply.{StepReply}
+use Rattle.step_slots.specs.declared.commands.StepReply.TheVariants.{Stepped, Refused, Finished, NotTaken as NotTakenReply}
+use Rattle.step_slots.specs.State.{SlotState}
+use Rattle.step_slots.specs.Stepping.{IsStepped, finished}
+
+-- an instruction to be stepped has some bytes at its address
+abbrev pub IsFit : Bits → StepCommand → Type 0
+IsFit bits (Step item) = IsPlaced bits item
+IsFit bits (Finish place) = Unit {0}
+
+-- the reply that says what a step answered
+abbrev pub step_reply : Result ℕ StepError → StepReply
+step_reply (Ok place) = Stepped place
+step_reply (Err why) = Refused why
+
+-- the reply that says what a finish answered
+abbrev pub finish_reply : Result (Unit {0}) NotTaken → StepReply
+finish_reply (Ok done) = Finished
+finish_reply (Err why) = NotTakenReply why.place
+
+-- one command
+abbrev pub IsDone : SlotState → StepCommand → StepReply → SlotState → Type 0
+IsDone old (Step item) reply new = (answer : Result ℕ StepError) × ((reply ≡ step_reply answer) × IsStepped old item answer new)
+IsDone old (Finish place) reply new = (reply ≡ finish_reply (release_answer old.region place)) × (new ≡ finished old place)
+
+-- the commands in order
+abbrev pub IsRun : SlotState → List StepCommand → List StepReply → SlotState → Type 0
+IsRun old [] [] new = new ≡ old
+IsRun old (command ∷ commands) (reply ∷ replies) new = (state : SlotState) × (IsDone old command reply state × IsRun state commands replies new)
+IsRun old commands replies new = ⊥

@@ -1,0 +1,27 @@
+-- What step slots are to their user: a region, and the live slots in it.
+use Rattle.std.specs.Prelude.{ℕ, nat_lt, if◌then◌else◌, List, [], ◌∷◌}
+use Rattle.x86_values.specs.declared.Bits.{Bits}
+use Rattle.code_region.specs.State.{RegionState, rounded}
+use Rattle.code_region.specs.Opening.{opened}
+use Rattle.step_slots.specs.declared.slots.StepSlot.{StepSlot}
+use Rattle.step_slots.specs.Block.{reserved}
+
+-- the mode, the region, and the live slots by address
+pub record SlotState : Type 0 where
+  pub bits : Bits
+  pub region : RegionState
+  pub slots : List StepSlot
+
+-- no live slot
+abbrev pub no_slots : Bits → ℕ → ℕ → ℕ → SlotState
+no_slots bits base size max_blocks = record { bits = bits; region = opened base size max_blocks; slots = [] }
+
+-- the slots with one more, by address
+abbrev pub with_slot : StepSlot → List StepSlot → List StepSlot
+with_slot slot [] = slot ∷ []
+with_slot slot (other ∷ others) =
+    if nat_lt other.place slot.place then other ∷ with_slot slot others else slot ∷ other ∷ others
+
+-- how many bytes a slot takes in a region with a base
+abbrev pub slot_len : Bits → ℕ → StepSlot → ℕ
+slot_len bits base slot = rounded (reserved bits base slot.item)

@@ -1,0 +1,82 @@
+-- What a step and a finish answer, and the slots after them.
+use Rattle.std.specs.Prelude.{◌≡◌, ℕ, ◌+◌, ◌^◌, ◌==◌, not, nat_lt, if◌then◌else◌, List, filter, Option, Some, None, Result, Ok, Err}
+use Rattle.x86_values.specs.declared.Bits.{Bits}
+use Rattle.x86_values.specs.Wrapping.{width}
+use Rattle.move_goals.specs.declared.items.Placed.{Placed}
+use Rattle.block_encoder.specs.declared.error.MoveError.{MoveError}
+use Rattle.block_encoder.specs.declared.error.MoveError.TheVariants as move_error
+use Rattle.code_region.specs.declared.refusals.OpenError.{OpenError}
+use Rattle.code_region.specs.declared.refusals.OpenError.TheVariants as open_error
+use Rattle.code_region.specs.declared.refusals.PlaceError.{PlaceError}
+use Rattle.code_region.specs.declared.refusals.PlaceError.TheVariants as place_error
+use Rattle.code_region.specs.State.{RegionState, rounded}
+use Rattle.code_region.specs.Opening.{is_bad_size, is_bad_room}
+use Rattle.code_region.specs.Placing.{place_answer, placed}
+use Rattle.code_region.specs.Releasing.{released}
+use Rattle.code_region.specs.Filling.{filled}
+use Rattle.step_slots.specs.declared.slots.StepSlot.{StepSlot}
+use Rattle.step_slots.specs.declared.refusals.StepError.{StepError}
+use Rattle.step_slots.specs.declared.refusals.StepError.TheVariants.{Memory, TooManyBlocks, Full, TooFar}
+use Rattle.step_slots.specs.Block.{IsStepBlock, IsOutOfReach, reserved}
+use Rattle.step_slots.specs.State.{SlotState, with_slot}
+
+-- the first cause for which slots are refused, memory apart: that of the region, which ends inside the address space of the mode
+unfoldable pub slots_refusal : Bits → ℕ → ℕ → ℕ → Option OpenError
+slots_refusal bits base size max_blocks =
+    if is_bad_size size then Some (open_error.BadSize size)
+    else (if is_bad_room max_blocks then Some (open_error.TooManyBlocks max_blocks)
+    else (if nat_lt (2 ^ width bits) (base + size) then Some (open_error.Wraps (base + size)) else None))
+
+-- a refusal of a place for a length that is not 0, and why a step is refused then
+abbrev pub IsOfLength : PlaceError → Type 0
+IsOfLength place_error.Empty = ⊥
+IsOfLength (place_error.TooManyBlocks max) = Unit {0}
+IsOfLength (place_error.Full len largest) = Unit {0}
+
+abbrev pub place_refusal_of : PlaceError → ℕ → StepError
+place_refusal_of (place_error.TooManyBlocks max) rounded_len = TooManyBlocks max rounded_len
+place_refusal_of (place_error.Full len largest) rounded_len = Full len largest
+place_refusal_of place_error.Empty rounded_len = Memory
+
+-- a refusal of a block that ends inside the address space, and why a step is refused then
+abbrev pub IsOfReach : MoveError → Type 0
+IsOfReach (move_error.TooFar at target) = Unit {0}
+IsOfReach move_error.Memory = Unit {0}
+IsOfReach why = ⊥
+
+abbrev pub move_refusal_of : MoveError → StepError
+move_refusal_of (move_error.TooFar at target) = TooFar target
+move_refusal_of why = Memory
+
+-- The region after a step: its block is placed and filled, or nothing changed. Full comes where there is no place for the reserved length, TooFar where
+-- the instruction does not reach at the place that there is.
+abbrev pub IsBlockStepped : Bits → RegionState → Placed → Result ℕ StepError → RegionState → Type 0
+IsBlockStepped bits old item (Ok place) new =
+    (place_answer old (reserved bits old.base item) ≡ Ok place)
+    × ((bytes : List ℕ) × (IsStepBlock bits item place bytes × (new ≡ filled (placed old (reserved bits old.base item)) place bytes)))
+IsBlockStepped bits old item (Err (TooManyBlocks max len)) new =
+    ((place_answer old (reserved bits old.base item) ≡ Err (place_error.TooManyBlocks max)) × (len ≡ rounded (reserved bits old.base item))) × (new ≡ old)
+IsBlockStepped bits old item (Err (Full len largest)) new =
+    (place_answer old (reserved bits old.base item) ≡ Err (place_error.Full len largest)) × (new ≡ old)
+IsBlockStepped bits old item (Err (TooFar target)) new =
+    ((place : ℕ) × ((place_answer old (reserved bits old.base item) ≡ Ok place) × IsOutOfReach bits item place target)) × (new ≡ old)
+IsBlockStepped bits old item (Err Memory) new = new ≡ old
+
+-- the slots after that answer
+abbrev pub slots_after : Result ℕ StepError → Placed → List StepSlot → List StepSlot
+slots_after (Ok place) item slots = with_slot (record { place = place; item = item }) slots
+slots_after (Err why) item slots = slots
+
+-- a step
+pub record IsStepped (old : SlotState) (item : Placed) (answer : Result ℕ StepError) (new : SlotState) : Type 0 where
+  pub bits : new.bits ≡ old.bits
+  pub region : IsBlockStepped old.bits old.region item answer new.region
+  pub slots : new.slots ≡ slots_after answer item old.slots
+
+-- the slots without the one that starts at an address
+abbrev pub without_slot : ℕ → List StepSlot → List StepSlot
+without_slot place slots = filter (λ slot. not (slot.place == place)) slots
+
+-- a finish releases the block
+abbrev pub finished : SlotState → ℕ → SlotState
+finished state place = record state { region = released state.region place; slots = without_slot place state.slots }

@@ -1,0 +1,81 @@
+//! Commands to slots, and their replies.
+
+ghost use Rattle.std.specs.Prelude.{◌≡◌, ◌<◌, All, length};
+ghost use Rattle.step_slots.specs.Running.{IsFit, IsDone, IsRun, step_reply, finish_reply};
+
+use crate::refusals::StepError;
+use crate::slots::StepSlots;
+use block_encoder::Placed;
+use code_region::NotTaken;
+use std::alloc::Global;
+
+/// One command to slots.
+#[derive(Clone, Copy, PartialEq, Eq, Debug)]
+pub enum StepCommand {
+    /// Give the instruction a slot, as [`StepSlots::step`] does.
+    Step { item: Placed },
+    /// End the slot at `place`, as [`StepSlots::finish`] does.
+    Finish { place: u64 },
+}
+
+/// The reply to one command.
+#[derive(Clone, Copy, PartialEq, Eq, Debug)]
+pub enum StepReply {
+    /// A slot is live at `place`.
+    Stepped { place: u64 },
+    /// The instruction got no slot.
+    Refused { why: StepError },
+    /// The slot is live no more.
+    Finished,
+    /// No live slot starts at `place`.
+    NotTaken { place: u64 },
+}
+
+/// The reply that says what a step answered.
+fn reply_to_step(answer: Result<u64, StepError>) -> StepReply
+    ensures { result ≡ step_reply answer }
+{
+    match answer {
+        Ok(place) => StepReply::Stepped { place },
+        Err(why) => StepReply::Refused { why },
+    }
+}
+
+/// The reply that says what a finish answered.
+fn reply_to_finish(answer: Result<(), NotTaken>) -> StepReply
+    ensures { result ≡ finish_reply answer }
+{
+    match answer {
+        Ok(()) => StepReply::Finished,
+        Err(NotTaken { place }) => StepReply::NotTaken { place },
+    }
+}
+
+/// Does one command, and answers it.
+fn execute(slots: &mut StepSlots, alloc: Global, command: StepCommand) -> StepReply
+    requires { IsFit slots.old.bits command }
+    ensures { IsDone slots.old command result slots.new }
+{
+    match command {
+        StepCommand::Step { item } => reply_to_step(slots.step(alloc, item)),
+        StepCommand::Finish { place } => reply_to_finish(slots.finish(place)),
+    }
+}
+
+/// Does these commands, in order, and writes the reply to each.
+///
+/// There is room for as many replies as there are commands, and each instruction was read, or could have been written, at its address.
+pub fn replay(
+    slots: &mut StepSlots,
+    alloc: Global,
+    commands: &[StepCommand],
+    replies: &mut [StepReply],
+)
+    requires room { length replies.old ≡ length commands.now }
+    requires fit { All (IsFit slots.old.bits) commands.now }
+    ensures { IsRun slots.old commands.now replies.new slots.new }
+{
+    'commands: for k in 0..commands.len() {
+        replies[k] = execute(slots, alloc, commands[k]);
+    }
+}

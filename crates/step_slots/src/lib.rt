@@ -1,0 +1,15 @@
+//! Slots for displaced single stepping: in each an instruction of some program and the jump back to what followed it, in a range of addresses within
+//! reach.
+#![tactic(auto)]
+
+mod block;
+mod commands;
+mod order;
+mod refusals;
+mod slots;
+
+pub use block_encoder::Placed;
+pub use code_region::{NotTaken, OpenError};
+pub use commands::{StepCommand, StepReply, replay};
+pub use refusals::StepError;
+pub use slots::{StepSlot, StepSlots};

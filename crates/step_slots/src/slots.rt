@@ -1,0 +1,166 @@
+//! The slots.
+
+ghost use Rattle.std.specs.Prelude.{◌≡◌, ◌⊎◌, IfSome, IfOk, IfErr, OnErr, Ok, Err, Some};
+ghost use Rattle.move_goals.specs.Items as old;
+ghost use Rattle.move_goals.specs.Items.{IsPlaced};
+ghost use Rattle.code_region.specs.State.{image_of};
+ghost use Rattle.code_region.specs.Releasing.{release_answer};
+ghost use Rattle.step_slots.specs.State.{no_slots};
+ghost use Rattle.step_slots.specs.Stepping.{slots_refusal, IsStepped, finished};
+ghost use Rattle.step_slots.specs.Holding.{AreApart, HoldsSlots};
+
+use crate::block::step_block;
+use crate::order::{insert_slot, remove_slot};
+use crate::refusals::StepError;
+use block_encoder::Placed;
+use code_region::{NotTaken, OpenError, Region};
+use std::alloc::Global;
+use std::marker::Model;
+use x86_values::Bits;
+
+/// The unit in which slots are handed out, in bytes.
+const UNIT: u64 = 16;
+
+/// The greatest size of the range of slots, in bytes.
+const MAX_SIZE: u64 = 1_048_576;
+
+/// The greatest number of live slots.
+const MAX_BLOCKS: u64 = 65_536;
+
+/// A live slot: the address where its block starts, and the instruction in it with its own address.
+#[derive(Clone, Copy, PartialEq, Eq, Debug)]
+pub struct StepSlot {
+    pub place: u64,
+    pub item: Placed,
+}
+
+/// Slots in a fixed range of addresses.
+///
+/// Each live slot has a block of a multiple of 16 bytes, in the first gap that is long enough: the moved image of its instruction, which keeps its target,
+/// and a jump back to the address behind the instruction where it stood. Every other byte is CC (INT3).
+#[derive(Drop)]
+pub struct StepSlots {
+    bits: Bits,
+    base: u64,
+    region: Region,
+    live: Vec<StepSlot>,
+}
+
+impl Model for StepSlots {
+    ghost use Rattle.step_slots.specs.State.{SlotState};
+    ghost use Rattle.step_slots.specs.Keeping.{AreKept};
+    ghost use Rattle.std.specs.Prelude.{◌≡◌, vec_capacity};
+
+    ghost Value = { SlotState };
+
+    ghost view = { λ s. record { bits = s.bits; region = s.region; slots = s.live.items } };
+
+    ghost invariant = { λ s. (s.base ≡ s.region.base) × AreKept s.bits s.region s.live.items (vec_capacity s.live) };
+}
+
+/// Whether an address lies behind the address space of a mode.
+fn passes(bits: Bits, end: u128) -> bool
+    ensures { result ≡ old.passes bits end }
+{
+    let width = match bits {
+        Bits::B16 => 16,
+        Bits::B32 => 32,
+        Bits::B64 => 64,
+    };
+    end > 1 << width
+}
+
+/// Why slots are refused, if they are; memory is another matter.
+fn refusal_of(bits: Bits, base: u64, size: u64, max_blocks: u64) -> Option<OpenError>
+    ensures { result ≡ slots_refusal bits base size max_blocks }
+{
+    if size == 0 || size % UNIT != 0 || size > MAX_SIZE {
+        return Some(OpenError::BadSize { size });
+    }
+    if max_blocks == 0 || max_blocks > MAX_BLOCKS {
+        return Some(OpenError::TooManyBlocks { max: max_blocks });
+    }
+    let end = u128::from(base) + u128::from(size);
+    if passes(bits, end) {
+        return Some(OpenError::Wraps { end });
+    }
+    None
+}
+
+impl StepSlots {
+    /// Makes slots of a mode in `size` bytes from the address `base` on, with room for `max_blocks` live slots, and none yet. It takes all memory for
+    /// them.
+    ///
+    /// Refused, in this order: a size that is 0, no multiple of 16 or above 1,048,576; room for 0 slots or above 65,536; a range that ends behind the
+    /// address space of the mode; and at any point where there is no memory.
+    pub fn make(
+        alloc: Global,
+        bits: Bits,
+        base: u64,
+        size: u64,
+        max_blocks: u64,
+    ) -> Result<StepSlots, OpenError>
+        ensures refused { IfSome (slots_refusal bits base size max_blocks) (λ refusal. result ≡ Err refusal) }
+        ensures cause { IfErr result (λ error. (slots_refusal bits base size max_blocks ≡ Some error) ⊎ (error ≡ OpenError.Memory)) }
+        ensures ok { IfOk result (λ slots. slots ≡ no_slots bits base size max_blocks) }
+    {
+        if let Some(refusal) = refusal_of(bits, base, size, max_blocks) {
+            return Err(refusal);
+        }
+        let Ok(region) = Region::make(alloc, base, size, max_blocks) else {
+            return Err(OpenError::Memory);
+        };
+        let Ok(live) = Vec::with_capacity(alloc, max_blocks as usize) else {
+            return Err(OpenError::Memory);
+        };
+        Ok(StepSlots {
+            bits,
+            base,
+            region,
+            live,
+        })
+    }
+
+    /// Gives an instruction a slot, and answers the address of its block.
+    ///
+    /// The instruction was read, or could have been written, at its address. Refused, in this order and with nothing changed: as many live slots as there
+    /// is room for; no gap of the length that is reserved for the block, the longest that it may take; an instruction that does not reach its target from
+    /// the place; and at any point where there is no memory.
+    pub fn step(&mut self, alloc: Global, item: Placed) -> Result<u64, StepError>
+        requires { IsPlaced self.old.bits item }
+        ensures { IsStepped self.old item result self.new }
+    {
+        let place = step_block(alloc, self.bits, self.base, &mut self.region, item)?;
+        insert_slot(&mut self.live, StepSlot { place, item });
+        Ok(place)
+    }
+
+    /// Ends the live slot whose block starts at `place`, and sets its bytes to CC.
+    ///
+    /// Refused, with nothing changed, exactly where no live slot starts there.
+    pub fn finish(&mut self, place: u64) -> Result<(), NotTaken>
+        ensures answer { result ≡ release_answer self.old.region place }
+        ensures state { self.new ≡ finished self.old place }
+        ensures refused { OnErr result (self.new ≡ self.old) }
+    {
+        self.region.release(place)?;
+        remove_slot(&mut self.live, place);
+        Ok(())
+    }
+
+    /// The live slots, by address.
+    pub fn live(&self) -> &[StepSlot]
+        ensures slots { result.now ≡ self.now.slots }
+        ensures apart { AreApart self.now }
+    {
+        &self.live
+    }
+
+    /// The bytes of the range: the blocks of the live slots, and CC elsewhere.
+    pub fn image(&self) -> &[u8]
+        ensures value { result.now ≡ image_of self.now.region }
+        ensures slots { HoldsSlots self.now result.now }
+    {
+        self.region.image()
+    }
+}
