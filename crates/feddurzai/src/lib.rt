@@ -78,6 +78,11 @@ pub mod region {
     pub use code_region::{Command, NotTaken, OpenError, PlaceError, Region, Reply, replay};
 }
 
+/// Slots for displaced single stepping: an instruction elsewhere, and the jump back.
+pub mod slots {
+    pub use step_slots::{StepCommand, StepError, StepReply, StepSlot, StepSlots, replay};
+}
+
 /// The offsets that control reaches, and their basic blocks.
 pub mod flow {
     pub use flow_graph::{FlowError, FlowGraph, flow_graph, flow_graph_in};
