@@ -7,6 +7,8 @@ mod commands;
 mod order;
 mod refusals;
 mod slots;
+#[cfg(test)]
+mod tests;
 
 pub use block_encoder::Placed;
 pub use code_region::{NotTaken, OpenError};
