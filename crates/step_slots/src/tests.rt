@@ -1,4 +1,4 @@
-//! Worked rows, refusals, and a list of steps and finishes beside a plain model.
+//! Blocks with their bytes, refusals, and a list of commands.
 
 ghost use Rattle.std.specs.Prelude.{◌≡◌, IfOk};
 ghost use Rattle.x86_values.specs.declared.Bits.{Bits};
