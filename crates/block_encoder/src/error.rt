@@ -11,19 +11,19 @@ use thiserror::Error;
 #[derive(Clone, Copy, PartialEq, Eq, Debug, Error)]
 pub enum MoveError {
     /// There was not enough memory.
-    #[error("Memory")]
+    #[error("out of memory")]
     Memory,
     /// There are this many items, more than 65,536.
-    #[error("TooMany")]
+    #[error("{count} instructions are too many")]
     TooMany { count: u64 },
     /// The item of this number, from 0, is not the first of its block and does not begin where the one before it ended.
-    #[error("OldOrder")]
+    #[error("instruction {at} does not begin where the one before it ends")]
     OldOrder { at: u64 },
     /// A block passes the address space of the mode: its old or its new end is this address.
-    #[error("Wraps")]
+    #[error("end {end:#x} passes the address space")]
     Wraps { end: u128 },
     /// The item of this number, from 0, does not reach its goal, which is this address.
-    #[error("TooFar")]
+    #[error("instruction {at} cannot reach {target:#x}")]
     TooFar { at: u64, target: u64 },
 }
 

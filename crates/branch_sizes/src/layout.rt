@@ -242,7 +242,7 @@ pub(crate) fn chosen_forms(
 #[derive(Clone, Copy, Debug, PartialEq, Eq, Error)]
 pub enum LayoutError {
     /// The allocator had no memory left.
-    #[error("Memory")]
+    #[error("out of memory")]
     Memory,
 }
 

@@ -7,6 +7,7 @@ use crate::fault_count::after_fault;
 use crate::ports::{Sink, Source};
 use std::alloc::Global;
 use std::marker::Model;
+use thiserror::Error;
 
 /// Bytes in memory as a source. It never fails.
 #[derive(Drop)]
@@ -48,9 +49,10 @@ impl<'a> Source for MemSource<'a> {
 }
 
 /// Why a sink in memory was not made.
-#[derive(Clone, Copy, PartialEq, Eq, Debug)]
+#[derive(Clone, Copy, PartialEq, Eq, Debug, Error)]
 pub enum MakeError {
     /// There is no memory for its room.
+    #[error("out of memory")]
     Memory,
 }
 

@@ -17,7 +17,7 @@ use x86_values::Bits;
 #[derive(Clone, Copy, Debug, PartialEq, Eq, Error)]
 pub enum FlowError {
     /// The allocator had no memory left.
-    #[error("Memory")]
+    #[error("out of memory")]
     Memory,
 }
 

@@ -20,15 +20,18 @@ use instruction_parts::PrefixState;
 pub use parts::{modrm_of_byte, sib_of_byte};
 use prefixes::mode_of;
 use row_types::Row;
+use thiserror::Error;
 pub use write::{write_operands, write_tail};
 use x86_values::{Bits, Code, Decoded};
 
 /// Why no tail of a row is read from some bytes.
-#[derive(Clone, Copy, PartialEq, Eq, Debug)]
+#[derive(Clone, Copy, PartialEq, Eq, Debug, Error)]
 pub enum TailError {
     /// The bytes end, and more bytes behind them make a spelling of the row.
+    #[error("the bytes end before the operands do")]
     Ended,
     /// No bytes that begin so are a spelling of the row.
+    #[error("the row has no operands that are spelled so")]
     Forbidden,
 }
 

@@ -12,6 +12,7 @@ use decoder::DecodeError;
 use move_goals::Placed;
 use std::alloc::{AllocError, Global};
 use sweep_text::read_at;
+use thiserror::Error;
 use x86_values::Bits;
 
 /// How many instructions are moved together at most.
@@ -29,11 +30,13 @@ pub struct Code {
 }
 
 /// Why the blocks are not read.
-#[derive(Clone, Copy, PartialEq, Eq, Debug)]
+#[derive(Clone, Copy, PartialEq, Eq, Debug, Error)]
 pub enum CodeError {
     /// No instruction is read at this offset of the input.
+    #[error("bad code at {offset}: {error}")]
     BadCode { offset: u64, error: DecodeError },
     /// There was not enough memory.
+    #[error("out of memory")]
     Memory,
 }
 

@@ -1,4 +1,4 @@
--- Worked rows: spellings that are plain, and fitting ones that are not, each by the test that says so.
+-- Examples: spellings that are plain, and fitting ones that are not, each by the test that says so.
 use Rattle.std.proofs.Common.{◌≡◌, ℕ, ◌==◌, Bool, true, false, ◌&&◌, List, [], ◌∷◌, refl, Option, Some, None}
 use Rattle.arrayvec.specs.ArrayVec.{ArrayVec}
 use Rattle.x86_values.specs.declared.Bits.{Bits}

@@ -18,16 +18,19 @@ mod tests;
 mod write;
 
 use row_types::Map;
+use thiserror::Error;
 pub use write::write_prefixes;
 use x86_values::Bits;
 
 /// Why bytes have no front.
-#[derive(Clone, Copy, PartialEq, Eq, Debug)]
+#[derive(Clone, Copy, PartialEq, Eq, Debug, Error)]
 pub enum PrefixError {
     /// The bytes, 14 at most, end before their opcode byte, and nothing that is forbidden was met.
+    #[error("the bytes end before an opcode byte")]
     Ended,
     /// No opcode byte can follow: the map number of a VEX is none, a VEX stands behind 66, F2, F3, F0 or a REX that
     /// counts, 62 stands as an opcode byte in 64-bit mode, 0F follows the escape byte 0F, or 15 bytes hold no opcode byte.
+    #[error("no opcode byte can follow these prefixes")]
     Forbidden,
 }
 

@@ -13,6 +13,7 @@ use crate::words::{
 use row_types::{
     Class, ImmWord, LBit, Map, ModRmRule, PlusWord, RowKind, RowShape, SizeWord, WBit,
 };
+use thiserror::Error;
 
 /// The bytes behind a word, or how many are left where the text is not the word's.
 #[tactic(auto, unfolding(crate::specs::Reading::after_word))]
@@ -557,7 +558,8 @@ fn read_text(text: &[u8]) -> Result<RowShape, usize>
 }
 
 /// A text that is no shape's: `at` is the length of its longest prefix that begins some shape's text.
-#[derive(Clone, Copy, PartialEq, Eq, Debug)]
+#[derive(Clone, Copy, PartialEq, Eq, Debug, Error)]
+#[error("no notation goes on as this one does at byte {at}")]
 pub struct NotationFault {
     pub at: usize,
 }

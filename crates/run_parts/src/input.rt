@@ -6,6 +6,7 @@ ghost use Rattle.run_parts.specs.Reads.{ReadsAll, ReadsPiece, ReadsTooMany, Take
 
 use byte_ports::{Failed, Source};
 use std::alloc::Global;
+use thiserror::Error;
 
 /// How many bytes a command that takes its input as a whole reads at most.
 pub const WHOLE_LIMIT: u32 = 1_048_576;
@@ -14,13 +15,16 @@ pub const WHOLE_LIMIT: u32 = 1_048_576;
 pub const CODE_LIMIT: u32 = 16_777_216;
 
 /// Why a source was not read to its end.
-#[derive(Clone, Copy, PartialEq, Eq, Debug)]
+#[derive(Clone, Copy, PartialEq, Eq, Debug, Error)]
 pub enum ReadError {
     /// The source failed.
+    #[error("read fault")]
     Fault,
     /// There was not enough memory.
+    #[error("out of memory")]
     Memory,
     /// The source has more bytes than the limit.
+    #[error("too many bytes")]
     TooLarge,
 }
 
