@@ -17,13 +17,12 @@ ghost use Rattle.encoder.specs.Encoding.{encoding, encoded_by, written, length_o
 
 use arrayvec::ArrayVec;
 use instruction_parts::sizes::exists_in;
-use modrm_sib::write_tail;
 use opcode_rows::{ROWS, row_of};
 pub use plain_spelling::NoSpelling;
 use plain_spelling::conditions::tail_failure;
 use plain_spelling::parts::plain_parts;
 use prefixes::write_prefixes;
-use row_relation::append_tail;
+use row_relation::append_plain_tail;
 use row_types::Row;
 use x86_values::{Bits, Instr, wrap};
 
@@ -40,15 +39,15 @@ fn encode_row(bits: Bits, ip: u64, row: &Row, instr: &Instr) -> Result<ArrayVec<
 {
     let [_first, _second, _third, _fourth] = instr.ops;
     let parts = plain_parts(bits, ip, row, instr);
-    let tail = match write_tail(bits, row, instr, &parts) {
-        Ok(tail) => tail,
-        Err(why) => return Err(why),
-    };
+    match tail_failure(bits, row, instr, &parts) {
+        Some(why) => return Err(why),
+        None => {}
+    }
     if parts.len > 15 {
         return Err(NoSpelling::Length);
     }
     let mut bytes = write_prefixes(bits, row, &parts.state);
-    append_tail(&mut bytes, &tail);
+    append_plain_tail(&mut bytes, row, instr, &parts);
     Ok(bytes)
 }
 

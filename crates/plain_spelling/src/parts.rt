@@ -7,7 +7,8 @@ ghost use Rattle.plain_spelling.specs.PlainFront as front;
 ghost use Rattle.plain_spelling.specs.PlainTail as spec;
 ghost use Rattle.plain_spelling.specs.Parts.{ArePartsOf};
 
-use crate::front::{plain_front, plain_size};
+use crate::front::{front_asked, plain_size};
+use crate::registers::numbers_asked;
 use crate::tail::{Addressing, address_operand, operand_displacement, plain_addressing};
 use instruction_parts::spelling::PrefixState;
 use row_fit::tail_fits::{immediate_bytes, kind_at};
@@ -74,8 +75,9 @@ pub fn plain_parts(bits: Bits, ip: u64, row: &Row, instr: &Instr) -> PlainParts
     ensures ip { result.ip ≡ ip }
     ensures small { result.len < 64 }
 {
-    let state = plain_front(bits, row, instr);
-    let addressing = plain_addressing(bits, row, instr);
+    let asked = numbers_asked(row, instr);
+    let state = front_asked(bits, row, instr, &asked);
+    let addressing = plain_addressing(bits, row, instr, &asked);
     let size = plain_size(bits, row);
     let len = plain_len(bits, row, instr, state.used, addressing, size);
     let next = wrap(bits, ip as u128 + len as u128);

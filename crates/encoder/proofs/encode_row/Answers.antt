@@ -13,51 +13,57 @@ use Rattle.plain_spelling.specs.Expressible.{failure, tail_failure}
 use Rattle.plain_spelling.specs.Writable.{writable}
 use Rattle.plain_spelling.specs.declared.NoSpelling.{NoSpelling}
 use Rattle.encoder.specs.Encoding.{encoded_by}
-use Rattle.encoder.proofs.Bytes.{TailWritten, tail_written, written-vex, written-modrm, written-sib, written-room, written-bytes}
+use Rattle.encoder.proofs.Bytes.{parts_written, written-vex, written-modrm, written-sib, written-numbers, written-room, written-bytes}
 use Rattle.encoder.proofs.Causes.{tail_fails, length_fails, nothing_fails}
 use Rattle.encoder.proofs.encode_row.Goals as goal
 
-pub returns-in-Err : goal.returns-in-Err
-returns-in-Err c =
+pub returns-in-Some : goal.returns-in-Some
+returns-in-Some c =
     let row = c.args.row.now in
     let i = c.args.instr.now in
     let bits = c.args.bits in
-    let h = subst (λ (ip : ℕ). tail_failure bits ip row i ≡ Some c.in-Err.why) c.plain_parts-parts.ensures.ip c.in-Err.ensures.err in
-    ap (λ why. encoded_by why (bytes_of row (plain_spelling bits c.args.ip row i))) (sym (tail_fails bits c.args.ip row i c.in-Err.why c.requires.exists h))
+    let h = subst (λ (ip : ℕ). tail_failure bits ip row i ≡ Some c.in-Some.why) c.plain_parts-parts.ensures.ip (sym c.tail_failure.ensures ∙ c.in-Some.is) in
+    ap (λ why. encoded_by why (bytes_of row (plain_spelling bits c.args.ip row i))) (sym (tail_fails bits c.args.ip row i c.in-Some.why c.requires.exists h))
 
 pub returns-then-parts-gt15 : goal.returns-then-parts-gt15
 returns-then-parts-gt15 c =
     let row = c.args.row.now in
     let i = c.args.instr.now in
     let bits = c.args.bits in
-    let h = subst (λ (ip : ℕ). tail_failure bits ip row i ≡ None) c.plain_parts-parts.ensures.ip c.in-Ok.ensures.ok.0 in
+    let h = subst (λ (ip : ℕ). tail_failure bits ip row i ≡ None) c.plain_parts-parts.ensures.ip (sym c.tail_failure.ensures ∙ c.in-None.is) in
     let long : 15 < plain_len bits row i = subst (λ (n : ℕ). 15 < n) c.plain_parts-parts.ensures.parts.len c.if-parts-gt15.true in
     ap (λ why. encoded_by why (bytes_of row (plain_spelling bits c.args.ip row i))) (sym (length_fails bits c.args.ip row i c.requires.exists h long))
 
 pub write_prefixes-bytes-requires : goal.write_prefixes-bytes-requires
 write_prefixes-bytes-requires c =
     let four : length c.args.instr.now.ops ≡ 4 = search rules in
-    written-vex c.args.bits c.args.ip c.args.row.now c.args.instr.now c.plain_parts-parts.result c.in-Ok.tail
-    (tail_written c.args.bits c.args.ip c.args.row.now c.args.instr.now c.plain_parts-parts.result c.in-Ok.tail c.requires.sound c.requires.writable c.requires.exists four c.plain_parts-parts.ensures.ip c.plain_parts-parts.ensures.parts c.in-Ok.ensures.ok c.if-parts-gt15.false)
+    written-vex c.args.bits c.args.ip c.args.row.now c.args.instr.now c.plain_parts-parts.result
+    (parts_written c.args.bits c.args.ip c.args.row.now c.args.instr.now c.plain_parts-parts.result c.requires.sound c.requires.writable c.requires.exists four c.plain_parts-parts.ensures.ip c.plain_parts-parts.ensures.parts (sym c.tail_failure.ensures ∙ c.in-None.is) c.if-parts-gt15.false)
 
-pub append_tail-requires-clause-room : goal.append_tail-requires-clause-room
-append_tail-requires-clause-room c =
+pub append_plain_tail-requires-clause-modrm : goal.append_plain_tail-requires-clause-modrm
+append_plain_tail-requires-clause-modrm c =
     let four : length c.args.instr.now.ops ≡ 4 = search rules in
-    written-room c.args.bits c.args.ip c.args.row.now c.args.instr.now c.plain_parts-parts.result c.in-Ok.tail c.write_prefixes-bytes.result.items
-    (tail_written c.args.bits c.args.ip c.args.row.now c.args.instr.now c.plain_parts-parts.result c.in-Ok.tail c.requires.sound c.requires.writable c.requires.exists four c.plain_parts-parts.ensures.ip c.plain_parts-parts.ensures.parts c.in-Ok.ensures.ok c.if-parts-gt15.false)
+    written-modrm c.args.bits c.args.ip c.args.row.now c.args.instr.now c.plain_parts-parts.result
+    (parts_written c.args.bits c.args.ip c.args.row.now c.args.instr.now c.plain_parts-parts.result c.requires.sound c.requires.writable c.requires.exists four c.plain_parts-parts.ensures.ip c.plain_parts-parts.ensures.parts (sym c.tail_failure.ensures ∙ c.in-None.is) c.if-parts-gt15.false)
+
+pub append_plain_tail-requires-clause-sib : goal.append_plain_tail-requires-clause-sib
+append_plain_tail-requires-clause-sib c =
+    let four : length c.args.instr.now.ops ≡ 4 = search rules in
+    written-sib c.args.bits c.args.ip c.args.row.now c.args.instr.now c.plain_parts-parts.result
+    (parts_written c.args.bits c.args.ip c.args.row.now c.args.instr.now c.plain_parts-parts.result c.requires.sound c.requires.writable c.requires.exists four c.plain_parts-parts.ensures.ip c.plain_parts-parts.ensures.parts (sym c.tail_failure.ensures ∙ c.in-None.is) c.if-parts-gt15.false)
+
+pub append_plain_tail-requires-clause-numbers : goal.append_plain_tail-requires-clause-numbers
+append_plain_tail-requires-clause-numbers c =
+    let four : length c.args.instr.now.ops ≡ 4 = search rules in
+    written-numbers c.args.bits c.args.ip c.args.row.now c.args.instr.now c.plain_parts-parts.result
+    (parts_written c.args.bits c.args.ip c.args.row.now c.args.instr.now c.plain_parts-parts.result c.requires.sound c.requires.writable c.requires.exists four c.plain_parts-parts.ensures.ip c.plain_parts-parts.ensures.parts (sym c.tail_failure.ensures ∙ c.in-None.is) c.if-parts-gt15.false)
+
+pub append_plain_tail-requires-clause-room : goal.append_plain_tail-requires-clause-room
+append_plain_tail-requires-clause-room c =
+    let four : length c.args.instr.now.ops ≡ 4 = search rules in
+    written-room c.args.bits c.args.ip c.args.row.now c.args.instr.now c.plain_parts-parts.result c.write_prefixes-bytes.result.items
+    (parts_written c.args.bits c.args.ip c.args.row.now c.args.instr.now c.plain_parts-parts.result c.requires.sound c.requires.writable c.requires.exists four c.plain_parts-parts.ensures.ip c.plain_parts-parts.ensures.parts (sym c.tail_failure.ensures ∙ c.in-None.is) c.if-parts-gt15.false)
     c.write_prefixes-bytes.ensures
-
-pub append_tail-requires-clause-modrm : goal.append_tail-requires-clause-modrm
-append_tail-requires-clause-modrm c =
-    let four : length c.args.instr.now.ops ≡ 4 = search rules in
-    written-modrm c.args.bits c.args.ip c.args.row.now c.args.instr.now c.plain_parts-parts.result c.in-Ok.tail
-    (tail_written c.args.bits c.args.ip c.args.row.now c.args.instr.now c.plain_parts-parts.result c.in-Ok.tail c.requires.sound c.requires.writable c.requires.exists four c.plain_parts-parts.ensures.ip c.plain_parts-parts.ensures.parts c.in-Ok.ensures.ok c.if-parts-gt15.false)
-
-pub append_tail-requires-clause-sib : goal.append_tail-requires-clause-sib
-append_tail-requires-clause-sib c =
-    let four : length c.args.instr.now.ops ≡ 4 = search rules in
-    written-sib c.args.bits c.args.ip c.args.row.now c.args.instr.now c.plain_parts-parts.result c.in-Ok.tail
-    (tail_written c.args.bits c.args.ip c.args.row.now c.args.instr.now c.plain_parts-parts.result c.in-Ok.tail c.requires.sound c.requires.writable c.requires.exists four c.plain_parts-parts.ensures.ip c.plain_parts-parts.ensures.parts c.in-Ok.ensures.ok c.if-parts-gt15.false)
 
 pub returns : goal.returns
 returns c =
@@ -66,8 +72,8 @@ returns c =
     let bits = c.args.bits in
     let ip = c.args.ip in
     let four : length i.ops ≡ 4 = search rules in
-    let w = tail_written bits ip row i c.plain_parts-parts.result c.in-Ok.tail c.requires.sound c.requires.writable c.requires.exists four c.plain_parts-parts.ensures.ip c.plain_parts-parts.ensures.parts c.in-Ok.ensures.ok c.if-parts-gt15.false in
-    let bytes = c.append_tail.ensures ∙ written-bytes bits ip row i c.plain_parts-parts.result c.in-Ok.tail c.write_prefixes-bytes.result.items w c.write_prefixes-bytes.ensures in
+    let w = parts_written c.args.bits c.args.ip c.args.row.now c.args.instr.now c.plain_parts-parts.result c.requires.sound c.requires.writable c.requires.exists four c.plain_parts-parts.ensures.ip c.plain_parts-parts.ensures.parts (sym c.tail_failure.ensures ∙ c.in-None.is) c.if-parts-gt15.false in
+    let bytes = c.append_plain_tail.ensures ∙ written-bytes bits ip row i c.plain_parts-parts.result c.write_prefixes-bytes.result.items w c.write_prefixes-bytes.ensures in
     let short : plain_len bits row i ≤ 15 = subst (λ (n : ℕ). n ≤ 15) c.plain_parts-parts.ensures.parts.len c.if-parts-gt15.false in
     let ok : List ℕ → Result (List ℕ) NoSpelling = λ xs. Ok xs in
     ap ok bytes

@@ -1,4 +1,4 @@
-use Rattle.std.proofs.Common.{◌≡◌, ℕ, ◌≤◌, sym, ◌∙◌, arith}
+use Rattle.std.proofs.Common.{◌≡◌, ℕ, ◌≤◌, sym, ◌∙◌, arith, rules}
 use Rattle.x86_values.specs.declared.Bits.{Bits}
 use Rattle.row_types.specs.declared.OpKind.{OpKind}
 use Rattle.instruction_parts.specs.declared.kinds.Method.{Method}
@@ -20,10 +20,8 @@ last-long size kind m n em en h =
     let s = rw e at (bytes_suit size kind) in
     omega (arith, s, en)
 
-pub append_immediate-requires-clause-pointer : goal.append_immediate-requires-clause-pointer
-append_immediate-requires-clause-pointer c =
-    pointer-long c.args.size c.kind_at-kind.result _ _ c.method_of_kind.ensures c.immediate_bytes.ensures.value
-
-pub append_immediate-requires-clause-last : goal.append_immediate-requires-clause-last
-append_immediate-requires-clause-last c =
-    last-long c.args.size c.kind_at-kind.result _ _ c.method_of_kind.ensures c.immediate_bytes.ensures.value
+pub append_immediate-requires : goal.append_immediate-requires
+append_immediate-requires g c =
+    (search rules, (search rules, (search rules,
+    (pointer-long c.args.size c.kind_at-kind.result _ _ c.method_of_kind.ensures c.immediate_bytes.ensures.value,
+    last-long c.args.size c.kind_at-kind.result _ _ c.method_of_kind.ensures c.immediate_bytes.ensures.value))))
