@@ -25,6 +25,7 @@ fn segment_number(segment: Segment) -> u8
 }
 
 /// The number that the encoding gives a register; AH, CH, DH and BH have 4 to 7 (2.1.5, 3.1.1.1).
+#[inline]
 #[tactic(auto, unfolding(crate::specs::PlainFront::register_number))]
 pub fn register_number(register: Register) -> u16
     ensures value { result ≡ spec.register_number register }
@@ -48,6 +49,7 @@ pub fn register_number(register: Register) -> u16
     }
 }
 
+#[inline]
 fn number_or_zero(register: Option<Register>) -> u16
     ensures value { result ≡ spec.number_or_zero register }
     ensures small { result < 260 }
@@ -74,7 +76,7 @@ pub struct Asked {
 }
 
 /// The numbers, with that of a register operand that is read so.
-#[inline]
+#[inline(always)]
 #[tactic(auto, unfolding(crate::specs::PlainFront::number_in_reg, crate::specs::PlainFront::number_in_rm, crate::specs::PlainFront::number_in_index, crate::specs::PlainFront::number_in_vvvv, crate::specs::PlainFront::number_in_opcode))]
 fn with_register(method: Method, register: Register, rest: Asked) -> Asked
     requires { AreBelow 60000 rest }
@@ -108,7 +110,7 @@ fn with_register(method: Method, register: Register, rest: Asked) -> Asked
 }
 
 /// The numbers, with those of base and index of a memory operand that is read so.
-#[inline]
+#[inline(always)]
 #[tactic(auto, unfolding(crate::specs::PlainFront::number_in_reg, crate::specs::PlainFront::number_in_rm, crate::specs::PlainFront::number_in_index, crate::specs::PlainFront::number_in_vvvv, crate::specs::PlainFront::number_in_opcode))]
 fn with_memory(method: Method, memory: Mem, rest: Asked) -> Asked
     requires { AreBelow 60000 rest }
@@ -131,7 +133,7 @@ fn with_memory(method: Method, memory: Mem, rest: Asked) -> Asked
 }
 
 /// The numbers, with those that one more operand asks.
-#[inline]
+#[inline(always)]
 #[tactic(auto, unfolding(crate::specs::PlainFront::number_in_reg, crate::specs::PlainFront::number_in_rm, crate::specs::PlainFront::number_in_index, crate::specs::PlainFront::number_in_vvvv, crate::specs::PlainFront::number_in_opcode))]
 fn with_operand(kind: OpKind, operand: Operand, rest: Asked) -> Asked
     requires { AreBelow 60000 rest }

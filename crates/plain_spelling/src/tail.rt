@@ -21,12 +21,12 @@ use crate::addresses::{
 use crate::forms::operand_at;
 use crate::front::plain_size;
 use crate::numbers::{push_low_bytes, distance};
-use crate::parts::PlainParts;
+use crate::parts::{PlainParts, immediate_len};
 use crate::registers::{Asked, register_number};
 use arrayvec::ArrayVec;
 use instruction_parts::kinds::{Method, method_of_kind};
 use instruction_parts::spelling::{ModRm, Sib, Spelling};
-use row_fit::tail_fits::{immediate_bytes, immediates_bytes, kind_at};
+use row_fit::tail_fits::kind_at;
 use row_types::{ModRmRule, Place, Plus, Row};
 use x86_values::{Bits, Instr, Mem, Operand, wrap};
 
@@ -362,14 +362,11 @@ fn append_immediate_at<const N: usize>(
     ensures len { array_vec_len bytes.new ≤ array_vec_len bytes.old + bytes_of_kind size (kind_of_row row.now n) }
 {
     let kind = kind_at(row, n);
-    append_immediate(
-        bytes,
-        size,
-        next,
-        method_of_kind(kind),
-        immediate_bytes(size, kind),
-        operand_at(instr, n),
-    );
+    let count = immediate_len(size, kind);
+    if count > 0 {
+        let method = method_of_kind(kind);
+        append_immediate(bytes, size, next, method, count, operand_at(instr, n));
+    }
 }
 
 /// Appends the bytes of all immediates, in the order of the operands.
