@@ -84,7 +84,7 @@ no_immediates size row i next e =
     (no_immediate size row i next 3 (omega (arith, e)))))
 
 abbrev form_bytes : AddressForm → ℕ → ℕ → ℕ → List ℕ
-form_bytes form next n disp = elim form [ | Relative size ↦ low_bytes n (distance size next disp) | _ ↦ low_bytes n disp ]
+form_bytes form next n disp = elim form [ Relative size ↦ low_bytes n (distance size next disp) | _ ↦ low_bytes n disp ]
 
 form-none : (form : AddressForm) (next n disp : ℕ) → n ≡ 0 → form_bytes form next n disp ≡ []
 unfolding low_bytes

@@ -1,7 +1,11 @@
 //! When an instruction has a plain spelling: the conditions 2 to 9, in their order.
 
 ghost use Rattle.std.specs.Prelude.{◌≡◌, ◌<◌, ◌≤◌, ◌&&◌, not, true, false, if◌then◌else◌, Some, None};
+ghost use Rattle.x86_values.specs.declared.Operand.TheVariants.{Absent};
+ghost use Rattle.row_types.specs.declared.Place.{Place};
 ghost use Rattle.row_types.specs.declared.Plus.TheVariants.{Register as PlusRegister};
+ghost use Rattle.instruction_parts.specs.Kinds.{method_of};
+ghost use Rattle.plain_spelling.specs.Forms.{is_variant_of};
 ghost use Rattle.row_fit.specs.Fits as fits;
 ghost use Rattle.plain_spelling.specs.PlainFront as front;
 ghost use Rattle.plain_spelling.specs.PlainTail as tail;
@@ -646,9 +650,26 @@ fn present_suits(bits: Bits, row: &Row, instr: &Instr, parts: &PlainParts, n: us
                 && address_reaches(parts.next, memory)
         }
         Operand::Near(target) => {
-            near_reaches(parts.size, parts.next, immediate_len(parts.size, kind), target)
+            near_reaches(
+                parts.size,
+                parts.next,
+                immediate_len(parts.size, kind),
+                target,
+            )
         }
         _ => immediate_suits_how(parts.size, method, immediate_len(parts.size, kind), operand),
+    }
+}
+
+/// Whether a kind asks that no operand is there.
+#[inline]
+#[tactic(auto, unfolding(instruction_parts::specs::Kinds::method_of, crate::specs::Forms::is_variant_of))]
+fn is_absent_kind(kind: OpKind) -> bool
+    ensures { (place : Place) → result ≡ is_variant_of place (method_of kind) Absent }
+{
+    match kind {
+        OpKind::Absent => true,
+        _ => false,
     }
 }
 
@@ -661,10 +682,7 @@ fn operand_suits(bits: Bits, row: &Row, instr: &Instr, parts: &PlainParts, n: us
     ensures { result ≡ spec.operand_suits bits parts.now.ip row.now instr.now n }
 {
     match operand_at(instr, n) {
-        Operand::Absent => {
-            let method = method_of_kind(kind_at(row, n));
-            is_variant_of(row.place, method, Operand::Absent)
-        }
+        Operand::Absent => is_absent_kind(kind_at(row, n)),
         _ => present_suits(bits, row, instr, parts, n),
     }
 }

@@ -6,6 +6,7 @@ ghost use Rattle.instruction_parts.specs.Kinds.{method_of};
 ghost use Rattle.plain_spelling.specs.PlainFront as spec;
 ghost use Rattle.plain_spelling.specs.Asked.{AreBelow, AreWith, AreAskedOf};
 
+use crate::forms::operand_at;
 use instruction_parts::kinds::{Method, method_of_kind};
 use row_types::{OpKind, Row};
 use x86_values::{Instr, Mem, Operand, Register, Segment};
@@ -151,7 +152,7 @@ pub fn numbers_asked(row: &Row, instr: &Instr) -> Asked
     ensures { AreAskedOf row.now instr.now result }
 {
     let [k0, k1, k2, k3] = row.ops;
-    let [a, b, c, d] = instr.ops;
+    let [_first, _second, _third, _fourth] = instr.ops;
     let none = Asked {
         reg: 0,
         rm: 0,
@@ -159,10 +160,10 @@ pub fn numbers_asked(row: &Row, instr: &Instr) -> Asked
         vvvv: 0,
         opcode: 0,
     };
-    let fourth = with_operand(k3, d, none);
-    let third = with_operand(k2, c, fourth);
-    let second = with_operand(k1, b, third);
-    with_operand(k0, a, second)
+    let fourth = with_operand(k3, operand_at(instr, 3), none);
+    let third = with_operand(k2, operand_at(instr, 2), fourth);
+    let second = with_operand(k1, operand_at(instr, 1), third);
+    with_operand(k0, operand_at(instr, 0), second)
 }
 
 #[tactic(auto, unfolding(crate::specs::PlainFront::is_low_byte_of_rex))]

@@ -4,6 +4,7 @@ ghost use Rattle.std.specs.Prelude.{◌≡◌, ◌<◌, ◌≤◌, ◌+◌, ◌+
 ghost use Rattle.x86_values.specs.declared.Operand.TheVariants.{Absent as AbsentOperand};
 ghost use Rattle.arrayvec.specs.ArrayVec.{array_vec_len};
 ghost use Rattle.instruction_parts.specs.declared.kinds.Method.TheVariants.{Pointer as PointerMethod, LastByte as LastByteMethod};
+ghost use Rattle.instruction_parts.specs.Kinds.{method_of};
 ghost use Rattle.row_fit.specs.Fits as fits;
 ghost use Rattle.row_fit.specs.Fits.{immediate_bytes as bytes_of_kind, kind_at as kind_of_row};
 ghost use Rattle.row_fit.specs.Sound as sound_rule;
@@ -20,14 +21,14 @@ use crate::addresses::{
 };
 use crate::forms::operand_at;
 use crate::front::plain_size;
-use crate::numbers::{push_low_bytes, distance};
+use crate::numbers::{distance, push_low_bytes};
 use crate::parts::{PlainParts, immediate_len};
 use crate::registers::{Asked, register_number};
 use arrayvec::ArrayVec;
 use instruction_parts::kinds::{Method, method_of_kind};
 use instruction_parts::spelling::{ModRm, Sib, Spelling};
 use row_fit::tail_fits::kind_at;
-use row_types::{ModRmRule, Place, Plus, Row};
+use row_types::{ModRmRule, OpKind, Place, Plus, Row};
 use x86_values::{Bits, Instr, Mem, Operand, wrap};
 
 /// The ModRM and the SIB of a spelling.
@@ -59,6 +60,30 @@ fn reads_rm_or_offset(method: Method) -> bool
     }
 }
 
+/// Whether an operand of the kind is read from r/m.
+#[inline]
+#[tactic(auto, unfolding(instruction_parts::specs::Kinds::method_of))]
+fn kind_reads_rm(kind: OpKind) -> bool
+    ensures { result ≡ sound_rule.reads_rm (method_of kind) }
+{
+    match kind {
+        OpKind::Absent => false,
+        _ => reads_rm(method_of_kind(kind)),
+    }
+}
+
+/// Whether an operand of the kind may have a displacement.
+#[inline]
+#[tactic(auto, unfolding(instruction_parts::specs::Kinds::method_of))]
+fn kind_has_address(kind: OpKind) -> bool
+    ensures { result ≡ (sound_rule.reads_rm (method_of kind) || fits.is_offset (method_of kind)) }
+{
+    match kind {
+        OpKind::Absent => false,
+        _ => reads_rm_or_offset(method_of_kind(kind)),
+    }
+}
+
 /// The first operand that passes, absent without one: each stands behind whether it does.
 #[inline(always)]
 fn first_of(
@@ -87,30 +112,30 @@ fn first_of(
 }
 
 /// The operand that ModRM.rm names, absent without one.
-#[inline]
+#[inline(always)]
 fn rm_operand(row: &Row, instr: &Instr) -> Operand
     ensures { result ≡ spec.rm_operand row.now instr.now }
 {
     let [k0, k1, k2, k3] = row.ops;
     let [a, b, c, d] = instr.ops;
-    let first = reads_rm(method_of_kind(k0));
-    let second = reads_rm(method_of_kind(k1));
-    let third = reads_rm(method_of_kind(k2));
-    let fourth = reads_rm(method_of_kind(k3));
+    let first = kind_reads_rm(k0);
+    let second = kind_reads_rm(k1);
+    let third = kind_reads_rm(k2);
+    let fourth = kind_reads_rm(k3);
     first_of(first, a, second, b, third, c, fourth, d)
 }
 
 /// The operand that may have a displacement, absent without one.
-#[inline]
+#[inline(always)]
 pub fn address_operand(row: &Row, instr: &Instr) -> Operand
     ensures { result ≡ spec.address_operand row.now instr.now }
 {
     let [k0, k1, k2, k3] = row.ops;
     let [a, b, c, d] = instr.ops;
-    let first = reads_rm_or_offset(method_of_kind(k0));
-    let second = reads_rm_or_offset(method_of_kind(k1));
-    let third = reads_rm_or_offset(method_of_kind(k2));
-    let fourth = reads_rm_or_offset(method_of_kind(k3));
+    let first = kind_has_address(k0);
+    let second = kind_has_address(k1);
+    let third = kind_has_address(k2);
+    let fourth = kind_has_address(k3);
     first_of(first, a, second, b, third, c, fourth, d)
 }
 
@@ -236,11 +261,7 @@ fn append_memory_displacement<const N: usize>(bytes: &mut ArrayVec<u8, N>, next:
 }
 
 /// Appends the displacement of an operand before the next address.
-pub fn append_displacement<const N: usize>(
-    bytes: &mut ArrayVec<u8, N>,
-    next: u64,
-    operand: Operand,
-)
+pub fn append_displacement<const N: usize>(bytes: &mut ArrayVec<u8, N>, next: u64, operand: Operand)
     requires { array_vec_len bytes.old + spec.operand_displacement operand ≤ N }
     ensures items { bytes.new.items ≡ bytes.old.items ++ spec.displacement_of_operand next operand }
     ensures len { array_vec_len bytes.new ≡ array_vec_len bytes.old + spec.operand_displacement operand }

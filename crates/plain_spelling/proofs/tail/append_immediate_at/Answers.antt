@@ -22,10 +22,19 @@ last-long size kind m n em en h =
     omega (arith, s, en)
 
 pub append_immediate-requires : goal.append_immediate-requires
-append_immediate-requires g c =
-    (search rules, (search rules, (search rules,
-    (pointer-long c.args.size c.kind_at-kind.result _ _ c.method_of_kind-method.ensures c.immediate_len-count.ensures.value,
-    last-long c.args.size c.kind_at-kind.result _ _ c.method_of_kind-method.ensures c.immediate_len-count.ensures.value))))
+append_immediate-requires g c = (
+  search rules,
+  (
+    search rules,
+    (
+      search rules,
+      (
+        pointer-long c.args.size c.kind_at-kind.result _ _ c.method_of_kind-method.ensures c.immediate_len-count.ensures.value,
+        last-long c.args.size c.kind_at-kind.result _ _ c.method_of_kind-method.ensures c.immediate_len-count.ensures.value,
+      ),
+    ),
+  ),
+)
 
 pub returns-else-count-gt0-clause-items : goal.returns-else-count-gt0-clause-items
 returns-else-count-gt0-clause-items g c =
