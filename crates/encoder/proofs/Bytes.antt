@@ -1,5 +1,5 @@
 -- The parts of a plain spelling as they are written, and what they make.
-use Rattle.std.proofs.Common.{◌≡◌, ℕ, ◌+◌, ◌<◌, ◌≤◌, Bool, true, List, ◌∷◌, ◌++◌, length, refl, sym, ◌∙◌, ap, subst, arith, nat_le, length-append, Option, Some, None}
+use Rattle.std.proofs.Common.{◌≡◌, ℕ, ◌+◌, ◌<◌, ◌≤◌, true, List, ◌∷◌, ◌++◌, length, refl, sym, ◌∙◌, ap, subst, arith, None}
 use Rattle.x86_values.specs.declared.Bits.{Bits}
 use Rattle.x86_values.specs.declared.Instr.{Instr}
 use Rattle.row_types.specs.declared.Row.{Row}
@@ -12,7 +12,7 @@ use Rattle.row_fit.proofs.SoundLaws.{sound_conditions}
 use Rattle.plain_spelling.specs.PlainFront.{operand_number, byte_front, plain_front_of}
 use Rattle.plain_spelling.specs.Forms.{operand_at}
 use Rattle.plain_spelling.specs.PlainTail.{address_operand, operand_displacement, plain_size, plain_modrm, plain_sib_of, plain_len, plain_next, plain_spelling, plain_tail}
-use Rattle.plain_spelling.specs.Expressible.{Suits, tail_failure}
+use Rattle.plain_spelling.specs.Expressible.{tail_failure}
 use Rattle.plain_spelling.specs.declared.parts.PlainParts.{PlainParts}
 use Rattle.plain_spelling.specs.Parts.{ArePartsOf}
 use Rattle.plain_spelling.specs.Writable.{writable}

@@ -1,16 +1,6 @@
-use Rattle.std.proofs.Common.{◌≡◌, ◌∙◌, ◌<◌, ◌≤◌, ◌++◌, ◌∷◌, ℕ, Some, Result, Err, Ok, List, None, ap, sym, arith, length, rules, subst, refl, true}
-use Rattle.x86_values.specs.declared.Bits.{Bits}
-use Rattle.x86_values.specs.declared.Instr.{Instr}
-use Rattle.row_types.specs.declared.Row.{Row}
-use Rattle.instruction_parts.specs.declared.spelling.Spelling.{Spelling}
-use Rattle.instruction_parts.specs.Sizes.{exists_in}
+use Rattle.std.proofs.Common.{◌≡◌, ◌∙◌, ◌<◌, ◌≤◌, ℕ, Result, Ok, List, ap, sym, length, rules, subst, refl}
 use Rattle.instruction_parts.specs.Bytes.{bytes_of}
-use Rattle.row_fit.specs.Sound.{sound}
-use Rattle.plain_spelling.specs.declared.parts.PlainParts.{PlainParts}
-use Rattle.plain_spelling.specs.Parts.{ArePartsOf}
-use Rattle.plain_spelling.specs.PlainTail.{plain_spelling, plain_len, plain_tail}
-use Rattle.plain_spelling.specs.Expressible.{failure, tail_failure}
-use Rattle.plain_spelling.specs.Writable.{writable}
+use Rattle.plain_spelling.specs.PlainTail.{plain_spelling, plain_len}
 use Rattle.plain_spelling.specs.declared.NoSpelling.{NoSpelling}
 use Rattle.encoder.specs.Encoding.{encoded_by}
 use Rattle.encoder.proofs.Bytes.{parts_written, written-vex, written-modrm, written-sib, written-numbers, written-room, written-bytes}

@@ -5,7 +5,7 @@ use Rattle.x86_values.specs.declared.Operand.TheVariants.{Absent, Reg, Mem as Me
 use Rattle.plain_spelling.specs.Forms.{is_variant_of, operand_at}
 use Rattle.plain_spelling.specs.Addresses.{shape_suits, displacement_suits, written_size}
 use Rattle.plain_spelling.specs.PlainTail.{plain_size, plain_next}
-use Rattle.plain_spelling.specs.Expressible.{operand_suits, near_reaches, address_reaches}
+use Rattle.plain_spelling.specs.Expressible.{near_reaches, address_reaches}
 use Rattle.plain_spelling.proofs.Suiting.{absent-suits, register-suits, memory-suits, near-suits}
 use Rattle.plain_spelling.proofs.conditions.present_suits.Goals as goal
 

@@ -1,4 +1,4 @@
-use Rattle.std.proofs.Common.{◌≡◌, sym, ◌∙◌, arith}
+use Rattle.std.proofs.Common.{◌≡◌, sym, arith}
 use Rattle.std.proofs.lemmas.List.{append-nil}
 use Rattle.plain_spelling.specs.PlainTail.{address_operand, operand_displacement}
 use Rattle.plain_spelling.proofs.ImmediateBytes.{no_displacement}

@@ -1,4 +1,4 @@
-use Rattle.std.proofs.Common.{◌≡◌, sym, ◌∙◌, arith}
+use Rattle.std.proofs.Common.{◌≡◌, sym, arith}
 use Rattle.std.proofs.lemmas.List.{append-nil}
 use Rattle.row_fit.specs.Fits.{immediates_bytes}
 use Rattle.plain_spelling.proofs.ImmediateBytes.{no_immediates}
