@@ -2,7 +2,7 @@ use Rattle.std.proofs.Common.{◌∙◌, min}
 use Rattle.plain_spelling.specs.PlainFront.{number_in_vvvv, asked, plain_front_of, byte_front}
 use Rattle.plain_spelling.proofs.PlainFrontLaws.{used-with, byte_front-exact}
 use Rattle.plain_spelling.proofs.ImmediateRoom.{vvvv-byte}
-use Rattle.plain_spelling.proofs.front.plain_front.Goals as goal
+use Rattle.plain_spelling.proofs.front.front_asked.Goals as goal
 
 pub returns-clause-value : goal.returns-clause-value
 unfolding byte_front plain_front_of
@@ -13,4 +13,4 @@ returns-clause-value c =
 pub returns-clause-exact : goal.returns-clause-exact
 returns-clause-exact c h =
     returns-clause-value c
-    ∙ byte_front-exact c.args.bits c.args.row.now c.args.instr.now (vvvv-byte c.args.bits c.args.row.now c.args.instr.now c.requires h)
+    ∙ byte_front-exact c.args.bits c.args.row.now c.args.instr.now (vvvv-byte c.args.bits c.args.row.now c.args.instr.now c.requires.sound h)
