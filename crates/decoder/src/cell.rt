@@ -58,6 +58,8 @@ pub(crate) fn cell_of(state: &PrefixState) -> Cell
 }
 
 /// The reading of bytes whose front is known, by the rows of its cell, one after another. Each row is a step.
+#[cold]
+#[inline(never)]
 pub(crate) fn scan<L: Ledger>(
     bits: Bits,
     ip: u64,

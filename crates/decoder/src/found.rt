@@ -23,6 +23,7 @@ use x86_values::{Code, Decoded};
 
 /// The instruction that bytes with a known front begin with, None where there is none. It is read by the one row whose conditions hold on the
 /// front and the byte behind it.
+#[inline(always)]
 pub(crate) fn read_found<const BITS: u32, L: Ledger>(
     ip: u64,
     state: &PrefixState,

@@ -40,6 +40,7 @@ pub fn decode<const BITS: u32>(ip: u64, bytes: &[u8]) -> Result<Decoded, DecodeE
 
 /// The same on a count of its own.
 // A ledger is picked only at a call without const parameters, so the mode is a value here.
+#[inline(always)]
 pub fn decode_on<L: Ledger>(
     blank: Blank,
     bits: Bits,
@@ -65,6 +66,7 @@ pub fn decode_on<L: Ledger>(
 /// The same, where each look-up of a row or in a node is a step.
 ///
 /// An instruction takes 3 to 12 steps. An error takes at most 12, and one for each row that stands where the front says, if there is one.
+#[inline(always)]
 pub fn decode_counted<const BITS: u32, L: Ledger>(
     ip: u64,
     bytes: &[u8],
@@ -87,6 +89,7 @@ pub fn decode_counted<const BITS: u32, L: Ledger>(
 }
 
 /// The same of bytes whose front is known. Only where no instruction is found are the rows of the cell looked at, to tell the two errors apart.
+#[inline(always)]
 fn read_known<const BITS: u32, L: Ledger>(
     ip: u64,
     state: &PrefixState,

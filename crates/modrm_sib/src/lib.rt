@@ -39,6 +39,7 @@ pub enum TailError {
 ///
 /// `state` is the front of `bytes`, and `ip` the address of their first byte.
 /// The length may be above 15: the bound on an instruction is the caller's.
+#[inline(always)]
 pub fn read_row(
     bits: Bits,
     ip: u64,

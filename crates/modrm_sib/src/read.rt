@@ -105,6 +105,7 @@ fn has_modrm(row: &Row) -> bool
 
 /// What stands behind the opcode byte: ModRM, the SIB where it takes one, and the rest.
 #[tactic(auto, unfolding(crate::specs::Answer::tail_answer, crate::specs::Answer::modrm_answer, crate::specs::Answer::behind_modrm_answer, crate::specs::Answer::sib_answer))]
+#[inline(always)]
 pub(crate) fn read_tail(
     bits: Bits,
     ip: u64,

@@ -49,6 +49,7 @@ pub fn mode_of<const BITS: u32>() -> Bits
 }
 
 /// The length of the run of prefix bytes at the front.
+#[inline(always)]
 fn run_len(bits: Bits, bytes: &[u8]) -> usize
     ensures { result ≡ length (take_while (counting.is_prefix bits) bytes.now) }
 {
@@ -56,6 +57,7 @@ fn run_len(bits: Bits, bytes: &[u8]) -> usize
 }
 
 /// The same within the first 15 bytes.
+#[inline(always)]
 fn bounded_run_len(bits: Bits, bytes: &[u8]) -> usize
     ensures { result ≡ min 15 (length (front.prefix_run bits bytes.now)) }
 {
@@ -114,6 +116,7 @@ fn long_vex(map: Map, b: u8, c: u8) -> Vex
 
 /// Behind the prefixes and the bytes of a lead: the opcode byte, or the end.
 #[tactic(auto, unfolding(instruction_parts::specs::Front::opcode_front))]
+#[inline(always)]
 fn opcode_front(
     bits: Bits,
     prefixes: &[u8],
@@ -210,6 +213,7 @@ fn vex_front(
 
 /// Behind the prefixes and 0F.
 #[tactic(auto, unfolding(instruction_parts::specs::Front::escape_front))]
+#[inline(always)]
 fn escape_front(bits: Bits, prefixes: &[u8], bytes: &[u8]) -> Result<PrefixState, PrefixError>
     requires { length prefixes.now < 16 }
     ensures { result ≡ answer_of (front.escape_front bits prefixes.now bytes.now) }
@@ -232,6 +236,7 @@ fn escape_front(bits: Bits, prefixes: &[u8], bytes: &[u8]) -> Result<PrefixState
 
 /// Behind the prefixes, at C4 or C5.
 #[tactic(auto, unfolding(instruction_parts::specs::Front::vex_or_opcode_front))]
+#[inline(never)]
 fn vex_or_opcode_front(
     bits: Bits,
     prefixes: &[u8],
@@ -260,6 +265,7 @@ fn vex_or_opcode_front(
 
 /// Behind the prefixes.
 #[tactic(auto, unfolding(instruction_parts::specs::Front::lead_front))]
+#[inline(always)]
 fn lead_front(bits: Bits, prefixes: &[u8], bytes: &[u8]) -> Result<PrefixState, PrefixError>
     requires { length prefixes.now < 16 }
     ensures { result ≡ answer_of (front.lead_front bits prefixes.now bytes.now) }
@@ -281,6 +287,7 @@ fn lead_front(bits: Bits, prefixes: &[u8], bytes: &[u8]) -> Result<PrefixState, 
 }
 
 /// The front of bytes of any length, given the length of their run of prefixes.
+#[inline(always)]
 fn long_front(bits: Bits, bytes: &[u8], n: usize) -> Result<PrefixState, PrefixError>
     requires run { n ≡ length (front.prefix_run bits bytes.now) }
     requires few { n < 15 }
@@ -292,6 +299,7 @@ fn long_front(bits: Bits, bytes: &[u8], n: usize) -> Result<PrefixState, PrefixE
 }
 
 /// A front is forbidden once 15 bytes were read without an opcode byte.
+#[inline(always)]
 fn bounded(
     given: usize,
     answer: Result<PrefixState, PrefixError>,
@@ -318,7 +326,7 @@ fn bounded(
 }
 
 /// The front of the bytes in a mode that is a value, as [`read_prefixes`] answers it.
-#[inline]
+#[inline(always)]
 pub fn read_front(bits: Bits, bytes: &[u8]) -> Result<PrefixState, PrefixError>
     ensures { result ≡ answer_of (front.front_of bits bytes.now) }
 {

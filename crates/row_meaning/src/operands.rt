@@ -520,6 +520,14 @@ fn is_memory_kind(kind: OpKind, m: Option<ModRm>) -> bool
 {
     match kind {
         OpKind::Absent => false,
+        OpKind::Eb
+        | OpKind::Ew
+        | OpKind::Ed
+        | OpKind::Eq
+        | OpKind::Ev
+        | OpKind::Ez
+        | OpKind::Ey => mode_is_memory(m),
+        OpKind::Gb | OpKind::Gw | OpKind::Gd | OpKind::Gv | OpKind::Gy => false,
         _ => is_memory_method(method_of_kind(kind), m),
     }
 }
@@ -545,6 +553,7 @@ fn kept_address_size(bits: Bits, row: &Row, state: &PrefixState, m: Option<ModRm
 }
 
 /// What a state, a tail and its immediates mean.
+#[inline(always)]
 #[tactic(auto, unfolding(crate::specs::Meaning::instr_of))]
 pub fn instr_of(
     bits: Bits,
