@@ -22,7 +22,8 @@ use prefixes::mode_of;
 use row_types::Row;
 use thiserror::Error;
 pub use write::{write_operands, write_tail};
-use x86_values::{Bits, Code, Decoded, Instr, Operand, Rep};
+use row_meaning::operands;
+use x86_values::{Bits, Code, Decoded};
 
 /// Why no tail of a row is read from some bytes.
 #[derive(Clone, Copy, PartialEq, Eq, Debug, Error)]
@@ -66,14 +67,7 @@ pub fn read_row(
 
 /// What stands in the place of an instruction before it is read.
 pub const UNREAD: Decoded = Decoded {
-    instr: Instr {
-        code: Code(0),
-        lock: false,
-        rep: Rep::None,
-        seg: None,
-        asize: None,
-        ops: [Operand::Absent; 4],
-    },
+    instr: operands::UNREAD,
     len: 0,
 };
 

@@ -14,7 +14,7 @@ use crate::parts::{displacement_len, modrm_of_byte, parts_fit, sib_of_byte, take
 use instruction_parts::sizes::state_size;
 use instruction_parts::{ModRm, PrefixState, Sib};
 use row_fit::tail_fits::immediates_bytes;
-use row_meaning::operands::instr_of;
+use row_meaning::operands::{Behind, instr_into};
 use row_types::{ModRmRule, Row};
 use x86_values::{Bits, Code, Decoded, wrap};
 
@@ -90,10 +90,15 @@ fn read_rest(
     let (imm, _) = rest.split_at(imm_len as usize);
     let len = used + (disp_len + imm_len);
     let next = wrap(bits, ip as u128 + len as u128);
-    *place = Decoded {
-        instr: instr_of(bits, code, row, state, m, sib, disp, next, imm),
-        len,
+    let behind = Behind {
+        modrm: m,
+        sib,
+        disp,
+        imm,
+        next,
     };
+    instr_into(bits, code, row, state, &behind, &mut place.instr);
+    place.len = len;
     Ok(())
 }
 
