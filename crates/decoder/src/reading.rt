@@ -16,7 +16,7 @@ use crate::cell::{cell_of, scan_into};
 use crate::found::read_found;
 use instruction_parts::PrefixState;
 use modrm_sib::UNREAD;
-use prefixes::{PrefixError, mode_of, read_front};
+use prefixes::{PrefixError, NO_FRONT, mode_of, read_front_into};
 use std::marker::Brand;
 use std::sync::ledger::{Blank, Ledger};
 use step_count::Steps;
@@ -136,10 +136,11 @@ fn decode_into<const BITS: u32, L: Ledger>(
     ensures most { steps.new ≤ steps.old + most_steps (front_of (mode_of BITS) bytes.now) }
 {
     let bits = mode_of::<BITS>();
-    match read_front(bits, bytes) {
+    let mut state = NO_FRONT;
+    match read_front_into(bits, bytes, &mut state) {
         Err(PrefixError::Ended) => Err(DecodeError::TooShort),
         Err(PrefixError::Forbidden) => Err(DecodeError::Invalid),
-        Ok(state) => read_known::<BITS, L>(wrap(bits, u128::from(ip)), &state, bytes, place, steps),
+        Ok(()) => read_known::<BITS, L>(wrap(bits, u128::from(ip)), &state, bytes, place, steps),
     }
 }
 

@@ -330,6 +330,7 @@ pub fn is_nop_byte(row: &Row, opcode: u8) -> bool
 }
 
 /// The conditions on registers.
+#[inline(always)]
 #[tactic(auto, unfolding(crate::specs::Fits::registers_fit))]
 pub fn registers_fit(
     bits: Bits,

@@ -168,6 +168,7 @@ fn memory_of(
 }
 
 /// The operand that is memory by ModRM.
+#[inline(always)]
 #[tactic(auto, unfolding(crate::specs::Meaning::memory_operand, row_fit::specs::Fits::modrm_in_range))]
 fn memory_operand(
     bits: Bits,
