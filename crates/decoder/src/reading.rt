@@ -16,7 +16,7 @@ use crate::cell::{cell_of, scan_into};
 use crate::found::read_found;
 use instruction_parts::PrefixState;
 use modrm_sib::UNREAD;
-use prefixes::{PrefixError, NO_FRONT, mode_of, read_front_into};
+use prefixes::{NO_FRONT, PrefixError, mode_of, read_front_into};
 use std::marker::Brand;
 use std::sync::ledger::{Blank, Ledger};
 use step_count::Steps;
@@ -165,6 +165,14 @@ fn read_known<const BITS: u32, L: Ledger>(
 {
     match read_found::<BITS, L>(ip, state, bytes, place, steps) {
         Some(()) => Ok(()),
-        None => scan_into(mode_of::<BITS>(), ip, state, bytes, cell_of(state), place, steps),
+        None => scan_into(
+            mode_of::<BITS>(),
+            ip,
+            state,
+            bytes,
+            cell_of(state),
+            place,
+            steps,
+        ),
     }
 }

@@ -19,10 +19,10 @@ mod write;
 use instruction_parts::PrefixState;
 pub use parts::{modrm_of_byte, sib_of_byte};
 use prefixes::mode_of;
+use row_meaning::operands;
 use row_types::Row;
 use thiserror::Error;
 pub use write::{write_operands, write_tail};
-use row_meaning::operands;
 use x86_values::{Bits, Code, Decoded};
 
 /// Why no tail of a row is read from some bytes.

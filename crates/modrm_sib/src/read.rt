@@ -114,8 +114,8 @@ fn has_modrm(row: &Row) -> bool
 }
 
 /// What stands behind the opcode byte: ModRM, the SIB where it takes one, and the rest.
-#[tactic(auto, unfolding(crate::specs::Answer::tail_answer, crate::specs::Answer::modrm_answer, crate::specs::Answer::behind_modrm_answer, crate::specs::Answer::sib_answer))]
 #[inline(always)]
+#[tactic(auto, unfolding(crate::specs::Answer::tail_answer, crate::specs::Answer::modrm_answer, crate::specs::Answer::behind_modrm_answer, crate::specs::Answer::sib_answer))]
 pub(crate) fn read_tail(
     bits: Bits,
     ip: u64,
@@ -145,7 +145,18 @@ pub(crate) fn read_tail(
                 None => at_end(some_sib_fits(bits, row, state, m)),
                 Some((b, rest)) => {
                     let sib = Some(sib_of_byte(*b));
-                    read_rest(bits, ip, state, code, row, Some(m), sib, used + 1, rest, place)
+                    read_rest(
+                        bits,
+                        ip,
+                        state,
+                        code,
+                        row,
+                        Some(m),
+                        sib,
+                        used + 1,
+                        rest,
+                        place,
+                    )
                 }
             }
         }

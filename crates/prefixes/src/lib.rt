@@ -116,8 +116,8 @@ fn long_vex(map: Map, b: u8, c: u8) -> Vex
 }
 
 /// Behind the prefixes and the bytes of a lead: the opcode byte, or the end.
-#[tactic(auto, unfolding(instruction_parts::specs::Front::opcode_front))]
 #[inline(always)]
+#[tactic(auto, unfolding(instruction_parts::specs::Front::opcode_front))]
 fn opcode_front(
     bits: Bits,
     prefixes: &[u8],
@@ -149,13 +149,26 @@ fn opcode_front(
 
 /// Behind the prefixes and C5.
 #[tactic(auto, unfolding(instruction_parts::specs::Front::short_vex_front))]
-fn short_vex_front(bits: Bits, prefixes: &[u8], bytes: &[u8], place: &mut PrefixState) -> Result<(), PrefixError>
+fn short_vex_front(
+    bits: Bits,
+    prefixes: &[u8],
+    bytes: &[u8],
+    place: &mut PrefixState,
+) -> Result<(), PrefixError>
     requires { length prefixes.now < 16 }
     ensures { answer_in result place.new ≡ answer_of (front.short_vex_front bits prefixes.now bytes.now) }
 {
     match bytes.split_first() {
         None => Err(PrefixError::Ended),
-        Some((b, rest)) => opcode_front(bits, prefixes, 2, Some(short_vex(*b)), Map::M0f, rest, place),
+        Some((b, rest)) => opcode_front(
+            bits,
+            prefixes,
+            2,
+            Some(short_vex(*b)),
+            Map::M0f,
+            rest,
+            place,
+        ),
     }
 }
 
@@ -177,7 +190,15 @@ fn third_byte_front(
         Some(map) => match bytes.split_first() {
             None => Err(PrefixError::Ended),
             Some((c, rest)) => {
-                opcode_front(bits, prefixes, 3, Some(long_vex(map, b, *c)), map, rest, place)
+                opcode_front(
+                    bits,
+                    prefixes,
+                    3,
+                    Some(long_vex(map, b, *c)),
+                    map,
+                    rest,
+                    place,
+                )
             }
         },
     }
@@ -185,7 +206,12 @@ fn third_byte_front(
 
 /// Behind the prefixes and C4.
 #[tactic(auto, unfolding(instruction_parts::specs::Front::long_vex_front))]
-fn long_vex_front(bits: Bits, prefixes: &[u8], bytes: &[u8], place: &mut PrefixState) -> Result<(), PrefixError>
+fn long_vex_front(
+    bits: Bits,
+    prefixes: &[u8],
+    bytes: &[u8],
+    place: &mut PrefixState,
+) -> Result<(), PrefixError>
     requires { length prefixes.now < 16 }
     ensures { answer_in result place.new ≡ answer_of (front.long_vex_front bits prefixes.now bytes.now) }
 {
@@ -217,9 +243,14 @@ fn vex_front(
 }
 
 /// Behind the prefixes and 0F.
-#[tactic(auto, unfolding(instruction_parts::specs::Front::escape_front))]
 #[inline(always)]
-fn escape_front(bits: Bits, prefixes: &[u8], bytes: &[u8], place: &mut PrefixState) -> Result<(), PrefixError>
+#[tactic(auto, unfolding(instruction_parts::specs::Front::escape_front))]
+fn escape_front(
+    bits: Bits,
+    prefixes: &[u8],
+    bytes: &[u8],
+    place: &mut PrefixState,
+) -> Result<(), PrefixError>
     requires { length prefixes.now < 16 }
     ensures { answer_in result place.new ≡ answer_of (front.escape_front bits prefixes.now bytes.now) }
 {
@@ -240,8 +271,8 @@ fn escape_front(bits: Bits, prefixes: &[u8], bytes: &[u8], place: &mut PrefixSta
 }
 
 /// Behind the prefixes, at C4 or C5.
-#[tactic(auto, unfolding(instruction_parts::specs::Front::vex_or_opcode_front))]
 #[inline(never)]
+#[tactic(auto, unfolding(instruction_parts::specs::Front::vex_or_opcode_front))]
 fn vex_or_opcode_front(
     bits: Bits,
     prefixes: &[u8],
@@ -270,9 +301,14 @@ fn vex_or_opcode_front(
 }
 
 /// Behind the prefixes.
-#[tactic(auto, unfolding(instruction_parts::specs::Front::lead_front))]
 #[inline(always)]
-fn lead_front(bits: Bits, prefixes: &[u8], bytes: &[u8], place: &mut PrefixState) -> Result<(), PrefixError>
+#[tactic(auto, unfolding(instruction_parts::specs::Front::lead_front))]
+fn lead_front(
+    bits: Bits,
+    prefixes: &[u8],
+    bytes: &[u8],
+    place: &mut PrefixState,
+) -> Result<(), PrefixError>
     requires { length prefixes.now < 16 }
     ensures { answer_in result place.new ≡ answer_of (front.lead_front bits prefixes.now bytes.now) }
 {
@@ -294,7 +330,12 @@ fn lead_front(bits: Bits, prefixes: &[u8], bytes: &[u8], place: &mut PrefixState
 
 /// The front of bytes of any length, given the length of their run of prefixes.
 #[inline(always)]
-fn long_front(bits: Bits, bytes: &[u8], n: usize, place: &mut PrefixState) -> Result<(), PrefixError>
+fn long_front(
+    bits: Bits,
+    bytes: &[u8],
+    n: usize,
+    place: &mut PrefixState,
+) -> Result<(), PrefixError>
     requires run { n ≡ length (front.prefix_run bits bytes.now) }
     requires few { n < 15 }
     requires within { n ≤ length bytes.now }
@@ -357,11 +398,7 @@ pub fn read_front(bits: Bits, bytes: &[u8]) -> Result<PrefixState, PrefixError>
 
 /// The same, where the front is written to a place: as a value it is copied at each call that it comes through.
 #[inline(always)]
-pub fn read_front_into(
-    bits: Bits,
-    bytes: &[u8],
-    place: &mut PrefixState,
-) -> Result<(), PrefixError>
+pub fn read_front_into(bits: Bits, bytes: &[u8], place: &mut PrefixState) -> Result<(), PrefixError>
     ensures { answer_in result place.new ≡ answer_of (front.front_of bits bytes.now) }
 {
     let n = bounded_run_len(bits, bytes);

@@ -145,6 +145,7 @@ fn memory_flat(
 }
 
 /// An address of any size.
+#[inline(always)]
 #[tactic(auto, unfolding(crate::specs::Meaning::memory_of))]
 fn memory_of(
     bits: Bits,
@@ -566,13 +567,8 @@ fn is_memory_kind(kind: OpKind, m: Option<ModRm>) -> bool
 {
     match kind {
         OpKind::Absent => false,
-        OpKind::Eb
-        | OpKind::Ew
-        | OpKind::Ed
-        | OpKind::Eq
-        | OpKind::Ev
-        | OpKind::Ez
-        | OpKind::Ey => mode_is_memory(m),
+        OpKind::Eb | OpKind::Ew | OpKind::Ed | OpKind::Eq | OpKind::Ev | OpKind::Ez | OpKind::Ey =>
+            mode_is_memory(m),
         OpKind::Gb | OpKind::Gw | OpKind::Gd | OpKind::Gv | OpKind::Gy => false,
         _ => is_memory_method(method_of_kind(kind), m),
     }
