@@ -238,7 +238,6 @@ fn l_fits(l: LBit, v: Vex) -> bool
 }
 
 /// Operand size, W and L.
-#[inline(always)]
 #[tactic(auto, unfolding(crate::specs::Fits::sizes_fit))]
 pub fn sizes_fit(bits: Bits, row: &Row, state: &PrefixState) -> bool
     ensures { result ≡ spec.sizes_fit bits row.now state.now }
@@ -451,7 +450,6 @@ fn kinds_allow(row: &Row, m: ModRm) -> bool
 }
 
 /// The limit of the row, and of each of its kinds.
-#[inline(always)]
 #[tactic(auto, unfolding(crate::specs::Fits::place_fits))]
 fn place_fits(row: &Row, m: Option<ModRm>) -> bool
     ensures { result ≡ spec.place_fits row.now m }

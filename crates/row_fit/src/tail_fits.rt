@@ -266,7 +266,6 @@ fn register_fits(bits: Bits, state: &PrefixState, m: Option<ModRm>, kind: OpKind
 }
 
 /// The registers in ModRM.reg.
-#[inline(always)]
 fn all_registers_fit(bits: Bits, row: &Row, state: &PrefixState, m: Option<ModRm>) -> bool
     ensures { result ≡ list_all (spec.register_fits bits state.now m) row.now.ops }
 {
