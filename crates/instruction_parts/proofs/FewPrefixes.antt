@@ -1,10 +1,10 @@
 -- No prefix, and a REX as the only one.
-use Rattle.std.proofs.Common.{◌≡◌, ℕ, ◌/◌, Bool, true, false, ◌==◌, ◌||◌, List, [], ◌∷◌, length, Option, Some, None, refl, arith}
+use Rattle.std.proofs.Common.{◌≡◌, ℕ, ◌/◌, true, false, ◌==◌, List, [], ◌∷◌, length, Option, Some, None, refl, arith}
 use Rattle.x86_values.specs.declared.Bits.{Bits}
 use Rattle.x86_values.specs.declared.Bits.TheVariants.{B16, B32, B64}
 use Rattle.row_types.specs.declared.Map.{Map}
 use Rattle.instruction_parts.specs.declared.spelling.Vex.{Vex}
-use Rattle.instruction_parts.specs.Counting.{is_64, is_rex, is_repeat, is_segment, is_fs_or_gs, has_lock, has_66, has_67, counting_repeat, counting_segment, counting_rex}
+use Rattle.instruction_parts.specs.Counting.{is_64, is_rex, is_segment, has_lock, has_66, has_67, counting_repeat, counting_segment, counting_rex}
 use Rattle.instruction_parts.specs.Bytes.{state_from, state_of_rex}
 
 -- no prefix says nothing

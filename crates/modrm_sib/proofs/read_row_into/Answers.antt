@@ -1,5 +1,4 @@
 use Rattle.std.proofs.Common.{◌<◌, ◌≤◌, ap, arith, length, Result}
-use Rattle.x86_values.specs.declared.Decoded.{Decoded}
 use Rattle.modrm_sib.specs.declared.TailError.{TailError}
 use Rattle.modrm_sib.specs.Answer.{answer_in}
 use Rattle.row_fit.proofs.FrontGrows.{known-used}

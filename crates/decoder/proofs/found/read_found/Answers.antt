@@ -1,7 +1,6 @@
 use Rattle.std.proofs.Common.{◌≡◌, ◌+◌, ap, ◌∙◌, subst, arith, slice_get, Result, Err}
 use Rattle.std.proofs.lemmas.Option.{slice_get_within}
 use Rattle.x86_values.specs.declared.Bits.{Bits}
-use Rattle.x86_values.specs.declared.Decoded.{Decoded}
 use Rattle.prefixes.specs.Answer.{mode_of}
 use Rattle.modrm_sib.specs.declared.TailError.{TailError}
 use Rattle.modrm_sib.specs.declared.TailError.TheVariants.{Ended, Forbidden}

@@ -1,4 +1,4 @@
-use Rattle.std.proofs.Common.{◌≡◌, ◌∙◌, sym}
+use Rattle.std.proofs.Common.{◌∙◌, sym}
 use Rattle.instruction_parts.proofs.FewPrefixes.{nothing, rex_with_nothing}
 use Rattle.instruction_parts.proofs.bytes.state_from.Goals as goal
 
