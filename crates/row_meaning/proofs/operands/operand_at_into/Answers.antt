@@ -7,7 +7,7 @@ use Rattle.instruction_parts.specs.declared.spelling.PrefixState.{PrefixState}
 use Rattle.instruction_parts.specs.Kinds.{method_of}
 use Rattle.row_fit.specs.Fits.{kind_at}
 use Rattle.row_meaning.specs.Meaning.{Tail, operand_by, operand_at}
-use Rattle.row_meaning.proofs.operands.operand_at.Goals as goal
+use Rattle.row_meaning.proofs.operands.operand_at_into.Goals as goal
 
 -- an operand of the kind absent is absent
 absent_operand : (bits : Bits) (row : Row) (state : PrefixState) (t : Tail) (imm : List ℕ) (n : ℕ) → kind_at row n ≡ AbsentKind → operand_at bits row state t imm n ≡ AbsentOperand
@@ -16,4 +16,4 @@ absent_operand bits row state t imm n h = rw h refl
 
 pub returns-in-Absent : goal.returns-in-Absent
 returns-in-Absent c =
-    sym (absent_operand c.args.bits c.args.row.now c.args.state.now _ c.args.imm.now c.args.n (sym c.kind_at-kind.ensures ∙ c.in-Absent.is))
+    sym (absent_operand c.args.bits c.args.row.now c.args.state.now _ c.args.behind.now.imm.now c.args.n (sym c.kind_at-kind.ensures ∙ c.in-Absent.is))

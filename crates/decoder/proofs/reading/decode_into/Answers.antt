@@ -5,12 +5,13 @@ use Rattle.instruction_parts.specs.Front.{Front, Open, Forbidden, Known, front_o
 use Rattle.prefixes.specs.declared.PrefixError.{PrefixError}
 use Rattle.prefixes.specs.declared.PrefixError.TheVariants.{Ended, Forbidden as ForbiddenError}
 use Rattle.prefixes.specs.Answer.{answer_of, mode_of}
+use Rattle.modrm_sib.specs.Answer.{answer_in}
 use Rattle.row_relation.specs.Spells.{IsReading}
 use Rattle.opcode_rows.specs.Table.{table}
 use Rattle.decoder.specs.Answer.{reading_of}
 use Rattle.decoder.proofs.OneReading.{only_reading}
 use Rattle.decoder.proofs.ReadingLaws.{open_is_short, forbidden_is_invalid}
-use Rattle.decoder.proofs.reading.decode_counted.Goals as goal
+use Rattle.decoder.proofs.reading.decode_into.Goals as goal
 
 ended_is_open : (f : Front) (e : PrefixError) → e ≡ Ended → Err e ≡ answer_of f → f ≡ Open
 ended_is_open Open e is h = refl
@@ -40,7 +41,7 @@ pub returns-in-Ok-clause-alone : goal.returns-in-Ok-clause-alone
 returns-in-Ok-clause-alone g c =
     let bits = mode_of g.row.BITS in
     let bytes = c.args.bytes.now in
-    let answer = c.read_known.result in
+    let answer = answer_in c.read_known.result c.read_known.new.place in
     let address : c.wrap.result ≡ wrapped bits c.args.ip =
     c.wrap.ensures ∙ ap (λ (b : Bits). wrapped b c.from.result) c.mode_of-bits.ensures ∙ ap (wrapped bits) c.from.ensures in
     only_reading bits c.args.ip bytes answer
