@@ -1,5 +1,5 @@
 #!/usr/bin/env bash
-# Measures how fast a file of code is read, here and by other libraries: bench/README.md.
+# Measures how fast a file of code is read, here and by other libraries: bench/README.md. It builds, runs and prints.
 #
 #     bench/decode.sh FILE [BITS]
 set -euo pipefail
@@ -13,45 +13,16 @@ bits=${2:-64}
 rounds=${ROUNDS:-2}
 top=$(realpath "$(dirname "$0")/..")
 folder=${BENCH_FOLDER:-${TMPDIR:-/tmp}/feddurzai-bench}
-mkdir -p "$folder/crates" "$folder/peers"
+program=$top/crates/decode_speed
+mkdir -p "$folder/peers"
 
-# Prints what the crates on a line of crates.txt stand on, and those crates themselves.
-below() {
-    local name
-    for name in "$@"; do
-        sed -n "s/^$name://p" "$top/crates.txt" | tr ' ' '\n'
-        echo "$name"
-    done | grep . | sort -u | tr '\n' ' '
-}
-
-# A copy of the repository's crates with the program of the measurement beside them. What was proved before, there or here, is kept.
+# Builds the crate of the measurement by each of the two compilers.
 build() {
-    local needed crate
-    needed=$(below decoder encoder intel_text)
-    for crate in $needed decode_speed; do
-        local from=$top/crates/$crate to=$folder/crates/$crate
-        [ "$crate" = decode_speed ] || [ -d "$from" ] || continue
-        mkdir -p "$to"
-        find "$to" -mindepth 1 -maxdepth 1 ! -name out -exec rm -rf {} +
-        if [ "$crate" = decode_speed ]; then
-            mkdir "$to/src"
-            cp "$top/bench/decode_speed/main.rt.txt" "$to/src/main.rt"
-            continue
-        fi
-        find "$from" -mindepth 1 -maxdepth 1 ! -name out -exec cp -r {} "$to/" \;
-        if [ -f "$from/out/rlib/stamp" ] && ! [ -f "$to/out/rlib/stamp" ]; then
-            mkdir -p "$to/out"
-            cp -r "$from/out/rlib" "$to/out/"
-        fi
+    local compiler
+    for compiler in llvm rattle; do
+        (cd "$program" && rt run --backend "$compiler" -- count "$bits" <stdin)
+        cp "$program/out/decode_speed" "$folder/by_$compiler"
     done
-    cp "$top/HANDLES" "$folder/"
-    {
-        for crate in $needed; do
-            grep "^$crate:" "$top/crates.txt" || true
-        done
-        echo "decode_speed: $needed"
-    } >"$folder/crates.txt"
-    (cd "$folder/crates/decode_speed" && rt run -- read "$bits" 1 </dev/null)
 }
 
 # Builds a peer, or says that its library is not there: NAME SOURCE FLAG..
@@ -62,12 +33,10 @@ peer() {
     cc -O2 -o "$folder/peers/$name" "$top/bench/peers/$source" "$@" 2>"$folder/peers/$name.log" || echo "$name: not built, its library is not there" >&2
 }
 
-# Runs one measurement over a file: NAME FILE PASSES. With COUNTER set, under that command.
+# Runs one measurement over a file: NAME FILE PASSES. A name of ours is COMPILER_WORK. With COUNTER set, under that command.
 run() {
     case $1 in
-    feddurzai) ${COUNTER:-} "$folder/crates/decode_speed/out/decode_speed" read "$bits" "$3" <"$2" ;;
-    feddurzai_encode) ${COUNTER:-} "$folder/crates/decode_speed/out/decode_speed" encode "$bits" "$3" <"$2" ;;
-    feddurzai_text) ${COUNTER:-} "$folder/crates/decode_speed/out/decode_speed" print "$bits" "$3" <"$2" ;;
+    llvm_* | rattle_*) ${COUNTER:-} "$folder/by_${1%_*}" "${1#*_}" "$bits" "$3" <"$2" | sed "s/^feddurzai/feddurzai by ${1%_*}/" ;;
     *) [ ! -x "$folder/peers/$1" ] || ${COUNTER:-} "$folder/peers/$1" "$2" "$bits" "$3" ;;
     esac
 }
@@ -77,7 +46,7 @@ with_rates() {
     awk '{
         match($0, /: [0-9]+ bytes/); name = substr($0, 1, RSTART - 1); $0 = substr($0, RSTART + 2)
         passes = $9 > 0 ? $9 : 1; micros = $11 > 0 ? $11 : 1
-        printf "%-22s %9d bytes %8d items %6d errors %3d passes %7.3f s %8.2f MB/s %8.1f ns/item\n",
+        printf "%-32s %9d bytes %8d items %6d errors %3d passes %7.3f s %8.2f MB/s %8.1f ns/item\n",
             name, $1, $3, $5, passes, micros / 1e6, $1 * passes / micros, micros * 1000 / (($3 + $5) * passes)
     }'
 }
@@ -99,7 +68,7 @@ peer zydis_operands zydis.c -lZydis
 peer zydis_plain zydis.c -DNO_OPERANDS -lZydis
 peer distorm distorm.c -ldistorm3
 peer llvm llvm.c $(llvm-config-14 --cflags --ldflags 2>/dev/null || true) -lLLVM-14
-names="feddurzai feddurzai_text feddurzai_encode zydis_operands zydis_plain distorm capstone_detail capstone_plain llvm"
+names="llvm_read llvm_print llvm_encode rattle_read rattle_print rattle_encode zydis_operands zydis_plain distorm capstone_detail capstone_plain llvm"
 
 for round in $(seq "$rounds"); do
     echo "round $round, processor time"
@@ -110,7 +79,7 @@ for round in $(seq "$rounds"); do
 done
 
 echo "each instruction encoded at its own address and read again"
-"$folder/crates/decode_speed/out/decode_speed" check "$bits" 1 <"$file"
+"$folder/by_llvm" check "$bits" 1 <"$file"
 
 if command -v valgrind >/dev/null; then
     echo "machine instructions of one pass over the first 500,000 bytes, by valgrind (two passes less one)"
@@ -122,6 +91,6 @@ if command -v valgrind >/dev/null; then
             seen+=("$(sed -n 's/.*I *refs: *//p' "$folder/count" | tr -d ,)")
         done
         [ -z "${seen[1]}" ] || sed 's/^[^:]*: //' "$folder/line" | awk -v name="$name" -v one="${seen[0]}" -v two="${seen[1]}" '{
-            printf "%-22s %12d instructions %8.1f a byte %8.1f an item\n", name, two - one, (two - one) / $1, (two - one) / ($3 + $5) }'
+            printf "%-32s %12d instructions %8.1f a byte %8.1f an item\n", name, two - one, (two - one) / $1, (two - one) / ($3 + $5) }'
     done
 fi

@@ -1,5 +1,5 @@
 -- A text in AT&T has at most 160 bytes.
-use Rattle.std.proofs.Common.{ℕ, ◌+◌, ◌*◌, ◌≤◌, List, ◌++◌, length, Option, length-append, arith, rules}
+use Rattle.std.proofs.Common.{◌≡◌, ℕ, ◌+◌, ◌*◌, ◌≤◌, List, ◌++◌, length, Option, ap, length-append, arith, rules}
 use Rattle.std.specs.Prelude.{if◌then◌else◌, IsTrue, codes}
 use Rattle.std.proofs.lemmas.Bool.{leb-true}
 use Rattle.x86_values.specs.declared.Bits.{Bits}
@@ -158,3 +158,17 @@ text_of-le bits row name instr short one =
     (att_part-le bits row name instr 3) (att_part-le bits row name instr 2)
     (att_part-le bits row name instr 1) (att_part-le bits row name instr 0)
     (leb-true _ 1 one)
+
+-- ---- behind what is there
+
+-- where 160 more bytes fit, the text fits
+pub text_fits : (bits : Bits) (row : Row) (name : List ℕ) (instr : Instr) (held capacity : ℕ) → length name ≤ 20 → IsTrue (has_one_long instr) → held + 160 ≤ capacity → held + length (text_of bits row name instr) ≤ capacity
+text_fits bits row name instr held capacity short one room =
+    omega (arith, room, text_of-le bits row name instr short one)
+
+-- the text takes 160 bytes at most
+pub text_len : (bits : Bits) (row : Row) (name : List ℕ) (instr : Instr) (old new : List ℕ) → new ≡ old ++ text_of bits row name instr → length name ≤ 20 → IsTrue (has_one_long instr) → length new ≤ length old + 160
+text_len bits row name instr old new e short one =
+    omega (arith, ap length e, length-append old (text_of bits row name instr), text_of-le bits row name instr short one)
+
+pub ruleset text_bounds = (text_fits, text_len)

@@ -5,7 +5,8 @@ pub mod laws;
 mod names;
 mod operands;
 
-ghost use Rattle.std.specs.Prelude.{◌≡◌, ◌≤◌, length, IsTrue};
+ghost use Rattle.std.specs.Prelude.{◌≡◌, ◌≤◌, ◌+◌, ◌++◌, length, IsTrue};
+ghost use Rattle.arrayvec.specs.ArrayVec.{array_vec_len};
 ghost use Rattle.row_fit.specs.Sound.{sound};
 ghost use Rattle.opcode_rows.specs.Allowed.{is_well_formed};
 ghost use Rattle.text_parts.specs.Layout.{has_one_long};
@@ -19,34 +20,59 @@ use text_parts::prefix_words::append_prefix_words;
 use text_rows::{printed_name, printed_row};
 use x86_values::{Bits, Instr};
 
-/// The same where the text is known to be short.
+/// Appends the text of an instruction of a row with this name, in a mode, where there is room for it.
 #[tactic(auto, unfolding(crate::specs::Text::text_of))]
-fn print_short(bits: Bits, row: &Row, name: &[u8], instr: &Instr) -> ArrayVec<u8, 160>
+fn append_short<const N: usize>(
+    out: &mut ArrayVec<u8, N>,
+    bits: Bits,
+    row: &Row,
+    name: &[u8],
+    instr: &Instr,
+)
     requires sound { IsTrue (sound row.now) }
-    requires short { length (spec.text_of bits row.now name.now instr.now) ≤ 160 }
-    ensures { result.items ≡ spec.text_of bits row.now name.now instr.now }
+    requires room { array_vec_len out.old + length (spec.text_of bits row.now name.now instr.now) ≤ N }
+    ensures { out.new.items ≡ out.old.items ++ spec.text_of bits row.now name.now instr.now }
 {
-    let mut out = ArrayVec::new();
-    append_prefix_words(&mut out, bits, row, name, instr);
-    append_name(&mut out, bits, row, name, instr);
-    append_part(&mut out, bits, row, name, instr, 3);
-    append_part(&mut out, bits, row, name, instr, 2);
-    append_part(&mut out, bits, row, name, instr, 1);
-    append_part(&mut out, bits, row, name, instr, 0);
-    out
+    append_prefix_words(out, bits, row, name, instr);
+    append_name(out, bits, row, name, instr);
+    append_part(out, bits, row, name, instr, 3);
+    append_part(out, bits, row, name, instr, 2);
+    append_part(out, bits, row, name, instr, 1);
+    append_part(out, bits, row, name, instr, 0);
 }
 
-/// The text of an instruction of a row with this name, in a mode.
+/// Appends the text of an instruction of a row with this name, in a mode.
 ///
 /// At most one operand is memory or a far pointer, and the name has at most 20 bytes: then the
 /// text has at most 160.
-fn print_row(bits: Bits, row: &Row, name: &[u8], instr: &Instr) -> ArrayVec<u8, 160>
+#[inline]
+#[tactic(auto, using(crate::proofs::Bounds::text_bounds))]
+fn append_row<const N: usize>(
+    out: &mut ArrayVec<u8, N>,
+    bits: Bits,
+    row: &Row,
+    name: &[u8],
+    instr: &Instr,
+)
     requires sound { IsTrue (sound row.now) }
     requires name { length name.now ≤ 20 }
     requires operands { IsTrue (has_one_long instr.now) }
-    ensures { result.items ≡ spec.text_of bits row.now name.now instr.now }
+    requires room { array_vec_len out.old + 160 ≤ N }
+    ensures items { out.new.items ≡ out.old.items ++ spec.text_of bits row.now name.now instr.now }
+    ensures len { array_vec_len out.new ≤ array_vec_len out.old + 160 }
 {
-    print_short(bits, row, name, instr)
+    append_short(out, bits, row, name, instr);
+}
+
+/// Appends the text of a well-formed instruction in the AT&T style, in a mode: ASCII, at most 160 bytes, for which there is
+/// room.
+pub fn print_to<const N: usize>(out: &mut ArrayVec<u8, N>, bits: Bits, instr: &Instr)
+    requires well { IsTrue (is_well_formed instr.now) }
+    requires room { array_vec_len out.old + 160 ≤ N }
+    ensures items { out.new.items ≡ out.old.items ++ spec.text bits instr.now }
+    ensures len { array_vec_len out.new ≤ array_vec_len out.old + 160 }
+{
+    append_row(out, bits, &printed_row(instr), printed_name(instr), instr);
 }
 
 /// The text of a well-formed instruction in the AT&T style, in a mode: ASCII, at most 160 bytes.
@@ -54,5 +80,7 @@ pub fn print(bits: Bits, instr: &Instr) -> ArrayVec<u8, 160>
     requires { IsTrue (is_well_formed instr.now) }
     ensures { result.items ≡ spec.text bits instr.now }
 {
-    print_row(bits, &printed_row(instr), printed_name(instr), instr)
+    let mut text = ArrayVec::new();
+    print_to(&mut text, bits, instr);
+    text
 }

@@ -6,12 +6,13 @@ ghost use Rattle.arrayvec.specs.ArrayVec.{array_vec_len};
 ghost use Rattle.row_fit.specs.Sound.{sound};
 ghost use Rattle.att_text.specs.Names as spec;
 
+use arrayvec::ArrayVec;
 use instruction_parts::kinds::{File, file_of_kind};
 use instruction_parts::sizes::is_vex_row;
 use row_meaning::row_memory_size;
 use row_types::{Map, OpKind, Row, Size};
 use text_parts::prefix_words::{has_memory, name_text};
-use text_parts::text::{Text, append};
+use text_parts::text::{append, append_literal};
 use x86_values::{Bits, Instr};
 
 /// Whether a row is one of the x87 unit.
@@ -175,32 +176,38 @@ fn is_sign_extension(name: &[u8]) -> bool
 
 /// Appends the letters of an extension.
 #[tactic(auto, unfolding(crate::specs::Names::extension_letters))]
-fn append_extension_letters(out: &mut Text, row: &Row)
+fn append_extension_letters<const N: usize>(out: &mut ArrayVec<u8, N>, row: &Row)
     requires sound { IsTrue (sound row.now) }
-    requires room { array_vec_len out.old + length (spec.extension_letters row.now) ≤ 160 }
+    requires room { array_vec_len out.old + length (spec.extension_letters row.now) ≤ N }
     ensures { out.new.items ≡ out.old.items ++ spec.extension_letters row.now }
 {
-    append(out, size_letter(row_memory_size(row)));
-    append(out, operand_letter(row.size));
+    append_literal(out, size_letter(row_memory_size(row)));
+    append_literal(out, operand_letter(row.size));
 }
 
 /// Appends the name of an instruction whose row has this name, with its letters.
 #[tactic(auto, unfolding(crate::specs::Names::att_name))]
-pub fn append_name(out: &mut Text, bits: Bits, row: &Row, name: &[u8], instr: &Instr)
+pub fn append_name<const N: usize>(
+    out: &mut ArrayVec<u8, N>,
+    bits: Bits,
+    row: &Row,
+    name: &[u8],
+    instr: &Instr,
+)
     requires sound { IsTrue (sound row.now) }
-    requires room { array_vec_len out.old + length (spec.att_name bits row.now name.now instr.now) ≤ 160 }
+    requires room { array_vec_len out.old + length (spec.att_name bits row.now name.now instr.now) ≤ N }
     ensures { out.new.items ≡ out.old.items ++ spec.att_name bits row.now name.now instr.now }
 {
     if is_zero_extension(name) {
-        append(out, b"movz");
+        append_literal(out, b"movz");
         append_extension_letters(out, row);
     } else if is_sign_extension(name) {
-        append(out, b"movs");
+        append_literal(out, b"movs");
         append_extension_letters(out, row);
     } else {
         append(out, name_text(bits, name, instr));
         if has_memory(instr) {
-            append(out, memory_letter(row, name));
+            append_literal(out, memory_letter(row, name));
         }
     }
 }

@@ -5,6 +5,7 @@ ghost use Rattle.arrayvec.specs.ArrayVec.{array_vec_len};
 ghost use Rattle.att_text.specs.Operands as spec;
 
 use crate::names::is_word;
+use arrayvec::ArrayVec;
 use row_fit::tail_fits::kind_at;
 use row_types::{OpKind, Row};
 use text_parts::addresses::{
@@ -16,19 +17,19 @@ use text_parts::numbers::append_number;
 use text_parts::prefix_words::text_address_size;
 use text_parts::registers::{append_override, append_register};
 use text_parts::style::Style;
-use text_parts::text::{Text, append};
+use text_parts::text::append_literal;
 use x86_values::{Bits, Instr, Mem, Operand, Segment};
 
 /// Appends an index with its scale, if there is one.
 #[tactic(auto, unfolding(crate::specs::Operands::att_index))]
-fn append_index(out: &mut Text, asize: Bits, m: &Mem)
-    requires { array_vec_len out.old + length (spec.att_index asize m.now) ≤ 160 }
+fn append_index<const N: usize>(out: &mut ArrayVec<u8, N>, asize: Bits, m: &Mem)
+    requires { array_vec_len out.old + length (spec.att_index asize m.now) ≤ N }
     ensures { out.new.items ≡ out.old.items ++ spec.att_index asize m.now }
 {
     match m.index {
         None => {}
         Some(r) => {
-            append(out, b",");
+            append_literal(out, b",");
             append_register(out, Style::Att, r);
             append_scale(out, b",", asize, m.scale);
         }
@@ -37,32 +38,32 @@ fn append_index(out: &mut Text, asize: Bits, m: &Mem)
 
 /// Appends base and index in parentheses.
 #[tactic(auto, unfolding(crate::specs::Operands::att_registers))]
-fn append_registers(out: &mut Text, asize: Bits, m: &Mem)
-    requires { array_vec_len out.old + length (spec.att_registers asize m.now) ≤ 160 }
+fn append_registers<const N: usize>(out: &mut ArrayVec<u8, N>, asize: Bits, m: &Mem)
+    requires { array_vec_len out.old + length (spec.att_registers asize m.now) ≤ N }
     ensures { out.new.items ≡ out.old.items ++ spec.att_registers asize m.now }
 {
-    append(out, b"(");
+    append_literal(out, b"(");
     append_base(out, Style::Att, m.base);
     append_index(out, asize, m);
-    append(out, b")");
+    append_literal(out, b")");
 }
 
 /// Appends a target in front of the instruction pointer.
 #[tactic(auto, unfolding(crate::specs::Operands::att_relative))]
-fn append_relative(out: &mut Text, m: &Mem)
-    requires { array_vec_len out.old + length (spec.att_relative m.now) ≤ 160 }
+fn append_relative<const N: usize>(out: &mut ArrayVec<u8, N>, m: &Mem)
+    requires { array_vec_len out.old + length (spec.att_relative m.now) ≤ N }
     ensures { out.new.items ≡ out.old.items ++ spec.att_relative m.now }
 {
     append_number(out, Style::Att, m.disp);
-    append(out, b"(");
+    append_literal(out, b"(");
     append_base(out, Style::Att, m.base);
-    append(out, b")");
+    append_literal(out, b")");
 }
 
 /// Appends an address.
 #[tactic(auto, unfolding(crate::specs::Operands::att_address))]
-fn append_address(out: &mut Text, asize: Bits, m: &Mem)
-    requires { array_vec_len out.old + length (spec.att_address asize m.now) ≤ 160 }
+fn append_address<const N: usize>(out: &mut ArrayVec<u8, N>, asize: Bits, m: &Mem)
+    requires { array_vec_len out.old + length (spec.att_address asize m.now) ≤ N }
     ensures { out.new.items ≡ out.old.items ++ spec.att_address asize m.now }
 {
     if is_instruction_pointer(m.base) {
@@ -77,8 +78,13 @@ fn append_address(out: &mut Text, asize: Bits, m: &Mem)
 
 /// Appends an address with its segment.
 #[tactic(auto, unfolding(crate::specs::Operands::att_memory))]
-fn append_memory(out: &mut Text, segment: Option<Segment>, asize: Bits, m: &Mem)
-    requires { array_vec_len out.old + length (spec.att_memory segment asize m.now) ≤ 160 }
+fn append_memory<const N: usize>(
+    out: &mut ArrayVec<u8, N>,
+    segment: Option<Segment>,
+    asize: Bits,
+    m: &Mem,
+)
+    requires { array_vec_len out.old + length (spec.att_memory segment asize m.now) ≤ N }
     ensures { out.new.items ≡ out.old.items ++ spec.att_memory segment asize m.now }
 {
     append_override(out, Style::Att, segment);
@@ -87,22 +93,22 @@ fn append_memory(out: &mut Text, segment: Option<Segment>, asize: Bits, m: &Mem)
 
 /// Appends an operand.
 #[tactic(auto, unfolding(crate::specs::Operands::att_operand))]
-fn append_operand(out: &mut Text, bits: Bits, instr: &Instr, op: Operand)
-    requires { array_vec_len out.old + length (spec.att_operand bits instr.now op) ≤ 160 }
+fn append_operand<const N: usize>(out: &mut ArrayVec<u8, N>, bits: Bits, instr: &Instr, op: Operand)
+    requires { array_vec_len out.old + length (spec.att_operand bits instr.now op) ≤ N }
     ensures { out.new.items ≡ out.old.items ++ spec.att_operand bits instr.now op }
 {
     match op {
         Operand::Absent => {}
         Operand::Reg(r) => append_register(out, Style::Att, r),
         Operand::Imm(x) => {
-            append(out, b"$");
+            append_literal(out, b"$");
             append_number(out, Style::Att, x);
         }
         Operand::Near(x) => append_number(out, Style::Att, x),
         Operand::Far { selector, offset } => {
-            append(out, b"$");
+            append_literal(out, b"$");
             append_number(out, Style::Att, selector as u64);
-            append(out, b", $");
+            append_literal(out, b", $");
             append_number(out, Style::Att, offset as u64);
         }
         Operand::Mem(m) => append_memory(out, instr.seg, text_address_size(bits, instr), &m),
@@ -159,13 +165,20 @@ fn is_last(instr: &Instr, n: usize) -> bool
 
 /// Appends operand `n` with what stands in front of it.
 #[tactic(auto, unfolding(crate::specs::Operands::att_part))]
-pub fn append_part(out: &mut Text, bits: Bits, row: &Row, name: &[u8], instr: &Instr, n: usize)
+pub fn append_part<const N: usize>(
+    out: &mut ArrayVec<u8, N>,
+    bits: Bits,
+    row: &Row,
+    name: &[u8],
+    instr: &Instr,
+    n: usize,
+)
     requires number { n < 4 }
-    requires room { array_vec_len out.old + length (spec.att_part bits row.now name.now instr.now n) ≤ 160 }
+    requires room { array_vec_len out.old + length (spec.att_part bits row.now name.now instr.now n) ≤ N }
     ensures { out.new.items ≡ out.old.items ++ spec.att_part bits row.now name.now instr.now n }
 {
     let op = nth_operand(instr, n);
-    append(out, separator(is_last(instr, n), op));
-    append(out, star(row, name, n));
+    append_literal(out, separator(is_last(instr, n), op));
+    append_literal(out, star(row, name, n));
     append_operand(out, bits, instr, op);
 }

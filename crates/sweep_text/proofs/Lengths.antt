@@ -1,8 +1,11 @@
 -- How long the parts of a line are.
-use Rattle.std.proofs.Common.{◌≡◌, ℕ, ◌≤◌, List, [], ◌∷◌, ◌++◌, length, append_assoc}
+use Rattle.std.proofs.Common.{◌≡◌, ℕ, ◌≤◌, ◌*◌, List, [], ◌∷◌, ◌++◌, length, drop, replicate, ap, ◌∙◌, append_assoc}
+use Rattle.std.proofs.lemmas.List.{drop-replicate}
+use Rattle.hex.specs.Hex.{encode_lower}
 use Rattle.text_parts.specs.declared.style.Style.{Style}
 use Rattle.text_parts.specs.Numbers.{number}
 use Rattle.text_parts.proofs.Bounds.{number-le}
+use Rattle.sweep_text.specs.Listing.{byte_column}
 
 -- the number of a byte is short
 pub number_fits : (style : Style) (n : ℕ) → length (number style n) ≤ 18
@@ -30,3 +33,10 @@ two_parts out address text =
       append_assoc (out ++ address) (32 ∷ []) (text ++ 10 ∷ []),
       append_assoc out address (32 ∷ (text ++ 10 ∷ [])),
     )
+
+-- digits written over the first of 30 spaces are the byte column
+pub column_is : (bytes digits : List ℕ) → digits ≡ encode_lower bytes → digits ++ drop (2 * length bytes) (replicate 30 32) ≡ byte_column bytes
+unfolding byte_column
+column_is bytes digits e =
+    ap (λ (xs : List ℕ). xs ++ drop (2 * length bytes) (replicate 30 32)) e
+    ∙ ap (λ (xs : List ℕ). encode_lower bytes ++ xs) (drop-replicate (2 * length bytes) 30 32)

@@ -8,7 +8,7 @@ ghost use Rattle.decoder.specs.Answer.{reading_of};
 ghost use Rattle.opcode_rows.specs.Sweep.{item_len};
 ghost use Rattle.sweep_text.specs.Listing as spec;
 
-use crate::syntax::{Syntax, instr_text, single_byte_text};
+use crate::syntax::{Syntax, append_instr_text, append_single_byte};
 use arrayvec::ArrayVec;
 use decoder::DecodeError;
 use x86_values::{Bits, Decoded, wrap};
@@ -25,8 +25,6 @@ pub type Chunk = ArrayVec<u8, 16384>;
 /// The places of the byte column: two for each of 15 bytes.
 const COLUMN_LEN: usize = 30;
 
-static SPACES: [u8; 30] = [b' '; 30];
-
 /// Appends bytes.
 #[inline]
 pub fn append<const N: usize>(out: &mut ArrayVec<u8, N>, bytes: &[u8])
@@ -41,6 +39,7 @@ pub fn append<const N: usize>(out: &mut ArrayVec<u8, N>, bytes: &[u8])
 }
 
 /// Appends the hexadecimal digits of some bytes.
+#[inline]
 pub(crate) fn append_bytes<const N: usize>(out: &mut ArrayVec<u8, N>, bytes: &[u8])
     requires few { length bytes.now ≤ 15 }
     requires room { array_vec_len out.old + 2 * length bytes.now ≤ N }
@@ -70,16 +69,6 @@ pub fn append_address(out: &mut Chunk, bits: Bits, base: u64, offset: usize)
     }
 }
 
-/// Appends spaces, of which there are at most 30.
-fn append_spaces(out: &mut Chunk, count: usize)
-    requires few { count ≤ 30 }
-    requires room { array_vec_len out.old + count ≤ 16384 }
-    ensures items { out.new.items ≡ out.old.items ++ replicate count 32 }
-    ensures len { array_vec_len out.new ≡ array_vec_len out.old + count }
-{
-    append(out, &SPACES[..count]);
-}
-
 /// Appends the byte column: the hexadecimal digits of some bytes, filled with spaces to 30 places.
 #[tactic(auto, unfolding(crate::specs::Listing::byte_column))]
 fn append_column(out: &mut Chunk, bytes: &[u8])
@@ -88,8 +77,11 @@ fn append_column(out: &mut Chunk, bytes: &[u8])
     ensures items { out.new.items ≡ out.old.items ++ spec.byte_column bytes.now }
     ensures len { array_vec_len out.new ≡ array_vec_len out.old + 30 }
 {
-    append_bytes(out, bytes);
-    append_spaces(out, COLUMN_LEN - 2 * bytes.len());
+    let mut places = [b' '; COLUMN_LEN];
+    match hex::encode_to_slice(bytes, &mut places[..2 * bytes.len()]) {
+        Ok(()) => append(out, &places),
+        Err(_) => unreachable!(),
+    }
 }
 
 /// Appends the text of what is read at the front of some bytes: an instruction, or the single first byte.
@@ -108,8 +100,8 @@ fn append_text(
     ensures len { array_vec_len out.new ≤ array_vec_len out.old + 160 }
 {
     match reading {
-        Ok(d) => append(out, &instr_text(syntax, bits, &d.instr)),
-        Err(_) => append(out, &single_byte_text(syntax, bytes[0])),
+        Ok(d) => append_instr_text(out, syntax, bits, &d.instr),
+        Err(_) => append_single_byte(out, syntax, bytes[0]),
     }
 }
 

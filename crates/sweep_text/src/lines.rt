@@ -4,6 +4,8 @@ ghost use Rattle.std.specs.Prelude.{◌≡◌, ◌<◌, ◌≤◌, ◌+◌, ◌+
 ghost use Rattle.arrayvec.specs.ArrayVec.{array_vec_len};
 ghost use Rattle.opcode_rows.specs.Allowed.{is_well_formed};
 ghost use Rattle.decoder.specs.Answer.{reading_of};
+ghost use Rattle.sweep_text.specs.Info.{info_text};
+ghost use Rattle.sweep_text.specs.Recode.{recode_text};
 ghost use Rattle.sweep_text.specs.Lines as spec;
 
 use crate::info::info_text;
@@ -11,7 +13,7 @@ use crate::line::{Chunk, append, append_address, append_item_line};
 use crate::recode::recode_text;
 use crate::syntax::Syntax;
 use decoder::DecodeError;
-use x86_values::{Bits, Decoded};
+use x86_values::{Bits, Decoded, Instr};
 
 /// What a command writes of the items of a sweep, a line each.
 #[derive(Clone, Copy, PartialEq, Eq, Debug)]
@@ -55,11 +57,42 @@ fn append_instr_line(out: &mut Chunk, bits: Bits, base: u64, offset: usize, told
     append(out, b"\n");
 }
 
+/// Appends the line of an instruction with what it does. It is not made part of its caller, which would set aside the places of
+/// its texts for each line of a listing too.
+#[inline(never)]
+#[tactic(auto, using(operand_info::proofs::Uses::code_in_table))]
+fn append_info_line(out: &mut Chunk, bits: Bits, base: u64, offset: usize, instr: &Instr)
+    requires well { IsTrue (is_well_formed instr.now) }
+    requires room { array_vec_len out.old + 209 ≤ 16384 }
+    ensures { out.new.items ≡ out.old.items ++ spec.instr_line bits base offset (info_text instr.now) }
+{
+    append_instr_line(out, bits, base, offset, &info_text(instr));
+}
+
+/// Appends the line of an instruction with its spelling in the mode `to`, as far behind the address `new_base`; apart from its
+/// caller like the other.
+#[inline(never)]
+fn append_recode_line(
+    out: &mut Chunk,
+    bits: Bits,
+    base: u64,
+    to: Bits,
+    new_base: u64,
+    offset: usize,
+    instr: &Instr,
+)
+    requires room { array_vec_len out.old + 209 ≤ 16384 }
+    ensures { out.new.items ≡ out.old.items
+        ++ spec.instr_line bits base offset (recode_text to (new_base + offset) instr.now) }
+{
+    let told = recode_text(to, new_base, offset, instr);
+    append_instr_line(out, bits, base, offset, &told);
+}
+
 /// Appends the line of an item, nothing where the command has none.
 ///
 /// `base` is the address of the first byte of the code, `offset` how far the item stands behind it, `bytes` the bytes
 /// of the item, and `reading` what is read at its front.
-#[tactic(auto, using(operand_info::proofs::Uses::code_in_table))]
 pub fn append_line(
     out: &mut Chunk,
     bits: Bits,
@@ -82,13 +115,12 @@ pub fn append_line(
         }
         Lines::Info => {
             if let Ok(d) = reading {
-                append_instr_line(out, bits, base, offset, &info_text(&d.instr));
+                append_info_line(out, bits, base, offset, &d.instr);
             }
         }
         Lines::Recode { to, new_base } => {
             if let Ok(d) = reading {
-                let told = recode_text(to, new_base, offset, &d.instr);
-                append_instr_line(out, bits, base, offset, &told);
+                append_recode_line(out, bits, base, to, new_base, offset, &d.instr);
             }
         }
     }

@@ -1,9 +1,11 @@
 //! The styles in which a listing is written, and the text of an instruction or of a single byte in each.
 
-ghost use Rattle.std.specs.Prelude.{◌≡◌, ◌≤◌, length, IsTrue};
+ghost use Rattle.std.specs.Prelude.{◌≡◌, ◌≤◌, ◌+◌, ◌++◌, length, IsTrue};
+ghost use Rattle.arrayvec.specs.ArrayVec.{array_vec_len};
 ghost use Rattle.opcode_rows.specs.Allowed.{is_well_formed};
 ghost use Rattle.sweep_text.specs.Listing as spec;
 
+use crate::line::{Chunk, append as append_all};
 use text_parts::numbers::append_number;
 use text_parts::style::Style;
 use text_parts::text::{Text, append};
@@ -47,7 +49,7 @@ fn byte_directive(syntax: Syntax) -> &'static [u8]
 
 /// The text of a byte at which no instruction is read.
 #[tactic(auto, using(crate::proofs::Lengths::number_fits), unfolding(crate::specs::Listing::single_byte_text))]
-pub(crate) fn single_byte_text(syntax: Syntax, byte: u8) -> Text
+fn single_byte_text(syntax: Syntax, byte: u8) -> Text
     ensures { result.items ≡ spec.single_byte_text syntax byte }
 {
     let mut text = Text::new();
@@ -56,14 +58,26 @@ pub(crate) fn single_byte_text(syntax: Syntax, byte: u8) -> Text
     text
 }
 
-/// The text of a well-formed instruction.
-pub(crate) fn instr_text(syntax: Syntax, bits: Bits, instr: &Instr) -> Text
-    requires { IsTrue (is_well_formed instr.now) }
-    ensures { result.items ≡ spec.instr_text syntax bits instr.now }
+/// Appends the text of a byte at which no instruction is read.
+#[inline(never)]
+pub(crate) fn append_single_byte(out: &mut Chunk, syntax: Syntax, byte: u8)
+    requires { array_vec_len out.old + 160 ≤ 16384 }
+    ensures items { out.new.items ≡ out.old.items ++ spec.single_byte_text syntax byte }
+    ensures len { array_vec_len out.new ≤ array_vec_len out.old + 160 }
+{
+    append_all(out, &single_byte_text(syntax, byte));
+}
+
+/// Appends the text of a well-formed instruction.
+pub(crate) fn append_instr_text(out: &mut Chunk, syntax: Syntax, bits: Bits, instr: &Instr)
+    requires well { IsTrue (is_well_formed instr.now) }
+    requires room { array_vec_len out.old + 160 ≤ 16384 }
+    ensures items { out.new.items ≡ out.old.items ++ spec.instr_text syntax bits instr.now }
+    ensures len { array_vec_len out.new ≤ array_vec_len out.old + 160 }
 {
     match syntax {
-        Syntax::Intel => intel_text::print(bits, instr),
-        Syntax::Att => att_text::print(bits, instr),
-        Syntax::Masm => masm_text::print(bits, instr),
+        Syntax::Intel => intel_text::print_to(out, bits, instr),
+        Syntax::Att => att_text::print_to(out, bits, instr),
+        Syntax::Masm => masm_text::print_to(out, bits, instr),
     }
 }

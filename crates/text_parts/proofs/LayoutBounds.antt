@@ -1,5 +1,5 @@
 -- A text has at most 160 bytes.
-use Rattle.std.proofs.Common.{ℕ, ◌+◌, ◌*◌, ◌≤◌, Bool, true, false, List, [], ◌∷◌, ◌++◌, length, Option, Some, None, length-append, arith, rules}
+use Rattle.std.proofs.Common.{◌≡◌, ℕ, ◌+◌, ◌*◌, ◌≤◌, Bool, true, false, List, [], ◌∷◌, ◌++◌, length, Option, Some, None, ap, length-append, arith, rules}
 use Rattle.std.specs.Prelude.{if◌then◌else◌, ◌==◌, IsTrue, codes}
 use Rattle.std.proofs.lemmas.Bool.{leb-true}
 use Rattle.x86_values.specs.declared.Bits.{Bits}
@@ -165,3 +165,17 @@ bracket_layout-le style bits row name instr short one =
     (operand_part-le style bits row instr 0) (operand_part-le style bits row instr 1)
     (operand_part-le style bits row instr 2) (operand_part-le style bits row instr 3)
     (leb-true _ 1 one)
+
+-- ---- behind what is there
+
+-- where 160 more bytes fit, the text fits
+pub layout_fits : (style : Style) (bits : Bits) (row : Row) (name : List ℕ) (instr : Instr) (held capacity : ℕ) → length name ≤ 20 → IsTrue (has_one_long instr) → held + 160 ≤ capacity → held + length (bracket_layout style bits row name instr) ≤ capacity
+layout_fits style bits row name instr held capacity short one room =
+    omega (arith, room, bracket_layout-le style bits row name instr short one)
+
+-- the text takes 160 bytes at most
+pub layout_len : (style : Style) (bits : Bits) (row : Row) (name : List ℕ) (instr : Instr) (old new : List ℕ) → new ≡ old ++ bracket_layout style bits row name instr → length name ≤ 20 → IsTrue (has_one_long instr) → length new ≤ length old + 160
+layout_len style bits row name instr old new e short one =
+    omega (arith, ap length e, length-append old (bracket_layout style bits row name instr), bracket_layout-le style bits row name instr short one)
+
+pub ruleset layout_bounds = (layout_fits, layout_len)

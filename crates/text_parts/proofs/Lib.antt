@@ -1,4 +1,5 @@
 pub mod Digits
+pub mod DigitPairs
 pub mod Bounds
 pub mod AddressBounds
 pub mod LayoutBounds

@@ -1,4 +1,5 @@
 pub mod Numbers
+pub mod DigitPairs
 pub mod Registers
 pub mod Addresses
 pub mod PrefixWords

@@ -8,7 +8,8 @@ ghost use Rattle.text_parts.specs.Addresses as spec;
 use crate::numbers::{append_decimal, append_number};
 use crate::registers::{append_override, append_register};
 use crate::style::Style;
-use crate::text::{Text, append};
+use crate::text::append_literal;
+use arrayvec::ArrayVec;
 use x86_values::{Bits, DispSize, Mem, Register, Segment, wrap};
 
 /// Whether a base is the instruction pointer.
@@ -67,32 +68,38 @@ fn magnitude(asize: Bits, d: u64) -> u64
     }
 }
 
-/// The sign of a displacement beside a register.
+/// Appends the sign of a displacement beside a register.
 #[inline]
 #[tactic(auto, unfolding(crate::specs::Addresses::sign))]
-fn sign(style: Style, negative: bool) -> &'static [u8]
-    ensures { result.now ≡ spec.sign style negative }
+fn append_sign<const N: usize>(out: &mut ArrayVec<u8, N>, style: Style, negative: bool)
+    requires { array_vec_len out.old + length (spec.sign style negative) ≤ N }
+    ensures { out.new.items ≡ out.old.items ++ spec.sign style negative }
 {
     if negative {
-        b"-"
+        append_literal(out, b"-");
     } else {
         match style {
-            Style::Att => b"",
-            _ => b"+",
+            Style::Att => {}
+            _ => append_literal(out, b"+"),
         }
     }
 }
 
 /// Appends a displacement beside a register, as a signed number of address size.
 #[tactic(auto, unfolding(crate::specs::Addresses::signed_displacement))]
-pub fn append_signed_displacement(out: &mut Text, style: Style, asize: Bits, m: &Mem)
-    requires { array_vec_len out.old + length (spec.signed_displacement style asize m.now) ≤ 160 }
+pub fn append_signed_displacement<const N: usize>(
+    out: &mut ArrayVec<u8, N>,
+    style: Style,
+    asize: Bits,
+    m: &Mem,
+)
+    requires { array_vec_len out.old + length (spec.signed_displacement style asize m.now) ≤ N }
     ensures { out.new.items ≡ out.old.items ++ spec.signed_displacement style asize m.now }
 {
     match m.disp_size {
         DispSize::D0 => {}
         _ => {
-            append(out, sign(style, is_negative(asize, m.disp)));
+            append_sign(out, style, is_negative(asize, m.disp));
             append_number(out, style, magnitude(asize, m.disp));
         }
     }
@@ -100,8 +107,8 @@ pub fn append_signed_displacement(out: &mut Text, style: Style, asize: Bits, m: 
 
 /// Appends a displacement that stands alone, unsigned.
 #[tactic(auto, unfolding(crate::specs::Addresses::lone_displacement))]
-pub fn append_lone_displacement(out: &mut Text, style: Style, m: &Mem)
-    requires { array_vec_len out.old + length (spec.lone_displacement style m.now) ≤ 160 }
+pub fn append_lone_displacement<const N: usize>(out: &mut ArrayVec<u8, N>, style: Style, m: &Mem)
+    requires { array_vec_len out.old + length (spec.lone_displacement style m.now) ≤ N }
     ensures { out.new.items ≡ out.old.items ++ spec.lone_displacement style m.now }
 {
     match m.disp_size {
@@ -110,25 +117,30 @@ pub fn append_lone_displacement(out: &mut Text, style: Style, m: &Mem)
     }
 }
 
-/// The word in front of a target that is relative to the instruction pointer.
+/// Appends the word in front of a target that is relative to the instruction pointer.
 #[inline]
 #[tactic(auto, unfolding(crate::specs::Addresses::relative_word))]
-fn relative_word(style: Style, base: Option<Register>) -> &'static [u8]
-    ensures { result.now ≡ spec.relative_word style base }
+fn append_relative_word<const N: usize>(
+    out: &mut ArrayVec<u8, N>,
+    style: Style,
+    base: Option<Register>,
+)
+    requires { array_vec_len out.old + length (spec.relative_word style base) ≤ N }
+    ensures { out.new.items ≡ out.old.items ++ spec.relative_word style base }
 {
     match style {
         Style::Intel => match base {
-            Some(Register::Eip) => b"rel32 ",
-            _ => b"rel ",
+            Some(Register::Eip) => append_literal(out, b"rel32 "),
+            _ => append_literal(out, b"rel "),
         },
-        _ => b"",
+        _ => {}
     }
 }
 
 /// Appends a base, if there is one.
 #[tactic(auto, unfolding(crate::specs::Addresses::base_text))]
-pub fn append_base(out: &mut Text, style: Style, base: Option<Register>)
-    requires { array_vec_len out.old + length (spec.base_text style base) ≤ 160 }
+pub fn append_base<const N: usize>(out: &mut ArrayVec<u8, N>, style: Style, base: Option<Register>)
+    requires { array_vec_len out.old + length (spec.base_text style base) ≤ N }
     ensures { out.new.items ≡ out.old.items ++ spec.base_text style base }
 {
     match base {
@@ -137,28 +149,29 @@ pub fn append_base(out: &mut Text, style: Style, base: Option<Register>)
     }
 }
 
-/// The plus between a base and an index.
+/// Appends the plus between a base and an index.
 #[inline]
 #[tactic(auto, unfolding(crate::specs::Addresses::joint))]
-fn joint(base: Option<Register>) -> &'static [u8]
-    ensures { result.now ≡ spec.joint base }
+fn append_joint<const N: usize>(out: &mut ArrayVec<u8, N>, base: Option<Register>)
+    requires { array_vec_len out.old + length (spec.joint base) ≤ N }
+    ensures { out.new.items ≡ out.old.items ++ spec.joint base }
 {
     match base {
-        None => b"",
-        Some(_) => b"+",
+        None => {}
+        Some(_) => append_literal(out, b"+"),
     }
 }
 
 /// Appends a scale behind its mark, which 16-bit addressing does not have.
 #[tactic(auto, unfolding(crate::specs::Addresses::scale_text))]
-pub fn append_scale(out: &mut Text, mark: &[u8], asize: Bits, scale: u8)
-    requires { array_vec_len out.old + length (spec.scale_text mark.now asize scale) ≤ 160 }
+pub fn append_scale<const N: usize>(out: &mut ArrayVec<u8, N>, mark: &[u8], asize: Bits, scale: u8)
+    requires { array_vec_len out.old + length (spec.scale_text mark.now asize scale) ≤ N }
     ensures { out.new.items ≡ out.old.items ++ spec.scale_text mark.now asize scale }
 {
     match asize {
         Bits::B16 => {}
         _ => {
-            append(out, mark);
+            append_literal(out, mark);
             append_decimal(out, scale);
         }
     }
@@ -166,14 +179,14 @@ pub fn append_scale(out: &mut Text, mark: &[u8], asize: Bits, scale: u8)
 
 /// Appends an index with its scale, if there is one.
 #[tactic(auto, unfolding(crate::specs::Addresses::index_text))]
-fn append_index(out: &mut Text, style: Style, asize: Bits, m: &Mem)
-    requires { array_vec_len out.old + length (spec.index_text style asize m.now) ≤ 160 }
+fn append_index<const N: usize>(out: &mut ArrayVec<u8, N>, style: Style, asize: Bits, m: &Mem)
+    requires { array_vec_len out.old + length (spec.index_text style asize m.now) ≤ N }
     ensures { out.new.items ≡ out.old.items ++ spec.index_text style asize m.now }
 {
     match m.index {
         None => {}
         Some(r) => {
-            append(out, joint(m.base));
+            append_joint(out, m.base);
             append_register(out, style, r);
             append_scale(out, b"*", asize, m.scale);
         }
@@ -182,8 +195,8 @@ fn append_index(out: &mut Text, style: Style, asize: Bits, m: &Mem)
 
 /// Appends base, index and displacement.
 #[tactic(auto, unfolding(crate::specs::Addresses::sum_text))]
-fn append_sum(out: &mut Text, style: Style, asize: Bits, m: &Mem)
-    requires { array_vec_len out.old + length (spec.sum_text style asize m.now) ≤ 160 }
+fn append_sum<const N: usize>(out: &mut ArrayVec<u8, N>, style: Style, asize: Bits, m: &Mem)
+    requires { array_vec_len out.old + length (spec.sum_text style asize m.now) ≤ N }
     ensures { out.new.items ≡ out.old.items ++ spec.sum_text style asize m.now }
 {
     append_base(out, style, m.base);
@@ -193,12 +206,12 @@ fn append_sum(out: &mut Text, style: Style, asize: Bits, m: &Mem)
 
 /// Appends what stands inside the brackets.
 #[tactic(auto, unfolding(crate::specs::Addresses::inside))]
-fn append_inside(out: &mut Text, style: Style, asize: Bits, m: &Mem)
-    requires { array_vec_len out.old + length (spec.inside style asize m.now) ≤ 160 }
+fn append_inside<const N: usize>(out: &mut ArrayVec<u8, N>, style: Style, asize: Bits, m: &Mem)
+    requires { array_vec_len out.old + length (spec.inside style asize m.now) ≤ N }
     ensures { out.new.items ≡ out.old.items ++ spec.inside style asize m.now }
 {
     if is_instruction_pointer(m.base) {
-        append(out, relative_word(style, m.base));
+        append_relative_word(out, style, m.base);
         append_number(out, style, m.disp);
     } else if is_absolute(m) {
         append_lone_displacement(out, style, m);
@@ -209,15 +222,20 @@ fn append_inside(out: &mut Text, style: Style, asize: Bits, m: &Mem)
 
 /// Appends the segment in front of the brackets.
 #[tactic(auto, unfolding(crate::specs::Addresses::bracket_segment, crate::specs::Registers::segment_override))]
-fn append_bracket_segment(out: &mut Text, style: Style, segment: Option<Segment>, m: &Mem)
-    requires { array_vec_len out.old + length (spec.bracket_segment style segment m.now) ≤ 160 }
+fn append_bracket_segment<const N: usize>(
+    out: &mut ArrayVec<u8, N>,
+    style: Style,
+    segment: Option<Segment>,
+    m: &Mem,
+)
+    requires { array_vec_len out.old + length (spec.bracket_segment style segment m.now) ≤ N }
     ensures { out.new.items ≡ out.old.items ++ spec.bracket_segment style segment m.now }
 {
     match style {
         Style::Masm => match segment {
             None => {
                 if is_absolute(m) {
-                    append(out, b"ds:");
+                    append_literal(out, b"ds:");
                 }
             }
             Some(_) => append_override(out, style, segment),
@@ -228,18 +246,18 @@ fn append_bracket_segment(out: &mut Text, style: Style, segment: Option<Segment>
 
 /// Appends an address in brackets.
 #[tactic(auto, unfolding(crate::specs::Addresses::bracketed))]
-pub fn append_bracketed(
-    out: &mut Text,
+pub fn append_bracketed<const N: usize>(
+    out: &mut ArrayVec<u8, N>,
     style: Style,
     segment: Option<Segment>,
     asize: Bits,
     m: &Mem,
 )
-    requires { array_vec_len out.old + length (spec.bracketed style segment asize m.now) ≤ 160 }
+    requires { array_vec_len out.old + length (spec.bracketed style segment asize m.now) ≤ N }
     ensures { out.new.items ≡ out.old.items ++ spec.bracketed style segment asize m.now }
 {
     append_bracket_segment(out, style, segment, m);
-    append(out, b"[");
+    append_literal(out, b"[");
     append_inside(out, style, asize, m);
-    append(out, b"]");
+    append_literal(out, b"]");
 }

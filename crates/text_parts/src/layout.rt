@@ -1,8 +1,11 @@
 //! Operands, and the whole text of an instruction in the styles with brackets.
 
-ghost use Rattle.std.specs.Prelude.{◌≡◌, ◌<◌, ◌≤◌, ◌+◌, [], ◌++◌, ◌==◌, length, IsTrue};
+ghost use Rattle.std.specs.Prelude.{◌≡◌, ◌<◌, ◌≤◌, ◌+◌, ◌++◌, ◌==◌, length, IsTrue, codes};
 ghost use Rattle.arrayvec.specs.ArrayVec.{array_vec_len};
 ghost use Rattle.row_fit.specs.Sound.{sound};
+ghost use Rattle.text_parts.specs.Numbers.{number};
+ghost use Rattle.text_parts.specs.Addresses.{bracketed};
+ghost use Rattle.text_parts.specs.PrefixWords.{text_address_size};
 ghost use Rattle.text_parts.specs.Layout as spec;
 
 use crate::addresses::append_bracketed;
@@ -10,41 +13,60 @@ use crate::numbers::append_number;
 use crate::prefix_words::{append_prefix_words, name_text, text_address_size};
 use crate::registers::append_register;
 use crate::style::Style;
-use crate::text::{Text, append};
+use crate::text::{Text, append, append_literal};
 use arrayvec::ArrayVec;
 use row_fit::tail_fits::kind_at;
 use row_meaning::row_memory_size;
 use row_types::{OpKind, Row, Size};
-use x86_values::{Bits, Instr, Operand};
+use x86_values::{Bits, Instr, Mem, Operand};
 
-/// The word of a size in bytes.
+/// Appends a size name and what stands behind it.
 #[inline]
-#[tactic(auto, unfolding(crate::specs::Layout::size_name))]
-fn size_name(n: u8) -> &'static [u8]
-    ensures { result.now ≡ spec.size_name n }
+#[tactic(auto, unfolding(crate::specs::Layout::behind_size))]
+fn append_name<const N: usize>(out: &mut ArrayVec<u8, N>, style: Style, name: &[u8])
+    requires { array_vec_len out.old + length (name.now ++ spec.behind_size style name.now) ≤ N }
+    ensures { out.new.items ≡ out.old.items ++ (name.now ++ spec.behind_size style name.now) }
 {
-    match n {
-        1 => b"byte",
-        2 => b"word",
-        4 => b"dword",
-        8 => b"qword",
-        10 => b"tbyte",
-        16 => b"xmmword",
-        32 => b"ymmword",
-        _ => b"",
+    append(out, name);
+    match name {
+        [] => {}
+        _ => match style {
+            Style::Masm => append_literal(out, b" ptr "),
+            _ => append_literal(out, b" "),
+        },
     }
 }
 
-/// The word of a far pointer in memory.
+/// Appends the word of a size in bytes.
+#[inline]
+#[tactic(auto, unfolding(crate::specs::Layout::size_name))]
+fn append_size_name<const N: usize>(out: &mut ArrayVec<u8, N>, style: Style, n: u8)
+    requires { array_vec_len out.old + length (spec.size_name n ++ spec.behind_size style (spec.size_name n)) ≤ N }
+    ensures { out.new.items ≡ out.old.items ++ (spec.size_name n ++ spec.behind_size style (spec.size_name n)) }
+{
+    match n {
+        1 => append_name(out, style, b"byte"),
+        2 => append_name(out, style, b"word"),
+        4 => append_name(out, style, b"dword"),
+        8 => append_name(out, style, b"qword"),
+        10 => append_name(out, style, b"tbyte"),
+        16 => append_name(out, style, b"xmmword"),
+        32 => append_name(out, style, b"ymmword"),
+        _ => append_name(out, style, b""),
+    }
+}
+
+/// Appends the word of a far pointer in memory.
 #[inline]
 #[tactic(auto, unfolding(crate::specs::Layout::far_name))]
-fn far_name(size: Size) -> &'static [u8]
-    ensures { result.now ≡ spec.far_name size }
+fn append_far_name<const N: usize>(out: &mut ArrayVec<u8, N>, style: Style, size: Size)
+    requires { array_vec_len out.old + length (spec.far_name size ++ spec.behind_size style (spec.far_name size)) ≤ N }
+    ensures { out.new.items ≡ out.old.items ++ (spec.far_name size ++ spec.behind_size style (spec.far_name size)) }
 {
     match size {
-        Size::O16 => b"far16",
-        Size::O64 => b"far64",
-        _ => b"far32",
+        Size::O16 => append_name(out, style, b"far16"),
+        Size::O64 => append_name(out, style, b"far64"),
+        _ => append_name(out, style, b"far32"),
     }
 }
 
@@ -60,46 +82,19 @@ pub fn is_far_pointer(kind: OpKind) -> bool
     }
 }
 
-/// The size of what operand `n` of a row has in memory.
-#[tactic(auto, unfolding(crate::specs::Layout::operand_size_name))]
-fn operand_size_name(row: &Row, n: usize) -> &'static [u8]
+/// Appends the size of what operand `n` of a row has in memory.
+#[tactic(auto, unfolding(crate::specs::Layout::size_word, crate::specs::Layout::operand_size_name))]
+fn append_size_word<const N: usize>(out: &mut ArrayVec<u8, N>, style: Style, row: &Row, n: usize)
     requires number { n < 4 }
     requires sound { IsTrue (sound row.now) }
-    ensures { result.now ≡ spec.operand_size_name row.now n }
-{
-    if is_far_pointer(kind_at(row, n)) {
-        far_name(row.size)
-    } else {
-        size_name(row_memory_size(row))
-    }
-}
-
-/// What stands behind a size name.
-#[inline]
-#[tactic(auto, unfolding(crate::specs::Layout::behind_size))]
-fn behind_size(style: Style, name: &[u8]) -> &'static [u8]
-    ensures { result.now ≡ spec.behind_size style name.now }
-{
-    match name {
-        [] => b"",
-        _ => match style {
-            Style::Masm => b" ptr ",
-            _ => b" ",
-        },
-    }
-}
-
-/// Appends a size word.
-#[tactic(auto, unfolding(crate::specs::Layout::size_word))]
-fn append_size_word(out: &mut Text, style: Style, row: &Row, n: usize)
-    requires number { n < 4 }
-    requires sound { IsTrue (sound row.now) }
-    requires room { array_vec_len out.old + length (spec.size_word style row.now n) ≤ 160 }
+    requires room { array_vec_len out.old + length (spec.size_word style row.now n) ≤ N }
     ensures { out.new.items ≡ out.old.items ++ spec.size_word style row.now n }
 {
-    let name = operand_size_name(row, n);
-    append(out, name);
-    append(out, behind_size(style, name));
+    if is_far_pointer(kind_at(row, n)) {
+        append_far_name(out, style, row.size);
+    } else {
+        append_size_name(out, style, row_memory_size(row));
+    }
 }
 
 /// Operand `n`.
@@ -109,6 +104,15 @@ pub fn nth_operand(instr: &Instr, n: usize) -> Operand
     ensures { result ≡ spec.nth_operand instr.now n }
 {
     instr.ops[n]
+}
+
+/// Operand `n`, where it stands.
+#[inline]
+fn operand_at(instr: &Instr, n: usize) -> &Operand
+    requires { n < 4 }
+    ensures { result.now ≡ spec.nth_operand instr.now n }
+{
+    &instr.ops[n]
 }
 
 /// What stands in front of an operand.
@@ -123,67 +127,174 @@ pub fn separator(first: bool, op: Operand) -> &'static [u8]
     }
 }
 
-/// Appends an operand in a style with brackets.
-#[tactic(auto, unfolding(crate::specs::Layout::bracket_operand))]
-fn append_bracket_operand(
-    out: &mut Text,
+/// Appends what stands in front of an operand.
+#[inline]
+#[tactic(auto, unfolding(crate::specs::Layout::separator))]
+fn append_separator<const N: usize>(out: &mut ArrayVec<u8, N>, first: bool, op: &Operand)
+    requires { array_vec_len out.old + length (spec.separator first op.now) ≤ N }
+    ensures { out.new.items ≡ out.old.items ++ spec.separator first op.now }
+{
+    match op {
+        Operand::Absent => {}
+        _ => if first {
+            append_literal(out, b" ")
+        } else {
+            append_literal(out, b", ")
+        },
+    }
+}
+
+/// Appends a memory operand with its size in front of it.
+#[inline(never)]
+fn append_memory<const N: usize>(
+    out: &mut ArrayVec<u8, N>,
     style: Style,
     bits: Bits,
     row: &Row,
     instr: &Instr,
     n: usize,
-    op: Operand,
+    m: &Mem,
 )
     requires number { n < 4 }
     requires sound { IsTrue (sound row.now) }
-    requires room { array_vec_len out.old + length (spec.bracket_operand style bits row.now instr.now n op) ≤ 160 }
-    ensures { out.new.items ≡ out.old.items ++ spec.bracket_operand style bits row.now instr.now n op }
+    requires room { array_vec_len out.old
+        + length (spec.size_word style row.now n ++ bracketed style instr.now.seg (text_address_size bits instr.now) m.now) ≤ N }
+    ensures { out.new.items ≡ out.old.items
+        ++ (spec.size_word style row.now n ++ bracketed style instr.now.seg (text_address_size bits instr.now) m.now) }
+{
+    append_size_word(out, style, row, n);
+    append_bracketed(out, style, instr.seg, text_address_size(bits, instr), m);
+}
+
+/// Appends a far pointer: its selector, a colon and its offset.
+#[inline(never)]
+fn append_far<const N: usize>(out: &mut ArrayVec<u8, N>, style: Style, selector: u16, offset: u32)
+    requires { array_vec_len out.old + length (number style selector ++ (codes ":" ++ number style offset)) ≤ N }
+    ensures { out.new.items ≡ out.old.items ++ (number style selector ++ (codes ":" ++ number style offset)) }
+{
+    append_number(out, style, u64::from(selector));
+    append_literal(out, b":");
+    append_number(out, style, u64::from(offset));
+}
+
+/// Appends an operand in a style with brackets.
+#[inline(always)]
+#[tactic(auto, unfolding(crate::specs::Layout::bracket_operand))]
+fn append_bracket_operand<const N: usize>(
+    out: &mut ArrayVec<u8, N>,
+    style: Style,
+    bits: Bits,
+    row: &Row,
+    instr: &Instr,
+    n: usize,
+    op: &Operand,
+)
+    requires number { n < 4 }
+    requires sound { IsTrue (sound row.now) }
+    requires room { array_vec_len out.old + length (spec.bracket_operand style bits row.now instr.now n op.now) ≤ N }
+    ensures { out.new.items ≡ out.old.items ++ spec.bracket_operand style bits row.now instr.now n op.now }
 {
     match op {
         Operand::Absent => {}
-        Operand::Reg(r) => append_register(out, style, r),
-        Operand::Imm(x) => append_number(out, style, x),
-        Operand::Near(x) => append_number(out, style, x),
-        Operand::Far { selector, offset } => {
-            append_number(out, style, selector as u64);
-            append(out, b":");
-            append_number(out, style, offset as u64);
-        }
-        Operand::Mem(m) => {
-            append_size_word(out, style, row, n);
-            append_bracketed(out, style, instr.seg, text_address_size(bits, instr), &m);
+        Operand::Reg(r) => append_register(out, style, *r),
+        Operand::Imm(x) => append_number(out, style, *x),
+        Operand::Near(x) => append_number(out, style, *x),
+        Operand::Far { selector, offset } => append_far(out, style, *selector, *offset),
+        Operand::Mem(m) => append_memory(out, style, bits, row, instr, n, m),
+    }
+}
+
+/// Appends an operand with what stands in front of it. Nothing is called for one that is absent.
+#[inline(always)]
+#[tactic(auto, unfolding(crate::specs::Layout::separator, crate::specs::Layout::bracket_operand))]
+fn append_separated<const N: usize>(
+    out: &mut ArrayVec<u8, N>,
+    style: Style,
+    bits: Bits,
+    row: &Row,
+    instr: &Instr,
+    n: usize,
+    op: &Operand,
+)
+    requires number { n < 4 }
+    requires sound { IsTrue (sound row.now) }
+    requires room { array_vec_len out.old
+        + length (spec.separator (n == 0) op.now ++ spec.bracket_operand style bits row.now instr.now n op.now) ≤ N }
+    ensures { out.new.items ≡ out.old.items
+        ++ (spec.separator (n == 0) op.now ++ spec.bracket_operand style bits row.now instr.now n op.now) }
+{
+    match op {
+        Operand::Absent => {}
+        _ => {
+            append_separator(out, n == 0, op);
+            append_bracket_operand(out, style, bits, row, instr, n, op);
         }
     }
 }
 
 /// Appends operand `n` with what stands in front of it.
+#[inline(always)]
 #[tactic(auto, unfolding(crate::specs::Layout::operand_part))]
-fn append_operand_part(out: &mut Text, style: Style, bits: Bits, row: &Row, instr: &Instr, n: usize)
+fn append_operand_part<const N: usize>(
+    out: &mut ArrayVec<u8, N>,
+    style: Style,
+    bits: Bits,
+    row: &Row,
+    instr: &Instr,
+    n: usize,
+)
     requires number { n < 4 }
     requires sound { IsTrue (sound row.now) }
-    requires room { array_vec_len out.old + length (spec.operand_part style bits row.now instr.now n) ≤ 160 }
+    requires room { array_vec_len out.old + length (spec.operand_part style bits row.now instr.now n) ≤ N }
     ensures { out.new.items ≡ out.old.items ++ spec.operand_part style bits row.now instr.now n }
 {
-    let op = nth_operand(instr, n);
-    append(out, separator(n == 0, op));
-    append_bracket_operand(out, style, bits, row, instr, n, op);
+    append_separated(out, style, bits, row, instr, n, operand_at(instr, n));
 }
 
-/// The text of an instruction of a row with this name, in a style with brackets.
+/// Appends the text of an instruction of a row with this name, where there is room for it.
 #[tactic(auto, unfolding(crate::specs::Layout::bracket_layout))]
-fn print_short(style: Style, bits: Bits, row: &Row, name: &[u8], instr: &Instr) -> Text
+fn append_short<const N: usize>(
+    out: &mut ArrayVec<u8, N>,
+    style: Style,
+    bits: Bits,
+    row: &Row,
+    name: &[u8],
+    instr: &Instr,
+)
     requires sound { IsTrue (sound row.now) }
-    requires short { length (spec.bracket_layout style bits row.now name.now instr.now) ≤ 160 }
-    ensures { result.items ≡ spec.bracket_layout style bits row.now name.now instr.now }
+    requires room { array_vec_len out.old + length (spec.bracket_layout style bits row.now name.now instr.now) ≤ N }
+    ensures { out.new.items ≡ out.old.items ++ spec.bracket_layout style bits row.now name.now instr.now }
 {
-    let mut out = ArrayVec::new();
-    append_prefix_words(&mut out, bits, row, name, instr);
-    append(&mut out, name_text(bits, name, instr));
-    append_operand_part(&mut out, style, bits, row, instr, 0);
-    append_operand_part(&mut out, style, bits, row, instr, 1);
-    append_operand_part(&mut out, style, bits, row, instr, 2);
-    append_operand_part(&mut out, style, bits, row, instr, 3);
-    out
+    append_prefix_words(out, bits, row, name, instr);
+    append(out, name_text(bits, name, instr));
+    append_operand_part(out, style, bits, row, instr, 0);
+    append_operand_part(out, style, bits, row, instr, 1);
+    append_operand_part(out, style, bits, row, instr, 2);
+    append_operand_part(out, style, bits, row, instr, 3);
+}
+
+/// Appends the text of an instruction of a row with this name, in a style with brackets.
+///
+/// At most one operand is memory or a far pointer, and the name has at most 20 bytes: then the
+/// text has at most 160.
+#[inline]
+#[tactic(auto, using(crate::proofs::LayoutBounds::layout_bounds))]
+pub fn append_bracket_layout<const N: usize>(
+    out: &mut ArrayVec<u8, N>,
+    style: Style,
+    bits: Bits,
+    row: &Row,
+    name: &[u8],
+    instr: &Instr,
+)
+    requires sound { IsTrue (sound row.now) }
+    requires name { length name.now ≤ 20 }
+    requires operands { IsTrue (spec.has_one_long instr.now) }
+    requires room { array_vec_len out.old + 160 ≤ N }
+    ensures items { out.new.items ≡ out.old.items ++ spec.bracket_layout style bits row.now name.now instr.now }
+    ensures len { array_vec_len out.new ≤ array_vec_len out.old + 160 }
+{
+    append_short(out, style, bits, row, name, instr);
 }
 
 /// The text of an instruction of a row with this name, in a style with brackets.
@@ -196,5 +307,7 @@ pub fn print_bracketed(style: Style, bits: Bits, row: &Row, name: &[u8], instr: 
     requires operands { IsTrue (spec.has_one_long instr.now) }
     ensures { result.items ≡ spec.bracket_layout style bits row.now name.now instr.now }
 {
-    print_short(style, bits, row, name, instr)
+    let mut out = Text::new();
+    append_bracket_layout(&mut out, style, bits, row, name, instr);
+    out
 }

@@ -2,6 +2,7 @@
 #![tactic(auto)]
 
 pub mod addresses;
+pub mod digit_pairs;
 pub mod laws;
 pub mod layout;
 pub mod numbers;

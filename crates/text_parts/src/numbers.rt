@@ -1,11 +1,13 @@
 //! Numbers in a text.
 
-ghost use Rattle.std.specs.Prelude.{◌≡◌, ◌<◌, ◌≤◌, ◌+◌, ◌++◌, length};
+ghost use Rattle.std.specs.Prelude.{◌≡◌, ◌<◌, ◌≤◌, ◌+◌, ◌*◌, ◌/◌, ◌%◌, ◌^◌, ◌++◌, length};
 ghost use Rattle.arrayvec.specs.ArrayVec.{array_vec_len};
 ghost use Rattle.text_parts.specs.Numbers as spec;
 
+use crate::digit_pairs::digit_pair;
 use crate::style::Style;
-use crate::text::{Text, append};
+use crate::text::append_literal;
+use arrayvec::ArrayVec;
 
 /// The ASCII code of a hexadecimal digit.
 #[inline]
@@ -14,7 +16,24 @@ fn hex_digit(d: u8) -> u8
     requires { d < 16 }
     ensures { result ≡ spec.hex_digit d }
 {
-    if d < 10 { b'0' + d } else { b'a' - 10 + d }
+    match d {
+        0 => b'0',
+        1 => b'1',
+        2 => b'2',
+        3 => b'3',
+        4 => b'4',
+        5 => b'5',
+        6 => b'6',
+        7 => b'7',
+        8 => b'8',
+        9 => b'9',
+        10 => b'a',
+        11 => b'b',
+        12 => b'c',
+        13 => b'd',
+        14 => b'e',
+        _ => b'f',
+    }
 }
 
 /// The hexadecimal digit at a place, counted from the last.
@@ -39,24 +58,50 @@ fn digit_count(n: u64) -> u32
     ((67 - n.leading_zeros()) / 4).max(1)
 }
 
-/// Appends the last hexadecimal digits of a number.
-#[tactic(auto, using(crate::proofs::Digits::digit_steps))]
-fn append_last_digits(out: &mut Text, count: u32, n: u64)
-    requires few { count ≤ 16 }
-    requires room { array_vec_len out.old + length (spec.last_digits count n) ≤ 160 }
-    ensures { out.new.items ≡ out.old.items ++ spec.last_digits count n }
+/// The byte at a place, counted from the last.
+#[inline]
+fn byte_at(n: u64, place: u32) -> u8
+    requires { place < 8 }
+    ensures { result ≡ n / 2 ^ (8 * place) % 256 }
+{
+    ((n >> (8 * place)) % 256) as u8
+}
+
+/// Appends the last hexadecimal digits of a number, two for each of so many bytes.
+#[inline]
+fn append_last_bytes<const N: usize>(out: &mut ArrayVec<u8, N>, count: u32, n: u64)
+    requires few { count ≤ 8 }
+    requires room { array_vec_len out.old + length (spec.last_digits (2 * count) n) ≤ N }
+    ensures { out.new.items ≡ out.old.items ++ spec.last_digits (2 * count) n }
 {
     let mut left = count;
     while left > 0 {
         left -= 1;
-        out.push(hex_digit(digit_at(n, left)));
+        let [high, low] = digit_pair(byte_at(n, left));
+        out.push(high);
+        out.push(low);
     }
 }
 
+/// Appends the last hexadecimal digits of a number.
+#[inline]
+#[tactic(auto, using(crate::proofs::Digits::digit_steps))]
+fn append_last_digits<const N: usize>(out: &mut ArrayVec<u8, N>, count: u32, n: u64)
+    requires few { count ≤ 16 }
+    requires room { array_vec_len out.old + length (spec.last_digits count n) ≤ N }
+    ensures { out.new.items ≡ out.old.items ++ spec.last_digits count n }
+{
+    if count % 2 == 1 {
+        out.push(hex_digit(digit_at(n, count - 1)));
+    }
+    append_last_bytes(out, count / 2, n);
+}
+
 /// Appends a number in hexadecimal without leading zeros.
+#[inline]
 #[tactic(auto, unfolding(crate::specs::Numbers::hexadecimal))]
-pub fn append_hexadecimal(out: &mut Text, n: u64)
-    requires { array_vec_len out.old + length (spec.hexadecimal n) ≤ 160 }
+pub fn append_hexadecimal<const N: usize>(out: &mut ArrayVec<u8, N>, n: u64)
+    requires { array_vec_len out.old + length (spec.hexadecimal n) ≤ N }
     ensures { out.new.items ≡ out.old.items ++ spec.hexadecimal n }
 {
     append_last_digits(out, digit_count(n), n);
@@ -75,28 +120,30 @@ fn leading_zero(n: u64) -> &'static [u8]
 }
 
 /// Appends a number: `0x1f`, in MASM `1fh`.
+#[inline(never)]
 #[tactic(auto, unfolding(crate::specs::Numbers::number))]
-pub fn append_number(out: &mut Text, style: Style, n: u64)
-    requires { array_vec_len out.old + length (spec.number style n) ≤ 160 }
+pub fn append_number<const N: usize>(out: &mut ArrayVec<u8, N>, style: Style, n: u64)
+    requires { array_vec_len out.old + length (spec.number style n) ≤ N }
     ensures { out.new.items ≡ out.old.items ++ spec.number style n }
 {
     match style {
         Style::Masm => {
-            append(out, leading_zero(n));
+            append_literal(out, leading_zero(n));
             append_hexadecimal(out, n);
-            append(out, b"h");
+            append_literal(out, b"h");
         }
         _ => {
-            append(out, b"0x");
+            append_literal(out, b"0x");
             append_hexadecimal(out, n);
         }
     }
 }
 
 /// Appends a number below 100 in decimal digits.
+#[inline]
 #[tactic(auto, unfolding(crate::specs::Numbers::decimal))]
-pub fn append_decimal(out: &mut Text, n: u8)
-    requires { array_vec_len out.old + length (spec.decimal n) ≤ 160 }
+pub fn append_decimal<const N: usize>(out: &mut ArrayVec<u8, N>, n: u8)
+    requires { array_vec_len out.old + length (spec.decimal n) ≤ N }
     ensures { out.new.items ≡ out.old.items ++ spec.decimal n }
 {
     if n < 10 {

@@ -6,30 +6,35 @@ ghost use Rattle.arrayvec.specs.ArrayVec.{array_vec_len};
 ghost use Rattle.text_parts.specs.PrefixWords as spec;
 
 use crate::registers::segment_name;
-use crate::text::{Text, append};
+use crate::text::append_literal;
+use arrayvec::ArrayVec;
 use instruction_parts::sizes::operand_size;
 use row_types::{Row, Size};
 use x86_values::{Bits, Instr, Operand, Register, Rep};
 
-/// The word of LOCK.
+/// Appends the word of LOCK.
 #[inline]
 #[tactic(auto, unfolding(crate::specs::PrefixWords::lock_word))]
-fn lock_word(lock: bool) -> &'static [u8]
-    ensures { result.now ≡ spec.lock_word lock }
+fn append_lock_word<const N: usize>(out: &mut ArrayVec<u8, N>, lock: bool)
+    requires { array_vec_len out.old + length (spec.lock_word lock) ≤ N }
+    ensures { out.new.items ≡ out.old.items ++ spec.lock_word lock }
 {
-    if lock { b"lock " } else { b"" }
+    if lock {
+        append_literal(out, b"lock ");
+    }
 }
 
-/// The word of a repeat prefix.
+/// Appends the word of a repeat prefix.
 #[inline]
 #[tactic(auto, unfolding(crate::specs::PrefixWords::repeat_word))]
-fn repeat_word(rep: Rep) -> &'static [u8]
-    ensures { result.now ≡ spec.repeat_word rep }
+fn append_repeat_word<const N: usize>(out: &mut ArrayVec<u8, N>, rep: Rep)
+    requires { array_vec_len out.old + length (spec.repeat_word rep) ≤ N }
+    ensures { out.new.items ≡ out.old.items ++ spec.repeat_word rep }
 {
     match rep {
-        Rep::None => b"",
-        Rep::F2 => b"repne ",
-        Rep::F3 => b"rep ",
+        Rep::None => {}
+        Rep::F2 => append_literal(out, b"repne "),
+        Rep::F3 => append_literal(out, b"rep "),
     }
 }
 
@@ -54,16 +59,16 @@ pub fn has_memory(instr: &Instr) -> bool
 
 /// Appends the segment's name, where no operand is memory.
 #[tactic(auto, unfolding(crate::specs::PrefixWords::segment_word))]
-fn append_segment_word(out: &mut Text, instr: &Instr)
-    requires { array_vec_len out.old + length (spec.segment_word instr.now) ≤ 160 }
+fn append_segment_word<const N: usize>(out: &mut ArrayVec<u8, N>, instr: &Instr)
+    requires { array_vec_len out.old + length (spec.segment_word instr.now) ≤ N }
     ensures { out.new.items ≡ out.old.items ++ spec.segment_word instr.now }
 {
-    if !has_memory(instr) {
-        match instr.seg {
-            None => {}
-            Some(s) => {
-                append(out, segment_name(s));
-                append(out, b" ");
+    match instr.seg {
+        None => {}
+        Some(s) => {
+            if !has_memory(instr) {
+                append_literal(out, segment_name(s));
+                append_literal(out, b" ");
             }
         }
     }
@@ -84,13 +89,13 @@ pub fn size_digits(size: Bits) -> &'static [u8]
 
 /// Appends a letter with a size, as `a32`.
 #[tactic(auto, unfolding(crate::specs::PrefixWords::sized_word))]
-fn append_sized_word(out: &mut Text, letter: &[u8], size: Bits)
-    requires { array_vec_len out.old + length (spec.sized_word letter.now size) ≤ 160 }
+fn append_sized_word<const N: usize>(out: &mut ArrayVec<u8, N>, letter: &[u8], size: Bits)
+    requires { array_vec_len out.old + length (spec.sized_word letter.now size) ≤ N }
     ensures { out.new.items ≡ out.old.items ++ spec.sized_word letter.now size }
 {
-    append(out, letter);
-    append(out, size_digits(size));
-    append(out, b" ");
+    append_literal(out, letter);
+    append_literal(out, size_digits(size));
+    append_literal(out, b" ");
 }
 
 /// Whether two sizes differ.
@@ -169,8 +174,13 @@ fn needs_address_word(bits: Bits, size: Bits, name: &[u8], instr: &Instr) -> boo
 
 /// Appends the address size, where it is not the mode's and nothing else shows it.
 #[tactic(auto, unfolding(crate::specs::PrefixWords::address_word))]
-fn append_address_word(out: &mut Text, bits: Bits, name: &[u8], instr: &Instr)
-    requires { array_vec_len out.old + length (spec.address_word bits name.now instr.now) ≤ 160 }
+fn append_address_word<const N: usize>(
+    out: &mut ArrayVec<u8, N>,
+    bits: Bits,
+    name: &[u8],
+    instr: &Instr,
+)
+    requires { array_vec_len out.old + length (spec.address_word bits name.now instr.now) ≤ N }
     ensures { out.new.items ≡ out.old.items ++ spec.address_word bits name.now instr.now }
 {
     match instr.asize {
@@ -218,8 +228,8 @@ fn usual_size(bits: Bits, row: &Row) -> Bits
 
 /// Appends the operand size, where the row is printed with it and it is not the usual one.
 #[tactic(auto, unfolding(crate::specs::PrefixWords::operand_size_word))]
-fn append_operand_size_word(out: &mut Text, bits: Bits, row: &Row)
-    requires { array_vec_len out.old + length (spec.operand_size_word bits row.now) ≤ 160 }
+fn append_operand_size_word<const N: usize>(out: &mut ArrayVec<u8, N>, bits: Bits, row: &Row)
+    requires { array_vec_len out.old + length (spec.operand_size_word bits row.now) ≤ N }
     ensures { out.new.items ≡ out.old.items ++ spec.operand_size_word bits row.now }
 {
     if is_sized(row) {
@@ -236,12 +246,18 @@ fn append_operand_size_word(out: &mut Text, bits: Bits, row: &Row)
 
 /// Appends the words of the prefixes, in their order.
 #[tactic(auto, unfolding(crate::specs::PrefixWords::prefix_words))]
-pub fn append_prefix_words(out: &mut Text, bits: Bits, row: &Row, name: &[u8], instr: &Instr)
-    requires { array_vec_len out.old + length (spec.prefix_words bits row.now name.now instr.now) ≤ 160 }
+pub fn append_prefix_words<const N: usize>(
+    out: &mut ArrayVec<u8, N>,
+    bits: Bits,
+    row: &Row,
+    name: &[u8],
+    instr: &Instr,
+)
+    requires { array_vec_len out.old + length (spec.prefix_words bits row.now name.now instr.now) ≤ N }
     ensures { out.new.items ≡ out.old.items ++ spec.prefix_words bits row.now name.now instr.now }
 {
-    append(out, lock_word(instr.lock));
-    append(out, repeat_word(instr.rep));
+    append_lock_word(out, instr.lock);
+    append_repeat_word(out, instr.rep);
     append_segment_word(out, instr);
     append_address_word(out, bits, name, instr);
     append_operand_size_word(out, bits, row);

@@ -6,7 +6,8 @@ ghost use Rattle.text_parts.specs.Registers as spec;
 
 use crate::numbers::append_decimal;
 use crate::style::Style;
-use crate::text::{Text, append};
+use crate::text::{Text, append_literal};
+use arrayvec::ArrayVec;
 use x86_values::{Register, Segment};
 
 /// The name of one of the first eight general registers of 16 bits.
@@ -76,35 +77,38 @@ pub fn segment_name(segment: Segment) -> &'static [u8]
 }
 
 /// Appends a name that is made of a number.
-fn append_numbered(out: &mut Text, front: &[u8], n: u8, back: &[u8])
-    requires { array_vec_len out.old + length (spec.numbered front.now n back.now) ≤ 160 }
+#[inline]
+fn append_numbered<const N: usize>(out: &mut ArrayVec<u8, N>, front: &[u8], n: u8, back: &[u8])
+    requires { array_vec_len out.old + length (spec.numbered front.now n back.now) ≤ N }
     ensures { out.new.items ≡ out.old.items ++ spec.numbered front.now n back.now }
 {
-    append(out, front);
+    append_literal(out, front);
     append_decimal(out, n);
-    append(out, back);
+    append_literal(out, back);
 }
 
 /// Appends the name of a general register.
-fn append_general(out: &mut Text, front: &[u8], n: u8, letter: &[u8])
-    requires { array_vec_len out.old + length (spec.general_name front.now n letter.now) ≤ 160 }
+#[inline]
+fn append_general<const N: usize>(out: &mut ArrayVec<u8, N>, front: &[u8], n: u8, letter: &[u8])
+    requires { array_vec_len out.old + length (spec.general_name front.now n letter.now) ≤ N }
     ensures { out.new.items ≡ out.old.items ++ spec.general_name front.now n letter.now }
 {
     if n < 8 {
-        append(out, front);
-        append(out, word_name(n));
+        append_literal(out, front);
+        append_literal(out, word_name(n));
     } else {
         append_numbered(out, b"r", n, letter);
     }
 }
 
 /// Appends the name of a byte register other than AH, CH, DH and BH.
-fn append_low_byte(out: &mut Text, n: u8)
-    requires { array_vec_len out.old + length (spec.low_byte n) ≤ 160 }
+#[inline]
+fn append_low_byte<const N: usize>(out: &mut ArrayVec<u8, N>, n: u8)
+    requires { array_vec_len out.old + length (spec.low_byte n) ≤ N }
     ensures { out.new.items ≡ out.old.items ++ spec.low_byte n }
 {
     if n < 8 {
-        append(out, low_byte_name(n));
+        append_literal(out, low_byte_name(n));
     } else {
         append_numbered(out, b"r", n, b"b");
     }
@@ -112,8 +116,8 @@ fn append_low_byte(out: &mut Text, n: u8)
 
 /// Appends the name of a stack register: `st0`, else `st(0)`.
 #[tactic(auto, unfolding(crate::specs::Registers::stack_name))]
-fn append_stack(out: &mut Text, style: Style, n: u8)
-    requires { array_vec_len out.old + length (spec.stack_name style n) ≤ 160 }
+fn append_stack<const N: usize>(out: &mut ArrayVec<u8, N>, style: Style, n: u8)
+    requires { array_vec_len out.old + length (spec.stack_name style n) ≤ N }
     ensures { out.new.items ≡ out.old.items ++ spec.stack_name style n }
 {
     match style {
@@ -124,62 +128,67 @@ fn append_stack(out: &mut Text, style: Style, n: u8)
 
 /// Appends the name of a register.
 #[tactic(auto, unfolding(crate::specs::Registers::register_name))]
-fn append_register_name(out: &mut Text, style: Style, r: Register)
-    requires { array_vec_len out.old + length (spec.register_name style r) ≤ 160 }
+fn append_register_name<const N: usize>(out: &mut ArrayVec<u8, N>, style: Style, r: Register)
+    requires { array_vec_len out.old + length (spec.register_name style r) ≤ N }
     ensures { out.new.items ≡ out.old.items ++ spec.register_name style r }
 {
     match r {
         Register::Low8(n) => append_low_byte(out, n),
-        Register::High8(n) => append(out, high_byte_name(n)),
+        Register::High8(n) => append_literal(out, high_byte_name(n)),
         Register::R16(n) => append_general(out, b"", n, b"w"),
         Register::R32(n) => append_general(out, b"e", n, b"d"),
         Register::R64(n) => append_general(out, b"r", n, b""),
-        Register::Seg(s) => append(out, segment_name(s)),
+        Register::Seg(s) => append_literal(out, segment_name(s)),
         Register::Cr(n) => append_numbered(out, b"cr", n, b""),
         Register::Dr(n) => append_numbered(out, b"dr", n, b""),
         Register::St(n) => append_stack(out, style, n),
         Register::Mm(n) => append_numbered(out, b"mm", n, b""),
         Register::Xmm(n) => append_numbered(out, b"xmm", n, b""),
         Register::Ymm(n) => append_numbered(out, b"ymm", n, b""),
-        Register::Eip => append(out, b"eip"),
-        Register::Rip => append(out, b"rip"),
+        Register::Eip => append_literal(out, b"eip"),
+        Register::Rip => append_literal(out, b"rip"),
     }
 }
 
-/// What stands in front of a register's name: `%` in AT&T.
+/// Appends what stands in front of a register's name: `%` in AT&T.
 #[inline]
 #[tactic(auto, unfolding(crate::specs::Registers::sigil))]
-fn sigil(style: Style) -> &'static [u8]
-    ensures { result.now ≡ spec.sigil style }
+fn append_sigil<const N: usize>(out: &mut ArrayVec<u8, N>, style: Style)
+    requires { array_vec_len out.old + length (spec.sigil style) ≤ N }
+    ensures { out.new.items ≡ out.old.items ++ spec.sigil style }
 {
     match style {
-        Style::Att => b"%",
-        _ => b"",
+        Style::Att => append_literal(out, b"%"),
+        _ => {}
     }
 }
 
 /// Appends a register.
 #[tactic(auto, unfolding(crate::specs::Registers::register))]
-pub fn append_register(out: &mut Text, style: Style, r: Register)
-    requires { array_vec_len out.old + length (spec.register style r) ≤ 160 }
+pub fn append_register<const N: usize>(out: &mut ArrayVec<u8, N>, style: Style, r: Register)
+    requires { array_vec_len out.old + length (spec.register style r) ≤ N }
     ensures { out.new.items ≡ out.old.items ++ spec.register style r }
 {
-    append(out, sigil(style));
+    append_sigil(out, style);
     append_register_name(out, style, r);
 }
 
 /// Appends a segment override: `fs:`, in AT&T `%fs:`.
 #[tactic(auto, unfolding(crate::specs::Registers::segment_override))]
-pub fn append_override(out: &mut Text, style: Style, segment: Option<Segment>)
-    requires { array_vec_len out.old + length (spec.segment_override style segment) ≤ 160 }
+pub fn append_override<const N: usize>(
+    out: &mut ArrayVec<u8, N>,
+    style: Style,
+    segment: Option<Segment>,
+)
+    requires { array_vec_len out.old + length (spec.segment_override style segment) ≤ N }
     ensures { out.new.items ≡ out.old.items ++ spec.segment_override style segment }
 {
     match segment {
         None => {}
         Some(s) => {
-            append(out, sigil(style));
-            append(out, segment_name(s));
-            append(out, b":");
+            append_sigil(out, style);
+            append_literal(out, segment_name(s));
+            append_literal(out, b":");
         }
     }
 }

@@ -10,8 +10,21 @@ pub type Text = ArrayVec<u8, 160>;
 
 /// Appends bytes.
 #[inline]
-pub fn append(out: &mut Text, bytes: &[u8])
-    requires { array_vec_len out.old + length bytes.now ≤ 160 }
+pub fn append<const N: usize>(out: &mut ArrayVec<u8, N>, bytes: &[u8])
+    requires { array_vec_len out.old + length bytes.now ≤ N }
+    ensures { out.new.items ≡ out.old.items ++ bytes.now }
+{
+    match out.try_extend_from_slice(bytes) {
+        Ok(()) => {}
+        Err(_) => unreachable!(),
+    }
+}
+
+/// Appends a short text that stands in the program, byte by byte: where the bytes are known, that is fewer instructions than
+/// a copy and a test of the room.
+#[inline(always)]
+pub fn append_literal<const N: usize>(out: &mut ArrayVec<u8, N>, bytes: &[u8])
+    requires { array_vec_len out.old + length bytes.now ≤ N }
     ensures { out.new.items ≡ out.old.items ++ bytes.now }
 {
     for b in bytes {

@@ -13,6 +13,7 @@ use x86_values::Instr;
 
 /// The row of a well-formed instruction: it is sound, and at most one operand of the instruction
 /// is memory or a far pointer.
+#[inline]
 pub fn printed_row(instr: &Instr) -> Row
     requires { IsTrue (is_well_formed instr.now) }
     ensures row { slice_get table instr.now.code.0 ≡ Some result }
@@ -23,6 +24,7 @@ pub fn printed_row(instr: &Instr) -> Row
 }
 
 /// The name of a well-formed instruction's row as bytes, at most 20 of them.
+#[inline]
 pub fn printed_name(instr: &Instr) -> &'static [u8]
     requires { IsTrue (is_well_formed instr.now) }
     ensures name { result.now ≡ name_of instr.now.code.0 }
