@@ -1,0 +1,47 @@
+use Rattle.std.proofs.Common.{ℕ, length, take, refl, sym, ap}
+use Rattle.decoder.specs.Answer.{reading_of}
+use Rattle.opcode_rows.specs.Sweep.{item_len}
+use Rattle.sweep.proofs.Handling.{moves-line, item_within}
+use Rattle.sweep.proofs.ready.write_item.Goals as goal
+
+pub returns-in-Some-clause-ok : goal.returns-in-Some-clause-ok
+returns-in-Some-clause-ok g c =
+    let sized = item_within c.read_at-reading.result (length c.args.rest.now) c.read_at-reading.ensures.length c.requires.some in
+    record {
+      item = record {
+        offset = c.args.at;
+        bytes = take (item_len (reading_of c.read_at-reading.result)) c.args.rest.now;
+        reading = reading_of c.read_at-reading.result;
+      };
+      is_at = record {
+        offset_is = refl;
+        reads = c.read_at-reading.ensures.reading;
+        within = sized.0;
+        some = sized.1;
+        bytes_are = refl;
+      };
+      stops = sym c.in-Some.ensures;
+      held_is = refl;
+      kept = refl;
+    }
+
+pub returns-clause-ok : goal.returns-clause-ok
+returns-clause-ok g c =
+    let sized = item_within c.read_at-reading.result (length c.args.rest.now) c.read_at-reading.ensures.length c.requires.some in
+    record {
+      item = record {
+        offset = c.args.at;
+        bytes = take c.item_len-count.result c.args.rest.now;
+        reading = reading_of c.read_at-reading.result;
+      };
+      is_at = record {
+        offset_is = refl;
+        reads = c.read_at-reading.ensures.reading;
+        within = sized.0;
+        some = sized.1;
+        bytes_are = ap (λ (n : ℕ). take n c.args.rest.now) c.item_len-count.ensures;
+      };
+      goes_on = sym c.in_default.ensures;
+      count_is = c.item_len-count.ensures;
+      moves = moves-line _ _ _ c.make_room.new.pending.items _ _ c.in_ok-make_room.ensures.ok c.append_line.ensures.items;
+    }
