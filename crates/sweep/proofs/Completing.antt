@@ -114,9 +114,10 @@ take_append n xs ys =
 -- the bytes that count are the first of those up to the limit
 seen_front : (bytes : List ℕ) (left' : Option (List ℕ)) (seen : List ℕ) → Sees (Some bytes) left' seen → (more : List ℕ) × (take code_limit bytes ≡ seen ++ more)
 seen_front bytes left' seen h =
-    let t = told bytes h.taken left' h.read in
-    (take (code_limit - length h.taken) t.0,
-    ap (take code_limit) t.1.1 ∙ (take_append code_limit h.taken t.0 ∙ ap (λ xs. xs ++ take (code_limit - length h.taken) t.0) (sym h.seen_is)))
+    let t = told bytes h.taken left' h.read in (
+      take (code_limit - length h.taken) t.0,
+      ap (take code_limit) t.1.1 ∙ (take_append code_limit h.taken t.0 ∙ ap (λ xs. xs ++ take (code_limit - length h.taken) t.0) (sym h.seen_is)),
+    )
 
 -- an item at which the command ends ends every longer way
 ends_at : (bits : Bits) (base : ℕ) (lines : Lines) (bytes : List ℕ) (left' : Option (List ℕ)) (seen : List ℕ) (offset : ℕ) (error : DecodeError)

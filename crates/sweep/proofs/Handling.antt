@@ -100,9 +100,10 @@ progress-end bits base lines from bytes used count ended start held held' pendin
       ready = p.ready;
       count_is = p.count_is;
       written = held-end start held held' pending (lines_of bits base lines p.items) p.told whole;
-      ends =
-          (omega (arith, length-drop used bytes, done.0),
-          λ e. let none = done.1 e in drop_of_length-le bytes (omega (arith, none, p.within)));
+      ends = (
+        omega (arith, length-drop used bytes, done.0),
+        λ e. let none = done.1 e in drop_of_length-le bytes (omega (arith, none, p.within)),
+      );
     }
 
 -- the items before one at which the command ends

@@ -81,10 +81,11 @@ sweeps_longer bits base offset bytes more (item ∷ items) rest h ready =
     let long : 15 ≤ length bytes = omega arith in
     let same : offset + length bytes ≡ offset + n + length (drop n bytes) = omega (arith, length-drop n bytes) in
     let tail = all_tail (IsReady (offset + length bytes)) item items ready in
-    let rest_ready : All (IsReady (offset + n + length (drop n bytes))) items = subst (λ m. All (IsReady m) items) same tail in
-    (item_longer bits base offset bytes more item long h.0,
-    subst (λ xs. Sweeps bits base (offset + n) xs items (rest ++ more)) (sym (drop-append-le n bytes more h.0.within))
-    (sweeps_longer bits base (offset + n) (drop n bytes) more items rest h.1 rest_ready))
+    let rest_ready : All (IsReady (offset + n + length (drop n bytes))) items = subst (λ m. All (IsReady m) items) same tail in (
+      item_longer bits base offset bytes more item long h.0,
+      subst (λ xs. Sweeps bits base (offset + n) xs items (rest ++ more)) (sym (drop-append-le n bytes more h.0.within))
+          (sweeps_longer bits base (offset + n) (drop n bytes) more items rest h.1 rest_ready),
+    )
 
 -- first items, and more behind them
 pub sweeps_join : (bits : Bits) (base offset at : ℕ) (bytes : List ℕ) (items : List Item) (middle : List ℕ) (more : List Item) (rest : List ℕ) →

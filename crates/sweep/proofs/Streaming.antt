@@ -62,8 +62,11 @@ streamed_start bits base lines start held window = record {
 pub at_fault : (bits : Bits) (base : ℕ) (lines : Lines) (start left left' held held' : Option (List ℕ)) (at len count : ℕ) (window : List ℕ) →
     Streamed bits base lines start left held held' at len count window → left' ≡ left →
     (seen : List ℕ) × (Reads start left' seen × WritesHandled bits base lines seen held held')
-at_fault bits base lines start left left' held held' at len count window s same =
-    (s.seen, (record { read = s.read ∙ ap (with_front s.seen) (sym same); within = s.few }, record {
+at_fault bits base lines start left left' held held' at len count window s same = (
+  s.seen,
+  (
+    record { read = s.read ∙ ap (with_front s.seen) (sym same); within = s.few },
+    record {
       items = s.items;
       handled = record {
         rest = drop at s.seen;
@@ -73,7 +76,9 @@ at_fault bits base lines start left left' held held' at len count window s same 
       };
       all = s.all;
       written = s.written;
-    }))
+    },
+  ),
+)
 
 lines_join : (bits : Bits) (base : ℕ) (lines : Lines) (items more : List Item) →
     lines_of bits base lines (items ++ more) ≡ lines_of bits base lines items ++ lines_of bits base lines more
@@ -160,19 +165,24 @@ module _ (bits : Bits) (base : ℕ) (lines : Lines) (start left left' held held'
       (seen : List ℕ) × (Sees start left' seen × WritesLinesFront bits base lines seen held held'')
   at_write_fault held'' h =
       let part = take h.written.0 (lines_of bits base lines h.items) in
-      let before = lines_of bits base lines s.items in
-      (now, (sees, record {
-        items = s.items ++ h.items;
-        sweep = (h.rest, sweeps_join bits base 0 at now s.items (drop at now) h.items h.rest sweeps_now place h.sweeps);
-        all = All-append (GoesOn lines) s.items h.items s.all h.all;
-        written = (
-          length before + h.written.0,
-          h.written.1
-              ∙ (ap (λ (o : Option (List ℕ)). with_back o part) s.written
-              ∙ (with_back-append held before part
-              ∙ ap (with_back held) (sym (take-append-add before (lines_of bits base lines h.items) h.written.0) ∙ ap (take (length before + h.written.0)) (sym (lines_join bits base lines s.items h.items))))),
-        );
-      }))
+      let before = lines_of bits base lines s.items in (
+        now,
+        (
+          sees,
+          record {
+            items = s.items ++ h.items;
+            sweep = (h.rest, sweeps_join bits base 0 at now s.items (drop at now) h.items h.rest sweeps_now place h.sweeps);
+            all = All-append (GoesOn lines) s.items h.items s.all h.all;
+            written = (
+              length before + h.written.0,
+              h.written.1
+                  ∙ (ap (λ (o : Option (List ℕ)). with_back o part) s.written
+                  ∙ (with_back-append held before part
+                  ∙ ap (with_back held) (sym (take-append-add before (lines_of bits base lines h.items) h.written.0) ∙ ap (take (length before + h.written.0)) (sym (lines_join bits base lines s.items h.items))))),
+            );
+          },
+        ),
+      )
 
   module _ (ended : Bool) (held'' : Option (List ℕ)) (handled : Handled) (h : HandlesItems bits base lines at (drop at now) ended held' held'' handled) where
     joined : Sweeps bits base 0 now (s.items ++ h.items) (drop handled.used (drop at now))
@@ -201,14 +211,19 @@ module _ (bits : Bits) (base : ℕ) (lines : Lines) (start left left' held held'
         (bytes : List ℕ) × (ReadsAll code_limit start left' bytes × WritesLines bits base lines bytes (count + handled.count) held held'')
     at_end_of_input none e goes_on =
         let ends : HandlesEnd bits base lines (at + handled.used) (drop handled.used (drop at now)) ended None =
-        subst (HandlesEnd bits base lines (at + handled.used) (drop handled.used (drop at now)) ended) goes_on h.ends in
-        (now, (reads_all none, record {
-          items = s.items ++ h.items;
-          sweep = subst (Sweeps bits base 0 now (s.items ++ h.items)) (ends.1 e) joined;
-          all = all_joined;
-          count_is = count_joined;
-          written = written_joined;
-        }))
+        subst (HandlesEnd bits base lines (at + handled.used) (drop handled.used (drop at now)) ended) goes_on h.ends in (
+          now,
+          (
+            reads_all none,
+            record {
+              items = s.items ++ h.items;
+              sweep = subst (Sweeps bits base 0 now (s.items ++ h.items)) (ends.1 e) joined;
+              all = all_joined;
+              count_is = count_joined;
+              written = written_joined;
+            },
+          ),
+        )
 
     -- **there is a byte past the limit**
     pub past_limit : end < len + n → ended ≡ false → handled.stop ≡ None →
@@ -221,11 +236,16 @@ module _ (bits : Bits) (base : ℕ) (lines : Lines) (start left left' held held'
           handled = record { rest = drop handled.used (drop at now); sweeps = joined; ready = ready_joined e; short = ends.0 };
           all = all_joined;
           written = written_joined;
-        } in
-        (taken, (record {
-          read = all_taken;
-          over = omega (arith, length-append s.seen f.piece, f.count_is, f.within, room_is, s.reaches, s.few, end_is);
-        }, subst (λ xs. WritesHandled bits base lines xs held held'') now_is written))
+        } in (
+          taken,
+          (
+            record {
+              read = all_taken;
+              over = omega (arith, length-append s.seen f.piece, f.count_is, f.within, room_is, s.reaches, s.few, end_is);
+            },
+            subst (λ xs. WritesHandled bits base lines xs held held'') now_is written,
+          ),
+        )
 
     -- **there is bad code**
     pub at_bad_code : (error : DecodeError) → handled.stop ≡ Some error → (ended ≡ true → n ≡ 0) →
@@ -242,16 +262,24 @@ module _ (bits : Bits) (base : ℕ) (lines : Lines) (start left left' held held'
         let swept =
         sweeps_join bits base 0 (at + handled.used) now (s.items ++ h.items) rest (last ∷ []) (drop (item_len last.reading) rest) joined here one in
         let may : MayHandle start left' now (at + handled.used) =
-        elim ends.1.1.1 [ inl long ↦ inl (omega (arith, here)) | inr e ↦ inr (reads_all (last_pull e)) ] in
-        (now, (sees, (may, record {
-          items = s.items ++ h.items;
-          last = last;
-          sweep = (drop (item_len last.reading) rest, swept);
-          all = all_joined;
-          offset_is = ends.1.0.offset_is;
-          stops = ends.1.1.0;
-          written = written_joined;
-        })))
+        elim ends.1.1.1 [ inl long ↦ inl (omega (arith, here)) | inr e ↦ inr (reads_all (last_pull e)) ] in (
+          now,
+          (
+            sees,
+            (
+              may,
+              record {
+                items = s.items ++ h.items;
+                last = last;
+                sweep = (drop (item_len last.reading) rest, swept);
+                all = all_joined;
+                offset_is = ends.1.0.offset_is;
+                stops = ends.1.1.0;
+                written = written_joined;
+              },
+            ),
+          ),
+        )
 
     -- **the next pull**
     pub streamed_next : (window'' : List ℕ) → len + n ≤ end → ended ≡ false → handled.stop ≡ None →

@@ -35,7 +35,7 @@ abbrev pub CompletesStream : Bits → ℕ → Lines → Option (List ℕ) → Re
 CompletesStream bits base lines (Some bytes) result =
     (length bytes ≤ code_limit → (items : List Item) → IsSweep bits base bytes items → result ≡ end_of lines items (Ok (length items)))
     × (code_limit < length bytes → (items : List Item) → AreHandled bits base (take code_limit bytes) items
-      → result ≡ end_of lines items (Err (TooLarge code_limit)))
+    → result ≡ end_of lines items (Err (TooLarge code_limit)))
 CompletesStream bits base lines None result = IsNoFault result
 
 -- A listing that meets no fault comes to the end of its input, whatever the bytes are, or tells that there are too many.
