@@ -83,6 +83,17 @@ pub mod slots {
     pub use step_slots::{StepCommand, StepError, StepReply, StepSlot, StepSlots, replay};
 }
 
+/// Listings of any input, a line at a time, and the ports that they go between.
+pub mod streams {
+    pub use byte_ports::{
+        CountSink, FailAt, Failed, MakeError, MemSink, MemSource, Sink, SlowSource, Source,
+    };
+    pub use sweep::{
+        Lines, ListError, StreamError, Syntax, info_stream, list_stream, recode_stream,
+        stream_lines,
+    };
+}
+
 /// The offsets that control reaches, and their basic blocks.
 pub mod flow {
     pub use flow_graph::{FlowError, FlowGraph, flow_graph, flow_graph_in};

@@ -6,6 +6,7 @@ use crate::info::{Flow, flow_of};
 use crate::moving::move_block;
 use crate::region::Region;
 use crate::rows::code_of;
+use crate::streams::{MemSink, MemSource, info_stream};
 use crate::values::Bits;
 use std::test::Fail;
 
@@ -30,6 +31,10 @@ fn each_module_has_its_call(rt: HostRuntime) -> Result<(), Fail> {
     assert!(rt; moved.bytes().is_empty());
     let graph = flow_graph_in(rt.alloc(), Bits::B64, 0x1000, &bytes)?;
     assert_eq!(rt; graph.starts(), [0].as_slice());
+    let mut source = MemSource::new(&bytes);
+    let mut lines = MemSink::new(rt.alloc(), 80)?;
+    assert_eq!(rt; info_stream::<64, _, _>(0x1000, &mut source, &mut lines), Ok(1));
+    assert_eq!(rt; lines.bytes(), b"0000000000001000 ConditionalBranch n -> 0x1012\n".as_slice());
     let mut region = Region::make(rt.alloc(), 0x2000, 64, 2)?;
     assert_eq!(rt; region.place(6)?, 0x2000);
     Ok(())

@@ -1,6 +1,6 @@
 use super::*;
 use arrayvec::ArrayVec;
-use byte_ports::{CountSink, FailAt, MemSink, MemSource};
+use byte_ports::{CountSink, FailAt, MemSink, MemSource, SlowSource};
 use decoder::DecodeError;
 use std::process::Abort;
 use std::str::from_utf8;
@@ -634,33 +634,68 @@ fn a_port_that_fails_ends_what_is_told(rt: HostRuntime) -> Result<(), Fail> {
     Ok(())
 }
 
+/// What stands in the output where the source fails at a call: the lines of the items of which 15 bytes were read.
 #[test]
-fn the_input_has_a_limit(rt: HostRuntime) -> Result<(), Fail> {
-    let words = ["list", "64", "0", "intel"];
-    let mut flood = Vec::new(rt.alloc());
-    flood.push(0x06)?;
-    flood.resize(16_777_217, 0x90)?;
-    let mut out = CountSink::new();
-    for words in [
-        words.as_slice(),
-        ["info", "64", "0"].as_slice(),
-        ["recode", "64", "0", "64", "0"].as_slice(),
-    ] {
-        let mut source = MemSource::new(&flood);
+fn lines_are_written_before_more_is_read(rt: HostRuntime) -> Result<(), Fail> {
+    let bad = Status::BadCode {
+        offset: 1,
+        error: DecodeError::Invalid,
+    };
+    let nops = [0x90; 16];
+    let mut broken = nops;
+    broken[1] = 0x06;
+    let one = "0000000000000000 90                             nop\n";
+    let two =
+        "0000000000000000 90                             nop\n0000000000000001 90                             nop\n";
+    let list: &[&str] = &["list", "64", "0", "intel"];
+    let info: &[&str] = &["info", "64", "0"];
+    let recode: &[&str] = &["recode", "64", "0", "64", "0"];
+    let cases: [(&[&str], [u8; 16], u64, Status, &str); 9] = [
+        (list, nops, 1, Status::ReadFault, ""),
+        (list, nops, 15, Status::ReadFault, ""),
+        (list, nops, 16, Status::ReadFault, one),
+        (list, nops, 17, Status::ReadFault, two),
+        (info, nops, 16, Status::ReadFault, "0000000000000000 Next\n"),
+        (recode, nops, 16, Status::ReadFault, "0000000000000000 90\n"),
+        (
+            info,
+            broken,
+            16,
+            Status::ReadFault,
+            "0000000000000000 Next\n",
+        ),
+        (info, broken, 17, bad, "0000000000000000 Next\n"),
+        (recode, broken, 17, bad, "0000000000000000 90\n"),
+    ];
+    for (words, code, call, status, written) in cases {
+        let mut source = FailAt::new(SlowSource::new(MemSource::new(&code)), at(call));
+        let mut out = MemSink::new(rt.alloc(), MANY)?;
         let mut err = MemSink::new(rt.alloc(), 80)?;
-        let status = run(rt.alloc(), words, &mut source, &mut out, &mut err);
-        assert_eq!(rt; status, Status::TooLarge { limit: 16_777_216 });
-        assert_eq!(rt; status_number(&status), 6);
-        assert_eq!(rt; out.count(), 0);
-        assert_eq!(rt; err.bytes(), b"input over 16777216 bytes\n".as_slice());
+        let answer = run(rt.alloc(), words, &mut source, &mut out, &mut err);
+        assert_eq!(rt; answer, status, "{words:?} at {call}");
+        assert_eq!(rt; from_utf8(out.bytes())?, written, "{words:?} at {call}");
     }
+    Ok(())
+}
 
-    let mut prefixes = Vec::new(rt.alloc());
-    prefixes.resize(65536, 0x66)?;
-    let mut source = MemSource::new(&prefixes);
-    let mut err = MemSink::new(rt.alloc(), 80)?;
-    let status = run(rt.alloc(), &words, &mut source, &mut out, &mut err);
-    assert_eq!(rt; status, Status::Done);
-    assert_eq!(rt; out.count(), 3_670_016);
+/// A sink that fails at its call k, where there is one, holds a part of the listing.
+#[test]
+fn a_sink_that_fails_holds_a_part(rt: HostRuntime) -> Result<(), Fail> {
+    let words = ["list", "64", "0", "intel"];
+    let listing =
+        b"0000000000000000 90                             nop\n0000000000000001 c3                             ret\n";
+    for k in 1..=6_u64 {
+        let mut source = MemSource::new(&[0x90, 0xC3]);
+        let mut out = FailAt::new(MemSink::new(rt.alloc(), MANY)?, at(k));
+        let mut err = MemSink::new(rt.alloc(), 80)?;
+        let status = run(rt.alloc(), &words, &mut source, &mut out, &mut err);
+        let (wanted, held) = if k == 1 {
+            (Status::WriteFault, b"".as_slice())
+        } else {
+            (Status::Done, listing.as_slice())
+        };
+        assert_eq!(rt; status, wanted, "call {k}");
+        assert_eq!(rt; out.inner().bytes(), held, "call {k}");
+    }
     Ok(())
 }

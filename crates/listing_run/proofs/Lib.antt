@@ -1,3 +1,2 @@
 pub mod RowLines
-pub mod Progress
 pub mod Completing

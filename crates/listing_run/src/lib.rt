@@ -3,7 +3,6 @@
 
 mod program;
 mod rows;
-mod through;
 
 pub use program::run;
 pub use run_parts::{Status, status_number};

@@ -8,20 +8,19 @@ ghost use Rattle.run_parts.specs.Reads.{code_limit, whole_limit, Takes, EndsAtFa
 ghost use Rattle.run_parts.specs.Writing.{Says};
 ghost use Rattle.listing_run.specs.Texts as text;
 ghost use Rattle.listing_run.specs.Rows.{rows_text};
-ghost use Rattle.listing_run.specs.Outcome.{RunsAs, GoesThroughAs, WritesAs, Reads, Streams, IsWrong, IsBadCode, Completes, one_block};
+ghost use Rattle.listing_run.specs.Outcome.{RunsAs, GoesThroughAs, WritesAs, Reads, Streams, IsWrong, Completes, CompletesThrough, one_block};
 ghost use Rattle.listing_run.specs.Taken.{limit_of};
 ghost use Rattle.moving_run.specs.Moving.{MovesAs, CompletesMoving};
 ghost use Rattle.command_words.specs.declared.commands.Command.TheVariants.{Wrong};
 
 use crate::rows::write_rows;
-use crate::through::{End, write_lines};
 use byte_ports::{Sink, Source};
 use command_words::{BlockWords, Command, command_of};
 use flow_run::flow_code;
 use moving_run::{Wanted, move_code};
-use run_parts::{CODE_LIMIT, ReadError, Status, put_all, read_all, say, status_line};
+use run_parts::{Status, put_all, say, status_line};
 use std::alloc::Global;
-use sweep_text::Lines;
+use sweep::{Lines, StreamError, stream_lines};
 use x86_values::Bits;
 
 /// What `--help` writes.
@@ -51,9 +50,7 @@ fn write_text<K: Sink>(text: &[u8], out: &mut K) -> Status
 }
 
 /// Goes through the source as code of a mode.
-#[tactic(auto, unfolding(run_parts::specs::Reads::code_limit))]
 fn go_through<S: Source, K: Sink>(
-    alloc: Global,
     bits: Bits,
     base: u64,
     lines: Lines,
@@ -62,21 +59,17 @@ fn go_through<S: Source, K: Sink>(
 ) -> Status
     ensures answer { GoesThroughAs bits base lines (S.left source.old) (S.left source.new) (K.held out.old) (K.held out.new)
         (Rose (S.faults source.old) (S.faults source.new)) (Rose (K.faults out.old) (K.faults out.new)) result }
+    ensures complete { (Rose (S.faults source.old) (S.faults source.new) → ⊥) → (Rose (K.faults out.old) (K.faults out.new) → ⊥)
+        → CompletesThrough bits base lines (S.left source.old) result }
     ensures taken { Takes code_limit (S.left source.old) (S.left source.new)
         × (result ≡ Status.ReadFault → EndsAtFault S.pull_gives S.left source.new) }
 {
-    let input = match read_all(alloc, source, CODE_LIMIT) {
-        Ok(input) => input,
-        Err(ReadError::Fault) => return Status::ReadFault,
-        Err(ReadError::Memory) => return Status::Memory,
-        Err(ReadError::TooLarge) => return Status::TooLarge {
-            limit: u64::from(CODE_LIMIT),
-        },
-    };
-    match write_lines(bits, base, lines, &input, out) {
-        Ok(End::Whole) => Status::Done,
-        Ok(End::BadCode { offset, error }) => Status::BadCode { offset, error },
-        Err(_) => Status::WriteFault,
+    match stream_lines(bits, base, lines, source, out) {
+        Ok(_) => Status::Done,
+        Err(StreamError::BadCode { offset, error }) => Status::BadCode { offset, error },
+        Err(StreamError::ReadFault) => Status::ReadFault,
+        Err(StreamError::WriteFault) => Status::WriteFault,
+        Err(StreamError::TooLarge { limit }) => Status::TooLarge { limit },
     }
 }
 
@@ -135,16 +128,15 @@ fn answer<S: Source, K: Sink>(
         Command::Help => write_text(help_text(), out),
         Command::Version => write_text(version_text(), out),
         Command::List { bits, base, syntax } => {
-            go_through(alloc, bits, base, Lines::Listing { syntax }, source, out)
+            go_through(bits, base, Lines::Listing { syntax }, source, out)
         }
-        Command::Info { bits, base } => go_through(alloc, bits, base, Lines::Info, source, out),
+        Command::Info { bits, base } => go_through(bits, base, Lines::Info, source, out),
         Command::Recode {
             bits,
             base,
             to,
             new_base,
         } => go_through(
-            alloc,
             bits,
             base,
             Lines::Recode { to, new_base },
@@ -208,12 +200,12 @@ pub fn run<S: Source, K: Sink, E: Sink>(
         (K.held out.old) (K.held out.new)
         (Rose (S.faults source.old) (S.faults source.new)) (Rose (K.faults out.old) (K.faults out.new)) result }
 
-    // A port's fault is told only where its count rose. Nothing is written before any other refusal, but that list, info and recode write the lines
-    // before bad code.
+    // A port's fault is told only where its count rose. Nothing is written before any other refusal, but that list, info and recode write lines as they
+    // go: after a refusal those of the items before bad code stand, or of all items of which 15 bytes were seen.
     ensures read_fault { result ≡ Status.ReadFault → Rose (S.faults source.old) (S.faults source.new) }
     ensures write_fault { result ≡ Status.WriteFault → Rose (K.faults out.old) (K.faults out.new) }
     ensures refused { (result ≡ Status.Done → ⊥) → (result ≡ Status.WriteFault → ⊥)
-        → (IsBadCode result → Streams (command_of (texts words.now)) → ⊥) → K.held out.new ≡ K.held out.old }
+        → (Streams (command_of (texts words.now)) → ⊥) → K.held out.new ≡ K.held out.old }
 
     // The number of the first word that is not allowed, missing or too many. Nothing is read or written then.
     ensures usage { (word : ℕ) → (result ≡ Status.Usage word) ↔ (command_of (texts words.now) ≡ Wrong word) }
@@ -224,8 +216,8 @@ pub fn run<S: Source, K: Sink, E: Sink>(
     ensures taken { Takes (limit_of (command_of (texts words.now))) (S.left source.old) (S.left source.new)
         × (result ≡ Status.ReadFault → EndsAtFault S.pull_gives S.left source.new) }
 
-    // Where no port fails the command is done, within the limit of its input, or ends at the first bad code; what reads may
-    // want memory.
+    // Where no port fails the command is done, within the limit of its input, or ends at the first bad code. What takes its input as a whole may want
+    // memory; list, info and recode take none.
     ensures complete { (Rose (S.faults source.old) (S.faults source.new) → ⊥) → (Rose (K.faults out.old) (K.faults out.new) → ⊥)
         → Completes (command_of (texts words.now)) (S.left source.old) result }
 

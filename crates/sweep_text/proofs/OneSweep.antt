@@ -35,7 +35,7 @@ unfolding IsReadAt
 reading_unique bits base offset bytes reading other h k = reading_same bits (base + offset) bytes reading other h k
 
 -- one item stands at an offset
-item_unique : (bits : Bits) (base offset : ℕ) (bytes : List ℕ) (x y : Item) → IsItemAt bits base offset bytes x → IsItemAt bits base offset bytes y →
+pub item_unique : (bits : Bits) (base offset : ℕ) (bytes : List ℕ) (x y : Item) → IsItemAt bits base offset bytes x → IsItemAt bits base offset bytes y →
     x ≡ y
 item_unique bits base offset bytes x y h k =
     let reading = reading_unique bits base offset bytes x.reading y.reading h.reads k.reads in
@@ -59,7 +59,7 @@ sweep_begins bits base offset bytes (x ∷ items) (y ∷ others) rest h k =
     let tail = sweep_begins bits base (offset + item_len x.reading) (drop (item_len x.reading) bytes) items others rest h.1 (subst S (sym same) k.1) in
     (tail.0, ap (λ (i : Item). i ∷ others) (sym same) ∙ ap (λ (l : List Item). x ∷ l) tail.1)
 
-begin_each_other : (a b m n : List Item) → b ≡ a ++ m → a ≡ b ++ n → a ≡ b
+pub begin_each_other : (a b m n : List Item) → b ≡ a ++ m → a ≡ b ++ n → a ≡ b
 begin_each_other a b [] n e f = sym (e ∙ append-nil a)
 begin_each_other a b (x ∷ m) n e f = absurd (omega (arith, ap length e, ap length f, length-append a (x ∷ m), length-append b n))
 

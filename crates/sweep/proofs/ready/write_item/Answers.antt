@@ -1,8 +1,8 @@
 use Rattle.std.proofs.Common.{ℕ, length, take, refl, sym, ap}
 use Rattle.decoder.specs.Answer.{reading_of}
 use Rattle.opcode_rows.specs.Sweep.{item_len}
-use Rattle.listing_run.proofs.Progress.{moves-line, item_within}
-use Rattle.listing_run.proofs.through.write_item.Goals as goal
+use Rattle.sweep.proofs.Handling.{moves-line, item_within}
+use Rattle.sweep.proofs.ready.write_item.Goals as goal
 
 pub returns-in-Some-clause-ok : goal.returns-in-Some-clause-ok
 returns-in-Some-clause-ok g c =

@@ -1,0 +1,5 @@
+pub mod Longer
+pub mod Windows
+pub mod Handling
+pub mod Streaming
+pub mod Completing

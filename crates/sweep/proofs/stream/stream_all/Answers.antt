@@ -1,0 +1,65 @@
+use Rattle.std.proofs.Common.{◌≡◌, ◌+◌, ◌-◌, ◌≤◌, ◌<◌, min, true, false, None, arith, refl, ◌∙◌}
+use Rattle.std.proofs.lemmas.Bool.{eqb-true, eq-eqb, ne_eqb}
+use Rattle.run_parts.specs.Reads.{code_limit}
+use Rattle.run_parts.proofs.Causes.{rose_since}
+use Rattle.sweep.proofs.Streaming.{window_is, at_write_fault, at_end_of_input, past_limit, at_bad_code, streamed_next}
+use Rattle.sweep.proofs.stream.stream_all.Goals as goal
+
+pub returns-in-Err-write_ready-clause-answer : goal.returns-in-Err-write_ready-clause-answer
+unfolding code_limit
+returns-in-Err-write_ready-clause-answer g c =
+    let s = c.pulls.invariant.streamed in
+    let f = c.in-Ok.ensures.ok in
+    let room_is : c.min-room.result ≤ code_limit + 1 - (c.pulls.at + c.pulls.len) = omega (arith, c.min-room.ensures) in
+    let end_is : c.min-end.result ≡ min (c.pulls.len + c.in-Ok.n) (code_limit - c.pulls.at) = c.min-end.ensures in
+    let front = rw (window_is _ _ _ _ _ _ _ _ _ _ _ _ _ _ _ _ s f room_is end_is) at c.in-Err-write_ready.ensures.err in
+    (rose_since _ _ _ c.pulls.invariant.sink_later (c.in-Err-write_ready.ensures.cause.failed refl), at_write_fault _ _ _ _ _ _ _ _ _ _ _ _ _ _ _ _ s f room_is end_is _ front)
+
+pub returns-in-Some-clause-answer : goal.returns-in-Some-clause-answer
+unfolding code_limit
+returns-in-Some-clause-answer g c =
+    let s = c.pulls.invariant.streamed in
+    let f = c.in-Ok.ensures.ok in
+    let room_is : c.min-room.result ≤ code_limit + 1 - (c.pulls.at + c.pulls.len) = omega (arith, c.min-room.ensures) in
+    let end_is : c.min-end.result ≡ min (c.pulls.len + c.in-Ok.n) (code_limit - c.pulls.at) = c.min-end.ensures in
+    let h = rw (window_is _ _ _ _ _ _ _ _ _ _ _ _ _ _ _ _ s f room_is end_is) at c.in-Ok-write_ready.ensures.ok in
+    at_bad_code _ _ _ _ _ _ _ _ _ _ _ _ _ _ _ _ s f room_is end_is _ _ _ h c.in-Some.error c.in-Some.is (λ e. eqb-true c.in-Ok.n 0 e)
+
+pub returns-then-n-eq0-clause-answer : goal.returns-then-n-eq0-clause-answer
+unfolding code_limit
+returns-then-n-eq0-clause-answer g c =
+    let s = c.pulls.invariant.streamed in
+    let f = c.in-Ok.ensures.ok in
+    let room_is : c.min-room.result ≤ code_limit + 1 - (c.pulls.at + c.pulls.len) = omega (arith, c.min-room.ensures) in
+    let end_is : c.min-end.result ≡ min (c.pulls.len + c.in-Ok.n) (code_limit - c.pulls.at) = c.min-end.ensures in
+    let h = rw (window_is _ _ _ _ _ _ _ _ _ _ _ _ _ _ _ _ s f room_is end_is) at c.in-Ok-write_ready.ensures.ok in
+    at_end_of_input _ _ _ _ _ _ _ _ _ _ _ _ _ _ _ _ s f room_is end_is _ _ _ h c.if-n-eq0.true (eq-eqb c.in-Ok.n 0 c.if-n-eq0.true) c.in_default.is
+
+pub returns-then-end-len-clause-answer : goal.returns-then-end-len-clause-answer
+unfolding code_limit
+returns-then-end-len-clause-answer g c =
+    let s = c.pulls.invariant.streamed in
+    let f = c.in-Ok.ensures.ok in
+    let room_is : c.min-room.result ≤ code_limit + 1 - (c.pulls.at + c.pulls.len) = omega (arith, c.min-room.ensures) in
+    let end_is : c.min-end.result ≡ min (c.pulls.len + c.in-Ok.n) (code_limit - c.pulls.at) = c.min-end.ensures in
+    let h = rw (window_is _ _ _ _ _ _ _ _ _ _ _ _ _ _ _ _ s f room_is end_is) at c.in-Ok-write_ready.ensures.ok in
+    (c.from.ensures, past_limit _ _ _ _ _ _ _ _ _ _ _ _ _ _ _ _ s f room_is end_is _ _ _ h c.if-end-len.true (ne_eqb c.in-Ok.n 0 c.if-n-eq0.false) c.in_default.is)
+
+pub pulls-preserved : goal.pulls-preserved
+unfolding code_limit
+pulls-preserved g c =
+    let s = c.pulls.invariant.streamed in
+    let f = c.in-Ok.ensures.ok in
+    let room_is : c.min-room.result ≤ code_limit + 1 - (c.pulls.at + c.pulls.len) = omega (arith, c.min-room.ensures) in
+    let end_is : c.min-end.result ≡ min (c.pulls.len + c.in-Ok.n) (code_limit - c.pulls.at) = c.min-end.ensures in
+    let h = rw (window_is _ _ _ _ _ _ _ _ _ _ _ _ _ _ _ _ s f room_is end_is) at c.in-Ok-write_ready.ensures.ok in
+    let next = streamed_next _ _ _ _ _ _ _ _ _ _ _ _ _ _ _ _ s f room_is end_is _ _ _ h c.keep.new.window (omega (arith, c.if-end-len.false)) (ne_eqb c.in-Ok.n 0 c.if-n-eq0.false) c.in_default.is c.keep.ensures.kept in
+    record {
+      streamed = next;
+      wide = c.keep.ensures.len ∙ (c.fill.ensures.len ∙ c.pulls.invariant.wide);
+      few = omega (arith, next.reaches, next.few);
+      short = next.short;
+      counted = omega (arith, c.pulls.invariant.counted, c.in-Ok-write_ready.ensures.few);
+      source_later = omega (arith, c.pulls.invariant.source_later, c.fill.ensures.cause.later);
+      sink_later = omega (arith, c.pulls.invariant.sink_later, c.write_ready.ensures.cause.later);
+    }

@@ -1,0 +1,4 @@
+pub mod Steps
+pub mod Window
+pub mod Streams
+pub mod Ends

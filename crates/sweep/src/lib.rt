@@ -1,0 +1,12 @@
+//! The sweep over code of any length, in memory of fixed size: a line is written before the next byte is asked for.
+#![tactic(auto)]
+
+mod error;
+pub mod laws;
+mod ready;
+mod stream;
+mod window;
+
+pub use error::{ListError, StreamError};
+pub use stream::{info_stream, list_stream, recode_stream, stream_lines};
+pub use sweep_text::{Lines, Syntax};

@@ -1,0 +1,115 @@
+//! Writing the lines of the items at the front of some bytes, as far as nothing that follows can change them.
+
+ghost use Rattle.std.specs.Prelude.{◌≡◌, ◌<◌, ◌≤◌, ◌+◌, true, false, length, IfOk, OnErr};
+ghost use Rattle.byte_ports.specs.Ports.{HasCause};
+ghost use Rattle.run_parts.specs.Writing.{HoldsFront};
+ghost use Rattle.sweep.specs.Steps.{TakesStep, HandlesItems, HandlesFront};
+
+use byte_ports::{Failed, Sink};
+use decoder::DecodeError;
+use run_parts::{make_room, put_all};
+use sweep_text::{Chunk, Lines, append_line, item_len, read_at, stop_of};
+use x86_values::Bits;
+
+/// The most bytes of an instruction (Intel SDM volume 2, 2.3.11).
+const LONGEST: usize = 15;
+
+/// What became of an item.
+#[derive(Clone, Copy, PartialEq, Eq, Debug)]
+pub enum Step {
+    /// Its line was written or is held back. It takes so many bytes.
+    Line { count: usize },
+    /// The command has no line for it, and ends.
+    Stop { error: DecodeError },
+}
+
+/// How far some bytes were handled.
+#[derive(Clone, Copy, PartialEq, Eq, Debug)]
+pub struct Handled {
+    /// The bytes of the items whose lines were written.
+    pub used: usize,
+    /// How many these items are.
+    pub count: u64,
+    /// Why the command ends behind them, where it does.
+    pub stop: Option<DecodeError>,
+}
+
+/// Writes the line of the item at the front of some bytes, or holds it back, where the command has one.
+fn write_item<K: Sink>(
+    bits: Bits,
+    base: u64,
+    lines: Lines,
+    at: usize,
+    rest: &[u8],
+    pending: &mut Chunk,
+    out: &mut K,
+) -> Result<Step, Failed>
+    requires some { 0 < length rest.now }
+    ensures ok { IfOk result (λ step. TakesStep bits base lines at rest.now (K.held out.old) (K.held out.new) pending.old.items pending.new.items step) }
+    ensures err { OnErr result (HoldsFront (K.held out.old) (K.held out.new) pending.old.items) }
+    ensures cause { HasCause (K.faults out.old) (K.faults out.new) result }
+{
+    let reading = read_at(bits, base, at, rest);
+    if let Some(error) = stop_of(lines, &reading) {
+        return Ok(Step::Stop { error });
+    }
+    make_room(pending, out)?;
+    let count = item_len(&reading);
+    append_line(pending, bits, base, lines, at, &rest[..count], &reading);
+    Ok(Step::Line { count })
+}
+
+/// Whether the item at the front of so many bytes can be handled: it has 15 bytes, or all that are to come.
+#[inline]
+fn is_ready(left: usize, ended: bool) -> bool
+    ensures ready { result ≡ true → (0 < left) × (left < 15 → ended ≡ true) }
+    ensures not_ready { result ≡ false → (left < 15) × (ended ≡ true → left ≡ 0) }
+{
+    left >= LONGEST || (ended && left > 0)
+}
+
+/// Writes the lines of the items at the front of some bytes, which stand at an offset of the code, as far as 15 bytes of each are there. Where the input
+/// has ended, `ended`, all items are handled. It ends before an item for which the command has no line.
+pub(crate) fn write_ready<K: Sink>(
+    bits: Bits,
+    base: u64,
+    lines: Lines,
+    at: usize,
+    bytes: &[u8],
+    ended: bool,
+    out: &mut K,
+) -> Result<Handled, Failed>
+    requires at { at ≤ 16777216 }
+    requires short { length bytes.now ≤ 16384 }
+    ensures ok { IfOk result (λ handled. HandlesItems bits base lines at bytes.now ended (K.held out.old) (K.held out.new) handled) }
+    ensures few { IfOk result (λ handled. handled.count ≤ handled.used) }
+    ensures err { OnErr result (HandlesFront bits base lines at bytes.now (K.held out.old) (K.held out.new)) }
+    ensures cause { HasCause (K.faults out.old) (K.faults out.new) result }
+{
+    let mut pending = Chunk::new();
+    let mut used = 0;
+    let mut count = 0;
+    'items: while is_ready(bytes.len() - used, ended) {
+        let (_, rest) = bytes.split_at(used);
+        match write_item(bits, base, lines, at + used, rest, &mut pending, out)? {
+            Step::Line { count: taken } => {
+                used += taken;
+                count += 1;
+            }
+            Step::Stop { error } => {
+                put_all(out, &pending)?;
+                return Ok(Handled {
+                    used,
+                    count,
+                    stop: Some(error),
+                });
+            }
+        }
+    }
+    put_all(out, &pending)?;
+    Ok(Handled {
+        used,
+        count,
+        stop: None,
+    })
+}

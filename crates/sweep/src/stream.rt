@@ -1,0 +1,161 @@
+//! Going through the code of a source, a window at a time.
+
+ghost use Rattle.std.specs.Prelude.{◌≡◌, IsTrue};
+ghost use Rattle.byte_ports.specs.Ports.{Rose};
+ghost use Rattle.prefixes.specs.Answer.{is_mode, mode_of};
+ghost use Rattle.run_parts.specs.Reads.{code_limit, Takes, EndsAtFault};
+ghost use Rattle.sweep.specs.Streams.{StreamsAs};
+ghost use Rattle.sweep.specs.Ends.{of_listing, CompletesStream, CompletesListing};
+ghost use Rattle.sweep_text.specs.declared.lines.Lines.TheVariants as lines;
+ghost use Rattle.sweep.specs.declared.error.StreamError.TheVariants as why;
+
+use crate::error::{ListError, StreamError};
+use crate::ready::write_ready;
+use crate::window::{WINDOW_LEN, fill, keep};
+use byte_ports::{Failed, Sink, Source};
+use prefixes::mode_of;
+use run_parts::CODE_LIMIT;
+use sweep_text::{Lines, Syntax};
+use x86_values::Bits;
+
+/// The most bytes of a source that are handled.
+const LIMIT: usize = CODE_LIMIT as usize;
+
+/// Goes through the code of a source, a window at a time.
+#[tactic(auto, unfolding(run_parts::specs::Reads::code_limit))]
+fn stream_all<S: Source, K: Sink>(
+    bits: Bits,
+    base: u64,
+    lines: Lines,
+    source: &mut S,
+    sink: &mut K,
+) -> Result<u64, StreamError>
+    ensures answer { StreamsAs bits base lines (S.left source.old) (S.left source.new) (K.held sink.old) (K.held sink.new)
+        (Rose (S.faults source.old) (S.faults source.new)) (Rose (K.faults sink.old) (K.faults sink.new)) result }
+    ensures last { result ≡ Err why.ReadFault → EndsAtFault S.pull_gives S.left source.new }
+{
+    let mut window = [0; WINDOW_LEN];
+    let mut len = 0;
+    let mut at = 0;
+    let mut count = 0;
+    'pulls: loop {
+        let room = (WINDOW_LEN - len).min(LIMIT + 1 - (at + len));
+        let n = match fill(source, &mut window, len, room) {
+            Ok(n) => n,
+            Err(Failed) => return Err(StreamError::ReadFault),
+        };
+        let end = (len + n).min(LIMIT - at);
+        let handled = match write_ready(bits, base, lines, at, &window[..end], n == 0, sink) {
+            Ok(handled) => handled,
+            Err(Failed) => return Err(StreamError::WriteFault),
+        };
+        count += handled.count;
+        if let Some(error) = handled.stop {
+            let offset = (at + handled.used) as u64;
+            return Err(StreamError::BadCode { offset, error });
+        }
+        if n == 0 {
+            return Ok(count);
+        }
+        if end < len + n {
+            return Err(StreamError::TooLarge {
+                limit: u64::from(CODE_LIMIT),
+            });
+        }
+        keep(&mut window, handled.used, end);
+        at += handled.used;
+        len = end - handled.used;
+    }
+}
+
+/// Goes through the code of a source, whose first byte has the address `base`, and writes the lines of its items, as far as the command goes on behind
+/// them. The answer is the number of items.
+///
+/// An item is handled once 15 bytes from its start on were read or the input has ended, and before any byte past 16,777,216 is told. What was handled
+/// is put to the sink before the source is asked again. The first refusal in this order ends the way: `ReadFault` and `WriteFault` only where that
+/// port's count of faults rose, `BadCode` at the first item for which the command has no line, `TooLarge` where the source gives more than 16,777,216
+/// bytes.
+pub fn stream_lines<S: Source, K: Sink>(
+    bits: Bits,
+    base: u64,
+    lines: Lines,
+    source: &mut S,
+    sink: &mut K,
+) -> Result<u64, StreamError>
+    ensures answer { StreamsAs bits base lines (S.left source.old) (S.left source.new) (K.held sink.old) (K.held sink.new)
+        (Rose (S.faults source.old) (S.faults source.new)) (Rose (K.faults sink.old) (K.faults sink.new)) result }
+    ensures complete { (Rose (S.faults source.old) (S.faults source.new) → ⊥) → (Rose (K.faults sink.old) (K.faults sink.new) → ⊥)
+        → CompletesStream bits base lines (S.left source.old) result }
+    ensures taken { Takes code_limit (S.left source.old) (S.left source.new)
+        × (result ≡ Err why.ReadFault → EndsAtFault S.pull_gives S.left source.new) }
+{
+    stream_all(bits, base, lines, source, sink)
+}
+
+/// The listing of the code of a source, in a style: [`stream_lines`] with the lines of a listing. It goes on behind every item, so there is no bad code.
+///
+/// `BITS` is the mode, 16, 32 or 64. `TooLarge` where the source gives more than 16,777,216 bytes; `ReadFault` and `WriteFault` only where that port's
+/// count of faults rose.
+pub fn list_stream<const BITS: u32, S: Source, K: Sink>(
+    base: u64,
+    syntax: Syntax,
+    source: &mut S,
+    sink: &mut K,
+) -> Result<u64, ListError>
+    requires { IsTrue (is_mode BITS) }
+    ensures answer { StreamsAs (mode_of BITS) base (lines.Listing syntax) (S.left source.old) (S.left source.new) (K.held sink.old) (K.held sink.new)
+        (Rose (S.faults source.old) (S.faults source.new)) (Rose (K.faults sink.old) (K.faults sink.new)) (of_listing result) }
+    ensures complete { (Rose (S.faults source.old) (S.faults source.new) → ⊥) → (Rose (K.faults sink.old) (K.faults sink.new) → ⊥)
+        → CompletesListing (S.left source.old) (of_listing result) }
+    ensures taken { Takes code_limit (S.left source.old) (S.left source.new) }
+{
+    let lines = Lines::Listing { syntax };
+    match stream_lines(mode_of::<BITS>(), base, lines, source, sink) {
+        Ok(count) => Ok(count),
+        Err(StreamError::ReadFault) => Err(ListError::ReadFault),
+        Err(StreamError::WriteFault) => Err(ListError::WriteFault),
+        Err(StreamError::TooLarge { limit }) => Err(ListError::TooLarge { limit }),
+        Err(StreamError::BadCode { .. }) => unreachable!(),
+    }
+}
+
+/// The bytes of the instructions of a source in the mode `to`, where its first byte has the address `new_base`: [`stream_lines`] with the lines of
+/// recoding. `BITS` is the mode that it is read in.
+pub fn recode_stream<const BITS: u32, S: Source, K: Sink>(
+    base: u64,
+    to: Bits,
+    new_base: u64,
+    source: &mut S,
+    sink: &mut K,
+) -> Result<u64, StreamError>
+    requires { IsTrue (is_mode BITS) }
+    ensures answer { StreamsAs (mode_of BITS) base (lines.Recode to new_base) (S.left source.old) (S.left source.new) (K.held sink.old) (K.held sink.new)
+        (Rose (S.faults source.old) (S.faults source.new)) (Rose (K.faults sink.old) (K.faults sink.new)) result }
+    ensures complete { (Rose (S.faults source.old) (S.faults source.new) → ⊥) → (Rose (K.faults sink.old) (K.faults sink.new) → ⊥)
+        → CompletesStream (mode_of BITS) base (lines.Recode to new_base) (S.left source.old) result }
+    ensures taken { Takes code_limit (S.left source.old) (S.left source.new) }
+{
+    stream_lines(
+        mode_of::<BITS>(),
+        base,
+        Lines::Recode { to, new_base },
+        source,
+        sink,
+    )
+}
+
+/// What each instruction of a source does: [`stream_lines`] with the lines of information. `BITS` is the mode.
+pub fn info_stream<const BITS: u32, S: Source, K: Sink>(
+    base: u64,
+    source: &mut S,
+    sink: &mut K,
+) -> Result<u64, StreamError>
+    requires { IsTrue (is_mode BITS) }
+    ensures answer { StreamsAs (mode_of BITS) base lines.Info (S.left source.old) (S.left source.new) (K.held sink.old) (K.held sink.new)
+        (Rose (S.faults source.old) (S.faults source.new)) (Rose (K.faults sink.old) (K.faults sink.new)) result }
+    ensures complete { (Rose (S.faults source.old) (S.faults source.new) → ⊥) → (Rose (K.faults sink.old) (K.faults sink.new) → ⊥)
+        → CompletesStream (mode_of BITS) base lines.Info (S.left source.old) result }
+    ensures taken { Takes code_limit (S.left source.old) (S.left source.new) }
+{
+    stream_lines(mode_of::<BITS>(), base, Lines::Info, source, sink)
+}
