@@ -121,12 +121,7 @@ fn an_instruction_without_a_slot_leaves_nothing(rt: HostRuntime) -> Result<(), F
         expect(&rt, command, &input, status, &[], line)?;
     }
 
-    // A range of 1 MiB has as many slots as there may be, and then no gap.
     let mut nops = Vec::new(rt.alloc());
-    nops.resize(65_537, 0x90)?;
-    let line = "region full: need 16, largest 0\n";
-    expect(&rt, "slots 64 0 1000 100000", &nops, full(16, 0), &[], line)?;
-
     nops.resize(1_048_577, 0x90)?;
     let limit = 1_048_576;
     let line = "input over 1048576 bytes\n";
