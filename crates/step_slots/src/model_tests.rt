@@ -150,7 +150,7 @@ fn many_commands(rt: HostRuntime) -> Result<(), Fail> {
     let mut slots = slots_of(rt.alloc(), BASE, SIZE, MOST)?;
     let mut live: Vec<Live> = Vec::new(rt.alloc());
     let mut x: u64 = 1;
-    for _ in 0..4000 {
+    'commands: for _ in 0..4000 {
         x = x
             .wrapping_mul(6_364_136_223_846_793_005)
             .wrapping_add(1_442_695_040_888_963_407);
