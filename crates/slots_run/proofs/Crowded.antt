@@ -1,6 +1,6 @@
 -- A region of 1 MiB with 65,536 live blocks has no gap.
-use Rattle.std.proofs.Common.{◌≡◌, ℕ, zero, suc, ◌+◌, ◌-◌, ◌*◌, ◌%◌, ◌<◌, ◌≤◌, List, [], ◌∷◌, length, map, find, Option, Some, None, Err, refl, ap, sym, subst, arith, inl, inr, ◌⊎◌}
-use Rattle.std.specs.Prelude.{All, max, nat_eq, nat_le}
+use Rattle.std.proofs.Common.{◌≡◌, ℕ, ◌+◌, ◌-◌, ◌*◌, ◌%◌, ◌<◌, ◌≤◌, List, [], ◌∷◌, length, map, Option, Some, None, Err, refl, arith, inl, inr}
+use Rattle.std.specs.Prelude.{All, max, nat_eq}
 use Rattle.std.proofs.Math.Nat.{le-max_left, le-max_right, max-le}
 use Rattle.std.proofs.lemmas.Bool.{cases_Bool, lt-leb, eqb-true}
 use Rattle.std.proofs.lemmas.List.Elements.{All-head, All-tail}
@@ -58,10 +58,10 @@ full-is region n len largest e =
             found (first_gap (rounded n) (gaps_of region)) (rounded n) (longest (gaps_of region)) f)
       ]
     ]
-    where
-      found : (o : Option Span) (a b : ℕ) → front_of o a b ≡ Err (place_error.Full len largest) → (o ≡ None) × ((len ≡ a) × (largest ≡ b))
-      found None a b h = (refl, (cc, cc))
-      found (Some gap) a b h = absurd cc
+  where
+    found : (o : Option Span) (a b : ℕ) → front_of o a b ≡ Err (place_error.Full len largest) → (o ≡ None) × ((len ≡ a) × (largest ≡ b))
+    found None a b h = (refl, (cc, cc))
+    found (Some gap) a b h = absurd cc
 
 -- as many live blocks as there may be
 pub many-is : (region : RegionState) (n most : ℕ) → place_answer region n ≡ Err (place_error.TooManyBlocks most) →
@@ -77,7 +77,7 @@ many-is region n most e =
             none (first_gap (rounded n) (gaps_of region)) (rounded n) (longest (gaps_of region)) f)
       ]
     ]
-    where
-      none : (o : Option Span) (a b : ℕ) → front_of o a b ≡ Err (place_error.TooManyBlocks most) → length region.live ≡ region.max_blocks
-      none None a b h = absurd cc
-      none (Some gap) a b h = absurd cc
+  where
+    none : (o : Option Span) (a b : ℕ) → front_of o a b ≡ Err (place_error.TooManyBlocks most) → length region.live ≡ region.max_blocks
+    none None a b h = absurd cc
+    none (Some gap) a b h = absurd cc

@@ -1,5 +1,5 @@
 -- How far going through the code has come.
-use Rattle.std.proofs.Common.{◌≡◌, ℕ, ◌+◌, ◌%◌, ◌^◌, ◌<◌, ◌≤◌, List, [], ◌∷◌, ◌++◌, length, take, drop, Option, Some, None, Result, Ok, Err, refl, sym, ap, ◌∙◌, subst, arith, append_assoc, append-nil, length-append, length-drop, length-take, drop-drop, drop_of_length-le}
+use Rattle.std.proofs.Common.{◌≡◌, ℕ, ◌+◌, ◌<◌, ◌≤◌, List, [], ◌∷◌, ◌++◌, length, take, drop, Option, Some, None, Ok, Err, refl, sym, ap, ◌∙◌, subst, arith, append_assoc, append-nil, length-append, length-drop, length-take, drop-drop, drop_of_length-le}
 use Rattle.std.specs.Prelude.{All}
 use Rattle.std.proofs.lemmas.List.Elements.{All-nil, All-cons, All-append, All-head, All-tail}
 use Rattle.x86_values.specs.declared.Bits.{Bits}
@@ -21,7 +21,7 @@ use Rattle.command_words.specs.Ranges.{Range}
 use Rattle.run_parts.specs.declared.status.Status.{Status}
 use Rattle.moving_run.specs.Code.{IsInstruction, StopsAt}
 use Rattle.slots_run.specs.Slotted.{slotted_by, slotted_in, empty_slots, AreSlotted}
-use Rattle.slots_run.specs.Steps.{IsTried, IsNext, IsRefused, HasCome, IsGoneThrough}
+use Rattle.slots_run.specs.Steps.{IsTried, IsNext, HasCome, IsGoneThrough}
 
 -- ---- one instruction
 

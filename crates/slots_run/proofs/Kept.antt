@@ -1,14 +1,13 @@
 -- What is kept while slots are made, and the causes for which one is not.
-use Rattle.std.proofs.Common.{◌≡◌, ◌⊎◌, inl, inr, ℕ, zero, suc, ◌+◌, ◌%◌, ◌^◌, ◌<◌, ◌≤◌, List, [], ◌∷◌, ◌++◌, length, Option, Some, None, Result, Ok, Err, refl, sym, ap, ◌∙◌, subst, arith}
-use Rattle.std.specs.Prelude.{All, nat_eq, nat_lt}
+use Rattle.std.proofs.Common.{◌≡◌, ◌⊎◌, inl, inr, ℕ, ◌+◌, ◌%◌, ◌^◌, ◌≤◌, List, [], ◌∷◌, ◌++◌, length, Some, None, Result, Ok, Err, refl, sym, ap, ◌∙◌, subst, arith}
+use Rattle.std.specs.Prelude.{All}
 use Rattle.std.proofs.lemmas.Bool.{eq-eqb, ne_eqb, le-ltb}
 use Rattle.std.proofs.lemmas.List.Elements.{All-cons, All-head, All-tail, All-same}
 use Rattle.x86_values.specs.declared.Bits.{Bits}
 use Rattle.x86_values.specs.Wrapping.{width}
 use Rattle.move_goals.specs.declared.items.Placed.{Placed}
 use Rattle.move_goals.specs.Items.{IsPlaced}
-use Rattle.code_region.specs.State.{LiveBlock, RegionState, rounded, gaps_of, image_of}
-use Rattle.code_region.specs.Gaps.{longest}
+use Rattle.code_region.specs.State.{RegionState, rounded, gaps_of, image_of}
 use Rattle.code_region.specs.declared.refusals.PlaceError.{PlaceError}
 use Rattle.code_region.specs.Placing.{place_answer, placed_as, placed}
 use Rattle.code_region.specs.Filling.{filled}
@@ -24,7 +23,7 @@ use Rattle.step_slots.proofs.Slotted.{stepped-made}
 use Rattle.step_slots.proofs.Stepped.{reserved-some, reserved-short, rounded-above}
 use Rattle.command_words.specs.Ranges.{Range, IsRange}
 use Rattle.run_parts.specs.declared.status.Status.{Status}
-use Rattle.run_parts.specs.declared.status.Status.TheVariants.{Done, Memory, RegionFull, TooFar}
+use Rattle.run_parts.specs.declared.status.Status.TheVariants.{Memory, RegionFull, TooFar}
 use Rattle.slots_run.specs.Slotted.{slotted_in, empty_slots, AreSlotted, IsSlotRefusal, MakesSlots, RefusesSlot}
 use Rattle.slots_run.specs.Slotting.{IsRefusal}
 use Rattle.slots_run.specs.Steps.{status_of, IsGoneThrough}
@@ -178,16 +177,16 @@ module _ (range : Range) (is : IsRange range) (base : ℕ) (bytes : List ℕ) wh
       let spelled : IsPlaced r.state.bits r.first = rw roomy.bits_are here in
       elim (refusal-is r.state r.after r.first (length r.before) r.tried.0 status roomy.room spelled r.tried.1.0 r.tried.1.1) [
         | inl h ↦ told status r.state r.first (length r.before) h (record {
-            items = gone.items;
-            sweep = gone.sweep;
-            all = gone.all;
-            before = r.before;
-            first = r.first;
-            behind = r.behind;
-            are = r.are;
-            state = r.state;
-            slotted = r.slotted;
-            refused = h;
-          })
+          items = gone.items;
+          sweep = gone.sweep;
+          all = gone.all;
+          before = r.before;
+          first = r.first;
+          behind = r.behind;
+          are = r.are;
+          state = r.state;
+          slotted = r.slotted;
+          refused = h;
+        })
         | inr m ↦ subst (IsRefusal range base bytes) (sym m) tt
       ]

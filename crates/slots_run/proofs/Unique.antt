@@ -1,17 +1,12 @@
 -- Some bytes have one answer.
-use Rattle.std.proofs.Common.{◌≡◌, ℕ, zero, suc, ◌+◌, List, [], ◌∷◌, ◌++◌, length, Option, Some, None, Ok, refl, sym, ap, ◌∙◌, subst, arith}
-use Rattle.std.specs.Prelude.{All}
+use Rattle.std.proofs.Common.{◌≡◌, ℕ, suc, ◌+◌, List, [], ◌∷◌, ◌++◌, length, Ok, refl, sym, ap, ◌∙◌, subst, arith}
 use Rattle.x86_values.specs.declared.Bits.{Bits}
-use Rattle.opcode_rows.specs.Sweep.{Item}
 use Rattle.sweep_text.proofs.OneSweep.{sweep_unique}
-use Rattle.branch_sizes.specs.Plan.{BlockPlan}
 use Rattle.branch_sizes.proofs.Existing.{least_unique}
 use Rattle.move_goals.specs.declared.items.Placed.{Placed}
 use Rattle.move_layout.specs.Laid.{goal_address}
 use Rattle.block_encoder.specs.Bytes.{bytes_of_blocks}
-use Rattle.block_encoder.specs.Moved.{MovedLists, IsReached}
-use Rattle.block_encoder.specs.ByPlan.{IsMovedBy}
-use Rattle.code_region.specs.declared.gaps.Span.{Span}
+use Rattle.block_encoder.specs.Moved.{IsReached}
 use Rattle.code_region.specs.State.{RegionState}
 use Rattle.code_region.specs.Placing.{place_answer, placed}
 use Rattle.code_region.specs.Filling.{filled}
@@ -24,7 +19,7 @@ use Rattle.command_words.specs.Ranges.{Range}
 use Rattle.run_parts.specs.declared.status.Status.{Status}
 use Rattle.run_parts.specs.declared.status.Status.TheVariants.{Done, BadCode, TooFar, RegionFull}
 use Rattle.moving_run.proofs.Unique.{whole_stops, stops_unique}
-use Rattle.slots_run.specs.Slotted.{slotted_in, empty_slots, AreSlotted, HasNoGap, IsTooFarAt, IsSlotRefusal, MakesSlots, RefusesSlot}
+use Rattle.slots_run.specs.Slotted.{slotted_in, empty_slots, AreSlotted, HasNoGap, IsSlotRefusal, MakesSlots, RefusesSlot}
 use Rattle.slots_run.specs.Slotting.{IsSlotsAnswer}
 
 -- ---- one block

@@ -5,7 +5,7 @@ use Rattle.x86_values.specs.Wrapping.{wrapped}
 use Rattle.row_relation.specs.Spells.{Reading, Read, TooShort, Invalid}
 use Rattle.opcode_rows.specs.Sweep.{Item, IsSweep}
 use Rattle.move_goals.specs.declared.items.Placed.{Placed}
-use Rattle.code_region.specs.State.{RegionState, rounded, gaps_of, image_of}
+use Rattle.code_region.specs.State.{rounded, gaps_of, image_of}
 use Rattle.code_region.specs.Gaps.{first_gap, longest}
 use Rattle.code_region.specs.Placing.{place_answer}
 use Rattle.command_words.specs.Ranges.{Range}

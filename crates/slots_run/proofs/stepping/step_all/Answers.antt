@@ -1,10 +1,4 @@
-use Rattle.std.proofs.Common.{arith, ℕ, ◌≡◌, sym, ap, subst, ◌∙◌, refl, length, drop}
-use Rattle.x86_values.specs.declared.Bits.{Bits}
-use Rattle.x86_values.specs.Wrapping.{wrapped}
-use Rattle.move_goals.specs.declared.items.Placed.{Placed}
-use Rattle.move_goals.specs.Items.{IsPlaced}
-use Rattle.slots_run.specs.Steps.{IsNext}
-use Rattle.slots_run.proofs.Going.{item_at, item-placed, begun-start, begun-step, begun-stop, begun-end}
+use Rattle.slots_run.proofs.Going.{item-placed, begun-step, begun-stop, begun-end}
 use Rattle.slots_run.proofs.Kept.{one-refused}
 use Rattle.slots_run.proofs.stepping.step_all.Goals as goal
 
