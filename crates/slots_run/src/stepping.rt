@@ -10,7 +10,7 @@ use run_parts::Status;
 use std::alloc::Global;
 use step_slots::{Placed, StepError, StepSlots};
 use sweep_text::read_at;
-use x86_values::{Bits, wrap};
+use x86_values::wrap;
 
 /// The status that tells why the instruction of this number gets no slot.
 fn status_of(number: u64, why: StepError) -> Status
