@@ -1,5 +1,6 @@
 //! The commands of the program.
 
+use crate::range::SlotRange;
 use arrayvec::ArrayVec;
 use sweep_text::Syntax;
 use x86_values::Bits;
@@ -53,6 +54,12 @@ pub enum Command {
         bits: Bits,
         blocks: ArrayVec<BlockWords, 16>,
     },
+    /// The range of slots, after each instruction of the input got one, the input being code of the range's mode whose first byte has the
+    /// address `old`.
+    Slots {
+        old: u64,
+        range: SlotRange,
+    },
     /// The lines of the table's rows.
     Rows,
     /// The word of this number, from 1, is not allowed, missing or too many.
@@ -79,4 +86,5 @@ pub enum Through {
     Flow,
     Move,
     Map,
+    Slots,
 }

@@ -2,7 +2,9 @@
 #![tactic(auto)]
 
 mod commands;
+mod range;
 mod words;
 
 pub use commands::{BlockWords, Command, Through};
+pub use range::SlotRange;
 pub use words::command_of;
