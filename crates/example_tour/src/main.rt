@@ -30,13 +30,9 @@ fn main(rt: HostRuntime) -> anyhow::Result<()> {
             asize: None,
             ops: [Reg(Register::R12), Reg(Register::RAX), Absent, Absent],
         };
-        match encode(bits, old, &sum) {
-            Ok(bytes) => {
-                println!(rt; "{}", hex::encode(rt.alloc(), &bytes)?)?;
-                show(&rt, bits, old, &bytes)?;
-            }
-            Err(why) => println!(rt; "no bytes: {why:?}")?,
-        }
+        let bytes = encode(bits, old, &sum)?;
+        println!(rt; "{}", hex::encode(rt.alloc(), &bytes)?)?;
+        show(&rt, bits, old, &bytes)?;
     }
 
     let items = read_items(rt.alloc(), bits, old, &FUNCTION)?;
