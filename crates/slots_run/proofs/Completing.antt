@@ -1,28 +1,12 @@
 -- How the command ends when it meets no fault.
-use Rattle.std.proofs.Common.{◌≡◌, ◌⊎◌, inl, inr, ℕ, ◌<◌, List, ◌++◌, length, Option, Some, None, refl, sym, ap, ◌∙◌, subst, arith, append-nil, length-append}
+use Rattle.std.proofs.Common.{◌≡◌, ◌⊎◌, inl, inr, ℕ, List, length, Option, Some, None, refl, sym, ap, subst, arith}
 use Rattle.command_words.specs.Ranges.{Range}
 use Rattle.run_parts.specs.declared.status.Status.{Status}
 use Rattle.run_parts.specs.declared.status.Status.TheVariants.{Done, BadCode, ReadFault, WriteFault, Memory, TooLarge, TooFar, RegionFull}
-use Rattle.run_parts.specs.Reads.{whole_limit, ReadsAll, ReadsTooMany}
+use Rattle.run_parts.specs.Reads.{whole_limit, ReadsAll}
+use Rattle.moving_run.proofs.Completing.{all_bytes, too_many}
 use Rattle.slots_run.specs.Slotting.{IsRefusal, IsSlotsAnswer, RefusesAs, SlotsAs, CompletesSlots}
 use Rattle.slots_run.proofs.Unique.{answer_unique}
-
--- ---- the bytes that were read
-
--- bytes that are told and were read to their end
-all_bytes : (limit : ℕ) (bytes : List ℕ) (left' : Option (List ℕ)) (read : List ℕ) → ReadsAll limit (Some bytes) left' read → bytes ≡ read
-all_bytes limit bytes None read h = let e = h.read in cc
-all_bytes limit bytes (Some rest) read h =
-    let e : Some bytes ≡ Some (read ++ rest) = h.read in
-    let same : bytes ≡ read ++ rest = cc in same ∙ (ap (λ (xs : List ℕ). read ++ xs) h.ended ∙ append-nil read)
-
-too_many : (limit : ℕ) (bytes : List ℕ) (left' : Option (List ℕ)) (read : List ℕ) → ReadsTooMany limit (Some bytes) left' read → limit < length bytes
-too_many limit bytes None read h = let e = h.read in cc
-too_many limit bytes (Some rest) read h =
-    let e : Some bytes ≡ Some (read ++ rest) = h.read in
-    let same : bytes ≡ read ++ rest = cc in omega (arith, ap length same, length-append read rest, h.over)
-
--- ---- the status
 
 module _ (range : Range) (base : ℕ) where
   -- a status that tells why, after which nothing was written

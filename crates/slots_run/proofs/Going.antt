@@ -8,10 +8,9 @@ use Rattle.x86_values.specs.declared.Decoded.{Decoded}
 use Rattle.x86_values.specs.Wrapping.{wrapped}
 use Rattle.row_relation.specs.Spells.{Reading, Read, TooShort, Invalid, Spells}
 use Rattle.decoder.specs.declared.DecodeError.{DecodeError}
-use Rattle.decoder.specs.declared.DecodeError.TheVariants.{Invalid as InvalidError, TooShort as TooShortError}
 use Rattle.decoder.specs.Answer.{reading_of}
 use Rattle.opcode_rows.specs.Table.{table}
-use Rattle.opcode_rows.specs.Sweep.{Item, IsReadAt, IsItemAt, Sweeps, item_len}
+use Rattle.opcode_rows.specs.Sweep.{Item, IsReadAt, Sweeps, item_len}
 use Rattle.sweep_text.specs.Lines.{error_of}
 use Rattle.move_goals.specs.declared.items.Placed.{Placed}
 use Rattle.move_goals.specs.Items.{IsPlaced}
@@ -20,6 +19,7 @@ use Rattle.step_slots.specs.Stepping.{IsStepped}
 use Rattle.command_words.specs.Ranges.{Range}
 use Rattle.run_parts.specs.declared.status.Status.{Status}
 use Rattle.moving_run.specs.Code.{IsInstruction, StopsAt}
+use Rattle.moving_run.proofs.Reading.{instr_item, instr_at, error_is, one_long}
 use Rattle.slots_run.specs.Slotted.{slotted_by, slotted_in, empty_slots, AreSlotted}
 use Rattle.slots_run.specs.Steps.{IsTried, IsNext, HasCome, IsGoneThrough}
 
@@ -55,10 +55,10 @@ slotted_in-append bits base (x ∷ xs) ys =
     ap (λ (ps : List Placed). slotted_by bits base x.offset x.reading ++ ps) (slotted_in-append bits base xs ys)
     ∙ sym (append_assoc (slotted_by bits base x.offset x.reading) (slotted_in bits base xs) (slotted_in bits base ys))
 
-one_long : (bits : Bits) (base offset : ℕ) (reading : Reading) → error_of reading ≡ None → length (slotted_by bits base offset reading) ≡ 1
-one_long bits base offset (Read d) e = refl
-one_long bits base offset TooShort e = absurd (cc)
-one_long bits base offset Invalid e = absurd (cc)
+one_each : (bits : Bits) (base offset : ℕ) (reading : Reading) → error_of reading ≡ None → length (slotted_by bits base offset reading) ≡ 1
+one_each bits base offset (Read d) e = refl
+one_each bits base offset TooShort e = absurd (cc)
+one_each bits base offset Invalid e = absurd (cc)
 
 slotted_length : (bits : Bits) (base : ℕ) (items : List Item) → All IsInstruction items → length (slotted_in bits base items) ≡ length items
 slotted_length bits base [] all = refl
@@ -66,7 +66,7 @@ slotted_length bits base (x ∷ xs) all =
     omega (
       arith,
       length-append (slotted_by bits base x.offset x.reading) (slotted_in bits base xs),
-      one_long bits base x.offset x.reading (All-head IsInstruction x xs all),
+      one_each bits base x.offset x.reading (All-head IsInstruction x xs all),
       slotted_length bits base xs (All-tail IsInstruction x xs all),
     )
 
@@ -147,26 +147,12 @@ begun-start range base bytes slots empty = record {
   come = empty;
 }
 
--- the item of an instruction at an offset
-abbrev instr_item : List ℕ → ℕ → Decoded → Item
-instr_item bytes at d = record { offset = at; bytes = take d.len (drop at bytes); reading = Read d }
-
-instr_at : (bits : Bits) (base : ℕ) (bytes : List ℕ) (at : ℕ) (d : Decoded) → IsReadAt bits base at (drop at bytes) (Read d) → 0 < d.len →
-    d.len ≤ length (drop at bytes) → IsItemAt bits base at (drop at bytes) (instr_item bytes at d)
-instr_at bits base bytes at d reads some within = record {
-  offset_is = refl;
-  reads = reads;
-  within = within;
-  some = some;
-  bytes_are = refl;
-}
-
 -- one more instruction
 pub begun-step : (range : Range) (base : ℕ) (bytes : List ℕ) (at number : ℕ) (refused told : Option Status) (slots slots' : SlotState) (d : Decoded) →
-    Begun range base bytes at number refused slots → at < length bytes → IsReadAt range.bits base at (drop at bytes) (Read d) → 0 < d.len →
-    d.len ≤ length (drop at bytes) → IsNext slots refused number (item_at range.bits base at d) told slots' →
+    Begun range base bytes at number refused slots → at < length bytes → IsReadAt range.bits base at (drop at bytes) (Read d) →
+    (0 < d.len) × (d.len ≤ 15) × (d.len ≤ length (drop at bytes)) → IsNext slots refused number (item_at range.bits base at d) told slots' →
     Begun range base bytes (at + d.len) (number + 1) told slots'
-begun-step range base bytes at number refused told slots slots' d b lt reads some inside next =
+begun-step range base bytes at number refused told slots slots' d b lt reads sized next =
     let item = instr_item bytes at d in
     let new = item_at range.bits base at d in
     let behind : drop d.len (drop at bytes) ≡ drop (at + d.len) bytes = drop-drop d.len at bytes in
@@ -178,18 +164,18 @@ begun-step range base bytes at number refused told slots slots' d b lt reads som
     come-next (empty_slots range) slots slots' (slotted_in range.bits base b.items) new number refused told count b.come next in
     record {
       items = b.items ++ item ∷ [];
-      within = omega (arith, inside, b.within, length-drop at bytes);
+      within = omega (arith, sized.2, b.within, length-drop at bytes);
       go_on = λ more rest sweeps.
           let S : List ℕ → Type 0 = λ xs. Sweeps range.bits base (at + d.len) xs more rest in
           let T : List Item → Type 0 = λ xs. Sweeps range.bits base 0 bytes xs rest in
           subst T (sym (append_assoc b.items (item ∷ []) more))
-          (b.go_on (item ∷ more) rest (instr_at range.bits base bytes at d reads some inside, subst S (sym behind) sweeps));
+          (b.go_on (item ∷ more) rest (instr_at range.bits base bytes at d reads sized, subst S (sym behind) sweeps));
       all = All-append IsInstruction b.items (item ∷ []) b.all (All-cons IsInstruction item [] refl (All-nil IsInstruction));
       count_is = omega (arith, b.count_is, length-append b.items (item ∷ []));
-      few = omega (arith, some, b.few);
+      few = omega (arith, sized.0, b.few);
       placed = subst (All (IsPlaced range.bits)) (sym joined)
           (All-append (IsPlaced range.bits) (slotted_in range.bits base b.items) (new ∷ []) b.placed
-          (All-cons (IsPlaced range.bits) new [] (item-placed range.bits base at (drop at bytes) d reads some inside) (All-nil (IsPlaced range.bits))));
+          (All-cons (IsPlaced range.bits) new [] (item-placed range.bits base at (drop at bytes) d reads sized.0 sized.2) (All-nil (IsPlaced range.bits))));
       bits_are = next-bits slots slots' refused number new told next ∙ b.bits_are;
       come = subst H (sym joined) come;
     }
@@ -207,14 +193,6 @@ begun-end range base bytes at number refused slots b le =
       come = b.come;
     }
 
-error_is : (e : DecodeError) → error_of (reading_of (Err e)) ≡ Some e
-error_is InvalidError = refl
-error_is TooShortError = refl
-
-byte_long : (e : DecodeError) → item_len (reading_of (Err e)) ≡ 1
-byte_long InvalidError = refl
-byte_long TooShortError = refl
-
 -- a single byte
 pub begun-stop : (range : Range) (base : ℕ) (bytes : List ℕ) (at number : ℕ) (refused : Option Status) (slots : SlotState) (e : DecodeError) →
     Begun range base bytes at number refused slots → at < length bytes → IsReadAt range.bits base at (drop at bytes) (reading_of (Err e)) →
@@ -222,7 +200,7 @@ pub begun-stop : (range : Range) (base : ℕ) (bytes : List ℕ) (at number : �
 begun-stop range base bytes at number refused slots e b lt reads =
     let reading : Reading = reading_of (Err e) in
     let item : Item = record { offset = at; bytes = take (item_len reading) (drop at bytes); reading = reading } in
-    let long : item_len reading ≡ 1 = byte_long e in
+    let long : item_len reading ≡ 1 = one_long e in
     record {
       items = b.items;
       last = item;

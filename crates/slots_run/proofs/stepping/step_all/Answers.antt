@@ -15,7 +15,7 @@ loop-at-preserved c =
     let sized = rw c.split_at.ensures.back at c.in-Ok.ensures.length in
     let next = rw (c.wrap-ip.ensures, c.from.ensures, c.bits-bits.ensures.value) at c.step_next-refused.ensures in
     rw c.from-at.ensures (begun-step _ _ _ c.loop-at.at c.loop-at.number c.loop-at.refused c.step_next-refused.result c.loop-at.slots
-    c.step_next-refused.new.slots c.in-Ok.d c.loop-at.invariant c.loop-at-test.true reads sized.0 sized.2 next)
+    c.step_next-refused.new.slots c.in-Ok.d c.loop-at.invariant c.loop-at-test.true reads sized next)
 
 pub returns-in-Err : goal.returns-in-Err
 returns-in-Err c =
