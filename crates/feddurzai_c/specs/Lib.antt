@@ -1,0 +1,5 @@
+pub mod Refusals
+pub mod Numbers
+pub mod Flat
+pub mod Back
+pub mod Answers
