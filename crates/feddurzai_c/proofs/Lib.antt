@@ -1,1 +1,2 @@
 pub mod ThereAndBack
+pub mod FewUses

@@ -3,3 +3,4 @@ pub mod Numbers
 pub mod Flat
 pub mod Back
 pub mod Answers
+pub mod Info

@@ -47,3 +47,37 @@ pub struct FlatInstr {
     /// The address size: 16, 32 or 64, or 0 where the instruction has none.
     pub asize: u8,
 }
+
+/// A register that an instruction names, with what it does to it.
+#[derive(Clone, Copy, PartialEq, Eq, Debug)]
+#[repr(C)]
+pub struct FlatUse {
+    pub reg_class: u8,
+    pub reg_number: u8,
+    /// 0 nothing, 1 a read, 2 a write, 3 a read and a write.
+    pub access: u8,
+}
+
+/// What an instruction does.
+#[derive(Clone, Copy, PartialEq, Eq, Debug)]
+#[repr(C)]
+pub struct FlatInfo {
+    /// The target of a near branch, 0 without one.
+    pub target: u64,
+    /// The address of the memory operand that RIP or EIP is the base of, 0 without one.
+    pub ip_address: u64,
+    /// 1 where there is a near target, else 0.
+    pub has_target: u8,
+    /// 1 where there is a memory operand at RIP or EIP, else 0.
+    pub has_ip_address: u8,
+    /// Where control goes, 0 to 8.
+    pub flow: u8,
+    /// The size of the memory operand in bytes, 0 to 32; 0 where there is none, or none of a size.
+    pub memory_size: u8,
+    /// What is done to each operand, as in a use.
+    pub access: [u8; 4],
+    /// How many registers are named, at most 8.
+    pub use_count: u8,
+    /// Those registers, and behind them zeros.
+    pub uses: [FlatUse; 8],
+}

@@ -10,6 +10,7 @@ mod decoding;
 mod encoding;
 mod flat;
 mod flatten;
+mod info;
 pub mod laws;
 mod numbers;
 mod refusal;
