@@ -1,2 +1,3 @@
 pub mod ThereAndBack
 pub mod FewUses
+pub mod FewReached

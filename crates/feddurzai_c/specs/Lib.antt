@@ -4,3 +4,4 @@ pub mod Flat
 pub mod Back
 pub mod Answers
 pub mod Info
+pub mod Flow

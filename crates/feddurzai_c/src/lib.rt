@@ -10,6 +10,7 @@ mod decoding;
 mod encoding;
 mod flat;
 mod flatten;
+mod flow;
 mod info;
 pub mod laws;
 mod numbers;

@@ -6,7 +6,7 @@ ghost use Rattle.feddurzai_c.specs.Answers as spec;
 use crate::refusal::{Refusal, refused};
 
 /// A number of bytes as it is told.
-fn told(n: usize) -> i32
+pub(crate) fn told(n: usize) -> i32
     requires { n < 2 ^ 31 }
     ensures { result ≡ pos n }
 {
