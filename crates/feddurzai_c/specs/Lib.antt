@@ -5,3 +5,4 @@ pub mod Back
 pub mod Answers
 pub mod Info
 pub mod Flow
+pub mod Moving

@@ -81,3 +81,31 @@ pub struct FlatInfo {
     /// Those registers, and behind them zeros.
     pub uses: [FlatUse; 8],
 }
+
+/// An instruction that was moved.
+#[derive(Clone, Copy, PartialEq, Eq, Debug)]
+#[repr(C)]
+pub struct FlatMoved {
+    /// Its address before.
+    pub old_ip: u64,
+    /// The address of its image.
+    pub new_ip: u64,
+    /// How many bytes it had before.
+    pub len: u8,
+    /// The form of its image: 0 itself, 1 short, 2 near, 3 far, 4 bridge, 5 far bridge.
+    pub form: u8,
+}
+
+/// The numbers of a moving.
+#[derive(Clone, Copy, PartialEq, Eq, Debug)]
+#[repr(C)]
+pub struct FlatMove {
+    /// How many bytes the moved code has, with its slots.
+    pub bytes: u64,
+    /// How many instructions it has.
+    pub count: u64,
+    /// The offset of the byte at which none is read, or the number of the instruction that does not reach its target.
+    pub at: u64,
+    /// That target, or the end that passes the address space.
+    pub address: u64,
+}

@@ -13,6 +13,8 @@ mod flatten;
 mod flow;
 mod info;
 pub mod laws;
+mod moved;
+mod moving;
 mod numbers;
 mod refusal;
 mod room;

@@ -14,7 +14,7 @@ pub(crate) fn told(n: usize) -> i32
 }
 
 /// Writes bytes at the front of a room.
-fn write_front(out: &mut [u8], bytes: &[u8])
+pub(crate) fn write_front(out: &mut [u8], bytes: &[u8])
     requires { length bytes.now ≤ length out.old }
     ensures { out.new ≡ bytes.now ++ drop (length bytes.now) out.old }
 {
