@@ -66,7 +66,7 @@ enum {
 
 /*
  * Why feddurzai_encode finds no encoding: the first of ten conditions that fails, and the operand that fails it
- * (1 to 4, and 0 for two equal vector registers of a gather; 0 where the condition is about no operand).
+ * (0 to 3; two equal vector registers of a gather count with operand 0, and so does a condition about no operand).
  */
 #define FEDDURZAI_CAUSE(said) ((-(said)) >> 8)      /* 0 for any other refusal */
 #define FEDDURZAI_CAUSE_OPERAND(said) ((-(said)) & 255)

@@ -14,12 +14,14 @@
 
 enum { JUMP_LEN = 5, MOST_MOVED = 8, PAGE = 4096 };
 
-/* the function that is hooked: among its first instructions are an operand at RIP and a short branch that leaves them */
+/* the function that is hooked; its first instructions are a branch that leaves them and a load by an operand at RIP */
 static volatile int scale = 3;
 
 __attribute__((noipa)) static int scaled_sum(int n)
 {
     int sum = 0, i;
+    if (n < 0)
+        return -2;
     if (scale == 0)
         return -1;
     for (i = 1; i <= n; i++)
@@ -154,7 +156,7 @@ int main(void)
         same = same && before[k] == after;
     }
     scale = 0;
-    same = same && function(7) == -1; /* by the branch that was moved */
+    same = same && function(7) == -1;
     printf("the hook was called %d times; %s\n", hook_calls, same ? "the same results" : "OTHER RESULTS");
     return same && hook_calls == 6 ? 0 : 1;
 }
