@@ -16,9 +16,8 @@ out=$(cd "$out" && pwd)
 
 kit=${RATTLE_KIT:-}
 if [ -z "$kit" ]; then
-    # `rt` is a link into the kit, or a script that names it
+    # `rt` stands in the kit's folder bin, or is a link to it
     kit=$(dirname "$(dirname "$(readlink -f "$(command -v rt)")")")
-    [ -f "$kit/c/liblibc_c.a" ] || kit=/opt/rattle
 fi
 heap=$kit/c/liblibc_c.a
 [ -f "$heap" ] || { echo "build.sh: no $heap: name the kit's folder in RATTLE_KIT" >&2; exit 1; }

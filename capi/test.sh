@@ -28,7 +28,7 @@ fi
 # ---- code to list
 file=${1:-}
 if [ -z "$file" ]; then
-    for program in "$(command -v gdb || true)" "$(readlink -f "$(command -v python3)")" /lib/x86_64-linux-gnu/libc.so.6; do
+    for program in "$(command -v gdb || true)" "$(readlink -f "$(command -v python3)")" "$(gcc -print-file-name=libc.so.6)"; do
         [ -n "$program" ] && [ -f "$program" ] || continue
         objcopy -O binary --only-section=.text "$program" "$work/code.bin" 2>/dev/null || continue
         file=$work/code.bin
