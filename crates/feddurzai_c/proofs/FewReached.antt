@@ -1,9 +1,9 @@
 -- No more offsets are reached than there are bytes.
-use Rattle.std.proofs.Common.{◌≡◌, ℕ, zero, suc, ◌+◌, ◌<◌, ◌≤◌, inl, inr, List, [], ◌∷◌, length, Option, Some, None, refl, subst, add-one, arith}
+use Rattle.std.proofs.Common.{◌≡◌, ℕ, zero, suc, ◌+◌, ◌<◌, ◌≤◌, List, length, Option, Some, None, refl, subst, add-one, arith}
 use Rattle.std.specs.Prelude.{slice_index}
 use Rattle.std.specs.List.Sorted.{IsStrictlyIncreasing}
 use Rattle.x86_values.specs.declared.Bits.{Bits}
-use Rattle.flow_graph.specs.Control.{CodeBytes, code_bytes, IsSuccessor}
+use Rattle.flow_graph.specs.Control.{CodeBytes, code_bytes}
 use Rattle.flow_graph.specs.Reached.{Reaches, start, step}
 use Rattle.flow_graph.specs.Graphs.{Graph, IsFlowGraph}
 use Rattle.feddurzai_c.specs.Flow.{IsGraphIn}

@@ -1,5 +1,5 @@
 -- The instructions that are read one behind the other: each is well placed, and begins where the one before it ends.
-use Rattle.std.proofs.Common.{◌≡◌, ℕ, zero, suc, ◌+◌, ◌-◌, ◌<◌, ◌≤◌, inl, inr, Bool, true, false, not, List, [], ◌∷◌, ◌++◌, length, take, drop, Option, Some, None, refl, sym, ap, ◌∙◌, subst, arith, length-drop, drop-drop}
+use Rattle.std.proofs.Common.{◌≡◌, ℕ, zero, suc, ◌+◌, ◌-◌, ◌<◌, ◌≤◌, true, not, List, [], ◌∷◌, ◌++◌, length, take, drop, None, refl, sym, ap, ◌∙◌, subst, arith, length-drop, drop-drop}
 use Rattle.std.specs.Prelude.{◌==◌}
 use Rattle.std.proofs.lemmas.Bool.{eq-eqb, or_left, or_right}
 use Rattle.x86_values.specs.declared.Bits.{Bits}
@@ -12,7 +12,7 @@ use Rattle.branch_sizes.specs.declared.plan.BlockSpan.{BlockSpan}
 use Rattle.branch_sizes.specs.Layout.{block_number, first_of_block}
 use Rattle.branch_sizes.proofs.Totals.{first_le}
 use Rattle.move_goals.specs.declared.items.Placed.{Placed}
-use Rattle.move_goals.specs.Items.{item_at, old_end, IsPlaced, ArePlaced, one_span, begins_block, is_in_order, first_disorder}
+use Rattle.move_goals.specs.Items.{item_at, old_end, ArePlaced, one_span, begins_block, is_in_order, first_disorder}
 use Rattle.move_goals.proofs.First.{first_below_none}
 use Rattle.feddurzai_c.specs.Moving.{read_item, ReadsUpTo}
 

@@ -6,7 +6,6 @@ use Rattle.branch_sizes.specs.declared.plan.BlockSpan.{BlockSpan}
 use Rattle.branch_sizes.specs.declared.plan.Form.{Form}
 use Rattle.move_goals.specs.declared.items.Placed.{Placed}
 use Rattle.block_encoder.specs.Moved.{MovedLists, IsMoved}
-use Rattle.feddurzai_c.specs.declared.flat.FlatMoved.{FlatMoved}
 use Rattle.feddurzai_c.specs.Moving.{entry_at, entries}
 
 pub entries-none : (items : List Placed) (starts : List ℕ) (forms : List Form) → entries items starts forms 0 ≡ []

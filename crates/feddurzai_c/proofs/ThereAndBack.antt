@@ -1,6 +1,5 @@
 -- An instruction comes back from its flat struct.
 use Rattle.std.proofs.Common.{◌≡◌, ℕ, Bool, true, false, List, [], ◌∷◌, length, Option, Some, None, refl, ap, ◌∙◌, sym, subst, arith}
-use Rattle.std.specs.Prelude.{◌==◌, if◌then◌else◌}
 use Rattle.x86_values.specs.declared.Bits.{Bits}
 use Rattle.x86_values.specs.declared.Bits.TheVariants.{B16, B32, B64}
 use Rattle.x86_values.specs.declared.Segment.{Segment}
@@ -108,7 +107,7 @@ asize_back (Some B64) = refl
 
 memory_back : (m : Mem) →
     memory_of m.scale m.disp (base_numbered (base_class m.base) (base_number m.base)) (base_numbered (base_class m.index) (base_number m.index))
-      (disp_numbered (disp_number m.disp_size)) ≡ Some (Memory m)
+    (disp_numbered (disp_number m.disp_size)) ≡ Some (Memory m)
 memory_back m =
     let base = base_numbered (base_class m.base) (base_number m.base) in
     let index = base_numbered (base_class m.index) (base_number m.index) in

@@ -23,29 +23,76 @@ base_number (Some r) = number r
 -- an operand: its kind, what it holds, and 0 in the fields that its kind does not use
 unfoldable pub flat_operand : Operand → FlatOperand
 flat_operand Absent = record {
-  value = 0; offset = 0; selector = 0; kind = 0;
-  reg_class = 0; reg_number = 0; index_class = 0; index_number = 0; scale = 0; disp_bits = 0
+  value = 0;
+  offset = 0;
+  selector = 0;
+  kind = 0;
+  reg_class = 0;
+  reg_number = 0;
+  index_class = 0;
+  index_number = 0;
+  scale = 0;
+  disp_bits = 0;
 }
 flat_operand (Reg r) = record {
-  value = 0; offset = 0; selector = 0; kind = 1;
-  reg_class = class_number r; reg_number = number r; index_class = 0; index_number = 0; scale = 0; disp_bits = 0
+  value = 0;
+  offset = 0;
+  selector = 0;
+  kind = 1;
+  reg_class = class_number r;
+  reg_number = number r;
+  index_class = 0;
+  index_number = 0;
+  scale = 0;
+  disp_bits = 0;
 }
 flat_operand (Memory m) = record {
-  value = m.disp; offset = 0; selector = 0; kind = 2;
-  reg_class = base_class m.base; reg_number = base_number m.base; index_class = base_class m.index; index_number = base_number m.index;
-  scale = m.scale; disp_bits = disp_number m.disp_size
+  value = m.disp;
+  offset = 0;
+  selector = 0;
+  kind = 2;
+  reg_class = base_class m.base;
+  reg_number = base_number m.base;
+  index_class = base_class m.index;
+  index_number = base_number m.index;
+  scale = m.scale;
+  disp_bits = disp_number m.disp_size;
 }
 flat_operand (Imm x) = record {
-  value = x; offset = 0; selector = 0; kind = 3;
-  reg_class = 0; reg_number = 0; index_class = 0; index_number = 0; scale = 0; disp_bits = 0
+  value = x;
+  offset = 0;
+  selector = 0;
+  kind = 3;
+  reg_class = 0;
+  reg_number = 0;
+  index_class = 0;
+  index_number = 0;
+  scale = 0;
+  disp_bits = 0;
 }
 flat_operand (Near x) = record {
-  value = x; offset = 0; selector = 0; kind = 4;
-  reg_class = 0; reg_number = 0; index_class = 0; index_number = 0; scale = 0; disp_bits = 0
+  value = x;
+  offset = 0;
+  selector = 0;
+  kind = 4;
+  reg_class = 0;
+  reg_number = 0;
+  index_class = 0;
+  index_number = 0;
+  scale = 0;
+  disp_bits = 0;
 }
 flat_operand (Far s x) = record {
-  value = 0; offset = x; selector = s; kind = 5;
-  reg_class = 0; reg_number = 0; index_class = 0; index_number = 0; scale = 0; disp_bits = 0
+  value = 0;
+  offset = x;
+  selector = s;
+  kind = 5;
+  reg_class = 0;
+  reg_number = 0;
+  index_class = 0;
+  index_number = 0;
+  scale = 0;
+  disp_bits = 0;
 }
 
 -- an instruction of so many bytes
@@ -60,7 +107,7 @@ flat_instr i len = record {
   lock = lock_number i.lock;
   rep = rep_number i.rep;
   segment = prefix_number i.seg;
-  asize = asize_number i.asize
+  asize = asize_number i.asize;
 }
 
 abbrev pub flat_decoded : Decoded → FlatInstr

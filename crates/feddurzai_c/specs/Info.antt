@@ -68,7 +68,7 @@ flat_info i =
       memory_size = memory_size code;
       access = access_number (access_of code 0) ∷ access_number (access_of code 1) ∷ access_number (access_of code 2) ∷ access_number (access_of code 3) ∷ [];
       use_count = length us;
-      uses = use_at us 0 ∷ use_at us 1 ∷ use_at us 2 ∷ use_at us 3 ∷ use_at us 4 ∷ use_at us 5 ∷ use_at us 6 ∷ use_at us 7 ∷ []
+      uses = use_at us 0 ∷ use_at us 1 ∷ use_at us 2 ∷ use_at us 3 ∷ use_at us 4 ∷ use_at us 5 ∷ use_at us 6 ∷ use_at us 7 ∷ [];
     }
 
 -- the same where there is an instruction, of the form that its row asks for

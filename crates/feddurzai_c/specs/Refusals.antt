@@ -1,5 +1,5 @@
 -- The numbers by which a refusal is told to a C caller.
-use Rattle.std.specs.Prelude.{ℕ, ◌+◌, ℤ, pos, negsuc, neg_ℤ}
+use Rattle.std.specs.Prelude.{ℕ, ◌+◌, ℤ, pos, neg_ℤ}
 use Rattle.plain_spelling.specs.declared.NoSpelling.{NoSpelling}
 use Rattle.plain_spelling.specs.declared.NoSpelling.TheVariants as cause
 use Rattle.feddurzai_c.specs.declared.refusal.Refusal.{Refusal}

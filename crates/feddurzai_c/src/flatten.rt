@@ -5,7 +5,9 @@ ghost use Rattle.feddurzai_c.specs.Flat as spec;
 ghost use Rattle.feddurzai_c.specs.Back.{instr_back};
 
 use crate::flat::{FlatInstr, FlatOperand};
-use crate::numbers::{asize_number, class_number, disp_number, lock_number, prefix_number, rep_number};
+use crate::numbers::{
+    asize_number, class_number, disp_number, lock_number, prefix_number, rep_number,
+};
 use x86_values::{Decoded, Mem, Operand, Register};
 
 /// An operand that is absent.

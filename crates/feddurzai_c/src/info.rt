@@ -10,7 +10,9 @@ use crate::numbers::class_number;
 use crate::refusal::{Refusal, refused};
 use crate::unflatten::instr_back;
 use opcode_rows::well_formed;
-use operand_info::{Access, Flow, RegUse, access_of, flow_of, ip_operand, memory_size, near_target, used_registers};
+use operand_info::{
+    Access, Flow, RegUse, access_of, flow_of, ip_operand, memory_size, near_target, used_registers,
+};
 use x86_values::Instr;
 
 /// The number of a flow, 0 to 8.

@@ -19,6 +19,8 @@ mod numbers;
 mod refusal;
 mod room;
 mod rows;
+#[cfg(test)]
+mod tests;
 mod texts;
 mod unflatten;
 mod version;

@@ -70,7 +70,12 @@ fn is_past(bits: Bits, end: u128) -> bool
 }
 
 /// Reads the instructions of some code, each with its address.
-fn read_items(alloc: Global, bits: Bits, base: u64, bytes: &[u8]) -> Result<Vec<Placed>, MoveRefusal>
+fn read_items(
+    alloc: Global,
+    bits: Bits,
+    base: u64,
+    bytes: &[u8],
+) -> Result<Vec<Placed>, MoveRefusal>
     requires { base + length bytes.now ≤ 2 ^ 64 }
     ensures { MatchResult result (λ items. spec.AreItemsOf bits base bytes.now items.items) (λ why. spec.IsReadRefusal bits base bytes.now why) }
 {
@@ -120,7 +125,12 @@ fn entry_at(items: &[Placed], starts: &[u64], forms: &[Form], k: usize) -> FlatM
 }
 
 /// The entries of moved instructions.
-fn entries_of(alloc: Global, items: &[Placed], starts: &[u64], forms: &[Form]) -> Result<Vec<FlatMoved>, AllocError>
+fn entries_of(
+    alloc: Global,
+    items: &[Placed],
+    starts: &[u64],
+    forms: &[Form],
+) -> Result<Vec<FlatMoved>, AllocError>
     requires starts { length starts.now ≡ length items.now }
     requires forms { length forms.now ≡ length items.now }
     ensures { IfOk result (λ list. list.items ≡ spec.entries items.now starts.now forms.now (length items.now)) }
@@ -133,7 +143,12 @@ fn entries_of(alloc: Global, items: &[Placed], starts: &[u64], forms: &[Form]) -
 }
 
 /// Moves instructions that were read.
-fn move_items(alloc: Global, bits: Bits, items: &[Placed], new: u64) -> Result<MovedCode, MoveRefusal>
+fn move_items(
+    alloc: Global,
+    bits: Bits,
+    items: &[Placed],
+    new: u64,
+) -> Result<MovedCode, MoveRefusal>
     requires placed { ArePlaced bits items.now }
     requires order { first_disorder (one_span items.now new) items.now ≡ None }
     ensures { spec.IsItemsAnswer bits items.now new result }
@@ -152,7 +167,13 @@ fn move_items(alloc: Global, bits: Bits, items: &[Placed], new: u64) -> Result<M
 }
 
 /// Reads some code and moves it, in a mode.
-fn move_in(alloc: Global, bits: Bits, old: u64, bytes: &[u8], new: u64) -> Result<MovedCode, MoveRefusal>
+fn move_in(
+    alloc: Global,
+    bits: Bits,
+    old: u64,
+    bytes: &[u8],
+    new: u64,
+) -> Result<MovedCode, MoveRefusal>
     ensures { spec.IsMoveAnswerIn bits old bytes.now new result }
 {
     if bytes.len() > MOST {
@@ -169,7 +190,13 @@ fn move_in(alloc: Global, bits: Bits, old: u64, bytes: &[u8], new: u64) -> Resul
 }
 
 /// Reads some code and moves it.
-pub(crate) fn moved_code(alloc: Global, bits: u32, old: u64, bytes: &[u8], new: u64) -> Result<MovedCode, MoveRefusal>
+pub(crate) fn moved_code(
+    alloc: Global,
+    bits: u32,
+    old: u64,
+    bytes: &[u8],
+    new: u64,
+) -> Result<MovedCode, MoveRefusal>
     ensures { spec.IsMoveAnswer (bits_numbered bits) old bytes.now new result }
 {
     match bits_numbered(bits) {

@@ -5,7 +5,10 @@ ghost use Rattle.feddurzai_c.specs.Back as spec;
 ghost use Rattle.feddurzai_c.specs.Numbers as numbers;
 
 use crate::flat::{FlatInstr, FlatOperand};
-use crate::numbers::{asize_numbered, base_numbered, disp_numbered, lock_numbered, prefix_numbered, register_numbered, rep_numbered};
+use crate::numbers::{
+    asize_numbered, base_numbered, disp_numbered, lock_numbered, prefix_numbered,
+    register_numbered, rep_numbered,
+};
 use x86_values::{Code, Instr, Mem, Operand};
 
 /// The register operand of a struct.

@@ -9,8 +9,7 @@ entries-init c = c.new-list.ensures.items ∙ sym (entries-none c.args.items.now
 
 pub entries-preserved : goal.entries-preserved
 entries-preserved c =
-    let it = c.entry_at.result in
     c.in_ok-push.ensures.items
-    ∙ (ap (λ (xs : List FlatMoved). xs ++ it ∷ []) c.entries.invariant
+    ∙ (ap (λ (xs : List FlatMoved). xs ++ c.entry_at.result ∷ []) c.entries.invariant
     ∙ (ap (λ (e : FlatMoved). entries c.args.items.now c.args.starts.now c.args.forms.now c.entries.k ++ e ∷ []) c.entry_at.ensures
     ∙ sym (entries-more c.args.items.now c.args.starts.now c.args.forms.now c.entries.k)))

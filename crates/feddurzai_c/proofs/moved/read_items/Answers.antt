@@ -1,4 +1,4 @@
-use Rattle.std.proofs.Common.{refl, arith}
+use Rattle.std.proofs.Common.{refl}
 use Rattle.feddurzai_c.proofs.ItemsInOrder.{so_far-step}
 use Rattle.feddurzai_c.proofs.moved.read_items.Goals as goal
 
