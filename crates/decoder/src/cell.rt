@@ -2,6 +2,7 @@
 
 ghost use Rattle.std.specs.Prelude.{◌≡◌, ◌+◌, ◌<◌, ◌≤◌, length, is_some, IfOk, IsTrue};
 ghost use Rattle.instruction_parts.specs.Front.{front_of, Known};
+ghost use Rattle.modrm_sib.specs.Answer.{answer_in};
 ghost use Rattle.row_relation.specs.Spells.{IsReading};
 ghost use Rattle.row_fields.specs.Holds.{is_vex};
 ghost use Rattle.opcode_rows.specs.Table.{table};
@@ -58,7 +59,7 @@ pub(crate) fn cell_of(state: &PrefixState) -> Cell
 }
 
 /// The reading of bytes whose front is known, by the rows of its cell, one after another. Each row is a step.
-pub(crate) fn scan<L: Ledger>(
+fn scan<L: Ledger>(
     bits: Bits,
     ip: u64,
     state: &PrefixState,
@@ -92,5 +93,35 @@ pub(crate) fn scan<L: Ledger>(
         Err(DecodeError::TooShort)
     } else {
         Err(DecodeError::Invalid)
+    }
+}
+
+/// The same, where the instruction is written to a place.
+#[cold]
+#[inline(never)]
+pub(crate) fn scan_into<L: Ledger>(
+    bits: Bits,
+    ip: u64,
+    state: &PrefixState,
+    bytes: &[u8],
+    cell: Cell,
+    place: &mut Decoded,
+    steps: &mut Steps<L>,
+) -> Result<(), DecodeError>
+    requires within { cell.first + cell.len ≤ ROWS }
+    requires rows { CellIs table state.now cell.first (cell.first + cell.len) }
+    requires front { front_of bits bytes.now ≡ Known state.now }
+    ensures reading { IsReading table bits ip bytes.now (reading_of (answer_in result place.new)) }
+    ensures length { IfOk (answer_in result place.new)
+        (λ d. (0 < d.len) × (d.len ≤ 15) × (d.len ≤ length bytes.now)) }
+    ensures form { IfOk (answer_in result place.new) (λ d. IsTrue (is_well_formed d.instr)) }
+    ensures steps { steps.new ≤ steps.old + cell.len }
+{
+    match scan(bits, ip, state, bytes, cell, steps) {
+        Ok(decoded) => {
+            *place = decoded;
+            Ok(())
+        }
+        Err(error) => Err(error),
     }
 }

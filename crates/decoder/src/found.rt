@@ -13,7 +13,7 @@ use crate::cell::LONGEST;
 use handler_tables::{Fields, find};
 use instruction_parts::sizes::bit_of_rex;
 use instruction_parts::{PrefixState, Vex};
-use modrm_sib::read_row;
+use modrm_sib::read_row_into;
 use opcode_rows::row;
 use prefixes::mode_of;
 use row_fields::Rep;
@@ -21,33 +21,36 @@ use std::sync::ledger::Ledger;
 use step_count::Steps;
 use x86_values::{Code, Decoded};
 
-/// The instruction that bytes with a known front begin with, None where there is none. It is read by the one row whose conditions hold on the
-/// front and the byte behind it.
+/// Writes to a place the instruction that bytes with a known front begin with, and answers None where there is none. It is read by the one row
+/// whose conditions hold on the front and the byte behind it.
+#[inline(always)]
 pub(crate) fn read_found<const BITS: u32, L: Ledger>(
     ip: u64,
     state: &PrefixState,
     bytes: &[u8],
+    place: &mut Decoded,
     steps: &mut Steps<L>,
-) -> Option<Decoded>
+) -> Option<()>
     requires mode { IsTrue (is_mode BITS) }
     requires front { front_of (mode_of BITS) bytes.now ≡ Known state.now }
     ensures reading { MatchOption result
         (SpellsNothing table (mode_of BITS) ip bytes.now)
-        (λ d. ReadsAs table (mode_of BITS) ip bytes.now d.instr d.len) }
-    ensures length { IfSome result (λ d. (0 < d.len) × (d.len ≤ 15) × (d.len ≤ length bytes.now)) }
-    ensures form { IfSome result (λ d. IsTrue (is_well_formed d.instr)) }
+        (λ _. ReadsAs table (mode_of BITS) ip bytes.now place.new.instr place.new.len) }
+    ensures length { IfSome result
+        (λ _. (0 < place.new.len) × (place.new.len ≤ 15) × (place.new.len ≤ length bytes.now)) }
+    ensures form { IfSome result (λ _. IsTrue (is_well_formed place.new.instr)) }
     ensures most { steps.new ≤ steps.old + 12 }
-    ensures least { IfSome result (λ d. steps.old + 3 ≤ steps.new) }
+    ensures least { IfSome result (λ _. steps.old + 3 ≤ steps.new) }
 {
     let fields = fields_of(state, byte_behind(state, bytes));
     match find::<BITS, L>(&fields, steps) {
         None => None,
         Some(code) => {
             let row = row(code, steps);
-            match read_row(mode_of::<BITS>(), ip, state, code, &row, bytes) {
-                Ok(decoded) => {
-                    if decoded.len as usize <= LONGEST {
-                        return Some(decoded);
+            match read_row_into(mode_of::<BITS>(), ip, state, code, &row, bytes, place) {
+                Ok(()) => {
+                    if place.len as usize <= LONGEST {
+                        return Some(());
                     }
                     None
                 }

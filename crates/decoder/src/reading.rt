@@ -3,6 +3,7 @@
 ghost use Rattle.std.specs.Prelude.{◌≡◌, ◌+◌, ◌<◌, ◌≤◌, length, IsTrue, IfOk};
 ghost use Rattle.instruction_parts.specs.Front.{front_of, Known};
 ghost use Rattle.prefixes.specs.Answer.{is_mode, mode_of};
+ghost use Rattle.modrm_sib.specs.Answer.{answer_in};
 ghost use Rattle.row_relation.specs.Spells.{IsReading};
 ghost use Rattle.opcode_rows.specs.Table.{table};
 ghost use Rattle.opcode_rows.specs.Allowed.{is_well_formed};
@@ -11,10 +12,11 @@ ghost use Rattle.decoder.specs.Answer.{reading_of, IsOnlyReading};
 ghost use Rattle.decoder.specs.Cells.{cell_count, most_steps};
 
 use crate::DecodeError;
-use crate::cell::{cell_of, scan};
+use crate::cell::{cell_of, scan_into};
 use crate::found::read_found;
 use instruction_parts::PrefixState;
-use prefixes::{PrefixError, mode_of, read_front};
+use modrm_sib::UNREAD;
+use prefixes::{NO_FRONT, PrefixError, mode_of, read_front_into};
 use std::marker::Brand;
 use std::sync::ledger::{Blank, Ledger};
 use step_count::Steps;
@@ -35,11 +37,16 @@ pub fn decode<const BITS: u32>(ip: u64, bytes: &[u8]) -> Result<Decoded, DecodeE
     ensures form { IfOk result (λ d. IsTrue (is_well_formed d.instr)) }
     ensures alone { IfOk result (λ d. IsOnlyReading (mode_of BITS) ip bytes.now d) }
 {
-    decode_on::<Brand>(Blank::new(1), mode_of::<BITS>(), ip, bytes)
+    let mut decoded = UNREAD;
+    match decode_on_into::<Brand>(Blank::new(1), mode_of::<BITS>(), ip, bytes, &mut decoded) {
+        Ok(()) => Ok(decoded),
+        Err(error) => Err(error),
+    }
 }
 
 /// The same on a count of its own.
 // A ledger is picked only at a call without const parameters, so the mode is a value here.
+#[inline]
 pub fn decode_on<L: Ledger>(
     blank: Blank,
     bits: Bits,
@@ -54,11 +61,36 @@ pub fn decode_on<L: Ledger>(
     ensures form { IfOk result (λ d. IsTrue (is_well_formed d.instr)) }
     ensures alone { IfOk result (λ d. IsOnlyReading bits ip bytes.now d) }
 {
+    let mut decoded = UNREAD;
+    match decode_on_into::<L>(blank, bits, ip, bytes, &mut decoded) {
+        Ok(()) => Ok(decoded),
+        Err(error) => Err(error),
+    }
+}
+
+/// The same, where the instruction is written to a place.
+#[inline(always)]
+fn decode_on_into<L: Ledger>(
+    blank: Blank,
+    bits: Bits,
+    ip: u64,
+    bytes: &[u8],
+    place: &mut Decoded,
+) -> Result<(), DecodeError>
+    requires name { blank.name ≡ L.name }
+    requires parts { blank.parts ≡ L.parts }
+    requires some { 0 < L.parts }
+    ensures reading { IsRead bits ip bytes.now (reading_of (answer_in result place.new)) }
+    ensures length { IfOk (answer_in result place.new)
+        (λ d. (0 < d.len) × (d.len ≤ 15) × (d.len ≤ length bytes.now)) }
+    ensures form { IfOk (answer_in result place.new) (λ d. IsTrue (is_well_formed d.instr)) }
+    ensures alone { IfOk (answer_in result place.new) (λ d. IsOnlyReading bits ip bytes.now d) }
+{
     let mut steps = Steps::<L>::open(blank);
     match bits {
-        Bits::B16 => decode_counted::<16, L>(ip, bytes, &mut steps),
-        Bits::B32 => decode_counted::<32, L>(ip, bytes, &mut steps),
-        Bits::B64 => decode_counted::<64, L>(ip, bytes, &mut steps),
+        Bits::B16 => decode_into::<16, L>(ip, bytes, place, &mut steps),
+        Bits::B32 => decode_into::<32, L>(ip, bytes, place, &mut steps),
+        Bits::B64 => decode_into::<64, L>(ip, bytes, place, &mut steps),
     }
 }
 
@@ -78,31 +110,69 @@ pub fn decode_counted<const BITS: u32, L: Ledger>(
     ensures instruction { IfOk result (λ d. (steps.old + 3 ≤ steps.new) × (steps.new ≤ steps.old + 12)) }
     ensures most { steps.new ≤ steps.old + most_steps (front_of (mode_of BITS) bytes.now) }
 {
+    let mut decoded = UNREAD;
+    match decode_into::<BITS, L>(ip, bytes, &mut decoded, steps) {
+        Ok(()) => Ok(decoded),
+        Err(error) => Err(error),
+    }
+}
+
+/// The same, where the instruction is written to a place: as a value it would be copied at each call on the way.
+#[inline(always)]
+fn decode_into<const BITS: u32, L: Ledger>(
+    ip: u64,
+    bytes: &[u8],
+    place: &mut Decoded,
+    steps: &mut Steps<L>,
+) -> Result<(), DecodeError>
+    requires { IsTrue (is_mode BITS) }
+    ensures reading { IsRead (mode_of BITS) ip bytes.now (reading_of (answer_in result place.new)) }
+    ensures length { IfOk (answer_in result place.new)
+        (λ d. (0 < d.len) × (d.len ≤ 15) × (d.len ≤ length bytes.now)) }
+    ensures form { IfOk (answer_in result place.new) (λ d. IsTrue (is_well_formed d.instr)) }
+    ensures alone { IfOk (answer_in result place.new) (λ d. IsOnlyReading (mode_of BITS) ip bytes.now d) }
+    ensures instruction { IfOk (answer_in result place.new)
+        (λ d. (steps.old + 3 ≤ steps.new) × (steps.new ≤ steps.old + 12)) }
+    ensures most { steps.new ≤ steps.old + most_steps (front_of (mode_of BITS) bytes.now) }
+{
     let bits = mode_of::<BITS>();
-    match read_front(bits, bytes) {
+    let mut state = NO_FRONT;
+    match read_front_into(bits, bytes, &mut state) {
         Err(PrefixError::Ended) => Err(DecodeError::TooShort),
         Err(PrefixError::Forbidden) => Err(DecodeError::Invalid),
-        Ok(state) => read_known::<BITS, L>(wrap(bits, u128::from(ip)), &state, bytes, steps),
+        Ok(()) => read_known::<BITS, L>(wrap(bits, u128::from(ip)), &state, bytes, place, steps),
     }
 }
 
 /// The same of bytes whose front is known. Only where no instruction is found are the rows of the cell looked at, to tell the two errors apart.
+#[inline(always)]
 fn read_known<const BITS: u32, L: Ledger>(
     ip: u64,
     state: &PrefixState,
     bytes: &[u8],
+    place: &mut Decoded,
     steps: &mut Steps<L>,
-) -> Result<Decoded, DecodeError>
+) -> Result<(), DecodeError>
     requires mode { IsTrue (is_mode BITS) }
     requires front { front_of (mode_of BITS) bytes.now ≡ Known state.now }
-    ensures reading { IsReading table (mode_of BITS) ip bytes.now (reading_of result) }
-    ensures length { IfOk result (λ d. (0 < d.len) × (d.len ≤ 15) × (d.len ≤ length bytes.now)) }
-    ensures form { IfOk result (λ d. IsTrue (is_well_formed d.instr)) }
-    ensures instruction { IfOk result (λ d. (steps.old + 3 ≤ steps.new) × (steps.new ≤ steps.old + 12)) }
+    ensures reading { IsReading table (mode_of BITS) ip bytes.now (reading_of (answer_in result place.new)) }
+    ensures length { IfOk (answer_in result place.new)
+        (λ d. (0 < d.len) × (d.len ≤ 15) × (d.len ≤ length bytes.now)) }
+    ensures form { IfOk (answer_in result place.new) (λ d. IsTrue (is_well_formed d.instr)) }
+    ensures instruction { IfOk (answer_in result place.new)
+        (λ d. (steps.old + 3 ≤ steps.new) × (steps.new ≤ steps.old + 12)) }
     ensures most { steps.new ≤ steps.old + 12 + cell_count state.now }
 {
-    match read_found::<BITS, L>(ip, state, bytes, steps) {
-        Some(decoded) => Ok(decoded),
-        None => scan(mode_of::<BITS>(), ip, state, bytes, cell_of(state), steps),
+    match read_found::<BITS, L>(ip, state, bytes, place, steps) {
+        Some(()) => Ok(()),
+        None => scan_into(
+            mode_of::<BITS>(),
+            ip,
+            state,
+            bytes,
+            cell_of(state),
+            place,
+            steps,
+        ),
     }
 }

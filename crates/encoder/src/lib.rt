@@ -9,6 +9,7 @@ ghost use Rattle.row_fit.specs.Sound.{sound};
 ghost use Rattle.row_relation.specs.Spells.{SpellsUnbounded};
 ghost use Rattle.plain_spelling.specs.PlainTail.{plain_spelling};
 ghost use Rattle.plain_spelling.specs.Expressible.{failure};
+ghost use Rattle.plain_spelling.specs.Parts.{ArePartsOf};
 ghost use Rattle.plain_spelling.specs.Writable.{writable};
 ghost use Rattle.plain_laws.specs.Plain.{IsPlainlySpelled};
 ghost use Rattle.opcode_rows.specs.Table.{table};
@@ -17,13 +18,12 @@ ghost use Rattle.encoder.specs.Encoding.{encoding, encoded_by, written, length_o
 
 use arrayvec::ArrayVec;
 use instruction_parts::sizes::exists_in;
-use modrm_sib::write_tail;
 use opcode_rows::{ROWS, row_of};
 pub use plain_spelling::NoSpelling;
 use plain_spelling::conditions::tail_failure;
-use plain_spelling::parts::plain_parts;
+use plain_spelling::parts::{PlainParts, plain_parts};
 use prefixes::write_prefixes;
-use row_relation::append_tail;
+use row_relation::append_plain_tail;
 use row_types::Row;
 use x86_values::{Bits, Instr, wrap};
 
@@ -40,15 +40,35 @@ fn encode_row(bits: Bits, ip: u64, row: &Row, instr: &Instr) -> Result<ArrayVec<
 {
     let [_first, _second, _third, _fourth] = instr.ops;
     let parts = plain_parts(bits, ip, row, instr);
-    let tail = match write_tail(bits, row, instr, &parts) {
-        Ok(tail) => tail,
-        Err(why) => return Err(why),
-    };
+    write_parts(bits, row, instr, &parts)
+}
+
+/// The encoding of an instruction of a row that exists in the mode, by the parts of its plain spelling, which say the address.
+///
+/// It is a function of its own, so that the parts are read where they lie.
+#[inline(never)]
+fn write_parts(
+    bits: Bits,
+    row: &Row,
+    instr: &Instr,
+    parts: &PlainParts,
+) -> Result<ArrayVec<u8, 15>, NoSpelling>
+    requires sound { IsTrue (sound row.now) }
+    requires writable { IsTrue (writable row.now) }
+    requires exists { IsTrue (sizes.exists_in bits row.now) }
+    requires parts { ArePartsOf bits row.now instr.now parts.now }
+    ensures { written result ≡ encoded_by (failure bits parts.now.ip row.now instr.now) (bytes_of row.now (plain_spelling bits parts.now.ip row.now instr.now)) }
+{
+    let [_first, _second, _third, _fourth] = instr.ops;
+    match tail_failure(bits, row, instr, parts) {
+        Some(why) => return Err(why),
+        None => {}
+    }
     if parts.len > 15 {
         return Err(NoSpelling::Length);
     }
     let mut bytes = write_prefixes(bits, row, &parts.state);
-    append_tail(&mut bytes, &tail);
+    append_plain_tail(&mut bytes, row, instr, parts);
     Ok(bytes)
 }
 

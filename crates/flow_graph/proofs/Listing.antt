@@ -5,7 +5,9 @@ use Rattle.std.proofs.lemmas.List.{get_or_past, get_or_default}
 use Rattle.flow_graph.specs.Control.{CodeBytes}
 use Rattle.flow_graph.specs.Reached.{Reaches, Follows, LeaderOf, itself as leader_itself, carried as leader_carried}
 use Rattle.flow_graph.specs.Marks.{FollowsByMark, AreMarks, AreChained, LeaderByMarks, itself, carried, AreMarkedBelow}
+use Rattle.flow_graph.specs.Told.{Tells, MarkedAreTold, AreFlowsOf}
 use Rattle.flow_graph.specs.Graphs.{IsFlowGraph}
+use Rattle.flow_graph.proofs.Telling.{Flows}
 
 -- ---- a leader
 
@@ -55,13 +57,15 @@ module _ (code : CodeBytes) (marks : List ℕ) (right : AreMarks code marks) whe
   inside : (q : ℕ) → 0 < get_or marks q 0 → q < length marks
   inside q h = elim (cases_lt q (length marks)) [ inl l ↦ l | inr g ↦ absurd (omega (arith, get_or_past marks q 0 g)) ]
 
-  pub graph_right : (starts leaders : List ℕ) → AreMarkedBelow marks (length marks) starts leaders →
-      IsFlowGraph code (record { starts = starts; leaders = leaders })
-  graph_right starts leaders b =
+  pub graph_right : (starts leaders : List ℕ) (told flows : Flows) → AreMarkedBelow marks (length marks) starts leaders → MarkedAreTold code marks told →
+      AreFlowsOf told starts flows → IsFlowGraph code (record { starts = starts; leaders = leaders; flows = flows })
+  graph_right starts leaders told flows b t f =
       record {
         len = b.len;
+        flows_len = f.len;
         ascending = b.ascending;
         reached = λ k d h. subst (Reaches code) (get_or_default starts k 0 d h) (right.reached (get_or starts k 0) (b.marked k h));
         complete = λ q h. let m = right.complete q h in b.complete q (inside q m) m;
         led = λ k h. leader (get_or leaders k 0) (get_or starts k 0) (b.led k h);
+        told = λ k h. subst (Tells code (get_or starts k 0)) (sym (f.each k h)) (t.each (get_or starts k 0) (b.marked k h));
       }

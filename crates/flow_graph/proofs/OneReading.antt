@@ -29,7 +29,7 @@ reading_same bits ip bytes Invalid (Read e) h k = absurd (h.spells_nothing e.ins
 reading_same bits ip bytes Invalid TooShort h k = absurd (h.ends_here k.is_short k.can_go_on)
 reading_same bits ip bytes Invalid Invalid h k = refl
 
-reading_unique : (bits : Bits) (base offset : ℕ) (bytes : List ℕ) (reading other : Reading) → IsReadAt bits base offset bytes reading →
+pub reading_unique : (bits : Bits) (base offset : ℕ) (bytes : List ℕ) (reading other : Reading) → IsReadAt bits base offset bytes reading →
     IsReadAt bits base offset bytes other → reading ≡ other
 unfolding IsReadAt
 reading_unique bits base offset bytes reading other h k = reading_same bits (base + offset) bytes reading other h k

@@ -8,6 +8,8 @@ use Rattle.std.proofs.lemmas.List.{ext_get_or, get_or_default}
 use Rattle.std.proofs.lemmas.List.Kept.{AllPairs-from_increasing}
 use Rattle.flow_graph.specs.Control.{CodeBytes, IsSuccessor}
 use Rattle.flow_graph.specs.Reached.{Reaches, start, step, Follows, IsLeader, LeaderOf, itself, carried}
+use Rattle.flow_graph.specs.Told.{Tells, untold, told_at}
+use Rattle.flow_graph.proofs.Telling.{Flows, told_same}
 use Rattle.flow_graph.specs.Graphs.{Graph, IsFlowGraph}
 
 -- **a set that is closed along control has the reached offsets**
@@ -134,7 +136,14 @@ one_graph code g h a b =
     let in_h : k < length h.starts = omega (arith, len) in
     one_leader code (get_or g.starts k 0) (get_or g.leaders k 0) (get_or h.leaders k 0) (a.led k in_g)
     (subst (λ xs. LeaderOf code (get_or h.leaders k 0) (get_or xs k 0)) (sym starts) (b.led k in_h))) in
-    ap (λ xs. make xs g.leaders) starts ∙ ap (make h.starts) leaders
+    let flows : g.flows ≡ h.flows =
+    ext_get_or untold g.flows h.flows (omega (arith, len, a.flows_len, b.flows_len))
+    (λ k l.
+    let in_g : k < length g.starts = omega (arith, a.flows_len) in
+    let in_h : k < length h.starts = omega (arith, len) in
+    told_same code (get_or g.starts k 0) (told_at g.flows k) (told_at h.flows k) (a.told k in_g)
+    (subst (λ xs. Tells code (get_or xs k 0) (told_at h.flows k)) (sym starts) (b.told k in_h))) in
+    ap (λ xs. make xs g.leaders g.flows) starts ∙ (ap (λ xs. make h.starts xs g.flows) leaders ∙ ap (make h.starts h.leaders) flows)
   where
-    make : List ℕ → List ℕ → Graph
-    make s l = record { starts = s; leaders = l }
+    make : List ℕ → List ℕ → Flows → Graph
+    make s l f = record { starts = s; leaders = l; flows = f }

@@ -256,6 +256,25 @@ extends_next marks order p exits =
     Next : Bool → Type 0
     Next b = Extends order (if b then queued marks order (p + exits.next) else order)
 
+pub extends_without_target : (marks order : List ℕ) (p : ℕ) (exits : Exits) (order1 : List ℕ) → order1 ≡ next_order marks order p exits → Extends order order1
+extends_without_target marks order p exits order1 e = subst (Extends order) (sym e) (extends_next marks order p exits)
+
+pub extends_with_target : (marks order : List ℕ) (p : ℕ) (exits : Exits) (marks1 order1 order2 : List ℕ) (target : ℕ) →
+    order1 ≡ next_order marks order p exits → order2 ≡ queued marks1 order1 target → Extends order order2
+extends_with_target marks order p exits marks1 order1 order2 target first second =
+    extends_on order order1 order2 (extends_without_target marks order p exits order1 first)
+    (subst (Extends order1) (sym second) (extends_queued marks1 order1 target))
+
+-- a reached offset has a byte
+pub reached_inside : (code : CodeBytes) (q : ℕ) → Reaches code q → q < length code.bytes
+reached_inside code _ (start h) = h
+reached_inside code _ (step p q h s) = s.inside
+
+-- and so has one whose turn comes
+pub turn_inside : (code : CodeBytes) (marks order : List ℕ) (gone : Edges) → IsWalk code marks order gone → (turn p : ℕ) → turn < length order →
+    p ≡ get_or order turn 0 → p < length code.bytes
+turn_inside code marks order gone w turn p before here = subst (λ n. n < length code.bytes) (sym here) (reached_inside code (get_or order turn 0) (w.reached turn before))
+
 -- **an arrival at the target ends the turn**
 module _ (code : CodeBytes) (order : List ℕ) (turn p : ℕ) (here : p ≡ get_or order turn 0) (before : turn < length order) (exits : Exits)
     (right : AreExits code p exits) (marks : List ℕ) (w : IsWalk code marks order (IsTreated code order turn)) where

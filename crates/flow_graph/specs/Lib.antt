@@ -3,4 +3,5 @@ pub mod Exits
 pub mod Reached
 pub mod Marks
 pub mod Walks
+pub mod Told
 pub mod Graphs

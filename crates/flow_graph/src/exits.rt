@@ -6,8 +6,11 @@ ghost use Rattle.flow_graph.specs.Control as control;
 ghost use Rattle.flow_graph.specs.Control.{code_bytes};
 ghost use Rattle.flow_graph.specs.Exits as spec;
 ghost use Rattle.flow_graph.specs.Exits.{AreExits};
+ghost use Rattle.flow_graph.specs.Told.{Tells};
+ghost use Rattle.operand_info.specs.ByCode as columns;
 
 use crate::reading::read_at;
+use decoder::DecodeError;
 use operand_info::{Flow, flow_of, near_target};
 use plain_spelling::numbers::distance;
 use x86_values::{Bits, Decoded, Instr};
@@ -19,6 +22,14 @@ pub(crate) struct Exits {
     pub(crate) next: u8,
     /// The offset of its target, where that is another one than its end.
     pub(crate) target: Option<usize>,
+}
+
+/// What is read at an offset.
+#[derive(Clone, Copy)]
+pub(crate) struct Stop {
+    /// The flow of the instruction, or why none is read.
+    pub(crate) flow: Result<Flow, DecodeError>,
+    pub(crate) exits: Exits,
 }
 
 /// Whether control may go on behind an instruction.
@@ -94,16 +105,21 @@ fn target_exit(target: Option<u64>, end: usize, count: usize) -> Option<usize>
 }
 
 /// Where control goes from an instruction at an offset.
-#[tactic(auto, using(operand_info::proofs::Uses::code_in_table))]
-fn exits_of(bits: Bits, base: u64, bytes: &[u8], offset: usize, decoded: &Decoded) -> Exits
+fn exits_of(
+    bits: Bits,
+    base: u64,
+    bytes: &[u8],
+    offset: usize,
+    flow: Flow,
+    decoded: &Decoded,
+) -> Exits
     requires inside { offset < length bytes.now }
     requires few { length bytes.now ≤ 1048576 }
-    requires well { IsTrue (is_well_formed decoded.now.instr) }
+    requires flow { flow ≡ columns.flow_of decoded.now.instr.code.0 }
     ensures value { result ≡ spec.exits_of (code_bytes bits base bytes.now) offset decoded.now }
     ensures short { result.next ≤ decoded.now.len }
     ensures inside { IfSome result.target (λ q. q < length bytes.now) }
 {
-    let flow = flow_of(decoded.instr.code);
     let end = offset + usize::from(decoded.len);
     let target = target_offset(bits, base, flow, &decoded.instr);
     Exits {
@@ -112,19 +128,30 @@ fn exits_of(bits: Bits, base: u64, bytes: &[u8], offset: usize, decoded: &Decode
     }
 }
 
-/// Where control goes from an offset.
-pub(crate) fn exits_at(bits: Bits, base: u64, bytes: &[u8], offset: usize) -> Exits
+/// What is read at an offset, and where control goes from it.
+#[tactic(auto, using(operand_info::proofs::Uses::code_in_table))]
+pub(crate) fn stop_at(bits: Bits, base: u64, bytes: &[u8], offset: usize) -> Stop
     requires inside { offset < length bytes.now }
     requires few { length bytes.now ≤ 1048576 }
-    ensures exits { AreExits (code_bytes bits base bytes.now) offset result }
-    ensures short { result.next ≤ 15 }
-    ensures inside { IfSome result.target (λ q. q < length bytes.now) }
+    ensures told { Tells (code_bytes bits base bytes.now) offset result.flow }
+    ensures exits { AreExits (code_bytes bits base bytes.now) offset result.exits }
+    ensures short { result.exits.next ≤ 15 }
+    ensures inside { IfSome result.exits.target (λ q. q < length bytes.now) }
 {
     match read_at(bits, base, offset, &bytes[offset..]) {
-        Ok(decoded) => exits_of(bits, base, bytes, offset, &decoded),
-        Err(_) => Exits {
-            next: 0,
-            target: None,
+        Ok(decoded) => {
+            let flow = flow_of(decoded.instr.code);
+            Stop {
+                flow: Ok(flow),
+                exits: exits_of(bits, base, bytes, offset, flow, &decoded),
+            }
+        }
+        Err(error) => Stop {
+            flow: Err(error),
+            exits: Exits {
+                next: 0,
+                target: None,
+            },
         },
     }
 }

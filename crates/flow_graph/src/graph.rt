@@ -6,7 +6,9 @@ ghost use Rattle.flow_graph.specs.Control.{code_bytes};
 ghost use Rattle.flow_graph.specs.Graphs.{IsFlowGraph};
 
 use crate::blocks::{Blocks, blocks_of};
-use crate::walk::marks_of;
+use crate::walk::walk_all;
+use decoder::DecodeError;
+use operand_info::Flow;
 use prefixes::mode_of;
 use std::alloc::{AllocError, Global};
 use std::marker::Model;
@@ -27,7 +29,8 @@ impl From<AllocError> for FlowError {
     }
 }
 
-/// The offsets that control reaches from the first byte of some code, each with the leader of its basic block.
+/// The offsets that control reaches from the first byte of some code, each with the leader of its basic block and the flow of its
+/// instruction.
 ///
 /// From an instruction control goes to its end, unless it is a jump, a return or an undefined instruction, and to its near
 /// target, if it has one, as far as there are bytes; where no instruction is read, it goes nowhere. A reached offset is a
@@ -44,9 +47,10 @@ impl Model for FlowGraph {
 
     ghost Value = { Graph };
 
-    ghost view = { λ g. record { starts = g.blocks.starts.items; leaders = g.blocks.leaders.items } };
+    ghost view = { λ g. record { starts = g.blocks.starts.items; leaders = g.blocks.leaders.items; flows = g.blocks.flows.items } };
 
-    ghost invariant = { λ g. length g.blocks.leaders.items ≡ length g.blocks.starts.items };
+    ghost invariant = { λ g. (length g.blocks.leaders.items ≡ length g.blocks.starts.items)
+        × (length g.blocks.flows.items ≡ length g.blocks.starts.items) };
 }
 
 impl FlowGraph {
@@ -65,6 +69,14 @@ impl FlowGraph {
         ensures len { length result.now ≡ length self.now.starts }
     {
         &self.blocks.leaders
+    }
+
+    /// The flows of the instructions at the reached offsets, in the order of those, or why none is read.
+    pub fn flows(&self) -> &[Result<Flow, DecodeError>]
+        ensures flows { result.now ≡ self.now.flows }
+        ensures len { length result.now ≡ length self.now.starts }
+    {
+        &self.blocks.flows
     }
 }
 
@@ -94,7 +106,7 @@ pub fn flow_graph_in(
     requires { length bytes.now ≤ 1048576 }
     ensures { IfOk result (λ graph. IsFlowGraph (code_bytes bits base bytes.now) graph) }
 {
-    let marks = marks_of(alloc, bits, base, bytes)?;
-    let blocks = blocks_of(alloc, &marks)?;
+    let walk = walk_all(alloc, bits, base, bytes)?;
+    let blocks = blocks_of(alloc, &walk.marks, &walk.flows)?;
     Ok(FlowGraph { blocks })
 }

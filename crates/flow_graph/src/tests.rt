@@ -1,4 +1,6 @@
 use crate::{flow_graph, flow_graph_in};
+use decoder::DecodeError;
+use operand_info::Flow;
 use std::test::Fail;
 use x86_values::Bits;
 
@@ -76,6 +78,45 @@ fn branches(rt: HostRuntime) -> Result<(), Fail> {
         let graph = flow_graph::<64>(rt.alloc(), 0x40_1000, bytes)?;
         assert_eq!(rt; graph.starts(), starts, "the starts of {bytes:?}");
         assert_eq!(rt; graph.leaders(), leaders, "the leaders of {bytes:?}");
+    }
+    Ok(())
+}
+
+/// What is told of each reached offset.
+#[test]
+fn flows(rt: HostRuntime) -> Result<(), Fail> {
+    let cases: [(&'static [u8], &'static [Result<Flow, DecodeError>]); 5] = [
+        (&[], &[]),
+        (
+            &[0x74, 0x01, 0x0F, 0xC3],
+            &[
+                Ok(Flow::ConditionalBranch),
+                Err(DecodeError::TooShort),
+                Ok(Flow::Return),
+            ],
+        ),
+        (
+            &[0xEB, 0x01, 0x06, 0x06],
+            &[Ok(Flow::UnconditionalBranch), Err(DecodeError::Invalid)],
+        ),
+        // call rax, int3, and a jump back to the first byte
+        (
+            &[0xFF, 0xD0, 0xCC, 0xEB, 0xFB],
+            &[
+                Ok(Flow::IndirectCall),
+                Ok(Flow::Interrupt),
+                Ok(Flow::UnconditionalBranch),
+            ],
+        ),
+        (
+            &[0xE8, 0x01, 0x00, 0x00, 0x00, 0x90, 0x0F, 0x0B],
+            &[Ok(Flow::Call), Ok(Flow::Next), Ok(Flow::Exception)],
+        ),
+    ];
+    for (bytes, flows) in cases {
+        assert!(rt; bytes.len() <= 16);
+        let graph = flow_graph::<64>(rt.alloc(), 0, bytes)?;
+        assert_eq!(rt; graph.flows(), flows, "the flows of {bytes:?}");
     }
     Ok(())
 }

@@ -3,10 +3,13 @@
 ghost use Rattle.std.specs.Prelude.{◌≡◌, ◌+◌, ◌<◌, ◌≤◌, length, IfOk, OnOk};
 ghost use Rattle.flow_graph.specs.Control.{code_bytes};
 ghost use Rattle.flow_graph.specs.Marks.{marked, queued, AreMarks};
+ghost use Rattle.flow_graph.specs.Told.{AreTold, MarkedAreTold};
 ghost use Rattle.flow_graph.specs.Walks as spec;
 ghost use Rattle.flow_graph.specs.Walks.{first_marks, first_order, next_marks, next_order, IsTreated, IsWalk};
 
-use crate::exits::{Exits, exits_at};
+use crate::exits::{Exits, stop_at};
+use decoder::DecodeError;
+use operand_info::Flow;
 use std::alloc::{AllocError, Global};
 use x86_values::Bits;
 
@@ -24,10 +27,13 @@ fn mark_of_end(exits: Exits) -> u8
     }
 }
 
-/// What was reached: a mark for each byte, 0 where it was not reached, and the offsets in the order of the first arrivals.
+/// What was reached: a mark for each byte, 0 where it was not reached; what was read there; and the offsets in the order of the first
+/// arrivals.
 #[derive(Drop)]
-struct Walk {
-    marks: Vec<u8>,
+pub(crate) struct Walk {
+    pub(crate) marks: Vec<u8>,
+    /// For each byte; of one that was not reached it tells nothing.
+    pub(crate) flows: Vec<Result<Flow, DecodeError>>,
     order: Vec<u32>,
 }
 
@@ -36,14 +42,20 @@ impl Walk {
     fn start(alloc: Global, count: usize) -> Result<Walk, AllocError>
         ensures marks { IfOk result (λ walk. walk.marks.items ≡ first_marks count) }
         ensures order { IfOk result (λ walk. walk.order.items ≡ first_order count) }
+        ensures flows { IfOk result (λ walk. length walk.flows.items ≡ count) }
     {
         let mut marks = vec![in alloc; 0u8; count]?;
+        let flows = vec![in alloc; Err(DecodeError::Invalid); count]?;
         let mut order = Vec::new(alloc);
         if count > 0 {
             marks[0] = LEADER;
             order.push(0)?;
         }
-        Ok(Walk { marks, order })
+        Ok(Walk {
+            marks,
+            flows,
+            order,
+        })
     }
 
     /// Arrives at an offset, whose mark is `first` if it is the first time.
@@ -52,6 +64,7 @@ impl Walk {
         requires few { length self.old.marks.items ≤ 1048576 }
         ensures marks { OnOk result (self.new.marks.items ≡ marked self.old.marks.items offset first) }
         ensures order { OnOk result (self.new.order.items ≡ queued self.old.marks.items self.old.order.items offset) }
+        ensures flows { OnOk result (self.new.flows.items ≡ self.old.flows.items) }
     {
         if self.marks[offset] == 0 {
             self.marks[offset] = first;
@@ -69,6 +82,7 @@ impl Walk {
         requires short { exits.next ≤ 15 }
         ensures marks { OnOk result (self.new.marks.items ≡ next_marks self.old.marks.items offset exits) }
         ensures order { OnOk result (self.new.order.items ≡ next_order self.old.marks.items self.old.order.items offset exits) }
+        ensures flows { OnOk result (self.new.flows.items ≡ self.old.flows.items) }
     {
         if exits.next > 0 {
             self.arrive(offset + usize::from(exits.next), mark_of_end(exits))?;
@@ -81,14 +95,17 @@ impl Walk {
         requires few { length bytes.now ≤ 1048576 }
         requires walk { IsWalk (code_bytes bits base bytes.now) self.old.marks.items self.old.order.items
             (IsTreated (code_bytes bits base bytes.now) self.old.order.items turn) }
+        requires told { AreTold (code_bytes bits base bytes.now) self.old.order.items turn self.old.flows.items }
         requires turn { turn < length self.old.order.items }
-        ensures { OnOk result (IsWalk (code_bytes bits base bytes.now) self.new.marks.items self.new.order.items
+        ensures walk { OnOk result (IsWalk (code_bytes bits base bytes.now) self.new.marks.items self.new.order.items
             (IsTreated (code_bytes bits base bytes.now) self.new.order.items (turn + 1))) }
+        ensures told { OnOk result (AreTold (code_bytes bits base bytes.now) self.new.order.items (turn + 1) self.new.flows.items) }
     {
         let offset = self.order[turn] as usize;
-        let exits = exits_at(bits, base, bytes, offset);
-        self.go_on(offset, exits)?;
-        if let Some(target) = exits.target {
+        let stop = stop_at(bits, base, bytes, offset);
+        self.flows[offset] = stop.flow;
+        self.go_on(offset, stop.exits)?;
+        if let Some(target) = stop.exits.target {
             self.arrive(target, LEADER)?;
         }
         Ok(())
@@ -96,14 +113,15 @@ impl Walk {
 }
 
 /// Marks what control reaches from the first byte.
-pub(crate) fn marks_of(
+pub(crate) fn walk_all(
     alloc: Global,
     bits: Bits,
     base: u64,
     bytes: &[u8],
-) -> Result<Vec<u8>, AllocError>
+) -> Result<Walk, AllocError>
     requires { length bytes.now ≤ 1048576 }
-    ensures { IfOk result (λ marks. AreMarks (code_bytes bits base bytes.now) marks.items) }
+    ensures marks { IfOk result (λ walk. AreMarks (code_bytes bits base bytes.now) walk.marks.items) }
+    ensures told { IfOk result (λ walk. MarkedAreTold (code_bytes bits base bytes.now) walk.marks.items walk.flows.items) }
 {
     let mut walk = Walk::start(alloc, bytes.len())?;
     let mut turn = 0;
@@ -111,5 +129,5 @@ pub(crate) fn marks_of(
         walk.follow(bits, base, bytes, turn)?;
         turn += 1;
     }
-    Ok(walk.marks)
+    Ok(walk)
 }

@@ -1,29 +1,18 @@
 -- The lines of the reached offsets, one more at a time.
-use Rattle.std.proofs.Common.{◌≡◌, ℕ, suc, ◌+◌, ◌<◌, ◌≤◌, List, [], ◌∷◌, ◌++◌, length, get_or, take, Option, map, refl, sym, ap, ◌∙◌, subst, arith, add-one}
-use Rattle.std.specs.Prelude.{All}
+use Rattle.std.proofs.Common.{◌≡◌, ℕ, ◌+◌, ◌<◌, List, [], ◌∷◌, ◌++◌, length, get_or, take, Option, map, refl, sym, ap, ◌∙◌, subst, arith, add-one}
 use Rattle.std.proofs.Math.Seq.{take-suc}
 use Rattle.std.proofs.lemmas.List.{map-append, flat_map_more}
-use Rattle.std.proofs.lemmas.List.Elements.{All-nil, All-cons, All-append, All-get_or}
+use Rattle.std.proofs.lemmas.List.Elements.{All-nil, All-cons, All-append}
 use Rattle.byte_ports.specs.Ports.{with_back}
 use Rattle.x86_values.specs.declared.Bits.{Bits}
+use Rattle.row_relation.specs.Spells.{Reading}
 use Rattle.flow_graph.specs.Control.{CodeBytes, IsReadIn, code_bytes}
-use Rattle.flow_graph.specs.Reached.{Reaches, start as entry, step as further}
+use Rattle.flow_graph.specs.Told.{told_at}
 use Rattle.flow_graph.specs.Graphs.{Graph, IsFlowGraph}
-use Rattle.run_parts.specs.Writing.{HoldsFront}
+use Rattle.run_parts.specs.Writing.{HoldsFront, Moves}
 use Rattle.run_parts.proofs.Held.{Held, held-start, held-step, held-end, held-failed}
-use Rattle.flow_run.specs.Lines.{Stop, line_of, lines_of, AreStops}
-use Rattle.flow_run.specs.Steps.{stop_of, WritesStop}
+use Rattle.flow_run.specs.Lines.{Stop, flow_word, flow_line, line_of, lines_of, AreStops}
 use Rattle.flow_run.specs.Flowing.{WritesFlow, WritesFlowFront}
-
--- a reached offset has a byte
-reached_inside : (code : CodeBytes) (q : ℕ) → Reaches code q → q < length code.bytes
-reached_inside code _ (entry h) = h
-reached_inside code _ (further p q h s) = s.inside
-
-pub start_inside : (code : CodeBytes) (graph : Graph) (k : ℕ) → IsFlowGraph code graph → k < length graph.starts →
-    get_or graph.starts k 0 ≤ length code.bytes
-start_inside code graph k is lt =
-    let inside = reached_inside code (get_or graph.starts k 0) (All-get_or (Reaches code) graph.starts k 0 lt is.reached) in omega arith
 
 -- the first so many offsets have their lines: those went to the sink or are held back
 pub record Progress (code : CodeBytes) (graph : Graph) (count : ℕ) (start held : Option (List ℕ)) (pending : List ℕ) : Type 0 where
@@ -49,14 +38,22 @@ one_more f stops stop xs k lt before is =
     ∙ (ap (λ (n : ℕ). take k xs ++ n ∷ []) is
     ∙ (sym (take-suc xs k 0 lt) ∙ ap (λ (n : ℕ). take n xs) (sym (add-one k)))))
 
+-- a reached offset and its leader, with what is read there
+abbrev stop_of : ℕ → ℕ → Reading → Stop
+stop_of start leader reading = record { start = start; leader = leader; reading = reading }
+
 -- one more line
 pub progress-step : (code : CodeBytes) (graph : Graph) (k : ℕ) (start held held' : Option (List ℕ)) (before after : List ℕ) → IsFlowGraph code graph →
     k < length graph.starts → Progress code graph k start held before →
-    WritesStop code (get_or graph.starts k 0) (get_or graph.leaders k 0) held held' before after →
+    Moves held held' before after
+    (flow_line code.bits code.base (get_or graph.starts k 0) (get_or graph.leaders k 0) (flow_word (told_at graph.flows k))) →
     Progress code graph (k + 1) start held' after
 progress-step code graph k start held held' before after is lt p w =
     let len = is.len in
-    let stop = stop_of (get_or graph.starts k 0) (get_or graph.leaders k 0) w.reading in
+    let t = is.told k lt in
+    let stop = stop_of (get_or graph.starts k 0) (get_or graph.leaders k 0) t.reading in
+    let moves : Moves held held' before after (line_of code stop) =
+    subst (λ f. Moves held held' before after (flow_line code.bits code.base (get_or graph.starts k 0) (get_or graph.leaders k 0) (flow_word f))) t.is w in
     let IsRead : Stop → Type 0 = λ (s : Stop). IsReadIn code s.start s.reading in
     let more : lines_of code p.stops ++ line_of code stop ≡ lines_of code (p.stops ++ stop ∷ []) = flat_map_more (line_of code) [] p.stops stop in
     record {
@@ -64,9 +61,9 @@ progress-step code graph k start held held' before after is lt p w =
       are_stops = record {
         starts = one_more (λ (s : Stop). s.start) p.stops stop graph.starts k lt p.are_stops.starts refl;
         leaders = one_more (λ (s : Stop). s.leader) p.stops stop graph.leaders k (omega arith) p.are_stops.leaders refl;
-        reads = All-append IsRead p.stops (stop ∷ []) p.are_stops.reads (All-cons IsRead stop [] w.reads (All-nil IsRead));
+        reads = All-append IsRead p.stops (stop ∷ []) p.are_stops.reads (All-cons IsRead stop [] t.reads (All-nil IsRead));
       };
-      told = subst (λ (xs : List ℕ). Held start held' after xs) more (held-step start held held' before after (lines_of code p.stops) (line_of code stop) p.told w.moves);
+      told = subst (λ (xs : List ℕ). Held start held' after xs) more (held-step start held held' before after (lines_of code p.stops) (line_of code stop) p.told moves);
     }
 
 -- all lines

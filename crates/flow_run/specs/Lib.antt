@@ -1,3 +1,2 @@
 pub mod Flowing
 pub mod Lines
-pub mod Steps

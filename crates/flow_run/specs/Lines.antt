@@ -1,12 +1,15 @@
 -- The lines of `flow`, one for each offset that control reaches.
-use Rattle.std.specs.Prelude.{◌≡◌, ℕ, List, [], ◌∷◌, ◌++◌, All, map, take, codes}
+use Rattle.std.specs.Prelude.{◌≡◌, ℕ, List, [], ◌∷◌, ◌++◌, All, map, take, codes, Result, Ok, Err}
 use Rattle.std.specs.List.{flat_map}
 use Rattle.x86_values.specs.declared.Bits.{Bits}
-use Rattle.row_relation.specs.Spells.{Reading, Read, TooShort, Invalid}
-use Rattle.operand_info.specs.ByCode.{flow_of}
+use Rattle.row_relation.specs.Spells.{Reading}
+use Rattle.decoder.specs.declared.DecodeError.{DecodeError}
+use Rattle.decoder.specs.declared.DecodeError.TheVariants.{TooShort, Invalid}
+use Rattle.operand_info.specs.declared.columns.Flow.{Flow}
 use Rattle.sweep_text.specs.Info.{flow_name}
 use Rattle.sweep_text.specs.Listing.{address_text}
 use Rattle.flow_graph.specs.Control.{CodeBytes, IsReadIn}
+use Rattle.flow_graph.specs.Told.{told_of}
 use Rattle.flow_graph.specs.Graphs.{Graph}
 
 -- a reached offset, its leader, and what is read there
@@ -15,11 +18,11 @@ pub record Stop : Type 0 where
   pub leader : ℕ
   pub reading : Reading
 
--- what is told of a reading: the flow of the instruction, or why none is read
-unfoldable pub flow_word : Reading → List ℕ
-flow_word (Read d) = flow_name (flow_of d.instr.code.0)
-flow_word TooShort = codes "too short"
-flow_word Invalid = codes "invalid"
+-- the word for the flow of an instruction, or for why none is read
+unfoldable pub flow_word : Result Flow DecodeError → List ℕ
+flow_word (Ok flow) = flow_name flow
+flow_word (Err TooShort) = codes "too short"
+flow_word (Err Invalid) = codes "invalid"
 
 -- a line: the address of an offset, that of its leader, and a word, each but the first behind a space, and a line feed
 unfoldable pub flow_line : Bits → ℕ → ℕ → ℕ → List ℕ → List ℕ
@@ -28,7 +31,7 @@ flow_line bits base start leader word =
 
 -- the line of a reached offset
 abbrev pub line_of : CodeBytes → Stop → List ℕ
-line_of code stop = flow_line code.bits code.base stop.start stop.leader (flow_word stop.reading)
+line_of code stop = flow_line code.bits code.base stop.start stop.leader (flow_word (told_of stop.reading))
 
 -- the lines of some reached offsets, one behind another
 abbrev pub lines_of : CodeBytes → List Stop → List ℕ

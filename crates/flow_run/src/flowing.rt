@@ -47,7 +47,7 @@ pub fn flow_code<S: Source, K: Sink>(
         Ok(graph) => graph,
         Err(_) => return Status::Memory,
     };
-    match write_flow(bits, base, &input, &graph, out) {
+    match write_flow(bits, base, &graph, out) {
         Ok(()) => Status::Done,
         Err(_) => Status::WriteFault,
     }

@@ -11,7 +11,7 @@ use row_fields::{Fields, Map, Rep};
 use x86_values::Bits;
 
 /// The number of what a node splits by.
-#[inline]
+#[inline(always)]
 pub fn field_of<const BITS: u32>(split: Split, fields: &Fields) -> usize
     ensures { result ≡ field_at (mode_of BITS) split fields.now }
 {

@@ -17,6 +17,7 @@ use x86_values::Code;
 /// The code of the one row of the table whose conditions hold on the fields in a mode; None exactly where no row's do.
 ///
 /// `BITS` is the mode: 16, 32 or 64. Each look-up in a node is a step: at most 11, and at least 2 where a row is found.
+#[inline(always)]
 pub fn find<const BITS: u32, L: Ledger>(fields: &Fields, steps: &mut Steps<L>) -> Option<Code>
     requires { IsTrue (is_mode BITS) }
     ensures row { MatchOption result
@@ -49,7 +50,7 @@ pub fn find<const BITS: u32, L: Ledger>(fields: &Fields, steps: &mut Steps<L>) -
 }
 
 /// The entry of a node for what it splits by.
-#[inline]
+#[inline(always)]
 fn along<const BITS: u32, const N: usize, L: Ledger>(
     node: &Node<N>,
     split: Split,

@@ -1,6 +1,7 @@
 -- The bytes of a spelling, and what its parts up to the opcode byte say (Intel SDM volume 2, 2.1 and 2.3.5).
 use Rattle.std.specs.Prelude.{ℕ, ◌+◌, ◌-◌, ◌*◌, Bool, true, false, List, [], ◌∷◌, ◌++◌, length, Option, Some, None, cond}
 use Rattle.x86_values.specs.declared.Bits.{Bits}
+use Rattle.x86_values.specs.declared.Rep.TheVariants.{None as NoRep}
 use Rattle.row_types.specs.declared.Map.{Map}
 use Rattle.row_types.specs.declared.Map.TheVariants.{One, M0f, M0f38, M0f3a}
 use Rattle.row_types.specs.declared.Row.{Row}
@@ -97,6 +98,21 @@ state_from bits prefixes used vex map opcode = record {
   rep = counting_repeat prefixes;
   seg = counting_segment bits prefixes;
   rex = counting_rex bits prefixes;
+  vex = vex;
+  map = map;
+  opcode = opcode;
+}
+
+-- the same where a REX is the only prefix, or there is none
+abbrev pub state_of_rex : Option ℕ → ℕ → Option Vex → Map → ℕ → PrefixState
+state_of_rex rex used vex map opcode = record {
+  used = used;
+  size66 = false;
+  addr67 = false;
+  lock = false;
+  rep = NoRep;
+  seg = None;
+  rex = rex;
   vex = vex;
   map = map;
   opcode = opcode;

@@ -3,10 +3,12 @@
 ghost use Rattle.std.specs.Prelude.{◌≡◌, ◌<◌, ◌+◌, length};
 ghost use Rattle.instruction_parts.specs.Bytes as spec;
 
-use crate::counting::{counting_repeat, counting_rex, counting_segment, has_66, has_67, has_lock};
+use crate::counting::{
+    counting_repeat, counting_rex, counting_segment, has_66, has_67, has_lock, is_64, is_rex,
+};
 use crate::spelling::{PrefixState, Spelling, Vex};
 use row_types::{Map, Row};
-use x86_values::Bits;
+use x86_values::{Bits, Rep};
 
 /// The length of the VEX, else of the escape bytes of the map.
 #[inline]
@@ -37,9 +39,53 @@ fn spelled_map(map: Map, vex: Option<Vex>) -> Map
 }
 
 /// What prefixes, VEX, map and opcode byte say.
-#[inline]
-#[tactic(auto, unfolding(crate::specs::Bytes::state_from))]
+// Most instructions have no prefix or a REX alone: neither takes a pass over the prefixes.
+#[inline(always)]
 pub fn state_from(
+    bits: Bits,
+    prefixes: &[u8],
+    used: u8,
+    vex: Option<Vex>,
+    map: Map,
+    opcode: u8,
+) -> PrefixState
+    ensures { result ≡ spec.state_from bits prefixes.now used vex map opcode }
+{
+    match prefixes.split_first() {
+        None => state_of_rex(None, used, vex, map, opcode),
+        Some((b, rest)) => {
+            if rest.len() == 0 && is_64(bits) && is_rex(*b) {
+                state_of_rex(Some(*b), used, vex, map, opcode)
+            } else {
+                state_behind(bits, prefixes, used, vex, map, opcode)
+            }
+        }
+    }
+}
+
+/// The same where a REX is the only prefix, or there is none.
+#[inline(always)]
+fn state_of_rex(rex: Option<u8>, used: u8, vex: Option<Vex>, map: Map, opcode: u8) -> PrefixState
+    ensures { result ≡ spec.state_of_rex rex used vex map opcode }
+{
+    PrefixState {
+        used,
+        size66: false,
+        addr67: false,
+        lock: false,
+        rep: Rep::None,
+        seg: None,
+        rex,
+        vex,
+        map,
+        opcode,
+    }
+}
+
+/// The same behind any prefixes.
+#[inline(never)]
+#[tactic(auto, unfolding(crate::specs::Bytes::state_from))]
+fn state_behind(
     bits: Bits,
     prefixes: &[u8],
     used: u8,

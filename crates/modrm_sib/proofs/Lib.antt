@@ -1,3 +1,4 @@
+pub mod InPlace
 pub mod Tails
 pub mod Tells
 pub mod Rows

@@ -20,6 +20,11 @@ abbrev pub at_end : Bool → Result Decoded TailError
 at_end true = Err Ended
 at_end false = Err Forbidden
 
+-- the answer whose instruction was written to a place
+abbrev pub answer_in : {E : Type 0} → Result (Unit {0}) E → Decoded → Result Decoded E
+answer_in (Ok done) place = Ok place
+answer_in (Err why) place = Err why
+
 -- the instruction of a state and a tail, and its length
 abbrev pub decoded : Bits → ℕ → PrefixState → Code → Row → Option ModRm → Option Sib → List ℕ → List ℕ → ℕ → Decoded
 decoded bits ip state code row m sib disp imm len = record {

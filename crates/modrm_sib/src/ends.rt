@@ -9,6 +9,8 @@ use row_types::Row;
 use x86_values::Bits;
 
 /// Whether some SIB can stand behind this ModRM. Of a SIB only the index decides.
+#[cold]
+#[inline(never)]
 #[tactic(auto, unfolding(crate::specs::Parts::some_sib_fits))]
 pub(crate) fn some_sib_fits(bits: Bits, row: &Row, state: &PrefixState, m: ModRm) -> bool
     ensures { result ≡ spec.some_sib_fits bits row.now state.now m }
@@ -61,6 +63,8 @@ fn some_reg_fits(bits: Bits, row: &Row, state: &PrefixState, mode3: u8) -> bool
 }
 
 /// Whether some ModRM can.
+#[cold]
+#[inline(never)]
 #[tactic(auto, unfolding(crate::specs::Parts::some_modrm_fits))]
 pub(crate) fn some_modrm_fits(bits: Bits, row: &Row, state: &PrefixState) -> bool
     ensures { result ≡ spec.some_modrm_fits bits row.now state.now }

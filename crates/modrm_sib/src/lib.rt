@@ -19,6 +19,7 @@ mod write;
 use instruction_parts::PrefixState;
 pub use parts::{modrm_of_byte, sib_of_byte};
 use prefixes::mode_of;
+use row_meaning::operands;
 use row_types::Row;
 use thiserror::Error;
 pub use write::{write_operands, write_tail};
@@ -39,6 +40,7 @@ pub enum TailError {
 ///
 /// `state` is the front of `bytes`, and `ip` the address of their first byte.
 /// The length may be above 15: the bound on an instruction is the caller's.
+#[inline]
 pub fn read_row(
     bits: Bits,
     ip: u64,
@@ -56,8 +58,41 @@ pub fn read_row(
     ensures forbidden { result ≡ Err TailError.Forbidden
         → RowReadsNothing bits row.now bytes.now × (RowCanGoOn bits row.now bytes.now → ⊥) }
 {
+    let mut decoded = UNREAD;
+    match read_row_into(bits, ip, state, code, row, bytes, &mut decoded) {
+        Ok(()) => Ok(decoded),
+        Err(error) => Err(error),
+    }
+}
+
+/// What stands in the place of an instruction before it is read.
+pub const UNREAD: Decoded = Decoded {
+    instr: operands::UNREAD,
+    len: 0,
+};
+
+/// The same as `read_row`, where the instruction is written to a place. After an error nothing is said of what stands there.
+#[inline(always)]
+pub fn read_row_into(
+    bits: Bits,
+    ip: u64,
+    state: &PrefixState,
+    code: Code,
+    row: &Row,
+    bytes: &[u8],
+    place: &mut Decoded,
+) -> Result<(), TailError>
+    requires sound { IsTrue (sound row.now) }
+    requires front { front_of bits bytes.now ≡ Known state.now }
+    ensures ok { IfOk result (λ _. RowReads bits ip code row.now bytes.now place.new) }
+    ensures len { IfOk result (λ _. (0 < place.new.len) × (place.new.len < 64) × (place.new.len ≤ length bytes.now)) }
+    ensures ended { result ≡ Err TailError.Ended
+        → RowReadsNothing bits row.now bytes.now × RowCanGoOn bits row.now bytes.now }
+    ensures forbidden { result ≡ Err TailError.Forbidden
+        → RowReadsNothing bits row.now bytes.now × (RowCanGoOn bits row.now bytes.now → ⊥) }
+{
     let (_, tail) = bytes.split_at(state.used as usize + 1);
-    read::read_tail(bits, ip, state, code, row, tail)
+    read::read_tail(bits, ip, state, code, row, tail, place)
 }
 
 /// The instruction of a row whose front these bytes have, with its length in bytes.

@@ -90,6 +90,7 @@ fn lead_fits(bits: Bits, row: &Row, state: &PrefixState, m: Option<ModRm>) -> bo
 }
 
 /// Whether the row takes this ModRM and SIB behind the state.
+#[inline(always)]
 #[tactic(auto, unfolding(crate::specs::Parts::parts_fit))]
 pub(crate) fn parts_fit(
     bits: Bits,

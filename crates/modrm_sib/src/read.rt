@@ -1,6 +1,7 @@
 //! The bytes behind the opcode byte, read part by part.
 
 ghost use Rattle.std.specs.Prelude.{◌≡◌, ◌<◌, ◌≤◌, IsTrue};
+ghost use Rattle.x86_values.specs.declared.Decoded.{Decoded};
 ghost use Rattle.modrm_sib.specs.Answer as spec;
 ghost use Rattle.modrm_sib.specs.Parts as parts;
 ghost use Rattle.row_fit.specs.Fits as fits;
@@ -13,14 +14,14 @@ use crate::parts::{displacement_len, modrm_of_byte, parts_fit, sib_of_byte, take
 use instruction_parts::sizes::state_size;
 use instruction_parts::{ModRm, PrefixState, Sib};
 use row_fit::tail_fits::immediates_bytes;
-use row_meaning::operands::instr_of;
+use row_meaning::operands::{Behind, instr_into};
 use row_types::{ModRmRule, Row};
 use x86_values::{Bits, Code, Decoded, wrap};
 
 /// The answer where the bytes end: whether something can complete them.
 #[inline]
-fn at_end(can_go_on: bool) -> Result<Decoded, TailError>
-    ensures { result ≡ spec.at_end can_go_on }
+fn at_end(can_go_on: bool) -> Result<(), TailError>
+    ensures { (place : Decoded) → spec.answer_in result place ≡ spec.at_end can_go_on }
 {
     if can_go_on {
         Err(TailError::Ended)
@@ -55,6 +56,8 @@ fn immediates_size(size: Bits, row: &Row) -> u8
 }
 
 /// What stands behind ModRM and SIB; `used` bytes stand up to there.
+// An instruction is written where it is to stand, here and in the calls above: handed on as a value, it is copied by each of them.
+#[inline(never)]
 #[tactic(auto, unfolding(crate::specs::Answer::rest_answer, crate::specs::Answer::fitting_answer))]
 fn read_rest(
     bits: Bits,
@@ -66,12 +69,13 @@ fn read_rest(
     sib: Option<Sib>,
     used: u8,
     bytes: &[u8],
-) -> Result<Decoded, TailError>
+    place: &mut Decoded,
+) -> Result<(), TailError>
     requires sound { IsTrue (sound row.now) }
     requires modrm { IsTrue (fits.modrm_in_range m) }
     requires sib { IsTrue (fits.sib_in_range sib) }
     requires few { used < 18 }
-    ensures { result ≡ spec.rest_answer bits ip state.now code row.now m sib used bytes.now }
+    ensures { spec.answer_in result place.new ≡ spec.rest_answer bits ip state.now code row.now m sib used bytes.now }
 {
     if !parts_fit(bits, row, state, m, sib) {
         return Err(TailError::Forbidden);
@@ -86,10 +90,16 @@ fn read_rest(
     let (imm, _) = rest.split_at(imm_len as usize);
     let len = used + (disp_len + imm_len);
     let next = wrap(bits, ip as u128 + len as u128);
-    Ok(Decoded {
-        instr: instr_of(bits, code, row, state, m, sib, disp, next, imm),
-        len,
-    })
+    let behind = Behind {
+        modrm: m,
+        sib,
+        disp,
+        imm,
+        next,
+    };
+    instr_into(bits, code, row, state, &behind, &mut place.instr);
+    place.len = len;
+    Ok(())
 }
 
 /// Whether the row has a ModRM.
@@ -104,6 +114,7 @@ fn has_modrm(row: &Row) -> bool
 }
 
 /// What stands behind the opcode byte: ModRM, the SIB where it takes one, and the rest.
+#[inline(always)]
 #[tactic(auto, unfolding(crate::specs::Answer::tail_answer, crate::specs::Answer::modrm_answer, crate::specs::Answer::behind_modrm_answer, crate::specs::Answer::sib_answer))]
 pub(crate) fn read_tail(
     bits: Bits,
@@ -112,14 +123,15 @@ pub(crate) fn read_tail(
     code: Code,
     row: &Row,
     bytes: &[u8],
-) -> Result<Decoded, TailError>
+    place: &mut Decoded,
+) -> Result<(), TailError>
     requires sound { IsTrue (sound row.now) }
     requires few { state.now.used < 15 }
-    ensures { result ≡ spec.tail_answer bits ip state.now code row.now bytes.now }
+    ensures { spec.answer_in result place.new ≡ spec.tail_answer bits ip state.now code row.now bytes.now }
 {
     let used = state.used + 1;
     if !has_modrm(row) {
-        return read_rest(bits, ip, state, code, row, None, None, used, bytes);
+        return read_rest(bits, ip, state, code, row, None, None, used, bytes, place);
     }
     match bytes.split_first() {
         None => at_end(some_modrm_fits(bits, row, state)),
@@ -127,13 +139,24 @@ pub(crate) fn read_tail(
             let m = modrm_of_byte(*b);
             let used = used + 1;
             if !takes_sib(bits, row, state, m) {
-                return read_rest(bits, ip, state, code, row, Some(m), None, used, rest);
+                return read_rest(bits, ip, state, code, row, Some(m), None, used, rest, place);
             }
             match rest.split_first() {
                 None => at_end(some_sib_fits(bits, row, state, m)),
                 Some((b, rest)) => {
                     let sib = Some(sib_of_byte(*b));
-                    read_rest(bits, ip, state, code, row, Some(m), sib, used + 1, rest)
+                    read_rest(
+                        bits,
+                        ip,
+                        state,
+                        code,
+                        row,
+                        Some(m),
+                        sib,
+                        used + 1,
+                        rest,
+                        place,
+                    )
                 }
             }
         }

@@ -39,7 +39,7 @@ prefix_count f =
     simp length-append (rw (segment_count f.seg, byte_count f.size66 0x66, byte_count f.addr67 0x67, byte_count f.lock 0xF0, repeat_count f.rep, rex_count f.rex) refl)
 
 -- the plain front has as many bytes as its parts ask for
-used_is : (bits : Bits) (row : Row) (i : Instr) → (plain_front_of bits row i).used ≡ length (prefixes_of (plain_front_of bits row i) ++ lead_bytes row.map (plain_front_of bits row i).vex)
+pub used_is : (bits : Bits) (row : Row) (i : Instr) → (plain_front_of bits row i).used ≡ length (prefixes_of (plain_front_of bits row i) ++ lead_bytes row.map (plain_front_of bits row i).vex)
 unfolding plain_front_of asked_used
 used_is bits row i =
     let n = prefix_count (plain_front_of bits row i) in

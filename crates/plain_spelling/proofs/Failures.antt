@@ -7,7 +7,7 @@ use Rattle.row_types.specs.declared.Row.{Row}
 use Rattle.instruction_parts.specs.Counting.{or_else}
 use Rattle.plain_spelling.specs.declared.NoSpelling.{NoSpelling}
 use Rattle.plain_spelling.specs.declared.NoSpelling.TheVariants as cause
-use Rattle.plain_spelling.specs.Expressible.{row_exists, kind_suits, register_suits, address_suits, offered, immediate_suits, target_suits, prefixes_suit, address_size_suits, is_short, first_failing, caused_at, caused_unless, each_operand, tail_failure, failure, Suits}
+use Rattle.plain_spelling.specs.Expressible.{row_exists, kind_suits, register_suits, address_suits, offered, immediate_suits, target_suits, prefixes_suit, address_size_suits, is_short, gather_suits, named, operand_suits, tail_suits, first_failing, caused_at, caused_unless, each_operand, tail_failure, failure, Suits}
 
 neither : (a b : Option NoSpelling) → or_else a b ≡ None → (a ≡ None) × (b ≡ None)
 neither None b h = (refl, h)
@@ -105,3 +105,62 @@ unfolding failure
 suits-failure bits ip row i s short =
     rw (unless-all (row_exists bits row) cause.Row s.exists)
     (rw (suits-tail bits ip row i s) (unless-all (is_short bits row i) cause.Length short))
+
+-- ---- each operand gone over once
+
+four-split : (a b c d : Bool) → (a && (b && (c && d))) ≡ true → (a ≡ true) × ((b ≡ true) × ((c ≡ true) × (d ≡ true)))
+four-split true true true true h = (refl, (refl, (refl, refl)))
+four-split true true true false h = cc
+four-split true true false d h = cc
+four-split true false c d h = cc
+four-split false b c d h = cc
+
+-- what an operand meets by itself
+record OperandSuits (bits : Bits) (ip : ℕ) (row : Row) (i : Instr) (n : ℕ) : Type 0 where
+  kind : kind_suits row i n ≡ true
+  is_named : named bits row i n ≡ true
+  address : address_suits bits row i n ≡ true
+  displacement : offered bits row i n ≡ true
+  immediate : immediate_suits bits row i n ≡ true
+  target : target_suits bits ip row i n ≡ true
+
+six-split : (bits : Bits) (ip : ℕ) (row : Row) (i : Instr) (n : ℕ) (a b c d e f : Bool) → kind_suits row i n ≡ a → named bits row i n ≡ b → address_suits bits row i n ≡ c
+    → offered bits row i n ≡ d → immediate_suits bits row i n ≡ e → target_suits bits ip row i n ≡ f
+    → (a && (b && (c && (d && (e && f))))) ≡ true → OperandSuits bits ip row i n
+six-split bits ip row i n true true true true true true ea eb ec ed ee ef h = record { kind = ea; is_named = eb; address = ec; displacement = ed; immediate = ee; target = ef }
+six-split bits ip row i n true true true true true false ea eb ec ed ee ef h = cc
+six-split bits ip row i n true true true true false f ea eb ec ed ee ef h = cc
+six-split bits ip row i n true true true false e f ea eb ec ed ee ef h = cc
+six-split bits ip row i n true true false d e f ea eb ec ed ee ef h = cc
+six-split bits ip row i n true false c d e f ea eb ec ed ee ef h = cc
+six-split bits ip row i n false b c d e f ea eb ec ed ee ef h = cc
+
+operand-split : (bits : Bits) (ip : ℕ) (row : Row) (i : Instr) (n : ℕ) → operand_suits bits ip row i n ≡ true → OperandSuits bits ip row i n
+unfolding operand_suits
+operand-split bits ip row i n h = six-split bits ip row i n _ _ _ _ _ _ refl refl refl refl refl refl h
+
+register-from : (bits : Bits) (row : Row) (i : Instr) (n : ℕ) → named bits row i n ≡ true → gather_suits row i n ≡ true → register_suits bits row i n ≡ true
+unfolding named register_suits
+register-from bits row i n a b = rw a (rw b refl)
+
+-- where each operand meets its conditions by itself, and the rules on the whole hold, none fails
+pub tail-none : (bits : Bits) (ip : ℕ) (row : Row) (i : Instr) → tail_suits bits ip row i ≡ true → tail_failure bits ip row i ≡ None
+unfolding tail_suits tail_failure
+tail-none bits ip row i h =
+    let p = four-split (each_operand (operand_suits bits ip row i)) (gather_suits row i 0) (prefixes_suit row i) (address_size_suits bits row i) h in
+    let q = four-split (operand_suits bits ip row i 0) (operand_suits bits ip row i 1) (operand_suits bits ip row i 2) (operand_suits bits ip row i 3) p.0 in
+    let a = operand-split bits ip row i 0 q.0 in
+    let b = operand-split bits ip row i 1 q.1.0 in
+    let c = operand-split bits ip row i 2 q.1.1.0 in
+    let d = operand-split bits ip row i 3 q.1.1.1 in
+    rw (at-all cause.OperandKind (kind_suits row i) (four-join _ _ _ _ a.kind b.kind c.kind d.kind))
+    (rw (at-all cause.Register (register_suits bits row i) (four-join _ _ _ _ (register-from bits row i 0 a.is_named p.1.0) (register-from bits row i 1 b.is_named refl) (register-from bits row i 2 c.is_named refl) (register-from bits row i 3 d.is_named refl)))
+    (rw (unless-all (each_operand (address_suits bits row i)) cause.Memory (four-join _ _ _ _ a.address b.address c.address d.address))
+    (rw (unless-all (each_operand (offered bits row i)) cause.Displacement (four-join _ _ _ _ a.displacement b.displacement c.displacement d.displacement))
+    (rw (at-all cause.Immediate (immediate_suits bits row i) (four-join _ _ _ _ a.immediate b.immediate c.immediate d.immediate))
+    (rw (unless-all (each_operand (target_suits bits ip row i)) cause.Target (four-join _ _ _ _ a.target b.target c.target d.target))
+    (rw (unless-all (prefixes_suit row i) cause.Prefix p.1.1.0)
+    (unless-all (address_size_suits bits row i) cause.AddressSize p.1.1.1)))))))
+  where
+    four-join : (a b c d : Bool) → a ≡ true → b ≡ true → c ≡ true → d ≡ true → (a && (b && (c && d))) ≡ true
+    four-join a b c d ha hb hc hd = rw (ha, hb, hc, hd) refl

@@ -11,3 +11,4 @@ pub mod Compared
 pub mod FrontRange
 pub mod ImmediateRoom
 pub mod Failures
+pub mod Suiting

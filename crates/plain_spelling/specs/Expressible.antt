@@ -265,6 +265,22 @@ tail_failure bits ip row i =
     (or_else (caused_unless (prefixes_suit row i) cause.Prefix)
     (caused_unless (address_size_suits bits row i) cause.AddressSize)))))))
 
+-- a register operand is one that its kind can name in the mode, whatever the numbers of a gather are
+unfoldable pub named : Bits → Row → Instr → ℕ → Bool
+named bits row i n = elim (operand_at i n) [ Reg r ↦ is_nameable bits row i n r | _ ↦ true ]
+
+-- an operand meets the conditions 2 to 7 by itself
+unfoldable pub operand_suits : Bits → ℕ → Row → Instr → ℕ → Bool
+operand_suits bits ip row i n =
+    kind_suits row i n && (named bits row i n && (address_suits bits row i n && (offered bits row i n
+    && (immediate_suits bits row i n && target_suits bits ip row i n))))
+
+-- the conditions 2 to 9 hold
+unfoldable pub tail_suits : Bits → ℕ → Row → Instr → Bool
+tail_suits bits ip row i =
+    each_operand (operand_suits bits ip row i)
+    && (gather_suits row i 0 && (prefixes_suit row i && address_size_suits bits row i))
+
 -- the first that fails of all ten, of an instruction whose code names this row
 unfoldable pub failure : Bits → ℕ → Row → Instr → Option NoSpelling
 failure bits ip row i =

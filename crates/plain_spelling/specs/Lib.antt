@@ -7,3 +7,4 @@ pub mod PlainTail
 pub mod Expressible
 pub mod Writable
 pub mod Parts
+pub mod Asked

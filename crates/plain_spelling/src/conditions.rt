@@ -1,7 +1,11 @@
 //! When an instruction has a plain spelling: the conditions 2 to 9, in their order.
 
 ghost use Rattle.std.specs.Prelude.{◌≡◌, ◌<◌, ◌≤◌, ◌&&◌, not, true, false, if◌then◌else◌, Some, None};
+ghost use Rattle.x86_values.specs.declared.Operand.TheVariants.{Absent};
+ghost use Rattle.row_types.specs.declared.Place.{Place};
 ghost use Rattle.row_types.specs.declared.Plus.TheVariants.{Register as PlusRegister};
+ghost use Rattle.instruction_parts.specs.Kinds.{method_of};
+ghost use Rattle.plain_spelling.specs.Forms.{is_variant_of};
 ghost use Rattle.row_fit.specs.Fits as fits;
 ghost use Rattle.plain_spelling.specs.PlainFront as front;
 ghost use Rattle.plain_spelling.specs.PlainTail as tail;
@@ -18,7 +22,7 @@ use crate::comparing::{same_bits, same_register};
 use crate::forms::{is_memory, is_variant_of, operand_at};
 use crate::numbers::{distance, is_below_bytes, is_extended_of, is_of_width};
 use crate::parts::{PlainParts, immediate_len};
-use crate::registers::{asked_in_index, asked_in_reg, asked_in_vvvv, register_number};
+use crate::registers::{numbers_asked, register_number};
 use instruction_parts::counting::{is_16, is_64};
 use instruction_parts::kinds::{Method, file_of_kind, fixed_number_of_kind, method_of_kind};
 use instruction_parts::sizes::{has_address_mark, is_lockable};
@@ -193,7 +197,7 @@ fn destination_number(row: &Row, instr: &Instr) -> Option<u16>
         || vector_in_reg(method_of_kind(kind_at(row, 1)), operand_at(instr, 1))
         || vector_in_reg(method_of_kind(kind_at(row, 2)), operand_at(instr, 2))
         || vector_in_reg(method_of_kind(kind_at(row, 3)), operand_at(instr, 3));
-    number_if(is_vector, asked_in_reg(row, instr))
+    number_if(is_vector, numbers_asked(row, instr).reg)
 }
 
 /// The number of a gather's index, where that is a vector register.
@@ -204,7 +208,7 @@ fn index_number(row: &Row, instr: &Instr) -> Option<u16>
         || vector_in_index(method_of_kind(kind_at(row, 1)), operand_at(instr, 1))
         || vector_in_index(method_of_kind(kind_at(row, 2)), operand_at(instr, 2))
         || vector_in_index(method_of_kind(kind_at(row, 3)), operand_at(instr, 3));
-    number_if(is_vector, asked_in_index(row, instr))
+    number_if(is_vector, numbers_asked(row, instr).index)
 }
 
 /// The number of a gather's mask, where that is a vector register.
@@ -215,7 +219,7 @@ fn mask_number(row: &Row, instr: &Instr) -> Option<u16>
         || vector_in_vvvv(method_of_kind(kind_at(row, 1)), operand_at(instr, 1))
         || vector_in_vvvv(method_of_kind(kind_at(row, 2)), operand_at(instr, 2))
         || vector_in_vvvv(method_of_kind(kind_at(row, 3)), operand_at(instr, 3));
-    number_if(is_vector, asked_in_vvvv(row, instr))
+    number_if(is_vector, numbers_asked(row, instr).vvvv)
 }
 
 /// Whether of two numbers one is absent, or they differ.
@@ -583,10 +587,11 @@ fn address_size_failure(bits: Bits, row: &Row, instr: &Instr) -> Option<NoSpelli
     )
 }
 
-/// The first that fails of the conditions 2 to 9 on an instruction of a row, None where all hold. `parts` are those of its plain spelling at
-/// the address at which it is to stand.
+/// The first that fails of the conditions 2 to 9, tested one after the other on all operands, None where all hold.
+#[cold]
+#[inline(never)]
 #[tactic(auto, unfolding(crate::specs::Expressible::tail_failure))]
-pub fn tail_failure(bits: Bits, row: &Row, instr: &Instr, parts: &PlainParts) -> Option<NoSpelling>
+fn first_failure(bits: Bits, row: &Row, instr: &Instr, parts: &PlainParts) -> Option<NoSpelling>
     requires { ArePartsOf bits row.now instr.now parts.now }
     ensures { result ≡ spec.tail_failure bits parts.now.ip row.now instr.now }
 {
@@ -617,5 +622,98 @@ pub fn tail_failure(bits: Bits, row: &Row, instr: &Instr, parts: &PlainParts) ->
     match prefix_failure(bits, row, instr, &parts.state) {
         Some(why) => Some(why),
         None => address_size_failure(bits, row, instr),
+    }
+}
+
+// ---- whether all of them hold, each operand gone over once
+
+/// Whether an operand that is there meets the conditions 2 to 7 by itself.
+#[inline(never)]
+#[tactic(auto, unfolding(crate::specs::Expressible::kind_suits, crate::specs::Expressible::named, crate::specs::Expressible::address_suits, crate::specs::Expressible::offered, crate::specs::Expressible::immediate_suits, crate::specs::Expressible::target_suits, crate::specs::Expressible::operand_suits))]
+fn present_suits(bits: Bits, row: &Row, instr: &Instr, parts: &PlainParts, n: usize) -> bool
+    requires place { n < 4 }
+    requires parts { ArePartsOf bits row.now instr.now parts.now }
+    ensures { result ≡ spec.operand_suits bits parts.now.ip row.now instr.now n }
+{
+    let kind = kind_at(row, n);
+    let method = method_of_kind(kind);
+    let operand = operand_at(instr, n);
+    if !is_variant_of(row.place, method, operand) {
+        return false;
+    }
+    match operand {
+        Operand::Absent => true,
+        Operand::Reg(register) => is_nameable(bits, row, instr, &parts.state, n, register),
+        Operand::Mem(memory) => {
+            shape_suits(bits, row, method, file_of_kind(kind), memory)
+                && displacement_suits(written_size(bits, instr.asize, memory), method, memory)
+                && address_reaches(parts.next, memory)
+        }
+        Operand::Near(target) => {
+            near_reaches(
+                parts.size,
+                parts.next,
+                immediate_len(parts.size, kind),
+                target,
+            )
+        }
+        _ => immediate_suits_how(parts.size, method, immediate_len(parts.size, kind), operand),
+    }
+}
+
+/// Whether a kind asks that no operand is there.
+#[inline]
+#[tactic(auto, unfolding(instruction_parts::specs::Kinds::method_of, crate::specs::Forms::is_variant_of))]
+fn is_absent_kind(kind: OpKind) -> bool
+    ensures { (place : Place) → result ≡ is_variant_of place (method_of kind) Absent }
+{
+    match kind {
+        OpKind::Absent => true,
+        _ => false,
+    }
+}
+
+/// Whether an operand meets the conditions 2 to 7 by itself: one that is absent has no more to meet than its kind.
+#[inline]
+#[tactic(auto, unfolding(crate::specs::Expressible::kind_suits, crate::specs::Expressible::named, crate::specs::Expressible::address_suits, crate::specs::Expressible::offered, crate::specs::Expressible::immediate_suits, crate::specs::Expressible::target_suits, crate::specs::Expressible::operand_suits))]
+fn operand_suits(bits: Bits, row: &Row, instr: &Instr, parts: &PlainParts, n: usize) -> bool
+    requires place { n < 4 }
+    requires parts { ArePartsOf bits row.now instr.now parts.now }
+    ensures { result ≡ spec.operand_suits bits parts.now.ip row.now instr.now n }
+{
+    match operand_at(instr, n) {
+        Operand::Absent => is_absent_kind(kind_at(row, n)),
+        _ => present_suits(bits, row, instr, parts, n),
+    }
+}
+
+/// Whether the conditions 2 to 9 hold.
+#[inline]
+#[tactic(auto, unfolding(crate::specs::Expressible::tail_suits, crate::specs::PlainFront::byte_front, crate::specs::PlainFront::plain_front_of))]
+fn tail_suits(bits: Bits, row: &Row, instr: &Instr, parts: &PlainParts) -> bool
+    requires { ArePartsOf bits row.now instr.now parts.now }
+    ensures { result ≡ spec.tail_suits bits parts.now.ip row.now instr.now }
+{
+    operand_suits(bits, row, instr, parts, 0)
+        && operand_suits(bits, row, instr, parts, 1)
+        && operand_suits(bits, row, instr, parts, 2)
+        && operand_suits(bits, row, instr, parts, 3)
+        && gather_suits(row, instr, 0)
+        && prefixes_suit(row, instr, parts.state.opcode)
+        && address_size_suits(bits, row, instr)
+}
+
+/// The first that fails of the conditions 2 to 9 on an instruction of a row, None where all hold. `parts` are those of its plain spelling at
+/// the address at which it is to stand.
+///
+/// Mostly all hold, which one test of each operand shows; only else the conditions are tested in their order.
+pub fn tail_failure(bits: Bits, row: &Row, instr: &Instr, parts: &PlainParts) -> Option<NoSpelling>
+    requires { ArePartsOf bits row.now instr.now parts.now }
+    ensures { result ≡ spec.tail_failure bits parts.now.ip row.now instr.now }
+{
+    if tail_suits(bits, row, instr, parts) {
+        None
+    } else {
+        first_failure(bits, row, instr, parts)
     }
 }

@@ -6,11 +6,10 @@ ghost use Rattle.row_fit.specs.Sound.{sound};
 ghost use Rattle.plain_spelling.specs.PlainFront as spec;
 ghost use Rattle.plain_spelling.specs.Expressible.{each_operand, register_suits};
 ghost use Rattle.plain_spelling.specs.PlainTail as tail;
+ghost use Rattle.plain_spelling.specs.Asked.{AreAskedOf};
 
 use crate::comparing::same_bits;
-use crate::registers::{
-    asked_in_index, asked_in_opcode, asked_in_reg, asked_in_rm, asked_in_vvvv, asks_low_byte,
-};
+use crate::registers::{Asked, asks_low_byte, numbers_asked};
 use instruction_parts::bytes::lead_len;
 use instruction_parts::counting::is_16;
 use instruction_parts::sizes::{has_bang, has_caret, is_vex_row, operand_size};
@@ -24,30 +23,6 @@ fn bit(flag: bool) -> u8
     ensures small { result < 2 }
 {
     if flag { 1 } else { 0 }
-}
-
-/// R adds 8 to the number in ModRM.reg.
-#[tactic(auto, unfolding(crate::specs::PlainFront::asks_r))]
-fn asks_r(row: &Row, instr: &Instr) -> bool
-    ensures { result ≡ spec.asks_r row.now instr.now }
-{
-    8 <= asked_in_reg(row, instr)
-}
-
-/// X adds 8 to the number in the SIB's index.
-#[tactic(auto, unfolding(crate::specs::PlainFront::asks_x))]
-fn asks_x(row: &Row, instr: &Instr) -> bool
-    ensures { result ≡ spec.asks_x row.now instr.now }
-{
-    8 <= asked_in_index(row, instr)
-}
-
-/// B adds 8 to the number in r/m, in the SIB's base or in the opcode byte.
-#[tactic(auto, unfolding(crate::specs::PlainFront::asks_b))]
-fn asks_b(row: &Row, instr: &Instr) -> bool
-    ensures { result ≡ spec.asks_b row.now instr.now }
-{
-    8 <= asked_in_rm(row, instr)
 }
 
 /// W 1 of a legacy row.
@@ -148,7 +123,8 @@ fn class_pp(class: Class) -> u8
 
 /// The VEX of a VEX row; a vvvv of more than 255, which no spelling has, is 255.
 #[tactic(auto, unfolding(crate::specs::PlainFront::asked_vex))]
-fn byte_vex(row: &Row, instr: &Instr, r: bool, x: bool, b: bool) -> Option<Vex>
+fn byte_vex(row: &Row, instr: &Instr, asked: &Asked, r: bool, x: bool, b: bool) -> Option<Vex>
+    requires asked { AreAskedOf row.now instr.now asked.now }
     requires r { r ≡ spec.asks_r row.now instr.now }
     requires x { x ≡ spec.asks_x row.now instr.now }
     requires b { b ≡ spec.asks_b row.now instr.now }
@@ -167,7 +143,7 @@ fn byte_vex(row: &Row, instr: &Instr, r: bool, x: bool, b: bool) -> Option<Vex>
                 _ => false,
             },
             map: row.map,
-            vvvv: asked_in_vvvv(row, instr).min(255) as u8,
+            vvvv: asked.vvvv.min(255) as u8,
             pp: class_pp(row.class),
         })
     } else {
@@ -177,12 +153,13 @@ fn byte_vex(row: &Row, instr: &Instr, r: bool, x: bool, b: bool) -> Option<Vex>
 
 /// The opcode byte, with the low three bits of a register that it adds.
 #[tactic(auto, unfolding(crate::specs::PlainFront::asked_opcode))]
-pub fn asked_opcode(row: &Row, instr: &Instr) -> u8
-    requires { IsTrue (sound row.now) }
+fn asked_opcode(row: &Row, instr: &Instr, asked: &Asked) -> u8
+    requires sound { IsTrue (sound row.now) }
+    requires asked { AreAskedOf row.now instr.now asked.now }
     ensures { result ≡ spec.asked_opcode row.now instr.now }
 {
     match row.plus {
-        Plus::Register => row.opcode + (asked_in_opcode(row, instr) % 8) as u8,
+        Plus::Register => row.opcode + (asked.opcode % 8) as u8,
         _ => row.opcode,
     }
 }
@@ -200,9 +177,21 @@ fn count_repeat(rep: Rep) -> u8
 /// The front of the plain spelling of an instruction of a row: the prefixes that stand in it, the VEX, the map and the opcode byte.
 ///
 /// It is exact where each register operand is one that its kind can name in the mode; elsewhere a vvvv of more than 255 is 255.
-#[tactic(auto, unfolding(crate::specs::PlainFront::byte_front, crate::specs::PlainFront::plain_front_of, crate::specs::PlainFront::asked_used))]
 pub fn plain_front(bits: Bits, row: &Row, instr: &Instr) -> PrefixState
     requires { IsTrue (sound row.now) }
+    ensures value { result ≡ spec.byte_front bits row.now instr.now }
+    ensures exact { IsTrue (each_operand (register_suits bits row.now instr.now)) → result ≡ spec.plain_front_of bits row.now instr.now }
+    ensures small { result.used < 16 }
+{
+    front_asked(bits, row, instr, &numbers_asked(row, instr))
+}
+
+/// The same by the numbers that the instruction asks.
+#[inline]
+#[tactic(auto, unfolding(crate::specs::PlainFront::byte_front, crate::specs::PlainFront::plain_front_of, crate::specs::PlainFront::asked_used, crate::specs::PlainFront::asks_r, crate::specs::PlainFront::asks_x, crate::specs::PlainFront::asks_b))]
+pub fn front_asked(bits: Bits, row: &Row, instr: &Instr, asked: &Asked) -> PrefixState
+    requires sound { IsTrue (sound row.now) }
+    requires asked { AreAskedOf row.now instr.now asked.now }
     ensures value { result ≡ spec.byte_front bits row.now instr.now }
     ensures exact { IsTrue (each_operand (register_suits bits row.now instr.now)) → result ≡ spec.plain_front_of bits row.now instr.now }
     ensures small { result.used < 16 }
@@ -210,11 +199,11 @@ pub fn plain_front(bits: Bits, row: &Row, instr: &Instr) -> PrefixState
     let size66 = asks_66(bits, row);
     let addr67 = asks_67(bits, instr.asize);
     let rep = asked_repeat(row, instr);
-    let r = asks_r(row, instr);
-    let x = asks_x(row, instr);
-    let b = asks_b(row, instr);
+    let r = 8 <= asked.reg;
+    let x = 8 <= asked.index;
+    let b = 8 <= asked.rm;
     let rex = asked_rex(row, instr, r, x, b);
-    let vex = byte_vex(row, instr, r, x, b);
+    let vex = byte_vex(row, instr, asked, r, x, b);
     PrefixState {
         used: bit(instr.lock)
             + (count_repeat(rep)
@@ -229,7 +218,7 @@ pub fn plain_front(bits: Bits, row: &Row, instr: &Instr) -> PrefixState
         rex,
         vex,
         map: row.map,
-        opcode: asked_opcode(row, instr),
+        opcode: asked_opcode(row, instr, asked),
     }
 }
 

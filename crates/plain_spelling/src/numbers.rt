@@ -8,16 +8,25 @@ ghost use Rattle.plain_spelling.specs.Values as spec;
 use arrayvec::ArrayVec;
 use x86_values::{Bits, wrap};
 
-/// Appends the low n bytes of a number, the lowest first.
-#[tactic(auto, unfolding(crate::specs::Values::low_bytes))]
+/// Appends the low n bytes of a number, the lowest first, to an array of eight.
 pub fn append_low_bytes(bytes: &mut ArrayVec<u8, 8>, n: u8, x: u64)
     requires { array_vec_len bytes.old + n ≤ 8 }
     ensures items { bytes.new.items ≡ bytes.old.items ++ spec.low_bytes n x }
     ensures len { array_vec_len bytes.new ≡ array_vec_len bytes.old + n }
 {
+    push_low_bytes(bytes, n, x);
+}
+
+/// Appends the low n bytes of a number, the lowest first.
+#[tactic(auto, unfolding(crate::specs::Values::low_bytes))]
+pub fn push_low_bytes<const N: usize>(bytes: &mut ArrayVec<u8, N>, n: u8, x: u64)
+    requires { array_vec_len bytes.old + n ≤ N }
+    ensures items { bytes.new.items ≡ bytes.old.items ++ spec.low_bytes n x }
+    ensures len { array_vec_len bytes.new ≡ array_vec_len bytes.old + n }
+{
     if n > 0 {
         bytes.push((x % 256) as u8);
-        append_low_bytes(bytes, n - 1, x / 256);
+        push_low_bytes(bytes, n - 1, x / 256);
     }
 }
 

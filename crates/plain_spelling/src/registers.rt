@@ -1,11 +1,15 @@
 //! Registers by their numbers, and what an instruction asks of each field.
 
 ghost use Rattle.std.specs.Prelude.{◌≡◌, ◌<◌};
+ghost use Rattle.x86_values.specs.declared.Operand.TheVariants.{Reg, Mem as Memory};
+ghost use Rattle.instruction_parts.specs.Kinds.{method_of};
 ghost use Rattle.plain_spelling.specs.PlainFront as spec;
+ghost use Rattle.plain_spelling.specs.Asked.{AreBelow, AreWith, AreAskedOf};
 
+use crate::forms::operand_at;
 use instruction_parts::kinds::{Method, method_of_kind};
-use row_types::Row;
-use x86_values::{Instr, Operand, Register, Segment};
+use row_types::{OpKind, Row};
+use x86_values::{Instr, Mem, Operand, Register, Segment};
 
 fn segment_number(segment: Segment) -> u8
     ensures value { result ≡ spec.segment_number segment }
@@ -22,6 +26,7 @@ fn segment_number(segment: Segment) -> u8
 }
 
 /// The number that the encoding gives a register; AH, CH, DH and BH have 4 to 7 (2.1.5, 3.1.1.1).
+#[inline]
 #[tactic(auto, unfolding(crate::specs::PlainFront::register_number))]
 pub fn register_number(register: Register) -> u16
     ensures value { result ≡ spec.register_number register }
@@ -45,6 +50,7 @@ pub fn register_number(register: Register) -> u16
     }
 }
 
+#[inline]
 fn number_or_zero(register: Option<Register>) -> u16
     ensures value { result ≡ spec.number_or_zero register }
     ensures small { result < 260 }
@@ -55,146 +61,109 @@ fn number_or_zero(register: Option<Register>) -> u16
     }
 }
 
-fn operand_number(operand: Operand) -> u16
-    ensures value { result ≡ spec.operand_number operand }
-    ensures small { result < 260 }
-{
-    match operand {
-        Operand::Reg(register) => register_number(register),
-        _ => 0,
-    }
+/// The numbers that an instruction asks of the fields of its spelling, each 0 where no operand asks one.
+#[derive(Clone, Copy, PartialEq, Eq, Debug)]
+pub struct Asked {
+    /// Of ModRM.reg.
+    pub reg: u16,
+    /// Of r/m, of the SIB's base or of the register in the opcode byte.
+    pub rm: u16,
+    /// Of the SIB's index.
+    pub index: u16,
+    /// Of vvvv.
+    pub vvvv: u16,
+    /// Of the opcode byte.
+    pub opcode: u16,
 }
 
-fn base_or_register_number(operand: Operand) -> u16
-    ensures value { result ≡ spec.base_or_register_number operand }
-    ensures small { result < 260 }
+/// The numbers, with that of a register operand that is read so.
+#[inline(always)]
+#[tactic(auto, unfolding(crate::specs::PlainFront::number_in_reg, crate::specs::PlainFront::number_in_rm, crate::specs::PlainFront::number_in_index, crate::specs::PlainFront::number_in_vvvv, crate::specs::PlainFront::number_in_opcode))]
+fn with_register(method: Method, register: Register, rest: Asked) -> Asked
+    requires { AreBelow 60000 rest }
+    ensures added { AreWith method (Reg register) rest result }
 {
-    match operand {
-        Operand::Reg(register) => register_number(register),
-        Operand::Mem(memory) => number_or_zero(memory.base),
-        _ => 0,
-    }
-}
-
-#[tactic(auto, unfolding(crate::specs::PlainFront::number_in_reg))]
-fn number_in_reg(method: Method, operand: Operand) -> u16
-    ensures value { result ≡ spec.number_in_reg method operand }
-    ensures small { result < 260 }
-{
+    let n = register_number(register);
     match method {
-        Method::ModRmReg => operand_number(operand),
-        _ => 0,
+        Method::ModRmReg => Asked {
+            reg: n + rest.reg,
+            ..rest
+        },
+        Method::RegisterOrMemory
+        | Method::RegisterOnly
+        | Method::MemoryOnly
+        | Method::AnyMode
+        | Method::Gather => Asked {
+            rm: n + rest.rm,
+            ..rest
+        },
+        Method::OpcodeLow => Asked {
+            rm: n + rest.rm,
+            opcode: n + rest.opcode,
+            ..rest
+        },
+        Method::Vvvv => Asked {
+            vvvv: n + rest.vvvv,
+            ..rest
+        },
+        _ => rest,
     }
 }
 
-#[tactic(auto, unfolding(crate::specs::PlainFront::number_in_rm))]
-fn number_in_rm(method: Method, operand: Operand) -> u16
-    ensures value { result ≡ spec.number_in_rm method operand }
-    ensures small { result < 260 }
+/// The numbers, with those of base and index of a memory operand that is read so.
+#[inline(always)]
+#[tactic(auto, unfolding(crate::specs::PlainFront::number_in_reg, crate::specs::PlainFront::number_in_rm, crate::specs::PlainFront::number_in_index, crate::specs::PlainFront::number_in_vvvv, crate::specs::PlainFront::number_in_opcode))]
+fn with_memory(method: Method, memory: Mem, rest: Asked) -> Asked
+    requires { AreBelow 60000 rest }
+    ensures added { AreWith method (Memory memory) rest result }
 {
+    let index = number_or_zero(memory.index) + rest.index;
     match method {
         Method::RegisterOrMemory
         | Method::RegisterOnly
         | Method::MemoryOnly
         | Method::AnyMode
         | Method::Gather
-        | Method::OpcodeLow => base_or_register_number(operand),
-        _ => 0,
+        | Method::OpcodeLow => Asked {
+            rm: number_or_zero(memory.base) + rest.rm,
+            index,
+            ..rest
+        },
+        _ => Asked { index, ..rest },
     }
 }
 
-#[tactic(auto, unfolding(crate::specs::PlainFront::number_in_index))]
-fn number_in_index(method: Method, operand: Operand) -> u16
-    ensures value { result ≡ spec.number_in_index method operand }
-    ensures small { result < 260 }
+/// The numbers, with those that one more operand asks.
+#[inline(always)]
+#[tactic(auto, unfolding(crate::specs::PlainFront::number_in_reg, crate::specs::PlainFront::number_in_rm, crate::specs::PlainFront::number_in_index, crate::specs::PlainFront::number_in_vvvv, crate::specs::PlainFront::number_in_opcode))]
+fn with_operand(kind: OpKind, operand: Operand, rest: Asked) -> Asked
+    requires { AreBelow 60000 rest }
+    ensures added { AreWith (method_of kind) operand rest result }
 {
-    let _method = method;
     match operand {
-        Operand::Mem(memory) => number_or_zero(memory.index),
-        _ => 0,
+        Operand::Reg(register) => with_register(method_of_kind(kind), register, rest),
+        Operand::Mem(memory) => with_memory(method_of_kind(kind), memory, rest),
+        _ => rest,
     }
 }
 
-#[tactic(auto, unfolding(crate::specs::PlainFront::number_in_vvvv))]
-fn number_in_vvvv(method: Method, operand: Operand) -> u16
-    ensures value { result ≡ spec.number_in_vvvv method operand }
-    ensures small { result < 260 }
-{
-    match method {
-        Method::Vvvv => operand_number(operand),
-        _ => 0,
-    }
-}
-
-#[tactic(auto, unfolding(crate::specs::PlainFront::number_in_opcode))]
-fn number_in_opcode(method: Method, operand: Operand) -> u16
-    ensures value { result ≡ spec.number_in_opcode method operand }
-    ensures small { result < 260 }
-{
-    match method {
-        Method::OpcodeLow => operand_number(operand),
-        _ => 0,
-    }
-}
-
-/// The number that the instruction asks of ModRM.reg.
-pub fn asked_in_reg(row: &Row, instr: &Instr) -> u16
-    ensures value { result ≡ spec.asked spec.number_in_reg row.now instr.now }
-    ensures small { result < 1040 }
+/// The numbers that the instruction asks, over all operands.
+pub fn numbers_asked(row: &Row, instr: &Instr) -> Asked
+    ensures { AreAskedOf row.now instr.now result }
 {
     let [k0, k1, k2, k3] = row.ops;
-    let [a, b, c, d] = instr.ops;
-    number_in_reg(method_of_kind(k0), a)
-        + (number_in_reg(method_of_kind(k1), b)
-            + (number_in_reg(method_of_kind(k2), c) + number_in_reg(method_of_kind(k3), d)))
-}
-
-/// The number that the instruction asks of r/m, of the SIB's base or of the register in the opcode byte.
-pub fn asked_in_rm(row: &Row, instr: &Instr) -> u16
-    ensures value { result ≡ spec.asked spec.number_in_rm row.now instr.now }
-    ensures small { result < 1040 }
-{
-    let [k0, k1, k2, k3] = row.ops;
-    let [a, b, c, d] = instr.ops;
-    number_in_rm(method_of_kind(k0), a)
-        + (number_in_rm(method_of_kind(k1), b)
-            + (number_in_rm(method_of_kind(k2), c) + number_in_rm(method_of_kind(k3), d)))
-}
-
-/// The number that the instruction asks of the SIB's index.
-pub fn asked_in_index(row: &Row, instr: &Instr) -> u16
-    ensures value { result ≡ spec.asked spec.number_in_index row.now instr.now }
-    ensures small { result < 1040 }
-{
-    let [k0, k1, k2, k3] = row.ops;
-    let [a, b, c, d] = instr.ops;
-    number_in_index(method_of_kind(k0), a)
-        + (number_in_index(method_of_kind(k1), b)
-            + (number_in_index(method_of_kind(k2), c) + number_in_index(method_of_kind(k3), d)))
-}
-
-/// The number that the instruction asks of vvvv.
-pub fn asked_in_vvvv(row: &Row, instr: &Instr) -> u16
-    ensures value { result ≡ spec.asked spec.number_in_vvvv row.now instr.now }
-    ensures small { result < 1040 }
-{
-    let [k0, k1, k2, k3] = row.ops;
-    let [a, b, c, d] = instr.ops;
-    number_in_vvvv(method_of_kind(k0), a)
-        + (number_in_vvvv(method_of_kind(k1), b)
-            + (number_in_vvvv(method_of_kind(k2), c) + number_in_vvvv(method_of_kind(k3), d)))
-}
-
-/// The number that the instruction asks of the opcode byte.
-pub fn asked_in_opcode(row: &Row, instr: &Instr) -> u16
-    ensures value { result ≡ spec.asked spec.number_in_opcode row.now instr.now }
-    ensures small { result < 1040 }
-{
-    let [k0, k1, k2, k3] = row.ops;
-    let [a, b, c, d] = instr.ops;
-    number_in_opcode(method_of_kind(k0), a)
-        + (number_in_opcode(method_of_kind(k1), b)
-            + (number_in_opcode(method_of_kind(k2), c) + number_in_opcode(method_of_kind(k3), d)))
+    let [_first, _second, _third, _fourth] = instr.ops;
+    let none = Asked {
+        reg: 0,
+        rm: 0,
+        index: 0,
+        vvvv: 0,
+        opcode: 0,
+    };
+    let fourth = with_operand(k3, operand_at(instr, 3), none);
+    let third = with_operand(k2, operand_at(instr, 2), fourth);
+    let second = with_operand(k1, operand_at(instr, 1), third);
+    with_operand(k0, operand_at(instr, 0), second)
 }
 
 #[tactic(auto, unfolding(crate::specs::PlainFront::is_low_byte_of_rex))]

@@ -1,30 +1,34 @@
 //! The plain spelling from the opcode byte on.
 
 ghost use Rattle.std.specs.Prelude.{◌≡◌, ◌<◌, ◌≤◌, ◌+◌, ◌++◌, ◌||◌, if◌then◌else◌, ℕ, IsTrue};
+ghost use Rattle.x86_values.specs.declared.Operand.TheVariants.{Absent as AbsentOperand};
 ghost use Rattle.arrayvec.specs.ArrayVec.{array_vec_len};
 ghost use Rattle.instruction_parts.specs.declared.kinds.Method.TheVariants.{Pointer as PointerMethod, LastByte as LastByteMethod};
+ghost use Rattle.instruction_parts.specs.Kinds.{method_of};
 ghost use Rattle.row_fit.specs.Fits as fits;
 ghost use Rattle.row_fit.specs.Fits.{immediate_bytes as bytes_of_kind, kind_at as kind_of_row};
 ghost use Rattle.row_fit.specs.Sound as sound_rule;
 ghost use Rattle.plain_spelling.specs.PlainFront.{operand_number};
 ghost use Rattle.plain_spelling.specs.Forms.{operand_at as spec_operand_at};
+ghost use Rattle.plain_spelling.specs.Addresses.{displacement_count as count_of_size};
 ghost use Rattle.plain_spelling.specs.Expressible.{each_operand, register_suits};
 ghost use Rattle.plain_spelling.specs.Parts.{ArePartsOf};
 ghost use Rattle.plain_spelling.specs.PlainTail as spec;
+ghost use Rattle.plain_spelling.specs.Asked.{AreAskedOf};
 
 use crate::addresses::{
     AddressFields, AddressForm, address_fields, displacement_count, form_of, written_size,
 };
 use crate::forms::operand_at;
 use crate::front::plain_size;
-use crate::numbers::{append_low_bytes, distance};
-use crate::parts::PlainParts;
-use crate::registers::{asked_in_reg, asked_in_rm, register_number};
+use crate::numbers::{distance, push_low_bytes};
+use crate::parts::{PlainParts, immediate_len};
+use crate::registers::{Asked, register_number};
 use arrayvec::ArrayVec;
 use instruction_parts::kinds::{Method, method_of_kind};
 use instruction_parts::spelling::{ModRm, Sib, Spelling};
-use row_fit::tail_fits::{immediate_bytes, immediates_bytes, kind_at};
-use row_types::{ModRmRule, Place, Plus, Row};
+use row_fit::tail_fits::kind_at;
+use row_types::{ModRmRule, OpKind, Place, Plus, Row};
 use x86_values::{Bits, Instr, Mem, Operand, wrap};
 
 /// The ModRM and the SIB of a spelling.
@@ -56,34 +60,83 @@ fn reads_rm_or_offset(method: Method) -> bool
     }
 }
 
-fn picked(is_it: bool, operand: Operand, otherwise: Operand) -> Operand
-    ensures { result ≡ (if is_it then operand else otherwise) }
+/// Whether an operand of the kind is read from r/m.
+#[inline]
+#[tactic(auto, unfolding(instruction_parts::specs::Kinds::method_of))]
+fn kind_reads_rm(kind: OpKind) -> bool
+    ensures { result ≡ sound_rule.reads_rm (method_of kind) }
 {
-    if is_it { operand } else { otherwise }
+    match kind {
+        OpKind::Absent => false,
+        _ => reads_rm(method_of_kind(kind)),
+    }
+}
+
+/// Whether an operand of the kind may have a displacement.
+#[inline]
+#[tactic(auto, unfolding(instruction_parts::specs::Kinds::method_of))]
+fn kind_has_address(kind: OpKind) -> bool
+    ensures { result ≡ (sound_rule.reads_rm (method_of kind) || fits.is_offset (method_of kind)) }
+{
+    match kind {
+        OpKind::Absent => false,
+        _ => reads_rm_or_offset(method_of_kind(kind)),
+    }
+}
+
+/// The first operand that passes, absent without one: each stands behind whether it does.
+#[inline(always)]
+fn first_of(
+    first: bool,
+    a: Operand,
+    second: bool,
+    b: Operand,
+    third: bool,
+    c: Operand,
+    fourth: bool,
+    d: Operand,
+) -> Operand
+    ensures { result ≡ (if first then a else (if second then b else (if third then c else (if fourth then d else AbsentOperand)))) }
+{
+    if first {
+        a
+    } else if second {
+        b
+    } else if third {
+        c
+    } else if fourth {
+        d
+    } else {
+        Operand::Absent
+    }
 }
 
 /// The operand that ModRM.rm names, absent without one.
+#[inline(always)]
 fn rm_operand(row: &Row, instr: &Instr) -> Operand
     ensures { result ≡ spec.rm_operand row.now instr.now }
 {
     let [k0, k1, k2, k3] = row.ops;
     let [a, b, c, d] = instr.ops;
-    let fourth = picked(reads_rm(method_of_kind(k3)), d, Operand::Absent);
-    let third = picked(reads_rm(method_of_kind(k2)), c, fourth);
-    let second = picked(reads_rm(method_of_kind(k1)), b, third);
-    picked(reads_rm(method_of_kind(k0)), a, second)
+    let first = kind_reads_rm(k0);
+    let second = kind_reads_rm(k1);
+    let third = kind_reads_rm(k2);
+    let fourth = kind_reads_rm(k3);
+    first_of(first, a, second, b, third, c, fourth, d)
 }
 
 /// The operand that may have a displacement, absent without one.
+#[inline(always)]
 pub fn address_operand(row: &Row, instr: &Instr) -> Operand
     ensures { result ≡ spec.address_operand row.now instr.now }
 {
     let [k0, k1, k2, k3] = row.ops;
     let [a, b, c, d] = instr.ops;
-    let fourth = picked(reads_rm_or_offset(method_of_kind(k3)), d, Operand::Absent);
-    let third = picked(reads_rm_or_offset(method_of_kind(k2)), c, fourth);
-    let second = picked(reads_rm_or_offset(method_of_kind(k1)), b, third);
-    picked(reads_rm_or_offset(method_of_kind(k0)), a, second)
+    let first = kind_has_address(k0);
+    let second = kind_has_address(k1);
+    let third = kind_has_address(k2);
+    let fourth = kind_has_address(k3);
+    first_of(first, a, second, b, third, c, fourth, d)
 }
 
 fn lone_mode(place: Place) -> u8
@@ -123,11 +176,12 @@ fn fields_of(bits: Bits, row: &Row, instr: &Instr) -> AddressFields
 
 /// The field rm of a fixed ModRM byte: its own, or the stack number that the row adds (3.1.1.1, +i).
 #[tactic(auto, unfolding(crate::specs::PlainTail::fixed_rm))]
-fn fixed_rm(row: &Row, instr: &Instr, b: u8) -> u8
+fn fixed_rm(row: &Row, instr: &Instr, asked: &Asked, b: u8) -> u8
+    requires { AreAskedOf row.now instr.now asked.now }
     ensures { result ≡ spec.fixed_rm row.now instr.now b }
 {
     match row.plus {
-        Plus::Stack => (asked_in_rm(row, instr) % 8) as u8,
+        Plus::Stack => (asked.rm % 8) as u8,
         _ => b % 8,
     }
 }
@@ -144,7 +198,8 @@ fn modrm_with(reg: u8, fields: AddressFields) -> ModRm
 
 /// ModRM and SIB of the plain spelling: reg is the digit, or the low three bits of the register (2.1.5, 3.1.1.1).
 #[tactic(auto, unfolding(crate::specs::PlainTail::plain_modrm, crate::specs::PlainTail::plain_sib_of))]
-pub fn plain_addressing(bits: Bits, row: &Row, instr: &Instr) -> Addressing
+pub fn plain_addressing(bits: Bits, row: &Row, instr: &Instr, asked: &Asked) -> Addressing
+    requires { AreAskedOf row.now instr.now asked.now }
     ensures modrm { result.modrm ≡ spec.plain_modrm bits row.now instr.now }
     ensures sib { result.sib ≡ spec.plain_sib_of bits row.now instr.now }
 {
@@ -156,7 +211,7 @@ pub fn plain_addressing(bits: Bits, row: &Row, instr: &Instr) -> Addressing
         ModRmRule::Any => {
             let fields = fields_of(bits, row, instr);
             Addressing {
-                modrm: Some(modrm_with((asked_in_reg(row, instr) % 8) as u8, fields)),
+                modrm: Some(modrm_with((asked.reg % 8) as u8, fields)),
                 sib: fields.sib,
             }
         }
@@ -171,7 +226,7 @@ pub fn plain_addressing(bits: Bits, row: &Row, instr: &Instr) -> Addressing
             modrm: Some(ModRm {
                 mode3: b / 64,
                 reg: b / 8 % 8,
-                rm: fixed_rm(row, instr, b),
+                rm: fixed_rm(row, instr, asked, b),
             }),
             sib: None,
         },
@@ -189,18 +244,31 @@ pub fn operand_displacement(operand: Operand) -> u8
     }
 }
 
-/// The bytes of a displacement before the next address: at RIP and EIP the distance to the address (2.2.1.6).
+/// Appends the bytes of a displacement before the next address: at RIP and EIP the distance to the address (2.2.1.6).
 #[tactic(auto, unfolding(crate::specs::PlainTail::displacement_of))]
-fn append_displacement(bytes: &mut ArrayVec<u8, 8>, next: u64, memory: Mem)
-    requires { array_vec_len bytes.old ≡ 0 }
-    ensures { bytes.new.items ≡ bytes.old.items ++ spec.displacement_of next memory }
+fn append_memory_displacement<const N: usize>(bytes: &mut ArrayVec<u8, N>, next: u64, memory: Mem)
+    requires { array_vec_len bytes.old + count_of_size memory.disp_size ≤ N }
+    ensures items { bytes.new.items ≡ bytes.old.items ++ spec.displacement_of next memory }
+    ensures len { array_vec_len bytes.new ≡ array_vec_len bytes.old + count_of_size memory.disp_size }
 {
     let count = displacement_count(memory.disp_size);
     match form_of(memory.base, memory.index) {
         AddressForm::Relative(size) => {
-            append_low_bytes(bytes, count, distance(size, next, memory.disp));
+            push_low_bytes(bytes, count, distance(size, next, memory.disp));
         }
-        _ => append_low_bytes(bytes, count, memory.disp),
+        _ => push_low_bytes(bytes, count, memory.disp),
+    }
+}
+
+/// Appends the displacement of an operand before the next address.
+pub fn append_displacement<const N: usize>(bytes: &mut ArrayVec<u8, N>, next: u64, operand: Operand)
+    requires { array_vec_len bytes.old + spec.operand_displacement operand ≤ N }
+    ensures items { bytes.new.items ≡ bytes.old.items ++ spec.displacement_of_operand next operand }
+    ensures len { array_vec_len bytes.new ≡ array_vec_len bytes.old + spec.operand_displacement operand }
+{
+    match operand {
+        Operand::Mem(memory) => append_memory_displacement(bytes, next, memory),
+        _ => {}
     }
 }
 
@@ -209,57 +277,60 @@ fn displacement(next: u64, operand: Operand) -> ArrayVec<u8, 8>
     ensures { result ≡ spec.listed (spec.displacement_of_operand next operand) }
 {
     let mut bytes = ArrayVec::new();
-    match operand {
-        Operand::Mem(memory) => append_displacement(&mut bytes, next, memory),
-        _ => {}
-    }
+    append_displacement(&mut bytes, next, operand);
     bytes
 }
 
 /// Appends the low n bytes of an immediate.
-fn append_number(bytes: &mut ArrayVec<u8, 8>, n: u8, operand: Operand)
-    requires room { array_vec_len bytes.old + n ≤ 8 }
+fn append_number<const N: usize>(bytes: &mut ArrayVec<u8, N>, n: u8, operand: Operand)
+    requires room { array_vec_len bytes.old + n ≤ N }
     ensures items { bytes.new.items ≡ bytes.old.items ++ spec.immediate_of n operand }
     ensures len { array_vec_len bytes.new ≤ array_vec_len bytes.old + n }
 {
     match operand {
-        Operand::Imm(x) => append_low_bytes(bytes, n, x),
+        Operand::Imm(x) => push_low_bytes(bytes, n, x),
         _ => {}
     }
 }
 
 /// Appends the offset of a near branch, in n bytes before the next address.
-fn append_offset(bytes: &mut ArrayVec<u8, 8>, size: Bits, next: u64, n: u8, operand: Operand)
-    requires room { array_vec_len bytes.old + n ≤ 8 }
+fn append_offset<const N: usize>(
+    bytes: &mut ArrayVec<u8, N>,
+    size: Bits,
+    next: u64,
+    n: u8,
+    operand: Operand,
+)
+    requires room { array_vec_len bytes.old + n ≤ N }
     ensures items { bytes.new.items ≡ bytes.old.items ++ spec.offset_of size next n operand }
     ensures len { array_vec_len bytes.new ≤ array_vec_len bytes.old + n }
 {
     match operand {
-        Operand::Near(target) => append_low_bytes(bytes, n, distance(size, next, target)),
+        Operand::Near(target) => push_low_bytes(bytes, n, distance(size, next, target)),
         _ => {}
     }
 }
 
 /// Appends a far pointer in n bytes: the offset, then the selector.
-fn append_pointer(bytes: &mut ArrayVec<u8, 8>, n: u8, operand: Operand)
+fn append_pointer<const N: usize>(bytes: &mut ArrayVec<u8, N>, n: u8, operand: Operand)
     requires selector { 2 ≤ n }
-    requires room { array_vec_len bytes.old + n ≤ 8 }
+    requires room { array_vec_len bytes.old + n ≤ N }
     ensures items { bytes.new.items ≡ bytes.old.items ++ spec.pointer_of n operand }
     ensures len { array_vec_len bytes.new ≤ array_vec_len bytes.old + n }
 {
     match operand {
         Operand::Far { selector, offset } => {
-            append_low_bytes(bytes, n - 2, offset as u64);
-            append_low_bytes(bytes, 2, selector as u64);
+            push_low_bytes(bytes, n - 2, offset as u64);
+            push_low_bytes(bytes, 2, selector as u64);
         }
         _ => {}
     }
 }
 
 /// Appends a register number in the upper four bits of a byte (2.3.9).
-fn append_last_byte(bytes: &mut ArrayVec<u8, 8>, operand: Operand)
+fn append_last_byte<const N: usize>(bytes: &mut ArrayVec<u8, N>, operand: Operand)
     requires number { operand_number operand < 16 }
-    requires room { array_vec_len bytes.old < 8 }
+    requires room { array_vec_len bytes.old < N }
     ensures items { bytes.new.items ≡ bytes.old.items ++ spec.last_byte_of operand }
     ensures len { array_vec_len bytes.new ≤ array_vec_len bytes.old + 1 }
 {
@@ -271,8 +342,8 @@ fn append_last_byte(bytes: &mut ArrayVec<u8, 8>, operand: Operand)
 
 /// Appends the bytes of an operand that is read so and has n bytes behind the instruction.
 #[tactic(auto, unfolding(crate::specs::PlainTail::operand_immediate))]
-fn append_immediate(
-    bytes: &mut ArrayVec<u8, 8>,
+fn append_immediate<const N: usize>(
+    bytes: &mut ArrayVec<u8, N>,
     size: Bits,
     next: u64,
     method: Method,
@@ -280,7 +351,7 @@ fn append_immediate(
     operand: Operand,
 )
     requires number { operand_number operand < 16 }
-    requires room { array_vec_len bytes.old + n ≤ 8 }
+    requires room { array_vec_len bytes.old + n ≤ N }
     requires pointer { method ≡ PointerMethod → 2 ≤ n }
     requires last { method ≡ LastByteMethod → 1 ≤ n }
     ensures items { bytes.new.items ≡ bytes.old.items ++ spec.operand_immediate size next method n operand }
@@ -297,8 +368,8 @@ fn append_immediate(
 
 /// Appends the bytes of operand n.
 #[tactic(auto, unfolding(crate::specs::PlainTail::immediate_at))]
-fn append_immediate_at(
-    bytes: &mut ArrayVec<u8, 8>,
+fn append_immediate_at<const N: usize>(
+    bytes: &mut ArrayVec<u8, N>,
     size: Bits,
     row: &Row,
     instr: &Instr,
@@ -307,33 +378,45 @@ fn append_immediate_at(
 )
     requires place { n < 4 }
     requires number { operand_number (spec_operand_at instr.now n) < 16 }
-    requires room { array_vec_len bytes.old + bytes_of_kind size (kind_of_row row.now n) ≤ 8 }
+    requires room { array_vec_len bytes.old + bytes_of_kind size (kind_of_row row.now n) ≤ N }
     ensures items { bytes.new.items ≡ bytes.old.items ++ spec.immediate_at size row.now instr.now next n }
     ensures len { array_vec_len bytes.new ≤ array_vec_len bytes.old + bytes_of_kind size (kind_of_row row.now n) }
 {
     let kind = kind_at(row, n);
-    append_immediate(
-        bytes,
-        size,
-        next,
-        method_of_kind(kind),
-        immediate_bytes(size, kind),
-        operand_at(instr, n),
-    );
+    let count = immediate_len(size, kind);
+    if count > 0 {
+        let method = method_of_kind(kind);
+        append_immediate(bytes, size, next, method, count, operand_at(instr, n));
+    }
+}
+
+/// Appends the bytes of all immediates, in the order of the operands.
+#[tactic(auto, unfolding(crate::specs::PlainTail::plain_immediates, row_fit::specs::Fits::immediates_bytes))]
+pub fn append_immediates<const N: usize>(
+    bytes: &mut ArrayVec<u8, N>,
+    size: Bits,
+    row: &Row,
+    instr: &Instr,
+    next: u64,
+)
+    requires numbers { (n : ℕ) → n < 4 → operand_number (spec_operand_at instr.now n) < 16 }
+    requires room { array_vec_len bytes.old + fits.immediates_bytes size row.now ≤ N }
+    ensures { bytes.new.items ≡ bytes.old.items ++ spec.plain_immediates size row.now instr.now next }
+{
+    append_immediate_at(bytes, size, row, instr, next, 0);
+    append_immediate_at(bytes, size, row, instr, next, 1);
+    append_immediate_at(bytes, size, row, instr, next, 2);
+    append_immediate_at(bytes, size, row, instr, next, 3);
 }
 
 /// The bytes of all immediates, in the order of the operands.
-#[tactic(auto, unfolding(crate::specs::PlainTail::plain_immediates, row_fit::specs::Fits::immediates_bytes))]
 fn plain_immediates(size: Bits, row: &Row, instr: &Instr, next: u64) -> ArrayVec<u8, 8>
     requires numbers { (n : ℕ) → n < 4 → operand_number (spec_operand_at instr.now n) < 16 }
     requires room { fits.immediates_bytes size row.now ≤ 8 }
     ensures { result ≡ spec.listed (spec.plain_immediates size row.now instr.now next) }
 {
     let mut bytes = ArrayVec::new();
-    append_immediate_at(&mut bytes, size, row, instr, next, 0);
-    append_immediate_at(&mut bytes, size, row, instr, next, 1);
-    append_immediate_at(&mut bytes, size, row, instr, next, 2);
-    append_immediate_at(&mut bytes, size, row, instr, next, 3);
+    append_immediates(&mut bytes, size, row, instr, next);
     bytes
 }
 

@@ -1,20 +1,15 @@
 -- The bytes of a plain front are few, and are read back.
-use Rattle.std.proofs.Common.{◌≡◌, inl, inr, ℕ, ◌+◌, ◌≤◌, ◌<◌, Bool, true, false, nat_le, List, ◌∷◌, ◌++◌, length, Option, Some, None, refl, ap, sym, ◌∙◌, arith, length-append, if◌then◌else◌}
+use Rattle.std.proofs.Common.{◌≡◌, ℕ, ◌<◌, true, false, nat_le, List, ◌∷◌, ◌++◌, length, refl, ap, ◌∙◌, arith}
 use Rattle.x86_values.specs.declared.Bits.{Bits}
 use Rattle.x86_values.specs.declared.Instr.{Instr}
-use Rattle.row_types.specs.declared.Map.{Map}
-use Rattle.row_types.specs.declared.Map.TheVariants.{One, M0f, M0f38, M0f3a}
 use Rattle.row_types.specs.declared.Row.{Row}
-use Rattle.instruction_parts.specs.declared.spelling.Vex.{Vex}
 use Rattle.instruction_parts.specs.declared.spelling.Spelling.{Spelling}
 use Rattle.instruction_parts.specs.declared.spelling.PrefixState.{PrefixState}
-use Rattle.instruction_parts.specs.Bytes.{vex_bytes, lead_bytes, tail_bytes}
-use Rattle.instruction_parts.specs.Front.{Front, Forbidden, Known, long_front, within_15, front_of}
-use Rattle.instruction_parts.proofs.Tests.{either}
+use Rattle.instruction_parts.specs.Bytes.{tail_bytes}
+use Rattle.instruction_parts.specs.Front.{Known, within_15, front_of}
 use Rattle.row_fit.specs.Fits.{fits}
 use Rattle.row_fit.specs.Sound.{Sound}
-use Rattle.plain_spelling.specs.PlainFront.{asked_vex, plain_front_of}
-use Rattle.plain_spelling.specs.PlainTail.{prefixes_of}
+use Rattle.plain_spelling.specs.PlainFront.{plain_front_of}
 use Rattle.plain_spelling.specs.Expressible.{Suits}
 use Rattle.plain_spelling.specs.Writable.{Writable}
 use Rattle.plain_fit.proofs.Given.{Given}

@@ -26,3 +26,8 @@ abbrev pub answer_within_15 : ℕ → Result PrefixState PrefixError → Result 
 answer_within_15 given (Ok state) = if nat_le 15 state.used then Err ForbiddenError else Ok state
 answer_within_15 given (Err Ended) = if nat_le 15 given then Err ForbiddenError else Err Ended
 answer_within_15 given (Err ForbiddenError) = Err ForbiddenError
+
+-- the answer whose front was written to a place
+abbrev pub answer_in : Result (Unit {0}) PrefixError → PrefixState → Result PrefixState PrefixError
+answer_in (Ok done) place = Ok place
+answer_in (Err why) place = Err why

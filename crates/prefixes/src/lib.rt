@@ -5,7 +5,8 @@ ghost use Rattle.std.specs.Prelude.{◌≡◌, ◌<◌, ◌≤◌, ◌+◌, IsTr
 ghost use Rattle.instruction_parts.specs.Front as front;
 ghost use Rattle.instruction_parts.specs.Counting as counting;
 ghost use Rattle.instruction_parts.specs.Bytes.{state_from};
-ghost use Rattle.prefixes.specs.Answer.{is_mode, mode_of, answer_of, answer_within_15};
+ghost use Rattle.instruction_parts.specs.declared.spelling.PrefixState.{PrefixState};
+ghost use Rattle.prefixes.specs.Answer.{is_mode, mode_of, answer_of, answer_within_15, answer_in};
 
 use instruction_parts::bytes::state_from;
 use instruction_parts::counting::{forbids_vex, is_64, is_prefix};
@@ -20,7 +21,7 @@ mod write;
 use row_types::Map;
 use thiserror::Error;
 pub use write::write_prefixes;
-use x86_values::Bits;
+use x86_values::{Bits, Rep};
 
 /// Why bytes have no front.
 #[derive(Clone, Copy, PartialEq, Eq, Debug, Error)]
@@ -49,6 +50,7 @@ pub fn mode_of<const BITS: u32>() -> Bits
 }
 
 /// The length of the run of prefix bytes at the front.
+#[inline(always)]
 fn run_len(bits: Bits, bytes: &[u8]) -> usize
     ensures { result ≡ length (take_while (counting.is_prefix bits) bytes.now) }
 {
@@ -56,6 +58,7 @@ fn run_len(bits: Bits, bytes: &[u8]) -> usize
 }
 
 /// The same within the first 15 bytes.
+#[inline(always)]
 fn bounded_run_len(bits: Bits, bytes: &[u8]) -> usize
     ensures { result ≡ min 15 (length (front.prefix_run bits bytes.now)) }
 {
@@ -113,6 +116,7 @@ fn long_vex(map: Map, b: u8, c: u8) -> Vex
 }
 
 /// Behind the prefixes and the bytes of a lead: the opcode byte, or the end.
+#[inline(always)]
 #[tactic(auto, unfolding(instruction_parts::specs::Front::opcode_front))]
 fn opcode_front(
     bits: Bits,
@@ -121,35 +125,50 @@ fn opcode_front(
     vex: Option<Vex>,
     map: Map,
     bytes: &[u8],
-) -> Result<PrefixState, PrefixError>
+    place: &mut PrefixState,
+) -> Result<(), PrefixError>
     requires few { length prefixes.now < 16 }
     requires lead { lead < 4 }
-    ensures { result ≡ answer_of (front.opcode_front bits prefixes.now lead vex map bytes.now) }
+    ensures { answer_in result place.new ≡ answer_of (front.opcode_front bits prefixes.now lead vex map bytes.now) }
 {
     match bytes.split_first() {
         None => Err(PrefixError::Ended),
         Some((opcode, _)) => {
-            Ok(state_from(
+            *place = state_from(
                 bits,
                 prefixes,
                 prefixes.len() as u8 + lead,
                 vex,
                 map,
                 *opcode,
-            ))
+            );
+            Ok(())
         }
     }
 }
 
 /// Behind the prefixes and C5.
 #[tactic(auto, unfolding(instruction_parts::specs::Front::short_vex_front))]
-fn short_vex_front(bits: Bits, prefixes: &[u8], bytes: &[u8]) -> Result<PrefixState, PrefixError>
+fn short_vex_front(
+    bits: Bits,
+    prefixes: &[u8],
+    bytes: &[u8],
+    place: &mut PrefixState,
+) -> Result<(), PrefixError>
     requires { length prefixes.now < 16 }
-    ensures { result ≡ answer_of (front.short_vex_front bits prefixes.now bytes.now) }
+    ensures { answer_in result place.new ≡ answer_of (front.short_vex_front bits prefixes.now bytes.now) }
 {
     match bytes.split_first() {
         None => Err(PrefixError::Ended),
-        Some((b, rest)) => opcode_front(bits, prefixes, 2, Some(short_vex(*b)), Map::M0f, rest),
+        Some((b, rest)) => opcode_front(
+            bits,
+            prefixes,
+            2,
+            Some(short_vex(*b)),
+            Map::M0f,
+            rest,
+            place,
+        ),
     }
 }
 
@@ -161,16 +180,25 @@ fn third_byte_front(
     b: u8,
     map: Option<Map>,
     bytes: &[u8],
-) -> Result<PrefixState, PrefixError>
+    place: &mut PrefixState,
+) -> Result<(), PrefixError>
     requires { length prefixes.now < 16 }
-    ensures { result ≡ answer_of (front.third_byte_front bits prefixes.now b map bytes.now) }
+    ensures { answer_in result place.new ≡ answer_of (front.third_byte_front bits prefixes.now b map bytes.now) }
 {
     match map {
         None => Err(PrefixError::Forbidden),
         Some(map) => match bytes.split_first() {
             None => Err(PrefixError::Ended),
             Some((c, rest)) => {
-                opcode_front(bits, prefixes, 3, Some(long_vex(map, b, *c)), map, rest)
+                opcode_front(
+                    bits,
+                    prefixes,
+                    3,
+                    Some(long_vex(map, b, *c)),
+                    map,
+                    rest,
+                    place,
+                )
             }
         },
     }
@@ -178,13 +206,18 @@ fn third_byte_front(
 
 /// Behind the prefixes and C4.
 #[tactic(auto, unfolding(instruction_parts::specs::Front::long_vex_front))]
-fn long_vex_front(bits: Bits, prefixes: &[u8], bytes: &[u8]) -> Result<PrefixState, PrefixError>
+fn long_vex_front(
+    bits: Bits,
+    prefixes: &[u8],
+    bytes: &[u8],
+    place: &mut PrefixState,
+) -> Result<(), PrefixError>
     requires { length prefixes.now < 16 }
-    ensures { result ≡ answer_of (front.long_vex_front bits prefixes.now bytes.now) }
+    ensures { answer_in result place.new ≡ answer_of (front.long_vex_front bits prefixes.now bytes.now) }
 {
     match bytes.split_first() {
         None => Err(PrefixError::Ended),
-        Some((b, rest)) => third_byte_front(bits, prefixes, *b, map_numbered(*b % 32), rest),
+        Some((b, rest)) => third_byte_front(bits, prefixes, *b, map_numbered(*b % 32), rest, place),
     }
 }
 
@@ -195,42 +228,50 @@ fn vex_front(
     prefixes: &[u8],
     lead: u8,
     bytes: &[u8],
-) -> Result<PrefixState, PrefixError>
+    place: &mut PrefixState,
+) -> Result<(), PrefixError>
     requires { length prefixes.now < 16 }
-    ensures { result ≡ answer_of (front.vex_front bits prefixes.now lead bytes.now) }
+    ensures { answer_in result place.new ≡ answer_of (front.vex_front bits prefixes.now lead bytes.now) }
 {
     if forbids_vex(bits, prefixes) {
         Err(PrefixError::Forbidden)
     } else if lead == 0xC5 {
-        short_vex_front(bits, prefixes, bytes)
+        short_vex_front(bits, prefixes, bytes, place)
     } else {
-        long_vex_front(bits, prefixes, bytes)
+        long_vex_front(bits, prefixes, bytes, place)
     }
 }
 
 /// Behind the prefixes and 0F.
+#[inline(always)]
 #[tactic(auto, unfolding(instruction_parts::specs::Front::escape_front))]
-fn escape_front(bits: Bits, prefixes: &[u8], bytes: &[u8]) -> Result<PrefixState, PrefixError>
+fn escape_front(
+    bits: Bits,
+    prefixes: &[u8],
+    bytes: &[u8],
+    place: &mut PrefixState,
+) -> Result<(), PrefixError>
     requires { length prefixes.now < 16 }
-    ensures { result ≡ answer_of (front.escape_front bits prefixes.now bytes.now) }
+    ensures { answer_in result place.new ≡ answer_of (front.escape_front bits prefixes.now bytes.now) }
 {
     match bytes.split_first() {
         None => Err(PrefixError::Ended),
         Some((b, rest)) => {
             if *b == 0x38 {
-                opcode_front(bits, prefixes, 2, None, Map::M0f38, rest)
+                opcode_front(bits, prefixes, 2, None, Map::M0f38, rest, place)
             } else if *b == 0x3A {
-                opcode_front(bits, prefixes, 2, None, Map::M0f3a, rest)
+                opcode_front(bits, prefixes, 2, None, Map::M0f3a, rest, place)
             } else if *b == 0x0F {
                 Err(PrefixError::Forbidden)
             } else {
-                opcode_front(bits, prefixes, 1, None, Map::M0f, bytes)
+                opcode_front(bits, prefixes, 1, None, Map::M0f, bytes, place)
             }
         }
     }
 }
 
 /// Behind the prefixes, at C4 or C5.
+#[inline(never)]
 #[tactic(auto, unfolding(instruction_parts::specs::Front::vex_or_opcode_front))]
 fn vex_or_opcode_front(
     bits: Bits,
@@ -238,20 +279,21 @@ fn vex_or_opcode_front(
     lead: u8,
     bytes: &[u8],
     whole: &[u8],
-) -> Result<PrefixState, PrefixError>
+    place: &mut PrefixState,
+) -> Result<(), PrefixError>
     requires few { length prefixes.now < 16 }
     requires whole { whole.now ≡ lead ∷ bytes.now }
-    ensures { result ≡ answer_of (front.vex_or_opcode_front bits prefixes.now lead bytes.now) }
+    ensures { answer_in result place.new ≡ answer_of (front.vex_or_opcode_front bits prefixes.now lead bytes.now) }
 {
     match bits {
-        Bits::B64 => vex_front(bits, prefixes, lead, bytes),
+        Bits::B64 => vex_front(bits, prefixes, lead, bytes, place),
         _ => match bytes.split_first() {
             None => Err(PrefixError::Ended),
             Some((b, _)) => {
                 if *b / 64 == 3 {
-                    vex_front(bits, prefixes, lead, bytes)
+                    vex_front(bits, prefixes, lead, bytes, place)
                 } else {
-                    opcode_front(bits, prefixes, 0, None, Map::One, whole)
+                    opcode_front(bits, prefixes, 0, None, Map::One, whole, place)
                 }
             }
         },
@@ -259,51 +301,62 @@ fn vex_or_opcode_front(
 }
 
 /// Behind the prefixes.
+#[inline(always)]
 #[tactic(auto, unfolding(instruction_parts::specs::Front::lead_front))]
-fn lead_front(bits: Bits, prefixes: &[u8], bytes: &[u8]) -> Result<PrefixState, PrefixError>
+fn lead_front(
+    bits: Bits,
+    prefixes: &[u8],
+    bytes: &[u8],
+    place: &mut PrefixState,
+) -> Result<(), PrefixError>
     requires { length prefixes.now < 16 }
-    ensures { result ≡ answer_of (front.lead_front bits prefixes.now bytes.now) }
+    ensures { answer_in result place.new ≡ answer_of (front.lead_front bits prefixes.now bytes.now) }
 {
     match bytes.split_first() {
         None => Err(PrefixError::Ended),
         Some((b, rest)) => {
             if *b == 0xC4 || *b == 0xC5 {
-                vex_or_opcode_front(bits, prefixes, *b, rest, bytes)
+                vex_or_opcode_front(bits, prefixes, *b, rest, bytes, place)
             } else if *b == 0x0F {
-                escape_front(bits, prefixes, rest)
+                escape_front(bits, prefixes, rest, place)
             } else if is_64(bits) && *b == 0x62 {
                 Err(PrefixError::Forbidden)
             } else {
-                opcode_front(bits, prefixes, 0, None, Map::One, bytes)
+                opcode_front(bits, prefixes, 0, None, Map::One, bytes, place)
             }
         }
     }
 }
 
 /// The front of bytes of any length, given the length of their run of prefixes.
-fn long_front(bits: Bits, bytes: &[u8], n: usize) -> Result<PrefixState, PrefixError>
+#[inline(always)]
+fn long_front(
+    bits: Bits,
+    bytes: &[u8],
+    n: usize,
+    place: &mut PrefixState,
+) -> Result<(), PrefixError>
     requires run { n ≡ length (front.prefix_run bits bytes.now) }
     requires few { n < 15 }
     requires within { n ≤ length bytes.now }
-    ensures { result ≡ answer_of (front.long_front bits bytes.now) }
+    ensures { answer_in result place.new ≡ answer_of (front.long_front bits bytes.now) }
 {
     let (prefixes, rest) = bytes.split_at(n);
-    lead_front(bits, prefixes, rest)
+    lead_front(bits, prefixes, rest, place)
 }
 
-/// A front is forbidden once 15 bytes were read without an opcode byte.
-fn bounded(
-    given: usize,
-    answer: Result<PrefixState, PrefixError>,
-) -> Result<PrefixState, PrefixError>
-    ensures { result ≡ answer_within_15 given answer }
+/// A front is forbidden once 15 bytes were read without an opcode byte; `used` stand before it, where there is one.
+#[inline(always)]
+fn bounded(given: usize, used: u8, answer: Result<(), PrefixError>) -> Result<(), PrefixError>
+    ensures { (place : PrefixState) → place.used ≡ used
+        → answer_in result place ≡ answer_within_15 given (answer_in answer place) }
 {
     match answer {
-        Ok(state) => {
-            if state.used >= 15 {
+        Ok(()) => {
+            if used >= 15 {
                 Err(PrefixError::Forbidden)
             } else {
-                Ok(state)
+                Ok(())
             }
         }
         Err(PrefixError::Ended) => {
@@ -317,16 +370,43 @@ fn bounded(
     }
 }
 
+/// What stands in the place of a front before it is read.
+pub const NO_FRONT: PrefixState = PrefixState {
+    used: 0,
+    size66: false,
+    addr67: false,
+    lock: false,
+    rep: Rep::None,
+    seg: None,
+    rex: None,
+    vex: None,
+    map: Map::One,
+    opcode: 0,
+};
+
 /// The front of the bytes in a mode that is a value, as [`read_prefixes`] answers it.
 #[inline]
 pub fn read_front(bits: Bits, bytes: &[u8]) -> Result<PrefixState, PrefixError>
     ensures { result ≡ answer_of (front.front_of bits bytes.now) }
 {
+    let mut state = NO_FRONT;
+    match read_front_into(bits, bytes, &mut state) {
+        Ok(()) => Ok(state),
+        Err(error) => Err(error),
+    }
+}
+
+/// The same, where the front is written to a place: as a value it is copied at each call that it comes through.
+#[inline(always)]
+pub fn read_front_into(bits: Bits, bytes: &[u8], place: &mut PrefixState) -> Result<(), PrefixError>
+    ensures { answer_in result place.new ≡ answer_of (front.front_of bits bytes.now) }
+{
     let n = bounded_run_len(bits, bytes);
     if n >= 15 {
         Err(PrefixError::Forbidden)
     } else {
-        bounded(bytes.len(), long_front(bits, bytes, n))
+        let answer = long_front(bits, bytes, n, place);
+        bounded(bytes.len(), place.used, answer)
     }
 }
 

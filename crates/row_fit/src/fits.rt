@@ -265,6 +265,7 @@ pub fn vvvv_fits(row: &Row, state: &PrefixState) -> bool
 }
 
 /// The conditions that the state alone decides.
+#[inline(always)]
 #[tactic(auto, unfolding(crate::specs::Fits::state_fits))]
 pub fn state_fits(bits: Bits, row: &Row, state: &PrefixState) -> bool
     ensures { result ≡ spec.state_fits bits row.now state.now }
@@ -460,6 +461,7 @@ fn place_fits(row: &Row, m: Option<ModRm>) -> bool
 }
 
 /// The opcode byte and ModRM.
+#[inline(always)]
 #[tactic(auto, unfolding(crate::specs::Fits::opcode_and_modrm_fit))]
 pub fn opcode_and_modrm_fit(row: &Row, opcode: u8, m: Option<ModRm>) -> bool
     ensures { result ≡ spec.opcode_and_modrm_fit row.now opcode m }

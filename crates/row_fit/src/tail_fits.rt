@@ -10,7 +10,7 @@ use crate::fits::{
     reads_offset,
 };
 use instruction_parts::counting::{is_16, is_64};
-use instruction_parts::kinds::{Method, Width, immediate_width_of_kind, method_of_kind};
+use instruction_parts::kinds::{Method, method_of_kind};
 use instruction_parts::sizes::{
     bit_b, bit_r, bit_x, is_lockable, is_vex_row, size_bytes, state_address_size, state_size,
 };
@@ -169,16 +169,17 @@ fn address_fits(asize: Bits, row: &Row, m: Option<ModRm>, sib: Option<Sib>, give
 
 /// The bytes that an operand has behind the instruction, by operand size.
 #[inline(always)]
-#[tactic(auto, unfolding(crate::specs::Fits::immediate_bytes))]
+#[tactic(auto, unfolding(crate::specs::Fits::immediate_bytes, instruction_parts::specs::Kinds::immediate_width))]
 pub fn immediate_bytes(size: Bits, kind: OpKind) -> u8
     ensures value { result ≡ spec.immediate_bytes size kind }
     ensures short { result < 17 }
 {
-    match immediate_width_of_kind(kind) {
-        Width::Bytes(n) => n,
-        Width::OperandSize => size_bytes(size),
-        Width::WordOrDword => if is_16(size) { 2 } else { 4 },
-        Width::PointerOfSize => if is_16(size) { 4 } else { 6 },
+    match kind {
+        OpKind::Ib | OpKind::Ibs | OpKind::Jb | OpKind::Lx => 1,
+        OpKind::Iw => 2,
+        OpKind::Iz | OpKind::Jz => if is_16(size) { 2 } else { 4 },
+        OpKind::Iv => size_bytes(size),
+        OpKind::Ap => if is_16(size) { 4 } else { 6 },
         _ => 0,
     }
 }
@@ -329,6 +330,7 @@ pub fn is_nop_byte(row: &Row, opcode: u8) -> bool
 }
 
 /// The conditions on registers.
+#[inline(always)]
 #[tactic(auto, unfolding(crate::specs::Fits::registers_fit))]
 pub fn registers_fit(
     bits: Bits,

@@ -6,16 +6,34 @@ ghost use Rattle.x86_values.specs.Wrapping.{width};
 
 use x86_values::{Bits, wrap};
 
-/// The number whose bytes these are, the lowest first.
+/// The same of any bytes, one after the other.
+#[inline(never)]
 #[tactic(auto, unfolding(crate::specs::Meaning::little_endian))]
-pub fn little_endian(bytes: &[u8]) -> u64
+fn any_number(bytes: &[u8]) -> u64
     requires { length bytes.now ≤ 8 }
     ensures value { result ≡ spec.little_endian bytes.now }
     ensures below { result < 2 ^ (8 * length bytes.now) }
 {
     match bytes.split_first() {
         None => 0,
-        Some((b, rest)) => *b as u64 + 256 * little_endian(rest),
+        Some((b, rest)) => *b as u64 + 256 * any_number(rest),
+    }
+}
+
+/// The number whose bytes these are, the lowest first.
+// One byte and four are read at once: most displacements and immediates have one of these lengths.
+#[inline]
+#[tactic(auto, unfolding(crate::specs::Meaning::little_endian))]
+pub fn little_endian(bytes: &[u8]) -> u64
+    requires { length bytes.now ≤ 8 }
+    ensures value { result ≡ spec.little_endian bytes.now }
+    ensures below { result < 2 ^ (8 * length bytes.now) }
+{
+    match bytes {
+        [] => 0,
+        [b] => *b as u64,
+        [b0, b1, b2, b3] => *b0 as u64 + 256 * (*b1 as u64 + 256 * (*b2 as u64 + 256 * *b3 as u64)),
+        _ => any_number(bytes),
     }
 }
 

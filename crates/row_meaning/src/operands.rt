@@ -145,6 +145,7 @@ fn memory_flat(
 }
 
 /// An address of any size.
+#[inline(always)]
 #[tactic(auto, unfolding(crate::specs::Meaning::memory_of))]
 fn memory_of(
     bits: Bits,
@@ -168,6 +169,7 @@ fn memory_of(
 }
 
 /// The operand that is memory by ModRM.
+#[inline(always)]
 #[tactic(auto, unfolding(crate::specs::Meaning::memory_operand, row_fit::specs::Fits::modrm_in_range))]
 fn memory_operand(
     bits: Bits,
@@ -307,29 +309,45 @@ fn gather_operand(
     }
 }
 
-/// An operand by how it is read; `imm` are the bytes of the immediates that are its own.
+/// What stands behind the opcode byte of an instruction, and the address behind its last byte.
+#[derive(Clone, Copy)]
+pub struct Behind<'a> {
+    pub modrm: Option<ModRm>,
+    pub sib: Option<Sib>,
+    pub disp: &'a [u8],
+    pub imm: &'a [u8],
+    pub next: u64,
+}
+
+/// An operand by how it is read, written to a place; `imm` are the bytes of the immediates that are its own.
 #[inline(always)]
 #[tactic(auto, unfolding(crate::specs::Meaning::operand_by))]
-pub fn operand_by(
+fn operand_into(
     bits: Bits,
     row: &Row,
     state: &PrefixState,
-    m: Option<ModRm>,
-    sib: Option<Sib>,
-    disp: &[u8],
-    next: u64,
+    behind: &Behind,
     kind: OpKind,
     method: Method,
     imm: &[u8],
-) -> Operand
-    requires modrm { IsTrue (fits.modrm_in_range m) }
-    requires sib { IsTrue (fits.sib_in_range sib) }
-    requires disp { length disp.now ≤ 8 }
+    place: &mut Operand,
+)
+    requires modrm { IsTrue (fits.modrm_in_range behind.now.modrm) }
+    requires sib { IsTrue (fits.sib_in_range behind.now.sib) }
+    requires disp { length behind.now.disp.now ≤ 8 }
     requires imm { length imm.now ≤ 8 }
     requires pointer { method ≡ PointerMethod → length imm.now ≤ 6 }
-    ensures { result ≡ spec.operand_by bits row.now state.now (spec.tail m sib disp.now next) kind method imm.now }
+    ensures { place.new ≡ spec.operand_by bits row.now state.now
+        (spec.tail behind.now.modrm behind.now.sib behind.now.disp.now behind.now.next) kind method imm.now }
 {
-    match method {
+    let Behind {
+        modrm: m,
+        sib,
+        disp,
+        imm: _,
+        next,
+    } = *behind;
+    *place = match method {
         Method::Nothing => Operand::Absent,
         Method::ModRmReg => Operand::Reg(register_of(
             bits,
@@ -394,7 +412,39 @@ pub fn operand_by(
             fixed_number_of_kind(kind),
         )),
         Method::One => Operand::Imm(1),
-    }
+    };
+}
+
+/// An operand by how it is read; `imm` are the bytes of the immediates that are its own.
+pub fn operand_by(
+    bits: Bits,
+    row: &Row,
+    state: &PrefixState,
+    m: Option<ModRm>,
+    sib: Option<Sib>,
+    disp: &[u8],
+    next: u64,
+    kind: OpKind,
+    method: Method,
+    imm: &[u8],
+) -> Operand
+    requires modrm { IsTrue (fits.modrm_in_range m) }
+    requires sib { IsTrue (fits.sib_in_range sib) }
+    requires disp { length disp.now ≤ 8 }
+    requires imm { length imm.now ≤ 8 }
+    requires pointer { method ≡ PointerMethod → length imm.now ≤ 6 }
+    ensures { result ≡ spec.operand_by bits row.now state.now (spec.tail m sib disp.now next) kind method imm.now }
+{
+    let behind = Behind {
+        modrm: m,
+        sib,
+        disp,
+        imm,
+        next,
+    };
+    let mut operand = Operand::Absent;
+    operand_into(bits, row, state, &behind, kind, method, imm, &mut operand);
+    operand
 }
 
 /// The bytes of the immediates before those of operand n.
@@ -421,6 +471,7 @@ fn immediates_before(size: Bits, row: &Row, n: usize) -> usize
 }
 
 /// The bytes of the immediates that are those of operand n, which has so many.
+#[inline(always)]
 #[tactic(auto, unfolding(crate::specs::Meaning::own_immediate))]
 fn own_immediate<'a>(size: Bits, row: &Row, n: usize, imm: &'a [u8], len: usize) -> &'a [u8]
     requires whole { length imm.now ≡ fits.immediates_bytes size row.now }
@@ -428,75 +479,71 @@ fn own_immediate<'a>(size: Bits, row: &Row, n: usize, imm: &'a [u8], len: usize)
     requires len { len ≡ fits.immediate_bytes size (fits.kind_at row.now n) }
     ensures { result.now ≡ spec.own_immediate size row.now n imm.now }
 {
-    let (_, rest) = imm.split_at(immediates_before(size, row, n));
-    let (own, _) = rest.split_at(len);
-    own
-}
-
-/// Operand n, where there is one.
-#[inline(never)]
-#[tactic(auto, unfolding(crate::specs::Meaning::operand_at, crate::specs::Meaning::own_immediate))]
-fn present_at(
-    bits: Bits,
-    size: Bits,
-    row: &Row,
-    state: &PrefixState,
-    m: Option<ModRm>,
-    sib: Option<Sib>,
-    disp: &[u8],
-    next: u64,
-    imm: &[u8],
-    n: usize,
-    kind: OpKind,
-) -> Operand
-    requires size { size ≡ state_size bits row.now state.now }
-    requires modrm { IsTrue (fits.modrm_in_range m) }
-    requires sib { IsTrue (fits.sib_in_range sib) }
-    requires disp { length disp.now ≤ 8 }
-    requires imm { length imm.now ≤ 8 }
-    requires whole { length imm.now ≡ fits.immediates_bytes size row.now }
-    requires number { n < 4 }
-    requires kind { kind ≡ fits.kind_at row.now n }
-    ensures { result ≡ spec.operand_at bits row.now state.now (spec.tail m sib disp.now next) imm.now n }
-{
-    let len = immediate_bytes(size, kind) as usize;
-    let method = method_of_kind(kind);
     if len == 0 {
-        operand_by(bits, row, state, m, sib, disp, next, kind, method, &[])
+        &[]
     } else {
-        let own = own_immediate(size, row, n, imm, len);
-        operand_by(bits, row, state, m, sib, disp, next, kind, method, own)
+        let (_, rest) = imm.split_at(immediates_before(size, row, n));
+        let (own, _) = rest.split_at(len);
+        own
     }
 }
 
-/// Operand n.
-#[inline(always)]
-#[tactic(auto, unfolding(crate::specs::Meaning::operand_at))]
-fn operand_at(
+/// Operand n, where there is one, written to a place.
+#[inline(never)]
+#[tactic(auto, unfolding(crate::specs::Meaning::operand_at, crate::specs::Meaning::own_immediate))]
+fn present_into(
     bits: Bits,
     size: Bits,
     row: &Row,
     state: &PrefixState,
-    m: Option<ModRm>,
-    sib: Option<Sib>,
-    disp: &[u8],
-    next: u64,
-    imm: &[u8],
+    behind: &Behind,
     n: usize,
-) -> Operand
+    kind: OpKind,
+    place: &mut Operand,
+)
     requires size { size ≡ state_size bits row.now state.now }
-    requires modrm { IsTrue (fits.modrm_in_range m) }
-    requires sib { IsTrue (fits.sib_in_range sib) }
-    requires disp { length disp.now ≤ 8 }
-    requires imm { length imm.now ≤ 8 }
-    requires whole { length imm.now ≡ fits.immediates_bytes size row.now }
+    requires modrm { IsTrue (fits.modrm_in_range behind.now.modrm) }
+    requires sib { IsTrue (fits.sib_in_range behind.now.sib) }
+    requires disp { length behind.now.disp.now ≤ 8 }
+    requires imm { length behind.now.imm.now ≤ 8 }
+    requires whole { length behind.now.imm.now ≡ fits.immediates_bytes size row.now }
     requires number { n < 4 }
-    ensures { result ≡ spec.operand_at bits row.now state.now (spec.tail m sib disp.now next) imm.now n }
+    requires kind { kind ≡ fits.kind_at row.now n }
+    ensures { place.new ≡ spec.operand_at bits row.now state.now
+        (spec.tail behind.now.modrm behind.now.sib behind.now.disp.now behind.now.next) behind.now.imm.now n }
+{
+    let len = immediate_bytes(size, kind) as usize;
+    let own = own_immediate(size, row, n, behind.imm, len);
+    let method = method_of_kind(kind);
+    operand_into(bits, row, state, behind, kind, method, own, place)
+}
+
+/// Operand n, written to a place.
+#[inline(always)]
+#[tactic(auto, unfolding(crate::specs::Meaning::operand_at))]
+fn operand_at_into(
+    bits: Bits,
+    size: Bits,
+    row: &Row,
+    state: &PrefixState,
+    behind: &Behind,
+    n: usize,
+    place: &mut Operand,
+)
+    requires size { size ≡ state_size bits row.now state.now }
+    requires modrm { IsTrue (fits.modrm_in_range behind.now.modrm) }
+    requires sib { IsTrue (fits.sib_in_range behind.now.sib) }
+    requires disp { length behind.now.disp.now ≤ 8 }
+    requires imm { length behind.now.imm.now ≤ 8 }
+    requires whole { length behind.now.imm.now ≡ fits.immediates_bytes size row.now }
+    requires number { n < 4 }
+    ensures { place.new ≡ spec.operand_at bits row.now state.now
+        (spec.tail behind.now.modrm behind.now.sib behind.now.disp.now behind.now.next) behind.now.imm.now n }
 {
     let kind = kind_at(row, n);
     match kind {
-        OpKind::Absent => Operand::Absent,
-        _ => present_at(bits, size, row, state, m, sib, disp, next, imm, n, kind),
+        OpKind::Absent => *place = Operand::Absent,
+        _ => present_into(bits, size, row, state, behind, n, kind, place),
     }
 }
 
@@ -520,6 +567,9 @@ fn is_memory_kind(kind: OpKind, m: Option<ModRm>) -> bool
 {
     match kind {
         OpKind::Absent => false,
+        OpKind::Eb | OpKind::Ew | OpKind::Ed | OpKind::Eq | OpKind::Ev | OpKind::Ez | OpKind::Ey =>
+            mode_is_memory(m),
+        OpKind::Gb | OpKind::Gw | OpKind::Gd | OpKind::Gv | OpKind::Gy => false,
         _ => is_memory_method(method_of_kind(kind), m),
     }
 }
@@ -544,8 +594,17 @@ fn kept_address_size(bits: Bits, row: &Row, state: &PrefixState, m: Option<ModRm
     }
 }
 
+/// What stands in the place of an instruction before it is read.
+pub const UNREAD: Instr = Instr {
+    code: Code(0),
+    lock: false,
+    rep: Rep::None,
+    seg: None,
+    asize: None,
+    ops: [Operand::Absent; 4],
+};
+
 /// What a state, a tail and its immediates mean.
-#[tactic(auto, unfolding(crate::specs::Meaning::instr_of))]
 pub fn instr_of(
     bits: Bits,
     code: Code,
@@ -564,20 +623,52 @@ pub fn instr_of(
     requires whole { length imm.now ≡ fits.immediates_bytes (state_size bits row.now state.now) row.now }
     ensures { result ≡ spec.instr_of bits code row.now state.now (spec.tail m sib disp.now next) imm.now }
 {
+    let behind = Behind {
+        modrm: m,
+        sib,
+        disp,
+        imm,
+        next,
+    };
+    let mut instr = UNREAD;
+    instr_into(bits, code, row, state, &behind, &mut instr);
+    instr
+}
+
+/// The same, written to a place. An instruction as a value is copied at each call that it comes through.
+#[inline(always)]
+#[tactic(auto, unfolding(crate::specs::Meaning::instr_of))]
+pub fn instr_into(
+    bits: Bits,
+    code: Code,
+    row: &Row,
+    state: &PrefixState,
+    behind: &Behind,
+    place: &mut Instr,
+)
+    requires modrm { IsTrue (fits.modrm_in_range behind.now.modrm) }
+    requires sib { IsTrue (fits.sib_in_range behind.now.sib) }
+    requires disp { length behind.now.disp.now ≤ 8 }
+    requires imm { length behind.now.imm.now ≤ 8 }
+    requires whole { length behind.now.imm.now ≡ fits.immediates_bytes (state_size bits row.now state.now) row.now }
+    ensures { place.new ≡ spec.instr_of bits code row.now state.now
+        (spec.tail behind.now.modrm behind.now.sib behind.now.disp.now behind.now.next) behind.now.imm.now }
+{
     let size = state_size(bits, row, state);
-    Instr {
-        code,
-        ops: [
-            operand_at(bits, size, row, state, m, sib, disp, next, imm, 0),
-            operand_at(bits, size, row, state, m, sib, disp, next, imm, 1),
-            operand_at(bits, size, row, state, m, sib, disp, next, imm, 2),
-            operand_at(bits, size, row, state, m, sib, disp, next, imm, 3),
-        ],
-        lock: state.lock,
-        rep: kept_repeat(row.class, state.rep),
-        seg: state.seg,
-        asize: kept_address_size(bits, row, state, m),
-    }
+    let mut first = Operand::Absent;
+    let mut second = Operand::Absent;
+    let mut third = Operand::Absent;
+    let mut fourth = Operand::Absent;
+    operand_at_into(bits, size, row, state, behind, 0, &mut first);
+    operand_at_into(bits, size, row, state, behind, 1, &mut second);
+    operand_at_into(bits, size, row, state, behind, 2, &mut third);
+    operand_at_into(bits, size, row, state, behind, 3, &mut fourth);
+    place.ops = [first, second, third, fourth];
+    place.code = code;
+    place.lock = state.lock;
+    place.rep = kept_repeat(row.class, state.rep);
+    place.seg = state.seg;
+    place.asize = kept_address_size(bits, row, state, behind.modrm);
 }
 
 /// The length of a spelling of the row.

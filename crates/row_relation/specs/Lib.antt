@@ -1,3 +1,4 @@
 pub mod Spells
 pub mod EveryRule
 pub mod RowReading
+pub mod PlainBytes

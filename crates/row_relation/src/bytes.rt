@@ -1,15 +1,22 @@
 //! The bytes of a spelling.
 
-ghost use Rattle.std.specs.Prelude.{◌≡◌, ◌<◌, ◌≤◌, ◌+◌, ◌∷◌, ◌++◌, length, IsTrue, is_some};
+ghost use Rattle.std.specs.Prelude.{◌≡◌, ◌<◌, ◌≤◌, ◌+◌, ◌∷◌, ◌++◌, ℕ, length, IsTrue, is_some};
 ghost use Rattle.instruction_parts.specs.Bytes as spec;
 ghost use Rattle.row_fit.specs.Fits as fits;
 ghost use Rattle.instruction_parts.specs.Sizes.{is_vex_row};
 ghost use Rattle.row_fit.specs.Sound.{sound};
 ghost use Rattle.arrayvec.specs.ArrayVec.{array_vec_len};
+ghost use Rattle.plain_spelling.specs.Forms.{operand_at};
+ghost use Rattle.plain_spelling.specs.PlainFront.{operand_number};
+ghost use Rattle.plain_spelling.specs.PlainTail.{address_operand, operand_displacement, displacement_of_operand, plain_immediates};
+ghost use Rattle.row_relation.specs.PlainBytes.{plain_tail_bytes, tail_count};
 
 use arrayvec::ArrayVec;
 use instruction_parts::{ModRm, Sib, Spelling, Vex};
+use plain_spelling::parts::PlainParts;
+use plain_spelling::tail::{self, append_displacement, append_immediates};
 use row_types::{Map, Row};
+use x86_values::{Bits, Instr};
 
 /// The escape bytes of a map.
 fn escape_bytes<'a>(map: Map) -> &'a [u8]
@@ -141,7 +148,7 @@ fn append_modrm(out: &mut ArrayVec<u8, 15>, m: Option<ModRm>)
 {
     match m {
         None => {}
-        Some(m) => append(out, &[modrm_byte(m)]),
+        Some(m) => out.push(modrm_byte(m)),
     }
 }
 
@@ -154,7 +161,7 @@ fn append_sib(out: &mut ArrayVec<u8, 15>, s: Option<Sib>)
 {
     match s {
         None => {}
-        Some(s) => append(out, &[sib_byte(s)]),
+        Some(s) => out.push(sib_byte(s)),
     }
 }
 
@@ -171,6 +178,63 @@ pub fn append_tail(out: &mut ArrayVec<u8, 15>, s: &Spelling)
     append_sib(out, s.sib);
     append(out, s.disp.as_slice());
     append(out, s.imm.as_slice());
+}
+
+/// Appends the displacement before the next address, of so many bytes: mostly there is none, and then the operand is not looked for.
+#[inline]
+fn append_displacement_if(
+    out: &mut ArrayVec<u8, 15>,
+    count: u8,
+    row: &Row,
+    instr: &Instr,
+    next: u64,
+)
+    requires count { count ≡ operand_displacement (address_operand row.now instr.now) }
+    requires room { array_vec_len out.old + count ≤ 15 }
+    ensures items { out.new.items ≡ out.old.items ++ displacement_of_operand next (address_operand row.now instr.now) }
+    ensures len { array_vec_len out.new ≡ array_vec_len out.old + count }
+{
+    if count > 0 {
+        append_displacement(out, next, tail::address_operand(row, instr));
+    }
+}
+
+/// Appends the immediates, of so many bytes together: mostly there is none.
+#[inline]
+fn append_immediates_if(
+    out: &mut ArrayVec<u8, 15>,
+    count: u8,
+    size: Bits,
+    row: &Row,
+    instr: &Instr,
+    next: u64,
+)
+    requires numbers { (n : ℕ) → n < 4 → operand_number (operand_at instr.now n) < 16 }
+    requires count { count ≡ fits.immediates_bytes size row.now }
+    requires room { array_vec_len out.old + count ≤ 15 }
+    ensures { out.new.items ≡ out.old.items ++ plain_immediates size row.now instr.now next }
+{
+    if count > 0 {
+        append_immediates(out, size, row, instr, next);
+    }
+}
+
+/// Appends the opcode byte of the plain spelling of an instruction and what stands behind it, by the parts of the plain spelling (2.1).
+#[tactic(auto, unfolding(instruction_parts::specs::Bytes::modrm_bytes, instruction_parts::specs::Bytes::sib_bytes))]
+pub fn append_plain_tail(out: &mut ArrayVec<u8, 15>, row: &Row, instr: &Instr, parts: &PlainParts)
+    requires room { array_vec_len out.old + tail_count row.now instr.now parts.now ≤ 15 }
+    requires modrm { IsTrue (fits.modrm_in_range parts.now.addressing.modrm) }
+    requires sib { IsTrue (fits.sib_in_range parts.now.addressing.sib) }
+    requires numbers { (n : ℕ) → n < 4 → operand_number (operand_at instr.now n) < 16 }
+    requires displacement { parts.now.displacement ≡ operand_displacement (address_operand row.now instr.now) }
+    requires immediates { parts.now.immediates ≡ fits.immediates_bytes parts.now.size row.now }
+    ensures { out.new.items ≡ out.old.items ++ plain_tail_bytes row.now instr.now parts.now }
+{
+    out.push(parts.state.opcode);
+    append_modrm(out, parts.addressing.modrm);
+    append_sib(out, parts.addressing.sib);
+    append_displacement_if(out, parts.displacement, row, instr, parts.next);
+    append_immediates_if(out, parts.immediates, parts.size, row, instr, parts.next);
 }
 
 /// The bytes of a spelling of the row.

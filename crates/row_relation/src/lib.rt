@@ -6,7 +6,7 @@ mod front;
 #[cfg(test)]
 mod tests;
 
-pub use bytes::{append_lead, append_tail, spelling_bytes};
+pub use bytes::{append_lead, append_plain_tail, append_tail, spelling_bytes};
 pub use front::plain_front;
 pub use instruction_parts::{ModRm, PrefixState, Sib, Spelling, Vex};
 pub use plain_spelling::NoSpelling;

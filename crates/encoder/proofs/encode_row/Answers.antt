@@ -1,74 +1,13 @@
-use Rattle.std.proofs.Common.{◌≡◌, ◌∙◌, ◌<◌, ◌≤◌, ◌++◌, ◌∷◌, ℕ, Some, Result, Err, Ok, List, None, ap, sym, arith, length, rules, subst, true}
-use Rattle.x86_values.specs.declared.Bits.{Bits}
-use Rattle.x86_values.specs.declared.Instr.{Instr}
-use Rattle.row_types.specs.declared.Row.{Row}
-use Rattle.instruction_parts.specs.declared.spelling.Spelling.{Spelling}
-use Rattle.instruction_parts.specs.Sizes.{exists_in}
+use Rattle.std.proofs.Common.{◌≡◌, ℕ, subst}
 use Rattle.instruction_parts.specs.Bytes.{bytes_of}
-use Rattle.row_fit.specs.Sound.{sound}
-use Rattle.plain_spelling.specs.declared.parts.PlainParts.{PlainParts}
-use Rattle.plain_spelling.specs.Parts.{ArePartsOf}
-use Rattle.plain_spelling.specs.PlainTail.{plain_spelling, plain_len, plain_tail}
-use Rattle.plain_spelling.specs.Expressible.{failure, tail_failure}
-use Rattle.plain_spelling.specs.Writable.{writable}
-use Rattle.plain_spelling.specs.declared.NoSpelling.{NoSpelling}
-use Rattle.encoder.specs.Encoding.{encoded_by}
-use Rattle.encoder.proofs.Bytes.{TailWritten, tail_written, written-vex, written-modrm, written-sib, written-room, written-bytes}
-use Rattle.encoder.proofs.Causes.{tail_fails, length_fails, nothing_fails}
+use Rattle.plain_spelling.specs.PlainTail.{plain_spelling}
+use Rattle.plain_spelling.specs.Expressible.{failure}
+use Rattle.encoder.specs.Encoding.{encoded_by, written}
 use Rattle.encoder.proofs.encode_row.Goals as goal
-
-pub returns-in-Err : goal.returns-in-Err
-returns-in-Err c =
-    let row = c.args.row.now in
-    let i = c.args.instr.now in
-    let bits = c.args.bits in
-    let h = subst (λ (ip : ℕ). tail_failure bits ip row i ≡ Some c.in-Err.why) c.plain_parts-parts.ensures.ip c.in-Err.ensures.err in
-    ap (λ why. encoded_by why (bytes_of row (plain_spelling bits c.args.ip row i))) (sym (tail_fails bits c.args.ip row i c.in-Err.why c.requires.exists h))
-
-pub returns-then-parts-gt15 : goal.returns-then-parts-gt15
-returns-then-parts-gt15 c =
-    let row = c.args.row.now in
-    let i = c.args.instr.now in
-    let bits = c.args.bits in
-    let h = subst (λ (ip : ℕ). tail_failure bits ip row i ≡ None) c.plain_parts-parts.ensures.ip c.in-Ok.ensures.ok.0 in
-    let long : 15 < plain_len bits row i = subst (λ (n : ℕ). 15 < n) c.plain_parts-parts.ensures.parts.len c.if-parts-gt15.true in
-    ap (λ why. encoded_by why (bytes_of row (plain_spelling bits c.args.ip row i))) (sym (length_fails bits c.args.ip row i c.requires.exists h long))
-
-pub write_prefixes-bytes-requires : goal.write_prefixes-bytes-requires
-write_prefixes-bytes-requires c =
-    let four : length c.args.instr.now.ops ≡ 4 = search rules in
-    written-vex c.args.bits c.args.ip c.args.row.now c.args.instr.now c.plain_parts-parts.result c.in-Ok.tail
-    (tail_written c.args.bits c.args.ip c.args.row.now c.args.instr.now c.plain_parts-parts.result c.in-Ok.tail c.requires.sound c.requires.writable c.requires.exists four c.plain_parts-parts.ensures.ip c.plain_parts-parts.ensures.parts c.in-Ok.ensures.ok c.if-parts-gt15.false)
-
-pub append_tail-requires-clause-room : goal.append_tail-requires-clause-room
-append_tail-requires-clause-room c =
-    let four : length c.args.instr.now.ops ≡ 4 = search rules in
-    written-room c.args.bits c.args.ip c.args.row.now c.args.instr.now c.plain_parts-parts.result c.in-Ok.tail c.write_prefixes-bytes.result.items
-    (tail_written c.args.bits c.args.ip c.args.row.now c.args.instr.now c.plain_parts-parts.result c.in-Ok.tail c.requires.sound c.requires.writable c.requires.exists four c.plain_parts-parts.ensures.ip c.plain_parts-parts.ensures.parts c.in-Ok.ensures.ok c.if-parts-gt15.false)
-    c.write_prefixes-bytes.ensures
-
-pub append_tail-requires-clause-modrm : goal.append_tail-requires-clause-modrm
-append_tail-requires-clause-modrm c =
-    let four : length c.args.instr.now.ops ≡ 4 = search rules in
-    written-modrm c.args.bits c.args.ip c.args.row.now c.args.instr.now c.plain_parts-parts.result c.in-Ok.tail
-    (tail_written c.args.bits c.args.ip c.args.row.now c.args.instr.now c.plain_parts-parts.result c.in-Ok.tail c.requires.sound c.requires.writable c.requires.exists four c.plain_parts-parts.ensures.ip c.plain_parts-parts.ensures.parts c.in-Ok.ensures.ok c.if-parts-gt15.false)
-
-pub append_tail-requires-clause-sib : goal.append_tail-requires-clause-sib
-append_tail-requires-clause-sib c =
-    let four : length c.args.instr.now.ops ≡ 4 = search rules in
-    written-sib c.args.bits c.args.ip c.args.row.now c.args.instr.now c.plain_parts-parts.result c.in-Ok.tail
-    (tail_written c.args.bits c.args.ip c.args.row.now c.args.instr.now c.plain_parts-parts.result c.in-Ok.tail c.requires.sound c.requires.writable c.requires.exists four c.plain_parts-parts.ensures.ip c.plain_parts-parts.ensures.parts c.in-Ok.ensures.ok c.if-parts-gt15.false)
 
 pub returns : goal.returns
 returns c =
     let row = c.args.row.now in
     let i = c.args.instr.now in
     let bits = c.args.bits in
-    let ip = c.args.ip in
-    let four : length i.ops ≡ 4 = search rules in
-    let w = tail_written bits ip row i c.plain_parts-parts.result c.in-Ok.tail c.requires.sound c.requires.writable c.requires.exists four c.plain_parts-parts.ensures.ip c.plain_parts-parts.ensures.parts c.in-Ok.ensures.ok c.if-parts-gt15.false in
-    let bytes = c.append_tail.ensures ∙ written-bytes bits ip row i c.plain_parts-parts.result c.in-Ok.tail c.write_prefixes-bytes.result.items w c.write_prefixes-bytes.ensures in
-    let short : plain_len bits row i ≤ 15 = subst (λ (n : ℕ). n ≤ 15) c.plain_parts-parts.ensures.parts.len c.if-parts-gt15.false in
-    let ok : List ℕ → Result (List ℕ) NoSpelling = λ xs. Ok xs in
-    ap ok bytes
-    ∙ ap (λ why. encoded_by why (bytes_of row (plain_spelling bits ip row i))) (sym (nothing_fails bits ip row i c.requires.exists w.suited.suits short))
+    subst (λ (ip : ℕ). written c.write_parts.result ≡ encoded_by (failure bits ip row i) (bytes_of row (plain_spelling bits ip row i))) c.plain_parts-parts.ensures.ip c.write_parts.ensures

@@ -1,7 +1,7 @@
-use Rattle.std.proofs.Common.{◌≡◌, ◌∙◌, ◌<◌, ◌≤◌, ℕ, Some, Result, Err, Ok, List, None, ap, sym, arith, length, rules, subst, true}
+use Rattle.std.proofs.Common.{◌≡◌, ◌∙◌, ◌<◌, ◌≤◌, ℕ, Some, Result, Ok, None, ap, sym, length, rules, subst}
 use Rattle.instruction_parts.specs.Bytes.{bytes_of}
 use Rattle.plain_spelling.specs.PlainTail.{plain_spelling, plain_len}
-use Rattle.plain_spelling.specs.Expressible.{failure, tail_failure}
+use Rattle.plain_spelling.specs.Expressible.{tail_failure}
 use Rattle.plain_spelling.specs.declared.NoSpelling.{NoSpelling}
 use Rattle.encoder.specs.Encoding.{encoded_by, length_of}
 use Rattle.encoder.proofs.Bytes.{Suited, count}

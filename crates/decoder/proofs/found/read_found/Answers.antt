@@ -1,7 +1,6 @@
 use Rattle.std.proofs.Common.{◌≡◌, ◌+◌, ap, ◌∙◌, subst, arith, slice_get, Result, Err}
 use Rattle.std.proofs.lemmas.Option.{slice_get_within}
 use Rattle.x86_values.specs.declared.Bits.{Bits}
-use Rattle.x86_values.specs.declared.Decoded.{Decoded}
 use Rattle.prefixes.specs.Answer.{mode_of}
 use Rattle.modrm_sib.specs.declared.TailError.{TailError}
 use Rattle.modrm_sib.specs.declared.TailError.TheVariants.{Ended, Forbidden}
@@ -23,8 +22,8 @@ row-row-requires g c =
     let only = c.in-Some.ensures.row in
     omega (arith, slice_get_within table c.in-Some.code.0 only.row only.there, length-table)
 
-pub read_row-requires-clause-sound : goal.read_row-requires-clause-sound
-read_row-requires-clause-sound g c = sound-row _ _ c.row-row.ensures.row
+pub read_row_into-requires-clause-sound : goal.read_row_into-requires-clause-sound
+read_row_into-requires-clause-sound g c = sound-row _ _ c.row-row.ensures.row
 
 pub returns-in-None-clause-reading : goal.returns-in-None-clause-reading
 returns-in-None-clause-reading g c =
@@ -35,21 +34,21 @@ returns-in-None-clause-reading g c =
     c.fields_of-fields.ensures ∙ ap (fields_of state) c.byte_behind.ensures in
     no_row_spells bits c.args.ip bytes state c.requires.front (subst (λ (x : Fields). HoldsNowhere bits table x) are c.in-None.ensures.row)
 
-pub returns-then-decoded-le-LONGEST-clause-reading : goal.returns-then-decoded-le-LONGEST-clause-reading
-returns-then-decoded-le-LONGEST-clause-reading g c =
+pub returns-then-place-le-LONGEST-clause-reading : goal.returns-then-place-le-LONGEST-clause-reading
+returns-then-place-le-LONGEST-clause-reading g c =
     let bits = mode_of g.row.BITS in
     let bytes = c.args.bytes.now in
-    reads table bits c.args.ip c.in-Some.code c.row-row.result bytes c.in-Ok.decoded c.row-row.ensures.row
-    (subst (λ (b : Bits). RowReads b c.args.ip c.in-Some.code c.row-row.result bytes c.in-Ok.decoded) c.mode_of.ensures c.in-Ok.ensures.ok)
-    c.if-decoded-le-LONGEST.true
+    reads table bits c.args.ip c.in-Some.code c.row-row.result bytes c.read_row_into.new.place c.row-row.ensures.row
+    (subst (λ (b : Bits). RowReads b c.args.ip c.in-Some.code c.row-row.result bytes c.read_row_into.new.place) c.mode_of.ensures c.in-Ok.ensures.ok)
+    c.if-place-le-LONGEST.true
 
-pub returns-then-decoded-le-LONGEST-clause-form : goal.returns-then-decoded-le-LONGEST-clause-form
-returns-then-decoded-le-LONGEST-clause-form g c =
-    read_is_well_formed c.mode_of.result c.args.ip _ c.row-row.result c.args.bytes.now c.in-Ok.decoded c.row-row.ensures.row
+pub returns-then-place-le-LONGEST-clause-form : goal.returns-then-place-le-LONGEST-clause-form
+returns-then-place-le-LONGEST-clause-form g c =
+    read_is_well_formed c.mode_of.result c.args.ip _ c.row-row.result c.args.bytes.now c.read_row_into.new.place c.row-row.ensures.row
     (sound-row _ _ c.row-row.ensures.row) c.in-Ok.ensures.ok
 
-pub returns-else-decoded-le-LONGEST-clause-reading : goal.returns-else-decoded-le-LONGEST-clause-reading
-returns-else-decoded-le-LONGEST-clause-reading g c =
+pub returns-else-place-le-LONGEST-clause-reading : goal.returns-else-place-le-LONGEST-clause-reading
+returns-else-place-le-LONGEST-clause-reading g c =
     let bits = mode_of g.row.BITS in
     let bytes = c.args.bytes.now in
     let state = c.args.state.now in
@@ -58,12 +57,12 @@ returns-else-decoded-le-LONGEST-clause-reading g c =
     c.fields_of-fields.ensures ∙ ap (fields_of state) c.byte_behind.ensures in
     one_row_spells bits c.args.ip bytes state code.0 c.row-row.result c.requires.front
     (subst (λ (x : Fields). IsOnlyRow bits table x code.0) are c.in-Some.ensures.row) c.row-row.ensures.row
-    (late_by_length bits c.args.ip code c.row-row.result bytes c.in-Ok.decoded
-    (subst (λ (b : Bits). RowReads b c.args.ip code c.row-row.result bytes c.in-Ok.decoded) c.mode_of.ensures c.in-Ok.ensures.ok)
-    c.if-decoded-le-LONGEST.false)
+    (late_by_length bits c.args.ip code c.row-row.result bytes c.read_row_into.new.place
+    (subst (λ (b : Bits). RowReads b c.args.ip code c.row-row.result bytes c.read_row_into.new.place) c.mode_of.ensures c.in-Ok.ensures.ok)
+    c.if-place-le-LONGEST.false)
 
 -- either error says that the row reads nothing
-nothing_by : (N A B : Type 0) (e : TailError) (r : Result Decoded TailError) → r ≡ Err e → (r ≡ Err Ended → N × A) → (r ≡ Err Forbidden → N × B) → N
+nothing_by : (N A B : Type 0) (e : TailError) (r : Result (Unit {0}) TailError) → r ≡ Err e → (r ≡ Err Ended → N × A) → (r ≡ Err Forbidden → N × B) → N
 nothing_by N A B Ended r is h k = (h is).0
 nothing_by N A B Forbidden r is h k = (k is).0
 
@@ -79,4 +78,4 @@ returns-in-Err-clause-reading g c =
     (subst (λ (x : Fields). IsOnlyRow bits table x code.0) are c.in-Some.ensures.row) c.row-row.ensures.row
     (late_by_nothing bits c.row-row.result bytes
     (subst (λ (b : Bits). RowReadsNothing b c.row-row.result bytes) c.mode_of.ensures
-    (nothing_by _ _ _ c.in-Err.field-0 c.read_row.result c.in-Err.is c.read_row.ensures.ended c.read_row.ensures.forbidden)))
+    (nothing_by _ _ _ c.in-Err.field-0 c.read_row_into.result c.in-Err.is c.read_row_into.ensures.ended c.read_row_into.ensures.forbidden)))

@@ -7,10 +7,12 @@ use Rattle.flow_graph.proofs.graph.flow_graph_in.Goals as goal
 pub blocks_of-requires-clause-chained : goal.blocks_of-requires-clause-chained
 blocks_of-requires-clause-chained c =
     let code = code_bytes c.args.bits c.args.base c.args.bytes.now in
-    chained code c.deref.result.now (subst (AreMarks code) (sym c.deref.ensures.value) c.in_ok-marks.ensures)
+    chained code c.deref.result.now (subst (AreMarks code) (sym c.deref.ensures.value) c.in_ok-walk.ensures.marks)
 
 pub returns : goal.returns
 returns c =
     let code = code_bytes c.args.bits c.args.base c.args.bytes.now in
-    graph_right code c.deref.result.now (subst (AreMarks code) (sym c.deref.ensures.value) c.in_ok-marks.ensures)
-    c.in_ok-blocks.blocks.starts.items c.in_ok-blocks.blocks.leaders.items c.in_ok-blocks.ensures
+    let blocks = c.in_ok-blocks.blocks in
+    graph_right code c.deref.result.now (subst (AreMarks code) (sym c.deref.ensures.value) c.in_ok-walk.ensures.marks) blocks.starts.items blocks.leaders.items
+    c.deref-2.result.now blocks.flows.items c.in_ok-blocks.ensures.listed
+    (rw (c.deref.ensures.value, c.deref-2.ensures.value) c.in_ok-walk.ensures.told) c.in_ok-blocks.ensures.flows

@@ -1,10 +1,12 @@
-use Rattle.std.proofs.Common.{◌≤◌}
+use Rattle.std.proofs.Common.{◌≤◌, ℕ, List}
 use Rattle.flow_graph.specs.Control.{code_bytes}
+use Rattle.flow_graph.specs.Graphs.{IsFlowGraph}
 use Rattle.flow_run.proofs.FlowLines.{Progress}
 use Rattle.flow_run.proofs.lines.write_flow.Given as goal
 
 abbrev pub invariant-loop-k : goal.invariant-loop-k
 invariant-loop-k g l = record {
-  progress : Progress (code_bytes l.bits l.base l.bytes) l.graph l.k (g.K.Sink.held l.initial.out) (g.K.Sink.held l.out) l.pending.items;
+  progress : (bytes : List ℕ) → IsFlowGraph (code_bytes l.bits l.base bytes) l.graph →
+      Progress (code_bytes l.bits l.base bytes) l.graph l.k (g.K.Sink.held l.initial.out) (g.K.Sink.held l.out) l.pending.items;
   later : g.K.Sink.faults l.initial.out ≤ g.K.Sink.faults l.out;
 }

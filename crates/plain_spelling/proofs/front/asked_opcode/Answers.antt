@@ -5,5 +5,5 @@ use Rattle.plain_spelling.proofs.front.asked_opcode.Goals as goal
 
 pub overflow_add-result : goal.overflow_add-result
 overflow_add-result c =
-    let room = opcode_room c.args.row.now c.requires c.in-Register.is in
+    let room = opcode_room c.args.row.now c.requires.sound c.in-Register.is in
     Fits-of_lt (omega (arith, room))

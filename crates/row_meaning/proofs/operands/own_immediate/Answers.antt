@@ -10,8 +10,8 @@ split_at-requires c =
     omega (arith, within, c.requires.whole, c.immediates_before.ensures)
 
 -- and so are its own
-pub split_at-requires-2 : goal.split_at-requires-2
-split_at-requires-2 c =
+pub split_at-requires-else-len-eq0 : goal.split_at-requires-else-len-eq0
+split_at-requires-else-len-eq0 c =
     let within = before_within c.args.size c.args.row.now c.args.n c.requires.number in
     let len = ap length c.split_at.ensures.back ∙ length-drop c.immediates_before.result c.args.imm.now in
     omega (arith, within, c.requires.whole, c.immediates_before.ensures, c.requires.len, len)

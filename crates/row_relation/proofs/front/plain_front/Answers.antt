@@ -1,4 +1,4 @@
-use Rattle.std.proofs.Common.{◌≡◌, ◌∙◌, length, ap, sym, subst, rules, true}
+use Rattle.std.proofs.Common.{◌≡◌, ◌∙◌, length, sym, subst, rules, true}
 use Rattle.instruction_parts.specs.declared.spelling.PrefixState.{PrefixState}
 use Rattle.row_fit.specs.Fits.{vex_in_range}
 use Rattle.row_fit.proofs.SoundLaws.{sound_conditions}
