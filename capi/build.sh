@@ -4,8 +4,8 @@
 #   capi/build.sh [FOLDER] [llvm|rattle]
 #
 # FOLDER is capi/out where none is named. `llvm` (the one by default) and `rattle` are the kit's two compilers. The crates are
-# proved first, as far as no earlier check has: from nothing that takes most of an hour on four processors. It wants the kit's
-# `rt`, and a C compiler ($CC, else gcc) for the shared library.
+# proved first, as far as no earlier check has: `rt all check --jobs 4` does that on all processors. It wants the kit's `rt`, and
+# a C compiler ($CC, else gcc) for the shared library.
 set -eu
 here=$(cd "$(dirname "$0")" && pwd)
 out=${1:-$here/out}

@@ -11,9 +11,9 @@
  *  - Memory that a call writes (`out`, `instr` of feddurzai_decode, ..) is not also read or written by another
  *    argument of that call, and by no other thread while the call runs.
  *
- * Threads: no function keeps any state, so all may be called from any number of threads at once. None takes a lock,
- * none writes errno. All but feddurzai_move and feddurzai_flow take no memory, and may be called from a signal handler
- * and from a process that hooks malloc; those two call malloc, realloc and free, and give back all that they took.
+ * Threads: no function keeps any state, so all may be called from any number of threads at once, and none takes a lock.
+ * All but feddurzai_move and feddurzai_flow take no memory, and may be called from a signal handler and from a hook of
+ * malloc; those two call malloc, realloc and free, and give back all that they took.
  * Nothing is owned by the library: every result is in memory of the caller's.
  *
  * C99 and C++. All numbers are in the byte order of the machine. Lengths and sizes are in bytes.
@@ -67,6 +67,7 @@ enum {
 /*
  * Why feddurzai_encode finds no encoding: the first of ten conditions that fails, and the operand that fails it
  * (0 to 3; two equal vector registers of a gather count with operand 0, and so does a condition about no operand).
+ * `said` is a number below zero.
  */
 #define FEDDURZAI_CAUSE(said) ((-(said)) >> 8)      /* 0 for any other refusal */
 #define FEDDURZAI_CAUSE_OPERAND(said) ((-(said)) & 255)
