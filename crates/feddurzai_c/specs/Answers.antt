@@ -119,6 +119,12 @@ encoding_of (Some bits) ip (Some i) = encoding_told (encoding bits ip i)
 abbrev pub encode_answer : ℕ → ℕ → FlatInstr → Result (List ℕ) Refusal
 encode_answer bits ip f = encoding_of (bits_numbered bits) ip (instr_back f)
 
+-- so many bytes at the front of a room are read as the instruction at the address, whatever stands behind them
+abbrev pub IsEncodedAt : Option Bits → ℕ → Option Instr → List ℕ → ℕ → Type 0
+IsEncodedAt (Some bits) ip (Some i) room n = IsRead bits ip room (Read (record { instr = i; len = n }))
+IsEncodedAt (Some bits) ip None room n = ⊥
+IsEncodedAt None ip i room n = ⊥
+
 -- ---- the table
 
 -- the name of a row

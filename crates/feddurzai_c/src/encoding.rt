@@ -1,6 +1,8 @@
 //! Writing an instruction.
 
-ghost use Rattle.std.specs.Prelude.{◌≡◌, length, MatchResult, Ok, Err};
+ghost use Rattle.std.specs.Prelude.{◌≡◌, ℕ, ◌++◌, List, length, pos, IfOk, MatchResult, Ok, Err};
+ghost use Rattle.feddurzai_c.specs.Numbers.{bits_numbered};
+ghost use Rattle.feddurzai_c.specs.Back.{instr_back};
 ghost use Rattle.feddurzai_c.specs.Answers as spec;
 
 use crate::flat::FlatInstr;
@@ -14,7 +16,8 @@ use encoder::encode;
 /// The bytes of the instruction of a struct.
 #[tactic(auto, unfolding(crate::specs::Answers::encoding_of))]
 fn bytes_of(bits: u32, ip: u64, instr: &FlatInstr) -> Result<ArrayVec<u8, 15>, Refusal>
-    ensures { MatchResult result (λ bytes. spec.encode_answer bits ip instr.now ≡ Ok bytes.items) (λ why. spec.encode_answer bits ip instr.now ≡ Err why) }
+    ensures answer { MatchResult result (λ bytes. spec.encode_answer bits ip instr.now ≡ Ok bytes.items) (λ why. spec.encode_answer bits ip instr.now ≡ Err why) }
+    ensures read_back { IfOk result (λ bytes. (rest : List ℕ) → spec.IsEncodedAt (bits_numbered bits) ip (instr_back instr.now) (bytes.items ++ rest) (length bytes.items)) }
 {
     let Some(bits) = bits_numbered(bits) else {
         return Err(Refusal::Mode);
@@ -38,6 +41,7 @@ fn bytes_of(bits: u32, ip: u64, instr: &FlatInstr) -> Result<ArrayVec<u8, 15>, R
 pub extern "C" fn feddurzai_encode(bits: u32, ip: u64, instr: &FlatInstr, out: &mut [u8]) -> i32
     ensures said { result ≡ spec.said (spec.bytes_within (length out.old) (spec.encode_answer bits ip instr.now)) }
     ensures left { out.new ≡ spec.with_bytes out.old (spec.bytes_within (length out.old) (spec.encode_answer bits ip instr.now)) }
+    ensures read_back { (n : ℕ) → result ≡ pos n → spec.IsEncodedAt (bits_numbered bits) ip (instr_back instr.now) out.new n }
 {
     match bytes_of(bits, ip, instr) {
         Ok(bytes) => put_bytes(out, &bytes),
