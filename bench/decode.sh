@@ -62,13 +62,18 @@ objdump_line() {
 }
 
 build >&2
+"$top/capi/build.sh" "$folder/capi" >&2
+peer feddurzai_c feddurzai.c -I"$top/capi" "$folder/capi/libfeddurzai.a"
+peer feddurzai_c_text feddurzai.c -DWITH_TEXT -I"$top/capi" "$folder/capi/libfeddurzai.a"
+peer zydis_text zydis.c -DWITH_TEXT -lZydis
+peer distorm_text distorm.c -DWITH_TEXT -ldistorm3
 peer capstone_detail capstone.c -lcapstone
 peer capstone_plain capstone.c -DNO_DETAIL -lcapstone
 peer zydis_operands zydis.c -lZydis
 peer zydis_plain zydis.c -DNO_OPERANDS -lZydis
 peer distorm distorm.c -ldistorm3
 peer llvm llvm.c $(llvm-config-14 --cflags --ldflags 2>/dev/null || true) -lLLVM-14
-names="llvm_read llvm_print llvm_encode rattle_read rattle_print rattle_encode zydis_operands zydis_plain distorm capstone_detail capstone_plain llvm"
+names="llvm_read llvm_print llvm_encode rattle_read rattle_print rattle_encode feddurzai_c feddurzai_c_text zydis_operands zydis_text zydis_plain distorm distorm_text capstone_detail capstone_plain llvm"
 
 for round in $(seq "$rounds"); do
     echo "round $round, processor time"

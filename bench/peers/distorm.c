@@ -1,7 +1,13 @@
-// diStorm: 512 instructions a call, as records without texts.
+// diStorm: 512 instructions a call, as records, without their texts or with them (-DWITH_TEXT).
 #include "measure.h"
 #define SUPPORT_64BIT_OFFSET
 #include <distorm3/distorm.h>
+
+#ifdef WITH_TEXT
+#define NAME "distorm, text"
+#else
+#define NAME "distorm"
+#endif
 
 enum { MANY = 512 };
 
@@ -28,6 +34,11 @@ static void sweep(const uint8_t *bytes, size_t size, int bits, struct counts *co
             } else {
                 counts->items++;
                 counts->sum += found[n].opcode;
+#ifdef WITH_TEXT
+                _DecodedInst text;
+                distorm_format(&code, &found[n], &text);
+                counts->sum += text.mnemonic.length;
+#endif
                 place += found[n].size;
             }
         }
@@ -36,6 +47,6 @@ static void sweep(const uint8_t *bytes, size_t size, int bits, struct counts *co
 
 int main(int argc, char **argv)
 {
-    measure(argc, argv, "distorm", sweep);
+    measure(argc, argv, NAME, sweep);
     return 0;
 }

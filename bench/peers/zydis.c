@@ -1,9 +1,11 @@
-// Zydis: the instruction with its operands, or without them (-DNO_OPERANDS). It makes no text.
+// Zydis: the instruction with its operands, without them (-DNO_OPERANDS), or with them and its Intel text (-DWITH_TEXT).
 #include "measure.h"
 #include <Zydis/Zydis.h>
 
 #ifdef NO_OPERANDS
 #define NAME "zydis, no operands"
+#elif defined(WITH_TEXT)
+#define NAME "zydis, text"
 #else
 #define NAME "zydis, operands"
 #endif
@@ -18,6 +20,10 @@ static void sweep(const uint8_t *bytes, size_t size, int bits, struct counts *co
     else
         ZydisDecoderInit(&decoder, ZYDIS_MACHINE_MODE_LONG_64, ZYDIS_STACK_WIDTH_64);
     ZydisDecodedInstruction instruction;
+#ifdef WITH_TEXT
+    ZydisFormatter formatter;
+    ZydisFormatterInit(&formatter, ZYDIS_FORMATTER_STYLE_INTEL);
+#endif
     size_t place = 0;
     while (place < size) {
 #ifdef NO_OPERANDS
@@ -29,6 +35,11 @@ static void sweep(const uint8_t *bytes, size_t size, int bits, struct counts *co
         if (ZYAN_SUCCESS(status)) {
             counts->items++;
             counts->sum += instruction.mnemonic;
+#ifdef WITH_TEXT
+            char text[256];
+            ZydisFormatterFormatInstruction(&formatter, &instruction, operands, instruction.operand_count_visible, text, sizeof text, place, ZYAN_NULL);
+            counts->sum += (uint64_t)text[0];
+#endif
             place += instruction.length;
         } else {
             counts->errors++;

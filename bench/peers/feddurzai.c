@@ -1,0 +1,37 @@
+// The library for C: the instruction as a struct, or with its Intel text (-DWITH_TEXT).
+#include "measure.h"
+#include "feddurzai.h"
+
+#ifdef WITH_TEXT
+#define NAME "feddurzai in C, text"
+#else
+#define NAME "feddurzai in C"
+#endif
+
+static void sweep(const uint8_t *bytes, size_t size, int bits, struct counts *counts)
+{
+    feddurzai_instr instr;
+    size_t place = 0;
+    while (place < size) {
+        int32_t len = feddurzai_decode((uint32_t)bits, place, bytes + place, size - place, &instr);
+        if (len > 0) {
+#ifdef WITH_TEXT
+            char text[FEDDURZAI_MAX_TEXT];
+            counts->sum += (uint64_t)feddurzai_text((uint32_t)bits, FEDDURZAI_INTEL, &instr, text, sizeof text);
+#else
+            counts->sum += instr.code;
+#endif
+            counts->items++;
+            place += (size_t)len;
+        } else {
+            counts->errors++;
+            place++;
+        }
+    }
+}
+
+int main(int argc, char **argv)
+{
+    measure(argc, argv, NAME, sweep);
+    return 0;
+}

@@ -1,0 +1,361 @@
+/*
+ * Every function with values that are and values that are not what it takes: each is answered by a stated number, and
+ * nothing is written where it should not be. And the fields of the structs, by what is put into them.
+ */
+#include "feddurzai.h"
+
+#include <stdio.h>
+#include <stdlib.h>
+#include <string.h>
+
+static int failures, tests;
+
+#define CHECK(what, want)                                                                          \
+    do {                                                                                           \
+        long long got_ = (long long)(what), want_ = (long long)(want);                             \
+        tests++;                                                                                   \
+        if (got_ != want_) {                                                                       \
+            failures++;                                                                            \
+            printf("%s:%d: %s is %lld and not %lld\n", __FILE__, __LINE__, #what, got_, want_);    \
+        }                                                                                          \
+    } while (0)
+
+/* a struct of exactly its size on the heap, so that a write behind it is seen */
+static feddurzai_instr *instr_of(const uint8_t *bytes, size_t len, uint32_t bits, uint64_t ip)
+{
+    feddurzai_instr *instr = malloc(sizeof *instr);
+    memset(instr, 0xaa, sizeof *instr);
+    CHECK(feddurzai_decode(bits, ip, bytes, len, instr), (long long)len);
+    return instr;
+}
+
+static int is_untouched(const void *memory, size_t len)
+{
+    const uint8_t *bytes = memory;
+    size_t i;
+    for (i = 0; i < len; i++)
+        if (bytes[i] != 0xaa)
+            return 0;
+    return 1;
+}
+
+static void check_layout(void)
+{
+    CHECK(sizeof(feddurzai_operand), 24);
+    CHECK(offsetof(feddurzai_operand, value), 0);
+    CHECK(offsetof(feddurzai_operand, offset), 8);
+    CHECK(offsetof(feddurzai_operand, selector), 12);
+    CHECK(offsetof(feddurzai_operand, kind), 14);
+    CHECK(offsetof(feddurzai_operand, reg_class), 15);
+    CHECK(offsetof(feddurzai_operand, reg_number), 16);
+    CHECK(offsetof(feddurzai_operand, index_class), 17);
+    CHECK(offsetof(feddurzai_operand, index_number), 18);
+    CHECK(offsetof(feddurzai_operand, scale), 19);
+    CHECK(offsetof(feddurzai_operand, disp_bits), 20);
+    CHECK(sizeof(feddurzai_instr), 104);
+    CHECK(offsetof(feddurzai_instr, code), 96);
+    CHECK(offsetof(feddurzai_instr, len), 98);
+    CHECK(offsetof(feddurzai_instr, lock), 99);
+    CHECK(offsetof(feddurzai_instr, rep), 100);
+    CHECK(offsetof(feddurzai_instr, segment), 101);
+    CHECK(offsetof(feddurzai_instr, asize), 102);
+    CHECK(sizeof(feddurzai_use), 3);
+    CHECK(sizeof(feddurzai_about), 56);
+    CHECK(offsetof(feddurzai_about, ip_address), 8);
+    CHECK(offsetof(feddurzai_about, has_target), 16);
+    CHECK(offsetof(feddurzai_about, has_ip_address), 17);
+    CHECK(offsetof(feddurzai_about, flow), 18);
+    CHECK(offsetof(feddurzai_about, memory_size), 19);
+    CHECK(offsetof(feddurzai_about, access), 20);
+    CHECK(offsetof(feddurzai_about, use_count), 24);
+    CHECK(offsetof(feddurzai_about, uses), 25);
+    CHECK(sizeof(feddurzai_moved), 24);
+    CHECK(offsetof(feddurzai_moved, new_ip), 8);
+    CHECK(offsetof(feddurzai_moved, len), 16);
+    CHECK(offsetof(feddurzai_moved, form), 17);
+    CHECK(sizeof(feddurzai_move_report), 32);
+}
+
+/* what the crate puts into each field stands where the header says */
+static void check_fields(void)
+{
+    /* lock xadd dword fs:[r8d+ecx*8+0x12345678], r9d */
+    static const uint8_t locked[] = {0x64, 0xf0, 0x67, 0x45, 0x0f, 0xc1, 0x8c, 0xc8, 0x78, 0x56, 0x34, 0x12};
+    static const uint8_t far_call[] = {0x9a, 0x78, 0x56, 0x34, 0x12, 0xcd, 0xab};
+    static const uint8_t moves[] = {0xf3, 0xa4};
+    static const uint8_t jump[] = {0xeb, 0xfe};
+    static const uint8_t rip[] = {0x48, 0x8b, 0x05, 0x10, 0x00, 0x00, 0x00};
+    feddurzai_instr *i = instr_of(locked, sizeof locked, 64, 0);
+    feddurzai_about *about = malloc(sizeof *about);
+    CHECK(i->len, 12);
+    CHECK(i->lock, 1);
+    CHECK(i->rep, 0);
+    CHECK(i->segment, FEDDURZAI_FS);
+    CHECK(i->asize, 32);
+    CHECK(i->ops[0].kind, FEDDURZAI_MEMORY);
+    CHECK(i->ops[0].reg_class, FEDDURZAI_R32);
+    CHECK(i->ops[0].reg_number, 8);
+    CHECK(i->ops[0].index_class, FEDDURZAI_R32);
+    CHECK(i->ops[0].index_number, FEDDURZAI_CX);
+    CHECK(i->ops[0].scale, 8);
+    CHECK(i->ops[0].disp_bits, 32);
+    CHECK(i->ops[0].value, 0x12345678);
+    CHECK(i->ops[0].offset, 0);
+    CHECK(i->ops[0].selector, 0);
+    CHECK(i->ops[1].kind, FEDDURZAI_REGISTER);
+    CHECK(i->ops[1].reg_class, FEDDURZAI_R32);
+    CHECK(i->ops[1].reg_number, 9);
+    CHECK(i->ops[2].kind, FEDDURZAI_NONE);
+    CHECK(i->ops[3].kind, FEDDURZAI_NONE);
+    CHECK(feddurzai_info(i, about), 0);
+    CHECK(about->flow, FEDDURZAI_FLOW_NEXT);
+    CHECK(about->memory_size, 4);
+    CHECK(about->access[0], FEDDURZAI_READ_WRITE);
+    CHECK(about->access[1], FEDDURZAI_READ_WRITE);
+    CHECK(about->access[2], FEDDURZAI_ACCESS_NONE);
+    CHECK(about->use_count, 3);
+    CHECK(about->uses[1].reg_number, FEDDURZAI_CX);
+    CHECK(about->uses[1].access, FEDDURZAI_READ);
+    CHECK(about->uses[2].reg_number, 9);
+    CHECK(about->has_target, 0);
+    free(i);
+    i = instr_of(far_call, sizeof far_call, 32, 0);
+    CHECK(i->ops[0].kind, FEDDURZAI_FAR);
+    CHECK(i->ops[0].offset, 0x12345678);
+    CHECK(i->ops[0].selector, 0xabcd);
+    free(i);
+    i = instr_of(moves, sizeof moves, 64, 0);
+    CHECK(i->rep, FEDDURZAI_REP);
+    free(i);
+    i = instr_of(jump, sizeof jump, 64, 0x123456789abc);
+    CHECK(i->ops[0].kind, FEDDURZAI_NEAR);
+    CHECK(i->ops[0].value, 0x123456789abc);
+    CHECK(feddurzai_info(i, about), 0);
+    CHECK(about->flow, FEDDURZAI_FLOW_JUMP);
+    CHECK(about->has_target, 1);
+    CHECK(about->target, 0x123456789abc);
+    free(i);
+    i = instr_of(rip, sizeof rip, 64, 0x1000);
+    CHECK(i->ops[1].reg_class, FEDDURZAI_RIP);
+    CHECK(feddurzai_info(i, about), 0);
+    CHECK(about->has_ip_address, 1);
+    CHECK(about->ip_address, 0x1017);
+    free(i);
+    free(about);
+}
+
+static void check_refusals(void)
+{
+    static const uint8_t nop[] = {0x90};
+    static const uint8_t open[] = {0x48, 0x8b};
+    static const uint8_t bad[] = {0x06};
+    feddurzai_instr *i = malloc(sizeof *i);
+    feddurzai_about *about = malloc(sizeof *about);
+    feddurzai_move_report *report = malloc(sizeof *report);
+    feddurzai_instr kept;
+    char text[FEDDURZAI_MAX_TEXT];
+    uint8_t bytes[FEDDURZAI_MAX_LEN];
+    int n, k;
+
+    memset(i, 0xaa, sizeof *i);
+    CHECK(feddurzai_decode(17, 0, nop, 1, i), FEDDURZAI_BAD_MODE);
+    CHECK(feddurzai_decode(0, 0, NULL, 0, i), FEDDURZAI_BAD_MODE);
+    CHECK(feddurzai_decode(64, 0, NULL, 0, i), FEDDURZAI_TOO_SHORT);
+    CHECK(feddurzai_decode(64, 0, open, 2, i), FEDDURZAI_TOO_SHORT);
+    CHECK(feddurzai_decode(64, 0, bad, 1, i), FEDDURZAI_INVALID);
+    CHECK(is_untouched(i, sizeof *i), 1);
+    CHECK(feddurzai_text(64, 0, i, text, sizeof text), FEDDURZAI_BAD_INSTR);
+    CHECK(feddurzai_encode(64, 0, i, bytes, sizeof bytes), FEDDURZAI_BAD_INSTR);
+    memset(about, 0xaa, sizeof *about);
+    CHECK(feddurzai_info(i, about), FEDDURZAI_BAD_INSTR);
+    CHECK(is_untouched(about, sizeof *about), 1);
+    CHECK(feddurzai_decode(64, 0, nop, 1, i), 1);
+    kept = *i;
+
+    /* modes and styles */
+    CHECK(feddurzai_text(17, 0, i, text, sizeof text), FEDDURZAI_BAD_MODE);
+    CHECK(feddurzai_text(64, 9, i, text, sizeof text), FEDDURZAI_BAD_SYNTAX);
+    CHECK(feddurzai_encode(17, 0, i, bytes, sizeof bytes), FEDDURZAI_BAD_MODE);
+    CHECK(feddurzai_move(17, 0, nop, 1, 0, bytes, sizeof bytes, NULL, 0, report), FEDDURZAI_BAD_MODE);
+    CHECK(feddurzai_flow(17, 0, nop, 1, NULL, 0, NULL, 0), FEDDURZAI_BAD_MODE);
+
+    /* rooms: none, one too small, one that fits exactly */
+    CHECK(feddurzai_text(64, FEDDURZAI_INTEL, i, NULL, 0), FEDDURZAI_NO_ROOM);
+    memset(text, 0xaa, sizeof text);
+    CHECK(feddurzai_text(64, FEDDURZAI_INTEL, i, text, 3), FEDDURZAI_NO_ROOM);
+    CHECK(is_untouched(text, sizeof text), 1);
+    CHECK(feddurzai_text(64, FEDDURZAI_INTEL, i, text, 4), 3);
+    CHECK(strcmp(text, "nop"), 0);
+    CHECK(is_untouched(text + 4, sizeof text - 4), 1);
+    CHECK(feddurzai_encode(64, 0, i, NULL, 0), FEDDURZAI_NO_ROOM);
+    memset(bytes, 0xaa, sizeof bytes);
+    CHECK(feddurzai_encode(64, 0, i, bytes, 1), 1);
+    CHECK(bytes[0], 0x90);
+    CHECK(is_untouched(bytes + 1, sizeof bytes - 1), 1);
+
+    /* codes and names */
+    CHECK(feddurzai_name(FEDDURZAI_CODES, text, sizeof text), FEDDURZAI_BAD_CODE);
+    CHECK(feddurzai_name(0xffffffff, text, sizeof text), FEDDURZAI_BAD_CODE);
+    CHECK(feddurzai_name(0, NULL, 0), FEDDURZAI_NO_ROOM);
+    CHECK(feddurzai_notation(FEDDURZAI_CODES, text, sizeof text), FEDDURZAI_BAD_CODE);
+    CHECK(feddurzai_notation(0, NULL, 0), FEDDURZAI_NO_ROOM);
+    CHECK(feddurzai_notation(0, text, sizeof text), 5);
+    CHECK(strcmp(text, "00 /r"), 0);
+    CHECK(feddurzai_name(0, text, 4), 3);
+    CHECK(strcmp(text, "add"), 0);
+    CHECK(feddurzai_code_of(NULL, 0, 0), FEDDURZAI_NO_NAME);
+    CHECK(feddurzai_code_of("add", 3, 1000), FEDDURZAI_NO_NAME);
+    CHECK(feddurzai_code_of("\xff\xfe", 2, 0), FEDDURZAI_NO_NAME);
+    CHECK(feddurzai_code_of("add", 3, 0), 0);
+
+    /* structs that are no instruction, and instructions that no row has */
+    i->code = FEDDURZAI_CODES;
+    CHECK(feddurzai_text(64, 0, i, text, sizeof text), FEDDURZAI_BAD_FORM);
+    CHECK(feddurzai_info(i, about), FEDDURZAI_BAD_FORM);
+    CHECK(feddurzai_encode(64, 0, i, bytes, sizeof bytes), -256 * FEDDURZAI_CAUSE_ROW);
+    *i = kept;
+    i->lock = 2;
+    CHECK(feddurzai_encode(64, 0, i, bytes, sizeof bytes), FEDDURZAI_BAD_INSTR);
+    *i = kept;
+    i->rep = 1;
+    CHECK(feddurzai_encode(64, 0, i, bytes, sizeof bytes), FEDDURZAI_BAD_INSTR);
+    *i = kept;
+    i->segment = 7;
+    CHECK(feddurzai_encode(64, 0, i, bytes, sizeof bytes), FEDDURZAI_BAD_INSTR);
+    *i = kept;
+    i->asize = 8;
+    CHECK(feddurzai_encode(64, 0, i, bytes, sizeof bytes), FEDDURZAI_BAD_INSTR);
+    *i = kept;
+    i->lock = 1;
+    CHECK(FEDDURZAI_CAUSE(feddurzai_encode(64, 0, i, bytes, sizeof bytes)), FEDDURZAI_CAUSE_PREFIX);
+    *i = kept;
+    i->ops[3].kind = 6;
+    CHECK(feddurzai_encode(64, 0, i, bytes, sizeof bytes), FEDDURZAI_BAD_INSTR);
+    memset(i, 0, sizeof *i); /* add r/m8, r8 */
+    i->ops[0].kind = FEDDURZAI_REGISTER;
+    i->ops[0].reg_class = FEDDURZAI_LOW8;
+    i->ops[1].kind = FEDDURZAI_REGISTER;
+    i->ops[1].reg_class = FEDDURZAI_LOW8;
+    i->ops[1].reg_number = 3;
+    CHECK(feddurzai_encode(64, 0, i, bytes, sizeof bytes), 2);
+    CHECK(bytes[0] << 8 | bytes[1], 0x00d8);
+    i->ops[1].reg_number = 200;
+    n = feddurzai_encode(64, 0, i, bytes, sizeof bytes);
+    CHECK(FEDDURZAI_CAUSE(n), FEDDURZAI_CAUSE_REGISTER);
+    CHECK(FEDDURZAI_CAUSE_OPERAND(n), 1);
+    CHECK(feddurzai_text(64, 0, i, text, sizeof text), FEDDURZAI_BAD_FORM);
+    i->ops[1].reg_class = 15;
+    CHECK(feddurzai_encode(64, 0, i, bytes, sizeof bytes), FEDDURZAI_BAD_INSTR);
+    i->ops[1].reg_class = FEDDURZAI_NO_REG;
+    CHECK(feddurzai_encode(64, 0, i, bytes, sizeof bytes), FEDDURZAI_BAD_INSTR);
+
+    /* structs of any bytes at all */
+    srand(1);
+    for (k = 0; k < 200000; k++) {
+        size_t j;
+        for (j = 0; j < sizeof *i; j++)
+            ((uint8_t *)i)[j] = (uint8_t)(rand() % 4 != 0 ? rand() % 16 : rand() % 256);
+        n = feddurzai_text((uint32_t)(rand() % 5 * 16), (uint32_t)(rand() % 4), i, text, sizeof text);
+        if (n > 160)
+            CHECK(n, 160);
+        n = feddurzai_encode((uint32_t)(rand() % 5 * 16), (uint64_t)rand(), i, bytes, sizeof bytes);
+        if (n > 15)
+            CHECK(n, 15);
+        n = feddurzai_info(i, about);
+        if (n > 0)
+            CHECK(n, 0);
+    }
+    free(i);
+    free(about);
+    free(report);
+}
+
+static void check_code(void)
+{
+    /* je over a nop, ret */
+    static const uint8_t code[] = {0x74, 0x01, 0x90, 0xc3};
+    static const uint8_t stops[] = {0x90, 0x06};
+    static const uint8_t loop[] = {0xe2, 0x10};
+    uint8_t *out = malloc(16);
+    feddurzai_moved *map = malloc(3 * sizeof *map);
+    feddurzai_move_report *report = malloc(sizeof *report);
+    uint32_t *starts = malloc(3 * sizeof *starts), *leaders = malloc(3 * sizeof *leaders);
+    uint8_t *large = calloc(1, FEDDURZAI_MAX_CODE + 1);
+
+    memset(out, 0xaa, 16);
+    memset(map, 0xaa, 3 * sizeof *map);
+    CHECK(feddurzai_move(64, 0x1000, NULL, 0, 0x2000, NULL, 0, NULL, 0, report), 0);
+    CHECK(report->bytes, 0);
+    CHECK(report->count, 0);
+    CHECK(feddurzai_move(64, 0x1000, code, 4, 0x2000, NULL, 0, NULL, 0, report), FEDDURZAI_NO_ROOM);
+    CHECK(report->bytes, 4);
+    CHECK(report->count, 3);
+    CHECK(feddurzai_move(64, 0x1000, code, 4, 0x2000, out, 3, map, 3, report), FEDDURZAI_NO_ROOM);
+    CHECK(feddurzai_move(64, 0x1000, code, 4, 0x2000, out, 16, map, 2, report), FEDDURZAI_NO_ROOM);
+    CHECK(is_untouched(out, 16), 1);
+    CHECK(is_untouched(map, 3 * sizeof *map), 1);
+    CHECK(feddurzai_move(64, 0x1000, code, 4, 0x2000, out, 16, map, 3, report), 0);
+    CHECK(memcmp(out, code, 4), 0);
+    CHECK(is_untouched(out + 4, 12), 1);
+    CHECK(map[1].old_ip, 0x1002);
+    CHECK(map[1].new_ip, 0x2002);
+    CHECK(map[1].len, 1);
+    CHECK(map[0].form, FEDDURZAI_SHORT);
+    CHECK(map[2].form, FEDDURZAI_ITSELF);
+    CHECK(feddurzai_move(64, 0, stops, 2, 0x2000, out, 16, map, 3, report), FEDDURZAI_INVALID);
+    CHECK(report->at, 1);
+    CHECK(feddurzai_move(64, 0, code, 1, 0x2000, out, 16, map, 3, report), FEDDURZAI_TOO_SHORT);
+    CHECK(report->at, 0);
+    CHECK(feddurzai_move(16, 0xffff, code, 4, 0, out, 16, map, 3, report), FEDDURZAI_WRAPS);
+    CHECK(report->address, 0x10003);
+    CHECK(feddurzai_move(32, 0, code, 4, 0xfffffffd, out, 16, map, 3, report), FEDDURZAI_WRAPS);
+    CHECK(report->address, 0x100000001);
+    CHECK(feddurzai_move(64, UINT64_MAX, code, 4, 0, out, 16, map, 3, report), FEDDURZAI_WRAPS);
+    CHECK(report->address, 3);
+    /* an operand at RIP reaches 2 gigabytes */
+    {
+        static const uint8_t rip[] = {0x48, 0x8b, 0x05, 0x10, 0x00, 0x00, 0x00};
+        CHECK(feddurzai_move(64, 0x1000, rip, 7, 0x7fff00000000, out, 16, map, 3, report), FEDDURZAI_TOO_FAR);
+        CHECK(report->at, 0);
+        CHECK(report->address, 0x1017);
+    }
+    CHECK(feddurzai_move(64, 0x1000, loop, 2, 0x2000, out, 16, map, 3, report), 0);
+    CHECK(map[0].form, FEDDURZAI_BRIDGE);
+    CHECK(feddurzai_move(64, 0, large, FEDDURZAI_MAX_CODE + 1, 0, out, 16, map, 3, report), FEDDURZAI_TOO_LARGE);
+    memset(large, 0x90, FEDDURZAI_MAX_CODE);
+    CHECK(feddurzai_move(64, 0, large, FEDDURZAI_MAX_MOVED + 1, 0, out, 16, map, 3, report), FEDDURZAI_TOO_MANY);
+    CHECK(report->count, FEDDURZAI_MAX_MOVED + 1);
+
+    memset(starts, 0xaa, 3 * sizeof *starts);
+    memset(leaders, 0xaa, 3 * sizeof *leaders);
+    CHECK(feddurzai_flow(64, 0, NULL, 0, NULL, 0, NULL, 0), 0);
+    CHECK(feddurzai_flow(64, 0, code, 4, NULL, 0, NULL, 0), FEDDURZAI_NO_ROOM);
+    CHECK(feddurzai_flow(64, 0, code, 4, starts, 2, leaders, 3), FEDDURZAI_NO_ROOM);
+    CHECK(feddurzai_flow(64, 0, code, 4, starts, 3, leaders, 2), FEDDURZAI_NO_ROOM);
+    CHECK(is_untouched(starts, 3 * sizeof *starts), 1);
+    CHECK(is_untouched(leaders, 3 * sizeof *leaders), 1);
+    CHECK(feddurzai_flow(64, 0, code, 4, starts, 3, leaders, 3), 3);
+    CHECK(starts[0], 0);
+    CHECK(starts[1], 2);
+    CHECK(starts[2], 3);
+    CHECK(leaders[2], 3);
+    CHECK(feddurzai_flow(64, 0, large, FEDDURZAI_MAX_CODE + 1, starts, 3, leaders, 3), FEDDURZAI_TOO_LARGE);
+    free(out);
+    free(map);
+    free(report);
+    free(starts);
+    free(leaders);
+    free(large);
+}
+
+int main(void)
+{
+    CHECK(feddurzai_interface(), FEDDURZAI_INTERFACE);
+    CHECK(feddurzai_version() >> 24, 0);
+    check_layout();
+    check_fields();
+    check_refusals();
+    check_code();
+    printf("%d calls and fields, %d wrong\n", tests, failures);
+    return failures != 0;
+}

@@ -1,0 +1,5 @@
+pub mod ThereAndBack
+pub mod FewUses
+pub mod FewReached
+pub mod ItemsInOrder
+pub mod MovedEntries

@@ -1,0 +1,148 @@
+-- What the calls of the C interface answer, and what they leave.
+use Rattle.std.specs.Prelude.{◌≡◌, ◌⊎◌, ℕ, ◌+◌, ◌<◌, ◌≤◌, nat_lt, nat_le, ℤ, pos, List, ◌∷◌, ◌++◌, length, drop, Option, Some, None, Result, Ok, Err, if◌then◌else◌}
+use Rattle.std.specs.Str.{IsUtf8}
+use Rattle.x86_values.specs.declared.Bits.{Bits}
+use Rattle.x86_values.specs.declared.Instr.{Instr}
+use Rattle.row_relation.specs.Spells.{Reading, Read, TooShort as ReadTooShort, Invalid as ReadInvalid}
+use Rattle.opcode_rows.specs.declared.spots.TheConstants.{ROWS}
+use Rattle.opcode_rows.specs.Table.{name_of}
+use Rattle.opcode_rows.specs.ByName.{rows_named, rows_named_before}
+use Rattle.opcode_rows.specs.Allowed.{is_well_formed}
+use Rattle.opcode_rows.specs.Reading.{IsRead}
+use Rattle.plain_spelling.specs.declared.NoSpelling.{NoSpelling}
+use Rattle.encoder.specs.Encoding.{encoding}
+use Rattle.intel_text.specs.Text.{text as intel_text}
+use Rattle.att_text.specs.Text.{text as att_text}
+use Rattle.masm_text.specs.Text.{text as masm_text}
+use Rattle.row_lines.specs.Lines.{notation_at}
+use Rattle.text_parts.specs.declared.style.Style.{Style}
+use Rattle.text_parts.specs.declared.style.Style.TheVariants.{Intel, Att, Masm}
+use Rattle.feddurzai_c.specs.declared.refusal.Refusal.{Refusal}
+use Rattle.feddurzai_c.specs.declared.refusal.Refusal.TheVariants.{Mode, Syntax, Code, Instr as NoInstr, Form, Room, Invalid, TooShort, Name, Spelling}
+use Rattle.feddurzai_c.specs.declared.flat.FlatInstr.{FlatInstr}
+use Rattle.feddurzai_c.specs.Refusals.{refused}
+use Rattle.feddurzai_c.specs.Numbers.{bits_numbered, style_numbered}
+use Rattle.feddurzai_c.specs.Flat.{flat_decoded}
+use Rattle.feddurzai_c.specs.Back.{instr_back}
+
+-- ---- bytes and texts in a caller's room
+
+-- how many bytes, or the refusal
+abbrev pub said : Result (List ℕ) Refusal → ℤ
+said (Ok bytes) = pos (length bytes)
+said (Err why) = refused why
+
+-- bytes that the room holds
+unfoldable pub bytes_within : ℕ → Result (List ℕ) Refusal → Result (List ℕ) Refusal
+bytes_within room (Ok bytes) = if nat_le (length bytes) room then Ok bytes else Err Room
+bytes_within room (Err why) = Err why
+
+-- the room begins with the bytes, and is unchanged behind them and after a refusal
+abbrev pub with_bytes : List ℕ → Result (List ℕ) Refusal → List ℕ
+with_bytes old (Ok bytes) = bytes ++ drop (length bytes) old
+with_bytes old (Err why) = old
+
+-- a text that the room holds with the byte 0 that ends it
+unfoldable pub text_within : ℕ → Result (List ℕ) Refusal → Result (List ℕ) Refusal
+text_within room (Ok text) = if nat_lt (length text) room then Ok text else Err Room
+text_within room (Err why) = Err why
+
+-- the same with the text, which a byte 0 ends
+abbrev pub with_text : List ℕ → Result (List ℕ) Refusal → List ℕ
+with_text old (Ok text) = text ++ (0 ∷ drop (length text + 1) old)
+with_text old (Err why) = old
+
+-- ---- reading
+
+-- the length of the instruction, or the refusal
+abbrev pub reading_said : Reading → ℤ
+reading_said (Read d) = pos d.len
+reading_said ReadTooShort = refused TooShort
+reading_said ReadInvalid = refused Invalid
+
+-- the struct has the instruction, or is unchanged
+abbrev pub reading_left : FlatInstr → Reading → FlatInstr
+reading_left old (Read d) = flat_decoded d
+reading_left old ReadTooShort = old
+reading_left old ReadInvalid = old
+
+-- from the struct the instruction that was read comes back
+abbrev pub IsReadBack : Reading → FlatInstr → Type 0
+IsReadBack (Read d) f = instr_back f ≡ Some d.instr
+IsReadBack ReadTooShort f = Unit {0}
+IsReadBack ReadInvalid f = Unit {0}
+
+-- what reading some bytes says and leaves
+pub record IsDecodedIn (bits : Bits) (ip : ℕ) (bytes : List ℕ) (old new : FlatInstr) (answer : ℤ) : Type 0 where
+  pub reading : Reading
+  pub reads : IsRead bits ip bytes reading
+  pub answer_is : answer ≡ reading_said reading
+  pub left : new ≡ reading_left old reading
+  pub back : IsReadBack reading new
+
+-- the same by the number of a mode
+abbrev pub IsDecoded : Option Bits → ℕ → List ℕ → FlatInstr → FlatInstr → ℤ → Type 0
+IsDecoded None ip bytes old new answer = (answer ≡ refused Mode) × (new ≡ old)
+IsDecoded (Some bits) ip bytes old new answer = IsDecodedIn bits ip bytes old new answer
+
+-- ---- texts
+
+-- the text of an instruction in a style
+abbrev pub style_text : Style → Bits → Instr → List ℕ
+style_text Intel bits i = intel_text bits i
+style_text Att bits i = att_text bits i
+style_text Masm bits i = masm_text bits i
+
+-- the same where there are a mode, a style and an instruction, of the form that its row asks for
+unfoldable pub text_of : Option Bits → Option Style → Option Instr → Result (List ℕ) Refusal
+text_of None style i = Err Mode
+text_of (Some bits) None i = Err Syntax
+text_of (Some bits) (Some style) None = Err NoInstr
+text_of (Some bits) (Some style) (Some i) = if is_well_formed i then Ok (style_text style bits i) else Err Form
+
+abbrev pub text_answer : ℕ → ℕ → FlatInstr → Result (List ℕ) Refusal
+text_answer bits syntax f = text_of (bits_numbered bits) (style_numbered syntax) (instr_back f)
+
+-- ---- encoding
+
+-- the bytes, or the condition that fails
+abbrev pub encoding_told : Result (List ℕ) NoSpelling → Result (List ℕ) Refusal
+encoding_told (Ok bytes) = Ok bytes
+encoding_told (Err why) = Err (Spelling why)
+
+-- the encoding where there are a mode and an instruction
+unfoldable pub encoding_of : Option Bits → ℕ → Option Instr → Result (List ℕ) Refusal
+encoding_of None ip i = Err Mode
+encoding_of (Some bits) ip None = Err NoInstr
+encoding_of (Some bits) ip (Some i) = encoding_told (encoding bits ip i)
+
+abbrev pub encode_answer : ℕ → ℕ → FlatInstr → Result (List ℕ) Refusal
+encode_answer bits ip f = encoding_of (bits_numbered bits) ip (instr_back f)
+
+-- so many bytes at the front of a room are read as the instruction at the address, whatever stands behind them
+abbrev pub IsEncodedAt : Option Bits → ℕ → Option Instr → List ℕ → ℕ → Type 0
+IsEncodedAt (Some bits) ip (Some i) room n = IsRead bits ip room (Read (record { instr = i; len = n }))
+IsEncodedAt (Some bits) ip None room n = ⊥
+IsEncodedAt None ip i room n = ⊥
+
+-- ---- the table
+
+-- the name of a row
+unfoldable pub name_answer : ℕ → Result (List ℕ) Refusal
+name_answer code = if nat_lt code ROWS then Ok (name_of code) else Err Code
+
+-- the notation of a row
+unfoldable pub notation_answer : ℕ → Result (List ℕ) Refusal
+notation_answer code = if nat_lt code ROWS then Ok (notation_at code) else Err Code
+
+-- the n-th row of a name, from 0
+pub record IsNthNamed (name : List ℕ) (n code : ℕ) : Type 0 where
+  pub row : code < ROWS
+  pub named : name_of code ≡ name
+  pub order : rows_named_before name code ≡ n
+
+-- its code; refused exactly where there are no more than n, or the name is no text
+abbrev pub IsCodeOf : List ℕ → ℕ → ℤ → Type 0
+IsCodeOf name n answer =
+    ((code : ℕ) × (IsNthNamed name n code × (answer ≡ pos code)))
+    ⊎ ((answer ≡ refused Name) × (IsUtf8 name → rows_named name ≤ n))

@@ -1,0 +1,186 @@
+-- What moving some code answers, and what it leaves in the rooms.
+use Rattle.std.specs.Prelude.{◌≡◌, ◌⊎◌, ℕ, ◌+◌, ◌%◌, ◌^◌, ◌<◌, ◌≤◌, nat_le, true, false, ◌&&◌, ℤ, pos, List, [], ◌∷◌, ◌++◌, length, drop, map, slice_index_or, Option, Some, None, Result, Ok, Err, if◌then◌else◌}
+use Rattle.std.specs.List.{range_with_len}
+use Rattle.x86_values.specs.declared.Bits.{Bits}
+use Rattle.x86_values.specs.declared.Decoded.{Decoded}
+use Rattle.row_relation.specs.Spells.{Read}
+use Rattle.opcode_rows.specs.Reading.{IsRead}
+use Rattle.decoder.specs.declared.DecodeError.{DecodeError}
+use Rattle.decoder.specs.declared.DecodeError.TheVariants.{Invalid as InvalidError, TooShort as TooShortError}
+use Rattle.decoder.specs.Answer.{reading_of}
+use Rattle.branch_sizes.specs.declared.plan.Form.{Form}
+use Rattle.branch_sizes.specs.declared.plan.Form.TheVariants.{Itself, Short, Near, Far, Bridge, FarBridge}
+use Rattle.move_goals.specs.declared.items.Placed.{Placed}
+use Rattle.move_goals.specs.Items.{item_at, one_span, passes}
+use Rattle.block_encoder.specs.declared.error.MoveError.TheVariants as error
+use Rattle.block_encoder.specs.Moved.{IsMoved, IsRefused}
+use Rattle.feddurzai_c.specs.declared.refusal.Refusal.{Refusal}
+use Rattle.feddurzai_c.specs.declared.refusal.Refusal.TheVariants as why
+use Rattle.feddurzai_c.specs.declared.flat.FlatMoved.{FlatMoved}
+use Rattle.feddurzai_c.specs.declared.flat.FlatMove.{FlatMove}
+use Rattle.feddurzai_c.specs.declared.moved.MovedCode.{MovedCode}
+use Rattle.feddurzai_c.specs.declared.moved.MoveRefusal.{MoveRefusal}
+use Rattle.feddurzai_c.specs.declared.moved.MoveRefusal.TheVariants.{Mode, TooLarge, BadCode, Memory, TooMany, Wraps, TooFar, Room}
+use Rattle.feddurzai_c.specs.Refusals.{refused}
+use Rattle.feddurzai_c.specs.Numbers.{bits_numbered}
+
+-- ---- the instructions of some code
+
+-- the item that is read there
+abbrev pub read_item : Placed → Decoded
+read_item p = record { instr = p.instr; len = p.len }
+
+-- these items are read one behind the other from an address and some bytes on, and an address and bytes are left
+abbrev pub ReadsUpTo : Bits → ℕ → List ℕ → List Placed → ℕ → List ℕ → Type 0
+ReadsUpTo bits ip bytes [] ip' rest = (ip' ≡ ip) × (rest ≡ bytes)
+ReadsUpTo bits ip bytes (p ∷ ps) ip' rest =
+    (p.ip ≡ ip) × (1 ≤ p.len) × (p.len ≤ 15) × IsRead bits ip bytes (Read (read_item p)) × ReadsUpTo bits (ip + p.len) (drop p.len bytes) ps ip' rest
+
+-- they are all instructions of the code
+abbrev pub AreItemsOf : Bits → ℕ → List ℕ → List Placed → Type 0
+AreItemsOf bits ip bytes items = (end : ℕ) × ReadsUpTo bits ip bytes items end []
+
+-- at this offset of the code none is read
+pub record StopsAt (bits : Bits) (ip : ℕ) (bytes : List ℕ) (at : ℕ) (e : DecodeError) : Type 0 where
+  pub items : List Placed
+  pub rest : List ℕ
+  pub before : ReadsUpTo bits ip bytes items (ip + at) rest
+  pub some : 0 < length rest
+  pub reads : IsRead bits (ip + at) rest (reading_of (Err e))
+
+-- ---- the map
+
+abbrev pub form_number : Form → ℕ
+form_number Itself = 0
+form_number Short = 1
+form_number Near = 2
+form_number Far = 3
+form_number Bridge = 4
+form_number FarBridge = 5
+
+-- where item k was, where it went, how long it was, and its form
+unfoldable pub entry_at : List Placed → List ℕ → List Form → ℕ → FlatMoved
+entry_at items starts forms k = record {
+  old_ip = (item_at items k).ip;
+  new_ip = slice_index_or starts k 0;
+  len = (item_at items k).len;
+  form = form_number (slice_index_or forms k Itself);
+}
+
+-- the entries of the first n items
+unfoldable pub entries : List Placed → List ℕ → List Form → ℕ → List FlatMoved
+entries items starts forms n = map (entry_at items starts forms) (range_with_len 0 n)
+
+-- ---- the answer
+
+-- instructions moved as one block: the moved bytes, and an entry for each of them
+pub record AreMoved (bits : Bits) (items : List Placed) (new : ℕ) (m : MovedCode) : Type 0 where
+  pub moved : IsMoved bits items (one_span items new) m.moved
+  pub entries_are : m.entries.items ≡ entries items m.moved.starts m.moved.forms (length items)
+
+-- the same, or why they are not moved
+abbrev pub IsItemsAnswer : Bits → List Placed → ℕ → Result MovedCode MoveRefusal → Type 0
+IsItemsAnswer bits items new (Ok m) = AreMoved bits items new m
+IsItemsAnswer bits items new (Err (TooMany count)) = IsRefused bits items (one_span items new) (error.TooMany count)
+IsItemsAnswer bits items new (Err (Wraps end)) = IsRefused bits items (one_span items new) (error.Wraps end)
+IsItemsAnswer bits items new (Err (TooFar at target)) = IsRefused bits items (one_span items new) (error.TooFar at target)
+IsItemsAnswer bits items new (Err Memory) = Unit {0}
+IsItemsAnswer bits items new (Err Mode) = ⊥
+IsItemsAnswer bits items new (Err TooLarge) = ⊥
+IsItemsAnswer bits items new (Err (BadCode at e)) = ⊥
+IsItemsAnswer bits items new (Err Room) = ⊥
+
+-- why the instructions of some code are not read
+abbrev pub IsReadRefusal : Bits → ℕ → List ℕ → MoveRefusal → Type 0
+IsReadRefusal bits old bytes (BadCode at e) = StopsAt bits old bytes at e
+IsReadRefusal bits old bytes Memory = Unit {0}
+IsReadRefusal bits old bytes _ = ⊥
+
+-- the code is short, and ends inside the address space of the mode
+pub record IsTaken (bits : Bits) (old : ℕ) (bytes : List ℕ) : Type 0 where
+  pub short : length bytes ≤ 1048576
+  pub inside : passes bits (old + length bytes) ≡ false
+
+-- its instructions are read and moved, or their moving is refused
+pub record IsMovedAs (bits : Bits) (old : ℕ) (bytes : List ℕ) (new : ℕ) (answer : Result MovedCode MoveRefusal) : Type 0 where
+  pub taken : IsTaken bits old bytes
+  pub items : List Placed
+  pub read : AreItemsOf bits old bytes items
+  pub is : IsItemsAnswer bits items new answer
+
+-- the code ends past the address space
+pub record IsOldPass (bits : Bits) (old : ℕ) (bytes : List ℕ) (end : ℕ) : Type 0 where
+  pub short : length bytes ≤ 1048576
+  pub end_is : end ≡ old + length bytes
+  pub passes_space : passes bits end ≡ true
+
+-- the moved code, or why it is not moved
+abbrev pub IsMoveAnswerIn : Bits → ℕ → List ℕ → ℕ → Result MovedCode MoveRefusal → Type 0
+IsMoveAnswerIn bits old bytes new (Ok m) = IsMovedAs bits old bytes new (Ok m)
+IsMoveAnswerIn bits old bytes new (Err TooLarge) = 1048576 < length bytes
+IsMoveAnswerIn bits old bytes new (Err (BadCode at e)) = IsTaken bits old bytes × StopsAt bits old bytes at e
+IsMoveAnswerIn bits old bytes new (Err Memory) = IsTaken bits old bytes
+IsMoveAnswerIn bits old bytes new (Err (TooMany count)) = IsMovedAs bits old bytes new (Err (TooMany count))
+IsMoveAnswerIn bits old bytes new (Err (Wraps end)) = IsOldPass bits old bytes end ⊎ IsMovedAs bits old bytes new (Err (Wraps end))
+IsMoveAnswerIn bits old bytes new (Err (TooFar at target)) = IsMovedAs bits old bytes new (Err (TooFar at target))
+IsMoveAnswerIn bits old bytes new (Err Mode) = ⊥
+IsMoveAnswerIn bits old bytes new (Err Room) = ⊥
+
+-- the same by the number of a mode
+abbrev pub IsMoveAnswer : Option Bits → ℕ → List ℕ → ℕ → Result MovedCode MoveRefusal → Type 0
+IsMoveAnswer None old bytes new answer = answer ≡ Err Mode
+IsMoveAnswer (Some bits) old bytes new answer = IsMoveAnswerIn bits old bytes new answer
+
+-- ---- what is said and left
+
+-- both rooms hold what they are for
+unfoldable pub moved_within : ℕ → ℕ → Result MovedCode MoveRefusal → Result MovedCode MoveRefusal
+moved_within room map_room (Ok m) = if nat_le (length m.moved.bytes) room && nat_le (length m.entries.items) map_room then Ok m else Err Room
+moved_within room map_room (Err e) = Err e
+
+-- why nothing is moved, by the refusals of all calls
+abbrev pub refusal_of : MoveRefusal → Refusal
+refusal_of Mode = why.Mode
+refusal_of TooLarge = why.TooLarge
+refusal_of (BadCode at InvalidError) = why.Invalid
+refusal_of (BadCode at TooShortError) = why.TooShort
+refusal_of Memory = why.Memory
+refusal_of (TooMany count) = why.TooMany
+refusal_of (Wraps end) = why.Wraps
+refusal_of (TooFar at target) = why.TooFar
+refusal_of Room = why.Room
+
+abbrev pub moved_said : Result MovedCode MoveRefusal → ℤ
+moved_said (Ok m) = pos 0
+moved_said (Err e) = refused (refusal_of e)
+
+-- the rooms begin with the moved bytes and the map, and are unchanged behind them and after a refusal
+abbrev pub bytes_left : List ℕ → Result MovedCode MoveRefusal → List ℕ
+bytes_left old (Ok m) = m.moved.bytes ++ drop (length m.moved.bytes) old
+bytes_left old (Err e) = old
+
+abbrev pub entries_left : List FlatMoved → Result MovedCode MoveRefusal → List FlatMoved
+entries_left old (Ok m) = m.entries.items ++ drop (length m.entries.items) old
+entries_left old (Err e) = old
+
+-- the numbers of a refusal: those of its instruction or offset, of its address modulo 2 ^ 64, and of too many instructions
+abbrev pub refusal_report : MoveRefusal → FlatMove
+refusal_report (BadCode at e) = record { bytes = 0; count = 0; at = at; address = 0 }
+refusal_report (TooMany count) = record { bytes = 0; count = count; at = 0; address = 0 }
+refusal_report (Wraps end) = record { bytes = 0; count = 0; at = 0; address = end % 2 ^ 64 }
+refusal_report (TooFar at target) = record { bytes = 0; count = 0; at = at; address = target }
+refusal_report _ = record { bytes = 0; count = 0; at = 0; address = 0 }
+
+-- how many bytes and entries there are, also where a room does not hold them; or the numbers of the refusal
+abbrev pub report_of : Result MovedCode MoveRefusal → FlatMove
+report_of (Ok m) = record { bytes = length m.moved.bytes; count = length m.entries.items; at = 0; address = 0 }
+report_of (Err e) = refusal_report e
+
+-- what the call says and leaves
+pub record IsMove (bits old : ℕ) (bytes : List ℕ) (new : ℕ) (out out' : List ℕ) (room room' : List FlatMoved) (report : FlatMove) (said : ℤ) : Type 0 where
+  pub answer : Result MovedCode MoveRefusal
+  pub is : IsMoveAnswer (bits_numbered bits) old bytes new answer
+  pub said_is : said ≡ moved_said (moved_within (length out) (length room) answer)
+  pub bytes_are : out' ≡ bytes_left out (moved_within (length out) (length room) answer)
+  pub entries_are : room' ≡ entries_left room (moved_within (length out) (length room) answer)
+  pub report_is : report ≡ report_of answer

@@ -1,0 +1,41 @@
+-- The numbers by which a refusal is told to a C caller.
+use Rattle.std.specs.Prelude.{ℕ, ◌+◌, ℤ, pos, neg_ℤ}
+use Rattle.plain_spelling.specs.declared.NoSpelling.{NoSpelling}
+use Rattle.plain_spelling.specs.declared.NoSpelling.TheVariants as cause
+use Rattle.feddurzai_c.specs.declared.refusal.Refusal.{Refusal}
+use Rattle.feddurzai_c.specs.declared.refusal.Refusal.TheVariants.{Mode, Syntax, Code, Instr, Form, Room, Invalid, TooShort, Name, Memory, TooLarge, TooMany, Wraps, TooFar, Spelling}
+
+-- 256 times the number of the condition, 1 to 10, and the operand that fails it
+abbrev pub spelling_number : NoSpelling → ℕ
+spelling_number cause.Row = 256
+spelling_number (cause.OperandKind n) = 512 + n
+spelling_number (cause.Register n) = 768 + n
+spelling_number cause.Memory = 1024
+spelling_number cause.Displacement = 1280
+spelling_number (cause.Immediate n) = 1536 + n
+spelling_number cause.Target = 1792
+spelling_number cause.Prefix = 2048
+spelling_number cause.AddressSize = 2304
+spelling_number cause.Length = 2560
+
+-- the number of a refusal
+abbrev pub refusal_number : Refusal → ℕ
+refusal_number Mode = 1
+refusal_number Syntax = 2
+refusal_number Code = 3
+refusal_number Instr = 4
+refusal_number Form = 5
+refusal_number Room = 6
+refusal_number Invalid = 7
+refusal_number TooShort = 8
+refusal_number Name = 9
+refusal_number Memory = 10
+refusal_number TooLarge = 11
+refusal_number TooMany = 12
+refusal_number Wraps = 13
+refusal_number TooFar = 14
+refusal_number (Spelling why) = spelling_number why
+
+-- a refusal is told by its number below zero
+abbrev pub refused : Refusal → ℤ
+refused why = neg_ℤ (pos (refusal_number why))

@@ -1,0 +1,40 @@
+//! Reading an instruction.
+
+ghost use Rattle.std.specs.Prelude.{◌≡◌};
+ghost use Rattle.feddurzai_c.specs.Numbers.{bits_numbered};
+ghost use Rattle.feddurzai_c.specs.Answers as spec;
+
+use crate::flat::FlatInstr;
+use crate::flatten::flat_decoded;
+use crate::numbers::bits_numbered;
+use crate::refusal::{Refusal, refused};
+use decoder::{DecodeError, decode_in};
+use x86_values::Bits;
+
+/// The same in a mode.
+fn decode_into(bits: Bits, ip: u64, bytes: &[u8], instr: &mut FlatInstr) -> i32
+    ensures { spec.IsDecodedIn bits ip bytes.now instr.old instr.new result }
+{
+    match decode_in(bits, ip, bytes) {
+        Ok(decoded) => {
+            *instr = flat_decoded(&decoded);
+            i32::from(decoded.len)
+        }
+        Err(DecodeError::TooShort) => refused(Refusal::TooShort),
+        Err(DecodeError::Invalid) => refused(Refusal::Invalid),
+    }
+}
+
+/// Reads the instruction at the front of some bytes into a struct, and says its length, 1 to 15 bytes.
+///
+/// `ip` is the address of the first byte, taken modulo 2 to the number of bits of the mode. The struct is unchanged after a refusal: `Mode`,
+/// `Invalid` and `TooShort` (Intel SDM volume 2, 2.1 to 2.3).
+#[unsafe(no_mangle)]
+pub extern "C" fn feddurzai_decode(bits: u32, ip: u64, bytes: &[u8], instr: &mut FlatInstr) -> i32
+    ensures { spec.IsDecoded (bits_numbered bits) ip bytes.now instr.old instr.new result }
+{
+    match bits_numbered(bits) {
+        None => refused(Refusal::Mode),
+        Some(bits) => decode_into(bits, ip, bytes, instr),
+    }
+}

@@ -1,0 +1,50 @@
+//! Writing an instruction.
+
+ghost use Rattle.std.specs.Prelude.{◌≡◌, ℕ, ◌++◌, List, length, pos, IfOk, MatchResult, Ok, Err};
+ghost use Rattle.feddurzai_c.specs.Numbers.{bits_numbered};
+ghost use Rattle.feddurzai_c.specs.Back.{instr_back};
+ghost use Rattle.feddurzai_c.specs.Answers as spec;
+
+use crate::flat::FlatInstr;
+use crate::numbers::bits_numbered;
+use crate::refusal::{Refusal, refused};
+use crate::room::put_bytes;
+use crate::unflatten::instr_back;
+use arrayvec::ArrayVec;
+use encoder::encode;
+
+/// The bytes of the instruction of a struct.
+#[tactic(auto, unfolding(crate::specs::Answers::encoding_of))]
+fn bytes_of(bits: u32, ip: u64, instr: &FlatInstr) -> Result<ArrayVec<u8, 15>, Refusal>
+    ensures answer { MatchResult result (λ bytes. spec.encode_answer bits ip instr.now ≡ Ok bytes.items) (λ why. spec.encode_answer bits ip instr.now ≡ Err why) }
+    ensures read_back { IfOk result (λ bytes. (rest : List ℕ) → spec.IsEncodedAt (bits_numbered bits) ip (instr_back instr.now) (bytes.items ++ rest) (length bytes.items)) }
+{
+    let Some(bits) = bits_numbered(bits) else {
+        return Err(Refusal::Mode);
+    };
+    let Some(instr) = instr_back(instr) else {
+        return Err(Refusal::Instr);
+    };
+    match encode(bits, ip, &instr) {
+        Ok(bytes) => Ok(bytes),
+        Err(why) => Err(Refusal::Spelling(why)),
+    }
+}
+
+/// Writes the plain (shortest) spelling of an instruction at an address, and says how many bytes it has: 1 to 15.
+///
+/// `ip` is the address of the first byte, taken modulo 2 to the number of bits of the mode. The length in the struct plays no part. The room is
+/// unchanged behind the bytes, and whole after a refusal: `Mode`, `Instr`, `Spelling`, `Room`, the first that stands. A `Spelling` says the first of
+/// the ten conditions of a plain spelling that fails (Intel SDM volume 2, 2.1 to 2.3).
+#[tactic(auto, unfolding(crate::specs::Answers::bytes_within))]
+#[unsafe(no_mangle)]
+pub extern "C" fn feddurzai_encode(bits: u32, ip: u64, instr: &FlatInstr, out: &mut [u8]) -> i32
+    ensures said { result ≡ spec.said (spec.bytes_within (length out.old) (spec.encode_answer bits ip instr.now)) }
+    ensures left { out.new ≡ spec.with_bytes out.old (spec.bytes_within (length out.old) (spec.encode_answer bits ip instr.now)) }
+    ensures read_back { (n : ℕ) → result ≡ pos n → spec.IsEncodedAt (bits_numbered bits) ip (instr_back instr.now) out.new n }
+{
+    match bytes_of(bits, ip, instr) {
+        Ok(bytes) => put_bytes(out, &bytes),
+        Err(why) => refused(why),
+    }
+}

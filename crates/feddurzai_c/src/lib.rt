@@ -1,0 +1,26 @@
+//! The library for C: instructions of 16, 32 and 64-bit x86 read, written, told and moved, through plain numbers, structs of numbers and rooms of the
+//! caller's. `capi/feddurzai.h` says the same to a C programmer.
+//!
+//! Each call takes any values at all: nothing checks a C caller, so what is no mode, no instruction, no row or too small a room is told by a number
+//! below zero, and nothing is left in a room or a struct beside what a call says. A slice is passed as a pointer and then a length; the pointer may be
+//! null where the length is 0.
+#![tactic(auto)]
+
+mod decoding;
+mod encoding;
+mod flat;
+mod flatten;
+mod flow;
+mod info;
+pub mod laws;
+mod moved;
+mod moving;
+mod numbers;
+mod refusal;
+mod room;
+mod rows;
+#[cfg(test)]
+mod tests;
+mod texts;
+mod unflatten;
+mod version;

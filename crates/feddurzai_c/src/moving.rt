@@ -1,0 +1,127 @@
+//! Moving code.
+
+ghost use Rattle.std.specs.Prelude.{◌≡◌, ◌≤◌, ◌++◌, length, drop};
+ghost use Rattle.feddurzai_c.specs.Moving as spec;
+
+use crate::flat::{FlatMove, FlatMoved};
+use crate::moved::{MoveRefusal, MovedCode, moved_code};
+use crate::refusal::{Refusal, refused};
+use crate::room::write_front;
+use decoder::DecodeError;
+use std::alloc::Global;
+
+/// Why nothing is moved, by the refusals of all calls.
+fn refusal_of(why: MoveRefusal) -> Refusal
+    ensures { result ≡ spec.refusal_of why }
+{
+    match why {
+        MoveRefusal::Mode => Refusal::Mode,
+        MoveRefusal::TooLarge => Refusal::TooLarge,
+        MoveRefusal::BadCode { error, .. } => match error {
+            DecodeError::Invalid => Refusal::Invalid,
+            DecodeError::TooShort => Refusal::TooShort,
+        },
+        MoveRefusal::Memory => Refusal::Memory,
+        MoveRefusal::TooMany { .. } => Refusal::TooMany,
+        MoveRefusal::Wraps { .. } => Refusal::Wraps,
+        MoveRefusal::TooFar { .. } => Refusal::TooFar,
+        MoveRefusal::Room => Refusal::Room,
+    }
+}
+
+/// No numbers.
+const NOTHING: FlatMove = FlatMove {
+    bytes: 0,
+    count: 0,
+    at: 0,
+    address: 0,
+};
+
+/// The numbers of a refusal.
+fn refusal_report(why: MoveRefusal) -> FlatMove
+    ensures { result ≡ spec.refusal_report why }
+{
+    match why {
+        MoveRefusal::BadCode { at, .. } => FlatMove { at, ..NOTHING },
+        MoveRefusal::TooMany { count } => FlatMove { count, ..NOTHING },
+        MoveRefusal::Wraps { end } => FlatMove {
+            address: (end % 0x1_0000_0000_0000_0000) as u64,
+            ..NOTHING
+        },
+        MoveRefusal::TooFar { at, target } => FlatMove {
+            at,
+            address: target,
+            ..NOTHING
+        },
+        _ => NOTHING,
+    }
+}
+
+/// The numbers of an answer.
+fn report_of(answer: &Result<MovedCode, MoveRefusal>) -> FlatMove
+    ensures { result ≡ spec.report_of answer.now }
+{
+    match answer {
+        Ok(m) => FlatMove {
+            bytes: m.moved.bytes().len() as u64,
+            count: m.entries.len() as u64,
+            ..NOTHING
+        },
+        Err(why) => refusal_report(*why),
+    }
+}
+
+/// Writes entries at the front of a room.
+fn write_entries(map: &mut [FlatMoved], entries: &[FlatMoved])
+    requires { length entries.now ≤ length map.old }
+    ensures { map.new ≡ entries.now ++ drop (length entries.now) map.old }
+{
+    map[..entries.len()].copy_from_slice(entries);
+}
+
+/// Writes the moved bytes and the map, where both rooms hold them.
+#[tactic(auto, unfolding(crate::specs::Moving::moved_within))]
+fn put_moved(answer: &Result<MovedCode, MoveRefusal>, out: &mut [u8], map: &mut [FlatMoved]) -> i32
+    ensures said { result ≡ spec.moved_said (spec.moved_within (length out.old) (length map.old) answer.now) }
+    ensures bytes { out.new ≡ spec.bytes_left out.old (spec.moved_within (length out.old) (length map.old) answer.now) }
+    ensures entries { map.new ≡ spec.entries_left map.old (spec.moved_within (length out.old) (length map.old) answer.now) }
+{
+    match answer {
+        Ok(m) => {
+            let bytes = m.moved.bytes();
+            if bytes.len() > out.len() || m.entries.len() > map.len() {
+                return refused(Refusal::Room);
+            }
+            write_front(out, bytes);
+            write_entries(map, &m.entries);
+            0
+        }
+        Err(why) => refused(refusal_of(*why)),
+    }
+}
+
+/// Moves code from the address `old` to the address `new`: every branch and every operand at RIP or EIP still reaches what it reached, or follows it
+/// where that is moved too. It says 0.
+///
+/// The moved bytes go to `out`, with the slots that far branches go through behind them; `map` gets an entry for each instruction. `report` gets how
+/// many bytes and instructions there are, also where a room is too small for them; or the numbers of the refusal: of `Invalid` and `TooShort` the
+/// offset, of `TooMany` (above 65,536) how many, of `Wraps` the old or the new end modulo 2 to the 64, of `TooFar` the number of the instruction, from
+/// 0, and its target. The other refusals are `Mode`, `TooLarge` above 1,048,576 bytes, `Memory` and `Room`. Rooms are unchanged behind what is written
+/// and after a refusal. It takes memory of the C library, and gives it back.
+#[unsafe(no_mangle)]
+pub extern "C" fn feddurzai_move(
+    alloc: Global,
+    bits: u32,
+    old: u64,
+    bytes: &[u8],
+    new: u64,
+    out: &mut [u8],
+    map: &mut [FlatMoved],
+    report: &mut FlatMove,
+) -> i32
+    ensures { spec.IsMove bits old bytes.now new out.old out.new map.old map.new report.new result }
+{
+    let answer = moved_code(alloc, bits, old, bytes, new);
+    *report = report_of(&answer);
+    put_moved(&answer, out, map)
+}

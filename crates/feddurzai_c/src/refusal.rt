@@ -1,0 +1,89 @@
+//! Why a call does not do what it is asked.
+
+ghost use Rattle.std.specs.Prelude.{◌≡◌};
+ghost use Rattle.feddurzai_c.specs.Refusals as spec;
+
+use encoder::NoSpelling;
+
+/// Why a call does not do what it is asked.
+#[derive(Clone, Copy, PartialEq, Eq, Debug)]
+pub(crate) enum Refusal {
+    /// The mode is not 16, 32 or 64.
+    Mode,
+    /// The style is not 0, 1 or 2.
+    Syntax,
+    /// The code is no row of the table.
+    Code,
+    /// The struct is no instruction.
+    Instr,
+    /// The operands of the instruction do not have the form of its row.
+    Form,
+    /// The room is too small.
+    Room,
+    /// The bytes begin with no instruction.
+    Invalid,
+    /// The bytes end before an instruction does.
+    TooShort,
+    /// No row has this name and number.
+    Name,
+    /// There was not enough memory.
+    Memory,
+    /// There are more bytes than are taken together.
+    TooLarge,
+    /// There are more instructions than are moved together.
+    TooMany,
+    /// A block passes the address space.
+    Wraps,
+    /// An instruction does not reach its target from its new place.
+    TooFar,
+    /// The instruction has no plain spelling there.
+    Spelling(NoSpelling),
+}
+
+/// The number of the condition times 256, and the operand.
+fn spelling_number(why: NoSpelling) -> u16
+    ensures { result ≡ spec.spelling_number why }
+{
+    match why {
+        NoSpelling::Row => 0x100,
+        NoSpelling::OperandKind(operand) => 0x200 + u16::from(operand),
+        NoSpelling::Register(operand) => 0x300 + u16::from(operand),
+        NoSpelling::Memory => 0x400,
+        NoSpelling::Displacement => 0x500,
+        NoSpelling::Immediate(operand) => 0x600 + u16::from(operand),
+        NoSpelling::Target => 0x700,
+        NoSpelling::Prefix => 0x800,
+        NoSpelling::AddressSize => 0x900,
+        NoSpelling::Length => 0xa00,
+    }
+}
+
+/// The number of a refusal.
+fn refusal_number(why: Refusal) -> u16
+    ensures { result ≡ spec.refusal_number why }
+{
+    match why {
+        Refusal::Mode => 1,
+        Refusal::Syntax => 2,
+        Refusal::Code => 3,
+        Refusal::Instr => 4,
+        Refusal::Form => 5,
+        Refusal::Room => 6,
+        Refusal::Invalid => 7,
+        Refusal::TooShort => 8,
+        Refusal::Name => 9,
+        Refusal::Memory => 10,
+        Refusal::TooLarge => 11,
+        Refusal::TooMany => 12,
+        Refusal::Wraps => 13,
+        Refusal::TooFar => 14,
+        Refusal::Spelling(why) => spelling_number(why),
+    }
+}
+
+/// A refusal as it is told: its number, below zero.
+pub(crate) fn refused(why: Refusal) -> i32
+    ensures { result ≡ spec.refused why }
+{
+    -i32::from(refusal_number(why))
+}

@@ -1,0 +1,70 @@
+//! The rows of the table: names and notations.
+
+ghost use Rattle.std.specs.Prelude.{◌≡◌, ◌<◌, length, IfSome, IsNone, ◌↔◌, ◌≤◌};
+ghost use Rattle.feddurzai_c.specs.Answers as spec;
+
+use crate::refusal::{Refusal, refused};
+use crate::room::put_text;
+use opcode_rows::ROWS;
+use row_lines::notation_of;
+use std::str::from_utf8;
+use x86_values::Code;
+
+/// The code of a number, where it is one of the table.
+fn code_numbered(n: u32) -> Option<Code>
+    ensures row { IfSome result (λ code. (code.0 ≡ n) × (n < ROWS)) }
+    ensures none { IsNone result → ROWS ≤ n }
+{
+    if n < u32::from(ROWS) {
+        Some(Code(n as u16))
+    } else {
+        None
+    }
+}
+
+/// Writes the name of a row, a mnemonic in lower case of 1 to 16 bytes, and a byte 0 behind it, and says how many bytes the name has.
+///
+/// `Code` where there is no such row, `Room` where the room is too small.
+#[tactic(auto, unfolding(crate::specs::Answers::name_answer, crate::specs::Answers::text_within))]
+#[unsafe(no_mangle)]
+pub extern "C" fn feddurzai_name(code: u32, out: &mut [u8]) -> i32
+    ensures said { result ≡ spec.said (spec.text_within (length out.old) (spec.name_answer code)) }
+    ensures left { out.new ≡ spec.with_text out.old (spec.text_within (length out.old) (spec.name_answer code)) }
+{
+    match code_numbered(code) {
+        None => refused(Refusal::Code),
+        Some(code) => put_text(out, opcode_rows::name(code).as_bytes()),
+    }
+}
+
+/// Writes the notation of a row as the manual has it, as `REX.W + 81 /0 id`, at most 64 bytes, and a byte 0 behind it, and says how many bytes the
+/// notation has (Intel SDM volume 2, 3.1.1).
+///
+/// `Code` where there is no such row, `Room` where the room is too small.
+#[tactic(auto, unfolding(crate::specs::Answers::notation_answer, crate::specs::Answers::text_within))]
+#[unsafe(no_mangle)]
+pub extern "C" fn feddurzai_notation(code: u32, out: &mut [u8]) -> i32
+    ensures said { result ≡ spec.said (spec.text_within (length out.old) (spec.notation_answer code)) }
+    ensures left { out.new ≡ spec.with_text out.old (spec.text_within (length out.old) (spec.notation_answer code)) }
+{
+    match code_numbered(code) {
+        None => refused(Refusal::Code),
+        Some(code) => put_text(out, &notation_of(code)),
+    }
+}
+
+/// The code of the `n`-th row of a name, from 0, in the order of the codes; the name is a mnemonic in lower case without a byte 0 at its end.
+///
+/// `Name` exactly where the name has no more than `n` rows, or is no UTF-8.
+#[unsafe(no_mangle)]
+pub extern "C" fn feddurzai_code_of(name: &[u8], n: usize) -> i32
+    ensures { spec.IsCodeOf name.now n result }
+{
+    let Ok(name) = from_utf8(name) else {
+        return refused(Refusal::Name);
+    };
+    match opcode_rows::code_of(name, n) {
+        Some(code) => i32::from(code.0),
+        None => refused(Refusal::Name),
+    }
+}

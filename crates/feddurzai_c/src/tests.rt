@@ -1,0 +1,151 @@
+use crate::decoding::feddurzai_decode;
+use crate::encoding::feddurzai_encode;
+use crate::flat::{FlatInfo, FlatInstr, FlatMove, FlatMoved, FlatOperand, FlatUse};
+use crate::flow::feddurzai_flow;
+use crate::info::feddurzai_info;
+use crate::moving::feddurzai_move;
+use crate::rows::{feddurzai_code_of, feddurzai_name, feddurzai_notation};
+use crate::texts::feddurzai_text;
+use std::test::Fail;
+
+const NO_OPERAND: FlatOperand = FlatOperand {
+    value: 0,
+    offset: 0,
+    selector: 0,
+    kind: 0,
+    reg_class: 0,
+    reg_number: 0,
+    index_class: 0,
+    index_number: 0,
+    scale: 0,
+    disp_bits: 0,
+};
+
+const NO_INSTR: FlatInstr = FlatInstr {
+    op0: NO_OPERAND,
+    op1: NO_OPERAND,
+    op2: NO_OPERAND,
+    op3: NO_OPERAND,
+    code: 0,
+    len: 0,
+    lock: 0,
+    rep: 0,
+    segment: 0,
+    asize: 0,
+};
+
+const NO_USE: FlatUse = FlatUse {
+    reg_class: 0,
+    reg_number: 0,
+    access: 0,
+};
+
+const NO_INFO: FlatInfo = FlatInfo {
+    target: 0,
+    ip_address: 0,
+    has_target: 0,
+    has_ip_address: 0,
+    flow: 9,
+    memory_size: 0,
+    access: [0; 4],
+    use_count: 0,
+    uses: [NO_USE; 8],
+};
+
+// `mov qword [rsp+0x10], rbx`: read, shown and written; behind what is written a room is as it was.
+#[test]
+fn an_instruction_is_read_shown_and_written(rt: HostRuntime) -> Result<(), Fail> {
+    let bytes = [0x48, 0x89, 0x5c, 0x24, 0x10];
+    let mut instr = NO_INSTR;
+    assert_eq!(rt; feddurzai_decode(64, 0x1000, &bytes, &mut instr), 5);
+    assert_eq!(rt;
+        (instr.op0.kind, instr.op0.reg_class, instr.op0.reg_number),
+        (2, 5, 4)
+    );
+    assert_eq!(rt;
+        (instr.op0.value, instr.op0.disp_bits, instr.op0.scale),
+        (0x10, 8, 1)
+    );
+    assert_eq!(rt;
+        (instr.op1.kind, instr.op1.reg_class, instr.op1.reg_number),
+        (1, 5, 3)
+    );
+    let mut text = [0xaa; 27];
+    assert_eq!(rt; feddurzai_text(64, 0, &instr, &mut text), 25);
+    assert_eq!(rt; text, *b"mov qword [rsp+0x10], rbx\0\xaa");
+    let mut written = [0xaa; 6];
+    assert_eq!(rt; feddurzai_encode(64, 0x1000, &instr, &mut written), 5);
+    assert_eq!(rt; written, *b"\x48\x89\x5c\x24\x10\xaa");
+    Ok(())
+}
+
+// The same, told, with its row's name and notation.
+#[test]
+fn an_instruction_and_its_row_are_told(rt: HostRuntime) -> Result<(), Fail> {
+    let mut instr = NO_INSTR;
+    assert_eq!(rt;
+        feddurzai_decode(64, 0, b"\x48\x89\x5c\x24\x10", &mut instr),
+        5
+    );
+    let mut about = NO_INFO;
+    assert_eq!(rt; feddurzai_info(&instr, &mut about), 0);
+    assert_eq!(rt; (about.flow, about.memory_size, about.use_count), (0, 8, 2));
+    let mut name = [0xaa; 5];
+    assert_eq!(rt; feddurzai_name(u32::from(instr.code), &mut name), 3);
+    assert_eq!(rt; name, *b"mov\0\xaa");
+    let mut notation = [0xaa; 15];
+    assert_eq!(rt;
+        feddurzai_notation(u32::from(instr.code), &mut notation),
+        13
+    );
+    assert_eq!(rt; notation, *b"REX.W + 89 /r\0\xaa");
+    assert_eq!(rt; feddurzai_code_of(b"add", 0), 0);
+    Ok(())
+}
+
+// `je` over 16 bytes, moved beyond the reach of 32 bits; and followed.
+#[test]
+fn code_is_moved_and_followed(rt: HostRuntime) -> Result<(), Fail> {
+    let mut out = [0; 16];
+    let mut map = [FlatMoved {
+        old_ip: 0,
+        new_ip: 0,
+        len: 0,
+        form: 0,
+    }];
+    let mut report = FlatMove {
+        bytes: 0,
+        count: 0,
+        at: 0,
+        address: 0,
+    };
+    let said = feddurzai_move(
+        rt.alloc(),
+        64,
+        0x1000,
+        &[0x74, 0x10],
+        0x7fff_0000_0000,
+        &mut out,
+        &mut map,
+        &mut report,
+    );
+    assert_eq!(rt; said, 0);
+    assert_eq!(rt; out, *b"\x75\x06\xff\x25\0\0\0\0\x12\x10\0\0\0\0\0\0");
+    assert_eq!(rt; (report.bytes, report.count), (16, 1));
+    let [moved] = map;
+    assert_eq!(rt; (moved.old_ip, moved.new_ip), (0x1000, 0x7fff_0000_0000));
+    assert_eq!(rt; (moved.len, moved.form), (2, 3));
+    let (mut starts, mut leaders) = ([0; 4], [9; 4]);
+    let count = feddurzai_flow(
+        rt.alloc(),
+        64,
+        0,
+        &[0x74, 0x01, 0x90, 0xc3],
+        &mut starts,
+        &mut leaders,
+    );
+    assert_eq!(rt; count, 3);
+    assert_eq!(rt; starts, [0, 2, 3, 0]);
+    assert_eq!(rt; leaders, [0, 2, 3, 9]);
+    Ok(())
+}
