@@ -12,6 +12,7 @@ import select
 import subprocess
 import sys
 import tempfile
+import time
 
 LIMIT = 16_777_216
 NOP = "%016x 90                             nop\n"
@@ -30,26 +31,16 @@ def counted(program, words, data):
 
 
 def peak(program, words, data):
-    """The peak of resident memory in KiB, measured in a child of a small process."""
-    with tempfile.NamedTemporaryFile() as code:
-        code.write(data)
-        code.flush()
-        measure = (
-            "import os,sys\n"
-            "pid=os.posix_spawn(sys.argv[1],sys.argv[1:],dict(os.environ),"
-            "file_actions=[(os.POSIX_SPAWN_OPEN,0,os.environ['IN'],os.O_RDONLY,0),(os.POSIX_SPAWN_OPEN,1,'/dev/null',os.O_WRONLY,0)])\n"
-            "most=0\n"
-            "while True:\n"
-            "    try:\n"
-            "        for line in open(f'/proc/{pid}/status'):\n"
-            "            if line.startswith('VmHWM'): most=max(most,int(line.split()[1]))\n"
-            "    except OSError: pass\n"
-            "    done,_=os.waitpid(pid,os.WNOHANG)\n"
-            "    if done: break\n"
-            "print(most)\n"
-        )
-        env = dict(os.environ, IN=code.name)
-        return int(subprocess.run([sys.executable, "-c", measure, program, *words], env=env, capture_output=True, check=True).stdout)
+    """The peak of resident memory in KiB, read once all input was sent and its end was not yet told."""
+    run = subprocess.Popen([program, *words], stdin=subprocess.PIPE, stdout=subprocess.DEVNULL)
+    run.stdin.write(data)
+    run.stdin.flush()
+    time.sleep(0.2)
+    with open(f"/proc/{run.pid}/status") as status:
+        most = next(int(line.split()[1]) for line in status if line.startswith("VmHWM"))
+    run.stdin.close()
+    run.wait()
+    return most
 
 
 def piece_by_piece(program, words, pieces):
