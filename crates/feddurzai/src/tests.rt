@@ -4,8 +4,9 @@ use crate::flow::flow_graph_in;
 use crate::format::Intel;
 use crate::info::{Flow, flow_of};
 use crate::moving::move_block;
-use crate::region::Region;
+use crate::region::{NotTaken, Region};
 use crate::rows::code_of;
+use crate::slots::StepSlots;
 use crate::streams::{MemSink, MemSource, info_stream};
 use crate::values::Bits;
 use std::test::Fail;
@@ -33,9 +34,17 @@ fn each_module_has_its_call(rt: HostRuntime) -> Result<(), Fail> {
     assert_eq!(rt; graph.starts(), [0].as_slice());
     let mut source = MemSource::new(&bytes);
     let mut lines = MemSink::new(rt.alloc(), 80)?;
-    assert_eq!(rt; info_stream::<64, _, _>(0x1000, &mut source, &mut lines), Ok(1));
-    assert_eq!(rt; lines.bytes(), b"0000000000001000 ConditionalBranch n -> 0x1012\n".as_slice());
+    assert_eq!(rt;
+        info_stream::<64, _, _>(0x1000, &mut source, &mut lines),
+        Ok(1)
+    );
+    assert_eq!(rt;
+        lines.bytes(),
+        b"0000000000001000 ConditionalBranch r -> 0x1012\n".as_slice()
+    );
     let mut region = Region::make(rt.alloc(), 0x2000, 64, 2)?;
     assert_eq!(rt; region.place(6)?, 0x2000);
+    let mut slots = StepSlots::make(rt.alloc(), Bits::B64, 0x2000, 64, 2)?;
+    assert_eq!(rt; slots.finish(0x2000), Err(NotTaken { place: 0x2000 }));
     Ok(())
 }
