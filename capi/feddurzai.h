@@ -7,9 +7,12 @@
  *
  * What a caller has to keep, since nothing can check it:
  *  - A pointer with a length points to at least that many elements. It may be NULL where the length is 0.
- *  - A pointer to a struct is not NULL, and points to a struct of this header.
+ *  - A pointer to a struct points to a struct of this header.
  *  - Memory that a call writes (`out`, `instr` of feddurzai_decode, ..) is not also read or written by another
  *    argument of that call, and by no other thread while the call runs.
+ *
+ * NULL where it may not stand is answered by FEDDURZAI_NULL: the inline functions at the end of this header, which are
+ * called in place of the library's, see to that. A caller without them (dlsym, another language) has to keep NULL out.
  *
  * Threads: no function keeps any state, so all may be called from any number of threads at once, and none takes a lock.
  * All but feddurzai_move and feddurzai_flow take no memory, and may be called from a signal handler and from a hook of
@@ -43,8 +46,9 @@ uint32_t feddurzai_version(void);
 
 /*
  * A function that returns an int32_t says 0 or more where it did what it was asked, and else one of these. After a
- * refusal nothing was written (feddurzai_move alone writes its report always). Where several stand together, the
- * first in the list of the function is told.
+ * refusal nothing was written (feddurzai_move alone writes its report always, but for FEDDURZAI_NULL). Where several
+ * stand together, the first in the list of the function is told; before all of them FEDDURZAI_NULL, which every
+ * function that takes a pointer may return, and no list repeats.
  */
 enum {
     FEDDURZAI_BAD_MODE = -1,        /* bits is not 16, 32 or 64 */
@@ -60,7 +64,8 @@ enum {
     FEDDURZAI_TOO_LARGE = -11,      /* there are more than FEDDURZAI_MAX_CODE bytes */
     FEDDURZAI_TOO_MANY = -12,       /* there are more than FEDDURZAI_MAX_MOVED instructions */
     FEDDURZAI_WRAPS = -13,          /* the old or the new code passes the address space of the mode */
-    FEDDURZAI_TOO_FAR = -14         /* an instruction cannot reach its target from its new place */
+    FEDDURZAI_TOO_FAR = -14,        /* an instruction cannot reach its target from its new place */
+    FEDDURZAI_NULL = -15            /* NULL for a struct, or with a length above 0; it is this header that says so */
     /* at and below -256: the instruction has no encoding, see FEDDURZAI_CAUSE */
 };
 
@@ -299,6 +304,100 @@ int32_t feddurzai_move(uint32_t bits, uint64_t old_ip, const uint8_t *bytes, siz
  */
 int32_t feddurzai_flow(uint32_t bits, uint64_t base, const uint8_t *bytes, size_t len, uint32_t *starts, size_t room,
     uint32_t *leaders, size_t leaders_room);
+
+/* ---- null pointers ----------------------------------------------------------------------------------------- */
+
+/*
+ * The library does not look whether a pointer is NULL. The functions below do: where one is that may not be, they write
+ * nothing and return FEDDURZAI_NULL, and else they call the library's function. By the macros at the end they have its
+ * name, for calls and for its address; `#undef feddurzai_decode` makes that name the library's again.
+ */
+
+/* Whether a pointer to `count` elements is NULL though there is one at least. */
+static inline int feddurzai_is_null(const void *pointer, size_t count)
+{
+    return pointer == NULL && count != 0;
+}
+
+static inline int32_t feddurzai_checked_decode(uint32_t bits, uint64_t ip, const uint8_t *bytes, size_t len,
+    feddurzai_instr *instr)
+{
+    if (feddurzai_is_null(bytes, len) || instr == NULL)
+        return FEDDURZAI_NULL;
+    return feddurzai_decode(bits, ip, bytes, len, instr);
+}
+
+static inline int32_t feddurzai_checked_text(uint32_t bits, uint32_t syntax, const feddurzai_instr *instr, char *out,
+    size_t room)
+{
+    if (instr == NULL || feddurzai_is_null(out, room))
+        return FEDDURZAI_NULL;
+    return feddurzai_text(bits, syntax, instr, out, room);
+}
+
+static inline int32_t feddurzai_checked_encode(uint32_t bits, uint64_t ip, const feddurzai_instr *instr, uint8_t *out,
+    size_t room)
+{
+    if (instr == NULL || feddurzai_is_null(out, room))
+        return FEDDURZAI_NULL;
+    return feddurzai_encode(bits, ip, instr, out, room);
+}
+
+static inline int32_t feddurzai_checked_info(const feddurzai_instr *instr, feddurzai_about *about)
+{
+    if (instr == NULL || about == NULL)
+        return FEDDURZAI_NULL;
+    return feddurzai_info(instr, about);
+}
+
+static inline int32_t feddurzai_checked_name(uint32_t code, char *out, size_t room)
+{
+    if (feddurzai_is_null(out, room))
+        return FEDDURZAI_NULL;
+    return feddurzai_name(code, out, room);
+}
+
+static inline int32_t feddurzai_checked_notation(uint32_t code, char *out, size_t room)
+{
+    if (feddurzai_is_null(out, room))
+        return FEDDURZAI_NULL;
+    return feddurzai_notation(code, out, room);
+}
+
+static inline int32_t feddurzai_checked_code_of(const char *name, size_t len, size_t n)
+{
+    if (feddurzai_is_null(name, len))
+        return FEDDURZAI_NULL;
+    return feddurzai_code_of(name, len, n);
+}
+
+static inline int32_t feddurzai_checked_move(uint32_t bits, uint64_t old_ip, const uint8_t *bytes, size_t len,
+    uint64_t new_ip, uint8_t *out, size_t room, feddurzai_moved *map, size_t map_room, feddurzai_move_report *report)
+{
+    if (feddurzai_is_null(bytes, len) || feddurzai_is_null(out, room) || feddurzai_is_null(map, map_room))
+        return FEDDURZAI_NULL;
+    if (report == NULL)
+        return FEDDURZAI_NULL;
+    return feddurzai_move(bits, old_ip, bytes, len, new_ip, out, room, map, map_room, report);
+}
+
+static inline int32_t feddurzai_checked_flow(uint32_t bits, uint64_t base, const uint8_t *bytes, size_t len,
+    uint32_t *starts, size_t room, uint32_t *leaders, size_t leaders_room)
+{
+    if (feddurzai_is_null(bytes, len) || feddurzai_is_null(starts, room) || feddurzai_is_null(leaders, leaders_room))
+        return FEDDURZAI_NULL;
+    return feddurzai_flow(bits, base, bytes, len, starts, room, leaders, leaders_room);
+}
+
+#define feddurzai_decode feddurzai_checked_decode
+#define feddurzai_text feddurzai_checked_text
+#define feddurzai_encode feddurzai_checked_encode
+#define feddurzai_info feddurzai_checked_info
+#define feddurzai_name feddurzai_checked_name
+#define feddurzai_notation feddurzai_checked_notation
+#define feddurzai_code_of feddurzai_checked_code_of
+#define feddurzai_move feddurzai_checked_move
+#define feddurzai_flow feddurzai_checked_flow
 
 #ifdef __cplusplus
 }

@@ -6,7 +6,8 @@
 
 The shared library is looked for in the environment's FEDDURZAI_LIBRARY, in `out` beside this file (where build.sh puts it), and by
 the system's rules. Numbers and structs are those of feddurzai.h, whose comments say what each means. A refusal is raised as
-`Refusal`, whose `number` is the library's; `iterate` and `decode` give None where no instruction is read.
+`Refusal`, whose `number` is the library's; `iterate` and `decode` give None where no instruction is read, and None in place of an
+instruction is refused (`NULL`), as NULL is in C.
 
 No function keeps any state: they may be called from several threads.
 """
@@ -22,6 +23,7 @@ FLOWS = ("next", "jump", "indirect jump", "conditional", "return", "call", "indi
 ACCESSES = ("none", "read", "write", "read and write")
 FORMS = ("itself", "short", "near", "far", "bridge", "farbridge")
 MAX_CODE = 1 << 20
+NULL = -15
 
 REFUSALS = {
     -1: "the mode is not 16, 32 or 64",
@@ -38,13 +40,14 @@ REFUSALS = {
     -12: "there are too many instructions",
     -13: "the code passes the address space",
     -14: "an instruction cannot reach its target",
+    NULL: "None in place of an instruction",
 }
 CAUSES = ("", "no row of the mode", "the kind of an operand", "a register", "an address", "a displacement", "an immediate",
           "a target out of reach", "a prefix", "the address size", "the length")
 
 
 class Refusal(Exception):
-    """What the library refused: `number`, below zero, as in feddurzai.h; of `move` also its `report`."""
+    """What is refused: `number`, below zero, as in feddurzai.h; of `move` also its `report`."""
 
     def __init__(self, number, report=None):
         self.number = number
@@ -138,6 +141,13 @@ def _said(number):
     return number
 
 
+def _pointer_to(instr):
+    """A pointer to an instruction, which the library takes to be one: None is refused here."""
+    if instr is None:
+        raise Refusal(NULL)
+    return ctypes.byref(instr)
+
+
 def _written(call, room_size, *arguments):
     """The bytes that a call writes into a room, which its last two arguments name."""
     room = ctypes.create_string_buffer(room_size)
@@ -155,7 +165,7 @@ def decode(bits, ip, code, at=0):
     """The instruction at `at` of some bytes, whose first has the address `ip`; None where none is read."""
     instr = Instr()
     window = bytes(code[at:at + 15])
-    number = _calls["decode"](bits, (ip + at) % (1 << 64), window, len(window), instr)
+    number = _calls["decode"](bits, (ip + at) % (1 << 64), window, len(window), ctypes.byref(instr))
     if number in (-7, -8):
         return None
     _said(number)
@@ -174,18 +184,18 @@ def iterate(bits, ip, code):
 
 def text(bits, instr, syntax=INTEL):
     """The text of an instruction in a style."""
-    return _written("text", 161, bits, syntax, instr).decode("ascii")
+    return _written("text", 161, bits, syntax, _pointer_to(instr)).decode("ascii")
 
 
 def encode(bits, ip, instr):
     """The shortest bytes of an instruction at an address."""
-    return _written("encode", 15, bits, ip, instr)
+    return _written("encode", 15, bits, ip, _pointer_to(instr))
 
 
 def info(instr):
     """What an instruction does: an `About`."""
     about = About()
-    _said(_calls["info"](instr, about))
+    _said(_calls["info"](_pointer_to(instr), ctypes.byref(about)))
     return about
 
 
@@ -210,12 +220,12 @@ def move(bits, old_ip, code, new_ip):
     """The bytes of code moved to another address, and a list with a `Moved` for each instruction."""
     code = bytes(code)
     report = MoveReport()
-    number = _calls["move"](bits, old_ip, code, len(code), new_ip, None, 0, None, 0, report)
+    number = _calls["move"](bits, old_ip, code, len(code), new_ip, None, 0, None, 0, ctypes.byref(report))
     if number not in (0, -6):
         raise Refusal(number, report)
     room = ctypes.create_string_buffer(max(1, report.bytes))
     places = (Moved * max(1, report.count))()
-    number = _calls["move"](bits, old_ip, code, len(code), new_ip, room, report.bytes, places, report.count, report)
+    number = _calls["move"](bits, old_ip, code, len(code), new_ip, room, report.bytes, places, report.count, ctypes.byref(report))
     if number < 0:
         raise Refusal(number, report)
     return room.raw[:report.bytes], list(places[:report.count])

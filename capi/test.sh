@@ -1,6 +1,7 @@
 #!/bin/sh
 # Builds the library for C by both compilers of the kit, and tries it: the header, the structs, every function with what is and what
-# is no value of its arguments, the examples, Python, the commands of GDB, and the listing of a real file against the program's.
+# is no value of its arguments, with NULL, zeros and every room that is too small, the examples, Python, the commands of GDB, and
+# the listing of a real file against the program's.
 #
 #   capi/test.sh [FILE]
 #
@@ -12,6 +13,8 @@ top=$(dirname "$here")
 work=$(mktemp -d)
 trap 'rm -rf "$work"' EXIT
 warn='-Wall -Wextra -pedantic -Werror'
+sanitized='-g -fsanitize=address,undefined -fno-sanitize-recover=all'
+sanitizers='address and undefined behaviour sanitizers'
 
 say() { printf '%s\n' "$*"; }
 die() { say "test.sh: $*" >&2; exit 1; }
@@ -49,15 +52,31 @@ for style in intel att masm; do
 done
 say "program: $(wc -l <"$work/program.intel") lines in each of three styles"
 
+# tries_nulls COMPILER STANDARD: every function with NULL, zeros and small rooms, under the sanitizers
+tries_nulls() {
+    language=c
+    [ "$1" = gcc ] || language=c++
+    "$1" "$2" $sanitized $warn -I"$here" -x $language "$here/tests/nulls.c" -x none "$out/libfeddurzai.a" -o "$out/nulls" 2>"$work/cc.log" \
+        || { cat "$work/cc.log" >&2; die "nulls.c is not built by $1 $2"; }
+    "$out/nulls" >"$work/nulls.log" || { cat "$work/nulls.log" >&2; die "$backend: NULL, a zero or a small room is answered otherwise"; }
+    say "$backend: $(cat "$work/nulls.log") ($1 $2, $sanitizers)"
+}
+
 for backend in llvm rattle; do
     out=$work/$backend
     "$here/build.sh" "$out" $backend >/dev/null
     say "$backend: built, $(wc -c <"$out/libfeddurzai.a") bytes"
 
-    gcc -std=c99 -g -fsanitize=address,undefined $warn -I"$here" "$here/tests/calls.c" "$out/libfeddurzai.a" -o "$out/calls" 2>"$work/cc.log" \
+    gcc -std=c99 $sanitized $warn -I"$here" "$here/tests/calls.c" "$out/libfeddurzai.a" -o "$out/calls" 2>"$work/cc.log" \
         || { cat "$work/cc.log" >&2; die "calls.c is not built"; }
     "$out/calls" >"$work/calls.log" || { cat "$work/calls.log" >&2; die "$backend: a call answered otherwise"; }
-    say "$backend: $(cat "$work/calls.log") (address and undefined behaviour sanitizers)"
+    say "$backend: $(cat "$work/calls.log") ($sanitizers)"
+
+    # the functions of the header that look for NULL are compiled with the caller: as C and as C++
+    tries_nulls gcc -std=c99
+    if command -v g++ >/dev/null; then
+        tries_nulls g++ -std=c++11
+    fi
 
     gcc -std=c99 -O2 $warn -I"$here" "$here/examples/disassemble.c" "$out/libfeddurzai.a" -o "$out/disassemble"
     for style in intel att masm; do

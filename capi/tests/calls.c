@@ -4,21 +4,10 @@
  */
 #include "feddurzai.h"
 
-#include <stdio.h>
+#include "check.h"
+
 #include <stdlib.h>
 #include <string.h>
-
-static int failures, tests;
-
-#define CHECK(what, want)                                                                          \
-    do {                                                                                           \
-        long long got_ = (long long)(what), want_ = (long long)(want);                             \
-        tests++;                                                                                   \
-        if (got_ != want_) {                                                                       \
-            failures++;                                                                            \
-            printf("%s:%d: %s is %lld and not %lld\n", __FILE__, __LINE__, #what, got_, want_);    \
-        }                                                                                          \
-    } while (0)
 
 /* a struct of exactly its size on the heap, so that a write behind it is seen */
 static feddurzai_instr *instr_of(const uint8_t *bytes, size_t len, uint32_t bits, uint64_t ip)
@@ -27,16 +16,6 @@ static feddurzai_instr *instr_of(const uint8_t *bytes, size_t len, uint32_t bits
     memset(instr, 0xaa, sizeof *instr);
     CHECK(feddurzai_decode(bits, ip, bytes, len, instr), (long long)len);
     return instr;
-}
-
-static int is_untouched(const void *memory, size_t len)
-{
-    const uint8_t *bytes = memory;
-    size_t i;
-    for (i = 0; i < len; i++)
-        if (bytes[i] != 0xaa)
-            return 0;
-    return 1;
 }
 
 static void check_layout(void)

@@ -1,5 +1,6 @@
 """The Python module: each function once with a value from the manual, and each kind of refusal."""
 
+import ctypes
 import os
 import sys
 
@@ -24,6 +25,16 @@ def refused(number, call, *arguments):
         assert refusal.number == number, f"{refusal.number} is not {number}"
         return refusal
     raise AssertionError(f"{call.__name__} is not refused")
+
+
+def no_call(call, *arguments):
+    global tried
+    tried += 1
+    try:
+        list(call(*arguments))
+    except (TypeError, AttributeError, ctypes.ArgumentError):
+        return
+    raise AssertionError(f"{call.__name__} takes {arguments}")
 
 
 mov = f.decode(64, 0x1000, bytes.fromhex("48895c2410"))
@@ -59,4 +70,13 @@ mov.ops[1].reg_number = 200
 check((refused(-769, f.encode, 64, 0, mov).cause, refused(-769, f.encode, 64, 0, mov).operand), (3, 1))
 mov.ops[1].kind = 6
 refused(-4, f.text, 64, mov)
+# None, as `decode` gives where no instruction is read
+for call, arguments in ((f.text, (64, None)), (f.encode, (64, 0, None)), (f.info, (None,))):
+    check(str(refused(f.NULL, call, *arguments)), "None in place of an instruction")
+check(refused(-15, f.text, 64, f.decode(64, 0, b"\x06")).cause, 0)
+# what is no instruction at all, and None for bytes or a name, does not come to the library
+for call, arguments in ((f.text, (64, 5)), (f.text, (64, ctypes.POINTER(f.Instr)())), (f.encode, (64, 0, f.About())), (f.info, (b"",)),
+                        (f.name, (None,)), (f.notation, (None,)), (f.code_of, (None,)), (f.decode, (64, 0, None)),
+                        (f.move, (64, 0, None, 0)), (f.flow, (64, 0, None)), (f.iterate, (64, 0, None))):
+    no_call(call, *arguments)
 print(f"{tried} calls of the Python module")

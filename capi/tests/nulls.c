@@ -1,0 +1,240 @@
+/*
+ * Every function that takes a pointer: with each pointer NULL in turn and with all, with zeros for everything, and with
+ * every room that is too small. It is C99 and C++11, since the header's own functions are compiled as both.
+ */
+#include "feddurzai.h"
+
+#include "check.h"
+
+#include <stdlib.h>
+#include <string.h>
+
+/* je over a nop, ret */
+static const uint8_t code[] = {0x74, 0x01, 0x90, 0xc3};
+/* mov qword [rsp+0x10], rbx */
+static const uint8_t mov[] = {0x48, 0x89, 0x5c, 0x24, 0x10};
+static const char mov_text[] = "mov qword [rsp+0x10], rbx";
+
+enum { SPARE = 16 };
+
+/* the structs of the calls, each filled with 0xaa where no call wrote */
+static feddurzai_instr instr, unread;
+static feddurzai_about about;
+static feddurzai_move_report report;
+static feddurzai_moved map[3];
+static uint32_t starts[3], leaders[3];
+static uint8_t out[SPARE];
+static char text[FEDDURZAI_MAX_TEXT];
+
+static void fill(void)
+{
+    memset(&unread, 0xaa, sizeof unread);
+    memset(&about, 0xaa, sizeof about);
+    memset(&report, 0xaa, sizeof report);
+    memset(map, 0xaa, sizeof map);
+    memset(starts, 0xaa, sizeof starts);
+    memset(leaders, 0xaa, sizeof leaders);
+    memset(out, 0xaa, sizeof out);
+    memset(text, 0xaa, sizeof text);
+}
+
+static int nothing_was_written(void)
+{
+    return is_untouched(&unread, sizeof unread) && is_untouched(&about, sizeof about) && is_untouched(&report, sizeof report)
+        && is_untouched(map, sizeof map) && is_untouched(starts, sizeof starts) && is_untouched(leaders, sizeof leaders)
+        && is_untouched(out, sizeof out) && is_untouched(text, sizeof text);
+}
+
+/* NULL where there is something to point to */
+static void check_nulls(void)
+{
+    fill();
+    CHECK(feddurzai_decode(64, 0, NULL, 4, &unread), FEDDURZAI_NULL);
+    CHECK(feddurzai_decode(64, 0, NULL, SIZE_MAX, &unread), FEDDURZAI_NULL);
+    CHECK(feddurzai_decode(64, 0, code, 4, NULL), FEDDURZAI_NULL);
+    CHECK(feddurzai_decode(64, 0, NULL, 0, NULL), FEDDURZAI_NULL);
+    CHECK(feddurzai_decode(64, 0, NULL, 4, NULL), FEDDURZAI_NULL);
+
+    CHECK(feddurzai_text(64, FEDDURZAI_INTEL, NULL, text, sizeof text), FEDDURZAI_NULL);
+    CHECK(feddurzai_text(64, FEDDURZAI_INTEL, &instr, NULL, sizeof text), FEDDURZAI_NULL);
+    CHECK(feddurzai_text(64, FEDDURZAI_INTEL, NULL, NULL, 0), FEDDURZAI_NULL);
+    CHECK(feddurzai_text(64, FEDDURZAI_INTEL, NULL, NULL, sizeof text), FEDDURZAI_NULL);
+
+    CHECK(feddurzai_encode(64, 0, NULL, out, sizeof out), FEDDURZAI_NULL);
+    CHECK(feddurzai_encode(64, 0, &instr, NULL, sizeof out), FEDDURZAI_NULL);
+    CHECK(feddurzai_encode(64, 0, NULL, NULL, 0), FEDDURZAI_NULL);
+    CHECK(feddurzai_encode(64, 0, NULL, NULL, sizeof out), FEDDURZAI_NULL);
+
+    CHECK(feddurzai_info(NULL, &about), FEDDURZAI_NULL);
+    CHECK(feddurzai_info(&instr, NULL), FEDDURZAI_NULL);
+    CHECK(feddurzai_info(NULL, NULL), FEDDURZAI_NULL);
+
+    CHECK(feddurzai_name(0, NULL, sizeof text), FEDDURZAI_NULL);
+    CHECK(feddurzai_notation(0, NULL, sizeof text), FEDDURZAI_NULL);
+    CHECK(feddurzai_code_of(NULL, 3, 0), FEDDURZAI_NULL);
+
+    CHECK(feddurzai_move(64, 0x1000, NULL, 4, 0x2000, out, sizeof out, map, 3, &report), FEDDURZAI_NULL);
+    CHECK(feddurzai_move(64, 0x1000, code, 4, 0x2000, NULL, sizeof out, map, 3, &report), FEDDURZAI_NULL);
+    CHECK(feddurzai_move(64, 0x1000, code, 4, 0x2000, out, sizeof out, NULL, 3, &report), FEDDURZAI_NULL);
+    CHECK(feddurzai_move(64, 0x1000, code, 4, 0x2000, out, sizeof out, map, 3, NULL), FEDDURZAI_NULL);
+    CHECK(feddurzai_move(64, 0x1000, NULL, 0, 0x2000, NULL, 0, NULL, 0, NULL), FEDDURZAI_NULL);
+    CHECK(feddurzai_move(64, 0x1000, NULL, 4, 0x2000, NULL, sizeof out, NULL, 3, NULL), FEDDURZAI_NULL);
+
+    CHECK(feddurzai_flow(64, 0, NULL, 4, starts, 3, leaders, 3), FEDDURZAI_NULL);
+    CHECK(feddurzai_flow(64, 0, code, 4, NULL, 3, leaders, 3), FEDDURZAI_NULL);
+    CHECK(feddurzai_flow(64, 0, code, 4, starts, 3, NULL, 3), FEDDURZAI_NULL);
+    CHECK(feddurzai_flow(64, 0, NULL, 4, NULL, 3, NULL, 3), FEDDURZAI_NULL);
+
+    /* before every other refusal, and no cause of the encoder's */
+    CHECK(feddurzai_decode(17, 0, code, 4, NULL), FEDDURZAI_NULL);
+    CHECK(feddurzai_text(17, 9, NULL, text, sizeof text), FEDDURZAI_NULL);
+    CHECK(feddurzai_encode(17, 0, NULL, out, sizeof out), FEDDURZAI_NULL);
+    CHECK(feddurzai_info(&unread, NULL), FEDDURZAI_NULL);
+    CHECK(feddurzai_name(FEDDURZAI_CODES, NULL, 1), FEDDURZAI_NULL);
+    CHECK(feddurzai_move(17, 0, code, 4, 0, out, sizeof out, map, 3, NULL), FEDDURZAI_NULL);
+    CHECK(feddurzai_flow(17, 0, NULL, 4, starts, 3, leaders, 3), FEDDURZAI_NULL);
+    CHECK(FEDDURZAI_CAUSE(FEDDURZAI_NULL), 0);
+    CHECK(nothing_was_written(), 1);
+
+    /* a function's address is that of the one that looks */
+    {
+        int32_t (*call)(const feddurzai_instr *, feddurzai_about *) = feddurzai_info;
+        CHECK(call(NULL, NULL), FEDDURZAI_NULL);
+        CHECK(call(&instr, &about), 0);
+    }
+}
+
+/* NULL with a length of 0 is no bytes, or no room */
+static void check_empty(void)
+{
+    fill();
+    CHECK(feddurzai_decode(64, 0, NULL, 0, &unread), FEDDURZAI_TOO_SHORT);
+    CHECK(feddurzai_text(64, FEDDURZAI_INTEL, &instr, NULL, 0), FEDDURZAI_NO_ROOM);
+    CHECK(feddurzai_encode(64, 0, &instr, NULL, 0), FEDDURZAI_NO_ROOM);
+    CHECK(feddurzai_name(0, NULL, 0), FEDDURZAI_NO_ROOM);
+    CHECK(feddurzai_notation(0, NULL, 0), FEDDURZAI_NO_ROOM);
+    CHECK(feddurzai_code_of(NULL, 0, 0), FEDDURZAI_NO_NAME);
+    CHECK(feddurzai_flow(64, 0, code, 4, NULL, 0, NULL, 0), FEDDURZAI_NO_ROOM);
+    CHECK(feddurzai_flow(64, 0, code, 4, NULL, 0, leaders, 3), FEDDURZAI_NO_ROOM);
+    CHECK(feddurzai_flow(64, 0, code, 4, starts, 3, NULL, 0), FEDDURZAI_NO_ROOM);
+    CHECK(feddurzai_flow(64, 0, NULL, 0, starts, 3, leaders, 3), 0);
+    CHECK(feddurzai_flow(64, 0, NULL, 0, NULL, 0, NULL, 0), 0);
+    CHECK(nothing_was_written(), 1);
+    CHECK(feddurzai_move(64, 0x1000, code, 4, 0x2000, NULL, 0, map, 3, &report), FEDDURZAI_NO_ROOM);
+    CHECK(feddurzai_move(64, 0x1000, code, 4, 0x2000, out, sizeof out, NULL, 0, &report), FEDDURZAI_NO_ROOM);
+    CHECK(feddurzai_move(64, 0x1000, code, 4, 0x2000, NULL, 0, NULL, 0, &report), FEDDURZAI_NO_ROOM);
+    CHECK(report.bytes == 4 && report.count == 3 && report.at == 0 && report.address == 0, 1);
+    CHECK(feddurzai_move(64, 0x1000, NULL, 0, 0x2000, NULL, 0, NULL, 0, &report), 0);
+    CHECK(report.bytes == 0 && report.count == 0 && report.at == 0 && report.address == 0, 1);
+    memset(&report, 0xaa, sizeof report);
+    CHECK(nothing_was_written(), 1);
+}
+
+/* zero for each number and length, structs of zeros, and NULL for the rest */
+static void check_zeros(void)
+{
+    feddurzai_instr zeros;
+    memset(&zeros, 0, sizeof zeros);
+    fill();
+    CHECK(feddurzai_decode(0, 0, NULL, 0, &unread), FEDDURZAI_BAD_MODE);
+    CHECK(feddurzai_text(0, 0, &zeros, NULL, 0), FEDDURZAI_BAD_MODE);
+    CHECK(feddurzai_encode(0, 0, &zeros, NULL, 0), FEDDURZAI_BAD_MODE);
+    CHECK(feddurzai_flow(0, 0, NULL, 0, NULL, 0, NULL, 0), FEDDURZAI_BAD_MODE);
+    CHECK(feddurzai_name(0, NULL, 0), FEDDURZAI_NO_ROOM);
+    CHECK(feddurzai_notation(0, NULL, 0), FEDDURZAI_NO_ROOM);
+    CHECK(feddurzai_code_of(NULL, 0, 0), FEDDURZAI_NO_NAME);
+    /* `add` without operands */
+    CHECK(feddurzai_info(&zeros, &about), FEDDURZAI_BAD_FORM);
+    CHECK(feddurzai_text(64, 0, &zeros, text, sizeof text), FEDDURZAI_BAD_FORM);
+    CHECK(FEDDURZAI_CAUSE(feddurzai_encode(64, 0, &zeros, out, sizeof out)), FEDDURZAI_CAUSE_KIND);
+    CHECK(nothing_was_written(), 1);
+    CHECK(feddurzai_move(0, 0, NULL, 0, 0, NULL, 0, NULL, 0, &report), FEDDURZAI_BAD_MODE);
+    CHECK(report.bytes == 0 && report.count == 0 && report.at == 0 && report.address == 0, 1);
+}
+
+/* a room of `room` bytes, with spare ones behind that no call may write; all are 0xaa */
+static uint8_t *room_of(size_t room)
+{
+    uint8_t *bytes = (uint8_t *)malloc(room + SPARE);
+    memset(bytes, 0xaa, room + SPARE);
+    return bytes;
+}
+
+enum writer { TEXT, ENCODE, NAME, NOTATION };
+
+static int32_t written(enum writer writer, uint8_t *bytes, size_t room)
+{
+    switch (writer) {
+    case TEXT:
+        return feddurzai_text(64, FEDDURZAI_INTEL, &instr, (char *)bytes, room);
+    case ENCODE:
+        return feddurzai_encode(64, 0, &instr, bytes, room);
+    case NAME:
+        return feddurzai_name(instr.code, (char *)bytes, room);
+    default:
+        return feddurzai_notation(instr.code, (char *)bytes, room);
+    }
+}
+
+/* each room that is too small is refused whole; the least that is not gets `want` and no more, of which `said` is told */
+static void check_rooms_of(enum writer writer, const void *want, size_t least, int32_t said)
+{
+    size_t room;
+    uint8_t *bytes;
+    for (room = 0; room < least; room++) {
+        bytes = room_of(room);
+        CHECK(written(writer, bytes, room), FEDDURZAI_NO_ROOM);
+        CHECK(is_untouched(bytes, room + SPARE), 1);
+        free(bytes);
+    }
+    bytes = room_of(least);
+    CHECK(written(writer, bytes, least), said);
+    CHECK(memcmp(bytes, want, least), 0);
+    CHECK(is_untouched(bytes + least, SPARE), 1);
+    free(bytes);
+}
+
+/* both rooms of a call that has two, from none to one more than is wanted of each */
+static void check_pairs_of_rooms(void)
+{
+    size_t room, second;
+    for (room = 0; room <= 5; room++)
+        for (second = 0; second <= 4; second++) {
+            uint8_t *bytes = room_of(room), *entries = room_of(second * sizeof(feddurzai_moved));
+            int fits = room >= 4 && second >= 3;
+            CHECK(feddurzai_move(64, 0x1000, code, 4, 0x2000, bytes, room, (feddurzai_moved *)(void *)entries, second, &report),
+                fits ? 0 : FEDDURZAI_NO_ROOM);
+            CHECK(report.bytes == 4 && report.count == 3, 1);
+            CHECK(fits ? memcmp(bytes, code, 4) == 0 && is_untouched(bytes + 4, room - 4 + SPARE) : is_untouched(bytes, room + SPARE), 1);
+            CHECK(fits ? is_untouched(entries + 3 * sizeof(feddurzai_moved), (second - 3) * sizeof(feddurzai_moved) + SPARE)
+                       : is_untouched(entries, second * sizeof(feddurzai_moved) + SPARE), 1);
+            free(bytes);
+            free(entries);
+        }
+    for (room = 0; room <= 4; room++)
+        for (second = 0; second <= 4; second++) {
+            uint8_t *first = room_of(4 * room), *other = room_of(4 * second);
+            int fits = room >= 3 && second >= 3;
+            CHECK(feddurzai_flow(64, 0, code, 4, (uint32_t *)(void *)first, room, (uint32_t *)(void *)other, second),
+                fits ? 3 : FEDDURZAI_NO_ROOM);
+            CHECK(is_untouched(first + (fits ? 12 : 0), 4 * room - (fits ? 12 : 0) + SPARE), 1);
+            CHECK(is_untouched(other + (fits ? 12 : 0), 4 * second - (fits ? 12 : 0) + SPARE), 1);
+            free(first);
+            free(other);
+        }
+}
+
+int main(void)
+{
+    CHECK(feddurzai_decode(64, 0, mov, sizeof mov, &instr), 5);
+    check_nulls();
+    check_empty();
+    check_zeros();
+    check_rooms_of(TEXT, mov_text, sizeof mov_text, sizeof mov_text - 1);
+    check_rooms_of(ENCODE, mov, sizeof mov, sizeof mov);
+    check_rooms_of(NAME, "mov", 4, 3);
+    check_rooms_of(NOTATION, "REX.W + 89 /r", 14, 13);
+    check_pairs_of_rooms();
+    printf("%d answers to NULL, zeros and small rooms, %d wrong\n", tests, failures);
+    return failures != 0;
+}
