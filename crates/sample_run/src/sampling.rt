@@ -17,8 +17,9 @@ pub fn sample<K: Sink>(alloc: Global, count: u32, out: &mut K) -> Status
     ensures answer { SamplesAs count (K.held out.old) (K.held out.new) (Rose (K.faults out.old) (K.faults out.new)) result }
     ensures complete { (Rose (K.faults out.old) (K.faults out.new) → ⊥) → CompletesSample result }
 {
-    let Ok(summary) = summarize(alloc, count) else {
-        return Status::Memory;
+    let summary = match summarize(alloc, count) {
+        Ok(summary) => summary,
+        Err(status) => return status,
     };
     match put_all(out, &summary_text(&summary)) {
         Ok(()) => Status::Done,

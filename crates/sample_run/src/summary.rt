@@ -1,6 +1,6 @@
 //! Made code, listed and moved, in numbers.
 
-ghost use Rattle.std.specs.Prelude.{◌≡◌, ◌≤◌, List, length, sum, IfOk};
+ghost use Rattle.std.specs.Prelude.{◌≡◌, ◌≤◌, List, length, sum, MatchResult};
 ghost use Rattle.sweep_text.specs.Listing.{listing};
 ghost use Rattle.x86_values.specs.declared.Bits.TheVariants.{B64};
 ghost use Rattle.sweep_text.specs.declared.syntax.Syntax.TheVariants.{Intel};
@@ -8,12 +8,11 @@ ghost use Rattle.opcode_rows.specs.Sweep.{IsSweep, Item};
 ghost use Rattle.sample_code.specs.Generator.{code_base};
 ghost use Rattle.sample_run.specs.Sample as spec;
 
-use block_encoder::MovedBlocks;
 use branch_forms::choices_of;
 use branch_sizes::Form;
 use command_words::BlockWords;
 use move_goals::Placed;
-use moving_run::{MovedCode, move_input};
+use moving_run::move_input;
 use run_parts::Status;
 use sample_code::{CODE_BASE, sample_code};
 use std::alloc::Global;
@@ -39,10 +38,6 @@ pub struct Summary {
     /// The sum of the moved bytes.
     pub sum: u128,
 }
-
-/// There was not enough memory.
-#[derive(Clone, Copy, PartialEq, Eq, Debug)]
-pub struct NoMemory;
 
 /// How many bytes the listing of some code has.
 fn listing_len(code: &[u8]) -> u64
@@ -104,12 +99,12 @@ fn sum_of(bytes: &[u8]) -> u128
 
 /// Makes some instructions, lists them in the Intel style at 400000 and moves them to 10400000 in 64-bit mode, and answers what comes of it. It may want
 /// memory, and nothing else hinders it: made code has instructions alone, and each reaches its target from its new place.
-pub fn summarize(alloc: Global, count: u32) -> Result<Summary, NoMemory>
+pub fn summarize(alloc: Global, count: u32) -> Result<Summary, Status>
     requires { count ≤ 65536 }
-    ensures { IfOk result (λ s. spec.IsSample count s) }
+    ensures { MatchResult result (λ s. spec.IsSample count s) (λ status. status ≡ Status.Memory) }
 {
     let Ok(code) = sample_code(alloc, count) else {
-        return Err(NoMemory);
+        return Err(Status::Memory);
     };
     let block = BlockWords {
         old: CODE_BASE,
@@ -125,7 +120,6 @@ pub fn summarize(alloc: Global, count: u32) -> Result<Summary, NoMemory>
             grown: grown(&moved.items, moved.blocks.forms()),
             sum: sum_of(moved.blocks.bytes()),
         }),
-        Err(Status::Memory) => Err(NoMemory),
-        Err(_) => unreachable!(),
+        Err(status) => Err(status),
     }
 }
