@@ -9,10 +9,12 @@ use Rattle.x86_values.specs.Wrapping.{width}
 use Rattle.sweep_text.specs.declared.syntax.Syntax.{Syntax}
 use Rattle.sweep_text.specs.declared.syntax.Syntax.TheVariants.{Intel, Att, Masm}
 use Rattle.command_words.specs.declared.commands.Command.{Command}
-use Rattle.command_words.specs.declared.commands.Command.TheVariants.{Help, Version, List as ListCommand, Info, Recode, Flow, Move, Map, Blocks, Rows, Wrong}
+use Rattle.command_words.specs.declared.commands.Command.TheVariants.{Help, Version, List as ListCommand, Info, Recode, Flow, Move, Map, Blocks, Slots, Rows, Sample, Wrong}
 use Rattle.command_words.specs.declared.commands.BlockWords.{BlockWords}
 use Rattle.command_words.specs.declared.commands.Through.{Through}
-use Rattle.command_words.specs.declared.commands.Through.TheVariants.{List as ThroughList, Info as ThroughInfo, Recode as ThroughRecode, Flow as ThroughFlow, Move as ThroughMove, Map as ThroughMap}
+use Rattle.command_words.specs.declared.commands.Through.TheVariants.{List as ThroughList, Info as ThroughInfo, Recode as ThroughRecode, Flow as ThroughFlow, Move as ThroughMove, Map as ThroughMap, Slots as ThroughSlots}
+use Rattle.command_words.specs.Counts.{count_of}
+use Rattle.command_words.specs.Ranges.{Range, range_of}
 
 -- the texts of some words
 abbrev pub texts : List (Bor (List ℕ)) → List (List ℕ)
@@ -103,6 +105,27 @@ unfoldable pub map_end : Bits → ℕ → Result ℕ ℕ → Command
 map_end bits old (Ok new) = Map bits old new
 map_end bits old (Err word) = Wrong word
 
+-- the range of this size, where it is one
+unfoldable pub range_in : Bits → ℕ → Option ℕ → Option Range
+range_in bits base None = None
+range_in bits base (Some size) = range_of bits base size
+
+-- the words behind `slots BITS OLD REGION` and a word for SIZE
+unfoldable pub slots_size : ℕ → Option Range → List (List ℕ) → Command
+slots_size old None words = Wrong 5
+slots_size old (Some range) words = at_end words 6 (Slots old range)
+
+-- the words behind `slots BITS OLD` and a word for REGION
+unfoldable pub slots_region : Bits → ℕ → Option ℕ → List (List ℕ) → Command
+slots_region bits old None words = Wrong 4
+slots_region bits old (Some base) [] = Wrong 5
+slots_region bits old (Some base) (size ∷ words) = slots_size old (range_in bits base (number_named size)) words
+
+-- the words behind `slots BITS OLD`
+unfoldable pub slots_words : Bits → ℕ → List (List ℕ) → Command
+slots_words bits old [] = Wrong 4
+slots_words bits old (region ∷ words) = slots_region bits old (address_in bits (number_named region)) words
+
 -- the words behind BITS BASE
 unfoldable pub code_end : Through → Bits → ℕ → List (List ℕ) → Command
 code_end ThroughList bits base words = list_style bits base words
@@ -111,6 +134,7 @@ code_end ThroughRecode bits base words = recode_words bits base words
 code_end ThroughFlow bits base words = at_end words 4 (Flow bits base)
 code_end ThroughMove bits base words = move_end bits base (new_words bits words)
 code_end ThroughMap bits base words = map_end bits base (new_words bits words)
+code_end ThroughSlots bits base words = slots_words bits base words
 
 -- the words behind BITS and a word for BASE
 unfoldable pub code_base : Through → Bits → Option ℕ → List (List ℕ) → Command
@@ -173,6 +197,21 @@ unfoldable pub blocks_words : List (List ℕ) → Command
 blocks_words [] = Wrong 2
 blocks_words (mode ∷ words) = blocks_bits (mode_named mode) words
 
+-- the number of instructions to make, where it is one
+unfoldable pub count_in : Option ℕ → Option ℕ
+count_in None = None
+count_in (Some count) = count_of count
+
+-- the words behind `sample` and a word for N
+unfoldable pub sample_count : Option ℕ → List (List ℕ) → Command
+sample_count None words = Wrong 2
+sample_count (Some count) words = at_end words 3 (Sample count)
+
+-- the words behind `sample`
+unfoldable pub sample_words : List (List ℕ) → Command
+sample_words [] = Wrong 2
+sample_words (count ∷ words) = sample_count (count_in (number_named count)) words
+
 -- the command of some words, or the number of the first word, counted from 1, that is not allowed, missing or too many
 unfoldable pub command_of : List (List ℕ) → Command
 command_of [] = Wrong 1
@@ -183,7 +222,9 @@ command_of (name ∷ words) =
     else (if same_text name (codes "flow") then code_words ThroughFlow words
     else (if same_text name (codes "move") then code_words ThroughMove words
     else (if same_text name (codes "map") then code_words ThroughMap words
+    else (if same_text name (codes "slots") then code_words ThroughSlots words
     else (if same_text name (codes "blocks") then blocks_words words
     else (if same_text name (codes "rows") then at_end words 2 Rows
+    else (if same_text name (codes "sample") then sample_words words
     else (if same_text name (codes "--help") then at_end words 2 Help
-    else (if same_text name (codes "--version") then at_end words 2 Version else Wrong 1)))))))))
+    else (if same_text name (codes "--version") then at_end words 2 Version else Wrong 1)))))))))))

@@ -1,5 +1,7 @@
 //! The commands of the program.
 
+use crate::count::SampleCount;
+use crate::range::SlotRange;
 use arrayvec::ArrayVec;
 use sweep_text::Syntax;
 use x86_values::Bits;
@@ -53,8 +55,18 @@ pub enum Command {
         bits: Bits,
         blocks: ArrayVec<BlockWords, 16>,
     },
+    /// The range of slots, after each instruction of the input got one, the input being code of the range's mode whose first byte has the
+    /// address `old`.
+    Slots {
+        old: u64,
+        range: SlotRange,
+    },
     /// The lines of the table's rows.
     Rows,
+    /// The numbers of so many instructions that are made, listed and moved.
+    Sample {
+        count: SampleCount,
+    },
     /// The word of this number, from 1, is not allowed, missing or too many.
     Wrong {
         word: u64,
@@ -79,4 +91,5 @@ pub enum Through {
     Flow,
     Move,
     Map,
+    Slots,
 }

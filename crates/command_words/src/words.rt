@@ -6,6 +6,8 @@ ghost use Rattle.hex.specs.Hex.{hex_digit_value};
 ghost use Rattle.command_words.specs.Words as spec;
 
 use crate::commands::{BlockWords, Command, Through};
+use crate::count::SampleCount;
+use crate::range::SlotRange;
 use arrayvec::ArrayVec;
 use sweep_text::Syntax;
 use x86_values::Bits;
@@ -249,6 +251,55 @@ fn map_end(bits: Bits, old: u64, new: Result<u64, u64>) -> Command
     }
 }
 
+/// The words behind `slots BITS OLD REGION` and a word for `SIZE`.
+#[tactic(auto, unfolding(crate::specs::Words::slots_size))]
+fn slots_size(old: u64, range: Option<SlotRange>, words: &[&str]) -> Command
+    ensures { result ≡ spec.slots_size old range (spec.texts words.now) }
+{
+    match range {
+        None => Command::Wrong { word: 5 },
+        Some(range) => at_end(words, 6, Command::Slots { old, range }),
+    }
+}
+
+/// The range of this size, where it is one.
+#[tactic(auto, unfolding(crate::specs::Words::range_in))]
+fn range_in(bits: Bits, base: u64, size: Option<u64>) -> Option<SlotRange>
+    ensures { result ≡ spec.range_in bits base size }
+{
+    match size {
+        None => None,
+        Some(size) => SlotRange::new(bits, base, size),
+    }
+}
+
+/// The words behind `slots BITS OLD` and a word for `REGION`.
+#[tactic(auto, unfolding(crate::specs::Words::slots_region))]
+fn slots_region(bits: Bits, old: u64, base: Option<u64>, words: &[&str]) -> Command
+    ensures { result ≡ spec.slots_region bits old base (spec.texts words.now) }
+{
+    match base {
+        None => Command::Wrong { word: 4 },
+        Some(base) => match words {
+            [] => Command::Wrong { word: 5 },
+            [size, words @ ..] => slots_size(old, range_in(bits, base, number_named(size)), words),
+        },
+    }
+}
+
+/// The words behind `slots BITS OLD`.
+#[tactic(auto, unfolding(crate::specs::Words::slots_words))]
+fn slots_words(bits: Bits, old: u64, words: &[&str]) -> Command
+    ensures { result ≡ spec.slots_words bits old (spec.texts words.now) }
+{
+    match words {
+        [] => Command::Wrong { word: 4 },
+        [region, words @ ..] => {
+            slots_region(bits, old, address_in(bits, number_named(region)), words)
+        }
+    }
+}
+
 /// The words behind `BITS BASE`.
 #[tactic(auto, unfolding(crate::specs::Words::code_end))]
 fn code_end(through: Through, bits: Bits, base: u64, words: &[&str]) -> Command
@@ -261,6 +312,7 @@ fn code_end(through: Through, bits: Bits, base: u64, words: &[&str]) -> Command
         Through::Flow => at_end(words, 4, Command::Flow { bits, base }),
         Through::Move => move_end(bits, base, new_words(bits, words)),
         Through::Map => map_end(bits, base, new_words(bits, words)),
+        Through::Slots => slots_words(bits, base, words),
     }
 }
 
@@ -402,6 +454,36 @@ fn blocks_words(words: &[&str]) -> Command
     }
 }
 
+/// The number of instructions to make, where it is one.
+#[tactic(auto, unfolding(crate::specs::Words::count_in))]
+fn count_in(count: Option<u64>) -> Option<SampleCount>
+    ensures { result ≡ spec.count_in count }
+{
+    SampleCount::new(count?)
+}
+
+/// The words behind `sample` and a word for `N`.
+#[tactic(auto, unfolding(crate::specs::Words::sample_count))]
+fn sample_count(count: Option<SampleCount>, words: &[&str]) -> Command
+    ensures { result ≡ spec.sample_count count (spec.texts words.now) }
+{
+    match count {
+        None => Command::Wrong { word: 2 },
+        Some(count) => at_end(words, 3, Command::Sample { count }),
+    }
+}
+
+/// The words behind `sample`.
+#[tactic(auto, unfolding(crate::specs::Words::sample_words))]
+fn sample_words(words: &[&str]) -> Command
+    ensures { result ≡ spec.sample_words (spec.texts words.now) }
+{
+    match words {
+        [] => Command::Wrong { word: 2 },
+        [count, words @ ..] => sample_count(count_in(number_named(count)), words),
+    }
+}
+
 /// The command of some words, or the first word that is not allowed, missing or too many.
 #[tactic(auto, unfolding(crate::specs::Words::command_of))]
 pub fn command_of(words: &[&str]) -> Command
@@ -422,10 +504,14 @@ pub fn command_of(words: &[&str]) -> Command
                 code_words(Through::Move, words)
             } else if is(name, "map") {
                 code_words(Through::Map, words)
+            } else if is(name, "slots") {
+                code_words(Through::Slots, words)
             } else if is(name, "blocks") {
                 blocks_words(words)
             } else if is(name, "rows") {
                 at_end(words, 2, Command::Rows)
+            } else if is(name, "sample") {
+                sample_words(words)
             } else if is(name, "--help") {
                 at_end(words, 2, Command::Help)
             } else if is(name, "--version") {

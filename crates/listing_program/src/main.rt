@@ -13,6 +13,8 @@ mod flow_tests;
 #[cfg(test)]
 mod moving_tests;
 #[cfg(test)]
+mod slots_tests;
+#[cfg(test)]
 mod tests;
 
 /// Carries out the words of the command line on the standard streams.

@@ -12,13 +12,13 @@ use Rattle.moving_run.proofs.Unique.{answer_unique}
 -- ---- the bytes that were read
 
 -- bytes that are told and were read to their end
-all_bytes : (limit : ℕ) (bytes : List ℕ) (left' : Option (List ℕ)) (read : List ℕ) → ReadsAll limit (Some bytes) left' read → bytes ≡ read
+pub all_bytes : (limit : ℕ) (bytes : List ℕ) (left' : Option (List ℕ)) (read : List ℕ) → ReadsAll limit (Some bytes) left' read → bytes ≡ read
 all_bytes limit bytes None read h = let e = h.read in cc
 all_bytes limit bytes (Some rest) read h =
     let e : Some bytes ≡ Some (read ++ rest) = h.read in
     let same : bytes ≡ read ++ rest = cc in same ∙ (ap (λ (xs : List ℕ). read ++ xs) h.ended ∙ append-nil read)
 
-too_many : (limit : ℕ) (bytes : List ℕ) (left' : Option (List ℕ)) (read : List ℕ) → ReadsTooMany limit (Some bytes) left' read → limit < length bytes
+pub too_many : (limit : ℕ) (bytes : List ℕ) (left' : Option (List ℕ)) (read : List ℕ) → ReadsTooMany limit (Some bytes) left' read → limit < length bytes
 too_many limit bytes None read h = let e = h.read in cc
 too_many limit bytes (Some rest) read h =
     let e : Some bytes ≡ Some (read ++ rest) = h.read in

@@ -77,10 +77,10 @@ block-start bits base bytes before room = record {
 }
 
 -- the item of an instruction at an offset
-abbrev instr_item : List ℕ → ℕ → Decoded → Item
+abbrev pub instr_item : List ℕ → ℕ → Decoded → Item
 instr_item bytes at d = record { offset = at; bytes = take d.len (drop at bytes); reading = Read d }
 
-instr_at : (bits : Bits) (base : ℕ) (bytes : List ℕ) (at : ℕ) (d : Decoded) → IsReadAt bits base at (drop at bytes) (Read d) →
+pub instr_at : (bits : Bits) (base : ℕ) (bytes : List ℕ) (at : ℕ) (d : Decoded) → IsReadAt bits base at (drop at bytes) (Read d) →
     (0 < d.len) × (d.len ≤ 15) × (d.len ≤ length (drop at bytes)) → IsItemAt bits base at (drop at bytes) (instr_item bytes at d)
 instr_at bits base bytes at d reads sized = record {
   offset_is = refl;
@@ -137,11 +137,11 @@ block-end bits base bytes at count before after b le =
       kept = b.kept;
     }
 
-error_is : (e : DecodeError) → error_of (reading_of (Err e)) ≡ Some e
+pub error_is : (e : DecodeError) → error_of (reading_of (Err e)) ≡ Some e
 error_is InvalidError = refl
 error_is TooShortError = refl
 
-one_long : (e : DecodeError) → item_len (reading_of (Err e)) ≡ 1
+pub one_long : (e : DecodeError) → item_len (reading_of (Err e)) ≡ 1
 one_long InvalidError = refl
 one_long TooShortError = refl
 

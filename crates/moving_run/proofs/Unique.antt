@@ -51,7 +51,7 @@ among [] last more all = All-head IsInstruction last more all
 among (item ∷ items) last more all = among items last more (All-tail IsInstruction item ((items ++ last ∷ []) ++ more) all)
 
 -- bytes that are instructions alone have no single byte
-whole_stops : (bits : Bits) (base : ℕ) (bytes : List ℕ) (offset : ℕ) (error : DecodeError) (items : List Item) → IsSweep bits base bytes items →
+pub whole_stops : (bits : Bits) (base : ℕ) (bytes : List ℕ) (offset : ℕ) (error : DecodeError) (items : List Item) → IsSweep bits base bytes items →
     All IsInstruction items → StopsAt bits base bytes offset error → ⊥
 whole_stops bits base bytes offset error items sweep all s =
     let begun = s.sweep in
@@ -81,7 +81,7 @@ stops_same bits base offset bytes (z ∷ xs) (v ∷ ys) x y rest rest' e f h k a
     stop
     stop'
 
-stops_unique : (bits : Bits) (base : ℕ) (bytes : List ℕ) (at at' : ℕ) (e f : DecodeError) → StopsAt bits base bytes at e → StopsAt bits base bytes at' f →
+pub stops_unique : (bits : Bits) (base : ℕ) (bytes : List ℕ) (at at' : ℕ) (e f : DecodeError) → StopsAt bits base bytes at e → StopsAt bits base bytes at' f →
     (at ≡ at') × (e ≡ f)
 stops_unique bits base bytes at at' e f h k =
     let same = stops_same bits base 0 bytes h.items k.items h.last k.last h.sweep.0 k.sweep.0 e f h.sweep.1 k.sweep.1 h.all k.all h.stops k.stops in

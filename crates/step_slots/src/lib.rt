@@ -4,6 +4,8 @@
 
 mod block;
 mod commands;
+#[cfg(test)]
+mod model_tests;
 mod order;
 mod refusals;
 mod slots;

@@ -23,7 +23,7 @@ fn instr(code: u16, asize: Option<Bits>, first: Operand, second: Operand) -> Ins
 }
 
 /// NOP.
-fn nop() -> Instr {
+pub(crate) fn nop() -> Instr {
     instr(290, None, Operand::Absent, Operand::Absent)
 }
 
@@ -33,7 +33,7 @@ fn jump(target: u64) -> Instr {
 }
 
 /// MOV to RAX of 8 bytes at an address relative to RIP.
-fn load(address: u64) -> Instr {
+pub(crate) fn load(address: u64) -> Instr {
     let source = Mem {
         base: Some(Register::Rip),
         index: None,
@@ -50,7 +50,7 @@ fn load(address: u64) -> Instr {
 }
 
 /// An instruction of 64-bit mode at an address, if some bytes spell it there.
-fn placed(ip: u64, len: u8, instr: Instr) -> Result<Placed, Fail>
+pub(crate) fn placed(ip: u64, len: u8, instr: Instr) -> Result<Placed, Fail>
     ensures { IfOk result (λ item. IsPlaced Bits.B64 item) }
 {
     if len < 1 || len > 15 {
@@ -61,13 +61,18 @@ fn placed(ip: u64, len: u8, instr: Instr) -> Result<Placed, Fail>
 }
 
 /// Slots of 64-bit mode.
-fn slots_of(alloc: Global, base: u64, size: u64, max: u64) -> Result<StepSlots, OpenError>
+pub(crate) fn slots_of(
+    alloc: Global,
+    base: u64,
+    size: u64,
+    max: u64,
+) -> Result<StepSlots, OpenError>
     ensures { IfOk result (λ slots. slots.bits ≡ Bits.B64) }
 {
     StepSlots::make(alloc, Bits::B64, base, size, max)
 }
 
-fn step(slots: &mut StepSlots, alloc: Global, item: Placed) -> Result<u64, StepError>
+pub(crate) fn step(slots: &mut StepSlots, alloc: Global, item: Placed) -> Result<u64, StepError>
     requires bits { slots.old.bits ≡ Bits.B64 }
     requires placed { IsPlaced Bits.B64 item }
     ensures { slots.new.bits ≡ Bits.B64 }
@@ -75,7 +80,7 @@ fn step(slots: &mut StepSlots, alloc: Global, item: Placed) -> Result<u64, StepE
     slots.step(alloc, item)
 }
 
-fn finish(slots: &mut StepSlots, place: u64) -> Result<(), NotTaken>
+pub(crate) fn finish(slots: &mut StepSlots, place: u64) -> Result<(), NotTaken>
     requires { slots.old.bits ≡ Bits.B64 }
     ensures { slots.new.bits ≡ Bits.B64 }
 {

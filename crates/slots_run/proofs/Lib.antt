@@ -1,0 +1,5 @@
+pub mod Going
+pub mod Crowded
+pub mod Kept
+pub mod Unique
+pub mod Completing

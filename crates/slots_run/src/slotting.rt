@@ -1,0 +1,60 @@
+//! Slots for the code of a source.
+
+ghost use Rattle.std.specs.Prelude.{◌≡◌};
+ghost use Rattle.byte_ports.specs.Ports.{Rose};
+ghost use Rattle.run_parts.specs.Reads.{whole_limit, Takes, EndsAtFault};
+ghost use Rattle.slots_run.specs.Slotting.{SlotsAs, CompletesSlots};
+
+use crate::stepping::step_all;
+use byte_ports::{Sink, Source};
+use command_words::SlotRange;
+use run_parts::{ReadError, Status, WHOLE_LIMIT, put_all, read_all};
+use std::alloc::Global;
+use step_slots::StepSlots;
+
+/// The greatest number of slots.
+const MOST: u64 = 65_536;
+
+/// Reads the source to its end, as code of the range's mode whose first byte has the address `base`, gives each instruction a slot in the range, in order
+/// and each at its own address, which wraps, and writes the bytes of the range.
+///
+/// In this order: `ReadFault`, `TooLarge` above 1,048,576 bytes, `BadCode` at the first single byte of the sweep; at the first instruction that gets no
+/// slot `RegionFull` where no gap has the length that is reserved for it, else `TooFar`; `WriteFault`; `Memory` at any point. Nothing is written before all
+/// but `WriteFault` are past. At most 1,048,577 bytes are taken, and after `ReadFault` the source is not asked again.
+#[tactic(auto, unfolding(run_parts::specs::Reads::whole_limit))]
+pub fn slot_code<S: Source, K: Sink>(
+    alloc: Global,
+    range: &SlotRange,
+    base: u64,
+    source: &mut S,
+    out: &mut K,
+) -> Status
+    ensures answer { SlotsAs range.now base (S.left source.old) (S.left source.new) (K.held out.old) (K.held out.new)
+        (Rose (S.faults source.old) (S.faults source.new)) (Rose (K.faults out.old) (K.faults out.new)) result }
+    ensures complete { (Rose (S.faults source.old) (S.faults source.new) → ⊥) → (Rose (K.faults out.old) (K.faults out.new) → ⊥)
+        → CompletesSlots range.now base (S.left source.old) result }
+    ensures taken { Takes whole_limit (S.left source.old) (S.left source.new)
+        × (result ≡ Status.ReadFault → EndsAtFault S.pull_gives S.left source.new) }
+{
+    let input = match read_all(alloc, source, WHOLE_LIMIT) {
+        Ok(input) => input,
+        Err(ReadError::Fault) => return Status::ReadFault,
+        Err(ReadError::Memory) => return Status::Memory,
+        Err(ReadError::TooLarge) => {
+            return Status::TooLarge {
+                limit: u64::from(WHOLE_LIMIT),
+            };
+        }
+    };
+    let mut slots = match StepSlots::make(alloc, range.bits(), range.base(), range.size(), MOST) {
+        Ok(slots) => slots,
+        Err(_) => return Status::Memory,
+    };
+    if let Err(status) = step_all(alloc, range, base, &mut slots, &input) {
+        return status;
+    }
+    match put_all(out, slots.image()) {
+        Ok(()) => Status::Done,
+        Err(_) => Status::WriteFault,
+    }
+}

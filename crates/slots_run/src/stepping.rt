@@ -1,0 +1,90 @@
+//! A slot for each instruction of some code.
+
+ghost use Rattle.std.specs.Prelude.{◌≡◌, ◌≤◌, length, Some, None};
+ghost use Rattle.move_goals.specs.Items.{IsPlaced};
+ghost use Rattle.slots_run.specs.Slotted.{empty_slots};
+ghost use Rattle.slots_run.specs.Steps as spec;
+
+use command_words::SlotRange;
+use run_parts::Status;
+use std::alloc::Global;
+use step_slots::{Placed, StepError, StepSlots};
+use sweep_text::read_at;
+use x86_values::wrap;
+
+/// The status that tells why the instruction of this number gets no slot.
+fn status_of(number: u64, why: StepError) -> Status
+    ensures { result ≡ spec.status_of number why }
+{
+    match why {
+        StepError::Full { len, largest } => Status::RegionFull { len, largest },
+        StepError::TooManyBlocks { len, .. } => Status::RegionFull { len, largest: 0 },
+        StepError::TooFar { target } => Status::TooFar { at: number, target },
+        StepError::Memory => Status::Memory,
+    }
+}
+
+/// Gives the instruction of this number a slot, or tells by a status why it gets none. Behind one that got none there are no more slots.
+fn step_next(
+    alloc: Global,
+    slots: &mut StepSlots,
+    refused: Option<Status>,
+    number: u64,
+    item: Placed,
+) -> Option<Status>
+    requires { IsPlaced slots.old.bits item }
+    ensures { spec.IsNext slots.old refused number item result slots.new }
+{
+    if refused.is_some() {
+        return refused;
+    }
+    match slots.step(alloc, item) {
+        Ok(_) => None,
+        Err(why) => Some(status_of(number, why)),
+    }
+}
+
+/// Gives each instruction of some code, whose first byte has the address `base`, a slot, or tells by a status why not: by the first single byte of the
+/// code, or else by the first instruction that gets none.
+pub fn step_all(
+    alloc: Global,
+    range: &SlotRange,
+    base: u64,
+    slots: &mut StepSlots,
+    input: &[u8],
+) -> Result<(), Status>
+    requires empty { slots.old ≡ empty_slots range.now }
+    requires short { length input.now ≤ 1048576 }
+    ensures { spec.GoesThrough range.now base input.now result slots.new }
+{
+    let bits = range.bits();
+    let mut refused = None;
+    let mut number: u64 = 0;
+    let mut at: usize = 0;
+    while at < input.len() {
+        let (_, rest) = input.split_at(at);
+        match read_at(bits, base, at, rest) {
+            Ok(d) => {
+                let ip = wrap(bits, u128::from(base) + at as u128);
+                let item = Placed {
+                    ip,
+                    len: d.len,
+                    instr: d.instr,
+                };
+                refused = step_next(alloc, slots, refused, number, item);
+                number += 1;
+                at += usize::from(d.len);
+            }
+            Err(error) => {
+                return Err(Status::BadCode {
+                    offset: at as u64,
+                    error,
+                });
+            }
+        }
+    }
+    match refused {
+        None => Ok(()),
+        Some(status) => Err(status),
+    }
+}
