@@ -12,13 +12,11 @@ fn made_code_has_its_numbers(rt: HostRuntime) -> Result<(), Fail> {
         ),
         (
             "sample 10000",
-            b"instructions 65536\nbytes 245136\ntext 4321020\nmoved 269692\ngrown 6139\nsum 36579573\n"
-                .as_slice(),
+            b"instructions 65536\nbytes 245136\ntext 4321020\nmoved 269692\ngrown 6139\nsum 36579573\n".as_slice(),
         ),
         (
             "sample 00010000",
-            b"instructions 65536\nbytes 245136\ntext 4321020\nmoved 269692\ngrown 6139\nsum 36579573\n"
-                .as_slice(),
+            b"instructions 65536\nbytes 245136\ntext 4321020\nmoved 269692\ngrown 6139\nsum 36579573\n".as_slice(),
         ),
     ] {
         expect(&rt, command, &[0x0f, 0x04], Status::Done, lines, "")?;

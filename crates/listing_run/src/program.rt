@@ -18,8 +18,8 @@ use byte_ports::{Sink, Source};
 use command_words::{BlockWords, Command, command_of};
 use flow_run::flow_code;
 use moving_run::{Wanted, move_code};
-use sample_run::sample;
 use run_parts::{Status, put_all, say, status_line};
+use sample_run::sample;
 use slots_run::slot_code;
 use std::alloc::Global;
 use sweep::{Lines, StreamError, stream_lines};
@@ -138,13 +138,7 @@ fn answer<S: Source, K: Sink>(
             base,
             to,
             new_base,
-        } => go_through(
-            bits,
-            base,
-            Lines::Recode { to, new_base },
-            source,
-            out,
-        ),
+        } => go_through(bits, base, Lines::Recode { to, new_base }, source, out),
         Command::Flow { bits, base } => flow_code(alloc, bits, base, source, out),
         Command::Move { bits, old, new } => {
             move_whole(alloc, Wanted::MovedBytes, bits, old, new, source, out)
@@ -196,6 +190,9 @@ fn answer<S: Source, K: Sink>(
 /// address `REGION` on, in order, and writes the bytes of the range; `SIZE` is a multiple of 16 up to 1,048,576, in hexadecimal digits. It writes nothing but
 /// for `Done` and `WriteFault`, and answers `BadCode` at the first offset at which no instruction is read; at the first instruction that gets no slot
 /// `RegionFull` where no gap has its length, else `TooFar`.
+///
+/// `sample N` makes 1 to 65,536 instructions, `N` in hexadecimal, lists them at 400000 and moves them to 10400000 in 64-bit mode, and writes six numbers of what
+/// came of it: `answer` says by `SamplesAs` that they are so by definition, and that nothing but want of memory hinders it. It reads nothing.
 ///
 /// `rows` writes a line for each row of the table of instructions, and `--help` and `--version` write a text; they read nothing and take no memory.
 /// Each status other than `Done` has a line that is written to `err`.

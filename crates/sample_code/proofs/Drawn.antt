@@ -1,11 +1,10 @@
 -- Each instruction that is drawn is spelled, and aimed low.
-use Rattle.std.proofs.Common.{◌≡◌, ℕ, zero, suc, ◌+◌, ◌*◌, ◌/◌, ◌%◌, ◌^◌, ◌<◌, ◌≤◌, ◌⊎◌, inl, inr, true, List, [], ◌∷◌, ◌++◌, length, Some, None, refl, sym, ap, ◌∙◌, subst, arith, slice_get, nat_lt}
+use Rattle.std.proofs.Common.{◌≡◌, ℕ, zero, suc, ◌+◌, ◌*◌, ◌/◌, ◌%◌, ◌^◌, ◌<◌, ◌≤◌, true, List, [], ◌∷◌, ◌++◌, length, Some, None, refl, ap, arith, slice_get, nat_lt}
 use Rattle.std.proofs.lemmas.Bool.{lt-ltb}
 use Rattle.x86_values.specs.declared.Bits.TheVariants.{B64}
 use Rattle.x86_values.specs.declared.Instr.{Instr}
 use Rattle.x86_values.specs.Wrapping.{wrapped}
 use Rattle.row_types.specs.declared.Row.{Row}
-use Rattle.instruction_parts.specs.declared.spelling.ModRm.{ModRm}
 use Rattle.instruction_parts.specs.declared.spelling.Spelling.{Spelling}
 use Rattle.instruction_parts.specs.Bytes.{vex_last_byte, vex_bytes, lead_bytes, tail_bytes, front_bytes, bytes_of}
 use Rattle.row_fit.specs.Fits.{fits}
@@ -39,9 +38,6 @@ by_parts ip code row s bytes at is fit some short aim = record {
   spelled = (omega arith, (row, at, (s, record { bytes_are = is; fitting = fit; means = refl })));
   aim = aim;
 }
-
-below : (n x : ℕ) → x % suc n < suc n
-below n x = omega arith
 
 -- the four bytes of a number are bytes
 byte : (x : ℕ) → nat_lt (x % 256) 256 ≡ true

@@ -1,6 +1,6 @@
 -- The rows of the instructions that are drawn.
-use Rattle.std.proofs.Common.{◌≡◌, ℕ, List, [], ◌∷◌, refl, slice_get}
-use Rattle.std.specs.Prelude.{Option, Some}
+use Rattle.std.proofs.Common.{◌≡◌, ℕ, [], ◌∷◌, refl, slice_get}
+use Rattle.std.specs.Prelude.{Some}
 use Rattle.row_types.specs.declared.Row.{Row}
 use Rattle.row_types.specs.declared.RowKind.TheVariants.{Legacy, Vex}
 use Rattle.row_types.specs.declared.Map.TheVariants.{One, M0f}

@@ -1,9 +1,6 @@
 -- Each instruction that is drawn is spelled by its bytes.
-use Rattle.std.proofs.Common.{◌≡◌, ℕ, zero, suc, ◌+◌, ◌*◌, ◌/◌, ◌%◌, ◌^◌, ◌<◌, ◌≤◌, Bool, true, false, List, [], ◌∷◌, ◌++◌, length, Option, Some, None, nat_lt, refl, sym, ap, ◌∙◌, arith, slice_get}
+use Rattle.std.proofs.Common.{◌≡◌, ℕ, true, false, List, [], ◌∷◌, Option, Some, None, nat_lt, refl}
 use Rattle.x86_values.specs.declared.Bits.TheVariants.{B64}
-use Rattle.x86_values.specs.declared.Code.{Code}
-use Rattle.x86_values.specs.declared.Instr.{Instr}
-use Rattle.row_types.specs.declared.Row.{Row}
 use Rattle.row_types.specs.declared.Map.TheVariants.{M0f}
 use Rattle.instruction_parts.specs.declared.spelling.Vex.{Vex}
 use Rattle.instruction_parts.specs.declared.spelling.ModRm.{ModRm}
@@ -14,8 +11,6 @@ use Rattle.instruction_parts.specs.Front.{forbids_vex, prefix_run}
 use Rattle.instruction_parts.specs.Kinds.{file_of, immediate_width, method_of}
 use Rattle.instruction_parts.specs.Sizes.{address_size, bit_b, bit_r, bit_w, bit_x, exists_in, operand_size, state_size}
 use Rattle.row_fit.specs.Fits.{address_fits, class_fits, destination_fits, displacement_bytes, fields_in_range, fits, gather_fits, immediate_bytes, immediates_bytes, index_number, is_control_number, is_displacement_alone, is_memory_method, is_opcode, is_vex_of_mode, l_fits, legacy_class_fits, lengths_fit, lock_fits, modrm_in_range, modrm_rule_fits, needs_sib, nop_fits, opcode_allows, opcode_and_modrm_fit, opcode_fits, opcode_is_kept, place_allows, place_fits, prefixes_fit, reads_mode, reg_number, register_fits, registers_fit, rm_number, sib_in_range, size_fits, sizes_fit, state_fits, tail_fits, vex_class_fits, vex_fits, vex_in_range, vvvv_fits, vvvv_number, w_fits}
-use Rattle.row_meaning.specs.Meaning.{disp_size_of, general, has_memory, immediates_before, instr_of, kept_address_size, kept_repeat, little_endian, meaning, memory_alone, memory_at_base, memory_flat, memory_of, memory_operand, near_target, operand_at, operand_by, own_immediate, register_of, sign_extended, vector}
-use Rattle.row_relation.specs.Spells.{IsSpelledBy}
 use Rattle.sample_code.proofs.Rows.{nop_row, store_row, number_row, load_row, branch_row, call_row, wide_load_row, add_row}
 
 -- the parts of an instruction without SIB
@@ -42,7 +37,7 @@ short_vex = record { three = false; r = false; x = false; b = false; w = false; 
 
 pub fits-nop : fits B64 nop_row (parts [] None 0x90 None [] []) ≡ true
 unfolding vex_last_byte vex_map_byte vex_bytes lead_bytes tail_bytes front_bytes bytes_of state_from state_of is_segment is_legacy_prefix is_prefix has_lock has_66 has_67 counting_repeat segment_named counting_segment counting_rex method_of file_of immediate_width exists_in operand_size address_size bit_r bit_x bit_b bit_w state_size reads_mode reg_number rm_number vvvv_number index_number prefixes_fit legacy_class_fits vex_class_fits class_fits is_vex_of_mode is_opcode opcode_allows opcode_is_kept vex_fits opcode_fits modrm_rule_fits place_allows place_fits opcode_and_modrm_fit size_fits w_fits l_fits sizes_fit vvvv_fits needs_sib is_displacement_alone displacement_bytes address_fits immediate_bytes immediates_bytes lengths_fit is_memory_method lock_fits is_control_number register_fits destination_fits gather_fits nop_fits registers_fit vex_in_range modrm_in_range sib_in_range fields_in_range tail_fits state_fits fits forbids_vex prefix_run
-fits-nop  = refl
+fits-nop = refl
 
 pub fits-store : (reg : ℕ) → (rm : ℕ) → nat_lt reg 8 ≡ true → nat_lt rm 8 ≡ true → fits B64 store_row (parts (0x48 ∷ []) None 0x89 (registers reg rm) [] []) ≡ true
 unfolding vex_last_byte vex_map_byte vex_bytes lead_bytes tail_bytes front_bytes bytes_of state_from state_of is_segment is_legacy_prefix is_prefix has_lock has_66 has_67 counting_repeat segment_named counting_segment counting_rex method_of file_of immediate_width exists_in operand_size address_size bit_r bit_x bit_b bit_w state_size reads_mode reg_number rm_number vvvv_number index_number prefixes_fit legacy_class_fits vex_class_fits class_fits is_vex_of_mode is_opcode opcode_allows opcode_is_kept vex_fits opcode_fits modrm_rule_fits place_allows place_fits opcode_and_modrm_fit size_fits w_fits l_fits sizes_fit vvvv_fits needs_sib is_displacement_alone displacement_bytes address_fits immediate_bytes immediates_bytes lengths_fit is_memory_method lock_fits is_control_number register_fits destination_fits gather_fits nop_fits registers_fit vex_in_range modrm_in_range sib_in_range fields_in_range tail_fits state_fits fits forbids_vex prefix_run

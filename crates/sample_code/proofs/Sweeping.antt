@@ -1,5 +1,5 @@
 -- The sweep of made code.
-use Rattle.std.proofs.Common.{◌≡◌, ℕ, zero, suc, ◌+◌, ◌*◌, ◌%◌, ◌^◌, ◌<◌, ◌≤◌, List, [], ◌∷◌, ◌++◌, length, take, drop, refl, sym, ap, ◌∙◌, subst, arith, length-append}
+use Rattle.std.proofs.Common.{◌≡◌, ℕ, zero, suc, ◌+◌, ◌*◌, ◌≤◌, List, [], ◌∷◌, ◌++◌, length, take, drop, refl, sym, ap, subst, arith, length-append}
 use Rattle.std.specs.Prelude.{All}
 use Rattle.std.proofs.Math.Nat.{mod-eq_of_lt}
 use Rattle.std.proofs.Math.Seq.{take-append_seam, drop-append_seam}
@@ -9,7 +9,7 @@ use Rattle.x86_values.specs.declared.Decoded.{Decoded}
 use Rattle.x86_values.specs.Wrapping.{wrapped}
 use Rattle.row_relation.specs.Spells.{Read, Spells}
 use Rattle.opcode_rows.specs.Table.{table}
-use Rattle.opcode_rows.specs.Sweep.{Item, IsReadAt, IsItemAt, Sweeps, item_len}
+use Rattle.opcode_rows.specs.Sweep.{Item, IsReadAt, IsItemAt, Sweeps}
 use Rattle.sample_code.specs.Generator.{next_state, drawn, instr_bytes, code_from, code_of, code_base}
 use Rattle.sample_code.specs.Made.{IsMade, HasInstructions}
 use Rattle.sample_code.proofs.Drawn.{IsOne, drawn-one}

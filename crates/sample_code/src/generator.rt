@@ -11,9 +11,6 @@ use std::alloc::{AllocError, Global};
 /// The address of the first byte of made code.
 pub const CODE_BASE: u64 = 0x40_0000;
 
-/// How many instructions are made at most.
-pub const MOST_INSTRUCTIONS: u32 = 65_536;
-
 /// The state behind another one.
 #[tactic(auto, unfolding(crate::specs::Generator::next_state))]
 fn next_state(state: u64) -> u64

@@ -4,4 +4,4 @@
 mod generator;
 pub mod laws;
 
-pub use generator::{CODE_BASE, MOST_INSTRUCTIONS, sample_code};
+pub use generator::{CODE_BASE, sample_code};

@@ -1,7 +1,5 @@
 -- How far a sweep has come, and the text of its listing.
-use Rattle.std.proofs.Common.{◌≡◌, ℕ, ◌+◌, ◌-◌, ◌*◌, ◌<◌, ◌≤◌, List, [], ◌∷◌, ◌++◌, length, take, drop, refl, sym, ap, ◌∙◌, subst, arith, append_assoc, append-nil, length-append, length-drop, length-take, drop-drop, drop_of_length-le}
-use Rattle.std.specs.List.{flat_map}
-use Rattle.std.proofs.lemmas.List.{flat_map_more}
+use Rattle.std.proofs.Common.{◌≡◌, ℕ, ◌+◌, ◌*◌, ◌≤◌, List, [], ◌∷◌, ◌++◌, length, take, drop, refl, sym, ap, ◌∙◌, subst, arith, append_assoc, append-nil, length-append, length-drop, length-take, drop-drop, drop_of_length-le}
 use Rattle.x86_values.specs.declared.Bits.TheVariants.{B64}
 use Rattle.row_relation.specs.Spells.{Reading}
 use Rattle.opcode_rows.specs.Sweep.{Item, IsReadAt, IsItemAt, IsSweep, Sweeps, item_len}

@@ -1,8 +1,8 @@
 -- Made code that was moved: its new places are low, and each instruction reaches its goal.
-use Rattle.std.proofs.Common.{◌≡◌, ◌⊎◌, inl, inr, ℕ, zero, suc, ◌+◌, ◌-◌, ◌*◌, ◌/◌, ◌^◌, ◌<◌, ◌≤◌, Bool, true, false, ◌&&◌, List, [], ◌∷◌, length, get_or, Option, Some, None, refl, sym, ap, ◌∙◌, subst, arith}
+use Rattle.std.proofs.Common.{◌≡◌, ℕ, zero, suc, ◌+◌, ◌-◌, ◌*◌, ◌^◌, ◌<◌, ◌≤◌, Bool, ◌&&◌, List, [], ◌∷◌, length, get_or, Option, Some, None, refl, sym, ap, ◌∙◌, subst, arith}
 use Rattle.std.specs.Prelude.{not, is_some, nat_lt, ◌==◌, if◌then◌else◌, slice_get, sum_by}
 use Rattle.std.proofs.lemmas.List.Sums.{sum_by-cons}
-use Rattle.std.proofs.lemmas.Bool.{cond_both, cond-true, cond-false, lt-ltb, le-ltb}
+use Rattle.std.proofs.lemmas.Bool.{cond_both, cond-true, lt-ltb, le-ltb}
 use Rattle.x86_values.specs.declared.Bits.TheVariants.{B64}
 use Rattle.x86_values.specs.declared.Instr.{Instr}
 use Rattle.operand_info.specs.Operands.{near_value, first_value}
@@ -14,7 +14,7 @@ use Rattle.branch_sizes.specs.declared.plan.Form.TheVariants.{Itself}
 use Rattle.branch_sizes.specs.declared.plan.Reach.{Reach}
 use Rattle.branch_sizes.specs.declared.plan.Reach.TheVariants.{Always, Signed32}
 use Rattle.branch_sizes.specs.Plan.{IsWellFormed, no_choice}
-use Rattle.branch_sizes.specs.Layout.{IsLayout, IsLeast, Reaches, total, block_number, first_of_block, span_at, chosen, image_length, place}
+use Rattle.branch_sizes.specs.Layout.{IsLeast, Reaches, total, block_number, span_at, image_length, place}
 use Rattle.branch_sizes.proofs.Totals.{total_small}
 use Rattle.branch_sizes.proofs.Rising.{image_short}
 use Rattle.moved_targets.specs.Targets.{target_of, target_reach}
@@ -22,7 +22,7 @@ use Rattle.branch_forms.specs.declared.branch.RelativeBranch.{RelativeBranch}
 use Rattle.branch_forms.specs.Branches.{branch_by, branch_of}
 use Rattle.branch_forms.specs.Choices.{choices_by, choices_of}
 use Rattle.move_goals.specs.declared.items.Placed.{Placed}
-use Rattle.move_goals.specs.Items.{AreSpansOf, ArePlaced, item_at, one_span, passes, first_below, first_passing}
+use Rattle.move_goals.specs.Items.{AreSpansOf, ArePlaced, item_at, one_span, first_passing}
 use Rattle.move_goals.specs.Goals.{is_in_block_of, begins_at, own_item, other_item, goal_among, goal_of_target, goal_of, goal_at}
 use Rattle.move_goals.specs.Plan.{plan_with, plan_for}
 use Rattle.move_goals.proofs.First.{some_below}

@@ -1,10 +1,10 @@
 -- The moving of made code is refused for want of memory alone.
-use Rattle.std.proofs.Common.{◌≡◌, ◌⊎◌, inl, inr, ℕ, zero, suc, ◌+◌, ◌*◌, ◌^◌, ◌<◌, ◌≤◌, List, [], ◌∷◌, ◌++◌, length, get_or, Option, Some, None, refl, sym, ap, ◌∙◌, subst, arith, append-nil}
+use Rattle.std.proofs.Common.{◌≡◌, inl, inr, ℕ, zero, suc, ◌+◌, ◌^◌, ◌<◌, ◌≤◌, List, [], ◌∷◌, ◌++◌, length, Option, Some, None, refl, sym, ap, ◌∙◌, subst, arith, append-nil}
 use Rattle.std.specs.Prelude.{All, nat_lt, ◌==◌, if◌then◌else◌}
-use Rattle.std.proofs.lemmas.Bool.{le-ltb, ne_eqb, cases_Bool}
+use Rattle.std.proofs.lemmas.Bool.{le-ltb, ne_eqb}
 use Rattle.std.proofs.lemmas.List.Elements.{All-nil, All-cons, All-head, All-tail}
 use Rattle.x86_values.specs.declared.Bits.TheVariants.{B64}
-use Rattle.row_relation.specs.Spells.{Reading, Read}
+use Rattle.row_relation.specs.Spells.{Reading}
 use Rattle.opcode_rows.specs.Sweep.{Item, IsSweep}
 use Rattle.sweep_text.specs.Lines.{error_of}
 use Rattle.sweep_text.proofs.OneSweep.{sweep_unique}

@@ -1,4 +1,4 @@
-use Rattle.std.proofs.Common.{ℕ, ◌<◌, ◌≤◌, List, length, arith, ◌∙◌, ap, refl}
+use Rattle.std.proofs.Common.{ℕ, ◌<◌, length, arith, ◌∙◌, ap, refl}
 use Rattle.decoder.specs.Answer.{reading_of}
 use Rattle.sweep_text.proofs.Covering.{takes-some}
 use Rattle.sample_run.proofs.Listed.{listed-more, listed-end}

@@ -1,11 +1,10 @@
-use Rattle.std.proofs.Common.{◌≡◌, ◌≤◌, ◌*◌, ℕ, List, length, refl, sym, ap, ◌∙◌, arith, subst, sum}
+use Rattle.std.proofs.Common.{◌≤◌, ℕ, List, length, refl, sym, ap, ◌∙◌, arith, subst, sum}
 use Rattle.move_goals.specs.declared.items.Placed.{Placed}
 use Rattle.moving_run.specs.Code.{placed_in}
 use Rattle.sample_run.specs.Sample.{grown}
-use Rattle.opcode_rows.specs.Sweep.{Item, IsSweep}
+use Rattle.opcode_rows.specs.Sweep.{IsSweep}
 use Rattle.x86_values.specs.declared.Bits.TheVariants.{B64}
 use Rattle.sample_code.specs.Generator.{code_base, code_of}
-use Rattle.sample_code.specs.Made.{HasInstructions}
 use Rattle.sample_code.proofs.Sweeping.{has-instructions}
 use Rattle.moving_run.specs.Moving.{IsRefusal, MovesInput}
 use Rattle.moving_run.proofs.Moved.{forms_length}
