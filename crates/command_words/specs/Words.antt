@@ -9,10 +9,11 @@ use Rattle.x86_values.specs.Wrapping.{width}
 use Rattle.sweep_text.specs.declared.syntax.Syntax.{Syntax}
 use Rattle.sweep_text.specs.declared.syntax.Syntax.TheVariants.{Intel, Att, Masm}
 use Rattle.command_words.specs.declared.commands.Command.{Command}
-use Rattle.command_words.specs.declared.commands.Command.TheVariants.{Help, Version, List as ListCommand, Info, Recode, Flow, Move, Map, Blocks, Slots, Rows, Wrong}
+use Rattle.command_words.specs.declared.commands.Command.TheVariants.{Help, Version, List as ListCommand, Info, Recode, Flow, Move, Map, Blocks, Slots, Rows, Sample, Wrong}
 use Rattle.command_words.specs.declared.commands.BlockWords.{BlockWords}
 use Rattle.command_words.specs.declared.commands.Through.{Through}
 use Rattle.command_words.specs.declared.commands.Through.TheVariants.{List as ThroughList, Info as ThroughInfo, Recode as ThroughRecode, Flow as ThroughFlow, Move as ThroughMove, Map as ThroughMap, Slots as ThroughSlots}
+use Rattle.command_words.specs.Counts.{count_of}
 use Rattle.command_words.specs.Ranges.{Range, range_of}
 
 -- the texts of some words
@@ -196,6 +197,21 @@ unfoldable pub blocks_words : List (List ℕ) → Command
 blocks_words [] = Wrong 2
 blocks_words (mode ∷ words) = blocks_bits (mode_named mode) words
 
+-- the number of instructions to make, where it is one
+unfoldable pub count_in : Option ℕ → Option ℕ
+count_in None = None
+count_in (Some count) = count_of count
+
+-- the words behind `sample` and a word for N
+unfoldable pub sample_count : Option ℕ → List (List ℕ) → Command
+sample_count None words = Wrong 2
+sample_count (Some count) words = at_end words 3 (Sample count)
+
+-- the words behind `sample`
+unfoldable pub sample_words : List (List ℕ) → Command
+sample_words [] = Wrong 2
+sample_words (count ∷ words) = sample_count (count_in (number_named count)) words
+
 -- the command of some words, or the number of the first word, counted from 1, that is not allowed, missing or too many
 unfoldable pub command_of : List (List ℕ) → Command
 command_of [] = Wrong 1
@@ -209,5 +225,6 @@ command_of (name ∷ words) =
     else (if same_text name (codes "slots") then code_words ThroughSlots words
     else (if same_text name (codes "blocks") then blocks_words words
     else (if same_text name (codes "rows") then at_end words 2 Rows
+    else (if same_text name (codes "sample") then sample_words words
     else (if same_text name (codes "--help") then at_end words 2 Help
-    else (if same_text name (codes "--version") then at_end words 2 Version else Wrong 1))))))))))
+    else (if same_text name (codes "--version") then at_end words 2 Version else Wrong 1)))))))))))

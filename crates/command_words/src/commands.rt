@@ -1,5 +1,6 @@
 //! The commands of the program.
 
+use crate::count::SampleCount;
 use crate::range::SlotRange;
 use arrayvec::ArrayVec;
 use sweep_text::Syntax;
@@ -62,6 +63,10 @@ pub enum Command {
     },
     /// The lines of the table's rows.
     Rows,
+    /// The numbers of so many instructions that are made, listed and moved.
+    Sample {
+        count: SampleCount,
+    },
     /// The word of this number, from 1, is not allowed, missing or too many.
     Wrong {
         word: u64,

@@ -2,9 +2,11 @@
 #![tactic(auto)]
 
 mod commands;
+mod count;
 mod range;
 mod words;
 
 pub use commands::{BlockWords, Command, Through};
+pub use count::SampleCount;
 pub use range::SlotRange;
 pub use words::command_of;

@@ -6,6 +6,7 @@ ghost use Rattle.hex.specs.Hex.{hex_digit_value};
 ghost use Rattle.command_words.specs.Words as spec;
 
 use crate::commands::{BlockWords, Command, Through};
+use crate::count::SampleCount;
 use crate::range::SlotRange;
 use arrayvec::ArrayVec;
 use sweep_text::Syntax;
@@ -453,6 +454,36 @@ fn blocks_words(words: &[&str]) -> Command
     }
 }
 
+/// The number of instructions to make, where it is one.
+#[tactic(auto, unfolding(crate::specs::Words::count_in))]
+fn count_in(count: Option<u64>) -> Option<SampleCount>
+    ensures { result ≡ spec.count_in count }
+{
+    SampleCount::new(count?)
+}
+
+/// The words behind `sample` and a word for `N`.
+#[tactic(auto, unfolding(crate::specs::Words::sample_count))]
+fn sample_count(count: Option<SampleCount>, words: &[&str]) -> Command
+    ensures { result ≡ spec.sample_count count (spec.texts words.now) }
+{
+    match count {
+        None => Command::Wrong { word: 2 },
+        Some(count) => at_end(words, 3, Command::Sample { count }),
+    }
+}
+
+/// The words behind `sample`.
+#[tactic(auto, unfolding(crate::specs::Words::sample_words))]
+fn sample_words(words: &[&str]) -> Command
+    ensures { result ≡ spec.sample_words (spec.texts words.now) }
+{
+    match words {
+        [] => Command::Wrong { word: 2 },
+        [count, words @ ..] => sample_count(count_in(number_named(count)), words),
+    }
+}
+
 /// The command of some words, or the first word that is not allowed, missing or too many.
 #[tactic(auto, unfolding(crate::specs::Words::command_of))]
 pub fn command_of(words: &[&str]) -> Command
@@ -479,6 +510,8 @@ pub fn command_of(words: &[&str]) -> Command
                 blocks_words(words)
             } else if is(name, "rows") {
                 at_end(words, 2, Command::Rows)
+            } else if is(name, "sample") {
+                sample_words(words)
             } else if is(name, "--help") {
                 at_end(words, 2, Command::Help)
             } else if is(name, "--version") {

@@ -11,7 +11,11 @@ use std::process::ExitCode;
 #[cfg(test)]
 mod flow_tests;
 #[cfg(test)]
+mod hostile_tests;
+#[cfg(test)]
 mod moving_tests;
+#[cfg(test)]
+mod sample_tests;
 #[cfg(test)]
 mod slots_tests;
 #[cfg(test)]

@@ -5,7 +5,7 @@ use Rattle.x86_values.specs.declared.Bits.{Bits}
 use Rattle.sweep_text.specs.declared.lines.Lines.{Lines}
 use Rattle.sweep_text.specs.declared.lines.Lines.TheVariants.{Listing, Info as InfoLines, Recode as RecodeLines}
 use Rattle.command_words.specs.declared.commands.Command.{Command}
-use Rattle.command_words.specs.declared.commands.Command.TheVariants.{Help, Version, List as ListCommand, Info, Recode, Flow, Move, Map, Blocks, Slots, Rows, Wrong}
+use Rattle.command_words.specs.declared.commands.Command.TheVariants.{Help, Version, List as ListCommand, Info, Recode, Flow, Move, Map, Blocks, Slots, Rows, Sample, Wrong}
 use Rattle.command_words.specs.declared.commands.BlockWords.{BlockWords}
 use Rattle.run_parts.specs.declared.status.Status.{Status}
 use Rattle.run_parts.specs.declared.status.Status.TheVariants.{Done, Usage, BadCode, ReadFault, WriteFault, TooLarge}
@@ -17,6 +17,7 @@ use Rattle.sweep.specs.Ends.{CompletesStream, CompletesListing}
 use Rattle.flow_run.specs.Flowing.{FlowsAs, CompletesFlow}
 use Rattle.moving_run.specs.declared.moving.Wanted.TheVariants.{MovedBytes, MapLines}
 use Rattle.moving_run.specs.Moving.{MovesAs, CompletesMoving}
+use Rattle.sample_run.specs.Sample.{SamplesAs, CompletesSample}
 use Rattle.slots_run.specs.Slotting.{SlotsAs, CompletesSlots}
 use Rattle.listing_run.specs.Texts.{help_text, version_text}
 use Rattle.listing_run.specs.Rows.{rows_text}
@@ -50,6 +51,7 @@ abbrev pub RunsAs : Command → Option (List ℕ) → Option (List ℕ) → Opti
 RunsAs (Wrong word) left left' held held' source_rose out_rose status = status ≡ Usage word
 RunsAs Help left left' held held' source_rose out_rose status = WritesAs help_text held held' out_rose status
 RunsAs Version left left' held held' source_rose out_rose status = WritesAs version_text held held' out_rose status
+RunsAs (Sample count) left left' held held' source_rose out_rose status = SamplesAs count held held' out_rose status
 RunsAs Rows left left' held held' source_rose out_rose status = WritesAs rows_text held held' out_rose status
 RunsAs (ListCommand bits base syntax) left left' held held' source_rose out_rose status =
     GoesThroughAs bits base (Listing syntax) left left' held held' source_rose out_rose status
@@ -118,4 +120,5 @@ Completes (Move bits old new) left status = CompletesMoving MovedBytes bits (one
 Completes (Map bits old new) left status = CompletesMoving MapLines bits (one_block old new) left status
 Completes (Blocks bits blocks) left status = CompletesMoving MovedBytes bits blocks.items left status
 Completes (Slots old range) left status = CompletesSlots range old left status
+Completes (Sample count) left status = CompletesSample status
 Completes _ left status = status ≡ Done

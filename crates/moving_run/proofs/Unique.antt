@@ -87,8 +87,8 @@ stops_unique bits base bytes at at' e f h k =
     let same = stops_same bits base 0 bytes h.items k.items h.last k.last h.sweep.0 k.sweep.0 e f h.sweep.1 k.sweep.1 h.all k.all h.stops k.stops in
     (sym h.offset_is ∙ (same.0 ∙ k.offset_is), same.1)
 
--- blocks of instructions alone have no single byte
-swept_not_bad : {bits : Bits} {words : List BlockWords} {bytes : List ℕ} {start at : ℕ} {error : DecodeError} → IsBadAt bits words bytes start at error →
+-- **blocks of instructions alone have no single byte**
+pub swept_not_bad : {bits : Bits} {words : List BlockWords} {bytes : List ℕ} {start at : ℕ} {error : DecodeError} → IsBadAt bits words bytes start at error →
     (items : List (List Item)) → AreSwept bits words bytes items → ⊥
 swept_not_bad {words = []} bad items swept = elim bad [ ]
 swept_not_bad {words = w ∷ ws} (here s) [] swept = swept

@@ -5,4 +5,4 @@ mod code;
 mod map;
 mod moving;
 
-pub use moving::{Wanted, move_code};
+pub use moving::{MovedCode, Wanted, move_code, move_input};

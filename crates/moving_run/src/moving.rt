@@ -27,13 +27,14 @@ pub enum Wanted {
 
 /// The instructions of some code, and the blocks that they were moved to.
 #[derive(Drop)]
-struct MovedCode {
-    items: Vec<Placed>,
-    blocks: MovedBlocks,
+pub struct MovedCode {
+    pub items: Vec<Placed>,
+    pub blocks: MovedBlocks,
 }
 
-/// Cuts the input into blocks of code of a mode and moves them, or tells by a status why not.
-fn move_input(
+/// Cuts the input into blocks of code of a mode and moves them, or tells by a status why not: in this order `BadCode`, `TooMany`, `Wraps` and `TooFar`, as
+/// [`move_code`] does, and `Memory` at any point.
+pub fn move_input(
     alloc: Global,
     bits: Bits,
     words: &[BlockWords],

@@ -1,0 +1,50 @@
+//! How many instructions are made.
+
+ghost use Rattle.std.specs.Prelude.{◌≡◌, ◌≤◌};
+ghost use Rattle.command_words.specs.Counts.{count_of};
+
+use std::marker::Model;
+
+/// A number of instructions to make: 1 to 65,536.
+#[derive(Clone, Copy, PartialEq, Eq, Debug)]
+pub struct SampleCount {
+    count: u32,
+}
+
+impl Model for SampleCount {
+    ghost use Rattle.std.specs.Prelude.{ℕ};
+    ghost use Rattle.command_words.specs.Counts.{IsCount};
+
+    ghost Value = { ℕ };
+
+    ghost view = { λ c. c.count };
+
+    ghost invariant = { λ c. IsCount c.count };
+
+    ghost inverse = { λ count. record { count = count } };
+}
+
+impl SampleCount {
+    /// The number, where it is 1 to 65,536.
+    #[tactic(auto, unfolding(crate::specs::Counts::count_of))]
+    pub fn new(count: u64) -> Option<SampleCount>
+        ensures { result ≡ count_of count }
+    {
+        if count != 0 && count <= 65_536 {
+            Some(SampleCount {
+                count: count as u32,
+            })
+        } else {
+            None
+        }
+    }
+
+    /// The number.
+    #[inline]
+    pub fn get(&self) -> u32
+        ensures value { result ≡ self.now }
+        ensures few { result ≤ 65536 }
+    {
+        self.count
+    }
+}

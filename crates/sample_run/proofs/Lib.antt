@@ -1,0 +1,4 @@
+pub mod Listed
+pub mod Reaching
+pub mod Refusing
+pub mod Unique

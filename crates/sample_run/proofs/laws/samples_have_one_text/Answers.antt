@@ -1,0 +1,5 @@
+use Rattle.sample_run.proofs.Unique.{one-text}
+use Rattle.sample_run.proofs.laws.samples_have_one_text.Goals as goal
+
+pub returns : goal.returns
+returns c = one-text

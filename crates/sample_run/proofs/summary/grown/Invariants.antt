@@ -1,0 +1,10 @@
+use Rattle.std.proofs.Common.{◌≡◌, ◌≤◌}
+use Rattle.branch_sizes.specs.Layout.{total}
+use Rattle.sample_run.specs.Sample.{grows}
+use Rattle.sample_run.proofs.summary.grown.Given as goal
+
+abbrev pub invariant-loop-k : goal.invariant-loop-k
+invariant-loop-k l = record {
+  counted : l.count ≡ total (grows l.items l.forms) l.k;
+  small : l.count ≤ l.k;
+}
