@@ -1,5 +1,5 @@
 -- How a run ends that meets no fault.
-use Rattle.std.proofs.Common.{◌≡◌, ℕ, List, Option, Result, Ok, Err, refl, ap}
+use Rattle.std.proofs.Common.{ℕ, List, Option, Ok, Err, refl}
 use Rattle.x86_values.specs.declared.Bits.{Bits}
 use Rattle.sweep_text.specs.declared.syntax.Syntax.{Syntax}
 use Rattle.sweep_text.specs.declared.lines.Lines.TheVariants.{Listing}
