@@ -9,14 +9,14 @@ use Rattle.byte_ports.specs.Ports.{with_front}
 use Rattle.x86_values.specs.declared.Bits.{Bits}
 use Rattle.decoder.specs.declared.DecodeError.{DecodeError}
 use Rattle.sweep_text.specs.declared.lines.Lines.{Lines}
-use Rattle.opcode_rows.specs.Sweep.{Item, IsItemAt, Sweeps, IsSweep, item_len}
+use Rattle.opcode_rows.specs.Sweep.{Item, Sweeps, IsSweep, item_len}
 use Rattle.sweep_text.specs.Lines.{stop_of, GoesOn}
 use Rattle.sweep_text.proofs.OneSweep.{item_unique, sweep_begins, begin_each_other, sweep_unique}
-use Rattle.run_parts.specs.Reads.{code_limit, ReadsAll, ReadsTooMany}
+use Rattle.run_parts.specs.Reads.{code_limit, ReadsAll}
 use Rattle.sweep.specs.declared.error.StreamError.{StreamError}
 use Rattle.sweep.specs.declared.error.StreamError.TheVariants.{BadCode, ReadFault, WriteFault, TooLarge}
 use Rattle.sweep.specs.Steps.{IsReady}
-use Rattle.sweep.specs.Streams.{AreHandled, Sees, MayHandle, WritesLinesBefore, StreamsAs}
+use Rattle.sweep.specs.Streams.{AreHandled, Sees, WritesLinesBefore, StreamsAs}
 use Rattle.sweep.specs.Ends.{end_of, CompletesStream, CompletesListing}
 use Rattle.sweep_text.specs.declared.syntax.Syntax.{Syntax}
 use Rattle.sweep_text.specs.declared.lines.Lines.TheVariants.{Listing}

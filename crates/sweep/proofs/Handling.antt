@@ -12,12 +12,11 @@ use Rattle.decoder.specs.declared.DecodeError.{DecodeError}
 use Rattle.decoder.specs.declared.DecodeError.TheVariants.{Invalid as InvalidError, TooShort as TooShortError}
 use Rattle.decoder.specs.Answer.{reading_of}
 use Rattle.sweep_text.specs.declared.lines.Lines.{Lines}
-use Rattle.opcode_rows.specs.Sweep.{Item, IsItemAt, Sweeps, item_len}
+use Rattle.opcode_rows.specs.Sweep.{Item, Sweeps, item_len}
 use Rattle.sweep_text.specs.Lines.{GoesOn, line_of, lines_of}
 use Rattle.run_parts.specs.Writing.{HoldsFront, Moves}
 use Rattle.run_parts.proofs.Held.{Held, held-start, held-step, held-end, held-failed}
-use Rattle.sweep.specs.Steps.{IsReady, WritesItem, StopsAtItem, HandlesEnd, HandlesItems, HandlesFront}
-use Rattle.sweep.specs.declared.ready.Handled.{Handled}
+use Rattle.sweep.specs.Steps.{IsReady, WritesItem, StopsAtItem, HandlesItems, HandlesFront}
 use Rattle.sweep.proofs.Longer.{sweeps_join}
 
 pub record Progress (bits : Bits) (base : ℕ) (lines : Lines) (from : ℕ) (bytes : List ℕ) (used count : ℕ) (ended : Bool) (start held : Option (List ℕ)) (pending : List ℕ) : Type 0 where

@@ -1,7 +1,6 @@
 -- How far a stream has come: the lines of the items so far were written, and the bytes that are left stand in the window.
-use Rattle.std.proofs.Common.{◌≡◌, ◌⊎◌, inl, inr, ℕ, ◌+◌, ◌-◌, ◌<◌, ◌≤◌, min, Bool, true, false, List, [], ◌∷◌, ◌++◌, length, length-append, take, drop, Option, Some, None, refl, sym, ap, ◌∙◌, subst, arith, append_assoc, append-nil, take-take, take_all}
+use Rattle.std.proofs.Common.{◌≡◌, inl, inr, ℕ, ◌+◌, ◌-◌, ◌<◌, ◌≤◌, min, Bool, true, false, List, [], ◌∷◌, ◌++◌, length, length-append, take, drop, Option, Some, None, refl, sym, ap, ◌∙◌, subst, arith, take-take, take_all}
 use Rattle.std.specs.Prelude.{All}
-use Rattle.std.specs.List.{flat_map}
 use Rattle.std.proofs.Math.Seq.{take-append-add}
 use Rattle.std.proofs.lemmas.List.{length-drop, length-take, drop-drop, drop-append-le, take_min}
 use Rattle.std.proofs.lemmas.Grind.{flat_map-append}
@@ -10,14 +9,13 @@ use Rattle.byte_ports.specs.Ports.{with_front, with_back}
 use Rattle.x86_values.specs.declared.Bits.{Bits}
 use Rattle.decoder.specs.declared.DecodeError.{DecodeError}
 use Rattle.sweep_text.specs.declared.lines.Lines.{Lines}
-use Rattle.opcode_rows.specs.Sweep.{Item, IsItemAt, Sweeps, item_len}
-use Rattle.sweep_text.specs.Lines.{stop_of, GoesOn, line_of, lines_of}
-use Rattle.run_parts.specs.Reads.{code_limit, IsAtEnd, ReadsAll, ReadsTooMany}
-use Rattle.run_parts.specs.Writing.{HoldsFront}
+use Rattle.opcode_rows.specs.Sweep.{Item, Sweeps, item_len}
+use Rattle.sweep_text.specs.Lines.{GoesOn, line_of, lines_of}
+use Rattle.run_parts.specs.Reads.{code_limit, ReadsAll, ReadsTooMany}
 use Rattle.run_parts.proofs.Appending.{with_front-append, with_back-nil, with_back-append}
 use Rattle.sweep.specs.Steps.{IsReady, HandlesEnd, HandlesItems, HandlesFront}
 use Rattle.sweep.specs.Window.{Fills}
-use Rattle.sweep.specs.Streams.{WritesLines, AreHandled, WritesHandled, WritesLinesFront, WritesLinesBefore, Sees, Reads, MayHandle}
+use Rattle.sweep.specs.Streams.{WritesLines, WritesHandled, WritesLinesFront, WritesLinesBefore, Sees, Reads, MayHandle}
 use Rattle.sweep.specs.declared.ready.Handled.{Handled}
 use Rattle.sweep.proofs.Longer.{all_ready, sweeps_longer, sweeps_join}
 

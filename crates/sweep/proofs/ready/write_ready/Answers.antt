@@ -1,4 +1,4 @@
-use Rattle.std.proofs.Common.{◌+◌, arith, rules, refl}
+use Rattle.std.proofs.Common.{arith, rules, refl}
 use Rattle.std.proofs.lemmas.Result.{err_from_is_err_and}
 use Rattle.sweep.proofs.Handling.{progress-start, progress-step, progress-end, progress-stop, progress-failed, progress-stop_failed}
 use Rattle.sweep.proofs.ready.write_ready.Goals as goal

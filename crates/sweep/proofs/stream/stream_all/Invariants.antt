@@ -1,5 +1,4 @@
 use Rattle.std.proofs.Common.{◌≡◌, ◌+◌, ◌-◌, ◌≤◌, ◌<◌, length}
-use Rattle.run_parts.specs.Reads.{code_limit}
 use Rattle.sweep.proofs.Streaming.{Streamed}
 use Rattle.sweep.proofs.stream.stream_all.Given as goal
 

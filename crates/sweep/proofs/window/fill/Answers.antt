@@ -1,4 +1,4 @@
-use Rattle.std.proofs.Common.{◌+◌, ◌-◌, take, length, arith}
+use Rattle.std.proofs.Common.{◌+◌, ◌-◌, take, arith}
 use Rattle.std.proofs.lemmas.List.{length-take-le}
 use Rattle.sweep.proofs.Windows.{piece_behind, at_end}
 use Rattle.sweep.proofs.window.fill.Goals as goal
