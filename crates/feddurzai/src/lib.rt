@@ -18,8 +18,12 @@ pub mod values {
 /// Reading bytes: whole instructions, items one behind another, and the parts of one. `laws` has that no bytes have two spellings.
 pub mod decoding {
     pub use decoder::{DecodeError, Decoder, Item, Items, decode, decode_counted, decode_in, laws};
-    pub use modrm_sib::{TailError, modrm_of_byte, read_operands, read_row, sib_of_byte};
-    pub use prefixes::{PrefixError, mode_of, read_front, read_prefixes};
+    pub use modrm_sib::{
+        TailError, UNREAD, modrm_of_byte, read_operands, read_row, read_row_into, sib_of_byte,
+    };
+    pub use prefixes::{
+        NO_FRONT, PrefixError, mode_of, read_front, read_front_into, read_prefixes,
+    };
     pub use step_count::Steps;
 }
 
@@ -28,15 +32,17 @@ pub mod encoding {
     pub use encoder::{NoSpelling, encode, encoded_len};
     pub use modrm_sib::{write_operands, write_tail};
     pub use prefixes::write_prefixes;
-    pub use row_relation::{append_lead, append_tail, plain_front, spelling_bytes};
+    pub use row_relation::{
+        append_lead, append_plain_tail, append_tail, plain_front, spelling_bytes,
+    };
 }
 
 /// The text of instructions and registers in three styles.
 pub mod format {
     pub use crate::intel::Intel;
-    pub use att_text::print as print_att;
-    pub use intel_text::print as print_intel;
-    pub use masm_text::print as print_masm;
+    pub use att_text::{print as print_att, print_to as print_att_to};
+    pub use intel_text::{print as print_intel, print_to as print_intel_to};
+    pub use masm_text::{print as print_masm, print_to as print_masm_to};
     pub use text_parts::registers::{register_text, segment_name};
     pub use text_parts::style::Style;
     pub use text_parts::text::Text;
