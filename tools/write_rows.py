@@ -166,7 +166,7 @@ def expand(e):
 
 def read_part(crate, file, kind, part):
     """The rows of a crate in the order of the table, each entry's line and the headings before it with its first row."""
-    rows, map_, headings = [], None, []
+    rows, map_, headings, version = [], None, [], 1
     with open(os.path.join(HERE, 'rows', file)) as f:
         for number, line in enumerate(f, 1):
             where, line = f'{file}:{number}', line.strip()
@@ -174,19 +174,21 @@ def read_part(crate, file, kind, part):
                 headings = headings if map_ else []
             elif line.startswith('#'):
                 headings.append(line[1:].strip())
+            elif line.startswith('version '):
+                version, map_, headings = int(line[8:]), None, []
             elif line.startswith('map '):
-                map_, headings = MAPS[line[4:]], [f'---- map {line[4:]}' if line[4:] != 'One' else '---- the one-byte map']
+                map_, headings = MAPS[line[4:]], [('---- ' if version == 1 else f'---- version {version}, ') + (f'map {line[4:]}' if line[4:] != 'One' else 'the one-byte map')]
             else:
                 entry = read_line(where, kind, map_, line)
                 for k, row in enumerate(expand(entry)):
-                    rows.append(dict(row, part=part, line=line if k == 0 else None, headings=headings if k == 0 else [], order=len(rows)))
+                    rows.append(dict(row, version=version, part=part, line=line if k == 0 else None, headings=headings if k == 0 else [], order=len(rows)))
                 headings = []
     rows.sort(key=place_in_table)
     return rows
 
 
 def place_in_table(row):
-    return (KINDS.index(row['kind']), MAP_ORDER.index(row['map']), row['opcode'], row['order'])
+    return (row['version'], KINDS.index(row['kind']), MAP_ORDER.index(row['map']), row['opcode'], row['order'])
 
 
 # ------------------------------------------------------------------ output
@@ -271,6 +273,8 @@ def write_join(table):
     text += '/// Where a row lies: the crate, and the place among its rows.\n#[derive(Clone, Copy)]\npub struct Spot {\n    pub part: Part,\n    pub at: u16,\n}\n\n'
     text += 'macro_rules! spots {\n    ($($part:ident $at:literal),*) => {\n        [$(Spot { part: Part::$part, at: $at }),*]\n    };\n}\n\n'
     text += f'/// How many rows the table has.\npub const ROWS: u16 = {len(table)};\n\n'
+    text += '/// How many of them are rows of version 1. They have the codes below it, and the rows of version 2 stand behind them.\n'
+    text += f'pub const VERSION1_ROWS: u16 = {sum(r["version"] == 1 for r in table)};\n\n'
     text += f'/// Where the rows lie, by code.\npub static SPOTS: [Spot; {len(table)}] = spots! {{\n'
     text += wrapped([s + (',' if k + 1 < len(spots) else '') for k, s in enumerate(spots)], '    ')
     text += '};\n'
@@ -294,7 +298,7 @@ def main():
             write_part(crate, kind, rows)
             print(f'{crate}: {len(rows)} rows')
             table += rows
-    table.sort(key=lambda r: (KINDS.index(r['kind']), MAP_ORDER.index(r['map']), r['opcode']))
+    table.sort(key=lambda r: (r['version'], KINDS.index(r['kind']), MAP_ORDER.index(r['map']), r['opcode']))
     write_join(table)
     print(f'opcode_rows: {len(table)} rows, {len(set(r["name"] for r in table))} names, the longest of {max(len(r["name"]) for r in table)} bytes, '
         f'at most {max(c for kind in KINDS for line in cells(table, kind) for _, c in line)} rows in a cell')
