@@ -273,8 +273,10 @@ def write_join(table):
     text += '/// Where a row lies: the crate, and the place among its rows.\n#[derive(Clone, Copy)]\npub struct Spot {\n    pub part: Part,\n    pub at: u16,\n}\n\n'
     text += 'macro_rules! spots {\n    ($($part:ident $at:literal),*) => {\n        [$(Spot { part: Part::$part, at: $at }),*]\n    };\n}\n\n'
     text += f'/// How many rows the table has.\npub const ROWS: u16 = {len(table)};\n\n'
+    version1 = sum(r['version'] == 1 for r in table)
     text += '/// How many of them are rows of version 1. They have the codes below it, and the rows of version 2 stand behind them.\n'
-    text += f'pub const VERSION1_ROWS: u16 = {sum(r["version"] == 1 for r in table)};\n\n'
+    text += f'pub const VERSION1_ROWS: u16 = {version1};\n\n'
+    text += f'/// How many rows version 2 adds.\npub const ADDED_ROWS: u16 = {len(table) - version1};\n\n'
     text += f'/// Where the rows lie, by code.\npub static SPOTS: [Spot; {len(table)}] = spots! {{\n'
     text += wrapped([s + (',' if k + 1 < len(spots) else '') for k, s in enumerate(spots)], '    ')
     text += '};\n'
@@ -285,8 +287,10 @@ def write_join(table):
     write('opcode_rows', 'cells.rt', text)
     text = head.format('The names of the rows')
     text += 'macro_rules! names {\n    ($($name:literal)*) => {\n        [$($name),*]\n    };\n}\n\n'
-    text += f'/// The names of the rows, by code.\npub static NAMES: [&str; {len(table)}] = names! {{\n'
-    text += wrapped([f'"{r["name"]}"' for r in table], '    ') + '};\n'
+    for version, static, doc in ((1, 'NAMES', 'version 1, by code'), (2, 'ADDED_NAMES', 'version 2, in their order')):
+        names = [f'"{r["name"]}"' for r in table if r['version'] == version]
+        text += ('' if version == 1 else '\n') + f'/// The names of the rows of {doc}.\npub static {static}: [&str; {len(names)}] = names! {{\n'
+        text += wrapped(names, '    ') + '};\n'
     write('opcode_rows', 'names.rt', text)
 
 

@@ -27,6 +27,9 @@ pub record Grows (older table : List Row) (added : PrefixState → Bool) : Type 
   pub others : (bits : Bits) (code : ℕ) (row : Row) (s : Spelling) → slice_get table code ≡ Some row → fits bits row s ≡ true
       → (slice_get older code ≡ Some row) ⊎ (added (state_of bits row s) ≡ true)
 
+not_both : (b : Bool) → b ≡ true → b ≡ false → ⊥
+not_both b p q = cc
+
 -- ---- fronts
 
 within-known : (given : ℕ) (f : PrefixState) → f.used < 15 → within_15 given (Known f) ≡ Known f
@@ -101,11 +104,8 @@ spells-elsewhere : (older table : List Row) (added : PrefixState → Bool) → G
     → SpellsUnbounded older bits ip bytes i → (f : PrefixState) → long_front bits bytes ≡ Known f → added f ≡ true → ⊥
 spells-elsewhere older table added g bits ip bytes i (row, at, (s, is)) f h new =
     let same : state_of bits row s ≡ f = same_state _ _ (sym (front-spelled bits ip bytes i row s is) ∙ h) in
-    let no : added (state_of bits row s) ≡ false = g.elsewhere bits i.code.0 row s at is.fitting in
-    not_both (added f) new (ap added (sym same) ∙ no)
-  where
-    not_both : (b : Bool) → b ≡ true → b ≡ false → ⊥
-    not_both b p q = cc
+    let unnamed : added (state_of bits row s) ≡ false = g.elsewhere bits i.code.0 row s at is.fitting in
+    not_both (added f) new (ap added (sym same) ∙ unnamed)
 
 -- ---- readings
 
@@ -116,67 +116,67 @@ reads-kept older table added g bits ip bytes i n (le, (short, sp)) = (le, (short
 
 not_named : (bits : Bits) (bytes : List ℕ) (added : PrefixState → Bool) (f : PrefixState) → front_of bits bytes ≡ Known f → added f ≡ true
     → has_state added (front_of bits bytes) ≡ false → ⊥
-not_named bits bytes added f h new no = cc
+not_named bits bytes added f h new unnamed = not_both (added f) new (sym (ap (has_state added) h) ∙ unnamed)
 
 reads-back : (older table : List Row) (added : PrefixState → Bool) → Grows older table added → (bits : Bits) (ip : ℕ) (bytes : List ℕ) (i : Instr) (n : ℕ)
     → has_state added (front_of bits bytes) ≡ false → ReadsAs table bits ip bytes i n → ReadsAs older bits ip bytes i n
-reads-back older table added g bits ip bytes i n no (le, (short, sp)) =
+reads-back older table added g bits ip bytes i n unnamed (le, (short, sp)) =
     elim (spells-back older table added g bits ip (take n bytes) i sp) [
       | inl old ↦ (le, (short, old))
-      | inr new ↦ absurd (not_named bits bytes added new.0 (front-read bits bytes n new.0 short new.1) new.2 no)
+      | inr new ↦ absurd (not_named bits bytes added new.0 (front-read bits bytes n new.0 short new.1) new.2 unnamed)
     ]
 
 goes-kept : (older table : List Row) (added : PrefixState → Bool) → Grows older table added → (bits : Bits) (ip : ℕ) (bytes : List ℕ)
     → CanGoOn older bits ip bytes → CanGoOn table bits ip bytes
-goes-kept older table added g bits ip bytes (inl open) = inl open
+goes-kept older table added g bits ip bytes (inl opened) = inl opened
 goes-kept older table added g bits ip bytes (inr (more, some, (i, sp))) =
     inr (more, some, (i, spells-kept older table added g bits ip (bytes ++ more) i sp))
 
 goes-back : (older table : List Row) (added : PrefixState → Bool) → Grows older table added → (bits : Bits) (ip : ℕ) (bytes : List ℕ)
     → has_state added (front_of bits bytes) ≡ false → length bytes < 15 → CanGoOn table bits ip bytes → CanGoOn older bits ip bytes
 unfolding front_of
-goes-back older table added g bits ip bytes no short (inl open) = inl open
-goes-back older table added g bits ip bytes no short (inr (more, some, (i, sp))) =
+goes-back older table added g bits ip bytes unnamed short (inl opened) = inl opened
+goes-back older table added g bits ip bytes unnamed short (inr (more, some, (i, sp))) =
     elim (spells-back older table added g bits ip (bytes ++ more) i sp) [
       | inl old ↦ inr (more, some, (i, old))
       | inr new ↦ (
           elim (bool_cases (is_open (long_front bits bytes))) [
-            | inl open ↦ inl (ap is_open (ap (within_15 (length bytes)) (open-is (long_front bits bytes) open) ∙ within-open (length bytes) short))
+            | inl opened ↦ inl (ap is_open (ap (within_15 (length bytes)) (open-is (long_front bits bytes) opened) ∙ within-open (length bytes) short))
             | inr closed ↦ (
                 let known : long_front bits bytes ≡ Known new.0 = sym (long_front-grows bits bytes more closed) ∙ new.1 in
                 let used : new.0.used < length bytes = (known-used bits bytes new.0 known).is_within in
                 let front : front_of bits bytes ≡ Known new.0 =
                 ap (within_15 (length bytes)) known ∙ within-known (length bytes) new.0 (omega (arith, used, short)) in
-                absurd (not_named bits bytes added new.0 front new.2 no))
+                absurd (not_named bits bytes added new.0 front new.2 unnamed))
           ])
     ]
 
 -- **where the front names no added state, the readings are the same**
 pub reading-kept : (older table : List Row) (added : PrefixState → Bool) → Grows older table added → (bits : Bits) (ip : ℕ) (bytes : List ℕ)
     → has_state added (front_of bits bytes) ≡ false → (r : Reading) → IsReading older bits ip bytes r → IsReading table bits ip bytes r
-reading-kept older table added g bits ip bytes no (Read d) h = reads-kept older table added g bits ip bytes d.instr d.len h
-reading-kept older table added g bits ip bytes no TooShort h =
+reading-kept older table added g bits ip bytes unnamed (Read d) h = reads-kept older table added g bits ip bytes d.instr d.len h
+reading-kept older table added g bits ip bytes unnamed TooShort h =
     record {
-      spells_nothing = λ i n reads. h.spells_nothing i n (reads-back older table added g bits ip bytes i n no reads);
+      spells_nothing = λ i n reads. h.spells_nothing i n (reads-back older table added g bits ip bytes i n unnamed reads);
       is_short = h.is_short;
       can_go_on = goes-kept older table added g bits ip bytes h.can_go_on;
     }
-reading-kept older table added g bits ip bytes no Invalid h =
+reading-kept older table added g bits ip bytes unnamed Invalid h =
     record {
-      spells_nothing = λ i n reads. h.spells_nothing i n (reads-back older table added g bits ip bytes i n no reads);
-      ends_here = λ short goes. h.ends_here short (goes-back older table added g bits ip bytes no short goes);
+      spells_nothing = λ i n reads. h.spells_nothing i n (reads-back older table added g bits ip bytes i n unnamed reads);
+      ends_here = λ short goes. h.ends_here short (goes-back older table added g bits ip bytes unnamed short goes);
     }
 
 pub reading-back : (older table : List Row) (added : PrefixState → Bool) → Grows older table added → (bits : Bits) (ip : ℕ) (bytes : List ℕ)
     → has_state added (front_of bits bytes) ≡ false → (r : Reading) → IsReading table bits ip bytes r → IsReading older bits ip bytes r
-reading-back older table added g bits ip bytes no (Read d) h = reads-back older table added g bits ip bytes d.instr d.len no h
-reading-back older table added g bits ip bytes no TooShort h =
+reading-back older table added g bits ip bytes unnamed (Read d) h = reads-back older table added g bits ip bytes d.instr d.len unnamed h
+reading-back older table added g bits ip bytes unnamed TooShort h =
     record {
       spells_nothing = λ i n reads. h.spells_nothing i n (reads-kept older table added g bits ip bytes i n reads);
       is_short = h.is_short;
-      can_go_on = goes-back older table added g bits ip bytes no h.is_short h.can_go_on;
+      can_go_on = goes-back older table added g bits ip bytes unnamed h.is_short h.can_go_on;
     }
-reading-back older table added g bits ip bytes no Invalid h =
+reading-back older table added g bits ip bytes unnamed Invalid h =
     record {
       spells_nothing = λ i n reads. h.spells_nothing i n (reads-kept older table added g bits ip bytes i n reads);
       ends_here = λ short goes. h.ends_here short (goes-kept older table added g bits ip bytes goes);
@@ -191,8 +191,8 @@ named-known added Forbidden h = cc
 pub reading-there : (older table : List Row) (added : PrefixState → Bool) → Grows older table added → (bits : Bits) (ip : ℕ) (bytes : List ℕ)
     → has_state added (front_of bits bytes) ≡ true → IsReading older bits ip bytes Invalid
 unfolding front_of
-reading-there older table added g bits ip bytes yes =
-    let t = named-known added (front_of bits bytes) yes in
+reading-there older table added g bits ip bytes named =
+    let t = named-known added (front_of bits bytes) named in
     let f : PrefixState = t.0 in
     let known : long_front bits bytes ≡ Known f = known-within (length bytes) (long_front bits bytes) f t.1 in
     record {
@@ -209,6 +209,6 @@ reading-there older table added g bits ip bytes yes =
         let same : state_of bits row s ≡ f = same_state _ _ (sym whole ∙ known) in
         spells-elsewhere older table added g bits ip (take n bytes) i (row, at, (s, is)) (state_of bits row s) first (ap added same ∙ new)
     ends : (f : PrefixState) → front_of bits bytes ≡ Known f → long_front bits bytes ≡ Known f → added f ≡ true → CanGoOn older bits ip bytes → ⊥
-    ends f front known new (inl open) = open-known (front_of bits bytes) f open front
+    ends f front known new (inl opened) = open-known (front_of bits bytes) f opened front
     ends f front known new (inr (more, some, (i, sp))) =
         spells-elsewhere older table added g bits ip (bytes ++ more) i sp f (front-extends bits bytes more f known) new

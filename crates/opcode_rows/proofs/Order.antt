@@ -1,5 +1,5 @@
 -- The places of each part's rows ascend by one, and the opcode bytes of the rows ascend.
-use Rattle.std.proofs.Common.{◌≡◌, ℕ, zero, suc, Bool, true, false, ◌&&◌, List, [], ◌∷◌, length, take, drop, slice_get, ◌<◌, ◌≤◌, ◌-◌, refl, ap, sym, ◌∙◌, arith, inl, inr, eqb-true}
+use Rattle.std.proofs.Common.{◌≡◌, ℕ, zero, suc, Bool, true, false, ◌&&◌, List, [], ◌∷◌, length, take, drop, slice_get, ◌<◌, ◌≤◌, ◌+◌, ◌-◌, refl, ap, sym, ◌∙◌, arith, inl, inr, eqb-true}
 use Rattle.std.specs.Prelude.{Some, ◌==◌, nat_le}
 use Rattle.std.proofs.lemmas.Option.{slice_get_within}
 use Rattle.std.proofs.lemmas.Bool.{cases_lt, leb-true}
@@ -246,11 +246,11 @@ ascends-ordered low (x ∷ rs) h zero (suc k) q r lt at at' =
 ascends-ordered low (x ∷ rs) h (suc j) (suc k) q r lt at at' =
     ascends-ordered (opcode_number x) rs (and-right (nat_le low (opcode_number x)) (ascends (opcode_number x) rs) h) j k q r (omega arith) at at'
 
-get-dropped : (n : ℕ) (rows : List Row) (code : ℕ) (row : Row) → slice_get rows code ≡ Some row → n ≤ code → slice_get (drop n rows) (code - n) ≡ Some row
-get-dropped zero rows code row at le = at
-get-dropped (suc n) [] code row at le = cc
-get-dropped (suc n) (r ∷ rs) zero row at le = absurd (omega arith)
-get-dropped (suc n) (r ∷ rs) (suc code) row at le = get-dropped n rs code row at (omega arith)
+get-dropped : (n k : ℕ) (rows : List Row) (code : ℕ) (row : Row) → code ≡ n + k → slice_get rows code ≡ Some row → slice_get (drop n rows) k ≡ Some row
+get-dropped zero k rows code row e at = let is : k ≡ code = omega arith in ap (slice_get rows) is ∙ at
+get-dropped (suc n) k [] code row e at = cc
+get-dropped (suc n) k (r ∷ rs) zero row e at = absurd (omega arith)
+get-dropped (suc n) k (r ∷ rs) (suc code) row e at = get-dropped n k rs code row (omega arith) at
 
 -- **codes of one version ascend by opcode byte**
 pub opcodes-ordered : (j k : ℕ) (q r : Row) → j < k → AreOfOneVersion j k → slice_get table j ≡ Some q → slice_get table k ≡ Some r
@@ -260,4 +260,5 @@ opcodes-ordered j k q r lt (inl (low, low')) at at' =
     (get-taken VERSION1_ROWS table k r at' low')
 opcodes-ordered j k q r lt (inr (high, high')) at at' =
     ascends-ordered 0 (drop VERSION1_ROWS table) version2-ascends (j - VERSION1_ROWS) (k - VERSION1_ROWS) q r (omega (arith, lt, high))
-    (get-dropped VERSION1_ROWS table j q at high) (get-dropped VERSION1_ROWS table k r at' high')
+    (get-dropped VERSION1_ROWS (j - VERSION1_ROWS) table j q (omega (arith, high)) at)
+    (get-dropped VERSION1_ROWS (k - VERSION1_ROWS) table k r (omega (arith, high')) at')

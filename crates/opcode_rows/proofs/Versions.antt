@@ -19,7 +19,7 @@ use Rattle.row_fields.specs.Holds.{is_vex, map_number, opcode_holds, stands_in}
 use Rattle.row_fields.proofs.Cands.{and-left, and-right, below, below-at}
 use Rattle.row_fields.proofs.Apart.{bool_cases}
 use Rattle.row_lists.specs.Cells.{stands_in_cell}
-use Rattle.version1_rows.specs.Table as first
+use Rattle.version1_rows.specs.Table.{table as first_rows, names as first_names, legacy_rows as first_legacy, vex_rows as first_vex}
 use Rattle.rows_integer.specs.Table.{table as integer_rows, flat_rows as integer_flat}
 use Rattle.rows_x87.specs.Table.{table as x87_rows, flat_rows as x87_flat}
 use Rattle.rows_sse.specs.Table.{table as sse_rows, flat_rows as sse_flat}
@@ -32,12 +32,12 @@ use Rattle.opcode_rows.proofs.Growth.{Grows}
 
 -- ---- the rows of version 1
 
-pub rows-kept : version1 ≡ first.table
-unfolding version1 table rows_in places integer_rows integer_flat x87_rows x87_flat sse_rows sse_flat vex_rows vex_flat first.table first.legacy_rows first.vex_rows
+pub rows-kept : version1 ≡ first_rows
+unfolding version1 table rows_in places integer_rows integer_flat x87_rows x87_flat sse_rows sse_flat vex_rows vex_flat first_rows first_legacy first_vex
 rows-kept = refl
 
-pub names-kept : version1_names ≡ first.names
-unfolding version1_names names first.names
+pub names-kept : version1_names ≡ first_names
+unfolding version1_names names first_names
 names-kept = refl
 
 -- ---- cells by number
@@ -166,9 +166,9 @@ added-before code row number op at here lt =
 pub cells-parted : (code : ℕ) (row : Row) (k : RowKind) (m : Map) (op : ℕ) → slice_get table code ≡ Some row → IsTrue (stands_in_cell k m op row)
     → IsTrue (is_added_cell k m op) ↔ (VERSION1_ROWS ≤ code)
 cells-parted code row k m op at here = (
-  λ yes.
+  λ added.
       (elim (cases_lt code VERSION1_ROWS) [
-        | inl lt ↦ absurd (not_both (is_added_cell k m op) yes (added-at k m op ∙ added-before code row (map_number (is_vex k) m) op at here lt))
+        | inl lt ↦ absurd (not_both (is_added_cell k m op) added (added-at k m op ∙ added-before code row (map_number (is_vex k) m) op at here lt))
         | inr le ↦ le
       ]),
   λ le. added-at k m op ∙ added-behind code row (map_number (is_vex k) m) op at here le,

@@ -11,7 +11,7 @@ ghost use Rattle.row_fields.specs.declared.Fields.{Fields};
 ghost use Rattle.row_fields.specs.Holds.{AreApart};
 ghost use Rattle.row_lists.specs.Cells.{IsRunOf, stands_in_cell};
 ghost use Rattle.row_relation.specs.Spells.{ReadsAs, Reading, Invalid, IsReading};
-ghost use Rattle.version1_rows.specs.Table as first;
+ghost use Rattle.version1_rows.specs.Table.{table as first_rows, names as first_names};
 ghost use Rattle.opcode_rows.specs.Table.{part_table, table, name_of, cell};
 ghost use Rattle.opcode_rows.specs.Order.{opcode_number, LiesAt, HasOneCode};
 ghost use Rattle.opcode_rows.specs.Kept.{opcodes_are_kept};
@@ -76,8 +76,8 @@ pub fn names_are_words()
 
 /// The first `VERSION1_ROWS` rows and their names are those that version 1 had, as `version1_rows` keeps them.
 pub fn version1_is_kept()
-    ensures rows { version1 ≡ first.table }
-    ensures names { version1_names ≡ first.names }
+    ensures rows { version1 ≡ first_rows }
+    ensures names { version1_names ≡ first_names }
 {}
 
 /// A row that stands in a cell is one of version 2 exactly where the cell is one of those that version 2 fills: every row from `VERSION1_ROWS` on

@@ -5,8 +5,8 @@ macro_rules! names {
     };
 }
 
-/// The names of the rows, by code.
-pub static NAMES: [&str; 2083] = names! {
+/// The names of the rows of version 1, by code.
+pub static NAMES: [&str; 1969] = names! {
     "add" "add" "add" "add" "add" "add" "add" "add" "add" "add" "add" "add" "push" "push" "pop" "pop" "or" "or" "or" "or" "or" "or" "or" "or" "or"
     "or" "or" "or" "push" "push" "adc" "adc" "adc" "adc" "adc" "adc" "adc" "adc" "adc" "adc" "adc" "adc" "push" "push" "pop" "pop" "sbb" "sbb" "sbb"
     "sbb" "sbb" "sbb" "sbb" "sbb" "sbb" "sbb" "sbb" "sbb" "push" "push" "pop" "pop" "and" "and" "and" "and" "and" "and" "and" "and" "and" "and" "and"
@@ -123,6 +123,10 @@ pub static NAMES: [&str; 2083] = names! {
     "vpblendw" "vpblendw" "vpalignr" "vpalignr" "vpextrb" "vpextrw" "vpextrd" "vpextrq" "vextractps" "vinsertf128" "vextractf128" "vpinsrb"
     "vinsertps" "vpinsrd" "vpinsrq" "vinserti128" "vextracti128" "vdpps" "vdpps" "vdppd" "vmpsadbw" "vmpsadbw" "vperm2i128" "vblendvps" "vblendvps"
     "vblendvpd" "vblendvpd" "vpblendvb" "vpblendvb" "vpcmpestrm" "vpcmpestrm" "vpcmpestri" "vpcmpestri" "vpcmpistrm" "vpcmpistri" "rorx" "rorx"
+};
+
+/// The names of the rows of version 2, in their order.
+pub static ADDED_NAMES: [&str; 114] = names! {
     "aesimc" "aesenc" "aesenclast" "aesdec" "aesdeclast" "pclmulqdq" "aeskeygenassist" "vcvtph2ps" "vcvtph2ps" "vfmaddsub132ps" "vfmaddsub132pd"
     "vfmaddsub132ps" "vfmaddsub132pd" "vfmsubadd132ps" "vfmsubadd132pd" "vfmsubadd132ps" "vfmsubadd132pd" "vfmadd132ps" "vfmadd132pd" "vfmadd132ps"
     "vfmadd132pd" "vfmadd132ss" "vfmadd132sd" "vfmsub132ps" "vfmsub132pd" "vfmsub132ps" "vfmsub132pd" "vfmsub132ss" "vfmsub132sd" "vfnmadd132ps"

@@ -27,6 +27,9 @@ pub const ROWS: u16 = 2083;
 /// How many of them are rows of version 1. They have the codes below it, and the rows of version 2 stand behind them.
 pub const VERSION1_ROWS: u16 = 1969;
 
+/// How many rows version 2 adds.
+pub const ADDED_ROWS: u16 = 114;
+
 /// Where the rows lie, by code.
 pub static SPOTS: [Spot; 2083] = spots! {
     Integer 0, Integer 1, Integer 2, Integer 3, Integer 4, Integer 5, Integer 6, Integer 7, Integer 8, Integer 9, Integer 10, Integer 11, Integer 12,

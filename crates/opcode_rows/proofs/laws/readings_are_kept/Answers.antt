@@ -8,9 +8,9 @@ pub returns : goal.returns
 unfolding names_added_cell
 returns c = record {
   read = λ bits ip bytes i n h. reads-kept version1 table is_added_state table-grows bits ip bytes i n h;
-  elsewhere = λ bits ip bytes r no. (
-    λ h. reading-kept version1 table is_added_state table-grows bits ip bytes no r h,
-    λ h. reading-back version1 table is_added_state table-grows bits ip bytes no r h,
+  elsewhere = λ bits ip bytes r unnamed. (
+    λ h. reading-kept version1 table is_added_state table-grows bits ip bytes unnamed r h,
+    λ h. reading-back version1 table is_added_state table-grows bits ip bytes unnamed r h,
   );
-  there = λ bits ip bytes yes. reading-there version1 table is_added_state table-grows bits ip bytes yes;
+  there = λ bits ip bytes named. reading-there version1 table is_added_state table-grows bits ip bytes named;
 }
