@@ -7,4 +7,4 @@ help_text = codes "usage: listing_program list BITS BASE SYNTAX\n       listing_
 
 -- what `--version` writes
 unfoldable pub version_text : List ℕ
-version_text = codes "feddurzai 0.1.0\n"
+version_text = codes "feddurzai 0.2.0\n"

@@ -38,7 +38,7 @@ fn help_text() -> &'static [u8]
 fn version_text() -> &'static [u8]
     ensures { result.now ≡ text.version_text }
 {
-    b"feddurzai 0.1.0\n"
+    b"feddurzai 0.2.0\n"
 }
 
 /// Writes a text that needs no input.

@@ -208,6 +208,7 @@ reading-there older table added g bits ip bytes named =
         ap (long_front bits) (sym (take-append-drop n bytes)) ∙ front-extends bits (take n bytes) (drop n bytes) (state_of bits row s) first in
         let same : state_of bits row s ≡ f = same_state _ _ (sym whole ∙ known) in
         spells-elsewhere older table added g bits ip (take n bytes) i (row, at, (s, is)) (state_of bits row s) first (ap added same ∙ new)
+
     ends : (f : PrefixState) → front_of bits bytes ≡ Known f → long_front bits bytes ≡ Known f → added f ≡ true → CanGoOn older bits ip bytes → ⊥
     ends f front known new (inl opened) = open-known (front_of bits bytes) f opened front
     ends f front known new (inr (more, some, (i, sp))) =

@@ -220,7 +220,7 @@ table-grows =
           elim (cases_lt code VERSION1_ROWS) [
             | inl lt ↦ inl (get-taken VERSION1_ROWS table code row at lt)
             | inr le ↦ inr (state-at (state_of bits row s)
-            ∙ added-behind code row (map_number (is_some (state_of bits row s).vex) (state_of bits row s).map) (state_of bits row s).opcode at
-            (fitting-stands bits row s h) le)
+                ∙ added-behind code row (map_number (is_some (state_of bits row s).vex) (state_of bits row s).map) (state_of bits row s).opcode at
+                (fitting-stands bits row s h) le)
           ];
     }
