@@ -560,7 +560,7 @@ fn a_wrong_word_is_named(rt: HostRuntime) -> Result<(), Fail> {
         &["--version"],
         &[0x90],
         Status::Done,
-        "feddurzai 0.2.0\n",
+        "feddurzai 0.2.0\ninteger, x87, MMX, SSE to SSE4.2, AVX, AVX2, BMI, FMA, F16C, AES, PCLMULQDQ\n",
         "",
     )
 }
