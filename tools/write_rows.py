@@ -287,9 +287,9 @@ def write_join(table):
     write('opcode_rows', 'cells.rt', text)
     text = head.format('The names of the rows')
     text += 'macro_rules! names {\n    ($($name:literal)*) => {\n        [$($name),*]\n    };\n}\n\n'
-    for version, static, doc in ((1, 'NAMES', 'version 1, by code'), (2, 'ADDED_NAMES', 'version 2, in their order')):
-        names = [f'"{r["name"]}"' for r in table if r['version'] == version]
-        text += ('' if version == 1 else '\n') + f'/// The names of the rows of {doc}.\npub static {static}: [&str; {len(names)}] = names! {{\n'
+    for added, static, doc in ((False, 'NAMES', 'version 1, by code'), (True, 'ADDED_NAMES', 'version 2, in their order')):
+        names = [f'"{r["name"]}"' for r in table if (r['version'] > 1) == added]
+        text += ('\n' if added else '') + f'/// The names of the rows of {doc}.\npub static {static}: [&str; {len(names)}] = names! {{\n'
         text += wrapped(names, '    ') + '};\n'
     write('opcode_rows', 'names.rt', text)
 
