@@ -39,10 +39,11 @@ def is_bare(r):
 def main():
     words = [str(is_bare(r)).lower() for r in table()]
     text = '//! The rows of which nothing is left to ask, written by tools/bare_rows.py.\n\n'
+    text += 'macro_rules! flags {\n    ($($flag:literal)*) => {\n        [$($flag),*]\n    };\n}\n\n'
     text += '/// Whether nothing is left to ask of a row, by code.\n'
-    text += f'pub static BARE_ROWS: [bool; {len(words)}] = [\n'
-    text += wrapped([word + ',' for word in words], '    ')
-    text += '];\n'
+    text += f'pub static BARE_ROWS: [bool; {len(words)}] = flags! {{\n'
+    text += wrapped(words, '    ')
+    text += '};\n'
     with open(os.path.join(CRATES, 'decoder', 'src', 'bare_rows.rt'), 'w') as f:
         f.write(text)
     print(f'decoder: {len(words)} rows, of {words.count("true")} nothing is left to ask')
