@@ -3,6 +3,7 @@ mod Fronts
 mod ReadingLaws
 mod Scanning
 mod Finding
+mod BareFits
 mod InCell
 mod Moving
 mod NextItem

@@ -1,4 +1,5 @@
 pub mod Answer
+pub mod Bare
 pub mod Cells
 pub mod Cursor
 pub mod Items

@@ -9,6 +9,7 @@ ghost use Rattle.row_fields.specs.Holds.{HoldsNowhere, IsOnlyRow};
 ghost use Rattle.opcode_rows.specs.Table.{table};
 ghost use Rattle.opcode_rows.specs.Allowed.{is_well_formed};
 
+use crate::bare::asks_nothing;
 use crate::cell::LONGEST;
 use handler_tables::{Fields, find};
 use instruction_parts::sizes::bit_of_rex;
@@ -42,12 +43,14 @@ pub(crate) fn read_found<const BITS: u32, L: Ledger>(
     ensures most { steps.new ≤ steps.old + 12 }
     ensures least { IfSome result (λ _. steps.old + 3 ≤ steps.new) }
 {
+    let bits = mode_of::<BITS>();
     let fields = fields_of(state, byte_behind(state, bytes));
     match find::<BITS, L>(&fields, steps) {
         None => None,
         Some(code) => {
             let row = row(code, steps);
-            match read_row_into(mode_of::<BITS>(), ip, state, code, &row, bytes, place) {
+            let known = asks_nothing(bits, state, code);
+            match read_row_into(bits, ip, state, code, &row, known, bytes, place) {
                 Ok(()) => {
                     if place.len as usize <= LONGEST {
                         return Some(());

@@ -1,6 +1,8 @@
 //! Reading instructions from bytes (Intel SDM volume 2, chapter 2). `laws` has that no bytes have two spellings.
 #![tactic(auto)]
 
+mod bare;
+mod bare_rows;
 mod by_mode;
 mod cell;
 mod cursor;

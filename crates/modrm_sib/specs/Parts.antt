@@ -1,5 +1,5 @@
 -- What stands behind an opcode byte, and when it can stand behind one of a row (Intel SDM volume 2, 2.1.3 to 2.1.5).
-use Rattle.std.specs.Prelude.{ℕ, ◌/◌, ◌%◌, Bool, ◌&&◌, not, if◌then◌else◌, [], ◌∷◌, Option, Some, None}
+use Rattle.std.specs.Prelude.{ℕ, ◌/◌, ◌%◌, Bool, true, ◌&&◌, not, ◌≡◌, if◌then◌else◌, List, [], ◌∷◌, Option, Some, None}
 use Rattle.std.specs.List.{list_any}
 use Rattle.x86_values.specs.declared.Bits.{Bits}
 use Rattle.row_types.specs.declared.Row.{Row}
@@ -7,6 +7,7 @@ use Rattle.instruction_parts.specs.declared.spelling.ModRm.{ModRm}
 use Rattle.instruction_parts.specs.declared.spelling.Sib.{Sib}
 use Rattle.instruction_parts.specs.declared.spelling.PrefixState.{PrefixState}
 use Rattle.instruction_parts.specs.Sizes.{is_vex_row, state_address_size, size_bytes}
+use Rattle.row_fit.specs.Sound.{has_modrm_rule}
 use Rattle.row_fit.specs.Fits.{reads_by, is_offset, reads_mode, needs_sib, displacement_bytes, same_map, opcode_allows, opcode_and_modrm_fit, lock_fits, registers_fit, state_fits}
 
 -- a ModRM of its fields
@@ -79,3 +80,14 @@ some_reg_fits bits row state mode3 = some_of_three_bits (λ reg. some_rm_fits bi
 -- some ModRM can
 unfoldable pub some_modrm_fits : Bits → Row → PrefixState → Bool
 some_modrm_fits bits row state = list_any (λ mode3. some_reg_fits bits row state mode3) (0 ∷ 1 ∷ 2 ∷ 3 ∷ [])
+
+-- ---- what is known before it is asked
+
+-- the ModRM at the front of the bytes behind the opcode byte, where the row has one
+abbrev pub modrm_in : Row → List ℕ → Option ModRm
+modrm_in row [] = None
+modrm_in row (b ∷ bytes) = if has_modrm_rule row.modrm then Some (modrm_of_byte b) else None
+
+-- the row takes the state with the ModRM that stands there, whatever SIB stands behind it
+abbrev pub KnownToFit : Bits → Row → PrefixState → List ℕ → Type 0
+KnownToFit bits row state bytes = (sib : Option Sib) → parts_fit bits row state (modrm_in row bytes) sib ≡ true

@@ -2,10 +2,11 @@
 //! (Intel SDM volume 2, 2.1.3 to 2.1.5).
 #![tactic(auto)]
 
-ghost use Rattle.std.specs.Prelude.{◌≡◌, ◌<◌, ◌≤◌, IsTrue, length, IfOk};
+ghost use Rattle.std.specs.Prelude.{◌≡◌, ◌<◌, ◌≤◌, ◌+◌, true, IsTrue, length, drop, IfOk};
 ghost use Rattle.instruction_parts.specs.Front.{front_of, Known};
 ghost use Rattle.prefixes.specs.Answer.{is_mode, mode_of};
 ghost use Rattle.row_fit.specs.Sound.{sound};
+ghost use Rattle.modrm_sib.specs.Parts.{KnownToFit};
 ghost use Rattle.row_relation.specs.RowReading.{RowReads, RowReadsNothing, RowCanGoOn};
 
 mod ends;
@@ -59,7 +60,7 @@ pub fn read_row(
         → RowReadsNothing bits row.now bytes.now × (RowCanGoOn bits row.now bytes.now → ⊥) }
 {
     let mut decoded = UNREAD;
-    match read_row_into(bits, ip, state, code, row, bytes, &mut decoded) {
+    match read_row_into(bits, ip, state, code, row, false, bytes, &mut decoded) {
         Ok(()) => Ok(decoded),
         Err(error) => Err(error),
     }
@@ -72,6 +73,8 @@ pub const UNREAD: Decoded = Decoded {
 };
 
 /// The same as `read_row`, where the instruction is written to a place. After an error nothing is said of what stands there.
+///
+/// `known` says that the row is known to take the state with the ModRM that stands there, so that it is not asked again.
 #[inline(always)]
 pub fn read_row_into(
     bits: Bits,
@@ -79,10 +82,12 @@ pub fn read_row_into(
     state: &PrefixState,
     code: Code,
     row: &Row,
+    known: bool,
     bytes: &[u8],
     place: &mut Decoded,
 ) -> Result<(), TailError>
     requires sound { IsTrue (sound row.now) }
+    requires known { known ≡ true → KnownToFit bits row.now state.now (drop (state.now.used + 1) bytes.now) }
     requires front { front_of bits bytes.now ≡ Known state.now }
     ensures ok { IfOk result (λ _. RowReads bits ip code row.now bytes.now place.new) }
     ensures len { IfOk result (λ _. (0 < place.new.len) × (place.new.len < 64) × (place.new.len ≤ length bytes.now)) }
@@ -92,7 +97,7 @@ pub fn read_row_into(
         → RowReadsNothing bits row.now bytes.now × (RowCanGoOn bits row.now bytes.now → ⊥) }
 {
     let (_, tail) = bytes.split_at(state.used as usize + 1);
-    read::read_tail(bits, ip, state, code, row, tail, place)
+    read::read_tail(bits, ip, state, code, row, known, tail, place)
 }
 
 /// The instruction of a row whose front these bytes have, with its length in bytes.

@@ -1,6 +1,6 @@
 //! The bytes behind the opcode byte, read part by part.
 
-ghost use Rattle.std.specs.Prelude.{◌≡◌, ◌<◌, ◌≤◌, IsTrue};
+ghost use Rattle.std.specs.Prelude.{◌≡◌, ◌<◌, ◌≤◌, true, IsTrue, ℕ, IfOk, IfErr, Err};
 ghost use Rattle.x86_values.specs.declared.Decoded.{Decoded};
 ghost use Rattle.modrm_sib.specs.Answer as spec;
 ghost use Rattle.modrm_sib.specs.Parts as parts;
@@ -20,13 +20,13 @@ use x86_values::{Bits, Code, Decoded, wrap};
 
 /// The answer where the bytes end: whether something can complete them.
 #[inline]
-fn at_end(can_go_on: bool) -> Result<(), TailError>
-    ensures { (place : Decoded) → spec.answer_in result place ≡ spec.at_end can_go_on }
+fn at_end(can_go_on: bool) -> TailError
+    ensures { spec.at_end can_go_on ≡ Err result }
 {
     if can_go_on {
-        Err(TailError::Ended)
+        TailError::Ended
     } else {
-        Err(TailError::Forbidden)
+        TailError::Forbidden
     }
 }
 
@@ -55,9 +55,9 @@ fn immediates_size(size: Bits, row: &Row) -> u8
     immediates_bytes(size, row)
 }
 
-/// What stands behind ModRM and SIB; `used` bytes stand up to there.
+/// What stands behind ModRM and SIB. Whether these fit the row is not asked where it is `known` that they do.
 // An instruction is written where it is to stand, here and in the calls above: handed on as a value, it is copied by each of them.
-#[inline(never)]
+#[inline(always)]
 #[tactic(auto, unfolding(crate::specs::Answer::rest_answer, crate::specs::Answer::fitting_answer))]
 fn read_rest(
     bits: Bits,
@@ -65,19 +65,25 @@ fn read_rest(
     state: &PrefixState,
     code: Code,
     row: &Row,
-    m: Option<ModRm>,
-    sib: Option<Sib>,
-    used: u8,
-    bytes: &[u8],
+    known: bool,
+    head: &Head,
     place: &mut Decoded,
 ) -> Result<(), TailError>
     requires sound { IsTrue (sound row.now) }
-    requires modrm { IsTrue (fits.modrm_in_range m) }
-    requires sib { IsTrue (fits.sib_in_range sib) }
-    requires few { used < 18 }
-    ensures { spec.answer_in result place.new ≡ spec.rest_answer bits ip state.now code row.now m sib used bytes.now }
+    requires known { known ≡ true → parts.parts_fit bits row.now state.now head.now.modrm head.now.sib ≡ true }
+    requires modrm { IsTrue (fits.modrm_in_range head.now.modrm) }
+    requires sib { IsTrue (fits.sib_in_range head.now.sib) }
+    requires few { head.now.used < 18 }
+    ensures { spec.answer_in result place.new
+        ≡ spec.rest_answer bits ip state.now code row.now head.now.modrm head.now.sib head.now.used head.now.rest.now }
 {
-    if !parts_fit(bits, row, state, m, sib) {
+    let Head {
+        modrm: m,
+        sib,
+        used,
+        rest: bytes,
+    } = *head;
+    if !known && !parts_fit(bits, row, state, m, sib) {
         return Err(TailError::Forbidden);
     }
     let disp_len = displacement_size(bits, row, state, m, sib);
@@ -113,52 +119,88 @@ fn has_modrm(row: &Row) -> bool
     }
 }
 
-/// What stands behind the opcode byte: ModRM, the SIB where it takes one, and the rest.
+/// ModRM and SIB of a tail, and what stands behind them.
+#[derive(Clone, Copy)]
+pub(crate) struct Head<'a> {
+    modrm: Option<ModRm>,
+    sib: Option<Sib>,
+    /// The bytes up to the rest.
+    used: u8,
+    rest: &'a [u8],
+}
+
+/// ModRM, and the SIB where it takes one.
 #[inline(always)]
 #[tactic(auto, unfolding(crate::specs::Answer::tail_answer, crate::specs::Answer::modrm_answer, crate::specs::Answer::behind_modrm_answer, crate::specs::Answer::sib_answer))]
+fn head_of<'a>(
+    bits: Bits,
+    state: &PrefixState,
+    row: &Row,
+    bytes: &'a [u8],
+) -> Result<Head<'a>, TailError>
+    requires few { state.now.used < 15 }
+    ensures ok { IfOk result (λ h. (ip : ℕ) (code : Code) → spec.tail_answer bits ip state.now code row.now bytes.now
+        ≡ spec.rest_answer bits ip state.now code row.now h.modrm h.sib h.used h.rest.now) }
+    ensures modrm { IfOk result (λ h. IsTrue (fits.modrm_in_range h.modrm)) }
+    ensures sib { IfOk result (λ h. IsTrue (fits.sib_in_range h.sib)) }
+    ensures few { IfOk result (λ h. h.used < 18) }
+    ensures given { IfOk result (λ h. h.modrm ≡ parts.modrm_in row.now bytes.now) }
+    ensures err { IfErr result (λ e. (ip : ℕ) (code : Code) → spec.tail_answer bits ip state.now code row.now bytes.now ≡ Err e) }
+{
+    let used = state.used + 1;
+    if !has_modrm(row) {
+        return Ok(Head {
+            modrm: None,
+            sib: None,
+            used,
+            rest: bytes,
+        });
+    }
+    match bytes.split_first() {
+        None => Err(at_end(some_modrm_fits(bits, row, state))),
+        Some((b, rest)) => {
+            let m = modrm_of_byte(*b);
+            let used = used + 1;
+            if !takes_sib(bits, row, state, m) {
+                return Ok(Head {
+                    modrm: Some(m),
+                    sib: None,
+                    used,
+                    rest,
+                });
+            }
+            match rest.split_first() {
+                None => Err(at_end(some_sib_fits(bits, row, state, m))),
+                Some((b, rest)) => Ok(Head {
+                    modrm: Some(m),
+                    sib: Some(sib_of_byte(*b)),
+                    used: used + 1,
+                    rest,
+                }),
+            }
+        }
+    }
+}
+
+/// What stands behind the opcode byte: ModRM, the SIB where it takes one, and the rest.
+#[inline(always)]
 pub(crate) fn read_tail(
     bits: Bits,
     ip: u64,
     state: &PrefixState,
     code: Code,
     row: &Row,
+    known: bool,
     bytes: &[u8],
     place: &mut Decoded,
 ) -> Result<(), TailError>
     requires sound { IsTrue (sound row.now) }
     requires few { state.now.used < 15 }
+    requires known { known ≡ true → parts.KnownToFit bits row.now state.now bytes.now }
     ensures { spec.answer_in result place.new ≡ spec.tail_answer bits ip state.now code row.now bytes.now }
 {
-    let used = state.used + 1;
-    if !has_modrm(row) {
-        return read_rest(bits, ip, state, code, row, None, None, used, bytes, place);
-    }
-    match bytes.split_first() {
-        None => at_end(some_modrm_fits(bits, row, state)),
-        Some((b, rest)) => {
-            let m = modrm_of_byte(*b);
-            let used = used + 1;
-            if !takes_sib(bits, row, state, m) {
-                return read_rest(bits, ip, state, code, row, Some(m), None, used, rest, place);
-            }
-            match rest.split_first() {
-                None => at_end(some_sib_fits(bits, row, state, m)),
-                Some((b, rest)) => {
-                    let sib = Some(sib_of_byte(*b));
-                    read_rest(
-                        bits,
-                        ip,
-                        state,
-                        code,
-                        row,
-                        Some(m),
-                        sib,
-                        used + 1,
-                        rest,
-                        place,
-                    )
-                }
-            }
-        }
+    match head_of(bits, state, row, bytes) {
+        Err(error) => Err(error),
+        Ok(head) => read_rest(bits, ip, state, code, row, known, &head, place),
     }
 }
