@@ -46,8 +46,7 @@ fn encode_row(
     ensures { written_onto result out.new ≡ encoded_by (failure bits ip row.now instr.now) (bytes_of row.now (plain_spelling bits ip row.now instr.now)) }
 {
     let [_first, _second, _third, _fourth] = instr.ops;
-    let parts = plain_parts(bits, ip, row, instr);
-    write_parts(out, bits, row, instr, &parts)
+    write_parts(out, bits, row, instr, &plain_parts(bits, ip, row, instr))
 }
 
 /// Writes the encoding of an instruction of a row that exists in the mode, by the parts of its plain spelling, which say the address, or

@@ -571,6 +571,7 @@ fn or_zero(n: Option<u8>) -> u8
 }
 
 /// The plain fields of an address of this address size.
+#[inline(always)]
 #[tactic(auto, unfolding(crate::specs::Addresses::address_fields))]
 pub fn address_fields(bits: Bits, asize: Bits, memory: Mem) -> AddressFields
     ensures { result ≡ spec.address_fields bits asize memory }

@@ -301,7 +301,7 @@ fn offered(bits: Bits, row: &Row, instr: &Instr, n: usize) -> bool
 // ---- 6. each immediate is a value of its written size
 
 /// An immediate of n bytes: as it is written, or sign-extended to the operand size; `1` is not written.
-#[inline(never)]
+#[inline(always)]
 #[tactic(auto, unfolding(crate::specs::Expressible::immediate_suits_how))]
 fn immediate_suits_how(size: Bits, method: Method, n: u8, operand: Operand) -> bool
     requires { n ≤ 8 }

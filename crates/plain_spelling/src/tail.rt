@@ -83,34 +83,13 @@ fn kind_has_address(kind: OpKind) -> bool
     }
 }
 
-/// The operand that ModRM.rm names, absent without one.
-#[inline(always)]
-fn rm_operand(row: &Row, instr: &Instr) -> Operand
-    ensures { result ≡ spec.rm_operand row.now instr.now }
-{
-    let [k0, k1, k2, k3] = row.ops;
-    // Four operands, as the proof has to know; each is copied only where it is the answer.
-    let [_first, _second, _third, _fourth] = instr.ops;
-    if kind_reads_rm(k0) {
-        operand_at(instr, 0)
-    } else if kind_reads_rm(k1) {
-        operand_at(instr, 1)
-    } else if kind_reads_rm(k2) {
-        operand_at(instr, 2)
-    } else if kind_reads_rm(k3) {
-        operand_at(instr, 3)
-    } else {
-        Operand::Absent
-    }
-}
-
 /// The operand that may have a displacement, absent without one.
 #[inline(always)]
 pub fn address_operand(row: &Row, instr: &Instr) -> Operand
     ensures { result ≡ spec.address_operand row.now instr.now }
 {
     let [k0, k1, k2, k3] = row.ops;
-    // As in `rm_operand`.
+    // Four operands, as the proof has to know; each is copied only where it is the answer.
     let [_first, _second, _third, _fourth] = instr.ops;
     if kind_has_address(k0) {
         operand_at(instr, 0)
@@ -135,6 +114,7 @@ fn lone_mode(place: Place) -> u8
 }
 
 /// The fields mod and rm and the SIB of the operand in r/m: a register has mod 3 (2.1.5).
+#[inline(always)]
 #[tactic(auto, unfolding(crate::specs::PlainTail::rm_fields))]
 fn rm_fields(bits: Bits, asize: Option<Bits>, place: Place, operand: Operand) -> AddressFields
     ensures { result ≡ spec.rm_fields bits asize place operand }
@@ -154,10 +134,34 @@ fn rm_fields(bits: Bits, asize: Option<Bits>, place: Place, operand: Operand) ->
     }
 }
 
+/// The same of operand n, which is read where it lies.
+#[inline(never)]
+fn rm_fields_at(bits: Bits, row: &Row, instr: &Instr, n: usize) -> AddressFields
+    requires { n < 4 }
+    ensures { result ≡ spec.rm_fields bits instr.now.asize row.now.place (spec_operand_at instr.now n) }
+{
+    rm_fields(bits, instr.asize, row.place, operand_at(instr, n))
+}
+
+/// The same of the operand that ModRM.rm names.
+#[inline(always)]
 fn fields_of(bits: Bits, row: &Row, instr: &Instr) -> AddressFields
     ensures { result ≡ spec.fields_of bits row.now instr.now }
 {
-    rm_fields(bits, instr.asize, row.place, rm_operand(row, instr))
+    let [k0, k1, k2, k3] = row.ops;
+    // Four operands, as the proof has to know.
+    let [_first, _second, _third, _fourth] = instr.ops;
+    if kind_reads_rm(k0) {
+        rm_fields_at(bits, row, instr, 0)
+    } else if kind_reads_rm(k1) {
+        rm_fields_at(bits, row, instr, 1)
+    } else if kind_reads_rm(k2) {
+        rm_fields_at(bits, row, instr, 2)
+    } else if kind_reads_rm(k3) {
+        rm_fields_at(bits, row, instr, 3)
+    } else {
+        rm_fields(bits, instr.asize, row.place, Operand::Absent)
+    }
 }
 
 /// The field rm of a fixed ModRM byte: its own, or the stack number that the row adds (3.1.1.1, +i).
