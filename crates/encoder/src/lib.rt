@@ -32,6 +32,7 @@ pub mod laws;
 mod tests;
 
 /// Writes the encoding of an instruction of a row that exists in the mode, at an address of the mode, or answers why there is none.
+#[inline(never)]
 fn encode_row(
     out: &mut ArrayVec<u8, 15>,
     bits: Bits,
@@ -53,7 +54,7 @@ fn encode_row(
 /// answers why there is none.
 ///
 /// It is a function of its own, so that the parts are read where they lie.
-#[inline(never)]
+#[inline(always)]
 fn write_parts(
     out: &mut ArrayVec<u8, 15>,
     bits: Bits,
