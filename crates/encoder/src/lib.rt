@@ -83,12 +83,7 @@ fn write_parts(
 }
 
 /// Writes the encoding of an instruction at an address, or answers why there is none.
-fn encode_onto(
-    out: &mut ArrayVec<u8, 15>,
-    bits: Bits,
-    ip: u64,
-    instr: &Instr,
-) -> Option<NoSpelling>
+fn encode_onto(out: &mut ArrayVec<u8, 15>, bits: Bits, ip: u64, instr: &Instr) -> Option<NoSpelling>
     requires empty { out.old.items ≡ [] }
     ensures { written_onto result out.new ≡ encoding bits ip instr.now }
 {
@@ -110,7 +105,7 @@ fn encode_by_row(bits: Bits, ip: u64, instr: &Instr) -> Result<ArrayVec<u8, 15>,
     let mut bytes = ArrayVec::new();
     match encode_onto(&mut bytes, bits, ip, instr) {
         None => Ok(bytes),
-        Some(why) => Err(why),
+        Some(refusal) => Err(refusal),
     }
 }
 
