@@ -32,6 +32,8 @@ pub mod laws;
 mod tests;
 
 /// Writes the encoding of an instruction of a row that exists in the mode, at an address of the mode, or answers why there is none.
+///
+/// It is a function of its own, so that the row and the parts are read where they lie.
 #[inline(never)]
 fn encode_row(
     out: &mut ArrayVec<u8, 15>,
@@ -46,14 +48,13 @@ fn encode_row(
     requires exists { IsTrue (sizes.exists_in bits row.now) }
     ensures { written_onto result out.new ≡ encoded_by (failure bits ip row.now instr.now) (bytes_of row.now (plain_spelling bits ip row.now instr.now)) }
 {
+    // Four operands, as the proof has to know.
     let [_first, _second, _third, _fourth] = instr.ops;
     write_parts(out, bits, row, instr, &plain_parts(bits, ip, row, instr))
 }
 
 /// Writes the encoding of an instruction of a row that exists in the mode, by the parts of its plain spelling, which say the address, or
 /// answers why there is none.
-///
-/// It is a function of its own, so that the parts are read where they lie.
 #[inline(always)]
 fn write_parts(
     out: &mut ArrayVec<u8, 15>,
@@ -69,6 +70,7 @@ fn write_parts(
     requires parts { ArePartsOf bits row.now instr.now parts.now }
     ensures { written_onto result out.new ≡ encoded_by (failure bits parts.now.ip row.now instr.now) (bytes_of row.now (plain_spelling bits parts.now.ip row.now instr.now)) }
 {
+    // Four operands, as the proof has to know.
     let [_first, _second, _third, _fourth] = instr.ops;
     match tail_failure(bits, row, instr, parts) {
         Some(why) => return Some(why),
@@ -129,6 +131,7 @@ pub fn encode(bits: Bits, ip: u64, instr: &Instr) -> Result<ArrayVec<u8, 15>, No
     // No bytes that spell the instruction there are fewer.
     ensures shortest { IfOk result (λ bytes. (others : List ℕ) → SpellsUnbounded table bits (wrapped bits ip) others instr.now → length bytes.items ≤ length others) }
 {
+    // Four operands, as the proof has to know.
     let [_first, _second, _third, _fourth] = instr.ops;
     encode_by_row(bits, ip, instr)
 }
@@ -154,6 +157,7 @@ fn row_len(bits: Bits, ip: u64, row: &Row, instr: &Instr) -> Result<u8, NoSpelli
     requires exists { IsTrue (sizes.exists_in bits row.now) }
     ensures { result ≡ length_of (encoded_by (failure bits ip row.now instr.now) (bytes_of row.now (plain_spelling bits ip row.now instr.now))) }
 {
+    // Four operands, as the proof has to know.
     let [_first, _second, _third, _fourth] = instr.ops;
     let parts = plain_parts(bits, ip, row, instr);
     match tail_failure(bits, row, instr, &parts) {

@@ -312,6 +312,7 @@ fn immediate_suits_how(size: Bits, method: Method, n: u8, operand: Operand) -> b
         (Method::Extended, Operand::Imm(x)) => is_extended_of(n, size, x),
         (Method::One, Operand::Imm(x)) => x == 1,
         (Method::Pointer, Operand::Far { selector, offset }) => {
+            // The definition asks that it is below 2 to 16, which the proof has of a value that is read.
             let _selector = selector;
             is_below_bytes(n.saturating_sub(2), offset as u64)
         }
@@ -584,6 +585,7 @@ fn prefix_failure(bits: Bits, row: &Row, instr: &Instr, state: &PrefixState) -> 
     requires { state.now ≡ front.byte_front bits row.now instr.now }
     ensures { result ≡ spec.caused_unless (spec.prefixes_suit row.now instr.now) cause.Prefix }
 {
+    // The state that is given is that of a mode, which the proof names by this value.
     let _bits = bits;
     caused_unless(prefixes_suit(row, instr, state.opcode), NoSpelling::Prefix)
 }

@@ -184,7 +184,14 @@ pub fn plain_front(bits: Bits, row: &Row, instr: &Instr) -> PrefixState
     ensures small { result.used < 16 }
 {
     let asked = numbers_asked(row, instr);
-    front_asked(bits, row, instr, &asked, asks_rex_w(row), asks_66(bits, row))
+    front_asked(
+        bits,
+        row,
+        instr,
+        &asked,
+        asks_rex_w(row),
+        asks_66(bits, row),
+    )
 }
 
 /// The same by the numbers that the instruction asks, and by what the row asks of W of a REX and of 66.

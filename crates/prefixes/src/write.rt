@@ -108,7 +108,7 @@ pub fn write_prefixes(bits: Bits, row: &Row, state: &PrefixState) -> ArrayVec<u8
     requires { IsTrue (vex_in_range state.now.vex) }
     ensures { result.items ≡ front_written row.now state.now }
 {
-    // The mode is said by every writer of this crate; a front has its bytes in each.
+    // No part of the proof: the bytes of a front are the same in every mode.
     let _bits = bits;
     let mut out = ArrayVec::new();
     append_front(&mut out, row, state);
