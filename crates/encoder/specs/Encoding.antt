@@ -33,6 +33,11 @@ abbrev pub written : Result (ArrayVec ℕ) NoSpelling → Result (List ℕ) NoSp
 written (Ok bytes) = Ok bytes.items
 written (Err why) = Err why
 
+-- the same of bytes that are written where they are to lie, and of why there are none
+abbrev pub written_onto : Option NoSpelling → ArrayVec ℕ → Result (List ℕ) NoSpelling
+written_onto None bytes = Ok bytes.items
+written_onto (Some why) bytes = Err why
+
 -- an encoding's length
 abbrev pub length_of : Result (List ℕ) NoSpelling → Result ℕ NoSpelling
 length_of (Ok bytes) = Ok (length bytes)

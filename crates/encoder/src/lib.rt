@@ -1,7 +1,7 @@
 //! Instructions, written as bytes (Intel SDM volume 2, chapter 2).
 #![tactic(auto)]
 
-ghost use Rattle.std.specs.Prelude.{◌≡◌, ℕ, ◌≤◌, ◌<◌, ◌++◌, List, length, IfOk, IsErr, IfSome, IsNone, IsTrue, slice_get, Some};
+ghost use Rattle.std.specs.Prelude.{◌≡◌, ℕ, ◌≤◌, ◌<◌, ◌++◌, List, length, [], IfOk, IsErr, IfSome, IsNone, IsTrue, slice_get, Some};
 ghost use Rattle.x86_values.specs.Wrapping.{wrapped};
 ghost use Rattle.instruction_parts.specs.Sizes as sizes;
 ghost use Rattle.instruction_parts.specs.Bytes.{bytes_of};
@@ -14,7 +14,7 @@ ghost use Rattle.plain_spelling.specs.Writable.{writable};
 ghost use Rattle.plain_laws.specs.Plain.{IsPlainlySpelled};
 ghost use Rattle.opcode_rows.specs.Table.{table};
 ghost use Rattle.opcode_rows.specs.Reading.{IsRead};
-ghost use Rattle.encoder.specs.Encoding.{encoding, encoded_by, written, length_of, reading_of_bytes};
+ghost use Rattle.encoder.specs.Encoding.{encoding, encoded_by, written, written_onto, length_of, reading_of_bytes};
 
 use arrayvec::ArrayVec;
 use instruction_parts::sizes::exists_in;
@@ -22,7 +22,7 @@ use opcode_rows::{ROWS, row_of};
 pub use plain_spelling::NoSpelling;
 use plain_spelling::conditions::tail_failure;
 use plain_spelling::parts::{PlainParts, plain_parts};
-use prefixes::write_prefixes;
+use prefixes::append_front;
 use row_relation::append_plain_tail;
 use row_types::Row;
 use x86_values::{Bits, Instr, wrap};
@@ -31,59 +31,84 @@ pub mod laws;
 #[cfg(test)]
 mod tests;
 
-/// The encoding of an instruction of a row that exists in the mode, at an address of the mode.
-fn encode_row(bits: Bits, ip: u64, row: &Row, instr: &Instr) -> Result<ArrayVec<u8, 15>, NoSpelling>
+/// Writes the encoding of an instruction of a row that exists in the mode, at an address of the mode, or answers why there is none.
+///
+/// It is a function of its own, so that the row and the parts are read where they lie.
+#[inline(never)]
+fn encode_row(
+    out: &mut ArrayVec<u8, 15>,
+    bits: Bits,
+    ip: u64,
+    row: &Row,
+    instr: &Instr,
+) -> Option<NoSpelling>
+    requires empty { out.old.items ≡ [] }
     requires sound { IsTrue (sound row.now) }
     requires writable { IsTrue (writable row.now) }
     requires exists { IsTrue (sizes.exists_in bits row.now) }
-    ensures { written result ≡ encoded_by (failure bits ip row.now instr.now) (bytes_of row.now (plain_spelling bits ip row.now instr.now)) }
+    ensures { written_onto result out.new ≡ encoded_by (failure bits ip row.now instr.now) (bytes_of row.now (plain_spelling bits ip row.now instr.now)) }
 {
+    // Four operands, as the proof has to know.
     let [_first, _second, _third, _fourth] = instr.ops;
-    let parts = plain_parts(bits, ip, row, instr);
-    write_parts(bits, row, instr, &parts)
+    write_parts(out, bits, row, instr, &plain_parts(bits, ip, row, instr))
 }
 
-/// The encoding of an instruction of a row that exists in the mode, by the parts of its plain spelling, which say the address.
-///
-/// It is a function of its own, so that the parts are read where they lie.
-#[inline(never)]
+/// Writes the encoding of an instruction of a row that exists in the mode, by the parts of its plain spelling, which say the address, or
+/// answers why there is none.
+#[inline(always)]
 fn write_parts(
+    out: &mut ArrayVec<u8, 15>,
     bits: Bits,
     row: &Row,
     instr: &Instr,
     parts: &PlainParts,
-) -> Result<ArrayVec<u8, 15>, NoSpelling>
+) -> Option<NoSpelling>
+    requires empty { out.old.items ≡ [] }
     requires sound { IsTrue (sound row.now) }
     requires writable { IsTrue (writable row.now) }
     requires exists { IsTrue (sizes.exists_in bits row.now) }
     requires parts { ArePartsOf bits row.now instr.now parts.now }
-    ensures { written result ≡ encoded_by (failure bits parts.now.ip row.now instr.now) (bytes_of row.now (plain_spelling bits parts.now.ip row.now instr.now)) }
+    ensures { written_onto result out.new ≡ encoded_by (failure bits parts.now.ip row.now instr.now) (bytes_of row.now (plain_spelling bits parts.now.ip row.now instr.now)) }
 {
+    // Four operands, as the proof has to know.
     let [_first, _second, _third, _fourth] = instr.ops;
     match tail_failure(bits, row, instr, parts) {
-        Some(why) => return Err(why),
+        Some(why) => return Some(why),
         None => {}
     }
     if parts.len > 15 {
-        return Err(NoSpelling::Length);
+        return Some(NoSpelling::Length);
     }
-    let mut bytes = write_prefixes(bits, row, &parts.state);
-    append_plain_tail(&mut bytes, row, instr, parts);
-    Ok(bytes)
+    append_front(out, row, &parts.state);
+    append_plain_tail(out, row, instr, parts);
+    None
 }
 
-/// The encoding of an instruction at an address.
-fn encode_by_row(bits: Bits, ip: u64, instr: &Instr) -> Result<ArrayVec<u8, 15>, NoSpelling>
-    ensures { written result ≡ encoding bits ip instr.now }
+/// Writes the encoding of an instruction at an address, or answers why there is none.
+fn encode_onto(out: &mut ArrayVec<u8, 15>, bits: Bits, ip: u64, instr: &Instr) -> Option<NoSpelling>
+    requires empty { out.old.items ≡ [] }
+    ensures { written_onto result out.new ≡ encoding bits ip instr.now }
 {
     if instr.code.0 >= ROWS {
-        return Err(NoSpelling::Row);
+        return Some(NoSpelling::Row);
     }
     let row = row_of(instr.code);
     if !exists_in(bits, &row) {
-        return Err(NoSpelling::Row);
+        return Some(NoSpelling::Row);
     }
-    encode_row(bits, wrap(bits, u128::from(ip)), &row, instr)
+    encode_row(out, bits, wrap(bits, u128::from(ip)), &row, instr)
+}
+
+/// The encoding of an instruction at an address: its bytes are written once, where the answer is made of them.
+#[inline]
+fn encode_by_row(bits: Bits, ip: u64, instr: &Instr) -> Result<ArrayVec<u8, 15>, NoSpelling>
+    ensures { written result ≡ encoding bits ip instr.now }
+{
+    let mut bytes = ArrayVec::new();
+    match encode_onto(&mut bytes, bits, ip, instr) {
+        None => Ok(bytes),
+        Some(refusal) => Err(refusal),
+    }
 }
 
 /// The bytes of the plain spelling of an instruction at an address, 1 to 15: the shortest that are read as it there.
@@ -106,6 +131,7 @@ pub fn encode(bits: Bits, ip: u64, instr: &Instr) -> Result<ArrayVec<u8, 15>, No
     // No bytes that spell the instruction there are fewer.
     ensures shortest { IfOk result (λ bytes. (others : List ℕ) → SpellsUnbounded table bits (wrapped bits ip) others instr.now → length bytes.items ≤ length others) }
 {
+    // Four operands, as the proof has to know.
     let [_first, _second, _third, _fourth] = instr.ops;
     encode_by_row(bits, ip, instr)
 }
@@ -131,6 +157,7 @@ fn row_len(bits: Bits, ip: u64, row: &Row, instr: &Instr) -> Result<u8, NoSpelli
     requires exists { IsTrue (sizes.exists_in bits row.now) }
     ensures { result ≡ length_of (encoded_by (failure bits ip row.now instr.now) (bytes_of row.now (plain_spelling bits ip row.now instr.now))) }
 {
+    // Four operands, as the proof has to know.
     let [_first, _second, _third, _fourth] = instr.ops;
     let parts = plain_parts(bits, ip, row, instr);
     match tail_failure(bits, row, instr, &parts) {

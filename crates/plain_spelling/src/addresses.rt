@@ -107,6 +107,7 @@ fn shown_size(memory: Mem) -> Option<Bits>
 }
 
 /// The address size that an address shows by a general register, RIP or EIP.
+#[inline(never)]
 #[tactic(auto, unfolding(crate::specs::Expressible::told_size))]
 pub fn told_size(memory: Mem) -> Option<Bits>
     ensures { result ≡ told_size memory }
@@ -570,6 +571,7 @@ fn or_zero(n: Option<u8>) -> u8
 }
 
 /// The plain fields of an address of this address size.
+#[inline(always)]
 #[tactic(auto, unfolding(crate::specs::Addresses::address_fields))]
 pub fn address_fields(bits: Bits, asize: Bits, memory: Mem) -> AddressFields
     ensures { result ≡ spec.address_fields bits asize memory }

@@ -33,6 +33,7 @@ fn same_segment(a: Segment, b: Segment) -> bool
 }
 
 /// Whether two registers are one.
+#[inline(always)]
 #[tactic(auto, unfolding(crate::specs::Comparing::same_register))]
 pub fn same_register(a: Register, b: Register) -> bool
     ensures { result ≡ spec.same_register a b }

@@ -117,6 +117,7 @@ fn kind_allows(bits: Bits, n: usize, kind: OpKind, register: Register) -> bool
 }
 
 /// Whether the register can be named as operand n.
+#[inline(never)]
 #[tactic(auto, unfolding(crate::specs::Expressible::is_nameable))]
 fn is_nameable(
     bits: Bits,
@@ -233,6 +234,8 @@ fn differ(first: Option<u16>, second: Option<u16>) -> bool
 }
 
 /// Of a gather's destination, index and mask those that are vector registers have numbers that differ pairwise (2.3.12).
+#[cold]
+#[inline(never)]
 #[tactic(auto, unfolding(crate::specs::Expressible::gather_numbers_differ))]
 fn gather_numbers_differ(row: &Row, instr: &Instr) -> bool
     ensures { result ≡ spec.gather_numbers_differ row.now instr.now }
@@ -243,6 +246,7 @@ fn gather_numbers_differ(row: &Row, instr: &Instr) -> bool
     differ(destination, index) && differ(destination, mask) && differ(index, mask)
 }
 
+#[inline(always)]
 fn gather_suits(row: &Row, instr: &Instr, n: usize) -> bool
     ensures { result ≡ spec.gather_suits row.now instr.now n }
 {
@@ -297,6 +301,7 @@ fn offered(bits: Bits, row: &Row, instr: &Instr, n: usize) -> bool
 // ---- 6. each immediate is a value of its written size
 
 /// An immediate of n bytes: as it is written, or sign-extended to the operand size; `1` is not written.
+#[inline(always)]
 #[tactic(auto, unfolding(crate::specs::Expressible::immediate_suits_how))]
 fn immediate_suits_how(size: Bits, method: Method, n: u8, operand: Operand) -> bool
     requires { n ≤ 8 }
@@ -307,6 +312,7 @@ fn immediate_suits_how(size: Bits, method: Method, n: u8, operand: Operand) -> b
         (Method::Extended, Operand::Imm(x)) => is_extended_of(n, size, x),
         (Method::One, Operand::Imm(x)) => x == 1,
         (Method::Pointer, Operand::Far { selector, offset }) => {
+            // The definition asks that it is below 2 to 16, which the proof has of a value that is read.
             let _selector = selector;
             is_below_bytes(n.saturating_sub(2), offset as u64)
         }
@@ -332,6 +338,7 @@ fn immediate_suits(bits: Bits, row: &Row, instr: &Instr, size: Bits, n: usize) -
 // ---- 7. each near, RIP or EIP target is reached from the next address
 
 /// A near target is an address of the operand size, and n bytes of offset come to it.
+#[inline(never)]
 #[tactic(auto, unfolding(crate::specs::Expressible::near_reaches))]
 fn near_reaches(size: Bits, next: u64, n: u8, target: u64) -> bool
     requires { n ≤ 8 }
@@ -411,6 +418,7 @@ fn prefixes_suit(row: &Row, instr: &Instr, opcode: u8) -> bool
 // ---- 9. the address size is that of the operand, and one of the mode
 
 /// Whether some operand is memory.
+#[inline(always)]
 #[tactic(auto, unfolding(crate::specs::Expressible::has_memory_operand))]
 fn has_memory_operand(instr: &Instr) -> bool
     ensures { result ≡ spec.has_memory_operand instr.now }
@@ -422,6 +430,7 @@ fn has_memory_operand(instr: &Instr) -> bool
 }
 
 /// An address size agrees with what an operand shows.
+#[inline(always)]
 #[tactic(auto, unfolding(crate::specs::Expressible::size_agrees))]
 fn size_agrees(asize: Bits, operand: Operand) -> bool
     ensures { result ≡ spec.size_agrees asize operand }
@@ -436,6 +445,7 @@ fn size_agrees(asize: Bits, operand: Operand) -> bool
 }
 
 /// An address size of the mode that agrees with all operands, and not 16 on a gather.
+#[inline(never)]
 #[tactic(auto, unfolding(crate::specs::Expressible::is_size_of))]
 fn is_size_of(bits: Bits, row: &Row, instr: &Instr, asize: Bits) -> bool
     ensures { result ≡ spec.is_size_of bits row.now instr.now asize }
@@ -449,6 +459,7 @@ fn is_size_of(bits: Bits, row: &Row, instr: &Instr, asize: Bits) -> bool
 }
 
 /// An address size stands exactly where an operand is memory or the row uses one without.
+#[inline(always)]
 #[tactic(auto, unfolding(crate::specs::Expressible::address_size_suits))]
 fn address_size_suits(bits: Bits, row: &Row, instr: &Instr) -> bool
     ensures { result ≡ spec.address_size_suits bits row.now instr.now }
@@ -574,6 +585,7 @@ fn prefix_failure(bits: Bits, row: &Row, instr: &Instr, state: &PrefixState) -> 
     requires { state.now ≡ front.byte_front bits row.now instr.now }
     ensures { result ≡ spec.caused_unless (spec.prefixes_suit row.now instr.now) cause.Prefix }
 {
+    // The state that is given is that of a mode, which the proof names by this value.
     let _bits = bits;
     caused_unless(prefixes_suit(row, instr, state.opcode), NoSpelling::Prefix)
 }
@@ -628,7 +640,9 @@ fn first_failure(bits: Bits, row: &Row, instr: &Instr, parts: &PlainParts) -> Op
 // ---- whether all of them hold, each operand gone over once
 
 /// Whether an operand that is there meets the conditions 2 to 7 by itself.
-#[inline(never)]
+///
+/// It is built into its callers, so that an operand costs no more than one call, of the tests of its variant.
+#[inline(always)]
 #[tactic(auto, unfolding(crate::specs::Expressible::kind_suits, crate::specs::Expressible::named, crate::specs::Expressible::address_suits, crate::specs::Expressible::offered, crate::specs::Expressible::immediate_suits, crate::specs::Expressible::target_suits, crate::specs::Expressible::operand_suits))]
 fn present_suits(bits: Bits, row: &Row, instr: &Instr, parts: &PlainParts, n: usize) -> bool
     requires place { n < 4 }
@@ -674,7 +688,7 @@ fn is_absent_kind(kind: OpKind) -> bool
 }
 
 /// Whether an operand meets the conditions 2 to 7 by itself: one that is absent has no more to meet than its kind.
-#[inline]
+#[inline(always)]
 #[tactic(auto, unfolding(crate::specs::Expressible::kind_suits, crate::specs::Expressible::named, crate::specs::Expressible::address_suits, crate::specs::Expressible::offered, crate::specs::Expressible::immediate_suits, crate::specs::Expressible::target_suits, crate::specs::Expressible::operand_suits))]
 fn operand_suits(bits: Bits, row: &Row, instr: &Instr, parts: &PlainParts, n: usize) -> bool
     requires place { n < 4 }

@@ -27,7 +27,7 @@ fn bit(flag: bool) -> u8
 
 /// W 1 of a legacy row.
 #[tactic(auto, unfolding(crate::specs::PlainFront::asks_rex_w))]
-fn asks_rex_w(row: &Row) -> bool
+pub fn asks_rex_w(row: &Row) -> bool
     ensures { result ≡ spec.asks_rex_w row.now }
 {
     match row.size {
@@ -50,7 +50,7 @@ fn asks_vex_w(row: &Row) -> bool
 
 /// 66: for the class, or for an operand size of 16 or 32 that is not the row's default in the mode.
 #[tactic(auto, unfolding(crate::specs::PlainFront::asks_66))]
-fn asks_66(bits: Bits, row: &Row) -> bool
+pub fn asks_66(bits: Bits, row: &Row) -> bool
     ensures { result ≡ spec.asks_66 bits row.now }
 {
     !is_vex_row(row)
@@ -92,15 +92,15 @@ fn asked_repeat(row: &Row, instr: &Instr) -> Rep
     }
 }
 
-/// The REX of a legacy row, where something needs one: `r`, `x` and `b` are what the instruction asks of R, X and B.
+/// The REX of a legacy row, where something needs one: `w`, `r`, `x` and `b` are what the row and the instruction ask of W, R, X and B.
 #[tactic(auto, unfolding(crate::specs::PlainFront::asked_rex))]
-fn asked_rex(row: &Row, instr: &Instr, r: bool, x: bool, b: bool) -> Option<u8>
+fn asked_rex(row: &Row, instr: &Instr, w: bool, r: bool, x: bool, b: bool) -> Option<u8>
+    requires w { w ≡ spec.asks_rex_w row.now }
     requires r { r ≡ spec.asks_r row.now instr.now }
     requires x { x ≡ spec.asks_x row.now instr.now }
     requires b { b ≡ spec.asks_b row.now instr.now }
     ensures { result ≡ spec.asked_rex row.now instr.now }
 {
-    let w = asks_rex_w(row);
     if !is_vex_row(row) && (w || r || x || b || asks_low_byte(instr)) {
         Some(0x40 + (bit(w) * 8 + (bit(r) * 4 + (bit(x) * 2 + bit(b)))))
     } else {
@@ -183,26 +183,42 @@ pub fn plain_front(bits: Bits, row: &Row, instr: &Instr) -> PrefixState
     ensures exact { IsTrue (each_operand (register_suits bits row.now instr.now)) → result ≡ spec.plain_front_of bits row.now instr.now }
     ensures small { result.used < 16 }
 {
-    front_asked(bits, row, instr, &numbers_asked(row, instr))
+    let asked = numbers_asked(row, instr);
+    front_asked(
+        bits,
+        row,
+        instr,
+        &asked,
+        asks_rex_w(row),
+        asks_66(bits, row),
+    )
 }
 
-/// The same by the numbers that the instruction asks.
+/// The same by the numbers that the instruction asks, and by what the row asks of W of a REX and of 66.
 #[inline]
 #[tactic(auto, unfolding(crate::specs::PlainFront::byte_front, crate::specs::PlainFront::plain_front_of, crate::specs::PlainFront::asked_used, crate::specs::PlainFront::asks_r, crate::specs::PlainFront::asks_x, crate::specs::PlainFront::asks_b))]
-pub fn front_asked(bits: Bits, row: &Row, instr: &Instr, asked: &Asked) -> PrefixState
+pub fn front_asked(
+    bits: Bits,
+    row: &Row,
+    instr: &Instr,
+    asked: &Asked,
+    w: bool,
+    size66: bool,
+) -> PrefixState
     requires sound { IsTrue (sound row.now) }
     requires asked { AreAskedOf row.now instr.now asked.now }
+    requires w { w ≡ spec.asks_rex_w row.now }
+    requires size66 { size66 ≡ spec.asks_66 bits row.now }
     ensures value { result ≡ spec.byte_front bits row.now instr.now }
     ensures exact { IsTrue (each_operand (register_suits bits row.now instr.now)) → result ≡ spec.plain_front_of bits row.now instr.now }
     ensures small { result.used < 16 }
 {
-    let size66 = asks_66(bits, row);
     let addr67 = asks_67(bits, instr.asize);
     let rep = asked_repeat(row, instr);
     let r = 8 <= asked.reg;
     let x = 8 <= asked.index;
     let b = 8 <= asked.rm;
-    let rex = asked_rex(row, instr, r, x, b);
+    let rex = asked_rex(row, instr, w, r, x, b);
     let vex = byte_vex(row, instr, asked, r, x, b);
     PrefixState {
         used: bit(instr.lock)
@@ -222,19 +238,13 @@ pub fn front_asked(bits: Bits, row: &Row, instr: &Instr, asked: &Asked) -> Prefi
     }
 }
 
-/// The operand size under the plain prefixes: that of the row.
+/// The operand size under the plain prefixes, that of the row, by what the row asks of W of a REX and of 66.
+#[inline]
 #[tactic(auto, unfolding(crate::specs::PlainTail::plain_size))]
-pub fn plain_size(bits: Bits, row: &Row) -> Bits
+pub fn plain_size(bits: Bits, row: &Row, w: bool, size66: bool) -> Bits
+    requires w { w ≡ spec.asks_rex_w row.now }
+    requires size66 { size66 ≡ spec.asks_66 bits row.now }
     ensures { result ≡ tail.plain_size bits row.now }
 {
-    operand_size(
-        bits,
-        row,
-        if is_vex_row(row) {
-            false
-        } else {
-            asks_rex_w(row)
-        },
-        asks_66(bits, row),
-    )
+    operand_size(bits, row, if is_vex_row(row) { false } else { w }, size66)
 }

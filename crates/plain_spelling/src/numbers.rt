@@ -80,6 +80,7 @@ pub fn is_of_width(size: Bits, x: u64) -> bool
 }
 
 /// Whether a number of a size is what n sign-extended bytes give, cut to that size.
+#[inline(never)]
 #[tactic(auto, unfolding(crate::specs::Values::is_extended_of))]
 pub fn is_extended_of(n: u8, size: Bits, x: u64) -> bool
     requires { n ≤ 8 }
@@ -101,6 +102,7 @@ pub fn distance(size: Bits, from: u64, to: u64) -> u64
 }
 
 /// Whether a number is below 2 to the number of bits in n bytes.
+#[inline(never)]
 pub fn is_below_bytes(n: u8, x: u64) -> bool
     requires { n ≤ 8 }
     ensures { result ≡ nat_lt x (2 ^ (8 * n)) }

@@ -7,7 +7,7 @@ ghost use Rattle.plain_spelling.specs.PlainFront as front;
 ghost use Rattle.plain_spelling.specs.PlainTail as spec;
 ghost use Rattle.plain_spelling.specs.Parts.{ArePartsOf};
 
-use crate::front::{front_asked, plain_size};
+use crate::front::{asks_66, asks_rex_w, front_asked, plain_size};
 use crate::registers::numbers_asked;
 use crate::tail::{Addressing, address_operand, operand_displacement, plain_addressing};
 use instruction_parts::spelling::PrefixState;
@@ -36,7 +36,7 @@ pub struct PlainParts {
 }
 
 /// The bytes that an operand has behind the instruction, at most 8.
-#[inline]
+#[inline(always)]
 #[tactic(auto, unfolding(row_fit::specs::Fits::immediate_bytes, instruction_parts::specs::Kinds::immediate_width))]
 pub fn immediate_len(size: Bits, kind: OpKind) -> u8
     ensures value { result ≡ bytes_of_kind size kind }
@@ -98,11 +98,14 @@ pub fn plain_parts(bits: Bits, ip: u64, row: &Row, instr: &Instr) -> PlainParts
     ensures small { result.len < 64 }
 {
     let asked = numbers_asked(row, instr);
-    let state = front_asked(bits, row, instr, &asked);
+    let w = asks_rex_w(row);
+    let size66 = asks_66(bits, row);
     let addressing = plain_addressing(bits, row, instr, &asked);
-    let size = plain_size(bits, row);
+    let size = plain_size(bits, row, w, size66);
     let displacement = operand_displacement(address_operand(row, instr));
     let immediates = immediates_len(size, row);
+    // Last, since its many fields would else be kept through the calls above.
+    let state = front_asked(bits, row, instr, &asked, w, size66);
     let used = state.used;
     let len = plain_len(bits, row, instr, used, addressing, displacement, immediates);
     let next = wrap(bits, ip as u128 + len as u128);

@@ -148,6 +148,7 @@ fn with_operand(kind: OpKind, operand: Operand, rest: Asked) -> Asked
 }
 
 /// The numbers that the instruction asks, over all operands.
+#[inline(always)]
 pub fn numbers_asked(row: &Row, instr: &Instr) -> Asked
     ensures { AreAskedOf row.now instr.now result }
 {

@@ -20,7 +20,6 @@ use crate::addresses::{
     AddressFields, AddressForm, address_fields, displacement_count, form_of, written_size,
 };
 use crate::forms::operand_at;
-use crate::front::plain_size;
 use crate::numbers::{distance, push_low_bytes};
 use crate::parts::{PlainParts, immediate_len};
 use crate::registers::{Asked, register_number};
@@ -61,7 +60,7 @@ fn reads_rm_or_offset(method: Method) -> bool
 }
 
 /// Whether an operand of the kind is read from r/m.
-#[inline]
+#[inline(always)]
 #[tactic(auto, unfolding(instruction_parts::specs::Kinds::method_of))]
 fn kind_reads_rm(kind: OpKind) -> bool
     ensures { result ≡ sound_rule.reads_rm (method_of kind) }
@@ -73,7 +72,7 @@ fn kind_reads_rm(kind: OpKind) -> bool
 }
 
 /// Whether an operand of the kind may have a displacement.
-#[inline]
+#[inline(always)]
 #[tactic(auto, unfolding(instruction_parts::specs::Kinds::method_of))]
 fn kind_has_address(kind: OpKind) -> bool
     ensures { result ≡ (sound_rule.reads_rm (method_of kind) || fits.is_offset (method_of kind)) }
@@ -84,59 +83,25 @@ fn kind_has_address(kind: OpKind) -> bool
     }
 }
 
-/// The first operand that passes, absent without one: each stands behind whether it does.
-#[inline(always)]
-fn first_of(
-    first: bool,
-    a: Operand,
-    second: bool,
-    b: Operand,
-    third: bool,
-    c: Operand,
-    fourth: bool,
-    d: Operand,
-) -> Operand
-    ensures { result ≡ (if first then a else (if second then b else (if third then c else (if fourth then d else AbsentOperand)))) }
-{
-    if first {
-        a
-    } else if second {
-        b
-    } else if third {
-        c
-    } else if fourth {
-        d
-    } else {
-        Operand::Absent
-    }
-}
-
-/// The operand that ModRM.rm names, absent without one.
-#[inline(always)]
-fn rm_operand(row: &Row, instr: &Instr) -> Operand
-    ensures { result ≡ spec.rm_operand row.now instr.now }
-{
-    let [k0, k1, k2, k3] = row.ops;
-    let [a, b, c, d] = instr.ops;
-    let first = kind_reads_rm(k0);
-    let second = kind_reads_rm(k1);
-    let third = kind_reads_rm(k2);
-    let fourth = kind_reads_rm(k3);
-    first_of(first, a, second, b, third, c, fourth, d)
-}
-
 /// The operand that may have a displacement, absent without one.
 #[inline(always)]
 pub fn address_operand(row: &Row, instr: &Instr) -> Operand
     ensures { result ≡ spec.address_operand row.now instr.now }
 {
     let [k0, k1, k2, k3] = row.ops;
-    let [a, b, c, d] = instr.ops;
-    let first = kind_has_address(k0);
-    let second = kind_has_address(k1);
-    let third = kind_has_address(k2);
-    let fourth = kind_has_address(k3);
-    first_of(first, a, second, b, third, c, fourth, d)
+    // Four operands, as the proof has to know; each is copied only where it is the answer.
+    let [_first, _second, _third, _fourth] = instr.ops;
+    if kind_has_address(k0) {
+        operand_at(instr, 0)
+    } else if kind_has_address(k1) {
+        operand_at(instr, 1)
+    } else if kind_has_address(k2) {
+        operand_at(instr, 2)
+    } else if kind_has_address(k3) {
+        operand_at(instr, 3)
+    } else {
+        Operand::Absent
+    }
 }
 
 fn lone_mode(place: Place) -> u8
@@ -149,6 +114,7 @@ fn lone_mode(place: Place) -> u8
 }
 
 /// The fields mod and rm and the SIB of the operand in r/m: a register has mod 3 (2.1.5).
+#[inline(always)]
 #[tactic(auto, unfolding(crate::specs::PlainTail::rm_fields))]
 fn rm_fields(bits: Bits, asize: Option<Bits>, place: Place, operand: Operand) -> AddressFields
     ensures { result ≡ spec.rm_fields bits asize place operand }
@@ -168,10 +134,34 @@ fn rm_fields(bits: Bits, asize: Option<Bits>, place: Place, operand: Operand) ->
     }
 }
 
+/// The same of operand n, which is read where it lies.
+#[inline(never)]
+fn rm_fields_at(bits: Bits, row: &Row, instr: &Instr, n: usize) -> AddressFields
+    requires { n < 4 }
+    ensures { result ≡ spec.rm_fields bits instr.now.asize row.now.place (spec_operand_at instr.now n) }
+{
+    rm_fields(bits, instr.asize, row.place, operand_at(instr, n))
+}
+
+/// The same of the operand that ModRM.rm names.
+#[inline(always)]
 fn fields_of(bits: Bits, row: &Row, instr: &Instr) -> AddressFields
     ensures { result ≡ spec.fields_of bits row.now instr.now }
 {
-    rm_fields(bits, instr.asize, row.place, rm_operand(row, instr))
+    let [k0, k1, k2, k3] = row.ops;
+    // Four operands, as the proof has to know.
+    let [_first, _second, _third, _fourth] = instr.ops;
+    if kind_reads_rm(k0) {
+        rm_fields_at(bits, row, instr, 0)
+    } else if kind_reads_rm(k1) {
+        rm_fields_at(bits, row, instr, 1)
+    } else if kind_reads_rm(k2) {
+        rm_fields_at(bits, row, instr, 2)
+    } else if kind_reads_rm(k3) {
+        rm_fields_at(bits, row, instr, 3)
+    } else {
+        rm_fields(bits, instr.asize, row.place, Operand::Absent)
+    }
 }
 
 /// The field rm of a fixed ModRM byte: its own, or the stack number that the row adds (3.1.1.1, +i).
@@ -341,6 +331,7 @@ fn append_last_byte<const N: usize>(bytes: &mut ArrayVec<u8, N>, operand: Operan
 }
 
 /// Appends the bytes of an operand that is read so and has n bytes behind the instruction.
+#[inline(never)]
 #[tactic(auto, unfolding(crate::specs::PlainTail::operand_immediate))]
 fn append_immediate<const N: usize>(
     bytes: &mut ArrayVec<u8, N>,
@@ -366,7 +357,8 @@ fn append_immediate<const N: usize>(
     }
 }
 
-/// Appends the bytes of operand n.
+/// Appends the bytes of operand n: mostly there is none, which is seen before the operand is asked.
+#[inline(always)]
 #[tactic(auto, unfolding(crate::specs::PlainTail::immediate_at))]
 fn append_immediate_at<const N: usize>(
     bytes: &mut ArrayVec<u8, N>,

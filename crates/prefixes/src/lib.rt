@@ -20,7 +20,7 @@ mod write;
 
 use row_types::Map;
 use thiserror::Error;
-pub use write::write_prefixes;
+pub use write::{append_front, write_prefixes};
 use x86_values::{Bits, Rep};
 
 /// Why bytes have no front.

@@ -89,18 +89,28 @@ fn append_prefixes(out: &mut ArrayVec<u8, 15>, state: &PrefixState)
     append_rex(out, state.rex);
 }
 
+/// Appends the bytes before the opcode byte of a plain front, behind at most six others: what [`write_prefixes`] answers.
+#[tactic(auto, unfolding(crate::specs::Written::front_written))]
+pub fn append_front(out: &mut ArrayVec<u8, 15>, row: &Row, state: &PrefixState)
+    requires vex { IsTrue (vex_in_range state.now.vex) }
+    requires room { array_vec_len out.old ≤ 6 }
+    ensures { out.new.items ≡ out.old.items ++ front_written row.now state.now }
+{
+    append_prefixes(out, state);
+    append_lead(out, row.map, state.vex);
+}
+
 /// The bytes before the opcode byte of the plain front of an instruction of the row: the legacy prefixes ascending by their
 /// number, the REX, and the VEX or the escape bytes of the map (2.1.1, 2.1.2, 2.2.1, 2.3.5).
 ///
 /// `state` is what `plain_front` answers for the instruction in the mode; of it only the range of its VEX is asked for.
-#[tactic(auto, unfolding(crate::specs::Written::front_written))]
 pub fn write_prefixes(bits: Bits, row: &Row, state: &PrefixState) -> ArrayVec<u8, 15>
     requires { IsTrue (vex_in_range state.now.vex) }
     ensures { result.items ≡ front_written row.now state.now }
 {
+    // No part of the proof: the bytes of a front are the same in every mode.
     let _bits = bits;
     let mut out = ArrayVec::new();
-    append_prefixes(&mut out, state);
-    append_lead(&mut out, row.map, state.vex);
+    append_front(&mut out, row, state);
     out
 }

@@ -92,6 +92,7 @@ fn native_size(bits: Bits) -> Bits
 }
 
 /// The register of a file with a number.
+#[inline(always)]
 #[tactic(auto, unfolding(crate::specs::Meaning::register_of))]
 pub fn register_of(bits: Bits, row: &Row, state: &PrefixState, file: File, n: u8) -> Register
     ensures { result ≡ spec.register_of bits row.now state.now file n }

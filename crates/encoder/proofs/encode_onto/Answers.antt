@@ -10,7 +10,7 @@ use Rattle.opcode_rows.proofs.Sound.{sound-row}
 use Rattle.opcode_rows.proofs.Writable.{writable-row}
 use Rattle.encoder.specs.Encoding.{encoded_by}
 use Rattle.encoder.proofs.Causes.{without_row, by_row, row_fails}
-use Rattle.encoder.proofs.encode_by_row.Goals as goal
+use Rattle.encoder.proofs.encode_onto.Goals as goal
 
 pub returns-then-instr-ge-ROWS : goal.returns-then-instr-ge-ROWS
 returns-then-instr-ge-ROWS c =
