@@ -8,3 +8,4 @@ pub mod Expressible
 pub mod Writable
 pub mod Parts
 pub mod Asked
+pub mod Facts
