@@ -2,3 +2,4 @@ pub mod Answer
 pub mod Cells
 pub mod Cursor
 pub mod Items
+pub mod OneReading

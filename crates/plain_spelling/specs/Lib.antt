@@ -8,4 +8,3 @@ pub mod Expressible
 pub mod Writable
 pub mod Parts
 pub mod Asked
-pub mod Facts

@@ -6,7 +6,6 @@ mod comparing;
 pub mod conditions;
 pub mod forms;
 pub mod front;
-pub mod laws;
 pub mod numbers;
 pub mod parts;
 pub mod registers;
