@@ -8,6 +8,7 @@ use Rattle.branch_sizes.specs.declared.plan.Choice.{Choice}
 use Rattle.branch_sizes.specs.declared.plan.Branch.{Branch}
 use Rattle.branch_sizes.specs.Plan.{BlockPlan, item_at, choices_at, no_choice, no_branch, lengths_rise_from, is_fit_branch, is_fit_reach, is_fit_goal, IsWellFormed}
 use Rattle.branch_sizes.specs.Layout.{IsLayout, AtMost, image_length, first_layout}
+use Rattle.branch_sizes.specs.Facts.{IsFit}
 
 pub passes_at : {X : Type 0} (p : X → Bool) (xs : List X) (k : ℕ) (d : X) → list_all p xs ≡ true → k < length xs → p (get_or xs k d) ≡ true
 passes_at p [] k d h lt = absurd (omega arith)
@@ -44,14 +45,6 @@ length_rises low (c ∷ cs) zero (suc f) h le lt = length_at_least c.len cs f (r
 length_rises low (c ∷ cs) (suc e) zero h le lt = absurd (omega arith)
 length_rises low (c ∷ cs) (suc e) (suc f) h le lt =
     length_rises c.len cs e f (rest_rises low c cs h).2 (omega arith) (omega arith)
-
--- what the test of an item says
-pub record IsFit (count : ℕ) (b : Branch) : Type 0 where
-  pub some : 0 < length b.choices.items
-  pub few : length b.choices.items ≤ 3
-  pub rises : lengths_rise_from 1 b.choices.items ≡ true
-  pub reach : list_all (λ c. is_fit_reach c.reach) b.choices.items ≡ true
-  pub goal : is_fit_goal count (length b.choices.items) b.goal ≡ true
 
 fit_branch : (count : ℕ) (b : Branch) → is_fit_branch count b ≡ true → IsFit count b
 fit_branch count b h =

@@ -1,8 +1,9 @@
-//! Laws of closed layouts.
+//! Laws of closed layouts, and of the blocks and lengths that they rest on.
 
 ghost use Rattle.std.specs.Prelude.{◌≡◌, List, ℕ};
 ghost use Rattle.branch_sizes.specs.Plan.{BlockPlan, IsWellFormed};
 ghost use Rattle.branch_sizes.specs.Layout.{IsClosed, IsLeast, lesser};
+ghost use Rattle.branch_sizes.specs.Facts.{BlockFacts, LengthFacts, TotalFacts};
 
 /// Where two layouts are closed, the lesser of them at each item is closed.
 pub fn least_of_two_is_closed()
@@ -18,4 +19,19 @@ pub fn least_exists()
 /// A plan has no second least closed layout.
 pub fn least_is_unique()
     ensures { (p : BlockPlan) → (a b : List ℕ) → IsLeast p a → IsLeast p b → a ≡ b }
+{}
+
+/// An item stands in the block whose number it has, and the blocks have all items.
+pub fn blocks_have_all_items()
+    ensures { BlockFacts }
+{}
+
+/// An image of a well-formed plan has at most 15 bytes, and no more in a lower layout.
+pub fn images_are_short()
+    ensures { LengthFacts }
+{}
+
+/// Sums of more numbers, and of larger ones, are larger.
+pub fn totals_rise()
+    ensures { TotalFacts }
 {}

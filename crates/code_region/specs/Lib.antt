@@ -9,3 +9,4 @@ pub mod Running
 pub mod Keeping
 pub mod Searching
 pub mod Laws
+pub mod Facts

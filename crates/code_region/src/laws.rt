@@ -6,6 +6,7 @@ ghost use Rattle.code_region.specs.Opening.{opened};
 ghost use Rattle.code_region.specs.Placing.{place_answer};
 ghost use Rattle.code_region.specs.Running.{run};
 ghost use Rattle.code_region.specs.State.{image_of};
+ghost use Rattle.code_region.specs.Facts.{PlaceFacts};
 ghost use Rattle.code_region.specs.Laws.{AreInside, AreDisjoint, AreInUnits, HoldsContents, Restores};
 
 /// After any list of commands each live block is inside the region.
@@ -34,4 +35,9 @@ pub fn release_restores()
     ensures { (base size max_blocks : ℕ) (commands : List Command) (len place : ℕ)
         → place_answer (run (opened base size max_blocks) commands) len ≡ Ok place
         → Restores (run (opened base size max_blocks) commands) len place }
+{}
+
+/// A place is handed out only where a gap is long enough.
+pub fn places_are_gaps()
+    ensures { PlaceFacts }
 {}

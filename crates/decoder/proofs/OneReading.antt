@@ -1,5 +1,5 @@
 -- Bytes begin with at most one instruction.
-use Rattle.std.proofs.Common.{◌≡◌, ℕ, List, length, Some, Result, Ok, Err, IfOk, slice_get, ap, sym, ◌∙◌}
+use Rattle.std.proofs.Common.{◌≡◌, ℕ, List, length, Some, Result, Ok, Err, IfOk, slice_get, refl, ap, sym, ◌∙◌}
 use Rattle.x86_values.specs.declared.Bits.{Bits}
 use Rattle.x86_values.specs.declared.Code.{Code}
 use Rattle.x86_values.specs.declared.Instr.{Instr}
@@ -9,7 +9,7 @@ use Rattle.row_types.specs.declared.Row.{Row}
 use Rattle.instruction_parts.specs.declared.spelling.Spelling.{Spelling}
 use Rattle.instruction_parts.specs.Bytes.{bytes_of}
 use Rattle.row_meaning.specs.Meaning.{meaning}
-use Rattle.row_relation.specs.Spells.{ReadsAs}
+use Rattle.row_relation.specs.Spells.{Reading, Read, TooShort, Invalid, ReadsAs}
 use Rattle.opcode_rows.specs.Table.{table}
 use Rattle.opcode_rows.specs.Reading.{IsRead}
 use Rattle.unique_spelling.proofs.Unique.{unique}
@@ -49,3 +49,23 @@ pub only_reading : (bits : Bits) (ip : ℕ) (bytes : List ℕ) (answer : Result 
 only_reading bits ip bytes (Ok d) h = λ i n r.
     let same = one_reading bits (wrapped bits ip) bytes i d.instr n d.len r h in (same.instr, same.len)
 only_reading bits ip bytes (Err e) h = tt
+
+read_same : (d e : Decoded) → e.instr ≡ d.instr → e.len ≡ d.len → Read d ≡ Read e
+read_same d e instr len =
+    ap (λ (i : Instr). Read (record { instr = i; len = d.len })) (sym instr)
+    ∙ ap (λ (n : ℕ). Read (record { instr = e.instr; len = n })) (sym len)
+
+-- bytes are read in one way alone
+pub reading_same : (bits : Bits) (ip : ℕ) (bytes : List ℕ) (reading other : Reading) → IsRead bits ip bytes reading → IsRead bits ip bytes other →
+    reading ≡ other
+reading_same bits ip bytes (Read d) (Read e) h k =
+    let answer : Result Decoded DecodeError = Ok d in
+    let same = only_reading bits ip bytes answer h e.instr e.len k in read_same d e same.0 same.1
+reading_same bits ip bytes (Read d) TooShort h k = absurd (k.spells_nothing d.instr d.len h)
+reading_same bits ip bytes (Read d) Invalid h k = absurd (k.spells_nothing d.instr d.len h)
+reading_same bits ip bytes TooShort (Read e) h k = absurd (h.spells_nothing e.instr e.len k)
+reading_same bits ip bytes TooShort TooShort h k = refl
+reading_same bits ip bytes TooShort Invalid h k = absurd (k.ends_here h.is_short h.can_go_on)
+reading_same bits ip bytes Invalid (Read e) h k = absurd (h.spells_nothing e.instr e.len k)
+reading_same bits ip bytes Invalid TooShort h k = absurd (h.ends_here k.is_short k.can_go_on)
+reading_same bits ip bytes Invalid Invalid h k = refl

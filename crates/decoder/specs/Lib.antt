@@ -3,3 +3,4 @@ pub mod Bare
 pub mod Cells
 pub mod Cursor
 pub mod Items
+pub mod OneReading

@@ -9,6 +9,7 @@ mod cursor;
 mod found;
 mod items;
 mod reading;
+pub mod reading_laws;
 #[cfg(test)]
 mod tests;
 
