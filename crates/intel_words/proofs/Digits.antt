@@ -12,7 +12,7 @@ digits_from-none value c digits none =
     subst P (sym none) refl
 
 -- a digit joins the value
-digits_from-some : (value c d : ℕ) (digits : List ℕ) → digit_value c ≡ Some d → digits_from value (c ∷ digits) ≡ digits_from (16 * value + d) digits
+pub digits_from-some : (value c d : ℕ) (digits : List ℕ) → digit_value c ≡ Some d → digits_from value (c ∷ digits) ≡ digits_from (16 * value + d) digits
 unfolding digits_from
 digits_from-some value c d digits some =
     let P : Option ℕ → Type 0 = λ o. (elim o as (λ _. Option ℕ) [ None ↦ None | Some d ↦ digits_from (16 * value + d) digits ]) ≡ digits_from (16 * value + d) digits in

@@ -1,5 +1,5 @@
 -- Reading the whole text: prefix words, name and operands.
-use Rattle.std.specs.Prelude.{ℕ, Bool, true, false, ◌&&◌, ◌==◌, if◌then◌else◌, is_some, List, [], ◌∷◌, Option, Some, None, bytes_eq, codes}
+use Rattle.std.specs.Prelude.{ℕ, Bool, true, false, ◌&&◌, ◌||◌, ◌==◌, if◌then◌else◌, is_some, List, [], ◌∷◌, Option, Some, None, bytes_eq, codes}
 use Rattle.x86_values.specs.declared.Bits.{Bits}
 use Rattle.x86_values.specs.declared.Bits.TheVariants.{B16, B32, B64}
 use Rattle.x86_values.specs.declared.Rep.{Rep}
@@ -34,6 +34,12 @@ size_behind letter (a ∷ []) = None
 size_behind letter (a ∷ b ∷ []) = None
 size_behind letter (a ∷ b ∷ c ∷ []) = if a == letter then size_by b c else None
 size_behind letter (a ∷ b ∷ c ∷ d ∷ more) = None
+
+-- the word can stand in front of a name
+unfoldable pub is_prefix_word : List ℕ → Bool
+is_prefix_word name =
+    is_lock name || (is_repeat (repeat_named name) || (is_some (segment_named name)
+    || (is_some (size_behind 97 name) || is_some (size_behind 111 name))))
 
 -- the text behind each prefix word
 unfoldable pub behind_lock : List ℕ → List ℕ

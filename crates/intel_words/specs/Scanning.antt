@@ -1,6 +1,9 @@
 -- Cutting a text: words, operands, and single bytes.
-use Rattle.std.specs.Prelude.{ℕ, Bool, true, false, not, ◌==◌, if◌then◌else◌, List, [], ◌∷◌}
-use Rattle.intel_words.specs.Printable.{is_word_byte}
+use Rattle.std.specs.Prelude.{ℕ, Bool, true, false, not, ◌&&◌, ◌||◌, ◌==◌, nat_le, if◌then◌else◌, List, [], ◌∷◌}
+
+-- a lower-case letter or a digit
+unfoldable pub is_word_byte : ℕ → Bool
+is_word_byte c = (nat_le 97 c && nat_le c 122) || (nat_le 48 c && nat_le c 57)
 
 -- the bytes in front of the first that fails a test
 unfoldable pub front : (ℕ → Bool) → List ℕ → List ℕ

@@ -2,12 +2,12 @@
 
 ghost use Rattle.std.specs.Prelude.{◌≡◌, ◌≤◌, length};
 ghost use Rattle.std.specs.List.{prefix_len};
-ghost use Rattle.intel_words.specs.Printable.{is_word_byte};
+ghost use Rattle.intel_words.specs.Scanning.{is_word_byte};
 ghost use Rattle.intel_words.specs.Scanning as spec;
 
 /// Whether a byte is a lower-case letter or a digit.
 #[inline]
-#[tactic(auto, unfolding(crate::specs::Printable::is_word_byte))]
+#[tactic(auto, unfolding(crate::specs::Scanning::is_word_byte))]
 fn is_word_byte(c: u8) -> bool
     ensures { result ≡ is_word_byte c }
 {

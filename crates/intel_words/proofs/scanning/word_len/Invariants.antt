@@ -1,6 +1,6 @@
 use Rattle.std.proofs.Common.{◌≡◌, ◌+◌, drop}
 use Rattle.std.specs.List.{prefix_len}
-use Rattle.intel_words.specs.Printable.{is_word_byte}
+use Rattle.intel_words.specs.Scanning.{is_word_byte}
 use Rattle.intel_words.proofs.scanning.word_len.Given as goal
 
 abbrev pub invariant-loop-i : goal.invariant-loop-i
