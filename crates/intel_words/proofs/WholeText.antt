@@ -70,7 +70,7 @@ pub record AreWords (bits : Bits) (row : Row) (name : List ℕ) (instr : Instr) 
   pub seg : segment_named (word (behind_repeat (behind_lock text))) ≡ segment_of instr
   pub asize : size_behind 97 (word (behind_segment (behind_repeat (behind_lock text)))) ≡ address_size_of bits name instr
   pub osize : size_behind 111 (word (behind_size 97 (behind_segment (behind_repeat (behind_lock text))))) ≡ operand_size_of bits row
-  pub name : word (behind_prefixes text) ≡ name_text bits name instr
+  pub named : word (behind_prefixes text) ≡ name_text bits name instr
   pub ops : operands_in (rest (behind (behind_prefixes text)))
     ≡ Some (nth_of bits row instr 0 ∷ nth_of bits row instr 1 ∷ nth_of bits row instr 2 ∷ nth_of bits row instr 3 ∷ [])
 
@@ -110,7 +110,7 @@ grouped-read bits row name instr text h e0 =
       seg = ap (λ (u : List ℕ). segment_named (word u)) e2 ∙ segment-value (segment_of instr) t3 r2;
       asize = ap (λ (u : List ℕ). size_behind 97 (word u)) e3 ∙ address-value (address_size_of bits name instr) t4 r3;
       osize = ap (λ (u : List ℕ). size_behind 111 (word u)) e4 ∙ operand-value (operand_size_of bits row) t5 r4;
-      name = ap (λ (u : List ℕ). word u) e5 ∙ name-word bits name instr (behind_name bits row instr) plain (operands-stop bits row instr f);
+      named = ap (λ (u : List ℕ). word u) e5 ∙ name-word bits name instr (behind_name bits row instr) plain (operands-stop bits row instr f);
       ops = ap (λ (u : List ℕ). operands_in (rest (behind u))) e5
         ∙ (ap (λ (u : List ℕ). operands_in (rest u)) (name-behind bits name instr (behind_name bits row instr) plain (operands-stay bits row instr f))
         ∙ (ap operands_in (operands-found bits row instr f) ∙ operands-read bits row instr f p0 p1 p2 p3));

@@ -26,7 +26,7 @@ returns-in-Some c = record {
     let read = text-read bits row name instr c.args.text.now h e in
     let at : c.rest.result.now ≡ rest (behind (behind_prefixes c.args.text.now)) =
       c.rest.ensures ∙ ap rest (c.split_word.ensures.behind ∙ ap (λ (u : List ℕ). behind u) c.read_prefixes-prefixes.ensures.text) in
-    (c.split_word.ensures.word ∙ (ap (λ (u : List ℕ). word u) c.read_prefixes-prefixes.ensures.text ∙ read.name),
+    (c.split_word.ensures.word ∙ (ap (λ (u : List ℕ). word u) c.read_prefixes-prefixes.ensures.text ∙ read.named),
     same-words bits row name instr c.read_prefixes-prefixes.result.lock c.read_prefixes-prefixes.result.rep c.read_prefixes-prefixes.result.seg
       c.read_prefixes-prefixes.result.asize c.read_prefixes-prefixes.result.osize c.in-Some.ops
       (c.read_prefixes-prefixes.ensures.lock ∙ read.lock) (c.read_prefixes-prefixes.ensures.rep ∙ read.rep) (c.read_prefixes-prefixes.ensures.seg ∙ read.seg)
