@@ -1,6 +1,6 @@
 -- The operands of a text are read one behind the other.
-use Rattle.std.proofs.Common.{◌≡◌, ℕ, zero, suc, ◌<◌, Bool, true, false, List, [], ◌∷◌, ◌++◌, Option, Some, None, refl, ap, sym, ◌∙◌, append_assoc}
-use Rattle.std.specs.Prelude.{◌&&◌, ◌||◌, not, ◌==◌, if◌then◌else◌, codes}
+use Rattle.std.proofs.Common.{◌≡◌, ℕ, Bool, true, false, List, [], ◌∷◌, ◌++◌, Option, Some, refl, ap, sym, ◌∙◌, append_assoc}
+use Rattle.std.specs.Prelude.{◌||◌, not}
 use Rattle.std.specs.List.{list_all}
 use Rattle.x86_values.specs.declared.Bits.{Bits}
 use Rattle.x86_values.specs.declared.Operand.{Operand}
@@ -9,11 +9,10 @@ use Rattle.x86_values.specs.declared.Instr.{Instr}
 use Rattle.x86_values.specs.Operands.{is_absent}
 use Rattle.row_types.specs.declared.Row.{Row}
 use Rattle.text_parts.specs.declared.style.Style.TheVariants.{Intel}
-use Rattle.text_parts.specs.PrefixWords.{text_address_size}
 use Rattle.text_parts.specs.Layout.{nth_operand, separator, bracket_operand, operand_part}
 use Rattle.intel_words.specs.declared.words.OperandText.{OperandText}
-use Rattle.intel_words.specs.Words.{operand_of, nth_of}
-use Rattle.intel_words.specs.Printable.{is_printable_operand, nth_is_printable, are_in_front}
+use Rattle.intel_words.specs.Words.{nth_of}
+use Rattle.intel_words.specs.Printable.{nth_is_printable, are_in_front}
 use Rattle.intel_words.specs.Scanning.{is_word_byte, is_no_comma, front, back, rest, token, next_operand}
 use Rattle.intel_words.specs.ReadAddresses.{operand_in}
 use Rattle.intel_words.specs.ReadWords.{four, operands_in}

@@ -1,6 +1,6 @@
 -- The words in front of a name are read again.
-use Rattle.std.proofs.Common.{◌≡◌, ℕ, zero, suc, ◌+◌, ◌<◌, ◌≤◌, Bool, true, false, cond, List, [], ◌∷◌, ◌++◌, Option, Some, None, refl, ap, sym, ◌∙◌, append_assoc, append-nil, arith, lit<}
-use Rattle.std.specs.Prelude.{◌&&◌, ◌||◌, not, ◌==◌, is_some, if◌then◌else◌, bytes_eq, codes}
+use Rattle.std.proofs.Common.{◌≡◌, ℕ, suc, ◌<◌, Bool, true, false, cond, List, [], ◌∷◌, ◌++◌, Option, Some, None, refl, ap, arith, lit<}
+use Rattle.std.specs.Prelude.{◌||◌, not, is_some, if◌then◌else◌, codes}
 use Rattle.std.specs.List.{list_all}
 use Rattle.x86_values.specs.declared.Bits.{Bits}
 use Rattle.x86_values.specs.declared.Bits.TheVariants.{B16, B32, B64}
@@ -10,7 +10,6 @@ use Rattle.x86_values.specs.declared.Rep.{Rep}
 use Rattle.x86_values.specs.declared.Rep.TheVariants.{None as NoRep, F2, F3}
 use Rattle.x86_values.specs.declared.Instr.{Instr}
 use Rattle.row_types.specs.declared.Row.{Row}
-use Rattle.row_types.specs.declared.Size.{Size}
 use Rattle.text_parts.specs.Registers.{segment_name}
 use Rattle.text_parts.specs.PrefixWords.{lock_word, repeat_word, has_memory, segment_word, size_digits, sized_word, differs, needs_address_word, address_word, is_sized, named_size, usual_size, operand_size_word, is_counter_jump, counter_jump, name_text, text_address_size}
 use Rattle.intel_words.specs.Words.{segment_of, address_size_of, operand_size_of}

@@ -1,7 +1,6 @@
 -- What stands inside the brackets of an address is read again.
-use Rattle.std.proofs.Common.{◌≡◌, ℕ, zero, suc, ◌+◌, ◌-◌, ◌*◌, ◌%◌, ◌^◌, ◌<◌, ◌≤◌, Bool, true, false, List, [], ◌∷◌, ◌++◌, Option, Some, None, refl, ap, sym, ◌∙◌, append_assoc, append-nil, arith, lit<, lit≤}
-use Rattle.std.specs.Prelude.{◌&&◌, ◌||◌, not, ◌==◌, nat_lt, nat_le, is_some, is_none, if◌then◌else◌, codes}
-use Rattle.std.specs.List.{list_all}
+use Rattle.std.proofs.Common.{◌≡◌, ℕ, zero, suc, ◌-◌, ◌*◌, ◌%◌, ◌^◌, ◌<◌, ◌≤◌, Bool, true, false, List, [], ◌∷◌, ◌++◌, Option, Some, None, refl, ap, ◌∙◌, append_assoc, arith, lit<, lit≤}
+use Rattle.std.specs.Prelude.{◌&&◌, ◌==◌, nat_lt, nat_le, is_none, if◌then◌else◌, codes}
 use Rattle.std.proofs.lemmas.Bool.{ltb-true}
 use Rattle.std.proofs.lemmas.Bool.Decides.{nat_tests}
 use Rattle.std.proofs.Math.Nat.{mod-lt}
@@ -12,14 +11,12 @@ use Rattle.x86_values.specs.declared.Register.TheVariants.{Eip, Rip}
 use Rattle.x86_values.specs.declared.DispSize.{DispSize}
 use Rattle.x86_values.specs.declared.DispSize.TheVariants.{D0, D8, D16, D32, D64}
 use Rattle.x86_values.specs.declared.Mem.{Mem}
-use Rattle.x86_values.specs.Wrapping.{width, wrapped}
 use Rattle.text_parts.specs.declared.style.Style.TheVariants.{Intel}
 use Rattle.text_parts.specs.Numbers.{number, decimal}
 use Rattle.text_parts.specs.Registers.{register}
 use Rattle.text_parts.specs.Addresses.{is_instruction_pointer, is_negative, magnitude, sign, signed_displacement, lone_displacement, relative_word, base_text, joint, scale_text, index_text, sum_text, inside}
 use Rattle.intel_words.specs.declared.words.Inside.{Inside}
-use Rattle.intel_words.specs.declared.words.Inside.TheVariants.{Nothing, Lone, Rel, Sum}
-use Rattle.intel_words.specs.declared.words.SumText.{SumText}
+use Rattle.intel_words.specs.declared.words.Inside.TheVariants.{Lone, Rel, Sum}
 use Rattle.intel_words.specs.declared.words.SignedText.{SignedText}
 use Rattle.intel_words.specs.Words.{is_eip, lone_of, signed_of, scale_of, sum_of, inside_of}
 use Rattle.intel_words.specs.Printable.{is_register, is_register_if, is_word_number, index_is_shown, is_printable_address}
@@ -29,7 +26,7 @@ use Rattle.intel_words.specs.ReadRegisters.{register_named}
 use Rattle.intel_words.specs.ReadAddresses.{signed_by, signed_in, sum_with, scaled_by, behind_index, index_by, sum_by, rel_by, lone_by, relative_in, inside_in}
 use Rattle.intel_words.proofs.Cutting.{and_left, and_right, front-ends, back-ends}
 use Rattle.intel_words.proofs.NumberText.{number-read, number-bytes, number-first}
-use Rattle.intel_words.proofs.RegisterText.{IsRead, register-read}
+use Rattle.intel_words.proofs.RegisterText.{register-read}
 
 -- ---- numbers and registers in front of another text
 

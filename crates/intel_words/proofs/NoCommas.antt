@@ -1,6 +1,6 @@
 -- No operand has a comma in its text.
-use Rattle.std.proofs.Common.{◌≡◌, ℕ, zero, suc, ◌<◌, Bool, true, false, List, [], ◌∷◌, ◌++◌, Option, Some, None, refl, ap, sym, ◌∙◌, arith}
-use Rattle.std.specs.Prelude.{◌&&◌, ◌||◌, not, ◌==◌, nat_lt, nat_le, is_some, is_none, if◌then◌else◌, codes}
+use Rattle.std.proofs.Common.{◌≡◌, ℕ, zero, suc, ◌<◌, Bool, true, false, List, [], ◌∷◌, ◌++◌, Option, Some, None, refl, ap, ◌∙◌, arith}
+use Rattle.std.specs.Prelude.{nat_lt, if◌then◌else◌, codes}
 use Rattle.std.specs.List.{list_all}
 use Rattle.std.proofs.lemmas.Bool.{ltb-true}
 use Rattle.std.proofs.lemmas.Bool.Decides.{nat_tests}
@@ -9,7 +9,7 @@ use Rattle.x86_values.specs.declared.Bits.TheVariants.{B16, B32, B64}
 use Rattle.x86_values.specs.declared.Segment.{Segment}
 use Rattle.x86_values.specs.declared.Segment.TheVariants.{Es, Cs, Ss, Ds, Fs, Gs}
 use Rattle.x86_values.specs.declared.Register.{Register}
-use Rattle.x86_values.specs.declared.Register.TheVariants.{Eip, Rip}
+use Rattle.x86_values.specs.declared.Register.TheVariants.{Eip}
 use Rattle.x86_values.specs.declared.DispSize.{DispSize}
 use Rattle.x86_values.specs.declared.DispSize.TheVariants.{D0, D8, D16, D32, D64}
 use Rattle.x86_values.specs.declared.Mem.{Mem}
@@ -22,7 +22,7 @@ use Rattle.text_parts.specs.Numbers.{number, decimal}
 use Rattle.text_parts.specs.Registers.{register, segment_name, segment_override, sigil}
 use Rattle.text_parts.specs.Addresses.{is_relative, is_absolute, is_negative, magnitude, sign, signed_displacement, lone_displacement, relative_word, base_text, joint, scale_text, index_text, sum_text, inside, bracket_segment, bracketed}
 use Rattle.text_parts.specs.PrefixWords.{text_address_size}
-use Rattle.text_parts.specs.Layout.{behind_size, size_word, operand_size_name, bracket_operand}
+use Rattle.text_parts.specs.Layout.{behind_size, size_word, bracket_operand}
 use Rattle.intel_words.specs.declared.words.SizeName.{SizeName}
 use Rattle.intel_words.specs.declared.words.SizeName.TheVariants.{None as NoSize, Byte, Word, Dword, Qword, Tbyte, Xmmword, Ymmword, Far16, Far32, Far64}
 use Rattle.intel_words.specs.Words.{size_of}
@@ -30,7 +30,7 @@ use Rattle.intel_words.specs.Printable.{is_register, is_register_if, is_printabl
 use Rattle.intel_words.specs.Scanning.{is_word_byte, is_no_comma}
 use Rattle.intel_words.proofs.Cutting.{and_left, and_right, and_both, all-both}
 use Rattle.intel_words.proofs.NumberText.{number-bytes}
-use Rattle.intel_words.proofs.RegisterText.{IsRead, register-read}
+use Rattle.intel_words.proofs.RegisterText.{register-read}
 use Rattle.intel_words.proofs.OneOperand.{size_text, size-of-text}
 
 -- a letter or a digit is no comma

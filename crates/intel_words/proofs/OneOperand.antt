@@ -1,6 +1,6 @@
 -- The text of one operand is read again.
-use Rattle.std.proofs.Common.{◌≡◌, ℕ, zero, suc, ◌+◌, ◌^◌, ◌<◌, ◌≤◌, Bool, true, false, List, [], ◌∷◌, ◌++◌, Option, Some, None, refl, ap, sym, ◌∙◌, append_assoc, append-nil, arith}
-use Rattle.std.specs.Prelude.{◌&&◌, ◌||◌, not, ◌==◌, nat_lt, nat_le, is_some, is_none, if◌then◌else◌, bytes_eq, codes}
+use Rattle.std.proofs.Common.{◌≡◌, ℕ, ◌^◌, ◌<◌, Bool, true, false, List, [], ◌∷◌, ◌++◌, Option, Some, None, refl, ap, ◌∙◌, arith}
+use Rattle.std.specs.Prelude.{◌==◌, nat_lt, nat_le, if◌then◌else◌, codes}
 use Rattle.std.specs.List.{list_all}
 use Rattle.std.proofs.lemmas.Bool.{ltb-true}
 use Rattle.std.proofs.lemmas.Bool.Decides.{nat_tests}
@@ -20,24 +20,22 @@ use Rattle.row_meaning.specs.MemorySize.{memory_size}
 use Rattle.text_parts.specs.declared.style.Style.TheVariants.{Intel}
 use Rattle.text_parts.specs.Numbers.{number}
 use Rattle.text_parts.specs.Registers.{register, segment_name, segment_override, sigil}
-use Rattle.text_parts.specs.Addresses.{inside, bracket_segment, bracketed}
+use Rattle.text_parts.specs.Addresses.{bracket_segment, bracketed}
 use Rattle.text_parts.specs.PrefixWords.{text_address_size}
 use Rattle.text_parts.specs.Layout.{size_name, far_name, is_far_pointer, operand_size_name, behind_size, size_word, bracket_operand}
 use Rattle.intel_words.specs.declared.words.OperandText.{OperandText}
-use Rattle.intel_words.specs.declared.words.OperandText.TheVariants.{Absent, Reg, Number, Far, Mem as Address}
-use Rattle.intel_words.specs.declared.words.AddressText.{AddressText}
+use Rattle.intel_words.specs.declared.words.OperandText.TheVariants.{Reg, Number, Far, Mem as Address}
 use Rattle.intel_words.specs.declared.words.SizeName.{SizeName}
 use Rattle.intel_words.specs.declared.words.SizeName.TheVariants.{None as NoSize, Byte, Word, Dword, Qword, Tbyte, Xmmword, Ymmword, Far16, Far32, Far64}
-use Rattle.intel_words.specs.declared.words.Inside.{Inside}
 use Rattle.intel_words.specs.Words.{size_of_bytes, size_of_far, size_of, inside_of, operand_of}
 use Rattle.intel_words.specs.Printable.{is_register, is_word_number, is_printable_address, is_printable_operand}
 use Rattle.intel_words.specs.Scanning.{is_word_byte, front, back, first, rest, word, behind}
 use Rattle.intel_words.specs.ReadNumbers.{number_named}
-use Rattle.intel_words.specs.ReadRegisters.{register_named, segment_named, segment_by}
-use Rattle.intel_words.specs.ReadAddresses.{inside_in, size_named, address_by, address_at, address_in, sized_in, register_by, number_by, far_by, plain_in, far_in, some_operand, operand_in}
+use Rattle.intel_words.specs.ReadRegisters.{segment_named, segment_by}
+use Rattle.intel_words.specs.ReadAddresses.{size_named, address_by, address_at, address_in, sized_in, register_by, number_by, far_by, plain_in, far_in, some_operand, operand_in}
 use Rattle.intel_words.proofs.Cutting.{and_left, and_right, front-all, back-all}
 use Rattle.intel_words.proofs.NumberText.{number-read, number-bytes, number-first}
-use Rattle.intel_words.proofs.RegisterText.{IsRead, register-read}
+use Rattle.intel_words.proofs.RegisterText.{register-read}
 use Rattle.intel_words.proofs.InBrackets.{number-word, number-behind, no-letter, inside-read}
 
 -- ---- choices

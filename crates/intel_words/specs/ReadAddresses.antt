@@ -1,15 +1,13 @@
 -- Reading addresses and other operands.
-use Rattle.std.specs.Prelude.{ℕ, ◌-◌, Bool, true, false, not, ◌&&◌, ◌||◌, ◌==◌, nat_le, if◌then◌else◌, List, [], ◌∷◌, Option, Some, None, bytes_eq, codes}
+use Rattle.std.specs.Prelude.{ℕ, Bool, true, false, ◌&&◌, ◌==◌, nat_le, if◌then◌else◌, List, [], ◌∷◌, Option, Some, None, bytes_eq, codes}
 use Rattle.x86_values.specs.declared.Segment.{Segment}
 use Rattle.x86_values.specs.declared.Register.{Register}
 use Rattle.intel_words.specs.declared.words.OperandText.{OperandText}
 use Rattle.intel_words.specs.declared.words.OperandText.TheVariants.{Absent, Reg, Number, Far, Mem as Address}
-use Rattle.intel_words.specs.declared.words.AddressText.{AddressText}
 use Rattle.intel_words.specs.declared.words.SizeName.{SizeName}
 use Rattle.intel_words.specs.declared.words.SizeName.TheVariants.{None as NoSize, Byte, Word, Dword, Qword, Tbyte, Xmmword, Ymmword, Far16, Far32, Far64}
 use Rattle.intel_words.specs.declared.words.Inside.{Inside}
 use Rattle.intel_words.specs.declared.words.Inside.TheVariants.{Nothing, Lone, Rel, Sum}
-use Rattle.intel_words.specs.declared.words.SumText.{SumText}
 use Rattle.intel_words.specs.declared.words.SignedText.{SignedText}
 use Rattle.intel_words.specs.Scanning.{first, rest, word, behind}
 use Rattle.intel_words.specs.ReadNumbers.{number_named, decimal_digit}

@@ -1,5 +1,5 @@
 -- Reading the names of registers (Intel SDM volume 1, 3.4.1; volume 2, table 3-1).
-use Rattle.std.specs.Prelude.{ℕ, Bool, true, false, ◌&&◌, ◌==◌, nat_le, nat_lt, if◌then◌else◌, List, [], ◌∷◌, Option, Some, None}
+use Rattle.std.specs.Prelude.{ℕ, ◌&&◌, ◌==◌, nat_le, nat_lt, if◌then◌else◌, List, [], ◌∷◌, Option, Some, None}
 use Rattle.x86_values.specs.declared.Segment.{Segment}
 use Rattle.x86_values.specs.declared.Segment.TheVariants.{Es, Cs, Ss, Ds, Fs, Gs}
 use Rattle.x86_values.specs.declared.Register.{Register}

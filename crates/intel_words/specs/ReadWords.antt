@@ -5,7 +5,7 @@ use Rattle.x86_values.specs.declared.Bits.TheVariants.{B16, B32, B64}
 use Rattle.x86_values.specs.declared.Rep.{Rep}
 use Rattle.x86_values.specs.declared.Rep.TheVariants.{None as NoRep, F2, F3}
 use Rattle.intel_words.specs.declared.words.OperandText.{OperandText}
-use Rattle.intel_words.specs.Scanning.{word, behind, token, next_operand, skip_if}
+use Rattle.intel_words.specs.Scanning.{word, token, next_operand, skip_if}
 use Rattle.intel_words.specs.ReadRegisters.{segment_named}
 use Rattle.intel_words.specs.ReadAddresses.{operand_in}
 

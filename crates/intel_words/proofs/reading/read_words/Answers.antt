@@ -1,8 +1,8 @@
-use Rattle.std.proofs.Common.{◌≡◌, ℕ, List, Option, Some, None, ap, ◌∙◌}
+use Rattle.std.proofs.Common.{◌≡◌, ℕ, List, Some, None, ap, ◌∙◌}
 use Rattle.intel_words.specs.declared.words.OperandText.{OperandText}
 use Rattle.intel_words.specs.Scanning.{rest, word, behind}
 use Rattle.intel_words.specs.ReadWords.{operands_in}
-use Rattle.intel_words.proofs.WholeText.{AreWords, behind_prefixes, text-read, same-words}
+use Rattle.intel_words.proofs.WholeText.{behind_prefixes, text-read, same-words}
 use Rattle.intel_words.proofs.reading.read_words.Goals as goal
 
 none-is-some : (x : List OperandText) → None ≡ Some x → ⊥

@@ -1,4 +1,4 @@
-use Rattle.std.proofs.Common.{List, ℕ, take, drop, ap, sym, ◌∙◌}
+use Rattle.std.proofs.Common.{take, drop, ap, sym, ◌∙◌}
 use Rattle.std.proofs.lemmas.List.Sums.{prefix_len-le-length}
 use Rattle.intel_words.specs.Scanning.{is_no_comma, rest}
 use Rattle.intel_words.proofs.Cutting.{front-take, back-drop}
