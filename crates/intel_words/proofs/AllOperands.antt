@@ -138,7 +138,7 @@ absent-2 bits row instr f h =
     let f2 = and_right (not (is_absent (nth_operand instr 1)) || is_absent (nth_operand instr 2)) _ f1 in
     let next : is_absent (nth_operand instr 3) ≡ true = implied (is_absent (nth_operand instr 2)) (is_absent (nth_operand instr 3)) f2 h in
     joined-empty (operand_text bits row instr 2) (separator false (nth_operand instr 3)) (from_3 bits row instr)
-      (absent-text bits row instr 2 (nth_operand instr 2) h) (absent-separator (nth_operand instr 3) next) (absent-3 bits row instr next)
+    (absent-text bits row instr 2 (nth_operand instr 2) h) (absent-separator (nth_operand instr 3) next) (absent-3 bits row instr next)
 
 absent-1 : (bits : Bits) (row : Row) (instr : Instr) → are_in_front instr ≡ true → is_absent (nth_operand instr 1) ≡ true → from_1 bits row instr ≡ []
 unfolding are_in_front
@@ -147,7 +147,7 @@ absent-1 bits row instr f h =
     let f2 = and_left (not (is_absent (nth_operand instr 1)) || is_absent (nth_operand instr 2)) _ f1 in
     let next : is_absent (nth_operand instr 2) ≡ true = implied (is_absent (nth_operand instr 1)) (is_absent (nth_operand instr 2)) f2 h in
     joined-empty (operand_text bits row instr 1) (separator false (nth_operand instr 2)) (from_2 bits row instr)
-      (absent-text bits row instr 1 (nth_operand instr 1) h) (absent-separator (nth_operand instr 2) next) (absent-2 bits row instr f next)
+    (absent-text bits row instr 1 (nth_operand instr 1) h) (absent-separator (nth_operand instr 2) next) (absent-2 bits row instr f next)
 
 absent-0 : (bits : Bits) (row : Row) (instr : Instr) → are_in_front instr ≡ true → is_absent (nth_operand instr 0) ≡ true → from_0 bits row instr ≡ []
 unfolding are_in_front
@@ -155,7 +155,7 @@ absent-0 bits row instr f h =
     let f2 = and_left (not (is_absent (nth_operand instr 0)) || is_absent (nth_operand instr 1)) _ f in
     let next : is_absent (nth_operand instr 1) ≡ true = implied (is_absent (nth_operand instr 0)) (is_absent (nth_operand instr 1)) f2 h in
     joined-empty (operand_text bits row instr 0) (separator false (nth_operand instr 1)) (from_1 bits row instr)
-      (absent-text bits row instr 0 (nth_operand instr 0) h) (absent-separator (nth_operand instr 1) next) (absent-1 bits row instr f next)
+    (absent-text bits row instr 0 (nth_operand instr 0) h) (absent-separator (nth_operand instr 1) next) (absent-1 bits row instr f next)
 
 four-same : (a b c d : Option OperandText) (w x y z : OperandText) → a ≡ Some w → b ≡ Some x → c ≡ Some y → d ≡ Some z → four a b c d ≡ Some (w ∷ x ∷ y ∷ z ∷ [])
 unfolding four
@@ -173,22 +173,22 @@ operands-read bits row instr f p0 p1 p2 p3 =
     let t0 : List ℕ = from_0 bits row instr in
     let e1 : next_operand t0 ≡ from_1 bits row instr = next-text (operand_text bits row instr 0) (nth_operand instr 1) (from_1 bits row instr) c0 (absent-1 bits row instr f) in
     let e2 : next_operand (next_operand t0) ≡ from_2 bits row instr =
-      ap (λ (u : List ℕ). next_operand u) e1 ∙ next-text (operand_text bits row instr 1) (nth_operand instr 2) (from_2 bits row instr) c1 (absent-2 bits row instr f) in
+    ap (λ (u : List ℕ). next_operand u) e1 ∙ next-text (operand_text bits row instr 1) (nth_operand instr 2) (from_2 bits row instr) c1 (absent-2 bits row instr f) in
     let e3 : next_operand (next_operand (next_operand t0)) ≡ from_3 bits row instr =
-      ap (λ (u : List ℕ). next_operand u) e2 ∙ next-text (operand_text bits row instr 2) (nth_operand instr 3) (from_3 bits row instr) c2 (absent-3 bits row instr) in
+    ap (λ (u : List ℕ). next_operand u) e2 ∙ next-text (operand_text bits row instr 2) (nth_operand instr 3) (from_3 bits row instr) c2 (absent-3 bits row instr) in
     four-same (operand_in (token t0)) (operand_in (token (next_operand t0))) (operand_in (token (next_operand (next_operand t0))))
-      (operand_in (token (next_operand (next_operand (next_operand t0)))))
-      (nth_of bits row instr 0) (nth_of bits row instr 1) (nth_of bits row instr 2) (nth_of bits row instr 3)
-      (ap operand_in (token-found (operand_text bits row instr 0) (nth_operand instr 1) (from_1 bits row instr) c0 (absent-1 bits row instr f))
-        ∙ operand-read bits row instr 0 (nth_operand instr 0) p0)
-      (ap (λ (u : List ℕ). operand_in (token u)) e1
-        ∙ (ap operand_in (token-found (operand_text bits row instr 1) (nth_operand instr 2) (from_2 bits row instr) c1 (absent-2 bits row instr f))
-        ∙ operand-read bits row instr 1 (nth_operand instr 1) p1))
-      (ap (λ (u : List ℕ). operand_in (token u)) e2
-        ∙ (ap operand_in (token-found (operand_text bits row instr 2) (nth_operand instr 3) (from_3 bits row instr) c2 (absent-3 bits row instr))
-        ∙ operand-read bits row instr 2 (nth_operand instr 2) p2))
-      (ap (λ (u : List ℕ). operand_in (token u)) e3
-        ∙ (ap operand_in (front-all is_no_comma (operand_text bits row instr 3) c3) ∙ operand-read bits row instr 3 (nth_operand instr 3) p3))
+    (operand_in (token (next_operand (next_operand (next_operand t0)))))
+    (nth_of bits row instr 0) (nth_of bits row instr 1) (nth_of bits row instr 2) (nth_of bits row instr 3)
+    (ap operand_in (token-found (operand_text bits row instr 0) (nth_operand instr 1) (from_1 bits row instr) c0 (absent-1 bits row instr f))
+    ∙ operand-read bits row instr 0 (nth_operand instr 0) p0)
+    (ap (λ (u : List ℕ). operand_in (token u)) e1
+    ∙ (ap operand_in (token-found (operand_text bits row instr 1) (nth_operand instr 2) (from_2 bits row instr) c1 (absent-2 bits row instr f))
+    ∙ operand-read bits row instr 1 (nth_operand instr 1) p1))
+    (ap (λ (u : List ℕ). operand_in (token u)) e2
+    ∙ (ap operand_in (token-found (operand_text bits row instr 2) (nth_operand instr 3) (from_3 bits row instr) c2 (absent-3 bits row instr))
+    ∙ operand-read bits row instr 2 (nth_operand instr 2) p2))
+    (ap (λ (u : List ℕ). operand_in (token u)) e3
+    ∙ (ap operand_in (front-all is_no_comma (operand_text bits row instr 3) c3) ∙ operand-read bits row instr 3 (nth_operand instr 3) p3))
 
 -- ---- the operands behind the name
 
@@ -210,4 +210,4 @@ pub operands-grouped : (bits : Bits) (row : Row) (instr : Instr) →
 unfolding operand_part
 operands-grouped bits row instr =
     regroup (separator true (nth_operand instr 0)) (operand_text bits row instr 0) (separator false (nth_operand instr 1)) (operand_text bits row instr 1)
-      (separator false (nth_operand instr 2)) (operand_text bits row instr 2) (separator false (nth_operand instr 3)) (operand_text bits row instr 3)
+    (separator false (nth_operand instr 2)) (operand_text bits row instr 2) (separator false (nth_operand instr 3)) (operand_text bits row instr 3)

@@ -49,7 +49,7 @@ unfolding front
 front-append p [] ys h = refl
 front-append p (c ∷ cs) ys h =
     front-passes (p c) c (front p (cs ++ ys)) (cs ++ front p ys) (and_left (p c) (list_all p cs) h)
-      (front-append p cs ys (and_right (p c) (list_all p cs) h))
+    (front-append p cs ys (and_right (p c) (list_all p cs) h))
 
 back-passes : (b : Bool) (r s t : List ℕ) → b ≡ true → r ≡ s → (if b then r else t) ≡ s
 back-passes true r s t h e = e
@@ -60,7 +60,7 @@ unfolding back
 back-append p [] ys h = refl
 back-append p (c ∷ cs) ys h =
     back-passes (p c) (back p (cs ++ ys)) (back p ys) (c ∷ (cs ++ ys)) (and_left (p c) (list_all p cs) h)
-      (back-append p cs ys (and_right (p c) (list_all p cs) h))
+    (back-append p cs ys (and_right (p c) (list_all p cs) h))
 
 -- what passes ends where the text behind it begins with a byte that fails, or is empty
 pub front-ends : (p : ℕ → Bool) (xs ys : List ℕ) → list_all p xs ≡ true → front p ys ≡ [] → front p (xs ++ ys) ≡ xs

@@ -248,7 +248,7 @@ unfolding is_plain_name is_prefix_word rank
 plain-rank [] h = absurd cc
 plain-rank (c ∷ cs) h =
     rank-5 (is_lock (c ∷ cs)) (is_repeat (repeat_named (c ∷ cs))) (is_some (segment_named (c ∷ cs))) (is_some (size_behind 97 (c ∷ cs)))
-      (is_some (size_behind 111 (c ∷ cs))) (and_right (list_all is_word_byte (c ∷ cs)) _ h)
+    (is_some (size_behind 111 (c ∷ cs))) (and_right (list_all is_word_byte (c ∷ cs)) _ h)
 
 plain-bytes : (name : List ℕ) → is_plain_name name ≡ true → list_all is_word_byte name ≡ true
 unfolding is_plain_name

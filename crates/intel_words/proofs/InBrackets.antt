@@ -102,9 +102,9 @@ magnitude-small B64 d = magnitude-by (is_negative B64 d) (d % 2 ^ 64) (2 ^ 64) r
 
 end-by : (size : DispSize) (asize : Bits) (b i : Option Register) (scale d : ℕ) →
     IsEnd (signed_displacement Intel asize (record { base = b; index = i; scale = scale; disp_size = size; disp = d }) ++ codes "]")
-      (signed_of asize (record { base = b; index = i; scale = scale; disp_size = size; disp = d }))
+    (signed_of asize (record { base = b; index = i; scale = scale; disp_size = size; disp = d }))
 unfolding signed_displacement signed_of signed_in first rest front back is_word_byte
-end-by D0 asize b i scale d = record { reads = refl; stops = refl; stays = refl; no_star = refl; no_index = refl; no_space = refl; }
+end-by D0 asize b i scale d = record { reads = refl; stops = refl; stays = refl; no_star = refl; no_index = refl; no_space = refl }
 end-by D8 asize b i scale d = signed-end (is_negative asize d) (magnitude asize d) (magnitude-small asize d)
 end-by D16 asize b i scale d = signed-end (is_negative asize d) (magnitude asize d) (magnitude-small asize d)
 end-by D32 asize b i scale d = signed-end (is_negative asize d) (magnitude asize d) (magnitude-small asize d)
@@ -229,7 +229,7 @@ unfolding sum_by first rest index_by
 both-by asize r x scale s value h small e =
     if-yes (nat_le 97 (first (register Intel x ++ (scale_text (codes "*") asize scale ++ s)))) _ _ (letter-first x (scale_text (codes "*") asize scale ++ s) h)
     ∙ (ap (λ (o : Option Register). index_by (Some r) o (behind (register Intel x ++ (scale_text (codes "*") asize scale ++ s))))
-      (register-word x (scale_text (codes "*") asize scale ++ s) h (scale-stops asize scale s value e))
+    (register-word x (scale_text (codes "*") asize scale ++ s) h (scale-stops asize scale s value e))
     ∙ (ap (λ (t : List ℕ). behind_index (Some r) (Some x) t) (register-behind x (scale_text (codes "*") asize scale ++ s) h (scale-stays asize scale s value e))
     ∙ index-read asize (Some r) x scale s value small e))
 
@@ -283,13 +283,13 @@ index-sum B32 x scale size d h small here =
     let m : Mem = address None (Some x) scale size d in
     let st : List ℕ = codes "*" ++ decimal scale in
     ap inside_in (append_assoc (register Intel x ++ st) (signed_displacement Intel B32 m) (codes "]")
-      ∙ append_assoc (register Intel x) st (signed_displacement Intel B32 m ++ codes "]"))
+    ∙ append_assoc (register Intel x) st (signed_displacement Intel B32 m ++ codes "]"))
     ∙ lone-index-read x scale (signed_displacement Intel B32 m ++ codes "]") (signed_of B32 m) h small (end-of B32 m)
 index-sum B64 x scale size d h small here =
     let m : Mem = address None (Some x) scale size d in
     let st : List ℕ = codes "*" ++ decimal scale in
     ap inside_in (append_assoc (register Intel x ++ st) (signed_displacement Intel B64 m) (codes "]")
-      ∙ append_assoc (register Intel x) st (signed_displacement Intel B64 m ++ codes "]"))
+    ∙ append_assoc (register Intel x) st (signed_displacement Intel B64 m ++ codes "]"))
     ∙ lone-index-read x scale (signed_displacement Intel B64 m ++ codes "]") (signed_of B64 m) h small (end-of B64 m)
 
 -- both
@@ -373,7 +373,7 @@ inside-read asize m h =
     let small : m.disp < 2 ^ 64 = ltb-true m.disp (2 ^ 64) hd in
     let scale_small : m.scale < 10 = ltb-true m.scale 10 hs in
     pick-inside (is_instruction_pointer m.base) (is_none m.base && is_none m.index) (relative_word Intel m.base ++ number Intel m.disp)
-      (lone_displacement Intel m) (sum_text Intel asize m) (Rel (is_eip m.base) m.disp) (lone_of m) (Sum (sum_of asize m))
-      (λ (r : is_instruction_pointer m.base ≡ true). relative-read m.base m.disp r small)
-      (absolute-by m.base m.index m.scale m.disp_size m.disp small)
-      (λ (a : (is_none m.base && is_none m.index) ≡ false). sum-by asize m.base m.index m.scale m.disp_size m.disp a hb hi scale_small here)
+    (lone_displacement Intel m) (sum_text Intel asize m) (Rel (is_eip m.base) m.disp) (lone_of m) (Sum (sum_of asize m))
+    (λ (r : is_instruction_pointer m.base ≡ true). relative-read m.base m.disp r small)
+    (absolute-by m.base m.index m.scale m.disp_size m.disp small)
+    (λ (a : (is_none m.base && is_none m.index) ≡ false). sum-by asize m.base m.index m.scale m.disp_size m.disp a hb hi scale_small here)

@@ -42,7 +42,7 @@ word-no-comma : (xs : List ℕ) → list_all is_word_byte xs ≡ true → list_a
 word-no-comma [] h = refl
 word-no-comma (c ∷ cs) h =
     and_both (is_no_comma c) (list_all is_no_comma cs) (byte-no-comma c (and_left (is_word_byte c) (list_all is_word_byte cs) h))
-      (word-no-comma cs (and_right (is_word_byte c) (list_all is_word_byte cs) h))
+    (word-no-comma cs (and_right (is_word_byte c) (list_all is_word_byte cs) h))
 
 number-plain : (n : ℕ) → list_all is_no_comma (number Intel n) ≡ true
 number-plain n = word-no-comma (number Intel n) (number-bytes n)
@@ -92,7 +92,7 @@ unfolding index_text is_register_if
 index-plain asize b None scale size d h small = refl
 index-plain asize b (Some x) scale size d h small =
     all-both is_no_comma (joint b) (register Intel x ++ scale_text (codes "*") asize scale) (joint-plain b)
-      (all-both is_no_comma (register Intel x) (scale_text (codes "*") asize scale) (register-plain x h) (scale-plain asize scale small))
+    (all-both is_no_comma (register Intel x) (scale_text (codes "*") asize scale) (register-plain x h) (scale-plain asize scale small))
 
 sign-plain : (negative : Bool) → list_all is_no_comma (sign Intel negative) ≡ true
 unfolding sign is_no_comma
@@ -136,12 +136,12 @@ inside-plain asize m h =
     let h2 = and_right (is_register_if m.index) _ h1 in
     let hs : nat_lt m.scale 10 ≡ true = and_left (nat_lt m.scale 10) _ h2 in
     pick-plain (is_relative m) (is_absolute m) (relative_word Intel m.base ++ number Intel m.disp) (lone_displacement Intel m) (sum_text Intel asize m)
-      (all-both is_no_comma (relative_word Intel m.base) (number Intel m.disp) (relative-plain m.base) (number-plain m.disp))
-      (lone-plain m.base m.index m.scale m.disp_size m.disp)
-      (all-both is_no_comma (base_text Intel m.base) (index_text Intel asize m ++ signed_displacement Intel asize m) (base-plain m.base hb)
-        (all-both is_no_comma (index_text Intel asize m) (signed_displacement Intel asize m)
-          (index-plain asize m.base m.index m.scale m.disp_size m.disp hi (ltb-true m.scale 10 hs))
-          (signed-plain asize m.base m.index m.scale m.disp_size m.disp)))
+    (all-both is_no_comma (relative_word Intel m.base) (number Intel m.disp) (relative-plain m.base) (number-plain m.disp))
+    (lone-plain m.base m.index m.scale m.disp_size m.disp)
+    (all-both is_no_comma (base_text Intel m.base) (index_text Intel asize m ++ signed_displacement Intel asize m) (base-plain m.base hb)
+    (all-both is_no_comma (index_text Intel asize m) (signed_displacement Intel asize m)
+    (index-plain asize m.base m.index m.scale m.disp_size m.disp hi (ltb-true m.scale 10 hs))
+    (signed-plain asize m.base m.index m.scale m.disp_size m.disp)))
 
 segment-plain : (seg : Option Segment) (m : Mem) → list_all is_no_comma (bracket_segment Intel seg m) ≡ true
 unfolding bracket_segment segment_override sigil segment_name is_no_comma
@@ -161,7 +161,7 @@ bracketed-plain : (seg : Option Segment) (asize : Bits) (m : Mem) → is_printab
 unfolding bracketed is_no_comma
 bracketed-plain seg asize m h =
     all-both is_no_comma (bracket_segment Intel seg m) (codes "[" ++ (inside Intel asize m ++ codes "]")) (segment-plain seg m)
-      (all-both is_no_comma (inside Intel asize m) (codes "]") (inside-plain asize m h) end-plain)
+    (all-both is_no_comma (inside Intel asize m) (codes "]") (inside-plain asize m h) end-plain)
 
 size-plain : (z : SizeName) → list_all is_no_comma (size_text z ++ behind_size Intel (size_text z)) ≡ true
 unfolding behind_size is_no_comma
@@ -198,4 +198,4 @@ operand-plain bits row instr n (Near x) h = number-plain x
 operand-plain bits row instr n (FarOperand selector offset) h = far-plain selector offset
 operand-plain bits row instr n (MemOperand m) h =
     all-both is_no_comma (size_word Intel row n) (bracketed Intel instr.seg (text_address_size bits instr) m) (word-plain row n)
-      (bracketed-plain instr.seg (text_address_size bits instr) m h)
+    (bracketed-plain instr.seg (text_address_size bits instr) m h)

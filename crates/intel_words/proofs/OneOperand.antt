@@ -109,8 +109,8 @@ far-read selector offset hs ho =
     let text : List ℕ = number Intel selector ++ (codes ":" ++ number Intel offset) in
     ap (λ (a : Option ℕ). far_by a (number_named (word (rest (behind text))))) (selector-number selector offset hs)
     ∙ ap (λ (b : Option ℕ). far_by (Some selector) b)
-      (ap (λ (u : List ℕ). number_named (word (rest u))) (offset-text selector offset)
-      ∙ (ap number_named (front-all is_word_byte (number Intel offset) (number-bytes offset)) ∙ number-read offset ho))
+    (ap (λ (u : List ℕ). number_named (word (rest u))) (offset-text selector offset)
+    ∙ (ap number_named (front-all is_word_byte (number Intel offset) (number-bytes offset)) ∙ number-read offset ho))
 
 far-operand : (selector offset : ℕ) → selector < 2 ^ 64 → offset < 2 ^ 64 →
     operand_in (number Intel selector ++ (codes ":" ++ number Intel offset)) ≡ Some (Far selector offset)
@@ -231,5 +231,5 @@ operand-read bits row instr n (Imm x) h = number-operand x (ltb-true x (2 ^ 64) 
 operand-read bits row instr n (Near x) h = number-operand x (ltb-true x (2 ^ 64) h)
 operand-read bits row instr n (FarOperand selector offset) h =
     far-operand selector offset (ltb-true selector (2 ^ 64) (and_left (nat_lt selector (2 ^ 64)) _ h))
-      (ltb-true offset (2 ^ 64) (and_right (nat_lt selector (2 ^ 64)) (nat_lt offset (2 ^ 64)) h))
+    (ltb-true offset (2 ^ 64) (and_right (nat_lt selector (2 ^ 64)) (nat_lt offset (2 ^ 64)) h))
 operand-read bits row instr n (MemOperand m) h = memory-operand bits row instr n m h

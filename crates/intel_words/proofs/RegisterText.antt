@@ -24,204 +24,204 @@ pub record IsRead (r : Register) : Type 0 where
 
 low8-read : (n : ℕ) → n < 16 → IsRead (Low8 n)
 unfolding word_name low_byte_name high_byte_name segment_name stack_name register_name sigil register decimal is_word_byte first rest decimal_digit teen decimal_in segment_by letter_number word_number low_at high_at word_at double_at quad_at segment_at control_at below_8 debug_at stack_at mmx_at xmm_at ymm_at pointer_byte two_letters lettered e_named from_8 sized_by r_named vector_number register_from register_named
-low8-read zero h = record { named = refl; bytes = refl; letter = refl; }
-low8-read (suc zero) h = record { named = refl; bytes = refl; letter = refl; }
-low8-read (suc (suc zero)) h = record { named = refl; bytes = refl; letter = refl; }
-low8-read (suc (suc (suc zero))) h = record { named = refl; bytes = refl; letter = refl; }
-low8-read (suc (suc (suc (suc zero)))) h = record { named = refl; bytes = refl; letter = refl; }
-low8-read (suc (suc (suc (suc (suc zero))))) h = record { named = refl; bytes = refl; letter = refl; }
-low8-read (suc (suc (suc (suc (suc (suc zero)))))) h = record { named = refl; bytes = refl; letter = refl; }
-low8-read (suc (suc (suc (suc (suc (suc (suc zero))))))) h = record { named = refl; bytes = refl; letter = refl; }
-low8-read (suc (suc (suc (suc (suc (suc (suc (suc zero)))))))) h = record { named = refl; bytes = refl; letter = refl; }
-low8-read (suc (suc (suc (suc (suc (suc (suc (suc (suc zero))))))))) h = record { named = refl; bytes = refl; letter = refl; }
-low8-read (suc (suc (suc (suc (suc (suc (suc (suc (suc (suc zero)))))))))) h = record { named = refl; bytes = refl; letter = refl; }
-low8-read (suc (suc (suc (suc (suc (suc (suc (suc (suc (suc (suc zero))))))))))) h = record { named = refl; bytes = refl; letter = refl; }
-low8-read (suc (suc (suc (suc (suc (suc (suc (suc (suc (suc (suc (suc zero)))))))))))) h = record { named = refl; bytes = refl; letter = refl; }
-low8-read (suc (suc (suc (suc (suc (suc (suc (suc (suc (suc (suc (suc (suc zero))))))))))))) h = record { named = refl; bytes = refl; letter = refl; }
-low8-read (suc (suc (suc (suc (suc (suc (suc (suc (suc (suc (suc (suc (suc (suc zero)))))))))))))) h = record { named = refl; bytes = refl; letter = refl; }
-low8-read (suc (suc (suc (suc (suc (suc (suc (suc (suc (suc (suc (suc (suc (suc (suc zero))))))))))))))) h = record { named = refl; bytes = refl; letter = refl; }
+low8-read zero h = record { named = refl; bytes = refl; letter = refl }
+low8-read (suc zero) h = record { named = refl; bytes = refl; letter = refl }
+low8-read (suc (suc zero)) h = record { named = refl; bytes = refl; letter = refl }
+low8-read (suc (suc (suc zero))) h = record { named = refl; bytes = refl; letter = refl }
+low8-read (suc (suc (suc (suc zero)))) h = record { named = refl; bytes = refl; letter = refl }
+low8-read (suc (suc (suc (suc (suc zero))))) h = record { named = refl; bytes = refl; letter = refl }
+low8-read (suc (suc (suc (suc (suc (suc zero)))))) h = record { named = refl; bytes = refl; letter = refl }
+low8-read (suc (suc (suc (suc (suc (suc (suc zero))))))) h = record { named = refl; bytes = refl; letter = refl }
+low8-read (suc (suc (suc (suc (suc (suc (suc (suc zero)))))))) h = record { named = refl; bytes = refl; letter = refl }
+low8-read (suc (suc (suc (suc (suc (suc (suc (suc (suc zero))))))))) h = record { named = refl; bytes = refl; letter = refl }
+low8-read (suc (suc (suc (suc (suc (suc (suc (suc (suc (suc zero)))))))))) h = record { named = refl; bytes = refl; letter = refl }
+low8-read (suc (suc (suc (suc (suc (suc (suc (suc (suc (suc (suc zero))))))))))) h = record { named = refl; bytes = refl; letter = refl }
+low8-read (suc (suc (suc (suc (suc (suc (suc (suc (suc (suc (suc (suc zero)))))))))))) h = record { named = refl; bytes = refl; letter = refl }
+low8-read (suc (suc (suc (suc (suc (suc (suc (suc (suc (suc (suc (suc (suc zero))))))))))))) h = record { named = refl; bytes = refl; letter = refl }
+low8-read (suc (suc (suc (suc (suc (suc (suc (suc (suc (suc (suc (suc (suc (suc zero)))))))))))))) h = record { named = refl; bytes = refl; letter = refl }
+low8-read (suc (suc (suc (suc (suc (suc (suc (suc (suc (suc (suc (suc (suc (suc (suc zero))))))))))))))) h = record { named = refl; bytes = refl; letter = refl }
 low8-read (suc (suc (suc (suc (suc (suc (suc (suc (suc (suc (suc (suc (suc (suc (suc (suc n)))))))))))))))) h = absurd (omega arith)
 
 high8-read : (n : ℕ) → n < 4 → IsRead (High8 n)
 unfolding word_name low_byte_name high_byte_name segment_name stack_name register_name sigil register decimal is_word_byte first rest decimal_digit teen decimal_in segment_by letter_number word_number low_at high_at word_at double_at quad_at segment_at control_at below_8 debug_at stack_at mmx_at xmm_at ymm_at pointer_byte two_letters lettered e_named from_8 sized_by r_named vector_number register_from register_named
-high8-read zero h = record { named = refl; bytes = refl; letter = refl; }
-high8-read (suc zero) h = record { named = refl; bytes = refl; letter = refl; }
-high8-read (suc (suc zero)) h = record { named = refl; bytes = refl; letter = refl; }
-high8-read (suc (suc (suc zero))) h = record { named = refl; bytes = refl; letter = refl; }
+high8-read zero h = record { named = refl; bytes = refl; letter = refl }
+high8-read (suc zero) h = record { named = refl; bytes = refl; letter = refl }
+high8-read (suc (suc zero)) h = record { named = refl; bytes = refl; letter = refl }
+high8-read (suc (suc (suc zero))) h = record { named = refl; bytes = refl; letter = refl }
 high8-read (suc (suc (suc (suc n)))) h = absurd (omega arith)
 
 r16-read : (n : ℕ) → n < 16 → IsRead (R16 n)
 unfolding word_name low_byte_name high_byte_name segment_name stack_name register_name sigil register decimal is_word_byte first rest decimal_digit teen decimal_in segment_by letter_number word_number low_at high_at word_at double_at quad_at segment_at control_at below_8 debug_at stack_at mmx_at xmm_at ymm_at pointer_byte two_letters lettered e_named from_8 sized_by r_named vector_number register_from register_named
-r16-read zero h = record { named = refl; bytes = refl; letter = refl; }
-r16-read (suc zero) h = record { named = refl; bytes = refl; letter = refl; }
-r16-read (suc (suc zero)) h = record { named = refl; bytes = refl; letter = refl; }
-r16-read (suc (suc (suc zero))) h = record { named = refl; bytes = refl; letter = refl; }
-r16-read (suc (suc (suc (suc zero)))) h = record { named = refl; bytes = refl; letter = refl; }
-r16-read (suc (suc (suc (suc (suc zero))))) h = record { named = refl; bytes = refl; letter = refl; }
-r16-read (suc (suc (suc (suc (suc (suc zero)))))) h = record { named = refl; bytes = refl; letter = refl; }
-r16-read (suc (suc (suc (suc (suc (suc (suc zero))))))) h = record { named = refl; bytes = refl; letter = refl; }
-r16-read (suc (suc (suc (suc (suc (suc (suc (suc zero)))))))) h = record { named = refl; bytes = refl; letter = refl; }
-r16-read (suc (suc (suc (suc (suc (suc (suc (suc (suc zero))))))))) h = record { named = refl; bytes = refl; letter = refl; }
-r16-read (suc (suc (suc (suc (suc (suc (suc (suc (suc (suc zero)))))))))) h = record { named = refl; bytes = refl; letter = refl; }
-r16-read (suc (suc (suc (suc (suc (suc (suc (suc (suc (suc (suc zero))))))))))) h = record { named = refl; bytes = refl; letter = refl; }
-r16-read (suc (suc (suc (suc (suc (suc (suc (suc (suc (suc (suc (suc zero)))))))))))) h = record { named = refl; bytes = refl; letter = refl; }
-r16-read (suc (suc (suc (suc (suc (suc (suc (suc (suc (suc (suc (suc (suc zero))))))))))))) h = record { named = refl; bytes = refl; letter = refl; }
-r16-read (suc (suc (suc (suc (suc (suc (suc (suc (suc (suc (suc (suc (suc (suc zero)))))))))))))) h = record { named = refl; bytes = refl; letter = refl; }
-r16-read (suc (suc (suc (suc (suc (suc (suc (suc (suc (suc (suc (suc (suc (suc (suc zero))))))))))))))) h = record { named = refl; bytes = refl; letter = refl; }
+r16-read zero h = record { named = refl; bytes = refl; letter = refl }
+r16-read (suc zero) h = record { named = refl; bytes = refl; letter = refl }
+r16-read (suc (suc zero)) h = record { named = refl; bytes = refl; letter = refl }
+r16-read (suc (suc (suc zero))) h = record { named = refl; bytes = refl; letter = refl }
+r16-read (suc (suc (suc (suc zero)))) h = record { named = refl; bytes = refl; letter = refl }
+r16-read (suc (suc (suc (suc (suc zero))))) h = record { named = refl; bytes = refl; letter = refl }
+r16-read (suc (suc (suc (suc (suc (suc zero)))))) h = record { named = refl; bytes = refl; letter = refl }
+r16-read (suc (suc (suc (suc (suc (suc (suc zero))))))) h = record { named = refl; bytes = refl; letter = refl }
+r16-read (suc (suc (suc (suc (suc (suc (suc (suc zero)))))))) h = record { named = refl; bytes = refl; letter = refl }
+r16-read (suc (suc (suc (suc (suc (suc (suc (suc (suc zero))))))))) h = record { named = refl; bytes = refl; letter = refl }
+r16-read (suc (suc (suc (suc (suc (suc (suc (suc (suc (suc zero)))))))))) h = record { named = refl; bytes = refl; letter = refl }
+r16-read (suc (suc (suc (suc (suc (suc (suc (suc (suc (suc (suc zero))))))))))) h = record { named = refl; bytes = refl; letter = refl }
+r16-read (suc (suc (suc (suc (suc (suc (suc (suc (suc (suc (suc (suc zero)))))))))))) h = record { named = refl; bytes = refl; letter = refl }
+r16-read (suc (suc (suc (suc (suc (suc (suc (suc (suc (suc (suc (suc (suc zero))))))))))))) h = record { named = refl; bytes = refl; letter = refl }
+r16-read (suc (suc (suc (suc (suc (suc (suc (suc (suc (suc (suc (suc (suc (suc zero)))))))))))))) h = record { named = refl; bytes = refl; letter = refl }
+r16-read (suc (suc (suc (suc (suc (suc (suc (suc (suc (suc (suc (suc (suc (suc (suc zero))))))))))))))) h = record { named = refl; bytes = refl; letter = refl }
 r16-read (suc (suc (suc (suc (suc (suc (suc (suc (suc (suc (suc (suc (suc (suc (suc (suc n)))))))))))))))) h = absurd (omega arith)
 
 r32-read : (n : ℕ) → n < 16 → IsRead (R32 n)
 unfolding word_name low_byte_name high_byte_name segment_name stack_name register_name sigil register decimal is_word_byte first rest decimal_digit teen decimal_in segment_by letter_number word_number low_at high_at word_at double_at quad_at segment_at control_at below_8 debug_at stack_at mmx_at xmm_at ymm_at pointer_byte two_letters lettered e_named from_8 sized_by r_named vector_number register_from register_named
-r32-read zero h = record { named = refl; bytes = refl; letter = refl; }
-r32-read (suc zero) h = record { named = refl; bytes = refl; letter = refl; }
-r32-read (suc (suc zero)) h = record { named = refl; bytes = refl; letter = refl; }
-r32-read (suc (suc (suc zero))) h = record { named = refl; bytes = refl; letter = refl; }
-r32-read (suc (suc (suc (suc zero)))) h = record { named = refl; bytes = refl; letter = refl; }
-r32-read (suc (suc (suc (suc (suc zero))))) h = record { named = refl; bytes = refl; letter = refl; }
-r32-read (suc (suc (suc (suc (suc (suc zero)))))) h = record { named = refl; bytes = refl; letter = refl; }
-r32-read (suc (suc (suc (suc (suc (suc (suc zero))))))) h = record { named = refl; bytes = refl; letter = refl; }
-r32-read (suc (suc (suc (suc (suc (suc (suc (suc zero)))))))) h = record { named = refl; bytes = refl; letter = refl; }
-r32-read (suc (suc (suc (suc (suc (suc (suc (suc (suc zero))))))))) h = record { named = refl; bytes = refl; letter = refl; }
-r32-read (suc (suc (suc (suc (suc (suc (suc (suc (suc (suc zero)))))))))) h = record { named = refl; bytes = refl; letter = refl; }
-r32-read (suc (suc (suc (suc (suc (suc (suc (suc (suc (suc (suc zero))))))))))) h = record { named = refl; bytes = refl; letter = refl; }
-r32-read (suc (suc (suc (suc (suc (suc (suc (suc (suc (suc (suc (suc zero)))))))))))) h = record { named = refl; bytes = refl; letter = refl; }
-r32-read (suc (suc (suc (suc (suc (suc (suc (suc (suc (suc (suc (suc (suc zero))))))))))))) h = record { named = refl; bytes = refl; letter = refl; }
-r32-read (suc (suc (suc (suc (suc (suc (suc (suc (suc (suc (suc (suc (suc (suc zero)))))))))))))) h = record { named = refl; bytes = refl; letter = refl; }
-r32-read (suc (suc (suc (suc (suc (suc (suc (suc (suc (suc (suc (suc (suc (suc (suc zero))))))))))))))) h = record { named = refl; bytes = refl; letter = refl; }
+r32-read zero h = record { named = refl; bytes = refl; letter = refl }
+r32-read (suc zero) h = record { named = refl; bytes = refl; letter = refl }
+r32-read (suc (suc zero)) h = record { named = refl; bytes = refl; letter = refl }
+r32-read (suc (suc (suc zero))) h = record { named = refl; bytes = refl; letter = refl }
+r32-read (suc (suc (suc (suc zero)))) h = record { named = refl; bytes = refl; letter = refl }
+r32-read (suc (suc (suc (suc (suc zero))))) h = record { named = refl; bytes = refl; letter = refl }
+r32-read (suc (suc (suc (suc (suc (suc zero)))))) h = record { named = refl; bytes = refl; letter = refl }
+r32-read (suc (suc (suc (suc (suc (suc (suc zero))))))) h = record { named = refl; bytes = refl; letter = refl }
+r32-read (suc (suc (suc (suc (suc (suc (suc (suc zero)))))))) h = record { named = refl; bytes = refl; letter = refl }
+r32-read (suc (suc (suc (suc (suc (suc (suc (suc (suc zero))))))))) h = record { named = refl; bytes = refl; letter = refl }
+r32-read (suc (suc (suc (suc (suc (suc (suc (suc (suc (suc zero)))))))))) h = record { named = refl; bytes = refl; letter = refl }
+r32-read (suc (suc (suc (suc (suc (suc (suc (suc (suc (suc (suc zero))))))))))) h = record { named = refl; bytes = refl; letter = refl }
+r32-read (suc (suc (suc (suc (suc (suc (suc (suc (suc (suc (suc (suc zero)))))))))))) h = record { named = refl; bytes = refl; letter = refl }
+r32-read (suc (suc (suc (suc (suc (suc (suc (suc (suc (suc (suc (suc (suc zero))))))))))))) h = record { named = refl; bytes = refl; letter = refl }
+r32-read (suc (suc (suc (suc (suc (suc (suc (suc (suc (suc (suc (suc (suc (suc zero)))))))))))))) h = record { named = refl; bytes = refl; letter = refl }
+r32-read (suc (suc (suc (suc (suc (suc (suc (suc (suc (suc (suc (suc (suc (suc (suc zero))))))))))))))) h = record { named = refl; bytes = refl; letter = refl }
 r32-read (suc (suc (suc (suc (suc (suc (suc (suc (suc (suc (suc (suc (suc (suc (suc (suc n)))))))))))))))) h = absurd (omega arith)
 
 r64-read : (n : ℕ) → n < 16 → IsRead (R64 n)
 unfolding word_name low_byte_name high_byte_name segment_name stack_name register_name sigil register decimal is_word_byte first rest decimal_digit teen decimal_in segment_by letter_number word_number low_at high_at word_at double_at quad_at segment_at control_at below_8 debug_at stack_at mmx_at xmm_at ymm_at pointer_byte two_letters lettered e_named from_8 sized_by r_named vector_number register_from register_named
-r64-read zero h = record { named = refl; bytes = refl; letter = refl; }
-r64-read (suc zero) h = record { named = refl; bytes = refl; letter = refl; }
-r64-read (suc (suc zero)) h = record { named = refl; bytes = refl; letter = refl; }
-r64-read (suc (suc (suc zero))) h = record { named = refl; bytes = refl; letter = refl; }
-r64-read (suc (suc (suc (suc zero)))) h = record { named = refl; bytes = refl; letter = refl; }
-r64-read (suc (suc (suc (suc (suc zero))))) h = record { named = refl; bytes = refl; letter = refl; }
-r64-read (suc (suc (suc (suc (suc (suc zero)))))) h = record { named = refl; bytes = refl; letter = refl; }
-r64-read (suc (suc (suc (suc (suc (suc (suc zero))))))) h = record { named = refl; bytes = refl; letter = refl; }
-r64-read (suc (suc (suc (suc (suc (suc (suc (suc zero)))))))) h = record { named = refl; bytes = refl; letter = refl; }
-r64-read (suc (suc (suc (suc (suc (suc (suc (suc (suc zero))))))))) h = record { named = refl; bytes = refl; letter = refl; }
-r64-read (suc (suc (suc (suc (suc (suc (suc (suc (suc (suc zero)))))))))) h = record { named = refl; bytes = refl; letter = refl; }
-r64-read (suc (suc (suc (suc (suc (suc (suc (suc (suc (suc (suc zero))))))))))) h = record { named = refl; bytes = refl; letter = refl; }
-r64-read (suc (suc (suc (suc (suc (suc (suc (suc (suc (suc (suc (suc zero)))))))))))) h = record { named = refl; bytes = refl; letter = refl; }
-r64-read (suc (suc (suc (suc (suc (suc (suc (suc (suc (suc (suc (suc (suc zero))))))))))))) h = record { named = refl; bytes = refl; letter = refl; }
-r64-read (suc (suc (suc (suc (suc (suc (suc (suc (suc (suc (suc (suc (suc (suc zero)))))))))))))) h = record { named = refl; bytes = refl; letter = refl; }
-r64-read (suc (suc (suc (suc (suc (suc (suc (suc (suc (suc (suc (suc (suc (suc (suc zero))))))))))))))) h = record { named = refl; bytes = refl; letter = refl; }
+r64-read zero h = record { named = refl; bytes = refl; letter = refl }
+r64-read (suc zero) h = record { named = refl; bytes = refl; letter = refl }
+r64-read (suc (suc zero)) h = record { named = refl; bytes = refl; letter = refl }
+r64-read (suc (suc (suc zero))) h = record { named = refl; bytes = refl; letter = refl }
+r64-read (suc (suc (suc (suc zero)))) h = record { named = refl; bytes = refl; letter = refl }
+r64-read (suc (suc (suc (suc (suc zero))))) h = record { named = refl; bytes = refl; letter = refl }
+r64-read (suc (suc (suc (suc (suc (suc zero)))))) h = record { named = refl; bytes = refl; letter = refl }
+r64-read (suc (suc (suc (suc (suc (suc (suc zero))))))) h = record { named = refl; bytes = refl; letter = refl }
+r64-read (suc (suc (suc (suc (suc (suc (suc (suc zero)))))))) h = record { named = refl; bytes = refl; letter = refl }
+r64-read (suc (suc (suc (suc (suc (suc (suc (suc (suc zero))))))))) h = record { named = refl; bytes = refl; letter = refl }
+r64-read (suc (suc (suc (suc (suc (suc (suc (suc (suc (suc zero)))))))))) h = record { named = refl; bytes = refl; letter = refl }
+r64-read (suc (suc (suc (suc (suc (suc (suc (suc (suc (suc (suc zero))))))))))) h = record { named = refl; bytes = refl; letter = refl }
+r64-read (suc (suc (suc (suc (suc (suc (suc (suc (suc (suc (suc (suc zero)))))))))))) h = record { named = refl; bytes = refl; letter = refl }
+r64-read (suc (suc (suc (suc (suc (suc (suc (suc (suc (suc (suc (suc (suc zero))))))))))))) h = record { named = refl; bytes = refl; letter = refl }
+r64-read (suc (suc (suc (suc (suc (suc (suc (suc (suc (suc (suc (suc (suc (suc zero)))))))))))))) h = record { named = refl; bytes = refl; letter = refl }
+r64-read (suc (suc (suc (suc (suc (suc (suc (suc (suc (suc (suc (suc (suc (suc (suc zero))))))))))))))) h = record { named = refl; bytes = refl; letter = refl }
 r64-read (suc (suc (suc (suc (suc (suc (suc (suc (suc (suc (suc (suc (suc (suc (suc (suc n)))))))))))))))) h = absurd (omega arith)
 
 cr-read : (n : ℕ) → n < 16 → IsRead (Cr n)
 unfolding word_name low_byte_name high_byte_name segment_name stack_name register_name sigil register decimal is_word_byte first rest decimal_digit teen decimal_in segment_by letter_number word_number low_at high_at word_at double_at quad_at segment_at control_at below_8 debug_at stack_at mmx_at xmm_at ymm_at pointer_byte two_letters lettered e_named from_8 sized_by r_named vector_number register_from register_named
-cr-read zero h = record { named = refl; bytes = refl; letter = refl; }
-cr-read (suc zero) h = record { named = refl; bytes = refl; letter = refl; }
-cr-read (suc (suc zero)) h = record { named = refl; bytes = refl; letter = refl; }
-cr-read (suc (suc (suc zero))) h = record { named = refl; bytes = refl; letter = refl; }
-cr-read (suc (suc (suc (suc zero)))) h = record { named = refl; bytes = refl; letter = refl; }
-cr-read (suc (suc (suc (suc (suc zero))))) h = record { named = refl; bytes = refl; letter = refl; }
-cr-read (suc (suc (suc (suc (suc (suc zero)))))) h = record { named = refl; bytes = refl; letter = refl; }
-cr-read (suc (suc (suc (suc (suc (suc (suc zero))))))) h = record { named = refl; bytes = refl; letter = refl; }
-cr-read (suc (suc (suc (suc (suc (suc (suc (suc zero)))))))) h = record { named = refl; bytes = refl; letter = refl; }
-cr-read (suc (suc (suc (suc (suc (suc (suc (suc (suc zero))))))))) h = record { named = refl; bytes = refl; letter = refl; }
-cr-read (suc (suc (suc (suc (suc (suc (suc (suc (suc (suc zero)))))))))) h = record { named = refl; bytes = refl; letter = refl; }
-cr-read (suc (suc (suc (suc (suc (suc (suc (suc (suc (suc (suc zero))))))))))) h = record { named = refl; bytes = refl; letter = refl; }
-cr-read (suc (suc (suc (suc (suc (suc (suc (suc (suc (suc (suc (suc zero)))))))))))) h = record { named = refl; bytes = refl; letter = refl; }
-cr-read (suc (suc (suc (suc (suc (suc (suc (suc (suc (suc (suc (suc (suc zero))))))))))))) h = record { named = refl; bytes = refl; letter = refl; }
-cr-read (suc (suc (suc (suc (suc (suc (suc (suc (suc (suc (suc (suc (suc (suc zero)))))))))))))) h = record { named = refl; bytes = refl; letter = refl; }
-cr-read (suc (suc (suc (suc (suc (suc (suc (suc (suc (suc (suc (suc (suc (suc (suc zero))))))))))))))) h = record { named = refl; bytes = refl; letter = refl; }
+cr-read zero h = record { named = refl; bytes = refl; letter = refl }
+cr-read (suc zero) h = record { named = refl; bytes = refl; letter = refl }
+cr-read (suc (suc zero)) h = record { named = refl; bytes = refl; letter = refl }
+cr-read (suc (suc (suc zero))) h = record { named = refl; bytes = refl; letter = refl }
+cr-read (suc (suc (suc (suc zero)))) h = record { named = refl; bytes = refl; letter = refl }
+cr-read (suc (suc (suc (suc (suc zero))))) h = record { named = refl; bytes = refl; letter = refl }
+cr-read (suc (suc (suc (suc (suc (suc zero)))))) h = record { named = refl; bytes = refl; letter = refl }
+cr-read (suc (suc (suc (suc (suc (suc (suc zero))))))) h = record { named = refl; bytes = refl; letter = refl }
+cr-read (suc (suc (suc (suc (suc (suc (suc (suc zero)))))))) h = record { named = refl; bytes = refl; letter = refl }
+cr-read (suc (suc (suc (suc (suc (suc (suc (suc (suc zero))))))))) h = record { named = refl; bytes = refl; letter = refl }
+cr-read (suc (suc (suc (suc (suc (suc (suc (suc (suc (suc zero)))))))))) h = record { named = refl; bytes = refl; letter = refl }
+cr-read (suc (suc (suc (suc (suc (suc (suc (suc (suc (suc (suc zero))))))))))) h = record { named = refl; bytes = refl; letter = refl }
+cr-read (suc (suc (suc (suc (suc (suc (suc (suc (suc (suc (suc (suc zero)))))))))))) h = record { named = refl; bytes = refl; letter = refl }
+cr-read (suc (suc (suc (suc (suc (suc (suc (suc (suc (suc (suc (suc (suc zero))))))))))))) h = record { named = refl; bytes = refl; letter = refl }
+cr-read (suc (suc (suc (suc (suc (suc (suc (suc (suc (suc (suc (suc (suc (suc zero)))))))))))))) h = record { named = refl; bytes = refl; letter = refl }
+cr-read (suc (suc (suc (suc (suc (suc (suc (suc (suc (suc (suc (suc (suc (suc (suc zero))))))))))))))) h = record { named = refl; bytes = refl; letter = refl }
 cr-read (suc (suc (suc (suc (suc (suc (suc (suc (suc (suc (suc (suc (suc (suc (suc (suc n)))))))))))))))) h = absurd (omega arith)
 
 dr-read : (n : ℕ) → n < 8 → IsRead (Dr n)
 unfolding word_name low_byte_name high_byte_name segment_name stack_name register_name sigil register decimal is_word_byte first rest decimal_digit teen decimal_in segment_by letter_number word_number low_at high_at word_at double_at quad_at segment_at control_at below_8 debug_at stack_at mmx_at xmm_at ymm_at pointer_byte two_letters lettered e_named from_8 sized_by r_named vector_number register_from register_named
-dr-read zero h = record { named = refl; bytes = refl; letter = refl; }
-dr-read (suc zero) h = record { named = refl; bytes = refl; letter = refl; }
-dr-read (suc (suc zero)) h = record { named = refl; bytes = refl; letter = refl; }
-dr-read (suc (suc (suc zero))) h = record { named = refl; bytes = refl; letter = refl; }
-dr-read (suc (suc (suc (suc zero)))) h = record { named = refl; bytes = refl; letter = refl; }
-dr-read (suc (suc (suc (suc (suc zero))))) h = record { named = refl; bytes = refl; letter = refl; }
-dr-read (suc (suc (suc (suc (suc (suc zero)))))) h = record { named = refl; bytes = refl; letter = refl; }
-dr-read (suc (suc (suc (suc (suc (suc (suc zero))))))) h = record { named = refl; bytes = refl; letter = refl; }
+dr-read zero h = record { named = refl; bytes = refl; letter = refl }
+dr-read (suc zero) h = record { named = refl; bytes = refl; letter = refl }
+dr-read (suc (suc zero)) h = record { named = refl; bytes = refl; letter = refl }
+dr-read (suc (suc (suc zero))) h = record { named = refl; bytes = refl; letter = refl }
+dr-read (suc (suc (suc (suc zero)))) h = record { named = refl; bytes = refl; letter = refl }
+dr-read (suc (suc (suc (suc (suc zero))))) h = record { named = refl; bytes = refl; letter = refl }
+dr-read (suc (suc (suc (suc (suc (suc zero)))))) h = record { named = refl; bytes = refl; letter = refl }
+dr-read (suc (suc (suc (suc (suc (suc (suc zero))))))) h = record { named = refl; bytes = refl; letter = refl }
 dr-read (suc (suc (suc (suc (suc (suc (suc (suc n)))))))) h = absurd (omega arith)
 
 st-read : (n : ℕ) → n < 8 → IsRead (St n)
 unfolding word_name low_byte_name high_byte_name segment_name stack_name register_name sigil register decimal is_word_byte first rest decimal_digit teen decimal_in segment_by letter_number word_number low_at high_at word_at double_at quad_at segment_at control_at below_8 debug_at stack_at mmx_at xmm_at ymm_at pointer_byte two_letters lettered e_named from_8 sized_by r_named vector_number register_from register_named
-st-read zero h = record { named = refl; bytes = refl; letter = refl; }
-st-read (suc zero) h = record { named = refl; bytes = refl; letter = refl; }
-st-read (suc (suc zero)) h = record { named = refl; bytes = refl; letter = refl; }
-st-read (suc (suc (suc zero))) h = record { named = refl; bytes = refl; letter = refl; }
-st-read (suc (suc (suc (suc zero)))) h = record { named = refl; bytes = refl; letter = refl; }
-st-read (suc (suc (suc (suc (suc zero))))) h = record { named = refl; bytes = refl; letter = refl; }
-st-read (suc (suc (suc (suc (suc (suc zero)))))) h = record { named = refl; bytes = refl; letter = refl; }
-st-read (suc (suc (suc (suc (suc (suc (suc zero))))))) h = record { named = refl; bytes = refl; letter = refl; }
+st-read zero h = record { named = refl; bytes = refl; letter = refl }
+st-read (suc zero) h = record { named = refl; bytes = refl; letter = refl }
+st-read (suc (suc zero)) h = record { named = refl; bytes = refl; letter = refl }
+st-read (suc (suc (suc zero))) h = record { named = refl; bytes = refl; letter = refl }
+st-read (suc (suc (suc (suc zero)))) h = record { named = refl; bytes = refl; letter = refl }
+st-read (suc (suc (suc (suc (suc zero))))) h = record { named = refl; bytes = refl; letter = refl }
+st-read (suc (suc (suc (suc (suc (suc zero)))))) h = record { named = refl; bytes = refl; letter = refl }
+st-read (suc (suc (suc (suc (suc (suc (suc zero))))))) h = record { named = refl; bytes = refl; letter = refl }
 st-read (suc (suc (suc (suc (suc (suc (suc (suc n)))))))) h = absurd (omega arith)
 
 mm-read : (n : ℕ) → n < 8 → IsRead (Mm n)
 unfolding word_name low_byte_name high_byte_name segment_name stack_name register_name sigil register decimal is_word_byte first rest decimal_digit teen decimal_in segment_by letter_number word_number low_at high_at word_at double_at quad_at segment_at control_at below_8 debug_at stack_at mmx_at xmm_at ymm_at pointer_byte two_letters lettered e_named from_8 sized_by r_named vector_number register_from register_named
-mm-read zero h = record { named = refl; bytes = refl; letter = refl; }
-mm-read (suc zero) h = record { named = refl; bytes = refl; letter = refl; }
-mm-read (suc (suc zero)) h = record { named = refl; bytes = refl; letter = refl; }
-mm-read (suc (suc (suc zero))) h = record { named = refl; bytes = refl; letter = refl; }
-mm-read (suc (suc (suc (suc zero)))) h = record { named = refl; bytes = refl; letter = refl; }
-mm-read (suc (suc (suc (suc (suc zero))))) h = record { named = refl; bytes = refl; letter = refl; }
-mm-read (suc (suc (suc (suc (suc (suc zero)))))) h = record { named = refl; bytes = refl; letter = refl; }
-mm-read (suc (suc (suc (suc (suc (suc (suc zero))))))) h = record { named = refl; bytes = refl; letter = refl; }
+mm-read zero h = record { named = refl; bytes = refl; letter = refl }
+mm-read (suc zero) h = record { named = refl; bytes = refl; letter = refl }
+mm-read (suc (suc zero)) h = record { named = refl; bytes = refl; letter = refl }
+mm-read (suc (suc (suc zero))) h = record { named = refl; bytes = refl; letter = refl }
+mm-read (suc (suc (suc (suc zero)))) h = record { named = refl; bytes = refl; letter = refl }
+mm-read (suc (suc (suc (suc (suc zero))))) h = record { named = refl; bytes = refl; letter = refl }
+mm-read (suc (suc (suc (suc (suc (suc zero)))))) h = record { named = refl; bytes = refl; letter = refl }
+mm-read (suc (suc (suc (suc (suc (suc (suc zero))))))) h = record { named = refl; bytes = refl; letter = refl }
 mm-read (suc (suc (suc (suc (suc (suc (suc (suc n)))))))) h = absurd (omega arith)
 
 xmm-read : (n : ℕ) → n < 16 → IsRead (Xmm n)
 unfolding word_name low_byte_name high_byte_name segment_name stack_name register_name sigil register decimal is_word_byte first rest decimal_digit teen decimal_in segment_by letter_number word_number low_at high_at word_at double_at quad_at segment_at control_at below_8 debug_at stack_at mmx_at xmm_at ymm_at pointer_byte two_letters lettered e_named from_8 sized_by r_named vector_number register_from register_named
-xmm-read zero h = record { named = refl; bytes = refl; letter = refl; }
-xmm-read (suc zero) h = record { named = refl; bytes = refl; letter = refl; }
-xmm-read (suc (suc zero)) h = record { named = refl; bytes = refl; letter = refl; }
-xmm-read (suc (suc (suc zero))) h = record { named = refl; bytes = refl; letter = refl; }
-xmm-read (suc (suc (suc (suc zero)))) h = record { named = refl; bytes = refl; letter = refl; }
-xmm-read (suc (suc (suc (suc (suc zero))))) h = record { named = refl; bytes = refl; letter = refl; }
-xmm-read (suc (suc (suc (suc (suc (suc zero)))))) h = record { named = refl; bytes = refl; letter = refl; }
-xmm-read (suc (suc (suc (suc (suc (suc (suc zero))))))) h = record { named = refl; bytes = refl; letter = refl; }
-xmm-read (suc (suc (suc (suc (suc (suc (suc (suc zero)))))))) h = record { named = refl; bytes = refl; letter = refl; }
-xmm-read (suc (suc (suc (suc (suc (suc (suc (suc (suc zero))))))))) h = record { named = refl; bytes = refl; letter = refl; }
-xmm-read (suc (suc (suc (suc (suc (suc (suc (suc (suc (suc zero)))))))))) h = record { named = refl; bytes = refl; letter = refl; }
-xmm-read (suc (suc (suc (suc (suc (suc (suc (suc (suc (suc (suc zero))))))))))) h = record { named = refl; bytes = refl; letter = refl; }
-xmm-read (suc (suc (suc (suc (suc (suc (suc (suc (suc (suc (suc (suc zero)))))))))))) h = record { named = refl; bytes = refl; letter = refl; }
-xmm-read (suc (suc (suc (suc (suc (suc (suc (suc (suc (suc (suc (suc (suc zero))))))))))))) h = record { named = refl; bytes = refl; letter = refl; }
-xmm-read (suc (suc (suc (suc (suc (suc (suc (suc (suc (suc (suc (suc (suc (suc zero)))))))))))))) h = record { named = refl; bytes = refl; letter = refl; }
-xmm-read (suc (suc (suc (suc (suc (suc (suc (suc (suc (suc (suc (suc (suc (suc (suc zero))))))))))))))) h = record { named = refl; bytes = refl; letter = refl; }
+xmm-read zero h = record { named = refl; bytes = refl; letter = refl }
+xmm-read (suc zero) h = record { named = refl; bytes = refl; letter = refl }
+xmm-read (suc (suc zero)) h = record { named = refl; bytes = refl; letter = refl }
+xmm-read (suc (suc (suc zero))) h = record { named = refl; bytes = refl; letter = refl }
+xmm-read (suc (suc (suc (suc zero)))) h = record { named = refl; bytes = refl; letter = refl }
+xmm-read (suc (suc (suc (suc (suc zero))))) h = record { named = refl; bytes = refl; letter = refl }
+xmm-read (suc (suc (suc (suc (suc (suc zero)))))) h = record { named = refl; bytes = refl; letter = refl }
+xmm-read (suc (suc (suc (suc (suc (suc (suc zero))))))) h = record { named = refl; bytes = refl; letter = refl }
+xmm-read (suc (suc (suc (suc (suc (suc (suc (suc zero)))))))) h = record { named = refl; bytes = refl; letter = refl }
+xmm-read (suc (suc (suc (suc (suc (suc (suc (suc (suc zero))))))))) h = record { named = refl; bytes = refl; letter = refl }
+xmm-read (suc (suc (suc (suc (suc (suc (suc (suc (suc (suc zero)))))))))) h = record { named = refl; bytes = refl; letter = refl }
+xmm-read (suc (suc (suc (suc (suc (suc (suc (suc (suc (suc (suc zero))))))))))) h = record { named = refl; bytes = refl; letter = refl }
+xmm-read (suc (suc (suc (suc (suc (suc (suc (suc (suc (suc (suc (suc zero)))))))))))) h = record { named = refl; bytes = refl; letter = refl }
+xmm-read (suc (suc (suc (suc (suc (suc (suc (suc (suc (suc (suc (suc (suc zero))))))))))))) h = record { named = refl; bytes = refl; letter = refl }
+xmm-read (suc (suc (suc (suc (suc (suc (suc (suc (suc (suc (suc (suc (suc (suc zero)))))))))))))) h = record { named = refl; bytes = refl; letter = refl }
+xmm-read (suc (suc (suc (suc (suc (suc (suc (suc (suc (suc (suc (suc (suc (suc (suc zero))))))))))))))) h = record { named = refl; bytes = refl; letter = refl }
 xmm-read (suc (suc (suc (suc (suc (suc (suc (suc (suc (suc (suc (suc (suc (suc (suc (suc n)))))))))))))))) h = absurd (omega arith)
 
 ymm-read : (n : ℕ) → n < 16 → IsRead (Ymm n)
 unfolding word_name low_byte_name high_byte_name segment_name stack_name register_name sigil register decimal is_word_byte first rest decimal_digit teen decimal_in segment_by letter_number word_number low_at high_at word_at double_at quad_at segment_at control_at below_8 debug_at stack_at mmx_at xmm_at ymm_at pointer_byte two_letters lettered e_named from_8 sized_by r_named vector_number register_from register_named
-ymm-read zero h = record { named = refl; bytes = refl; letter = refl; }
-ymm-read (suc zero) h = record { named = refl; bytes = refl; letter = refl; }
-ymm-read (suc (suc zero)) h = record { named = refl; bytes = refl; letter = refl; }
-ymm-read (suc (suc (suc zero))) h = record { named = refl; bytes = refl; letter = refl; }
-ymm-read (suc (suc (suc (suc zero)))) h = record { named = refl; bytes = refl; letter = refl; }
-ymm-read (suc (suc (suc (suc (suc zero))))) h = record { named = refl; bytes = refl; letter = refl; }
-ymm-read (suc (suc (suc (suc (suc (suc zero)))))) h = record { named = refl; bytes = refl; letter = refl; }
-ymm-read (suc (suc (suc (suc (suc (suc (suc zero))))))) h = record { named = refl; bytes = refl; letter = refl; }
-ymm-read (suc (suc (suc (suc (suc (suc (suc (suc zero)))))))) h = record { named = refl; bytes = refl; letter = refl; }
-ymm-read (suc (suc (suc (suc (suc (suc (suc (suc (suc zero))))))))) h = record { named = refl; bytes = refl; letter = refl; }
-ymm-read (suc (suc (suc (suc (suc (suc (suc (suc (suc (suc zero)))))))))) h = record { named = refl; bytes = refl; letter = refl; }
-ymm-read (suc (suc (suc (suc (suc (suc (suc (suc (suc (suc (suc zero))))))))))) h = record { named = refl; bytes = refl; letter = refl; }
-ymm-read (suc (suc (suc (suc (suc (suc (suc (suc (suc (suc (suc (suc zero)))))))))))) h = record { named = refl; bytes = refl; letter = refl; }
-ymm-read (suc (suc (suc (suc (suc (suc (suc (suc (suc (suc (suc (suc (suc zero))))))))))))) h = record { named = refl; bytes = refl; letter = refl; }
-ymm-read (suc (suc (suc (suc (suc (suc (suc (suc (suc (suc (suc (suc (suc (suc zero)))))))))))))) h = record { named = refl; bytes = refl; letter = refl; }
-ymm-read (suc (suc (suc (suc (suc (suc (suc (suc (suc (suc (suc (suc (suc (suc (suc zero))))))))))))))) h = record { named = refl; bytes = refl; letter = refl; }
+ymm-read zero h = record { named = refl; bytes = refl; letter = refl }
+ymm-read (suc zero) h = record { named = refl; bytes = refl; letter = refl }
+ymm-read (suc (suc zero)) h = record { named = refl; bytes = refl; letter = refl }
+ymm-read (suc (suc (suc zero))) h = record { named = refl; bytes = refl; letter = refl }
+ymm-read (suc (suc (suc (suc zero)))) h = record { named = refl; bytes = refl; letter = refl }
+ymm-read (suc (suc (suc (suc (suc zero))))) h = record { named = refl; bytes = refl; letter = refl }
+ymm-read (suc (suc (suc (suc (suc (suc zero)))))) h = record { named = refl; bytes = refl; letter = refl }
+ymm-read (suc (suc (suc (suc (suc (suc (suc zero))))))) h = record { named = refl; bytes = refl; letter = refl }
+ymm-read (suc (suc (suc (suc (suc (suc (suc (suc zero)))))))) h = record { named = refl; bytes = refl; letter = refl }
+ymm-read (suc (suc (suc (suc (suc (suc (suc (suc (suc zero))))))))) h = record { named = refl; bytes = refl; letter = refl }
+ymm-read (suc (suc (suc (suc (suc (suc (suc (suc (suc (suc zero)))))))))) h = record { named = refl; bytes = refl; letter = refl }
+ymm-read (suc (suc (suc (suc (suc (suc (suc (suc (suc (suc (suc zero))))))))))) h = record { named = refl; bytes = refl; letter = refl }
+ymm-read (suc (suc (suc (suc (suc (suc (suc (suc (suc (suc (suc (suc zero)))))))))))) h = record { named = refl; bytes = refl; letter = refl }
+ymm-read (suc (suc (suc (suc (suc (suc (suc (suc (suc (suc (suc (suc (suc zero))))))))))))) h = record { named = refl; bytes = refl; letter = refl }
+ymm-read (suc (suc (suc (suc (suc (suc (suc (suc (suc (suc (suc (suc (suc (suc zero)))))))))))))) h = record { named = refl; bytes = refl; letter = refl }
+ymm-read (suc (suc (suc (suc (suc (suc (suc (suc (suc (suc (suc (suc (suc (suc (suc zero))))))))))))))) h = record { named = refl; bytes = refl; letter = refl }
 ymm-read (suc (suc (suc (suc (suc (suc (suc (suc (suc (suc (suc (suc (suc (suc (suc (suc n)))))))))))))))) h = absurd (omega arith)
 
 segment-read : (s : Segment) → IsRead (Seg s)
 unfolding word_name low_byte_name high_byte_name segment_name stack_name register_name sigil register decimal is_word_byte first rest decimal_digit teen decimal_in segment_by letter_number word_number low_at high_at word_at double_at quad_at segment_at control_at below_8 debug_at stack_at mmx_at xmm_at ymm_at pointer_byte two_letters lettered e_named from_8 sized_by r_named vector_number register_from register_named
-segment-read Es = record { named = refl; bytes = refl; letter = refl; }
-segment-read Cs = record { named = refl; bytes = refl; letter = refl; }
-segment-read Ss = record { named = refl; bytes = refl; letter = refl; }
-segment-read Ds = record { named = refl; bytes = refl; letter = refl; }
-segment-read Fs = record { named = refl; bytes = refl; letter = refl; }
-segment-read Gs = record { named = refl; bytes = refl; letter = refl; }
+segment-read Es = record { named = refl; bytes = refl; letter = refl }
+segment-read Cs = record { named = refl; bytes = refl; letter = refl }
+segment-read Ss = record { named = refl; bytes = refl; letter = refl }
+segment-read Ds = record { named = refl; bytes = refl; letter = refl }
+segment-read Fs = record { named = refl; bytes = refl; letter = refl }
+segment-read Gs = record { named = refl; bytes = refl; letter = refl }
 
 eip-read : IsRead Eip
 unfolding word_name low_byte_name high_byte_name segment_name stack_name register_name sigil register decimal is_word_byte first rest decimal_digit teen decimal_in segment_by letter_number word_number low_at high_at word_at double_at quad_at segment_at control_at below_8 debug_at stack_at mmx_at xmm_at ymm_at pointer_byte two_letters lettered e_named from_8 sized_by r_named vector_number register_from register_named
-eip-read = record { named = refl; bytes = refl; letter = refl; }
+eip-read = record { named = refl; bytes = refl; letter = refl }
 
 rip-read : IsRead Rip
 unfolding word_name low_byte_name high_byte_name segment_name stack_name register_name sigil register decimal is_word_byte first rest decimal_digit teen decimal_in segment_by letter_number word_number low_at high_at word_at double_at quad_at segment_at control_at below_8 debug_at stack_at mmx_at xmm_at ymm_at pointer_byte two_letters lettered e_named from_8 sized_by r_named vector_number register_from register_named
-rip-read = record { named = refl; bytes = refl; letter = refl; }
+rip-read = record { named = refl; bytes = refl; letter = refl }
 
 pub register-read : (r : Register) → is_register r ≡ true → IsRead r
 unfolding is_register

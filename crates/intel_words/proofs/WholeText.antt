@@ -49,13 +49,13 @@ layout-grouped bits row name instr =
     let l : List ℕ = lock_word instr.lock in
     let r : List ℕ = repeat_word instr.rep in
     let t : List ℕ = name_text bits name instr ++ (operand_part Intel bits row instr 0 ++ (operand_part Intel bits row instr 1
-      ++ (operand_part Intel bits row instr 2 ++ operand_part Intel bits row instr 3))) in
+    ++ (operand_part Intel bits row instr 2 ++ operand_part Intel bits row instr 3))) in
     regroup l r (segment_word instr) (address_word bits name instr) (operand_size_word bits row) t
     ∙ (ap (λ (s : List ℕ). l ++ (r ++ (s ++ (address_word bits name instr ++ (operand_size_word bits row ++ t))))) (segment-word instr)
     ∙ (ap (λ (a : List ℕ). l ++ (r ++ (segment_text (segment_of instr) ++ (a ++ (operand_size_word bits row ++ t))))) (address-word bits name instr)
     ∙ (ap (λ (o : List ℕ). l ++ (r ++ (segment_text (segment_of instr) ++ (sized_text (codes "a") (address_size_of bits name instr) ++ (o ++ t))))) (operand-word bits row)
     ∙ ap (λ (u : List ℕ). l ++ (r ++ (segment_text (segment_of instr) ++ (sized_text (codes "a") (address_size_of bits name instr)
-        ++ (sized_text (codes "o") (operand_size_of bits row) ++ (name_text bits name instr ++ u)))))) (operands-grouped bits row instr))))
+    ++ (sized_text (codes "o") (operand_size_of bits row) ++ (name_text bits name instr ++ u)))))) (operands-grouped bits row instr))))
 
 -- ---- what is read of it
 
@@ -72,7 +72,7 @@ pub record AreWords (bits : Bits) (row : Row) (name : List ℕ) (instr : Instr) 
   pub osize : size_behind 111 (word (behind_size 97 (behind_segment (behind_repeat (behind_lock text))))) ≡ operand_size_of bits row
   pub named : word (behind_prefixes text) ≡ name_text bits name instr
   pub ops : operands_in (rest (behind (behind_prefixes text)))
-    ≡ Some (nth_of bits row instr 0 ∷ nth_of bits row instr 1 ∷ nth_of bits row instr 2 ∷ nth_of bits row instr 3 ∷ [])
+      ≡ Some (nth_of bits row instr 0 ∷ nth_of bits row instr 1 ∷ nth_of bits row instr 2 ∷ nth_of bits row instr 3 ∷ [])
 
 grouped-read : (bits : Bits) (row : Row) (name : List ℕ) (instr : Instr) (text : List ℕ) → is_printable bits row name instr ≡ true →
     text ≡ from_lock bits row name instr → AreWords bits row name instr text
@@ -102,7 +102,7 @@ grouped-read bits row name instr text h e0 =
     let e2 : behind_repeat (behind_lock text) ≡ t2 = ap behind_repeat e1 ∙ repeat-behind instr.rep t2 r1 in
     let e3 : behind_segment (behind_repeat (behind_lock text)) ≡ t3 = ap behind_segment e2 ∙ segment-behind (segment_of instr) t3 r2 in
     let e4 : behind_size 97 (behind_segment (behind_repeat (behind_lock text))) ≡ t4 =
-      ap (behind_size 97) e3 ∙ address-behind (address_size_of bits name instr) t4 r3 in
+    ap (behind_size 97) e3 ∙ address-behind (address_size_of bits name instr) t4 r3 in
     let e5 : behind_prefixes text ≡ t5 = ap (behind_size 111) e4 ∙ operand-behind (operand_size_of bits row) t5 r4 in
     record {
       lock = ap (λ (u : List ℕ). is_lock (word u)) e0 ∙ lock-value instr.lock t1 r0;
@@ -112,8 +112,8 @@ grouped-read bits row name instr text h e0 =
       osize = ap (λ (u : List ℕ). size_behind 111 (word u)) e4 ∙ operand-value (operand_size_of bits row) t5 r4;
       named = ap (λ (u : List ℕ). word u) e5 ∙ name-word bits name instr (behind_name bits row instr) plain (operands-stop bits row instr f);
       ops = ap (λ (u : List ℕ). operands_in (rest (behind u))) e5
-        ∙ (ap (λ (u : List ℕ). operands_in (rest u)) (name-behind bits name instr (behind_name bits row instr) plain (operands-stay bits row instr f))
-        ∙ (ap operands_in (operands-found bits row instr f) ∙ operands-read bits row instr f p0 p1 p2 p3));
+          ∙ (ap (λ (u : List ℕ). operands_in (rest u)) (name-behind bits name instr (behind_name bits row instr) plain (operands-stay bits row instr f))
+          ∙ (ap operands_in (operands-found bits row instr f) ∙ operands-read bits row instr f p0 p1 p2 p3));
     }
 
 pub text-read : (bits : Bits) (row : Row) (name : List ℕ) (instr : Instr) (text : List ℕ) → is_printable bits row name instr ≡ true →

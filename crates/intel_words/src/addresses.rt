@@ -85,7 +85,12 @@ fn behind_index(base: Option<Register>, index: Option<Register>, text: &[u8]) ->
     ensures { result ≡ spec.behind_index base index text.now }
 {
     if first(text) == b'*' {
-        scaled_by(base, index, decimal_digit(first(rest(text))), rest(rest(text)))
+        scaled_by(
+            base,
+            index,
+            decimal_digit(first(rest(text))),
+            rest(rest(text)),
+        )
     } else {
         sum_with(base, index, None, signed_in(text))
     }
@@ -114,7 +119,11 @@ fn sum_by(register: Option<Register>, text: &[u8]) -> Option<Inside>
         Some(r) => if first(text) == b'*' {
             behind_index(None, Some(r), text)
         } else if first(text) == b'+' && 97 <= first(rest(text)) {
-            index_by(Some(r), register_named(word(rest(text))), behind(rest(text)))
+            index_by(
+                Some(r),
+                register_named(word(rest(text))),
+                behind(rest(text)),
+            )
         } else {
             sum_with(Some(r), None, None, signed_in(text))
         },

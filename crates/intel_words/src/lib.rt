@@ -8,4 +8,6 @@ mod prefixes;
 pub mod reading;
 mod registers;
 mod scanning;
+#[cfg(test)]
+mod tests;
 pub mod words;

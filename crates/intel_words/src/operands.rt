@@ -146,7 +146,10 @@ fn plain_in(name: &[u8]) -> Option<OperandText>
 fn far_in(text: &[u8]) -> Option<OperandText>
     ensures { result ≡ spec.far_in text.now }
 {
-    far_by(number_named(word(text)), number_named(word(rest(behind(text)))))
+    far_by(
+        number_named(word(text)),
+        number_named(word(rest(behind(text)))),
+    )
 }
 
 /// The operand of a text that is not empty.

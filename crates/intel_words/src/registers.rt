@@ -249,7 +249,11 @@ fn pointer_byte(number: Option<u8>) -> Option<Register>
 {
     match number {
         None => None,
-        Some(n) => if 4 <= n { Some(Register::Low8(n)) } else { None },
+        Some(n) => if 4 <= n {
+            Some(Register::Low8(n))
+        } else {
+            None
+        },
     }
 }
 
@@ -273,7 +277,11 @@ fn lettered(a: u8, more: &[u8]) -> Option<Register>
 {
     match more {
         [b] => two_letters(a, *b),
-        [b, c] => if *c == b'l' { pointer_byte(word_number(a, *b)) } else { None },
+        [b, c] => if *c == b'l' {
+            pointer_byte(word_number(a, *b))
+        } else {
+            None
+        },
         _ => None,
     }
 }
@@ -284,7 +292,11 @@ fn e_named(more: &[u8]) -> Option<Register>
     ensures { result ≡ spec.e_named more.now }
 {
     match more {
-        [a] => if *a == b's' { Some(Register::Seg(Segment::Es)) } else { None },
+        [a] => if *a == b's' {
+            Some(Register::Seg(Segment::Es))
+        } else {
+            None
+        },
         [a, b] => if *a == b'i' && *b == b'p' {
             Some(Register::Eip)
         } else {

@@ -14,22 +14,23 @@ same-value x y e = cc
 pub returns-in-None : goal.returns-in-None
 returns-in-None c = record {
   printed = λ bits row name instr h e.
-    let read = text-read bits row name instr c.args.text.now h e in
-    let at : c.rest.result.now ≡ rest (behind (behind_prefixes c.args.text.now)) =
+      let read = text-read bits row name instr c.args.text.now h e in
+      let at : c.rest.result.now ≡ rest (behind (behind_prefixes c.args.text.now)) =
       c.rest.ensures ∙ ap rest (c.split_word.ensures.behind ∙ ap (λ (u : List ℕ). behind u) c.read_prefixes-prefixes.ensures.text) in
-    none-is-some _ (c.in-None.ensures ∙ (ap operands_in at ∙ read.ops));
+      none-is-some _ (c.in-None.ensures ∙ (ap operands_in at ∙ read.ops));
 }
 
 pub returns-in-Some : goal.returns-in-Some
 returns-in-Some c = record {
   printed = λ bits row name instr h e.
-    let read = text-read bits row name instr c.args.text.now h e in
-    let at : c.rest.result.now ≡ rest (behind (behind_prefixes c.args.text.now)) =
-      c.rest.ensures ∙ ap rest (c.split_word.ensures.behind ∙ ap (λ (u : List ℕ). behind u) c.read_prefixes-prefixes.ensures.text) in
-    (c.split_word.ensures.word ∙ (ap (λ (u : List ℕ). word u) c.read_prefixes-prefixes.ensures.text ∙ read.named),
-    same-words bits row name instr c.read_prefixes-prefixes.result.lock c.read_prefixes-prefixes.result.rep c.read_prefixes-prefixes.result.seg
-      c.read_prefixes-prefixes.result.asize c.read_prefixes-prefixes.result.osize c.in-Some.ops
-      (c.read_prefixes-prefixes.ensures.lock ∙ read.lock) (c.read_prefixes-prefixes.ensures.rep ∙ read.rep) (c.read_prefixes-prefixes.ensures.seg ∙ read.seg)
-      (c.read_prefixes-prefixes.ensures.asize ∙ read.asize) (c.read_prefixes-prefixes.ensures.osize ∙ read.osize)
-      (same-value _ _ (c.in-Some.ensures ∙ (ap operands_in at ∙ read.ops))));
+      let read = text-read bits row name instr c.args.text.now h e in
+      let at : c.rest.result.now ≡ rest (behind (behind_prefixes c.args.text.now)) =
+      c.rest.ensures ∙ ap rest (c.split_word.ensures.behind ∙ ap (λ (u : List ℕ). behind u) c.read_prefixes-prefixes.ensures.text) in (
+        c.split_word.ensures.word ∙ (ap (λ (u : List ℕ). word u) c.read_prefixes-prefixes.ensures.text ∙ read.named),
+        same-words bits row name instr c.read_prefixes-prefixes.result.lock c.read_prefixes-prefixes.result.rep c.read_prefixes-prefixes.result.seg
+            c.read_prefixes-prefixes.result.asize c.read_prefixes-prefixes.result.osize c.in-Some.ops
+            (c.read_prefixes-prefixes.ensures.lock ∙ read.lock) (c.read_prefixes-prefixes.ensures.rep ∙ read.rep) (c.read_prefixes-prefixes.ensures.seg ∙ read.seg)
+            (c.read_prefixes-prefixes.ensures.asize ∙ read.asize) (c.read_prefixes-prefixes.ensures.osize ∙ read.osize)
+            (same-value _ _ (c.in-Some.ensures ∙ (ap operands_in at ∙ read.ops))),
+      );
 }

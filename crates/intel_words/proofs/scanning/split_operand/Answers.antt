@@ -14,4 +14,4 @@ returns-clause-token c =
 pub returns-clause-next : goal.returns-clause-next
 returns-clause-next c =
     c.rest-2.ensures ∙ ap rest (c.rest.ensures ∙ ap rest (c.split_at.ensures.back
-      ∙ (ap (λ n. drop n c.args.text.now) c.token_len.ensures ∙ sym (back-drop is_no_comma c.args.text.now))))
+    ∙ (ap (λ n. drop n c.args.text.now) c.token_len.ensures ∙ sym (back-drop is_no_comma c.args.text.now))))
