@@ -1,5 +1,5 @@
 -- A row of which nothing is left to ask takes what leads to it.
-use Rattle.std.proofs.Common.{◌≡◌, ℕ, zero, suc, ◌+◌, ◌/◌, ◌%◌, ◌<◌, ◌≤◌, Bool, true, false, not, ◌&&◌, ◌||◌, ◌==◌, Option, Some, None, is_some, is_none, option_map, get_or, Fits, w8, rules, map, List, [], ◌∷◌, drop, length, slice_get, refl, ap, sym, ◌∙◌, subst, arith, eq-eqb, leb-true, nat_le, nat_lt, if◌then◌else◌}
+use Rattle.std.proofs.Common.{◌≡◌, ℕ, zero, suc, ◌+◌, ◌/◌, ◌%◌, ◌<◌, ◌≤◌, Bool, true, false, not, ◌&&◌, ◌||◌, ◌==◌, Option, Some, None, is_some, is_none, option_map, get_or, Fits, w8, rules, map, List, [], ◌∷◌, drop, slice_get, refl, ap, sym, ◌∙◌, subst, arith, eq-eqb, leb-true, nat_le, nat_lt, if◌then◌else◌}
 use Rattle.std.specs.List.{list_all, list_any}
 use Rattle.std.specs.Prelude.{slice_index_or}
 use Rattle.std.proofs.lemmas.Option.{slice_get-map, get_or_from_slice_get}
@@ -31,7 +31,7 @@ use Rattle.instruction_parts.specs.Counting.{is_64, rex_bit}
 use Rattle.instruction_parts.specs.Kinds.{method_of}
 use Rattle.instruction_parts.specs.Sizes.{exists_in, is_lockable, is_vex_row, operand_size, state_size, bit_w}
 use Rattle.instruction_parts.proofs.Tests.{and_left, and_right, not_true, equal_from}
-use Rattle.row_fit.specs.Fits.{same_map, vex_class_fits, w_fits, l_fits, is_vvvv, is_memory_method, reg_field, is_map_one, is_no_repeat, is_repeat_f3, is_repeat_f2, legacy_class_fits, class_fits, size_fits, takes_w_as_size, sizes_fit, vvvv_fits, opcode_allows, opcode_fits, modrm_rule_fits, place_allows, place_of, place_fits, opcode_and_modrm_fit, is_gather, reads_by, kind_at, lock_fits, register_fits, destination_fits, gather_fits, is_nop_byte, nop_fits, registers_fit, state_fits}
+use Rattle.row_fit.specs.Fits.{same_map, vex_class_fits, w_fits, l_fits, is_vvvv, is_memory_method, reg_field, is_map_one, is_no_repeat, is_repeat_f3, is_repeat_f2, legacy_class_fits, class_fits, size_fits, takes_w_as_size, sizes_fit, vvvv_fits, opcode_allows, opcode_fits, modrm_rule_fits, place_allows, place_of, place_fits, opcode_and_modrm_fit, is_gather, reads_by, kind_at, lock_fits, register_fits, destination_fits, gather_fits, nop_fits, registers_fit, state_fits}
 use Rattle.row_fit.specs.Sound.{has_modrm_rule}
 use Rattle.row_fields.specs.declared.Fields.{Fields}
 use Rattle.row_fields.specs.Holds.{is_vex, map_number, stands_in, opcode_holds, prefix_of, class_allows, prefix_holds, byte_of, byte_holds, place_holds, reg_holds, rm_holds, size_allows, size_holds, w_holds, l_holds, rex_b_holds, holds}
