@@ -1,5 +1,5 @@
 #!/usr/bin/env python3
-"""Writes the generated tables of the repository from the entries in tools/rows, or checks that they are what these entries give."""
+"""Writes the generated tables of the repository from the entries in crates/row_entries/data, or checks that they are what these entries give."""
 import argparse
 import os
 import sys
@@ -12,7 +12,7 @@ from tables.rows import table_of  # noqa: E402
 CRATES = os.path.join(os.path.dirname(os.path.dirname(os.path.abspath(__file__))), 'crates')
 
 HELP = '''\
-The entries are read once (tools/rows/README.md says how a line is read) and expanded to the rows of the table; the stages behind make of these rows
+The entries are read once (docs/entries.md says how a line is read) and expanded to the rows of the table; the stages behind make of these rows
 
   rows      crates/rows_*/src/table.rt, crates/opcode_rows/src/{spots,cells,names}.rt
   columns   crates/operand_info/src/table.rt

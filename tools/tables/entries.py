@@ -1,9 +1,9 @@
-"""The entries of the opcode table, from the lines of tools/rows (its README.md says how a line is read)."""
+"""The entries of the opcode table, from the lines of crates/row_entries/data (docs/entries.md says how a line is read)."""
 import os
 import re
 from dataclasses import dataclass, field
 
-ROWS = os.path.join(os.path.dirname(os.path.dirname(os.path.abspath(__file__))), 'rows')
+ROWS = os.path.join(os.path.dirname(os.path.dirname(os.path.dirname(os.path.abspath(__file__)))), 'crates', 'row_entries', 'data')
 
 
 @dataclass(frozen=True)
@@ -134,7 +134,7 @@ def read_part(part):
     entries, map_, version, headings = [], None, 1, []
     with open(os.path.join(ROWS, part.file)) as file:
         for number, line in enumerate(file, 1):
-            where, line = f'tools/rows/{part.file}:{number}', line.strip()
+            where, line = f'crates/row_entries/data/{part.file}:{number}', line.strip()
             if not line:
                 headings = headings if map_ else []
             elif line.startswith('#'):

@@ -1,4 +1,4 @@
-"""The rows that entries stand for, and their order (tools/rows/README.md)."""
+"""The rows that entries stand for, and their order (docs/entries.md)."""
 from dataclasses import dataclass
 
 from .entries import BANG, BY_SIZE, BY_W, CARET, KINDS, M16, M32, M64, MAP_ORDER, MEMORY_ONLY, PARTS, READS_MODRM, REGISTER_ONLY, BadEntry, Entry
