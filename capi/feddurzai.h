@@ -93,7 +93,7 @@ enum {
 
 #define FEDDURZAI_MAX_LEN 15    /* bytes of an instruction, at most */
 #define FEDDURZAI_MAX_TEXT 161  /* bytes of any text of this library with the 0 behind it, at most */
-#define FEDDURZAI_CODES 1969    /* rows of the table: codes are 0 to 1968 */
+#define FEDDURZAI_CODES 2083    /* rows of the table: codes are 0 to 2082 */
 
 /* What an operand is. */
 enum {

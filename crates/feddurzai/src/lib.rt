@@ -58,7 +58,9 @@ pub mod info {
 
 /// The rows of the table, by code, name and opcode byte, and their notation.
 pub mod rows {
-    pub use opcode_rows::{ROWS, cell_len, code_of, first_of, name, row, row_of, well_formed};
+    pub use opcode_rows::{
+        ROWS, VERSION1_ROWS, cell_len, code_of, first_of, name, row, row_of, well_formed,
+    };
     pub use row_lines::{notation_of, row_line};
     pub use row_notation::{NotationFault, read_notation, shape_of, write_notation};
     pub use row_relation::{

@@ -21,7 +21,7 @@ macro_rules! splits {
 }
 
 /// The nodes of 2 entries.
-pub static NODES2: [[Next; 2]; 505] = nodes! {
+pub static NODES2: [[Next; 2]; 582] = nodes! {
     { N3(93) Stop }
     { N3(156) Stop }
     { Leaf(290) N3(161) }
@@ -353,16 +353,18 @@ pub static NODES2: [[Next; 2]; 505] = nodes! {
     { N2(327) Stop }
     { Leaf(1769) Leaf(1770) }
     { N2(329) Stop }
-    { Stop Leaf(1771) }
+    { Leaf(1976) Leaf(1977) }
     { N2(331) Stop }
+    { Stop Leaf(1771) }
+    { N2(333) Stop }
     { Leaf(1772) Leaf(1773) }
     { Leaf(1774) Leaf(1775) }
-    { N2(334) Stop }
-    { Stop Leaf(1776) }
     { N2(336) Stop }
-    { Stop Leaf(1777) }
+    { Stop Leaf(1776) }
     { N2(338) Stop }
-    { N2(339) Stop }
+    { Stop Leaf(1777) }
+    { N2(340) Stop }
+    { N2(341) Stop }
     { Leaf(1778) Leaf(1779) }
     { Leaf(1780) Leaf(1781) }
     { Leaf(1782) Leaf(1783) }
@@ -375,20 +377,20 @@ pub static NODES2: [[Next; 2]; 505] = nodes! {
     { Leaf(1796) Leaf(1797) }
     { Leaf(1798) Leaf(1799) }
     { Leaf(1800) Leaf(1801) }
-    { N2(352) Stop }
+    { N2(354) Stop }
     { Leaf(1802) Leaf(1803) }
     { Leaf(1804) Leaf(1805) }
-    { N2(355) Stop }
-    { N2(356) Stop }
-    { Leaf(1806) Leaf(1807) }
+    { N2(357) Stop }
     { N2(358) Stop }
-    { N2(359) Stop }
-    { Leaf(1808) Leaf(1809) }
+    { Leaf(1806) Leaf(1807) }
+    { N2(360) Stop }
     { N2(361) Stop }
-    { N2(362) Stop }
-    { Leaf(1810) Leaf(1811) }
+    { Leaf(1808) Leaf(1809) }
+    { N2(363) Stop }
     { N2(364) Stop }
-    { N2(365) Stop }
+    { Leaf(1810) Leaf(1811) }
+    { N2(366) Stop }
+    { N2(367) Stop }
     { Leaf(1812) Leaf(1813) }
     { Leaf(1814) Leaf(1815) }
     { Leaf(1816) Leaf(1817) }
@@ -396,7 +398,7 @@ pub static NODES2: [[Next; 2]; 505] = nodes! {
     { Leaf(1820) Leaf(1821) }
     { Leaf(1822) Leaf(1823) }
     { Stop Leaf(1824) }
-    { N2(373) Stop }
+    { N2(375) Stop }
     { Leaf(1825) Leaf(1826) }
     { Leaf(1827) Leaf(1828) }
     { Leaf(1829) Leaf(1830) }
@@ -410,47 +412,118 @@ pub static NODES2: [[Next; 2]; 505] = nodes! {
     { Leaf(1845) Stop }
     { Leaf(1846) Leaf(1848) }
     { Leaf(1847) Leaf(1849) }
-    { N2(386) N2(387) }
+    { N2(388) N2(389) }
     { Leaf(1850) Leaf(1851) }
-    { N2(389) Stop }
+    { N2(391) Stop }
     { Leaf(1852) Leaf(1854) }
     { Leaf(1853) Leaf(1855) }
-    { N2(391) N2(392) }
+    { N2(393) N2(394) }
     { Leaf(1856) Leaf(1857) }
-    { N2(394) Stop }
-    { Leaf(1858) Leaf(1859) }
     { N2(396) Stop }
-    { Stop Leaf(1860) }
+    { Leaf(1858) Leaf(1859) }
     { N2(398) Stop }
-    { N2(399) Stop }
-    { Leaf(1861) Leaf(1862) }
+    { Stop Leaf(1860) }
+    { N2(400) Stop }
     { N2(401) Stop }
-    { Leaf(1863) Leaf(1864) }
+    { Leaf(1861) Leaf(1862) }
     { N2(403) Stop }
+    { Leaf(1863) Leaf(1864) }
+    { N2(405) Stop }
     { Leaf(1865) Leaf(1867) }
     { Leaf(1866) Leaf(1868) }
-    { N2(405) N2(406) }
-    { N2(407) Stop }
+    { N2(407) N2(408) }
+    { N2(409) Stop }
     { Leaf(1869) Leaf(1871) }
     { Leaf(1870) Leaf(1872) }
-    { N2(409) N2(410) }
-    { N2(411) Stop }
+    { N2(411) N2(412) }
+    { N2(413) Stop }
     { Leaf(1873) Leaf(1875) }
     { Leaf(1874) Leaf(1876) }
-    { N2(413) N2(414) }
-    { N2(415) Stop }
+    { N2(415) N2(416) }
+    { N2(417) Stop }
     { Leaf(1877) Leaf(1879) }
     { Leaf(1878) Leaf(1880) }
-    { N2(417) N2(418) }
-    { N2(419) Stop }
+    { N2(419) N2(420) }
+    { N2(421) Stop }
     { Leaf(1881) Leaf(1883) }
     { Leaf(1882) Leaf(1884) }
-    { N2(421) N2(422) }
-    { N2(423) Stop }
+    { N2(423) N2(424) }
+    { N2(425) Stop }
     { Leaf(1885) Leaf(1887) }
     { Leaf(1886) Leaf(1888) }
-    { N2(425) N2(426) }
-    { N2(427) Stop }
+    { N2(427) N2(428) }
+    { N2(429) Stop }
+    { Leaf(1978) Leaf(1980) }
+    { Leaf(1979) Leaf(1981) }
+    { N2(431) N2(432) }
+    { Leaf(1982) Leaf(1984) }
+    { Leaf(1983) Leaf(1985) }
+    { N2(434) N2(435) }
+    { Leaf(1986) Leaf(1988) }
+    { Leaf(1987) Leaf(1989) }
+    { N2(437) N2(438) }
+    { Leaf(1990) Leaf(1991) }
+    { Leaf(1992) Leaf(1994) }
+    { Leaf(1993) Leaf(1995) }
+    { N2(441) N2(442) }
+    { Leaf(1996) Leaf(1997) }
+    { Leaf(1998) Leaf(2000) }
+    { Leaf(1999) Leaf(2001) }
+    { N2(445) N2(446) }
+    { Leaf(2002) Leaf(2003) }
+    { Leaf(2004) Leaf(2006) }
+    { Leaf(2005) Leaf(2007) }
+    { N2(449) N2(450) }
+    { Leaf(2008) Leaf(2009) }
+    { Leaf(2010) Leaf(2012) }
+    { Leaf(2011) Leaf(2013) }
+    { N2(453) N2(454) }
+    { Leaf(2014) Leaf(2016) }
+    { Leaf(2015) Leaf(2017) }
+    { N2(456) N2(457) }
+    { Leaf(2018) Leaf(2020) }
+    { Leaf(2019) Leaf(2021) }
+    { N2(459) N2(460) }
+    { Leaf(2022) Leaf(2023) }
+    { Leaf(2024) Leaf(2026) }
+    { Leaf(2025) Leaf(2027) }
+    { N2(463) N2(464) }
+    { Leaf(2028) Leaf(2029) }
+    { Leaf(2030) Leaf(2032) }
+    { Leaf(2031) Leaf(2033) }
+    { N2(467) N2(468) }
+    { Leaf(2034) Leaf(2035) }
+    { Leaf(2036) Leaf(2038) }
+    { Leaf(2037) Leaf(2039) }
+    { N2(471) N2(472) }
+    { Leaf(2040) Leaf(2041) }
+    { Leaf(2042) Leaf(2044) }
+    { Leaf(2043) Leaf(2045) }
+    { N2(475) N2(476) }
+    { Leaf(2046) Leaf(2048) }
+    { Leaf(2047) Leaf(2049) }
+    { N2(478) N2(479) }
+    { Leaf(2050) Leaf(2052) }
+    { Leaf(2051) Leaf(2053) }
+    { N2(481) N2(482) }
+    { Leaf(2054) Leaf(2055) }
+    { Leaf(2056) Leaf(2058) }
+    { Leaf(2057) Leaf(2059) }
+    { N2(485) N2(486) }
+    { Leaf(2060) Leaf(2061) }
+    { Leaf(2062) Leaf(2064) }
+    { Leaf(2063) Leaf(2065) }
+    { N2(489) N2(490) }
+    { Leaf(2066) Leaf(2067) }
+    { Leaf(2068) Leaf(2070) }
+    { Leaf(2069) Leaf(2071) }
+    { N2(493) N2(494) }
+    { Leaf(2072) Leaf(2073) }
+    { Leaf(2074) Stop }
+    { Leaf(2075) Stop }
+    { Leaf(2076) Stop }
+    { Leaf(2077) Stop }
+    { Leaf(2078) Stop }
     { Leaf(1889) Leaf(1890) }
     { N3(464) Stop }
     { Leaf(1891) Leaf(1892) }
@@ -462,26 +535,26 @@ pub static NODES2: [[Next; 2]; 505] = nodes! {
     { Leaf(1897) Leaf(1898) }
     { Leaf(1899) Leaf(1900) }
     { Leaf(1901) Leaf(1902) }
-    { N4(387) Stop }
+    { N4(430) Stop }
     { Leaf(1903) Leaf(1904) }
     { N3(471) Stop }
     { Leaf(1905) Leaf(1906) }
     { Leaf(1907) Leaf(1908) }
     { Leaf(1909) Leaf(1910) }
     { Leaf(1911) Leaf(1912) }
-    { N4(389) Stop }
+    { N4(432) Stop }
     { Stop Leaf(1913) }
-    { Stop N2(448) }
+    { Stop N2(521) }
     { Stop Leaf(1914) }
-    { Stop N2(450) }
+    { Stop N2(523) }
     { Leaf(1915) Leaf(1916) }
-    { N2(452) Stop }
+    { N2(525) Stop }
     { Leaf(1917) Leaf(1918) }
-    { N2(454) Stop }
+    { N2(527) Stop }
     { Leaf(1919) Leaf(1920) }
-    { N2(456) Stop }
+    { N2(529) Stop }
     { Stop Leaf(1921) }
-    { N2(458) Stop }
+    { N2(531) Stop }
     { Leaf(1922) Leaf(1923) }
     { Leaf(1924) Leaf(1925) }
     { Leaf(1928) Leaf(1929) }
@@ -489,48 +562,52 @@ pub static NODES2: [[Next; 2]; 505] = nodes! {
     { Leaf(1932) Leaf(1933) }
     { Leaf(1934) Leaf(1935) }
     { Leaf(1936) Stop }
-    { N2(466) Stop }
+    { N2(539) Stop }
     { Leaf(1937) Stop }
-    { N2(468) Stop }
+    { N2(541) Stop }
     { Leaf(1938) Leaf(1939) }
     { N3(476) Stop }
     { Leaf(1940) Stop }
     { Stop Leaf(1941) }
-    { N2(473) Stop }
+    { N2(546) Stop }
     { Stop Leaf(1942) }
-    { N2(475) Stop }
+    { N2(548) Stop }
+    { Leaf(2079) Leaf(2080) }
+    { N2(550) Stop }
     { Leaf(1943) Stop }
-    { N2(477) Stop }
+    { N2(552) Stop }
     { Leaf(1944) Stop }
     { Leaf(1945) Leaf(1946) }
     { N3(477) Stop }
     { Stop Leaf(1947) }
-    { N2(482) Stop }
+    { N2(557) Stop }
     { Stop Leaf(1948) }
-    { N2(484) Stop }
+    { N2(559) Stop }
     { Leaf(1949) Leaf(1950) }
     { Leaf(1951) Stop }
     { Leaf(1952) Leaf(1953) }
+    { Leaf(2081) Stop }
     { Stop Leaf(1954) }
-    { N2(489) Stop }
+    { N2(565) Stop }
     { Leaf(1955) Leaf(1956) }
-    { N2(491) Stop }
+    { N2(567) Stop }
     { Leaf(1957) Leaf(1958) }
-    { N2(493) Stop }
+    { N2(569) Stop }
     { Leaf(1959) Leaf(1960) }
-    { N2(495) Stop }
+    { N2(571) Stop }
     { Leaf(1961) Leaf(1962) }
     { N3(478) Stop }
     { Leaf(1963) Leaf(1964) }
     { N3(479) Stop }
     { Leaf(1965) Stop }
     { Leaf(1966) Stop }
+    { Leaf(2082) Stop }
     { Leaf(1967) Leaf(1968) }
     { N3(480) Stop }
 };
 
 /// What each of them splits by.
-pub static SPLITS2: [Split; 505] = splits! {
+pub static SPLITS2: [Split; 582] = splits! {
     Place Place RexB Place Place Place Place Place Place Place Place Place Place Place Place Place Place Place Place Place Place Place Place Place
     Place Place Place Place W Place Place Place Place Place Place Place Place Place Place W Place Place Place W W Place Place W W W W W Place Place W
     W Place Place Place Place Place Place Place Place Place Place Place Place Place Place Place W W W W W W W Place Place W W W W Place Place Place
@@ -538,10 +615,11 @@ pub static SPLITS2: [Split; 505] = splits! {
     Place L L Place Place Place L L Place L L L Place L Place L L L L Place L L Place L L Place L Place L L L L W W L Place L Place W W W W L Place L
     Place L L L L L L L L L L L L L L L L L L L L L L L L L L L L L L L L L L L L L L L L L L L W L L L L L L L Place L Place L Place L Place L Place
     L Place L L L L Place L L L L L L L L W L L L L L Place L Place L L L W L W Place L L L L L L L L L L L Place L L L L L L L L L L L L L L L L L L
-    Place L L L L L L L L L Place L L L L L L L Place L L L L L L L L L L L L L L L L L L L L W L W L W L W L W L L W L W L W Place L L L L L L L L L
-    L L L Place L L W Place L W Place L W Place L W Place L L L L L L L W L L L L L L L L L L L L L W L W L L W L W L W L W Place L W L W L L W Place
-    L L W Place L L W Place L L W Place L L W Place L L W Place W L W L W L W L W W W L W L W W W W L L W L W L W L W L W L W L L L L L L L W L W W L
-    L L W L W L W L W L L W L W L L L L W L W L W L W W L W L L L W L
+    Place L L L L L L L L L Place L L L L L L L Place L L L L L L L L L L L L L L L L L L L L W L W L W L W L W L W L L W L W L W Place L L L L L L L
+    L L L L L Place L L W Place L W Place L W Place L W Place L L L L L L L W L L L L L L L L L L L L L W L W L L W L W L W L W Place L W L W L L W
+    Place L L W Place L L W Place L L W Place L L W Place L L W Place L L W L L W L L W W L L W W L L W W L L W W L L W L L W L L W W L L W W L L W W
+    L L W W L L W L L W L L W W L L W W L L W W L L W W L L L L L W L W L W L W L W W W L W L W W W W L L W L W L W L W L W L W L L L L L L L W L W W
+    L L L W L W L W L W L W L L W L W L L L L L W L W L W L W W L W L L L L W L
 };
 
 /// The nodes of 3 entries.
@@ -1010,23 +1088,23 @@ pub static NODES3: [[Next; 3]; 481] = nodes! {
     { Leaf(1458) Leaf(1458) N2(159) }
     { Leaf(1572) Leaf(1572) N2(207) }
     { Leaf(1620) Leaf(1620) N2(239) }
-    { Leaf(1889) Leaf(1889) N2(429) }
-    { Leaf(1891) Leaf(1891) N2(431) }
-    { Leaf(1893) Leaf(1893) N2(433) }
-    { Leaf(1895) Leaf(1895) N2(435) }
-    { Leaf(1897) Leaf(1897) N2(437) }
-    { Leaf(1899) Leaf(1899) N2(438) }
-    { Leaf(1901) Leaf(1901) N2(439) }
-    { Leaf(1903) Leaf(1903) N2(441) }
-    { Leaf(1905) Leaf(1905) N2(443) }
-    { Leaf(1907) Leaf(1907) N2(444) }
-    { Leaf(1909) Leaf(1909) N2(445) }
-    { Leaf(1911) Leaf(1911) N2(446) }
-    { Leaf(1938) Leaf(1938) N2(470) }
-    { Leaf(1945) Leaf(1945) N2(480) }
-    { Leaf(1961) Leaf(1961) N2(497) }
-    { Leaf(1963) Leaf(1963) N2(499) }
-    { Leaf(1967) Leaf(1967) N2(503) }
+    { Leaf(1889) Leaf(1889) N2(502) }
+    { Leaf(1891) Leaf(1891) N2(504) }
+    { Leaf(1893) Leaf(1893) N2(506) }
+    { Leaf(1895) Leaf(1895) N2(508) }
+    { Leaf(1897) Leaf(1897) N2(510) }
+    { Leaf(1899) Leaf(1899) N2(511) }
+    { Leaf(1901) Leaf(1901) N2(512) }
+    { Leaf(1903) Leaf(1903) N2(514) }
+    { Leaf(1905) Leaf(1905) N2(516) }
+    { Leaf(1907) Leaf(1907) N2(517) }
+    { Leaf(1909) Leaf(1909) N2(518) }
+    { Leaf(1911) Leaf(1911) N2(519) }
+    { Leaf(1938) Leaf(1938) N2(543) }
+    { Leaf(1945) Leaf(1945) N2(555) }
+    { Leaf(1961) Leaf(1961) N2(573) }
+    { Leaf(1963) Leaf(1963) N2(575) }
+    { Leaf(1967) Leaf(1967) N2(580) }
 };
 
 /// What each of them splits by.
@@ -1051,7 +1129,7 @@ pub static SPLITS3: [Split; 481] = splits! {
 };
 
 /// The nodes of 4 entries.
-pub static NODES4: [[Next; 4]; 427] = nodes! {
+pub static NODES4: [[Next; 4]; 473] = nodes! {
     { N2(2) N2(2) Leaf(294) N2(2) }
     { Leaf(727) Stop Stop Stop }
     { Leaf(728) Stop Stop Stop }
@@ -1230,6 +1308,11 @@ pub static NODES4: [[Next; 4]; 427] = nodes! {
     { Stop Leaf(1351) Stop Stop }
     { Stop Leaf(1352) Stop Stop }
     { Stop Leaf(1353) Stop Stop }
+    { Stop Leaf(1969) Stop Stop }
+    { Stop Leaf(1970) Stop Stop }
+    { Stop Leaf(1971) Stop Stop }
+    { Stop Leaf(1972) Stop Stop }
+    { Stop Leaf(1973) Stop Stop }
     { N2(106) N2(106) Stop N3(445) }
     { N2(108) N2(108) Stop N3(449) }
     { Stop N3(450) N3(451) Stop }
@@ -1251,10 +1334,12 @@ pub static NODES4: [[Next; 4]; 427] = nodes! {
     { Stop Leaf(1387) Stop Stop }
     { Stop Leaf(1388) Stop Stop }
     { Stop Leaf(1389) Stop Stop }
+    { Stop Leaf(1974) Stop Stop }
     { Stop N3(454) Stop Stop }
     { Stop N3(455) Stop Stop }
     { Stop Leaf(1394) Stop Stop }
     { Stop Leaf(1395) Stop Stop }
+    { Stop Leaf(1975) Stop Stop }
     { N2(115) N2(116) N2(117) N2(118) }
     { N2(119) N2(120) N2(121) N2(122) }
     { N2(124) N2(126) N2(127) N2(128) }
@@ -1384,11 +1469,10 @@ pub static NODES4: [[Next; 4]; 427] = nodes! {
     { Stop N2(328) Stop Stop }
     { Stop N2(330) Stop Stop }
     { Stop N2(332) Stop Stop }
-    { Stop N2(333) Stop Stop }
+    { Stop N2(334) Stop Stop }
     { Stop N2(335) Stop Stop }
     { Stop N2(337) Stop Stop }
-    { Stop N2(340) Stop Stop }
-    { Stop N2(341) Stop Stop }
+    { Stop N2(339) Stop Stop }
     { Stop N2(342) Stop Stop }
     { Stop N2(343) Stop Stop }
     { Stop N2(344) Stop Stop }
@@ -1399,20 +1483,20 @@ pub static NODES4: [[Next; 4]; 427] = nodes! {
     { Stop N2(349) Stop Stop }
     { Stop N2(350) Stop Stop }
     { Stop N2(351) Stop Stop }
+    { Stop N2(352) Stop Stop }
     { Stop N2(353) Stop Stop }
-    { Stop N2(354) Stop Stop }
-    { Stop N2(357) Stop Stop }
-    { Stop N2(360) Stop Stop }
-    { Stop N2(363) Stop Stop }
-    { Stop N2(366) Stop Stop }
-    { Stop N2(367) Stop Stop }
+    { Stop N2(355) Stop Stop }
+    { Stop N2(356) Stop Stop }
+    { Stop N2(359) Stop Stop }
+    { Stop N2(362) Stop Stop }
+    { Stop N2(365) Stop Stop }
     { Stop N2(368) Stop Stop }
     { Stop N2(369) Stop Stop }
     { Stop N2(370) Stop Stop }
     { Stop N2(371) Stop Stop }
     { Stop N2(372) Stop Stop }
+    { Stop N2(373) Stop Stop }
     { Stop N2(374) Stop Stop }
-    { Stop N2(375) Stop Stop }
     { Stop N2(376) Stop Stop }
     { Stop N2(377) Stop Stop }
     { Stop N2(378) Stop Stop }
@@ -1423,66 +1507,106 @@ pub static NODES4: [[Next; 4]; 427] = nodes! {
     { Stop N2(383) Stop Stop }
     { Stop N2(384) Stop Stop }
     { Stop N2(385) Stop Stop }
-    { Stop N2(388) Stop Stop }
+    { Stop N2(386) Stop Stop }
+    { Stop N2(387) Stop Stop }
     { Stop N2(390) Stop Stop }
-    { Stop N2(393) Stop Stop }
+    { Stop N2(392) Stop Stop }
     { Stop N2(395) Stop Stop }
     { Stop N2(397) Stop Stop }
-    { Stop N2(400) Stop Stop }
+    { Stop N2(399) Stop Stop }
     { Stop N2(402) Stop Stop }
     { Stop N2(404) Stop Stop }
-    { Stop N2(408) Stop Stop }
-    { Stop N2(412) Stop Stop }
-    { Stop N2(416) Stop Stop }
-    { Stop N2(420) Stop Stop }
-    { Stop N2(424) Stop Stop }
-    { Stop N2(428) Stop Stop }
-    { N2(430) Stop Stop Stop }
-    { N8(79) Stop Stop Stop }
-    { N3(468) Stop N3(469) N3(470) }
-    { Stop Stop Stop N2(442) }
-    { N3(472) N3(473) N3(474) N3(475) }
-    { Stop N2(449) Stop Stop }
+    { Stop N2(406) Stop Stop }
+    { Stop N2(410) Stop Stop }
+    { Stop N2(414) Stop Stop }
+    { Stop N2(418) Stop Stop }
+    { Stop N2(422) Stop Stop }
+    { Stop N2(426) Stop Stop }
+    { Stop N2(430) Stop Stop }
+    { Stop N2(433) Stop Stop }
+    { Stop N2(436) Stop Stop }
+    { Stop N2(439) Stop Stop }
+    { Stop N2(440) Stop Stop }
+    { Stop N2(443) Stop Stop }
+    { Stop N2(444) Stop Stop }
+    { Stop N2(447) Stop Stop }
+    { Stop N2(448) Stop Stop }
     { Stop N2(451) Stop Stop }
-    { Stop N2(453) Stop Stop }
+    { Stop N2(452) Stop Stop }
     { Stop N2(455) Stop Stop }
-    { Stop N2(457) Stop Stop }
-    { Stop N2(459) Stop Stop }
-    { Stop N2(460) Stop Stop }
+    { Stop N2(458) Stop Stop }
     { Stop N2(461) Stop Stop }
-    { Stop Leaf(1926) Stop Stop }
-    { Stop Leaf(1927) Stop Stop }
     { Stop N2(462) Stop Stop }
-    { Stop N2(463) Stop Stop }
-    { Stop N2(464) Stop Stop }
     { Stop N2(465) Stop Stop }
-    { Stop N2(467) Stop Stop }
+    { Stop N2(466) Stop Stop }
     { Stop N2(469) Stop Stop }
-    { Stop N2(471) Stop Stop }
-    { Stop N2(472) Stop Stop }
+    { Stop N2(470) Stop Stop }
+    { Stop N2(473) Stop Stop }
     { Stop N2(474) Stop Stop }
-    { Stop N2(476) Stop Stop }
-    { Stop N2(478) Stop Stop }
-    { Stop N2(479) Stop Stop }
-    { Stop N2(481) Stop Stop }
+    { Stop N2(477) Stop Stop }
+    { Stop N2(480) Stop Stop }
     { Stop N2(483) Stop Stop }
-    { Stop N2(485) Stop Stop }
-    { Stop N2(486) Stop Stop }
+    { Stop N2(484) Stop Stop }
     { Stop N2(487) Stop Stop }
     { Stop N2(488) Stop Stop }
-    { Stop N2(490) Stop Stop }
+    { Stop N2(491) Stop Stop }
     { Stop N2(492) Stop Stop }
-    { Stop N2(494) Stop Stop }
+    { Stop N2(495) Stop Stop }
     { Stop N2(496) Stop Stop }
+    { Stop N2(497) Stop Stop }
     { Stop N2(498) Stop Stop }
+    { Stop N2(499) Stop Stop }
     { Stop N2(500) Stop Stop }
     { Stop N2(501) Stop Stop }
-    { Stop N2(502) Stop Stop }
-    { Stop Stop Stop N2(504) }
+    { N2(503) Stop Stop Stop }
+    { N8(79) Stop Stop Stop }
+    { N3(468) Stop N3(469) N3(470) }
+    { Stop Stop Stop N2(515) }
+    { N3(472) N3(473) N3(474) N3(475) }
+    { Stop N2(522) Stop Stop }
+    { Stop N2(524) Stop Stop }
+    { Stop N2(526) Stop Stop }
+    { Stop N2(528) Stop Stop }
+    { Stop N2(530) Stop Stop }
+    { Stop N2(532) Stop Stop }
+    { Stop N2(533) Stop Stop }
+    { Stop N2(534) Stop Stop }
+    { Stop Leaf(1926) Stop Stop }
+    { Stop Leaf(1927) Stop Stop }
+    { Stop N2(535) Stop Stop }
+    { Stop N2(536) Stop Stop }
+    { Stop N2(537) Stop Stop }
+    { Stop N2(538) Stop Stop }
+    { Stop N2(540) Stop Stop }
+    { Stop N2(542) Stop Stop }
+    { Stop N2(544) Stop Stop }
+    { Stop N2(545) Stop Stop }
+    { Stop N2(547) Stop Stop }
+    { Stop N2(549) Stop Stop }
+    { Stop N2(551) Stop Stop }
+    { Stop N2(553) Stop Stop }
+    { Stop N2(554) Stop Stop }
+    { Stop N2(556) Stop Stop }
+    { Stop N2(558) Stop Stop }
+    { Stop N2(560) Stop Stop }
+    { Stop N2(561) Stop Stop }
+    { Stop N2(562) Stop Stop }
+    { Stop N2(563) Stop Stop }
+    { Stop N2(564) Stop Stop }
+    { Stop N2(566) Stop Stop }
+    { Stop N2(568) Stop Stop }
+    { Stop N2(570) Stop Stop }
+    { Stop N2(572) Stop Stop }
+    { Stop N2(574) Stop Stop }
+    { Stop N2(576) Stop Stop }
+    { Stop N2(577) Stop Stop }
+    { Stop N2(578) Stop Stop }
+    { Stop N2(579) Stop Stop }
+    { Stop Stop Stop N2(581) }
 };
 
 /// What each of them splits by.
-pub static SPLITS4: [Split; 427] = splits! {
+pub static SPLITS4: [Split; 473] = splits! {
     Prefix Prefix Prefix Prefix Prefix Prefix Prefix Prefix Prefix Prefix Prefix Prefix Prefix Prefix Prefix Prefix Prefix Prefix Prefix Prefix Prefix
     Prefix Prefix Prefix Prefix Prefix Prefix Prefix Prefix Prefix Prefix Prefix Prefix Prefix Prefix Prefix Prefix Prefix Prefix Prefix Prefix Prefix
     Prefix Prefix Prefix Prefix Prefix Prefix Prefix Prefix Prefix Prefix Prefix Prefix Prefix Prefix Prefix Prefix Prefix Prefix Prefix Prefix Prefix
@@ -1503,7 +1627,9 @@ pub static SPLITS4: [Split; 427] = splits! {
     Prefix Prefix Prefix Prefix Prefix Prefix Prefix Prefix Prefix Prefix Prefix Prefix Prefix Prefix Prefix Prefix Prefix Prefix Prefix Prefix Prefix
     Prefix Prefix Prefix Prefix Prefix Prefix Prefix Prefix Prefix Prefix Prefix Prefix Prefix Prefix Prefix Prefix Prefix Prefix Prefix Prefix Prefix
     Prefix Prefix Prefix Prefix Prefix Prefix Prefix Prefix Prefix Prefix Prefix Prefix Prefix Prefix Prefix Prefix Prefix Prefix Prefix Prefix Prefix
-    Prefix Prefix Prefix Prefix Prefix Prefix Prefix
+    Prefix Prefix Prefix Prefix Prefix Prefix Prefix Prefix Prefix Prefix Prefix Prefix Prefix Prefix Prefix Prefix Prefix Prefix Prefix Prefix Prefix
+    Prefix Prefix Prefix Prefix Prefix Prefix Prefix Prefix Prefix Prefix Prefix Prefix Prefix Prefix Prefix Prefix Prefix Prefix Prefix Prefix Prefix
+    Prefix Prefix Prefix Prefix Prefix Prefix Prefix Prefix Prefix Prefix Prefix
 };
 
 /// The nodes of 8 entries.
@@ -1587,7 +1713,7 @@ pub static NODES8: [[Next; 8]; 80] = nodes! {
     { Stop Stop N2(221) Stop N2(223) Stop N2(225) Stop }
     { Stop Stop N2(226) N2(227) Stop Stop N2(228) N2(229) }
     { Stop Stop N2(245) N2(247) Stop Stop Stop Stop }
-    { Stop N2(432) N2(434) N2(436) Stop Stop Stop Stop }
+    { Stop N2(505) N2(507) N2(509) Stop Stop Stop Stop }
 };
 
 /// What each of them splits by.
@@ -1641,60 +1767,61 @@ pub static NODES256: [[Next; 256]; 10] = nodes! {
         Stop Stop Stop Stop Stop Stop Stop Stop Stop Stop Stop Stop Stop Stop Stop Stop Stop Stop Stop Stop Stop Stop Stop Stop Stop Stop Stop Stop
         Stop Stop Stop Stop Stop Stop Stop Stop Stop Stop Stop Stop Stop Stop Stop Stop Stop Stop Stop Stop Stop Stop Stop Stop Stop Stop Stop Stop
         Stop Stop Stop Stop Stop Stop Stop Stop Stop Stop Stop Stop Stop Stop Stop Stop Stop Stop Stop Stop Stop Stop Stop Stop Stop Stop Stop Stop
-        Stop Stop Stop Stop Stop Stop Stop Stop Stop Stop Stop Stop Stop Stop Stop Stop Stop Stop Stop Stop Stop Stop Stop Stop Stop Stop Stop Stop
-        Stop Stop Stop Stop Stop Stop Stop Stop Stop Stop Stop Stop Stop Stop Stop Stop Stop N4(178) N4(179) Stop Stop Stop Stop N4(180) Stop Stop
-        Stop Stop Stop Stop Stop Stop Stop
+        Stop Stop Stop Stop Stop Stop Stop Stop Stop Stop Stop Stop Stop Stop Stop Stop Stop Stop Stop Stop Stop Stop Stop Stop N4(178) N4(179)
+        N4(180) N4(181) N4(182) Stop Stop Stop Stop Stop Stop Stop Stop Stop Stop Stop Stop Stop Stop Stop Stop N4(183) N4(184) Stop Stop Stop Stop
+        N4(185) Stop Stop Stop Stop Stop Stop Stop Stop Stop
     }
     {
-        Stop Stop Stop Stop Stop Stop Stop Stop N4(181) N4(182) N4(183) N4(184) N4(185) N4(186) N4(187) N4(188) Stop Stop Stop Stop N4(189) N4(190)
-        N4(191) N4(192) Stop Stop Stop Stop Stop Stop Stop Stop N4(193) N4(194) N4(195) Stop Stop Stop Stop Stop Stop Stop Stop Stop Stop Stop Stop
-        Stop Stop Stop Stop Stop Stop Stop Stop Stop Stop Stop Stop Stop Stop Stop Stop Stop N4(196) N4(197) N4(198) Stop Stop Stop Stop Stop Stop
-        Stop Stop Stop Stop Stop Stop Stop Stop Stop Stop Stop Stop Stop Stop Stop Stop Stop Stop Stop Stop Stop Stop Stop N4(199) N4(200) N4(201)
-        N4(202) Stop Stop Stop Stop Stop Stop Stop Stop Stop Stop Stop Stop Stop Stop Stop Stop Stop Stop Stop Stop Stop Stop Stop Stop Stop Stop Stop
+        Stop Stop Stop Stop Stop Stop Stop Stop N4(186) N4(187) N4(188) N4(189) N4(190) N4(191) N4(192) N4(193) Stop Stop Stop Stop N4(194) N4(195)
+        N4(196) N4(197) Stop Stop Stop Stop Stop Stop Stop Stop N4(198) N4(199) N4(200) Stop Stop Stop Stop Stop Stop Stop Stop Stop Stop Stop Stop
+        Stop Stop Stop Stop Stop Stop Stop Stop Stop Stop Stop Stop Stop Stop Stop Stop Stop N4(201) N4(202) N4(203) Stop N4(204) Stop Stop Stop Stop
+        Stop Stop Stop Stop Stop Stop Stop Stop Stop Stop Stop Stop Stop Stop Stop Stop Stop Stop Stop Stop Stop Stop Stop N4(205) N4(206) N4(207)
+        N4(208) Stop Stop Stop Stop Stop Stop Stop Stop Stop Stop Stop Stop Stop Stop Stop Stop Stop Stop Stop Stop Stop Stop Stop Stop Stop Stop Stop
         Stop Stop Stop Stop Stop Stop Stop Stop Stop Stop Stop Stop Stop Stop Stop Stop Stop Stop Stop Stop Stop Stop Stop Stop Stop Stop Stop Stop
         Stop Stop Stop Stop Stop Stop Stop Stop Stop Stop Stop Stop Stop Stop Stop Stop Stop Stop Stop Stop Stop Stop Stop Stop Stop Stop Stop Stop
         Stop Stop Stop Stop Stop Stop Stop Stop Stop Stop Stop Stop Stop Stop Stop Stop Stop Stop Stop Stop Stop Stop Stop Stop Stop Stop Stop Stop
-        Stop Stop Stop Stop Stop Stop Stop Stop Stop Stop Stop Stop Stop Stop Stop Stop Stop Stop Stop Stop Stop Stop Stop Stop Stop Stop Stop Stop
+        Stop Stop Stop Stop Stop Stop Stop Stop Stop Stop Stop Stop N4(209) Stop Stop Stop Stop Stop Stop Stop Stop Stop Stop Stop Stop Stop Stop Stop
         Stop Stop Stop Stop Stop Stop Stop Stop Stop Stop Stop Stop Stop Stop Stop Stop Stop
     }
     {
-        Stop Stop Stop Stop Stop Stop Stop Stop Stop Stop Stop Stop Stop Stop Stop Stop N4(203) N4(204) N4(205) N4(206) N4(207) N4(208) N4(209)
-        N4(210) Stop Stop Stop Stop Stop Stop Stop Stop Stop Stop Stop Stop Stop Stop Stop Stop N4(211) N4(212) N4(213) N4(214) N4(215) N4(216)
-        N4(217) N4(218) Stop Stop Stop Stop Stop Stop Stop Stop Stop Stop Stop Stop Stop Stop Stop Stop Stop Stop Stop Stop Stop Stop Stop Stop Stop
-        Stop Stop Stop Stop Stop Stop Stop N4(219) N4(220) N4(221) N4(222) N4(223) N4(224) N4(225) N4(226) N4(227) N4(228) N4(229) N4(230) N4(231)
-        N4(232) N4(233) N4(234) N4(235) N4(236) N4(237) N4(238) N4(239) N4(240) N4(241) N4(242) N4(243) N4(244) N4(245) N4(246) N4(247) N4(248)
-        N4(249) N4(250) N4(251) N4(252) N4(253) N4(254) N4(255) N4(256) N4(257) N4(258) Stop Stop Stop Stop N4(259) N4(260) N4(261) N4(262) Stop Stop
+        Stop Stop Stop Stop Stop Stop Stop Stop Stop Stop Stop Stop Stop Stop Stop Stop N4(210) N4(211) N4(212) N4(213) N4(214) N4(215) N4(216)
+        N4(217) Stop Stop Stop Stop Stop Stop Stop Stop Stop Stop Stop Stop Stop Stop Stop Stop N4(218) N4(219) N4(220) N4(221) N4(222) N4(223)
+        N4(224) N4(225) Stop Stop Stop Stop Stop Stop Stop Stop Stop Stop Stop Stop Stop Stop Stop Stop Stop Stop Stop Stop Stop Stop Stop Stop Stop
+        Stop Stop Stop Stop Stop Stop Stop N4(226) N4(227) N4(228) N4(229) N4(230) N4(231) N4(232) N4(233) N4(234) N4(235) N4(236) N4(237) N4(238)
+        N4(239) N4(240) N4(241) N4(242) N4(243) N4(244) N4(245) N4(246) N4(247) N4(248) N4(249) N4(250) N4(251) N4(252) N4(253) N4(254) N4(255)
+        N4(256) N4(257) N4(258) N4(259) N4(260) N4(261) N4(262) N4(263) N4(264) N4(265) Stop Stop Stop Stop N4(266) N4(267) N4(268) N4(269) Stop Stop
         Stop Stop Stop Stop Stop Stop Stop Stop Stop Stop Stop Stop Stop Stop Stop Stop Stop Stop Stop Stop Stop Stop Stop Stop Stop Stop Stop Stop
-        Stop Stop Stop Stop Stop Stop Stop Stop Stop Stop Stop Stop Stop Stop Stop Stop N4(263) Stop Stop Stop Stop Stop Stop Stop Stop Stop Stop Stop
-        Stop Stop Stop Stop Stop Stop Stop Stop N4(264) Stop N4(265) N4(266) N4(267) Stop Stop Stop Stop Stop Stop Stop Stop Stop N4(268) N4(269)
-        N4(270) N4(271) N4(272) N4(273) N4(274) N4(275) N4(276) N4(277) N4(278) N4(279) N4(280) N4(281) N4(282) N4(283) N4(284) N4(285) N4(286)
-        N4(287) N4(288) N4(289) N4(290) N4(291) N4(292) N4(293) N4(294) N4(295) N4(296) N4(297) N4(298) N4(299) N4(300) N4(301) N4(302) N4(303)
-        N4(304) N4(305) N4(306) N4(307) N4(308) N4(309) N4(310) N4(311) N4(312) N4(313) N4(314) Stop
+        Stop Stop Stop Stop Stop Stop Stop Stop Stop Stop Stop Stop Stop Stop Stop Stop N4(270) Stop Stop Stop Stop Stop Stop Stop Stop Stop Stop Stop
+        Stop Stop Stop Stop Stop Stop Stop Stop N4(271) Stop N4(272) N4(273) N4(274) Stop Stop Stop Stop Stop Stop Stop Stop Stop N4(275) N4(276)
+        N4(277) N4(278) N4(279) N4(280) N4(281) N4(282) N4(283) N4(284) N4(285) N4(286) N4(287) N4(288) N4(289) N4(290) N4(291) N4(292) N4(293)
+        N4(294) N4(295) N4(296) N4(297) N4(298) N4(299) N4(300) N4(301) N4(302) N4(303) N4(304) N4(305) N4(306) N4(307) N4(308) N4(309) N4(310)
+        N4(311) N4(312) N4(313) N4(314) N4(315) N4(316) N4(317) N4(318) N4(319) N4(320) N4(321) Stop
     }
     {
-        N4(315) N4(316) N4(317) N4(318) N4(319) N4(320) N4(321) N4(322) N4(323) N4(324) N4(325) N4(326) N4(327) N4(328) N4(329) N4(330) Stop Stop Stop
-        Stop Stop Stop N4(331) N4(332) N4(333) N4(334) N4(335) Stop N4(336) N4(337) N4(338) Stop N4(339) N4(340) N4(341) N4(342) N4(343) N4(344) Stop
-        Stop N4(345) N4(346) N4(347) N4(348) N4(349) N4(350) N4(351) N4(352) N4(353) N4(354) N4(355) N4(356) N4(357) N4(358) N4(359) N4(360) N4(361)
-        N4(362) N4(363) N4(364) N4(365) N4(366) N4(367) N4(368) N4(369) N4(370) Stop Stop Stop N4(371) N4(372) N4(373) Stop Stop Stop Stop Stop Stop
-        Stop Stop Stop Stop Stop Stop Stop Stop Stop Stop N4(374) N4(375) N4(376) Stop Stop Stop Stop Stop Stop Stop Stop Stop Stop Stop Stop Stop
-        Stop Stop Stop Stop Stop Stop Stop Stop Stop Stop Stop Stop Stop Stop Stop Stop N4(377) N4(378) Stop Stop Stop Stop Stop Stop Stop Stop Stop
-        Stop Stop Stop Stop Stop Stop Stop Stop Stop N4(379) Stop N4(380) Stop N4(381) N4(382) N4(383) N4(384) Stop Stop Stop Stop Stop Stop Stop Stop
-        Stop Stop Stop Stop Stop Stop Stop Stop Stop Stop Stop Stop Stop Stop Stop Stop Stop Stop Stop Stop Stop Stop Stop Stop Stop Stop Stop Stop
-        Stop Stop Stop Stop Stop Stop Stop Stop Stop Stop Stop Stop Stop Stop Stop Stop Stop Stop Stop Stop Stop Stop Stop Stop Stop Stop Stop Stop
-        Stop Stop Stop Stop Stop Stop Stop Stop Stop Stop Stop Stop Stop Stop Stop Stop Stop Stop Stop Stop Stop Stop Stop Stop Stop Stop Stop Stop
-        Stop Stop N4(385) N4(386) Stop N2(440) N4(388) N2(447) Stop Stop Stop Stop Stop Stop Stop Stop
+        N4(322) N4(323) N4(324) N4(325) N4(326) N4(327) N4(328) N4(329) N4(330) N4(331) N4(332) N4(333) N4(334) N4(335) N4(336) N4(337) Stop Stop Stop
+        N4(338) Stop Stop N4(339) N4(340) N4(341) N4(342) N4(343) Stop N4(344) N4(345) N4(346) Stop N4(347) N4(348) N4(349) N4(350) N4(351) N4(352)
+        Stop Stop N4(353) N4(354) N4(355) N4(356) N4(357) N4(358) N4(359) N4(360) N4(361) N4(362) N4(363) N4(364) N4(365) N4(366) N4(367) N4(368)
+        N4(369) N4(370) N4(371) N4(372) N4(373) N4(374) N4(375) N4(376) N4(377) N4(378) Stop Stop Stop N4(379) N4(380) N4(381) Stop Stop Stop Stop
+        Stop Stop Stop Stop Stop Stop Stop Stop Stop Stop Stop Stop N4(382) N4(383) N4(384) Stop Stop Stop Stop Stop Stop Stop Stop Stop Stop Stop
+        Stop Stop Stop Stop Stop Stop Stop Stop Stop Stop Stop Stop Stop Stop Stop Stop Stop Stop N4(385) N4(386) Stop Stop Stop Stop Stop Stop Stop
+        Stop Stop Stop Stop Stop Stop Stop Stop Stop Stop Stop N4(387) Stop N4(388) Stop N4(389) N4(390) N4(391) N4(392) Stop Stop N4(393) N4(394)
+        N4(395) N4(396) N4(397) N4(398) N4(399) N4(400) N4(401) N4(402) Stop Stop Stop Stop Stop Stop N4(403) N4(404) N4(405) N4(406) N4(407) N4(408)
+        N4(409) N4(410) N4(411) N4(412) Stop Stop Stop Stop Stop Stop N4(413) N4(414) N4(415) N4(416) N4(417) N4(418) N4(419) N4(420) N4(421) N4(422)
+        Stop Stop Stop Stop Stop Stop Stop Stop Stop Stop Stop Stop Stop Stop Stop Stop Stop Stop Stop Stop Stop Stop Stop Stop Stop Stop Stop N4(423)
+        N4(424) N4(425) N4(426) N4(427) Stop Stop Stop Stop Stop Stop Stop Stop Stop Stop Stop Stop Stop Stop Stop Stop Stop Stop N4(428) N4(429) Stop
+        N2(513) N4(431) N2(520) Stop Stop Stop Stop Stop Stop Stop Stop
     }
     {
-        N4(390) N4(391) N4(392) Stop N4(393) N4(394) N4(395) Stop N4(396) N4(397) N4(398) N4(399) N4(400) N4(401) N4(402) N4(403) Stop Stop Stop Stop
-        N4(404) N4(405) N4(406) N4(407) N4(408) N4(409) Stop Stop Stop Stop Stop Stop N4(410) N4(411) N4(412) Stop Stop Stop Stop Stop Stop Stop Stop
-        Stop Stop Stop Stop Stop Stop Stop Stop Stop Stop Stop Stop Stop N4(413) N4(414) Stop Stop Stop Stop Stop Stop N4(415) N4(416) N4(417) Stop
-        Stop Stop N4(418) Stop Stop Stop N4(419) N4(420) N4(421) Stop Stop Stop Stop Stop Stop Stop Stop Stop Stop Stop Stop Stop Stop Stop Stop Stop
-        Stop Stop N4(422) N4(423) N4(424) N4(425) Stop Stop Stop Stop Stop Stop Stop Stop Stop Stop Stop Stop Stop Stop Stop Stop Stop Stop Stop Stop
+        N4(433) N4(434) N4(435) Stop N4(436) N4(437) N4(438) Stop N4(439) N4(440) N4(441) N4(442) N4(443) N4(444) N4(445) N4(446) Stop Stop Stop Stop
+        N4(447) N4(448) N4(449) N4(450) N4(451) N4(452) Stop Stop Stop N4(453) Stop Stop N4(454) N4(455) N4(456) Stop Stop Stop Stop Stop Stop Stop
+        Stop Stop Stop Stop Stop Stop Stop Stop Stop Stop Stop Stop Stop Stop N4(457) N4(458) Stop Stop Stop Stop Stop Stop N4(459) N4(460) N4(461)
+        Stop N4(462) Stop N4(463) Stop Stop Stop N4(464) N4(465) N4(466) Stop Stop Stop Stop Stop Stop Stop Stop Stop Stop Stop Stop Stop Stop Stop
+        Stop Stop Stop Stop N4(467) N4(468) N4(469) N4(470) Stop Stop Stop Stop Stop Stop Stop Stop Stop Stop Stop Stop Stop Stop Stop Stop Stop Stop
         Stop Stop Stop Stop Stop Stop Stop Stop Stop Stop Stop Stop Stop Stop Stop Stop Stop Stop Stop Stop Stop Stop Stop Stop Stop Stop Stop Stop
         Stop Stop Stop Stop Stop Stop Stop Stop Stop Stop Stop Stop Stop Stop Stop Stop Stop Stop Stop Stop Stop Stop Stop Stop Stop Stop Stop Stop
         Stop Stop Stop Stop Stop Stop Stop Stop Stop Stop Stop Stop Stop Stop Stop Stop Stop Stop Stop Stop Stop Stop Stop Stop Stop Stop Stop Stop
-        Stop Stop Stop Stop Stop Stop Stop Stop Stop Stop Stop Stop Stop Stop Stop Stop Stop Stop Stop Stop Stop Stop Stop Stop Stop Stop Stop Stop
-        Stop Stop Stop Stop Stop Stop Stop Stop N4(426) Stop Stop Stop Stop Stop Stop Stop Stop Stop Stop Stop Stop Stop Stop Stop
+        Stop Stop Stop Stop Stop Stop Stop Stop Stop Stop Stop Stop Stop Stop Stop Stop Stop Stop Stop Stop Stop N4(471) Stop Stop Stop Stop Stop Stop
+        Stop Stop Stop Stop Stop Stop Stop Stop Stop Stop N4(472) Stop Stop Stop Stop Stop Stop Stop Stop Stop Stop Stop Stop Stop Stop Stop
     }
     {
         Stop Stop Stop Stop Leaf(8) N3(5) N3(8) N3(11) Stop Stop Stop Stop Leaf(24) N3(17) N3(20) Stop Stop Stop Stop Stop Leaf(38) N3(26) N3(29)
@@ -1729,7 +1856,7 @@ pub static NODES256: [[Next; 256]; 10] = nodes! {
         Stop Stop Stop Stop Stop Stop Stop Stop Stop Stop Stop Stop Stop Stop Stop Stop Stop Stop Stop Stop Stop Stop Stop Stop Stop Stop Stop Stop
         Stop Stop Stop Stop Stop Stop Stop Stop Stop Stop Stop Stop Stop Stop Stop Stop Stop Stop Stop Stop Stop Stop Stop Stop Stop Stop Stop Stop
         Stop Stop Stop Stop Stop Stop Stop Stop Stop Stop Stop Stop Stop Stop Stop Stop Stop Stop Stop Stop Stop Stop Stop Stop Stop Stop Stop Stop
-        Stop Stop Stop Stop Stop Stop Stop N4(258) Stop Stop Stop Stop Stop Stop Stop Stop Stop Stop Stop Stop Stop Stop Stop Stop Stop Stop Stop Stop
+        Stop Stop Stop Stop Stop Stop Stop N4(265) Stop Stop Stop Stop Stop Stop Stop Stop Stop Stop Stop Stop Stop Stop Stop Stop Stop Stop Stop Stop
         Stop Stop Stop Stop Stop Stop Stop Stop Stop Stop Stop Stop Stop Stop Stop Stop Stop Stop Stop Stop Stop Stop Stop Stop Stop Stop Stop Stop
         Stop Stop Stop Stop Stop Stop Stop Stop Stop Stop Stop Stop Stop Stop Stop Stop Stop Stop Stop Stop Stop Stop Stop Stop Stop Stop Stop Stop
         Stop Stop Stop Stop Stop Stop Stop Stop Stop Stop Stop Stop Stop Stop Stop Stop Stop Stop Stop Stop Stop Stop Stop Stop Stop Stop Stop Stop

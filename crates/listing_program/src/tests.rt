@@ -448,7 +448,7 @@ fn the_table_has_a_line_for_each_row(rt: HostRuntime) -> Result<(), Fail> {
             "0 00 /r add\n1 o16 01 /r add\n2 o32 01 /r add\n3 REX.W + 01 /r add\n4 02 /r add\n"
         )
     );
-    assert_eq!(rt; text.lines().count(), 1969);
+    assert_eq!(rt; text.lines().count(), 2083);
     for notation in [
         " NF3 90 ",
         " o64 50+ro ",
@@ -560,7 +560,7 @@ fn a_wrong_word_is_named(rt: HostRuntime) -> Result<(), Fail> {
         &["--version"],
         &[0x90],
         Status::Done,
-        "feddurzai 0.1.0\n",
+        "feddurzai 0.2.0\ninteger, x87, MMX, SSE to SSE4.2, AVX, AVX2, BMI, FMA, F16C, AES, PCLMULQDQ\n",
         "",
     )
 }

@@ -9,3 +9,6 @@ pub mod Named
 pub mod Formed
 pub mod Words
 pub mod Order
+pub mod Standing
+pub mod Growth
+pub mod Versions

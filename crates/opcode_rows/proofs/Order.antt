@@ -1,5 +1,5 @@
 -- The places of each part's rows ascend by one, and the opcode bytes of the rows ascend.
-use Rattle.std.proofs.Common.{◌≡◌, ℕ, zero, suc, Bool, true, false, ◌&&◌, List, [], ◌∷◌, length, slice_get, ◌<◌, ◌≤◌, refl, ap, sym, ◌∙◌, arith, inl, inr, eqb-true}
+use Rattle.std.proofs.Common.{◌≡◌, ℕ, zero, suc, Bool, true, false, ◌&&◌, List, [], ◌∷◌, length, take, drop, slice_get, ◌<◌, ◌≤◌, ◌+◌, ◌-◌, refl, ap, sym, ◌∙◌, arith, inl, inr, eqb-true}
 use Rattle.std.specs.Prelude.{Some, ◌==◌, nat_le}
 use Rattle.std.proofs.lemmas.Option.{slice_get_within}
 use Rattle.std.proofs.lemmas.Bool.{cases_lt, leb-true}
@@ -13,9 +13,12 @@ use Rattle.rows_vex.specs.Table.{table as vex_rows, flat_rows as vex_flat}
 use Rattle.opcode_rows.specs.declared.spots.Spot.{Spot}
 use Rattle.opcode_rows.specs.declared.spots.Part.{Part}
 use Rattle.opcode_rows.specs.declared.spots.Part.TheVariants as part
+use Rattle.opcode_rows.specs.declared.spots.TheConstants.{VERSION1_ROWS}
 use Rattle.opcode_rows.specs.Table.{part_table, places, rows_in, table}
 use Rattle.opcode_rows.specs.Order.{opcode_number, LiesAt, HasOneCode}
+use Rattle.opcode_rows.specs.Versions.{AreOfOneVersion}
 use Rattle.opcode_rows.proofs.JoinFacts.{row-there}
+use Rattle.opcode_rows.proofs.Versions.{get-taken}
 
 -- ---- the test of a part
 
@@ -209,9 +212,13 @@ ascends : ℕ → List Row → Bool
 ascends low [] = true
 ascends low (r ∷ rs) = nat_le low (opcode_number r) && ascends (opcode_number r) rs
 
-table-ascends : ascends 0 table ≡ true
+version1-ascends : ascends 0 (take VERSION1_ROWS table) ≡ true
 unfolding ascends table rows_in places integer_rows integer_flat x87_rows x87_flat sse_rows sse_flat vex_rows vex_flat
-table-ascends = refl
+version1-ascends = refl
+
+version2-ascends : ascends 0 (drop VERSION1_ROWS table) ≡ true
+unfolding ascends table rows_in places integer_rows integer_flat x87_rows x87_flat sse_rows sse_flat vex_rows vex_flat
+version2-ascends = refl
 
 ascends-from : (low : ℕ) (rows : List Row) → ascends low rows ≡ true → (k : ℕ) (r : Row) → slice_get rows k ≡ Some r → low ≤ opcode_number r
 unfolding ascends
@@ -239,6 +246,19 @@ ascends-ordered low (x ∷ rs) h zero (suc k) q r lt at at' =
 ascends-ordered low (x ∷ rs) h (suc j) (suc k) q r lt at at' =
     ascends-ordered (opcode_number x) rs (and-right (nat_le low (opcode_number x)) (ascends (opcode_number x) rs) h) j k q r (omega arith) at at'
 
--- **codes ascend by opcode byte**
-pub opcodes-ordered : (j k : ℕ) (q r : Row) → j < k → slice_get table j ≡ Some q → slice_get table k ≡ Some r → opcode_number q ≤ opcode_number r
-opcodes-ordered = ascends-ordered 0 table table-ascends
+get-dropped : (n k : ℕ) (rows : List Row) (code : ℕ) (row : Row) → code ≡ n + k → slice_get rows code ≡ Some row → slice_get (drop n rows) k ≡ Some row
+get-dropped zero k rows code row e at = let is : k ≡ code = omega arith in ap (slice_get rows) is ∙ at
+get-dropped (suc n) k [] code row e at = cc
+get-dropped (suc n) k (r ∷ rs) zero row e at = absurd (omega arith)
+get-dropped (suc n) k (r ∷ rs) (suc code) row e at = get-dropped n k rs code row (omega arith) at
+
+-- **codes of one version ascend by opcode byte**
+pub opcodes-ordered : (j k : ℕ) (q r : Row) → j < k → AreOfOneVersion j k → slice_get table j ≡ Some q → slice_get table k ≡ Some r
+    → opcode_number q ≤ opcode_number r
+opcodes-ordered j k q r lt (inl (low, low')) at at' =
+    ascends-ordered 0 (take VERSION1_ROWS table) version1-ascends j k q r lt (get-taken VERSION1_ROWS table j q at low)
+    (get-taken VERSION1_ROWS table k r at' low')
+opcodes-ordered j k q r lt (inr (high, high')) at at' =
+    ascends-ordered 0 (drop VERSION1_ROWS table) version2-ascends (j - VERSION1_ROWS) (k - VERSION1_ROWS) q r (omega (arith, lt, high))
+    (get-dropped VERSION1_ROWS (j - VERSION1_ROWS) table j q (omega (arith, high)) at)
+    (get-dropped VERSION1_ROWS (k - VERSION1_ROWS) table k r (omega (arith, high')) at')

@@ -52,7 +52,7 @@ are_names : all_names names ≡ true
 unfolding all_names is_name names
 are_names = refl
 
-length-names : length names ≡ ROWS
+pub length-names : length names ≡ ROWS
 unfolding names
 length-names = refl
 

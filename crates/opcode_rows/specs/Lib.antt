@@ -6,3 +6,4 @@ pub mod ByName
 pub mod Reading
 pub mod Sweep
 pub mod Order
+pub mod Versions

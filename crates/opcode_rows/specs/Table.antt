@@ -1,5 +1,5 @@
 -- The opcode table: one list of rows, from those of the crates of rows; a row's code is its position.
-use Rattle.std.specs.Prelude.{ℕ, List, [], ◌∷◌, map, Option, Some, None, slice_get, unwrap_or}
+use Rattle.std.specs.Prelude.{ℕ, List, [], ◌∷◌, ◌++◌, map, Option, Some, None, slice_get, unwrap_or}
 use Rattle.row_types.specs.declared.Row.{Row}
 use Rattle.row_types.specs.declared.RowKind.{RowKind}
 use Rattle.row_types.specs.declared.RowKind.TheVariants as kind
@@ -15,7 +15,7 @@ use Rattle.opcode_rows.specs.declared.spots.Part.TheVariants as part
 use Rattle.opcode_rows.specs.declared.spots.Spot.{Spot}
 use Rattle.opcode_rows.specs.declared.spots.TheConstants.{SPOTS}
 use Rattle.opcode_rows.specs.declared.cells.TheConstants.{LEGACY_SPANS, VEX_SPANS}
-use Rattle.opcode_rows.specs.declared.names.TheConstants.{NAMES}
+use Rattle.opcode_rows.specs.declared.names.TheConstants.{NAMES, ADDED_NAMES}
 
 -- the rows of a part
 abbrev pub part_table : Part → List Row
@@ -46,9 +46,16 @@ table = rows_in places
 abbrev pub cell : RowKind → Map → ℕ → List Row
 cell kind m op = cell_of table kind m op
 
+-- the names of the rows of version 1, and of those that version 2 adds
+abbrev pub first_names : List (List ℕ)
+first_names = map (λ name. name.now) NAMES
+
+abbrev pub added_names : List (List ℕ)
+added_names = map (λ name. name.now) ADDED_NAMES
+
 -- the names, by code
 unfoldable pub names : List (List ℕ)
-names = map (λ name. name.now) NAMES
+names = first_names ++ added_names
 
 -- the name of a row by its code, as bytes
 unfoldable pub name_of : ℕ → List ℕ

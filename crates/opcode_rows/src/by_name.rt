@@ -4,7 +4,7 @@ ghost use Rattle.std.specs.Prelude.{◌≡◌, ◌<◌, ◌≤◌, ◌↔◌, If
 ghost use Rattle.opcode_rows.specs.Table.{name_of};
 ghost use Rattle.opcode_rows.specs.ByName.{rows_named, rows_named_before};
 
-use crate::{ROWS, all_names};
+use crate::ROWS;
 use x86_values::Code;
 
 /// The code of the `n`-th row of a name, from 0, in the order of the codes; None exactly where the name has no more than `n` rows.
@@ -17,10 +17,10 @@ pub fn code_of(name: &str, n: usize) -> Option<Code>
     ensures none { IsNone result ↔ (rows_named name.now ≤ n) }
 {
     let mut passed = 0;
-    for (code, other) in all_names().iter().enumerate() {
-        if *other == name {
+    for code in 0..ROWS {
+        if crate::name(Code(code)) == name {
             if passed == n {
-                return Some(Code(code as u16));
+                return Some(Code(code));
             }
             passed += 1;
         }

@@ -1,6 +1,7 @@
 //! What holds of the whole table.
-ghost use Rattle.std.specs.Prelude.{◌≡◌, ◌<◌, ◌≤◌, ℕ, IsTrue, length, slice_get, Some};
+ghost use Rattle.std.specs.Prelude.{◌≡◌, ◌<◌, ◌≤◌, ◌↔◌, ℕ, List, false, IsTrue, length, slice_get, Some};
 ghost use Rattle.x86_values.specs.declared.Bits.{Bits};
+ghost use Rattle.x86_values.specs.declared.Instr.{Instr};
 ghost use Rattle.row_types.specs.declared.Row.{Row};
 ghost use Rattle.row_types.specs.declared.RowKind.{RowKind};
 ghost use Rattle.row_types.specs.declared.Map.{Map};
@@ -8,13 +9,16 @@ ghost use Rattle.row_fit.specs.Sound.{sound};
 ghost use Rattle.plain_spelling.specs.Writable.{writable};
 ghost use Rattle.row_fields.specs.declared.Fields.{Fields};
 ghost use Rattle.row_fields.specs.Holds.{AreApart};
-ghost use Rattle.row_lists.specs.Cells.{IsRunOf};
+ghost use Rattle.row_lists.specs.Cells.{IsRunOf, stands_in_cell};
+ghost use Rattle.row_relation.specs.Spells.{ReadsAs, Reading, Invalid, IsReading};
+ghost use Rattle.version1_rows.specs.Table.{table as first_rows, names as first_names};
 ghost use Rattle.opcode_rows.specs.Table.{part_table, table, name_of, cell};
 ghost use Rattle.opcode_rows.specs.Order.{opcode_number, LiesAt, HasOneCode};
 ghost use Rattle.opcode_rows.specs.Kept.{opcodes_are_kept};
 ghost use Rattle.opcode_rows.specs.Words.{is_name, has_one_long_kind};
+ghost use Rattle.opcode_rows.specs.Versions.{version1, version1_names, is_added_cell, names_added_cell, AreOfOneVersion};
 ghost use Rattle.opcode_rows.specs.declared.spots.Part.{Part};
-ghost use Rattle.opcode_rows.specs.declared.spots.TheConstants.{ROWS};
+ghost use Rattle.opcode_rows.specs.declared.spots.TheConstants.{ROWS, VERSION1_ROWS};
 
 /// There are as many rows as `ROWS` says.
 pub fn rows_are_counted()
@@ -26,9 +30,11 @@ pub fn each_row_has_one_code()
     ensures { (part : Part) (at : ℕ) (row : Row) → slice_get (part_table part) at ≡ Some row → HasOneCode part at row }
 {}
 
-/// Codes ascend by kind, map and opcode byte. Those of the rows of one part ascend in the order of its list, at one opcode byte as everywhere.
+/// The codes of one version ascend by kind, map and opcode byte. Those of the rows of one part ascend in the order of its list, at one opcode
+/// byte as everywhere.
 pub fn codes_ascend()
-    ensures by_opcode { (j k : ℕ) (q r : Row) → j < k → slice_get table j ≡ Some q → slice_get table k ≡ Some r → opcode_number q ≤ opcode_number r }
+    ensures by_opcode { (j k : ℕ) (q r : Row) → j < k → AreOfOneVersion j k → slice_get table j ≡ Some q → slice_get table k ≡ Some r
+        → opcode_number q ≤ opcode_number r }
     ensures in_part { (j k : ℕ) (part : Part) (a b : ℕ) → j < k → LiesAt part a j → LiesAt part b k → a < b }
 {}
 
@@ -66,4 +72,30 @@ pub fn rows_have_one_long_operand()
 /// Each name has 1 to 16 bytes, each a lower-case letter or a digit.
 pub fn names_are_words()
     ensures { (code : ℕ) → code < ROWS → IsTrue (is_name (name_of code)) }
+{}
+
+/// The first `VERSION1_ROWS` rows and their names are those that version 1 had, as `version1_rows` keeps them.
+pub fn version1_is_kept()
+    ensures rows { version1 ≡ first_rows }
+    ensures names { version1_names ≡ first_names }
+{}
+
+/// A row that stands in a cell is one of version 2 exactly where the cell is one of those that version 2 fills: every row from `VERSION1_ROWS` on
+/// stands in such cells alone, and no row below it in any.
+pub fn versions_have_their_cells()
+    ensures { (code : ℕ) (row : Row) (kind : RowKind) (m : Map) (op : ℕ)
+        → slice_get table code ≡ Some row → IsTrue (stands_in_cell kind m op row)
+        → IsTrue (is_added_cell kind m op) ↔ (VERSION1_ROWS ≤ code) }
+{}
+
+/// What version 1 read is read as it was. A reading differs from that of version 1 only where the front of the bytes, up to the opcode byte,
+/// names a cell that version 2 fills, and there version 1 read no instruction and could not have gone on.
+pub fn readings_are_kept()
+    ensures read { (bits : Bits) (ip : ℕ) (bytes : List ℕ) (instr : Instr) (len : ℕ)
+        → ReadsAs version1 bits ip bytes instr len → ReadsAs table bits ip bytes instr len }
+    ensures elsewhere { (bits : Bits) (ip : ℕ) (bytes : List ℕ) (reading : Reading)
+        → names_added_cell bits bytes ≡ false
+        → IsReading version1 bits ip bytes reading ↔ IsReading table bits ip bytes reading }
+    ensures there { (bits : Bits) (ip : ℕ) (bytes : List ℕ)
+        → IsTrue (names_added_cell bits bytes) → IsReading version1 bits ip bytes Invalid }
 {}

@@ -1,4 +1,7 @@
 //! The opcode table: the rows of all crates in one order, by code and by cell (Intel SDM volume 2, appendix A).
+//!
+//! It grows at its end alone. The rows of version 1 have the codes below `VERSION1_ROWS`, and those of version 2 (FMA, F16C, AES, PCLMULQDQ)
+//! stand behind them; `laws` says that nothing else changed with them.
 #![tactic(auto)]
 
 mod by_name;
@@ -10,16 +13,17 @@ mod spots;
 
 ghost use Rattle.std.specs.Prelude.{◌≡◌, ◌+◌, ◌<◌, ◌≤◌, ◌↔◌, length, map, slice_get, Some, IfSome, IsNone};
 ghost use Rattle.row_lists.specs.Cells.{map_index, span_of, IsRunOf};
-ghost use Rattle.opcode_rows.specs.Table.{part_table, places, table, names, name_of, cell, legacy_spans, vex_spans, spans_of};
+ghost use Rattle.opcode_rows.specs.Table.{part_table, places, table, name_of, cell, legacy_spans, vex_spans, spans_of};
+ghost use Rattle.opcode_rows.specs.Table as spec;
 
 pub use by_name::code_of;
 use cells::{LEGACY_SPANS, VEX_SPANS};
 pub use form::well_formed;
-use names::NAMES;
+use names::{ADDED_NAMES, NAMES};
 use row_lists::{Span, map_number};
 use row_types::{Map, Row, RowKind};
-pub use spots::ROWS;
-use spots::{Part, SPOTS, Spot};
+pub use spots::{ROWS, VERSION1_ROWS};
+use spots::{ADDED_ROWS, Part, SPOTS, Spot};
 use std::sync::ledger::Ledger;
 use step_count::Steps;
 use x86_values::Code;
@@ -50,7 +54,11 @@ pub fn name(code: Code) -> &'static str
     ensures name { result.now ≡ name_of code.0 }
     ensures short { length result.now ≤ 16 }
 {
-    all_names()[code.0 as usize]
+    if code.0 < VERSION1_ROWS {
+        first_name(code.0)
+    } else {
+        added_name(code.0)
+    }
 }
 
 /// The code of the first row that stands at an opcode byte of a kind and map; None exactly where no row does. The rows of the cell have the
@@ -84,11 +92,35 @@ fn row_at(code: Code) -> Row
     spot_row(spot_at(code.0))
 }
 
-fn all_names() -> &'static [&'static str; ROWS as usize]
-    ensures names { map (λ name. name.now) result.now ≡ names }
-    ensures count { length result.now ≡ ROWS }
+/// The name of a row of version 1.
+fn first_name(code: u16) -> &'static str
+    requires { code < VERSION1_ROWS }
+    ensures { result.now ≡ name_of code }
+{
+    first_names()[code as usize]
+}
+
+/// The name of a row of version 2.
+fn added_name(code: u16) -> &'static str
+    requires behind { VERSION1_ROWS ≤ code }
+    requires within { code < ROWS }
+    ensures { result.now ≡ name_of code }
+{
+    added_names()[(code - VERSION1_ROWS) as usize]
+}
+
+fn first_names() -> &'static [&'static str; VERSION1_ROWS as usize]
+    ensures names { map (λ name. name.now) result.now ≡ spec.first_names }
+    ensures count { length result.now ≡ VERSION1_ROWS }
 {
     &NAMES
+}
+
+fn added_names() -> &'static [&'static str; ADDED_ROWS as usize]
+    ensures names { map (λ name. name.now) result.now ≡ spec.added_names }
+    ensures count { length result.now ≡ ADDED_ROWS }
+{
+    &ADDED_NAMES
 }
 
 #[inline]

@@ -5,7 +5,7 @@ macro_rules! names {
     };
 }
 
-/// The names of the rows, by code.
+/// The names of the rows of version 1, by code.
 pub static NAMES: [&str; 1969] = names! {
     "add" "add" "add" "add" "add" "add" "add" "add" "add" "add" "add" "add" "push" "push" "pop" "pop" "or" "or" "or" "or" "or" "or" "or" "or" "or"
     "or" "or" "or" "push" "push" "adc" "adc" "adc" "adc" "adc" "adc" "adc" "adc" "adc" "adc" "adc" "adc" "push" "push" "pop" "pop" "sbb" "sbb" "sbb"
@@ -123,4 +123,20 @@ pub static NAMES: [&str; 1969] = names! {
     "vpblendw" "vpblendw" "vpalignr" "vpalignr" "vpextrb" "vpextrw" "vpextrd" "vpextrq" "vextractps" "vinsertf128" "vextractf128" "vpinsrb"
     "vinsertps" "vpinsrd" "vpinsrq" "vinserti128" "vextracti128" "vdpps" "vdpps" "vdppd" "vmpsadbw" "vmpsadbw" "vperm2i128" "vblendvps" "vblendvps"
     "vblendvpd" "vblendvpd" "vpblendvb" "vpblendvb" "vpcmpestrm" "vpcmpestrm" "vpcmpestri" "vpcmpestri" "vpcmpistrm" "vpcmpistri" "rorx" "rorx"
+};
+
+/// The names of the rows of version 2, in their order.
+pub static ADDED_NAMES: [&str; 114] = names! {
+    "aesimc" "aesenc" "aesenclast" "aesdec" "aesdeclast" "pclmulqdq" "aeskeygenassist" "vcvtph2ps" "vcvtph2ps" "vfmaddsub132ps" "vfmaddsub132pd"
+    "vfmaddsub132ps" "vfmaddsub132pd" "vfmsubadd132ps" "vfmsubadd132pd" "vfmsubadd132ps" "vfmsubadd132pd" "vfmadd132ps" "vfmadd132pd" "vfmadd132ps"
+    "vfmadd132pd" "vfmadd132ss" "vfmadd132sd" "vfmsub132ps" "vfmsub132pd" "vfmsub132ps" "vfmsub132pd" "vfmsub132ss" "vfmsub132sd" "vfnmadd132ps"
+    "vfnmadd132pd" "vfnmadd132ps" "vfnmadd132pd" "vfnmadd132ss" "vfnmadd132sd" "vfnmsub132ps" "vfnmsub132pd" "vfnmsub132ps" "vfnmsub132pd"
+    "vfnmsub132ss" "vfnmsub132sd" "vfmaddsub213ps" "vfmaddsub213pd" "vfmaddsub213ps" "vfmaddsub213pd" "vfmsubadd213ps" "vfmsubadd213pd"
+    "vfmsubadd213ps" "vfmsubadd213pd" "vfmadd213ps" "vfmadd213pd" "vfmadd213ps" "vfmadd213pd" "vfmadd213ss" "vfmadd213sd" "vfmsub213ps" "vfmsub213pd"
+    "vfmsub213ps" "vfmsub213pd" "vfmsub213ss" "vfmsub213sd" "vfnmadd213ps" "vfnmadd213pd" "vfnmadd213ps" "vfnmadd213pd" "vfnmadd213ss" "vfnmadd213sd"
+    "vfnmsub213ps" "vfnmsub213pd" "vfnmsub213ps" "vfnmsub213pd" "vfnmsub213ss" "vfnmsub213sd" "vfmaddsub231ps" "vfmaddsub231pd" "vfmaddsub231ps"
+    "vfmaddsub231pd" "vfmsubadd231ps" "vfmsubadd231pd" "vfmsubadd231ps" "vfmsubadd231pd" "vfmadd231ps" "vfmadd231pd" "vfmadd231ps" "vfmadd231pd"
+    "vfmadd231ss" "vfmadd231sd" "vfmsub231ps" "vfmsub231pd" "vfmsub231ps" "vfmsub231pd" "vfmsub231ss" "vfmsub231sd" "vfnmadd231ps" "vfnmadd231pd"
+    "vfnmadd231ps" "vfnmadd231pd" "vfnmadd231ss" "vfnmadd231sd" "vfnmsub231ps" "vfnmsub231pd" "vfnmsub231ps" "vfnmsub231pd" "vfnmsub231ss"
+    "vfnmsub231sd" "vaesimc" "vaesenc" "vaesenclast" "vaesdec" "vaesdeclast" "vcvtps2ph" "vcvtps2ph" "vpclmulqdq" "vaeskeygenassist"
 };

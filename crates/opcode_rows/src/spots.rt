@@ -22,10 +22,16 @@ macro_rules! spots {
 }
 
 /// How many rows the table has.
-pub const ROWS: u16 = 1969;
+pub const ROWS: u16 = 2083;
+
+/// How many of them are rows of version 1. They have the codes below it, and the rows of version 2 stand behind them.
+pub const VERSION1_ROWS: u16 = 1969;
+
+/// How many rows version 2 adds.
+pub const ADDED_ROWS: u16 = 114;
 
 /// Where the rows lie, by code.
-pub static SPOTS: [Spot; 1969] = spots! {
+pub static SPOTS: [Spot; 2083] = spots! {
     Integer 0, Integer 1, Integer 2, Integer 3, Integer 4, Integer 5, Integer 6, Integer 7, Integer 8, Integer 9, Integer 10, Integer 11, Integer 12,
     Integer 13, Integer 14, Integer 15, Integer 16, Integer 17, Integer 18, Integer 19, Integer 20, Integer 21, Integer 22, Integer 23, Integer 24,
     Integer 25, Integer 26, Integer 27, Integer 28, Integer 29, Integer 30, Integer 31, Integer 32, Integer 33, Integer 34, Integer 35, Integer 36,
@@ -171,5 +177,12 @@ pub static SPOTS: [Spot; 1969] = spots! {
     Vex 517, Vex 518, Vex 519, Vex 520, Vex 521, Vex 522, Vex 523, Vex 524, Vex 525, Vex 526, Vex 527, Vex 528, Vex 529, Vex 530, Vex 531, Vex 532,
     Vex 533, Vex 534, Vex 535, Vex 536, Vex 537, Vex 538, Vex 539, Vex 540, Vex 541, Vex 542, Vex 543, Vex 544, Vex 545, Vex 546, Vex 547, Vex 548,
     Vex 549, Vex 550, Vex 551, Vex 552, Vex 553, Vex 554, Vex 555, Vex 556, Vex 557, Vex 558, Vex 559, Vex 560, Vex 561, Vex 562, Vex 563, Vex 564,
-    Vex 565, Vex 566, Vex 567, Vex 568, Vex 569, Vex 570, Vex 571, Vex 572
+    Vex 565, Vex 566, Vex 567, Vex 568, Vex 569, Vex 570, Vex 571, Vex 572, Sse 369, Sse 370, Sse 371, Sse 372, Sse 373, Sse 374, Sse 375, Vex 573,
+    Vex 574, Vex 575, Vex 576, Vex 577, Vex 578, Vex 579, Vex 580, Vex 581, Vex 582, Vex 583, Vex 584, Vex 585, Vex 586, Vex 587, Vex 588, Vex 589,
+    Vex 590, Vex 591, Vex 592, Vex 593, Vex 594, Vex 595, Vex 596, Vex 597, Vex 598, Vex 599, Vex 600, Vex 601, Vex 602, Vex 603, Vex 604, Vex 605,
+    Vex 606, Vex 607, Vex 608, Vex 609, Vex 610, Vex 611, Vex 612, Vex 613, Vex 614, Vex 615, Vex 616, Vex 617, Vex 618, Vex 619, Vex 620, Vex 621,
+    Vex 622, Vex 623, Vex 624, Vex 625, Vex 626, Vex 627, Vex 628, Vex 629, Vex 630, Vex 631, Vex 632, Vex 633, Vex 634, Vex 635, Vex 636, Vex 637,
+    Vex 638, Vex 639, Vex 640, Vex 641, Vex 642, Vex 643, Vex 644, Vex 645, Vex 646, Vex 647, Vex 648, Vex 649, Vex 650, Vex 651, Vex 652, Vex 653,
+    Vex 654, Vex 655, Vex 656, Vex 657, Vex 658, Vex 659, Vex 660, Vex 661, Vex 662, Vex 663, Vex 664, Vex 665, Vex 666, Vex 667, Vex 668, Vex 669,
+    Vex 670, Vex 671, Vex 672, Vex 673, Vex 674, Vex 675, Vex 676, Vex 677, Vex 678, Vex 679
 };

@@ -1,6 +1,6 @@
 ghost use Rattle.std.specs.Prelude.{◌≡◌, ◌<◌};
 
-use crate::{ROWS, cell_len, code_of, first_of, name, row, well_formed};
+use crate::{ROWS, VERSION1_ROWS, cell_len, code_of, first_of, name, row, well_formed};
 use row_types::{Map, Row, RowKind, Size};
 use std::marker::Brand;
 use std::sync::ledger::{Blank, Ledger};
@@ -43,15 +43,24 @@ fn names_of_cells(rt: HostRuntime) {
         (RowKind::Vex, Map::M0f38, 0x92, 0, "vgatherdps"),
         (RowKind::Vex, Map::M0f38, 0x92, 1, "vgatherdpd"),
         (RowKind::Vex, Map::One, 0x00, 0, ""),
+        (RowKind::Legacy, Map::M0f38, 0xdc, 0, "aesenc"),
+        (RowKind::Legacy, Map::M0f3a, 0x44, 0, "pclmulqdq"),
+        (RowKind::Vex, Map::M0f38, 0x98, 0, "vfmadd132ps"),
+        (RowKind::Vex, Map::M0f38, 0x98, 3, "vfmadd132pd"),
+        (RowKind::Vex, Map::M0f38, 0xbf, 1, "vfnmsub231sd"),
+        (RowKind::Vex, Map::M0f3a, 0x1d, 1, "vcvtps2ph"),
     ];
     for (kind, map, opcode, n, want) in cases {
         assert_eq!(rt; nth_name(kind, map, opcode, n), want);
     }
-    assert_eq!(rt; ROWS, 1969);
+    assert_eq!(rt; VERSION1_ROWS, 1969);
+    assert_eq!(rt; ROWS, 2083);
     assert_eq!(rt; name(Code(1968)), "rorx");
+    assert_eq!(rt; name(Code(1969)), "aesimc");
+    assert_eq!(rt; name(Code(2082)), "vaeskeygenassist");
 }
 
-// Codes count the rows in the order of the opcode maps, and RORX is the last entry of the last map.
+// Codes count the rows in the order of the opcode maps, and RORX is the last entry of the last map; FMA, F16C, AES and PCLMULQDQ follow.
 #[test]
 fn rows_of_names(rt: HostRuntime) {
     for (name, n, want) in [
@@ -60,6 +69,8 @@ fn rows_of_names(rt: HostRuntime) {
         ("push", 1, Some(13)),
         ("rorx", 1, Some(1968)),
         ("rorx", 2, None),
+        ("vcvtph2ps", 0, Some(1976)),
+        ("vcvtph2ps", 2, None),
         ("vzeroall", 0, Some(1611)),
         ("vzeroall", 1, None),
         ("ADD", 0, None),
@@ -137,7 +148,7 @@ fn operands_of_add(rt: HostRuntime) {
         (instr(0, Operand::Imm(1), ah, none), false),
         (instr(0, ah, none, none), false),
         (instr(0, ah, ah, ah), false),
-        (instr(1969, ah, ah, none), false),
+        (instr(2083, ah, ah, none), false),
     ];
     for (case, want) in cases {
         assert_eq!(rt; well_formed(&case), want);

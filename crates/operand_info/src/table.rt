@@ -15,7 +15,7 @@ macro_rules! columns {
 }
 
 /// The columns of the rows, by code: the flow, the access of the four operands, and the bytes of the memory operand.
-pub static COLUMNS: [Columns; 1969] = columns! {
+pub static COLUMNS: [Columns; 2083] = columns! {
     Next ReadWrite Read None None 1, Next ReadWrite Read None None 2, Next ReadWrite Read None None 4, Next ReadWrite Read None None 8,
     Next ReadWrite Read None None 1, Next ReadWrite Read None None 2, Next ReadWrite Read None None 4, Next ReadWrite Read None None 8,
     Next ReadWrite Read None None 0, Next ReadWrite Read None None 0, Next ReadWrite Read None None 0, Next ReadWrite Read None None 0,
@@ -487,5 +487,34 @@ pub static COLUMNS: [Columns; 1969] = columns! {
     Next Write Read Read Read 32, Next Write Read Read Read 32, Next Write Read Read Read 16, Next Write Read Read Read 32,
     Next Write Read Read Read 16, Next Write Read Read Read 32, Next Write Read Read Read 16, Next Write Read Read Read 32,
     Next Read Read Read None 16, Next Read Read Read None 16, Next Read Read Read None 16, Next Read Read Read None 16, Next Read Read Read None 16,
-    Next Read Read Read None 16, Next Write Read Read None 4, Next Write Read Read None 8
+    Next Read Read Read None 16, Next Write Read Read None 4, Next Write Read Read None 8, Next Write Read None None 16,
+    Next ReadWrite Read None None 16, Next ReadWrite Read None None 16, Next ReadWrite Read None None 16, Next ReadWrite Read None None 16,
+    Next ReadWrite Read Read None 16, Next Write Read Read None 16, Next Write Read None None 8, Next Write Read None None 16,
+    Next ReadWrite Read Read None 16, Next ReadWrite Read Read None 16, Next ReadWrite Read Read None 32, Next ReadWrite Read Read None 32,
+    Next ReadWrite Read Read None 16, Next ReadWrite Read Read None 16, Next ReadWrite Read Read None 32, Next ReadWrite Read Read None 32,
+    Next ReadWrite Read Read None 16, Next ReadWrite Read Read None 16, Next ReadWrite Read Read None 32, Next ReadWrite Read Read None 32,
+    Next ReadWrite Read Read None 4, Next ReadWrite Read Read None 8, Next ReadWrite Read Read None 16, Next ReadWrite Read Read None 16,
+    Next ReadWrite Read Read None 32, Next ReadWrite Read Read None 32, Next ReadWrite Read Read None 4, Next ReadWrite Read Read None 8,
+    Next ReadWrite Read Read None 16, Next ReadWrite Read Read None 16, Next ReadWrite Read Read None 32, Next ReadWrite Read Read None 32,
+    Next ReadWrite Read Read None 4, Next ReadWrite Read Read None 8, Next ReadWrite Read Read None 16, Next ReadWrite Read Read None 16,
+    Next ReadWrite Read Read None 32, Next ReadWrite Read Read None 32, Next ReadWrite Read Read None 4, Next ReadWrite Read Read None 8,
+    Next ReadWrite Read Read None 16, Next ReadWrite Read Read None 16, Next ReadWrite Read Read None 32, Next ReadWrite Read Read None 32,
+    Next ReadWrite Read Read None 16, Next ReadWrite Read Read None 16, Next ReadWrite Read Read None 32, Next ReadWrite Read Read None 32,
+    Next ReadWrite Read Read None 16, Next ReadWrite Read Read None 16, Next ReadWrite Read Read None 32, Next ReadWrite Read Read None 32,
+    Next ReadWrite Read Read None 4, Next ReadWrite Read Read None 8, Next ReadWrite Read Read None 16, Next ReadWrite Read Read None 16,
+    Next ReadWrite Read Read None 32, Next ReadWrite Read Read None 32, Next ReadWrite Read Read None 4, Next ReadWrite Read Read None 8,
+    Next ReadWrite Read Read None 16, Next ReadWrite Read Read None 16, Next ReadWrite Read Read None 32, Next ReadWrite Read Read None 32,
+    Next ReadWrite Read Read None 4, Next ReadWrite Read Read None 8, Next ReadWrite Read Read None 16, Next ReadWrite Read Read None 16,
+    Next ReadWrite Read Read None 32, Next ReadWrite Read Read None 32, Next ReadWrite Read Read None 4, Next ReadWrite Read Read None 8,
+    Next ReadWrite Read Read None 16, Next ReadWrite Read Read None 16, Next ReadWrite Read Read None 32, Next ReadWrite Read Read None 32,
+    Next ReadWrite Read Read None 16, Next ReadWrite Read Read None 16, Next ReadWrite Read Read None 32, Next ReadWrite Read Read None 32,
+    Next ReadWrite Read Read None 16, Next ReadWrite Read Read None 16, Next ReadWrite Read Read None 32, Next ReadWrite Read Read None 32,
+    Next ReadWrite Read Read None 4, Next ReadWrite Read Read None 8, Next ReadWrite Read Read None 16, Next ReadWrite Read Read None 16,
+    Next ReadWrite Read Read None 32, Next ReadWrite Read Read None 32, Next ReadWrite Read Read None 4, Next ReadWrite Read Read None 8,
+    Next ReadWrite Read Read None 16, Next ReadWrite Read Read None 16, Next ReadWrite Read Read None 32, Next ReadWrite Read Read None 32,
+    Next ReadWrite Read Read None 4, Next ReadWrite Read Read None 8, Next ReadWrite Read Read None 16, Next ReadWrite Read Read None 16,
+    Next ReadWrite Read Read None 32, Next ReadWrite Read Read None 32, Next ReadWrite Read Read None 4, Next ReadWrite Read Read None 8,
+    Next Write Read None None 16, Next Write Read Read None 16, Next Write Read Read None 16, Next Write Read Read None 16,
+    Next Write Read Read None 16, Next Write Read Read None 8, Next Write Read Read None 16, Next Write Read Read Read 16,
+    Next Write Read Read None 16
 };

@@ -5,11 +5,11 @@ use row_types::{
 };
 
 /// How many rows there are.
-pub const ROWS: u16 = 369;
+pub const ROWS: u16 = 376;
 
 /// The rows in their order: map, class, opcode byte and what is added to it; ModRM and its limit; size, W, L and modes (1, 2 and 4 for
 /// 16, 32 and 64-bit mode); operands; marks (1 lockable, 2 address size, 4 size word, 8 and 16 a default size of 64 bits).
-pub static FLAT_ROWS: [FlatRow; 369] = rows! {
+pub static FLAT_ROWS: [FlatRow; 376] = rows! {
     Legacy;
     // ---- map 0F
     // 10 to 17: moves of floats, interleaving
@@ -759,6 +759,25 @@ pub static FLAT_ROWS: [FlatRow; 369] = rows! {
     { M0f3a P66 0x62 No, Any Any, None None None 7, Vx Wx Ib Absent, 0 }
     // 63 66 PCMPISTRI Vx,Wx,Ib
     { M0f3a P66 0x63 No, Any Any, None None None 7, Vx Wx Ib Absent, 0 }
+    // ---- version 2, map 0F38
+    // DB to DF: AES
+    // DB 66 AESIMC Vx,Wx
+    { M0f38 P66 0xdb No, Any Any, None None None 7, Vx Wx Absent Absent, 0 }
+    // DC 66 AESENC Vx,Wx
+    { M0f38 P66 0xdc No, Any Any, None None None 7, Vx Wx Absent Absent, 0 }
+    // DD 66 AESENCLAST Vx,Wx
+    { M0f38 P66 0xdd No, Any Any, None None None 7, Vx Wx Absent Absent, 0 }
+    // DE 66 AESDEC Vx,Wx
+    { M0f38 P66 0xde No, Any Any, None None None 7, Vx Wx Absent Absent, 0 }
+    // DF 66 AESDECLAST Vx,Wx
+    { M0f38 P66 0xdf No, Any Any, None None None 7, Vx Wx Absent Absent, 0 }
+    // ---- version 2, map 0F3A
+    // 44: products without carry
+    // 44 66 PCLMULQDQ Vx,Wx,Ib
+    { M0f3a P66 0x44 No, Any Any, None None None 7, Vx Wx Ib Absent, 0 }
+    // DF: AES
+    // DF 66 AESKEYGENASSIST Vx,Wx,Ib
+    { M0f3a P66 0xdf No, Any Any, None None None 7, Vx Wx Ib Absent, 0 }
 };
 
 /// The rows of each cell, by map and opcode byte: the place of the first, and how many.
@@ -797,19 +816,19 @@ pub static SPANS: [[Span; 256]; 4] = spans! {
         0 0, 0 0, 0 0, 0 0, 0 0, 0 0, 0 0, 0 0, 0 0, 0 0, 0 0, 0 0, 0 0, 0 0, 0 0, 0 0, 0 0, 0 0, 0 0, 0 0, 0 0, 0 0, 0 0, 0 0, 0 0, 0 0, 0 0, 0 0,
         0 0, 0 0, 0 0, 0 0, 0 0, 0 0, 0 0, 0 0, 0 0, 0 0, 0 0, 0 0, 0 0, 0 0, 0 0, 0 0, 0 0, 0 0, 0 0, 0 0, 0 0, 0 0, 0 0, 0 0, 0 0, 0 0, 0 0, 0 0,
         0 0, 0 0, 0 0, 0 0, 0 0, 0 0, 0 0, 0 0, 0 0, 0 0, 0 0, 0 0, 0 0, 0 0, 0 0, 0 0, 0 0, 0 0, 0 0, 0 0, 0 0, 0 0, 0 0, 0 0, 0 0, 0 0, 0 0, 0 0,
-        0 0, 0 0, 0 0, 0 0, 0 0, 0 0, 0 0, 0 0, 0 0, 0 0, 0 0, 0 0, 0 0, 0 0, 0 0, 0 0, 0 0, 0 0, 0 0, 0 0, 0 0, 0 0, 0 0, 0 0, 0 0, 0 0, 0 0, 0 0,
-        0 0, 0 0, 0 0, 0 0, 0 0, 0 0, 0 0, 0 0, 0 0, 0 0, 0 0, 0 0, 0 0, 0 0, 0 0, 0 0, 0 0, 0 0, 0 0, 0 0, 0 0, 0 0
+        0 0, 0 0, 0 0, 0 0, 0 0, 0 0, 0 0, 0 0, 0 0, 0 0, 0 0, 0 0, 0 0, 369 1, 370 1, 371 1, 372 1, 373 1, 0 0, 0 0, 0 0, 0 0, 0 0, 0 0, 0 0, 0 0,
+        0 0, 0 0, 0 0, 0 0, 0 0, 0 0, 0 0, 0 0, 0 0, 0 0, 0 0, 0 0, 0 0, 0 0, 0 0, 0 0, 0 0, 0 0, 0 0, 0 0, 0 0, 0 0, 0 0, 0 0
     }
     {
         0 0, 0 0, 0 0, 0 0, 0 0, 0 0, 0 0, 0 0, 342 1, 343 1, 344 1, 345 1, 346 1, 347 1, 348 1, 349 2, 0 0, 0 0, 0 0, 0 0, 351 1, 352 1, 353 2,
         355 1, 0 0, 0 0, 0 0, 0 0, 0 0, 0 0, 0 0, 0 0, 356 1, 357 1, 358 2, 0 0, 0 0, 0 0, 0 0, 0 0, 0 0, 0 0, 0 0, 0 0, 0 0, 0 0, 0 0, 0 0, 0 0, 0 0,
-        0 0, 0 0, 0 0, 0 0, 0 0, 0 0, 0 0, 0 0, 0 0, 0 0, 0 0, 0 0, 0 0, 0 0, 360 1, 361 1, 362 1, 0 0, 0 0, 0 0, 0 0, 0 0, 0 0, 0 0, 0 0, 0 0, 0 0,
+        0 0, 0 0, 0 0, 0 0, 0 0, 0 0, 0 0, 0 0, 0 0, 0 0, 0 0, 0 0, 0 0, 0 0, 360 1, 361 1, 362 1, 0 0, 374 1, 0 0, 0 0, 0 0, 0 0, 0 0, 0 0, 0 0, 0 0,
         0 0, 0 0, 0 0, 0 0, 0 0, 0 0, 0 0, 0 0, 0 0, 0 0, 0 0, 0 0, 0 0, 0 0, 0 0, 0 0, 0 0, 0 0, 0 0, 363 2, 365 2, 367 1, 368 1, 0 0, 0 0, 0 0, 0 0,
         0 0, 0 0, 0 0, 0 0, 0 0, 0 0, 0 0, 0 0, 0 0, 0 0, 0 0, 0 0, 0 0, 0 0, 0 0, 0 0, 0 0, 0 0, 0 0, 0 0, 0 0, 0 0, 0 0, 0 0, 0 0, 0 0, 0 0, 0 0,
         0 0, 0 0, 0 0, 0 0, 0 0, 0 0, 0 0, 0 0, 0 0, 0 0, 0 0, 0 0, 0 0, 0 0, 0 0, 0 0, 0 0, 0 0, 0 0, 0 0, 0 0, 0 0, 0 0, 0 0, 0 0, 0 0, 0 0, 0 0,
         0 0, 0 0, 0 0, 0 0, 0 0, 0 0, 0 0, 0 0, 0 0, 0 0, 0 0, 0 0, 0 0, 0 0, 0 0, 0 0, 0 0, 0 0, 0 0, 0 0, 0 0, 0 0, 0 0, 0 0, 0 0, 0 0, 0 0, 0 0,
         0 0, 0 0, 0 0, 0 0, 0 0, 0 0, 0 0, 0 0, 0 0, 0 0, 0 0, 0 0, 0 0, 0 0, 0 0, 0 0, 0 0, 0 0, 0 0, 0 0, 0 0, 0 0, 0 0, 0 0, 0 0, 0 0, 0 0, 0 0,
-        0 0, 0 0, 0 0, 0 0, 0 0, 0 0, 0 0, 0 0, 0 0, 0 0, 0 0, 0 0, 0 0, 0 0, 0 0, 0 0, 0 0, 0 0, 0 0, 0 0, 0 0, 0 0, 0 0, 0 0, 0 0, 0 0, 0 0, 0 0,
+        0 0, 0 0, 0 0, 0 0, 0 0, 0 0, 0 0, 375 1, 0 0, 0 0, 0 0, 0 0, 0 0, 0 0, 0 0, 0 0, 0 0, 0 0, 0 0, 0 0, 0 0, 0 0, 0 0, 0 0, 0 0, 0 0, 0 0, 0 0,
         0 0, 0 0, 0 0, 0 0, 0 0, 0 0, 0 0, 0 0, 0 0, 0 0, 0 0, 0 0
     }
 };

@@ -5,11 +5,11 @@ use row_types::{
 };
 
 /// How many rows there are.
-pub const ROWS: u16 = 573;
+pub const ROWS: u16 = 680;
 
 /// The rows in their order: map, class, opcode byte and what is added to it; ModRM and its limit; size, W, L and modes (1, 2 and 4 for
 /// 16, 32 and 64-bit mode); operands; marks (1 lockable, 2 address size, 4 size word, 8 and 16 a default size of 64 bits).
-pub static FLAT_ROWS: [FlatRow; 573] = rows! {
+pub static FLAT_ROWS: [FlatRow; 680] = rows! {
     Vex;
     // ---- map 0F
     // 10 to 17: moves of floats, interleaving
@@ -947,6 +947,174 @@ pub static FLAT_ROWS: [FlatRow; 573] = rows! {
     // F0 F2 RORX Gy,Ey,Ib LZ
     { M0f3a F2 0xf0 No, Any Any, W0 W0 Lz 7, Gy Ey Ib Absent, 0 }
     { M0f3a F2 0xf0 No, Any Any, W1 W1 Lz 4, Gy Ey Ib Absent, 0 }
+    // ---- version 2, map 0F38
+    // 13: conversion from half precision
+    // 13 66 VCVTPH2PS Vx,Wh W0
+    { M0f38 P66 0x13 No, Any Any, None W0 L128 7, Vx Wh Absent Absent, 0 }
+    { M0f38 P66 0x13 No, Any Any, None W0 L256 7, Vx Wh Absent Absent, 0 }
+    // 96 to 9F: multiply and add, operands in the order 132
+    // 96 66 VFMADDSUB132PS|VFMADDSUB132PD Vx,Hx,Wx W0|W1
+    { M0f38 P66 0x96 No, Any Any, None W0 L128 7, Vx Hx Wx Absent, 0 }
+    { M0f38 P66 0x96 No, Any Any, None W1 L128 7, Vx Hx Wx Absent, 0 }
+    { M0f38 P66 0x96 No, Any Any, None W0 L256 7, Vx Hx Wx Absent, 0 }
+    { M0f38 P66 0x96 No, Any Any, None W1 L256 7, Vx Hx Wx Absent, 0 }
+    // 97 66 VFMSUBADD132PS|VFMSUBADD132PD Vx,Hx,Wx W0|W1
+    { M0f38 P66 0x97 No, Any Any, None W0 L128 7, Vx Hx Wx Absent, 0 }
+    { M0f38 P66 0x97 No, Any Any, None W1 L128 7, Vx Hx Wx Absent, 0 }
+    { M0f38 P66 0x97 No, Any Any, None W0 L256 7, Vx Hx Wx Absent, 0 }
+    { M0f38 P66 0x97 No, Any Any, None W1 L256 7, Vx Hx Wx Absent, 0 }
+    // 98 66 VFMADD132PS|VFMADD132PD Vx,Hx,Wx W0|W1
+    { M0f38 P66 0x98 No, Any Any, None W0 L128 7, Vx Hx Wx Absent, 0 }
+    { M0f38 P66 0x98 No, Any Any, None W1 L128 7, Vx Hx Wx Absent, 0 }
+    { M0f38 P66 0x98 No, Any Any, None W0 L256 7, Vx Hx Wx Absent, 0 }
+    { M0f38 P66 0x98 No, Any Any, None W1 L256 7, Vx Hx Wx Absent, 0 }
+    // 99 66 VFMADD132SS Vx,Hx,Wd W0 LIG
+    { M0f38 P66 0x99 No, Any Any, None W0 Lig 7, Vx Hx Wd Absent, 0 }
+    // 99 66 VFMADD132SD Vx,Hx,Wq W1 LIG
+    { M0f38 P66 0x99 No, Any Any, None W1 Lig 7, Vx Hx Wq Absent, 0 }
+    // 9A 66 VFMSUB132PS|VFMSUB132PD Vx,Hx,Wx W0|W1
+    { M0f38 P66 0x9a No, Any Any, None W0 L128 7, Vx Hx Wx Absent, 0 }
+    { M0f38 P66 0x9a No, Any Any, None W1 L128 7, Vx Hx Wx Absent, 0 }
+    { M0f38 P66 0x9a No, Any Any, None W0 L256 7, Vx Hx Wx Absent, 0 }
+    { M0f38 P66 0x9a No, Any Any, None W1 L256 7, Vx Hx Wx Absent, 0 }
+    // 9B 66 VFMSUB132SS Vx,Hx,Wd W0 LIG
+    { M0f38 P66 0x9b No, Any Any, None W0 Lig 7, Vx Hx Wd Absent, 0 }
+    // 9B 66 VFMSUB132SD Vx,Hx,Wq W1 LIG
+    { M0f38 P66 0x9b No, Any Any, None W1 Lig 7, Vx Hx Wq Absent, 0 }
+    // 9C 66 VFNMADD132PS|VFNMADD132PD Vx,Hx,Wx W0|W1
+    { M0f38 P66 0x9c No, Any Any, None W0 L128 7, Vx Hx Wx Absent, 0 }
+    { M0f38 P66 0x9c No, Any Any, None W1 L128 7, Vx Hx Wx Absent, 0 }
+    { M0f38 P66 0x9c No, Any Any, None W0 L256 7, Vx Hx Wx Absent, 0 }
+    { M0f38 P66 0x9c No, Any Any, None W1 L256 7, Vx Hx Wx Absent, 0 }
+    // 9D 66 VFNMADD132SS Vx,Hx,Wd W0 LIG
+    { M0f38 P66 0x9d No, Any Any, None W0 Lig 7, Vx Hx Wd Absent, 0 }
+    // 9D 66 VFNMADD132SD Vx,Hx,Wq W1 LIG
+    { M0f38 P66 0x9d No, Any Any, None W1 Lig 7, Vx Hx Wq Absent, 0 }
+    // 9E 66 VFNMSUB132PS|VFNMSUB132PD Vx,Hx,Wx W0|W1
+    { M0f38 P66 0x9e No, Any Any, None W0 L128 7, Vx Hx Wx Absent, 0 }
+    { M0f38 P66 0x9e No, Any Any, None W1 L128 7, Vx Hx Wx Absent, 0 }
+    { M0f38 P66 0x9e No, Any Any, None W0 L256 7, Vx Hx Wx Absent, 0 }
+    { M0f38 P66 0x9e No, Any Any, None W1 L256 7, Vx Hx Wx Absent, 0 }
+    // 9F 66 VFNMSUB132SS Vx,Hx,Wd W0 LIG
+    { M0f38 P66 0x9f No, Any Any, None W0 Lig 7, Vx Hx Wd Absent, 0 }
+    // 9F 66 VFNMSUB132SD Vx,Hx,Wq W1 LIG
+    { M0f38 P66 0x9f No, Any Any, None W1 Lig 7, Vx Hx Wq Absent, 0 }
+    // A6 to AF: multiply and add, operands in the order 213
+    // A6 66 VFMADDSUB213PS|VFMADDSUB213PD Vx,Hx,Wx W0|W1
+    { M0f38 P66 0xa6 No, Any Any, None W0 L128 7, Vx Hx Wx Absent, 0 }
+    { M0f38 P66 0xa6 No, Any Any, None W1 L128 7, Vx Hx Wx Absent, 0 }
+    { M0f38 P66 0xa6 No, Any Any, None W0 L256 7, Vx Hx Wx Absent, 0 }
+    { M0f38 P66 0xa6 No, Any Any, None W1 L256 7, Vx Hx Wx Absent, 0 }
+    // A7 66 VFMSUBADD213PS|VFMSUBADD213PD Vx,Hx,Wx W0|W1
+    { M0f38 P66 0xa7 No, Any Any, None W0 L128 7, Vx Hx Wx Absent, 0 }
+    { M0f38 P66 0xa7 No, Any Any, None W1 L128 7, Vx Hx Wx Absent, 0 }
+    { M0f38 P66 0xa7 No, Any Any, None W0 L256 7, Vx Hx Wx Absent, 0 }
+    { M0f38 P66 0xa7 No, Any Any, None W1 L256 7, Vx Hx Wx Absent, 0 }
+    // A8 66 VFMADD213PS|VFMADD213PD Vx,Hx,Wx W0|W1
+    { M0f38 P66 0xa8 No, Any Any, None W0 L128 7, Vx Hx Wx Absent, 0 }
+    { M0f38 P66 0xa8 No, Any Any, None W1 L128 7, Vx Hx Wx Absent, 0 }
+    { M0f38 P66 0xa8 No, Any Any, None W0 L256 7, Vx Hx Wx Absent, 0 }
+    { M0f38 P66 0xa8 No, Any Any, None W1 L256 7, Vx Hx Wx Absent, 0 }
+    // A9 66 VFMADD213SS Vx,Hx,Wd W0 LIG
+    { M0f38 P66 0xa9 No, Any Any, None W0 Lig 7, Vx Hx Wd Absent, 0 }
+    // A9 66 VFMADD213SD Vx,Hx,Wq W1 LIG
+    { M0f38 P66 0xa9 No, Any Any, None W1 Lig 7, Vx Hx Wq Absent, 0 }
+    // AA 66 VFMSUB213PS|VFMSUB213PD Vx,Hx,Wx W0|W1
+    { M0f38 P66 0xaa No, Any Any, None W0 L128 7, Vx Hx Wx Absent, 0 }
+    { M0f38 P66 0xaa No, Any Any, None W1 L128 7, Vx Hx Wx Absent, 0 }
+    { M0f38 P66 0xaa No, Any Any, None W0 L256 7, Vx Hx Wx Absent, 0 }
+    { M0f38 P66 0xaa No, Any Any, None W1 L256 7, Vx Hx Wx Absent, 0 }
+    // AB 66 VFMSUB213SS Vx,Hx,Wd W0 LIG
+    { M0f38 P66 0xab No, Any Any, None W0 Lig 7, Vx Hx Wd Absent, 0 }
+    // AB 66 VFMSUB213SD Vx,Hx,Wq W1 LIG
+    { M0f38 P66 0xab No, Any Any, None W1 Lig 7, Vx Hx Wq Absent, 0 }
+    // AC 66 VFNMADD213PS|VFNMADD213PD Vx,Hx,Wx W0|W1
+    { M0f38 P66 0xac No, Any Any, None W0 L128 7, Vx Hx Wx Absent, 0 }
+    { M0f38 P66 0xac No, Any Any, None W1 L128 7, Vx Hx Wx Absent, 0 }
+    { M0f38 P66 0xac No, Any Any, None W0 L256 7, Vx Hx Wx Absent, 0 }
+    { M0f38 P66 0xac No, Any Any, None W1 L256 7, Vx Hx Wx Absent, 0 }
+    // AD 66 VFNMADD213SS Vx,Hx,Wd W0 LIG
+    { M0f38 P66 0xad No, Any Any, None W0 Lig 7, Vx Hx Wd Absent, 0 }
+    // AD 66 VFNMADD213SD Vx,Hx,Wq W1 LIG
+    { M0f38 P66 0xad No, Any Any, None W1 Lig 7, Vx Hx Wq Absent, 0 }
+    // AE 66 VFNMSUB213PS|VFNMSUB213PD Vx,Hx,Wx W0|W1
+    { M0f38 P66 0xae No, Any Any, None W0 L128 7, Vx Hx Wx Absent, 0 }
+    { M0f38 P66 0xae No, Any Any, None W1 L128 7, Vx Hx Wx Absent, 0 }
+    { M0f38 P66 0xae No, Any Any, None W0 L256 7, Vx Hx Wx Absent, 0 }
+    { M0f38 P66 0xae No, Any Any, None W1 L256 7, Vx Hx Wx Absent, 0 }
+    // AF 66 VFNMSUB213SS Vx,Hx,Wd W0 LIG
+    { M0f38 P66 0xaf No, Any Any, None W0 Lig 7, Vx Hx Wd Absent, 0 }
+    // AF 66 VFNMSUB213SD Vx,Hx,Wq W1 LIG
+    { M0f38 P66 0xaf No, Any Any, None W1 Lig 7, Vx Hx Wq Absent, 0 }
+    // B6 to BF: multiply and add, operands in the order 231
+    // B6 66 VFMADDSUB231PS|VFMADDSUB231PD Vx,Hx,Wx W0|W1
+    { M0f38 P66 0xb6 No, Any Any, None W0 L128 7, Vx Hx Wx Absent, 0 }
+    { M0f38 P66 0xb6 No, Any Any, None W1 L128 7, Vx Hx Wx Absent, 0 }
+    { M0f38 P66 0xb6 No, Any Any, None W0 L256 7, Vx Hx Wx Absent, 0 }
+    { M0f38 P66 0xb6 No, Any Any, None W1 L256 7, Vx Hx Wx Absent, 0 }
+    // B7 66 VFMSUBADD231PS|VFMSUBADD231PD Vx,Hx,Wx W0|W1
+    { M0f38 P66 0xb7 No, Any Any, None W0 L128 7, Vx Hx Wx Absent, 0 }
+    { M0f38 P66 0xb7 No, Any Any, None W1 L128 7, Vx Hx Wx Absent, 0 }
+    { M0f38 P66 0xb7 No, Any Any, None W0 L256 7, Vx Hx Wx Absent, 0 }
+    { M0f38 P66 0xb7 No, Any Any, None W1 L256 7, Vx Hx Wx Absent, 0 }
+    // B8 66 VFMADD231PS|VFMADD231PD Vx,Hx,Wx W0|W1
+    { M0f38 P66 0xb8 No, Any Any, None W0 L128 7, Vx Hx Wx Absent, 0 }
+    { M0f38 P66 0xb8 No, Any Any, None W1 L128 7, Vx Hx Wx Absent, 0 }
+    { M0f38 P66 0xb8 No, Any Any, None W0 L256 7, Vx Hx Wx Absent, 0 }
+    { M0f38 P66 0xb8 No, Any Any, None W1 L256 7, Vx Hx Wx Absent, 0 }
+    // B9 66 VFMADD231SS Vx,Hx,Wd W0 LIG
+    { M0f38 P66 0xb9 No, Any Any, None W0 Lig 7, Vx Hx Wd Absent, 0 }
+    // B9 66 VFMADD231SD Vx,Hx,Wq W1 LIG
+    { M0f38 P66 0xb9 No, Any Any, None W1 Lig 7, Vx Hx Wq Absent, 0 }
+    // BA 66 VFMSUB231PS|VFMSUB231PD Vx,Hx,Wx W0|W1
+    { M0f38 P66 0xba No, Any Any, None W0 L128 7, Vx Hx Wx Absent, 0 }
+    { M0f38 P66 0xba No, Any Any, None W1 L128 7, Vx Hx Wx Absent, 0 }
+    { M0f38 P66 0xba No, Any Any, None W0 L256 7, Vx Hx Wx Absent, 0 }
+    { M0f38 P66 0xba No, Any Any, None W1 L256 7, Vx Hx Wx Absent, 0 }
+    // BB 66 VFMSUB231SS Vx,Hx,Wd W0 LIG
+    { M0f38 P66 0xbb No, Any Any, None W0 Lig 7, Vx Hx Wd Absent, 0 }
+    // BB 66 VFMSUB231SD Vx,Hx,Wq W1 LIG
+    { M0f38 P66 0xbb No, Any Any, None W1 Lig 7, Vx Hx Wq Absent, 0 }
+    // BC 66 VFNMADD231PS|VFNMADD231PD Vx,Hx,Wx W0|W1
+    { M0f38 P66 0xbc No, Any Any, None W0 L128 7, Vx Hx Wx Absent, 0 }
+    { M0f38 P66 0xbc No, Any Any, None W1 L128 7, Vx Hx Wx Absent, 0 }
+    { M0f38 P66 0xbc No, Any Any, None W0 L256 7, Vx Hx Wx Absent, 0 }
+    { M0f38 P66 0xbc No, Any Any, None W1 L256 7, Vx Hx Wx Absent, 0 }
+    // BD 66 VFNMADD231SS Vx,Hx,Wd W0 LIG
+    { M0f38 P66 0xbd No, Any Any, None W0 Lig 7, Vx Hx Wd Absent, 0 }
+    // BD 66 VFNMADD231SD Vx,Hx,Wq W1 LIG
+    { M0f38 P66 0xbd No, Any Any, None W1 Lig 7, Vx Hx Wq Absent, 0 }
+    // BE 66 VFNMSUB231PS|VFNMSUB231PD Vx,Hx,Wx W0|W1
+    { M0f38 P66 0xbe No, Any Any, None W0 L128 7, Vx Hx Wx Absent, 0 }
+    { M0f38 P66 0xbe No, Any Any, None W1 L128 7, Vx Hx Wx Absent, 0 }
+    { M0f38 P66 0xbe No, Any Any, None W0 L256 7, Vx Hx Wx Absent, 0 }
+    { M0f38 P66 0xbe No, Any Any, None W1 L256 7, Vx Hx Wx Absent, 0 }
+    // BF 66 VFNMSUB231SS Vx,Hx,Wd W0 LIG
+    { M0f38 P66 0xbf No, Any Any, None W0 Lig 7, Vx Hx Wd Absent, 0 }
+    // BF 66 VFNMSUB231SD Vx,Hx,Wq W1 LIG
+    { M0f38 P66 0xbf No, Any Any, None W1 Lig 7, Vx Hx Wq Absent, 0 }
+    // DB to DF: AES
+    // DB 66 VAESIMC Vx,Wx 128
+    { M0f38 P66 0xdb No, Any Any, None Wig L128 7, Vx Wx Absent Absent, 0 }
+    // DC 66 VAESENC Vx,Hx,Wx 128
+    { M0f38 P66 0xdc No, Any Any, None Wig L128 7, Vx Hx Wx Absent, 0 }
+    // DD 66 VAESENCLAST Vx,Hx,Wx 128
+    { M0f38 P66 0xdd No, Any Any, None Wig L128 7, Vx Hx Wx Absent, 0 }
+    // DE 66 VAESDEC Vx,Hx,Wx 128
+    { M0f38 P66 0xde No, Any Any, None Wig L128 7, Vx Hx Wx Absent, 0 }
+    // DF 66 VAESDECLAST Vx,Hx,Wx 128
+    { M0f38 P66 0xdf No, Any Any, None Wig L128 7, Vx Hx Wx Absent, 0 }
+    // ---- version 2, map 0F3A
+    // 1D: conversion to half precision
+    // 1D 66 VCVTPS2PH Wh,Vx,Ib W0
+    { M0f3a P66 0x1d No, Any Any, None W0 L128 7, Wh Vx Ib Absent, 0 }
+    { M0f3a P66 0x1d No, Any Any, None W0 L256 7, Wh Vx Ib Absent, 0 }
+    // 44: products without carry
+    // 44 66 VPCLMULQDQ Vx,Hx,Wx,Ib 128
+    { M0f3a P66 0x44 No, Any Any, None Wig L128 7, Vx Hx Wx Ib, 0 }
+    // DF: AES
+    // DF 66 VAESKEYGENASSIST Vx,Wx,Ib 128
+    { M0f3a P66 0xdf No, Any Any, None Wig L128 7, Vx Wx Ib Absent, 0 }
 };
 
 /// The rows of each cell, by map and opcode byte: the place of the first, and how many.
@@ -977,28 +1145,28 @@ pub static SPANS: [[Span; 256]; 4] = spans! {
         328 1, 329 2, 331 2, 333 2, 335 2, 337 2, 339 2, 341 2, 0 0
     }
     {
-        343 2, 345 2, 347 2, 349 2, 351 2, 353 2, 355 2, 357 2, 359 2, 361 2, 363 2, 365 2, 367 2, 369 2, 371 2, 373 2, 0 0, 0 0, 0 0, 0 0, 0 0, 0 0,
-        375 1, 376 2, 378 2, 380 1, 381 1, 0 0, 382 2, 384 2, 386 2, 0 0, 388 2, 390 2, 392 2, 394 2, 396 2, 398 2, 0 0, 0 0, 400 2, 402 2, 404 2,
-        406 2, 408 2, 410 2, 412 2, 414 2, 416 2, 418 2, 420 2, 422 2, 424 2, 426 2, 428 1, 429 2, 431 2, 433 2, 435 2, 437 2, 439 2, 441 2, 443 2,
-        445 2, 447 2, 449 1, 0 0, 0 0, 0 0, 450 4, 454 2, 456 4, 0 0, 0 0, 0 0, 0 0, 0 0, 0 0, 0 0, 0 0, 0 0, 0 0, 0 0, 0 0, 0 0, 0 0, 0 0, 0 0,
-        460 2, 462 2, 464 1, 0 0, 0 0, 0 0, 0 0, 0 0, 0 0, 0 0, 0 0, 0 0, 0 0, 0 0, 0 0, 0 0, 0 0, 0 0, 0 0, 0 0, 0 0, 0 0, 0 0, 0 0, 0 0, 0 0, 0 0,
-        0 0, 0 0, 0 0, 0 0, 0 0, 465 2, 467 2, 0 0, 0 0, 0 0, 0 0, 0 0, 0 0, 0 0, 0 0, 0 0, 0 0, 0 0, 0 0, 0 0, 0 0, 0 0, 0 0, 0 0, 0 0, 469 4, 0 0,
-        473 4, 0 0, 477 4, 481 4, 485 4, 489 4, 0 0, 0 0, 0 0, 0 0, 0 0, 0 0, 0 0, 0 0, 0 0, 0 0, 0 0, 0 0, 0 0, 0 0, 0 0, 0 0, 0 0, 0 0, 0 0, 0 0,
-        0 0, 0 0, 0 0, 0 0, 0 0, 0 0, 0 0, 0 0, 0 0, 0 0, 0 0, 0 0, 0 0, 0 0, 0 0, 0 0, 0 0, 0 0, 0 0, 0 0, 0 0, 0 0, 0 0, 0 0, 0 0, 0 0, 0 0, 0 0,
-        0 0, 0 0, 0 0, 0 0, 0 0, 0 0, 0 0, 0 0, 0 0, 0 0, 0 0, 0 0, 0 0, 0 0, 0 0, 0 0, 0 0, 0 0, 0 0, 0 0, 0 0, 0 0, 0 0, 0 0, 0 0, 0 0, 0 0, 0 0,
-        0 0, 0 0, 0 0, 0 0, 0 0, 0 0, 0 0, 0 0, 0 0, 0 0, 0 0, 0 0, 0 0, 0 0, 0 0, 0 0, 0 0, 0 0, 493 2, 495 6, 0 0, 501 6, 507 2, 509 8, 0 0, 0 0,
-        0 0, 0 0, 0 0, 0 0, 0 0, 0 0
+        343 2, 345 2, 347 2, 349 2, 351 2, 353 2, 355 2, 357 2, 359 2, 361 2, 363 2, 365 2, 367 2, 369 2, 371 2, 373 2, 0 0, 0 0, 0 0, 573 2, 0 0,
+        0 0, 375 1, 376 2, 378 2, 380 1, 381 1, 0 0, 382 2, 384 2, 386 2, 0 0, 388 2, 390 2, 392 2, 394 2, 396 2, 398 2, 0 0, 0 0, 400 2, 402 2,
+        404 2, 406 2, 408 2, 410 2, 412 2, 414 2, 416 2, 418 2, 420 2, 422 2, 424 2, 426 2, 428 1, 429 2, 431 2, 433 2, 435 2, 437 2, 439 2, 441 2,
+        443 2, 445 2, 447 2, 449 1, 0 0, 0 0, 0 0, 450 4, 454 2, 456 4, 0 0, 0 0, 0 0, 0 0, 0 0, 0 0, 0 0, 0 0, 0 0, 0 0, 0 0, 0 0, 0 0, 0 0, 0 0,
+        0 0, 460 2, 462 2, 464 1, 0 0, 0 0, 0 0, 0 0, 0 0, 0 0, 0 0, 0 0, 0 0, 0 0, 0 0, 0 0, 0 0, 0 0, 0 0, 0 0, 0 0, 0 0, 0 0, 0 0, 0 0, 0 0, 0 0,
+        0 0, 0 0, 0 0, 0 0, 0 0, 0 0, 465 2, 467 2, 0 0, 0 0, 0 0, 0 0, 0 0, 0 0, 0 0, 0 0, 0 0, 0 0, 0 0, 0 0, 0 0, 0 0, 0 0, 0 0, 0 0, 0 0, 469 4,
+        0 0, 473 4, 0 0, 477 4, 481 4, 485 4, 489 4, 0 0, 0 0, 575 4, 579 4, 583 4, 587 2, 589 4, 593 2, 595 4, 599 2, 601 4, 605 2, 0 0, 0 0, 0 0,
+        0 0, 0 0, 0 0, 607 4, 611 4, 615 4, 619 2, 621 4, 625 2, 627 4, 631 2, 633 4, 637 2, 0 0, 0 0, 0 0, 0 0, 0 0, 0 0, 639 4, 643 4, 647 4, 651 2,
+        653 4, 657 2, 659 4, 663 2, 665 4, 669 2, 0 0, 0 0, 0 0, 0 0, 0 0, 0 0, 0 0, 0 0, 0 0, 0 0, 0 0, 0 0, 0 0, 0 0, 0 0, 0 0, 0 0, 0 0, 0 0, 0 0,
+        0 0, 0 0, 0 0, 0 0, 0 0, 0 0, 0 0, 671 1, 672 1, 673 1, 674 1, 675 1, 0 0, 0 0, 0 0, 0 0, 0 0, 0 0, 0 0, 0 0, 0 0, 0 0, 0 0, 0 0, 0 0, 0 0,
+        0 0, 0 0, 0 0, 0 0, 493 2, 495 6, 0 0, 501 6, 507 2, 509 8, 0 0, 0 0, 0 0, 0 0, 0 0, 0 0, 0 0, 0 0
     }
     {
         517 1, 518 1, 519 2, 0 0, 521 2, 523 2, 525 1, 0 0, 526 2, 528 2, 530 1, 531 1, 532 2, 534 2, 536 2, 538 2, 0 0, 0 0, 0 0, 0 0, 540 1, 541 1,
-        542 2, 544 1, 545 1, 546 1, 0 0, 0 0, 0 0, 0 0, 0 0, 0 0, 547 1, 548 1, 549 2, 0 0, 0 0, 0 0, 0 0, 0 0, 0 0, 0 0, 0 0, 0 0, 0 0, 0 0, 0 0,
-        0 0, 0 0, 0 0, 0 0, 0 0, 0 0, 0 0, 0 0, 0 0, 551 1, 552 1, 0 0, 0 0, 0 0, 0 0, 0 0, 0 0, 553 2, 555 1, 556 2, 0 0, 0 0, 0 0, 558 1, 0 0, 0 0,
-        0 0, 559 2, 561 2, 563 2, 0 0, 0 0, 0 0, 0 0, 0 0, 0 0, 0 0, 0 0, 0 0, 0 0, 0 0, 0 0, 0 0, 0 0, 0 0, 0 0, 0 0, 0 0, 0 0, 565 2, 567 2, 569 1,
-        570 1, 0 0, 0 0, 0 0, 0 0, 0 0, 0 0, 0 0, 0 0, 0 0, 0 0, 0 0, 0 0, 0 0, 0 0, 0 0, 0 0, 0 0, 0 0, 0 0, 0 0, 0 0, 0 0, 0 0, 0 0, 0 0, 0 0, 0 0,
+        542 2, 544 1, 545 1, 546 1, 0 0, 0 0, 0 0, 676 2, 0 0, 0 0, 547 1, 548 1, 549 2, 0 0, 0 0, 0 0, 0 0, 0 0, 0 0, 0 0, 0 0, 0 0, 0 0, 0 0, 0 0,
+        0 0, 0 0, 0 0, 0 0, 0 0, 0 0, 0 0, 0 0, 0 0, 551 1, 552 1, 0 0, 0 0, 0 0, 0 0, 0 0, 0 0, 553 2, 555 1, 556 2, 0 0, 678 1, 0 0, 558 1, 0 0,
+        0 0, 0 0, 559 2, 561 2, 563 2, 0 0, 0 0, 0 0, 0 0, 0 0, 0 0, 0 0, 0 0, 0 0, 0 0, 0 0, 0 0, 0 0, 0 0, 0 0, 0 0, 0 0, 0 0, 0 0, 565 2, 567 2,
+        569 1, 570 1, 0 0, 0 0, 0 0, 0 0, 0 0, 0 0, 0 0, 0 0, 0 0, 0 0, 0 0, 0 0, 0 0, 0 0, 0 0, 0 0, 0 0, 0 0, 0 0, 0 0, 0 0, 0 0, 0 0, 0 0, 0 0,
         0 0, 0 0, 0 0, 0 0, 0 0, 0 0, 0 0, 0 0, 0 0, 0 0, 0 0, 0 0, 0 0, 0 0, 0 0, 0 0, 0 0, 0 0, 0 0, 0 0, 0 0, 0 0, 0 0, 0 0, 0 0, 0 0, 0 0, 0 0,
         0 0, 0 0, 0 0, 0 0, 0 0, 0 0, 0 0, 0 0, 0 0, 0 0, 0 0, 0 0, 0 0, 0 0, 0 0, 0 0, 0 0, 0 0, 0 0, 0 0, 0 0, 0 0, 0 0, 0 0, 0 0, 0 0, 0 0, 0 0,
         0 0, 0 0, 0 0, 0 0, 0 0, 0 0, 0 0, 0 0, 0 0, 0 0, 0 0, 0 0, 0 0, 0 0, 0 0, 0 0, 0 0, 0 0, 0 0, 0 0, 0 0, 0 0, 0 0, 0 0, 0 0, 0 0, 0 0, 0 0,
-        0 0, 0 0, 0 0, 0 0, 0 0, 0 0, 0 0, 0 0, 0 0, 0 0, 0 0, 0 0, 0 0, 0 0, 0 0, 0 0, 0 0, 0 0, 0 0, 0 0, 0 0, 0 0, 0 0, 0 0, 0 0, 0 0, 0 0, 0 0,
-        0 0, 571 2, 0 0, 0 0, 0 0, 0 0, 0 0, 0 0, 0 0, 0 0, 0 0, 0 0, 0 0, 0 0, 0 0, 0 0, 0 0
+        0 0, 0 0, 0 0, 0 0, 0 0, 0 0, 0 0, 0 0, 0 0, 0 0, 0 0, 0 0, 0 0, 0 0, 679 1, 0 0, 0 0, 0 0, 0 0, 0 0, 0 0, 0 0, 0 0, 0 0, 0 0, 0 0, 0 0, 0 0,
+        0 0, 0 0, 0 0, 571 2, 0 0, 0 0, 0 0, 0 0, 0 0, 0 0, 0 0, 0 0, 0 0, 0 0, 0 0, 0 0, 0 0, 0 0, 0 0
     }
 };

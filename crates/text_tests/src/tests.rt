@@ -35,6 +35,17 @@ fn eax() -> Operand {
     Operand::Reg(Register::R32(0))
 }
 
+/// The first row of a name with XMM0, XMM1 and memory at RAX.
+fn product(name: &str) -> Instr {
+    let mut instr = plain(
+        code(name, 0),
+        Operand::Reg(Register::Xmm(0)),
+        Operand::Reg(Register::Xmm(1)),
+    );
+    instr.ops[2] = memory(Some(Register::R64(0)), 0, DispSize::D0);
+    instr
+}
+
 /// `gs add eax, 0xffffffff` with LOCK and a memory operand in place of EAX.
 fn locked() -> Instr {
     let mut instr = plain(
@@ -110,6 +121,13 @@ fn three_styles(rt: HostRuntime) {
             b"movzx eax, byte [rdi-0x8]".as_slice(),
             b"movzx eax, byte ptr [rdi-8h]".as_slice(),
             b"movzbl -0x8(%rdi), %eax".as_slice(),
+        ),
+        (
+            Bits::B64,
+            product("vfmadd132ps"),
+            b"vfmadd132ps xmm0, xmm1, xmmword [rax]".as_slice(),
+            b"vfmadd132ps xmm0, xmm1, xmmword ptr [rax]".as_slice(),
+            b"vfmadd132ps (%rax), %xmm1, %xmm0".as_slice(),
         ),
     ];
     for (bits, instr, intel, masm, att) in cases {

@@ -26,39 +26,14 @@ use Rattle.row_fit.proofs.FitLaws.{all_conditions, modrm_range}
 use Rattle.row_fit.proofs.SoundLaws.{sound_conditions}
 use Rattle.row_fields.specs.Holds.{holds, stands_in, is_vex, map_number, opcode_holds, at_90, adds_register, prefix_of, prefix_holds, class_allows, rex_b_at_90, rex_b_holds, byte_of, size_allows, size_holds, w_as_size, w_allows, w_holds, l_holds}
 use Rattle.unique_spelling.specs.FieldsOf.{fields_of, repeat_of, repeat_of_pp, size66_of, w_of, l_of}
-use Rattle.unique_spelling.proofs.Parts.{kind-vex, same_map-eq, nop-byte, opcode-held, legacy-class, vex-class, nf3, rex-64, size-allowed, size-of_vex, w-as_size, w-of_legacy, w-of_vex, l-of_legacy, l-of_vex}
+use Rattle.opcode_rows.proofs.Standing.{VexSays, vex-says, stands, opcode-parts}
+use Rattle.unique_spelling.proofs.Parts.{nop-byte, legacy-class, vex-class, nf3, rex-64, size-allowed, size-of_vex, w-as_size, w-of_legacy, w-of_vex, l-of_legacy, l-of_vex}
 use Rattle.unique_spelling.proofs.ModRmParts.{ByteMeets, no_rule, byte-met}
 
 both : (a b : Bool) → a ≡ true → b ≡ true → (a && b) ≡ true
 both a b h k = rw h k
 
 -- ---- where the row stands
-
--- the parts of a fitting start: a VEX stands exactly on VEX rows
-abbrev VexSays : Row → Option Vex → Type 0
-VexSays row None = is_vex_row row ≡ false
-VexSays row (Some v) = (is_vex_row row ≡ true) × (v.map ≡ row.map)
-
-vex-says : (bits : Bits) (row : Row) (ps : List ℕ) (vex : Option Vex) (o : ℕ) (m : Option ModRm) → vex_fits bits row ps vex o m ≡ true → VexSays row vex
-unfolding vex_fits
-vex-says bits row ps None o m h = not_true (is_vex_row row) (and_left (not (is_vex_row row)) (opcode_is_kept bits row.map o m) h)
-vex-says bits row ps (Some v) o m h =
-    let rest = and_right (is_vex_row row) (same_map v.map row.map && (not (forbids_vex bits ps) && is_vex_of_mode bits v)) h in (
-      and_left (is_vex_row row) (same_map v.map row.map && (not (forbids_vex bits ps) && is_vex_of_mode bits v)) h,
-      same_map-eq v.map row.map (and_left (same_map v.map row.map) (not (forbids_vex bits ps) && is_vex_of_mode bits v) rest),
-    )
-
-line-is : (row : Row) (vex : Option Vex) → VexSays row vex → map_number (is_vex row.kind) row.map ≡ map_number (is_some vex) (spelled_map row.map vex)
-line-is row None h = ap (λ b. map_number b row.map) (kind-vex row.kind ∙ h)
-line-is row (Some v) h = ap (λ b. map_number b row.map) (kind-vex row.kind ∙ h.0) ∙ ap (λ m. map_number true m) (sym h.1)
-
-stands : (row : Row) (vex : Option Vex) (o : ℕ) → VexSays row vex → opcode_fits row o ≡ true
-    → stands_in row (map_number (is_some vex) (spelled_map row.map vex)) o ≡ true
-unfolding opcode_fits
-stands row vex o says h =
-    both (map_number (is_vex row.kind) row.map == map_number (is_some vex) (spelled_map row.map vex)) (opcode_holds row.plus row.opcode o)
-    (eq-eqb (map_number (is_vex row.kind) row.map) (map_number (is_some vex) (spelled_map row.map vex)) (line-is row vex says))
-    (opcode-held row.plus row.opcode o h)
 
 -- ---- the opcode byte 90
 
@@ -263,11 +238,6 @@ nop-of bits row state s h e =
     or_left_false (is_nop_byte row state.opcode) (nop_fits bits row state)
     (and_right (not (reads_by is_gather row) || gather_fits bits state s.modrm s.sib) (not (is_nop_byte row state.opcode) || nop_fits bits row state)
     (and_right (destination_fits row s.modrm) _ (and_right _ _ h))) e
-
-opcode-parts : (row : Row) (o : ℕ) (m : Option ModRm) → opcode_and_modrm_fit row o m ≡ true
-    → (opcode_fits row o && (modrm_rule_fits row.plus row.modrm m && place_fits row m)) ≡ true
-unfolding opcode_and_modrm_fit
-opcode-parts row o m h = h
 
 -- where a spelling fits a sound row, the row's conditions hold on its fields, if the next byte is its ModRM
 pub fit-holds : (bits : Bits) (row : Row) (s : Spelling) (next : Option ℕ) → sound row ≡ true → fits bits row s ≡ true → NextIs s.modrm next

@@ -30,29 +30,6 @@ use Rattle.unique_spelling.specs.FieldsOf.{repeat_of_pp}
 
 -- ---- kind and map
 
--- whether a kind is VEX, as a row says it
-pub kind-vex : (k : RowKind) → is_vex k ≡ (elim k [ kind.Legacy ↦ false | kind.Vex ↦ true ])
-kind-vex kind.Legacy = refl
-kind-vex kind.Vex = refl
-
-pub same_map-eq : (a b : Map) → same_map a b ≡ true → a ≡ b
-same_map-eq map.One map.One h = refl
-same_map-eq map.One map.M0f h = cc
-same_map-eq map.One map.M0f38 h = cc
-same_map-eq map.One map.M0f3a h = cc
-same_map-eq map.M0f map.One h = cc
-same_map-eq map.M0f map.M0f h = refl
-same_map-eq map.M0f map.M0f38 h = cc
-same_map-eq map.M0f map.M0f3a h = cc
-same_map-eq map.M0f38 map.One h = cc
-same_map-eq map.M0f38 map.M0f h = cc
-same_map-eq map.M0f38 map.M0f38 h = refl
-same_map-eq map.M0f38 map.M0f3a h = cc
-same_map-eq map.M0f3a map.One h = cc
-same_map-eq map.M0f3a map.M0f h = cc
-same_map-eq map.M0f3a map.M0f38 h = cc
-same_map-eq map.M0f3a map.M0f3a h = refl
-
 -- the opcode byte 90 of the one-byte map, in both ways of saying it
 pub nop-byte : (k : RowKind) (m : Map) (b : Bool)
     → ((map_number (is_vex k) m == 0) && b) ≡ (not (elim k [ kind.Legacy ↦ false | kind.Vex ↦ true ]) && (is_map_one m && b))
@@ -64,12 +41,6 @@ nop-byte kind.Vex map.One b = refl
 nop-byte kind.Vex map.M0f b = refl
 nop-byte kind.Vex map.M0f38 b = refl
 nop-byte kind.Vex map.M0f3a b = refl
-
-pub opcode-held : (p : Plus) (first o : ℕ)
-    → (elim p [ plus.Register ↦ nat_le first o && nat_lt o (first + 8) | _ ↦ o == first ]) ≡ true → opcode_holds p first o ≡ true
-opcode-held plus.Register first o h = h
-opcode-held plus.No first o h = eq-eqb first o (sym (equal_from o first h))
-opcode-held plus.Stack first o h = eq-eqb first o (sym (equal_from o first h))
 
 -- ---- class
 

@@ -5,10 +5,10 @@ use Rattle.listing_run.proofs.rows.write_rows.Given as goal
 
 abbrev pub invariant-loop-code : goal.invariant-loop-code
 invariant-loop-code g l = record {
-  within : l.code ≤ 1969;
+  within : l.code ≤ 2083;
   lines : Held (g.K.Sink.held l.initial.out) (g.K.Sink.held l.out) l.pending.items (lines_below l.code);
   later : g.K.Sink.faults l.initial.out ≤ g.K.Sink.faults l.out;
 }
 
 abbrev pub decreases-loop-code : goal.decreases-loop-code
-decreases-loop-code g l = 1969 - l.code
+decreases-loop-code g l = 2083 - l.code
