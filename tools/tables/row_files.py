@@ -89,6 +89,7 @@ def spots_text(table):
     if first < len(table):
         text += '/// How many of them are rows of version 1. They have the codes below it, and the rows of version 2 stand behind them.\n'
         text += f'pub const VERSION1_ROWS: u16 = {first};\n\n'
+        text += f'/// How many rows version 2 adds.\npub const ADDED_ROWS: u16 = {len(table) - first};\n\n'
     text += f'/// Where the rows lie, by code.\npub static SPOTS: [Spot; {len(table)}] = spots! {{\n'
     return text + wrapped(with_commas(spots), '    ') + '};\n'
 
@@ -99,10 +100,17 @@ def all_cells_text(table):
     return text + '\n' + cells_text('VEX_SPANS', 'The same of the VEX rows.', table, 'Vex')
 
 
+def names_of(rows, static, doc):
+    text = f'/// The names of the rows{doc}.\npub static {static}: [&str; {len(rows)}] = names! {{\n'
+    return text + wrapped([f'"{row.name}"' for row in rows], '    ') + '};\n'
+
+
 def names_text(table):
-    text = HEAD.format('The names of the rows') + NAMES
-    text += f'\n/// The names of the rows, by code.\npub static NAMES: [&str; {len(table)}] = names! {{\n'
-    return text + wrapped([f'"{row.name}"' for row in table], '    ') + '};\n'
+    """The names, those of later versions in a list of their own."""
+    text, first = HEAD.format('The names of the rows') + NAMES + '\n', [row for row in table if row.entry.version == 1]
+    if len(first) == len(table):
+        return text + names_of(table, 'NAMES', ', by code')
+    return text + names_of(first, 'NAMES', ' of version 1, by code') + '\n' + names_of(table[len(first):], 'ADDED_NAMES', ' of version 2, in their order')
 
 
 def files(table):
