@@ -101,7 +101,7 @@ def memory(row):
 
 # ------------------------------------------------------------------ output
 
-HEAD = '''//! The columns of the rows, written by tools/columns.py.
+HEAD = '''//! The columns of the rows, written by tools/write_tables.py from the entries in crates/row_entries/data.
 use crate::columns::{Access, Columns, Flow};
 
 macro_rules! columns {

@@ -145,7 +145,7 @@ def nested(table):
 
 # ------------------------------------------------------------------ output
 
-HEAD = '''//! The nodes of the nested tables, written by tools/write_nodes.py from the rows of the table.
+HEAD = '''//! The nodes of the nested tables, written by tools/write_tables.py from the entries in crates/row_entries/data.
 use crate::node::{Next, Split};
 use x86_values::Code;
 

@@ -3,7 +3,7 @@ from .entries import MAP_ORDER, BadEntry
 from .rows import parts_of, rows_of_part
 from .source import with_commas, wrapped
 
-HEAD = '//! {}, written by tools/write_rows.py from the entries in tools/rows.\n'
+HEAD = '//! {}, written by tools/write_tables.py from the entries in crates/row_entries/data.\n'
 
 TYPES = '''use row_types::{
     Class, LBit, Map, Marks, ModRmRule, ModeMask, OpKind, Place, Plus, RowKind, Size, WBit,

@@ -17,19 +17,19 @@ rows_none kind at [] h = refl
 rows_none kind at (c ∷ text) h = absurd (omega arith)
 
 pub rows_idle : (kind : RowKind) (at : Section) (text : List ℕ) → 0 < length text → line_of kind at (front text 10) ≡ Some line.Idle
-  → rows_of kind at (split text 10) ≡ rows_of kind at (split (behind text 10) 10)
+    → rows_of kind at (split text 10) ≡ rows_of kind at (split (behind text 10) 10)
 unfolding rows_of
 rows_idle kind at [] h e = absurd (omega arith)
 rows_idle kind at (c ∷ text) h e = rw (split_front c text 10) (rw (e, rows_of) refl)
 
 pub rows_begins : (kind : RowKind) (at section : Section) (text : List ℕ) → 0 < length text → line_of kind at (front text 10) ≡ Some (line.Begins section)
-  → rows_of kind at (split text 10) ≡ rows_of kind section (split (behind text 10) 10)
+    → rows_of kind at (split text 10) ≡ rows_of kind section (split (behind text 10) 10)
 unfolding rows_of
 rows_begins kind at section [] h e = absurd (omega arith)
 rows_begins kind at section (c ∷ text) h e = rw (split_front c text 10) (rw (e, rows_of) refl)
 
 pub rows_entry : (kind : RowKind) (at : Section) (entry : Entry) (text : List ℕ) → 0 < length text → line_of kind at (front text 10) ≡ Some (line.Entry entry)
-  → rows_of kind at (split text 10)
+    → rows_of kind at (split text 10)
     ≡ before (rows_at_each at.version entry (lengths entry) (names_of (front text 10))) (rows_of kind at (split (behind text 10) 10))
 unfolding rows_of
 rows_entry kind at entry [] h e = absurd (omega arith)

@@ -12,7 +12,7 @@ marks_none e [] h = refl
 marks_none e (c ∷ text) h = absurd (omega arith)
 
 pub marks_first : (e : Entry) (text : List ℕ) → 0 < length text
-  → with_marks e (split text 32)
+    → with_marks e (split text 32)
     ≡ (value_among mark_words (front text 32) >>= (λ m. with_mark e m >>= (λ marked. with_marks marked (split (behind text 32) 32))))
 unfolding with_marks
 marks_first e [] h = absurd (omega arith)

@@ -9,8 +9,8 @@ unfolding split front_len behind
 onto_front c [] separator = refl
 onto_front c (d ∷ text) separator =
     elim (d == separator) as (λ t.
-      onto c (if t then [] ∷ split text separator else onto d (split text separator))
-      ≡ (c ∷ take (if t then 0 else 1 + front_len text separator) (d ∷ text)) ∷ split (if t then text else behind text separator) separator) [
+    onto c (if t then [] ∷ split text separator else onto d (split text separator))
+    ≡ (c ∷ take (if t then 0 else 1 + front_len text separator) (d ∷ text)) ∷ split (if t then text else behind text separator) separator) [
       | true ↦ refl
       | false ↦
           let e : 1 + front_len text separator ≡ suc (front_len text separator) = omega arith in
@@ -21,8 +21,8 @@ pub split_front : (c : ℕ) (text : List ℕ) (separator : ℕ) → split (c ∷
 unfolding split front_len behind
 split_front c text separator =
     elim (c == separator) as (λ t.
-      (if t then [] ∷ split text separator else onto c (split text separator))
-      ≡ take (if t then 0 else 1 + front_len text separator) (c ∷ text) ∷ split (if t then text else behind text separator) separator) [
+    (if t then [] ∷ split text separator else onto c (split text separator))
+    ≡ take (if t then 0 else 1 + front_len text separator) (c ∷ text) ∷ split (if t then text else behind text separator) separator) [
       | true ↦ refl
       | false ↦
           let e : 1 + front_len text separator ≡ suc (front_len text separator) = omega arith in

@@ -62,7 +62,13 @@ fn flag(set: bool, value: u8) -> u8
 fn marks(e: &Entry) -> Marks
     ensures { result ≡ spec.marks e.now }
 {
-    Marks(flag(e.lockable, 1) + flag(e.address, 2) + flag(e.sized, 4) + flag(e.caret, 8) + flag(e.bang, 16))
+    Marks(
+        flag(e.lockable, 1)
+            + flag(e.address, 2)
+            + flag(e.sized, 4)
+            + flag(e.caret, 8)
+            + flag(e.bang, 16),
+    )
 }
 
 /// Whether an entry limits ModRM to memory or a register.

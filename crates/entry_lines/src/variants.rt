@@ -196,11 +196,7 @@ fn by_mark(modes: Modes, sizes: Sizes, implied: bool) -> Option<[Variant; 3]>
 {
     let all = all_modes(modes);
     match sizes {
-        Sizes::By16 => Some([
-            sized(Size::O16, all),
-            sized(Size::O32or64, all),
-            nothing(),
-        ]),
+        Sizes::By16 => Some([sized(Size::O16, all), sized(Size::O32or64, all), nothing()]),
         Sizes::O32O64 => Some([
             sized(Size::O32, all),
             sized(Size::O64, only_64(modes)),
@@ -323,11 +319,7 @@ pub fn variants(e: &Entry) -> [Variant; 3]
     match e.kind {
         RowKind::Legacy => match sizes_of(e) {
             Some(rows) => rows,
-            None => [
-                sized(Size::None, all_modes(e.modes)),
-                nothing(),
-                nothing(),
-            ],
+            None => [sized(Size::None, all_modes(e.modes)), nothing(), nothing()],
         },
         RowKind::Vex => match sizes_of(e) {
             Some(rows) => with_own_ws(rows),

@@ -26,7 +26,12 @@ const FILES: [(&str, RowKind); 4] = [
 ];
 
 /// The rows of a file, whose text is given.
-fn rows_of<'a>(alloc: Global, file: &str, kind: RowKind, text: &'a str) -> Result<Vec<NamedRow<'a>>> {
+fn rows_of<'a>(
+    alloc: Global,
+    file: &str,
+    kind: RowKind,
+    text: &'a str,
+) -> Result<Vec<NamedRow<'a>>> {
     let at = Section {
         version: 1,
         map: None,
@@ -61,7 +66,9 @@ fn tell_difference(rows: &[NamedRow], at: u16) -> Result<()> {
             let wanted = from_utf8(row.name)?;
             if at < ROWS {
                 let found = name(Code(at));
-                bail!("line {line}: row {at} of the table, {found}, is not what the entry of {wanted} says")
+                bail!(
+                    "line {line}: row {at} of the table, {found}, is not what the entry of {wanted} says"
+                )
             } else {
                 bail!("line {line}: the table has no row {at}, which the entry of {wanted} has")
             }
