@@ -1,8 +1,8 @@
-#!/usr/bin/python3
+#!/usr/bin/env python3
 """Puts the AT&T texts of a listing through the GNU assembler and compares the bytes that come back.
 
-    assemble_listing.py 64 code.bin [PROGRAM]
-    assemble_listing.py 64 code.bin --listing listing.txt
+    tools/assemble_listing.py 64 code.bin [PROGRAM]
+    tools/assemble_listing.py 64 code.bin --listing listing.txt
 
 The listing is what PROGRAM (else the repository's built listing_program) writes for `list BITS 0 att` over the file, or the file that is named.
 Each text goes to `as` on a line of its own; single bytes (`.byte`) are left out. Two numbers are written anew, since the assembler would place
@@ -161,7 +161,7 @@ def kind_of_refusal(item, message):
 
 
 def main():
-    parser = argparse.ArgumentParser()
+    parser = argparse.ArgumentParser(description=__doc__, formatter_class=argparse.RawDescriptionHelpFormatter)
     parser.add_argument("bits", choices=MACHINES)
     parser.add_argument("code")
     top = os.path.dirname(os.path.dirname(os.path.abspath(__file__)))

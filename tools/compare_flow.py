@@ -1,7 +1,7 @@
 #!/usr/bin/env python3
 """Compares what `flow` reaches in the text of an ELF program with objdump's listing.
 
-usage: compare_flow.py PROGRAM ELF [SYMBOL]
+usage: tools/compare_flow.py PROGRAM ELF [SYMBOL]
 
 PROGRAM is the program of this repository, ELF a 64-bit executable. Control is
 followed from the entry of ELF, or from SYMBOL. So that all of the text (of a long

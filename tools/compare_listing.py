@@ -1,10 +1,9 @@
-#!/usr/bin/python3
+#!/usr/bin/env python3
 """Compares a listing with Capstone, instruction by instruction.
 
-    list 64 0 intel <code.bin >listing.txt
-    compare_listing.py 64 code.bin listing.txt
+    tools/compare_listing.py BITS CODE LISTING
 
-At each item of the listing Capstone reads the same bytes at the same address. Lengths and names are compared; a single byte of the listing
+CODE is a file of raw code, LISTING what the program writes for `list BITS 0 intel` over it. At each item of the listing Capstone reads the same bytes at the same address. Lengths and names are compared; a single byte of the listing
 agrees where Capstone reads nothing there. Names differ by convention in a few places (a pseudo-name for a compare with a constant, `movabs`,
 string instructions with their size letter): these are folded first. What is left over is counted by kind, with a few examples of each.
 Debian's package python3-capstone has the library. Nothing rests on this script.
@@ -13,7 +12,10 @@ import collections
 import re
 import sys
 
-import capstone
+if len(sys.argv) != 4:
+    sys.exit(__doc__)
+
+import capstone  # noqa: E402
 
 MODES = {"16": capstone.CS_MODE_16, "32": capstone.CS_MODE_32, "64": capstone.CS_MODE_64}
 PREFIX_WORDS = {"lock", "rep", "repe", "repz", "repne", "repnz", "es", "cs", "ss", "ds", "fs", "gs", "a16", "a32", "a64", "o16", "o32", "o64",

@@ -1,7 +1,7 @@
 #!/usr/bin/env python3
 """Draws the basic blocks of some code from what the program wrote of it.
 
-usage: flow_graph.py FLOW LIST [SVG]
+usage: tools/flow_graph.py FLOW LIST [SVG]
 
 FLOW is a file with the output of `flow BITS BASE`, LIST one with the output of
 `list BITS BASE intel` over the same bytes. The graph goes to standard output in

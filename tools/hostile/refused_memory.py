@@ -39,7 +39,7 @@ def least_start(program):
 
 
 def main():
-    if len(sys.argv) < 2:
+    if len(sys.argv) < 2 or sys.argv[1] in ("-h", "--help"):
         sys.exit(__doc__)
     program = os.path.abspath(sys.argv[1])
     step = int(sys.argv[2]) if len(sys.argv) > 2 else 4096

@@ -1,7 +1,7 @@
 #!/usr/bin/env python3
 """Long and slow inputs for list, info and recode.
 
-usage: streams.py PROGRAM
+usage: tools/hostile/streams.py PROGRAM
 
 Sends inputs around the limit of 16,777,216 bytes and counts what is written; sends code piece by piece through a pipe and looks that the lines of all
 instructions of which 15 bytes were sent stand at the other end before the next piece; and compares the peak of resident memory of a short and a long input.
@@ -62,7 +62,7 @@ def piece_by_piece(program, words, pieces):
 
 
 def main():
-    if len(sys.argv) != 2:
+    if len(sys.argv) != 2 or sys.argv[1] in ("-h", "--help"):
         sys.exit(__doc__)
     program = os.path.abspath(sys.argv[1])
     failed = 0

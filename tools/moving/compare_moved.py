@@ -56,6 +56,8 @@ def opposite(name):
 
 
 def main():
+    if len(sys.argv) != 6:
+        sys.exit(__doc__)
     program, bits, path, old, new = sys.argv[1:]
     old_base, new_base = int(old, 16), int(new, 16)
     code = open(path, "rb").read()

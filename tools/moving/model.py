@@ -326,6 +326,8 @@ def compare(program, words, code, want, whole):
 
 
 def main():
+    if len(sys.argv) < 2 or sys.argv[1] in ("-h", "--help"):
+        sys.exit(__doc__)
     program = sys.argv[1]
     runs = int(sys.argv[2]) if len(sys.argv) > 2 else 2000
     random_ = random.Random(int(sys.argv[3]) if len(sys.argv) > 3 else 1)

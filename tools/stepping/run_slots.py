@@ -150,7 +150,7 @@ def try_out(program, folder, source, level, region, doubles, takes_two, argument
 
 
 def main():
-    if len(sys.argv) != 2:
+    if len(sys.argv) != 2 or sys.argv[1] in ("-h", "--help"):
         sys.exit(__doc__)
     program = os.path.abspath(sys.argv[1])
     failed = 0

@@ -1,4 +1,4 @@
-//! The nodes of the nested tables, written by tools/write_nodes.py from the rows of the table.
+//! The nodes of the nested tables, written by tools/write_tables.py from the entries in crates/row_entries/data.
 use crate::node::{Next, Split};
 use x86_values::Code;
 

@@ -1,4 +1,4 @@
-//! The cells of the table, written by tools/write_rows.py from the entries in tools/rows.
+//! The cells of the table, written by tools/write_tables.py from the entries in crates/row_entries/data.
 use row_lists::{Span, spans};
 
 /// The legacy rows of each cell, by map and opcode byte: the code of the first, and how many.

@@ -1,4 +1,4 @@
-//! The names of the rows, written by tools/write_rows.py from the entries in tools/rows.
+//! The names of the rows, written by tools/write_tables.py from the entries in crates/row_entries/data.
 macro_rules! names {
     ($($name:literal)*) => {
         [$($name),*]

@@ -1,4 +1,4 @@
-//! Where each row lies, written by tools/write_rows.py from the entries in tools/rows.
+//! Where each row lies, written by tools/write_tables.py from the entries in crates/row_entries/data.
 /// The crate that has a row.
 #[derive(Clone, Copy)]
 pub enum Part {

@@ -1,4 +1,4 @@
-//! The columns of the rows, written by tools/columns.py.
+//! The columns of the rows, written by tools/write_tables.py from the entries in crates/row_entries/data.
 use crate::columns::{Access, Columns, Flow};
 
 macro_rules! columns {

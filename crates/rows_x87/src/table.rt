@@ -1,4 +1,4 @@
-//! The rows and their cells, written by tools/write_rows.py from the entries in tools/rows.
+//! The rows and their cells, written by tools/write_tables.py from the entries in crates/row_entries/data.
 use row_lists::{FlatRow, Span, rows, spans};
 use row_types::{
     Class, LBit, Map, Marks, ModRmRule, ModeMask, OpKind, Place, Plus, RowKind, Size, WBit,

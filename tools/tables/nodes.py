@@ -1,60 +1,22 @@
-#!/usr/bin/env python3
-"""Writes the nested tables of the opcode table as Rattle source, from the rows that tools/write_rows.py wrote.
-
-    tools/write_nodes.py
-
-reads the rows of the crates of rows (src/table.rt) and their order (crates/opcode_rows/src/spots.rt), and writes
-crates/handler_tables/src/nodes.rt. Nothing rests on this program: handler_tables proves of what it writes that each node is right for the rows
-that are left on its way, and a wrong node breaks that proof.
+"""The nested tables of the opcode table. handler_tables proves of each node that it is right for the rows that are left on its way.
 
 A row's conditions in a mode and at an opcode byte are nine masks, one for each field that a node may split by; a mask has a bit for each value
 that the row allows. A node splits by the field that makes the mean way to a row shortest. Behind it, each entry keeps the rows that allow its
 value, and asks them nothing more of that field. Alike nodes are written once.
 """
 import functools
-import os
 import re
-import sys
 
-sys.dont_write_bytecode = True
-from write_rows import CRATES, KINDS, MAP_ORDER, PARTS, opcodes, wrapped, write
+from .entries import BANG, CARET, KINDS, MAP_ORDER
+from .source import wrapped
 
 MODES = (16, 32, 64)
-CARET, BANG = 8, 16
-
-ROW = re.compile(r'^    \{ (\w+) (\w+) (0x\w\w) (\w+), (\w+)(?:\((\w+)\))? (\w+), (\w+) (\w+) (\w+) (\d), [\w ]+, (\d+) \}$')
 
 # The fields in the order of their masks, and how many values each has.
 PRESENT, PREFIX, PLACE, REG, RM, SIZE, W, L, REX_B = range(9)
 WIDTHS = (2, 4, 2, 8, 8, 3, 2, 2, 2)
 FULL = tuple((1 << n) - 1 for n in WIDTHS)
 SPLITS = {PREFIX: 'Prefix', PLACE: 'Place', REG: 'Reg', RM: 'Rm', SIZE: 'Size', W: 'W', L: 'L', REX_B: 'RexB'}
-
-
-# ------------------------------------------------------------------ rows
-
-def read(crate, file):
-    with open(os.path.join(CRATES, crate, 'src', file)) as f:
-        return f.read()
-
-
-def read_rows(crate, kind):
-    rows = []
-    for line in read(crate, 'table.rt').splitlines():
-        m = ROW.match(line)
-        if m:
-            map_, cls, opcode, plus, rule, byte, place, size, w, l, modes, marks = m.groups()
-            rows.append(dict(kind=kind, map=map_, cls=cls, opcode=int(opcode, 16), plus=plus, rule=rule, byte=int(byte, 0) if byte else None,
-                place=place, size=size, w=w, l=l, modes=int(modes), marks=int(marks)))
-    return rows
-
-
-def read_table():
-    """The rows of the table, by code."""
-    parts = {part: read_rows(crate, kind) for crate, _, kind, part in PARTS}
-    text = read('opcode_rows', 'spots.rt')
-    spots = text[text.index('= spots! {'):]
-    return [parts[part][int(at)] for part, at in re.findall(r'(\w+) (\d+)', spots)]
 
 
 # ------------------------------------------------------------------ masks
@@ -65,34 +27,34 @@ def mask(count, allows):
 
 def masks(bits, opcode, row):
     """The nine masks of a row."""
-    at_90 = row['kind'] == 'Legacy' and row['map'] == 'One' and opcode == 0x90
-    rule, fixed = row['rule'], row['rule'] == 'Fixed'
-    prefix = {'Any': 0b1111, 'Np': 0b0001, 'Nfx': 0b0011, 'Nf3': 0b1011, 'P66': 0b0010, 'F3': 0b0100, 'F2': 0b1000}[row['cls']]
-    if at_90 and row['plus'] == 'Register':
+    at_90 = row.kind == 'Legacy' and row.map == 'One' and opcode == 0x90
+    rule, fixed = row.rule, row.rule == 'Fixed'
+    prefix = {'Any': 0b1111, 'Np': 0b0001, 'Nfx': 0b0011, 'Nf3': 0b1011, 'P66': 0b0010, 'F3': 0b0100, 'F2': 0b1000}[row.cls]
+    if at_90 and row.plus == 'Register':
         prefix &= 0b1011
-    place = 0b11 if rule == 'No' else 0b10 if fixed else {'Any': 0b11, 'Memory': 0b01, 'Register': 0b10}[row['place']]
-    reg = 1 << row['byte'] if rule == 'Digit' else 1 << row['byte'] // 8 % 8 if fixed else FULL[REG]
-    rm = 1 << row['byte'] % 8 if fixed and row['plus'] != 'Stack' else FULL[RM]
+    place = 0b11 if rule == 'No' else 0b10 if fixed else {'Any': 0b11, 'Memory': 0b01, 'Register': 0b10}[row.place]
+    reg = 1 << row.byte if rule == 'Digit' else 1 << row.byte // 8 % 8 if fixed else FULL[REG]
+    rm = 1 << row.byte % 8 if fixed and row.plus != 'Stack' else FULL[RM]
 
     def size(value):
         size = MODES[value]
-        if bits == 64 and (row['marks'] & BANG or row['marks'] & CARET and size == 32):
+        if bits == 64 and (row.marks & BANG or row.marks & CARET and size == 32):
             size = 64
-        return {'O16': size == 16, 'O32': size == 32, 'O32or64': size != 16, 'O64': size == 64}.get(row['size'], True)
+        return {'O16': size == 16, 'O32': size == 32, 'O32or64': size != 16, 'O64': size == 64}.get(row.size, True)
 
     def w(value):
-        if row['size'] in ('W0', 'W1'):
+        if row.size in ('W0', 'W1'):
             counts = bits == 64 and bool(value)
-            return counts == (row['size'] == 'W1')
-        return {'W0': not value, 'W1': bool(value)}.get(row['w'], True)
+            return counts == (row.size == 'W1')
+        return {'W0': not value, 'W1': bool(value)}.get(row.w, True)
 
     def l(value):
-        return {'L128': not value, 'Lz': not value, 'L256': bool(value)}.get(row['l'], True)
+        return {'L128': not value, 'Lz': not value, 'L256': bool(value)}.get(row.l, True)
 
     def rex_b(value):
         if not at_90:
             return True
-        return bool(value) if row['plus'] == 'Register' else row['cls'] == 'F3' or not value
+        return bool(value) if row.plus == 'Register' else row.cls == 'F3' or not value
 
     present = 0b11 if rule == 'No' else 0b10
     return (present, prefix, place, reg, rm, mask(3, size), mask(2, w), mask(2, l), mask(2, rex_b))
@@ -164,8 +126,8 @@ def nested(table):
     nodes.of_width[8] = [None, None]
     cells = {}
     for code, row in enumerate(table):
-        for opcode in opcodes(row):
-            cells.setdefault((row['kind'], row['map'], opcode), []).append((code, row))
+        for opcode in row.opcodes:
+            cells.setdefault((row.kind, row.map, opcode), []).append((code, row))
     for root, present in ((0, 1), (1, 0)):
         entries = []
         for kind in KINDS:
@@ -174,7 +136,7 @@ def nested(table):
                 for opcode in range(256):
                     cell = cells.get((kind, map_, opcode), [])
                     line.append(nodes.entry(tuple(
-                        keep(tuple((code, masks(bits, opcode, row)) for code, row in cell if row['modes'] & bits // 16), PRESENT, present)
+                        keep(tuple((code, masks(bits, opcode, row)) for code, row in cell if row.modes & bits // 16), PRESENT, present)
                         for bits in MODES)))
                 entries.append('Stop' if all(entry == 'Stop' for entry in line) else nodes.node('Opcode', line))
         nodes.of_width[8][root] = ('Kind', tuple(entries))
@@ -183,7 +145,7 @@ def nested(table):
 
 # ------------------------------------------------------------------ output
 
-HEAD = '''//! The nodes of the nested tables, written by tools/write_nodes.py from the rows of the table.
+HEAD = '''//! The nodes of the nested tables, written by tools/write_tables.py from the entries in crates/row_entries/data.
 use crate::node::{Next, Split};
 use x86_values::Code;
 
@@ -207,11 +169,10 @@ macro_rules! splits {
 '''
 
 
-def main():
-    table = read_table()
-    nodes = nested(table)
+def files(table):
+    """The file of this stage: where it stands under crates/, and its text."""
     text = HEAD
-    for width, known in nodes.of_width.items():
+    for width, known in nested(table).of_width.items():
         text += f'\n/// The nodes of {width} entries.\npub static NODES{width}: [[Next; {width}]; {len(known)}] = nodes! {{\n'
         for _, entries in known:
             text += '    { ' + ' '.join(entries) + ' }\n' if width < 256 else '    {\n' + wrapped(entries, '        ') + '    }\n'
@@ -219,10 +180,4 @@ def main():
         if width < 256:
             text += f'\n/// What each of them splits by.\npub static SPLITS{width}: [Split; {len(known)}] = splits! {{\n'
             text += wrapped([split for split, _ in known], '    ') + '};\n'
-    write('handler_tables', 'nodes.rt', text)
-    print(f'{len(table)} rows; nodes by width:', {width: len(known) for width, known in nodes.of_width.items()},
-        'at most', max(nodes.depth(f'N8({root})') for root in (0, 1)), 'look-ups')
-
-
-if __name__ == '__main__':
-    main()
+    return {'handler_tables/src/nodes.rt': text}

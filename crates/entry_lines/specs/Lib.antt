@@ -1,0 +1,5 @@
+pub mod Text
+pub mod Words
+pub mod Variants
+pub mod Entries
+pub mod Rows

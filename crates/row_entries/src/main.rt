@@ -1,0 +1,102 @@
+//! Compares the opcode table with the entries that it is made from: the files in data/, as docs/entries.md says how they are read.
+//!
+//! It prints how many entries and rows of each file agree, and ends with an error at the first row that is not its entry's.
+#![tactic(auto)]
+
+mod merging;
+mod table;
+
+use anyhow::{Result, bail};
+use entry_lines::rows::{NamedRow, NoRows, Section, add_rows};
+use merging::merged;
+use opcode_rows::{ROWS, name};
+use row_types::RowKind;
+use std::alloc::Global;
+use std::fs;
+use std::str::from_utf8;
+use table::compare;
+use x86_values::Code;
+
+/// The files of entries, in the order in which rows of one place follow one another.
+const FILES: [(&str, RowKind); 4] = [
+    ("integer.txt", RowKind::Legacy),
+    ("x87.txt", RowKind::Legacy),
+    ("sse.txt", RowKind::Legacy),
+    ("vex.txt", RowKind::Vex),
+];
+
+/// The rows of a file, whose text is given.
+fn rows_of<'a>(
+    alloc: Global,
+    file: &str,
+    kind: RowKind,
+    text: &'a str,
+) -> Result<Vec<NamedRow<'a>>> {
+    let at = Section {
+        version: 1,
+        map: None,
+    };
+    let mut rows = Vec::new(alloc);
+    match add_rows(&mut rows, kind, at, text.as_bytes(), 1) {
+        Ok(()) => Ok(rows),
+        Err(NoRows::Line(line)) => bail!("{file}:{line}: this line is no entry"),
+        Err(NoRows::Memory(_)) => bail!("out of memory"),
+    }
+}
+
+/// How many entries some rows come from.
+fn entries_of(rows: &[NamedRow]) -> usize {
+    let mut count: usize = 0;
+    let mut last = 0;
+    for row in rows {
+        if row.line != last {
+            count = count.wrapping_add(1);
+            last = row.line;
+        }
+    }
+    count
+}
+
+/// Says which row of the table is not what the entries say.
+fn tell_difference(rows: &[NamedRow], at: u16) -> Result<()> {
+    match rows.get(at as usize) {
+        None => bail!("the table has a row {at}, of which no entry is"),
+        Some(row) => {
+            let line = row.line;
+            let wanted = from_utf8(row.name)?;
+            if at < ROWS {
+                let found = name(Code(at));
+                bail!(
+                    "line {line}: row {at} of the table, {found}, is not what the entry of {wanted} says"
+                )
+            } else {
+                bail!("line {line}: the table has no row {at}, which the entry of {wanted} has")
+            }
+        }
+    }
+}
+
+fn main(rt: HostRuntime) -> Result<()> {
+    let alloc = rt.alloc();
+    let mut texts = Vec::new(alloc);
+    for (file, _) in FILES {
+        texts.push(fs::read_to_string(&rt, file)?)?;
+    }
+    let mut all = Vec::new(alloc);
+    let mut entries: usize = 0;
+    for ((file, kind), text) in FILES.iter().zip(texts.iter()) {
+        let rows = rows_of(alloc, file, *kind, text.as_str())?;
+        let found = entries_of(&rows);
+        let count = rows.len();
+        println!(rt; "{file}: {found} entries, {count} rows")?;
+        entries = entries.wrapping_add(found);
+        all = merged(alloc, &all, &rows)?;
+    }
+    match compare(&all) {
+        Ok(()) => {}
+        Err(at) => tell_difference(&all, at)?,
+    }
+    let count = all.len();
+    println!(rt; "{entries} entries agree with the {count} rows of the table")?;
+    Ok(())
+}

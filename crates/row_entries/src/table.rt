@@ -1,0 +1,54 @@
+//! The rows of the entries beside those of the table.
+
+ghost use Rattle.std.specs.Prelude.{◌≡◌, ◌<◌, ◌≤◌, ◌↔◌, IsTrue, IsOk, IsNone, map};
+ghost use Rattle.opcode_rows.specs.Table.{name_of};
+ghost use Rattle.entry_lines.specs.Rows.{view};
+ghost use Rattle.entry_lines.specs.Text.{in_small_letters};
+ghost use Rattle.row_entries.specs.Table.{AreNamedFrom, AreNamed};
+
+use entry_lines::rows::NamedRow;
+use entry_lines::text::is_small_of;
+use opcode_rows::{ROWS, name, row_of};
+use x86_values::Code;
+
+/// Whether a name in capital letters is that of a code below `ROWS`.
+fn is_name(capitals: &[u8], code: u16) -> bool
+    requires { code < ROWS }
+    ensures { IsTrue result ↔ (in_small_letters capitals.now ≡ name_of code) }
+{
+    is_small_of(name(Code(code)).as_bytes(), capitals)
+}
+
+/// Whether a row of an entry is that of a code below `ROWS`, field by field, and has its name.
+fn is_row_at(row: &NamedRow, code: u16) -> bool
+    requires { code < ROWS }
+    ensures { IsTrue result → (in_small_letters row.now.name.now ≡ name_of code) }
+{
+    row.row == row_of(Code(code)) && is_name(row.name, code)
+}
+
+/// The first code from `at` on whose row is not the next of some rows; None where these are the rest of the table.
+fn first_difference(rows: &[NamedRow], at: u16) -> Option<u16>
+    requires { at ≤ ROWS }
+    ensures { IsNone result → AreNamedFrom (map view rows.now) at }
+{
+    match rows {
+        [] => if at < ROWS { Some(at) } else { None },
+        [row, rest @ ..] => if at < ROWS && is_row_at(row, at) {
+            first_difference(rest, at + 1)
+        } else {
+            Some(at)
+        },
+    }
+}
+
+/// Compares rows in the order of the table with its rows and names: Ok where they are the table's, one by one. Else it gives the first code at
+/// which they differ.
+pub fn compare(rows: &[NamedRow]) -> Result<(), u16>
+    ensures { IsOk result → AreNamed (map view rows.now) }
+{
+    match first_difference(rows, 0) {
+        None => Ok(()),
+        Some(at) => Err(at),
+    }
+}

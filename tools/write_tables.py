@@ -1,0 +1,55 @@
+#!/usr/bin/env python3
+"""Writes the generated tables of the repository from the entries in crates/row_entries/data, or checks that they are what these entries give."""
+import argparse
+import os
+import sys
+
+sys.dont_write_bytecode = True
+from tables import columns, nodes, row_files  # noqa: E402
+from tables.entries import BadEntry, read_all  # noqa: E402
+from tables.rows import table_of  # noqa: E402
+
+CRATES = os.path.join(os.path.dirname(os.path.dirname(os.path.abspath(__file__))), 'crates')
+
+HELP = '''\
+The entries are read once (docs/entries.md says how a line is read) and expanded to the rows of the table; the stages behind make of these rows
+
+  rows      crates/rows_*/src/table.rt, crates/opcode_rows/src/{spots,cells,names}.rt
+  columns   crates/operand_info/src/table.rt
+  nodes     crates/handler_tables/src/nodes.rt
+
+Nothing rests on this program: the crates prove of what it writes what their contracts and laws say, and row_entries compares the entries with the
+rows. The exit status is 0 where all files are as the entries say, with --check 1 where a file differs (each is named), and 2 where a line is no
+entry.
+'''
+
+
+def read(path):
+    if not os.path.exists(path):
+        return None
+    with open(path) as file:
+        return file.read()
+
+
+def main():
+    parser = argparse.ArgumentParser(description=__doc__, epilog=HELP, formatter_class=argparse.RawDescriptionHelpFormatter)
+    parser.add_argument('--check', action='store_true', help='compare and write nothing')
+    check = parser.parse_args().check
+    try:
+        table = table_of(read_all())
+        files = {path: text for stage in (row_files, columns, nodes) for path, text in stage.files(table).items()}
+    except BadEntry as bad:
+        print(bad, file=sys.stderr)
+        return 2
+    stale = [path for path, text in files.items() if read(os.path.join(CRATES, path)) != text]
+    for path in stale:
+        print(f"crates/{path}: {'differs' if check else 'written'}")
+        if not check:
+            with open(os.path.join(CRATES, path), 'w') as file:
+                file.write(files[path])
+    print(f'{len(table)} rows, {len(set(row.name for row in table))} names; of {len(files)} files {len(files) - len(stale)} were as they should be')
+    return 1 if check and stale else 0
+
+
+if __name__ == '__main__':
+    sys.exit(main())
