@@ -1,4 +1,4 @@
-//! The rows of which nothing is left to ask, written by tools/bare_rows.py.
+//! The rows of which nothing is left to ask, written by tools/write_tables.py from the entries in crates/row_entries/data.
 
 macro_rules! flags {
     ($($flag:literal)*) => {
@@ -7,7 +7,7 @@ macro_rules! flags {
 }
 
 /// Whether nothing is left to ask of a row, by code.
-pub static BARE_ROWS: [bool; 1969] = flags! {
+pub static BARE_ROWS: [bool; 2083] = flags! {
     true true true true true true true true true true true true true true true true true true true true true true true true true true true true true
     true true true true true true true true true true true true true true true true true true true true true true true true true true true true true
     true true true true true true true true true true true true true true true true true true true true true true true true true true true true true
@@ -81,5 +81,9 @@ pub static BARE_ROWS: [bool; 1969] = flags! {
     false false false false false false false false false false false false false false false false false false false false false false false false
     false false false false false false false false false false false false false false false false false false false false false false false false
     false false false false false false false false false false false false false false false false false false false false false false false false
-    false false false
+    false false false true true true true true true true false false false false false false false false false false false false false false false
+    false false false false false false false false false false false false false false false false false false false false false false false false
+    false false false false false false false false false false false false false false false false false false false false false false false false
+    false false false false false false false false false false false false false false false false false false false false false false false false
+    false false false false false false false false false false false false false false false false false false false false
 };
