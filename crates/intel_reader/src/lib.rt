@@ -8,6 +8,7 @@ ghost use Rattle.std.specs.Prelude.{◌≡◌, ◌↔◌, IfOk, IsErr};
 ghost use Rattle.intel_text.specs.Text as printed;
 ghost use Rattle.intel_reader.specs.Assembled.{IsAssembled, AssemblesTo, IsNoText};
 
+mod candidate;
 mod choice;
 
 use arrayvec::ArrayVec;

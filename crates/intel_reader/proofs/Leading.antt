@@ -1,0 +1,42 @@
+-- Going over candidates: what was found first stays the first of those gone over.
+use Rattle.std.proofs.Common.{◌≡◌, ◌⊎◌, inl, inr, ℕ, Bool, true, false, List, length, Option, Some, None, refl, ap, sym, ◌∙◌, subst}
+use Rattle.std.specs.declared.cmp.Ordering.{Ordering}
+use Rattle.std.specs.declared.cmp.Ordering.TheVariants.{Less, Equal, Greater}
+use Rattle.std.specs.Cmp.{IsTotalOrder}
+use Rattle.std.specs.Ordering.{nat_cmp, is_gt, on, then_cmp, ordering_reverse}
+use Rattle.std.specs.Cmp.Lexicographic.{slice_cmp}
+use Rattle.std.proofs.lemmas.Cmp.{upto, tied_itself, nat_cmp_total, nat_list_cmp_total, on_total, then_total}
+use Rattle.x86_values.specs.declared.Bits.{Bits}
+use Rattle.x86_values.specs.declared.DispSize.{DispSize}
+use Rattle.x86_values.specs.declared.DispSize.TheVariants.{D0, D8, D16, D32, D64}
+use Rattle.intel_reader.specs.declared.choice.Found.{Found}
+use Rattle.intel_reader.specs.Assembled.{Assembly, rank, IsCandidate}
+use Rattle.intel_reader.specs.Choice.{assembly_of, Leads, IsHeld, IsProgress}
+
+-- the order of candidates is total
+pub rank_total : IsTotalOrder rank
+rank_total = then_total (on_total (λ (a : Assembly). length a.bytes) nat_cmp_total) (then_total (on_total (λ (a : Assembly). a.instr.code.0) nat_cmp_total) (on_total (λ (a : Assembly). a.bytes) nat_list_cmp_total))
+
+not_after-self : (a : Assembly) → is_gt (rank a a) ≡ false
+not_after-self a = ap is_gt (tied_itself rank_total a)
+
+pub leads_itself : (f : Found) (b : Assembly) → assembly_of f ≡ b → Leads (Some f) b
+leads_itself f b e = subst (λ (c : Assembly). is_gt (rank (assembly_of f) c) ≡ false) e (not_after-self (assembly_of f))
+
+reversed : (o : Ordering) → is_gt o ≡ true → is_gt (ordering_reverse o) ≡ false
+reversed Less h = refl
+reversed Equal h = refl
+reversed Greater h = refl
+
+-- of two the one that is after the other is not before it
+pub other_first : (a b : Assembly) → is_gt (rank a b) ≡ true → is_gt (rank b a) ≡ false
+other_first a b h = ap is_gt (rank_total.antisymm b a) ∙ reversed (rank a b) h
+
+pub leads_on : (f g : Found) (b : Assembly) → is_gt (rank (assembly_of g) (assembly_of f)) ≡ false → Leads (Some f) b → Leads (Some g) b
+leads_on f g b h k = upto rank_total (assembly_of g) (assembly_of f) b h k
+
+pub stays : (bits : Bits) (ip : ℕ) (text : List ℕ) (best : Option Found) → IsProgress bits ip text best best
+stays bits ip text best = record { held = λ h. h; kept = λ b h. h }
+
+pub goes_on : (bits : Bits) (ip : ℕ) (text : List ℕ) (a b c : Option Found) → IsProgress bits ip text a b → IsProgress bits ip text b c → IsProgress bits ip text a c
+goes_on bits ip text a b c p q = record { held = λ h. q.held (p.held h); kept = λ x h. q.kept x (p.kept x h) }
