@@ -29,7 +29,7 @@ use Rattle.text_parts.specs.PrefixWords.{is_memory, has_memory, text_address_siz
 use Rattle.intel_words.specs.declared.words.IntelWords.{IntelWords}
 use Rattle.intel_words.specs.declared.words.OperandText.{OperandText}
 use Rattle.intel_words.specs.Words.{segment_of, inside_of, operand_of, nth_of, words_of}
-use Rattle.intel_reader.specs.Candidate.{is_near_method, is_near_at, address_from, operand_from, segment_or, segment_from, candidate}
+use Rattle.intel_reader.specs.Candidate.{is_near_method, is_near_at, address_from, operand_from, segment_or, segment_from, candidate, HasSize}
 use Rattle.intel_reader.proofs.AddressBack.{AddressIs, address_back}
 use Rattle.intel_reader.proofs.AddressFacts.{address_is}
 use Rattle.intel_reader.proofs.OperandFacts.{immediate_not_near, near_is_near, FarIs, far_below}
@@ -66,10 +66,6 @@ address_at bits ip row i n m g below e =
     }
 
 -- ---- operands
-
--- each address of the instruction has this displacement size
-abbrev pub HasSize : DispSize → Instr → Type 0
-HasSize size i = (n : ℕ) → n < 4 → (m : Mem) → operand_at i n ≡ MemOperand m → m.disp_size ≡ size
 
 below_mod : (x : ℕ) → x < 2 ^ 16 → x % 2 ^ 16 ≡ x
 below_mod x h = omega arith

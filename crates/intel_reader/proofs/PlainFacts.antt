@@ -27,7 +27,7 @@ use Rattle.encoder.proofs.OverTable.{written_table, none_fails}
 use Rattle.decoder.proofs.Formed.{meaning_formed}
 use Rattle.text_parts.specs.Layout.{is_long, long_at, has_one_long, nth_operand}
 use Rattle.text_rows.proofs.Long.{code_in_table, one_long}
-use Rattle.intel_reader.proofs.CandidateBack.{HasSize}
+use Rattle.intel_reader.specs.Candidate.{HasSize}
 
 -- ---- the conditions
 

@@ -1,5 +1,5 @@
 -- The one instruction that the words of a text can be of, by its row, its address size and its displacement size.
-use Rattle.std.specs.Prelude.{ℕ, ◌-◌, ◌%◌, ◌^◌, Bool, true, false, if◌then◌else◌, List, [], ◌∷◌, Option, Some, None, unwrap_or, slice_index_or}
+use Rattle.std.specs.Prelude.{◌≡◌, ℕ, ◌<◌, ◌-◌, ◌%◌, ◌^◌, Bool, true, false, if◌then◌else◌, List, [], ◌∷◌, Option, Some, None, unwrap_or, slice_index_or}
 use Rattle.x86_values.specs.declared.Bits.{Bits}
 use Rattle.x86_values.specs.declared.Segment.{Segment}
 use Rattle.x86_values.specs.declared.Register.TheVariants.{Eip, Rip}
@@ -15,6 +15,7 @@ use Rattle.instruction_parts.specs.declared.kinds.Method.{Method}
 use Rattle.instruction_parts.specs.declared.kinds.Method.TheVariants as method
 use Rattle.instruction_parts.specs.Kinds.{method_of}
 use Rattle.row_fit.specs.Fits.{kind_at}
+use Rattle.plain_spelling.specs.Forms.{operand_at}
 use Rattle.intel_words.specs.declared.words.IntelWords.{IntelWords}
 use Rattle.intel_words.specs.declared.words.OperandText.{OperandText}
 use Rattle.intel_words.specs.declared.words.OperandText.TheVariants.{Absent, Reg, Number, Far, Mem as Address}
@@ -89,3 +90,7 @@ candidate bits row code words asize size =
       asize = asize;
       ops = op 0 ∷ op 1 ∷ op 2 ∷ op 3 ∷ [];
     }
+
+-- each address of the instruction has this displacement size
+abbrev pub HasSize : DispSize → Instr → Type 0
+HasSize size i = (n : ℕ) → n < 4 → (m : Mem) → operand_at i n ≡ MemOperand m → m.disp_size ≡ size

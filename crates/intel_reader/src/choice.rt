@@ -164,7 +164,7 @@ fn may_have(word: &[u8], code: Code) -> bool
     ensures { result ≡ (bytes_eq (name_of code.0) word.now || is_counter_jump (name_of code.0)) }
 {
     let bytes = name(code).as_bytes();
-    bytes == word || bytes == b"jrcxz"
+    bytes == word || bytes == b"jrcxz".as_slice()
 }
 
 /// The first of all candidates of a text, where the words and the name are those of each of them.
