@@ -7,6 +7,7 @@ use Rattle.std.specs.Ordering.{nat_cmp, is_gt, on, then_cmp, ordering_reverse}
 use Rattle.std.specs.Cmp.Lexicographic.{slice_cmp}
 use Rattle.std.proofs.lemmas.Cmp.{upto, tied_itself, nat_cmp_total, nat_list_cmp_total, on_total, then_total}
 use Rattle.x86_values.specs.declared.Bits.{Bits}
+use Rattle.x86_values.specs.declared.Bits.TheVariants.{B16, B32, B64}
 use Rattle.x86_values.specs.declared.DispSize.{DispSize}
 use Rattle.x86_values.specs.declared.DispSize.TheVariants.{D0, D8, D16, D32, D64}
 use Rattle.intel_reader.specs.declared.choice.Found.{Found}
@@ -17,14 +18,14 @@ use Rattle.intel_reader.specs.Choice.{assembly_of, Leads, IsHeld, IsProgress}
 pub rank_total : IsTotalOrder rank
 rank_total = then_total (on_total (λ (a : Assembly). length a.bytes) nat_cmp_total) (then_total (on_total (λ (a : Assembly). a.instr.code.0) nat_cmp_total) (on_total (λ (a : Assembly). a.bytes) nat_list_cmp_total))
 
-not_after-self : (a : Assembly) → is_gt (rank a a) ≡ false
+pub not_after-self : (a : Assembly) → is_gt (rank a a) ≡ false
 not_after-self a = ap is_gt (tied_itself rank_total a)
 
 pub leads_itself : (f : Found) (b : Assembly) → assembly_of f ≡ b → Leads (Some f) b
 leads_itself f b e = subst (λ (c : Assembly). is_gt (rank (assembly_of f) c) ≡ false) e (not_after-self (assembly_of f))
 
 reversed : (o : Ordering) → is_gt o ≡ true → is_gt (ordering_reverse o) ≡ false
-reversed Less h = refl
+reversed Less h = sym h
 reversed Equal h = refl
 reversed Greater h = refl
 
@@ -40,3 +41,28 @@ stays bits ip text best = record { held = λ h. h; kept = λ b h. h }
 
 pub goes_on : (bits : Bits) (ip : ℕ) (text : List ℕ) (a b c : Option Found) → IsProgress bits ip text a b → IsProgress bits ip text b c → IsProgress bits ip text a c
 goes_on bits ip text a b c p q = record { held = λ h. q.held (p.held h); kept = λ x h. q.kept x (p.kept x h) }
+
+-- of two found the later gives way
+pub greater_kept : (first other : Found) (best : Option Found) → best ≡ Some first → is_gt (rank (assembly_of first) (assembly_of other)) ≡ true → (b : Assembly) → Leads best b → is_gt (rank (assembly_of other) b) ≡ false
+greater_kept first other best e g b h =
+    let k : Leads (Some first) b = subst (λ (o : Option Found). Leads o b) e h in
+    leads_on first other b (other_first (assembly_of first) (assembly_of other) g) k
+
+-- where each displacement size was gone over
+pub five : (bits : Bits) (ip : ℕ) (text : List ℕ) (a b c d e : Option Found) (x : Assembly) (P : DispSize → Type 0)
+    → IsProgress bits ip text a b → IsProgress bits ip text b c → IsProgress bits ip text c d → IsProgress bits ip text d e
+    → (P D0 → Leads a x) → (P D8 → Leads b x) → (P D16 → Leads c x) → (P D32 → Leads d x) → (P D64 → Leads e x) → (size : DispSize) → P size → Leads e x
+five bits ip text a b c d e x P ab bc cd de f0 f1 f2 f3 f4 D0 p = de.kept x (cd.kept x (bc.kept x (ab.kept x (f0 p))))
+five bits ip text a b c d e x P ab bc cd de f0 f1 f2 f3 f4 D8 p = de.kept x (cd.kept x (bc.kept x (f1 p)))
+five bits ip text a b c d e x P ab bc cd de f0 f1 f2 f3 f4 D16 p = de.kept x (cd.kept x (f2 p))
+five bits ip text a b c d e x P ab bc cd de f0 f1 f2 f3 f4 D32 p = de.kept x (f3 p)
+five bits ip text a b c d e x P ab bc cd de f0 f1 f2 f3 f4 D64 p = f4 p
+
+-- where each address size was gone over
+pub four : (bits : Bits) (ip : ℕ) (text : List ℕ) (a b c d : Option Found) (x : Assembly) (P : Option Bits → Type 0)
+    → IsProgress bits ip text a b → IsProgress bits ip text b c → IsProgress bits ip text c d
+    → (P None → Leads a x) → (P (Some B16) → Leads b x) → (P (Some B32) → Leads c x) → (P (Some B64) → Leads d x) → (asize : Option Bits) → P asize → Leads d x
+four bits ip text a b c d x P ab bc cd f0 f1 f2 f3 None p = cd.kept x (bc.kept x (ab.kept x (f0 p)))
+four bits ip text a b c d x P ab bc cd f0 f1 f2 f3 (Some B16) p = cd.kept x (bc.kept x (f1 p))
+four bits ip text a b c d x P ab bc cd f0 f1 f2 f3 (Some B32) p = cd.kept x (f2 p)
+four bits ip text a b c d x P ab bc cd f0 f1 f2 f3 (Some B64) p = f3 p

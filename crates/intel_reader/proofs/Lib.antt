@@ -5,3 +5,4 @@ pub mod CandidateBack
 pub mod Printed
 pub mod Leading
 pub mod PlainFacts
+pub mod Choosing

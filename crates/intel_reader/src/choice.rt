@@ -20,6 +20,7 @@ use intel_words::words::IntelWords;
 use opcode_rows::{ROWS, name, row_of, well_formed};
 use row_types::Row;
 use std::cmp::Ordering;
+use text_parts::prefix_words::is_counter_jump;
 use x86_values::{Bits, Code, DispSize, Instr};
 
 /// An instruction and the bytes of its plain spelling.
@@ -164,7 +165,31 @@ fn may_have(word: &[u8], code: Code) -> bool
     ensures { result ≡ (bytes_eq (name_of code.0) word.now || is_counter_jump (name_of code.0)) }
 {
     let bytes = name(code).as_bytes();
-    bytes == word || bytes == b"jrcxz".as_slice()
+    bytes == word || is_counter_jump(bytes)
+}
+
+/// What was found, with the candidates of a code whose row has this name.
+fn with_named(
+    best: Option<Found>,
+    bits: Bits,
+    ip: u64,
+    text: &[u8],
+    words: &IntelWords,
+    word: &[u8],
+    code: Code,
+) -> Option<Found>
+    requires code { code.0 < ROWS }
+    requires read { (b : Assembly) (row : Row) → IsCandidate bits ip text.now b → slice_get table b.instr.code.0 ≡ Some row
+        → words.now ≡ words_of bits row (name_of b.instr.code.0) b.instr }
+    requires named { (b : Assembly) → IsCandidate bits ip text.now b → word.now ≡ name_text bits (name_of b.instr.code.0) b.instr }
+    ensures progress { IsProgress bits ip text.now best result }
+    ensures covers { (b : Assembly) → IsCandidate bits ip text.now b → b.instr.code.0 ≡ code.0 → Leads result b }
+{
+    if may_have(word, code) {
+        with_code(best, bits, ip, text, words, code)
+    } else {
+        best
+    }
 }
 
 /// The first of all candidates of a text, where the words and the name are those of each of them.
@@ -177,9 +202,7 @@ fn first_among(bits: Bits, ip: u64, text: &[u8], words: &IntelWords, word: &[u8]
 {
     let mut best = None;
     for code in 0..ROWS {
-        if may_have(word, Code(code)) {
-            best = with_code(best, bits, ip, text, words, Code(code));
-        }
+        best = with_named(best, bits, ip, text, words, word, Code(code));
     }
     best
 }
