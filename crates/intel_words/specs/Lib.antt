@@ -1,2 +1,7 @@
 pub mod Words
 pub mod Printable
+pub mod Scanning
+pub mod ReadNumbers
+pub mod ReadRegisters
+pub mod ReadAddresses
+pub mod ReadWords

@@ -1,8 +1,8 @@
 -- What is asked of an instruction whose text is read back: that of each instruction which can be encoded, and of each name of the table.
-use Rattle.std.specs.Prelude.{ℕ, ◌^◌, Bool, true, false, not, ◌&&◌, ◌||◌, ◌==◌, nat_le, nat_lt, if◌then◌else◌, is_some, is_none, List, [], ◌∷◌, Option, Some, None, bytes_eq, codes}
+use Rattle.std.specs.Prelude.{ℕ, ◌^◌, Bool, true, false, not, ◌&&◌, ◌||◌, nat_lt, is_some, is_none, List, [], ◌∷◌, Option, Some, None}
 use Rattle.std.specs.List.{list_all}
 use Rattle.x86_values.specs.declared.Bits.{Bits}
-use Rattle.x86_values.specs.declared.Bits.TheVariants.{B16, B32, B64}
+use Rattle.x86_values.specs.declared.Bits.TheVariants.{B16}
 use Rattle.x86_values.specs.declared.Register.{Register}
 use Rattle.x86_values.specs.declared.Register.TheVariants.{Low8, High8, R16, R32, R64, Seg, Cr, Dr, St, Mm, Xmm, Ymm, Eip, Rip}
 use Rattle.x86_values.specs.declared.Mem.{Mem}
@@ -13,24 +13,15 @@ use Rattle.x86_values.specs.Operands.{is_absent}
 use Rattle.row_types.specs.declared.Row.{Row}
 use Rattle.text_parts.specs.PrefixWords.{text_address_size}
 use Rattle.text_parts.specs.Layout.{nth_operand}
+use Rattle.intel_words.specs.Scanning.{is_word_byte}
+use Rattle.intel_words.specs.ReadWords.{is_prefix_word}
 
 -- ---- names
-
--- a lower-case letter or a digit
-unfoldable pub is_word_byte : ℕ → Bool
-is_word_byte c = (nat_le 97 c && nat_le c 122) || (nat_le 48 c && nat_le c 57)
-
--- the words that can stand in front of a name
-unfoldable pub prefix_texts : List (List ℕ)
-prefix_texts =
-    codes "lock" ∷ codes "repne" ∷ codes "rep"
-    ∷ codes "es" ∷ codes "cs" ∷ codes "ss" ∷ codes "ds" ∷ codes "fs" ∷ codes "gs"
-    ∷ codes "a16" ∷ codes "a32" ∷ codes "a64" ∷ codes "o16" ∷ codes "o32" ∷ codes "o64" ∷ []
 
 -- the name is a word of lower-case letters and digits, and none that can stand in front of a name
 unfoldable pub is_plain_name : List ℕ → Bool
 is_plain_name [] = false
-is_plain_name (c ∷ cs) = list_all is_word_byte (c ∷ cs) && list_all (λ word. not (bytes_eq (c ∷ cs) word)) prefix_texts
+is_plain_name (c ∷ cs) = list_all is_word_byte (c ∷ cs) && not (is_prefix_word (c ∷ cs))
 
 -- ---- registers
 

@@ -1,5 +1,13 @@
 //! The words of an Intel text: what a text says before anybody knows to which row of the table it belongs.
 #![tactic(auto)]
 
+mod addresses;
+mod numbers;
+mod operands;
+mod prefixes;
 pub mod reading;
+mod registers;
+mod scanning;
+#[cfg(test)]
+mod tests;
 pub mod words;

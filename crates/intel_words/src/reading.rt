@@ -9,9 +9,46 @@ ghost use Rattle.text_parts.specs.Layout.{bracket_layout};
 ghost use Rattle.text_parts.specs.PrefixWords.{name_text};
 ghost use Rattle.intel_words.specs.Printable.{is_printable};
 ghost use Rattle.intel_words.specs.Words.{words_of};
+ghost use Rattle.intel_words.specs.ReadWords as spec;
 
+use crate::operands::operand_in;
+use crate::prefixes::read_prefixes;
+use crate::scanning::{rest, split_operand, split_word};
 use crate::words::{IntelWords, NamedWords, OperandText};
-use x86_values::Rep;
+
+/// Four operands, where each could be read.
+#[inline]
+#[tactic(auto, unfolding(crate::specs::ReadWords::four))]
+fn four(
+    a: Option<OperandText>,
+    b: Option<OperandText>,
+    c: Option<OperandText>,
+    d: Option<OperandText>,
+) -> Option<[OperandText; 4]>
+    ensures { result ≡ spec.four a b c d }
+{
+    match (a, b, c, d) {
+        (Some(a), Some(b), Some(c), Some(d)) => Some([a, b, c, d]),
+        _ => None,
+    }
+}
+
+/// The operands of a text behind the name and a space.
+#[tactic(auto, unfolding(crate::specs::ReadWords::operands_in))]
+fn operands_in(text: &[u8]) -> Option<[OperandText; 4]>
+    ensures { result ≡ spec.operands_in text.now }
+{
+    let (first, text) = split_operand(text);
+    let (second, text) = split_operand(text);
+    let (third, text) = split_operand(text);
+    let (fourth, _) = split_operand(text);
+    four(
+        operand_in(first),
+        operand_in(second),
+        operand_in(third),
+        operand_in(fourth),
+    )
+}
 
 /// The words of a text, where it has the form of an Intel text. It takes no memory.
 ///
@@ -22,5 +59,20 @@ pub fn read_words<'t>(text: &'t [u8]) -> Option<NamedWords<'t>>
         → bracket_layout Intel bits row name instr ≡ text.now
         → MatchOption result ⊥ (λ read. (read.name.now ≡ name_text bits name instr) × (read.words ≡ words_of bits row name instr)) }
 {
-    None
+    let prefixes = read_prefixes(text);
+    let (name, behind) = split_word(prefixes.text);
+    match operands_in(rest(behind)) {
+        None => None,
+        Some(ops) => Some(NamedWords {
+            name,
+            words: IntelWords {
+                lock: prefixes.lock,
+                rep: prefixes.rep,
+                seg: prefixes.seg,
+                asize: prefixes.asize,
+                osize: prefixes.osize,
+                ops,
+            },
+        }),
+    }
 }

@@ -1,0 +1,89 @@
+-- Where words and operands end.
+use Rattle.std.proofs.Common.{◌≡◌, ℕ, suc, ◌+◌, Bool, true, false, cond, List, [], ◌∷◌, ◌++◌, take, drop, refl, ap, ◌∙◌, append-nil, arith}
+use Rattle.std.specs.Prelude.{◌&&◌, if◌then◌else◌}
+use Rattle.std.specs.List.{list_all, prefix_len}
+use Rattle.intel_words.specs.Scanning.{front, back}
+
+-- ---- both parts of a conjunction
+
+pub and_left : (a b : Bool) → (a && b) ≡ true → a ≡ true
+and_left true b h = refl
+and_left false b h = h
+
+pub and_right : (a b : Bool) → (a && b) ≡ true → b ≡ true
+and_right true b h = h
+and_right false b h = absurd cc
+
+pub and_both : (a b : Bool) → a ≡ true → b ≡ true → (a && b) ≡ true
+and_both true b ha hb = hb
+and_both false b ha hb = ha
+
+-- ---- front and back by the number of bytes that pass
+
+front-step : (b : Bool) (c : ℕ) (cs r : List ℕ) (n : ℕ) → r ≡ take n cs → (if b then c ∷ r else []) ≡ take (cond b (1 + n) 0) (c ∷ cs)
+front-step true c cs r n e = let s : 1 + n ≡ suc n = omega arith in rw s (ap (λ (t : List ℕ). c ∷ t) e)
+front-step false c cs r n e = refl
+
+pub front-take : (p : ℕ → Bool) (xs : List ℕ) → front p xs ≡ take (prefix_len p xs) xs
+unfolding front
+front-take p [] = refl
+front-take p (c ∷ cs) = front-step (p c) c cs (front p cs) (prefix_len p cs) (front-take p cs)
+
+back-step : (b : Bool) (c : ℕ) (cs r : List ℕ) (n : ℕ) → r ≡ drop n cs → (if b then r else c ∷ cs) ≡ drop (cond b (1 + n) 0) (c ∷ cs)
+back-step true c cs r n e = let s : 1 + n ≡ suc n = omega arith in rw s e
+back-step false c cs r n e = refl
+
+pub back-drop : (p : ℕ → Bool) (xs : List ℕ) → back p xs ≡ drop (prefix_len p xs) xs
+unfolding back
+back-drop p [] = refl
+back-drop p (c ∷ cs) = back-step (p c) c cs (back p cs) (prefix_len p cs) (back-drop p cs)
+
+-- ---- bytes that pass, and a text behind them
+
+front-passes : (b : Bool) (c : ℕ) (r s : List ℕ) → b ≡ true → r ≡ s → (if b then c ∷ r else []) ≡ c ∷ s
+front-passes true c r s h e = ap (λ (t : List ℕ). c ∷ t) e
+front-passes false c r s h e = absurd cc
+
+pub front-append : (p : ℕ → Bool) (xs ys : List ℕ) → list_all p xs ≡ true → front p (xs ++ ys) ≡ xs ++ front p ys
+unfolding front
+front-append p [] ys h = refl
+front-append p (c ∷ cs) ys h =
+    front-passes (p c) c (front p (cs ++ ys)) (cs ++ front p ys) (and_left (p c) (list_all p cs) h)
+    (front-append p cs ys (and_right (p c) (list_all p cs) h))
+
+back-passes : (b : Bool) (r s t : List ℕ) → b ≡ true → r ≡ s → (if b then r else t) ≡ s
+back-passes true r s t h e = e
+back-passes false r s t h e = absurd cc
+
+pub back-append : (p : ℕ → Bool) (xs ys : List ℕ) → list_all p xs ≡ true → back p (xs ++ ys) ≡ back p ys
+unfolding back
+back-append p [] ys h = refl
+back-append p (c ∷ cs) ys h =
+    back-passes (p c) (back p (cs ++ ys)) (back p ys) (c ∷ (cs ++ ys)) (and_left (p c) (list_all p cs) h)
+    (back-append p cs ys (and_right (p c) (list_all p cs) h))
+
+-- what passes ends where the text behind it begins with a byte that fails, or is empty
+pub front-ends : (p : ℕ → Bool) (xs ys : List ℕ) → list_all p xs ≡ true → front p ys ≡ [] → front p (xs ++ ys) ≡ xs
+front-ends p xs ys h e = front-append p xs ys h ∙ (ap (λ (t : List ℕ). xs ++ t) e ∙ append-nil xs)
+
+pub back-ends : (p : ℕ → Bool) (xs ys : List ℕ) → list_all p xs ≡ true → back p ys ≡ ys → back p (xs ++ ys) ≡ ys
+back-ends p xs ys h e = back-append p xs ys h ∙ e
+
+-- the same of a whole text
+pub front-all : (p : ℕ → Bool) (xs : List ℕ) → list_all p xs ≡ true → front p xs ≡ xs
+unfolding front
+front-all p [] h = refl
+front-all p (c ∷ cs) h =
+    front-passes (p c) c (front p cs) cs (and_left (p c) (list_all p cs) h) (front-all p cs (and_right (p c) (list_all p cs) h))
+
+pub back-all : (p : ℕ → Bool) (xs : List ℕ) → list_all p xs ≡ true → back p xs ≡ []
+unfolding back
+back-all p [] h = refl
+back-all p (c ∷ cs) h =
+    back-passes (p c) (back p cs) [] (c ∷ cs) (and_left (p c) (list_all p cs) h) (back-all p cs (and_right (p c) (list_all p cs) h))
+
+-- two texts that pass
+pub all-both : (p : ℕ → Bool) (xs ys : List ℕ) → list_all p xs ≡ true → list_all p ys ≡ true → list_all p (xs ++ ys) ≡ true
+all-both p [] ys hx hy = hy
+all-both p (c ∷ cs) ys hx hy =
+    and_both (p c) (list_all p (cs ++ ys)) (and_left (p c) (list_all p cs) hx) (all-both p cs ys (and_right (p c) (list_all p cs) hx) hy)

@@ -1,0 +1,49 @@
+-- Cutting a text: words, operands, and single bytes.
+use Rattle.std.specs.Prelude.{ℕ, Bool, true, false, not, ◌&&◌, ◌||◌, ◌==◌, nat_le, if◌then◌else◌, List, [], ◌∷◌}
+
+-- a lower-case letter or a digit
+unfoldable pub is_word_byte : ℕ → Bool
+is_word_byte c = (nat_le 97 c && nat_le c 122) || (nat_le 48 c && nat_le c 57)
+
+-- the bytes in front of the first that fails a test
+unfoldable pub front : (ℕ → Bool) → List ℕ → List ℕ
+front p [] = []
+front p (c ∷ cs) = if p c then c ∷ front p cs else []
+
+-- the bytes from the first that fails a test on
+unfoldable pub back : (ℕ → Bool) → List ℕ → List ℕ
+back p [] = []
+back p (c ∷ cs) = if p c then back p cs else c ∷ cs
+
+-- the first byte, 0 of none
+unfoldable pub first : List ℕ → ℕ
+first [] = 0
+first (c ∷ cs) = c
+
+-- all but the first byte
+unfoldable pub rest : List ℕ → List ℕ
+rest [] = []
+rest (c ∷ cs) = cs
+
+-- the word at the front, and what stands behind it
+abbrev pub word : List ℕ → List ℕ
+word text = front is_word_byte text
+
+abbrev pub behind : List ℕ → List ℕ
+behind text = back is_word_byte text
+
+-- a byte inside an operand
+unfoldable pub is_no_comma : ℕ → Bool
+is_no_comma c = not (c == 44)
+
+-- the operand at the front, and the text of the next one behind its comma and space
+abbrev pub token : List ℕ → List ℕ
+token text = front is_no_comma text
+
+abbrev pub next_operand : List ℕ → List ℕ
+next_operand text = rest (rest (back is_no_comma text))
+
+-- what stands behind a word and the byte that ends it, where the word is passed
+unfoldable pub skip_if : Bool → List ℕ → List ℕ
+skip_if true text = rest (behind text)
+skip_if false text = text

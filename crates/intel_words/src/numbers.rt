@@ -1,0 +1,99 @@
+//! Reading numbers.
+
+ghost use Rattle.std.specs.Prelude.{◌≡◌, ◌<◌, ◌≤◌, IfSome, length};
+ghost use Rattle.intel_words.specs.ReadNumbers as spec;
+
+use crate::scanning::{first, rest};
+
+/// The value of a hexadecimal digit in lower case.
+#[inline]
+#[tactic(auto, unfolding(crate::specs::ReadNumbers::digit_value))]
+fn digit_value(c: u8) -> Option<u8>
+    ensures value { result ≡ spec.digit_value c }
+    ensures small { IfSome result (λ d. d < 16) }
+{
+    if 48 <= c && c <= 57 {
+        Some(c - 48)
+    } else if 97 <= c && c <= 102 {
+        Some(c - 87)
+    } else {
+        None
+    }
+}
+
+/// The number that at most 16 hexadecimal digits name.
+fn digits_value(digits: &[u8]) -> Option<u64>
+    requires { length digits.now ≤ 16 }
+    ensures { result ≡ spec.digits_from 0 digits.now }
+{
+    let mut value = 0;
+    for c in digits {
+        match digit_value(*c) {
+            None => return None,
+            Some(d) => value = 16 * value + u64::from(d),
+        }
+    }
+    Some(value)
+}
+
+/// The number that 1 to 16 hexadecimal digits without leading zeros name.
+#[tactic(auto, unfolding(crate::specs::ReadNumbers::number_in, crate::specs::ReadNumbers::has_digit_form))]
+fn number_in(digits: &[u8]) -> Option<u64>
+    ensures { result ≡ spec.number_in digits.now }
+{
+    if digits.len() > 0 && digits.len() <= 16 && (digits.len() == 1 || first(digits) != 48) {
+        digits_value(digits)
+    } else {
+        None
+    }
+}
+
+/// The number that a word names: `0x` and its digits.
+#[tactic(auto, unfolding(crate::specs::ReadNumbers::number_named))]
+pub fn number_named(word: &[u8]) -> Option<u64>
+    ensures { result ≡ spec.number_named word.now }
+{
+    if first(word) == 48 && first(rest(word)) == 120 {
+        number_in(rest(rest(word)))
+    } else {
+        None
+    }
+}
+
+/// The value of a decimal digit.
+#[inline]
+#[tactic(auto, unfolding(crate::specs::ReadNumbers::decimal_digit))]
+pub fn decimal_digit(c: u8) -> Option<u8>
+    ensures { result ≡ spec.decimal_digit c }
+{
+    if 48 <= c && c <= 57 {
+        Some(c - 48)
+    } else {
+        None
+    }
+}
+
+/// 10 to 15 by the digit behind the 1.
+#[inline]
+#[tactic(auto, unfolding(crate::specs::ReadNumbers::teen))]
+fn teen(c: u8) -> Option<u8>
+    ensures { result ≡ spec.teen c }
+{
+    if 48 <= c && c <= 53 {
+        Some(c - 38)
+    } else {
+        None
+    }
+}
+
+/// A number from 0 to 15 in decimal.
+#[tactic(auto, unfolding(crate::specs::ReadNumbers::decimal_in))]
+pub fn decimal_in(digits: &[u8]) -> Option<u8>
+    ensures { result ≡ spec.decimal_in digits.now }
+{
+    match digits {
+        [c] => decimal_digit(*c),
+        [c, d] => if *c == 49 { teen(*d) } else { None },
+        _ => None,
+    }
+}

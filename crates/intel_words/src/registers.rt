@@ -1,0 +1,394 @@
+//! Reading the names of registers.
+
+ghost use Rattle.std.specs.Prelude.{◌≡◌};
+ghost use Rattle.intel_words.specs.ReadRegisters as spec;
+
+use crate::numbers::decimal_in;
+use crate::scanning::{first, rest};
+use x86_values::{Register, Segment};
+
+/// The segment of which this is the first letter.
+#[inline]
+#[tactic(auto, unfolding(crate::specs::ReadRegisters::segment_by))]
+fn segment_by(a: u8) -> Option<Segment>
+    ensures { result ≡ spec.segment_by a }
+{
+    match a {
+        b'e' => Some(Segment::Es),
+        b'c' => Some(Segment::Cs),
+        b's' => Some(Segment::Ss),
+        b'd' => Some(Segment::Ds),
+        b'f' => Some(Segment::Fs),
+        b'g' => Some(Segment::Gs),
+        _ => None,
+    }
+}
+
+/// The segment of this name.
+#[inline]
+#[tactic(auto, unfolding(crate::specs::ReadRegisters::segment_named))]
+pub fn segment_named(name: &[u8]) -> Option<Segment>
+    ensures { result ≡ spec.segment_named name.now }
+{
+    match name {
+        [a, b] => if *b == b's' { segment_by(*a) } else { None },
+        _ => None,
+    }
+}
+
+/// `a`, `c`, `d` or `b`: one of the first four registers.
+#[inline]
+#[tactic(auto, unfolding(crate::specs::ReadRegisters::letter_number))]
+fn letter_number(a: u8) -> Option<u8>
+    ensures { result ≡ spec.letter_number a }
+{
+    match a {
+        b'a' => Some(0),
+        b'c' => Some(1),
+        b'd' => Some(2),
+        b'b' => Some(3),
+        _ => None,
+    }
+}
+
+/// `ax`, `cx`, `dx`, `bx`, `sp`, `bp`, `si` or `di`.
+#[inline]
+#[tactic(auto, unfolding(crate::specs::ReadRegisters::word_number))]
+fn word_number(a: u8, b: u8) -> Option<u8>
+    ensures { result ≡ spec.word_number a b }
+{
+    match b {
+        b'x' => letter_number(a),
+        b'p' => match a {
+            b's' => Some(4),
+            b'b' => Some(5),
+            _ => None,
+        },
+        b'i' => match a {
+            b's' => Some(6),
+            b'd' => Some(7),
+            _ => None,
+        },
+        _ => None,
+    }
+}
+
+/// A byte register other than AH, CH, DH and BH.
+#[inline]
+#[tactic(auto, unfolding(crate::specs::ReadRegisters::low_at))]
+fn low_at(number: Option<u8>) -> Option<Register>
+    ensures { result ≡ spec.low_at number }
+{
+    match number {
+        None => None,
+        Some(n) => Some(Register::Low8(n)),
+    }
+}
+
+/// The high byte of one of the first four registers.
+#[inline]
+#[tactic(auto, unfolding(crate::specs::ReadRegisters::high_at))]
+fn high_at(number: Option<u8>) -> Option<Register>
+    ensures { result ≡ spec.high_at number }
+{
+    match number {
+        None => None,
+        Some(n) => Some(Register::High8(n)),
+    }
+}
+
+/// A general register of 16 bits.
+#[inline]
+#[tactic(auto, unfolding(crate::specs::ReadRegisters::word_at))]
+fn word_at(number: Option<u8>) -> Option<Register>
+    ensures { result ≡ spec.word_at number }
+{
+    match number {
+        None => None,
+        Some(n) => Some(Register::R16(n)),
+    }
+}
+
+/// A general register of 32 bits.
+#[inline]
+#[tactic(auto, unfolding(crate::specs::ReadRegisters::double_at))]
+fn double_at(number: Option<u8>) -> Option<Register>
+    ensures { result ≡ spec.double_at number }
+{
+    match number {
+        None => None,
+        Some(n) => Some(Register::R32(n)),
+    }
+}
+
+/// A general register of 64 bits.
+#[inline]
+#[tactic(auto, unfolding(crate::specs::ReadRegisters::quad_at))]
+fn quad_at(number: Option<u8>) -> Option<Register>
+    ensures { result ≡ spec.quad_at number }
+{
+    match number {
+        None => None,
+        Some(n) => Some(Register::R64(n)),
+    }
+}
+
+/// A control register.
+#[inline]
+#[tactic(auto, unfolding(crate::specs::ReadRegisters::control_at))]
+fn control_at(number: Option<u8>) -> Option<Register>
+    ensures { result ≡ spec.control_at number }
+{
+    match number {
+        None => None,
+        Some(n) => Some(Register::Cr(n)),
+    }
+}
+
+/// A debug register.
+#[inline]
+#[tactic(auto, unfolding(crate::specs::ReadRegisters::debug_at))]
+fn debug_at(number: Option<u8>) -> Option<Register>
+    ensures { result ≡ spec.debug_at number }
+{
+    match number {
+        None => None,
+        Some(n) => Some(Register::Dr(n)),
+    }
+}
+
+/// A register of the x87 stack.
+#[inline]
+#[tactic(auto, unfolding(crate::specs::ReadRegisters::stack_at))]
+fn stack_at(number: Option<u8>) -> Option<Register>
+    ensures { result ≡ spec.stack_at number }
+{
+    match number {
+        None => None,
+        Some(n) => Some(Register::St(n)),
+    }
+}
+
+/// An MMX register.
+#[inline]
+#[tactic(auto, unfolding(crate::specs::ReadRegisters::mmx_at))]
+fn mmx_at(number: Option<u8>) -> Option<Register>
+    ensures { result ≡ spec.mmx_at number }
+{
+    match number {
+        None => None,
+        Some(n) => Some(Register::Mm(n)),
+    }
+}
+
+/// An XMM register.
+#[inline]
+#[tactic(auto, unfolding(crate::specs::ReadRegisters::xmm_at))]
+fn xmm_at(number: Option<u8>) -> Option<Register>
+    ensures { result ≡ spec.xmm_at number }
+{
+    match number {
+        None => None,
+        Some(n) => Some(Register::Xmm(n)),
+    }
+}
+
+/// A YMM register.
+#[inline]
+#[tactic(auto, unfolding(crate::specs::ReadRegisters::ymm_at))]
+fn ymm_at(number: Option<u8>) -> Option<Register>
+    ensures { result ≡ spec.ymm_at number }
+{
+    match number {
+        None => None,
+        Some(n) => Some(Register::Ymm(n)),
+    }
+}
+
+/// A segment register.
+#[inline]
+#[tactic(auto, unfolding(crate::specs::ReadRegisters::segment_at))]
+fn segment_at(segment: Option<Segment>) -> Option<Register>
+    ensures { result ≡ spec.segment_at segment }
+{
+    match segment {
+        None => None,
+        Some(s) => Some(Register::Seg(s)),
+    }
+}
+
+/// The number of one of eight registers.
+#[inline]
+#[tactic(auto, unfolding(crate::specs::ReadRegisters::below_8))]
+fn below_8(number: Option<u8>) -> Option<u8>
+    ensures { result ≡ spec.below_8 number }
+{
+    match number {
+        None => None,
+        Some(n) => if n < 8 { Some(n) } else { None },
+    }
+}
+
+/// The number of one of R8 to R15.
+#[inline]
+#[tactic(auto, unfolding(crate::specs::ReadRegisters::from_8))]
+fn from_8(number: Option<u8>) -> Option<u8>
+    ensures { result ≡ spec.from_8 number }
+{
+    match number {
+        None => None,
+        Some(n) => if 8 <= n { Some(n) } else { None },
+    }
+}
+
+/// SPL, BPL, SIL or DIL, by the number of SP, BP, SI or DI.
+#[inline]
+#[tactic(auto, unfolding(crate::specs::ReadRegisters::pointer_byte))]
+fn pointer_byte(number: Option<u8>) -> Option<Register>
+    ensures { result ≡ spec.pointer_byte number }
+{
+    match number {
+        None => None,
+        Some(n) => if 4 <= n {
+            Some(Register::Low8(n))
+        } else {
+            None
+        },
+    }
+}
+
+/// A name of two letters.
+#[tactic(auto, unfolding(crate::specs::ReadRegisters::two_letters))]
+fn two_letters(a: u8, b: u8) -> Option<Register>
+    ensures { result ≡ spec.two_letters a b }
+{
+    match b {
+        b'l' => low_at(letter_number(a)),
+        b'h' => high_at(letter_number(a)),
+        b's' => segment_at(segment_by(a)),
+        _ => word_at(word_number(a, b)),
+    }
+}
+
+/// A name of letters alone without the `e` or `r` of a larger register, behind its first letter.
+#[tactic(auto, unfolding(crate::specs::ReadRegisters::lettered))]
+fn lettered(a: u8, more: &[u8]) -> Option<Register>
+    ensures { result ≡ spec.lettered a more.now }
+{
+    match more {
+        [b] => two_letters(a, *b),
+        [b, c] => if *c == b'l' {
+            pointer_byte(word_number(a, *b))
+        } else {
+            None
+        },
+        _ => None,
+    }
+}
+
+/// A name that begins with `e`, behind it.
+#[tactic(auto, unfolding(crate::specs::ReadRegisters::e_named))]
+fn e_named(more: &[u8]) -> Option<Register>
+    ensures { result ≡ spec.e_named more.now }
+{
+    match more {
+        [a] => if *a == b's' {
+            Some(Register::Seg(Segment::Es))
+        } else {
+            None
+        },
+        [a, b] => if *a == b'i' && *b == b'p' {
+            Some(Register::Eip)
+        } else {
+            double_at(word_number(*a, *b))
+        },
+        _ => None,
+    }
+}
+
+/// R8 to R15 by the letter of its size.
+#[inline]
+#[tactic(auto, unfolding(crate::specs::ReadRegisters::sized_by))]
+fn sized_by(letter: u8, number: Option<u8>) -> Option<Register>
+    ensures { result ≡ spec.sized_by letter number }
+{
+    match letter {
+        b'b' => low_at(number),
+        b'w' => word_at(number),
+        b'd' => double_at(number),
+        _ => None,
+    }
+}
+
+/// A name that begins with `r`, behind it.
+#[tactic(auto, unfolding(crate::specs::ReadRegisters::r_named))]
+fn r_named(more: &[u8]) -> Option<Register>
+    ensures { result ≡ spec.r_named more.now }
+{
+    match more {
+        [_] => quad_at(from_8(decimal_in(more))),
+        [a, b] => if 97 <= *a {
+            if *a == b'i' && *b == b'p' {
+                Some(Register::Rip)
+            } else {
+                quad_at(word_number(*a, *b))
+            }
+        } else if 97 <= *b {
+            sized_by(*b, from_8(decimal_in(&[*a])))
+        } else {
+            quad_at(from_8(decimal_in(more)))
+        },
+        [a, b, c] => sized_by(*c, from_8(decimal_in(&[*a, *b]))),
+        _ => None,
+    }
+}
+
+/// The number behind `mm`.
+#[inline]
+#[tactic(auto, unfolding(crate::specs::ReadRegisters::vector_number))]
+fn vector_number(text: &[u8]) -> Option<u8>
+    ensures { result ≡ spec.vector_number text.now }
+{
+    if first(text) == b'm' && first(rest(text)) == b'm' {
+        decimal_in(rest(rest(text)))
+    } else {
+        None
+    }
+}
+
+/// The register whose name has this first letter, and these bytes behind it.
+#[tactic(auto, unfolding(crate::specs::ReadRegisters::register_from))]
+fn register_from(a: u8, more: &[u8]) -> Option<Register>
+    ensures { result ≡ spec.register_from a more.now }
+{
+    if a == b'r' {
+        r_named(more)
+    } else if a == b'e' {
+        e_named(more)
+    } else if a == b'x' {
+        xmm_at(vector_number(more))
+    } else if a == b'y' {
+        ymm_at(vector_number(more))
+    } else if a == b'm' && first(more) == b'm' {
+        mmx_at(below_8(decimal_in(rest(more))))
+    } else if a == b's' && first(more) == b't' {
+        stack_at(below_8(decimal_in(rest(more))))
+    } else if a == b'c' && first(more) == b'r' {
+        control_at(decimal_in(rest(more)))
+    } else if a == b'd' && first(more) == b'r' {
+        debug_at(below_8(decimal_in(rest(more))))
+    } else {
+        lettered(a, more)
+    }
+}
+
+/// The register of this name.
+#[tactic(auto, unfolding(crate::specs::ReadRegisters::register_named))]
+pub fn register_named(name: &[u8]) -> Option<Register>
+    ensures { result ≡ spec.register_named name.now }
+{
+    match name {
+        [] => None,
+        [a, more @ ..] => register_from(*a, more),
+    }
+}

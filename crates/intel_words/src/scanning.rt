@@ -1,0 +1,118 @@
+//! Cutting a text: words, operands, and single bytes.
+
+ghost use Rattle.std.specs.Prelude.{◌≡◌, ◌≤◌, length};
+ghost use Rattle.std.specs.List.{prefix_len};
+ghost use Rattle.intel_words.specs.Scanning.{is_word_byte};
+ghost use Rattle.intel_words.specs.Scanning as spec;
+
+/// Whether a byte is a lower-case letter or a digit.
+#[inline]
+#[tactic(auto, unfolding(crate::specs::Scanning::is_word_byte))]
+fn is_word_byte(c: u8) -> bool
+    ensures { result ≡ is_word_byte c }
+{
+    97 <= c && c <= 122 || 48 <= c && c <= 57
+}
+
+/// Whether a byte is no comma.
+#[inline]
+#[tactic(auto, unfolding(crate::specs::Scanning::is_no_comma))]
+fn is_no_comma(c: u8) -> bool
+    ensures { result ≡ spec.is_no_comma c }
+{
+    c != 44
+}
+
+/// How many bytes the word at the front has.
+#[inline]
+fn word_len(text: &[u8]) -> usize
+    ensures { result ≡ prefix_len is_word_byte text.now }
+{
+    for (i, c) in text.iter().enumerate() {
+        if !is_word_byte(*c) {
+            return i;
+        }
+    }
+    text.len()
+}
+
+/// How many bytes the operand at the front has.
+#[inline]
+fn token_len(text: &[u8]) -> usize
+    ensures { result ≡ prefix_len spec.is_no_comma text.now }
+{
+    for (i, c) in text.iter().enumerate() {
+        if !is_no_comma(*c) {
+            return i;
+        }
+    }
+    text.len()
+}
+
+/// The word at the front, and what stands behind it.
+#[inline]
+pub fn split_word(text: &[u8]) -> (&[u8], &[u8])
+    ensures word { result.0.now ≡ spec.word text.now }
+    ensures behind { result.1.now ≡ spec.behind text.now }
+{
+    text.split_at(word_len(text))
+}
+
+/// The word at the front.
+#[inline]
+pub fn word(text: &[u8]) -> &[u8]
+    ensures { result.now ≡ spec.word text.now }
+{
+    split_word(text).0
+}
+
+/// What stands behind the word at the front.
+#[inline]
+pub fn behind(text: &[u8]) -> &[u8]
+    ensures { result.now ≡ spec.behind text.now }
+{
+    split_word(text).1
+}
+
+/// The first byte, 0 of none.
+#[inline]
+#[tactic(auto, unfolding(crate::specs::Scanning::first))]
+pub fn first(text: &[u8]) -> u8
+    ensures { result ≡ spec.first text.now }
+{
+    match text {
+        [] => 0,
+        [c, _rest @ ..] => *c,
+    }
+}
+
+/// All but the first byte.
+#[inline]
+#[tactic(auto, unfolding(crate::specs::Scanning::rest))]
+pub fn rest(text: &[u8]) -> &[u8]
+    ensures { result.now ≡ spec.rest text.now }
+{
+    match text {
+        [] => text,
+        [_, rest @ ..] => rest,
+    }
+}
+
+/// The operand at the front, and the text of the next one behind its comma and space.
+#[inline]
+pub fn split_operand(text: &[u8]) -> (&[u8], &[u8])
+    ensures token { result.0.now ≡ spec.token text.now }
+    ensures next { result.1.now ≡ spec.next_operand text.now }
+{
+    let (token, behind) = text.split_at(token_len(text));
+    (token, rest(rest(behind)))
+}
+
+/// What stands behind a word and the byte that ends it, where the word is passed.
+#[inline]
+#[tactic(auto, unfolding(crate::specs::Scanning::skip_if))]
+pub fn skip_if(passed: bool, text: &[u8]) -> &[u8]
+    ensures { result.now ≡ spec.skip_if passed text.now }
+{
+    if passed { rest(behind(text)) } else { text }
+}

@@ -1,0 +1,263 @@
+//! Texts as the manual's assembler syntax has them, and what they say.
+
+use crate::reading::read_words;
+use crate::words::{
+    AddressText, Inside, IntelWords, NamedWords, OperandText, SignedText, SizeName, SumText,
+};
+use std::test::Fail;
+use x86_values::{Bits, Register, Rep, Segment};
+
+/// Words without prefix words.
+fn plain(ops: [OperandText; 4]) -> IntelWords {
+    IntelWords {
+        lock: false,
+        rep: Rep::None,
+        seg: None,
+        asize: None,
+        osize: None,
+        ops,
+    }
+}
+
+/// Registers and a displacement in brackets.
+fn sum(
+    base: Option<Register>,
+    index: Option<Register>,
+    scale: Option<u8>,
+    disp: Option<SignedText>,
+) -> Inside {
+    Inside::Sum(SumText {
+        base,
+        index,
+        scale,
+        disp,
+    })
+}
+
+/// An address.
+fn address(size: SizeName, seg: Option<Segment>, inside: Inside) -> OperandText {
+    OperandText::Mem(AddressText { size, seg, inside })
+}
+
+const NONE: OperandText = OperandText::Absent;
+
+#[test]
+fn operands_are_read(rt: HostRuntime) {
+    let minus_8 = Some(SignedText {
+        negative: true,
+        magnitude: 8,
+    });
+    let plus_16 = Some(SignedText {
+        negative: false,
+        magnitude: 16,
+    });
+    let reg = |r: Register| OperandText::Reg(r);
+    let cases = [
+        ("nop", "nop", [NONE, NONE, NONE, NONE]),
+        ("push rbp", "push", [reg(Register::RBP), NONE, NONE, NONE]),
+        (
+            "mov ah, r13b",
+            "mov",
+            [reg(Register::AH), reg(Register::R13B), NONE, NONE],
+        ),
+        (
+            "sub rsp, 0x20",
+            "sub",
+            [reg(Register::RSP), OperandText::Number(0x20), NONE, NONE],
+        ),
+        (
+            "callf 0x8:0x10",
+            "callf",
+            [
+                OperandText::Far {
+                    selector: 8,
+                    offset: 16,
+                },
+                NONE,
+                NONE,
+                NONE,
+            ],
+        ),
+        (
+            "mov eax, dword fs:[rax+rbx*4-0x8]",
+            "mov",
+            [
+                reg(Register::EAX),
+                address(
+                    SizeName::Dword,
+                    Some(Segment::Fs),
+                    sum(Some(Register::RAX), Some(Register::RBX), Some(4), minus_8),
+                ),
+                NONE,
+                NONE,
+            ],
+        ),
+        (
+            "lea rcx, [rel 0x1007]",
+            "lea",
+            [
+                reg(Register::RCX),
+                address(
+                    SizeName::None,
+                    None,
+                    Inside::Rel {
+                        eip: false,
+                        target: 0x1007,
+                    },
+                ),
+                NONE,
+                NONE,
+            ],
+        ),
+        (
+            "mov word [rel32 0x1007], 0x5",
+            "mov",
+            [
+                address(
+                    SizeName::Word,
+                    None,
+                    Inside::Rel {
+                        eip: true,
+                        target: 0x1007,
+                    },
+                ),
+                OperandText::Number(5),
+                NONE,
+                NONE,
+            ],
+        ),
+        (
+            "mov al, byte [0xffffffff00000000]",
+            "mov",
+            [
+                reg(Register::AL),
+                address(SizeName::Byte, None, Inside::Lone(0xFFFF_FFFF_0000_0000)),
+                NONE,
+                NONE,
+            ],
+        ),
+        (
+            "mov byte [bx+si+0x10], dil",
+            "mov",
+            [
+                address(
+                    SizeName::Byte,
+                    None,
+                    sum(Some(Register::BX), Some(Register::SI), None, plus_16),
+                ),
+                reg(Register::DIL),
+                NONE,
+                NONE,
+            ],
+        ),
+        (
+            "vgatherdps ymm1, dword [ymm2*8], ymm3",
+            "vgatherdps",
+            [
+                reg(Register::YMM1),
+                address(
+                    SizeName::Dword,
+                    None,
+                    sum(None, Some(Register::YMM2), Some(8), None),
+                ),
+                reg(Register::YMM3),
+                NONE,
+            ],
+        ),
+        (
+            "jmpf far32 [esp]",
+            "jmpf",
+            [
+                address(
+                    SizeName::Far32,
+                    None,
+                    sum(Some(Register::ESP), None, None, None),
+                ),
+                NONE,
+                NONE,
+                NONE,
+            ],
+        ),
+        (
+            "vblendvps xmm0, xmm15, xmm2, xmm10",
+            "vblendvps",
+            [
+                reg(Register::XMM0),
+                reg(Register::XMM15),
+                reg(Register::XMM2),
+                reg(Register::XMM10),
+            ],
+        ),
+    ];
+    for (text, name, ops) in cases {
+        let want = NamedWords {
+            name: name.as_bytes(),
+            words: plain(ops),
+        };
+        assert!(rt; read_words(text.as_bytes()) == Some(want), "{}", text);
+    }
+}
+
+#[test]
+fn prefix_words_are_read(rt: HostRuntime) {
+    let none = plain([NONE, NONE, NONE, NONE]);
+    let cases = [
+        (
+            "repne gs a32 scasb",
+            IntelWords {
+                rep: Rep::F2,
+                seg: Some(Segment::Gs),
+                asize: Some(Bits::B32),
+                ..none
+            },
+        ),
+        (
+            "lock rep es a16 o64 scasb",
+            IntelWords {
+                lock: true,
+                rep: Rep::F3,
+                seg: Some(Segment::Es),
+                asize: Some(Bits::B16),
+                osize: Some(Bits::B64),
+                ..none
+            },
+        ),
+        (
+            "o16 scasb",
+            IntelWords {
+                osize: Some(Bits::B16),
+                ..none
+            },
+        ),
+    ];
+    for (text, words) in cases {
+        let want = NamedWords {
+            name: b"scasb",
+            words,
+        };
+        assert!(rt; read_words(text.as_bytes()) == Some(want), "{}", text);
+    }
+}
+
+#[test]
+fn other_texts_are_refused(rt: HostRuntime) {
+    for text in [
+        "mov eax, 0x",
+        "mov eax, 0X5",
+        "mov eax, 0xA",
+        "mov eax, 0x05",
+        "mov eax, 0x10000000000000000",
+        "mov eax, 5",
+        "mov EAX, ebx",
+        "mov r16, rax",
+        "mov r7d, eax",
+        "mov xmm16, xmm0",
+        "mov eax, [eax+]",
+        "mov eax, [rel eax]",
+        "mov eax, pointer [eax]",
+        "mov eax, hs:[eax]",
+        "mov  eax, ecx",
+    ] {
+        assert!(rt; read_words(text.as_bytes()).is_none(), "{}", text);
+    }
+}
