@@ -6,3 +6,4 @@ pub mod Printed
 pub mod Leading
 pub mod PlainFacts
 pub mod Choosing
+pub mod Apart

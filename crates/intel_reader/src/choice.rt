@@ -5,7 +5,8 @@ ghost use Rattle.x86_values.specs.declared.Bits.{Bits};
 ghost use Rattle.x86_values.specs.declared.DispSize.{DispSize};
 ghost use Rattle.row_types.specs.declared.Row.{Row};
 ghost use Rattle.opcode_rows.specs.Table.{table, name_of};
-ghost use Rattle.text_parts.specs.PrefixWords.{is_counter_jump, name_text};
+ghost use Rattle.text_parts.specs.PrefixWords as prefix_words;
+ghost use Rattle.text_parts.specs.PrefixWords.{name_text};
 ghost use Rattle.intel_words.specs.Words.{words_of};
 ghost use Rattle.intel_reader.specs.Assembled.{Assembly, rank, IsCandidate, IsFirst, IsNoText};
 ghost use Rattle.intel_reader.specs.Candidate as spec;
@@ -20,7 +21,6 @@ use intel_words::words::IntelWords;
 use opcode_rows::{ROWS, name, row_of, well_formed};
 use row_types::Row;
 use std::cmp::Ordering;
-use text_parts::prefix_words::is_counter_jump;
 use x86_values::{Bits, Code, DispSize, Instr};
 
 /// An instruction and the bytes of its plain spelling.
@@ -158,11 +158,19 @@ fn with_code(
     with_row(best, bits, ip, text, &row, code, words)
 }
 
+/// Whether a name is that of the jump on the counter.
+#[tactic(auto, unfolding(text_parts::specs::PrefixWords::is_counter_jump))]
+fn is_counter_jump(name: &[u8]) -> bool
+    ensures { result ≡ prefix_words.is_counter_jump name.now }
+{
+    name == b"jrcxz".as_slice()
+}
+
 /// Whether an instruction of a code may have this name in its text: that of its row, or one of the jump on the counter, whose name shows its address
 /// size.
 fn may_have(word: &[u8], code: Code) -> bool
     requires { code.0 < ROWS }
-    ensures { result ≡ (bytes_eq (name_of code.0) word.now || is_counter_jump (name_of code.0)) }
+    ensures { result ≡ (bytes_eq (name_of code.0) word.now || prefix_words.is_counter_jump (name_of code.0)) }
 {
     let bytes = name(code).as_bytes();
     bytes == word || is_counter_jump(bytes)

@@ -10,6 +10,7 @@ ghost use Rattle.intel_reader.specs.Assembled.{IsAssembled, AssemblesTo, IsNoTex
 
 mod candidate;
 mod choice;
+pub mod laws;
 
 use arrayvec::ArrayVec;
 use choice::first_of;
