@@ -1,6 +1,6 @@
 -- The candidates of a text, by their rows and words.
 use Rattle.std.proofs.Common.{◌≡◌, ℕ, ◌+◌, ◌<◌, ◌≤◌, ◌⊎◌, inl, inr, Bool, true, false, ◌||◌, List, length, Option, Some, None, refl, ap, sym, ◌∙◌, subst, arith, slice_get}
-use Rattle.std.specs.Prelude.{IsTrue, if◌then◌else◌, bytes_eq}
+use Rattle.std.specs.Prelude.{IsTrue, IfSome, IsNone, bytes_eq}
 use Rattle.std.proofs.lemmas.Slice.Eq.{bytes_eq-Decides}
 use Rattle.x86_values.specs.declared.Bits.{Bits}
 use Rattle.x86_values.specs.declared.DispSize.{DispSize}
@@ -9,6 +9,7 @@ use Rattle.x86_values.specs.declared.Instr.{Instr}
 use Rattle.x86_values.specs.Wrapping.{wrapped}
 use Rattle.row_types.specs.declared.Row.{Row}
 use Rattle.plain_laws.specs.Plain.{IsPlainlySpelled}
+use Rattle.opcode_rows.specs.declared.spots.TheConstants.{ROWS}
 use Rattle.opcode_rows.specs.Table.{table, name_of}
 use Rattle.opcode_rows.specs.Allowed.{is_well_formed}
 use Rattle.text_parts.specs.declared.style.Style.TheVariants.{Intel}
@@ -19,7 +20,9 @@ use Rattle.intel_text.proofs.TextLaws.{text-known}
 use Rattle.intel_words.specs.declared.words.IntelWords.{IntelWords}
 use Rattle.intel_words.specs.Words.{words_of}
 use Rattle.intel_words.specs.Printable.{is_printable}
-use Rattle.intel_reader.specs.Assembled.{Assembly, IsCandidate}
+use Rattle.intel_reader.specs.declared.choice.Found.{Found}
+use Rattle.intel_reader.specs.Assembled.{Assembly, IsCandidate, IsFirst, IsNoText}
+use Rattle.intel_reader.specs.Choice.{assembly_of, Leads, IsHeld}
 use Rattle.intel_reader.specs.Candidate.{candidate, HasSize}
 use Rattle.intel_reader.proofs.CandidateBack.{candidate_back}
 use Rattle.intel_reader.proofs.Printed.{plain_is_printable}
@@ -103,3 +106,22 @@ printed_facts bits ip text b row k at =
 -- the row of a candidate
 pub row_of_candidate : (bits : Bits) (ip : ℕ) (text : List ℕ) (b : Assembly) → IsCandidate bits ip text b → (row : Row) × (slice_get table b.instr.code.0 ≡ Some row)
 row_of_candidate bits ip text b k = (k.spelled.row, k.spelled.row_is)
+
+-- ---- all codes
+
+-- where each code was gone over, what was found leads every candidate
+pub all_led : (bits : Bits) (ip : ℕ) (text : List ℕ) (best : Option Found) (code : ℕ) → ((b : Assembly) → IsCandidate bits ip text b → b.instr.code.0 < code → Leads best b) → ROWS ≤ code
+    → (b : Assembly) → IsCandidate bits ip text b → Leads best b
+all_led bits ip text best code led all b k =
+    let there = row_there bits (wrapped bits ip) b.bytes b.instr k.spelled in
+    let below : b.instr.code.0 < ROWS = there.2.below in
+    led b k (omega (arith, below, all))
+
+pub first_from : (bits : Bits) (ip : ℕ) (text : List ℕ) (best : Option Found) → IsHeld bits ip text best → ((b : Assembly) → IsCandidate bits ip text b → Leads best b)
+    → IfSome best (λ f. IsFirst bits ip text (assembly_of f))
+first_from bits ip text None held led = tt
+first_from bits ip text (Some f) held led = record { candidate = held; first = λ b k. led b k }
+
+pub none_from : (bits : Bits) (ip : ℕ) (text : List ℕ) (best : Option Found) → ((b : Assembly) → IsCandidate bits ip text b → Leads best b) → IsNone best → IsNoText bits ip text
+none_from bits ip text None led e = λ a k. led a k
+none_from bits ip text (Some f) led e = λ a k. absurd (let z : false ≡ true = e in cc)
