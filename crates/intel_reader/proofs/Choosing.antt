@@ -20,6 +20,7 @@ use Rattle.intel_text.proofs.TextLaws.{text-known}
 use Rattle.intel_words.specs.declared.words.IntelWords.{IntelWords}
 use Rattle.intel_words.specs.Words.{words_of}
 use Rattle.intel_words.specs.Printable.{is_printable}
+use Rattle.plain_spelling.proofs.AddressCases.{impossible}
 use Rattle.intel_reader.specs.declared.choice.Found.{Found}
 use Rattle.intel_reader.specs.Assembled.{Assembly, IsCandidate, IsFirst, IsNoText}
 use Rattle.intel_reader.specs.Choice.{assembly_of, Leads, IsHeld}
@@ -124,4 +125,4 @@ first_from bits ip text (Some f) held led = record { candidate = held; first = �
 
 pub none_from : (bits : Bits) (ip : ℕ) (text : List ℕ) (best : Option Found) → ((b : Assembly) → IsCandidate bits ip text b → Leads best b) → IsNone best → IsNoText bits ip text
 none_from bits ip text None led e = λ a k. led a k
-none_from bits ip text (Some f) led e = λ a k. absurd (let z : false ≡ true = e in cc)
+none_from bits ip text (Some f) led e = λ a k. impossible e
