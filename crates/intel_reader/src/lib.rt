@@ -11,6 +11,8 @@ ghost use Rattle.intel_reader.specs.Assembled.{IsAssembled, AssemblesTo, IsNoTex
 mod candidate;
 mod choice;
 pub mod laws;
+#[cfg(test)]
+mod tests;
 
 use arrayvec::ArrayVec;
 use choice::first_of;
