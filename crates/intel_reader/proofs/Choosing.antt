@@ -56,8 +56,8 @@ made_is bits ip text b row code words k at e w =
     let size = size_there i ready.well in (
       size.0,
       ap (λ (c : Code). candidate bits row c words i.asize size.0) (same_code code i.code (sym e))
-      ∙ ap (λ (v : IntelWords). candidate bits row i.code v i.asize size.0) w
-      ∙ candidate_back bits (wrapped bits ip) row (name_of i.code.0) i size.0 ready.given size.1,
+          ∙ ap (λ (v : IntelWords). candidate bits row i.code v i.asize size.0) w
+          ∙ candidate_back bits (wrapped bits ip) row (name_of i.code.0) i size.0 ready.given size.1,
     )
 
 -- ---- names

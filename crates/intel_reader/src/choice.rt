@@ -116,7 +116,17 @@ fn with_sizes(
     let byte = with_candidate(none, bits, ip, text, row, code, words, asize, DispSize::D8);
     let word = with_candidate(byte, bits, ip, text, row, code, words, asize, DispSize::D16);
     let dword = with_candidate(word, bits, ip, text, row, code, words, asize, DispSize::D32);
-    with_candidate(dword, bits, ip, text, row, code, words, asize, DispSize::D64)
+    with_candidate(
+        dword,
+        bits,
+        ip,
+        text,
+        row,
+        code,
+        words,
+        asize,
+        DispSize::D64,
+    )
 }
 
 /// The same with the candidates of all address sizes.
