@@ -1,26 +1,22 @@
 -- An address of an instruction with a plain spelling is made from its text, its address size and its displacement size.
-use Rattle.std.proofs.Common.{◌≡◌, ◌⊎◌, inl, inr, ℕ, ◌+◌, ◌-◌, ◌*◌, ◌%◌, ◌^◌, ◌<◌, ◌≤◌, Bool, true, false, ◌&&◌, ◌||◌, not, ◌==◌, nat_le, nat_lt, Option, Some, None, is_some, is_none, refl, ap, sym, ◌∙◌, subst, arith, if◌then◌else◌}
+use Rattle.std.proofs.Common.{◌≡◌, ◌⊎◌, inl, inr, ℕ, ◌+◌, ◌-◌, ◌*◌, ◌%◌, ◌^◌, ◌<◌, Bool, true, false, ◌||◌, nat_le, nat_lt, Option, Some, None, is_some, is_none, refl, ap, sym, ◌∙◌, arith, if◌then◌else◌}
 use Rattle.std.specs.Prelude.{unwrap_or}
 use Rattle.std.proofs.lemmas.Bool.{leb-true}
 use borrow.Author.Tests.{ltb-true}
 use Rattle.x86_values.specs.declared.Bits.{Bits}
 use Rattle.x86_values.specs.declared.Bits.TheVariants.{B16, B32, B64}
 use Rattle.x86_values.specs.declared.Register.{Register}
-use Rattle.x86_values.specs.declared.Register.TheVariants.{R16, Eip, Rip}
+use Rattle.x86_values.specs.declared.Register.TheVariants.{Eip, Rip}
 use Rattle.x86_values.specs.declared.DispSize.{DispSize}
 use Rattle.x86_values.specs.declared.DispSize.TheVariants.{D0, D8, D16, D32, D64}
 use Rattle.x86_values.specs.declared.Mem.{Mem}
-use Rattle.x86_values.specs.Wrapping.{width, wrapped}
-use Rattle.instruction_parts.specs.Counting.{is_16, is_64, or_else}
-use Rattle.instruction_parts.proofs.Tests.{either, and_left, and_right, not_true, equal_from}
+use Rattle.x86_values.specs.Wrapping.{width}
+use Rattle.instruction_parts.proofs.Tests.{either, and_left, and_right}
 use Rattle.plain_spelling.specs.Values.{is_extended_of}
-use Rattle.plain_spelling.specs.declared.addresses.AddressForm.{AddressForm}
-use Rattle.plain_spelling.specs.declared.addresses.AddressForm.TheVariants.{Relative, Alone, Short, Flat}
-use Rattle.plain_spelling.specs.Addresses.{form_of, displacement_count}
 use Rattle.plain_spelling.proofs.AddressCases as same
 use Rattle.text_parts.specs.Addresses.{is_instruction_pointer, is_relative, is_absolute, is_negative, magnitude}
 use Rattle.intel_words.specs.declared.words.Inside.{Inside}
-use Rattle.intel_words.specs.declared.words.Inside.TheVariants.{Nothing, Lone, Rel, Sum}
+use Rattle.intel_words.specs.declared.words.Inside.TheVariants.{Nothing, Lone}
 use Rattle.intel_words.specs.Words.{is_eip, lone_of, signed_of, scale_of, sum_of, inside_of}
 use Rattle.intel_reader.specs.Candidate.{signed_number, displacement_from, address_from}
 

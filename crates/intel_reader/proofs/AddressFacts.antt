@@ -1,12 +1,11 @@
 -- What the conditions on an address come to at the address size of its instruction.
-use Rattle.std.proofs.Common.{◌≡◌, ℕ, ◌*◌, ◌^◌, ◌<◌, ◌≤◌, Bool, true, false, ◌&&◌, ◌||◌, not, ◌==◌, nat_lt, Option, Some, None, is_some, is_none, refl, ap, sym, ◌∙◌, subst, arith}
+use Rattle.std.proofs.Common.{◌≡◌, ℕ, ◌^◌, ◌<◌, Bool, true, false, ◌&&◌, ◌||◌, not, ◌==◌, Option, Some, None, is_some, is_none, refl, ap, sym, ◌∙◌, subst, arith}
 use borrow.Author.Tests.{ltb-true}
 use Rattle.x86_values.specs.declared.Bits.{Bits}
 use Rattle.x86_values.specs.declared.Bits.TheVariants.{B16, B32, B64}
 use Rattle.x86_values.specs.declared.Register.{Register}
-use Rattle.x86_values.specs.declared.Register.TheVariants.{R16, Eip, Rip}
+use Rattle.x86_values.specs.declared.Register.TheVariants.{Eip, Rip}
 use Rattle.x86_values.specs.declared.DispSize.{DispSize}
-use Rattle.x86_values.specs.declared.DispSize.TheVariants.{D0}
 use Rattle.x86_values.specs.declared.Mem.{Mem}
 use Rattle.x86_values.specs.declared.Operand.TheVariants.{Mem as MemOperand}
 use Rattle.x86_values.specs.Wrapping.{width}
@@ -17,14 +16,13 @@ use Rattle.instruction_parts.specs.declared.kinds.File.{File}
 use Rattle.instruction_parts.specs.Counting.{is_16, is_64}
 use Rattle.instruction_parts.proofs.Tests.{and_left, and_right, equal_from}
 use Rattle.plain_spelling.specs.Values.{is_extended_of}
-use Rattle.plain_spelling.specs.Comparing.{same_bits}
 use Rattle.plain_spelling.specs.declared.addresses.AddressForm.{AddressForm}
 use Rattle.plain_spelling.specs.declared.addresses.AddressForm.TheVariants.{Relative, Alone, Short, Flat}
 use Rattle.plain_spelling.specs.Addresses.{form_of, rm_of_short, has_address_size, is_base, is_index, scale_suits, is_flat_size, is_flat_shape, is_shape, is_gather_base, is_vector_index, is_gather_shape, shape_suits, displacement_count, offers, is_displacement, displacement_suits, shown_size, written_size}
 use Rattle.plain_spelling.specs.Forms.{is_scale}
 use Rattle.plain_spelling.specs.Expressible.{size_agrees}
 use Rattle.plain_spelling.proofs.Compared.{same_bits-is}
-use Rattle.plain_spelling.proofs.AddressCases.{impossible, form-alone, form-alone-index, form-short, agrees, written_is}
+use Rattle.plain_spelling.proofs.AddressCases.{impossible, form-alone-index, form-short, agrees, written_is}
 use Rattle.plain_spelling.proofs.AddressForms.{shape_is, value_at}
 use Rattle.plain_fit.proofs.AddressShapes.{shape_shown}
 use Rattle.plain_fit.proofs.AddressGathers.{gather_is_flat, gather_shown, absolute_shown, absolute_is_alone}

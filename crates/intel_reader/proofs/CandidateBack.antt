@@ -1,5 +1,5 @@
 -- An instruction with a plain spelling is made from the words of its text, its row, its address size and its displacement size.
-use Rattle.std.proofs.Common.{◌≡◌, ℕ, zero, suc, ◌+◌, ◌%◌, ◌^◌, ◌<◌, Bool, true, false, ◌&&◌, ◌||◌, List, [], ◌∷◌, length, Option, Some, None, refl, ap, sym, ◌∙◌, subst, arith, if◌then◌else◌, slice_index_or}
+use Rattle.std.proofs.Common.{◌≡◌, ℕ, ◌%◌, ◌^◌, ◌<◌, Bool, true, false, ◌||◌, List, [], ◌∷◌, length, Option, Some, None, refl, ap, sym, ◌∙◌, subst, arith, if◌then◌else◌, slice_index_or}
 use Rattle.std.specs.Prelude.{unwrap_or}
 use Rattle.std.specs.List.{list_any}
 use Rattle.x86_values.specs.declared.Bits.{Bits}
@@ -12,11 +12,8 @@ use Rattle.x86_values.specs.declared.Rep.{Rep}
 use Rattle.x86_values.specs.declared.Code.{Code}
 use Rattle.x86_values.specs.declared.Instr.{Instr}
 use Rattle.row_types.specs.declared.Row.{Row}
-use Rattle.instruction_parts.specs.declared.kinds.Method.{Method}
-use Rattle.instruction_parts.specs.declared.kinds.Method.TheVariants as method
 use Rattle.instruction_parts.specs.Kinds.{method_of, file_of}
-use Rattle.instruction_parts.specs.Counting.{is_16}
-use Rattle.row_fit.specs.Fits.{kind_at, immediate_bytes, reads_by, is_gather}
+use Rattle.row_fit.specs.Fits.{kind_at, immediate_bytes, is_gather}
 use Rattle.plain_spelling.specs.Forms.{operand_at, is_variant_of}
 use Rattle.plain_spelling.specs.Addresses.{displacement_suits, written_size}
 use Rattle.plain_spelling.specs.PlainTail.{plain_size}
@@ -24,15 +21,13 @@ use Rattle.plain_spelling.specs.Expressible.{kind_suits, immediate_suits, immedi
 use Rattle.plain_spelling.proofs.Asked.{each-at}
 use Rattle.plain_fit.proofs.Given.{Given}
 use Rattle.plain_fit.proofs.Places.{reads-at}
-use Rattle.plain_fit.proofs.Addresses.{MemoryAt, memory_at}
-use Rattle.text_parts.specs.PrefixWords.{is_memory, has_memory, text_address_size}
-use Rattle.intel_words.specs.declared.words.IntelWords.{IntelWords}
-use Rattle.intel_words.specs.declared.words.OperandText.{OperandText}
+use Rattle.plain_fit.proofs.Addresses.{memory_at}
+use Rattle.text_parts.specs.PrefixWords.{is_memory, text_address_size}
 use Rattle.intel_words.specs.Words.{segment_of, inside_of, operand_of, nth_of, words_of}
-use Rattle.intel_reader.specs.Candidate.{is_near_method, is_near_at, address_from, operand_from, segment_or, segment_from, candidate, HasSize}
+use Rattle.intel_reader.specs.Candidate.{is_near_at, address_from, operand_from, segment_or, segment_from, candidate, HasSize}
 use Rattle.intel_reader.proofs.AddressBack.{AddressIs, address_back}
 use Rattle.intel_reader.proofs.AddressFacts.{address_is}
-use Rattle.intel_reader.proofs.OperandFacts.{immediate_not_near, near_is_near, FarIs, far_below}
+use Rattle.intel_reader.proofs.OperandFacts.{immediate_not_near, near_is_near, far_below}
 
 -- ---- what the conditions say of an operand
 

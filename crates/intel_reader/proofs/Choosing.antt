@@ -1,5 +1,5 @@
 -- The candidates of a text, by their rows and words.
-use Rattle.std.proofs.Common.{◌≡◌, ℕ, ◌+◌, ◌<◌, ◌≤◌, ◌⊎◌, inl, inr, Bool, true, false, ◌||◌, List, length, Option, Some, None, refl, ap, sym, ◌∙◌, subst, arith, slice_get}
+use Rattle.std.proofs.Common.{◌≡◌, ℕ, ◌<◌, ◌≤◌, Bool, true, false, ◌||◌, List, Option, Some, None, refl, ap, sym, ◌∙◌, subst, arith, slice_get}
 use Rattle.std.specs.Prelude.{IsTrue, IfSome, IsNone, bytes_eq}
 use Rattle.std.proofs.lemmas.Slice.Eq.{bytes_eq-Decides}
 use Rattle.x86_values.specs.declared.Bits.{Bits}
@@ -13,7 +13,7 @@ use Rattle.opcode_rows.specs.declared.spots.TheConstants.{ROWS}
 use Rattle.opcode_rows.specs.Table.{table, name_of}
 use Rattle.opcode_rows.specs.Allowed.{is_well_formed}
 use Rattle.text_parts.specs.declared.style.Style.TheVariants.{Intel}
-use Rattle.text_parts.specs.PrefixWords.{is_counter_jump, counter_jump, text_address_size, name_text}
+use Rattle.text_parts.specs.PrefixWords.{is_counter_jump, name_text}
 use Rattle.text_parts.specs.Layout.{bracket_layout}
 use Rattle.intel_text.specs.Text.{text_of}
 use Rattle.intel_text.proofs.TextLaws.{text-known}
@@ -24,10 +24,10 @@ use Rattle.plain_spelling.proofs.AddressCases.{impossible}
 use Rattle.intel_reader.specs.declared.choice.Found.{Found}
 use Rattle.intel_reader.specs.Assembled.{Assembly, IsCandidate, IsFirst, IsNoText}
 use Rattle.intel_reader.specs.Choice.{assembly_of, Leads, IsHeld}
-use Rattle.intel_reader.specs.Candidate.{candidate, HasSize}
+use Rattle.intel_reader.specs.Candidate.{candidate}
 use Rattle.intel_reader.proofs.CandidateBack.{candidate_back}
 use Rattle.intel_reader.proofs.Printed.{plain_is_printable}
-use Rattle.intel_reader.proofs.PlainFacts.{IsReady, plain_is_ready, row_there, size_there}
+use Rattle.intel_reader.proofs.PlainFacts.{plain_is_ready, row_there, size_there}
 
 -- ---- one instruction
 

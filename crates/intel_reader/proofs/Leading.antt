@@ -1,18 +1,17 @@
 -- Going over candidates: what was found first stays the first of those gone over.
-use Rattle.std.proofs.Common.{◌≡◌, ◌⊎◌, inl, inr, ℕ, Bool, true, false, List, length, Option, Some, None, refl, ap, sym, ◌∙◌, subst}
+use Rattle.std.proofs.Common.{◌≡◌, ℕ, true, false, List, length, Option, Some, None, refl, ap, sym, ◌∙◌, subst}
 use Rattle.std.specs.declared.cmp.Ordering.{Ordering}
 use Rattle.std.specs.declared.cmp.Ordering.TheVariants.{Less, Equal, Greater}
 use Rattle.std.specs.Cmp.{IsTotalOrder}
-use Rattle.std.specs.Ordering.{nat_cmp, is_gt, on, then_cmp, ordering_reverse}
-use Rattle.std.specs.Cmp.Lexicographic.{slice_cmp}
+use Rattle.std.specs.Ordering.{is_gt, ordering_reverse}
 use Rattle.std.proofs.lemmas.Cmp.{upto, tied_itself, nat_cmp_total, nat_list_cmp_total, on_total, then_total}
 use Rattle.x86_values.specs.declared.Bits.{Bits}
 use Rattle.x86_values.specs.declared.Bits.TheVariants.{B16, B32, B64}
 use Rattle.x86_values.specs.declared.DispSize.{DispSize}
 use Rattle.x86_values.specs.declared.DispSize.TheVariants.{D0, D8, D16, D32, D64}
 use Rattle.intel_reader.specs.declared.choice.Found.{Found}
-use Rattle.intel_reader.specs.Assembled.{Assembly, rank, IsCandidate}
-use Rattle.intel_reader.specs.Choice.{assembly_of, Leads, IsHeld, IsProgress}
+use Rattle.intel_reader.specs.Assembled.{Assembly, rank}
+use Rattle.intel_reader.specs.Choice.{assembly_of, Leads, IsProgress}
 
 -- the order of candidates is total
 pub rank_total : IsTotalOrder rank

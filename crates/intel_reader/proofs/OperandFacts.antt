@@ -1,10 +1,9 @@
 -- What the conditions say of the operands of an instruction: which are near targets, and how large their numbers are.
-use Rattle.std.proofs.Common.{◌≡◌, ℕ, ◌+◌, ◌-◌, ◌*◌, ◌^◌, ◌<◌, ◌≤◌, Bool, true, false, ◌&&◌, ◌||◌, ◌==◌, nat_lt, refl, ap, sym, ◌∙◌, subst, arith}
+use Rattle.std.proofs.Common.{◌≡◌, ℕ, ◌-◌, ◌*◌, ◌^◌, ◌<◌, true, false, ◌&&◌, nat_lt, refl, sym, ◌∙◌, arith}
 use borrow.Author.Tests.{ltb-true}
 use Rattle.x86_values.specs.declared.Bits.{Bits}
 use Rattle.x86_values.specs.declared.Bits.TheVariants.{B16, B32, B64}
-use Rattle.x86_values.specs.declared.Operand.{Operand}
-use Rattle.x86_values.specs.declared.Operand.TheVariants.{Absent, Reg, Mem as MemOperand, Imm, Near, Far}
+use Rattle.x86_values.specs.declared.Operand.TheVariants.{Imm, Near, Far}
 use Rattle.x86_values.specs.Wrapping.{width}
 use Rattle.row_types.specs.declared.Place.{Place}
 use Rattle.row_types.specs.declared.Place.TheVariants.{Any as AnyPlace, Memory as OnlyMemory, Register as OnlyRegister}
@@ -13,11 +12,8 @@ use Rattle.row_types.specs.declared.OpKind.TheVariants.{Ap, Ib, Iw, Iv}
 use Rattle.instruction_parts.specs.declared.kinds.Method.{Method}
 use Rattle.instruction_parts.specs.declared.kinds.Method.TheVariants as method
 use Rattle.instruction_parts.specs.Kinds.{method_of, immediate_width}
-use Rattle.instruction_parts.specs.Counting.{is_16}
-use Rattle.instruction_parts.specs.Sizes.{size_bytes}
 use Rattle.instruction_parts.proofs.Tests.{and_left, and_right, equal_from}
 use Rattle.row_fit.specs.Fits.{immediate_bytes}
-use Rattle.plain_spelling.specs.Values.{is_extended_of}
 use Rattle.plain_spelling.specs.Forms.{is_allowed_in, is_variant_of}
 use Rattle.plain_spelling.specs.Expressible.{immediate_suits_how, near_reaches}
 use Rattle.plain_spelling.proofs.AddressCases.{impossible}

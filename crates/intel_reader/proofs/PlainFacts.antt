@@ -1,6 +1,6 @@
 -- What an instruction with a plain spelling at an address is: of its row's form, and made from its text.
-use Rattle.std.proofs.Common.{◌≡◌, ◌⊎◌, inl, inr, ℕ, zero, suc, ◌+◌, ◌<◌, ◌≤◌, Bool, true, false, List, length, Option, Some, None, refl, ap, sym, ◌∙◌, subst, arith, slice_get}
-use Rattle.std.specs.Prelude.{IsTrue, nat_le}
+use Rattle.std.proofs.Common.{◌≡◌, ◌⊎◌, inl, inr, ℕ, zero, suc, ◌+◌, ◌<◌, ◌≤◌, true, List, length, Some, refl, ap, sym, ◌∙◌, subst, arith, slice_get}
+use Rattle.std.specs.Prelude.{IsTrue}
 use Rattle.std.proofs.lemmas.Bool.{leb-true}
 use Rattle.x86_values.specs.declared.Bits.{Bits}
 use Rattle.x86_values.specs.declared.DispSize.{DispSize}
@@ -25,7 +25,7 @@ use Rattle.plain_laws.specs.Plain.{IsPlainlySpelled}
 use Rattle.plain_laws.proofs.Exact.{given_fit}
 use Rattle.encoder.proofs.OverTable.{written_table, none_fails}
 use Rattle.decoder.proofs.Formed.{meaning_formed}
-use Rattle.text_parts.specs.Layout.{is_long, long_at, has_one_long, nth_operand}
+use Rattle.text_parts.specs.Layout.{is_long, long_at, has_one_long}
 use Rattle.text_rows.proofs.Long.{code_in_table, one_long}
 use Rattle.intel_reader.specs.Candidate.{HasSize}
 

@@ -1,9 +1,8 @@
 -- An instruction with a plain spelling is one whose text can be read back: it has the form of its row, and its words can be told apart.
-use Rattle.std.proofs.Common.{◌≡◌, ℕ, zero, suc, ◌+◌, ◌^◌, ◌<◌, ◌≤◌, Bool, true, false, ◌&&◌, ◌||◌, not, ◌==◌, nat_lt, List, [], ◌∷◌, length, Option, Some, None, is_some, is_none, refl, ap, sym, ◌∙◌, subst, arith, slice_get}
-use Rattle.std.specs.Prelude.{IsTrue, unwrap_or}
+use Rattle.std.proofs.Common.{◌≡◌, ℕ, zero, suc, ◌^◌, ◌<◌, Bool, true, false, ◌&&◌, ◌||◌, not, nat_lt, List, [], ◌∷◌, length, Option, Some, None, refl, ap, sym, ◌∙◌, subst, arith, slice_get}
+use Rattle.std.specs.Prelude.{unwrap_or}
 use Rattle.std.specs.List.{list_all}
 use Rattle.std.proofs.lemmas.Bool.{lt-ltb}
-use borrow.Author.Tests.{ltb-true}
 use Rattle.x86_values.specs.declared.Bits.{Bits}
 use Rattle.x86_values.specs.declared.Bits.TheVariants.{B16, B32, B64}
 use Rattle.x86_values.specs.declared.Register.{Register}
@@ -31,7 +30,7 @@ use Rattle.opcode_rows.specs.declared.spots.Part.TheVariants as part
 use Rattle.opcode_rows.specs.declared.spots.TheConstants.{ROWS}
 use Rattle.opcode_rows.specs.Table.{part_table, table, names, name_of}
 use Rattle.opcode_rows.specs.Allowed.{is_named, is_named_if, has_numbers, operand_is_formed, is_formed}
-use Rattle.opcode_rows.proofs.JoinFacts.{all_rows, in_each_part, length-table}
+use Rattle.opcode_rows.proofs.JoinFacts.{all_rows, in_each_part}
 use Rattle.plain_spelling.specs.Forms.{is_scale, is_allowed_in, is_variant_of, operand_at}
 use Rattle.plain_spelling.specs.PlainTail.{plain_size, plain_next}
 use Rattle.plain_spelling.specs.Expressible.{target_suits, near_reaches, address_reaches}
@@ -40,7 +39,6 @@ use Rattle.plain_spelling.proofs.AddressCases.{impossible, both}
 use Rattle.plain_fit.proofs.Given.{Given}
 use Rattle.row_fit.specs.Fits.{immediate_bytes}
 use Rattle.text_parts.specs.PrefixWords.{text_address_size}
-use Rattle.text_parts.specs.Layout.{nth_operand}
 use Rattle.intel_words.specs.Scanning.{is_word_byte}
 use Rattle.intel_words.specs.ReadWords.{is_lock, repeat_named, is_repeat, size_by, size_behind, is_prefix_word}
 use Rattle.intel_words.specs.ReadRegisters.{segment_by, segment_named}

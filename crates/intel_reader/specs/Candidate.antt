@@ -1,5 +1,5 @@
 -- The one instruction that the words of a text can be of, by its row, its address size and its displacement size.
-use Rattle.std.specs.Prelude.{◌≡◌, ℕ, ◌<◌, ◌-◌, ◌%◌, ◌^◌, Bool, true, false, if◌then◌else◌, List, [], ◌∷◌, Option, Some, None, unwrap_or, slice_index_or}
+use Rattle.std.specs.Prelude.{◌≡◌, ℕ, ◌<◌, ◌-◌, ◌%◌, ◌^◌, Bool, true, false, if◌then◌else◌, [], ◌∷◌, Option, Some, None, unwrap_or, slice_index_or}
 use Rattle.x86_values.specs.declared.Bits.{Bits}
 use Rattle.x86_values.specs.declared.Segment.{Segment}
 use Rattle.x86_values.specs.declared.Register.TheVariants.{Eip, Rip}
