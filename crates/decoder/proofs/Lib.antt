@@ -8,5 +8,5 @@ mod InCell
 mod Moving
 mod NextItem
 mod FormedRegisters
-mod Formed
+pub mod Formed
 pub mod OneReading

@@ -1,0 +1,128 @@
+-- The candidates of a text, by their rows and words.
+use Rattle.std.proofs.Common.{◌≡◌, ℕ, ◌<◌, ◌≤◌, Bool, true, false, ◌||◌, List, Option, Some, None, refl, ap, sym, ◌∙◌, subst, arith, slice_get}
+use Rattle.std.specs.Prelude.{IsTrue, IfSome, IsNone, bytes_eq}
+use Rattle.std.proofs.lemmas.Slice.Eq.{bytes_eq-Decides}
+use Rattle.x86_values.specs.declared.Bits.{Bits}
+use Rattle.x86_values.specs.declared.DispSize.{DispSize}
+use Rattle.x86_values.specs.declared.Code.{Code}
+use Rattle.x86_values.specs.declared.Instr.{Instr}
+use Rattle.x86_values.specs.Wrapping.{wrapped}
+use Rattle.row_types.specs.declared.Row.{Row}
+use Rattle.plain_laws.specs.Plain.{IsPlainlySpelled}
+use Rattle.opcode_rows.specs.declared.spots.TheConstants.{ROWS}
+use Rattle.opcode_rows.specs.Table.{table, name_of}
+use Rattle.opcode_rows.specs.Allowed.{is_well_formed}
+use Rattle.text_parts.specs.declared.style.Style.TheVariants.{Intel}
+use Rattle.text_parts.specs.PrefixWords.{is_counter_jump, name_text}
+use Rattle.text_parts.specs.Layout.{bracket_layout}
+use Rattle.intel_text.specs.Text.{text_of}
+use Rattle.intel_text.proofs.TextLaws.{text-known}
+use Rattle.intel_words.specs.declared.words.IntelWords.{IntelWords}
+use Rattle.intel_words.specs.Words.{words_of}
+use Rattle.intel_words.specs.Printable.{is_printable}
+use Rattle.plain_spelling.proofs.AddressCases.{impossible}
+use Rattle.intel_reader.specs.declared.choice.Found.{Found}
+use Rattle.intel_reader.specs.Assembled.{Assembly, IsCandidate, IsFirst, IsNoText}
+use Rattle.intel_reader.specs.Choice.{assembly_of, Leads, IsHeld}
+use Rattle.intel_reader.specs.Candidate.{candidate}
+use Rattle.intel_reader.proofs.CandidateBack.{candidate_back}
+use Rattle.intel_reader.proofs.Printed.{plain_is_printable}
+use Rattle.intel_reader.proofs.PlainFacts.{plain_is_ready, row_there, size_there}
+
+-- ---- one instruction
+
+pub same_assembly : (i j : Instr) (bs cs : List ℕ) → i ≡ j → bs ≡ cs → (let a : Assembly = record { instr = i; bytes = bs } in let b : Assembly = record { instr = j; bytes = cs } in a ≡ b)
+same_assembly i j bs cs ei eb = cc
+
+pub spelled_as : (bits : Bits) (ip : ℕ) (text : List ℕ) (b : Assembly) (i : Instr) → IsCandidate bits ip text b → i ≡ b.instr → IsPlainlySpelled table bits (wrapped bits ip) b.bytes i
+spelled_as bits ip text b i k e = subst (λ (x : Instr). IsPlainlySpelled table bits (wrapped bits ip) b.bytes x) (sym e) k.spelled
+
+pub well_of : (bits : Bits) (ip : ℕ) (text : List ℕ) (b : Assembly) (i : Instr) → IsCandidate bits ip text b → i ≡ b.instr → is_well_formed i ≡ true
+well_of bits ip text b i k e =
+    let there = row_there bits (wrapped bits ip) b.bytes b.instr k.spelled in
+    ap is_well_formed e ∙ there.2.well
+
+-- ---- the candidate of a row
+
+same_code : (a b : Code) → a.0 ≡ b.0 → a ≡ b
+same_code a b e = ap (λ (n : ℕ). let c : Code = record { 0 = n } in c) e
+
+-- an instruction is the candidate of its row by the words of its text
+pub made_is : (bits : Bits) (ip : ℕ) (text : List ℕ) (b : Assembly) (row : Row) (code : Code) (words : IntelWords) → IsCandidate bits ip text b → slice_get table b.instr.code.0 ≡ Some row → b.instr.code.0 ≡ code.0
+    → words ≡ words_of bits row (name_of b.instr.code.0) b.instr → (size : DispSize) × (candidate bits row code words b.instr.asize size ≡ b.instr)
+made_is bits ip text b row code words k at e w =
+    let i = b.instr in
+    let ready = plain_is_ready bits (wrapped bits ip) b.bytes row i k.spelled at in
+    let size = size_there i ready.well in (
+      size.0,
+      ap (λ (c : Code). candidate bits row c words i.asize size.0) (same_code code i.code (sym e))
+          ∙ ap (λ (v : IntelWords). candidate bits row i.code v i.asize size.0) w
+          ∙ candidate_back bits (wrapped bits ip) row (name_of i.code.0) i size.0 ready.given size.1,
+    )
+
+-- ---- names
+
+plain_name : (bits : Bits) (name : List ℕ) (i : Instr) → is_counter_jump name ≡ false → name_text bits name i ≡ name
+unfolding name_text
+plain_name bits name i h = rw h refl
+
+or_false_left : (a b : Bool) → (a || b) ≡ false → a ≡ false
+or_false_left true b h = cc
+or_false_left false b h = refl
+
+or_false_right : (a b : Bool) → (a || b) ≡ false → b ≡ false
+or_false_right true b h = cc
+or_false_right false b h = h
+
+-- no instruction of another name has this one in its text
+pub other_name : (bits : Bits) (name word : List ℕ) (i : Instr) → (bytes_eq name word || is_counter_jump name) ≡ false → word ≡ name_text bits name i → ⊥
+other_name bits name word i h e =
+    let same : word ≡ name = e ∙ plain_name bits name i (or_false_right (bytes_eq name word) (is_counter_jump name) h) in
+    let equal : bytes_eq name word ≡ true = (bytes_eq-Decides name word).1 (sym same) in
+    let other = or_false_left (bytes_eq name word) (is_counter_jump name) h in
+    cc
+
+pub name_test : (name word bytes : List ℕ) (x y : Bool) → bytes ≡ name → x ≡ bytes_eq bytes word → x ≡ false → y ≡ is_counter_jump bytes → y ≡ (bytes_eq name word || is_counter_jump name)
+name_test name word bytes x y e h f k =
+    let no : bytes_eq name word ≡ false = ap (λ (z : List ℕ). bytes_eq z word) (sym e) ∙ sym h ∙ f in
+    rw no (k ∙ ap is_counter_jump e)
+
+-- ---- the text
+
+-- what the reader of words asks of a candidate
+pub record IsPrinted (bits : Bits) (text : List ℕ) (row : Row) (i : Instr) : Type 0 where
+  pub printable : IsTrue (is_printable bits row (name_of i.code.0) i)
+  pub layout : bracket_layout Intel bits row (name_of i.code.0) i ≡ text
+
+pub printed_facts : (bits : Bits) (ip : ℕ) (text : List ℕ) (b : Assembly) (row : Row) → IsCandidate bits ip text b → slice_get table b.instr.code.0 ≡ Some row → IsPrinted bits text row b.instr
+unfolding text_of
+printed_facts bits ip text b row k at =
+    let i = b.instr in
+    let ready = plain_is_ready bits (wrapped bits ip) b.bytes row i k.spelled at in
+    record {
+      printable = plain_is_printable bits (wrapped bits ip) row i at ready.below ready.formed ready.given;
+      layout = text-known bits i row (name_of i.code.0) at refl ∙ k.printed;
+    }
+
+-- the row of a candidate
+pub row_of_candidate : (bits : Bits) (ip : ℕ) (text : List ℕ) (b : Assembly) → IsCandidate bits ip text b → (row : Row) × (slice_get table b.instr.code.0 ≡ Some row)
+row_of_candidate bits ip text b k = (k.spelled.row, k.spelled.row_is)
+
+-- ---- all codes
+
+-- where each code was gone over, what was found leads every candidate
+pub all_led : (bits : Bits) (ip : ℕ) (text : List ℕ) (best : Option Found) (code : ℕ) → ((b : Assembly) → IsCandidate bits ip text b → b.instr.code.0 < code → Leads best b) → ROWS ≤ code
+    → (b : Assembly) → IsCandidate bits ip text b → Leads best b
+all_led bits ip text best code led all b k =
+    let there = row_there bits (wrapped bits ip) b.bytes b.instr k.spelled in
+    let below : b.instr.code.0 < ROWS = there.2.below in
+    led b k (omega (arith, below, all))
+
+pub first_from : (bits : Bits) (ip : ℕ) (text : List ℕ) (best : Option Found) → IsHeld bits ip text best → ((b : Assembly) → IsCandidate bits ip text b → Leads best b)
+    → IfSome best (λ f. IsFirst bits ip text (assembly_of f))
+first_from bits ip text None held led = tt
+first_from bits ip text (Some f) held led = record { candidate = held; first = λ b k. led b k }
+
+pub none_from : (bits : Bits) (ip : ℕ) (text : List ℕ) (best : Option Found) → ((b : Assembly) → IsCandidate bits ip text b → Leads best b) → IsNone best → IsNoText bits ip text
+none_from bits ip text None led e = λ a k. led a k
+none_from bits ip text (Some f) led e = λ a k. impossible e

@@ -1,0 +1,169 @@
+//! The one instruction that the words of a text can be of, by its row, its address size and its displacement size.
+
+ghost use Rattle.std.specs.Prelude.{◌≡◌, ◌<◌, ◌^◌};
+ghost use Rattle.x86_values.specs.Wrapping.{width};
+ghost use Rattle.intel_reader.specs.Candidate as spec;
+
+use instruction_parts::kinds::{Method, method_of_kind};
+use intel_words::words::{Inside, IntelWords, OperandText, SignedText};
+use row_fit::tail_fits::kind_at;
+use row_types::Row;
+use x86_values::{Bits, Code, DispSize, Instr, Mem, Operand, Register, Segment, wrap};
+
+/// 2 to the number of bits.
+fn modulus(bits: Bits) -> u128
+    ensures { result ≡ 2 ^ width bits }
+{
+    match bits {
+        Bits::B16 => 0x1_0000,
+        Bits::B32 => 0x1_0000_0000,
+        Bits::B64 => 0x1_0000_0000_0000_0000,
+    }
+}
+
+/// A number by its sign and its distance from zero, modulo 2 to the address size.
+#[tactic(auto, unfolding(crate::specs::Candidate::signed_number))]
+fn signed_number(asize: Bits, negative: bool, magnitude: u64) -> u64
+    ensures { result ≡ spec.signed_number asize negative magnitude }
+{
+    if negative {
+        wrap(asize, modulus(asize).saturating_sub(u128::from(magnitude)))
+    } else {
+        magnitude
+    }
+}
+
+/// The displacement beside a register; none is 0.
+#[tactic(auto, unfolding(crate::specs::Candidate::displacement_from))]
+fn displacement_from(asize: Bits, disp: Option<SignedText>) -> u64
+    ensures { result ≡ spec.displacement_from asize disp }
+{
+    match disp {
+        None => 0,
+        Some(signed) => signed_number(asize, signed.negative, signed.magnitude),
+    }
+}
+
+/// The address whose text has this inside its brackets.
+#[tactic(auto, unfolding(crate::specs::Candidate::address_from))]
+fn address_from(asize: Bits, disp_size: DispSize, inside: Inside) -> Mem
+    ensures { result ≡ spec.address_from asize disp_size inside }
+{
+    match inside {
+        Inside::Nothing => Mem {
+            base: None,
+            index: None,
+            scale: 1,
+            disp_size,
+            disp: 0,
+        },
+        Inside::Lone(disp) => Mem {
+            base: None,
+            index: None,
+            scale: 1,
+            disp_size,
+            disp,
+        },
+        Inside::Rel { eip, target } => Mem {
+            base: Some(if eip { Register::Eip } else { Register::Rip }),
+            index: None,
+            scale: 1,
+            disp_size,
+            disp: target,
+        },
+        Inside::Sum(sum) => Mem {
+            base: sum.base,
+            index: sum.index,
+            scale: sum.scale.unwrap_or(1),
+            disp_size,
+            disp: displacement_from(asize, sum.disp),
+        },
+    }
+}
+
+/// Whether operand n of the row is a near target.
+#[tactic(auto, unfolding(crate::specs::Candidate::is_near_method))]
+fn is_near_at(row: &Row, n: usize) -> bool
+    requires { n < 4 }
+    ensures { result ≡ spec.is_near_at row.now n }
+{
+    match method_of_kind(kind_at(row, n)) {
+        Method::Near => true,
+        _ => false,
+    }
+}
+
+/// The operand of these words: a number is a near target or an immediate.
+#[tactic(auto, unfolding(crate::specs::Candidate::operand_from))]
+fn operand_from(near: bool, asize: Bits, disp_size: DispSize, words: OperandText) -> Operand
+    ensures { result ≡ spec.operand_from near asize disp_size words }
+{
+    match words {
+        OperandText::Absent => Operand::Absent,
+        OperandText::Reg(register) => Operand::Reg(register),
+        OperandText::Number(x) => {
+            if near {
+                Operand::Near(x)
+            } else {
+                Operand::Imm(x)
+            }
+        }
+        OperandText::Far { selector, offset } => Operand::Far {
+            selector: (selector % 0x1_0000) as u16,
+            offset: (offset % 0x1_0000_0000) as u32,
+        },
+        OperandText::Mem(address) => {
+            Operand::Mem(address_from(asize, disp_size, address.inside))
+        }
+    }
+}
+
+/// The segment in front of an address, else another.
+#[tactic(auto, unfolding(crate::specs::Candidate::segment_or))]
+fn segment_or(words: OperandText, other: Option<Segment>) -> Option<Segment>
+    ensures { result ≡ spec.segment_or words other }
+{
+    match words {
+        OperandText::Mem(address) => address.seg,
+        _ => other,
+    }
+}
+
+/// The segment in front of the first address, or the one that stands as a word where there is no address.
+#[tactic(auto, unfolding(crate::specs::Candidate::segment_from))]
+fn segment_from(words: &IntelWords) -> Option<Segment>
+    ensures { result ≡ spec.segment_from words.now }
+{
+    let last = segment_or(words.ops[3], words.seg);
+    let third = segment_or(words.ops[2], last);
+    let second = segment_or(words.ops[1], third);
+    segment_or(words.ops[0], second)
+}
+
+/// The instruction of these words, of a row and its code, with an address size that it may have, and this displacement size in its address.
+#[tactic(auto, unfolding(crate::specs::Candidate::candidate))]
+pub fn candidate(
+    bits: Bits,
+    row: &Row,
+    code: Code,
+    words: &IntelWords,
+    asize: Option<Bits>,
+    disp_size: DispSize,
+) -> Instr
+    ensures { result ≡ spec.candidate bits row.now code words.now asize disp_size }
+{
+    let size = asize.unwrap_or(bits);
+    Instr {
+        code,
+        lock: words.lock,
+        rep: words.rep,
+        seg: segment_from(words),
+        asize,
+        ops: [
+            operand_from(is_near_at(row, 0), size, disp_size, words.ops[0]),
+            operand_from(is_near_at(row, 1), size, disp_size, words.ops[1]),
+            operand_from(is_near_at(row, 2), size, disp_size, words.ops[2]),
+            operand_from(is_near_at(row, 3), size, disp_size, words.ops[3]),
+        ],
+    }
+}

@@ -1,0 +1,237 @@
+//! The first of all candidates of a text: what each row, address size and displacement size makes of its words is printed, compared and encoded.
+
+ghost use Rattle.std.specs.Prelude.{◌≡◌, ◌⊎◌, ◌<◌, ◌||◌, IfSome, IsNone, MatchOption, Option, Some, slice_get, bytes_eq};
+ghost use Rattle.x86_values.specs.declared.Bits.{Bits};
+ghost use Rattle.x86_values.specs.declared.DispSize.{DispSize};
+ghost use Rattle.row_types.specs.declared.Row.{Row};
+ghost use Rattle.opcode_rows.specs.Table.{table, name_of};
+ghost use Rattle.text_parts.specs.PrefixWords as prefix_words;
+ghost use Rattle.text_parts.specs.PrefixWords.{name_text};
+ghost use Rattle.intel_words.specs.Words.{words_of};
+ghost use Rattle.intel_reader.specs.Assembled.{Assembly, rank, IsCandidate, IsFirst, IsNoText};
+ghost use Rattle.intel_reader.specs.Candidate as spec;
+ghost use Rattle.intel_reader.specs.Choice.{assembly_of, Leads, IsHeld, IsProgress};
+
+use crate::candidate::candidate;
+use arrayvec::ArrayVec;
+use encoder::encode;
+use intel_text::print;
+use intel_words::reading::read_words;
+use intel_words::words::IntelWords;
+use opcode_rows::{ROWS, name, row_of, well_formed};
+use row_types::Row;
+use std::cmp::Ordering;
+use x86_values::{Bits, Code, DispSize, Instr};
+
+/// An instruction and the bytes of its plain spelling.
+#[derive(Debug, Drop)]
+pub struct Found {
+    pub instr: Instr,
+    pub bytes: ArrayVec<u8, 15>,
+}
+
+/// Which of two comes first: that of fewer bytes, then of the lesser code, then of the lesser bytes.
+fn order_of(a: &Found, b: &Found) -> Ordering
+    ensures { result ≡ rank (assembly_of a.now) (assembly_of b.now) }
+{
+    let lengths = a.bytes.len().cmp(&b.bytes.len());
+    let codes = a.instr.code.0.cmp(&b.instr.code.0);
+    let bytes = a.bytes.as_slice().cmp(b.bytes.as_slice());
+    lengths.then(codes.then(bytes))
+}
+
+/// The earlier of what was found before and another.
+fn earlier(best: Option<Found>, other: Found) -> Option<Found>
+    ensures one { (result ≡ best) ⊎ (result ≡ Some other) }
+    ensures kept { (b : Assembly) → Leads best b → Leads result b }
+    ensures led { Leads result (assembly_of other) }
+{
+    match best {
+        None => Some(other),
+        Some(first) => match order_of(&first, &other) {
+            Ordering::Greater => Some(other),
+            _ => Some(first),
+        },
+    }
+}
+
+/// The instruction with its bytes, where it has a plain spelling at the address and this text.
+fn tried(bits: Bits, ip: u64, text: &[u8], instr: Instr) -> Option<Found>
+    ensures candidate { IfSome result (λ f. IsCandidate bits ip text.now (assembly_of f)) }
+    ensures found { (b : Assembly) → IsCandidate bits ip text.now b → instr ≡ b.instr → MatchOption result ⊥ (λ f. assembly_of f ≡ b) }
+{
+    match encode(bits, ip, &instr) {
+        Err(_) => None,
+        Ok(bytes) => {
+            if !well_formed(&instr) {
+                return None;
+            }
+            let printed = print(bits, &instr);
+            if printed.as_slice() == text {
+                Some(Found { instr, bytes })
+            } else {
+                None
+            }
+        }
+    }
+}
+
+/// What was found, with the candidate of an address size and a displacement size.
+fn with_candidate(
+    best: Option<Found>,
+    bits: Bits,
+    ip: u64,
+    text: &[u8],
+    row: &Row,
+    code: Code,
+    words: &IntelWords,
+    asize: Option<Bits>,
+    size: DispSize,
+) -> Option<Found>
+    ensures progress { IsProgress bits ip text.now best result }
+    ensures covers { (b : Assembly) → IsCandidate bits ip text.now b → spec.candidate bits row.now code words.now asize size ≡ b.instr → Leads result b }
+{
+    let instr = candidate(bits, row, code, words, asize, size);
+    match tried(bits, ip, text, instr) {
+        None => best,
+        Some(found) => earlier(best, found),
+    }
+}
+
+/// The same with the candidates of all displacement sizes.
+fn with_sizes(
+    best: Option<Found>,
+    bits: Bits,
+    ip: u64,
+    text: &[u8],
+    row: &Row,
+    code: Code,
+    words: &IntelWords,
+    asize: Option<Bits>,
+) -> Option<Found>
+    ensures progress { IsProgress bits ip text.now best result }
+    ensures covers { (b : Assembly) (size : DispSize) → IsCandidate bits ip text.now b → spec.candidate bits row.now code words.now asize size ≡ b.instr → Leads result b }
+{
+    let none = with_candidate(best, bits, ip, text, row, code, words, asize, DispSize::D0);
+    let byte = with_candidate(none, bits, ip, text, row, code, words, asize, DispSize::D8);
+    let word = with_candidate(byte, bits, ip, text, row, code, words, asize, DispSize::D16);
+    let dword = with_candidate(word, bits, ip, text, row, code, words, asize, DispSize::D32);
+    with_candidate(
+        dword,
+        bits,
+        ip,
+        text,
+        row,
+        code,
+        words,
+        asize,
+        DispSize::D64,
+    )
+}
+
+/// The same with the candidates of all address sizes.
+fn with_row(
+    best: Option<Found>,
+    bits: Bits,
+    ip: u64,
+    text: &[u8],
+    row: &Row,
+    code: Code,
+    words: &IntelWords,
+) -> Option<Found>
+    ensures progress { IsProgress bits ip text.now best result }
+    ensures covers { (b : Assembly) (asize : Option Bits) (size : DispSize) → IsCandidate bits ip text.now b
+        → spec.candidate bits row.now code words.now asize size ≡ b.instr → Leads result b }
+{
+    let none = with_sizes(best, bits, ip, text, row, code, words, None);
+    let short = with_sizes(none, bits, ip, text, row, code, words, Some(Bits::B16));
+    let flat = with_sizes(short, bits, ip, text, row, code, words, Some(Bits::B32));
+    with_sizes(flat, bits, ip, text, row, code, words, Some(Bits::B64))
+}
+
+/// The same with the candidates of a code, where the words are those of each candidate of the text.
+fn with_code(
+    best: Option<Found>,
+    bits: Bits,
+    ip: u64,
+    text: &[u8],
+    words: &IntelWords,
+    code: Code,
+) -> Option<Found>
+    requires code { code.0 < ROWS }
+    requires read { (b : Assembly) (row : Row) → IsCandidate bits ip text.now b → slice_get table b.instr.code.0 ≡ Some row
+        → words.now ≡ words_of bits row (name_of b.instr.code.0) b.instr }
+    ensures progress { IsProgress bits ip text.now best result }
+    ensures covers { (b : Assembly) → IsCandidate bits ip text.now b → b.instr.code.0 ≡ code.0 → Leads result b }
+{
+    let row = row_of(code);
+    with_row(best, bits, ip, text, &row, code, words)
+}
+
+/// Whether a name is that of the jump on the counter.
+#[tactic(auto, unfolding(text_parts::specs::PrefixWords::is_counter_jump))]
+fn is_counter_jump(name: &[u8]) -> bool
+    ensures { result ≡ prefix_words.is_counter_jump name.now }
+{
+    name == b"jrcxz".as_slice()
+}
+
+/// Whether an instruction of a code may have this name in its text: that of its row, or one of the jump on the counter, whose name shows its address
+/// size.
+fn may_have(word: &[u8], code: Code) -> bool
+    requires { code.0 < ROWS }
+    ensures { result ≡ (bytes_eq (name_of code.0) word.now || prefix_words.is_counter_jump (name_of code.0)) }
+{
+    let bytes = name(code).as_bytes();
+    bytes == word || is_counter_jump(bytes)
+}
+
+/// What was found, with the candidates of a code whose row has this name.
+fn with_named(
+    best: Option<Found>,
+    bits: Bits,
+    ip: u64,
+    text: &[u8],
+    words: &IntelWords,
+    word: &[u8],
+    code: Code,
+) -> Option<Found>
+    requires code { code.0 < ROWS }
+    requires read { (b : Assembly) (row : Row) → IsCandidate bits ip text.now b → slice_get table b.instr.code.0 ≡ Some row
+        → words.now ≡ words_of bits row (name_of b.instr.code.0) b.instr }
+    requires named { (b : Assembly) → IsCandidate bits ip text.now b → word.now ≡ name_text bits (name_of b.instr.code.0) b.instr }
+    ensures progress { IsProgress bits ip text.now best result }
+    ensures covers { (b : Assembly) → IsCandidate bits ip text.now b → b.instr.code.0 ≡ code.0 → Leads result b }
+{
+    if may_have(word, code) {
+        with_code(best, bits, ip, text, words, code)
+    } else {
+        best
+    }
+}
+
+/// The first of all candidates of a text, where the words and the name are those of each of them.
+fn first_among(bits: Bits, ip: u64, text: &[u8], words: &IntelWords, word: &[u8]) -> Option<Found>
+    requires read { (b : Assembly) (row : Row) → IsCandidate bits ip text.now b → slice_get table b.instr.code.0 ≡ Some row
+        → words.now ≡ words_of bits row (name_of b.instr.code.0) b.instr }
+    requires named { (b : Assembly) → IsCandidate bits ip text.now b → word.now ≡ name_text bits (name_of b.instr.code.0) b.instr }
+    ensures first { IfSome result (λ f. IsFirst bits ip text.now (assembly_of f)) }
+    ensures none { IsNone result → IsNoText bits ip text.now }
+{
+    let mut best = None;
+    for code in 0..ROWS {
+        best = with_named(best, bits, ip, text, words, word, Code(code));
+    }
+    best
+}
+
+/// The first of all candidates of a text.
+pub fn first_of(bits: Bits, ip: u64, text: &[u8]) -> Option<Found>
+    ensures first { IfSome result (λ f. IsFirst bits ip text.now (assembly_of f)) }
+    ensures none { IsNone result → IsNoText bits ip text.now }
+{
+    match read_words(text) {
+        None => None,
+        Some(read) => first_among(bits, ip, text, &read.words, read.name),
+    }
+}
