@@ -94,19 +94,23 @@ digit_read c d h = grind (arith, nat_tests)
 same_value : (x y : ℕ) → Some x ≡ Some y → x ≡ y
 same_value x y e = cc
 
+chosen : (t : Bool) (n b : ℕ) → (if t then None else Some n) ≡ Some b → (t ≡ false) × (n ≡ b)
+chosen true n b e = cc
+chosen false n b e = (refl, same_value n b e)
+
 -- two digits that are read
 both_read : (high low : ℕ) (h l : Option ℕ) (b : ℕ) → digit_value high ≡ h → digit_value low ≡ l → two_digits h l ≡ Some b →
     (b < 256) × (high ∷ (low ∷ []) ≡ hexadecimal b)
 unfolding two_digits
 both_read high low None l b he le e = cc
 both_read high low (Some x) None b he le e = cc
-both_read high low (Some zero) (Some y) b he le e = cc
-both_read high low (Some (suc x)) (Some y) b he le e =
-    let hx = digit_read high (suc x) he in
+both_read high low (Some x) (Some y) b he le e =
+    let hx = digit_read high x he in
     let hy = digit_read low y le in
-    let is = same_value (16 * suc x + y) b e in
-    let text : hexadecimal (16 * suc x + y) ≡ hex_digit (suc x) ∷ (hex_digit y ∷ []) = two_of (suc x) y (omega arith) hx.0 hy.0 in
-    (omega (arith, hx.0, hy.0), ap (λ (c : ℕ). c ∷ (low ∷ [])) hx.1 ∙ (ap (λ (c : ℕ). hex_digit (suc x) ∷ (c ∷ [])) hy.1 ∙ (sym text ∙ ap hexadecimal is)))
+    let is = chosen (x == 0) (16 * x + y) b e in
+    let some : 0 < x = grind (arith, nat_tests, is.0) in
+    let text : hexadecimal (16 * x + y) ≡ hex_digit x ∷ (hex_digit y ∷ []) = two_of x y some hx.0 hy.0 in
+    (omega (arith, hx.0, hy.0, is.1), ap (λ (c : ℕ). c ∷ (low ∷ [])) hx.1 ∙ (ap (λ (c : ℕ). hex_digit x ∷ (c ∷ [])) hy.1 ∙ (sym text ∙ ap hexadecimal is.1)))
 
 -- digits that are read as a byte are its digits
 read_digits : (digits : List ℕ) (b : ℕ) → byte_of_digits digits ≡ Some b → (b < 256) × (digits ≡ hexadecimal b)
@@ -170,7 +174,7 @@ stripped line None h =
     let both : true ≡ false = sym t ∙ h in cc
 stripped line (Some x) h =
     let first : take 5 line ≡ front = same_bytes _ _ h.0 in
-    sym (take-append-drop 5 line) ∙ (ap (λ (xs : List ℕ). xs ++ drop 5 line) first ∙ ap (λ (xs : List ℕ). front ++ xs) (sym h.1.0))
+    sym (take-append-drop 5 line) ∙ (ap (λ (xs : List ℕ). xs ++ drop 5 line) first ∙ ap (λ (xs : List ℕ). front ++ xs) (sym h.1))
 
 -- what reading the digits answers
 pub digits_answer : (line digits : List ℕ) (o : Option ℕ) → line ≡ front ++ digits → o ≡ byte_of_digits digits →

@@ -5,10 +5,18 @@ use Rattle.run_parts.specs.declared.status.Status.{Status}
 use Rattle.run_parts.specs.declared.status.Status.TheVariants.{Done, ReadFault, WriteFault, Memory, TooLarge, BadText}
 use Rattle.run_parts.specs.Reads.{whole_limit, ReadsAll}
 use Rattle.run_parts.proofs.Whole.{all_bytes, too_many}
-use Rattle.asm_run.specs.Assembling.{IsTextAnswer, AssemblesAs, CompletesAssembling}
+use Rattle.asm_run.specs.Assembling.{IsTextAnswer, IsTextRefusal, AssemblesAs, CompletesAssembling}
 use Rattle.asm_run.proofs.Unique.{answer_unique}
 
 module _ (bits : Bits) (base : ℕ) where
+  -- a status that tells why, after which nothing was written
+  pub refusal : (bytes : List ℕ) (left left' held held' : Option (List ℕ)) (source_rose out_rose : Type 0) (status : Status) →
+      ReadsAll whole_limit left left' bytes → held' ≡ held → IsTextRefusal bits base bytes status →
+      AssemblesAs bits base left left' held held' source_rose out_rose status
+  refusal bytes left left' held held' source_rose out_rose Memory reads kept h = kept
+  refusal bytes left left' held held' source_rose out_rose (BadText line) reads kept h = ((bytes, (reads, h)), kept)
+  refusal bytes left left' held held' source_rose out_rose _ reads kept h = absurd h
+
   -- an answer for all bytes
   answered : (bytes : List ℕ) (left' : Option (List ℕ)) (read : List ℕ) (status : Status) → ReadsAll whole_limit (Some bytes) left' read →
       IsTextAnswer bits base read status → CompletesAssembling bits base (Some bytes) status

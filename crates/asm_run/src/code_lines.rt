@@ -47,10 +47,10 @@ pub fn code_of_lines(
         let Some(bytes) = code_of_line(bits, ip, line) else {
             return Err(Status::BadText { line: number });
         };
-        if code.extend_from_slice(&bytes).is_err() {
-            return Err(Status::Memory);
+        match code.extend_from_slice(&bytes) {
+            Ok(()) => rest = behind,
+            Err(_) => return Err(Status::Memory),
         }
-        rest = behind;
     }
     Ok(code)
 }
