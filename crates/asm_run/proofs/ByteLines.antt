@@ -26,9 +26,9 @@ at_each : (P : ℕ → Bool) (n k : ℕ) → all_below P n ≡ true → k < n �
 unfolding all_below
 at_each P zero k h lt = absurd (omega arith)
 at_each P (suc n) k h lt = elim (last_or_below k n lt) [
-    | inl e ↦ subst (λ (x : ℕ). P x ≡ true) (sym e) (and-left (P n) (all_below P n) h)
-    | inr below ↦ at_each P n k (and-right (P n) (all_below P n) h) below
-  ]
+  | inl e ↦ subst (λ (x : ℕ). P x ≡ true) (sym e) (and-left (P n) (all_below P n) h)
+  | inr below ↦ at_each P n k (and-right (P n) (all_below P n) h) below
+]
 
 -- ---- the digits of a byte
 

@@ -94,10 +94,16 @@ module _ (bits : Bits) where
       let a = h.0 ++ more.0 in
       let far : ip + length h.0 + length more.0 ≡ ip + length a = omega (arith, length-append h.0 more.0) in (
         a,
-        (more.1.0,
-        ((h.0, (more.0, (h.1.1.0, (more.1.1.0, refl)))),
-        (subst (λ (n : ℕ). IsCodeOfLines bits n after more.1.0) far more.1.1.1.0,
-        h.1.1.1.1 ∙ (ap (λ (b : List ℕ). h.0 ++ b) more.1.1.1.1 ∙ sym (append_assoc h.0 more.0 more.1.0))))),
+        (
+          more.1.0,
+          (
+            (h.0, (more.0, (h.1.1.0, (more.1.1.0, refl)))),
+            (
+              subst (λ (n : ℕ). IsCodeOfLines bits n after more.1.0) far more.1.1.1.0,
+              h.1.1.1.1 ∙ (ap (λ (b : List ℕ). h.0 ++ b) more.1.1.1.1 ∙ sym (append_assoc h.0 more.0 more.1.0)),
+            ),
+          ),
+        ),
       )
 
   -- code has no bad line
@@ -138,7 +144,14 @@ module _ (bits : Bits) where
       IsCodeOfLines bits base before code → before ≡ b.before ++ b.bad ∷ more → ⊥
   bad_before base lines n b before more code is e =
       no_bad_line base before code n is (record {
-        before = b.before; bad = b.bad; behind = more; are = e; code = b.code; is_code = b.is_code; neither = b.neither; number_is = b.number_is;
+        before = b.before;
+        bad = b.bad;
+        behind = more;
+        are = e;
+        code = b.code;
+        is_code = b.is_code;
+        neither = b.neither;
+        number_is = b.number_is;
       })
 
   bad_unique : (base : ℕ) (lines : List (List ℕ)) (n m : ℕ) → IsBadLine bits base lines n → IsBadLine bits base lines m → n ≡ m

@@ -27,12 +27,7 @@ fn first_line(bytes: &[u8]) -> (&[u8], &[u8])
 
 /// The bytes of the lines of a text, whose first byte has the address `base`, or the status that tells the first line that is neither the text of an
 /// instruction nor a single byte, or that there was not enough memory.
-pub fn code_of_lines(
-    alloc: Global,
-    bits: Bits,
-    base: u64,
-    input: &[u8],
-) -> Result<Vec<u8>, Status>
+pub fn code_of_lines(alloc: Global, bits: Bits, base: u64, input: &[u8]) -> Result<Vec<u8>, Status>
     requires short { length input.now ≤ 1048576 }
     ensures code { IfOk result (λ code. IsCodeOf bits base input.now code.items) }
     ensures refused { IfErr result (λ status. IsTextRefusal bits base input.now status) }
