@@ -9,10 +9,10 @@ use Rattle.x86_values.specs.Wrapping.{width}
 use Rattle.sweep_text.specs.declared.syntax.Syntax.{Syntax}
 use Rattle.sweep_text.specs.declared.syntax.Syntax.TheVariants.{Intel, Att, Masm}
 use Rattle.command_words.specs.declared.commands.Command.{Command}
-use Rattle.command_words.specs.declared.commands.Command.TheVariants.{Help, Version, List as ListCommand, Info, Recode, Flow, Move, Map, Blocks, Slots, Rows, Sample, Wrong}
+use Rattle.command_words.specs.declared.commands.Command.TheVariants.{Help, Version, List as ListCommand, Info, Recode, Flow, Asm, Move, Map, Blocks, Slots, Rows, Sample, Wrong}
 use Rattle.command_words.specs.declared.commands.BlockWords.{BlockWords}
 use Rattle.command_words.specs.declared.commands.Through.{Through}
-use Rattle.command_words.specs.declared.commands.Through.TheVariants.{List as ThroughList, Info as ThroughInfo, Recode as ThroughRecode, Flow as ThroughFlow, Move as ThroughMove, Map as ThroughMap, Slots as ThroughSlots}
+use Rattle.command_words.specs.declared.commands.Through.TheVariants.{List as ThroughList, Info as ThroughInfo, Recode as ThroughRecode, Flow as ThroughFlow, Asm as ThroughAsm, Move as ThroughMove, Map as ThroughMap, Slots as ThroughSlots}
 use Rattle.command_words.specs.Counts.{count_of}
 use Rattle.command_words.specs.Ranges.{Range, range_of}
 
@@ -132,6 +132,7 @@ code_end ThroughList bits base words = list_style bits base words
 code_end ThroughInfo bits base words = at_end words 4 (Info bits base)
 code_end ThroughRecode bits base words = recode_words bits base words
 code_end ThroughFlow bits base words = at_end words 4 (Flow bits base)
+code_end ThroughAsm bits base words = at_end words 4 (Asm bits base)
 code_end ThroughMove bits base words = move_end bits base (new_words bits words)
 code_end ThroughMap bits base words = map_end bits base (new_words bits words)
 code_end ThroughSlots bits base words = slots_words bits base words
@@ -220,6 +221,7 @@ command_of (name ∷ words) =
     else (if same_text name (codes "info") then code_words ThroughInfo words
     else (if same_text name (codes "recode") then code_words ThroughRecode words
     else (if same_text name (codes "flow") then code_words ThroughFlow words
+    else (if same_text name (codes "asm") then code_words ThroughAsm words
     else (if same_text name (codes "move") then code_words ThroughMove words
     else (if same_text name (codes "map") then code_words ThroughMap words
     else (if same_text name (codes "slots") then code_words ThroughSlots words
@@ -227,4 +229,4 @@ command_of (name ∷ words) =
     else (if same_text name (codes "rows") then at_end words 2 Rows
     else (if same_text name (codes "sample") then sample_words words
     else (if same_text name (codes "--help") then at_end words 2 Help
-    else (if same_text name (codes "--version") then at_end words 2 Version else Wrong 1)))))))))))
+    else (if same_text name (codes "--version") then at_end words 2 Version else Wrong 1))))))))))))

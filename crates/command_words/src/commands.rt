@@ -38,6 +38,12 @@ pub enum Command {
         bits: Bits,
         base: u64,
     },
+    /// The bytes of the input's lines, each of them the Intel text of an instruction or a single byte, as code of a mode whose first byte
+    /// has the address `base`.
+    Asm {
+        bits: Bits,
+        base: u64,
+    },
     /// The bytes of the input, which is code of a mode whose first byte has the address `old`, moved to the address `new`.
     Move {
         bits: Bits,
@@ -82,13 +88,14 @@ pub struct BlockWords {
     pub len: Option<u64>,
 }
 
-/// A command that goes through code. The words behind its name begin with `BITS BASE`.
+/// A command that goes through code, or makes it. The words behind its name begin with `BITS BASE`.
 #[derive(Clone, Copy, PartialEq, Eq, Debug)]
 pub enum Through {
     List,
     Info,
     Recode,
     Flow,
+    Asm,
     Move,
     Map,
     Slots,

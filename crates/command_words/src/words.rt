@@ -310,6 +310,7 @@ fn code_end(through: Through, bits: Bits, base: u64, words: &[&str]) -> Command
         Through::Info => at_end(words, 4, Command::Info { bits, base }),
         Through::Recode => recode_words(bits, base, words),
         Through::Flow => at_end(words, 4, Command::Flow { bits, base }),
+        Through::Asm => at_end(words, 4, Command::Asm { bits, base }),
         Through::Move => move_end(bits, base, new_words(bits, words)),
         Through::Map => map_end(bits, base, new_words(bits, words)),
         Through::Slots => slots_words(bits, base, words),
@@ -500,6 +501,8 @@ pub fn command_of(words: &[&str]) -> Command
                 code_words(Through::Recode, words)
             } else if is(name, "flow") {
                 code_words(Through::Flow, words)
+            } else if is(name, "asm") {
+                code_words(Through::Asm, words)
             } else if is(name, "move") {
                 code_words(Through::Move, words)
             } else if is(name, "map") {

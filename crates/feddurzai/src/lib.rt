@@ -37,6 +37,11 @@ pub mod encoding {
     };
 }
 
+/// Reading Intel texts: the instruction that a text stands for, and its bytes.
+pub mod assembling {
+    pub use intel_reader::{TextError, assemble, read_intel};
+}
+
 /// The text of instructions and registers in three styles.
 pub mod format {
     pub use crate::intel::Intel;

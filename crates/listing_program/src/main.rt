@@ -9,6 +9,8 @@ use std::alloc::AllocError;
 use std::process::ExitCode;
 
 #[cfg(test)]
+mod asm_tests;
+#[cfg(test)]
 mod flow_tests;
 #[cfg(test)]
 mod hostile_tests;

@@ -5,7 +5,7 @@ use Rattle.x86_values.specs.declared.Bits.{Bits}
 use Rattle.sweep_text.specs.declared.lines.Lines.{Lines}
 use Rattle.sweep_text.specs.declared.lines.Lines.TheVariants.{Listing, Info as InfoLines, Recode as RecodeLines}
 use Rattle.command_words.specs.declared.commands.Command.{Command}
-use Rattle.command_words.specs.declared.commands.Command.TheVariants.{Help, Version, List as ListCommand, Info, Recode, Flow, Move, Map, Blocks, Slots, Rows, Sample, Wrong}
+use Rattle.command_words.specs.declared.commands.Command.TheVariants.{Help, Version, List as ListCommand, Info, Recode, Flow, Asm, Move, Map, Blocks, Slots, Rows, Sample, Wrong}
 use Rattle.command_words.specs.declared.commands.BlockWords.{BlockWords}
 use Rattle.run_parts.specs.declared.status.Status.{Status}
 use Rattle.run_parts.specs.declared.status.Status.TheVariants.{Done, Usage, BadCode, ReadFault, WriteFault, TooLarge}
@@ -15,6 +15,7 @@ use Rattle.sweep.specs.declared.error.StreamError.TheVariants.{BadCode as Stream
 use Rattle.sweep.specs.Streams.{StreamsAs}
 use Rattle.sweep.specs.Ends.{CompletesStream, CompletesListing}
 use Rattle.flow_run.specs.Flowing.{FlowsAs, CompletesFlow}
+use Rattle.asm_run.specs.Assembling.{AssemblesAs, CompletesAssembling}
 use Rattle.moving_run.specs.declared.moving.Wanted.TheVariants.{MovedBytes, MapLines}
 use Rattle.moving_run.specs.Moving.{MovesAs, CompletesMoving}
 use Rattle.sample_run.specs.Sample.{SamplesAs, CompletesSample}
@@ -60,6 +61,7 @@ RunsAs (Info bits base) left left' held held' source_rose out_rose status =
 RunsAs (Recode bits base to new_base) left left' held held' source_rose out_rose status =
     GoesThroughAs bits base (RecodeLines to new_base) left left' held held' source_rose out_rose status
 RunsAs (Flow bits base) left left' held held' source_rose out_rose status = FlowsAs bits base left left' held held' source_rose out_rose status
+RunsAs (Asm bits base) left left' held held' source_rose out_rose status = AssemblesAs bits base left left' held held' source_rose out_rose status
 RunsAs (Move bits old new) left left' held held' source_rose out_rose status =
     MovesAs MovedBytes bits (one_block old new) left left' held held' source_rose out_rose status
 RunsAs (Map bits old new) left left' held held' source_rose out_rose status =
@@ -74,6 +76,7 @@ Reads (ListCommand bits base syntax) = Unit {0}
 Reads (Info bits base) = Unit {0}
 Reads (Recode bits base to new_base) = Unit {0}
 Reads (Flow bits base) = Unit {0}
+Reads (Asm bits base) = Unit {0}
 Reads (Move bits old new) = Unit {0}
 Reads (Map bits old new) = Unit {0}
 Reads (Blocks bits blocks) = Unit {0}
@@ -116,6 +119,7 @@ Completes (ListCommand bits base syntax) left status = CompletesList left status
 Completes (Info bits base) left status = CompletesThrough bits base InfoLines left status
 Completes (Recode bits base to new_base) left status = CompletesThrough bits base (RecodeLines to new_base) left status
 Completes (Flow bits base) left status = CompletesFlow left status
+Completes (Asm bits base) left status = CompletesAssembling bits base left status
 Completes (Move bits old new) left status = CompletesMoving MovedBytes bits (one_block old new) left status
 Completes (Map bits old new) left status = CompletesMoving MapLines bits (one_block old new) left status
 Completes (Blocks bits blocks) left status = CompletesMoving MovedBytes bits blocks.items left status

@@ -1,7 +1,7 @@
 -- How much of its input a command takes.
 use Rattle.std.specs.Prelude.{ℕ}
 use Rattle.command_words.specs.declared.commands.Command.{Command}
-use Rattle.command_words.specs.declared.commands.Command.TheVariants.{List as ListCommand, Info, Recode, Flow, Move, Map, Blocks, Slots}
+use Rattle.command_words.specs.declared.commands.Command.TheVariants.{List as ListCommand, Info, Recode, Flow, Asm, Move, Map, Blocks, Slots}
 use Rattle.run_parts.specs.Reads.{code_limit, whole_limit}
 
 -- how many bytes a command reads at most
@@ -10,6 +10,7 @@ limit_of (ListCommand bits base syntax) = code_limit
 limit_of (Info bits base) = code_limit
 limit_of (Recode bits base to new_base) = code_limit
 limit_of (Flow bits base) = whole_limit
+limit_of (Asm bits base) = whole_limit
 limit_of (Move bits old new) = whole_limit
 limit_of (Map bits old new) = whole_limit
 limit_of (Blocks bits blocks) = whole_limit

@@ -1,30 +1,14 @@
 -- How a command that moves code ends when it meets no fault.
-use Rattle.std.proofs.Common.{◌≡◌, ◌⊎◌, inl, inr, ℕ, ◌<◌, List, ◌++◌, length, Option, Some, None, refl, sym, ap, ◌∙◌, subst, arith, append-nil, length-append}
+use Rattle.std.proofs.Common.{◌≡◌, ◌⊎◌, inl, inr, ℕ, List, length, Option, Some, None, refl, sym, ap, subst, arith}
 use Rattle.x86_values.specs.declared.Bits.{Bits}
 use Rattle.command_words.specs.declared.commands.BlockWords.{BlockWords}
 use Rattle.run_parts.specs.declared.status.Status.{Status}
 use Rattle.run_parts.specs.declared.status.Status.TheVariants.{Done, BadCode, ReadFault, WriteFault, Memory, TooLarge, Wraps, TooFar, TooMany}
-use Rattle.run_parts.specs.Reads.{whole_limit, ReadsAll, ReadsTooMany}
+use Rattle.run_parts.specs.Reads.{whole_limit, ReadsAll}
+use Rattle.run_parts.proofs.Whole.{all_bytes, too_many}
 use Rattle.moving_run.specs.declared.moving.Wanted.{Wanted}
 use Rattle.moving_run.specs.Moving.{IsCodeAnswer, RefusesAs, MovesAs, CompletesMoving}
 use Rattle.moving_run.proofs.Unique.{answer_unique}
-
--- ---- the bytes that were read
-
--- bytes that are told and were read to their end
-pub all_bytes : (limit : ℕ) (bytes : List ℕ) (left' : Option (List ℕ)) (read : List ℕ) → ReadsAll limit (Some bytes) left' read → bytes ≡ read
-all_bytes limit bytes None read h = let e = h.read in cc
-all_bytes limit bytes (Some rest) read h =
-    let e : Some bytes ≡ Some (read ++ rest) = h.read in
-    let same : bytes ≡ read ++ rest = cc in same ∙ (ap (λ (xs : List ℕ). read ++ xs) h.ended ∙ append-nil read)
-
-pub too_many : (limit : ℕ) (bytes : List ℕ) (left' : Option (List ℕ)) (read : List ℕ) → ReadsTooMany limit (Some bytes) left' read → limit < length bytes
-too_many limit bytes None read h = let e = h.read in cc
-too_many limit bytes (Some rest) read h =
-    let e : Some bytes ≡ Some (read ++ rest) = h.read in
-    let same : bytes ≡ read ++ rest = cc in omega (arith, ap length same, length-append read rest, h.over)
-
--- ---- the status
 
 module _ (wanted : Wanted) (bits : Bits) (words : List BlockWords) where
   -- an answer for all bytes

@@ -3,3 +3,4 @@ pub mod Causes
 pub mod Held
 pub mod HexDigits
 pub mod Saying
+pub mod Whole

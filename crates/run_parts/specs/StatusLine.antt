@@ -4,7 +4,7 @@ use Rattle.decoder.specs.declared.DecodeError.{DecodeError}
 use Rattle.decoder.specs.declared.DecodeError.TheVariants.{Invalid, TooShort}
 use Rattle.run_parts.specs.Hexadecimal.{hexadecimal}
 use Rattle.run_parts.specs.declared.status.Status.{Status}
-use Rattle.run_parts.specs.declared.status.Status.TheVariants.{Done, Usage, BadCode, ReadFault, WriteFault, Memory, TooLarge, Wraps, TooFar, RegionFull, TooMany}
+use Rattle.run_parts.specs.declared.status.Status.TheVariants.{Done, Usage, BadCode, ReadFault, WriteFault, Memory, TooLarge, Wraps, TooFar, RegionFull, TooMany, BadText}
 
 -- the exit number of a status
 abbrev pub status_number : Status → ℕ
@@ -19,6 +19,7 @@ status_number (Wraps _) = 7
 status_number (TooFar _ _) = 8
 status_number (RegionFull _ _) = 9
 status_number (TooMany _) = 10
+status_number (BadText _) = 11
 
 -- the end of the line of an offset at which no instruction is read
 unfoldable pub bad_code_end : DecodeError → List ℕ
@@ -38,3 +39,4 @@ status_line (Wraps end) = codes "end 0x" ++ hexadecimal end ++ codes " passes th
 status_line (TooFar at target) = codes "instruction " ++ decimal at ++ codes " cannot reach 0x" ++ hexadecimal target ++ codes "\n"
 status_line (RegionFull len largest) = codes "region full: need " ++ decimal len ++ codes ", largest " ++ decimal largest ++ codes "\n"
 status_line (TooMany count) = decimal count ++ codes " instructions are too many\n"
+status_line (BadText line) = codes "bad text in line " ++ decimal line ++ codes "\n"

@@ -35,6 +35,8 @@ pub enum Status {
     RegionFull { len: u64, largest: u64 },
     /// There are this many instructions, more than are moved together.
     TooMany { count: u64 },
+    /// The line of this number, from 1, is neither the text of an instruction nor a single byte.
+    BadText { line: u64 },
 }
 
 /// The exit number of a status.
@@ -53,6 +55,7 @@ pub fn status_number(status: &Status) -> u8
         Status::TooFar { .. } => 8,
         Status::RegionFull { .. } => 9,
         Status::TooMany { .. } => 10,
+        Status::BadText { .. } => 11,
     }
 }
 
@@ -158,5 +161,6 @@ pub fn status_line(status: &Status) -> Text
         Status::TooFar { at, target } => too_far_line(*at, *target),
         Status::RegionFull { len, largest } => region_full_line(*len, *largest),
         Status::TooMany { count } => numbered(b"", *count, b" instructions are too many\n"),
+        Status::BadText { line } => numbered(b"bad text in line ", *line, b"\n"),
     }
 }

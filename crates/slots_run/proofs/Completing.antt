@@ -4,7 +4,7 @@ use Rattle.command_words.specs.Ranges.{Range}
 use Rattle.run_parts.specs.declared.status.Status.{Status}
 use Rattle.run_parts.specs.declared.status.Status.TheVariants.{Done, BadCode, ReadFault, WriteFault, Memory, TooLarge, TooFar, RegionFull}
 use Rattle.run_parts.specs.Reads.{whole_limit, ReadsAll}
-use Rattle.moving_run.proofs.Completing.{all_bytes, too_many}
+use Rattle.run_parts.proofs.Whole.{all_bytes, too_many}
 use Rattle.slots_run.specs.Slotting.{IsRefusal, IsSlotsAnswer, RefusesAs, SlotsAs, CompletesSlots}
 use Rattle.slots_run.proofs.Unique.{answer_unique}
 

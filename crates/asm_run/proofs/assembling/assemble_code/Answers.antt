@@ -1,0 +1,29 @@
+use Rattle.std.proofs.Common.{refl}
+use Rattle.run_parts.specs.Reads.{whole_limit}
+use Rattle.run_parts.specs.declared.status.Status.TheVariants.{Done}
+use Rattle.asm_run.proofs.Completing.{refusal, completes}
+use Rattle.asm_run.proofs.assembling.assemble_code.Goals as goal
+
+pub returns-in-Err-clause-complete : goal.returns-in-Err-clause-complete
+unfolding whole_limit
+returns-in-Err-clause-complete g c =
+    let refused = rw c.deref.ensures.value at c.in-Err.ensures.refused in
+    let answer = refusal c.args.bits c.args.base c.in-Ok.input.items _ _ (g.K.Sink.held c.args.out.now) _ _ _ c.in-Err.status c.in-Ok.ensures.ok refl refused in
+    completes c.args.bits c.args.base _ _ (g.K.Sink.held c.args.out.now) _ _ _ c.in-Err.status answer
+
+pub returns-in-Ok-put_all-clause-complete : goal.returns-in-Ok-put_all-clause-complete
+unfolding whole_limit
+returns-in-Ok-put_all-clause-complete g c =
+    let code = rw c.deref.ensures.value at c.in-Ok-code_of_lines.ensures.code in
+    let written = rw c.deref-2.ensures.value at c.in-Ok-put_all.ensures.ok in
+    completes
+    c.args.bits
+    c.args.base
+    _
+    _
+    (g.K.Sink.held c.args.out.now)
+    (g.K.Sink.held c.put_all.new.out)
+    _
+    _
+    Done
+    (c.in-Ok.input.items, (c.in-Ok.ensures.ok, (c.in-Ok-code_of_lines.code.items, (code, written))))
