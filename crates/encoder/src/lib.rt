@@ -100,7 +100,7 @@ fn encode_onto(out: &mut ArrayVec<u8, 15>, bits: Bits, ip: u64, instr: &Instr) -
 }
 
 /// The encoding of an instruction at an address: its bytes are written once, where the answer is made of them.
-#[inline]
+#[inline(never)]
 fn encode_by_row(bits: Bits, ip: u64, instr: &Instr) -> Result<ArrayVec<u8, 15>, NoSpelling>
     ensures { written result ≡ encoding bits ip instr.now }
 {

@@ -79,18 +79,52 @@ pub fn is_of_width(size: Bits, x: u64) -> bool
     (x as u128) < top_of_width(size)
 }
 
-/// Whether a number of a size is what n sign-extended bytes give, cut to that size.
+/// 2 to the number of bits of a size, less 1.
+fn last_of_width(size: Bits) -> u64
+    ensures { result + 1 ≡ 2 ^ width size }
+{
+    match size {
+        Bits::B16 => 0xFFFF,
+        Bits::B32 => 0xFFFF_FFFF,
+        Bits::B64 => 0xFFFF_FFFF_FFFF_FFFF,
+    }
+}
+
+/// Half of 2 to the number of bits in n bytes, of which there are some.
+fn half_of_bytes(n: u8) -> u64
+    requires some { 0 < n }
+    requires few { n ≤ 8 }
+    ensures { 2 * result ≡ 2 ^ (8 * n) }
+{
+    match n {
+        1 => 0x80,
+        2 => 0x8000,
+        3 => 0x80_0000,
+        4 => 0x8000_0000,
+        5 => 0x80_0000_0000,
+        6 => 0x8000_0000_0000,
+        7 => 0x80_0000_0000_0000,
+        _ => 0x8000_0000_0000_0000,
+    }
+}
+
+/// Whether a number of a size is what n sign-extended bytes give, cut to that size: it is less than half of their range away from 0 or
+/// from the end of the size.
 #[inline(never)]
 #[tactic(auto, unfolding(crate::specs::Values::is_extended_of))]
 pub fn is_extended_of(n: u8, size: Bits, x: u64) -> bool
     requires { n ≤ 8 }
     ensures { result ≡ spec.is_extended_of n (width size) x }
 {
-    let top = top_of_bytes(n);
-    is_of_width(size, x)
-        && (bits_of(size) <= 8 * n
-            || 2 * (x as u128) < top
-            || 2 * top_of_width(size) <= 2 * (x as u128) + top)
+    let last = last_of_width(size);
+    if x > last {
+        return false;
+    }
+    if n == 0 {
+        return x == 0;
+    }
+    let half = half_of_bytes(n);
+    bits_of(size) <= 8 * n || x < half || last - x < half
 }
 
 /// What has to be added to an address to come to another one, modulo 2 to the size.

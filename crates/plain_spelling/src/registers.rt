@@ -26,7 +26,7 @@ fn segment_number(segment: Segment) -> u8
 }
 
 /// The number that the encoding gives a register; AH, CH, DH and BH have 4 to 7 (2.1.5, 3.1.1.1).
-#[inline]
+#[inline(always)]
 #[tactic(auto, unfolding(crate::specs::PlainFront::register_number))]
 pub fn register_number(register: Register) -> u16
     ensures value { result ≡ spec.register_number register }
