@@ -87,6 +87,7 @@ pub enum Width {
 }
 
 /// Where an operand is read.
+#[inline(always)]
 #[tactic(auto, unfolding(crate::specs::Kinds::method_of))]
 pub fn method_of_kind(kind: OpKind) -> Method
     ensures { result ≡ method_of kind }
@@ -147,6 +148,7 @@ pub fn method_of_kind(kind: OpKind) -> Method
 }
 
 /// Which registers a kind names.
+#[inline(always)]
 #[tactic(auto, unfolding(crate::specs::Kinds::file_of))]
 pub fn file_of_kind(kind: OpKind) -> File
     ensures { result ≡ file_of kind }
