@@ -46,7 +46,7 @@ fn displacement_size(
 }
 
 /// The bytes of the immediates, of which a row has 8 at most.
-#[inline]
+#[inline(always)]
 fn immediates_size(size: Bits, row: &Row) -> u8
     requires { IsTrue (sound row.now) }
     ensures value { result ≡ fits.immediates_bytes size row.now }

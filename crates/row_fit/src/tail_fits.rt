@@ -193,6 +193,7 @@ pub fn kind_at(row: &Row, n: usize) -> OpKind
 }
 
 /// The bytes of all immediates.
+#[inline(always)]
 #[tactic(auto, unfolding(crate::specs::Fits::immediates_bytes))]
 pub fn immediates_bytes(size: Bits, row: &Row) -> u8
     ensures value { result ≡ spec.immediates_bytes size row.now }

@@ -1,6 +1,6 @@
 //! The operands of a fitting spelling.
 
-ghost use Rattle.std.specs.Prelude.{◌≡◌, ◌<◌, ◌≤◌, ◌+◌, length, IsTrue};
+ghost use Rattle.std.specs.Prelude.{◌≡◌, ◌<◌, ◌≤◌, ◌+◌, false, length, IsTrue};
 ghost use Rattle.row_meaning.specs.Meaning as spec;
 ghost use Rattle.row_fit.specs.Fits as fits;
 ghost use Rattle.instruction_parts.specs.Bytes as bytes;
@@ -340,13 +340,6 @@ fn operand_into(
     ensures { place.new ≡ spec.operand_by bits row.now state.now
         (spec.tail behind.now.modrm behind.now.sib behind.now.disp.now behind.now.next) kind method imm.now }
 {
-    let Behind {
-        modrm: m,
-        sib,
-        disp,
-        imm: _,
-        next,
-    } = *behind;
     *place = match method {
         Method::Nothing => Operand::Absent,
         Method::ModRmReg => Operand::Reg(register_of(
@@ -354,18 +347,25 @@ fn operand_into(
             row,
             state,
             file_of_kind(kind),
-            small_reg_number(state, m),
+            small_reg_number(state, behind.modrm),
         )),
         Method::RegisterOrMemory => {
-            if mode_is_memory(m) {
-                memory_operand(bits, state, m, sib, disp, next)
+            if mode_is_memory(behind.modrm) {
+                memory_operand(
+                    bits,
+                    state,
+                    behind.modrm,
+                    behind.sib,
+                    behind.disp,
+                    behind.next,
+                )
             } else {
                 Operand::Reg(register_of(
                     bits,
                     row,
                     state,
                     file_of_kind(kind),
-                    small_rm_number(bits, state, m),
+                    small_rm_number(bits, state, behind.modrm),
                 ))
             }
         }
@@ -374,9 +374,16 @@ fn operand_into(
             row,
             state,
             file_of_kind(kind),
-            small_rm_number(bits, state, m),
+            small_rm_number(bits, state, behind.modrm),
         )),
-        Method::MemoryOnly => memory_operand(bits, state, m, sib, disp, next),
+        Method::MemoryOnly => memory_operand(
+            bits,
+            state,
+            behind.modrm,
+            behind.sib,
+            behind.disp,
+            behind.next,
+        ),
         Method::OpcodeLow => Operand::Reg(register_of(
             bits,
             row,
@@ -398,11 +405,22 @@ fn operand_into(
             file_of_kind(kind),
             last_byte_number(bits, imm),
         )),
-        Method::Gather => gather_operand(bits, row, state, file_of_kind(kind), m, sib, disp),
-        Method::Offset => Operand::Mem(memory_absolute(state_address_size(bits, state), disp)),
+        Method::Gather => gather_operand(
+            bits,
+            row,
+            state,
+            file_of_kind(kind),
+            behind.modrm,
+            behind.sib,
+            behind.disp,
+        ),
+        Method::Offset => Operand::Mem(memory_absolute(
+            state_address_size(bits, state),
+            behind.disp,
+        )),
         Method::AsWritten => Operand::Imm(little_endian(imm)),
         Method::Extended => Operand::Imm(sign_extended(state_size(bits, row, state), imm)),
-        Method::Near => near_target(state_size(bits, row, state), next, imm),
+        Method::Near => near_target(state_size(bits, row, state), behind.next, imm),
         Method::Pointer => far_pointer(imm),
         Method::Fixed => Operand::Reg(register_of(
             bits,
@@ -488,6 +506,44 @@ fn own_immediate<'a>(size: Bits, row: &Row, n: usize, imm: &'a [u8], len: usize)
     }
 }
 
+/// Whether an operand of the kind has bytes of the immediates.
+#[inline(always)]
+#[tactic(auto, unfolding(row_fit::specs::Fits::immediate_bytes, instruction_parts::specs::Kinds::immediate_width))]
+fn has_immediate(size: Bits, kind: OpKind) -> bool
+    ensures { result ≡ false → fits.immediate_bytes size kind ≡ 0 }
+{
+    let _size = size;
+    match kind {
+        OpKind::Ib
+        | OpKind::Iw
+        | OpKind::Ibs
+        | OpKind::Iz
+        | OpKind::Iv
+        | OpKind::Jb
+        | OpKind::Jz
+        | OpKind::Ap
+        | OpKind::Lx => true,
+        _ => false,
+    }
+}
+
+/// The same bytes, asked for only where the kind has some.
+#[inline(always)]
+#[tactic(auto, unfolding(crate::specs::Meaning::own_immediate))]
+fn immediate_of<'a>(size: Bits, row: &Row, n: usize, kind: OpKind, imm: &'a [u8]) -> &'a [u8]
+    requires whole { length imm.now ≡ fits.immediates_bytes size row.now }
+    requires number { n < 4 }
+    requires kind { kind ≡ fits.kind_at row.now n }
+    ensures { result.now ≡ spec.own_immediate size row.now n imm.now }
+{
+    if has_immediate(size, kind) {
+        let len = immediate_bytes(size, kind) as usize;
+        own_immediate(size, row, n, imm, len)
+    } else {
+        &[]
+    }
+}
+
 /// Operand n, where there is one, written to a place.
 #[inline(never)]
 #[tactic(auto, unfolding(crate::specs::Meaning::operand_at, crate::specs::Meaning::own_immediate))]
@@ -512,8 +568,7 @@ fn present_into(
     ensures { place.new ≡ spec.operand_at bits row.now state.now
         (spec.tail behind.now.modrm behind.now.sib behind.now.disp.now behind.now.next) behind.now.imm.now n }
 {
-    let len = immediate_bytes(size, kind) as usize;
-    let own = own_immediate(size, row, n, behind.imm, len);
+    let own = immediate_of(size, row, n, kind, behind.imm);
     let method = method_of_kind(kind);
     operand_into(bits, row, state, behind, kind, method, own, place)
 }

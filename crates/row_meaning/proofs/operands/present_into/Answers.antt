@@ -22,4 +22,4 @@ short size row n imm own kind method k m o p =
 
 pub operand_into-requires-clause-pointer : goal.operand_into-requires-clause-pointer
 operand_into-requires-clause-pointer c =
-    short c.args.size c.args.row.now c.args.n c.args.behind.now.imm.now _ c.args.kind _ c.requires.kind c.method_of_kind-method.ensures c.own_immediate-own.ensures
+    short c.args.size c.args.row.now c.args.n c.args.behind.now.imm.now _ c.args.kind _ c.requires.kind c.method_of_kind-method.ensures c.immediate_of-own.ensures
