@@ -8,7 +8,7 @@ use Rattle.row_types.specs.declared.Size.TheVariants as size
 use Rattle.row_types.specs.declared.WBit.{WBit}
 use Rattle.row_types.specs.declared.WBit.TheVariants as bit
 use Rattle.row_types.specs.declared.LBit.{LBit}
-use Rattle.row_types.specs.declared.LBit.TheVariants as length
+use Rattle.row_types.specs.declared.LBit.TheVariants as lbit
 use Rattle.instruction_parts.specs.Kinds.{method_of}
 use Rattle.instruction_parts.specs.declared.kinds.Method.{Method}
 use Rattle.instruction_parts.specs.declared.kinds.Method.TheVariants as method
@@ -206,11 +206,11 @@ variant_count (v ∷ vs) = if v.modes == 0 then variant_count vs else 1 + varian
 
 -- the values of L of an entry's rows
 abbrev pub vex_lengths : VexL → List LBit
-vex_lengths l.Both = length.L128 ∷ length.L256 ∷ []
-vex_lengths l.L128 = length.L128 ∷ []
-vex_lengths l.L256 = length.L256 ∷ []
-vex_lengths l.Lig = length.Lig ∷ []
-vex_lengths l.Lz = length.Lz ∷ []
+vex_lengths l.Both = lbit.L128 ∷ lbit.L256 ∷ []
+vex_lengths l.L128 = lbit.L128 ∷ []
+vex_lengths l.L256 = lbit.L256 ∷ []
+vex_lengths l.Lig = lbit.Lig ∷ []
+vex_lengths l.Lz = lbit.Lz ∷ []
 
 abbrev pub lengths : Entry → List LBit
-lengths e = elim e.kind [ Legacy ↦ length.None ∷ [] | Vex ↦ vex_lengths e.l ]
+lengths e = elim e.kind [ Legacy ↦ lbit.None ∷ [] | Vex ↦ vex_lengths e.l ]
