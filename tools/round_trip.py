@@ -1,95 +1,103 @@
-#!/usr/bin/python3
+#!/usr/bin/env python3
 """Types the texts of a listing back.
 
-    round_trip.py BITS code.bin [PROGRAM] [--base BASE]
+    tools/round_trip.py BITS code.bin [PROGRAM] [--base BASE]
 
-PROGRAM (else the repository's built listing_program) writes `list BITS BASE intel` of the file, and its texts go to `asm BITS BASE`, a piece of them at a
-time, so that each piece has at most 1,048,576 bytes. The bytes that come back are listed at the same base. Each text has to come back; no instruction may
-be longer than in the file, and a single byte has to be itself.
+PROGRAM (else the repository's built listing_program) writes `list BITS BASE intel` of the file, and its texts go to `asm BITS`, many lines at a time, at the
+address where the listing has them. The bytes that come back are listed at the same address. Each text has to come back as it was; no instruction may be
+longer than in the file, and a single byte has to be itself.
 
-An instruction that comes back shorter moves what follows it, so the texts of near branches and of operands relative to RIP behind it would then name other
-addresses than in the file: they are typed as they stand in the listing, and the listing of the new bytes must show the very same texts. Where a target is no
-longer in reach of the text's instruction, or a line does not come back, the script says so and ends with status 1.
-
-Prints how many lines there are, how many of them changed bytes, and the seconds of `asm`. Nothing rests on this script.
+An instruction that comes back shorter moves what follows it. Texts name targets by their addresses, so the next line is typed where the listing has it: a
+run of lines ends with each line that became shorter. Prints how many lines there are, how many changed bytes and in how many runs, the seconds of `asm`,
+and each line that did not come back; with one, the status is 1. Nothing rests on this script.
 """
 import argparse
 import collections
 import os
+import re
 import subprocess
 import sys
 import time
 
-PIECE = 1_000_000
+LINES = 500  # lines typed at a time
 
 
-def output(program, words, data):
-    ran = subprocess.run([program, *words], input=data, stdout=subprocess.PIPE, stderr=subprocess.PIPE, check=False)
-    if ran.returncode != 0:
-        sys.exit(f"{' '.join(words)}: status {ran.returncode}, {ran.stderr.decode('ascii').strip()}")
-    return ran.stdout
+def ran(program, words, data):
+    return subprocess.run([program, *words], input=data, stdout=subprocess.PIPE, stderr=subprocess.PIPE, check=False)
 
 
 def lines_of(program, bits, base, code):
     """The bytes and the text of each line of a listing."""
-    listing = output(program, ["list", bits, f"{base:x}", "intel"], code).decode("ascii")
+    listing = ran(program, ["list", bits, f"{base:x}", "intel"], code).stdout.decode("ascii")
     return [(bytes.fromhex(digits), text) for _, digits, text in (line.split(None, 2) for line in listing.splitlines())]
 
 
-def pieces(lines):
-    """The lines in pieces whose texts have at most so many bytes."""
-    piece, length = [], 0
-    for line in lines:
-        if length + len(line[1]) + 1 > PIECE:
-            yield piece
-            piece, length = [], 0
-        piece.append(line)
-        length += len(line[1]) + 1
-    if piece:
-        yield piece
+class Typing:
+    """What came of the lines that were typed so far."""
+
+    def __init__(self, program, bits):
+        self.program, self.bits = program, bits
+        self.seconds, self.typed, self.runs = 0.0, 0, 0
+        self.changed, self.shorter, self.single, self.bad, self.kinds = 0, 0, 0, [], collections.Counter()
+
+    def asm(self, at, texts):
+        """The bytes of some lines, and how many lines they are: those in front of a bad one."""
+        before = time.monotonic()
+        made = ran(self.program, ["asm", self.bits, f"{at:x}"], "".join(f"{text}\n" for text in texts).encode("ascii"))
+        self.seconds += time.monotonic() - before
+        self.typed += len(texts)
+        self.runs += 1
+        bad = re.match(rb"bad text in line (\d+)\n", made.stderr)
+        if made.returncode == 11 and bad:
+            return self.asm(at, texts[: int(bad[1]) - 1]) if bad[1] != b"1" else (b"", 0)
+        if made.returncode != 0:
+            sys.exit(f"asm {self.bits} {at:x}: status {made.returncode}")
+        return made.stdout, len(texts)
+
+    def run(self, at, lines):
+        """Types a run of lines at its address; answers how many lines of it are settled."""
+        made, count = self.asm(at, [text for _, text in lines])
+        if count == 0:
+            self.bad.append(f"{at:x}: {lines[0][0].hex()} {lines[0][1]}: no instruction")
+            return 1
+        for number, (line, other) in enumerate(zip(lines, lines_of(self.program, self.bits, at, made))):
+            self.settle(at, line, other)
+            if len(other[0]) != len(line[0]):
+                return number + 1
+        return count
+
+    def settle(self, at, line, other):
+        if line[1] != other[1] or len(other[0]) > len(line[0]) or line[1].startswith("db ") and line[0] != other[0]:
+            self.bad.append(f"run at {at:x}: {line[0].hex()} {line[1]} came back as {other[0].hex()} {other[1]}")
+        self.single += line[1].startswith("db ")
+        if line[0] != other[0]:
+            self.changed += 1
+            self.shorter += len(other[0]) < len(line[0])
+            self.kinds[line[1].split()[0]] += 1
 
 
 def main():
-    parser = argparse.ArgumentParser()
+    parser = argparse.ArgumentParser(description=__doc__, formatter_class=argparse.RawDescriptionHelpFormatter)
     parser.add_argument("bits", choices=["16", "32", "64"])
     parser.add_argument("code")
     top = os.path.dirname(os.path.dirname(os.path.abspath(__file__)))
     parser.add_argument("program", nargs="?", default=f"{top}/crates/listing_program/out/listing_program")
     parser.add_argument("--base", default="0")
     said = parser.parse_args()
-    base = int(said.base, 16)
-    code = open(said.code, "rb").read()
-    lines = lines_of(said.program, said.bits, base, code)
-    spent, changed, shorter, single, kinds = 0.0, 0, 0, 0, collections.Counter()
-    at = base
-    for piece in pieces(lines):
-        start = at % 2 ** int(said.bits)
-        text = "".join(f"{text}\n" for _, text in piece).encode("ascii")
-        before = time.monotonic()
-        made = output(said.program, ["asm", said.bits, f"{start:x}"], text)
-        spent += time.monotonic() - before
-        again = lines_of(said.program, said.bits, start, made)
-        for number, (line, other) in enumerate(zip(piece, again)):
-            if line[1] != other[1]:
-                sys.exit(f"line {number} of the piece at {start:x}: {line[1]} came back as {other[1]}")
-            if len(other[0]) > len(line[0]):
-                sys.exit(f"line {number} of the piece at {start:x}: {line[1]} came back longer")
-            if line[1].startswith("db "):
-                single += 1
-                if line[0] != other[0]:
-                    sys.exit(f"line {number} of the piece at {start:x}: {line[1]} is not itself")
-            if line[0] != other[0]:
-                changed += 1
-                shorter += len(other[0]) < len(line[0])
-                kinds[line[1].split()[0]] += 1
-        if len(again) != len(piece):
-            sys.exit(f"the piece at {start:x} has {len(piece)} lines and came back with {len(again)}")
-        at += sum(len(it) for it, _ in piece)
-    print(f"{len(lines)} lines, all came back; {single} of them single bytes")
-    print(f"{changed} changed bytes, {shorter} of these are shorter")
-    print(f"asm took {spent:.2f} s: {len(lines) / max(spent, 1e-9):.0f} lines a second")
-    for name, count in kinds.most_common(12):
+    lines = lines_of(said.program, said.bits, int(said.base, 16), open(said.code, "rb").read())
+    typing, at, done = Typing(said.program, said.bits), int(said.base, 16), 0
+    while done < len(lines):
+        settled = typing.run(at % 2 ** int(said.bits), lines[done:done + LINES])
+        at += sum(len(code) for code, _ in lines[done:done + settled])
+        done += settled
+    print(f"{len(lines)} lines, {typing.single} of them single bytes; {len(typing.bad)} did not come back")
+    print(f"{typing.changed} changed bytes, {typing.shorter} of these are shorter; {typing.runs} runs")
+    print(f"asm took {typing.seconds:.2f} s for {typing.typed} lines: {typing.typed / max(typing.seconds, 1e-9):.0f} lines a second, with the start of each run")
+    for name, count in typing.kinds.most_common(12):
         print(f"{count:9} {name}")
+    print("\n".join(typing.bad[:20]))
+    return 1 if typing.bad else 0
 
 
-main()
+if __name__ == "__main__":
+    sys.exit(main())
