@@ -8,11 +8,13 @@ address where the listing has them. The bytes that come back are listed at the s
 longer than in the file, and a single byte has to be itself.
 
 An instruction that comes back shorter moves what follows it. Texts name targets by their addresses, so the next line is typed where the listing has it: a
-run of lines ends with each line that became shorter. Prints how many lines there are, how many changed bytes and in how many runs, the seconds of `asm`,
-and each line that did not come back; with one, the status is 1. Nothing rests on this script.
+run of lines ends with each line that became shorter. Single bytes are typed in runs of their own, since other bytes behind them may be read with them.
+Prints how many lines there are, how many changed bytes and in how many runs, the seconds of `asm`, and each line that did not come back; with one, the
+status is 1. Nothing rests on this script.
 """
 import argparse
 import collections
+import itertools
 import os
 import re
 import subprocess
@@ -66,10 +68,17 @@ class Typing:
                 return number + 1
         return count
 
+    def single_bytes(self, at, lines):
+        """Types a run of single bytes; answers how many they are."""
+        made, count = self.asm(at, [text for _, text in lines])
+        if made != b"".join(byte for byte, _ in lines) or count != len(lines):
+            self.bad.append(f"{at:x}: {len(lines)} single bytes came back as {made.hex()}")
+        self.single += len(lines)
+        return len(lines)
+
     def settle(self, at, line, other):
-        if line[1] != other[1] or len(other[0]) > len(line[0]) or line[1].startswith("db ") and line[0] != other[0]:
+        if line[1] != other[1] or len(other[0]) > len(line[0]):
             self.bad.append(f"run at {at:x}: {line[0].hex()} {line[1]} came back as {other[0].hex()} {other[1]}")
-        self.single += line[1].startswith("db ")
         if line[0] != other[0]:
             self.changed += 1
             self.shorter += len(other[0]) < len(line[0])
@@ -87,7 +96,9 @@ def main():
     lines = lines_of(said.program, said.bits, int(said.base, 16), open(said.code, "rb").read())
     typing, at, done = Typing(said.program, said.bits), int(said.base, 16), 0
     while done < len(lines):
-        settled = typing.run(at % 2 ** int(said.bits), lines[done:done + LINES])
+        is_single = lines[done][1].startswith("db ")
+        piece = list(itertools.takewhile(lambda line: line[1].startswith("db ") == is_single, lines[done:done + LINES]))
+        settled = (typing.single_bytes if is_single else typing.run)(at % 2 ** int(said.bits), piece)
         at += sum(len(code) for code, _ in lines[done:done + settled])
         done += settled
     print(f"{len(lines)} lines, {typing.single} of them single bytes; {len(typing.bad)} did not come back")
