@@ -5,5 +5,6 @@ pub mod CandidateBack
 pub mod Printed
 pub mod Leading
 pub mod PlainFacts
+pub mod AllowedWords
 pub mod Choosing
 pub mod Apart

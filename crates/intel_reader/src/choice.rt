@@ -13,6 +13,7 @@ ghost use Rattle.intel_reader.specs.Candidate as spec;
 ghost use Rattle.intel_reader.specs.Choice.{assembly_of, Leads, IsHeld, IsProgress};
 
 use crate::candidate::candidate;
+use crate::possible::{displacement_allowed, has_address, kinds_allow, size_allowed};
 use arrayvec::ArrayVec;
 use encoder::encode;
 use intel_text::print;
@@ -88,9 +89,13 @@ fn with_candidate(
     asize: Option<Bits>,
     size: DispSize,
 ) -> Option<Found>
+    requires row { slice_get table code.0 ≡ Some row.now }
     ensures progress { IsProgress bits ip text.now best result }
     ensures covers { (b : Assembly) → IsCandidate bits ip text.now b → spec.candidate bits row.now code words.now asize size ≡ b.instr → Leads result b }
 {
+    if !displacement_allowed(bits, row, words, asize, size) {
+        return best;
+    }
     let instr = candidate(bits, row, code, words, asize, size);
     match tried(bits, ip, text, instr) {
         None => best,
@@ -109,10 +114,17 @@ fn with_sizes(
     words: &IntelWords,
     asize: Option<Bits>,
 ) -> Option<Found>
+    requires row { slice_get table code.0 ≡ Some row.now }
     ensures progress { IsProgress bits ip text.now best result }
     ensures covers { (b : Assembly) (size : DispSize) → IsCandidate bits ip text.now b → spec.candidate bits row.now code words.now asize size ≡ b.instr → Leads result b }
 {
+    if !size_allowed(bits, row, words, asize) {
+        return best;
+    }
     let none = with_candidate(best, bits, ip, text, row, code, words, asize, DispSize::D0);
+    if !has_address(words) {
+        return none;
+    }
     let byte = with_candidate(none, bits, ip, text, row, code, words, asize, DispSize::D8);
     let word = with_candidate(byte, bits, ip, text, row, code, words, asize, DispSize::D16);
     let dword = with_candidate(word, bits, ip, text, row, code, words, asize, DispSize::D32);
@@ -139,10 +151,14 @@ fn with_row(
     code: Code,
     words: &IntelWords,
 ) -> Option<Found>
+    requires row { slice_get table code.0 ≡ Some row.now }
     ensures progress { IsProgress bits ip text.now best result }
     ensures covers { (b : Assembly) (asize : Option Bits) (size : DispSize) → IsCandidate bits ip text.now b
         → spec.candidate bits row.now code words.now asize size ≡ b.instr → Leads result b }
 {
+    if !kinds_allow(row, words) {
+        return best;
+    }
     let none = with_sizes(best, bits, ip, text, row, code, words, None);
     let short = with_sizes(none, bits, ip, text, row, code, words, Some(Bits::B16));
     let flat = with_sizes(short, bits, ip, text, row, code, words, Some(Bits::B32));

@@ -1,6 +1,8 @@
-use Rattle.std.proofs.Common.{◌≡◌, Option}
+use Rattle.std.proofs.Common.{◌≡◌, Option, true}
 use Rattle.x86_values.specs.declared.Bits.{Bits}
 use Rattle.intel_reader.specs.Candidate as spec
+use Rattle.intel_reader.specs.Possible.{kinds_allow}
+use Rattle.intel_reader.proofs.AllowedWords.{made_given, kinds_there}
 use Rattle.intel_reader.proofs.Leading.{four}
 use Rattle.intel_reader.proofs.choice.with_row.Goals as goal
 
@@ -11,3 +13,9 @@ returns-clause-covers c = λ b asize size k e.
     c.with_sizes-short.ensures.progress c.with_sizes-flat.ensures.progress c.with_sizes.ensures.progress
     (λ p. c.with_sizes-none.ensures.covers b size k p) (λ p. c.with_sizes-short.ensures.covers b size k p)
     (λ p. c.with_sizes-flat.ensures.covers b size k p) (λ p. c.with_sizes.ensures.covers b size k p) asize e
+
+pub returns-then-not-kinds_allow-clause-covers : goal.returns-then-not-kinds_allow-clause-covers
+returns-then-not-kinds_allow-clause-covers c = λ b asize size k e.
+    let g = made_given c.args.bits c.args.ip c.args.text.now b c.args.row.now c.args.code c.args.words.now asize size k c.requires.row e in
+    let allowed : kinds_allow c.args.row.now c.args.words.now ≡ true = kinds_there c.args.bits _ c.args.row.now c.args.code c.args.words.now asize size g in
+    cc (allowed, c.kinds_allow.ensures, c.if-not-kinds_allow.true)

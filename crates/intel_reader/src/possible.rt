@@ -1,0 +1,162 @@
+//! Tests of the words of a text before any instruction is made of them: whether a row can have them at all, and with which sizes.
+
+ghost use Rattle.std.specs.Prelude.{◌≡◌, ◌<◌};
+ghost use Rattle.plain_spelling.specs.Comparing as comparing;
+ghost use Rattle.intel_reader.specs.Possible as spec;
+
+use crate::candidate::{address_from, is_near_at, operand_from};
+use instruction_parts::kinds::{Method, method_of_kind};
+use instruction_parts::sizes::has_address_mark;
+use intel_words::words::{IntelWords, OperandText};
+use plain_spelling::addresses::{displacement_suits, has_address_size, told_size, written_size};
+use plain_spelling::forms::is_variant_of;
+use row_fit::tail_fits::kind_at;
+use row_types::Row;
+use x86_values::{Bits, DispSize};
+
+/// Whether operand n has a variant that the row's kind allows.
+fn kind_allows(row: &Row, words: &IntelWords, n: usize) -> bool
+    requires { n < 4 }
+    ensures { result ≡ spec.kind_allows row.now words.now n }
+{
+    let operand = operand_from(is_near_at(row, n), Bits::B64, DispSize::D0, words.ops[n]);
+    is_variant_of(row.place, method_of_kind(kind_at(row, n)), operand)
+}
+
+/// Whether each operand has a variant that the row's kind allows.
+#[tactic(auto, unfolding(crate::specs::Possible::kinds_allow))]
+pub fn kinds_allow(row: &Row, words: &IntelWords) -> bool
+    ensures { result ≡ spec.kinds_allow row.now words.now }
+{
+    kind_allows(row, words, 0)
+        && kind_allows(row, words, 1)
+        && kind_allows(row, words, 2)
+        && kind_allows(row, words, 3)
+}
+
+#[tactic(auto, unfolding(crate::specs::Possible::is_address))]
+fn is_address(text: &OperandText) -> bool
+    ensures { result ≡ spec.is_address text.now }
+{
+    match text {
+        OperandText::Mem(_) => true,
+        _ => false,
+    }
+}
+
+/// Whether some operand is an address.
+#[tactic(auto, unfolding(crate::specs::Possible::has_address))]
+pub fn has_address(words: &IntelWords) -> bool
+    ensures { result ≡ spec.has_address words.now }
+{
+    is_address(&words.ops[0])
+        || is_address(&words.ops[1])
+        || is_address(&words.ops[2])
+        || is_address(&words.ops[3])
+}
+
+/// Whether two sizes are one.
+fn same_bits(a: Bits, b: Bits) -> bool
+    ensures { result ≡ comparing.same_bits a b }
+{
+    match (a, b) {
+        (Bits::B16, Bits::B16) => true,
+        (Bits::B32, Bits::B32) => true,
+        (Bits::B64, Bits::B64) => true,
+        _ => false,
+    }
+}
+
+/// Whether an address size agrees with what an address shows.
+#[tactic(auto, unfolding(crate::specs::Possible::text_agrees, plain_spelling::specs::Expressible::size_agrees))]
+fn text_agrees(asize: Bits, text: OperandText) -> bool
+    ensures { result ≡ spec.text_agrees asize text }
+{
+    match text {
+        OperandText::Mem(address) => {
+            match told_size(address_from(Bits::B64, DispSize::D0, address.inside)) {
+                None => true,
+                Some(size) => same_bits(size, asize),
+            }
+        }
+        _ => true,
+    }
+}
+
+/// Whether an instruction of the row with these words may have this address size.
+#[tactic(auto, unfolding(crate::specs::Possible::size_allowed))]
+pub fn size_allowed(bits: Bits, row: &Row, words: &IntelWords, asize: Option<Bits>) -> bool
+    ensures { result ≡ spec.size_allowed bits row.now words.now asize }
+{
+    if has_address(words) || has_address_mark(row) {
+        match asize {
+            None => false,
+            Some(a) => {
+                has_address_size(bits, a)
+                    && text_agrees(a, words.ops[0])
+                    && text_agrees(a, words.ops[1])
+                    && text_agrees(a, words.ops[2])
+                    && text_agrees(a, words.ops[3])
+            }
+        }
+    } else {
+        asize.is_none()
+    }
+}
+
+/// Whether the address of an operand offers a displacement of this size.
+#[tactic(auto, unfolding(crate::specs::Possible::text_offers))]
+fn text_offers(
+    bits: Bits,
+    asize: Option<Bits>,
+    size: DispSize,
+    method: Method,
+    text: OperandText,
+) -> bool
+    ensures { result ≡ spec.text_offers bits asize size method text }
+{
+    match text {
+        OperandText::Mem(address) => {
+            let memory = address_from(asize.unwrap_or(bits), size, address.inside);
+            displacement_suits(written_size(bits, asize, memory), method, memory)
+        }
+        _ => true,
+    }
+}
+
+fn nth_offers(
+    bits: Bits,
+    row: &Row,
+    words: &IntelWords,
+    asize: Option<Bits>,
+    size: DispSize,
+    n: usize,
+) -> bool
+    requires { n < 4 }
+    ensures { result ≡ spec.nth_offers bits row.now words.now asize size n }
+{
+    text_offers(
+        bits,
+        asize,
+        size,
+        method_of_kind(kind_at(row, n)),
+        words.ops[n],
+    )
+}
+
+/// Whether the addresses of an instruction of the row with these words may have this displacement size.
+#[tactic(auto, unfolding(crate::specs::Possible::displacement_allowed))]
+pub fn displacement_allowed(
+    bits: Bits,
+    row: &Row,
+    words: &IntelWords,
+    asize: Option<Bits>,
+    size: DispSize,
+) -> bool
+    ensures { result ≡ spec.displacement_allowed bits row.now words.now asize size }
+{
+    nth_offers(bits, row, words, asize, size, 0)
+        && nth_offers(bits, row, words, asize, size, 1)
+        && nth_offers(bits, row, words, asize, size, 2)
+        && nth_offers(bits, row, words, asize, size, 3)
+}
