@@ -1,7 +1,7 @@
 -- What the words of a text have to be, so that an instruction of a row with these sizes has them: tests before any instruction is made.
-use Rattle.std.specs.Prelude.{ℕ, Bool, true, false, ◌&&◌, ◌||◌, if◌then◌else◌, Option, Some, None, is_none, unwrap_or}
+use Rattle.std.specs.Prelude.{ℕ, Bool, true, false, ◌&&◌, ◌||◌, if◌then◌else◌, List, Option, Some, None, is_none, unwrap_or, bytes_eq}
 use Rattle.x86_values.specs.declared.Bits.{Bits}
-use Rattle.x86_values.specs.declared.Bits.TheVariants.{B64}
+use Rattle.x86_values.specs.declared.Bits.TheVariants.{B16, B32, B64}
 use Rattle.x86_values.specs.declared.DispSize.{DispSize}
 use Rattle.x86_values.specs.declared.DispSize.TheVariants.{D0}
 use Rattle.x86_values.specs.declared.Mem.{Mem}
@@ -14,10 +14,17 @@ use Rattle.row_fit.specs.Fits.{kind_at}
 use Rattle.plain_spelling.specs.Forms.{is_variant_of}
 use Rattle.plain_spelling.specs.Addresses.{has_address_size, displacement_suits, written_size}
 use Rattle.plain_spelling.specs.Expressible.{size_agrees}
+use Rattle.text_parts.specs.PrefixWords.{counter_jump}
 use Rattle.intel_words.specs.declared.words.IntelWords.{IntelWords}
 use Rattle.intel_words.specs.declared.words.OperandText.{OperandText}
 use Rattle.intel_words.specs.declared.words.OperandText.TheVariants.{Mem as Address}
 use Rattle.intel_reader.specs.Candidate.{is_near_at, address_from, operand_from, text_at}
+
+-- ---- the name
+
+-- a name in a text is that of the jump on the counter, with one of its address sizes
+unfoldable pub is_counter_word : List ℕ → Bool
+is_counter_word word = bytes_eq word (counter_jump B16) || (bytes_eq word (counter_jump B32) || bytes_eq word (counter_jump B64))
 
 -- ---- the kinds of the operands
 
