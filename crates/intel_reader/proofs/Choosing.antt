@@ -1,6 +1,6 @@
 -- The candidates of a text, by their rows and words.
-use Rattle.std.proofs.Common.{◌≡◌, ℕ, ◌<◌, ◌≤◌, Bool, true, false, ◌||◌, List, Option, Some, None, refl, ap, sym, ◌∙◌, subst, arith, slice_get}
-use Rattle.std.specs.Prelude.{IsTrue, IfSome, IsNone, bytes_eq}
+use Rattle.std.proofs.Common.{◌≡◌, ◌⊎◌, inl, inr, zero, suc, [], ◌∷◌, length, ℕ, ◌<◌, ◌≤◌, Bool, true, false, ◌||◌, List, Option, Some, None, refl, ap, sym, ◌∙◌, subst, arith, slice_get}
+use Rattle.std.specs.Prelude.{IsTrue, IfSome, IsNone, bytes_eq, codes}
 use Rattle.std.proofs.lemmas.Slice.Eq.{bytes_eq-Decides}
 use Rattle.x86_values.specs.declared.Bits.{Bits}
 use Rattle.x86_values.specs.declared.DispSize.{DispSize}
@@ -13,7 +13,10 @@ use Rattle.opcode_rows.specs.declared.spots.TheConstants.{ROWS}
 use Rattle.opcode_rows.specs.Table.{table, name_of}
 use Rattle.opcode_rows.specs.Allowed.{is_well_formed}
 use Rattle.text_parts.specs.declared.style.Style.TheVariants.{Intel}
-use Rattle.text_parts.specs.PrefixWords.{is_counter_jump, name_text}
+use Rattle.text_parts.specs.PrefixWords.{is_counter_jump, counter_jump, name_text, text_address_size}
+use Rattle.name_index.specs.Buckets.{order}
+use Rattle.x86_values.specs.declared.Bits.TheVariants.{B16, B32, B64}
+use Rattle.intel_reader.specs.Possible.{is_counter_word}
 use Rattle.text_parts.specs.Layout.{bracket_layout}
 use Rattle.intel_text.specs.Text.{text_of}
 use Rattle.intel_text.proofs.TextLaws.{text-known}
@@ -126,3 +129,49 @@ first_from bits ip text (Some f) held led = record { candidate = held; first = �
 pub none_from : (bits : Bits) (ip : ℕ) (text : List ℕ) (best : Option Found) → ((b : Assembly) → IsCandidate bits ip text b → Leads best b) → IsNone best → IsNoText bits ip text
 none_from bits ip text None led e = λ a k. led a k
 none_from bits ip text (Some f) led e = λ a k. impossible e
+
+-- ---- the codes of a name
+
+some_below : (xs : List ℕ) (k x : ℕ) → slice_get xs k ≡ Some x → k < length xs
+some_below [] k x h = cc
+some_below (y ∷ ys) zero x h = omega arith
+some_below (y ∷ ys) (suc k) x h = let r = some_below ys k x h in omega arith
+
+length-order : length order ≡ ROWS
+unfolding order
+length-order = refl
+
+pub place_below : (k x : ℕ) → slice_get order k ≡ Some x → k < ROWS
+place_below k x h = omega (some_below order k x h, length-order, arith)
+
+pub code_below : (bits : Bits) (ip : ℕ) (text : List ℕ) (b : Assembly) → IsCandidate bits ip text b → b.instr.code.0 < ROWS
+code_below bits ip text b k = (row_there bits (wrapped bits ip) b.bytes b.instr k.spelled).2.below
+
+same_place : (o : Option ℕ) (x y : ℕ) → o ≡ Some x → o ≡ Some y → x ≡ y
+same_place o x y e f = cc
+
+pub code_at_place : (k x y : ℕ) → slice_get order k ≡ Some x → slice_get order k ≡ Some y → x ≡ y
+code_at_place k x y e f = same_place (slice_get order k) x y e f
+
+or_left_true : (a b : Bool) → a ≡ true → (a || b) ≡ true
+or_left_true true b h = refl
+or_left_true false b h = cc
+
+or_right_true : (a b : Bool) → b ≡ true → (a || b) ≡ true
+or_right_true true b h = refl
+or_right_true false b h = h
+
+shown_counter : (a : Bits) (word : List ℕ) → word ≡ counter_jump a → is_counter_word word ≡ true
+unfolding is_counter_word
+shown_counter B16 word e = or_left_true _ _ ((bytes_eq-Decides word (counter_jump B16)).1 e)
+shown_counter B32 word e = or_right_true _ _ (or_left_true _ _ ((bytes_eq-Decides word (counter_jump B32)).1 e))
+shown_counter B64 word e = or_right_true _ _ (or_right_true _ _ ((bytes_eq-Decides word (counter_jump B64)).1 e))
+
+-- the name of a row is the word in the text, or the word is one of the jump on the counter
+pub name_or_counter : (bits : Bits) (name word : List ℕ) (i : Instr) → word ≡ name_text bits name i → (name ≡ word) ⊎ ((name ≡ codes "jrcxz") × (is_counter_word word ≡ true))
+unfolding name_text is_counter_jump
+name_or_counter bits name word i e = by_test (is_counter_jump name) refl
+  where
+    by_test : (t : Bool) → is_counter_jump name ≡ t → (name ≡ word) ⊎ ((name ≡ codes "jrcxz") × (is_counter_word word ≡ true))
+    by_test true h = inr ((bytes_eq-Decides name (codes "jrcxz")).2 h, shown_counter (text_address_size bits i) word (rw h at e))
+    by_test false h = inl (sym (rw h at e))
