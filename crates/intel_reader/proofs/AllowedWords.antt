@@ -84,8 +84,8 @@ unfolding kinds_allow
 kinds_there bits ip row code words asize size g =
     let i : Instr = candidate bits row code words asize size in
     let one = λ (n : ℕ) (below : n < 4).
-        variant_same row.place (method_of (kind_at row n)) (is_near_at row n) (unwrap_or asize bits) size (text_at words n)
-        (variant_at bits ip row i n _ g below (made_at bits row code words asize size n below)) in
+    variant_same row.place (method_of (kind_at row n)) (is_near_at row n) (unwrap_or asize bits) size (text_at words n)
+    (variant_at bits ip row i n _ g below (made_at bits row code words asize size n below)) in
     both _ _ (one 0 (omega arith)) (both _ _ (one 1 (omega arith)) (both _ _ (one 2 (omega arith)) (one 3 (omega arith))))
 
 -- ---- the address size
@@ -123,7 +123,7 @@ memory_is : (bits : Bits) (row : Row) (code : Code) (words : IntelWords) (asize 
 unfolding has_memory_operand has_address
 memory_is bits row code words asize size =
     let one = λ (n : ℕ) (below : n < 4).
-        ap is_memory (made_at bits row code words asize size n below) ∙ address_same (is_near_at row n) (unwrap_or asize bits) size (text_at words n) in
+    ap is_memory (made_at bits row code words asize size n below) ∙ address_same (is_near_at row n) (unwrap_or asize bits) size (text_at words n) in
     rw (one 0 (omega arith), one 1 (omega arith), one 2 (omega arith), one 3 (omega arith)) refl
 
 agrees_at : (bits : Bits) (row : Row) (code : Code) (words : IntelWords) (asize : Option Bits) (size : DispSize) (a : Bits) (n : ℕ) → n < 4

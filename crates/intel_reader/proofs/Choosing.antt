@@ -26,7 +26,7 @@ use Rattle.intel_words.specs.Printable.{is_printable}
 use Rattle.plain_spelling.proofs.AddressCases.{impossible}
 use Rattle.intel_reader.specs.declared.choice.Found.{Found}
 use Rattle.intel_reader.specs.Assembled.{Assembly, IsCandidate, IsFirst, IsNoText}
-use Rattle.intel_reader.specs.Choice.{assembly_of, Leads, IsHeld}
+use Rattle.intel_reader.specs.Choice.{assembly_of, Leads, IsHeld, IsProgress}
 use Rattle.intel_reader.specs.Candidate.{candidate}
 use Rattle.intel_reader.proofs.CandidateBack.{candidate_back}
 use Rattle.intel_reader.proofs.Printed.{plain_is_printable}
@@ -111,15 +111,7 @@ printed_facts bits ip text b row k at =
 pub row_of_candidate : (bits : Bits) (ip : ℕ) (text : List ℕ) (b : Assembly) → IsCandidate bits ip text b → (row : Row) × (slice_get table b.instr.code.0 ≡ Some row)
 row_of_candidate bits ip text b k = (k.spelled.row, k.spelled.row_is)
 
--- ---- all codes
-
--- where each code was gone over, what was found leads every candidate
-pub all_led : (bits : Bits) (ip : ℕ) (text : List ℕ) (best : Option Found) (code : ℕ) → ((b : Assembly) → IsCandidate bits ip text b → b.instr.code.0 < code → Leads best b) → ROWS ≤ code
-    → (b : Assembly) → IsCandidate bits ip text b → Leads best b
-all_led bits ip text best code led all b k =
-    let there = row_there bits (wrapped bits ip) b.bytes b.instr k.spelled in
-    let below : b.instr.code.0 < ROWS = there.2.below in
-    led b k (omega (arith, below, all))
+-- ---- all candidates
 
 pub first_from : (bits : Bits) (ip : ℕ) (text : List ℕ) (best : Option Found) → IsHeld bits ip text best → ((b : Assembly) → IsCandidate bits ip text b → Leads best b)
     → IfSome best (λ f. IsFirst bits ip text (assembly_of f))
@@ -173,5 +165,49 @@ unfolding name_text is_counter_jump
 name_or_counter bits name word i e = by_test (is_counter_jump name) refl
   where
     by_test : (t : Bool) → is_counter_jump name ≡ t → (name ≡ word) ⊎ ((name ≡ codes "jrcxz") × (is_counter_word word ≡ true))
-    by_test true h = inr ((bytes_eq-Decides name (codes "jrcxz")).2 h, shown_counter (text_address_size bits i) word (rw h at e))
+    by_test true h = inr ((bytes_eq-Decides name (codes "jrcxz")).0 h, shown_counter (text_address_size bits i) word (rw h at e))
     by_test false h = inl (sym (rw h at e))
+
+last_or_below : (k n : ℕ) → k < suc n → (k ≡ n) ⊎ (k < n)
+last_or_below zero zero h = inl refl
+last_or_below zero (suc n) h = inr (omega arith)
+last_or_below (suc k) zero h = absurd (omega arith)
+last_or_below (suc k) (suc n) h = elim (last_or_below k n (omega arith)) [
+  | inl e ↦ inl (ap suc e)
+  | inr below ↦ inr (omega (arith, below))
+]
+
+-- one place more was gone over
+pub place_led : (bits : Bits) (ip : ℕ) (text : List ℕ) (led after : Option Found) (b : Assembly) (place k : ℕ) → IsProgress bits ip text led after → (k < place → slice_get order k ≡ Some b.instr.code.0 → Leads led b)
+    → (slice_get order place ≡ Some b.instr.code.0 → Leads after b) → k < suc place → slice_get order k ≡ Some b.instr.code.0 → Leads after b
+place_led bits ip text led after b place k p earlier here lt at = elim (last_or_below k place lt) [
+  | inl e ↦ here (ap (slice_get order) (sym e) ∙ at)
+  | inr below ↦ p.kept b (earlier below at)
+]
+
+-- ---- all names
+
+pub held_after : (bits : Bits) (ip : ℕ) (text : List ℕ) (named last : Option Found) → IsProgress bits ip text None named → IsProgress bits ip text named last → IsHeld bits ip text last
+held_after bits ip text named last p q = q.held (p.held tt)
+
+-- where the codes of the word and those of the jump on the counter were gone over, what was found leads every candidate
+pub led_by_names : (bits : Bits) (ip : ℕ) (text word counter : List ℕ) (named last : Option Found) → IsProgress bits ip text named last → ((b : Assembly) → IsCandidate bits ip text b → word ≡ name_text bits (name_of b.instr.code.0) b.instr)
+    → ((b : Assembly) → IsCandidate bits ip text b → name_of b.instr.code.0 ≡ word → Leads named b)
+    → counter ≡ codes "jrcxz" → ((b : Assembly) → IsCandidate bits ip text b → name_of b.instr.code.0 ≡ counter → Leads last b)
+    → (b : Assembly) → IsCandidate bits ip text b → Leads last b
+led_by_names bits ip text word counter named last p read one same other b k = elim (name_or_counter bits (name_of b.instr.code.0) word b.instr (read b k)) [
+  | inl e ↦ p.kept b (one b k e)
+  | inr h ↦ other b k (h.0 ∙ sym same)
+]
+
+-- where the word is none of the jump on the counter, the codes of the word are all
+pub led_by_one_name : (bits : Bits) (ip : ℕ) (text word : List ℕ) (named : Option Found) → is_counter_word word ≡ false → ((b : Assembly) → IsCandidate bits ip text b → word ≡ name_text bits (name_of b.instr.code.0) b.instr)
+    → ((b : Assembly) → IsCandidate bits ip text b → name_of b.instr.code.0 ≡ word → Leads named b)
+    → (b : Assembly) → IsCandidate bits ip text b → Leads named b
+led_by_one_name bits ip text word named other read one b k = elim (name_or_counter bits (name_of b.instr.code.0) word b.instr (read b k)) [
+  | inl e ↦ one b k e
+  | inr h ↦ clash (is_counter_word word) h.1 other
+]
+  where
+    clash : (t : Bool) → t ≡ true → t ≡ false → Leads named b
+    clash t e f = cc
