@@ -52,7 +52,7 @@ made_given bits ip text b row code words asize size k at e =
     let there : slice_get table b.instr.code.0 ≡ Some row = ap (slice_get table) same ∙ at in
     subst (λ (i : Instr). Given bits (wrapped bits ip) row i) (sym e) (plain_is_ready bits (wrapped bits ip) b.bytes row b.instr k.spelled there).given
 
-made_at : (bits : Bits) (row : Row) (code : Code) (words : IntelWords) (asize : Option Bits) (size : DispSize) (n : ℕ) → n < 4
+pub made_at : (bits : Bits) (row : Row) (code : Code) (words : IntelWords) (asize : Option Bits) (size : DispSize) (n : ℕ) → n < 4
     → operand_at (candidate bits row code words asize size) n ≡ operand_from (is_near_at row n) (unwrap_or asize bits) size (text_at words n)
 unfolding candidate
 made_at bits row code words asize size zero h = refl

@@ -5,19 +5,25 @@ use Rattle.x86_values.specs.declared.Bits.TheVariants.{B16, B32, B64}
 use Rattle.x86_values.specs.declared.DispSize.{DispSize}
 use Rattle.x86_values.specs.declared.DispSize.TheVariants.{D0}
 use Rattle.x86_values.specs.declared.Mem.{Mem}
+use Rattle.x86_values.specs.declared.Register.{Register}
+use Rattle.x86_values.specs.declared.Register.TheVariants.{Low8, High8, R16, R32, R64, Xmm}
 use Rattle.x86_values.specs.declared.Operand.TheVariants.{Mem as MemOperand}
 use Rattle.row_types.specs.declared.Row.{Row}
 use Rattle.instruction_parts.specs.declared.kinds.Method.{Method}
-use Rattle.instruction_parts.specs.Kinds.{method_of}
+use Rattle.instruction_parts.specs.declared.kinds.File.{File}
+use Rattle.instruction_parts.specs.declared.kinds.File.TheVariants.{Byte as ByteFile, Word as WordFile, Dword as DwordFile, Qword as QwordFile, OperandSize as OperandSizeFile, WordOrDword as WordOrDwordFile, Xmm as XmmFile}
+use Rattle.instruction_parts.specs.Kinds.{method_of, file_of}
 use Rattle.instruction_parts.specs.Sizes.{has_address_mark}
 use Rattle.row_fit.specs.Fits.{kind_at}
+use Rattle.row_meaning.specs.Meaning.{word_or_dword}
 use Rattle.plain_spelling.specs.Forms.{is_variant_of}
+use Rattle.plain_spelling.specs.PlainTail.{plain_size}
 use Rattle.plain_spelling.specs.Addresses.{has_address_size, displacement_suits, written_size}
 use Rattle.plain_spelling.specs.Expressible.{size_agrees}
 use Rattle.text_parts.specs.PrefixWords.{counter_jump}
 use Rattle.intel_words.specs.declared.words.IntelWords.{IntelWords}
 use Rattle.intel_words.specs.declared.words.OperandText.{OperandText}
-use Rattle.intel_words.specs.declared.words.OperandText.TheVariants.{Mem as Address}
+use Rattle.intel_words.specs.declared.words.OperandText.TheVariants.{Reg, Mem as Address}
 use Rattle.intel_reader.specs.Candidate.{is_near_at, address_from, operand_from, text_at}
 
 -- ---- the name
@@ -35,6 +41,47 @@ kind_allows row words n =
 
 unfoldable pub kinds_allow : Row → IntelWords → Bool
 kinds_allow row words = kind_allows row words 0 && (kind_allows row words 1 && (kind_allows row words 2 && kind_allows row words 3))
+
+-- ---- the registers
+
+-- a general register of a size
+unfoldable pub is_general : Bits → Register → Bool
+is_general B16 (R16 n) = true
+is_general B32 (R32 n) = true
+is_general B64 (R64 n) = true
+is_general _ r = false
+
+unfoldable pub is_byte_register : Register → Bool
+is_byte_register (Low8 n) = true
+is_byte_register (High8 n) = true
+is_byte_register _ = false
+
+unfoldable pub is_xmm_register : Register → Bool
+is_xmm_register (Xmm n) = true
+is_xmm_register _ = false
+
+-- a register that a file may name at an operand size: one of its size; of the files that go by more than the operand size each is let through
+unfoldable pub in_file : Bits → File → Register → Bool
+in_file size ByteFile r = is_byte_register r
+in_file size WordFile r = is_general B16 r
+in_file size DwordFile r = is_general B32 r
+in_file size QwordFile r = is_general B64 r
+in_file size OperandSizeFile r = is_general size r
+in_file size WordOrDwordFile r = is_general (word_or_dword size) r
+in_file size XmmFile r = is_xmm_register r
+in_file size _ r = true
+
+unfoldable pub text_in_file : Bits → File → OperandText → Bool
+text_in_file size file (Reg r) = in_file size file r
+text_in_file size file _ = true
+
+-- a register that stands as operand n is one that the row's kind may name
+abbrev pub nth_in_file : Bits → Row → IntelWords → ℕ → Bool
+nth_in_file bits row words n = text_in_file (plain_size bits row) (file_of (kind_at row n)) (text_at words n)
+
+unfoldable pub files_allow : Bits → Row → IntelWords → Bool
+files_allow bits row words =
+    nth_in_file bits row words 0 && (nth_in_file bits row words 1 && (nth_in_file bits row words 2 && nth_in_file bits row words 3))
 
 -- ---- the address size
 

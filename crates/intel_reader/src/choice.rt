@@ -15,7 +15,7 @@ ghost use Rattle.intel_reader.specs.Possible.{is_counter_word};
 ghost use Rattle.intel_reader.specs.Choice.{assembly_of, Leads, IsHeld, IsProgress};
 
 use crate::candidate::candidate;
-use crate::possible::{displacement_allowed, has_address, kinds_allow, size_allowed};
+use crate::possible::{displacement_allowed, files_allow, has_address, kinds_allow, size_allowed};
 use arrayvec::ArrayVec;
 use encoder::encode;
 use intel_text::print;
@@ -160,6 +160,9 @@ fn with_row(
         → spec.candidate bits row.now code words.now asize size ≡ b.instr → Leads result b }
 {
     if !kinds_allow(row, words) {
+        return best;
+    }
+    if !files_allow(bits, row, words) {
         return best;
     }
     let none = with_sizes(best, bits, ip, text, row, code, words, None);

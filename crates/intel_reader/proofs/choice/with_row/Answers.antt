@@ -1,7 +1,8 @@
 use Rattle.std.proofs.Common.{◌≡◌, Option, true}
 use Rattle.x86_values.specs.declared.Bits.{Bits}
 use Rattle.intel_reader.specs.Candidate as spec
-use Rattle.intel_reader.specs.Possible.{kinds_allow}
+use Rattle.intel_reader.specs.Possible.{files_allow, kinds_allow}
+use Rattle.intel_reader.proofs.AllowedRegisters.{files_there}
 use Rattle.intel_reader.proofs.AllowedWords.{made_given, kinds_there}
 use Rattle.intel_reader.proofs.Leading.{four}
 use Rattle.intel_reader.proofs.choice.with_row.Goals as goal
@@ -19,3 +20,9 @@ returns-then-not-kinds_allow-clause-covers c = λ b asize size k e.
     let g = made_given c.args.bits c.args.ip c.args.text.now b c.args.row.now c.args.code c.args.words.now asize size k c.requires.row e in
     let allowed : kinds_allow c.args.row.now c.args.words.now ≡ true = kinds_there c.args.bits _ c.args.row.now c.args.code c.args.words.now asize size g in
     cc (allowed, c.kinds_allow.ensures, c.if-not-kinds_allow.true)
+
+pub returns-then-not-files_allow-clause-covers : goal.returns-then-not-files_allow-clause-covers
+returns-then-not-files_allow-clause-covers c = λ b asize size k e.
+    let g = made_given c.args.bits c.args.ip c.args.text.now b c.args.row.now c.args.code c.args.words.now asize size k c.requires.row e in
+    let allowed : files_allow c.args.bits c.args.row.now c.args.words.now ≡ true = files_there c.args.bits _ c.args.row.now c.args.code c.args.words.now asize size g in
+    cc (allowed, c.files_allow.ensures, c.if-not-files_allow.true)
