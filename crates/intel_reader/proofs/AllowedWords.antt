@@ -35,7 +35,7 @@ use Rattle.intel_words.specs.declared.words.Inside.{Inside}
 use Rattle.intel_words.specs.declared.words.Inside.TheVariants.{Nothing, Lone, Rel, Sum}
 use Rattle.intel_reader.specs.Assembled.{Assembly, IsCandidate}
 use Rattle.intel_reader.specs.Candidate.{is_near_at, address_from, operand_from, text_at, candidate}
-use Rattle.intel_reader.specs.Possible.{kinds_allow, is_address, has_address, text_agrees, size_allowed, text_offers, displacement_allowed}
+use Rattle.intel_reader.specs.Possible.{kinds_allow, is_address, has_address, has_size, text_agrees, size_allowed, text_offers, displacement_allowed}
 use Rattle.intel_reader.proofs.CandidateBack.{variant_at}
 use Rattle.intel_reader.proofs.PlainFacts.{plain_is_ready}
 
@@ -162,6 +162,16 @@ size_there bits ip row code words asize size g =
     ∙ ap (λ (o : Option Bits). if has_memory_operand i || has_address_mark row then (elim o [ None ↦ false | Some a ↦ is_size_of bits row i a ]) else is_none o) (sym (asize_is bits row code words asize size))
     ∙ g.suits.address_size in
     by_size bits row i words asize (has_address words || has_address_mark row) (λ a. size_of_made bits row code words asize size a) made
+
+lone_size : (has allowed : Bool) (a : Bits) → has ≡ false → (if has then allowed else is_none (Some a)) ≡ true → Some a ≡ None
+lone_size true allowed a lacks h = cc
+lone_size false allowed a lacks h = cc
+
+-- where an instruction has no address size, none is allowed
+pub only_none : (bits : Bits) (row : Row) (words : IntelWords) (asize : Option Bits) → has_size row words ≡ false → size_allowed bits row words asize ≡ true → asize ≡ None
+unfolding size_allowed
+only_none bits row words None lacks h = refl
+only_none bits row words (Some a) lacks h = lone_size (has_size row words) _ a lacks h
 
 -- ---- the displacement size
 

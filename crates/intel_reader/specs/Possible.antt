@@ -94,6 +94,10 @@ unfoldable pub has_address : IntelWords → Bool
 has_address words =
     is_address (text_at words 0) || (is_address (text_at words 1) || (is_address (text_at words 2) || is_address (text_at words 3)))
 
+-- an instruction of the row with these words has an address size
+abbrev pub has_size : Row → IntelWords → Bool
+has_size row words = has_address words || has_address_mark row
+
 -- an address size agrees with what an address shows
 unfoldable pub text_agrees : Bits → OperandText → Bool
 text_agrees asize (Address a) = size_agrees asize (MemOperand (address_from B64 D0 a.inside))
@@ -102,7 +106,7 @@ text_agrees asize _ = true
 -- an address size stands exactly where an operand is an address or the row uses one without, and is one of the mode and of all addresses
 unfoldable pub size_allowed : Bits → Row → IntelWords → Option Bits → Bool
 size_allowed bits row words asize =
-    if has_address words || has_address_mark row
+    if has_size row words
     then (elim asize [
       | None ↦ false
       | Some a ↦ has_address_size bits a

@@ -15,9 +15,12 @@ ghost use Rattle.intel_reader.specs.Possible.{is_counter_word};
 ghost use Rattle.intel_reader.specs.Choice.{assembly_of, Leads, IsHeld, IsProgress};
 
 use crate::candidate::candidate;
-use crate::possible::{displacement_allowed, files_allow, has_address, kinds_allow, size_allowed};
+use crate::possible::{
+    displacement_allowed, files_allow, has_address, has_size, kinds_allow, size_allowed,
+};
 use arrayvec::ArrayVec;
 use encoder::encode;
+use instruction_parts::sizes::exists_in;
 use intel_text::print;
 use intel_words::reading::read_words;
 use intel_words::words::IntelWords;
@@ -165,7 +168,13 @@ fn with_row(
     if !files_allow(bits, row, words) {
         return best;
     }
+    if !exists_in(bits, row) {
+        return best;
+    }
     let none = with_sizes(best, bits, ip, text, row, code, words, None);
+    if !has_size(row, words) {
+        return none;
+    }
     let short = with_sizes(none, bits, ip, text, row, code, words, Some(Bits::B16));
     let flat = with_sizes(short, bits, ip, text, row, code, words, Some(Bits::B32));
     with_sizes(flat, bits, ip, text, row, code, words, Some(Bits::B64))

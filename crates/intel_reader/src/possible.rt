@@ -1,30 +1,76 @@
 //! Tests of the words of a text before any instruction is made of them: whether a row can have them at all, and with which sizes.
 
 ghost use Rattle.std.specs.Prelude.{◌≡◌, ◌<◌};
+ghost use Rattle.x86_values.specs.declared.Bits.TheVariants.{B64};
+ghost use Rattle.x86_values.specs.declared.DispSize.TheVariants.{D0};
 ghost use Rattle.instruction_parts.specs.Kinds.{file_of};
 ghost use Rattle.row_fit.specs.Fits as kinds;
 ghost use Rattle.plain_spelling.specs.Comparing as comparing;
+ghost use Rattle.plain_spelling.specs.Forms.{is_variant_of};
 ghost use Rattle.intel_reader.specs.Candidate as candidates;
 ghost use Rattle.intel_reader.specs.Possible as spec;
 
-use crate::candidate::{address_from, is_near_at, operand_from};
+use crate::candidate::address_from;
 use instruction_parts::kinds::{File, Method, file_of_kind, method_of_kind};
 use instruction_parts::sizes::has_address_mark;
 use intel_words::words::{IntelWords, OperandText};
 use plain_spelling::addresses::{displacement_suits, has_address_size, told_size, written_size};
-use plain_spelling::forms::is_variant_of;
 use plain_spelling::front::{asks_66, asks_rex_w, plain_size};
 use row_fit::tail_fits::kind_at;
-use row_types::Row;
+use row_types::{Place, Row};
 use x86_values::{Bits, DispSize, Register};
+
+/// Whether the words of an operand are of a variant that a kind of this method allows.
+#[tactic(auto, unfolding(plain_spelling::specs::Forms::is_variant_of, plain_spelling::specs::Forms::is_allowed_in, crate::specs::Candidate::operand_from, crate::specs::Candidate::is_near_method))]
+fn variant_allowed(place: Place, method: Method, text: &OperandText) -> bool
+    ensures { result ≡ is_variant_of place method (candidates.operand_from (candidates.is_near_method method) B64 D0 text.now) }
+{
+    match text {
+        OperandText::Absent => match method {
+            Method::Nothing => true,
+            _ => false,
+        },
+        OperandText::Reg(_) => match method {
+            Method::RegisterOrMemory => match place {
+                Place::Memory => false,
+                _ => true,
+            },
+            Method::Nothing
+            | Method::MemoryOnly
+            | Method::Gather
+            | Method::Offset
+            | Method::AsWritten
+            | Method::Extended
+            | Method::One
+            | Method::Near
+            | Method::Pointer => false,
+            _ => true,
+        },
+        OperandText::Number(_) => match method {
+            Method::AsWritten | Method::Extended | Method::One | Method::Near => true,
+            _ => false,
+        },
+        OperandText::Far { .. } => match method {
+            Method::Pointer => true,
+            _ => false,
+        },
+        OperandText::Mem(_) => match method {
+            Method::RegisterOrMemory => match place {
+                Place::Register => false,
+                _ => true,
+            },
+            Method::MemoryOnly | Method::Gather | Method::Offset => true,
+            _ => false,
+        },
+    }
+}
 
 /// Whether operand n has a variant that the row's kind allows.
 fn kind_allows(row: &Row, words: &IntelWords, n: usize) -> bool
     requires { n < 4 }
     ensures { result ≡ spec.kind_allows row.now words.now n }
 {
-    let operand = operand_from(is_near_at(row, n), Bits::B64, DispSize::D0, words.ops[n]);
-    is_variant_of(row.place, method_of_kind(kind_at(row, n)), operand)
+    variant_allowed(row.place, method_of_kind(kind_at(row, n)), &words.ops[n])
 }
 
 /// Whether each operand has a variant that the row's kind allows.
@@ -123,6 +169,13 @@ pub fn has_address(words: &IntelWords) -> bool
         || is_address(&words.ops[3])
 }
 
+/// Whether an instruction of the row with these words has an address size.
+pub fn has_size(row: &Row, words: &IntelWords) -> bool
+    ensures { result ≡ spec.has_size row.now words.now }
+{
+    has_address(words) || has_address_mark(row)
+}
+
 /// Whether two sizes are one.
 fn same_bits(a: Bits, b: Bits) -> bool
     ensures { result ≡ comparing.same_bits a b }
@@ -156,7 +209,7 @@ fn text_agrees(asize: Bits, text: OperandText) -> bool
 pub fn size_allowed(bits: Bits, row: &Row, words: &IntelWords, asize: Option<Bits>) -> bool
     ensures { result ≡ spec.size_allowed bits row.now words.now asize }
 {
-    if has_address(words) || has_address_mark(row) {
+    if has_size(row, words) {
         match asize {
             None => false,
             Some(a) => {
