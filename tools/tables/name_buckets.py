@@ -26,7 +26,7 @@ def files(table):
     for bucket in buckets:
         first += len(bucket)
         starts.append(f'{first},')
-    text = (HEAD + '/// The codes, by bucket and code.\n' + f'pub static ORDER: [u16; {len(order)}] = [\n' + wrapped(order, '    ') + '];\n\n'
+    text = (HEAD + '/// The codes, by bucket and code.\n' + f'pub static ORDER: [u16; {len(order)}] = [\n' + wrapped(order, '    ', 99) + '];\n\n'
         + '/// Where each bucket begins in `ORDER`, and where the last ends.\n' + f'pub static STARTS: [u16; {len(starts)}] = [\n'
-        + wrapped(starts, '    ') + '];\n')
+        + wrapped(starts, '    ', 99) + '];\n')
     return {'name_index/src/buckets.rt': text}

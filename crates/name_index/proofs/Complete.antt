@@ -1,5 +1,5 @@
 -- Each code of the table lies in the bucket of its name.
-use Rattle.std.proofs.Common.{◌≡◌, ◌⊎◌, inl, inr, ℕ, zero, suc, ◌+◌, ◌-◌, ◌*◌, ◌%◌, ◌<◌, ◌≤◌, Bool, true, false, ◌&&◌, ◌||◌, ◌==◌, List, [], ◌∷◌, length, get_or, drop, Option, Some, None, refl, ap, sym, ◌∙◌, subst, arith, slice_get, eqb-true, add-one, drop-cons}
+use Rattle.std.proofs.Common.{◌≡◌, ◌⊎◌, inl, inr, ℕ, zero, suc, ◌+◌, ◌-◌, ◌*◌, ◌%◌, ◌<◌, ◌≤◌, Bool, true, false, ◌&&◌, ◌||◌, ◌==◌, List, [], ◌∷◌, length, get_or, drop, Option, Some, None, refl, ap, subst, arith, slice_get, eqb-true, add-one, drop-cons}
 use Rattle.std.specs.Prelude.{unwrap_or}
 use Rattle.instruction_parts.proofs.Tests.{and_left, and_right}
 use Rattle.opcode_rows.specs.declared.spots.TheConstants.{ROWS}
@@ -35,9 +35,9 @@ among code place zero h = cc
 among code place (suc n) h = elim (or_cases (is_at (slice_get order place) code) (stands code (suc place) n) h) [
   | inl here ↦ (place, (omega arith), (omega arith), at_is (slice_get order place) code here)
   | inr there ↦ (let k = among code (suc place) n there in
-    let le : suc place ≤ k.0 = k.1 in
-    let lt : k.0 < suc place + n = k.2 in
-    (k.0, omega arith, omega arith, k.3))
+      let le : suc place ≤ k.0 = k.1 in
+      let lt : k.0 < suc place + n = k.2 in
+      (k.0, omega arith, omega arith, k.3))
 ]
 
 -- ---- every code
