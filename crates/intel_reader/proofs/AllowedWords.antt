@@ -26,7 +26,7 @@ use Rattle.plain_spelling.specs.Forms.{is_variant_of, is_allowed_in, is_memory, 
 use Rattle.plain_spelling.specs.Addresses.{has_address_size, displacement_suits, shown_size, written_size}
 use Rattle.plain_spelling.specs.Expressible.{offered, told_size, size_agrees, has_memory_operand, is_size_of, address_size_suits}
 use Rattle.plain_spelling.proofs.Asked.{each-at}
-use Rattle.plain_spelling.proofs.AddressCases.{impossible, both}
+use Rattle.plain_spelling.proofs.AddressCases.{both}
 use Rattle.plain_fit.proofs.Given.{Given}
 use Rattle.intel_words.specs.declared.words.IntelWords.{IntelWords}
 use Rattle.intel_words.specs.declared.words.OperandText.{OperandText}

@@ -1,5 +1,5 @@
 -- The candidates of a text, by their rows and words.
-use Rattle.std.proofs.Common.{◌≡◌, ◌⊎◌, inl, inr, zero, suc, [], ◌∷◌, length, ℕ, ◌<◌, ◌≤◌, Bool, true, false, ◌||◌, List, Option, Some, None, refl, ap, sym, ◌∙◌, subst, arith, slice_get}
+use Rattle.std.proofs.Common.{◌≡◌, ◌⊎◌, inl, inr, zero, suc, [], ◌∷◌, length, ℕ, ◌<◌, Bool, true, false, ◌||◌, List, Option, Some, None, refl, ap, sym, ◌∙◌, subst, arith, slice_get}
 use Rattle.std.specs.Prelude.{IsTrue, IfSome, IsNone, bytes_eq, codes}
 use Rattle.std.proofs.lemmas.Slice.Eq.{bytes_eq-Decides}
 use Rattle.x86_values.specs.declared.Bits.{Bits}

@@ -1,4 +1,4 @@
-use Rattle.std.proofs.Common.{◌<◌, ◌+◌, suc, arith}
+use Rattle.std.proofs.Common.{◌<◌, arith}
 use Rattle.opcode_rows.specs.declared.spots.TheConstants.{ROWS}
 use Rattle.intel_reader.proofs.Choosing.{code_below, place_led}
 use Rattle.intel_reader.proofs.Leading.{goes_on}
