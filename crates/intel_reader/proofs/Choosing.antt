@@ -1,6 +1,6 @@
 -- The candidates of a text, by their rows and words.
-use Rattle.std.proofs.Common.{◌≡◌, ℕ, ◌<◌, ◌≤◌, Bool, true, false, ◌||◌, List, Option, Some, None, refl, ap, sym, ◌∙◌, subst, arith, slice_get}
-use Rattle.std.specs.Prelude.{IsTrue, IfSome, IsNone, bytes_eq}
+use Rattle.std.proofs.Common.{◌≡◌, ◌⊎◌, inl, inr, zero, suc, [], ◌∷◌, length, ℕ, ◌<◌, Bool, true, false, ◌||◌, List, Option, Some, None, refl, ap, sym, ◌∙◌, subst, arith, slice_get}
+use Rattle.std.specs.Prelude.{IsTrue, IfSome, IsNone, bytes_eq, codes}
 use Rattle.std.proofs.lemmas.Slice.Eq.{bytes_eq-Decides}
 use Rattle.x86_values.specs.declared.Bits.{Bits}
 use Rattle.x86_values.specs.declared.DispSize.{DispSize}
@@ -13,7 +13,10 @@ use Rattle.opcode_rows.specs.declared.spots.TheConstants.{ROWS}
 use Rattle.opcode_rows.specs.Table.{table, name_of}
 use Rattle.opcode_rows.specs.Allowed.{is_well_formed}
 use Rattle.text_parts.specs.declared.style.Style.TheVariants.{Intel}
-use Rattle.text_parts.specs.PrefixWords.{is_counter_jump, name_text}
+use Rattle.text_parts.specs.PrefixWords.{is_counter_jump, counter_jump, name_text, text_address_size}
+use Rattle.name_index.specs.Buckets.{order}
+use Rattle.x86_values.specs.declared.Bits.TheVariants.{B16, B32, B64}
+use Rattle.intel_reader.specs.Possible.{is_counter_word}
 use Rattle.text_parts.specs.Layout.{bracket_layout}
 use Rattle.intel_text.specs.Text.{text_of}
 use Rattle.intel_text.proofs.TextLaws.{text-known}
@@ -23,7 +26,7 @@ use Rattle.intel_words.specs.Printable.{is_printable}
 use Rattle.plain_spelling.proofs.AddressCases.{impossible}
 use Rattle.intel_reader.specs.declared.choice.Found.{Found}
 use Rattle.intel_reader.specs.Assembled.{Assembly, IsCandidate, IsFirst, IsNoText}
-use Rattle.intel_reader.specs.Choice.{assembly_of, Leads, IsHeld}
+use Rattle.intel_reader.specs.Choice.{assembly_of, Leads, IsHeld, IsProgress}
 use Rattle.intel_reader.specs.Candidate.{candidate}
 use Rattle.intel_reader.proofs.CandidateBack.{candidate_back}
 use Rattle.intel_reader.proofs.Printed.{plain_is_printable}
@@ -108,15 +111,7 @@ printed_facts bits ip text b row k at =
 pub row_of_candidate : (bits : Bits) (ip : ℕ) (text : List ℕ) (b : Assembly) → IsCandidate bits ip text b → (row : Row) × (slice_get table b.instr.code.0 ≡ Some row)
 row_of_candidate bits ip text b k = (k.spelled.row, k.spelled.row_is)
 
--- ---- all codes
-
--- where each code was gone over, what was found leads every candidate
-pub all_led : (bits : Bits) (ip : ℕ) (text : List ℕ) (best : Option Found) (code : ℕ) → ((b : Assembly) → IsCandidate bits ip text b → b.instr.code.0 < code → Leads best b) → ROWS ≤ code
-    → (b : Assembly) → IsCandidate bits ip text b → Leads best b
-all_led bits ip text best code led all b k =
-    let there = row_there bits (wrapped bits ip) b.bytes b.instr k.spelled in
-    let below : b.instr.code.0 < ROWS = there.2.below in
-    led b k (omega (arith, below, all))
+-- ---- all candidates
 
 pub first_from : (bits : Bits) (ip : ℕ) (text : List ℕ) (best : Option Found) → IsHeld bits ip text best → ((b : Assembly) → IsCandidate bits ip text b → Leads best b)
     → IfSome best (λ f. IsFirst bits ip text (assembly_of f))
@@ -126,3 +121,93 @@ first_from bits ip text (Some f) held led = record { candidate = held; first = �
 pub none_from : (bits : Bits) (ip : ℕ) (text : List ℕ) (best : Option Found) → ((b : Assembly) → IsCandidate bits ip text b → Leads best b) → IsNone best → IsNoText bits ip text
 none_from bits ip text None led e = λ a k. led a k
 none_from bits ip text (Some f) led e = λ a k. impossible e
+
+-- ---- the codes of a name
+
+some_below : (xs : List ℕ) (k x : ℕ) → slice_get xs k ≡ Some x → k < length xs
+some_below [] k x h = cc
+some_below (y ∷ ys) zero x h = omega arith
+some_below (y ∷ ys) (suc k) x h = let r = some_below ys k x h in omega arith
+
+length-order : length order ≡ ROWS
+unfolding order
+length-order = refl
+
+pub place_below : (k x : ℕ) → slice_get order k ≡ Some x → k < ROWS
+place_below k x h = omega (some_below order k x h, length-order, arith)
+
+pub code_below : (bits : Bits) (ip : ℕ) (text : List ℕ) (b : Assembly) → IsCandidate bits ip text b → b.instr.code.0 < ROWS
+code_below bits ip text b k = (row_there bits (wrapped bits ip) b.bytes b.instr k.spelled).2.below
+
+same_place : (o : Option ℕ) (x y : ℕ) → o ≡ Some x → o ≡ Some y → x ≡ y
+same_place o x y e f = cc
+
+pub code_at_place : (k x y : ℕ) → slice_get order k ≡ Some x → slice_get order k ≡ Some y → x ≡ y
+code_at_place k x y e f = same_place (slice_get order k) x y e f
+
+or_left_true : (a b : Bool) → a ≡ true → (a || b) ≡ true
+or_left_true true b h = refl
+or_left_true false b h = cc
+
+or_right_true : (a b : Bool) → b ≡ true → (a || b) ≡ true
+or_right_true true b h = refl
+or_right_true false b h = h
+
+shown_counter : (a : Bits) (word : List ℕ) → word ≡ counter_jump a → is_counter_word word ≡ true
+unfolding is_counter_word
+shown_counter B16 word e = or_left_true _ _ ((bytes_eq-Decides word (counter_jump B16)).1 e)
+shown_counter B32 word e = or_right_true _ _ (or_left_true _ _ ((bytes_eq-Decides word (counter_jump B32)).1 e))
+shown_counter B64 word e = or_right_true _ _ (or_right_true _ _ ((bytes_eq-Decides word (counter_jump B64)).1 e))
+
+-- the name of a row is the word in the text, or the word is one of the jump on the counter
+pub name_or_counter : (bits : Bits) (name word : List ℕ) (i : Instr) → word ≡ name_text bits name i → (name ≡ word) ⊎ ((name ≡ codes "jrcxz") × (is_counter_word word ≡ true))
+unfolding name_text is_counter_jump
+name_or_counter bits name word i e = by_test (is_counter_jump name) refl
+  where
+    by_test : (t : Bool) → is_counter_jump name ≡ t → (name ≡ word) ⊎ ((name ≡ codes "jrcxz") × (is_counter_word word ≡ true))
+    by_test true h = inr ((bytes_eq-Decides name (codes "jrcxz")).0 h, shown_counter (text_address_size bits i) word (rw h at e))
+    by_test false h = inl (sym (rw h at e))
+
+last_or_below : (k n : ℕ) → k < suc n → (k ≡ n) ⊎ (k < n)
+last_or_below zero zero h = inl refl
+last_or_below zero (suc n) h = inr (omega arith)
+last_or_below (suc k) zero h = absurd (omega arith)
+last_or_below (suc k) (suc n) h = elim (last_or_below k n (omega arith)) [
+  | inl e ↦ inl (ap suc e)
+  | inr below ↦ inr (omega (arith, below))
+]
+
+-- one place more was gone over
+pub place_led : (bits : Bits) (ip : ℕ) (text : List ℕ) (led after : Option Found) (b : Assembly) (place k : ℕ) → IsProgress bits ip text led after → (k < place → slice_get order k ≡ Some b.instr.code.0 → Leads led b)
+    → (slice_get order place ≡ Some b.instr.code.0 → Leads after b) → k < suc place → slice_get order k ≡ Some b.instr.code.0 → Leads after b
+place_led bits ip text led after b place k p earlier here lt at = elim (last_or_below k place lt) [
+  | inl e ↦ here (ap (slice_get order) (sym e) ∙ at)
+  | inr below ↦ p.kept b (earlier below at)
+]
+
+-- ---- all names
+
+pub held_after : (bits : Bits) (ip : ℕ) (text : List ℕ) (named last : Option Found) → IsProgress bits ip text None named → IsProgress bits ip text named last → IsHeld bits ip text last
+held_after bits ip text named last p q = q.held (p.held tt)
+
+-- where the codes of the word and those of the jump on the counter were gone over, what was found leads every candidate
+pub led_by_names : (bits : Bits) (ip : ℕ) (text word counter : List ℕ) (named last : Option Found) → IsProgress bits ip text named last → ((b : Assembly) → IsCandidate bits ip text b → word ≡ name_text bits (name_of b.instr.code.0) b.instr)
+    → ((b : Assembly) → IsCandidate bits ip text b → name_of b.instr.code.0 ≡ word → Leads named b)
+    → counter ≡ codes "jrcxz" → ((b : Assembly) → IsCandidate bits ip text b → name_of b.instr.code.0 ≡ counter → Leads last b)
+    → (b : Assembly) → IsCandidate bits ip text b → Leads last b
+led_by_names bits ip text word counter named last p read one same other b k = elim (name_or_counter bits (name_of b.instr.code.0) word b.instr (read b k)) [
+  | inl e ↦ p.kept b (one b k e)
+  | inr h ↦ other b k (h.0 ∙ sym same)
+]
+
+-- where the word is none of the jump on the counter, the codes of the word are all
+pub led_by_one_name : (bits : Bits) (ip : ℕ) (text word : List ℕ) (named : Option Found) → is_counter_word word ≡ false → ((b : Assembly) → IsCandidate bits ip text b → word ≡ name_text bits (name_of b.instr.code.0) b.instr)
+    → ((b : Assembly) → IsCandidate bits ip text b → name_of b.instr.code.0 ≡ word → Leads named b)
+    → (b : Assembly) → IsCandidate bits ip text b → Leads named b
+led_by_one_name bits ip text word named other read one b k = elim (name_or_counter bits (name_of b.instr.code.0) word b.instr (read b k)) [
+  | inl e ↦ one b k e
+  | inr h ↦ clash (is_counter_word word) h.1 other
+]
+  where
+    clash : (t : Bool) → t ≡ true → t ≡ false → Leads named b
+    clash t e f = cc

@@ -5,5 +5,7 @@ pub mod CandidateBack
 pub mod Printed
 pub mod Leading
 pub mod PlainFacts
+pub mod AllowedRegisters
+pub mod AllowedWords
 pub mod Choosing
 pub mod Apart

@@ -1,3 +1,4 @@
 pub mod Assembled
 pub mod Candidate
 pub mod Choice
+pub mod Possible

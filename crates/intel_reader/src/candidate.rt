@@ -46,7 +46,7 @@ fn displacement_from(asize: Bits, disp: Option<SignedText>) -> u64
 
 /// The address whose text has this inside its brackets.
 #[tactic(auto, unfolding(crate::specs::Candidate::address_from))]
-fn address_from(asize: Bits, disp_size: DispSize, inside: Inside) -> Mem
+pub fn address_from(asize: Bits, disp_size: DispSize, inside: Inside) -> Mem
     ensures { result ≡ spec.address_from asize disp_size inside }
 {
     match inside {
@@ -83,7 +83,7 @@ fn address_from(asize: Bits, disp_size: DispSize, inside: Inside) -> Mem
 
 /// Whether operand n of the row is a near target.
 #[tactic(auto, unfolding(crate::specs::Candidate::is_near_method))]
-fn is_near_at(row: &Row, n: usize) -> bool
+pub fn is_near_at(row: &Row, n: usize) -> bool
     requires { n < 4 }
     ensures { result ≡ spec.is_near_at row.now n }
 {
@@ -95,7 +95,7 @@ fn is_near_at(row: &Row, n: usize) -> bool
 
 /// The operand of these words: a number is a near target or an immediate.
 #[tactic(auto, unfolding(crate::specs::Candidate::operand_from))]
-fn operand_from(near: bool, asize: Bits, disp_size: DispSize, words: OperandText) -> Operand
+pub fn operand_from(near: bool, asize: Bits, disp_size: DispSize, words: OperandText) -> Operand
     ensures { result ≡ spec.operand_from near asize disp_size words }
 {
     match words {

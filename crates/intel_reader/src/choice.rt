@@ -8,16 +8,23 @@ ghost use Rattle.opcode_rows.specs.Table.{table, name_of};
 ghost use Rattle.text_parts.specs.PrefixWords as prefix_words;
 ghost use Rattle.text_parts.specs.PrefixWords.{name_text};
 ghost use Rattle.intel_words.specs.Words.{words_of};
+ghost use Rattle.name_index.specs.Buckets.{order};
 ghost use Rattle.intel_reader.specs.Assembled.{Assembly, rank, IsCandidate, IsFirst, IsNoText};
 ghost use Rattle.intel_reader.specs.Candidate as spec;
+ghost use Rattle.intel_reader.specs.Possible.{is_counter_word};
 ghost use Rattle.intel_reader.specs.Choice.{assembly_of, Leads, IsHeld, IsProgress};
 
 use crate::candidate::candidate;
+use crate::possible::{
+    displacement_allowed, files_allow, has_address, has_size, kinds_allow, size_allowed,
+};
 use arrayvec::ArrayVec;
 use encoder::encode;
+use instruction_parts::sizes::exists_in;
 use intel_text::print;
 use intel_words::reading::read_words;
 use intel_words::words::IntelWords;
+use name_index::{code_at, places_of};
 use opcode_rows::{ROWS, name, row_of, well_formed};
 use row_types::Row;
 use std::cmp::Ordering;
@@ -88,9 +95,13 @@ fn with_candidate(
     asize: Option<Bits>,
     size: DispSize,
 ) -> Option<Found>
+    requires row { slice_get table code.0 ≡ Some row.now }
     ensures progress { IsProgress bits ip text.now best result }
     ensures covers { (b : Assembly) → IsCandidate bits ip text.now b → spec.candidate bits row.now code words.now asize size ≡ b.instr → Leads result b }
 {
+    if !displacement_allowed(bits, row, words, asize, size) {
+        return best;
+    }
     let instr = candidate(bits, row, code, words, asize, size);
     match tried(bits, ip, text, instr) {
         None => best,
@@ -109,10 +120,17 @@ fn with_sizes(
     words: &IntelWords,
     asize: Option<Bits>,
 ) -> Option<Found>
+    requires row { slice_get table code.0 ≡ Some row.now }
     ensures progress { IsProgress bits ip text.now best result }
     ensures covers { (b : Assembly) (size : DispSize) → IsCandidate bits ip text.now b → spec.candidate bits row.now code words.now asize size ≡ b.instr → Leads result b }
 {
+    if !size_allowed(bits, row, words, asize) {
+        return best;
+    }
     let none = with_candidate(best, bits, ip, text, row, code, words, asize, DispSize::D0);
+    if !has_address(words) {
+        return none;
+    }
     let byte = with_candidate(none, bits, ip, text, row, code, words, asize, DispSize::D8);
     let word = with_candidate(byte, bits, ip, text, row, code, words, asize, DispSize::D16);
     let dword = with_candidate(word, bits, ip, text, row, code, words, asize, DispSize::D32);
@@ -139,11 +157,24 @@ fn with_row(
     code: Code,
     words: &IntelWords,
 ) -> Option<Found>
+    requires row { slice_get table code.0 ≡ Some row.now }
     ensures progress { IsProgress bits ip text.now best result }
     ensures covers { (b : Assembly) (asize : Option Bits) (size : DispSize) → IsCandidate bits ip text.now b
         → spec.candidate bits row.now code words.now asize size ≡ b.instr → Leads result b }
 {
+    if !kinds_allow(row, words) {
+        return best;
+    }
+    if !files_allow(bits, row, words) {
+        return best;
+    }
+    if !exists_in(bits, row) {
+        return best;
+    }
     let none = with_sizes(best, bits, ip, text, row, code, words, None);
+    if !has_size(row, words) {
+        return none;
+    }
     let short = with_sizes(none, bits, ip, text, row, code, words, Some(Bits::B16));
     let flat = with_sizes(short, bits, ip, text, row, code, words, Some(Bits::B32));
     with_sizes(flat, bits, ip, text, row, code, words, Some(Bits::B64))
@@ -210,6 +241,64 @@ fn with_named(
     }
 }
 
+/// What was found, with the candidates of the code at a place in the order by names.
+fn with_place(
+    best: Option<Found>,
+    bits: Bits,
+    ip: u64,
+    text: &[u8],
+    words: &IntelWords,
+    word: &[u8],
+    place: u16,
+) -> Option<Found>
+    requires read { (b : Assembly) (row : Row) → IsCandidate bits ip text.now b → slice_get table b.instr.code.0 ≡ Some row
+        → words.now ≡ words_of bits row (name_of b.instr.code.0) b.instr }
+    requires named { (b : Assembly) → IsCandidate bits ip text.now b → word.now ≡ name_text bits (name_of b.instr.code.0) b.instr }
+    ensures progress { IsProgress bits ip text.now best result }
+    ensures covers { (b : Assembly) → IsCandidate bits ip text.now b → slice_get order place ≡ Some b.instr.code.0 → Leads result b }
+{
+    if place >= ROWS {
+        return best;
+    }
+    let code = code_at(place);
+    if code.0 >= ROWS {
+        return best;
+    }
+    with_named(best, bits, ip, text, words, word, code)
+}
+
+/// What was found, with the candidates of the codes of a name.
+fn with_name(
+    best: Option<Found>,
+    bits: Bits,
+    ip: u64,
+    text: &[u8],
+    words: &IntelWords,
+    word: &[u8],
+    name: &[u8],
+) -> Option<Found>
+    requires read { (b : Assembly) (row : Row) → IsCandidate bits ip text.now b → slice_get table b.instr.code.0 ≡ Some row
+        → words.now ≡ words_of bits row (name_of b.instr.code.0) b.instr }
+    requires named { (b : Assembly) → IsCandidate bits ip text.now b → word.now ≡ name_text bits (name_of b.instr.code.0) b.instr }
+    ensures progress { IsProgress bits ip text.now best result }
+    ensures covers { (b : Assembly) → IsCandidate bits ip text.now b → name_of b.instr.code.0 ≡ name.now → Leads result b }
+{
+    let places = places_of(name);
+    let mut led = best;
+    for place in places.first..places.end {
+        led = with_place(led, bits, ip, text, words, word, place);
+    }
+    led
+}
+
+/// Whether a name in a text is that of the jump on the counter, with one of its address sizes.
+#[tactic(auto, unfolding(crate::specs::Possible::is_counter_word, text_parts::specs::PrefixWords::counter_jump))]
+fn is_counter_word(word: &[u8]) -> bool
+    ensures { result ≡ is_counter_word word.now }
+{
+    word == b"jcxz".as_slice() || word == b"jecxz".as_slice() || word == b"jrcxz".as_slice()
+}
+
 /// The first of all candidates of a text, where the words and the name are those of each of them.
 fn first_among(bits: Bits, ip: u64, text: &[u8], words: &IntelWords, word: &[u8]) -> Option<Found>
     requires read { (b : Assembly) (row : Row) → IsCandidate bits ip text.now b → slice_get table b.instr.code.0 ≡ Some row
@@ -218,11 +307,12 @@ fn first_among(bits: Bits, ip: u64, text: &[u8], words: &IntelWords, word: &[u8]
     ensures first { IfSome result (λ f. IsFirst bits ip text.now (assembly_of f)) }
     ensures none { IsNone result → IsNoText bits ip text.now }
 {
-    let mut best = None;
-    for code in 0..ROWS {
-        best = with_named(best, bits, ip, text, words, word, Code(code));
+    let named = with_name(None, bits, ip, text, words, word, word);
+    if is_counter_word(word) {
+        with_name(named, bits, ip, text, words, word, b"jrcxz".as_slice())
+    } else {
+        named
     }
-    best
 }
 
 /// The first of all candidates of a text.

@@ -11,6 +11,7 @@ ghost use Rattle.intel_reader.specs.Assembled.{IsAssembled, AssemblesTo, IsNoTex
 mod candidate;
 mod choice;
 pub mod laws;
+mod possible;
 #[cfg(test)]
 mod tests;
 

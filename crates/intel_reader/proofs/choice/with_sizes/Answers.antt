@@ -1,6 +1,8 @@
-use Rattle.std.proofs.Common.{◌≡◌}
+use Rattle.std.proofs.Common.{◌≡◌, true, false, ◌∙◌}
 use Rattle.x86_values.specs.declared.DispSize.{DispSize}
 use Rattle.intel_reader.specs.Candidate as spec
+use Rattle.intel_reader.specs.Possible.{has_address, size_allowed}
+use Rattle.intel_reader.proofs.AllowedWords.{made_given, size_there, same_without_address}
 use Rattle.intel_reader.proofs.Leading.{five}
 use Rattle.intel_reader.proofs.choice.with_sizes.Goals as goal
 
@@ -12,3 +14,16 @@ returns-clause-covers c = λ b size k e.
     c.with_candidate-byte.ensures.progress c.with_candidate-word.ensures.progress c.with_candidate-dword.ensures.progress c.with_candidate.ensures.progress
     (λ p. c.with_candidate-none.ensures.covers b k p) (λ p. c.with_candidate-byte.ensures.covers b k p) (λ p. c.with_candidate-word.ensures.covers b k p)
     (λ p. c.with_candidate-dword.ensures.covers b k p) (λ p. c.with_candidate.ensures.covers b k p) size e
+
+pub returns-then-not-size_allowed-clause-covers : goal.returns-then-not-size_allowed-clause-covers
+returns-then-not-size_allowed-clause-covers c = λ b size k e.
+    let g = made_given c.args.bits c.args.ip c.args.text.now b c.args.row.now c.args.code c.args.words.now c.args.asize size k c.requires.row e in
+    let allowed : size_allowed c.args.bits c.args.row.now c.args.words.now c.args.asize ≡ true =
+    size_there c.args.bits _ c.args.row.now c.args.code c.args.words.now c.args.asize size g in
+    cc (allowed, c.size_allowed.ensures, c.if-not-size_allowed.true)
+
+pub returns-then-not-has_address-clause-covers : goal.returns-then-not-has_address-clause-covers
+returns-then-not-has_address-clause-covers c = λ b size k e.
+    let none : has_address c.args.words.now ≡ false = cc (c.has_address.ensures, c.if-not-has_address.true) in
+    c.with_candidate-none.ensures.covers b k
+    (same_without_address c.args.bits c.args.row.now c.args.code c.args.words.now c.args.asize size none ∙ e)

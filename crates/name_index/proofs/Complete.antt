@@ -1,0 +1,108 @@
+-- Each code of the table lies in the bucket of its name.
+use Rattle.std.proofs.Common.{◌≡◌, ◌⊎◌, inl, inr, ℕ, zero, suc, ◌+◌, ◌-◌, ◌*◌, ◌%◌, ◌<◌, ◌≤◌, Bool, true, false, ◌&&◌, ◌||◌, ◌==◌, List, [], ◌∷◌, length, get_or, drop, Option, Some, None, refl, ap, subst, arith, slice_get, eqb-true, add-one, drop-cons}
+use Rattle.std.specs.Prelude.{unwrap_or}
+use Rattle.instruction_parts.proofs.Tests.{and_left, and_right}
+use Rattle.opcode_rows.specs.declared.spots.TheConstants.{ROWS}
+use Rattle.opcode_rows.specs.Table.{names, name_of}
+use Rattle.name_index.specs.Buckets.{bucket_from, bucket_of, order, starts}
+
+-- ---- a code at one of some places
+
+unfoldable is_at : Option ℕ → ℕ → Bool
+is_at None code = false
+is_at (Some x) code = x == code
+
+at_is : (o : Option ℕ) (code : ℕ) → is_at o code ≡ true → o ≡ Some code
+unfolding is_at
+at_is None code h = cc
+at_is (Some x) code h = ap (λ (n : ℕ). Some n) (eqb-true x code h)
+
+-- the code stands at one of n places from this on
+unfoldable stands : ℕ → ℕ → ℕ → Bool
+stands code place zero = false
+stands code place (suc n) = is_at (slice_get order place) code || stands code (suc place) n
+
+or_cases : (a b : Bool) → (a || b) ≡ true → (a ≡ true) ⊎ (b ≡ true)
+or_cases true b h = inl refl
+or_cases false b h = inr h
+
+abbrev IsAmong : ℕ → ℕ → ℕ → Type 0
+IsAmong code first end = (k : ℕ) × (first ≤ k) × (k < end) × (slice_get order k ≡ Some code)
+
+among : (code place n : ℕ) → stands code place n ≡ true → IsAmong code place (place + n)
+unfolding stands
+among code place zero h = cc
+among code place (suc n) h = elim (or_cases (is_at (slice_get order place) code) (stands code (suc place) n) h) [
+  | inl here ↦ (place, (omega arith), (omega arith), at_is (slice_get order place) code here)
+  | inr there ↦ (let k = among code (suc place) n there in
+      let le : suc place ≤ k.0 = k.1 in
+      let lt : k.0 < suc place + n = k.2 in
+      (k.0, omega arith, omega arith, k.3))
+]
+
+-- ---- every code
+
+abbrev start_of : ℕ → ℕ
+start_of bucket = unwrap_or (slice_get starts bucket) 0
+
+-- the code stands in the bucket of this name
+abbrev in_bucket : ℕ → List ℕ → Bool
+in_bucket code name = stands code (start_of (bucket_of name)) (start_of (bucket_of name + 1) - start_of (bucket_of name))
+
+unfoldable all_stand : List (List ℕ) → ℕ → Bool
+all_stand [] code = true
+all_stand (n ∷ ns) code = in_bucket code n && all_stand ns (suc code)
+
+all_hold : all_stand names 0 ≡ true
+unfolding all_stand stands is_at bucket_from order starts names
+all_hold = refl
+
+stands-at : (ns : List (List ℕ)) (from k : ℕ) → all_stand ns from ≡ true → k < length ns → in_bucket (from + k) (unwrap_or (slice_get ns k) []) ≡ true
+unfolding all_stand
+stands-at [] from k h lt = absurd (omega arith)
+stands-at (n ∷ ns) from zero h lt =
+    let e : from ≡ from + 0 = omega arith in
+    subst (λ (c : ℕ). in_bucket c n ≡ true) e (and_left (in_bucket from n) (all_stand ns (suc from)) h)
+stands-at (n ∷ ns) from (suc k) h lt =
+    let e : suc from + k ≡ from + suc k = omega arith in
+    subst (λ (c : ℕ). in_bucket c (unwrap_or (slice_get ns k) []) ≡ true) e (stands-at ns (suc from) k (and_right (in_bucket from n) (all_stand ns (suc from)) h) (omega arith))
+
+length-names : length names ≡ ROWS
+unfolding names
+length-names = refl
+
+start_is : (bucket start : ℕ) → slice_get starts bucket ≡ Some start → start_of bucket ≡ start
+start_is bucket start e = ap (λ (o : Option ℕ). unwrap_or o 0) e
+
+pub complete : (name : List ℕ) (first end code : ℕ) → slice_get starts (bucket_of name) ≡ Some first → slice_get starts (bucket_of name + 1) ≡ Some end → code < ROWS → name_of code ≡ name → IsAmong code first end
+unfolding name_of
+complete name first end code at_first at_end lt e =
+    let zero_on : 0 + code ≡ code = omega arith in
+    let there : in_bucket code (unwrap_or (slice_get names code) []) ≡ true =
+    subst (λ (c : ℕ). in_bucket c (unwrap_or (slice_get names code) []) ≡ true) zero_on (stands-at names 0 code all_hold (omega (arith, lt, length-names))) in
+    let here : in_bucket code name ≡ true = subst (λ (n : List ℕ). in_bucket code n ≡ true) e there in
+    let k = among code (start_of (bucket_of name)) (start_of (bucket_of name + 1) - start_of (bucket_of name)) here in
+    let f = start_is (bucket_of name) first at_first in
+    let l = start_is (bucket_of name + 1) end at_end in
+    let le : start_of (bucket_of name) ≤ k.0 = k.1 in
+    let below : k.0 < start_of (bucket_of name) + (start_of (bucket_of name + 1) - start_of (bucket_of name)) = k.2 in
+    (k.0, omega (arith, f, le), omega (arith, f, l, le, below), k.3)
+
+-- ---- the bucket of a name, byte by byte
+
+pub bucket-step : (bucket : ℕ) (name : List ℕ) (k : ℕ) → k < length name → bucket_from bucket (drop k name) ≡ bucket_from ((bucket * 31 + get_or name k 0) % 1024) (drop (k + 1) name)
+unfolding bucket_from
+bucket-step bucket name k lt = rw (add-one, drop-cons name k 0) refl
+
+pub bucket-below : (n : ℕ) → n % 1024 < 1024
+bucket-below n = omega arith
+
+drop_all : (xs : List ℕ) (k : ℕ) → length xs ≤ k → drop k xs ≡ []
+drop_all [] zero h = refl
+drop_all [] (suc k) h = refl
+drop_all (x ∷ xs) zero h = absurd (omega arith)
+drop_all (x ∷ xs) (suc k) h = drop_all xs k (omega arith)
+
+pub bucket-end : (bucket : ℕ) (name : List ℕ) (k : ℕ) → length name ≤ k → bucket ≡ bucket_from bucket (drop k name)
+unfolding bucket_from
+bucket-end bucket name k h = rw (drop_all name k h) refl
