@@ -2,7 +2,7 @@
 use Rattle.std.proofs.Common.{◌≡◌, ◌⊎◌, inl, inr, ℕ, ◌^◌, ◌<◌, Bool, true, ◌&&◌, Option, Some, None, List, ap, sym, ◌∙◌, arith}
 use Rattle.std.specs.Prelude.{nat_lt}
 use Rattle.std.specs.Option.{option_or}
-use Rattle.std.proofs.lemmas.Bool.{ltb-true}
+use Rattle.std.proofs.lemmas.Bool.{and_parts, ltb-true}
 use Rattle.x86_values.specs.declared.Bits.{Bits}
 use Rattle.x86_values.specs.declared.Register.{Register}
 use Rattle.x86_values.specs.declared.Register.TheVariants.{Eip, Rip}
@@ -15,7 +15,6 @@ use Rattle.x86_values.specs.Wrapping.{width}
 use Rattle.row_types.specs.declared.Row.{Row}
 use Rattle.instruction_parts.specs.declared.kinds.Method.{Method}
 use Rattle.instruction_parts.specs.Kinds.{method_of}
-use Rattle.instruction_parts.proofs.Tests.{and_left, and_right}
 use Rattle.row_fit.specs.Fits.{kind_at}
 use Rattle.row_relation.specs.Spells.{Spells}
 use Rattle.plain_spelling.specs.declared.addresses.AddressForm.{AddressForm}
@@ -27,8 +26,12 @@ use Rattle.plain_spelling.specs.Expressible.{offered}
 use Rattle.opcode_rows.specs.Table.{table}
 use Rattle.operand_info.specs.Operands.{near_value, ip_value, first_value}
 use Rattle.moved_targets.specs.Targets.{target_of}
-use Rattle.moved_targets.proofs.Lengths.{spelled-needs}
-use Rattle.moved_targets.proofs.Reaches.{displacement_of_operand_suits}
+
+and_left : (a b : Bool) → (a && b) ≡ true → a ≡ true
+and_left a b h = (and_parts a b h).0
+
+and_right : (a b : Bool) → (a && b) ≡ true → b ≡ true
+and_right a b h = (and_parts a b h).1
 
 -- the value at a base
 abbrev value_at : Option Register → ℕ → Option ℕ
@@ -52,7 +55,11 @@ memory-below asize how m x h e =
     displaced-below asize m.base m.index m.disp_size m.disp x
     (and_right (offers asize how m (displacement_count m.disp_size)) (displaced_by asize (form_of m.base m.index) m.disp_size m.disp) h) e
 
-operand-below : (bits : Bits) (asize : Option Bits) (how : Method) (op : Operand) (x : ℕ) → displacement_of_operand_suits bits asize how op ≡ true → ip_value op ≡ Some x → x < 2 ^ 64
+-- the test of the displacement of an operand that may be memory
+abbrev is_offered : Bits → Option Bits → Method → Operand → Bool
+is_offered bits asize how op = elim op [ Memory m ↦ displacement_suits (written_size bits asize m) how m | _ ↦ true ]
+
+operand-below : (bits : Bits) (asize : Option Bits) (how : Method) (op : Operand) (x : ℕ) → is_offered bits asize how op ≡ true → ip_value op ≡ Some x → x < 2 ^ 64
 unfolding ip_value
 operand-below bits asize how (Memory m) x h e = memory-below (written_size bits asize m) how m x h e
 operand-below bits asize how _ x h e = cc
@@ -86,6 +93,6 @@ each-below bits row i x h e =
 pub spelled-below : (bits : Bits) (ip : ℕ) (bytes : List ℕ) (i : Instr) (t : ℕ) → Spells table bits ip bytes i → first_value near_value i ≡ None → target_of i ≡ Some t → t < 2 ^ 64
 unfolding target_of
 spelled-below bits ip bytes i t (short, (row, at, (s, e))) none h =
-    let need = spelled-needs bits ip bytes i row s at e in
+    let need = laws.targets.spelled-suits bits ip bytes i row s at e in
     let by_ip = ap (λ (o : Option ℕ). option_or o (first_value ip_value i)) (sym none) ∙ h in
     each-below bits row i t need.displacements by_ip

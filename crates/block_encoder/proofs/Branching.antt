@@ -1,8 +1,9 @@
 -- In 64-bit mode each relative branch has its bytes in the least layout.
-use Rattle.std.proofs.Common.{◌≡◌, ℕ, ◌+◌, ◌-◌, ◌*◌, ◌^◌, ◌≤◌, ◌<◌, inl, inr, Bool, true, false, List, length, map, get_or, Option, Some, None, refl, ap, sym, ◌∙◌, subst, arith}
+use Rattle.std.proofs.Common.{◌≡◌, ℕ, zero, suc, ◌+◌, ◌-◌, ◌*◌, ◌^◌, ◌≤◌, ◌<◌, inl, inr, Bool, true, false, List, [], ◌∷◌, length, map, get_or, Option, Some, None, refl, ap, sym, ◌∙◌, subst, arith}
 use Rattle.std.specs.Prelude.{IsSome, MatchBool, ◌==◌}
 use Rattle.std.specs.Option.{option_or}
 use Rattle.std.specs.List.{list_all}
+use Rattle.std.proofs.lemmas.Bool.{and_parts}
 use Rattle.std.proofs.lemmas.List.{get_or-map, length-map}
 use Rattle.x86_values.specs.declared.Bits.{Bits}
 use Rattle.x86_values.specs.declared.Bits.TheVariants.{B64}
@@ -19,7 +20,7 @@ use Rattle.branch_sizes.specs.Plan.{BlockPlan, IsWellFormed, no_choice}
 use Rattle.branch_sizes.specs.Plan as plan
 use Rattle.branch_sizes.specs.Layout.{IsLeast, Reaches, ReachesFromBoth, ReachesGoal, block_number, span_at, first_of_block, first_layout, chosen, place, image_length, total}
 use Rattle.branch_sizes.proofs.Totals.{first_le, total_small}
-use Rattle.branch_sizes.proofs.Rising.{passes_at, image_short}
+use Rattle.branch_sizes.proofs.Rising.{image_short}
 use Rattle.branch_sizes.proofs.Now.{block_below, first_below}
 use Rattle.moved_targets.specs.Targets.{target_of}
 use Rattle.branch_forms.specs.declared.branch.Action.{Action}
@@ -61,7 +62,9 @@ forms_fit (Condition n) false = refl
 
 -- each of the forms is one of those that fit
 form_at : (test : Form → Bool) (forms : List Form) (f : ℕ) → list_all test forms ≡ true → f < length forms → test (get_or forms f Itself) ≡ true
-form_at test forms f h lt = passes_at test forms f Itself h lt
+form_at test [] f h lt = absurd (omega arith)
+form_at test (x ∷ xs) zero h lt = (and_parts (test x) (list_all test xs) h).0
+form_at test (x ∷ xs) (suc f) h lt = form_at test xs f (and_parts (test x) (list_all test xs) h).1 (omega arith)
 
 -- the last form reaches everything
 third : (f : ℕ) → f + 1 ≡ 3 → f ≡ 2

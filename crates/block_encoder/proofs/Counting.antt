@@ -28,7 +28,6 @@ use Rattle.row_meaning.specs.Meaning as meant
 use Rattle.row_relation.specs.Spells.{Spells}
 use Rattle.plain_spelling.specs.Addresses.{has_address_size}
 use Rattle.plain_spelling.specs.Expressible.{has_memory_operand, is_size_of, address_size_suits}
-use Rattle.plain_spelling.proofs.Values.{target-below}
 use Rattle.rows_integer.specs.Table.{table as integer_rows, flat_rows as integer_flat}
 use Rattle.rows_x87.specs.Table.{table as x87_rows, flat_rows as x87_flat}
 use Rattle.rows_sse.specs.Table.{table as sse_rows, flat_rows as sse_flat}
@@ -36,18 +35,19 @@ use Rattle.rows_vex.specs.Table.{table as vex_rows, flat_rows as vex_flat}
 use Rattle.opcode_rows.specs.declared.spots.Part.{Part}
 use Rattle.opcode_rows.specs.declared.spots.Part.TheVariants as part
 use Rattle.opcode_rows.specs.Table.{part_table, table}
-use Rattle.opcode_rows.proofs.JoinFacts.{all_rows, in_each_part}
 use Rattle.operand_info.specs.Operands.{near_value, first_value}
-use Rattle.moved_targets.proofs.Lengths.{spelled-needs}
 use Rattle.branch_forms.specs.declared.branch.Action.{Action}
 use Rattle.branch_forms.specs.declared.branch.Action.TheVariants.{Jump, Call, Condition, Count}
 use Rattle.branch_forms.specs.declared.branch.RelativeBranch.{RelativeBranch}
 use Rattle.branch_forms.specs.Branches.{size_of, short_action, near_action, branch_in, branch_by, branch_of, is_pair, in_range}
-use Rattle.branch_forms.proofs.Offsets.{branch-range, branch-pair}
-use Rattle.block_encoder.proofs.Inside.{width-most}
 use Rattle.block_encoder.proofs.Formed.{CountFits}
 
 -- ---- near targets
+
+wrapped-small : (size : Bits) (n : ℕ) → wrapped size n < 2 ^ 64
+wrapped-small B16 n = omega arith
+wrapped-small B32 n = omega arith
+wrapped-small B64 n = omega arith
 
 -- a near target of an operand is below 2 to the power of 64
 abbrev IsSmall : Operand → Type 0
@@ -72,7 +72,7 @@ target_small : (size : Bits) (next : ℕ) (own : List ℕ) → IsSmall (near_tar
 unfolding near_target near_value
 target_small size next own = λ x h.
     let e : target_of size next own ≡ x = cc in
-    omega (arith, e, target-below size next own, width-most size)
+    omega (arith, e, wrapped-small size (next + sign_extended 64 own))
 
 reg_small : (r : Register) → IsSmall (Reg r)
 unfolding near_value
@@ -123,23 +123,23 @@ near-below bits ip bytes i t (short, (row, at, (s, e))) h =
 unfoldable counts_marked : Row → Bool
 counts_marked row = elim (branch_in row) [ Some b ↦ (elim b.action [ Count n ↦ has_address_mark row | _ ↦ true ]) | None ↦ true ]
 
-integer-marked : all_rows counts_marked integer_rows ≡ true
-unfolding all_rows counts_marked branch_in size_of short_action near_action integer_rows integer_flat
+integer-marked : list_all counts_marked integer_rows ≡ true
+unfolding counts_marked branch_in size_of short_action near_action integer_rows integer_flat
 integer-marked = refl
 
-x87-marked : all_rows counts_marked x87_rows ≡ true
-unfolding all_rows counts_marked branch_in size_of short_action near_action x87_rows x87_flat
+x87-marked : list_all counts_marked x87_rows ≡ true
+unfolding counts_marked branch_in size_of short_action near_action x87_rows x87_flat
 x87-marked = refl
 
-sse-marked : all_rows counts_marked sse_rows ≡ true
-unfolding all_rows counts_marked branch_in size_of short_action near_action sse_rows sse_flat
+sse-marked : list_all counts_marked sse_rows ≡ true
+unfolding counts_marked branch_in size_of short_action near_action sse_rows sse_flat
 sse-marked = refl
 
-vex-marked : all_rows counts_marked vex_rows ≡ true
-unfolding all_rows counts_marked branch_in size_of short_action near_action vex_rows vex_flat
+vex-marked : list_all counts_marked vex_rows ≡ true
+unfolding counts_marked branch_in size_of short_action near_action vex_rows vex_flat
 vex-marked = refl
 
-each-marked : (p : Part) → all_rows counts_marked (part_table p) ≡ true
+each-marked : (p : Part) → list_all counts_marked (part_table p) ≡ true
 each-marked part.Integer = integer-marked
 each-marked part.X87 = x87-marked
 each-marked part.Sse = sse-marked
@@ -188,14 +188,14 @@ count_fits row i b (Condition n) a e h suits = tt
 -- **a branch on a counter in 64-bit mode has an address size of the mode**
 pub counter-fits : (ip : ℕ) (bytes : List ℕ) (i : Instr) (b : RelativeBranch) → Spells table B64 ip bytes i → branch_of i ≡ Some b → CountFits b.action i.asize
 counter-fits ip bytes i b (short, (row, at, (s, e))) h =
-    let need = spelled-needs B64 ip bytes i row s at e in
-    count_fits row i b b.action refl (in_row i row b at h) (in_each_part counts_marked each-marked i.code.0 row at) need.address_size
+    let need = laws.targets.spelled-suits B64 ip bytes i row s at e in
+    count_fits row i b b.action refl (in_row i row b at h) (laws.rows counts_marked each-marked i.code.0 row at) need.address_size
 
 -- its operand size is that of the mode, and its condition or counter is one
 pub mode-fits : (ip : ℕ) (bytes : List ℕ) (i : Instr) (b : RelativeBranch) → Spells table B64 ip bytes i → branch_of i ≡ Some b → (b.size ≡ B64) × (in_range b.action b.is_short ≡ true)
 mode-fits ip bytes i b (short, (row, at, (s, e))) h =
-    let need = spelled-needs B64 ip bytes i row s at e in
-    (pair_64 b.size (branch-pair B64 i row b at h need.exists), branch-range i row b at h)
+    let need = laws.targets.spelled-suits B64 ip bytes i row s at e in
+    (pair_64 b.size (laws.forms.branch-pair B64 i row b at h need.exists), laws.forms.branch-range i row b at h)
   where
     pair_64 : (size : Bits) → is_pair B64 size ≡ true → size ≡ B64
     pair_64 B64 h = refl

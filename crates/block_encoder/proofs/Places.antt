@@ -20,19 +20,20 @@ module _ (p : BlockPlan) (layout : List ℕ) (b : ℕ) where
   unfolding place_in images_end
   place-last = refl
 
+module _ (p : BlockPlan) (layout : List ℕ) (b : ℕ) where
   -- **the next item stands behind the image**
-  pub place-next : (k : ℕ) → first_of_block p.spans b ≤ k → place_in (k + 1) ≡ place_in k + image_length p layout k
+  pub place-next : (k : ℕ) → first_of_block p.spans b ≤ k → place_in p layout b (k + 1) ≡ place_in p layout b k + image_length p layout k
   unfolding place_in
   place-next k from =
       let step : total (image_length p layout) (k + 1) ≡ total (image_length p layout) k + image_length p layout k = rw add-one refl in
       omega (arith, step, total_rises (image_length p layout) (first_of_block p.spans b) k from)
 
-  pub place-rises : (j k : ℕ) → j ≤ k → place_in j ≤ place_in k
+  pub place-rises : (j k : ℕ) → j ≤ k → place_in p layout b j ≤ place_in p layout b k
   unfolding place_in
   place-rises j k le = omega (arith, total_rises (image_length p layout) j k le)
 
   -- **an item of the block has this place**
-  pub place-is : (k : ℕ) → b < length p.spans → first_of_block p.spans b ≤ k → k < first_of_block p.spans b + (span_at p.spans b).count → place p layout k ≡ place_in k
+  pub place-is : (k : ℕ) → b < length p.spans → first_of_block p.spans b ≤ k → k < first_of_block p.spans b + (span_at p.spans b).count → place p layout k ≡ place_in p layout b k
   unfolding place_in
   place-is k bl from below =
       ap (λ (n : ℕ). (span_at p.spans n).new_base + (total (image_length p layout) k - total (image_length p layout) (first_of_block p.spans n)))

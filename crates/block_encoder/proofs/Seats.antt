@@ -69,7 +69,7 @@ module _ (p : BlockPlan) (w : IsWellFormed p) (layout : List ℕ) (l : IsLayout 
     block_of = block_below p.spans k (omega (arith, lt, w.counts))
 
     within_block : k - first_of_block p.spans (block_number p.spans k) < (span_at p.spans (block_number p.spans k)).count
-    within_block = omega (arith, first_le p.spans k, block-end-above p.spans k (omega (arith, lt, w.counts)))
+    within_block = omega (arith, first_le p.spans k, laws.blocks.within_block p.spans k (omega (arith, lt, w.counts)))
 
     stands_at : k ≡ first_of_block p.spans (block_number p.spans k) + (k - first_of_block p.spans (block_number p.spans k))
     stands_at = omega (arith, first_le p.spans k)

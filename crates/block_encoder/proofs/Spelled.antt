@@ -1,5 +1,5 @@
 -- The branches of images have plain spellings in 64-bit mode.
-use Rattle.std.proofs.Common.{◌≡◌, ℕ, ◌+◌, ◌^◌, ◌≤◌, ◌<◌, ◌⊎◌, inl, inr, Bool, true, false, ◌&&◌, List, Option, Some, None, Ok, nat_lt, nat_le, slice_get, refl, ap, sym, ◌∙◌, arith}
+use Rattle.std.proofs.Common.{◌≡◌, ℕ, ◌+◌, ◌^◌, ◌≤◌, ◌<◌, ◌⊎◌, inl, inr, Bool, true, false, ◌&&◌, List, Option, Some, None, Ok, nat_lt, slice_get, refl, ap, sym, ◌∙◌, arith}
 use Rattle.x86_values.specs.declared.Bits.{Bits}
 use Rattle.x86_values.specs.declared.Bits.TheVariants.{B32, B64}
 use Rattle.x86_values.specs.declared.Instr.{Instr}
@@ -16,20 +16,14 @@ use Rattle.plain_spelling.specs.Forms.{is_variant_of, is_allowed_in}
 use Rattle.plain_spelling.specs.Addresses.{has_address_size, form_of, offers, form_offers, displacement_count, is_displacement, displacement_suits, is_shape, shape_suits, pointer_size, shown_size, written_size}
 use Rattle.plain_spelling.specs.PlainTail.{plain_size, plain_len, plain_next, plain_spelling}
 use Rattle.plain_spelling.specs.Expressible.{Suits, kind_suits, register_suits, address_suits, offered, immediate_suits, immediate_suits_how, near_reaches, address_reaches, target_suits, lock_suits, repeat_suits, prefixes_suit, has_memory_operand, told_size, size_agrees, is_size_of, address_size_suits}
-use Rattle.plain_spelling.proofs.Failures.{suits-failure}
 use Rattle.opcode_rows.specs.Table.{table}
 use Rattle.encoder.specs.Encoding.{encoding}
-use Rattle.encoder.proofs.Causes.{by_row}
 use Rattle.moved_targets.specs.Targets.{plain_length}
-use Rattle.moved_targets.proofs.Lengths.{plain_length-row}
 use Rattle.branch_forms.specs.Images.{branch_to, through_slot}
 use Rattle.branch_forms.specs.Rows.{offset_row, memory_row}
 
 true_lt : (a b : ℕ) → a < b → nat_lt a b ≡ true
 true_lt a b h = grind (arith, h)
-
-true_le : (a b : ℕ) → a ≤ b → nat_le a b ≡ true
-true_le a b h = grind (arith, h)
 
 only_first : (a b : Bool) → a ≡ true → b ≡ true → ((a && b) && (true && (true && true))) ≡ true
 only_first a b p q = rw (p, q) refl
@@ -43,14 +37,13 @@ IsEncoded at i = (bytes : List ℕ) × (encoding B64 at i ≡ Ok bytes)
 
 row-encoded : (at : ℕ) (row : Row) (i : Instr) → slice_get table i.code.0 ≡ Some row → Suits B64 (wrapped B64 at) row i → plain_length B64 i ≤ 15 → IsEncoded at i
 row-encoded at row i there suits short =
-    let l = plain_length-row B64 i row there in
-    let holds = suits-failure B64 (wrapped B64 at) row i suits (true_le (plain_len B64 row i) 15 (omega (arith, l, short))) in
-    (bytes_of row (plain_spelling B64 (wrapped B64 at) row i), sym (by_row B64 at row i there) ∙ rw holds refl)
+    let l = laws.targets.plain_length-row B64 i row there in
+    (bytes_of row (plain_spelling B64 (wrapped B64 at) row i), laws.encodings.suits-encoded B64 at row i there suits (omega (arith, l, short)))
 
 -- the address behind the instruction
 next_is : (at : ℕ) (row : Row) (i : Instr) → slice_get table i.code.0 ≡ Some row → plain_next B64 (wrapped B64 at) row i ≡ wrapped B64 (wrapped B64 at + plain_length B64 i)
 unfolding plain_next
-next_is at row i there = ap (λ (n : ℕ). wrapped B64 (wrapped B64 at + n)) (sym (plain_length-row B64 i row there))
+next_is at row i there = ap (λ (n : ℕ). wrapped B64 (wrapped B64 at + n)) (sym (laws.targets.plain_length-row B64 i row there))
 
 -- ---- offsets
 

@@ -7,7 +7,6 @@ use Rattle.std.proofs.lemmas.Bool.{cases_lt, ne_eqb}
 use Rattle.std.proofs.lemmas.List.{length-replicate}
 use Rattle.x86_values.specs.declared.Bits.{Bits}
 use Rattle.plain_spelling.specs.Values.{low_bytes}
-use Rattle.plain_spelling.proofs.Values.{low_bytes-length}
 use Rattle.branch_sizes.specs.declared.plan.BlockSpan.{BlockSpan}
 use Rattle.branch_sizes.specs.declared.plan.Goal.{Goal}
 use Rattle.branch_sizes.specs.Layout.{IsLayout, first_of_block, span_at, place}
@@ -72,18 +71,22 @@ piece-at bytes at first (suc n) k rest h from below =
 
 -- ---- slots
 
+eight : (x : ℕ) → length (low_bytes 8 x) ≡ 8
+unfolding low_bytes
+eight x = refl
+
 -- the bytes of slots
 slots-length : (slots : List ℕ) → length (slot_bytes slots) ≡ 8 * length slots
 slots-length [] = refl
-slots-length (x ∷ xs) = omega (arith, length-append (low_bytes 8 x) (slot_bytes xs), low_bytes-length 8 x, slots-length xs)
+slots-length (x ∷ xs) = omega (arith, length-append (low_bytes 8 x) (slot_bytes xs), eight x, slots-length xs)
 
 -- a slot stands behind those before it
 slot-at : (slots : List ℕ) (n : ℕ) → n < length slots → take 8 (drop (8 * n) (slot_bytes slots)) ≡ low_bytes 8 (get_or slots n 0)
 slot-at [] n lt = absurd (omega arith)
 slot-at (x ∷ xs) zero lt =
-    subst (λ (m : ℕ). take m (low_bytes 8 x ++ slot_bytes xs) ≡ low_bytes 8 x) (low_bytes-length 8 x) (take-append_seam (low_bytes 8 x) (slot_bytes xs))
+    subst (λ (m : ℕ). take m (low_bytes 8 x ++ slot_bytes xs) ≡ low_bytes 8 x) (eight x) (take-append_seam (low_bytes 8 x) (slot_bytes xs))
 slot-at (x ∷ xs) (suc n) lt =
-    let e : 8 * suc n ≡ length (low_bytes 8 x) + 8 * n = omega (arith, low_bytes-length 8 x) in
+    let e : 8 * suc n ≡ length (low_bytes 8 x) + 8 * n = omega (arith, eight x) in
     ap (take 8) (ap (λ (m : ℕ). drop m (low_bytes 8 x ++ slot_bytes xs)) e ∙ drop-append-add (low_bytes 8 x) (slot_bytes xs) (8 * n))
     ∙ slot-at xs n (omega arith)
 

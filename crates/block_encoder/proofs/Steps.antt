@@ -16,7 +16,6 @@ use Rattle.move_layout.specs.declared.layout.Seat.{Seat}
 use Rattle.move_layout.specs.declared.layout.BlockEnd.{BlockEnd}
 use Rattle.move_layout.specs.declared.layout.Layout.{Layout}
 use Rattle.move_layout.specs.Laid.{IsLaid, IsLaidLeast, goal_address, seat_at, slots_of, all_slots, images_end, no_seat, no_end}
-use Rattle.move_layout.proofs.Standing.{item-below}
 use Rattle.move_layout.proofs.Laid.{end-images, end-slots, images-le-end, few-slots, length-all_slots}
 use Rattle.block_encoder.specs.declared.error.MoveError.{MoveError}
 use Rattle.block_encoder.specs.declared.error.MoveError.TheVariants.{Memory, TooMany, OldOrder, Wraps, TooFar}
@@ -70,7 +69,7 @@ module _ (bits : Bits) (items : List Placed) (p : BlockPlan) (laid : Layout) (w 
   pub item_facts : i < (span_at p.spans b).count → (k : ℕ) → k ≡ length starts → ItemFacts items p laid b i k
   item_facts il k e =
       let at : k ≡ first_of_block p.spans b + i = placed_count (place p ll.0) starts (first_of_block p.spans b + i) k written.starts_are e in
-      let in_plan : k < length p.items = item-below p w ll.0 b i k bl il at in
+      let in_plan : k < length p.items = omega (arith, at, laws.blocks.item_below p.spans b i bl il, w.counts) in
       let in_seats : k < length laid.seats.items = omega (arith, in_plan, ll.2.seat_count) in
       record {
         at = at;

@@ -7,11 +7,10 @@ use Rattle.x86_values.specs.declared.Instr.{Instr}
 use Rattle.x86_values.specs.Wrapping.{wrapped}
 use Rattle.row_types.specs.declared.Row.{Row}
 use Rattle.plain_spelling.specs.declared.NoSpelling.{NoSpelling}
-use Rattle.plain_laws.proofs.ReadBack.{plain_reads}
+use Rattle.plain_spelling.specs.declared.NoSpelling.TheVariants as cause
 use Rattle.opcode_rows.specs.Table.{table}
 use Rattle.opcode_rows.specs.Sweep.{IsReadAt, IsItemAt, Sweeps}
 use Rattle.encoder.specs.Encoding.{encoding}
-use Rattle.encoder.proofs.Causes.{plain_bytes_are, without_row}
 use Rattle.moved_targets.proofs.Lengths.{encoding-length, plain_length-row, some_byte}
 use Rattle.branch_forms.specs.Images.{pieces_length}
 use Rattle.block_encoder.specs.Bytes.{in_front, bytes_from}
@@ -28,6 +27,11 @@ have_four-append (i ∷ is) js (a, more) b = (a, have_four-append is js more b)
 
 -- ---- one spelling
 
+-- an instruction without a row has none
+without_row : (bits : Bits) (at : ℕ) (i : Instr) → slice_get table i.code.0 ≡ None → Err cause.Row ≡ encoding bits at i
+unfolding encoding
+without_row bits at i none = rw none refl
+
 -- it has a byte
 some_bytes : (bits : Bits) (at : ℕ) (i : Instr) (bytes : List ℕ) → encoding bits at i ≡ Ok bytes → 0 < length bytes
 some_bytes bits at i bytes h = by_row (slice_get table i.code.0) refl
@@ -41,7 +45,7 @@ spelled_item : (bits : Bits) (base offset : ℕ) (i : Instr) (bytes rest : List 
 unfolding IsReadAt
 spelled_item bits base offset i bytes rest four h = record {
   offset_is = refl;
-  reads = plain_reads table bits (wrapped bits (base + offset)) bytes rest i (plain_bytes_are bits (base + offset) i bytes four (sym h));
+  reads = laws.encodings.plain-reads bits (wrapped bits (base + offset)) bytes rest i (laws.encodings.encoded-plain bits (base + offset) i bytes four h);
   within = omega (arith, length-append bytes rest);
   some = some_bytes bits (base + offset) i bytes h;
   bytes_are = sym (take-append_seam bytes rest);
