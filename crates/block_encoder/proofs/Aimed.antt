@@ -26,6 +26,7 @@ use Rattle.plain_spelling.specs.Expressible.{offered}
 use Rattle.opcode_rows.specs.Table.{table}
 use Rattle.operand_info.specs.Operands.{near_value, ip_value, first_value}
 use Rattle.moved_targets.specs.Targets.{target_of}
+use Rattle.block_encoder.specs.LawsBelow.{LawsBelow}
 
 and_left : (a b : Bool) → (a && b) ≡ true → a ≡ true
 and_left a b h = (and_parts a b h).0
@@ -89,10 +90,11 @@ each-below bits row i x h e =
       ]
     ]
 
--- **the address at RIP or EIP of what is spelled and has no near target**
-pub spelled-below : (bits : Bits) (ip : ℕ) (bytes : List ℕ) (i : Instr) (t : ℕ) → Spells table bits ip bytes i → first_value near_value i ≡ None → target_of i ≡ Some t → t < 2 ^ 64
-unfolding target_of
-spelled-below bits ip bytes i t (short, (row, at, (s, e))) none h =
-    let need = laws.targets.spelled-suits bits ip bytes i row s at e in
-    let by_ip = ap (λ (o : Option ℕ). option_or o (first_value ip_value i)) (sym none) ∙ h in
-    each-below bits row i t need.displacements by_ip
+module _ (laws : LawsBelow) where
+  -- **the address at RIP or EIP of what is spelled and has no near target**
+  pub spelled-below : (bits : Bits) (ip : ℕ) (bytes : List ℕ) (i : Instr) (t : ℕ) → Spells table bits ip bytes i → first_value near_value i ≡ None → target_of i ≡ Some t → t < 2 ^ 64
+  unfolding target_of
+  spelled-below bits ip bytes i t (short, (row, at, (s, e))) none h =
+      let need = laws.targets.spelled-suits bits ip bytes i row s at e in
+      let by_ip = ap (λ (o : Option ℕ). option_or o (first_value ip_value i)) (sym none) ∙ h in
+      each-below bits row i t need.displacements by_ip

@@ -1,6 +1,7 @@
 -- What spelled branches have: a target below 2 to the power of 64, and on a counter an address size of the mode.
-use Rattle.std.proofs.Common.{◌≡◌, ℕ, ◌^◌, ◌<◌, ◌⊎◌, inl, inr, Bool, true, false, ◌||◌, List, Option, Some, None, refl, ap, sym, ◌∙◌, slice_get, arith}
+use Rattle.std.proofs.Common.{◌≡◌, ℕ, ◌+◌, ◌^◌, ◌<◌, ◌⊎◌, inl, inr, Bool, true, false, ◌||◌, List, Option, Some, None, refl, ap, sym, ◌∙◌, slice_get, arith}
 use Rattle.std.specs.Prelude.{if◌then◌else◌, is_some, is_none, nat_lt}
+use Rattle.std.specs.List.{list_all}
 use Rattle.std.specs.Option.{option_or}
 use Rattle.x86_values.specs.declared.Bits.{Bits}
 use Rattle.x86_values.specs.declared.Bits.TheVariants.{B16, B32, B64}
@@ -8,6 +9,7 @@ use Rattle.x86_values.specs.declared.Code.{Code}
 use Rattle.x86_values.specs.declared.Operand.{Operand}
 use Rattle.x86_values.specs.declared.Operand.TheVariants.{Reg}
 use Rattle.x86_values.specs.declared.Instr.{Instr}
+use Rattle.x86_values.specs.Wrapping.{wrapped}
 use Rattle.row_types.specs.declared.Row.{Row}
 use Rattle.row_types.specs.declared.OpKind.{OpKind}
 use Rattle.instruction_parts.specs.declared.kinds.Method.{Method}
@@ -23,7 +25,7 @@ use Rattle.instruction_parts.specs.Bytes.{state_of}
 use Rattle.row_fit.specs.Fits.{kind_at, has_modrm, rm_number}
 use Rattle.plain_spelling.specs.Forms.{operand_at}
 use Rattle.x86_values.specs.declared.Register.{Register}
-use Rattle.row_meaning.specs.Meaning.{Tail, tail_of, meaning, instr_of, operand_by, own_immediate, register_of, with_modrm, near_target, far_pointer, memory_operand, gather_memory, target_of}
+use Rattle.row_meaning.specs.Meaning.{sign_extended, Tail, tail_of, meaning, instr_of, operand_by, own_immediate, register_of, with_modrm, near_target, far_pointer, memory_operand, gather_memory, target_of}
 use Rattle.row_meaning.specs.Meaning as meant
 use Rattle.row_relation.specs.Spells.{Spells}
 use Rattle.plain_spelling.specs.Addresses.{has_address_size}
@@ -40,6 +42,7 @@ use Rattle.branch_forms.specs.declared.branch.Action.{Action}
 use Rattle.branch_forms.specs.declared.branch.Action.TheVariants.{Jump, Call, Condition, Count}
 use Rattle.branch_forms.specs.declared.branch.RelativeBranch.{RelativeBranch}
 use Rattle.branch_forms.specs.Branches.{size_of, short_action, near_action, branch_in, branch_by, branch_of, is_pair, in_range}
+use Rattle.block_encoder.specs.LawsBelow.{LawsBelow}
 use Rattle.block_encoder.proofs.Formed.{CountFits}
 
 -- ---- near targets
@@ -185,19 +188,20 @@ count_fits row i b Jump a e h suits = tt
 count_fits row i b Call a e h suits = tt
 count_fits row i b (Condition n) a e h suits = tt
 
--- **a branch on a counter in 64-bit mode has an address size of the mode**
-pub counter-fits : (ip : ℕ) (bytes : List ℕ) (i : Instr) (b : RelativeBranch) → Spells table B64 ip bytes i → branch_of i ≡ Some b → CountFits b.action i.asize
-counter-fits ip bytes i b (short, (row, at, (s, e))) h =
-    let need = laws.targets.spelled-suits B64 ip bytes i row s at e in
-    count_fits row i b b.action refl (in_row i row b at h) (laws.rows counts_marked each-marked i.code.0 row at) need.address_size
+module _ (laws : LawsBelow) where
+  -- **a branch on a counter in 64-bit mode has an address size of the mode**
+  pub counter-fits : (ip : ℕ) (bytes : List ℕ) (i : Instr) (b : RelativeBranch) → Spells table B64 ip bytes i → branch_of i ≡ Some b → CountFits b.action i.asize
+  counter-fits ip bytes i b (short, (row, at, (s, e))) h =
+      let need = laws.targets.spelled-suits B64 ip bytes i row s at e in
+      count_fits row i b b.action refl (in_row i row b at h) (laws.rows counts_marked each-marked i.code.0 row at) need.address_size
 
--- its operand size is that of the mode, and its condition or counter is one
-pub mode-fits : (ip : ℕ) (bytes : List ℕ) (i : Instr) (b : RelativeBranch) → Spells table B64 ip bytes i → branch_of i ≡ Some b → (b.size ≡ B64) × (in_range b.action b.is_short ≡ true)
-mode-fits ip bytes i b (short, (row, at, (s, e))) h =
-    let need = laws.targets.spelled-suits B64 ip bytes i row s at e in
-    (pair_64 b.size (laws.forms.branch-pair B64 i row b at h need.exists), laws.forms.branch-range i row b at h)
-  where
-    pair_64 : (size : Bits) → is_pair B64 size ≡ true → size ≡ B64
-    pair_64 B64 h = refl
-    pair_64 B32 h = cc
-    pair_64 B16 h = cc
+  -- its operand size is that of the mode, and its condition or counter is one
+  pub mode-fits : (ip : ℕ) (bytes : List ℕ) (i : Instr) (b : RelativeBranch) → Spells table B64 ip bytes i → branch_of i ≡ Some b → (b.size ≡ B64) × (in_range b.action b.is_short ≡ true)
+  mode-fits ip bytes i b (short, (row, at, (s, e))) h =
+      let need = laws.targets.spelled-suits B64 ip bytes i row s at e in
+      (pair_64 b.size (laws.forms.branch-pair B64 i row b at h need.exists), laws.forms.branch-range i row b at h)
+    where
+      pair_64 : (size : Bits) → is_pair B64 size ≡ true → size ≡ B64
+      pair_64 B64 h = refl
+      pair_64 B32 h = cc
+      pair_64 B16 h = cc

@@ -29,6 +29,7 @@ use Rattle.opcode_rows.specs.Table.{part_table, table}
 use Rattle.operand_info.specs.Operands.{near_value, first_value}
 use Rattle.branch_forms.specs.declared.branch.RelativeBranch.{RelativeBranch}
 use Rattle.branch_forms.specs.Branches.{size_of, short_action, near_action, branch_in, branch_of}
+use Rattle.block_encoder.specs.LawsBelow.{LawsBelow}
 
 and_left : (a b : Bool) → (a && b) ≡ true → a ≡ true
 and_left a b h = (and_parts a b h).0
@@ -71,9 +72,6 @@ each-first part.Integer = integer-first
 each-first part.X87 = x87-first
 each-first part.Sse = sse-first
 each-first part.Vex = vex-first
-
-first-row : (code : ℕ) (row : Row) → slice_get table code ≡ Some row → offset_first row ≡ true
-first-row code row at = laws.rows offset_first each-first code row at
 
 -- ---- operands
 
@@ -134,11 +132,15 @@ row-no_near row i kinds first none =
     (no_near-at row i 2 (and_left (k 2) (k 3) k2) (not_true (is_offset_at row 2) (and_left (o 2) (o 3) o1)))
     (no_near-at row i 3 (and_right (k 2) (k 3) k2) (not_true (is_offset_at row 3) (and_right (o 2) (o 3) o1)))
 
--- **what is spelled and is no relative branch has no near target**
-pub no_branch-no_near : (bits : Bits) (ip : ℕ) (bytes : List ℕ) (i : Instr) → Spells table bits ip bytes i → branch_of i ≡ None → first_value near_value i ≡ None
-no_branch-no_near bits ip bytes i (short, (row, at, (s, e))) h =
-    let need = laws.targets.spelled-suits bits ip bytes i row s at e in
-    elim (by_branch i row (first_value near_value i) refl at h) [
-      | inl none ↦ none
-      | inr none ↦ row-no_near row i need.kinds (first-row i.code.0 row at) none
-    ]
+module _ (laws : LawsBelow) where
+  first-row : (code : ℕ) (row : Row) → slice_get table code ≡ Some row → offset_first row ≡ true
+  first-row code row at = laws.rows offset_first each-first code row at
+
+  -- **what is spelled and is no relative branch has no near target**
+  pub no_branch-no_near : (bits : Bits) (ip : ℕ) (bytes : List ℕ) (i : Instr) → Spells table bits ip bytes i → branch_of i ≡ None → first_value near_value i ≡ None
+  no_branch-no_near bits ip bytes i (short, (row, at, (s, e))) h =
+      let need = laws.targets.spelled-suits bits ip bytes i row s at e in
+      elim (by_branch i row (first_value near_value i) refl at h) [
+        | inl none ↦ none
+        | inr none ↦ row-no_near row i need.kinds (first-row i.code.0 row at) none
+      ]

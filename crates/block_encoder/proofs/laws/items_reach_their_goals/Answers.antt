@@ -7,7 +7,7 @@ pub returns : goal.returns
 returns c = record {
   other-reached = c.only_targets_are_too_far.ensures;
   reached-in_64 = c.branches_reach_in_64_bit_mode.ensures;
-  branch-reached-in_64 = branch-reached-in_64;
-  near-encoded = near-encoded;
+  branch-reached-in_64 = branch-reached-in_64 c.laws_below.ensures;
+  near-encoded = near-encoded c.laws_below.ensures;
   signed = signed;
 }
