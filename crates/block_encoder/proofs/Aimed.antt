@@ -69,7 +69,7 @@ offered-below : (bits : Bits) (row : Row) (i : Instr) (n x : ℕ) → offered bi
 unfolding offered
 offered-below bits row i n x h e = operand-below bits i.asize (method_of (kind_at row n)) (operand_at i n) x h e
 
-or_some : (a b : Option ℕ) (x : ℕ) → option_or a b ≡ Some x → (a ≡ Some x) ⊎ (b ≡ Some x)
+pub or_some : (a b : Option ℕ) (x : ℕ) → option_or a b ≡ Some x → (a ≡ Some x) ⊎ (b ≡ Some x)
 or_some None b x h = inr h
 or_some (Some y) b x h = inl h
 

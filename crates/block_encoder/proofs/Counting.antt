@@ -9,7 +9,6 @@ use Rattle.x86_values.specs.declared.Code.{Code}
 use Rattle.x86_values.specs.declared.Operand.{Operand}
 use Rattle.x86_values.specs.declared.Operand.TheVariants.{Reg}
 use Rattle.x86_values.specs.declared.Instr.{Instr}
-use Rattle.x86_values.specs.Wrapping.{wrapped}
 use Rattle.row_types.specs.declared.Row.{Row}
 use Rattle.row_types.specs.declared.OpKind.{OpKind}
 use Rattle.instruction_parts.specs.declared.kinds.Method.{Method}
@@ -43,14 +42,10 @@ use Rattle.branch_forms.specs.declared.branch.Action.TheVariants.{Jump, Call, Co
 use Rattle.branch_forms.specs.declared.branch.RelativeBranch.{RelativeBranch}
 use Rattle.branch_forms.specs.Branches.{size_of, short_action, near_action, branch_in, branch_by, branch_of, is_pair, in_range}
 use Rattle.block_encoder.specs.LawsBelow.{LawsBelow}
-use Rattle.block_encoder.proofs.Formed.{CountFits}
+use Rattle.block_encoder.proofs.Aimed.{or_some}
+use Rattle.block_encoder.proofs.Formed.{CountFits, wrapped-small}
 
 -- ---- near targets
-
-wrapped-small : (size : Bits) (n : ℕ) → wrapped size n < 2 ^ 64
-wrapped-small B16 n = omega arith
-wrapped-small B32 n = omega arith
-wrapped-small B64 n = omega arith
 
 -- a near target of an operand is below 2 to the power of 64
 abbrev IsSmall : Operand → Type 0
@@ -91,10 +86,6 @@ near_small bits row st t kind method.MemoryOnly own = memory_small bits st t.mod
 near_small bits row st t kind method.Gather own = gather_small bits row st (file_of kind) t.modrm t.sib t.disp
 near_small bits row st t kind method.Near own = target_small (state_size bits row st) t.next own
 near_small bits row st t kind _ own = λ x h. cc
-
-or_some : (a b : Option ℕ) (x : ℕ) → option_or a b ≡ Some x → (a ≡ Some x) ⊎ (b ≡ Some x)
-or_some None b x h = inr h
-or_some (Some y) b x h = inl h
 
 first_small : (i : Instr) → IsSmall (operand_at i 0) → IsSmall (operand_at i 1) → IsSmall (operand_at i 2) → IsSmall (operand_at i 3) → (x : ℕ) → first_value near_value i ≡ Some x → x < 2 ^ 64
 first_small i a b c d x h =

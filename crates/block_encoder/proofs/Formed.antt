@@ -3,7 +3,7 @@ use Rattle.std.proofs.Common.{◌≡◌, ℕ, ◌+◌, ◌^◌, ◌≤◌, ◌<�
 use Rattle.std.specs.Prelude.{IsSome, is_some}
 use Rattle.std.proofs.lemmas.Bool.{ltb-true}
 use Rattle.x86_values.specs.declared.Bits.{Bits}
-use Rattle.x86_values.specs.declared.Bits.TheVariants.{B32, B64}
+use Rattle.x86_values.specs.declared.Bits.TheVariants.{B16, B32, B64}
 use Rattle.x86_values.specs.declared.Instr.{Instr}
 use Rattle.x86_values.specs.Wrapping.{wrapped}
 use Rattle.row_types.specs.declared.Map.TheVariants.{One, M0f}
@@ -23,6 +23,7 @@ use Rattle.branch_forms.specs.Lengths.{address_byte}
 use Rattle.move_layout.specs.Laid.{is_far}
 use Rattle.block_encoder.specs.Bytes.{in_front, bytes_from}
 use Rattle.block_encoder.specs.LawsBelow.{LawsBelow}
+use Rattle.block_encoder.proofs.Sweeping.{one_spelled}
 use Rattle.block_encoder.proofs.Going.{short-length, skip-length, branch_to-length}
 use Rattle.block_encoder.proofs.Nearby.{reached, over-reached}
 use Rattle.block_encoder.proofs.Spelled.{IsEncoded, no_size, count_size, short-encoded, near-encoded, slot-encoded}
@@ -43,9 +44,7 @@ IsNear n at len t = is_extended_of n 64 (distance B64 (wrapped B64 (wrapped B64 
 -- ---- several spellings
 
 one-some : (at : ℕ) (i : Instr) → IsEncoded at i → IsSome (bytes_from B64 at (i ∷ []))
-unfolding bytes_from
-one-some at i (bytes, h) =
-    ap (λ (r : Result (List ℕ) NoSpelling). is_some (elim r as (λ (x : Result (List ℕ) NoSpelling). Option (List ℕ)) [ Ok b ↦ in_front b (Some []) | Err why ↦ None ])) h
+one-some at i (bytes, h) = one_spelled B64 at i bytes h
 
 in_front-there : (bytes : List ℕ) (o : Option (List ℕ)) → IsSome o → IsSome (in_front bytes o)
 in_front-there bytes None h = h
@@ -64,8 +63,10 @@ is_counting _ = false
 
 -- ---- images
 
-wrapped-small : (n : ℕ) → wrapped B64 n < 2 ^ 64
-wrapped-small n = omega arith
+pub wrapped-small : (bits : Bits) (n : ℕ) → wrapped bits n < 2 ^ 64
+wrapped-small B16 n = omega arith
+wrapped-small B32 n = omega arith
+wrapped-small B64 n = omega arith
 
 -- a slot at a signed distance from the end of the image
 abbrev pub IsSlotNear : ℕ → ℕ → ℕ → Type 0
@@ -199,8 +200,8 @@ module _ (laws : LawsBelow) where
       subst (λ (n : ℕ). IsNear 1 at one (wrapped B64 n)) (omega arith) (over-reached at one two (omega (arith, size)) (omega (arith, within)) (omega (arith, skips))) in
       let near2 : IsNear 1 (at + one) two over =
       subst (λ (n : ℕ). IsNear 1 (at + one) two (wrapped B64 n)) (omega arith) (over-reached (at + one) two (plain_length B64 last) (omega (arith, skips)) (omega (arith, within)) few) in
-      let first = short-piece action short asize onto at range counts (wrapped-small (at + (one + two))) (subst (λ (n : ℕ). IsNear 1 at n onto) (sym len1) near1) in
-      let second = skip-piece over (at + one) (wrapped-small (at + (one + two) + plain_length B64 last)) (subst (λ (n : ℕ). IsNear 1 (at + one) n over) (sym len2) near2) in
+      let first = short-piece action short asize onto at range counts (wrapped-small B64 (at + (one + two))) (subst (λ (n : ℕ). IsNear 1 at n onto) (sym len1) near1) in
+      let second = skip-piece over (at + one) (wrapped-small B64 (at + (one + two) + plain_length B64 last)) (subst (λ (n : ℕ). IsNear 1 (at + one) n over) (sym len2) near2) in
       let third : IsSome (bytes_from B64 (at + one + two) (last ∷ [])) =
       subst (λ (n : ℕ). IsSome (bytes_from B64 n (last ∷ []))) (omega arith) (one-some (at + (one + two)) last e) in
       let rest : IsSome (bytes_from B64 (at + one) (skip B64 over ∷ last ∷ [])) =
@@ -232,7 +233,7 @@ module _ (laws : LawsBelow) where
       let same = branch_to-length laws B64 code None over in
       let near = over-reached at one (plain_length B64 last) (omega (arith, long)) (omega (arith, within, same)) (omega (arith, len)) in
       let first = short-encoded laws One false (0x70 + inverted n) code None over at (laws.codes.short-condition (inverted n) B64 lt) (no_size One (0x70 + inverted n) code over)
-      (omega (arith, long, same)) (wrapped-small (at + one + plain_length B64 last)) (subst (λ (n : ℕ). IsNear 1 at n over) (sym same) near) in
+      (omega (arith, long, same)) (wrapped-small B64 (at + one + plain_length B64 last)) (subst (λ (n : ℕ). IsNear 1 at n over) (sym same) near) in
       let at_last = at + plain_length B64 (branch_to code None over) in
       more-some at (branch_to code None over) (last ∷ []) first
       (one-some at_last last (jump-piece slot at_last below (reached 4 (2 ^ 31) refl (omega arith) at_last (plain_length B64 last) slot (omega (arith, len)) (omega (arith, within)) below (omega (arith, low), omega (arith, high)))))

@@ -1,7 +1,7 @@
 -- Where the instructions of an image go.
 use Rattle.std.proofs.Common.{◌≡◌, ℕ, zero, suc, ◌+◌, ◌<◌, Bool, true, false, List, [], ◌∷◌, length, get_or, take, Option, Some, None, refl, ap, ◌∙◌, arith}
-use Rattle.std.specs.Prelude.{if◌then◌else◌}
 use Rattle.std.specs.Option.{option_or}
+use Rattle.std.proofs.lemmas.Bool.{cond-true}
 use Rattle.x86_values.specs.declared.Bits.{Bits}
 use Rattle.x86_values.specs.declared.Instr.{Instr}
 use Rattle.x86_values.specs.Wrapping.{wrapped}
@@ -110,15 +110,11 @@ no_near i h = or_none (first_value near_value i) (first_value ip_value i) h
 
 -- ---- items
 
-cond_true : (b : Bool) (x y : ℕ) → b ≡ true → (if b then x else y) ≡ x
-cond_true true x y h = refl
-cond_true false x y h = cc
-
 -- a far form has the slot of its goal
 pub slot-is : (p : BlockPlan) (layout : List ℕ) (k : ℕ) → is_far_at p layout k ≡ true
     → (seat_at p layout k).slot ≡ slot_address p layout (block_number p.spans k) (goal_address p layout k)
 unfolding seat_at
-slot-is p layout k far = cond_true (is_far_at p layout k) (slot_address p layout (block_number p.spans k) (goal_address p layout k)) 0 far
+slot-is p layout k far = cond-true (is_far_at p layout k) (slot_address p layout (block_number p.spans k) (goal_address p layout k)) 0 far
 
 module _ (laws : LawsBelow) where
   pub branch_to-length : (bits : Bits) (code : ℕ) (asize : Option Bits) (t : ℕ) → plain_length bits (branch_to code asize t) ≡ plain_length bits (branch_to code asize 0)

@@ -4,9 +4,7 @@ use Rattle.std.specs.Prelude.{IsSome, is_some, not, ◌&&◌}
 use Rattle.x86_values.specs.declared.Bits.{Bits}
 use Rattle.x86_values.specs.declared.Instr.{Instr}
 use Rattle.x86_values.specs.Wrapping.{width, wrapped}
-use Rattle.plain_spelling.specs.declared.NoSpelling.{NoSpelling}
 use Rattle.operand_info.specs.Operands.{near_value, first_value}
-use Rattle.encoder.specs.Encoding.{encoding}
 use Rattle.branch_sizes.specs.declared.plan.BlockSpan.{BlockSpan}
 use Rattle.branch_sizes.specs.declared.plan.Form.{Form}
 use Rattle.branch_sizes.specs.declared.plan.Form.TheVariants.{Itself}
@@ -21,20 +19,14 @@ use Rattle.move_goals.specs.Items.{AreSpansOf, ArePlaced, item_at}
 use Rattle.move_goals.specs.Goals.{is_in_block_of, begins_at, own_item, other_item, goal_among, goal_of_target, goal_of, goal_at}
 use Rattle.move_goals.specs.Plan.{plan_with, plan_for}
 use Rattle.move_layout.specs.Laid.{goal_value, goal_address, seat_at}
-use Rattle.block_encoder.specs.Bytes.{in_front, bytes_from}
+use Rattle.block_encoder.specs.Bytes.{bytes_from}
 use Rattle.block_encoder.specs.Moved.{seat_reach, IsReached, first_new_pass}
 use Rattle.block_encoder.specs.LawsBelow.{LawsBelow}
 use Rattle.block_encoder.proofs.NearFirst.{no_branch-no_near}
+use Rattle.block_encoder.proofs.Sweeping.{one_spelled}
 use Rattle.block_encoder.proofs.Inside.{width-most, image-within}
 use Rattle.block_encoder.proofs.Aimed.{spelled-below}
 use Rattle.block_encoder.proofs.Chosen.{plan-item, choice-is, choice-below, seat-length, seat-no_branch, seat-place, seat-image_length}
-
--- ---- the bytes of one instruction
-
-one_spelled : (bits : Bits) (at : ℕ) (i : Instr) (bytes : List ℕ) → encoding bits at i ≡ Ok bytes → IsSome (bytes_from bits at (i ∷ []))
-unfolding bytes_from
-one_spelled bits at i bytes h =
-    ap (λ (r : Result (List ℕ) NoSpelling). is_some (elim r as (λ (x : Result (List ℕ) NoSpelling). Option (List ℕ)) [ Ok b ↦ in_front b (Some []) | Err why ↦ None ])) h
 
 -- what is no relative branch is itself in each form, aimed at its goal
 other_image : (bits : Bits) (i : Instr) (form : Form) (at goal slot : ℕ) → branch_of i ≡ None → image_of bits i form at goal slot ≡ aimed goal i ∷ []

@@ -4,7 +4,6 @@ use Rattle.std.proofs.lemmas.Bool.{cases_lt, cond_both, ltb-false, ltb-true}
 use Rattle.std.proofs.lemmas.List.{append-nil, append_assoc, get_or_append_left, get_or_push}
 use Rattle.std.proofs.Math.Seq.{drop-append_seam, take-append_seam}
 use Rattle.x86_values.specs.declared.Bits.{Bits}
-use Rattle.x86_values.specs.declared.Bits.TheVariants.{B16, B32, B64}
 use Rattle.x86_values.specs.Wrapping.{width}
 use Rattle.branch_sizes.specs.declared.plan.Goal.{Goal}
 use Rattle.branch_sizes.specs.declared.plan.Goal.TheVariants.{None as NoGoal, Inside, Outside}
@@ -16,6 +15,7 @@ use Rattle.move_layout.specs.Laid.{IsLaid, is_far_at, goal_value, goal_address, 
 use Rattle.block_encoder.specs.Moved.{first_new_pass}
 use Rattle.block_encoder.specs.Written.{IsGoalAddress, IsSeatOf, first_end_past}
 use Rattle.block_encoder.specs.LawsBelow.{LawsBelow}
+use Rattle.block_encoder.proofs.Inside.{end_within, width-most}
 use Rattle.block_encoder.proofs.Writing.{flat_more}
 
 -- ---- ends
@@ -23,15 +23,6 @@ use Rattle.block_encoder.proofs.Writing.{flat_more}
 -- what a first number below a bound gives
 abbrev found : (ℕ → ℕ) → Option ℕ → Option ℕ
 found end o = elim o [ Some b ↦ Some (end b) | None ↦ None ]
-
-none_found : (end : ℕ → ℕ) (o : Option ℕ) → found end o ≡ None → o ≡ None
-none_found end None e = refl
-none_found end (Some b) e = absurd (cc)
-
-width_fits : (bits : Bits) → 2 ^ width bits ≤ 2 ^ 64
-width_fits B16 = omega arith
-width_fits B32 = omega arith
-width_fits B64 = omega arith
 
 some_found : (end last : ℕ → ℕ) (p : ℕ → Bool) (n : ℕ) (o : Option ℕ) → first_below p n ≡ o
     → ((k : ℕ) → k < n → end k ≡ last k) → ((k : ℕ) → first_below p n ≡ Some k → k < n) → found end o ≡ found last o
@@ -112,9 +103,7 @@ module _ (p : BlockPlan) (layout : List ℕ) (b : ℕ) (lt : b < length p.spans)
 module _ (laws : LawsBelow) where
   -- where none of some ends passes the address space each is at most 2 to the power of 64
   ends_fit : (bits : Bits) (end : ℕ → ℕ) (n : ℕ) → first_passing bits end n ≡ None → (b : ℕ) → b < n → end b ≤ 2 ^ 64
-  ends_fit bits end n none b lt =
-      let no = laws.firsts.none_below (λ k. passes bits (end k)) n (none_found end (first_below (λ k. passes bits (end k)) n) none) b lt in
-      omega (arith, ltb-false (2 ^ width bits) (end b) no, width_fits bits)
+  ends_fit bits end n none b lt = omega (arith, end_within laws bits end n none b lt, width-most bits)
 
   module _ (bits : Bits) (p : BlockPlan) (layout : List ℕ) (laid : Layout) (is : IsLaid p layout laid) where
     -- the kept ends are those of the layout

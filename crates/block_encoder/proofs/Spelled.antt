@@ -1,5 +1,6 @@
 -- The branches of images have plain spellings in 64-bit mode.
 use Rattle.std.proofs.Common.{◌≡◌, ℕ, ◌+◌, ◌^◌, ◌≤◌, ◌<◌, ◌⊎◌, inl, inr, Bool, true, false, ◌&&◌, List, Option, Some, None, Ok, nat_lt, slice_get, refl, ap, sym, ◌∙◌, arith}
+use Rattle.std.proofs.lemmas.Bool.{lt-ltb}
 use Rattle.x86_values.specs.declared.Bits.{Bits}
 use Rattle.x86_values.specs.declared.Bits.TheVariants.{B32, B64}
 use Rattle.x86_values.specs.declared.Instr.{Instr}
@@ -22,9 +23,6 @@ use Rattle.moved_targets.specs.Targets.{plain_length}
 use Rattle.branch_forms.specs.Images.{branch_to, through_slot}
 use Rattle.branch_forms.specs.Rows.{offset_row, memory_row}
 use Rattle.block_encoder.specs.LawsBelow.{LawsBelow}
-
-true_lt : (a b : ℕ) → a < b → nat_lt a b ≡ true
-true_lt a b h = grind (arith, h)
 
 only_first : (a b : Bool) → a ≡ true → b ≡ true → ((a && b) && (true && (true && true))) ≡ true
 only_first a b p q = rw (p, q) refl
@@ -55,7 +53,7 @@ short-suits map true opcode code asize t ip sized below near = record {
   addresses = refl;
   displacements = refl;
   immediates = refl;
-  targets = only_first (nat_lt t (2 ^ 64)) (is_extended_of 1 64 (distance B64 (plain_next B64 ip (offset_row map opcode Jb 22 B64) (branch_to code asize t)) t)) (true_lt t (2 ^ 64) below) near;
+  targets = only_first (nat_lt t (2 ^ 64)) (is_extended_of 1 64 (distance B64 (plain_next B64 ip (offset_row map opcode Jb 22 B64) (branch_to code asize t)) t)) (lt-ltb t (2 ^ 64) below) near;
   prefixes = refl;
   address_size = sized;
 }
@@ -66,7 +64,7 @@ short-suits map false opcode code asize t ip sized below near = record {
   addresses = refl;
   displacements = refl;
   immediates = refl;
-  targets = only_first (nat_lt t (2 ^ 64)) (is_extended_of 1 64 (distance B64 (plain_next B64 ip (offset_row map opcode Jb 20 B64) (branch_to code asize t)) t)) (true_lt t (2 ^ 64) below) near;
+  targets = only_first (nat_lt t (2 ^ 64)) (is_extended_of 1 64 (distance B64 (plain_next B64 ip (offset_row map opcode Jb 20 B64) (branch_to code asize t)) t)) (lt-ltb t (2 ^ 64) below) near;
   prefixes = refl;
   address_size = sized;
 }
@@ -82,7 +80,7 @@ near-suits map opcode code t ip below near = record {
   addresses = refl;
   displacements = refl;
   immediates = refl;
-  targets = only_first (nat_lt t (2 ^ 64)) (is_extended_of 4 64 (distance B64 (plain_next B64 ip (offset_row map opcode Jz 20 B64) (branch_to code None t)) t)) (true_lt t (2 ^ 64) below) near;
+  targets = only_first (nat_lt t (2 ^ 64)) (is_extended_of 4 64 (distance B64 (plain_next B64 ip (offset_row map opcode Jz 20 B64) (branch_to code None t)) t)) (lt-ltb t (2 ^ 64) below) near;
   prefixes = refl;
   address_size = refl;
 }
@@ -113,7 +111,7 @@ slot-suits digit code slot ip below near = record {
   kinds = refl;
   registers = refl;
   addresses = refl;
-  displacements = first_alone (nat_lt slot (2 ^ 64)) (true_lt slot (2 ^ 64) below);
+  displacements = first_alone (nat_lt slot (2 ^ 64)) (lt-ltb slot (2 ^ 64) below);
   immediates = refl;
   targets = first_alone (is_extended_of 4 64 (distance B64 (plain_next B64 ip (memory_row digit) (through_slot code slot)) slot)) near;
   prefixes = refl;

@@ -1,6 +1,7 @@
 -- Plain spellings that stand one behind another: joined, how long they are, and that the sweep of them gives the instructions.
 use Rattle.std.proofs.Common.{◌≡◌, ℕ, zero, suc, ◌+◌, ◌<◌, ◌≤◌, List, [], ◌∷◌, ◌++◌, length, Option, Some, None, Result, Ok, Err, slice_get, refl, ap, sym, ◌∙◌, subst, append_assoc, arith, length-append}
 use Rattle.std.specs.List.{flat_map, range_with_len}
+use Rattle.std.specs.Prelude.{IsSome, is_some}
 use Rattle.std.proofs.Math.Seq.{take-append_seam, drop-append_seam}
 use Rattle.x86_values.specs.declared.Bits.{Bits}
 use Rattle.x86_values.specs.declared.Instr.{Instr}
@@ -26,6 +27,12 @@ have_four-append [] js a b = b
 have_four-append (i ∷ is) js (a, more) b = (a, have_four-append is js more b)
 
 -- ---- one spelling
+
+-- an instruction with an encoding has its bytes
+pub one_spelled : (bits : Bits) (at : ℕ) (i : Instr) (bytes : List ℕ) → encoding bits at i ≡ Ok bytes → IsSome (bytes_from bits at (i ∷ []))
+unfolding bytes_from
+one_spelled bits at i bytes h =
+    ap (λ (r : Result (List ℕ) NoSpelling). is_some (elim r as (λ (x : Result (List ℕ) NoSpelling). Option (List ℕ)) [ Ok b ↦ in_front b (Some []) | Err why ↦ None ])) h
 
 -- an instruction without a row has none
 without_row : (bits : Bits) (at : ℕ) (i : Instr) → slice_get table i.code.0 ≡ None → Err cause.Row ≡ encoding bits at i
