@@ -1,10 +1,9 @@
 -- The places, goals and slots of moved items are addresses, since no block passes the address space.
 use Rattle.std.proofs.Common.{◌≡◌, ℕ, zero, suc, ◌+◌, ◌-◌, ◌^◌, ◌<◌, ◌≤◌, inl, inr, List, [], ◌∷◌, ◌++◌, length, get_or, take, drop, Bool, true, not, ◌&&◌, Option, Some, None, arith, add-zero, refl, sym, ap, ◌∙◌, length-append}
-use Rattle.std.proofs.lemmas.Bool.{cases_lt, cond_both, ltb-false, ltb-true}
+use Rattle.std.proofs.lemmas.Bool.{cases_lt, cond_both, ltb-true}
 use Rattle.std.proofs.lemmas.List.{append-nil, append_assoc, get_or_append_left, get_or_push}
 use Rattle.std.proofs.Math.Seq.{drop-append_seam, take-append_seam}
 use Rattle.x86_values.specs.declared.Bits.{Bits}
-use Rattle.x86_values.specs.Wrapping.{width}
 use Rattle.branch_sizes.specs.declared.plan.Goal.{Goal}
 use Rattle.branch_sizes.specs.declared.plan.Goal.TheVariants.{None as NoGoal, Inside, Outside}
 use Rattle.branch_sizes.specs.Plan.{BlockPlan, item_at, is_fit_goal, IsWellFormed}

@@ -15,7 +15,7 @@ use Rattle.row_fit.specs.Fits.{immediate_bytes}
 use Rattle.plain_spelling.specs.Values.{is_extended_of, distance}
 use Rattle.plain_spelling.specs.Forms.{is_variant_of, is_allowed_in}
 use Rattle.plain_spelling.specs.Addresses.{has_address_size, form_of, offers, form_offers, displacement_count, is_displacement, displacement_suits, is_shape, shape_suits, pointer_size, shown_size, written_size}
-use Rattle.plain_spelling.specs.PlainTail.{plain_size, plain_len, plain_next, plain_spelling}
+use Rattle.plain_spelling.specs.PlainTail.{plain_size, plain_next, plain_spelling}
 use Rattle.plain_spelling.specs.Expressible.{Suits, kind_suits, register_suits, address_suits, offered, immediate_suits, immediate_suits_how, near_reaches, address_reaches, target_suits, lock_suits, repeat_suits, prefixes_suit, has_memory_operand, told_size, size_agrees, is_size_of, address_size_suits}
 use Rattle.opcode_rows.specs.Table.{table}
 use Rattle.encoder.specs.Encoding.{encoding}

@@ -7,7 +7,7 @@ use Rattle.x86_values.specs.declared.Bits.{Bits}
 use Rattle.branch_sizes.specs.declared.plan.Branch.{Branch}
 use Rattle.branch_sizes.specs.declared.plan.Form.{Form}
 use Rattle.branch_sizes.specs.Plan.{BlockPlan, item_at, no_branch, IsWellFormed}
-use Rattle.branch_sizes.specs.Layout.{first_of_block, span_at, place, IsLeast}
+use Rattle.branch_sizes.specs.Layout.{first_of_block, span_at, place}
 use Rattle.move_goals.specs.declared.items.Placed.{Placed}
 use Rattle.move_goals.specs.Items.{item_at as instr_at}
 use Rattle.move_layout.specs.declared.layout.Seat.{Seat}
@@ -16,7 +16,7 @@ use Rattle.move_layout.specs.declared.layout.Layout.{Layout}
 use Rattle.move_layout.specs.Laid.{IsLaid, IsLaidLeast, goal_address, seat_at, slots_of, all_slots, images_end, no_seat, no_end}
 use Rattle.block_encoder.specs.declared.error.MoveError.{MoveError}
 use Rattle.block_encoder.specs.declared.error.MoveError.TheVariants.{Memory, TooMany, OldOrder, Wraps, TooFar}
-use Rattle.block_encoder.specs.Moved.{MovedLists, IsSeatReached, IsReached, IsFirstUnreached, AreListsOf, first_new_pass}
+use Rattle.block_encoder.specs.Moved.{MovedLists, IsSeatReached, IsReached, IsFirstUnreached}
 use Rattle.block_encoder.specs.ByPlan.{IsMovedBy, IsPlanAnswer}
 use Rattle.block_encoder.specs.Written.{IsItemWritten, IsSeatOf, gap_behind, first_end_past}
 use Rattle.block_encoder.specs.Bytes.{slot_bytes}

@@ -1,11 +1,10 @@
-use Rattle.std.proofs.Common.{◌≡◌, ◌+◌, ◌-◌, ◌<◌, ◌≤◌, Bool, ℕ, List, length, arith, sym, ap, ◌∙◌, unwrap_or}
+use Rattle.std.proofs.Common.{◌≡◌, ◌+◌, ◌-◌, Bool, ℕ, List, length, arith, sym, ap, ◌∙◌}
 use Rattle.branch_sizes.specs.declared.plan.Choice.{Choice}
 use Rattle.branch_sizes.specs.Layout.{total, image_length}
-use Rattle.moved_targets.specs.Targets.{target_of}
 use Rattle.move_goals.specs.Items.{item_at}
 use Rattle.move_goals.specs.Plan.{plan_outside}
 use Rattle.move_layout.specs.Laid.{is_far, with_goal, far_goals}
-use Rattle.block_encoder.specs.Last.{last_choice, last_layout, last_len}
+use Rattle.block_encoder.specs.Last.{last_choice, last_layout}
 use Rattle.block_encoder.proofs.LastForms.{images-next, goals-next, last-small, last-bound, last-is}
 use Rattle.block_encoder.proofs.last.last_len.Goals as goal
 
