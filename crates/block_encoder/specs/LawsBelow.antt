@@ -11,6 +11,7 @@ use Rattle.branch_forms.specs.Facts.{CodeFacts, PieceFacts, FormFacts}
 use Rattle.move_goals.specs.Facts.{FirstFacts, PlanFacts}
 use Rattle.move_layout.specs.Facts.{EndFacts, SlotFacts}
 
+-- the table, encodings, layouts, targets, forms and goals
 pub record LawsBelow : Type 0 where
   -- what holds of each row of each part holds of each row of the table
   pub rows : (test : Row → Bool) → ((part : Part) → IsTrue (list_all test (part_table part)))

@@ -25,6 +25,7 @@ pub record SuitsElsewhere (bits : Bits) (row : Row) (i : Instr) : Type 0 where
   pub prefixes : prefixes_suit row i ≡ true
   pub address_size : address_size_suits bits row i ≡ true
 
+-- plain spellings, where they stand and what they are aimed at
 pub record TargetFacts : Type 0 where
   -- the plain length is that of the plain spelling by the row of the code, which has a byte
   pub plain_length-row : (bits : Bits) (i : Instr) (row : Row) → slice_get table i.code.0 ≡ Some row → plain_length bits i ≡ plain_len bits row i
