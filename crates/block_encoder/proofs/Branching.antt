@@ -39,7 +39,7 @@ use Rattle.block_encoder.proofs.Inside.{end_within, image-within}
 use Rattle.block_encoder.proofs.Chosen.{is_own, plan-item, plan-count, choice-is, choice-below, seat-own}
 use Rattle.block_encoder.proofs.Reached.{goal-below}
 use Rattle.block_encoder.proofs.Going.{branched, slot-is}
-use Rattle.block_encoder.proofs.Counting.{near-below, counter-fits, mode-fits}
+use Rattle.block_encoder.proofs.Counting.{counter-fits, mode-fits}
 use Rattle.block_encoder.proofs.Formed.{sized, CountFits, IsSlotNear, form_fits, form-spelled}
 
 -- ---- the forms
@@ -286,15 +286,8 @@ module _ (laws : LawsBelow) where
         (among_reached p layout k c (own_item spans items k t) (other_item spans items k t) t
         (subst (λ (g : Goal). ReachesGoal p layout k c g) goal-among h))
 
-    goal-fits : goal_address (plan_for B64 spans items) layout k < 2 ^ 64
-    goal-fits =
-        let i = placed k lt in
-        goal-below laws B64 items spans s placed layout least.closed.is_layout inside k lt (λ u h.
-        let same : t ≡ u = let j : Some t ≡ Some u = sym target-is ∙ h in cc in
-        let below = near-below B64 (wrapped B64 (item_at items k).ip) i.bytes (item_at items k).instr t i.spelled near in
-        omega (arith, same, below))
-
     pub reached-in_64 : IsReached B64 items (plan_for B64 spans items) layout k
     reached-in_64 =
-        branch-reached-in_64 items spans (goal_at spans items) s placed few (laws.plans.well_formed B64 spans items placed few s) layout least inside k lt goal-reached goal-fits
+        branch-reached-in_64 items spans (goal_at spans items) s placed few (laws.plans.well_formed B64 spans items placed few s) layout least inside k lt goal-reached
+        (goal-below laws B64 items spans s placed layout least.closed.is_layout inside k lt)
         t near

@@ -3,7 +3,7 @@ use Rattle.std.proofs.Common.{◌≡◌, ℕ, ◌+◌, ◌^◌, ◌≤◌, ◌<�
 use Rattle.std.specs.Prelude.{IsSome, is_some}
 use Rattle.std.proofs.lemmas.Bool.{ltb-true}
 use Rattle.x86_values.specs.declared.Bits.{Bits}
-use Rattle.x86_values.specs.declared.Bits.TheVariants.{B16, B32, B64}
+use Rattle.x86_values.specs.declared.Bits.TheVariants.{B32, B64}
 use Rattle.x86_values.specs.declared.Instr.{Instr}
 use Rattle.x86_values.specs.Wrapping.{wrapped}
 use Rattle.row_types.specs.declared.Map.TheVariants.{One, M0f}
@@ -24,8 +24,6 @@ use Rattle.move_layout.specs.Laid.{is_far}
 use Rattle.block_encoder.specs.Bytes.{in_front, bytes_from}
 use Rattle.block_encoder.specs.LawsBelow.{LawsBelow}
 use Rattle.block_encoder.proofs.Sweeping.{one_spelled}
-use Rattle.block_encoder.proofs.Going.{short-length, skip-length, branch_to-length}
-use Rattle.block_encoder.proofs.Nearby.{reached, over-reached}
 use Rattle.block_encoder.proofs.Spelled.{IsEncoded, no_size, count_size, short-encoded, near-encoded, slot-encoded}
 
 -- a branch of 64-bit mode
@@ -63,10 +61,8 @@ is_counting _ = false
 
 -- ---- images
 
-pub wrapped-small : (bits : Bits) (n : ℕ) → wrapped bits n < 2 ^ 64
-wrapped-small B16 n = omega arith
-wrapped-small B32 n = omega arith
-wrapped-small B64 n = omega arith
+wrapped-small : (n : ℕ) → wrapped B64 n < 2 ^ 64
+wrapped-small n = omega arith
 
 -- a slot at a signed distance from the end of the image
 abbrev pub IsSlotNear : ℕ → ℕ → ℕ → Type 0
@@ -194,14 +190,14 @@ module _ (laws : LawsBelow) where
       let over = wrapped B64 (at + (one + two) + plain_length B64 last) in
       let size = short-size action short asize 0 range counts in
       let skips = skip-size 0 in
-      let len1 : plain_length B64 (short_branch b asize onto) ≡ one = short-length laws B64 b asize onto in
-      let len2 : plain_length B64 (skip B64 over) ≡ two = skip-length laws B64 over in
+      let len1 : plain_length B64 (short_branch b asize onto) ≡ one = laws.pieces.short-length B64 b asize onto in
+      let len2 : plain_length B64 (skip B64 over) ≡ two = laws.pieces.skip-length B64 over in
       let near1 : IsNear 1 at one onto =
-      subst (λ (n : ℕ). IsNear 1 at one (wrapped B64 n)) (omega arith) (over-reached at one two (omega (arith, size)) (omega (arith, within)) (omega (arith, skips))) in
+      subst (λ (n : ℕ). IsNear 1 at one (wrapped B64 n)) (omega arith) (laws.distances.over-reached at one two (omega (arith, size)) (omega (arith, within)) (omega (arith, skips))) in
       let near2 : IsNear 1 (at + one) two over =
-      subst (λ (n : ℕ). IsNear 1 (at + one) two (wrapped B64 n)) (omega arith) (over-reached (at + one) two (plain_length B64 last) (omega (arith, skips)) (omega (arith, within)) few) in
-      let first = short-piece action short asize onto at range counts (wrapped-small B64 (at + (one + two))) (subst (λ (n : ℕ). IsNear 1 at n onto) (sym len1) near1) in
-      let second = skip-piece over (at + one) (wrapped-small B64 (at + (one + two) + plain_length B64 last)) (subst (λ (n : ℕ). IsNear 1 (at + one) n over) (sym len2) near2) in
+      subst (λ (n : ℕ). IsNear 1 (at + one) two (wrapped B64 n)) (omega arith) (laws.distances.over-reached (at + one) two (plain_length B64 last) (omega (arith, skips)) (omega (arith, within)) few) in
+      let first = short-piece action short asize onto at range counts (wrapped-small (at + (one + two))) (subst (λ (n : ℕ). IsNear 1 at n onto) (sym len1) near1) in
+      let second = skip-piece over (at + one) (wrapped-small (at + (one + two) + plain_length B64 last)) (subst (λ (n : ℕ). IsNear 1 (at + one) n over) (sym len2) near2) in
       let third : IsSome (bytes_from B64 (at + one + two) (last ∷ [])) =
       subst (λ (n : ℕ). IsSome (bytes_from B64 n (last ∷ []))) (omega arith) (one-some (at + (one + two)) last e) in
       let rest : IsSome (bytes_from B64 (at + one) (skip B64 over ∷ last ∷ [])) =
@@ -217,11 +213,11 @@ module _ (laws : LawsBelow) where
   far-spelled Jump short at slot h range within (below, low, high) =
       let len = laws.pieces.slot_jump-length B64 slot in
       one-some at (through_slot (far_code Jump) slot)
-      (jump-piece slot at below (reached 4 (2 ^ 31) refl (omega arith) at (plain_length B64 (through_slot (far_code Jump) slot)) slot (omega (arith, len)) (omega (arith, within)) below (omega (arith, low), omega (arith, high))))
+      (jump-piece slot at below (laws.distances.reached 4 (2 ^ 31) refl (omega arith) at (plain_length B64 (through_slot (far_code Jump) slot)) slot (omega (arith, len)) (omega (arith, within)) below (omega (arith, low), omega (arith, high))))
   far-spelled Call short at slot h range within (below, low, high) =
       let len = laws.pieces.slot_call-length B64 slot in
       one-some at (through_slot (far_code Call) slot)
-      (call-piece slot at below (reached 4 (2 ^ 31) refl (omega arith) at (plain_length B64 (through_slot (far_code Call) slot)) slot (omega (arith, len)) (omega (arith, within)) below (omega (arith, low), omega (arith, high))))
+      (call-piece slot at below (laws.distances.reached 4 (2 ^ 31) refl (omega arith) at (plain_length B64 (through_slot (far_code Call) slot)) slot (omega (arith, len)) (omega (arith, within)) below (omega (arith, low), omega (arith, high))))
   far-spelled (Condition n) short at slot h range within (below, low, high) =
       let lt = laws.pieces.inverted-small n (ltb-true n 16 range) in
       let code = short_code (Condition (inverted n)) B64 in
@@ -230,13 +226,13 @@ module _ (laws : LawsBelow) where
       let one = plain_length B64 (branch_to code None 0) in
       let over = wrapped B64 (at + one + plain_length B64 last) in
       let long = laws.pieces.short_condition-length B64 B64 (inverted n) lt 0 in
-      let same = branch_to-length laws B64 code None over in
-      let near = over-reached at one (plain_length B64 last) (omega (arith, long)) (omega (arith, within, same)) (omega (arith, len)) in
+      let same = laws.pieces.branch_to-length B64 code None over in
+      let near = laws.distances.over-reached at one (plain_length B64 last) (omega (arith, long)) (omega (arith, within, same)) (omega (arith, len)) in
       let first = short-encoded laws One false (0x70 + inverted n) code None over at (laws.codes.short-condition (inverted n) B64 lt) (no_size One (0x70 + inverted n) code over)
-      (omega (arith, long, same)) (wrapped-small B64 (at + one + plain_length B64 last)) (subst (λ (n : ℕ). IsNear 1 at n over) (sym same) near) in
+      (omega (arith, long, same)) (wrapped-small (at + one + plain_length B64 last)) (subst (λ (n : ℕ). IsNear 1 at n over) (sym same) near) in
       let at_last = at + plain_length B64 (branch_to code None over) in
       more-some at (branch_to code None over) (last ∷ []) first
-      (one-some at_last last (jump-piece slot at_last below (reached 4 (2 ^ 31) refl (omega arith) at_last (plain_length B64 last) slot (omega (arith, len)) (omega (arith, within)) below (omega (arith, low), omega (arith, high)))))
+      (one-some at_last last (jump-piece slot at_last below (laws.distances.reached 4 (2 ^ 31) refl (omega arith) at_last (plain_length B64 last) slot (omega (arith, len)) (omega (arith, within)) below (omega (arith, low), omega (arith, high)))))
   far-spelled (Count n) short at slot h range within near = cc
 
   -- the length of a bridge
@@ -244,7 +240,7 @@ module _ (laws : LawsBelow) where
   unfolding bridge bridge_inner
   bridge-size b asize at last =
       let inner = plain_length B64 (short_branch b asize 0) + plain_length B64 (skip B64 0) in
-      omega (arith, short-length laws B64 b asize (wrapped B64 (at + inner)), skip-length laws B64 (wrapped B64 (at + inner + plain_length B64 last)))
+      omega (arith, laws.pieces.short-length B64 b asize (wrapped B64 (at + inner)), laws.pieces.skip-length B64 (wrapped B64 (at + inner + plain_length B64 last)))
 
   jump-near : (action : Action) (short : Bool) (goal at : ℕ) → goal < 2 ^ 64 → IsNear 4 at (plain_length B64 (bridge_jump (sized action short) goal)) goal → IsEncoded at (bridge_jump (sized action short) goal)
   unfolding bridge_jump
@@ -266,7 +262,7 @@ module _ (laws : LawsBelow) where
       let long = jump-size action short goal in
       let at_last = at + bridge_inner B64 b i.asize in
       let e = jump-near action short goal at_last below
-      (reached 4 (2 ^ 31) refl (omega arith) at_last (plain_length B64 last) goal (omega (arith, long)) (omega (arith, within, size)) below
+      (laws.distances.reached 4 (2 ^ 31) refl (omega arith) at_last (plain_length B64 last) goal (omega (arith, long)) (omega (arith, within, size)) below
       (omega (arith, reach.0, size), omega (arith, reach.1, size))) in
       bridge-spelled action short i.asize at last range counts (omega (arith, long)) (omega (arith, within, size)) e
 
@@ -281,7 +277,7 @@ module _ (laws : LawsBelow) where
       let long = laws.pieces.slot_jump-length B64 slot in
       let at_last = at + bridge_inner B64 b i.asize in
       let e = jump-piece slot at_last below
-      (reached 4 (2 ^ 31) refl (omega arith) at_last (plain_length B64 last) slot (omega (arith, long)) (omega (arith, within, size)) below
+      (laws.distances.reached 4 (2 ^ 31) refl (omega arith) at_last (plain_length B64 last) slot (omega (arith, long)) (omega (arith, within, size)) below
       (omega (arith, low, size), omega (arith, high, size))) in
       bridge-spelled action short i.asize at last range counts (omega (arith, long)) (omega (arith, within, size)) e
 
@@ -306,14 +302,14 @@ module _ (laws : LawsBelow) where
       let len = plain_length B64 (short_branch b i.asize goal) in
       one-some at (short_branch b i.asize goal)
       (short-piece action short i.asize goal at ranged counts below
-      (reached 1 128 refl (omega arith) at len goal (omega (arith, size)) (omega (arith, within)) below (omega (arith, reach.0), omega (arith, reach.1))))
+      (laws.distances.reached 1 128 refl (omega arith) at len goal (omega (arith, size)) (omega (arith, within)) below (omega (arith, reach.0), omega (arith, reach.1))))
   form-spelled i action short NearForm at goal slot range counts fits within below reach far =
       let none = no_near_count action short fits in
       let size = near-size action short goal none range in
       let len = plain_length B64 (branch_to (near_code action B64) None goal) in
       one-some at (branch_to (near_code action B64) None goal)
       (near-piece action short goal at none range below
-      (reached 4 (2 ^ 31) refl (omega arith) at len goal (omega (arith, size)) (omega (arith, within)) below (omega (arith, reach.0), omega (arith, reach.1))))
+      (laws.distances.reached 4 (2 ^ 31) refl (omega arith) at len goal (omega (arith, size)) (omega (arith, within)) below (omega (arith, reach.0), omega (arith, reach.1))))
   form-spelled i action short Far at goal slot range counts fits within below reach far =
       far-spelled action short at slot (no_far_count action short fits) range within (far refl)
   form-spelled i action short Bridge at goal slot range counts fits within below reach far =

@@ -13,7 +13,7 @@ use Rattle.branch_sizes.specs.declared.plan.Form.{Form}
 use Rattle.branch_sizes.specs.declared.plan.Form.TheVariants.{Itself, Short, Near as NearForm, Far, Bridge, FarBridge}
 use Rattle.branch_sizes.specs.Plan.{BlockPlan}
 use Rattle.branch_sizes.specs.Layout.{IsLayout, block_number, chosen, place}
-use Rattle.moved_targets.specs.Targets.{target_of, aimed, aimed_operand, plain_length}
+use Rattle.moved_targets.specs.Targets.{target_of, aimed, plain_length}
 use Rattle.branch_forms.specs.declared.branch.Action.{Action}
 use Rattle.branch_forms.specs.declared.branch.Action.TheVariants.{Jump, Call, Condition, Count}
 use Rattle.branch_forms.specs.declared.branch.RelativeBranch.{RelativeBranch}
@@ -28,7 +28,6 @@ use Rattle.block_encoder.specs.Bytes.{image_at}
 use Rattle.block_encoder.specs.Aims.{last_instr}
 use Rattle.block_encoder.specs.LawsBelow.{LawsBelow}
 use Rattle.block_encoder.proofs.Pieces.{spelled-four}
-use Rattle.block_encoder.proofs.NearFirst.{no_branch-no_near}
 use Rattle.block_encoder.proofs.Chosen.{is_own, seat-own}
 
 -- ---- single instructions
@@ -117,18 +116,6 @@ unfolding seat_at
 slot-is p layout k far = cond-true (is_far_at p layout k) (slot_address p layout (block_number p.spans k) (goal_address p layout k)) 0 far
 
 module _ (laws : LawsBelow) where
-  pub branch_to-length : (bits : Bits) (code : ℕ) (asize : Option Bits) (t : ℕ) → plain_length bits (branch_to code asize t) ≡ plain_length bits (branch_to code asize 0)
-  unfolding branch_to aimed aimed_operand
-  branch_to-length bits code asize t = laws.targets.aimed-length bits t (branch_to code asize 0)
-
-  pub short-length : (bits : Bits) (b : RelativeBranch) (asize : Option Bits) (t : ℕ) → plain_length bits (short_branch b asize t) ≡ plain_length bits (short_branch b asize 0)
-  unfolding short_branch
-  short-length bits b asize t = branch_to-length bits (short_code b.action b.size) (counter_size b.action asize) t
-
-  pub skip-length : (bits : Bits) (t : ℕ) → plain_length bits (skip bits t) ≡ plain_length bits (skip bits 0)
-  unfolding skip
-  skip-length bits t = branch_to-length bits (short_code Jump bits) None t
-
   bridge-over : (bits : Bits) (b : RelativeBranch) (asize : Option Bits) (at : ℕ) (last : Instr) (n : ℕ) → n + 1 < length (bridge bits b asize at last) → GoesOver bits at (bridge bits b asize at last) n
   unfolding bridge bridge_inner
   bridge-over bits b asize at last zero lt =
@@ -136,13 +123,13 @@ module _ (laws : LawsBelow) where
       let onto = wrapped bits (at + inner) in
       let over = wrapped bits (at + inner + plain_length bits last) in
       near-short b asize onto
-      ∙ ap (λ (m : ℕ). Some (wrapped bits m)) (omega (arith, short-length bits b asize onto, skip-length bits over))
+      ∙ ap (λ (m : ℕ). Some (wrapped bits m)) (omega (arith, laws.pieces.short-length bits b asize onto, laws.pieces.skip-length bits over))
   bridge-over bits b asize at last (suc zero) lt =
       let inner = plain_length bits (short_branch b asize 0) + plain_length bits (skip bits 0) in
       let onto = wrapped bits (at + inner) in
       let over = wrapped bits (at + inner + plain_length bits last) in
       near-skip bits over
-      ∙ ap (λ (m : ℕ). Some (wrapped bits m)) (omega (arith, short-length bits b asize onto, skip-length bits over))
+      ∙ ap (λ (m : ℕ). Some (wrapped bits m)) (omega (arith, laws.pieces.short-length bits b asize onto, laws.pieces.skip-length bits over))
   bridge-over bits b asize at last (suc (suc n)) lt = absurd (omega arith)
 
   far-over : (bits : Bits) (b : RelativeBranch) (at : ℕ) (action : Action) (slot n : ℕ) → n + 1 < length (far_image bits b at action slot) → GoesOver bits at (far_image bits b at action slot) n
@@ -154,7 +141,7 @@ module _ (laws : LawsBelow) where
       let code = short_code (Condition (inverted c)) b.size in
       let over = wrapped bits (at + plain_length bits (branch_to code None 0) + plain_length bits (through_slot (far_code Jump) slot)) in
       near-branch_to code None over
-      ∙ ap (λ (m : ℕ). Some (wrapped bits m)) (omega (arith, branch_to-length bits code None over))
+      ∙ ap (λ (m : ℕ). Some (wrapped bits m)) (omega (arith, laws.pieces.branch_to-length bits code None over))
   far-over bits b at (Condition c) slot (suc n) lt = absurd (omega arith)
 
   branch-over : (bits : Bits) (i : Instr) (b : RelativeBranch) (form : Form) (at goal slot n : ℕ) → n + 1 < length (branch_image bits i b form at goal slot) → GoesOver bits at (branch_image bits i b form at goal slot) n
@@ -179,7 +166,7 @@ module _ (laws : LawsBelow) where
   branched bits ip bytes i t s h = by_branch (branch_of i) refl
     where
       by_branch : (o : Option RelativeBranch) → branch_of i ≡ o → (b : RelativeBranch) × (branch_of i ≡ Some b)
-      by_branch None e = let k = no_branch-no_near laws bits ip bytes i s e in cc
+      by_branch None e = let k = laws.forms.no_branch-no_near bits ip bytes i s e in cc
       by_branch (Some b) e = (b, e)
 
   -- **what has no target stays as it is**

@@ -4,7 +4,6 @@ use Rattle.std.specs.Prelude.{IsSome, not, ◌&&◌}
 use Rattle.x86_values.specs.declared.Bits.{Bits}
 use Rattle.x86_values.specs.declared.Instr.{Instr}
 use Rattle.x86_values.specs.Wrapping.{width, wrapped}
-use Rattle.operand_info.specs.Operands.{near_value, first_value}
 use Rattle.branch_sizes.specs.declared.plan.BlockSpan.{BlockSpan}
 use Rattle.branch_sizes.specs.declared.plan.Form.{Form}
 use Rattle.branch_sizes.specs.declared.plan.Form.TheVariants.{Itself}
@@ -22,10 +21,8 @@ use Rattle.move_layout.specs.Laid.{goal_value, goal_address, seat_at}
 use Rattle.block_encoder.specs.Bytes.{bytes_from}
 use Rattle.block_encoder.specs.Moved.{seat_reach, IsReached, first_new_pass}
 use Rattle.block_encoder.specs.LawsBelow.{LawsBelow}
-use Rattle.block_encoder.proofs.NearFirst.{no_branch-no_near}
 use Rattle.block_encoder.proofs.Sweeping.{one_spelled}
 use Rattle.block_encoder.proofs.Inside.{width-most, image-within}
-use Rattle.block_encoder.proofs.Aimed.{spelled-below}
 use Rattle.block_encoder.proofs.Chosen.{plan-item, choice-is, choice-below, seat-length, seat-no_branch, seat-place, seat-image_length}
 
 -- what is no relative branch is itself in each form, aimed at its goal
@@ -73,16 +70,13 @@ module _ (laws : LawsBelow) where
       by_target None h = omega arith
       by_target (Some t) h = target_below k t (h t refl)
 
-      -- **the goal of an address is an address**
-      pub goal-below : ((t : ℕ) → target_of (item_at items k).instr ≡ Some t → t < 2 ^ 64) → goal_address (plan_for bits spans items) layout k < 2 ^ 64
-      goal-below below =
-          subst (λ b. goal_value (plan_for bits spans items) layout b.goal < 2 ^ 64) (sym (plan-item bits spans items (goal_at spans items) k lt))
-          (by_target (target_of (item_at items k).instr) below)
-
-      goal_below : first_value near_value (item_at items k).instr ≡ None → goal_address (plan_for bits spans items) layout k < 2 ^ 64
-      goal_below none =
+      -- **its goal is an address**
+      pub goal-below : goal_address (plan_for bits spans items) layout k < 2 ^ 64
+      goal-below =
           let i = placed k lt in
-          goal-below (λ t e. spelled-below laws bits (wrapped bits (item_at items k).ip) i.bytes (item_at items k).instr t i.spelled none e)
+          subst (λ b. goal_value (plan_for bits spans items) layout b.goal < 2 ^ 64) (sym (plan-item bits spans items (goal_at spans items) k lt))
+          (by_target (target_of (item_at items k).instr)
+          (λ t e. laws.targets.target-below bits (wrapped bits (item_at items k).ip) i.bytes (item_at items k).instr t i.spelled e))
 
       seat_goal : (seat_at (plan_for bits spans items) layout k).goal ≡ goal_address (plan_for bits spans items) layout k
       unfolding seat_at
@@ -98,7 +92,7 @@ module _ (laws : LawsBelow) where
           let i = placed k lt in
           let old = wrapped bits (item_at items k).ip in
           let no_branch = seat-no_branch bits spans items (goal_at spans items) layout l k lt own in
-          let none = no_branch-no_near laws bits old i.bytes instr i.spelled no_branch in
+          let none = laws.forms.no_branch-no_near bits old i.bytes instr i.spelled no_branch in
           let len : seat.len ≡ plain_length bits instr = seat-length bits spans items (goal_at spans items) layout l k lt ∙ laws.forms.other-length bits instr seat.form no_branch in
           let target : Reaches (target_reach instr) seat.len seat.place seat.goal =
           subst (λ (form : Form). Reaches (seat_reach instr form seat.reach) seat.len seat.place seat.goal) own reaches in
@@ -106,7 +100,7 @@ module _ (laws : LawsBelow) where
           subst (λ (n : ℕ). Reaches (target_reach instr) n seat.place seat.goal) len target in
           let within : seat.place + plain_length bits instr ≤ 2 ^ width bits =
           omega (arith, len, ends k lt, seat-place bits spans items (goal_at spans items) layout l k lt, seat-image_length bits spans items (goal_at spans items) layout l k lt) in
-          let below : seat.goal < 2 ^ 64 = omega (arith, seat_goal, goal_below none) in
+          let below : seat.goal < 2 ^ 64 = omega (arith, seat_goal, goal-below) in
           let e = laws.targets.encoded-elsewhere bits old seat.place seat.goal i.bytes instr i.spelled none there within below in (
             reaches,
             subst (λ (is : List Instr). IsSome (bytes_from bits seat.place is)) (sym (other_image bits instr seat.form seat.place seat.goal seat.slot no_branch))

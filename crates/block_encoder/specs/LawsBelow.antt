@@ -6,7 +6,7 @@ use Rattle.opcode_rows.specs.declared.spots.Part.{Part}
 use Rattle.opcode_rows.specs.Table.{part_table, table}
 use Rattle.encoder.specs.Facts.{EncodingFacts}
 use Rattle.branch_sizes.specs.Facts.{BlockFacts, LengthFacts, TotalFacts}
-use Rattle.moved_targets.specs.Facts.{TargetFacts}
+use Rattle.moved_targets.specs.Facts.{DistanceFacts, TargetFacts}
 use Rattle.branch_forms.specs.Facts.{CodeFacts, PieceFacts, FormFacts}
 use Rattle.move_goals.specs.Facts.{FirstFacts, PlanFacts}
 use Rattle.move_layout.specs.Facts.{EndFacts, SlotFacts}
@@ -20,6 +20,7 @@ pub record LawsBelow : Type 0 where
   pub blocks : BlockFacts
   pub lengths : LengthFacts
   pub totals : TotalFacts
+  pub distances : DistanceFacts
   pub targets : TargetFacts
   pub codes : CodeFacts
   pub pieces : PieceFacts

@@ -1,5 +1,4 @@
 use Rattle.block_encoder.proofs.Branching.{branch-reached-in_64}
-use Rattle.block_encoder.proofs.Nearby.{signed}
 use Rattle.block_encoder.proofs.Spelled.{near-encoded}
 use Rattle.block_encoder.proofs.laws.items_reach_their_goals.Goals as goal
 
@@ -9,5 +8,5 @@ returns c = record {
   reached-in_64 = c.branches_reach_in_64_bit_mode.ensures;
   branch-reached-in_64 = branch-reached-in_64 c.laws_below.ensures;
   near-encoded = near-encoded c.laws_below.ensures;
-  signed = signed;
+  signed = c.laws_below.ensures.distances.signed;
 }

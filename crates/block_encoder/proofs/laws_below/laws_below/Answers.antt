@@ -7,6 +7,7 @@ returns c = record {
   blocks = c.blocks_have_all_items.ensures;
   lengths = c.images_are_short.ensures;
   totals = c.totals_rise.ensures;
+  distances = c.near_addresses_are_reached.ensures;
   targets = c.spellings_are_moved.ensures;
   codes = c.codes_have_their_rows.ensures;
   pieces = c.pieces_have_their_lengths.ensures;
