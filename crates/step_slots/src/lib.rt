@@ -4,6 +4,7 @@
 
 mod block;
 mod commands;
+mod laws_below;
 #[cfg(test)]
 mod model_tests;
 mod order;
