@@ -80,23 +80,20 @@ last_reaches (Condition n) false asize f len at g h = rw (second f h) tt
 
 -- ---- goals
 
+-- an item of the same block or of another one is reached where it stands
+inside_reached : (p : BlockPlan) (layout : List ℕ) (k : ℕ) (c : Choice) (j : ℕ) (same : Bool)
+    → MatchBool same (Reaches c.reach c.len (place p layout k) (place p layout j))
+    (ReachesFromBoth c (place p layout k) (place p (first_layout p) k) (place p layout j)
+    × ReachesFromBoth c (place p layout k) (place p (first_layout p) k) (place p (first_layout p) j))
+    → Reaches c.reach c.len (place p layout k) (place p layout j)
+inside_reached p layout k c j true h = h
+inside_reached p layout k c j false h = h.0.0
+
 -- an item or an address is a goal that is reached
 among_reached : (p : BlockPlan) (layout : List ℕ) (k : ℕ) (c : Choice) (own other : Option ℕ) (t : ℕ) → ReachesGoal p layout k c (goal_among own other t)
     → Reaches c.reach c.len (place p layout k) (goal_value p layout (goal_among own other t))
-among_reached p layout k c (Some j) other t h = inside_reached (block_number p.spans j == block_number p.spans k) h
-  where
-    inside_reached : (same : Bool) → MatchBool same (Reaches c.reach c.len (place p layout k) (place p layout j))
-        (ReachesFromBoth c (place p layout k) (place p (first_layout p) k) (place p layout j)
-        × ReachesFromBoth c (place p layout k) (place p (first_layout p) k) (place p (first_layout p) j)) → Reaches c.reach c.len (place p layout k) (place p layout j)
-    inside_reached true h = h
-    inside_reached false h = h.0.0
-among_reached p layout k c None (Some j) t h = inside_reached (block_number p.spans j == block_number p.spans k) h
-  where
-    inside_reached : (same : Bool) → MatchBool same (Reaches c.reach c.len (place p layout k) (place p layout j))
-        (ReachesFromBoth c (place p layout k) (place p (first_layout p) k) (place p layout j)
-        × ReachesFromBoth c (place p layout k) (place p (first_layout p) k) (place p (first_layout p) j)) → Reaches c.reach c.len (place p layout k) (place p layout j)
-    inside_reached true h = h
-    inside_reached false h = h.0.0
+among_reached p layout k c (Some j) other t h = inside_reached p layout k c j (block_number p.spans j == block_number p.spans k) h
+among_reached p layout k c None (Some j) t h = inside_reached p layout k c j (block_number p.spans j == block_number p.spans k) h
 among_reached p layout k c None None t h = h.0
 
 -- what a branch reaches is what its form reaches
