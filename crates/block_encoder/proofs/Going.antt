@@ -116,6 +116,8 @@ unfolding seat_at
 slot-is p layout k far = cond-true (is_far_at p layout k) (slot_address p layout (block_number p.spans k) (goal_address p layout k)) 0 far
 
 module _ (laws : LawsBelow) where
+  -- ---- over the next one
+
   bridge-over : (bits : Bits) (b : RelativeBranch) (asize : Option Bits) (at : ℕ) (last : Instr) (n : ℕ) → n + 1 < length (bridge bits b asize at last) → GoesOver bits at (bridge bits b asize at last) n
   unfolding bridge bridge_inner
   bridge-over bits b asize at last zero lt =
@@ -161,6 +163,8 @@ module _ (laws : LawsBelow) where
   unfolding image_of
   image-over bits i form at goal slot n lt = by-over bits i (branch_of i) form at goal slot n lt
 
+  -- ---- what is spelled
+
   -- with a near target what is spelled is one
   pub branched : (bits : Bits) (ip : ℕ) (bytes : List ℕ) (i : Instr) (t : ℕ) → Spells table bits ip bytes i → first_value near_value i ≡ Some t → (b : RelativeBranch) × (branch_of i ≡ Some b)
   branched bits ip bytes i t s h = by_branch (branch_of i) refl
@@ -174,6 +178,8 @@ module _ (laws : LawsBelow) where
       → image_of bits i form place goal slot ≡ i ∷ []
   untargeted-image bits i form place goal slot four none =
       image-address bits i form place goal slot (no_near i none) ∙ ap (λ (x : Instr). x ∷ []) (laws.targets.untargeted-aimed goal i four none)
+
+  -- ---- moved items
 
   module _ (bits : Bits) (items : List Placed) (spans : List BlockSpan) (layout : List ℕ) (k : ℕ) where
     -- the image, by the parts of the seat
