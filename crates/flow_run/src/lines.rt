@@ -13,6 +13,7 @@ use byte_ports::{Failed, Sink};
 use decoder::DecodeError;
 use flow_graph::FlowGraph;
 use operand_info::Flow;
+use run_parts::laws::held_texts_arrive;
 use run_parts::{make_room, put_all};
 use sweep_text::{Chunk, append, append_address, flow_name};
 use x86_values::Bits;
@@ -92,6 +93,7 @@ pub fn write_flow<K: Sink>(
         → WritesFlowFront bits base bytes (K.held out.old) (K.held out.new)) }
     ensures cause { HasCause (K.faults out.old) (K.faults out.new) result }
 {
+    held_texts_arrive();
     let starts = graph.starts();
     let leaders = graph.leaders();
     let flows = graph.flows();

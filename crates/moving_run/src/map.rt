@@ -9,6 +9,7 @@ ghost use Rattle.moving_run.specs.Map as spec;
 use branch_sizes::Form;
 use byte_ports::{Failed, Sink};
 use move_goals::Placed;
+use run_parts::laws::held_texts_arrive;
 use run_parts::{make_room, put_all};
 use sweep_text::{Chunk, append, append_address};
 use x86_values::Bits;
@@ -75,6 +76,7 @@ pub fn write_map<K: Sink>(
     ensures err { OnErr result (HoldsFront (K.held out.old) (K.held out.new) (spec.map_lines bits items.now starts.now forms.now (length items.now))) }
     ensures cause { HasCause (K.faults out.old) (K.faults out.new) result }
 {
+    held_texts_arrive();
     let mut pending = Chunk::new();
     for k in 0..items.len() {
         write_map_line(bits, items[k].ip, starts[k], forms[k], &mut pending, out)?;

@@ -4,3 +4,4 @@ pub mod Stepping
 pub mod Running
 pub mod Holding
 pub mod Keeping
+pub mod Facts

@@ -4,6 +4,7 @@
 
 mod block;
 mod commands;
+pub mod laws;
 #[cfg(test)]
 mod model_tests;
 mod order;

@@ -7,6 +7,7 @@ ghost use Rattle.sweep.specs.Steps.{TakesStep, HandlesItems, HandlesFront};
 
 use byte_ports::{Failed, Sink};
 use decoder::DecodeError;
+use run_parts::laws::held_texts_arrive;
 use run_parts::{make_room, put_all};
 use sweep_text::{Chunk, Lines, append_line, item_len, read_at, stop_of};
 use x86_values::Bits;
@@ -86,6 +87,7 @@ pub(crate) fn write_ready<K: Sink>(
     ensures err { OnErr result (HandlesFront bits base lines at bytes.now (K.held out.old) (K.held out.new)) }
     ensures cause { HasCause (K.faults out.old) (K.faults out.new) result }
 {
+    held_texts_arrive();
     let mut pending = Chunk::new();
     let mut used = 0;
     let mut count = 0;

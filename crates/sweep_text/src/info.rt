@@ -8,6 +8,7 @@ ghost use Rattle.sweep_text.specs.Info as spec;
 use itoa::Buffer;
 use opcode_rows::ROWS;
 use operand_info::{Access, Flow, access_of, flow_of, ip_operand, memory_size, near_target};
+use text_parts::laws::numbers_are_short;
 use text_parts::numbers::append_number;
 use text_parts::prefix_words::has_memory;
 use text_parts::style::Style;
@@ -86,13 +87,14 @@ fn append_memory(out: &mut Text, instr: &Instr)
 }
 
 /// Appends an address behind a sign, where there is one.
-#[tactic(auto, using(crate::proofs::Lengths::number_fits), unfolding(crate::specs::Info::address_word))]
+#[tactic(auto, unfolding(crate::specs::Info::address_word))]
 fn append_address_word(out: &mut Text, sign: &[u8], address: Option<u64>)
     requires sign { length sign.now ≤ 4 }
     requires room { array_vec_len out.old + 22 ≤ 160 }
     ensures items { out.new.items ≡ out.old.items ++ spec.address_word sign.now address }
     ensures len { array_vec_len out.new ≤ array_vec_len out.old + 22 }
 {
+    numbers_are_short();
     if let Some(address) = address {
         append(out, sign);
         append_number(out, Style::Intel, address);

@@ -13,6 +13,7 @@ use crate::line::{Chunk, append, append_address, append_item_line};
 use crate::recode::recode_text;
 use crate::syntax::Syntax;
 use decoder::DecodeError;
+use operand_info::laws::well_formed_codes_are_in_the_table;
 use x86_values::{Bits, Decoded, Instr};
 
 /// What a command writes of the items of a sweep, a line each.
@@ -60,12 +61,12 @@ fn append_instr_line(out: &mut Chunk, bits: Bits, base: u64, offset: usize, told
 /// Appends the line of an instruction with what it does. It is not made part of its caller, which would set aside the places of
 /// its texts for each line of a listing too.
 #[inline(never)]
-#[tactic(auto, using(operand_info::proofs::Uses::code_in_table))]
 fn append_info_line(out: &mut Chunk, bits: Bits, base: u64, offset: usize, instr: &Instr)
     requires well { IsTrue (is_well_formed instr.now) }
     requires room { array_vec_len out.old + 209 ≤ 16384 }
     ensures { out.new.items ≡ out.old.items ++ spec.instr_line bits base offset (info_text instr.now) }
 {
+    well_formed_codes_are_in_the_table();
     append_instr_line(out, bits, base, offset, &info_text(instr));
 }
 

@@ -6,6 +6,7 @@ ghost use Rattle.opcode_rows.specs.Allowed.{is_well_formed};
 ghost use Rattle.sweep_text.specs.Listing as spec;
 
 use crate::line::{Chunk, append as append_all};
+use text_parts::laws::numbers_are_short;
 use text_parts::numbers::append_number;
 use text_parts::style::Style;
 use text_parts::text::{Text, append};
@@ -48,10 +49,11 @@ fn byte_directive(syntax: Syntax) -> &'static [u8]
 }
 
 /// The text of a byte at which no instruction is read.
-#[tactic(auto, using(crate::proofs::Lengths::number_fits), unfolding(crate::specs::Listing::single_byte_text))]
+#[tactic(auto, unfolding(crate::specs::Listing::single_byte_text))]
 fn single_byte_text(syntax: Syntax, byte: u8) -> Text
     ensures { result.items ≡ spec.single_byte_text syntax byte }
 {
+    numbers_are_short();
     let mut text = Text::new();
     append(&mut text, byte_directive(syntax));
     append_number(&mut text, style_of(syntax), u64::from(byte));
