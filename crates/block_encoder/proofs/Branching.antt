@@ -25,11 +25,10 @@ use Rattle.moved_targets.specs.Targets.{target_of}
 use Rattle.branch_forms.specs.declared.branch.Action.{Action}
 use Rattle.branch_forms.specs.declared.branch.Action.TheVariants.{Jump, Call, Condition, Count}
 use Rattle.branch_forms.specs.declared.branch.RelativeBranch.{RelativeBranch}
-use Rattle.branch_forms.specs.Branches.{branch_of}
+use Rattle.branch_forms.specs.Branches.{branch_of, in_range}
 use Rattle.branch_forms.specs.Images.{form_length, branch_image, image_by, image_of, pieces_length}
 use Rattle.branch_forms.specs.Choices.{branch_forms, form_reach, branch_choice, choices_by, choices_of}
 use Rattle.branch_forms.proofs.Lengths.{image_of-length}
-use Rattle.branch_forms.proofs.Offsets.{in_range}
 use Rattle.move_goals.specs.declared.items.Placed.{Placed}
 use Rattle.move_goals.specs.Items.{AreSpansOf, ArePlaced, item_at}
 use Rattle.move_goals.specs.Goals.{own_item, other_item, goal_among, goal_of_target, goal_of, goal_at}

@@ -42,9 +42,8 @@ use Rattle.moved_targets.proofs.Lengths.{spelled-needs}
 use Rattle.branch_forms.specs.declared.branch.Action.{Action}
 use Rattle.branch_forms.specs.declared.branch.Action.TheVariants.{Jump, Call, Condition, Count}
 use Rattle.branch_forms.specs.declared.branch.RelativeBranch.{RelativeBranch}
-use Rattle.branch_forms.specs.Branches.{size_of, short_action, near_action, branch_in, branch_by, branch_of}
-use Rattle.branch_forms.proofs.Pieces.{is_pair}
-use Rattle.branch_forms.proofs.Offsets.{in_range, branch-range, branch-pair}
+use Rattle.branch_forms.specs.Branches.{size_of, short_action, near_action, branch_in, branch_by, branch_of, is_pair, in_range}
+use Rattle.branch_forms.proofs.Offsets.{branch-range, branch-pair}
 use Rattle.block_encoder.proofs.Inside.{width-most}
 use Rattle.block_encoder.proofs.Formed.{CountFits}
 

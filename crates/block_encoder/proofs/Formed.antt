@@ -17,13 +17,12 @@ use Rattle.moved_targets.proofs.Lengths.{encoding-length}
 use Rattle.branch_forms.specs.declared.branch.Action.{Action}
 use Rattle.branch_forms.specs.declared.branch.Action.TheVariants.{Jump, Call, Condition, Count}
 use Rattle.branch_forms.specs.declared.branch.RelativeBranch.{RelativeBranch}
-use Rattle.branch_forms.specs.Branches.{short_code, near_code, far_code, inverted}
+use Rattle.branch_forms.specs.Branches.{in_range, short_code, near_code, far_code, inverted}
 use Rattle.branch_forms.specs.Images.{branch_to, through_slot, counter_size, short_branch, skip, bridge_jump, bridge_inner, bridge, far_image, branch_image, pieces_length}
 use Rattle.branch_forms.specs.Choices.{near_reach, bridge_reach, form_reach}
 use Rattle.branch_forms.proofs.Codes.{short-jump, short-condition, short-count, near-jump, near-call, near-condition, far-call, far-jump}
 use Rattle.branch_forms.specs.Lengths.{address_byte}
 use Rattle.branch_forms.proofs.Pieces.{short_jump-length, short_condition-length, short_count-length, near_jump-length, near_call-length, near_condition-length, slot_call-length, slot_jump-length, inverted-small}
-use Rattle.branch_forms.proofs.Offsets.{in_range}
 use Rattle.move_layout.specs.Laid.{is_far}
 use Rattle.block_encoder.specs.Bytes.{in_front, bytes_from}
 use Rattle.block_encoder.proofs.Going.{short-length, skip-length, branch_to-length}

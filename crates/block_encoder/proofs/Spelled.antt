@@ -23,7 +23,7 @@ use Rattle.encoder.proofs.Causes.{by_row}
 use Rattle.moved_targets.specs.Targets.{plain_length}
 use Rattle.moved_targets.proofs.Lengths.{plain_length-row}
 use Rattle.branch_forms.specs.Images.{branch_to, through_slot}
-use Rattle.branch_forms.proofs.Codes.{offset_row, memory_row}
+use Rattle.branch_forms.specs.Rows.{offset_row, memory_row}
 
 true_lt : (a b : ℕ) → a < b → nat_lt a b ≡ true
 true_lt a b h = grind (arith, h)

@@ -5,3 +5,4 @@ pub mod Written
 pub mod Aims
 pub mod ByPlan
 pub mod Last
+pub mod Facts

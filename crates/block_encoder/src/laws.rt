@@ -18,6 +18,7 @@ ghost use Rattle.block_encoder.specs.Bytes.{image_at, block_bytes};
 ghost use Rattle.block_encoder.specs.Aims.{last_instr, StandsAtPlace, HasSlot};
 ghost use Rattle.block_encoder.specs.Moved.{seat_reach, IsReached, IsMoved, first_new_pass, MovedLists};
 ghost use Rattle.block_encoder.specs.Read.{IsReadAsImages};
+ghost use Rattle.block_encoder.specs.Facts.{SeatFacts, MovedFacts, ReachFacts, LastFacts};
 
 /// Moved code is read as it was written: of moved blocks the sweep of each, from its new base to its gap, gives the instructions of the images in order.
 pub fn moved_code_is_read_as_images()
@@ -85,4 +86,36 @@ pub fn branches_reach_in_64_bit_mode()
         → (layout : List ℕ) → IsLeast (plan_for B64 spans items) layout → first_new_pass B64 (plan_for B64 spans items) layout ≡ None
         → (k t : ℕ) → k < length items → first_value near_value (item_at items k).instr ≡ Some t
         → IsReached B64 items (plan_for B64 spans items) layout k }
+{}
+
+/// The plan of some items has their forms and goals, and a layout of it gives each the seat of its choice.
+#[inline]
+pub fn plans_seat_their_items()
+    ensures { SeatFacts }
+{}
+
+/// The laws of the images and slots of moved blocks as one record.
+#[inline]
+pub fn moved_blocks_keep_their_laws()
+    ensures { MovedFacts }
+{
+    moved_code_is_read_as_images();
+    images_go_to_their_goals();
+    images_stand_at_their_places();
+    slots_have_their_goals();
+}
+
+/// The laws of items that reach their goals as one record, with what they rest on in 64-bit mode.
+#[inline]
+pub fn items_reach_their_goals()
+    ensures { ReachFacts }
+{
+    only_targets_are_too_far();
+    branches_reach_in_64_bit_mode();
+}
+
+/// Last forms bound the length of a block from which every target stays, by the same number at addresses a multiple of 16 bytes apart.
+#[inline]
+pub fn last_forms_bound_the_length()
+    ensures { LastFacts }
 {}

@@ -4,17 +4,10 @@ use Rattle.std.specs.Prelude.{Option, Some}
 use Rattle.x86_values.specs.declared.Bits.{Bits}
 use Rattle.x86_values.specs.declared.Bits.TheVariants.{B16, B32, B64}
 use Rattle.row_types.specs.declared.Row.{Row}
-use Rattle.row_types.specs.declared.RowKind.TheVariants.{Legacy}
 use Rattle.row_types.specs.declared.Map.{Map}
 use Rattle.row_types.specs.declared.Map.TheVariants.{One, M0f}
-use Rattle.row_types.specs.declared.Class.TheVariants.{Any as AnyClass}
-use Rattle.row_types.specs.declared.Plus.TheVariants.{No as NoPlus}
-use Rattle.row_types.specs.declared.ModRmRule.TheVariants.{No as NoModRm, Digit}
-use Rattle.row_types.specs.declared.Place.TheVariants.{Any as AnyPlace}
-use Rattle.row_types.specs.declared.WBit.TheVariants.{None as NoW}
-use Rattle.row_types.specs.declared.LBit.TheVariants.{None as NoL}
 use Rattle.row_types.specs.declared.OpKind.{OpKind}
-use Rattle.row_types.specs.declared.OpKind.TheVariants.{Absent, Jb, Jz, Ev}
+use Rattle.row_types.specs.declared.OpKind.TheVariants.{Jb, Jz}
 use Rattle.rows_integer.specs.Table.{table as integer_rows, flat_rows as integer_flat}
 use Rattle.rows_x87.specs.Table.{table as x87_rows, flat_rows as x87_flat}
 use Rattle.rows_sse.specs.Table.{table as sse_rows, flat_rows as sse_flat}
@@ -22,44 +15,15 @@ use Rattle.rows_vex.specs.Table.{table as vex_rows, flat_rows as vex_flat}
 use Rattle.opcode_rows.specs.Table.{places, rows_in, table}
 use Rattle.branch_forms.specs.declared.branch.Action.TheVariants.{Jump, Call, Condition, Count}
 use Rattle.branch_forms.specs.Branches.{size_number, short_code, near_code, far_code}
-use Rattle.branch_forms.specs.Rows.{size_word}
+use Rattle.branch_forms.specs.Rows.{offset_row, memory_row}
 
--- ---- the rows
-
--- the modes of a row of an operand size: 16 and 32-bit mode, or 64-bit mode
-abbrev modes_with : Bits → ℕ
-modes_with B64 = 4
-modes_with _ = 3
-
--- the row of a branch with an offset
-abbrev pub offset_row : Map → ℕ → OpKind → ℕ → Bits → Row
-offset_row map opcode kind marks size = record {
-  kind = Legacy;
-  map = map;
-  class = AnyClass;
-  opcode = opcode;
-  plus = NoPlus;
-  modrm = NoModRm;
-  place = AnyPlace;
-  size = size_word size;
-  w = NoW;
-  l = NoL;
-  modes = record { 0 = modes_with size };
-  ops = kind ∷ Absent ∷ Absent ∷ Absent ∷ [];
-  marks = record { 0 = marks };
-}
-
--- the row of a branch through memory in 64-bit mode
-abbrev pub memory_row : ℕ → Row
-memory_row digit = record (offset_row One 0xFF Ev 16 B64) { modrm = Digit digit }
+-- ---- some rows behind a code
 
 -- the size of the k-th of three rows
 abbrev numbered : ℕ → Bits
 numbered zero = B16
 numbered (suc zero) = B32
 numbered _ = B64
-
--- ---- some rows behind a code
 
 below_or_last : (n m : ℕ) → n < suc m → (n < m) ⊎ (n ≡ m)
 below_or_last zero zero lt = inr refl

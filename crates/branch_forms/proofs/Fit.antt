@@ -22,13 +22,13 @@ use Rattle.moved_targets.proofs.Lengths.{spelled-needs, spelled-length}
 use Rattle.branch_forms.specs.declared.branch.Action.{Action}
 use Rattle.branch_forms.specs.declared.branch.Action.TheVariants.{Jump, Call, Condition, Count}
 use Rattle.branch_forms.specs.declared.branch.RelativeBranch.{RelativeBranch}
-use Rattle.branch_forms.specs.Branches.{branch_of, far_code, inverted}
+use Rattle.branch_forms.specs.Branches.{branch_of, is_pair, in_range, far_code, inverted}
 use Rattle.branch_forms.specs.Images.{counter_size, short_branch, skip, bridge_jump, bridge_inner, through_slot, form_length}
 use Rattle.branch_forms.specs.Lengths.{size_byte, address_byte, offset_bytes}
 use Rattle.branch_forms.specs.Choices.{in_64, branch_forms, near_reach, bridge_reach, form_reach, branch_choice, choices_by, choices_of}
-use Rattle.branch_forms.proofs.Pieces.{is_pair, by_pair, short_jump-length, short_condition-length, short_count-length, near_jump-length, near_call-length, near_condition-length, slot_call-length, slot_jump-length, inverted-small}
+use Rattle.branch_forms.proofs.Pieces.{by_pair, short_jump-length, short_condition-length, short_count-length, near_jump-length, near_call-length, near_condition-length, slot_call-length, slot_jump-length, inverted-small}
 use Rattle.branch_forms.proofs.Lengths.{far_size, form_size, branch-length, other-length}
-use Rattle.branch_forms.proofs.Offsets.{in_range, branch-range, branch-pair}
+use Rattle.branch_forms.proofs.Offsets.{branch-range, branch-pair}
 
 -- ---- all but the lengths
 

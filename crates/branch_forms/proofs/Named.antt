@@ -11,8 +11,8 @@ use Rattle.row_types.specs.declared.OpKind.TheVariants.{Jb, Jz, Ev}
 use Rattle.opcode_rows.specs.Table.{table}
 use Rattle.branch_forms.specs.declared.branch.Action.TheVariants.{Jump, Call, Condition, Count}
 use Rattle.branch_forms.specs.Branches.{short_code, near_code, far_code}
-use Rattle.branch_forms.specs.Rows.{NamesRow}
-use Rattle.branch_forms.proofs.Codes.{offset_row, memory_row, short-jump, short-condition, short-count, near-jump, near-call, near-condition, far-call, far-jump}
+use Rattle.branch_forms.specs.Rows.{offset_row, memory_row, NamesRow}
+use Rattle.branch_forms.proofs.Codes.{short-jump, short-condition, short-count, near-jump, near-call, near-condition, far-call, far-jump}
 
 names-offset : (code : ℕ) (map : Map) (opcode : ℕ) (kind : OpKind) (marks : ℕ) (size : Bits) → slice_get table code ≡ Some (offset_row map opcode kind marks size) → NamesRow code map opcode No kind size
 names-offset code map opcode kind marks size at = record {

@@ -1,6 +1,6 @@
 -- The rows of relative branches: their conditions and counters, and the operand sizes that they have in a mode.
 use Rattle.std.proofs.Common.{◌≡◌, Bool, true, false, ◌&&◌, ◌||◌, if◌then◌else◌, refl, sym, ◌∙◌, ap, slice_get}
-use Rattle.std.specs.Prelude.{Option, Some, None, is_some, not, nat_lt}
+use Rattle.std.specs.Prelude.{Option, Some, None, is_some, not}
 use Rattle.x86_values.specs.declared.Bits.{Bits}
 use Rattle.x86_values.specs.declared.Bits.TheVariants.{B16, B32, B64}
 use Rattle.x86_values.specs.declared.Instr.{Instr}
@@ -16,18 +16,8 @@ use Rattle.opcode_rows.specs.declared.spots.Part.TheVariants as part
 use Rattle.opcode_rows.specs.Table.{part_table, table}
 use Rattle.opcode_rows.proofs.JoinFacts.{all_rows, in_each_part}
 use Rattle.operand_info.specs.Operands.{near_value, first_value}
-use Rattle.branch_forms.specs.declared.branch.Action.{Action}
-use Rattle.branch_forms.specs.declared.branch.Action.TheVariants.{Jump, Call, Condition, Count}
 use Rattle.branch_forms.specs.declared.branch.RelativeBranch.{RelativeBranch}
-use Rattle.branch_forms.specs.Branches.{size_of, short_action, near_action, branch_in, branch_by, branch_of}
-use Rattle.branch_forms.proofs.Pieces.{is_pair}
-
--- a CALL is near, a branch on a counter is short; there are 16 conditions and 4 counters
-abbrev pub in_range : Action → Bool → Bool
-in_range Jump is_short = true
-in_range Call is_short = not is_short
-in_range (Condition n) is_short = nat_lt n 16
-in_range (Count n) is_short = is_short && nat_lt n 4
+use Rattle.branch_forms.specs.Branches.{size_of, short_action, near_action, branch_in, branch_by, branch_of, is_pair, in_range}
 
 abbrev is_sized_in : Row → Bits → Bits → Bool
 is_sized_in row size bits = not (exists_in bits row) || is_pair bits size

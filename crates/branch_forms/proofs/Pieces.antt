@@ -1,5 +1,5 @@
 -- How long the instructions of an image are.
-use Rattle.std.proofs.Common.{◌≡◌, ℕ, ◌+◌, ◌<◌, Bool, true, false, refl, ◌∙◌, slice_get, arith}
+use Rattle.std.proofs.Common.{◌≡◌, ℕ, ◌+◌, ◌<◌, true, refl, ◌∙◌, slice_get, arith}
 use Rattle.std.specs.Prelude.{Option, Some, None}
 use Rattle.std.proofs.lemmas.Nat.{xor_lt}
 use Rattle.x86_values.specs.declared.Bits.{Bits}
@@ -18,20 +18,15 @@ use Rattle.plain_spelling.specs.PlainTail.{plain_size, rm_fields, fixed_rm, plai
 use Rattle.opcode_rows.specs.Table.{table}
 use Rattle.moved_targets.specs.Targets.{plain_length}
 use Rattle.branch_forms.specs.declared.branch.Action.TheVariants.{Jump, Call, Condition, Count}
-use Rattle.branch_forms.specs.Branches.{short_code, near_code, far_code, inverted}
+use Rattle.branch_forms.specs.Branches.{is_pair, short_code, near_code, far_code, inverted}
 use Rattle.branch_forms.specs.Images.{branch_to, through_slot}
 use Rattle.branch_forms.specs.Lengths.{size_byte, address_byte, offset_bytes, slot_bytes}
-use Rattle.branch_forms.proofs.Codes.{offset_row, memory_row, short-jump, short-condition, short-count, near-jump, near-call, near-condition, far-call, far-jump}
+use Rattle.branch_forms.specs.Rows.{offset_row, memory_row}
+use Rattle.branch_forms.proofs.Codes.{short-jump, short-condition, short-count, near-jump, near-call, near-condition, far-call, far-jump}
 
 -- ---- modes and sizes
 
--- 64-bit mode has branches of 64 bits alone, and the other modes have none
-abbrev pub is_pair : Bits → Bits → Bool
-is_pair B64 B64 = true
-is_pair B64 _ = false
-is_pair _ B64 = false
-is_pair _ _ = true
-
+-- the five pairs that there are
 pub by_pair : (P : Bits → Bits → Type 0) → P B16 B16 → P B16 B32 → P B32 B16 → P B32 B32 → P B64 B64 → (bits size : Bits) → is_pair bits size ≡ true → P bits size
 by_pair P a b c d e B16 B16 h = a
 by_pair P a b c d e B16 B32 h = b

@@ -1,6 +1,6 @@
 -- Relative branches: the rows with an offset as their operand, and the code numbers of the rows that their images use (Intel SDM volume 2, CALL, JMP,
 -- Jcc, LOOP).
-use Rattle.std.specs.Prelude.{ℕ, ◌+◌, ◌*◌, ◌%◌, ◌==◌, true, false, nat_lt, if◌then◌else◌, Option, Some, None, slice_get, is_some, bit_xor}
+use Rattle.std.specs.Prelude.{ℕ, ◌+◌, ◌*◌, ◌%◌, ◌==◌, Bool, true, false, not, ◌&&◌, nat_lt, if◌then◌else◌, Option, Some, None, slice_get, is_some, bit_xor}
 use Rattle.x86_values.specs.declared.Bits.{Bits}
 use Rattle.x86_values.specs.declared.Bits.TheVariants.{B16, B32, B64}
 use Rattle.x86_values.specs.declared.Instr.{Instr}
@@ -48,6 +48,20 @@ branch_by (Some row) = branch_in row
 -- the relative branch that an instruction is, if it has a near target
 unfoldable pub branch_of : Instr → Option RelativeBranch
 branch_of i = if is_some (first_value near_value i) then branch_by (slice_get table i.code.0) else None
+
+-- a CALL is near, a branch on a counter is short; there are 16 conditions and 4 counters
+abbrev pub in_range : Action → Bool → Bool
+in_range Jump is_short = true
+in_range Call is_short = not is_short
+in_range (Condition n) is_short = nat_lt n 16
+in_range (Count n) is_short = is_short && nat_lt n 4
+
+-- 64-bit mode has branches of 64 bits alone, and the other modes have none
+abbrev pub is_pair : Bits → Bits → Bool
+is_pair B64 B64 = true
+is_pair B64 _ = false
+is_pair _ B64 = false
+is_pair _ _ = true
 
 -- ---- codes
 

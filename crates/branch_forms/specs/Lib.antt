@@ -3,3 +3,4 @@ pub mod Rows
 pub mod Images
 pub mod Choices
 pub mod Lengths
+pub mod Facts

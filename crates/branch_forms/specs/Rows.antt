@@ -1,12 +1,20 @@
 -- The rows that the codes of branches name.
-use Rattle.std.specs.Prelude.{◌≡◌, ℕ, Some, slice_get}
+use Rattle.std.specs.Prelude.{◌≡◌, ℕ, List, [], ◌∷◌, Some, slice_get}
 use Rattle.x86_values.specs.declared.Bits.{Bits}
 use Rattle.x86_values.specs.declared.Bits.TheVariants.{B16, B32, B64}
 use Rattle.row_types.specs.declared.Row.{Row}
 use Rattle.row_types.specs.declared.RowKind.TheVariants.{Legacy}
 use Rattle.row_types.specs.declared.Map.{Map}
+use Rattle.row_types.specs.declared.Map.TheVariants.{One}
+use Rattle.row_types.specs.declared.Class.TheVariants.{Any as AnyClass}
+use Rattle.row_types.specs.declared.Plus.TheVariants.{No as NoPlus}
 use Rattle.row_types.specs.declared.ModRmRule.{ModRmRule}
+use Rattle.row_types.specs.declared.ModRmRule.TheVariants.{No as NoModRm, Digit}
+use Rattle.row_types.specs.declared.Place.TheVariants.{Any as AnyPlace}
+use Rattle.row_types.specs.declared.WBit.TheVariants.{None as NoW}
+use Rattle.row_types.specs.declared.LBit.TheVariants.{None as NoL}
 use Rattle.row_types.specs.declared.OpKind.{OpKind}
+use Rattle.row_types.specs.declared.OpKind.TheVariants.{Absent, Ev}
 use Rattle.row_types.specs.declared.Size.{Size}
 use Rattle.row_types.specs.declared.Size.TheVariants.{O16, O32, O64}
 use Rattle.row_fit.specs.Fits.{kind_at}
@@ -28,3 +36,32 @@ pub record NamesRow (code : ℕ) (map : Map) (opcode : ℕ) (modrm : ModRmRule) 
   pub has_modrm : row.modrm ≡ modrm
   pub has_kind : kind_at row 0 ≡ kind
   pub has_size : row.size ≡ size_word size
+
+-- ---- the rows whole
+
+-- the modes of a row of an operand size: 16 and 32-bit mode, or 64-bit mode
+abbrev modes_with : Bits → ℕ
+modes_with B64 = 4
+modes_with _ = 3
+
+-- the row of a branch with an offset
+abbrev pub offset_row : Map → ℕ → OpKind → ℕ → Bits → Row
+offset_row map opcode kind marks size = record {
+  kind = Legacy;
+  map = map;
+  class = AnyClass;
+  opcode = opcode;
+  plus = NoPlus;
+  modrm = NoModRm;
+  place = AnyPlace;
+  size = size_word size;
+  w = NoW;
+  l = NoL;
+  modes = record { 0 = modes_with size };
+  ops = kind ∷ Absent ∷ Absent ∷ Absent ∷ [];
+  marks = record { 0 = marks };
+}
+
+-- the row of a branch through memory in 64-bit mode
+abbrev pub memory_row : ℕ → Row
+memory_row digit = record (offset_row One 0xFF Ev 16 B64) { modrm = Digit digit }

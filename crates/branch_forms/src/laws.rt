@@ -18,6 +18,7 @@ ghost use Rattle.branch_sizes.specs.declared.plan.Form.{Form};
 ghost use Rattle.branch_sizes.specs.Plan.{lengths_rise_from, is_fit_reach, forms_differ};
 ghost use Rattle.branch_forms.specs.Images.{image_of, pieces_length, form_length};
 ghost use Rattle.branch_forms.specs.Choices.{choices_of};
+ghost use Rattle.branch_forms.specs.Facts.{CodeFacts, PieceFacts, FormFacts};
 
 /// The choices of an instruction that is spelled at some address are one to three, of forms that differ, with lengths of 1 to 15 that do not fall.
 pub fn choices_are_fit()
@@ -48,4 +49,22 @@ pub fn codes_name_their_rows()
 /// The form that a branch has as it stands has the code of the instruction itself: what the branch does and its size are read off rightly.
 pub fn branches_keep_their_codes()
     ensures { (i : Instr) (b : RelativeBranch) → branch_of i ≡ Some b → own_code b ≡ i.code.0 }
+{}
+
+/// The rows of the codes of branches, whole.
+#[inline]
+pub fn codes_have_their_rows()
+    ensures { CodeFacts }
+{}
+
+/// How many bytes each instruction of an image has.
+#[inline]
+pub fn pieces_have_their_lengths()
+    ensures { PieceFacts }
+{}
+
+/// The forms of an instruction are those of an item of a plan, with lengths that rest neither on the place nor on the goal.
+#[inline]
+pub fn forms_are_fit()
+    ensures { FormFacts }
 {}

@@ -7,6 +7,7 @@ ghost use Rattle.row_relation.specs.Spells.{Spells, SpellsUnbounded};
 ghost use Rattle.plain_spelling.specs.Expressible.{failure_of};
 ghost use Rattle.plain_laws.specs.Plain.{IsPlainlySpelled, has_target};
 ghost use Rattle.opcode_rows.specs.Table.{table};
+ghost use Rattle.encoder.specs.Facts.{EncodingFacts};
 
 /// The ten conditions hold exactly where a plain spelling of at most 15 bytes exists.
 pub fn ten_conditions_are_exact()
@@ -30,4 +31,10 @@ pub fn plain_spelling_is_shortest()
 pub fn without_target_spelled_is_plain()
     ensures { (bits : Bits) (ip : ℕ) (i : Instr) → has_target i ≡ false
         → ((bytes : List ℕ) × Spells table bits ip bytes i) ↔ ((bytes : List ℕ) × IsPlainlySpelled table bits ip bytes i) }
+{}
+
+/// What meets the conditions is encoded, an encoding is plainly spelled, and what is plainly spelled is read as the instruction.
+#[inline]
+pub fn encodings_are_plain()
+    ensures { EncodingFacts }
 {}

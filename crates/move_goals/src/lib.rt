@@ -2,6 +2,7 @@
 #![tactic(auto)]
 
 mod items;
+pub mod laws;
 mod order;
 mod outside;
 mod plan;

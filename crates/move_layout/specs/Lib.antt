@@ -1,3 +1,4 @@
 pub mod Laid
 pub mod Tables
 pub mod Slots
+pub mod Facts

@@ -2,6 +2,7 @@
 #![tactic(auto)]
 
 mod choices;
+pub mod laws;
 mod layout;
 mod places;
 mod slots;

@@ -10,6 +10,7 @@ ghost use Rattle.operand_info.specs.Operands.{near_value, first_value};
 ghost use Rattle.encoder.specs.Encoding.{encoding};
 ghost use Rattle.branch_sizes.specs.Layout.{Reaches};
 ghost use Rattle.moved_targets.specs.Targets.{target_of, aimed, target_reach, plain_length};
+ghost use Rattle.moved_targets.specs.Facts.{TargetFacts};
 
 /// An encoding has the length of the plain spelling.
 pub fn encodings_have_their_length()
@@ -44,4 +45,10 @@ pub fn aimed_has_its_target()
 /// What has no target stays as it is.
 pub fn without_target_nothing_changes()
     ensures { (t : ℕ) (i : Instr) → length i.ops ≡ 4 → target_of i ≡ None → aimed t i ≡ i }
+{}
+
+/// All of these as one record, with what they rest on: what is spelled meets every condition but the reach of its targets.
+#[inline]
+pub fn spellings_are_moved()
+    ensures { TargetFacts }
 {}

@@ -1,5 +1,6 @@
 //! What holds of the whole table.
-ghost use Rattle.std.specs.Prelude.{◌≡◌, ◌<◌, ◌≤◌, ◌↔◌, ℕ, List, false, IsTrue, length, slice_get, Some};
+ghost use Rattle.std.specs.Prelude.{◌≡◌, ◌<◌, ◌≤◌, ◌↔◌, ℕ, Bool, List, false, IsTrue, length, slice_get, Some};
+ghost use Rattle.std.specs.List.{list_all};
 ghost use Rattle.x86_values.specs.declared.Bits.{Bits};
 ghost use Rattle.x86_values.specs.declared.Instr.{Instr};
 ghost use Rattle.row_types.specs.declared.Row.{Row};
@@ -28,6 +29,12 @@ pub fn rows_are_counted()
 /// Each row of each of the four parts stands in the table, at exactly one code.
 pub fn each_row_has_one_code()
     ensures { (part : Part) (at : ℕ) (row : Row) → slice_get (part_table part) at ≡ Some row → HasOneCode part at row }
+{}
+
+/// The table has no rows but those of the four parts: what holds of each row of each part holds of each row of the table.
+pub fn rows_are_of_the_parts()
+    ensures { (test : Row → Bool) → ((part : Part) → IsTrue (list_all test (part_table part)))
+        → (code : ℕ) (row : Row) → slice_get table code ≡ Some row → IsTrue (test row) }
 {}
 
 /// The codes of one version ascend by kind, map and opcode byte. Those of the rows of one part ascend in the order of its list, at one opcode

@@ -38,7 +38,8 @@ use Rattle.branch_forms.specs.declared.branch.RelativeBranch.{RelativeBranch}
 use Rattle.branch_forms.specs.Branches.{size_of, near_action, branch_in, branch_by, branch_of, near_code}
 use Rattle.branch_forms.specs.Images.{branch_to, branch_image, image_by, image_of}
 use Rattle.branch_forms.specs.Choices.{branch_forms, near_reach, form_reach, branch_choice, choices_by, choices_of}
-use Rattle.branch_forms.proofs.Codes.{offset_row, near-jump}
+use Rattle.branch_forms.specs.Rows.{offset_row}
+use Rattle.branch_forms.proofs.Codes.{near-jump}
 use Rattle.branch_forms.proofs.Pieces.{near_jump-length}
 use Rattle.move_goals.specs.declared.items.Placed.{Placed}
 use Rattle.move_goals.specs.Items.{IsPlaced, ArePlaced, item_at, one_span}

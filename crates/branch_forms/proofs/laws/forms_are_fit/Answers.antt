@@ -1,0 +1,13 @@
+use Rattle.branch_forms.proofs.Fit as fit
+use Rattle.branch_forms.proofs.Lengths as lengths
+use Rattle.branch_forms.proofs.Offsets as offsets
+use Rattle.branch_forms.proofs.laws.forms_are_fit.Goals as goal
+
+pub returns : goal.returns
+returns c = record {
+  image_of-length = lengths.image_of-length;
+  other-length = lengths.other-length;
+  spelled-fit = fit.spelled-fit;
+  branch-range = offsets.branch-range;
+  branch-pair = offsets.branch-pair;
+}

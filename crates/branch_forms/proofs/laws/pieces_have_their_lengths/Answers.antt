@@ -1,0 +1,15 @@
+use Rattle.branch_forms.proofs.Pieces as pieces
+use Rattle.branch_forms.proofs.laws.pieces_have_their_lengths.Goals as goal
+
+pub returns : goal.returns
+returns c = record {
+  short_jump-length = pieces.short_jump-length;
+  short_condition-length = pieces.short_condition-length;
+  short_count-length = pieces.short_count-length;
+  near_jump-length = pieces.near_jump-length;
+  near_call-length = pieces.near_call-length;
+  near_condition-length = pieces.near_condition-length;
+  slot_call-length = pieces.slot_call-length;
+  slot_jump-length = pieces.slot_jump-length;
+  inverted-small = pieces.inverted-small;
+}

@@ -1,0 +1,9 @@
+use Rattle.move_goals.proofs.Planned as planned
+use Rattle.move_goals.proofs.laws.plans_are_well_formed.Goals as goal
+
+pub returns : goal.returns
+returns c = record {
+  well_formed = planned.well_formed;
+  one_span-of = planned.one_span-of;
+  outside-fit = planned.outside-fit;
+}

@@ -1,0 +1,15 @@
+//! What holds of the goals of moved items and of their plans, as the contracts of functions that do nothing.
+
+ghost use Rattle.move_goals.specs.Facts.{FirstFacts, PlanFacts};
+
+/// What is known of the first number below a bound that passes a test.
+#[inline]
+pub fn first_numbers_pass()
+    ensures { FirstFacts }
+{}
+
+/// The plan of items that were well placed is well formed.
+#[inline]
+pub fn plans_are_well_formed()
+    ensures { PlanFacts }
+{}

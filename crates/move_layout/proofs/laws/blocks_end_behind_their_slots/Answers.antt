@@ -1,0 +1,16 @@
+use Rattle.move_layout.proofs.Laid as laid
+use Rattle.move_layout.proofs.Standing as standing
+use Rattle.move_layout.proofs.laws.blocks_end_behind_their_slots.Goals as goal
+
+pub returns : goal.returns
+returns c = record {
+  place-within = standing.place-within;
+  images-le-slots = laid.images-le-slots;
+  slots-aligned = laid.slots-aligned;
+  images-le-end = laid.images-le-end;
+  end-without-slots = laid.end-without-slots;
+  end-with-slots = laid.end-with-slots;
+  end-images = laid.end-images;
+  end-slots = laid.end-slots;
+  end-end = laid.end-end;
+}

@@ -1,0 +1,43 @@
+-- What holds of plain spellings wherever they stand and are aimed, and of what is spelled.
+use Rattle.std.specs.Prelude.{◌≡◌, ℕ, ◌+◌, ◌^◌, ◌≤◌, ◌<◌, true, List, length, Some, None, Ok, slice_get}
+use Rattle.x86_values.specs.declared.Bits.{Bits}
+use Rattle.x86_values.specs.declared.Instr.{Instr}
+use Rattle.x86_values.specs.Wrapping.{width}
+use Rattle.row_types.specs.declared.Row.{Row}
+use Rattle.instruction_parts.specs.declared.spelling.Spelling.{Spelling}
+use Rattle.row_relation.specs.Spells.{Spells, IsSpelledBy}
+use Rattle.plain_spelling.specs.PlainTail.{plain_len}
+use Rattle.plain_spelling.specs.Expressible.{each_operand, row_exists, kind_suits, register_suits, address_suits, offered, immediate_suits, prefixes_suit, address_size_suits}
+use Rattle.opcode_rows.specs.Table.{table}
+use Rattle.operand_info.specs.Operands.{near_value, first_value}
+use Rattle.encoder.specs.Encoding.{encoding}
+use Rattle.branch_sizes.specs.Layout.{Reaches}
+use Rattle.moved_targets.specs.Targets.{target_of, aimed, target_reach, plain_length}
+
+-- an instruction meets every condition of a row but the reach of its targets
+pub record SuitsElsewhere (bits : Bits) (row : Row) (i : Instr) : Type 0 where
+  pub exists : row_exists bits row ≡ true
+  pub kinds : each_operand (kind_suits row i) ≡ true
+  pub registers : each_operand (register_suits bits row i) ≡ true
+  pub addresses : each_operand (address_suits bits row i) ≡ true
+  pub displacements : each_operand (offered bits row i) ≡ true
+  pub immediates : each_operand (immediate_suits bits row i) ≡ true
+  pub prefixes : prefixes_suit row i ≡ true
+  pub address_size : address_size_suits bits row i ≡ true
+
+pub record TargetFacts : Type 0 where
+  -- the plain length is that of the plain spelling by the row of the code, which has a byte
+  pub plain_length-row : (bits : Bits) (i : Instr) (row : Row) → slice_get table i.code.0 ≡ Some row → plain_length bits i ≡ plain_len bits row i
+  pub some_byte : (bits : Bits) (row : Row) (i : Instr) → 1 ≤ plain_len bits row i
+  -- it is that of the encoding, and does not depend on the target
+  pub encoding-length : (bits : Bits) (ip : ℕ) (i : Instr) (bytes : List ℕ) → encoding bits ip i ≡ Ok bytes → length bytes ≡ plain_length bits i
+  pub aimed-length : (bits : Bits) (t : ℕ) (i : Instr) → plain_length bits (aimed t i) ≡ plain_length bits i
+  -- what has no target stays as it is
+  pub untargeted-aimed : (t : ℕ) (i : Instr) → length i.ops ≡ 4 → target_of i ≡ None → aimed t i ≡ i
+  -- what is spelled meets every condition but the reach of targets
+  pub spelled-suits : (bits : Bits) (ip : ℕ) (bytes : List ℕ) (i : Instr) (row : Row) (s : Spelling) → slice_get table i.code.0 ≡ Some row
+      → IsSpelledBy bits ip bytes i row s → SuitsElsewhere bits row i
+  -- and is encoded wherever its target reaches, where it is no near branch
+  pub encoded-elsewhere : (bits : Bits) (old place t : ℕ) (bytes : List ℕ) (i : Instr) → Spells table bits old bytes i
+      → first_value near_value i ≡ None → Reaches (target_reach i) (plain_length bits i) place t → place + plain_length bits i ≤ 2 ^ width bits
+      → t < 2 ^ 64 → (plain : List ℕ) × (encoding bits place (aimed t i) ≡ Ok plain)
