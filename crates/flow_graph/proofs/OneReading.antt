@@ -1,5 +1,5 @@
 -- The bytes from an offset on are read in one way alone.
-use Rattle.std.proofs.Common.{◌≡◌, ℕ, ◌+◌, List, drop, sym, ap, ◌∙◌, subst}
+use Rattle.std.proofs.Common.{◌≡◌, ℕ, ◌+◌, List, drop, ap, ◌∙◌, subst}
 use Rattle.x86_values.specs.declared.Bits.{Bits}
 use Rattle.x86_values.specs.declared.Decoded.{Decoded}
 use Rattle.row_relation.specs.Spells.{Reading, Read, TooShort, Invalid}

@@ -11,7 +11,7 @@ use byte_ports::{Failed, Sink};
 use move_goals::Placed;
 use run_parts::laws::held_texts_arrive;
 use run_parts::{make_room, put_all};
-use sweep_text::{Chunk, append, append_address};
+use sweep_text::{CHUNK_LEN, Chunk, LINE_LEN, append, append_address};
 use x86_values::Bits;
 
 /// The word of a form.
@@ -33,7 +33,7 @@ fn form_word(form: Form) -> &'static [u8]
 /// Appends the line of an instruction.
 #[tactic(auto, unfolding(crate::specs::Map::map_line))]
 fn append_map_line(pending: &mut Chunk, bits: Bits, old: u64, new: u64, form: Form)
-    requires { array_vec_len pending.old + 209 ≤ 16384 }
+    requires { array_vec_len pending.old + LINE_LEN ≤ CHUNK_LEN }
     ensures { pending.new.items ≡ pending.old.items ++ spec.map_line bits old new form }
 {
     append_address(pending, bits, old, 0);

@@ -1,5 +1,5 @@
 -- What holds of all made code.
-use Rattle.std.specs.Prelude.{◌≡◌, ℕ, ◌≤◌, List, [], ◌∷◌, length, None}
+use Rattle.std.specs.Prelude.{◌≡◌, ℕ, ◌≤◌, List, [], ◌∷◌, None}
 use Rattle.x86_values.specs.declared.Bits.TheVariants.{B64}
 use Rattle.opcode_rows.specs.Sweep.{Item, IsSweep}
 use Rattle.move_goals.specs.declared.items.Placed.{Placed}

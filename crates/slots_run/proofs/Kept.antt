@@ -136,56 +136,56 @@ module _ (kept : KeptFacts) where
           largest_is = sym none;
         }))
 
-  -- ---- the code
+    -- ---- the code
 
-  module _ (range : Range) (is : IsRange range) (base : ℕ) (bytes : List ℕ) where
-    roomy-empty : IsRoomy range.bits (empty_slots range)
-    roomy-empty = record { bits_are = refl; room = room-empty range is }
+    module _ (range : Range) (is : IsRange range) (base : ℕ) (bytes : List ℕ) where
+      roomy-empty : IsRoomy range.bits (empty_slots range)
+      roomy-empty = record { bits_are = refl; room = room-empty range is }
 
-    -- each instruction got a slot
-    pub all-slotted : (new : SlotState) (image : List ℕ) → IsGoneThrough range base bytes None new → HoldsSlots new image → image ≡ image_of new.region →
-        MakesSlots range base bytes image
-    all-slotted new image gone holds image_is =
-        let roomy = roomy-slotted range.bits (empty_slots range) new (slotted_in range.bits base gone.items) roomy-empty gone.placed gone.come in
-        record {
-          items = gone.items;
-          sweep = gone.sweep;
-          all = gone.all;
-          state = new;
-          slotted = gone.come;
-          apart = kept.kept-seen new.bits new.region new.slots 65536 roomy.room.kept new refl;
-          holds = holds;
-          image_is = image_is;
-        }
-
-    told : (status : Status) (state : SlotState) (item : Placed) (number : ℕ) → IsSlotRefusal state item number status → RefusesSlot range base bytes status →
-        IsRefusal range base bytes status
-    told (RegionFull len largest) state item number h r = r
-    told (TooFar at target) state item number h r = r
-    told _ state item number h r = absurd h
-
-    -- one of them got none
-    pub one-refused : (new : SlotState) (status : Status) → IsGoneThrough range base bytes (Some status) new →
-        IsRefusal range base bytes status
-    one-refused new status gone =
-        let r = gone.come in
-        let P = IsPlaced range.bits in
-        let placed = All-same P _ _ (sym r.are) gone.placed in
-        let roomy = roomy-slotted range.bits (empty_slots range) r.state r.before roomy-empty (All-front P r.before (r.first ∷ r.behind) placed) r.slotted in
-        let here = All-at P r.before r.behind r.first placed in
-        let spelled : IsPlaced r.state.bits r.first = rw roomy.bits_are here in
-        elim (refusal-is r.state r.after r.first (length r.before) r.tried.0 status roomy.room spelled r.tried.1.0 r.tried.1.1) [
-          | inl h ↦ told status r.state r.first (length r.before) h (record {
+      -- each instruction got a slot
+      pub all-slotted : (new : SlotState) (image : List ℕ) → IsGoneThrough range base bytes None new → HoldsSlots new image → image ≡ image_of new.region →
+          MakesSlots range base bytes image
+      all-slotted new image gone holds image_is =
+          let roomy = roomy-slotted range.bits (empty_slots range) new (slotted_in range.bits base gone.items) roomy-empty gone.placed gone.come in
+          record {
             items = gone.items;
             sweep = gone.sweep;
             all = gone.all;
-            before = r.before;
-            first = r.first;
-            behind = r.behind;
-            are = r.are;
-            state = r.state;
-            slotted = r.slotted;
-            refused = h;
-          })
-          | inr m ↦ subst (IsRefusal range base bytes) (sym m) tt
-        ]
+            state = new;
+            slotted = gone.come;
+            apart = kept.kept-seen new.bits new.region new.slots 65536 roomy.room.kept new refl;
+            holds = holds;
+            image_is = image_is;
+          }
+
+      told : (status : Status) (state : SlotState) (item : Placed) (number : ℕ) → IsSlotRefusal state item number status → RefusesSlot range base bytes status →
+          IsRefusal range base bytes status
+      told (RegionFull len largest) state item number h r = r
+      told (TooFar at target) state item number h r = r
+      told _ state item number h r = absurd h
+
+      -- one of them got none
+      pub one-refused : (new : SlotState) (status : Status) → IsGoneThrough range base bytes (Some status) new →
+          IsRefusal range base bytes status
+      one-refused new status gone =
+          let r = gone.come in
+          let P = IsPlaced range.bits in
+          let placed = All-same P _ _ (sym r.are) gone.placed in
+          let roomy = roomy-slotted range.bits (empty_slots range) r.state r.before roomy-empty (All-front P r.before (r.first ∷ r.behind) placed) r.slotted in
+          let here = All-at P r.before r.behind r.first placed in
+          let spelled : IsPlaced r.state.bits r.first = rw roomy.bits_are here in
+          elim (refusal-is r.state r.after r.first (length r.before) r.tried.0 status roomy.room spelled r.tried.1.0 r.tried.1.1) [
+            | inl h ↦ told status r.state r.first (length r.before) h (record {
+              items = gone.items;
+              sweep = gone.sweep;
+              all = gone.all;
+              before = r.before;
+              first = r.first;
+              behind = r.behind;
+              are = r.are;
+              state = r.state;
+              slotted = r.slotted;
+              refused = h;
+            })
+            | inr m ↦ subst (IsRefusal range base bytes) (sym m) tt
+          ]

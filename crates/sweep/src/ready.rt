@@ -5,6 +5,7 @@ ghost use Rattle.byte_ports.specs.Ports.{HasCause};
 ghost use Rattle.run_parts.specs.Writing.{HoldsFront};
 ghost use Rattle.sweep.specs.Steps.{TakesStep, HandlesItems, HandlesFront};
 
+use crate::window::WINDOW_LEN;
 use byte_ports::{Failed, Sink};
 use decoder::DecodeError;
 use run_parts::laws::held_texts_arrive;
@@ -81,7 +82,7 @@ pub(crate) fn write_ready<K: Sink>(
     out: &mut K,
 ) -> Result<Handled, Failed>
     requires at { at ≤ 16777216 }
-    requires short { length bytes.now ≤ 16384 }
+    requires short { length bytes.now ≤ WINDOW_LEN }
     ensures ok { IfOk result (λ handled. HandlesItems bits base lines at bytes.now ended (K.held out.old) (K.held out.new) handled) }
     ensures few { IfOk result (λ handled. handled.count ≤ handled.used) }
     ensures err { OnErr result (HandlesFront bits base lines at bytes.now (K.held out.old) (K.held out.new)) }

@@ -1,5 +1,5 @@
 -- All code has a sweep: each of its offsets has an item, and each item takes some of the bytes.
-use Rattle.std.proofs.Common.{◌≡◌, ℕ, ◌+◌, ◌<◌, ◌≤◌, List, [], ◌∷◌, ◌++◌, length, take, drop, Some, Result, Ok, Err, IfOk, refl, sym, subst, arith, append_assoc, append-nil, length-drop, drop-drop, drop_of_length-le}
+use Rattle.std.proofs.Common.{◌≡◌, ℕ, ◌+◌, ◌<◌, ◌≤◌, List, [], ◌∷◌, ◌++◌, length, drop, Some, Result, Ok, Err, IfOk, refl, sym, subst, arith, append_assoc, append-nil, length-drop, drop-drop, drop_of_length-le}
 use Rattle.x86_values.specs.declared.Bits.{Bits}
 use Rattle.x86_values.specs.declared.Decoded.{Decoded}
 use Rattle.row_relation.specs.Spells.{Reading}

@@ -1,4 +1,3 @@
-use Rattle.branch_sizes.specs.Layout.{block_number}
 use Rattle.moving_run.proofs.laws.moved_blocks_are_read_back.Goals as goal
 
 pub returns : goal.returns

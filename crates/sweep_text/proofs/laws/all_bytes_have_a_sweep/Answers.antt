@@ -1,6 +1,6 @@
 use Rattle.std.proofs.Common.{ℕ, ◌+◌, ◌<◌, List, [], ◌∷◌, ◌++◌, length, drop, sym, subst, arith}
 use Rattle.decoder.specs.Answer.{reading_of}
-use Rattle.opcode_rows.specs.Sweep.{Item, IsReadAt}
+use Rattle.opcode_rows.specs.Sweep.{IsReadAt}
 use Rattle.sweep_text.specs.Sweeping.{TakesSome, SweptTo, item_read}
 use Rattle.sweep_text.proofs.Covering.{swept-start, swept-step, swept-end}
 use Rattle.sweep_text.proofs.laws.all_bytes_have_a_sweep.Goals as goal
