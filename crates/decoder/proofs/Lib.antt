@@ -10,4 +10,3 @@ mod NextItem
 mod FormedRegisters
 pub mod Formed
 pub mod OneReading
-mod WrappedAddress

@@ -4,7 +4,7 @@ use Rattle.std.specs.Prelude.{All}
 use Rattle.std.proofs.lemmas.List.{length-drop, take-append-le}
 use Rattle.std.proofs.lemmas.Bool.{cases_lt}
 use Rattle.std.proofs.Math.Seq.{take-append-add}
-use Rattle.std.proofs.lemmas.List.Elements.{All-nil, All-cons}
+use Rattle.std.proofs.lemmas.List.Elements.{All-nil, All-cons, All-head, All-tail}
 use Rattle.byte_ports.specs.Ports.{with_front}
 use Rattle.x86_values.specs.declared.Bits.{Bits}
 use Rattle.decoder.specs.declared.DecodeError.{DecodeError}
@@ -21,7 +21,7 @@ use Rattle.sweep.specs.Streams.{AreHandled, Sees, WritesLinesBefore, StreamsAs}
 use Rattle.sweep.specs.Ends.{end_of, CompletesStream, CompletesListing}
 use Rattle.sweep_text.specs.declared.syntax.Syntax.{Syntax}
 use Rattle.sweep_text.specs.declared.lines.Lines.TheVariants.{Listing}
-use Rattle.sweep.proofs.Longer.{all_head, all_tail, all_ready, sweeps_longer}
+use Rattle.sweep.proofs.Longer.{all_ready, sweeps_longer}
 
 -- ---- the end of some items
 
@@ -39,15 +39,15 @@ end_stops lines item items last error stops =
 end_all : (lines : Lines) (items : List Item) (last : Result ℕ StreamError) → All (GoesOn lines) items → end_of lines items last ≡ last
 end_all lines [] last all = refl
 end_all lines (item ∷ items) last all =
-    end_goes_on lines item items last (all_head (GoesOn lines) item items all) ∙ end_all lines items last (all_tail (GoesOn lines) item items all)
+    end_goes_on lines item items last (All-head (GoesOn lines) item items all) ∙ end_all lines items last (All-tail (GoesOn lines) item items all)
 
 -- at the first item behind which the command does not go on
 end_at : (lines : Lines) (items : List Item) (stop : Item) (more : List Item) (last : Result ℕ StreamError) (error : DecodeError) → All (GoesOn lines) items →
     stop_of lines stop.reading ≡ Some error → end_of lines ((items ++ stop ∷ []) ++ more) last ≡ Err (BadCode stop.offset error)
 end_at lines [] stop more last error all stops = end_stops lines stop more last error stops
 end_at lines (item ∷ items) stop more last error all stops =
-    end_goes_on lines item ((items ++ stop ∷ []) ++ more) last (all_head (GoesOn lines) item items all)
-    ∙ end_at lines items stop more last error (all_tail (GoesOn lines) item items all) stops
+    end_goes_on lines item ((items ++ stop ∷ []) ++ more) last (All-head (GoesOn lines) item items all)
+    ∙ end_at lines items stop more last error (All-tail (GoesOn lines) item items all) stops
 
 -- ---- items that are handled
 
@@ -95,7 +95,7 @@ module _ (one : OneSweepFacts) where
   sweep_covers bits base offset bytes [] others rest left h ready k short = (others, refl)
   sweep_covers bits base offset bytes (x ∷ items) [] rest left h ready k short =
       let at = h.0.offset_is in
-      let long = all_head (IsReady (offset + length bytes)) x items ready in absurd (omega (arith, ap length k))
+      let long = All-head (IsReady (offset + length bytes)) x items ready in absurd (omega (arith, ap length k))
   sweep_covers bits base offset bytes (x ∷ items) (y ∷ others) rest left h ready k short =
       let n : ℕ = item_len x.reading in
       let within = h.0.within in
@@ -104,7 +104,7 @@ module _ (one : OneSweepFacts) where
       subst (λ (i : Item). Sweeps bits base (offset + item_len i.reading) (drop (item_len i.reading) bytes) others left) (sym same) k.1 in
       let length_is : offset + length bytes ≡ offset + n + length (drop n bytes) = omega (arith, length-drop n bytes) in
       let tail_ready : All (IsReady (offset + n + length (drop n bytes))) items =
-      subst (λ m. All (IsReady m) items) length_is (all_tail (IsReady (offset + length bytes)) x items ready) in
+      subst (λ m. All (IsReady m) items) length_is (All-tail (IsReady (offset + length bytes)) x items ready) in
       let tail = sweep_covers bits base (offset + n) (drop n bytes) items others rest left h.1 tail_ready there short in
       (tail.0, ap (λ (i : Item). i ∷ others) (sym same) ∙ ap (λ (l : List Item). x ∷ l) tail.1)
 
