@@ -5,7 +5,7 @@ use Rattle.std.specs.Int.Count.{count_leading_zeros}
 use Rattle.std.proofs.lemmas.Bool.Decides.{nat_tests}
 use Rattle.std.proofs.lemmas.Slice.Eq.{bytes_eq-Decides}
 use Rattle.std.proofs.lemmas.List.{take-append-drop}
-use Rattle.row_fields.proofs.Cands.{and-left, and-right}
+use Rattle.std.proofs.lemmas.Bool.{and_parts}
 use Rattle.sweep_text.specs.declared.syntax.Syntax.TheVariants.{Intel}
 use Rattle.sweep_text.specs.Listing.{byte_directive, single_byte_text}
 use Rattle.text_parts.specs.Numbers.{hex_digit, digit_at, last_digits, digit_count, hexadecimal, number}
@@ -26,8 +26,8 @@ at_each : (P : ℕ → Bool) (n k : ℕ) → all_below P n ≡ true → k < n �
 unfolding all_below
 at_each P zero k h lt = absurd (omega arith)
 at_each P (suc n) k h lt = elim (last_or_below k n lt) [
-  | inl e ↦ subst (λ (x : ℕ). P x ≡ true) (sym e) (and-left (P n) (all_below P n) h)
-  | inr below ↦ at_each P n k (and-right (P n) (all_below P n) h) below
+  | inl e ↦ subst (λ (x : ℕ). P x ≡ true) (sym e) (and_parts (P n) (all_below P n) h).0
+  | inr below ↦ at_each P n k (and_parts (P n) (all_below P n) h).1 below
 ]
 
 -- ---- the digits of a byte

@@ -3,10 +3,10 @@ use Rattle.std.proofs.Common.{◌≡◌, ◌⊎◌, inl, inr, ℕ, List, length,
 use Rattle.x86_values.specs.declared.Bits.{Bits}
 use Rattle.run_parts.specs.declared.status.Status.{Status}
 use Rattle.run_parts.specs.declared.status.Status.TheVariants.{Done, ReadFault, WriteFault, Memory, TooLarge, BadText}
+use Rattle.run_parts.specs.Facts.{ReadFacts}
 use Rattle.run_parts.specs.Reads.{whole_limit, ReadsAll}
-use Rattle.run_parts.proofs.Whole.{all_bytes, too_many}
 use Rattle.asm_run.specs.Assembling.{IsTextAnswer, IsTextRefusal, AssemblesAs, CompletesAssembling}
-use Rattle.asm_run.proofs.Unique.{answer_unique}
+use Rattle.asm_run.specs.Facts.{AnswerFacts}
 
 module _ (bits : Bits) (base : ℕ) where
   -- a status that tells why, after which nothing was written
@@ -17,33 +17,34 @@ module _ (bits : Bits) (base : ℕ) where
   refusal bytes left left' held held' source_rose out_rose (BadText line) reads kept h = ((bytes, (reads, h)), kept)
   refusal bytes left left' held held' source_rose out_rose _ reads kept h = absurd h
 
-  -- an answer for all bytes
-  answered : (bytes : List ℕ) (left' : Option (List ℕ)) (read : List ℕ) (status : Status) → ReadsAll whole_limit (Some bytes) left' read →
-      IsTextAnswer bits base read status → CompletesAssembling bits base (Some bytes) status
-  answered bytes left' read status reads h =
-      let same = all_bytes whole_limit bytes left' read reads in
-      let within = reads.within in
-      let there = subst (λ (xs : List ℕ). IsTextAnswer bits base xs status) (sym same) h in (
-        λ few answer is. inl (answer_unique bits base bytes status answer there is),
-        λ many. absurd (omega (arith, ap length same)),
-      )
+  module _ (facts : ReadFacts) (answers : AnswerFacts) where
+    -- an answer for all bytes
+    answered : (bytes : List ℕ) (left' : Option (List ℕ)) (read : List ℕ) (status : Status) → ReadsAll whole_limit (Some bytes) left' read →
+        IsTextAnswer bits base read status → CompletesAssembling bits base (Some bytes) status
+    answered bytes left' read status reads h =
+        let same = facts.all_bytes whole_limit bytes left' read reads in
+        let within = reads.within in
+        let there = subst (λ (xs : List ℕ). IsTextAnswer bits base xs status) (sym same) h in (
+          λ few answer is. inl (answers.answer_unique bits base bytes status answer there is),
+          λ many. absurd (omega (arith, ap length same)),
+        )
 
-  -- **the command that meets no fault answers what the lines say**
-  pub completes : (left left' held held' : Option (List ℕ)) (source_rose out_rose : Type 0) (status : Status) →
-      AssemblesAs bits base left left' held held' source_rose out_rose status → (source_rose → ⊥) → (out_rose → ⊥) →
-      CompletesAssembling bits base left status
-  completes (Some bytes) left' held held' source_rose out_rose Done h s o = answered bytes left' h.0 Done h.1.0 (h.1.1.0, h.1.1.1.0)
-  completes None left' held held' source_rose out_rose Done h s o = λ e. elim e [ inl x ↦ cc | inr x ↦ cc ]
-  completes (Some bytes) left' held held' source_rose out_rose Memory h s o = (λ few answer is. inr refl, λ many. inr refl)
-  completes None left' held held' source_rose out_rose Memory h s o = λ e. elim e [ inl x ↦ cc | inr x ↦ cc ]
-  completes (Some bytes) left' held held' source_rose out_rose (TooLarge limit) h s o =
-      let over = too_many whole_limit bytes left' h.1.0.0 h.1.0.1 in (
-        λ few answer is. absurd (omega arith),
-        λ many. inl (ap TooLarge h.0),
-      )
-  completes None left' held held' source_rose out_rose (TooLarge limit) h s o = λ e. elim e [ inl x ↦ cc | inr x ↦ cc ]
-  completes (Some bytes) left' held held' source_rose out_rose (BadText line) h s o = answered bytes left' h.0.0 (BadText line) h.0.1.0 h.0.1.1
-  completes None left' held held' source_rose out_rose (BadText line) h s o = λ e. elim e [ inl x ↦ cc | inr x ↦ cc ]
-  completes left left' held held' source_rose out_rose ReadFault h s o = absurd (s h.0)
-  completes left left' held held' source_rose out_rose WriteFault h s o = absurd (o h.0)
-  completes left left' held held' source_rose out_rose _ h s o = absurd h
+    -- **the command that meets no fault answers what the lines say**
+    pub completes : (left left' held held' : Option (List ℕ)) (source_rose out_rose : Type 0) (status : Status) →
+        AssemblesAs bits base left left' held held' source_rose out_rose status → (source_rose → ⊥) → (out_rose → ⊥) →
+        CompletesAssembling bits base left status
+    completes (Some bytes) left' held held' source_rose out_rose Done h s o = answered bytes left' h.0 Done h.1.0 (h.1.1.0, h.1.1.1.0)
+    completes None left' held held' source_rose out_rose Done h s o = λ e. elim e [ inl x ↦ cc | inr x ↦ cc ]
+    completes (Some bytes) left' held held' source_rose out_rose Memory h s o = (λ few answer is. inr refl, λ many. inr refl)
+    completes None left' held held' source_rose out_rose Memory h s o = λ e. elim e [ inl x ↦ cc | inr x ↦ cc ]
+    completes (Some bytes) left' held held' source_rose out_rose (TooLarge limit) h s o =
+        let over = facts.too_many whole_limit bytes left' h.1.0.0 h.1.0.1 in (
+          λ few answer is. absurd (omega arith),
+          λ many. inl (ap TooLarge h.0),
+        )
+    completes None left' held held' source_rose out_rose (TooLarge limit) h s o = λ e. elim e [ inl x ↦ cc | inr x ↦ cc ]
+    completes (Some bytes) left' held held' source_rose out_rose (BadText line) h s o = answered bytes left' h.0.0 (BadText line) h.0.1.0 h.0.1.1
+    completes None left' held held' source_rose out_rose (BadText line) h s o = λ e. elim e [ inl x ↦ cc | inr x ↦ cc ]
+    completes left left' held held' source_rose out_rose ReadFault h s o = absurd (s h.0)
+    completes left left' held held' source_rose out_rose WriteFault h s o = absurd (o h.0)
+    completes left left' held held' source_rose out_rose _ h s o = absurd h

@@ -2,7 +2,7 @@
 use Rattle.std.proofs.Common.{◌≡◌, ◌≢◌, ℕ, zero, suc, ◌<◌, Bool, true, false, not, ◌&&◌, List, [], ◌∷◌, ◌++◌, length, slice_get, refl, sym, ap, ◌∙◌, append_assoc, arith, Option, Some, None}
 use Rattle.std.specs.Prelude.{◌==◌, if◌then◌else◌, unwrap_or, codes}
 use Rattle.std.proofs.lemmas.Option.{slice_get_within}
-use Rattle.row_fields.proofs.Cands.{and-left, and-right}
+use Rattle.std.proofs.lemmas.Bool.{and_parts}
 use Rattle.x86_values.specs.declared.Bits.{Bits}
 use Rattle.x86_values.specs.declared.Bits.TheVariants.{B16, B32, B64}
 use Rattle.x86_values.specs.declared.Segment.{Segment}
@@ -13,12 +13,11 @@ use Rattle.x86_values.specs.declared.Instr.{Instr}
 use Rattle.row_types.specs.declared.Row.{Row}
 use Rattle.opcode_rows.specs.declared.spots.TheConstants.{ROWS}
 use Rattle.opcode_rows.specs.Table.{table, names, name_of}
-use Rattle.opcode_rows.proofs.JoinFacts.{length-table}
 use Rattle.text_parts.specs.declared.style.Style.TheVariants.{Intel}
 use Rattle.text_parts.specs.Registers.{segment_name}
 use Rattle.text_parts.specs.PrefixWords.{has_memory, lock_word, repeat_word, segment_word, size_digits, sized_word, needs_address_word, address_word, is_sized, named_size, differs, usual_size, operand_size_word, prefix_words, is_counter_jump, counter_jump, text_address_size, name_text}
 use Rattle.text_parts.specs.Layout.{operand_part, bracket_layout}
-use Rattle.text_rows.proofs.AtRow.{at_code-known}
+use Rattle.text_rows.specs.AtRow.{at_row, at_code}
 use Rattle.intel_text.specs.Text.{text_of, text}
 
 -- a text begins with `db`
@@ -146,8 +145,8 @@ length-names = refl
 other-at : (ns : List (List ℕ)) (k : ℕ) → all_other ns ≡ true → k < length ns → is_other (unwrap_or (slice_get ns k) []) ≡ true
 unfolding all_other
 other-at [] k h lt = absurd (omega arith)
-other-at (n ∷ ns) zero h lt = and-left (is_other n) (all_other ns) h
-other-at (n ∷ ns) (suc k) h lt = other-at ns k (and-right (is_other n) (all_other ns) h) (omega arith)
+other-at (n ∷ ns) zero h lt = (and_parts (is_other n) (all_other ns) h).0
+other-at (n ∷ ns) (suc k) h lt = other-at ns k (and_parts (is_other n) (all_other ns) h).1 (omega arith)
 
 name_is_other : (code : ℕ) → code < ROWS → is_other (name_of code) ≡ true
 unfolding name_of
@@ -175,9 +174,9 @@ layout_other bits row name i h =
     prefixes_pass bits row name i _ (other_front (name_text bits name i) _ (text_is_other bits name i h))
 
 -- **the text of an instruction of the table does not begin with `db`**
-pub text_other : (bits : Bits) (row : Row) (i : Instr) → slice_get table i.code.0 ≡ Some row → starts_db (text bits i) ≡ false
-unfolding text text_of
-text_other bits row i at =
-    let lt : i.code.0 < ROWS = omega (arith, slice_get_within table i.code.0 row at, length-table) in
-    ap starts_db (at_code-known (λ (r : Row). bracket_layout Intel bits r (name_of i.code.0) i) i.code.0 row at)
+pub text_other : length table ≡ ROWS → (bits : Bits) (row : Row) (i : Instr) → slice_get table i.code.0 ≡ Some row → starts_db (text bits i) ≡ false
+unfolding text text_of at_code
+text_other counted bits row i at =
+    let lt : i.code.0 < ROWS = omega (arith, slice_get_within table i.code.0 row at, counted) in
+    ap (λ (o : Option Row). starts_db (at_row (λ (r : Row). bracket_layout Intel bits r (name_of i.code.0) i) o)) at
     ∙ layout_other bits row (name_of i.code.0) i (name_is_other i.code.0 lt)

@@ -11,6 +11,8 @@ use Rattle.std.specs.Cmp.{IsTotalOrder}
 use Rattle.x86_values.specs.declared.Bits.{Bits}
 use Rattle.x86_values.specs.declared.Instr.{Instr}
 use Rattle.x86_values.specs.Wrapping.{wrapped}
+use Rattle.opcode_rows.specs.declared.spots.TheConstants.{ROWS}
+use Rattle.opcode_rows.specs.Table.{table}
 use Rattle.intel_text.specs.Text.{text as text_of}
 use Rattle.intel_reader.specs.Assembled.{Assembly, rank, IsCandidate, IsFirst, AssemblesTo, IsNoText}
 use Rattle.run_parts.specs.declared.status.Status.{Status}
@@ -46,6 +48,12 @@ rank_bytes a b e =
     (last_equal (nat_cmp a.instr.code.0 b.instr.code.0) _ (last_equal (nat_cmp (length a.bytes) (length b.bytes)) _ e))
 
 module _ (bits : Bits) where
+  -- a line that is neither stands for nothing
+  pub not_code : (ip : ℕ) (line bytes : List ℕ) → IsNoText bits ip line → ((xs : List ℕ) → IsByteLine line xs → ⊥) → IsCodeOfLine bits ip line bytes → ⊥
+  not_code ip line bytes none no_byte (inl h) = none (record { instr = h.0; bytes = bytes }) h.1.candidate
+  not_code ip line bytes none no_byte (inr h) = no_byte bytes h
+
+module _ (counted : length table ≡ ROWS) (bits : Bits) where
   -- a text stands for one list of bytes
   text_unique : (ip : ℕ) (text xs ys : List ℕ) → AssemblesTo bits ip text xs → AssemblesTo bits ip text ys → xs ≡ ys
   text_unique ip text xs ys h k =
@@ -58,7 +66,7 @@ module _ (bits : Bits) where
   unfolding starts_db
   text_or_byte ip line xs ys h k =
       let c = h.1.candidate in
-      let other : starts_db (text_of bits h.0) ≡ false = text_other bits c.spelled.row h.0 c.spelled.row_is in
+      let other : starts_db (text_of bits h.0) ≡ false = text_other counted bits c.spelled.row h.0 c.spelled.row_is in
       let same : text_of bits h.0 ≡ front ++ _ = c.printed ∙ (k.line_is ∙ line_text k.byte) in
       let both : true ≡ false = sym (ap starts_db same) ∙ other in
       cc
@@ -69,11 +77,6 @@ module _ (bits : Bits) where
   line_unique ip line xs ys (inl h) (inr k) = absurd (text_or_byte ip line xs ys h k)
   line_unique ip line xs ys (inr h) (inl k) = absurd (text_or_byte ip line ys xs k h)
   line_unique ip line xs ys (inr h) (inr k) = byte_unique line xs ys h k
-
-  -- a line that is neither stands for nothing
-  pub not_code : (ip : ℕ) (line bytes : List ℕ) → IsNoText bits ip line → ((xs : List ℕ) → IsByteLine line xs → ⊥) → IsCodeOfLine bits ip line bytes → ⊥
-  not_code ip line bytes none no_byte (inl h) = none (record { instr = h.0; bytes = bytes }) h.1.candidate
-  not_code ip line bytes none no_byte (inr h) = no_byte bytes h
 
   -- ---- lines
 

@@ -6,7 +6,9 @@ ghost use Rattle.run_parts.specs.Reads.{whole_limit, Takes, EndsAtFault};
 ghost use Rattle.asm_run.specs.Assembling.{AssemblesAs, CompletesAssembling};
 
 use crate::code_lines::code_of_lines;
+use crate::laws::texts_have_one_answer;
 use byte_ports::{Sink, Source};
+use run_parts::laws::told_bytes_are_read;
 use run_parts::{ReadError, Status, WHOLE_LIMIT, put_all, read_all};
 use std::alloc::Global;
 use x86_values::Bits;
@@ -34,6 +36,8 @@ pub fn assemble_code<S: Source, K: Sink>(
     ensures taken { Takes whole_limit (S.left source.old) (S.left source.new)
         × (result ≡ Status.ReadFault → EndsAtFault S.pull_gives S.left source.new) }
 {
+    told_bytes_are_read();
+    texts_have_one_answer();
     let input = match read_all(alloc, source, WHOLE_LIMIT) {
         Ok(input) => input,
         Err(ReadError::Fault) => return Status::ReadFault,

@@ -4,5 +4,6 @@
 mod assembling;
 mod code_lines;
 mod code_of_line;
+pub mod laws;
 
 pub use assembling::assemble_code;

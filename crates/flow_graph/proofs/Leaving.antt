@@ -16,6 +16,7 @@ use Rattle.operand_info.specs.Operands.{first_value, near_value}
 use Rattle.decoder.specs.declared.DecodeError.{DecodeError}
 use Rattle.decoder.specs.declared.DecodeError.TheVariants.{Invalid as InvalidError, TooShort as TooShortError}
 use Rattle.decoder.specs.Answer.{reading_of}
+use Rattle.decoder.specs.OneReading.{OneReadingFacts}
 use Rattle.flow_graph.specs.declared.exits.Exits.{Exits}
 use Rattle.flow_graph.specs.Control.{CodeBytes, goes_on, goes_to_target, GoesToTarget, Leads, ReadingLeads, IsReadIn, IsSuccessor, EndsAt}
 use Rattle.flow_graph.specs.Exits.{target_offset, is_at, next_exit, target_exit, exits_of, IsExit, AreExits}
@@ -121,7 +122,7 @@ is_true e = search rules
 from_true : {b : Bool} → IsTrue b → b ≡ true
 from_true h = search rules
 
-module _ (code : CodeBytes) (p : ℕ) (d : Decoded) (reads : IsReadIn code p (Read d)) (some : 0 < d.len) where
+module _ (one : OneReadingFacts) (code : CodeBytes) (p : ℕ) (d : Decoded) (reads : IsReadIn code p (Read d)) (some : 0 < d.len) where
   abbrev flow : Flow
   flow = flow_of d.instr.code.0
 
@@ -157,7 +158,7 @@ module _ (code : CodeBytes) (p : ℕ) (d : Decoded) (reads : IsReadIn code p (Re
   target_right : (q : ℕ) → exits.target ≡ Some q → IsSuccessor code p q × (EndsAt code p q → ⊥)
   target_right q h =
       let t = target_some target (p + d.len) (length code.bytes) q h in
-      (successor q (leads_target q t.0) t.1, λ e. t.2 (ends_at code p q d reads e))
+      (successor q (leads_target q t.0) t.1, λ e. t.2 (ends_at one code p q d reads e))
 
   -- at the end of the instruction
   exit_next : (q : ℕ) → q ≡ p + d.len → q < length code.bytes → (goes_on flow ≡ true) ⊎ (target ≡ Some (p + d.len)) → IsExit p exits q
@@ -178,7 +179,7 @@ module _ (code : CodeBytes) (p : ℕ) (d : Decoded) (reads : IsReadIn code p (Re
   exits_right = record {
     next = next_right;
     target = target_right;
-    all = λ q s. exit_from q s.inside (leads_to code p q (Read d) reads s);
+    all = λ q s. exit_from q s.inside (leads_to one code p q (Read d) reads s);
   }
 
 -- where nothing is read there are none
@@ -189,12 +190,12 @@ nothing_leads : (code : CodeBytes) (p q : ℕ) (e : DecodeError) → ReadingLead
 nothing_leads code p q TooShortError h = h
 nothing_leads code p q InvalidError h = h
 
-pub no_exits_right : (code : CodeBytes) (p : ℕ) (e : DecodeError) → IsReadIn code p (reading_of (Err e)) → AreExits code p no_exits
-no_exits_right code p e reads =
+pub no_exits_right : OneReadingFacts → (code : CodeBytes) (p : ℕ) (e : DecodeError) → IsReadIn code p (reading_of (Err e)) → AreExits code p no_exits
+no_exits_right one code p e reads =
     record {
       next = λ h. absurd (omega arith);
       target = λ q h. absurd (no_target q h);
-      all = λ q s. absurd (nothing_leads code p q e (leads_to code p q (reading_of (Err e)) reads s));
+      all = λ q s. absurd (nothing_leads code p q e (leads_to one code p q (reading_of (Err e)) reads s));
     }
   where
     no_target : (q : ℕ) → None ≡ Some q → ⊥

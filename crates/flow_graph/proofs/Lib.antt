@@ -1,4 +1,3 @@
-pub mod WrappedAddress
 pub mod OneReading
 pub mod Leaving
 pub mod Arriving

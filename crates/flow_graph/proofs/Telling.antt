@@ -5,6 +5,7 @@ use Rattle.std.proofs.lemmas.List.{get_or-set_same, get_or-set_other, get_or_app
 use Rattle.decoder.specs.declared.DecodeError.{DecodeError}
 use Rattle.decoder.specs.declared.DecodeError.TheVariants.{Invalid as InvalidError, TooShort as TooShortError}
 use Rattle.decoder.specs.Answer.{reading_of}
+use Rattle.decoder.specs.OneReading.{OneReadingFacts}
 use Rattle.x86_values.specs.declared.Decoded.{Decoded}
 use Rattle.row_relation.specs.Spells.{Read}
 use Rattle.operand_info.specs.ByCode.{flow_of}
@@ -29,9 +30,9 @@ error_told InvalidError = refl
 error_told TooShortError = refl
 
 -- one thing alone is told of an offset
-pub told_same : (code : CodeBytes) (p : ℕ) (a b : Result Flow DecodeError) → Tells code p a → Tells code p b → a ≡ b
-told_same code p a b t u =
-    t.is ∙ (ap told_of (reading_unique code.bits code.base p (drop p code.bytes) t.reading u.reading t.reads u.reads) ∙ sym u.is)
+pub told_same : OneReadingFacts → (code : CodeBytes) (p : ℕ) (a b : Result Flow DecodeError) → Tells code p a → Tells code p b → a ≡ b
+told_same one code p a b t u =
+    t.is ∙ (ap told_of (reading_unique one code.bits code.base p (drop p code.bytes) t.reading u.reading t.reads u.reads) ∙ sym u.is)
 
 -- nothing was told before the first turn
 pub told_start : (code : CodeBytes) (order : List ℕ) (flows : Flows) (count : ℕ) → count ≡ length code.bytes → length flows ≡ count → AreTold code order 0 flows

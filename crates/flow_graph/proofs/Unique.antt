@@ -9,6 +9,7 @@ use Rattle.std.proofs.lemmas.List.Kept.{AllPairs-from_increasing}
 use Rattle.flow_graph.specs.Control.{CodeBytes, IsSuccessor}
 use Rattle.flow_graph.specs.Reached.{Reaches, start, step, Follows, IsLeader, LeaderOf, itself, carried}
 use Rattle.flow_graph.specs.Told.{Tells, untold, told_at}
+use Rattle.decoder.specs.OneReading.{OneReadingFacts}
 use Rattle.flow_graph.proofs.Telling.{Flows, told_same}
 use Rattle.flow_graph.specs.Graphs.{Graph, IsFlowGraph}
 
@@ -124,8 +125,8 @@ starts_within code g h a b n has =
     let at = place_of g.starts n has in b.complete n (subst (Reaches code) at.2 (a.reached at.0 0 at.1))
 
 -- **some code has one graph**
-pub one_graph : (code : CodeBytes) (graph other : Graph) → IsFlowGraph code graph → IsFlowGraph code other → graph ≡ other
-one_graph code g h a b =
+pub one_graph : OneReadingFacts → (code : CodeBytes) (graph other : Graph) → IsFlowGraph code graph → IsFlowGraph code other → graph ≡ other
+one_graph one code g h a b =
     let starts : g.starts ≡ h.starts =
     same_numbers g.starts h.starts a.ascending b.ascending (starts_within code g h a b) (starts_within code h g b a) in
     let len : length g.starts ≡ length h.starts = ap length starts in
@@ -141,7 +142,7 @@ one_graph code g h a b =
     (λ k l.
     let in_g : k < length g.starts = omega (arith, a.flows_len) in
     let in_h : k < length h.starts = omega (arith, len) in
-    told_same code (get_or g.starts k 0) (told_at g.flows k) (told_at h.flows k) (a.told k in_g)
+    told_same one code (get_or g.starts k 0) (told_at g.flows k) (told_at h.flows k) (a.told k in_g)
     (subst (λ xs. Tells code (get_or xs k 0) (told_at h.flows k)) (sym starts) (b.told k in_h))) in
     ap (λ xs. make xs g.leaders g.flows) starts ∙ (ap (λ xs. make h.starts xs g.flows) leaders ∙ ap (make h.starts h.leaders) flows)
   where

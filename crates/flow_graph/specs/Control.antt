@@ -16,6 +16,7 @@ pub record CodeBytes : Type 0 where
   pub base : ℕ
   pub bytes : List ℕ
 
+-- the same of their parts
 abbrev pub code_bytes : Bits → ℕ → List ℕ → CodeBytes
 code_bytes bits base bytes = record { bits = bits; base = base; bytes = bytes }
 

@@ -27,11 +27,12 @@ abbrev pub mark_of_end : Option ℕ → ℕ → ℕ
 mark_of_end None n = 1 + n
 mark_of_end (Some target) n = 1
 
--- the marks and the order behind the edge from p to the end of its instruction, if there is one
+-- the marks behind the edge from p to the end of its instruction, if there is one
 abbrev pub next_marks : List ℕ → ℕ → Exits → List ℕ
 next_marks marks p exits =
     if nat_lt 0 exits.next then marked marks (p + exits.next) (mark_of_end exits.target exits.next) else marks
 
+-- the order behind it
 abbrev pub next_order : List ℕ → List ℕ → ℕ → Exits → List ℕ
 next_order marks order p exits = if nat_lt 0 exits.next then queued marks order (p + exits.next) else order
 
@@ -56,10 +57,11 @@ pub record IsWalk (code : CodeBytes) (marks order : List ℕ) (gone : Edges) : T
   pub leads : (q : ℕ) → slice_index marks q ≡ 1 → (p : ℕ) → Follows code p q → ⊥
   pub follows : (q : ℕ) → 1 < slice_index marks q → (p : ℕ) × (p + slice_index marks q ≡ q + 1) × FollowsSoFar code gone p q
 
--- a walk that stands at the first byte, if there is one
+-- the marks of a walk that stands at the first byte
 abbrev pub first_marks : ℕ → List ℕ
 first_marks count = slice_set (replicate count 0) 0 1
 
+-- its order: that byte, if there is one
 abbrev pub first_order : ℕ → List ℕ
 first_order zero = []
 first_order (suc n) = 0 ∷ []

@@ -11,6 +11,8 @@ ghost use Rattle.operand_info.specs.ByCode as columns;
 
 use crate::reading::read_at;
 use decoder::DecodeError;
+use decoder::reading_laws::bytes_have_one_reading;
+use operand_info::laws::well_formed_codes_are_in_the_table;
 use operand_info::{Flow, flow_of, near_target};
 use plain_spelling::numbers::distance;
 use x86_values::{Bits, Decoded, Instr};
@@ -129,7 +131,6 @@ fn exits_of(
 }
 
 /// What is read at an offset, and where control goes from it.
-#[tactic(auto, using(operand_info::proofs::Uses::code_in_table))]
 pub(crate) fn stop_at(bits: Bits, base: u64, bytes: &[u8], offset: usize) -> Stop
     requires inside { offset < length bytes.now }
     requires few { length bytes.now ≤ 1048576 }
@@ -138,6 +139,8 @@ pub(crate) fn stop_at(bits: Bits, base: u64, bytes: &[u8], offset: usize) -> Sto
     ensures short { result.exits.next ≤ 15 }
     ensures inside { IfSome result.exits.target (λ q. q < length bytes.now) }
 {
+    bytes_have_one_reading();
+    well_formed_codes_are_in_the_table();
     match read_at(bits, base, offset, &bytes[offset..]) {
         Ok(decoded) => {
             let flow = flow_of(decoded.instr.code);

@@ -5,6 +5,8 @@ ghost use Rattle.flow_graph.specs.Control.{CodeBytes, IsSuccessor};
 ghost use Rattle.flow_graph.specs.Reached.{Reaches, LeaderOf};
 ghost use Rattle.flow_graph.specs.Graphs.{Graph, IsFlowGraph};
 
+use decoder::reading_laws::bytes_have_one_reading;
+
 /// Every set that has the first byte, and with each offset its successors, has the reached offsets.
 pub fn reached_is_least()
     ensures { (code : CodeBytes) (chosen : ℕ → Bool) → (0 < length code.bytes → IsTrue (chosen 0))
@@ -20,4 +22,6 @@ pub fn leaders_are_unique()
 /// Some code has one graph at most.
 pub fn graphs_are_unique()
     ensures { (code : CodeBytes) (graph other : Graph) → IsFlowGraph code graph → IsFlowGraph code other → graph ≡ other }
-{}
+{
+    bytes_have_one_reading();
+}

@@ -5,11 +5,12 @@ ghost use Rattle.opcode_rows.specs.Allowed.{is_well_formed};
 ghost use Rattle.opcode_rows.specs.Sweep.{IsReadAt};
 ghost use Rattle.decoder.specs.Answer.{reading_of};
 
+use decoder::reading_laws::wrapped_addresses_read_alike;
 use decoder::{DecodeError, decode};
 use x86_values::{Bits, Decoded, wrap};
 
 /// Reads the bytes that stand from an offset on, in code whose first byte has the address `base`. Addresses wrap in the mode.
-#[tactic(auto, using(crate::proofs::WrappedAddress::read_at_wrapped), unfolding(prefixes::specs::Answer::mode_of))]
+#[tactic(auto, unfolding(prefixes::specs::Answer::mode_of))]
 pub(crate) fn read_at(
     bits: Bits,
     base: u64,
@@ -20,6 +21,7 @@ pub(crate) fn read_at(
     ensures length { IfOk result (λ d. (0 < d.len) × (d.len ≤ 15)) }
     ensures well { IfOk result (λ d. IsTrue (is_well_formed d.instr)) }
 {
+    wrapped_addresses_read_alike();
     let ip = wrap(bits, u128::from(base) + offset as u128);
     match bits {
         Bits::B16 => decode::<16>(ip, bytes),

@@ -9,8 +9,8 @@ use Rattle.row_relation.specs.Spells.{Reading}
 use Rattle.flow_graph.specs.Control.{CodeBytes, IsReadIn, code_bytes}
 use Rattle.flow_graph.specs.Told.{told_at}
 use Rattle.flow_graph.specs.Graphs.{Graph, IsFlowGraph}
-use Rattle.run_parts.specs.Writing.{HoldsFront, Moves}
-use Rattle.run_parts.proofs.Held.{Held, held-start, held-step, held-end, held-failed}
+use Rattle.run_parts.specs.Facts.{HeldFacts}
+use Rattle.run_parts.specs.Writing.{HoldsFront, Moves, Held}
 use Rattle.flow_run.specs.Lines.{Stop, flow_word, flow_line, line_of, lines_of, AreStops}
 use Rattle.flow_run.specs.Flowing.{WritesFlow, WritesFlowFront}
 
@@ -19,15 +19,6 @@ pub record Progress (code : CodeBytes) (graph : Graph) (count : ℕ) (start held
   pub stops : List Stop
   pub are_stops : AreStops code graph count stops
   pub told : Held start held pending (lines_of code stops)
-
--- no line yet
-pub progress-start : (code : CodeBytes) (graph : Graph) (start : Option (List ℕ)) (pending : List ℕ) → pending ≡ [] →
-    Progress code graph 0 start start pending
-progress-start code graph start pending empty = record {
-  stops = [];
-  are_stops = record { starts = refl; leaders = refl; reads = All-nil (λ (s : Stop). IsReadIn code s.start s.reading) };
-  told = held-start start pending empty;
-}
 
 -- one more number of a list
 one_more : (f : Stop → ℕ) (stops : List Stop) (stop : Stop) (xs : List ℕ) (k : ℕ) → k < length xs → map f stops ≡ take k xs → f stop ≡ get_or xs k 0 →
@@ -42,53 +33,63 @@ one_more f stops stop xs k lt before is =
 abbrev stop_of : ℕ → ℕ → Reading → Stop
 stop_of start leader reading = record { start = start; leader = leader; reading = reading }
 
--- one more line
-pub progress-step : (code : CodeBytes) (graph : Graph) (k : ℕ) (start held held' : Option (List ℕ)) (before after : List ℕ) → IsFlowGraph code graph →
-    k < length graph.starts → Progress code graph k start held before →
-    Moves held held' before after
-    (flow_line code.bits code.base (get_or graph.starts k 0) (get_or graph.leaders k 0) (flow_word (told_at graph.flows k))) →
-    Progress code graph (k + 1) start held' after
-progress-step code graph k start held held' before after is lt p w =
-    let len = is.len in
-    let t = is.told k lt in
-    let stop = stop_of (get_or graph.starts k 0) (get_or graph.leaders k 0) t.reading in
-    let moves : Moves held held' before after (line_of code stop) =
-    subst (λ f. Moves held held' before after (flow_line code.bits code.base (get_or graph.starts k 0) (get_or graph.leaders k 0) (flow_word f))) t.is w in
-    let IsRead : Stop → Type 0 = λ (s : Stop). IsReadIn code s.start s.reading in
-    let more : lines_of code p.stops ++ line_of code stop ≡ lines_of code (p.stops ++ stop ∷ []) = flat_map_more (line_of code) [] p.stops stop in
-    record {
-      stops = p.stops ++ stop ∷ [];
-      are_stops = record {
-        starts = one_more (λ (s : Stop). s.start) p.stops stop graph.starts k lt p.are_stops.starts refl;
-        leaders = one_more (λ (s : Stop). s.leader) p.stops stop graph.leaders k (omega arith) p.are_stops.leaders refl;
-        reads = All-append IsRead p.stops (stop ∷ []) p.are_stops.reads (All-cons IsRead stop [] t.reads (All-nil IsRead));
-      };
-      told = subst (λ (xs : List ℕ). Held start held' after xs) more (held-step start held held' before after (lines_of code p.stops) (line_of code stop) p.told moves);
-    }
+module _ (f : HeldFacts) where
+  -- no line yet
+  pub progress-start : (code : CodeBytes) (graph : Graph) (start : Option (List ℕ)) (pending : List ℕ) → pending ≡ [] →
+      Progress code graph 0 start start pending
+  progress-start code graph start pending empty = record {
+    stops = [];
+    are_stops = record { starts = refl; leaders = refl; reads = All-nil (λ (s : Stop). IsReadIn code s.start s.reading) };
+    told = f.held-start start pending empty;
+  }
 
--- all lines
-pub progress-end : (bits : Bits) (base : ℕ) (bytes : List ℕ) (graph : Graph) (count : ℕ) (start held held' : Option (List ℕ)) (pending : List ℕ) →
-    IsFlowGraph (code_bytes bits base bytes) graph → count ≡ length graph.starts → Progress (code_bytes bits base bytes) graph count start held pending →
-    held' ≡ with_back held pending → WritesFlow bits base bytes start held'
-progress-end bits base bytes graph count start held held' pending is all p whole =
-    let code = code_bytes bits base bytes in
-    record {
-      graph = graph;
-      is_graph = is;
-      stops = p.stops;
-      are_stops = subst (λ (n : ℕ). AreStops code graph n p.stops) all p.are_stops;
-      written = held-end start held held' pending (lines_of code p.stops) p.told whole;
-    }
+  -- one more line
+  pub progress-step : (code : CodeBytes) (graph : Graph) (k : ℕ) (start held held' : Option (List ℕ)) (before after : List ℕ) → IsFlowGraph code graph →
+      k < length graph.starts → Progress code graph k start held before →
+      Moves held held' before after
+      (flow_line code.bits code.base (get_or graph.starts k 0) (get_or graph.leaders k 0) (flow_word (told_at graph.flows k))) →
+      Progress code graph (k + 1) start held' after
+  progress-step code graph k start held held' before after is lt p w =
+      let len = is.len in
+      let t = is.told k lt in
+      let stop = stop_of (get_or graph.starts k 0) (get_or graph.leaders k 0) t.reading in
+      let moves : Moves held held' before after (line_of code stop) =
+      subst (λ told. Moves held held' before after (flow_line code.bits code.base (get_or graph.starts k 0) (get_or graph.leaders k 0) (flow_word told))) t.is w in
+      let IsRead : Stop → Type 0 = λ (s : Stop). IsReadIn code s.start s.reading in
+      let more : lines_of code p.stops ++ line_of code stop ≡ lines_of code (p.stops ++ stop ∷ []) = flat_map_more (line_of code) [] p.stops stop in
+      record {
+        stops = p.stops ++ stop ∷ [];
+        are_stops = record {
+          starts = one_more (λ (s : Stop). s.start) p.stops stop graph.starts k lt p.are_stops.starts refl;
+          leaders = one_more (λ (s : Stop). s.leader) p.stops stop graph.leaders k (omega arith) p.are_stops.leaders refl;
+          reads = All-append IsRead p.stops (stop ∷ []) p.are_stops.reads (All-cons IsRead stop [] t.reads (All-nil IsRead));
+        };
+        told = subst (λ (xs : List ℕ). Held start held' after xs) more (f.held-step start held held' before after (lines_of code p.stops) (line_of code stop) p.told moves);
+      }
 
--- a failure while lines are held back
-pub progress-failed : (bits : Bits) (base : ℕ) (bytes : List ℕ) (graph : Graph) (count : ℕ) (start held held' : Option (List ℕ)) (pending : List ℕ) →
-    IsFlowGraph (code_bytes bits base bytes) graph → Progress (code_bytes bits base bytes) graph count start held pending →
-    HoldsFront held held' pending → WritesFlowFront bits base bytes start held'
-progress-failed bits base bytes graph count start held held' pending is p front = record {
-  graph = graph;
-  is_graph = is;
-  count = count;
-  stops = p.stops;
-  are_stops = p.are_stops;
-  written = held-failed start held held' pending (lines_of (code_bytes bits base bytes) p.stops) p.told front;
-}
+  -- all lines
+  pub progress-end : (bits : Bits) (base : ℕ) (bytes : List ℕ) (graph : Graph) (count : ℕ) (start held held' : Option (List ℕ)) (pending : List ℕ) →
+      IsFlowGraph (code_bytes bits base bytes) graph → count ≡ length graph.starts → Progress (code_bytes bits base bytes) graph count start held pending →
+      held' ≡ with_back held pending → WritesFlow bits base bytes start held'
+  progress-end bits base bytes graph count start held held' pending is all p whole =
+      let code = code_bytes bits base bytes in
+      record {
+        graph = graph;
+        is_graph = is;
+        stops = p.stops;
+        are_stops = subst (λ (n : ℕ). AreStops code graph n p.stops) all p.are_stops;
+        written = f.held-end start held held' pending (lines_of code p.stops) p.told whole;
+      }
+
+  -- a failure while lines are held back
+  pub progress-failed : (bits : Bits) (base : ℕ) (bytes : List ℕ) (graph : Graph) (count : ℕ) (start held held' : Option (List ℕ)) (pending : List ℕ) →
+      IsFlowGraph (code_bytes bits base bytes) graph → Progress (code_bytes bits base bytes) graph count start held pending →
+      HoldsFront held held' pending → WritesFlowFront bits base bytes start held'
+  progress-failed bits base bytes graph count start held held' pending is p front = record {
+    graph = graph;
+    is_graph = is;
+    count = count;
+    stops = p.stops;
+    are_stops = p.are_stops;
+    written = f.held-failed start held held' pending (lines_of (code_bytes bits base bytes) p.stops) p.told front;
+  }

@@ -13,8 +13,9 @@ use byte_ports::{Failed, Sink};
 use decoder::DecodeError;
 use flow_graph::FlowGraph;
 use operand_info::Flow;
+use run_parts::laws::held_texts_arrive;
 use run_parts::{make_room, put_all};
-use sweep_text::{Chunk, append, append_address, flow_name};
+use sweep_text::{CHUNK_LEN, Chunk, LINE_LEN, append, append_address, flow_name};
 use x86_values::Bits;
 
 /// The word for the flow of an instruction, or for why none is read.
@@ -41,7 +42,7 @@ fn append_flow_line(
     word: &[u8],
 )
     requires word { length word.now ≤ 19 }
-    requires room { array_vec_len pending.old + 209 ≤ 16384 }
+    requires room { array_vec_len pending.old + LINE_LEN ≤ CHUNK_LEN }
     ensures { pending.new.items ≡ pending.old.items ++ spec.flow_line bits base start leader word.now }
 {
     append_address(pending, bits, base, start);
@@ -92,6 +93,7 @@ pub fn write_flow<K: Sink>(
         → WritesFlowFront bits base bytes (K.held out.old) (K.held out.new)) }
     ensures cause { HasCause (K.faults out.old) (K.faults out.new) result }
 {
+    held_texts_arrive();
     let starts = graph.starts();
     let leaders = graph.leaders();
     let flows = graph.flows();

@@ -1,5 +1,5 @@
 use super::*;
-use crate::tests::at;
+use crate::tests::{at, expect_port_faults};
 use byte_ports::{FailAt, MemSink, MemSource};
 use decoder::DecodeError;
 use std::process::Abort;
@@ -257,24 +257,7 @@ fn a_wrong_word_of_a_moving_is_named(rt: HostRuntime) -> Result<(), Fail> {
 
 #[test]
 fn a_port_that_fails_ends_a_moving(rt: HostRuntime) -> Result<(), Fail> {
-    let words = ["move", "64", "1000", "2000"];
-    let code = [0xeb, 0xfe];
-
-    let mut source = FailAt::new(MemSource::new(&code), at(1));
-    let mut out = MemSink::new(rt.alloc(), MANY)?;
-    let mut err = MemSink::new(rt.alloc(), 80)?;
-    let status = run(rt.alloc(), &words, &mut source, &mut out, &mut err);
-    assert_eq!(rt; (status, status_number(&status)), (Status::ReadFault, 3));
-    assert_eq!(rt; out.bytes(), b"".as_slice());
-    assert_eq!(rt; err.bytes(), b"read fault\n".as_slice());
-
-    let mut source = MemSource::new(&code);
-    let mut out = FailAt::new(MemSink::new(rt.alloc(), MANY)?, at(1));
-    let mut err = MemSink::new(rt.alloc(), 80)?;
-    let status = run(rt.alloc(), &words, &mut source, &mut out, &mut err);
-    assert_eq!(rt; (status, status_number(&status)), (Status::WriteFault, 4));
-    assert_eq!(rt; out.inner().bytes(), b"".as_slice());
-    assert_eq!(rt; err.bytes(), b"write fault\n".as_slice());
+    expect_port_faults(&rt, &["move", "64", "1000", "2000"], &[0xeb, 0xfe], 1)?;
 
     let mut source = MemSource::new(&[0x0f, 0x04]);
     let mut out = MemSink::new(rt.alloc(), MANY)?;

@@ -572,26 +572,37 @@ pub(crate) fn at(call: u64) -> ArrayVec<u64, 8> {
     calls
 }
 
+/// Compares what a command line gives where this pull of its source fails, and where the first put to its output does: the fault alone.
+pub(crate) fn expect_port_faults<R: Abort + AllocGlobal>(
+    rt: &R,
+    words: &[&str],
+    code: &[u8],
+    pull: u64,
+) -> Result<(), Fail> {
+    let mut source = FailAt::new(MemSource::new(code), at(pull));
+    let mut out = MemSink::new(rt.alloc(), MANY)?;
+    let mut err = MemSink::new(rt.alloc(), 80)?;
+    let status = run(rt.alloc(), words, &mut source, &mut out, &mut err);
+    assert_eq!(rt; (status, status_number(&status)), (Status::ReadFault, 3));
+    assert_eq!(rt; out.bytes(), b"".as_slice());
+    assert_eq!(rt; err.bytes(), b"read fault\n".as_slice());
+
+    let mut source = MemSource::new(code);
+    let mut out = FailAt::new(MemSink::new(rt.alloc(), MANY)?, at(1));
+    let mut err = MemSink::new(rt.alloc(), 80)?;
+    let status = run(rt.alloc(), words, &mut source, &mut out, &mut err);
+    assert_eq!(rt; (status, status_number(&status)), (Status::WriteFault, 4));
+    assert_eq!(rt; out.inner().bytes(), b"".as_slice());
+    assert_eq!(rt; err.bytes(), b"write fault\n".as_slice());
+    Ok(())
+}
+
 #[test]
 fn a_port_that_fails_ends_the_run(rt: HostRuntime) -> Result<(), Fail> {
     let words = ["list", "64", "0", "intel"];
     let code = [0x90, 0x90];
 
-    let mut source = FailAt::new(MemSource::new(&code), at(2));
-    let mut out = MemSink::new(rt.alloc(), MANY)?;
-    let mut err = MemSink::new(rt.alloc(), 80)?;
-    let status = run(rt.alloc(), &words, &mut source, &mut out, &mut err);
-    assert_eq!(rt; (status, status_number(&status)), (Status::ReadFault, 3));
-    assert_eq!(rt; out.bytes(), b"".as_slice());
-    assert_eq!(rt; err.bytes(), b"read fault\n".as_slice());
-
-    let mut source = MemSource::new(&code);
-    let mut out = FailAt::new(MemSink::new(rt.alloc(), MANY)?, at(1));
-    let mut err = MemSink::new(rt.alloc(), 80)?;
-    let status = run(rt.alloc(), &words, &mut source, &mut out, &mut err);
-    assert_eq!(rt; (status, status_number(&status)), (Status::WriteFault, 4));
-    assert_eq!(rt; out.inner().bytes(), b"".as_slice());
-    assert_eq!(rt; err.bytes(), b"write fault\n".as_slice());
+    expect_port_faults(&rt, &words, &code, 2)?;
 
     // A sink with less room takes a part of the listing and then fails.
     let mut source = MemSource::new(&code);

@@ -23,6 +23,7 @@ use run_parts::{Status, put_all, say, status_line};
 use sample_run::sample;
 use slots_run::slot_code;
 use std::alloc::Global;
+use sweep::laws::listings_come_to_their_end;
 use sweep::{Lines, StreamError, stream_lines};
 use x86_values::Bits;
 
@@ -131,6 +132,7 @@ fn answer<S: Source, K: Sink>(
         Command::Help => write_text(help_text(), out),
         Command::Version => write_text(version_text(), out),
         Command::List { bits, base, syntax } => {
+            listings_come_to_their_end();
             go_through(bits, base, Lines::Listing { syntax }, source, out)
         }
         Command::Info { bits, base } => go_through(bits, base, Lines::Info, source, out),

@@ -9,6 +9,7 @@ ghost use Rattle.listing_run.specs.Rows.{rows_text};
 use byte_ports::{Failed, Sink};
 use opcode_rows::ROWS;
 use row_lines::row_line;
+use run_parts::laws::held_texts_arrive;
 use run_parts::{make_room, put_all};
 use sweep_text::{Chunk, append};
 use x86_values::Code;
@@ -31,6 +32,7 @@ pub fn write_rows<K: Sink>(out: &mut K) -> Result<(), Failed>
     ensures err { OnErr result (HoldsFront (K.held out.old) (K.held out.new) rows_text) }
     ensures cause { HasCause (K.faults out.old) (K.faults out.new) result }
 {
+    held_texts_arrive();
     let mut pending = Chunk::new();
     let mut code = 0;
     while code < ROWS {

@@ -4,21 +4,21 @@ use Rattle.x86_values.specs.declared.Bits.{Bits}
 use Rattle.command_words.specs.declared.commands.BlockWords.{BlockWords}
 use Rattle.run_parts.specs.declared.status.Status.{Status}
 use Rattle.run_parts.specs.declared.status.Status.TheVariants.{Done, BadCode, ReadFault, WriteFault, Memory, TooLarge, Wraps, TooFar, TooMany}
+use Rattle.run_parts.specs.Facts.{ReadFacts}
 use Rattle.run_parts.specs.Reads.{whole_limit, ReadsAll}
-use Rattle.run_parts.proofs.Whole.{all_bytes, too_many}
 use Rattle.moving_run.specs.declared.moving.Wanted.{Wanted}
 use Rattle.moving_run.specs.Moving.{IsCodeAnswer, RefusesAs, MovesAs, CompletesMoving}
-use Rattle.moving_run.proofs.Unique.{answer_unique}
+use Rattle.moving_run.specs.Facts.{AnswerFacts}
 
-module _ (wanted : Wanted) (bits : Bits) (words : List BlockWords) where
+module _ (facts : ReadFacts) (answers : AnswerFacts) (wanted : Wanted) (bits : Bits) (words : List BlockWords) where
   -- an answer for all bytes
   answered : (bytes : List ℕ) (left' : Option (List ℕ)) (read : List ℕ) (status : Status) → ReadsAll whole_limit (Some bytes) left' read →
       IsCodeAnswer wanted bits words read status → CompletesMoving wanted bits words (Some bytes) status
   answered bytes left' read status reads h =
-      let same = all_bytes whole_limit bytes left' read reads in
+      let same = facts.all_bytes whole_limit bytes left' read reads in
       let within = reads.within in
       let there = subst (λ (xs : List ℕ). IsCodeAnswer wanted bits words xs status) (sym same) h in (
-        λ few answer is. inl (answer_unique wanted bits words bytes status answer there is),
+        λ few answer is. inl (answers.answer_unique wanted bits words bytes status answer there is),
         λ many. absurd (omega (arith, ap length same)),
       )
 
@@ -36,7 +36,7 @@ module _ (wanted : Wanted) (bits : Bits) (words : List BlockWords) where
   completes (Some bytes) left' held held' source_rose out_rose Memory h s o = (λ few answer is. inr refl, λ many. inr refl)
   completes None left' held held' source_rose out_rose Memory h s o = λ e. elim e [ inl x ↦ cc | inr x ↦ cc ]
   completes (Some bytes) left' held held' source_rose out_rose (TooLarge limit) h s o =
-      let over = too_many whole_limit bytes left' h.1.0.0 h.1.0.1 in (
+      let over = facts.too_many whole_limit bytes left' h.1.0.0 h.1.0.1 in (
         λ few answer is. absurd (omega arith),
         λ many. inl (ap TooLarge h.0),
       )

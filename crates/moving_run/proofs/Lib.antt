@@ -5,6 +5,5 @@ pub mod Order
 pub mod Wholes
 pub mod Unique
 pub mod Completing
-pub mod ReadBack
 pub mod Moved
 pub mod MapLines

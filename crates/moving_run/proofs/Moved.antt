@@ -17,13 +17,14 @@ use Rattle.moving_run.specs.Code.{all_placed, all_spans}
 use Rattle.moving_run.specs.Ends.{first_pass}
 use Rattle.moving_run.specs.Moving.{MovesInput, MovesCode, RefusesCode, IsRefusal, MovesAs, wanted_text}
 use Rattle.moving_run.specs.Read.{IsCode}
-use Rattle.moving_run.proofs.ReadBack.{reads_back}
+use Rattle.moving_run.specs.Facts.{ReadBackFacts}
+use Rattle.branch_sizes.specs.Facts.{BlockFacts}
 use Rattle.moving_run.proofs.Reading.{first_items-few}
 use Rattle.moving_run.proofs.Wholes.{spans_of, are_placed, no_disorder, ends_are}
 
 -- ---- the code
 
-module _ (bits : Bits) (words : List BlockWords) (bytes : List ℕ) (code : Code) (is : IsCode bits words bytes code) (few : code.count ≤ 65536) where
+module _ (blocks : BlockFacts) (bits : Bits) (words : List BlockWords) (bytes : List ℕ) (code : Code) (is : IsCode bits words bytes code) (few : code.count ≤ 65536) where
   few_items : length (all_placed words is.items) ≤ 65536
   few_items = let count_is = is.count_is in omega arith
 
@@ -34,7 +35,7 @@ module _ (bits : Bits) (words : List BlockWords) (bytes : List ℕ) (code : Code
     swept = is.swept;
     refused = inl (record {
       few = few_items;
-      order = no_disorder bits words bytes is.items is.swept;
+      order = no_disorder blocks bits words bytes is.items is.swept;
       passes = ends_are bits words bytes is.items is.swept ∙ first;
     });
   }
@@ -73,7 +74,7 @@ module _ (bits : Bits) (words : List BlockWords) (bytes : List ℕ) (code : Code
     pub ordered : (at : ℕ) → IsRefused bits code.items.items code.spans.items (error.OldOrder at) → ⊥
     ordered at h =
         let there : IsRefused bits (all_placed words is.items) (all_spans words is.items) (error.OldOrder at) = rw (← items_are, ← is.spans_are) h in
-        let e : Some at ≡ None = sym there.1 ∙ no_disorder bits words bytes is.items is.swept in cc
+        let e : Some at ≡ None = sym there.1 ∙ no_disorder blocks bits words bytes is.items is.swept in cc
 
 -- ---- the command
 
@@ -91,14 +92,14 @@ forms_length bits words bytes placed m h =
     ap length h.is_moved.lists.forms ∙ (length-map-range_with_len _ 0 (length items) ∙ ap length (sym h.placed_is))
 
 -- what is written of them
-pub moves_code : (wanted : Wanted) (bits : Bits) (words : List BlockWords) (bytes : List ℕ) (placed : List Placed) (m : MovedLists) → length words ≤ 16 →
+pub moves_code : (back : ReadBackFacts) (wanted : Wanted) (bits : Bits) (words : List BlockWords) (bytes : List ℕ) (placed : List Placed) (m : MovedLists) → length words ≤ 16 →
     MovesInput bits words bytes placed m → MovesCode wanted bits words bytes (wanted_text wanted bits placed m)
-moves_code wanted bits words bytes placed m few h = record {
+moves_code back wanted bits words bytes placed m few h = record {
   items = h.items;
   swept = h.swept;
   moved = m;
   is_moved = h.is_moved;
-  read_back = reads_back bits (all_placed words h.items) (all_spans words h.items) (spans_of bits words bytes h.items h.swept few)
+  read_back = back.reads_back bits (all_placed words h.items) (all_spans words h.items) (spans_of bits words bytes h.items h.swept few)
       (are_placed bits words bytes h.items h.swept) m h.is_moved;
   text_is = ap (λ (items : List Placed). wanted_text wanted bits items m) h.placed_is;
 }

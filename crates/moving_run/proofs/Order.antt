@@ -12,7 +12,7 @@ use Rattle.opcode_rows.specs.Sweep.{Item, IsReadAt, IsItemAt, Sweeps, item_len}
 use Rattle.sweep_text.specs.Lines.{error_of}
 use Rattle.branch_sizes.specs.declared.plan.BlockSpan.{BlockSpan}
 use Rattle.branch_sizes.specs.Layout.{total, block_number, first_of_block, span_at}
-use Rattle.branch_sizes.proofs.Totals.{first_le}
+use Rattle.branch_sizes.specs.Facts.{BlockFacts}
 use Rattle.move_goals.specs.declared.items.Placed.{Placed}
 use Rattle.move_goals.specs.Items.{item_at, no_item, old_end, IsPlaced, begins_block, is_in_order, block_old_end}
 use Rattle.moving_run.specs.Code.{IsInstruction, placed_by, placed_in}
@@ -157,36 +157,37 @@ module _ (s : BlockSpan) (ss : List BlockSpan) (block others : List Placed) (cou
   begins_behind k ge e =
       by_begin k (ap (first_of_block (s ∷ ss)) (other_block k ge) ∙ (first_behind (block_number ss (k - s.count)) ∙ omega (arith, e)))
 
-  other_order : (k j : ℕ) → s.count ≤ k → j ≡ k - s.count → is_in_order ss others j ≡ true → is_in_order (s ∷ ss) (block ++ others) k ≡ true
-  other_order k zero ge e ordered =
-      let at = first_le ss zero in
-      let there : first_of_block ss (block_number ss zero) ≡ zero = omega arith in
-      begins_behind k ge (ap (λ (i : ℕ). first_of_block ss (block_number ss i)) (sym e) ∙ (there ∙ e))
-  other_order k (suc j) ge e ordered =
-      elim (or_cases (begins_block ss (suc j)) ((item_at others (suc j)).ip == old_end (item_at others (suc j - 1))) ordered) [
-        | inl begins ↦
-            let there = eqb-true _ _ begins in
-            begins_behind k ge (ap (λ (i : ℕ). first_of_block ss (block_number ss i)) (sym e) ∙ (there ∙ e))
-        | inr follows ↦
-            let there : (item_at others (suc j)).ip ≡ old_end (item_at others (suc j - 1)) = eqb-true _ _ follows in
-            let before : suc j - 1 ≡ k - 1 - s.count = omega arith in
-            by_follow
-            k
-            (ap (λ (p : Placed). p.ip) (other_item k ge)
-            ∙ (ap (λ (i : ℕ). (item_at others i).ip) (sym e)
-            ∙ (there
-            ∙ (ap (λ (i : ℕ). old_end (item_at others i)) before ∙ ap old_end (sym (other_item (k - 1) (omega arith)))))))
-      ]
+  module _ (blocks : BlockFacts) where
+    other_order : (k j : ℕ) → s.count ≤ k → j ≡ k - s.count → is_in_order ss others j ≡ true → is_in_order (s ∷ ss) (block ++ others) k ≡ true
+    other_order k zero ge e ordered =
+        let at = blocks.first_le ss zero in
+        let there : first_of_block ss (block_number ss zero) ≡ zero = omega arith in
+        begins_behind k ge (ap (λ (i : ℕ). first_of_block ss (block_number ss i)) (sym e) ∙ (there ∙ e))
+    other_order k (suc j) ge e ordered =
+        elim (or_cases (begins_block ss (suc j)) ((item_at others (suc j)).ip == old_end (item_at others (suc j - 1))) ordered) [
+          | inl begins ↦
+              let there = eqb-true _ _ begins in
+              begins_behind k ge (ap (λ (i : ℕ). first_of_block ss (block_number ss i)) (sym e) ∙ (there ∙ e))
+          | inr follows ↦
+              let there : (item_at others (suc j)).ip ≡ old_end (item_at others (suc j - 1)) = eqb-true _ _ follows in
+              let before : suc j - 1 ≡ k - 1 - s.count = omega arith in
+              by_follow
+              k
+              (ap (λ (p : Placed). p.ip) (other_item k ge)
+              ∙ (ap (λ (i : ℕ). (item_at others i).ip) (sym e)
+              ∙ (there
+              ∙ (ap (λ (i : ℕ). old_end (item_at others i)) before ∙ ap old_end (sym (other_item (k - 1) (omega arith)))))))
+        ]
 
-  -- the items of the block are in order, and so are the others
-  pub order_behind : ((j : ℕ) → suc j < s.count → (item_at block (suc j)).ip ≡ old_end (item_at block j)) →
-      ((k : ℕ) → k < length others → is_in_order ss others k ≡ true) →
-      (k : ℕ) → k < length (block ++ others) → is_in_order (s ∷ ss) (block ++ others) k ≡ true
-  order_behind chain more k lt =
-      elim (cases_lt k s.count) [
-        | inl below ↦ own_order chain k below
-        | inr ge ↦ other_order k (k - s.count) ge refl (more (k - s.count) (omega (arith, length-append block others)))
-      ]
+    -- the items of the block are in order, and so are the others
+    pub order_behind : ((j : ℕ) → suc j < s.count → (item_at block (suc j)).ip ≡ old_end (item_at block j)) →
+        ((k : ℕ) → k < length others → is_in_order ss others k ≡ true) →
+        (k : ℕ) → k < length (block ++ others) → is_in_order (s ∷ ss) (block ++ others) k ≡ true
+    order_behind chain more k lt =
+        elim (cases_lt k s.count) [
+          | inl below ↦ own_order chain k below
+          | inr ge ↦ other_order k (k - s.count) ge refl (more (k - s.count) (omega (arith, length-append block others)))
+        ]
 
   -- the end of another block
   pub end_behind : (b : ℕ) → block_old_end (s ∷ ss) (block ++ others) (suc b) ≡ block_old_end ss others b

@@ -8,10 +8,10 @@ use Rattle.row_relation.specs.Spells.{Reading}
 use Rattle.decoder.specs.declared.DecodeError.{DecodeError}
 use Rattle.opcode_rows.specs.Sweep.{Item, IsSweep, Sweeps, item_len}
 use Rattle.sweep_text.specs.Lines.{error_of}
-use Rattle.sweep_text.proofs.OneSweep.{reading_unique, sweep_begins, sweep_unique}
+use Rattle.sweep_text.specs.Facts.{OneSweepFacts}
 use Rattle.branch_sizes.specs.declared.plan.BlockSpan.{BlockSpan}
+use Rattle.branch_sizes.specs.Plan.{BlockPlan}
 use Rattle.branch_sizes.specs.Layout.{IsLeast}
-use Rattle.branch_sizes.proofs.Existing.{least_unique}
 use Rattle.move_goals.specs.declared.items.Placed.{Placed}
 use Rattle.move_goals.specs.Items.{first_old_pass}
 use Rattle.move_goals.specs.Plan.{plan_for}
@@ -25,21 +25,7 @@ use Rattle.moving_run.specs.declared.moving.Wanted.{Wanted}
 use Rattle.moving_run.specs.Code.{taken, left_by, IsInstruction, AreSwept, StopsAt, IsBadAt, here, later, all_placed, all_spans}
 use Rattle.moving_run.specs.Moving.{IsCodeAnswer}
 
--- ---- the instructions
-
--- some bytes have the same instructions in the same blocks
-pub swept_unique : (bits : Bits) (words : List BlockWords) (bytes : List ℕ) (a b : List (List Item)) → AreSwept bits words bytes a →
-    AreSwept bits words bytes b → a ≡ b
-swept_unique bits [] bytes [] [] h k = refl
-swept_unique bits [] bytes [] (y ∷ b) h k = absurd k
-swept_unique bits [] bytes (x ∷ a) b h k = absurd h
-swept_unique bits (w ∷ ws) bytes [] b h k = absurd h
-swept_unique bits (w ∷ ws) bytes (x ∷ a) [] h k = absurd k
-swept_unique bits (w ∷ ws) bytes (x ∷ a) (y ∷ b) h k =
-    ap (λ (z : List Item). z ∷ a) (sweep_unique bits w.old (taken w.len bytes) x y h.0 k.0)
-    ∙ ap (λ (c : List (List Item)). y ∷ c) (swept_unique bits ws (left_by w.len bytes) a b h.2 k.2)
-
--- ---- the first single byte
+-- ---- the instructions, and the first single byte
 
 -- a single byte is no instruction
 apart : (r : Reading) (error : DecodeError) → error_of r ≡ Some error → error_of r ≡ None → ⊥
@@ -50,64 +36,77 @@ among : (items : List Item) (last : Item) (more : List Item) → All IsInstructi
 among [] last more all = All-head IsInstruction last more all
 among (item ∷ items) last more all = among items last more (All-tail IsInstruction item ((items ++ last ∷ []) ++ more) all)
 
--- bytes that are instructions alone have no single byte
-pub whole_stops : (bits : Bits) (base : ℕ) (bytes : List ℕ) (offset : ℕ) (error : DecodeError) (items : List Item) → IsSweep bits base bytes items →
-    All IsInstruction items → StopsAt bits base bytes offset error → ⊥
-whole_stops bits base bytes offset error items sweep all s =
-    let begun = s.sweep in
-    let more = sweep_begins bits base 0 bytes (s.items ++ s.last ∷ []) items begun.0 begun.1 sweep in
-    apart s.last.reading error s.stops (among s.items s.last more.0 (All-same IsInstruction _ items (sym more.1) all))
+module _ (one : OneSweepFacts) where
+  -- some bytes have the same instructions in the same blocks
+  pub swept_unique : (bits : Bits) (words : List BlockWords) (bytes : List ℕ) (a b : List (List Item)) → AreSwept bits words bytes a →
+      AreSwept bits words bytes b → a ≡ b
+  swept_unique bits [] bytes [] [] h k = refl
+  swept_unique bits [] bytes [] (y ∷ b) h k = absurd k
+  swept_unique bits [] bytes (x ∷ a) b h k = absurd h
+  swept_unique bits (w ∷ ws) bytes [] b h k = absurd h
+  swept_unique bits (w ∷ ws) bytes (x ∷ a) [] h k = absurd k
+  swept_unique bits (w ∷ ws) bytes (x ∷ a) (y ∷ b) h k =
+      ap (λ (z : List Item). z ∷ a) (one.sweep_unique bits w.old (taken w.len bytes) x y h.0 k.0)
+      ∙ ap (λ (c : List (List Item)). y ∷ c) (swept_unique bits ws (left_by w.len bytes) a b h.2 k.2)
 
--- items that begin at one offset have one first single byte
-stops_same : (bits : Bits) (base offset : ℕ) (bytes : List ℕ) (xs ys : List Item) (x y : Item) (rest rest' : List ℕ) (e f : DecodeError) →
-    Sweeps bits base offset bytes (xs ++ x ∷ []) rest → Sweeps bits base offset bytes (ys ++ y ∷ []) rest' → All IsInstruction xs → All IsInstruction ys →
-    error_of x.reading ≡ Some e → error_of y.reading ≡ Some f → (x.offset ≡ y.offset) × (e ≡ f)
-stops_same bits base offset bytes [] [] x y rest rest' e f h k all all' stop stop' =
-    let reading = reading_unique bits base offset bytes x.reading y.reading h.0.reads k.0.reads in
-    let error : Some e ≡ Some f = sym stop ∙ (ap error_of reading ∙ stop') in
-    (h.0.offset_is ∙ sym k.0.offset_is, cc)
-stops_same bits base offset bytes [] (z ∷ ys) x y rest rest' e f h k all all' stop stop' =
-    let reading = reading_unique bits base offset bytes x.reading z.reading h.0.reads k.0.reads in
-    absurd (apart x.reading e stop (ap error_of reading ∙ All-head IsInstruction z ys all'))
-stops_same bits base offset bytes (z ∷ xs) [] x y rest rest' e f h k all all' stop stop' =
-    let reading = reading_unique bits base offset bytes y.reading z.reading k.0.reads h.0.reads in
-    absurd (apart y.reading f stop' (ap error_of reading ∙ All-head IsInstruction z xs all))
-stops_same bits base offset bytes (z ∷ xs) (v ∷ ys) x y rest rest' e f h k all all' stop stop' =
-    let reading = reading_unique bits base offset bytes v.reading z.reading k.0.reads h.0.reads in
-    let S : Reading → Type 0 = λ r. Sweeps bits base (offset + item_len r) (drop (item_len r) bytes) (ys ++ y ∷ []) rest' in
-    stops_same bits base (offset + item_len z.reading) (drop (item_len z.reading) bytes) xs ys x y rest rest' e f h.1 (subst S reading k.1)
-    (All-tail IsInstruction z xs all)
-    (All-tail IsInstruction v ys all')
-    stop
-    stop'
+  -- bytes that are instructions alone have no single byte
+  pub whole_stops : (bits : Bits) (base : ℕ) (bytes : List ℕ) (offset : ℕ) (error : DecodeError) (items : List Item) → IsSweep bits base bytes items →
+      All IsInstruction items → StopsAt bits base bytes offset error → ⊥
+  whole_stops bits base bytes offset error items sweep all s =
+      let begun = s.sweep in
+      let more = one.sweep_begins bits base 0 bytes (s.items ++ s.last ∷ []) items begun.0 begun.1 sweep in
+      apart s.last.reading error s.stops (among s.items s.last more.0 (All-same IsInstruction _ items (sym more.1) all))
 
-pub stops_unique : (bits : Bits) (base : ℕ) (bytes : List ℕ) (at at' : ℕ) (e f : DecodeError) → StopsAt bits base bytes at e → StopsAt bits base bytes at' f →
-    (at ≡ at') × (e ≡ f)
-stops_unique bits base bytes at at' e f h k =
-    let same = stops_same bits base 0 bytes h.items k.items h.last k.last h.sweep.0 k.sweep.0 e f h.sweep.1 k.sweep.1 h.all k.all h.stops k.stops in
-    (sym h.offset_is ∙ (same.0 ∙ k.offset_is), same.1)
+  -- items that begin at one offset have one first single byte
+  stops_same : (bits : Bits) (base offset : ℕ) (bytes : List ℕ) (xs ys : List Item) (x y : Item) (rest rest' : List ℕ) (e f : DecodeError) →
+      Sweeps bits base offset bytes (xs ++ x ∷ []) rest → Sweeps bits base offset bytes (ys ++ y ∷ []) rest' → All IsInstruction xs → All IsInstruction ys →
+      error_of x.reading ≡ Some e → error_of y.reading ≡ Some f → (x.offset ≡ y.offset) × (e ≡ f)
+  stops_same bits base offset bytes [] [] x y rest rest' e f h k all all' stop stop' =
+      let reading = one.reading_unique bits base offset bytes x.reading y.reading h.0.reads k.0.reads in
+      let error : Some e ≡ Some f = sym stop ∙ (ap error_of reading ∙ stop') in
+      (h.0.offset_is ∙ sym k.0.offset_is, cc)
+  stops_same bits base offset bytes [] (z ∷ ys) x y rest rest' e f h k all all' stop stop' =
+      let reading = one.reading_unique bits base offset bytes x.reading z.reading h.0.reads k.0.reads in
+      absurd (apart x.reading e stop (ap error_of reading ∙ All-head IsInstruction z ys all'))
+  stops_same bits base offset bytes (z ∷ xs) [] x y rest rest' e f h k all all' stop stop' =
+      let reading = one.reading_unique bits base offset bytes y.reading z.reading k.0.reads h.0.reads in
+      absurd (apart y.reading f stop' (ap error_of reading ∙ All-head IsInstruction z xs all))
+  stops_same bits base offset bytes (z ∷ xs) (v ∷ ys) x y rest rest' e f h k all all' stop stop' =
+      let reading = one.reading_unique bits base offset bytes v.reading z.reading k.0.reads h.0.reads in
+      let S : Reading → Type 0 = λ r. Sweeps bits base (offset + item_len r) (drop (item_len r) bytes) (ys ++ y ∷ []) rest' in
+      stops_same bits base (offset + item_len z.reading) (drop (item_len z.reading) bytes) xs ys x y rest rest' e f h.1 (subst S reading k.1)
+      (All-tail IsInstruction z xs all)
+      (All-tail IsInstruction v ys all')
+      stop
+      stop'
 
--- **blocks of instructions alone have no single byte**
-pub swept_not_bad : {bits : Bits} {words : List BlockWords} {bytes : List ℕ} {start at : ℕ} {error : DecodeError} → IsBadAt bits words bytes start at error →
-    (items : List (List Item)) → AreSwept bits words bytes items → ⊥
-swept_not_bad {words = []} bad items swept = elim bad [ ]
-swept_not_bad {words = w ∷ ws} (here s) [] swept = swept
-swept_not_bad {bits = bits} {words = w ∷ ws} {bytes = bytes} (here {offset = offset} {error = error} s) (x ∷ items) swept =
-    whole_stops bits w.old (taken w.len bytes) offset error x swept.0 swept.1 s
-swept_not_bad {words = w ∷ ws} (later whole bad) [] swept = swept
-swept_not_bad {words = w ∷ ws} (later whole bad) (x ∷ items) swept = swept_not_bad bad items swept.2
+  pub stops_unique : (bits : Bits) (base : ℕ) (bytes : List ℕ) (at at' : ℕ) (e f : DecodeError) → StopsAt bits base bytes at e → StopsAt bits base bytes at' f →
+      (at ≡ at') × (e ≡ f)
+  stops_unique bits base bytes at at' e f h k =
+      let same = stops_same bits base 0 bytes h.items k.items h.last k.last h.sweep.0 k.sweep.0 e f h.sweep.1 k.sweep.1 h.all k.all h.stops k.stops in
+      (sym h.offset_is ∙ (same.0 ∙ k.offset_is), same.1)
 
--- some bytes have one first single byte
-bad_unique : {bits : Bits} {words : List BlockWords} {bytes : List ℕ} {start at at' : ℕ} {e f : DecodeError} → IsBadAt bits words bytes start at e →
-    IsBadAt bits words bytes start at' f → (at ≡ at') × (e ≡ f)
-bad_unique {words = []} bad other = elim bad [ ]
-bad_unique {bits = bits} {words = w ∷ ws} {bytes = bytes} {start = start} (here {offset = m} {error = e} s) (here {offset = n} {error = f} t) =
-    let same = stops_unique bits w.old (taken w.len bytes) m n e f s t in (ap (λ (n : ℕ). start + n) same.0, same.1)
-bad_unique {bits = bits} {words = w ∷ ws} {bytes = bytes} (here {offset = m} {error = e} s) (later whole bad) =
-    absurd (whole_stops bits w.old (taken w.len bytes) m e whole.items whole.sweep whole.all s)
-bad_unique {bits = bits} {words = w ∷ ws} {bytes = bytes} (later whole bad) (here {offset = n} {error = f} t) =
-    absurd (whole_stops bits w.old (taken w.len bytes) n f whole.items whole.sweep whole.all t)
-bad_unique {words = w ∷ ws} (later whole bad) (later whole' bad') = bad_unique bad bad'
+  -- **blocks of instructions alone have no single byte**
+  pub swept_not_bad : {bits : Bits} {words : List BlockWords} {bytes : List ℕ} {start at : ℕ} {error : DecodeError} → IsBadAt bits words bytes start at error →
+      (items : List (List Item)) → AreSwept bits words bytes items → ⊥
+  swept_not_bad {words = []} bad items swept = elim bad [ ]
+  swept_not_bad {words = w ∷ ws} (here s) [] swept = swept
+  swept_not_bad {bits = bits} {words = w ∷ ws} {bytes = bytes} (here {offset = offset} {error = error} s) (x ∷ items) swept =
+      whole_stops bits w.old (taken w.len bytes) offset error x swept.0 swept.1 s
+  swept_not_bad {words = w ∷ ws} (later whole bad) [] swept = swept
+  swept_not_bad {words = w ∷ ws} (later whole bad) (x ∷ items) swept = swept_not_bad bad items swept.2
+
+  -- some bytes have one first single byte
+  bad_unique : {bits : Bits} {words : List BlockWords} {bytes : List ℕ} {start at at' : ℕ} {e f : DecodeError} → IsBadAt bits words bytes start at e →
+      IsBadAt bits words bytes start at' f → (at ≡ at') × (e ≡ f)
+  bad_unique {words = []} bad other = elim bad [ ]
+  bad_unique {bits = bits} {words = w ∷ ws} {bytes = bytes} {start = start} (here {offset = m} {error = e} s) (here {offset = n} {error = f} t) =
+      let same = stops_unique bits w.old (taken w.len bytes) m n e f s t in (ap (λ (n : ℕ). start + n) same.0, same.1)
+  bad_unique {bits = bits} {words = w ∷ ws} {bytes = bytes} (here {offset = m} {error = e} s) (later whole bad) =
+      absurd (whole_stops bits w.old (taken w.len bytes) m e whole.items whole.sweep whole.all s)
+  bad_unique {bits = bits} {words = w ∷ ws} {bytes = bytes} (later whole bad) (here {offset = n} {error = f} t) =
+      absurd (whole_stops bits w.old (taken w.len bytes) n f whole.items whole.sweep whole.all t)
+  bad_unique {words = w ∷ ws} (later whole bad) (later whole' bad') = bad_unique bad bad'
 
 -- ---- the moving
 
@@ -125,7 +124,7 @@ some_none a o some none = let e : Some a ≡ None = sym some ∙ none in cc
 same_some : (a b : ℕ) (o : Option ℕ) → o ≡ Some a → o ≡ Some b → a ≡ b
 same_some a b o h k = let e : Some a ≡ Some b = sym h ∙ k in cc
 
-module _ (bits : Bits) (items : List Placed) (spans : List BlockSpan) where
+module _ (least_unique : (p : BlockPlan) → (a b : List ℕ) → IsLeast p a → IsLeast p b → a ≡ b) (bits : Bits) (items : List Placed) (spans : List BlockSpan) where
   -- the end past the address space, where all old ends are inside
   new_none : (a b : List ℕ) → IsLeast (plan_for bits spans items) a → IsLeast (plan_for bits spans items) b →
       first_new_pass bits (plan_for bits spans items) a ≡ None → first_new_pass bits (plan_for bits spans items) b ≡ None
@@ -211,18 +210,19 @@ split wanted bits words bytes (Wraps end) h = inl (h.items, (h.swept, h.refused)
 split wanted bits words bytes (TooFar at target) h = inl (h.items, (h.swept, h.refused))
 split wanted bits words bytes _ h = absurd h
 
-joined : (bits : Bits) (words : List BlockWords) (bytes : List ℕ) (s t : Status) → Split bits words bytes s → Split bits words bytes t → s ≡ t
-joined bits words bytes s t (inl h) (inl k) =
-    let same = swept_unique bits words bytes k.0 h.0 k.1.0 h.1.0 in
-    let there = subst (λ (items : List (List Item)). IsItemsAnswer bits (all_placed words items) (all_spans words items) t) same k.1.1 in
-    items_unique bits (all_placed words h.0) (all_spans words h.0) s t h.1.1 there
-joined bits words bytes s t (inl h) (inr k) = absurd (swept_not_bad k.1.1.1 h.0 h.1.0)
-joined bits words bytes s t (inr h) (inl k) = absurd (swept_not_bad h.1.1.1 k.0 k.1.0)
-joined bits words bytes s t (inr h) (inr k) =
-    let same = bad_unique h.1.1.1 k.1.1.1 in
-    h.1.1.0 ∙ (ap (λ (n : ℕ). BadCode n h.1.0) same.0 ∙ (ap (BadCode k.0) same.1 ∙ sym k.1.1.0))
+module _ (one : OneSweepFacts) (least_unique : (p : BlockPlan) → (a b : List ℕ) → IsLeast p a → IsLeast p b → a ≡ b) where
+  joined : (bits : Bits) (words : List BlockWords) (bytes : List ℕ) (s t : Status) → Split bits words bytes s → Split bits words bytes t → s ≡ t
+  joined bits words bytes s t (inl h) (inl k) =
+      let same = swept_unique one bits words bytes k.0 h.0 k.1.0 h.1.0 in
+      let there = subst (λ (items : List (List Item)). IsItemsAnswer bits (all_placed words items) (all_spans words items) t) same k.1.1 in
+      items_unique least_unique bits (all_placed words h.0) (all_spans words h.0) s t h.1.1 there
+  joined bits words bytes s t (inl h) (inr k) = absurd (swept_not_bad one k.1.1.1 h.0 h.1.0)
+  joined bits words bytes s t (inr h) (inl k) = absurd (swept_not_bad one h.1.1.1 k.0 k.1.0)
+  joined bits words bytes s t (inr h) (inr k) =
+      let same = bad_unique one h.1.1.1 k.1.1.1 in
+      h.1.1.0 ∙ (ap (λ (n : ℕ). BadCode n h.1.0) same.0 ∙ (ap (BadCode k.0) same.1 ∙ sym k.1.1.0))
 
--- **some bytes have one answer**
-pub answer_unique : (wanted : Wanted) (bits : Bits) (words : List BlockWords) (bytes : List ℕ) (s t : Status) → IsCodeAnswer wanted bits words bytes s →
-    IsCodeAnswer wanted bits words bytes t → s ≡ t
-answer_unique wanted bits words bytes s t h k = joined bits words bytes s t (split wanted bits words bytes s h) (split wanted bits words bytes t k)
+  -- **some bytes have one answer**
+  pub answer_unique : (wanted : Wanted) (bits : Bits) (words : List BlockWords) (bytes : List ℕ) (s t : Status) → IsCodeAnswer wanted bits words bytes s →
+      IsCodeAnswer wanted bits words bytes t → s ≡ t
+  answer_unique wanted bits words bytes s t h k = joined bits words bytes s t (split wanted bits words bytes s h) (split wanted bits words bytes t k)

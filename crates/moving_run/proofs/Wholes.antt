@@ -7,6 +7,7 @@ use Rattle.std.proofs.lemmas.List.Elements.{All-nil, All-append, All-get_or}
 use Rattle.x86_values.specs.declared.Bits.{Bits}
 use Rattle.opcode_rows.specs.Sweep.{Item, IsSweep}
 use Rattle.branch_sizes.specs.declared.plan.BlockSpan.{BlockSpan}
+use Rattle.branch_sizes.specs.Facts.{BlockFacts}
 use Rattle.move_goals.specs.Items.{no_item, IsPlaced, ArePlaced, AreSpansOf, first_below, passes, first_passing, is_in_order, first_disorder, block_old_end, first_old_pass}
 use Rattle.command_words.specs.declared.commands.BlockWords.{BlockWords}
 use Rattle.moving_run.specs.Code.{taken, left_by, IsInstruction, AreSwept, placed_in, all_placed, all_spans}
@@ -109,31 +110,32 @@ pub are_placed : (bits : Bits) (words : List BlockWords) (bytes : List ℕ) (ite
     ArePlaced bits (all_placed words items)
 are_placed bits words bytes items swept k lt = All-get_or (IsPlaced bits) (all_placed words items) k no_item lt (all_are_placed bits words bytes items swept)
 
-in_order : (bits : Bits) (words : List BlockWords) (bytes : List ℕ) (items : List (List Item)) → AreSwept bits words bytes items →
-    (k : ℕ) → k < length (all_placed words items) → is_in_order (all_spans words items) (all_placed words items) k ≡ true
-in_order bits [] bytes [] swept k lt = absurd (omega arith)
-in_order bits [] bytes (x ∷ items) swept k lt = absurd swept
-in_order bits (w ∷ ws) bytes [] swept k lt = absurd swept
-in_order bits (w ∷ ws) bytes (x ∷ items) swept k lt =
-    let span : BlockSpan = record { count = length x; new_base = w.new } in
-    order_behind span (all_spans ws items) (placed_in w.old x) (all_placed ws items) (placed_length w.old x swept.1)
-    (block_chain bits w.old 0 (taken w.len bytes) x [] swept.0 swept.1)
-    (in_order bits ws (left_by w.len bytes) items swept.2)
-    k
-    lt
-
 none_below : (p : ℕ → Bool) (n : ℕ) → ((j : ℕ) → j < n → p j ≡ false) → first_below p n ≡ None
 none_below p zero h = refl
 none_below p (suc n) h =
     ap (λ (o : Option ℕ). next o (p n) n) (none_below p n (λ j lt. h j (omega arith)))
     ∙ ap (λ (b : Bool). next None b n) (h n (omega arith))
 
--- no instruction is out of order
-pub no_disorder : (bits : Bits) (words : List BlockWords) (bytes : List ℕ) (items : List (List Item)) → AreSwept bits words bytes items →
-    first_disorder (all_spans words items) (all_placed words items) ≡ None
-unfolding first_disorder
-no_disorder bits words bytes items swept =
-    none_below _ (length (all_placed words items)) (λ j lt. ap not (in_order bits words bytes items swept j lt))
+module _ (blocks : BlockFacts) where
+  in_order : (bits : Bits) (words : List BlockWords) (bytes : List ℕ) (items : List (List Item)) → AreSwept bits words bytes items →
+      (k : ℕ) → k < length (all_placed words items) → is_in_order (all_spans words items) (all_placed words items) k ≡ true
+  in_order bits [] bytes [] swept k lt = absurd (omega arith)
+  in_order bits [] bytes (x ∷ items) swept k lt = absurd swept
+  in_order bits (w ∷ ws) bytes [] swept k lt = absurd swept
+  in_order bits (w ∷ ws) bytes (x ∷ items) swept k lt =
+      let span : BlockSpan = record { count = length x; new_base = w.new } in
+      order_behind span (all_spans ws items) (placed_in w.old x) (all_placed ws items) (placed_length w.old x swept.1) blocks
+      (block_chain bits w.old 0 (taken w.len bytes) x [] swept.0 swept.1)
+      (in_order bits ws (left_by w.len bytes) items swept.2)
+      k
+      lt
+
+  -- no instruction is out of order
+  pub no_disorder : (bits : Bits) (words : List BlockWords) (bytes : List ℕ) (items : List (List Item)) → AreSwept bits words bytes items →
+      first_disorder (all_spans words items) (all_placed words items) ≡ None
+  unfolding first_disorder
+  no_disorder bits words bytes items swept =
+      none_below _ (length (all_placed words items)) (λ j lt. ap not (in_order bits words bytes items swept j lt))
 
 -- the old end of the first block
 first_end : (bits : Bits) (w : BlockWords) (ws : List BlockWords) (bytes : List ℕ) (x : List Item) (items : List (List Item)) →

@@ -16,6 +16,7 @@ abbrev pub taken : Option ℕ → List ℕ → List ℕ
 taken None bytes = bytes
 taken (Some len) bytes = take len bytes
 
+-- the bytes behind those of a block
 abbrev pub left_by : Option ℕ → List ℕ → List ℕ
 left_by None bytes = []
 left_by (Some len) bytes = drop len bytes

@@ -1,5 +1,6 @@
 pub mod Code
 pub mod Ends
+pub mod Facts
 pub mod Map
 pub mod Moving
 pub mod Read

@@ -11,6 +11,7 @@ use command_words::BlockWords;
 use decoder::DecodeError;
 use move_goals::Placed;
 use std::alloc::{AllocError, Global};
+use sweep_text::laws::items_stand_in_turn;
 use sweep_text::read_at;
 use thiserror::Error;
 use x86_values::Bits;
@@ -125,6 +126,7 @@ fn read_block(
     ensures read { MatchResult result (λ count. spec.ReadsBlock bits base bytes.now items.old.items items.new.items count) (λ e. spec.IsBlockError bits base start bytes.now e) }
     ensures few { IfOk result (λ count. vec_len items.new ≤ 65536) }
 {
+    items_stand_in_turn();
     let mut count: u32 = 0;
     let mut at: usize = 0;
     while at < bytes.len() {

@@ -9,8 +9,9 @@ ghost use Rattle.moving_run.specs.Map as spec;
 use branch_sizes::Form;
 use byte_ports::{Failed, Sink};
 use move_goals::Placed;
+use run_parts::laws::held_texts_arrive;
 use run_parts::{make_room, put_all};
-use sweep_text::{Chunk, append, append_address};
+use sweep_text::{CHUNK_LEN, Chunk, LINE_LEN, append, append_address};
 use x86_values::Bits;
 
 /// The word of a form.
@@ -32,7 +33,7 @@ fn form_word(form: Form) -> &'static [u8]
 /// Appends the line of an instruction.
 #[tactic(auto, unfolding(crate::specs::Map::map_line))]
 fn append_map_line(pending: &mut Chunk, bits: Bits, old: u64, new: u64, form: Form)
-    requires { array_vec_len pending.old + 209 ≤ 16384 }
+    requires { array_vec_len pending.old + LINE_LEN ≤ CHUNK_LEN }
     ensures { pending.new.items ≡ pending.old.items ++ spec.map_line bits old new form }
 {
     append_address(pending, bits, old, 0);
@@ -75,6 +76,7 @@ pub fn write_map<K: Sink>(
     ensures err { OnErr result (HoldsFront (K.held out.old) (K.held out.new) (spec.map_lines bits items.now starts.now forms.now (length items.now))) }
     ensures cause { HasCause (K.faults out.old) (K.faults out.new) result }
 {
+    held_texts_arrive();
     let mut pending = Chunk::new();
     for k in 0..items.len() {
         write_map_line(bits, items[k].ip, starts[k], forms[k], &mut pending, out)?;

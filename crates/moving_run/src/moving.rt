@@ -7,11 +7,14 @@ ghost use Rattle.run_parts.specs.Writing.{HoldsFront};
 ghost use Rattle.moving_run.specs.Moving as spec;
 
 use crate::code::{Code, CodeError, MOST, first_pass, read_code};
+use crate::laws::{inputs_have_one_answer, moved_blocks_are_read_back};
 use crate::map::write_map;
 use block_encoder::{MoveError, MovedBlocks, move_blocks};
+use branch_sizes::laws::blocks_have_all_items;
 use byte_ports::{Failed, Sink, Source};
 use command_words::BlockWords;
 use move_goals::Placed;
+use run_parts::laws::told_bytes_are_read;
 use run_parts::{ReadError, Status, WHOLE_LIMIT, put_all, read_all};
 use std::alloc::Global;
 use x86_values::Bits;
@@ -44,6 +47,7 @@ pub fn move_input(
     requires short { length input.now ≤ 1048576 }
     ensures { MatchResult result (λ m. spec.MovesInput bits words.now input.now m.items.items m.blocks) (λ status. spec.IsRefusal bits words.now input.now status) }
 {
+    blocks_have_all_items();
     let Code {
         items,
         spans,
@@ -114,6 +118,9 @@ pub fn move_code<S: Source, K: Sink>(
     ensures taken { Takes whole_limit (S.left source.old) (S.left source.new)
         × (result ≡ Status.ReadFault → EndsAtFault S.pull_gives S.left source.new) }
 {
+    told_bytes_are_read();
+    inputs_have_one_answer();
+    moved_blocks_are_read_back();
     let input = match read_all(alloc, source, WHOLE_LIMIT) {
         Ok(input) => input,
         Err(ReadError::Fault) => return Status::ReadFault,

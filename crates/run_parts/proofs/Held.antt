@@ -3,13 +3,8 @@ use Rattle.std.proofs.Common.{◌≡◌, ℕ, ◌+◌, List, [], ◌++◌, lengt
 use Rattle.std.proofs.lemmas.List.{take-append-drop}
 use Rattle.std.proofs.Math.Seq.{take-append-add, take-append_seam}
 use Rattle.byte_ports.specs.Ports.{with_back}
-use Rattle.run_parts.specs.Writing.{HoldsFront, Moves}
+use Rattle.run_parts.specs.Writing.{HoldsFront, Moves, Held}
 use Rattle.run_parts.proofs.Appending.{with_back-nil, with_back-append}
-
-pub record Held (start held : Option (List ℕ)) (pending text : List ℕ) : Type 0 where
-  pub written : List ℕ
-  pub held_is : held ≡ with_back start written
-  pub joined : written ++ pending ≡ text
 
 -- nothing yet
 pub held-start : (start : Option (List ℕ)) (pending : List ℕ) → pending ≡ [] → Held start start pending []

@@ -1,5 +1,4 @@
 pub mod Appending
-pub mod Causes
 pub mod Held
 pub mod HexDigits
 pub mod Saying

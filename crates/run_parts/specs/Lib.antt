@@ -1,3 +1,4 @@
+pub mod Facts
 pub mod Hexadecimal
 pub mod Reads
 pub mod StatusLine

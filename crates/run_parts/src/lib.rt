@@ -3,6 +3,7 @@
 
 mod hexadecimal;
 mod input;
+pub mod laws;
 mod output;
 mod status;
 

@@ -24,7 +24,7 @@ pub fn put_all<K: Sink>(out: &mut K, bytes: &[u8]) -> Result<(), Failed>
 
 /// Writes what is held back where there is no room behind it for a line.
 pub fn make_room<K: Sink>(pending: &mut Chunk, out: &mut K) -> Result<(), Failed>
-    ensures room { OnOk result (array_vec_len pending.new + 209 ≤ 16384) }
+    ensures room { OnOk result (array_vec_len pending.new + LINE_LEN ≤ CHUNK_LEN) }
     ensures ok { OnOk result (Moves (K.held out.old) (K.held out.new) pending.old.items pending.new.items []) }
     ensures err { OnErr result (HoldsFront (K.held out.old) (K.held out.new) pending.old.items) }
     ensures cause { HasCause (K.faults out.old) (K.faults out.new) result }

@@ -1,5 +1,6 @@
 -- Each instruction that is drawn is spelled, and aimed low.
 use Rattle.std.proofs.Common.{◌≡◌, ℕ, zero, suc, ◌+◌, ◌*◌, ◌/◌, ◌%◌, ◌^◌, ◌<◌, ◌≤◌, true, List, [], ◌∷◌, ◌++◌, length, Some, None, refl, ap, arith, slice_get, nat_lt}
+use Rattle.std.specs.Prelude.{◌-◌, if◌then◌else◌}
 use Rattle.std.proofs.lemmas.Bool.{lt-ltb}
 use Rattle.x86_values.specs.declared.Bits.TheVariants.{B64}
 use Rattle.x86_values.specs.declared.Instr.{Instr}
@@ -8,10 +9,9 @@ use Rattle.row_types.specs.declared.Row.{Row}
 use Rattle.instruction_parts.specs.declared.spelling.Spelling.{Spelling}
 use Rattle.instruction_parts.specs.Bytes.{vex_last_byte, vex_bytes, lead_bytes, tail_bytes, front_bytes, bytes_of}
 use Rattle.row_fit.specs.Fits.{fits}
-use Rattle.row_meaning.specs.Meaning.{sign_extended, instr_of, meaning}
+use Rattle.row_meaning.specs.Meaning.{little_endian, sign_extended, instr_of, meaning}
 use Rattle.row_relation.specs.Spells.{Spells}
-use Rattle.plain_spelling.specs.Values.{low_bytes, is_extended_of}
-use Rattle.plain_spelling.proofs.Values.{sign_extended-low_bytes}
+use Rattle.plain_spelling.specs.Values.{low_bytes}
 use Rattle.opcode_rows.specs.Table.{table}
 use Rattle.sample_code.specs.Generator.{kind_bytes, instr_bytes}
 use Rattle.sample_code.specs.Made.{IsAimedLow}
@@ -168,9 +168,12 @@ one_number ip (suc (suc (suc (suc (suc (suc (suc zero))))))) x lt = one_number_7
 one_number ip (suc (suc (suc (suc (suc (suc (suc (suc d)))))))) x lt = absurd (omega arith)
 
 -- a number below 2 to the power of 16 in four bytes is no negative one
-extended : (x : ℕ) → x < 65536 → is_extended_of 4 64 x ≡ true
-unfolding is_extended_of
-extended x lt = rw (lt-ltb x (2 ^ 64) (omega arith), lt-ltb (2 * x) (2 ^ 32) (omega arith)) refl
+extended : (x : ℕ) → x < 65536 → sign_extended 64 (low_bytes 4 x) ≡ x
+unfolding sign_extended little_endian low_bytes
+extended x lt = small (x % 256 + 256 * (byte_1 x + 256 * (byte_2 x + 256 * (byte_3 x + 256 * 0)))) (omega arith)
+  where
+    small : (v : ℕ) → v ≡ x → (if nat_lt (2 * v) (2 ^ 32) then v % 2 ^ 64 else (v + (2 ^ 64 - 2 ^ 32)) % 2 ^ 64) ≡ x
+    small v e = rw (lt-ltb (2 * v) (2 ^ 32) (omega (arith, e))) (omega (arith, e))
 
 low_target : (ip x : ℕ) → ip + 7 + x < 2 ^ 24 → (s : ℕ) → s ≡ x → wrapped B64 (wrapped B64 (ip + 7) + s) < 2 ^ 24
 low_target ip x lt s e = omega (arith, e)
@@ -184,7 +187,7 @@ one_wide_load ip x lt low =
     (fits-wide_load (x % 256) (byte_1 x) (byte_2 x) (byte_3 x) (byte x) (byte (x / 256)) (byte (x / 256 / 256)) (byte (x / 256 / 256 / 256)))
     (omega arith) (omega arith)
     (aim-wide_load ip (x % 256) (byte_1 x) (byte_2 x) (byte_3 x)
-    (low_target ip x (omega arith) (sign_extended 64 (low_bytes 4 x)) (sign_extended-low_bytes 4 64 x (omega arith) (omega arith) (extended x lt))))
+    (low_target ip x (omega arith) (sign_extended 64 (low_bytes 4 x)) (extended x lt)))
 
 -- **each instruction that is drawn is one**
 one_of : (ip kind r q : ℕ) → ip < 2 ^ 23 → kind < 8 → IsOne ip (kind_bytes kind r q)

@@ -1,13 +1,11 @@
 -- Made code that was moved: its new places are low, and each instruction reaches its goal.
-use Rattle.std.proofs.Common.{◌≡◌, ℕ, zero, suc, ◌+◌, ◌-◌, ◌*◌, ◌^◌, ◌<◌, ◌≤◌, Bool, ◌&&◌, List, [], ◌∷◌, length, get_or, Option, Some, None, refl, sym, ap, ◌∙◌, subst, arith}
-use Rattle.std.specs.Prelude.{not, is_some, nat_lt, ◌==◌, if◌then◌else◌, slice_get, sum_by}
-use Rattle.std.proofs.lemmas.List.Sums.{sum_by-cons}
+use Rattle.std.proofs.Common.{◌≡◌, ℕ, zero, suc, ◌+◌, ◌-◌, ◌*◌, ◌^◌, ◌<◌, ◌≤◌, Bool, ◌&&◌, List, [], length, get_or, Option, Some, None, refl, sym, ap, ◌∙◌, subst, arith}
+use Rattle.std.specs.Prelude.{not, is_some, nat_lt, ◌==◌, if◌then◌else◌, slice_get}
 use Rattle.std.proofs.lemmas.Bool.{cond_both, cond-true, lt-ltb, le-ltb}
 use Rattle.x86_values.specs.declared.Bits.TheVariants.{B64}
 use Rattle.x86_values.specs.declared.Instr.{Instr}
 use Rattle.operand_info.specs.Operands.{near_value, first_value}
 use Rattle.opcode_rows.specs.Table.{table}
-use Rattle.branch_sizes.specs.declared.plan.BlockSpan.{BlockSpan}
 use Rattle.branch_sizes.specs.declared.plan.Choice.{Choice}
 use Rattle.branch_sizes.specs.declared.plan.Form.{Form}
 use Rattle.branch_sizes.specs.declared.plan.Form.TheVariants.{Itself}
@@ -15,8 +13,7 @@ use Rattle.branch_sizes.specs.declared.plan.Reach.{Reach}
 use Rattle.branch_sizes.specs.declared.plan.Reach.TheVariants.{Always, Signed32}
 use Rattle.branch_sizes.specs.Plan.{IsWellFormed, no_choice}
 use Rattle.branch_sizes.specs.Layout.{IsLeast, Reaches, total, block_number, span_at, image_length, place}
-use Rattle.branch_sizes.proofs.Totals.{total_small}
-use Rattle.branch_sizes.proofs.Rising.{image_short}
+use Rattle.branch_sizes.specs.Facts.{LengthFacts, TotalFacts}
 use Rattle.moved_targets.specs.Targets.{target_of, target_reach}
 use Rattle.branch_forms.specs.declared.branch.RelativeBranch.{RelativeBranch}
 use Rattle.branch_forms.specs.Branches.{branch_by, branch_of}
@@ -25,14 +22,11 @@ use Rattle.move_goals.specs.declared.items.Placed.{Placed}
 use Rattle.move_goals.specs.Items.{AreSpansOf, ArePlaced, item_at, one_span, first_passing}
 use Rattle.move_goals.specs.Goals.{is_in_block_of, begins_at, own_item, other_item, goal_among, goal_of_target, goal_of, goal_at}
 use Rattle.move_goals.specs.Plan.{plan_with, plan_for}
-use Rattle.move_goals.proofs.First.{some_below}
-use Rattle.move_goals.proofs.Planned.{well_formed}
+use Rattle.move_goals.specs.Facts.{FirstFacts, PlanFacts}
 use Rattle.move_layout.specs.Laid.{goal_value, goal_address, slots_of, images_end, slots_start, new_end, seat_at}
-use Rattle.move_layout.proofs.Laid.{few-slots}
+use Rattle.move_layout.specs.Facts.{SlotFacts}
 use Rattle.block_encoder.specs.Moved.{IsReached, seat_reach, first_new_pass}
-use Rattle.block_encoder.proofs.Branching.{reached-in_64}
-use Rattle.block_encoder.proofs.Reached.{other-reached}
-use Rattle.block_encoder.proofs.Chosen.{plan-item, choice-is, seat-place, seat-image_length}
+use Rattle.block_encoder.specs.Facts.{SeatFacts, ReachFacts}
 use Rattle.sample_code.specs.Made.{IsAimedLow, nowhere, near, by_rip}
 use Rattle.sample_run.specs.Sample.{moved_base}
 
@@ -57,22 +51,20 @@ one_end : (end : ℕ → ℕ) → end 0 ≤ 2 ^ 64 → first_passing B64 end 1 �
 one_end end le =
     ap (λ (b : Bool). elim (if◌then◌else◌ {A = Option ℕ} b (Some 0) None) as (λ (o : Option ℕ). Option ℕ) [ Some b ↦ Some (end b) | None ↦ None ]) (le-ltb (2 ^ 64) (end 0) le)
 
-module _ (items : List Placed) (few : length items ≤ 65536) (placed : ArePlaced B64 items) where
+module _ (totals : TotalFacts) (lengths : LengthFacts) (first : FirstFacts) (plans : PlanFacts) (slots : SlotFacts) (seats : SeatFacts) (reach : ReachFacts)
+    (items : List Placed) (few : length items ≤ 65536) (placed : ArePlaced B64 items) where
   -- the block takes all items
-  pub takes-all : AreSpansOf items (one_span items moved_base)
-  takes-all = record { few = omega arith; counts = one_sum (length items) }
-    where
-      one_sum : (n : ℕ) → sum_by (λ (s : BlockSpan). s.count) (record { count = n; new_base = moved_base } ∷ []) ≡ n
-      one_sum n = sum_by-cons (λ (s : BlockSpan). s.count) (record { count = n; new_base = moved_base }) [] ∙ omega arith
+  takes-all : AreSpansOf items (one_span items moved_base)
+  takes-all = plans.one_span-of items moved_base
 
   well : IsWellFormed (plan_for B64 (one_span items moved_base) items)
-  well = well_formed B64 (one_span items moved_base) items placed few takes-all
+  well = plans.well_formed B64 (one_span items moved_base) items placed few takes-all
 
   module _ (layout : List ℕ) where
     short : (k : ℕ) → total (image_length (plan_for B64 (one_span items moved_base) items) layout) k ≤ k * 15
     short k =
         let p = plan_for B64 (one_span items moved_base) items in
-        total_small (image_length p layout) 15 (image_short p well layout) k
+        totals.total_small (image_length p layout) 15 (lengths.image_short p well layout) k
 
     block_is : (k : ℕ) → k < length items → block_number (one_span items moved_base) k ≡ 0
     block_is k lt = cond-true (nat_lt k (length items)) 0 (suc (block_number [] (k - length items))) (lt-ltb k (length items) lt)
@@ -87,7 +79,7 @@ module _ (items : List Placed) (few : length items ≤ 65536) (placed : ArePlace
         → place (plan_for B64 (one_span items moved_base) items) layout k + image_length (plan_for B64 (one_span items moved_base) items) layout k ≤ 2 ^ 30
     place-low k lt =
         let p = plan_for B64 (one_span items moved_base) items in
-        omega (arith, base_is k lt, short k, image_short p well layout k)
+        omega (arith, base_is k lt, short k, lengths.image_short p well layout k)
 
     count_is : (span_at (plan_for B64 (one_span items moved_base) items).spans 0).count ≡ length items
     unfolding plan_with
@@ -108,7 +100,7 @@ module _ (items : List Placed) (few : length items ≤ 65536) (placed : ArePlace
     end-low =
         let p = plan_for B64 (one_span items moved_base) items in
         cond_both (length (slots_of p layout 0) == 0) (images_end p layout 0) (slots_start p layout 0 + 8 * length (slots_of p layout 0))
-        (λ (e : ℕ). e ≤ 2 ^ 64) (λ e. omega (arith, images-low)) (λ e. omega (arith, images-low, few-slots p layout 0, count_is))
+        (λ (e : ℕ). e ≤ 2 ^ 64) (λ e. omega (arith, images-low)) (λ e. omega (arith, images-low, slots.few-slots p layout 0, count_is))
 
     -- **it ends inside the address space**
     pub ends-inside : first_new_pass B64 (plan_for B64 (one_span items moved_base) items) layout ≡ None
@@ -128,8 +120,8 @@ module _ (items : List Placed) (few : length items ≤ 65536) (placed : ArePlace
     target_low k t low =
         let spans = one_span items moved_base in
         among_low (own_item spans items k t) (other_item spans items k t) t
-        (λ j e. (some_below (λ n. is_in_block_of spans k n && begins_at items t n) (length items) j e).0)
-        (λ j e. (some_below (λ n. not (is_in_block_of spans k n) && begins_at items t n) (length items) j e).0)
+        (λ j e. (first.some_below (λ n. is_in_block_of spans k n && begins_at items t n) (length items) j e).0)
+        (λ j e. (first.some_below (λ n. not (is_in_block_of spans k n) && begins_at items t n) (length items) j e).0)
         low
 
     module _ (k : ℕ) (lt : k < length items) where
@@ -138,7 +130,7 @@ module _ (items : List Placed) (few : length items ≤ 65536) (placed : ArePlace
           let p = plan_for B64 (one_span items moved_base) items in
           let spans = one_span items moved_base in
           let G : Option ℕ → Type 0 = λ o. goal_value p layout (goal_of spans items k o) ≤ 2 ^ 30 in
-          subst (λ b. goal_value p layout b.goal ≤ 2 ^ 30) (sym (plan-item B64 spans items (goal_at spans items) k lt))
+          subst (λ b. goal_value p layout b.goal ≤ 2 ^ 30) (sym (seats.plan-item B64 spans items (goal_at spans items) k lt))
           (subst G (sym target) (target_low k t low))
 
       seat_goal : (seat_at (plan_for B64 (one_span items moved_base) items) layout k).goal ≡ goal_address (plan_for B64 (one_span items moved_base) items) layout k
@@ -150,30 +142,30 @@ module _ (items : List Placed) (few : length items ≤ 65536) (placed : ArePlace
         unfolding seat_at
         seat_own none =
             let spans = one_span items moved_base in
-            ap (λ (c : Choice). c.form) (choice-is B64 spans items (goal_at spans items) layout least.closed.is_layout k lt)
+            ap (λ (c : Choice). c.form) (seats.choice-is B64 spans items (goal_at spans items) layout least.closed.is_layout k lt)
             ∙ own_form (item_at items k).instr (get_or layout k 0) none
 
         -- what is no branch is reached where its operand is
-        by_operand : (reach : Reach) → first_value near_value (item_at items k).instr ≡ None → target_reach (item_at items k).instr ≡ reach
-            → Reaches reach (seat_at (plan_for B64 (one_span items moved_base) items) layout k).len (seat_at (plan_for B64 (one_span items moved_base) items) layout k).place
+        by_operand : (by : Reach) → first_value near_value (item_at items k).instr ≡ None → target_reach (item_at items k).instr ≡ by
+            → Reaches by (seat_at (plan_for B64 (one_span items moved_base) items) layout k).len (seat_at (plan_for B64 (one_span items moved_base) items) layout k).place
             (seat_at (plan_for B64 (one_span items moved_base) items) layout k).goal
             → IsReached B64 items (plan_for B64 (one_span items moved_base) items) layout k
-        by_operand reach none is h =
+        by_operand by none is h =
             let spans = one_span items moved_base in
             let seat = seat_at (plan_for B64 spans items) layout k in
             let own = seat_own none in
             let R : Reach → Type 0 = λ r. Reaches r seat.len seat.place seat.goal in
             let F : Form → Type 0 = λ f. Reaches (seat_reach (item_at items k).instr f seat.reach) seat.len seat.place seat.goal in
-            other-reached B64 items spans takes-all placed layout least.closed.is_layout ends-inside k lt own (subst F (sym own) (subst R (sym is) h))
+            reach.other-reached B64 items spans takes-all placed few layout least ends-inside k lt own (subst F (sym own) (subst R (sym is) h))
 
         -- **an item that is aimed low is reached**
         pub aimed-reached : IsAimedLow (item_at items k).instr → IsReached B64 items (plan_for B64 (one_span items moved_base) items) layout k
         aimed-reached (nowhere none target is) = by_operand Always none is tt
-        aimed-reached (near t e) = reached-in_64 items (one_span items moved_base) takes-all placed few layout least ends-inside k lt t e
+        aimed-reached (near t e) = reach.reached-in_64 items (one_span items moved_base) takes-all placed few layout least ends-inside k t lt e
         aimed-reached (by_rip t low none target is) =
             let spans = one_span items moved_base in
             let goal = goal-low t low target in
             let end = place-low k lt in
-            let at = seat-place B64 spans items (goal_at spans items) layout least.closed.is_layout k lt in
-            let len = seat-image_length B64 spans items (goal_at spans items) layout least.closed.is_layout k lt in
+            let at = seats.seat-place B64 spans items (goal_at spans items) layout least.closed.is_layout k lt in
+            let len = seats.seat-image_length B64 spans items (goal_at spans items) layout least.closed.is_layout k lt in
             by_operand Signed32 none is (omega (arith, at, len, seat_goal), omega (arith, at, len, seat_goal))

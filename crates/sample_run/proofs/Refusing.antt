@@ -7,31 +7,28 @@ use Rattle.x86_values.specs.declared.Bits.TheVariants.{B64}
 use Rattle.row_relation.specs.Spells.{Reading}
 use Rattle.opcode_rows.specs.Sweep.{Item, IsSweep}
 use Rattle.sweep_text.specs.Lines.{error_of}
-use Rattle.sweep_text.proofs.OneSweep.{sweep_unique}
+use Rattle.sweep_text.specs.Facts.{OneSweepFacts}
 use Rattle.branch_sizes.specs.declared.plan.BlockSpan.{BlockSpan}
 use Rattle.move_goals.specs.declared.items.Placed.{Placed}
 use Rattle.move_goals.specs.Items.{ArePlaced, item_at, one_span, first_old_pass}
 use Rattle.block_encoder.specs.declared.error.MoveError.{MoveError}
 use Rattle.block_encoder.specs.declared.error.MoveError.TheVariants as error
 use Rattle.block_encoder.specs.Moved.{MovedLists, IsMoved, IsRefused}
-use Rattle.command_words.specs.declared.commands.BlockWords.{BlockWords}
 use Rattle.run_parts.specs.declared.status.Status.{Status}
 use Rattle.run_parts.specs.declared.status.Status.TheVariants.{BadCode, Memory, Wraps, TooFar, TooMany}
 use Rattle.moving_run.specs.Code.{IsInstruction, AreSwept, placed_by, placed_in, all_placed, all_spans}
 use Rattle.moving_run.specs.Ends.{first_pass}
 use Rattle.moving_run.specs.Moving.{MovesInput, RefusesCode, IsRefusal}
-use Rattle.moving_run.proofs.Blocks.{placed_length}
-use Rattle.moving_run.proofs.Unique.{swept_unique, swept_not_bad}
-use Rattle.moving_run.proofs.Wholes.{are_placed, ends_are}
+use Rattle.moving_run.specs.Facts.{InputFacts, PlacedFacts}
 use Rattle.sample_code.specs.Generator.{code_base, code_of}
 use Rattle.sample_code.specs.Made.{IsAimedLow, IsMade, HasInstructions}
-use Rattle.sample_code.proofs.Sweeping.{has-instructions}
+use Rattle.branch_sizes.specs.Facts.{LengthFacts, TotalFacts}
+use Rattle.move_goals.specs.Facts.{FirstFacts, PlanFacts}
+use Rattle.move_layout.specs.Facts.{SlotFacts}
+use Rattle.block_encoder.specs.Facts.{SeatFacts, ReachFacts}
 use Rattle.sample_run.specs.Sample.{moved_base}
+use Rattle.sample_run.specs.Facts.{made_block}
 use Rattle.sample_run.proofs.Reaching.{ends-inside, aimed-reached}
-
--- the block of made code
-abbrev pub made_block : List BlockWords
-made_block = record { old = code_base; new = moved_base; len = None } ∷ []
 
 -- ---- made items
 
@@ -62,10 +59,8 @@ aimed_at (item ∷ items) all (suc k) lt =
 
 -- ---- its block
 
-module _ (n : ℕ) (few : n ≤ 65536) where
-  made : HasInstructions n
-  made = has-instructions n few
-
+module _ (totals : TotalFacts) (lengths : LengthFacts) (first : FirstFacts) (plans : PlanFacts) (slots : SlotFacts) (seats : SeatFacts) (reach : ReachFacts)
+    (one : OneSweepFacts) (inputs : InputFacts) (placed_facts : PlacedFacts) (n : ℕ) (made : HasInstructions n) (few : n ≤ 65536) where
   swept : AreSwept B64 made_block (code_of n) (made.items ∷ [])
   swept = (made.sweep, are_instructions made.items made.made, tt)
 
@@ -73,7 +68,7 @@ module _ (n : ℕ) (few : n ≤ 65536) where
   placed_is = append-nil (placed_in code_base made.items)
 
   count_is : length (placed_in code_base made.items) ≡ length made.items
-  count_is = placed_length code_base made.items (are_instructions made.items made.made)
+  count_is = placed_facts.placed_length code_base made.items (are_instructions made.items made.made)
 
   spans_are : all_spans made_block (made.items ∷ []) ≡ one_span (placed_in code_base made.items) moved_base
   spans_are = ap (λ (k : ℕ). record { count = k; new_base = moved_base } ∷ []) (sym count_is)
@@ -89,7 +84,7 @@ module _ (n : ℕ) (few : n ≤ 65536) where
   few_items = omega (arith, count_is, made.count)
 
   well_placed : ArePlaced B64 (placed_in code_base made.items)
-  well_placed = subst (λ (xs : List Placed). ArePlaced B64 xs) placed_is (are_placed B64 made_block (code_of n) (made.items ∷ []) swept)
+  well_placed = subst (λ (xs : List Placed). ArePlaced B64 xs) placed_is (placed_facts.are_placed B64 made_block (code_of n) (made.items ∷ []) swept)
 
   no_pass : first_pass B64 made_block (code_of n) ≡ None
   no_pass =
@@ -102,7 +97,7 @@ module _ (n : ℕ) (few : n ≤ 65536) where
       by_length (suc m) h = rw (ne_eqb (suc m) 0 (λ e. omega arith), le-ltb (2 ^ 64) (code_base + suc m) (omega arith)) refl
 
   old_inside : first_old_pass B64 (one_span (placed_in code_base made.items) moved_base) (placed_in code_base made.items) ≡ None
-  old_inside = told (λ xs spans. first_old_pass B64 spans xs ≡ None) (ends_are B64 made_block (code_of n) (made.items ∷ []) swept ∙ no_pass)
+  old_inside = told (λ xs spans. first_old_pass B64 spans xs ≡ None) (placed_facts.ends_are B64 made_block (code_of n) (made.items ∷ []) swept ∙ no_pass)
 
   some_none : (o : Option ℕ) (x : ℕ) → o ≡ Some x → o ≡ None → ⊥
   some_none o x some none = let e : Some x ≡ None = sym some ∙ none in cc
@@ -115,22 +110,22 @@ module _ (n : ℕ) (few : n ≤ 65536) where
   unrefused (error.TooMany count) no_memory in_order h = let few = few_items in omega (arith, h.0)
   unrefused (error.Wraps end) no_memory in_order (inl h) = some_none _ end h.passes old_inside
   unrefused (error.Wraps end) no_memory in_order (inr h) =
-      some_none _ end h.passes (ends-inside (placed_in code_base made.items) few_items well_placed h.layout)
+      some_none _ end h.passes (ends-inside totals lengths first plans slots seats reach (placed_in code_base made.items) few_items well_placed h.layout)
   unrefused (error.TooFar at target) no_memory in_order h =
-      let first = h.first in
-      first.unreached (aimed-reached (placed_in code_base made.items) few_items well_placed h.layout at first.within h.least
-      (aimed_at made.items made.made at (omega (arith, first.within, count_is))))
+      let far = h.first in
+      far.unreached (aimed-reached totals lengths first plans slots seats reach (placed_in code_base made.items) few_items well_placed h.layout at far.within h.least
+      (aimed_at made.items made.made at (omega (arith, far.within, count_is))))
 
   code_unrefused : (why : MoveError) → (why ≡ error.Memory → ⊥) → ((at : ℕ) → why ≡ error.OldOrder at → ⊥) → RefusesCode B64 made_block (code_of n) why → ⊥
   code_unrefused why no_memory in_order r =
-      let same = swept_unique B64 made_block (code_of n) r.items (made.items ∷ []) r.swept swept in
+      let same = inputs.swept_unique B64 made_block (code_of n) r.items (made.items ∷ []) r.swept swept in
       let here = subst (λ (xs : List (List Item)). IsRefused B64 (all_placed made_block xs) (all_spans made_block xs) why) same r.refused in
       unrefused why no_memory in_order (told (λ xs spans. IsRefused B64 xs spans why) here)
 
   -- **the moving of made code is refused for want of memory alone**
   pub memory-alone : (status : Status) → IsRefusal B64 made_block (code_of n) status → status ≡ Memory
   memory-alone Memory h = refl
-  memory-alone (BadCode offset error) h = absurd (swept_not_bad h (made.items ∷ []) swept)
+  memory-alone (BadCode offset error) h = absurd (inputs.swept_not_bad B64 made_block (code_of n) 0 offset error h (made.items ∷ []) swept)
   memory-alone (TooMany count) h = absurd (code_unrefused (error.TooMany count) (λ e. cc) (λ at e. cc) h)
   memory-alone (Wraps end) h = absurd (code_unrefused (error.Wraps end) (λ e. cc) (λ at e. cc) h)
   memory-alone (TooFar at target) h = absurd (code_unrefused (error.TooFar at target) (λ e. cc) (λ at e. cc) h)
@@ -140,8 +135,8 @@ module _ (n : ℕ) (few : n ≤ 65536) where
   pub made-moved : (items : List Item) (placed : List Placed) (m : MovedLists) → IsSweep B64 code_base (code_of n) items → MovesInput B64 made_block (code_of n) placed m →
       (placed ≡ placed_in code_base items) × IsMoved B64 (placed_in code_base items) (one_span (placed_in code_base items) moved_base) m
   made-moved items placed m sweep h =
-      let same = swept_unique B64 made_block (code_of n) h.items (made.items ∷ []) h.swept swept in
-      let own : made.items ≡ items = sweep_unique B64 code_base (code_of n) made.items items made.sweep sweep in
+      let same = inputs.swept_unique B64 made_block (code_of n) h.items (made.items ∷ []) h.swept swept in
+      let own : made.items ≡ items = one.sweep_unique B64 code_base (code_of n) made.items items made.sweep sweep in
       let here = subst (λ (xs : List (List Item)). IsMoved B64 (all_placed made_block xs) (all_spans made_block xs) m) same h.is_moved in
       let there : IsMoved B64 (placed_in code_base made.items) (one_span (placed_in code_base made.items) moved_base) m = told (λ xs spans. IsMoved B64 xs spans m) here in (
         h.placed_is ∙ (ap (all_placed made_block) same ∙ (placed_is ∙ ap (placed_in code_base) own)),

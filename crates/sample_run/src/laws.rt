@@ -1,10 +1,40 @@
-//! What holds of made code, as the contract of a function that does nothing.
+//! What holds of made code, as the contracts of functions that do nothing.
 
 ghost use Rattle.std.specs.Prelude.{◌≡◌, ℕ};
 ghost use Rattle.sample_run.specs.declared.summary.Summary.{Summary};
 ghost use Rattle.sample_run.specs.Sample.{IsSample, summary_text};
+ghost use Rattle.sample_run.specs.Facts.{MadeFacts};
+
+use block_encoder::laws::{items_reach_their_goals, plans_seat_their_items};
+use branch_sizes::laws::{images_are_short, least_is_unique, totals_rise};
+use move_goals::laws::{first_numbers_pass, plans_are_well_formed};
+use move_layout::laws::far_forms_have_slots;
+use moving_run::laws::{inputs_are_read_in_one_way, instructions_are_placed};
+use sample_code::laws::made_code_has_instructions_alone;
+use sweep_text::laws::sweeps_agree;
 
 /// So many instructions have the same six lines, whenever and wherever they are made.
 pub fn samples_have_one_text()
     ensures { (n : ℕ) (s t : Summary) → IsSample n s → IsSample n t → summary_text s ≡ summary_text t }
-{}
+{
+    least_is_unique();
+    sweeps_agree();
+}
+
+/// The moving of made code is refused for want of memory alone: each of its instructions is aimed low, and reaches its target from its new place.
+#[inline]
+pub fn made_code_reaches_its_targets()
+    ensures { MadeFacts }
+{
+    totals_rise();
+    images_are_short();
+    first_numbers_pass();
+    plans_are_well_formed();
+    far_forms_have_slots();
+    plans_seat_their_items();
+    items_reach_their_goals();
+    sweeps_agree();
+    inputs_are_read_in_one_way();
+    instructions_are_placed();
+    made_code_has_instructions_alone();
+}

@@ -8,14 +8,18 @@ ghost use Rattle.opcode_rows.specs.Sweep.{IsSweep, Item};
 ghost use Rattle.sample_code.specs.Generator.{code_base};
 ghost use Rattle.sample_run.specs.Sample as spec;
 
+use crate::laws::made_code_reaches_its_targets;
 use branch_forms::choices_of;
 use branch_sizes::Form;
 use command_words::BlockWords;
 use move_goals::Placed;
+use moving_run::laws::instructions_are_placed;
 use moving_run::move_input;
 use run_parts::Status;
+use sample_code::laws::made_code_has_instructions_alone;
 use sample_code::{CODE_BASE, sample_code};
 use std::alloc::Global;
+use sweep_text::laws::items_stand_in_turn;
 use sweep_text::{Chunk, Lines, Syntax, append_line, item_len, read_at};
 use x86_values::{Bits, Instr};
 
@@ -44,6 +48,7 @@ fn listing_len(code: &[u8]) -> u64
     requires { length code.now ≤ 1048576 }
     ensures { (items : List Item) × (IsSweep B64 code_base code.now items × (result ≡ length (listing B64 code_base Intel items))) }
 {
+    items_stand_in_turn();
     let lines = Lines::Listing {
         syntax: Syntax::Intel,
     };
@@ -103,6 +108,9 @@ pub fn summarize(alloc: Global, count: u32) -> Result<Summary, Status>
     requires { count ≤ 65536 }
     ensures { MatchResult result (λ s. spec.IsSample count s) (λ status. status ≡ Status.Memory) }
 {
+    made_code_has_instructions_alone();
+    made_code_reaches_its_targets();
+    instructions_are_placed();
     let Ok(code) = sample_code(alloc, count) else {
         return Err(Status::Memory);
     };

@@ -3,10 +3,10 @@ use Rattle.std.proofs.Common.{◌≡◌, ◌⊎◌, inl, inr, ℕ, List, length,
 use Rattle.command_words.specs.Ranges.{Range}
 use Rattle.run_parts.specs.declared.status.Status.{Status}
 use Rattle.run_parts.specs.declared.status.Status.TheVariants.{Done, BadCode, ReadFault, WriteFault, Memory, TooLarge, TooFar, RegionFull}
+use Rattle.run_parts.specs.Facts.{ReadFacts}
 use Rattle.run_parts.specs.Reads.{whole_limit, ReadsAll}
-use Rattle.run_parts.proofs.Whole.{all_bytes, too_many}
 use Rattle.slots_run.specs.Slotting.{IsRefusal, IsSlotsAnswer, RefusesAs, SlotsAs, CompletesSlots}
-use Rattle.slots_run.proofs.Unique.{answer_unique}
+use Rattle.slots_run.specs.Facts.{AnswerFacts}
 
 module _ (range : Range) (base : ℕ) where
   -- a status that tells why, after which nothing was written
@@ -19,42 +19,43 @@ module _ (range : Range) (base : ℕ) where
   refusal bytes left left' held held' source_rose out_rose (TooFar at target) reads kept h = ((bytes, (reads, h)), kept)
   refusal bytes left left' held held' source_rose out_rose _ reads kept h = absurd h
 
-  -- an answer for all bytes
-  answered : (bytes : List ℕ) (left' : Option (List ℕ)) (read : List ℕ) (status : Status) → ReadsAll whole_limit (Some bytes) left' read →
-      IsSlotsAnswer range base read status → CompletesSlots range base (Some bytes) status
-  answered bytes left' read status reads h =
-      let same = all_bytes whole_limit bytes left' read reads in
-      let within = reads.within in
-      let there = subst (λ (xs : List ℕ). IsSlotsAnswer range base xs status) (sym same) h in (
-        λ few answer is. inl (answer_unique range base bytes status answer there is),
-        λ many. absurd (omega (arith, ap length same)),
-      )
+  module _ (facts : ReadFacts) (answers : AnswerFacts) where
+    -- an answer for all bytes
+    answered : (bytes : List ℕ) (left' : Option (List ℕ)) (read : List ℕ) (status : Status) → ReadsAll whole_limit (Some bytes) left' read →
+        IsSlotsAnswer range base read status → CompletesSlots range base (Some bytes) status
+    answered bytes left' read status reads h =
+        let same = facts.all_bytes whole_limit bytes left' read reads in
+        let within = reads.within in
+        let there = subst (λ (xs : List ℕ). IsSlotsAnswer range base xs status) (sym same) h in (
+          λ few answer is. inl (answers.answer_unique range base bytes status answer there is),
+          λ many. absurd (omega (arith, ap length same)),
+        )
 
-  refused : (left left' held held' : Option (List ℕ)) (status : Status) → RefusesAs range base left left' held held' status →
-      ((status ≡ ReadFault) ⊎ (status ≡ WriteFault) → ⊥) → CompletesSlots range base left status
-  refused (Some bytes) left' held held' status h told = answered bytes left' h.0.0 status h.0.1.0 h.0.1.1
-  refused None left' held held' status h told = told
+    refused : (left left' held held' : Option (List ℕ)) (status : Status) → RefusesAs range base left left' held held' status →
+        ((status ≡ ReadFault) ⊎ (status ≡ WriteFault) → ⊥) → CompletesSlots range base left status
+    refused (Some bytes) left' held held' status h told = answered bytes left' h.0.0 status h.0.1.0 h.0.1.1
+    refused None left' held held' status h told = told
 
-  -- **the command that meets no fault answers what its bytes say**
-  pub completes : (left left' held held' : Option (List ℕ)) (source_rose out_rose : Type 0) (status : Status) →
-      SlotsAs range base left left' held held' source_rose out_rose status → (source_rose → ⊥) → (out_rose → ⊥) →
-      CompletesSlots range base left status
-  completes (Some bytes) left' held held' source_rose out_rose Done h s o = answered bytes left' h.0 Done h.1.0 (h.1.1.0, h.1.1.1.0)
-  completes None left' held held' source_rose out_rose Done h s o = λ e. elim e [ inl x ↦ cc | inr x ↦ cc ]
-  completes (Some bytes) left' held held' source_rose out_rose Memory h s o = (λ few answer is. inr refl, λ many. inr refl)
-  completes None left' held held' source_rose out_rose Memory h s o = λ e. elim e [ inl x ↦ cc | inr x ↦ cc ]
-  completes (Some bytes) left' held held' source_rose out_rose (TooLarge limit) h s o =
-      let over = too_many whole_limit bytes left' h.1.0.0 h.1.0.1 in (
-        λ few answer is. absurd (omega arith),
-        λ many. inl (ap TooLarge h.0),
-      )
-  completes None left' held held' source_rose out_rose (TooLarge limit) h s o = λ e. elim e [ inl x ↦ cc | inr x ↦ cc ]
-  completes left left' held held' source_rose out_rose ReadFault h s o = absurd (s h.0)
-  completes left left' held held' source_rose out_rose WriteFault h s o = absurd (o h.0)
-  completes left left' held held' source_rose out_rose (BadCode offset error) h s o =
-      refused left left' held held' (BadCode offset error) h (λ e. elim e [ inl x ↦ cc | inr x ↦ cc ])
-  completes left left' held held' source_rose out_rose (RegionFull len largest) h s o =
-      refused left left' held held' (RegionFull len largest) h (λ e. elim e [ inl x ↦ cc | inr x ↦ cc ])
-  completes left left' held held' source_rose out_rose (TooFar at target) h s o =
-      refused left left' held held' (TooFar at target) h (λ e. elim e [ inl x ↦ cc | inr x ↦ cc ])
-  completes left left' held held' source_rose out_rose _ h s o = absurd h
+    -- **the command that meets no fault answers what its bytes say**
+    pub completes : (left left' held held' : Option (List ℕ)) (source_rose out_rose : Type 0) (status : Status) →
+        SlotsAs range base left left' held held' source_rose out_rose status → (source_rose → ⊥) → (out_rose → ⊥) →
+        CompletesSlots range base left status
+    completes (Some bytes) left' held held' source_rose out_rose Done h s o = answered bytes left' h.0 Done h.1.0 (h.1.1.0, h.1.1.1.0)
+    completes None left' held held' source_rose out_rose Done h s o = λ e. elim e [ inl x ↦ cc | inr x ↦ cc ]
+    completes (Some bytes) left' held held' source_rose out_rose Memory h s o = (λ few answer is. inr refl, λ many. inr refl)
+    completes None left' held held' source_rose out_rose Memory h s o = λ e. elim e [ inl x ↦ cc | inr x ↦ cc ]
+    completes (Some bytes) left' held held' source_rose out_rose (TooLarge limit) h s o =
+        let over = facts.too_many whole_limit bytes left' h.1.0.0 h.1.0.1 in (
+          λ few answer is. absurd (omega arith),
+          λ many. inl (ap TooLarge h.0),
+        )
+    completes None left' held held' source_rose out_rose (TooLarge limit) h s o = λ e. elim e [ inl x ↦ cc | inr x ↦ cc ]
+    completes left left' held held' source_rose out_rose ReadFault h s o = absurd (s h.0)
+    completes left left' held held' source_rose out_rose WriteFault h s o = absurd (o h.0)
+    completes left left' held held' source_rose out_rose (BadCode offset error) h s o =
+        refused left left' held held' (BadCode offset error) h (λ e. elim e [ inl x ↦ cc | inr x ↦ cc ])
+    completes left left' held held' source_rose out_rose (RegionFull len largest) h s o =
+        refused left left' held held' (RegionFull len largest) h (λ e. elim e [ inl x ↦ cc | inr x ↦ cc ])
+    completes left left' held held' source_rose out_rose (TooFar at target) h s o =
+        refused left left' held held' (TooFar at target) h (λ e. elim e [ inl x ↦ cc | inr x ↦ cc ])
+    completes left left' held held' source_rose out_rose _ h s o = absurd h

@@ -1,5 +1,5 @@
 -- How far going through the code has come.
-use Rattle.std.proofs.Common.{◌≡◌, ℕ, ◌+◌, ◌<◌, ◌≤◌, List, [], ◌∷◌, ◌++◌, length, take, drop, Option, Some, None, Ok, Err, refl, sym, ap, ◌∙◌, subst, arith, append_assoc, append-nil, length-append, length-drop, length-take, drop-drop, drop_of_length-le}
+use Rattle.std.proofs.Common.{◌≡◌, ℕ, ◌+◌, ◌<◌, ◌≤◌, List, [], ◌∷◌, ◌++◌, length, take, drop, Option, Some, None, Ok, Err, refl, sym, ap, ◌∙◌, subst, arith, append_assoc, length-append, length-take}
 use Rattle.std.specs.Prelude.{All}
 use Rattle.std.proofs.lemmas.List.Elements.{All-nil, All-cons, All-append, All-head, All-tail}
 use Rattle.x86_values.specs.declared.Bits.{Bits}
@@ -10,8 +10,10 @@ use Rattle.row_relation.specs.Spells.{Reading, Read, TooShort, Invalid, Spells}
 use Rattle.decoder.specs.declared.DecodeError.{DecodeError}
 use Rattle.decoder.specs.Answer.{reading_of}
 use Rattle.opcode_rows.specs.Table.{table}
-use Rattle.opcode_rows.specs.Sweep.{Item, IsReadAt, Sweeps, item_len}
+use Rattle.opcode_rows.specs.Sweep.{Item, IsReadAt, item_len}
 use Rattle.sweep_text.specs.Lines.{error_of}
+use Rattle.sweep_text.specs.Sweeping.{TakesSome, SweptTo, item_read}
+use Rattle.sweep_text.specs.Facts.{SweptFacts}
 use Rattle.move_goals.specs.declared.items.Placed.{Placed}
 use Rattle.move_goals.specs.Items.{IsPlaced}
 use Rattle.step_slots.specs.State.{SlotState}
@@ -19,7 +21,6 @@ use Rattle.step_slots.specs.Stepping.{IsStepped}
 use Rattle.command_words.specs.Ranges.{Range}
 use Rattle.run_parts.specs.declared.status.Status.{Status}
 use Rattle.moving_run.specs.Code.{IsInstruction, StopsAt}
-use Rattle.moving_run.proofs.Reading.{instr_item, instr_at, error_is, one_long}
 use Rattle.slots_run.specs.Slotted.{slotted_by, slotted_in, empty_slots, AreSlotted}
 use Rattle.slots_run.specs.Steps.{IsTried, IsNext, HasCome, IsGoneThrough}
 
@@ -125,8 +126,7 @@ next-bits old new (Some status) number item told next = ap (λ (s : SlotState). 
 -- the first items of the code were tried, and what follows them is the rest of its sweep
 pub record Begun (range : Range) (base : ℕ) (bytes : List ℕ) (at number : ℕ) (refused : Option Status) (slots : SlotState) : Type 0 where
   pub items : List Item
-  pub within : at ≤ length bytes
-  pub go_on : (more : List Item) (rest : List ℕ) → Sweeps range.bits base at (drop at bytes) more rest → Sweeps range.bits base 0 bytes (items ++ more) rest
+  pub swept : SweptTo range.bits base bytes at items
   pub all : All IsInstruction items
   pub count_is : number ≡ length items
   pub few : number ≤ at
@@ -134,90 +134,71 @@ pub record Begun (range : Range) (base : ℕ) (bytes : List ℕ) (at number : �
   pub bits_are : slots.bits ≡ range.bits
   pub come : HasCome (empty_slots range) (slotted_in range.bits base items) refused slots
 
-pub begun-start : (range : Range) (base : ℕ) (bytes : List ℕ) (slots : SlotState) → slots ≡ empty_slots range → Begun range base bytes 0 0 None slots
-begun-start range base bytes slots empty = record {
-  items = [];
-  within = omega arith;
-  go_on = λ more rest sweeps. sweeps;
-  all = All-nil IsInstruction;
-  count_is = refl;
-  few = omega arith;
-  placed = All-nil (IsPlaced range.bits);
-  bits_are = ap (λ (s : SlotState). s.bits) empty;
-  come = empty;
-}
+module _ (turn : SweptFacts) where
+  pub begun-start : (range : Range) (base : ℕ) (bytes : List ℕ) (slots : SlotState) → slots ≡ empty_slots range → Begun range base bytes 0 0 None slots
+  begun-start range base bytes slots empty = record {
+    items = [];
+    swept = turn.swept-start range.bits base bytes;
+    all = All-nil IsInstruction;
+    count_is = refl;
+    few = omega arith;
+    placed = All-nil (IsPlaced range.bits);
+    bits_are = ap (λ (s : SlotState). s.bits) empty;
+    come = empty;
+  }
 
--- one more instruction
-pub begun-step : (range : Range) (base : ℕ) (bytes : List ℕ) (at number : ℕ) (refused told : Option Status) (slots slots' : SlotState) (d : Decoded) →
-    Begun range base bytes at number refused slots → at < length bytes → IsReadAt range.bits base at (drop at bytes) (Read d) →
-    (0 < d.len) × (d.len ≤ 15) × (d.len ≤ length (drop at bytes)) → IsNext slots refused number (item_at range.bits base at d) told slots' →
-    Begun range base bytes (at + d.len) (number + 1) told slots'
-begun-step range base bytes at number refused told slots slots' d b lt reads sized next =
-    let item = instr_item bytes at d in
-    let new = item_at range.bits base at d in
-    let behind : drop d.len (drop at bytes) ≡ drop (at + d.len) bytes = drop-drop d.len at bytes in
-    let count : number ≡ length (slotted_in range.bits base b.items) = b.count_is ∙ sym (slotted_length range.bits base b.items b.all) in
-    let H : List Placed → Type 0 = λ xs. HasCome (empty_slots range) xs told slots' in
-    let joined : slotted_in range.bits base (b.items ++ item ∷ []) ≡ slotted_in range.bits base b.items ++ new ∷ [] =
-    slotted_in-append range.bits base b.items (item ∷ []) in
-    let come : H (slotted_in range.bits base b.items ++ new ∷ []) =
-    come-next (empty_slots range) slots slots' (slotted_in range.bits base b.items) new number refused told count b.come next in
-    record {
-      items = b.items ++ item ∷ [];
-      within = omega (arith, sized.2, b.within, length-drop at bytes);
-      go_on = λ more rest sweeps.
-          let S : List ℕ → Type 0 = λ xs. Sweeps range.bits base (at + d.len) xs more rest in
-          let T : List Item → Type 0 = λ xs. Sweeps range.bits base 0 bytes xs rest in
-          subst T (sym (append_assoc b.items (item ∷ []) more))
-          (b.go_on (item ∷ more) rest (instr_at range.bits base bytes at d reads sized, subst S (sym behind) sweeps));
-      all = All-append IsInstruction b.items (item ∷ []) b.all (All-cons IsInstruction item [] refl (All-nil IsInstruction));
-      count_is = omega (arith, b.count_is, length-append b.items (item ∷ []));
-      few = omega (arith, sized.0, b.few);
-      placed = subst (All (IsPlaced range.bits)) (sym joined)
-          (All-append (IsPlaced range.bits) (slotted_in range.bits base b.items) (new ∷ []) b.placed
-          (All-cons (IsPlaced range.bits) new [] (item-placed range.bits base at (drop at bytes) d reads sized.0 sized.2) (All-nil (IsPlaced range.bits))));
-      bits_are = next-bits slots slots' refused number new told next ∙ b.bits_are;
-      come = subst H (sym joined) come;
-    }
+  -- one more instruction
+  pub begun-step : (range : Range) (base : ℕ) (bytes : List ℕ) (at number : ℕ) (refused told : Option Status) (slots slots' : SlotState) (d : Decoded) →
+      Begun range base bytes at number refused slots → IsReadAt range.bits base at (drop at bytes) (Read d) →
+      TakesSome (Read d) (length (drop at bytes)) → IsNext slots refused number (item_at range.bits base at d) told slots' →
+      Begun range base bytes (at + d.len) (number + 1) told slots'
+  begun-step range base bytes at number refused told slots slots' d b reads takes next =
+      let item = item_read at (drop at bytes) (Read d) in
+      let new = item_at range.bits base at d in
+      let some : 0 < d.len = takes.some in
+      let count : number ≡ length (slotted_in range.bits base b.items) = b.count_is ∙ sym (slotted_length range.bits base b.items b.all) in
+      let H : List Placed → Type 0 = λ xs. HasCome (empty_slots range) xs told slots' in
+      let joined : slotted_in range.bits base (b.items ++ item ∷ []) ≡ slotted_in range.bits base b.items ++ new ∷ [] =
+      slotted_in-append range.bits base b.items (item ∷ []) in
+      let come : H (slotted_in range.bits base b.items ++ new ∷ []) =
+      come-next (empty_slots range) slots slots' (slotted_in range.bits base b.items) new number refused told count b.come next in
+      record {
+        items = b.items ++ item ∷ [];
+        swept = turn.swept-step range.bits base at bytes b.items (Read d) b.swept reads takes;
+        all = All-append IsInstruction b.items (item ∷ []) b.all (All-cons IsInstruction item [] refl (All-nil IsInstruction));
+        count_is = omega (arith, b.count_is, length-append b.items (item ∷ []));
+        few = omega (arith, b.few);
+        placed = subst (All (IsPlaced range.bits)) (sym joined)
+            (All-append (IsPlaced range.bits) (slotted_in range.bits base b.items) (new ∷ []) b.placed
+            (All-cons (IsPlaced range.bits) new [] (item-placed range.bits base at (drop at bytes) d reads some takes.within) (All-nil (IsPlaced range.bits))));
+        bits_are = next-bits slots slots' refused number new told next ∙ b.bits_are;
+        come = subst H (sym joined) come;
+      }
 
--- all instructions
-pub begun-end : (range : Range) (base : ℕ) (bytes : List ℕ) (at number : ℕ) (refused : Option Status) (slots : SlotState) →
-    Begun range base bytes at number refused slots → length bytes ≤ at → IsGoneThrough range base bytes refused slots
-begun-end range base bytes at number refused slots b le =
-    let T : List Item → Type 0 = λ xs. Sweeps range.bits base 0 bytes xs [] in
-    record {
-      items = b.items;
-      sweep = subst T (append-nil b.items) (b.go_on [] [] (drop_of_length-le bytes le));
-      all = b.all;
-      placed = b.placed;
-      come = b.come;
-    }
+  -- all instructions
+  pub begun-end : (range : Range) (base : ℕ) (bytes : List ℕ) (at number : ℕ) (refused : Option Status) (slots : SlotState) →
+      Begun range base bytes at number refused slots → length bytes ≤ at → IsGoneThrough range base bytes refused slots
+  begun-end range base bytes at number refused slots b le = record {
+    items = b.items;
+    sweep = turn.swept-end range.bits base at bytes b.items b.swept le;
+    all = b.all;
+    placed = b.placed;
+    come = b.come;
+  }
 
--- a single byte
-pub begun-stop : (range : Range) (base : ℕ) (bytes : List ℕ) (at number : ℕ) (refused : Option Status) (slots : SlotState) (e : DecodeError) →
-    Begun range base bytes at number refused slots → at < length bytes → IsReadAt range.bits base at (drop at bytes) (reading_of (Err e)) →
-    StopsAt range.bits base bytes at e
-begun-stop range base bytes at number refused slots e b lt reads =
-    let reading : Reading = reading_of (Err e) in
-    let item : Item = record { offset = at; bytes = take (item_len reading) (drop at bytes); reading = reading } in
-    let long : item_len reading ≡ 1 = one_long e in
-    record {
-      items = b.items;
-      last = item;
-      sweep = (
-        drop (item_len reading) (drop at bytes),
-        b.go_on (item ∷ []) (drop (item_len reading) (drop at bytes)) (
-          record {
-            offset_is = refl;
-            reads = reads;
-            within = omega (arith, long, length-drop at bytes);
-            some = omega (arith, long);
-            bytes_are = refl;
-          },
-          refl,
-        ),
-      );
-      all = b.all;
-      offset_is = refl;
-      stops = error_is e;
-    }
+  -- a single byte
+  pub begun-stop : (range : Range) (base : ℕ) (bytes : List ℕ) (at number : ℕ) (refused : Option Status) (slots : SlotState) (e : DecodeError) →
+      Begun range base bytes at number refused slots → IsReadAt range.bits base at (drop at bytes) (reading_of (Err e)) →
+      TakesSome (reading_of (Err e)) (length (drop at bytes)) → StopsAt range.bits base bytes at e
+  begun-stop range base bytes at number refused slots e b reads takes =
+      let reading : Reading = reading_of (Err e) in
+      let item = item_read at (drop at bytes) reading in
+      record {
+        items = b.items;
+        last = item;
+        sweep = turn.swept-first range.bits base (at + item_len reading) bytes (b.items ++ item ∷ [])
+            (turn.swept-step range.bits base at bytes b.items reading b.swept reads takes);
+        all = b.all;
+        offset_is = refl;
+        stops = turn.error_is e;
+      }

@@ -1,3 +1,4 @@
 pub mod Slotted
 pub mod Slotting
 pub mod Steps
+pub mod Facts

@@ -5,12 +5,15 @@ ghost use Rattle.byte_ports.specs.Ports.{Rose};
 ghost use Rattle.run_parts.specs.Reads.{whole_limit, Takes, EndsAtFault};
 ghost use Rattle.slots_run.specs.Slotting.{SlotsAs, CompletesSlots};
 
+use crate::laws::code_has_one_answer;
 use crate::stepping::step_all;
 use byte_ports::{Sink, Source};
 use command_words::SlotRange;
+use run_parts::laws::told_bytes_are_read;
 use run_parts::{ReadError, Status, WHOLE_LIMIT, put_all, read_all};
 use std::alloc::Global;
 use step_slots::StepSlots;
+use step_slots::laws::{reserved_lengths_are_short, slots_stay_apart};
 
 /// The greatest number of slots.
 const MOST: u64 = 65_536;
@@ -36,6 +39,10 @@ pub fn slot_code<S: Source, K: Sink>(
     ensures taken { Takes whole_limit (S.left source.old) (S.left source.new)
         × (result ≡ Status.ReadFault → EndsAtFault S.pull_gives S.left source.new) }
 {
+    told_bytes_are_read();
+    code_has_one_answer();
+    slots_stay_apart();
+    reserved_lengths_are_short();
     let input = match read_all(alloc, source, WHOLE_LIMIT) {
         Ok(input) => input,
         Err(ReadError::Fault) => return Status::ReadFault,

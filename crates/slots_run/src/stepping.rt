@@ -8,7 +8,9 @@ ghost use Rattle.slots_run.specs.Steps as spec;
 use command_words::SlotRange;
 use run_parts::Status;
 use std::alloc::Global;
+use step_slots::laws::{reserved_lengths_are_short, slots_stay_apart};
 use step_slots::{Placed, StepError, StepSlots};
+use sweep_text::laws::items_stand_in_turn;
 use sweep_text::read_at;
 use x86_values::wrap;
 
@@ -57,6 +59,9 @@ pub fn step_all(
     requires short { length input.now ≤ 1048576 }
     ensures { spec.GoesThrough range.now base input.now result slots.new }
 {
+    items_stand_in_turn();
+    slots_stay_apart();
+    reserved_lengths_are_short();
     let bits = range.bits();
     let mut refused = None;
     let mut number: u64 = 0;

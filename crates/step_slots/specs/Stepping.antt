@@ -27,23 +27,25 @@ slots_refusal bits base size max_blocks =
     else (if is_bad_room max_blocks then Some (open_error.TooManyBlocks max_blocks)
     else (if nat_lt (2 ^ width bits) (base + size) then Some (open_error.Wraps (base + size)) else None))
 
--- a refusal of a place for a length that is not 0, and why a step is refused then
+-- a refusal of a place for a length that is not 0
 abbrev pub IsOfLength : PlaceError → Type 0
 IsOfLength place_error.Empty = ⊥
 IsOfLength (place_error.TooManyBlocks max) = Unit {0}
 IsOfLength (place_error.Full len largest) = Unit {0}
 
+-- why a step is refused then
 abbrev pub place_refusal_of : PlaceError → ℕ → StepError
 place_refusal_of (place_error.TooManyBlocks max) rounded_len = TooManyBlocks max rounded_len
 place_refusal_of (place_error.Full len largest) rounded_len = Full len largest
 place_refusal_of place_error.Empty rounded_len = Memory
 
--- a refusal of a block that ends inside the address space, and why a step is refused then
+-- a refusal of a block that ends inside the address space
 abbrev pub IsOfReach : MoveError → Type 0
 IsOfReach (move_error.TooFar at target) = Unit {0}
 IsOfReach move_error.Memory = Unit {0}
 IsOfReach why = ⊥
 
+-- why a step is refused then
 abbrev pub move_refusal_of : MoveError → StepError
 move_refusal_of (move_error.TooFar at target) = TooFar target
 move_refusal_of why = Memory

@@ -1,7 +1,8 @@
 -- What is read of 15 bytes and more stays whatever bytes follow, and so do the first items of a sweep.
-use Rattle.std.proofs.Common.{◌≡◌, ℕ, suc, ◌+◌, ◌≤◌, List, [], ◌∷◌, ◌++◌, length, drop, sym, ap, ◌∙◌, subst, arith, length-append}
+use Rattle.std.proofs.Common.{◌≡◌, ℕ, ◌+◌, ◌≤◌, List, [], ◌∷◌, ◌++◌, length, drop, sym, ap, ◌∙◌, subst, arith, length-append}
 use Rattle.std.specs.Prelude.{All}
 use Rattle.std.proofs.lemmas.List.{take-append-le, drop-append-le, length-drop, length-take}
+use Rattle.std.proofs.lemmas.List.Elements.{All-head, All-tail}
 use Rattle.x86_values.specs.declared.Bits.{Bits}
 use Rattle.x86_values.specs.Wrapping.{wrapped}
 use Rattle.x86_values.specs.declared.Instr.{Instr}
@@ -59,13 +60,7 @@ item_longer bits base offset bytes more item long h =
 
 -- ---- first items
 
-pub all_head : (P : Item → Type 0) (item : Item) (items : List Item) → All P (item ∷ items) → P item
-all_head P item items all = all 0 item (omega arith)
-
-pub all_tail : (P : Item → Type 0) (item : Item) (items : List Item) → All P (item ∷ items) → All P items
-all_tail P item items all = λ k d lt. all (suc k) d (omega arith)
-
--- the same as far as a greater number of bytes goes
+-- items that are ready are so where more bytes were seen
 pub all_ready : (n m : ℕ) (items : List Item) → n ≤ m → All (IsReady n) items → All (IsReady m) items
 all_ready n m items le all = λ k d lt. let r = all k d lt in omega arith
 
@@ -76,11 +71,11 @@ sweeps_longer bits base offset bytes more [] rest h ready = ap (λ xs. xs ++ mor
 sweeps_longer bits base offset bytes more (item ∷ items) rest h ready =
     let n : ℕ = item_len item.reading in
     let within = h.0.within in
-    let first = all_head (IsReady (offset + length bytes)) item items ready in
+    let first = All-head (IsReady (offset + length bytes)) item items ready in
     let at = h.0.offset_is in
     let long : 15 ≤ length bytes = omega arith in
     let same : offset + length bytes ≡ offset + n + length (drop n bytes) = omega (arith, length-drop n bytes) in
-    let tail = all_tail (IsReady (offset + length bytes)) item items ready in
+    let tail = All-tail (IsReady (offset + length bytes)) item items ready in
     let rest_ready : All (IsReady (offset + n + length (drop n bytes))) items = subst (λ m. All (IsReady m) items) same tail in (
       item_longer bits base offset bytes more item long h.0,
       subst (λ xs. Sweeps bits base (offset + n) xs items (rest ++ more)) (sym (drop-append-le n bytes more h.0.within))

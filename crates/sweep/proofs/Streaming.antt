@@ -5,14 +5,14 @@ use Rattle.std.proofs.Math.Seq.{take-append-add}
 use Rattle.std.proofs.lemmas.List.{length-drop, length-take, drop-drop, drop-append-le, take_min}
 use Rattle.std.proofs.lemmas.Grind.{flat_map-append}
 use Rattle.std.proofs.lemmas.List.Elements.{All-nil, All-append}
-use Rattle.byte_ports.specs.Ports.{with_front, with_back}
+use Rattle.byte_ports.specs.Ports.{Rose, with_front, with_back}
 use Rattle.x86_values.specs.declared.Bits.{Bits}
 use Rattle.decoder.specs.declared.DecodeError.{DecodeError}
 use Rattle.sweep_text.specs.declared.lines.Lines.{Lines}
 use Rattle.opcode_rows.specs.Sweep.{Item, Sweeps, item_len}
 use Rattle.sweep_text.specs.Lines.{GoesOn, line_of, lines_of}
 use Rattle.run_parts.specs.Reads.{code_limit, ReadsAll, ReadsTooMany}
-use Rattle.run_parts.proofs.Appending.{with_front-append, with_back-nil, with_back-append}
+use Rattle.run_parts.specs.Facts.{PieceFacts}
 use Rattle.sweep.specs.Steps.{IsReady, HandlesEnd, HandlesItems, HandlesFront}
 use Rattle.sweep.specs.Window.{Fills}
 use Rattle.sweep.specs.Streams.{WritesLines, WritesHandled, WritesLinesFront, WritesLinesBefore, Sees, Reads, MayHandle}
@@ -33,11 +33,15 @@ pub record Streamed (bits : Bits) (base : ℕ) (lines : Lines) (start left : Opt
   pub count_is : count ≡ length items
   pub written : held' ≡ with_back held (lines_of bits base lines items)
 
+-- a fault in a later call is one of the whole
+pub rose_since : (a b c : ℕ) → a ≤ b → Rose b c → Rose a c
+rose_since a b c le r = elim r [ inl lt ↦ inl (omega arith) | inr full ↦ inr full ]
+
 -- before the first byte
-pub streamed_start : (bits : Bits) (base : ℕ) (lines : Lines) (start held : Option (List ℕ)) (window : List ℕ) →
+pub streamed_start : (join : PieceFacts) (bits : Bits) (base : ℕ) (lines : Lines) (start held : Option (List ℕ)) (window : List ℕ) →
     Streamed bits base lines start start held held 0 0 0 window
 unfolding code_limit
-streamed_start bits base lines start held window = record {
+streamed_start join bits base lines start held window = record {
   seen = [];
   items = [];
   read = with_front-nil start;
@@ -49,7 +53,7 @@ streamed_start bits base lines start held window = record {
   all = All-nil (GoesOn lines);
   short = omega arith;
   count_is = refl;
-  written = sym (with_back-nil held);
+  written = sym (join.with_back-nil held);
 }
   where
     with_front-nil : (o : Option (List ℕ)) → o ≡ with_front [] o
@@ -82,7 +86,7 @@ lines_join : (bits : Bits) (base : ℕ) (lines : Lines) (items more : List Item)
     lines_of bits base lines (items ++ more) ≡ lines_of bits base lines items ++ lines_of bits base lines more
 lines_join bits base lines items more = flat_map-append (line_of bits base lines) items more
 
-module _ (bits : Bits) (base : ℕ) (lines : Lines) (start left left' held held' : Option (List ℕ)) (at len count room n end : ℕ) (window window' : List ℕ)
+module _ (join : PieceFacts) (bits : Bits) (base : ℕ) (lines : Lines) (start left left' held held' : Option (List ℕ)) (at len count room n end : ℕ) (window window' : List ℕ)
     (s : Streamed bits base lines start left held held' at len count window) (f : Fills left left' window window' len room n)
     (room_is : room ≤ code_limit + 1 - (at + len)) (end_is : end ≡ min (len + n) (code_limit - at)) where
   -- the bytes that count, and those that were taken
@@ -126,7 +130,7 @@ module _ (bits : Bits) (base : ℕ) (lines : Lines) (start left left' held held'
       sym (ap (λ k. take k taken) split ∙ take-append-add s.seen f.piece (code_limit - length s.seen))
 
   all_taken : start ≡ with_front taken left'
-  all_taken = s.read ∙ (ap (with_front s.seen) f.read ∙ with_front-append left' s.seen f.piece)
+  all_taken = s.read ∙ (ap (with_front s.seen) f.read ∙ join.with_front-append left' s.seen f.piece)
 
   pub sees : Sees start left' now
   sees = record {
@@ -175,7 +179,7 @@ module _ (bits : Bits) (base : ℕ) (lines : Lines) (start left left' held held'
               length before + h.written.0,
               h.written.1
                   ∙ (ap (λ (o : Option (List ℕ)). with_back o part) s.written
-                  ∙ (with_back-append held before part
+                  ∙ (join.with_back-append held before part
                   ∙ ap (with_back held) (sym (take-append-add before (lines_of bits base lines h.items) h.written.0) ∙ ap (take (length before + h.written.0)) (sym (lines_join bits base lines s.items h.items))))),
             );
           },
@@ -198,7 +202,7 @@ module _ (bits : Bits) (base : ℕ) (lines : Lines) (start left left' held held'
     written_joined =
         h.written
         ∙ (ap (λ (o : Option (List ℕ)). with_back o (lines_of bits base lines h.items)) s.written
-        ∙ (with_back-append held (lines_of bits base lines s.items) (lines_of bits base lines h.items)
+        ∙ (join.with_back-append held (lines_of bits base lines s.items) (lines_of bits base lines h.items)
         ∙ ap (with_back held) (sym (lines_join bits base lines s.items h.items))))
 
     count_joined : count + handled.count ≡ length (s.items ++ h.items)

@@ -2,3 +2,4 @@ pub mod Steps
 pub mod Window
 pub mod Streams
 pub mod Ends
+pub mod Facts

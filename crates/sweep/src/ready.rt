@@ -5,8 +5,10 @@ ghost use Rattle.byte_ports.specs.Ports.{HasCause};
 ghost use Rattle.run_parts.specs.Writing.{HoldsFront};
 ghost use Rattle.sweep.specs.Steps.{TakesStep, HandlesItems, HandlesFront};
 
+use crate::window::WINDOW_LEN;
 use byte_ports::{Failed, Sink};
 use decoder::DecodeError;
+use run_parts::laws::held_texts_arrive;
 use run_parts::{make_room, put_all};
 use sweep_text::{Chunk, Lines, append_line, item_len, read_at, stop_of};
 use x86_values::Bits;
@@ -80,12 +82,13 @@ pub(crate) fn write_ready<K: Sink>(
     out: &mut K,
 ) -> Result<Handled, Failed>
     requires at { at ≤ 16777216 }
-    requires short { length bytes.now ≤ 16384 }
+    requires short { length bytes.now ≤ WINDOW_LEN }
     ensures ok { IfOk result (λ handled. HandlesItems bits base lines at bytes.now ended (K.held out.old) (K.held out.new) handled) }
     ensures few { IfOk result (λ handled. handled.count ≤ handled.used) }
     ensures err { OnErr result (HandlesFront bits base lines at bytes.now (K.held out.old) (K.held out.new)) }
     ensures cause { HasCause (K.faults out.old) (K.faults out.new) result }
 {
+    held_texts_arrive();
     let mut pending = Chunk::new();
     let mut used = 0;
     let mut count = 0;

@@ -15,6 +15,8 @@ use crate::window::{WINDOW_LEN, fill, keep};
 use byte_ports::{Failed, Sink, Source};
 use prefixes::mode_of;
 use run_parts::CODE_LIMIT;
+use run_parts::laws::{pieces_join, told_bytes_are_read};
+use sweep_text::laws::sweeps_agree;
 use sweep_text::{Lines, Syntax};
 use x86_values::Bits;
 
@@ -34,6 +36,7 @@ fn stream_all<S: Source, K: Sink>(
         (Rose (S.faults source.old) (S.faults source.new)) (Rose (K.faults sink.old) (K.faults sink.new)) result }
     ensures last { result ≡ Err why.ReadFault → EndsAtFault S.pull_gives S.left source.new }
 {
+    pieces_join();
     let mut window = [0; WINDOW_LEN];
     let mut len = 0;
     let mut at = 0;
@@ -89,6 +92,8 @@ pub fn stream_lines<S: Source, K: Sink>(
     ensures taken { Takes code_limit (S.left source.old) (S.left source.new)
         × (result ≡ Err why.ReadFault → EndsAtFault S.pull_gives S.left source.new) }
 {
+    told_bytes_are_read();
+    sweeps_agree();
     stream_all(bits, base, lines, source, sink)
 }
 
@@ -109,6 +114,7 @@ pub fn list_stream<const BITS: u32, S: Source, K: Sink>(
         → CompletesListing (S.left source.old) (of_listing result) }
     ensures taken { Takes code_limit (S.left source.old) (S.left source.new) }
 {
+    told_bytes_are_read();
     let lines = Lines::Listing { syntax };
     match stream_lines(mode_of::<BITS>(), base, lines, source, sink) {
         Ok(count) => Ok(count),

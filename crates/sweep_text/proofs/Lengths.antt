@@ -1,15 +1,8 @@
 -- How long the parts of a line are.
-use Rattle.std.proofs.Common.{◌≡◌, ℕ, ◌≤◌, ◌*◌, List, [], ◌∷◌, ◌++◌, length, drop, replicate, ap, ◌∙◌, append_assoc}
+use Rattle.std.proofs.Common.{◌≡◌, ℕ, ◌*◌, List, [], ◌∷◌, ◌++◌, length, drop, replicate, ap, ◌∙◌, append_assoc}
 use Rattle.std.proofs.lemmas.List.{drop-replicate}
 use Rattle.hex.specs.Hex.{encode_lower}
-use Rattle.text_parts.specs.declared.style.Style.{Style}
-use Rattle.text_parts.specs.Numbers.{number}
-use Rattle.text_parts.proofs.Bounds.{number-le}
 use Rattle.sweep_text.specs.Listing.{byte_column}
-
--- the number of a byte is short
-pub number_fits : (style : Style) (n : ℕ) → length (number style n) ≤ 18
-number_fits style n = number-le style n
 
 -- the parts of a line, appended one behind another, are the line
 pub line_parts : (out address column text : List ℕ) →

@@ -1,4 +1,3 @@
-pub mod WrappedAddress
 pub mod Lengths
 pub mod OneSweep
 pub mod Covering

@@ -5,9 +5,11 @@ ghost use Rattle.arrayvec.specs.ArrayVec.{array_vec_len};
 ghost use Rattle.opcode_rows.specs.Allowed.{is_well_formed};
 ghost use Rattle.sweep_text.specs.Info as spec;
 
+use crate::line::TEXT_LEN;
 use itoa::Buffer;
 use opcode_rows::ROWS;
 use operand_info::{Access, Flow, access_of, flow_of, ip_operand, memory_size, near_target};
+use text_parts::laws::numbers_are_short;
 use text_parts::numbers::append_number;
 use text_parts::prefix_words::has_memory;
 use text_parts::style::Style;
@@ -74,7 +76,7 @@ fn operand_word(instr: &Instr, n: usize) -> &'static [u8]
 #[tactic(auto, unfolding(crate::specs::Info::memory_word))]
 fn append_memory(out: &mut Text, instr: &Instr)
     requires code { instr.now.code.0 < ROWS }
-    requires room { array_vec_len out.old + 5 ≤ 160 }
+    requires room { array_vec_len out.old + 5 ≤ TEXT_LEN }
     ensures items { out.new.items ≡ out.old.items ++ spec.memory_word instr.now }
     ensures len { array_vec_len out.new ≤ array_vec_len out.old + 5 }
 {
@@ -86,13 +88,14 @@ fn append_memory(out: &mut Text, instr: &Instr)
 }
 
 /// Appends an address behind a sign, where there is one.
-#[tactic(auto, using(crate::proofs::Lengths::number_fits), unfolding(crate::specs::Info::address_word))]
+#[tactic(auto, unfolding(crate::specs::Info::address_word))]
 fn append_address_word(out: &mut Text, sign: &[u8], address: Option<u64>)
     requires sign { length sign.now ≤ 4 }
-    requires room { array_vec_len out.old + 22 ≤ 160 }
+    requires room { array_vec_len out.old + 22 ≤ TEXT_LEN }
     ensures items { out.new.items ≡ out.old.items ++ spec.address_word sign.now address }
     ensures len { array_vec_len out.new ≤ array_vec_len out.old + 22 }
 {
+    numbers_are_short();
     if let Some(address) = address {
         append(out, sign);
         append_number(out, Style::Intel, address);

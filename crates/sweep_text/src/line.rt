@@ -19,6 +19,9 @@ pub const CHUNK_LEN: usize = 16384;
 /// How many bytes a line of the listing has at most.
 pub const LINE_LEN: usize = 209;
 
+/// How many bytes the text of an item has at most.
+pub(crate) const TEXT_LEN: usize = 160;
+
 /// Text that is held before it is written.
 pub type Chunk = ArrayVec<u8, 16384>;
 
@@ -57,7 +60,7 @@ pub(crate) fn append_bytes<const N: usize>(out: &mut ArrayVec<u8, N>, bytes: &[u
 /// Appends the address of an offset in code whose first byte has the address `base`: 4, 8 or 16 hexadecimal digits, as the mode has. It wraps in the mode.
 #[tactic(auto, unfolding(crate::specs::Listing::address_text))]
 pub fn append_address(out: &mut Chunk, bits: Bits, base: u64, offset: usize)
-    requires { array_vec_len out.old + 16 ≤ 16384 }
+    requires { array_vec_len out.old + 16 ≤ CHUNK_LEN }
     ensures items { out.new.items ≡ out.old.items ++ spec.address_text bits base offset }
     ensures len { array_vec_len out.new ≤ array_vec_len out.old + 16 }
 {
@@ -73,9 +76,9 @@ pub fn append_address(out: &mut Chunk, bits: Bits, base: u64, offset: usize)
 #[tactic(auto, unfolding(crate::specs::Listing::byte_column))]
 fn append_column(out: &mut Chunk, bytes: &[u8])
     requires few { length bytes.now ≤ 15 }
-    requires room { array_vec_len out.old + 30 ≤ 16384 }
+    requires room { array_vec_len out.old + COLUMN_LEN ≤ CHUNK_LEN }
     ensures items { out.new.items ≡ out.old.items ++ spec.byte_column bytes.now }
-    ensures len { array_vec_len out.new ≡ array_vec_len out.old + 30 }
+    ensures len { array_vec_len out.new ≡ array_vec_len out.old + COLUMN_LEN }
 {
     let mut places = [b' '; COLUMN_LEN];
     match hex::encode_to_slice(bytes, &mut places[..2 * bytes.len()]) {
@@ -95,9 +98,9 @@ fn append_text(
 )
     requires some { 0 < length bytes.now }
     requires well { IfOk reading.now (λ d. IsTrue (is_well_formed d.instr)) }
-    requires room { array_vec_len out.old + 160 ≤ 16384 }
+    requires room { array_vec_len out.old + TEXT_LEN ≤ CHUNK_LEN }
     ensures items { out.new.items ≡ out.old.items ++ spec.reading_text bits syntax bytes.now (reading_of reading.now) }
-    ensures len { array_vec_len out.new ≤ array_vec_len out.old + 160 }
+    ensures len { array_vec_len out.new ≤ array_vec_len out.old + TEXT_LEN }
 {
     match reading {
         Ok(d) => append_instr_text(out, syntax, bits, &d.instr),
@@ -122,7 +125,7 @@ pub(crate) fn append_item_line(
     requires some { 0 < length bytes.now }
     requires few { length bytes.now ≤ 15 }
     requires well { IfOk reading.now (λ d. IsTrue (is_well_formed d.instr)) }
-    requires room { array_vec_len out.old + 209 ≤ 16384 }
+    requires room { array_vec_len out.old + LINE_LEN ≤ CHUNK_LEN }
     ensures items { out.new.items ≡ out.old.items
         ++ spec.item_line bits base syntax (record { offset = offset; bytes = bytes.now; reading = reading_of reading.now }) }
 {

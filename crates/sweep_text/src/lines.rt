@@ -9,10 +9,11 @@ ghost use Rattle.sweep_text.specs.Recode.{recode_text};
 ghost use Rattle.sweep_text.specs.Lines as spec;
 
 use crate::info::info_text;
-use crate::line::{Chunk, append, append_address, append_item_line};
+use crate::line::{CHUNK_LEN, Chunk, LINE_LEN, TEXT_LEN, append, append_address, append_item_line};
 use crate::recode::recode_text;
 use crate::syntax::Syntax;
 use decoder::DecodeError;
+use operand_info::laws::well_formed_codes_are_in_the_table;
 use x86_values::{Bits, Decoded, Instr};
 
 /// What a command writes of the items of a sweep, a line each.
@@ -47,8 +48,8 @@ pub fn stop_of(lines: Lines, reading: &Result<Decoded, DecodeError>) -> Option<D
 /// Appends the line of an instruction with what is told of it.
 #[tactic(auto, using(crate::proofs::Lengths::two_parts), unfolding(crate::specs::Lines::instr_line))]
 fn append_instr_line(out: &mut Chunk, bits: Bits, base: u64, offset: usize, told: &[u8])
-    requires told { length told.now ≤ 160 }
-    requires room { array_vec_len out.old + 209 ≤ 16384 }
+    requires told { length told.now ≤ TEXT_LEN }
+    requires room { array_vec_len out.old + LINE_LEN ≤ CHUNK_LEN }
     ensures { out.new.items ≡ out.old.items ++ spec.instr_line bits base offset told.now }
 {
     append_address(out, bits, base, offset);
@@ -60,12 +61,12 @@ fn append_instr_line(out: &mut Chunk, bits: Bits, base: u64, offset: usize, told
 /// Appends the line of an instruction with what it does. It is not made part of its caller, which would set aside the places of
 /// its texts for each line of a listing too.
 #[inline(never)]
-#[tactic(auto, using(operand_info::proofs::Uses::code_in_table))]
 fn append_info_line(out: &mut Chunk, bits: Bits, base: u64, offset: usize, instr: &Instr)
     requires well { IsTrue (is_well_formed instr.now) }
-    requires room { array_vec_len out.old + 209 ≤ 16384 }
+    requires room { array_vec_len out.old + LINE_LEN ≤ CHUNK_LEN }
     ensures { out.new.items ≡ out.old.items ++ spec.instr_line bits base offset (info_text instr.now) }
 {
+    well_formed_codes_are_in_the_table();
     append_instr_line(out, bits, base, offset, &info_text(instr));
 }
 
@@ -81,7 +82,7 @@ fn append_recode_line(
     offset: usize,
     instr: &Instr,
 )
-    requires room { array_vec_len out.old + 209 ≤ 16384 }
+    requires room { array_vec_len out.old + LINE_LEN ≤ CHUNK_LEN }
     ensures { out.new.items ≡ out.old.items
         ++ spec.instr_line bits base offset (recode_text to (new_base + offset) instr.now) }
 {
@@ -105,7 +106,7 @@ pub fn append_line(
     requires some { 0 < length bytes.now }
     requires few { length bytes.now ≤ 15 }
     requires well { IfOk reading.now (λ d. IsTrue (is_well_formed d.instr)) }
-    requires room { array_vec_len out.old + 209 ≤ 16384 }
+    requires room { array_vec_len out.old + LINE_LEN ≤ CHUNK_LEN }
     ensures items { out.new.items ≡ out.old.items
         ++ spec.line_of bits base lines (record { offset = offset; bytes = bytes.now; reading = reading_of reading.now }) }
 {

@@ -4,18 +4,22 @@ ghost use Rattle.std.specs.Prelude.{◌≡◌, ◌<◌, ◌≤◌, length, IsTru
 ghost use Rattle.opcode_rows.specs.Allowed.{is_well_formed};
 ghost use Rattle.decoder.specs.Answer.{reading_of};
 ghost use Rattle.opcode_rows.specs.Sweep as spec;
+ghost use Rattle.sweep_text.specs.Sweeping.{TakesSome};
 
+use decoder::reading_laws::wrapped_addresses_read_alike;
 use decoder::{DecodeError, decode};
 use x86_values::{Bits, Decoded, wrap};
 
 /// Reads the bytes from an offset on, of code whose first byte has the address `base`. Addresses wrap in the mode.
 #[inline]
-#[tactic(auto, using(crate::proofs::WrappedAddress::read_at_wrapped), unfolding(prefixes::specs::Answer::mode_of))]
+#[tactic(auto, using(crate::proofs::Covering::takes_some), unfolding(prefixes::specs::Answer::mode_of))]
 pub fn read_at(bits: Bits, base: u64, offset: usize, bytes: &[u8]) -> Result<Decoded, DecodeError>
     ensures reading { spec.IsReadAt bits base offset bytes.now (reading_of result) }
     ensures length { IfOk result (λ d. (0 < d.len) × (d.len ≤ 15) × (d.len ≤ length bytes.now)) }
     ensures well { IfOk result (λ d. IsTrue (is_well_formed d.instr)) }
+    ensures takes { 0 < length bytes.now → TakesSome (reading_of result) (length bytes.now) }
 {
+    wrapped_addresses_read_alike();
     let ip = wrap(bits, u128::from(base) + offset as u128);
     match bits {
         Bits::B16 => decode::<16>(ip, bytes),

@@ -6,7 +6,7 @@ ghost use Rattle.x86_values.specs.Wrapping.{wrapped};
 ghost use Rattle.encoder.specs.Encoding.{written};
 ghost use Rattle.sweep_text.specs.Recode as spec;
 
-use crate::line::append_bytes;
+use crate::line::{TEXT_LEN, append_bytes};
 use arrayvec::ArrayVec;
 use encoder::{NoSpelling, encode};
 use itoa::Buffer;
@@ -48,7 +48,7 @@ fn cause_operand(why: NoSpelling) -> Option<u8>
 /// Appends the number of an operand behind a space, where there is one.
 #[tactic(auto, unfolding(crate::specs::Recode::operand_number))]
 fn append_operand(out: &mut Text, operand: Option<u8>)
-    requires { array_vec_len out.old + 4 ≤ 160 }
+    requires { array_vec_len out.old + 4 ≤ TEXT_LEN }
     ensures { out.new.items ≡ out.old.items ++ spec.operand_number operand }
 {
     if let Some(operand) = operand {

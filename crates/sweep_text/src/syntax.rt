@@ -5,7 +5,8 @@ ghost use Rattle.arrayvec.specs.ArrayVec.{array_vec_len};
 ghost use Rattle.opcode_rows.specs.Allowed.{is_well_formed};
 ghost use Rattle.sweep_text.specs.Listing as spec;
 
-use crate::line::{Chunk, append as append_all};
+use crate::line::{CHUNK_LEN, Chunk, TEXT_LEN, append as append_all};
+use text_parts::laws::numbers_are_short;
 use text_parts::numbers::append_number;
 use text_parts::style::Style;
 use text_parts::text::{Text, append};
@@ -48,10 +49,11 @@ fn byte_directive(syntax: Syntax) -> &'static [u8]
 }
 
 /// The text of a byte at which no instruction is read.
-#[tactic(auto, using(crate::proofs::Lengths::number_fits), unfolding(crate::specs::Listing::single_byte_text))]
+#[tactic(auto, unfolding(crate::specs::Listing::single_byte_text))]
 fn single_byte_text(syntax: Syntax, byte: u8) -> Text
     ensures { result.items ≡ spec.single_byte_text syntax byte }
 {
+    numbers_are_short();
     let mut text = Text::new();
     append(&mut text, byte_directive(syntax));
     append_number(&mut text, style_of(syntax), u64::from(byte));
@@ -61,9 +63,9 @@ fn single_byte_text(syntax: Syntax, byte: u8) -> Text
 /// Appends the text of a byte at which no instruction is read.
 #[inline(never)]
 pub(crate) fn append_single_byte(out: &mut Chunk, syntax: Syntax, byte: u8)
-    requires { array_vec_len out.old + 160 ≤ 16384 }
+    requires { array_vec_len out.old + TEXT_LEN ≤ CHUNK_LEN }
     ensures items { out.new.items ≡ out.old.items ++ spec.single_byte_text syntax byte }
-    ensures len { array_vec_len out.new ≤ array_vec_len out.old + 160 }
+    ensures len { array_vec_len out.new ≤ array_vec_len out.old + TEXT_LEN }
 {
     append_all(out, &single_byte_text(syntax, byte));
 }
@@ -71,9 +73,9 @@ pub(crate) fn append_single_byte(out: &mut Chunk, syntax: Syntax, byte: u8)
 /// Appends the text of a well-formed instruction.
 pub(crate) fn append_instr_text(out: &mut Chunk, syntax: Syntax, bits: Bits, instr: &Instr)
     requires well { IsTrue (is_well_formed instr.now) }
-    requires room { array_vec_len out.old + 160 ≤ 16384 }
+    requires room { array_vec_len out.old + TEXT_LEN ≤ CHUNK_LEN }
     ensures items { out.new.items ≡ out.old.items ++ spec.instr_text syntax bits instr.now }
-    ensures len { array_vec_len out.new ≤ array_vec_len out.old + 160 }
+    ensures len { array_vec_len out.new ≤ array_vec_len out.old + TEXT_LEN }
 {
     match syntax {
         Syntax::Intel => intel_text::print_to(out, bits, instr),

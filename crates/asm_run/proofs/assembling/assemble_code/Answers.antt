@@ -9,7 +9,7 @@ unfolding whole_limit
 returns-in-Err-clause-complete g c =
     let refused = rw c.deref.ensures.value at c.in-Err.ensures.refused in
     let answer = refusal c.args.bits c.args.base c.in-Ok.input.items _ _ (g.K.Sink.held c.args.out.now) _ _ _ c.in-Err.status c.in-Ok.ensures.ok refl refused in
-    completes c.args.bits c.args.base _ _ (g.K.Sink.held c.args.out.now) _ _ _ c.in-Err.status answer
+    completes c.args.bits c.args.base c.told_bytes_are_read.ensures c.texts_have_one_answer.ensures _ _ (g.K.Sink.held c.args.out.now) _ _ _ c.in-Err.status answer
 
 pub returns-in-Ok-put_all-clause-complete : goal.returns-in-Ok-put_all-clause-complete
 unfolding whole_limit
@@ -19,6 +19,8 @@ returns-in-Ok-put_all-clause-complete g c =
     completes
     c.args.bits
     c.args.base
+    c.told_bytes_are_read.ensures
+    c.texts_have_one_answer.ensures
     _
     _
     (g.K.Sink.held c.args.out.now)

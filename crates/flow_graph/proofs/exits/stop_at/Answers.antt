@@ -11,13 +11,13 @@ pub returns-in-Ok-clause-exits : goal.returns-in-Ok-clause-exits
 returns-in-Ok-clause-exits c =
     let code = code_bytes c.args.bits c.args.base c.args.bytes.now in
     subst (AreExits code c.args.offset) (sym c.exits_of.ensures.value)
-    (exits_right code c.args.offset c.in-Ok.decoded
+    (exits_right c.bytes_have_one_reading.ensures code c.args.offset c.in-Ok.decoded
     (read_there code c.args.offset (Read c.in-Ok.decoded) c.in-Ok.ensures.reading) c.in-Ok.ensures.length.0)
 
 pub returns-in-Err-clause-exits : goal.returns-in-Err-clause-exits
 returns-in-Err-clause-exits c =
     let code = code_bytes c.args.bits c.args.base c.args.bytes.now in
-    no_exits_right code c.args.offset c.in-Err.error (read_there code c.args.offset (reading_of (Err c.in-Err.error)) c.in-Err.ensures.reading)
+    no_exits_right c.bytes_have_one_reading.ensures code c.args.offset c.in-Err.error (read_there code c.args.offset (reading_of (Err c.in-Err.error)) c.in-Err.ensures.reading)
 
 pub returns-in-Ok-clause-told : goal.returns-in-Ok-clause-told
 returns-in-Ok-clause-told c =

@@ -1,6 +1,6 @@
 use Rattle.std.proofs.Common.{◌≤◌, ◌-◌}
 use Rattle.listing_run.specs.Rows.{lines_below}
-use Rattle.run_parts.proofs.Held.{Held}
+use Rattle.run_parts.specs.Writing.{Held}
 use Rattle.listing_run.proofs.rows.write_rows.Given as goal
 
 abbrev pub invariant-loop-code : goal.invariant-loop-code

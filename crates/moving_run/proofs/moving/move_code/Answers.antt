@@ -11,7 +11,7 @@ returns-in-Err-clause-complete g c =
     let reads = c.in-Ok.ensures.ok in
     let refused = rw c.deref.ensures.value at c.in-Err.ensures in
     let answer = refusal c.args.wanted _ _ _ _ _ (g.K.Sink.held c.args.out.now) _ _ _ c.in-Err.status reads refl refused in
-    completes c.args.wanted _ _ _ _ (g.K.Sink.held c.args.out.now) _ _ _ c.in-Err.status answer
+    completes c.told_bytes_are_read.ensures c.inputs_have_one_answer.ensures c.args.wanted _ _ _ _ (g.K.Sink.held c.args.out.now) _ _ _ c.in-Err.status answer
 
 pub write_wanted-requires-clause-starts : goal.write_wanted-requires-clause-starts
 write_wanted-requires-clause-starts g c = rw c.deref-2.ensures.value (starts_length _ _ _ _ _ c.in-Ok-move_input.ensures)
@@ -25,7 +25,7 @@ returns-in-Ok-write_wanted-clause-answer g c =
     let reads = c.in-Ok.ensures.ok in
     let moved = rw c.deref.ensures.value at c.in-Ok-move_input.ensures in
     let written = rw c.deref-2.ensures.value at c.in-Ok-write_wanted.ensures.ok in
-    let code = moves_code c.args.wanted _ _ _ _ _ c.requires.few moved in
+    let code = moves_code c.moved_blocks_are_read_back.ensures c.args.wanted _ _ _ _ _ c.requires.few moved in
     (c.in-Ok.input.items, (reads, (_, (code, written))))
 
 pub returns-clause-answer : goal.returns-clause-answer
@@ -34,7 +34,7 @@ returns-clause-answer g c =
     let reads = c.in-Ok.ensures.ok in
     let moved = rw c.deref.ensures.value at c.in-Ok-move_input.ensures in
     let front = rw c.deref-2.ensures.value at c.in-Err-write_wanted.ensures.err in
-    let code = moves_code c.args.wanted _ _ _ _ _ c.requires.few moved in
+    let code = moves_code c.moved_blocks_are_read_back.ensures c.args.wanted _ _ _ _ _ c.requires.few moved in
     (c.in-Err-write_wanted.ensures.cause.failed refl, (c.in-Ok.input.items, (reads, (_, (code, front)))))
 
 pub returns-in-Ok-write_wanted-clause-complete : goal.returns-in-Ok-write_wanted-clause-complete
@@ -43,8 +43,10 @@ returns-in-Ok-write_wanted-clause-complete g c =
     let reads = c.in-Ok.ensures.ok in
     let moved = rw c.deref.ensures.value at c.in-Ok-move_input.ensures in
     let written = rw c.deref-2.ensures.value at c.in-Ok-write_wanted.ensures.ok in
-    let code = moves_code c.args.wanted _ _ _ _ _ c.requires.few moved in
+    let code = moves_code c.moved_blocks_are_read_back.ensures c.args.wanted _ _ _ _ _ c.requires.few moved in
     completes
+    c.told_bytes_are_read.ensures
+    c.inputs_have_one_answer.ensures
     c.args.wanted
     _
     _

@@ -4,43 +4,43 @@ use Rattle.moving_run.proofs.Moved.{passes, code_spans, code_placed, moves, refu
 use Rattle.moving_run.proofs.moving.move_input.Goals as goal
 
 pub returns-in-Some : goal.returns-in-Some
-returns-in-Some c = passes _ _ _ c.in-Ok.code c.in-Ok.ensures c.if-count.false c.in-Some.end (sym c.in-Some.ensures)
+returns-in-Some c = passes c.blocks_have_all_items.ensures _ _ _ c.in-Ok.code c.in-Ok.ensures c.if-count.false c.in-Some.end (sym c.in-Some.ensures)
 
 pub move_blocks-requires-clause-spans : goal.move_blocks-requires-clause-spans
 move_blocks-requires-clause-spans c =
-    let whole = code_spans _ _ _ c.in-Ok.code c.in-Ok.ensures c.if-count.false (sym c.in_default.ensures) c.requires.few in
+    let whole = code_spans c.blocks_have_all_items.ensures _ _ _ c.in-Ok.code c.in-Ok.ensures c.if-count.false (sym c.in_default.ensures) c.requires.few in
     rw (c.deref.ensures.value, c.deref-2.ensures.value) whole
 
 pub move_blocks-requires-clause-placed : goal.move_blocks-requires-clause-placed
 move_blocks-requires-clause-placed c =
-    let whole = code_placed _ _ _ c.in-Ok.code c.in-Ok.ensures c.if-count.false (sym c.in_default.ensures) in
+    let whole = code_placed c.blocks_have_all_items.ensures _ _ _ c.in-Ok.code c.in-Ok.ensures c.if-count.false (sym c.in_default.ensures) in
     rw c.deref.ensures.value whole
 
 pub returns-in-Ok-move_blocks : goal.returns-in-Ok-move_blocks
 returns-in-Ok-move_blocks c =
     let answer = rw (c.deref.ensures.value, c.deref-2.ensures.value) at c.in-Ok-move_blocks.ensures in
-    moves _ _ _ c.in-Ok.code c.in-Ok.ensures c.if-count.false (sym c.in_default.ensures) c.in-Ok-move_blocks.moved answer
+    moves c.blocks_have_all_items.ensures _ _ _ c.in-Ok.code c.in-Ok.ensures c.if-count.false (sym c.in_default.ensures) c.in-Ok-move_blocks.moved answer
 
 pub returns-in-Err-TooMany : goal.returns-in-Err-TooMany
 returns-in-Err-TooMany c =
     let told = rw c.in-Err-TooMany.field-0-is at c.in-Err-TooMany.ensures in
     let answer = rw c.deref.ensures.value at told in
-    refuses _ _ _ c.in-Ok.code c.in-Ok.ensures c.if-count.false (sym c.in_default.ensures) (error.TooMany c.in-Err-TooMany.count) answer
+    refuses c.blocks_have_all_items.ensures _ _ _ c.in-Ok.code c.in-Ok.ensures c.if-count.false (sym c.in_default.ensures) (error.TooMany c.in-Err-TooMany.count) answer
 
 pub unreachable-requires : goal.unreachable-requires
 unreachable-requires c =
     let told = rw c.in-Err-OldOrder.field-0-is at c.in-Err-OldOrder.ensures in
     let answer = rw (c.deref.ensures.value, c.deref-2.ensures.value) at told in
-    ordered _ _ _ c.in-Ok.code c.in-Ok.ensures c.if-count.false (sym c.in_default.ensures) c.in-Err-OldOrder.field-0-0 answer
+    ordered c.blocks_have_all_items.ensures _ _ _ c.in-Ok.code c.in-Ok.ensures c.if-count.false (sym c.in_default.ensures) c.in-Err-OldOrder.field-0-0 answer
 
 pub returns-in-Err-Wraps : goal.returns-in-Err-Wraps
 returns-in-Err-Wraps c =
     let told = rw c.in-Err-Wraps.field-0-is at c.in-Err-Wraps.ensures in
     let answer = rw (c.deref.ensures.value, c.deref-2.ensures.value) at told in
-    refuses _ _ _ c.in-Ok.code c.in-Ok.ensures c.if-count.false (sym c.in_default.ensures) (error.Wraps c.in-Err-Wraps.end) answer
+    refuses c.blocks_have_all_items.ensures _ _ _ c.in-Ok.code c.in-Ok.ensures c.if-count.false (sym c.in_default.ensures) (error.Wraps c.in-Err-Wraps.end) answer
 
 pub returns-in-Err-TooFar : goal.returns-in-Err-TooFar
 returns-in-Err-TooFar c =
     let told = rw c.in-Err-TooFar.field-0-is at c.in-Err-TooFar.ensures in
     let answer = rw (c.deref.ensures.value, c.deref-2.ensures.value) at told in
-    refuses _ _ _ c.in-Ok.code c.in-Ok.ensures c.if-count.false (sym c.in_default.ensures) (error.TooFar c.in-Err-TooFar.at c.in-Err-TooFar.target) answer
+    refuses c.blocks_have_all_items.ensures _ _ _ c.in-Ok.code c.in-Ok.ensures c.if-count.false (sym c.in_default.ensures) (error.TooFar c.in-Err-TooFar.at c.in-Err-TooFar.target) answer

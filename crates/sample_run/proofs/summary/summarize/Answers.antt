@@ -5,25 +5,24 @@ use Rattle.sample_run.specs.Sample.{grown}
 use Rattle.opcode_rows.specs.Sweep.{IsSweep}
 use Rattle.x86_values.specs.declared.Bits.TheVariants.{B64}
 use Rattle.sample_code.specs.Generator.{code_base, code_of}
-use Rattle.sample_code.proofs.Sweeping.{has-instructions}
+use Rattle.sample_code.specs.Made.{HasInstructions}
 use Rattle.moving_run.specs.Moving.{IsRefusal, MovesInput}
-use Rattle.moving_run.proofs.Moved.{forms_length}
-use Rattle.sample_run.proofs.Refusing.{made_block, memory-alone, made-moved}
+use Rattle.sample_run.specs.Facts.{made_block}
 use Rattle.sample_run.proofs.summary.summarize.Goals as goal
 
-short : (n : ℕ) → n ≤ 65536 → length (code_of n) ≤ 1048576
-short n few = let made = has-instructions n few in let s = made.short in omega arith
+short : (n : ℕ) → HasInstructions n → n ≤ 65536 → length (code_of n) ≤ 1048576
+short n made few = let s = made.short in omega arith
 
 pub move_input-requires-clause-short : goal.move_input-requires-clause-short
-move_input-requires-clause-short c = omega (arith, ap length (c.deref.ensures.value ∙ c.in-Ok.ensures), short c.args.count c.requires)
+move_input-requires-clause-short c = omega (arith, ap length (c.deref.ensures.value ∙ c.in-Ok.ensures), short c.args.count (c.made_code_has_instructions_alone.ensures c.args.count c.requires) c.requires)
 
 pub listing_len-requires : goal.listing_len-requires
-listing_len-requires c = omega (arith, ap length (c.deref-in-Ok-move_input.ensures.value ∙ c.in-Ok.ensures), short c.args.count c.requires)
+listing_len-requires c = omega (arith, ap length (c.deref-in-Ok-move_input.ensures.value ∙ c.in-Ok.ensures), short c.args.count (c.made_code_has_instructions_alone.ensures c.args.count c.requires) c.requires)
 
 pub grown-requires : goal.grown-requires
 grown-requires c =
     ap length c.forms.ensures
-    ∙ (forms_length B64 made_block _ _ _ c.in-Ok-move_input.ensures ∙ ap length (sym c.deref-in-Ok-move_input-2.ensures.value))
+    ∙ (c.instructions_are_placed.ensures.forms_length B64 made_block _ _ _ c.in-Ok-move_input.ensures ∙ ap length (sym c.deref-in-Ok-move_input-2.ensures.value))
 
 pub returns-in-Ok-move_input : goal.returns-in-Ok-move_input
 returns-in-Ok-move_input c =
@@ -35,7 +34,7 @@ returns-in-Ok-move_input c =
     let sweep = subst (λ (xs : List ℕ). IsSweep B64 code_base xs listed.0) code_is listed.1.0 in
     let m = c.in-Ok-move_input.moved.blocks in
     let moves = subst (λ (xs : List ℕ). MovesInput B64 made_block xs c.in-Ok-move_input.moved.items.items m) input_is c.in-Ok-move_input.ensures in
-    let moved = made-moved n few listed.0 c.in-Ok-move_input.moved.items.items m sweep moves in
+    let moved = c.made_code_reaches_its_targets.ensures.made-moved n few listed.0 c.in-Ok-move_input.moved.items.items m sweep moves in
     record {
       items = listed.0;
       sweep = sweep;
@@ -53,5 +52,5 @@ returns-in-Ok-move_input c =
 pub returns : goal.returns
 returns c =
     let input_is = c.deref.ensures.value ∙ c.in-Ok.ensures in
-    memory-alone c.args.count c.requires c.in-Err.status
+    c.made_code_reaches_its_targets.ensures.memory-alone c.args.count c.requires c.in-Err.status
     (subst (λ (xs : List ℕ). IsRefusal B64 made_block xs c.in-Err.status) input_is c.in-Err.ensures)

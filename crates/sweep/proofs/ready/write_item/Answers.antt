@@ -1,12 +1,12 @@
-use Rattle.std.proofs.Common.{ℕ, length, take, refl, sym, ap}
+use Rattle.std.proofs.Common.{ℕ, take, refl, sym, ap}
 use Rattle.decoder.specs.Answer.{reading_of}
 use Rattle.opcode_rows.specs.Sweep.{item_len}
-use Rattle.sweep.proofs.Handling.{moves-line, item_within}
+use Rattle.sweep.proofs.Handling.{moves-line}
 use Rattle.sweep.proofs.ready.write_item.Goals as goal
 
 pub returns-in-Some-clause-ok : goal.returns-in-Some-clause-ok
 returns-in-Some-clause-ok g c =
-    let sized = item_within c.read_at-reading.result (length c.args.rest.now) c.read_at-reading.ensures.length c.requires.some in
+    let takes = c.read_at-reading.ensures.takes c.requires.some in
     record {
       item = record {
         offset = c.args.at;
@@ -16,8 +16,8 @@ returns-in-Some-clause-ok g c =
       is_at = record {
         offset_is = refl;
         reads = c.read_at-reading.ensures.reading;
-        within = sized.0;
-        some = sized.1;
+        within = takes.within;
+        some = takes.some;
         bytes_are = refl;
       };
       stops = sym c.in-Some.ensures;
@@ -27,7 +27,7 @@ returns-in-Some-clause-ok g c =
 
 pub returns-clause-ok : goal.returns-clause-ok
 returns-clause-ok g c =
-    let sized = item_within c.read_at-reading.result (length c.args.rest.now) c.read_at-reading.ensures.length c.requires.some in
+    let takes = c.read_at-reading.ensures.takes c.requires.some in
     record {
       item = record {
         offset = c.args.at;
@@ -37,8 +37,8 @@ returns-clause-ok g c =
       is_at = record {
         offset_is = refl;
         reads = c.read_at-reading.ensures.reading;
-        within = sized.0;
-        some = sized.1;
+        within = takes.within;
+        some = takes.some;
         bytes_are = ap (λ (n : ℕ). take n c.args.rest.now) c.item_len-count.ensures;
       };
       goes_on = sym c.in_default.ensures;

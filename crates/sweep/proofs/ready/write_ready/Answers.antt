@@ -5,7 +5,7 @@ use Rattle.sweep.proofs.ready.write_ready.Goals as goal
 
 pub items-init : goal.items-init
 items-init g c = record {
-  progress = progress-start _ _ _ _ _ _ _ _ c.new-pending.ensures;
+  progress = progress-start c.held_texts_arrive.ensures _ _ _ _ _ _ _ _ c.new-pending.ensures;
   later = omega arith;
 }
 
@@ -17,7 +17,7 @@ items-preserved g c =
     let later = c.write_item.ensures.cause.later in
     let step = rw (c.split_at.ensures.back, c.in-Line.is) at c.in_ok-taken.ensures.ok in
     record {
-      progress = progress-step _ _ _ _ _ c.items.used c.items.count _ _ (g.K.Sink.held c.items.out) _ c.items.pending.items _ _
+      progress = progress-step c.held_texts_arrive.ensures _ _ _ _ _ c.items.used c.items.count _ _ (g.K.Sink.held c.items.out) _ c.items.pending.items _ _
           (c.items-test.ensures.ready refl) c.items.invariant.progress step;
       later = omega (arith, c.items.invariant.later);
     }
@@ -25,29 +25,29 @@ items-preserved g c =
 pub returns-in_err-taken-clause-err : goal.returns-in_err-taken-clause-err
 returns-in_err-taken-clause-err g c =
     let p = err_from_is_err_and c.from_residual.result c.from_residual.ensures.1 in
-    rw p.1 (progress-failed _ _ _ _ _ c.items.used c.items.count _ _ (g.K.Sink.held c.items.out) _ c.items.pending.items c.items.invariant.progress c.in_err-taken.ensures.err)
+    rw p.1 (progress-failed c.held_texts_arrive.ensures _ _ _ _ _ c.items.used c.items.count _ _ (g.K.Sink.held c.items.out) _ c.items.pending.items c.items.invariant.progress c.in_err-taken.ensures.err)
 
 pub returns-in_err-put_all-in-Stop-clause-err : goal.returns-in_err-put_all-in-Stop-clause-err
 returns-in_err-put_all-in-Stop-clause-err g c =
     let p = err_from_is_err_and c.from_residual-in_err-put_all-in-Stop.result c.from_residual-in_err-put_all-in-Stop.ensures.1 in
     let step = rw (c.split_at.ensures.back, c.in-Stop.is) at c.in_ok-taken.ensures.ok in
     let front = rw c.deref.ensures.0 at c.in_err-put_all-in-Stop.ensures.err in
-    rw p.1 (progress-stop_failed _ _ _ _ _ c.items.used c.items.count _ _ (g.K.Sink.held c.items.out) (g.K.Sink.held c.write_item.new.out) _ c.items.pending.items _ _ c.items.invariant.progress step front)
+    rw p.1 (progress-stop_failed c.held_texts_arrive.ensures _ _ _ _ _ c.items.used c.items.count _ _ (g.K.Sink.held c.items.out) (g.K.Sink.held c.write_item.new.out) _ c.items.pending.items _ _ c.items.invariant.progress step front)
 
 pub returns-in-Stop-clause-ok : goal.returns-in-Stop-clause-ok
 returns-in-Stop-clause-ok g c =
     let step = rw (c.split_at.ensures.back, c.in-Stop.is) at c.in_ok-taken.ensures.ok in
     let whole = rw c.deref.ensures.0 at c.in_ok-put_all-in-Stop.ensures.ok in
-    progress-stop _ _ _ _ _ c.items.used c.items.count _ _ (g.K.Sink.held c.items.out) (g.K.Sink.held c.write_item.new.out) _ c.items.pending.items _ _
+    progress-stop c.held_texts_arrive.ensures _ _ _ _ _ c.items.used c.items.count _ _ (g.K.Sink.held c.items.out) (g.K.Sink.held c.write_item.new.out) _ c.items.pending.items _ _
     (c.items-test.ensures.ready refl) c.items.invariant.progress step whole
 
 pub returns-in_err-put_all-clause-err : goal.returns-in_err-put_all-clause-err
 returns-in_err-put_all-clause-err g c =
     let p = err_from_is_err_and c.from_residual-in_err-put_all.result c.from_residual-in_err-put_all.ensures.1 in
     let front = rw c.deref-2.ensures.0 at c.in_err-put_all.ensures.err in
-    rw p.1 (progress-failed _ _ _ _ _ c.items.used c.items.count _ _ (g.K.Sink.held c.items.out) _ c.items.pending.items c.items.invariant.progress front)
+    rw p.1 (progress-failed c.held_texts_arrive.ensures _ _ _ _ _ c.items.used c.items.count _ _ (g.K.Sink.held c.items.out) _ c.items.pending.items c.items.invariant.progress front)
 
 pub returns-clause-ok : goal.returns-clause-ok
 returns-clause-ok g c =
     let whole = rw c.deref-2.ensures.0 at c.in_ok-put_all.ensures.ok in
-    progress-end _ _ _ _ _ c.items.used c.items.count _ _ (g.K.Sink.held c.items.out) _ c.items.pending.items (c.items-test.ensures.not_ready refl) c.items.invariant.progress whole
+    progress-end c.held_texts_arrive.ensures _ _ _ _ _ c.items.used c.items.count _ _ (g.K.Sink.held c.items.out) _ c.items.pending.items (c.items-test.ensures.not_ready refl) c.items.invariant.progress whole

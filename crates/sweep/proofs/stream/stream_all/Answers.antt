@@ -1,8 +1,7 @@
 use Rattle.std.proofs.Common.{◌≡◌, ◌+◌, ◌-◌, ◌≤◌, min, arith, refl, ◌∙◌}
 use Rattle.std.proofs.lemmas.Bool.{eqb-true, eq-eqb, ne_eqb}
 use Rattle.run_parts.specs.Reads.{code_limit}
-use Rattle.run_parts.proofs.Causes.{rose_since}
-use Rattle.sweep.proofs.Streaming.{window_is, at_write_fault, at_end_of_input, past_limit, at_bad_code, streamed_next}
+use Rattle.sweep.proofs.Streaming.{rose_since, window_is, at_write_fault, at_end_of_input, past_limit, at_bad_code, streamed_next}
 use Rattle.sweep.proofs.stream.stream_all.Goals as goal
 
 pub returns-in-Err-write_ready-clause-answer : goal.returns-in-Err-write_ready-clause-answer
@@ -12,8 +11,8 @@ returns-in-Err-write_ready-clause-answer g c =
     let f = c.in-Ok.ensures.ok in
     let room_is : c.min-room.result ≤ code_limit + 1 - (c.pulls.at + c.pulls.len) = omega (arith, c.min-room.ensures) in
     let end_is : c.min-end.result ≡ min (c.pulls.len + c.in-Ok.n) (code_limit - c.pulls.at) = c.min-end.ensures in
-    let front = rw (window_is _ _ _ _ _ _ _ _ _ _ _ _ _ _ _ _ s f room_is end_is) at c.in-Err-write_ready.ensures.err in
-    (rose_since _ _ _ c.pulls.invariant.sink_later (c.in-Err-write_ready.ensures.cause.failed refl), at_write_fault _ _ _ _ _ _ _ _ _ _ _ _ _ _ _ _ s f room_is end_is _ front)
+    let front = rw (window_is c.pieces_join.ensures _ _ _ _ _ _ _ _ _ _ _ _ _ _ _ _ s f room_is end_is) at c.in-Err-write_ready.ensures.err in
+    (rose_since _ _ _ c.pulls.invariant.sink_later (c.in-Err-write_ready.ensures.cause.failed refl), at_write_fault c.pieces_join.ensures _ _ _ _ _ _ _ _ _ _ _ _ _ _ _ _ s f room_is end_is _ front)
 
 pub returns-in-Some-clause-answer : goal.returns-in-Some-clause-answer
 unfolding code_limit
@@ -22,8 +21,8 @@ returns-in-Some-clause-answer g c =
     let f = c.in-Ok.ensures.ok in
     let room_is : c.min-room.result ≤ code_limit + 1 - (c.pulls.at + c.pulls.len) = omega (arith, c.min-room.ensures) in
     let end_is : c.min-end.result ≡ min (c.pulls.len + c.in-Ok.n) (code_limit - c.pulls.at) = c.min-end.ensures in
-    let h = rw (window_is _ _ _ _ _ _ _ _ _ _ _ _ _ _ _ _ s f room_is end_is) at c.in-Ok-write_ready.ensures.ok in
-    at_bad_code _ _ _ _ _ _ _ _ _ _ _ _ _ _ _ _ s f room_is end_is _ _ _ h c.in-Some.error c.in-Some.is (λ e. eqb-true c.in-Ok.n 0 e)
+    let h = rw (window_is c.pieces_join.ensures _ _ _ _ _ _ _ _ _ _ _ _ _ _ _ _ s f room_is end_is) at c.in-Ok-write_ready.ensures.ok in
+    at_bad_code c.pieces_join.ensures _ _ _ _ _ _ _ _ _ _ _ _ _ _ _ _ s f room_is end_is _ _ _ h c.in-Some.error c.in-Some.is (λ e. eqb-true c.in-Ok.n 0 e)
 
 pub returns-then-n-eq0-clause-answer : goal.returns-then-n-eq0-clause-answer
 unfolding code_limit
@@ -32,8 +31,8 @@ returns-then-n-eq0-clause-answer g c =
     let f = c.in-Ok.ensures.ok in
     let room_is : c.min-room.result ≤ code_limit + 1 - (c.pulls.at + c.pulls.len) = omega (arith, c.min-room.ensures) in
     let end_is : c.min-end.result ≡ min (c.pulls.len + c.in-Ok.n) (code_limit - c.pulls.at) = c.min-end.ensures in
-    let h = rw (window_is _ _ _ _ _ _ _ _ _ _ _ _ _ _ _ _ s f room_is end_is) at c.in-Ok-write_ready.ensures.ok in
-    at_end_of_input _ _ _ _ _ _ _ _ _ _ _ _ _ _ _ _ s f room_is end_is _ _ _ h c.if-n-eq0.true (eq-eqb c.in-Ok.n 0 c.if-n-eq0.true) c.in_default.is
+    let h = rw (window_is c.pieces_join.ensures _ _ _ _ _ _ _ _ _ _ _ _ _ _ _ _ s f room_is end_is) at c.in-Ok-write_ready.ensures.ok in
+    at_end_of_input c.pieces_join.ensures _ _ _ _ _ _ _ _ _ _ _ _ _ _ _ _ s f room_is end_is _ _ _ h c.if-n-eq0.true (eq-eqb c.in-Ok.n 0 c.if-n-eq0.true) c.in_default.is
 
 pub returns-then-end-len-clause-answer : goal.returns-then-end-len-clause-answer
 unfolding code_limit
@@ -42,8 +41,8 @@ returns-then-end-len-clause-answer g c =
     let f = c.in-Ok.ensures.ok in
     let room_is : c.min-room.result ≤ code_limit + 1 - (c.pulls.at + c.pulls.len) = omega (arith, c.min-room.ensures) in
     let end_is : c.min-end.result ≡ min (c.pulls.len + c.in-Ok.n) (code_limit - c.pulls.at) = c.min-end.ensures in
-    let h = rw (window_is _ _ _ _ _ _ _ _ _ _ _ _ _ _ _ _ s f room_is end_is) at c.in-Ok-write_ready.ensures.ok in
-    (c.from.ensures, past_limit _ _ _ _ _ _ _ _ _ _ _ _ _ _ _ _ s f room_is end_is _ _ _ h c.if-end-len.true (ne_eqb c.in-Ok.n 0 c.if-n-eq0.false) c.in_default.is)
+    let h = rw (window_is c.pieces_join.ensures _ _ _ _ _ _ _ _ _ _ _ _ _ _ _ _ s f room_is end_is) at c.in-Ok-write_ready.ensures.ok in
+    (c.from.ensures, past_limit c.pieces_join.ensures _ _ _ _ _ _ _ _ _ _ _ _ _ _ _ _ s f room_is end_is _ _ _ h c.if-end-len.true (ne_eqb c.in-Ok.n 0 c.if-n-eq0.false) c.in_default.is)
 
 pub pulls-preserved : goal.pulls-preserved
 unfolding code_limit
@@ -52,8 +51,8 @@ pulls-preserved g c =
     let f = c.in-Ok.ensures.ok in
     let room_is : c.min-room.result ≤ code_limit + 1 - (c.pulls.at + c.pulls.len) = omega (arith, c.min-room.ensures) in
     let end_is : c.min-end.result ≡ min (c.pulls.len + c.in-Ok.n) (code_limit - c.pulls.at) = c.min-end.ensures in
-    let h = rw (window_is _ _ _ _ _ _ _ _ _ _ _ _ _ _ _ _ s f room_is end_is) at c.in-Ok-write_ready.ensures.ok in
-    let next = streamed_next _ _ _ _ _ _ _ _ _ _ _ _ _ _ _ _ s f room_is end_is _ _ _ h c.keep.new.window (omega (arith, c.if-end-len.false)) (ne_eqb c.in-Ok.n 0 c.if-n-eq0.false) c.in_default.is c.keep.ensures.kept in
+    let h = rw (window_is c.pieces_join.ensures _ _ _ _ _ _ _ _ _ _ _ _ _ _ _ _ s f room_is end_is) at c.in-Ok-write_ready.ensures.ok in
+    let next = streamed_next c.pieces_join.ensures _ _ _ _ _ _ _ _ _ _ _ _ _ _ _ _ s f room_is end_is _ _ _ h c.keep.new.window (omega (arith, c.if-end-len.false)) (ne_eqb c.in-Ok.n 0 c.if-n-eq0.false) c.in_default.is c.keep.ensures.kept in
     record {
       streamed = next;
       wide = c.keep.ensures.len ∙ (c.fill.ensures.len ∙ c.pulls.invariant.wide);

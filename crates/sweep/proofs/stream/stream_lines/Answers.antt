@@ -3,5 +3,5 @@ use Rattle.sweep.proofs.stream.stream_lines.Goals as goal
 
 pub returns-clause-complete : goal.returns-clause-complete
 returns-clause-complete g c = λ s o.
-    completes c.args.bits c.args.base c.args.lines (g.S.Source.left c.args.source.now) (g.S.Source.left c.stream_all.new.source) (g.K.Sink.held c.args.sink.now)
+    completes c.sweeps_agree.ensures c.told_bytes_are_read.ensures c.args.bits c.args.base c.args.lines (g.S.Source.left c.args.source.now) (g.S.Source.left c.stream_all.new.source) (g.K.Sink.held c.args.sink.now)
     (g.K.Sink.held c.stream_all.new.sink) _ _ c.stream_all.result c.stream_all.ensures.answer s o

@@ -1,0 +1,44 @@
+//! What holds of all code that is moved.
+
+ghost use Rattle.moving_run.specs.Facts.{InputFacts, PlacedFacts, AnswerFacts, ReadBackFacts};
+
+use block_encoder::laws::{
+    images_go_to_their_goals, images_stand_at_their_places, moved_code_is_read_as_images,
+    slots_have_their_goals,
+};
+use branch_sizes::laws::{blocks_have_all_items, least_is_unique};
+use sweep_text::laws::sweeps_agree;
+
+/// Some input is read as one list of instructions, and has one first single byte, or none.
+#[inline]
+pub fn inputs_are_read_in_one_way()
+    ensures { InputFacts }
+{
+    sweeps_agree();
+}
+
+/// The instructions of some input are well placed, one for each item of its sweep.
+#[inline]
+pub fn instructions_are_placed()
+    ensures { PlacedFacts }
+{}
+
+/// Some input has one answer: the same refusal, or moved blocks.
+#[inline]
+pub fn inputs_have_one_answer()
+    ensures { AnswerFacts }
+{
+    sweeps_agree();
+    least_is_unique();
+}
+
+/// Moved blocks are read as they were written: each image stands at its place and goes to the goal of its instruction.
+#[inline]
+pub fn moved_blocks_are_read_back()
+    ensures { ReadBackFacts }
+{
+    moved_code_is_read_as_images();
+    images_stand_at_their_places();
+    images_go_to_their_goals();
+    slots_have_their_goals();
+}

@@ -1,0 +1,35 @@
+-- What holds of texts that are written in pieces, and of sources that are read to their end.
+use Rattle.std.specs.Prelude.{◌≡◌, ℕ, ◌<◌, List, [], ◌++◌, length, Option, Some}
+use Rattle.byte_ports.specs.Ports.{with_front, with_back}
+use Rattle.run_parts.specs.Reads.{ReadsAll, ReadsTooMany}
+use Rattle.run_parts.specs.Writing.{HoldsFront, Moves, Held}
+
+-- a text that is written with some of it held back
+pub record HeldFacts : Type 0 where
+  -- nothing yet
+  pub held-start : (start : Option (List ℕ)) (pending : List ℕ) → pending ≡ [] → Held start start pending []
+  -- one more line
+  pub held-step : (start held held' : Option (List ℕ)) (before after text line : List ℕ) → Held start held before text →
+      Moves held held' before after line → Held start held' after (text ++ line)
+  -- what was held back is written: the whole text
+  pub held-end : (start held held' : Option (List ℕ)) (pending text : List ℕ) → Held start held pending text →
+      held' ≡ with_back held pending → held' ≡ with_back start text
+  -- a failure while text is held back
+  pub held-failed : (start held held' : Option (List ℕ)) (pending text : List ℕ) → Held start held pending text →
+      HoldsFront held held' pending → HoldsFront start held' text
+  -- the first bytes of a text are the first of a longer one
+  pub front-longer : (old new : Option (List ℕ)) (text rest : List ℕ) → HoldsFront old new text → HoldsFront old new (text ++ rest)
+
+-- pieces one behind another
+pub record PieceFacts : Type 0 where
+  pub with_back-nil : (held : Option (List ℕ)) → with_back held [] ≡ held
+  pub with_back-append : (held : Option (List ℕ)) (a b : List ℕ) → with_back (with_back held a) b ≡ with_back held (a ++ b)
+  pub with_front-append : (left : Option (List ℕ)) (a b : List ℕ) → with_front a (with_front b left) ≡ with_front (a ++ b) left
+
+-- the bytes of a source that tells them
+pub record ReadFacts : Type 0 where
+  -- those that were read to their end are all
+  pub all_bytes : (limit : ℕ) (bytes : List ℕ) (left' : Option (List ℕ)) (read : List ℕ) → ReadsAll limit (Some bytes) left' read → bytes ≡ read
+  -- where one more than the limit was read, they are above it
+  pub too_many : (limit : ℕ) (bytes : List ℕ) (left' : Option (List ℕ)) (read : List ℕ) → ReadsTooMany limit (Some bytes) left' read →
+      limit < length bytes

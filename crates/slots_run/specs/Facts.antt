@@ -1,0 +1,10 @@
+-- What holds of all code whose instructions are given slots.
+use Rattle.std.specs.Prelude.{◌≡◌, ℕ, List}
+use Rattle.command_words.specs.Ranges.{Range}
+use Rattle.run_parts.specs.declared.status.Status.{Status}
+use Rattle.slots_run.specs.Slotting.{IsSlotsAnswer}
+
+-- some code has one answer
+pub record AnswerFacts : Type 0 where
+  pub answer_unique : (range : Range) (base : ℕ) (bytes : List ℕ) (s t : Status) → IsSlotsAnswer range base bytes s → IsSlotsAnswer range base bytes t →
+      s ≡ t

@@ -1,0 +1,19 @@
+//! What holds of all code whose instructions are given slots.
+
+ghost use Rattle.slots_run.specs.Facts.{AnswerFacts};
+
+use branch_sizes::laws::least_is_unique;
+use code_region::laws::places_are_gaps;
+use moving_run::laws::inputs_are_read_in_one_way;
+use sweep_text::laws::sweeps_agree;
+
+/// Some code has one answer: the same refusal, or slots.
+#[inline]
+pub fn code_has_one_answer()
+    ensures { AnswerFacts }
+{
+    least_is_unique();
+    places_are_gaps();
+    sweeps_agree();
+    inputs_are_read_in_one_way();
+}

@@ -1,0 +1,11 @@
+use Rattle.step_slots.proofs.Blocks as blocks
+use Rattle.step_slots.proofs.Slotted as slotted
+use Rattle.step_slots.proofs.laws.slots_stay_apart.Goals as goal
+
+pub returns : goal.returns
+returns c = record {
+  kept-made = blocks.kept-made;
+  stepped-made = slotted.stepped-made;
+  kept-units = blocks.kept-units;
+  kept-seen = blocks.kept-seen;
+}

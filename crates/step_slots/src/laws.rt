@@ -1,0 +1,15 @@
+//! What holds of all step slots.
+
+ghost use Rattle.step_slots.specs.Facts.{KeptFacts, ReservedFacts};
+
+/// Slots keep their blocks in units and apart from each other, from none on and with each step.
+#[inline]
+pub fn slots_stay_apart()
+    ensures { KeptFacts }
+{}
+
+/// An instruction has 1 to 53 bytes reserved for it, which are rounded up.
+#[inline]
+pub fn reserved_lengths_are_short()
+    ensures { ReservedFacts }
+{}
