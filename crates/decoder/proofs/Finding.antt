@@ -1,19 +1,16 @@
 -- What the one row whose conditions hold says of some bytes.
-use Rattle.std.proofs.Common.{◌≡◌, ℕ, suc, ◌+◌, ◌<◌, true, false, Bool, List, [], ◌∷◌, ◌++◌, length, Option, Some, slice_get, refl, ap, sym, ◌∙◌, subst, arith, append_assoc, Result, Ok, Err, IfOk}
+use Rattle.std.proofs.Common.{◌≡◌, ℕ, suc, ◌+◌, ◌<◌, true, false, Bool, List, [], ◌∷◌, ◌++◌, length, Option, Some, slice_get, refl, ap, sym, ◌∙◌, subst, arith, append_assoc}
 use Rattle.x86_values.specs.declared.Bits.{Bits}
-use Rattle.x86_values.specs.declared.Decoded.{Decoded}
 use Rattle.row_types.specs.declared.Row.{Row}
 use Rattle.instruction_parts.specs.declared.spelling.Spelling.{Spelling}
 use Rattle.instruction_parts.specs.declared.spelling.PrefixState.{PrefixState}
 use Rattle.instruction_parts.specs.Bytes.{bytes_of, front_bytes, tail_bytes, state_of, state_from}
 use Rattle.instruction_parts.specs.Front.{Known, long_front, front_of}
-use Rattle.row_relation.specs.Spells.{SpellsNothing, IsReading}
+use Rattle.row_relation.specs.Spells.{SpellsNothing}
 use Rattle.row_fields.specs.Holds.{holds, HoldsNowhere, IsOnlyRow}
 use Rattle.opcode_rows.specs.Table.{table}
 use Rattle.unique_spelling.specs.FieldsOf.{fields_of, first_byte}
 use Rattle.unique_spelling.proofs.Unique.{row-holds}
-use Rattle.decoder.specs.declared.DecodeError.{DecodeError}
-use Rattle.decoder.specs.Answer.{reading_of}
 use Rattle.decoder.specs.Cells.{RowIsLate}
 use Rattle.decoder.proofs.Fronts.{known_is}
 use Rattle.decoder.proofs.ReadingLaws.{IsAtFront, at_front}
@@ -80,9 +77,3 @@ one_row_spells bits ip bytes state code row h only there late = λ i n r.
     let long : RowIsLate bits a.row bytes = subst (λ (x : Row). RowIsLate bits x bytes) (sym alike) late in
     let above : 15 < length (bytes_of a.row a.spelling) = long a.spelling a.rest a.fitting a.bytes_are in
     omega (arith, above, a.length_is, a.short)
-
--- then the answer is an error
-pub no_instruction : (bits : Bits) (ip : ℕ) (bytes : List ℕ) (answer : Result Decoded DecodeError) (P : Decoded → Type 0)
-    → IsReading table bits ip bytes (reading_of answer) → SpellsNothing table bits ip bytes → IfOk answer P
-no_instruction bits ip bytes (Ok d) P h nothing = absurd (nothing d.instr d.len h)
-no_instruction bits ip bytes (Err e) P h nothing = tt

@@ -13,12 +13,12 @@ use Rattle.instruction_parts.specs.Front.{Known, long_front, front_of}
 use Rattle.row_fit.specs.Fits.{fits}
 use Rattle.row_fit.proofs.OneSpelling.{one_spelling}
 use Rattle.row_fit.proofs.FrontGrows.{front-extends}
-use Rattle.row_relation.specs.Spells.{IsTooShort, IsInvalid}
+use Rattle.row_relation.specs.Spells.{SpellsNothing, IsTooShort, IsInvalid}
 use Rattle.row_relation.specs.RowReading.{RowReads, RowReadsNothing, RowCanGoOn}
 use Rattle.decoder.specs.Cells.{IsPlaced, CellIs, RowIsLate, RowStops, Scanned}
 use Rattle.decoder.proofs.Placed.{placed}
 use Rattle.decoder.proofs.Fronts.{known_is}
-use Rattle.decoder.proofs.ReadingLaws.{IsAtFront, at_front, IsBegun, begun, begins, is_closed}
+use Rattle.decoder.proofs.ReadingLaws.{reads, IsAtFront, at_front, IsBegun, begun, begins, is_closed}
 
 -- ---- one row
 
@@ -65,12 +65,19 @@ scanned_stop table bits bytes first next goes_on row there nothing ends h = reco
 }
 
 -- a row that reads more than 15 bytes keeps it too
-pub scanned_long : (table : List Row) (bits : Bits) (ip : ℕ) (bytes : List ℕ) (first next : ℕ) (goes_on : Bool) (code : Code) (row : Row) (d : Decoded) → slice_get table next ≡ Some row → RowReads bits ip code row bytes d → 15 < d.len → Scanned table bits bytes first next goes_on → Scanned table bits bytes first (next + 1) goes_on
+scanned_long : (table : List Row) (bits : Bits) (ip : ℕ) (bytes : List ℕ) (first next : ℕ) (goes_on : Bool) (code : Code) (row : Row) (d : Decoded) → slice_get table next ≡ Some row → RowReads bits ip code row bytes d → 15 < d.len → Scanned table bits bytes first next goes_on → Scanned table bits bytes first (next + 1) goes_on
 scanned_long table bits ip bytes first next goes_on code row d there r long h = record {
   late = each_more (λ r. RowIsLate bits r bytes) table first next row there (late_by_length bits ip code row bytes d r long) h.late;
   stops = λ e. each_more (λ r. RowStops bits r bytes) table first next row there (stops_by_length bits ip code row bytes d r long) (h.stops e);
   goes = h.goes;
 }
+
+-- where the bytes spell nothing, what a row reads has more than 15
+pub scanned_read : (table : List Row) (bits : Bits) (ip : ℕ) (bytes : List ℕ) (first : ℕ) (goes_on : Bool) (code : Code) (row : Row) (d : Decoded) → slice_get table code.0 ≡ Some row → RowReads bits ip code row bytes d → SpellsNothing table bits ip bytes → Scanned table bits bytes first code.0 goes_on → Scanned table bits bytes first (code.0 + 1) goes_on
+scanned_read table bits ip bytes first goes_on code row d there r nothing h = elim (cases_lt 15 d.len) [
+  | inl long ↦ scanned_long table bits ip bytes first code.0 goes_on code row d there r long h
+  | inr short ↦ absurd (nothing d.instr d.len (reads table bits ip code row bytes d there r short))
+]
 
 -- a row that can go on sets it
 pub scanned_goes : (table : List Row) (bits : Bits) (bytes : List ℕ) (first : ℕ) (goes_on : Bool) (code : Code) (row : Row) → slice_get table code.0 ≡ Some row → RowReadsNothing bits row bytes → RowCanGoOn bits row bytes → Scanned table bits bytes first code.0 goes_on → Scanned table bits bytes first (code.0 + 1) true

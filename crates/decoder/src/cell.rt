@@ -1,12 +1,10 @@
-//! The rows that stand where a front says, and what they read.
+//! The rows that stand where a front says, and the error that they tell.
 
-ghost use Rattle.std.specs.Prelude.{◌≡◌, ◌+◌, ◌<◌, ◌≤◌, length, is_some, IfOk, IsTrue};
+ghost use Rattle.std.specs.Prelude.{◌≡◌, ◌+◌, ◌≤◌, is_some, Err};
 ghost use Rattle.instruction_parts.specs.Front.{front_of, Known};
-ghost use Rattle.modrm_sib.specs.Answer.{answer_in};
-ghost use Rattle.row_relation.specs.Spells.{IsReading};
+ghost use Rattle.row_relation.specs.Spells.{IsReading, SpellsNothing};
 ghost use Rattle.row_fields.specs.Holds.{is_vex};
 ghost use Rattle.opcode_rows.specs.Table.{table};
-ghost use Rattle.opcode_rows.specs.Allowed.{is_well_formed};
 ghost use Rattle.decoder.specs.Answer.{reading_of};
 ghost use Rattle.decoder.specs.Cells.{CellIs, cell_count};
 
@@ -17,7 +15,7 @@ use opcode_rows::{ROWS, cell_len, first_of, row};
 use row_types::RowKind;
 use std::sync::ledger::Ledger;
 use step_count::Steps;
-use x86_values::{Bits, Code, Decoded};
+use x86_values::{Bits, Code};
 
 /// The most bytes of an instruction (Intel SDM volume 2, 2.3.11).
 pub(crate) const LONGEST: usize = 15;
@@ -58,21 +56,23 @@ pub(crate) fn cell_of(state: &PrefixState) -> Cell
     }
 }
 
-/// The reading of bytes whose front is known, by the rows of its cell, one after another. Each row is a step.
-fn scan<L: Ledger>(
+/// Why bytes with a known front, which begin with no instruction, are none, by the rows of its cell: whether more bytes behind them make one.
+/// Each row is a step.
+#[cold]
+#[inline(never)]
+pub(crate) fn error_of<L: Ledger>(
     bits: Bits,
     ip: u64,
     state: &PrefixState,
     bytes: &[u8],
     cell: Cell,
     steps: &mut Steps<L>,
-) -> Result<Decoded, DecodeError>
+) -> DecodeError
     requires within { cell.first + cell.len ≤ ROWS }
     requires rows { CellIs table state.now cell.first (cell.first + cell.len) }
     requires front { front_of bits bytes.now ≡ Known state.now }
-    ensures reading { IsReading table bits ip bytes.now (reading_of result) }
-    ensures length { IfOk result (λ d. (0 < d.len) × (d.len ≤ 15) × (d.len ≤ length bytes.now)) }
-    ensures form { IfOk result (λ d. IsTrue (is_well_formed d.instr)) }
+    requires nothing { SpellsNothing table bits ip bytes.now }
+    ensures reading { IsReading table bits ip bytes.now (reading_of (Err result)) }
     ensures steps { steps.new ≤ steps.old + cell.len }
 {
     let mut goes_on = false;
@@ -80,48 +80,14 @@ fn scan<L: Ledger>(
         let code = Code(cell.first + n);
         let row = row(code, steps);
         match read_row(bits, ip, state, code, &row, bytes) {
-            Ok(decoded) => {
-                if decoded.len as usize <= LONGEST {
-                    return Ok(decoded);
-                }
-            }
+            Ok(_) => {}
             Err(TailError::Ended) => goes_on = true,
             Err(TailError::Forbidden) => {}
         }
     }
     if goes_on && bytes.len() < LONGEST {
-        Err(DecodeError::TooShort)
+        DecodeError::TooShort
     } else {
-        Err(DecodeError::Invalid)
-    }
-}
-
-/// The same, where the instruction is written to a place.
-#[cold]
-#[inline(never)]
-pub(crate) fn scan_into<L: Ledger>(
-    bits: Bits,
-    ip: u64,
-    state: &PrefixState,
-    bytes: &[u8],
-    cell: Cell,
-    place: &mut Decoded,
-    steps: &mut Steps<L>,
-) -> Result<(), DecodeError>
-    requires within { cell.first + cell.len ≤ ROWS }
-    requires rows { CellIs table state.now cell.first (cell.first + cell.len) }
-    requires front { front_of bits bytes.now ≡ Known state.now }
-    ensures reading { IsReading table bits ip bytes.now (reading_of (answer_in result place.new)) }
-    ensures length { IfOk (answer_in result place.new)
-        (λ d. (0 < d.len) × (d.len ≤ 15) × (d.len ≤ length bytes.now)) }
-    ensures form { IfOk (answer_in result place.new) (λ d. IsTrue (is_well_formed d.instr)) }
-    ensures steps { steps.new ≤ steps.old + cell.len }
-{
-    match scan(bits, ip, state, bytes, cell, steps) {
-        Ok(decoded) => {
-            *place = decoded;
-            Ok(())
-        }
-        Err(error) => Err(error),
+        DecodeError::Invalid
     }
 }

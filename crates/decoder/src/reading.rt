@@ -12,7 +12,7 @@ ghost use Rattle.decoder.specs.Answer.{reading_of, IsOnlyReading};
 ghost use Rattle.decoder.specs.Cells.{cell_count, most_steps};
 
 use crate::DecodeError;
-use crate::cell::{cell_of, scan_into};
+use crate::cell::{cell_of, error_of};
 use crate::found::read_found;
 use instruction_parts::PrefixState;
 use modrm_sib::UNREAD;
@@ -30,6 +30,8 @@ use x86_values::{Bits, Decoded, wrap};
 /// `TooShort` where no bytes at the front are an instruction, fewer than 15 are given, and they end before their opcode byte
 /// or more bytes behind them make an instruction. `Invalid` where no bytes at the front are an instruction otherwise
 /// (Intel SDM volume 2, 2.1 to 2.3).
+// Built into its callers, which take the result apart: so it is not copied once more.
+#[inline(always)]
 pub fn decode<const BITS: u32>(ip: u64, bytes: &[u8]) -> Result<Decoded, DecodeError>
     requires { IsTrue (is_mode BITS) }
     ensures reading { IsRead (mode_of BITS) ip bytes.now (reading_of result) }
@@ -118,7 +120,7 @@ pub fn decode_counted<const BITS: u32, L: Ledger>(
 }
 
 /// The same, where the instruction is written to a place: as a value it would be copied at each call on the way.
-#[inline(always)]
+#[inline(never)]
 fn decode_into<const BITS: u32, L: Ledger>(
     ip: u64,
     bytes: &[u8],
@@ -165,14 +167,6 @@ fn read_known<const BITS: u32, L: Ledger>(
 {
     match read_found::<BITS, L>(ip, state, bytes, place, steps) {
         Some(()) => Ok(()),
-        None => scan_into(
-            mode_of::<BITS>(),
-            ip,
-            state,
-            bytes,
-            cell_of(state),
-            place,
-            steps,
-        ),
+        None => Err(error_of(mode_of::<BITS>(), ip, state, bytes, cell_of(state), steps)),
     }
 }

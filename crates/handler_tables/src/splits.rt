@@ -11,18 +11,18 @@ use row_fields::{Fields, Map, Rep};
 use x86_values::Bits;
 
 /// The number of what a node splits by.
-#[inline(always)]
+// Not built into the walk: there each of these numbers would be made before the first node, and most walks need one or two.
+#[inline(never)]
 pub fn field_of<const BITS: u32>(split: Split, fields: &Fields) -> usize
     ensures { result ≡ field_at (mode_of BITS) split fields.now }
 {
-    let byte = byte_number(fields);
     match split {
         Split::Kind => kind_number(fields),
         Split::Opcode => fields.opcode as usize,
         Split::Prefix => prefix_number(fields),
-        Split::Place => bit(byte / 64 == 3),
-        Split::Reg => (byte / 8 % 8) as usize,
-        Split::Rm => (byte % 8) as usize,
+        Split::Place => bit(byte_number(fields) / 64 == 3),
+        Split::Reg => (byte_number(fields) / 8 % 8) as usize,
+        Split::Rm => (byte_number(fields) % 8) as usize,
         Split::Mode => size_number(mode_of::<BITS>()),
         Split::Size => size_number(plain_size(mode_of::<BITS>(), fields)),
         Split::W => bit(fields.w),
@@ -37,7 +37,9 @@ fn bit(b: bool) -> usize
     if b { 1 } else { 0 }
 }
 
-fn kind_number(fields: &Fields) -> usize
+/// The number of the kind and the map.
+#[inline(always)]
+pub(crate) fn kind_number(fields: &Fields) -> usize
     ensures { result ≡ map_number fields.now.vex fields.now.map }
 {
     match (fields.vex, fields.map) {

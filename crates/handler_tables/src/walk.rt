@@ -8,7 +8,7 @@ ghost use Rattle.handler_tables.specs.Splits.{width_of, field_at, root_of};
 
 use crate::node::{Next, Node, Split};
 use crate::nodes::{NODES2, NODES3, NODES4, NODES8, NODES256, SPLITS2, SPLITS3, SPLITS4, SPLITS8};
-use crate::splits::field_of;
+use crate::splits::{field_of, kind_number};
 use row_fields::Fields;
 use std::sync::ledger::Ledger;
 use step_count::Steps;
@@ -26,15 +26,15 @@ pub fn find<const BITS: u32, L: Ledger>(fields: &Fields, steps: &mut Steps<L>) -
     ensures most { steps.new ≤ steps.old + 11 }
     ensures least { IsSome result → steps.old + 2 ≤ steps.new }
 {
-    let _opcode = fields.opcode;
+    let opcode = fields.opcode as usize;
     let root = node8(root_number(fields));
-    let cells = match along::<BITS, 8, L>(&root, Split::Kind, fields, steps) {
+    let cells = match root.next(kind_number(fields), steps) {
         Next::Stop => return None,
         Next::N256(cells) => cells,
         _ => unreachable!(),
     };
     let cell = node256(cells);
-    let mut next = along::<BITS, 256, L>(&cell, Split::Opcode, fields, steps);
+    let mut next = cell.next(opcode, steps);
     for taken in 0..10_u8 {
         next = match next {
             Next::Stop => return None,
@@ -49,7 +49,7 @@ pub fn find<const BITS: u32, L: Ledger>(fields: &Fields, steps: &mut Steps<L>) -
     unreachable!()
 }
 
-/// The entry of a node for what it splits by.
+/// The entry of a node below the opcode byte for what it splits by.
 #[inline(always)]
 fn along<const BITS: u32, const N: usize, L: Ledger>(
     node: &Node<N>,
@@ -61,6 +61,7 @@ fn along<const BITS: u32, const N: usize, L: Ledger>(
     ensures entry { slice_get node.now (field_at (mode_of BITS) split fields.now) ≡ Some result }
     ensures step { steps.new ≡ steps.old + 1 }
 {
+    // Read, since that it is a byte is known of what is read.
     let _opcode = fields.opcode;
     node.next(field_of::<BITS>(split, fields), steps)
 }

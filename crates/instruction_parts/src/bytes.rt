@@ -39,7 +39,6 @@ fn spelled_map(map: Map, vex: Option<Vex>) -> Map
 }
 
 /// What prefixes, VEX, map and opcode byte say.
-// Most instructions have no prefix or a REX alone: neither takes a pass over the prefixes.
 #[inline(always)]
 pub fn state_from(
     bits: Bits,
@@ -51,13 +50,32 @@ pub fn state_from(
 ) -> PrefixState
     ensures { result ≡ spec.state_from bits prefixes.now used vex map opcode }
 {
+    let mut state = state_of_rex(None, used, vex, map, opcode);
+    state_into(bits, prefixes, used, vex, map, opcode, &mut state);
+    state
+}
+
+/// The same, written to a place.
+// Most instructions have no prefix or a REX alone: neither takes a pass over the prefixes.
+#[inline(always)]
+pub fn state_into(
+    bits: Bits,
+    prefixes: &[u8],
+    used: u8,
+    vex: Option<Vex>,
+    map: Map,
+    opcode: u8,
+    place: &mut PrefixState,
+)
+    ensures { place.new ≡ spec.state_from bits prefixes.now used vex map opcode }
+{
     match prefixes.split_first() {
-        None => state_of_rex(None, used, vex, map, opcode),
+        None => *place = state_of_rex(None, used, vex, map, opcode),
         Some((b, rest)) => {
             if rest.len() == 0 && is_64(bits) && is_rex(*b) {
-                state_of_rex(Some(*b), used, vex, map, opcode)
+                *place = state_of_rex(Some(*b), used, vex, map, opcode);
             } else {
-                state_behind(bits, prefixes, used, vex, map, opcode)
+                state_behind(bits, prefixes, used, vex, map, opcode, place);
             }
         }
     }
@@ -82,7 +100,7 @@ fn state_of_rex(rex: Option<u8>, used: u8, vex: Option<Vex>, map: Map, opcode: u
     }
 }
 
-/// The same behind any prefixes.
+/// The same behind any prefixes, written to a place.
 #[inline(never)]
 #[tactic(auto, unfolding(crate::specs::Bytes::state_from))]
 fn state_behind(
@@ -92,10 +110,11 @@ fn state_behind(
     vex: Option<Vex>,
     map: Map,
     opcode: u8,
-) -> PrefixState
-    ensures { result ≡ spec.state_from bits prefixes.now used vex map opcode }
+    place: &mut PrefixState,
+)
+    ensures { place.new ≡ spec.state_from bits prefixes.now used vex map opcode }
 {
-    PrefixState {
+    *place = PrefixState {
         used,
         size66: has_66(prefixes),
         addr67: has_67(prefixes),
@@ -106,7 +125,7 @@ fn state_behind(
         vex,
         map,
         opcode,
-    }
+    };
 }
 
 /// The state of a spelling of the row.

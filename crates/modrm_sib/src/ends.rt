@@ -37,7 +37,7 @@ fn modrm_can_fit(bits: Bits, row: &Row, state: &PrefixState, m: ModRm) -> bool
     }
 }
 
-/// Whether some ModRM with this mod and reg can.
+/// Whether some ModRM with this mod (`mode3`) and reg can.
 #[tactic(auto, unfolding(crate::specs::Parts::some_rm_fits))]
 fn some_rm_fits(bits: Bits, row: &Row, state: &PrefixState, mode3: u8, reg: u8) -> bool
     ensures { result ≡ spec.some_rm_fits bits row.now state.now mode3 reg }
@@ -52,7 +52,7 @@ fn some_rm_fits(bits: Bits, row: &Row, state: &PrefixState, mode3: u8, reg: u8) 
     })
 }
 
-/// Whether some ModRM with this mod can.
+/// Whether some ModRM with this mod (`mode3`) can.
 #[tactic(auto, unfolding(crate::specs::Parts::some_reg_fits))]
 fn some_reg_fits(bits: Bits, row: &Row, state: &PrefixState, mode3: u8) -> bool
     ensures { result ≡ spec.some_reg_fits bits row.now state.now mode3 }

@@ -47,7 +47,7 @@ pub fn sib_of_byte(b: u8) -> Sib
 pub(crate) fn takes_sib(bits: Bits, row: &Row, state: &PrefixState, m: ModRm) -> bool
     ensures { result ≡ spec.takes_sib bits row.now state.now m }
 {
-    reads_mode(row) && needs_sib(state_address_size(bits, state), m)
+    needs_sib(state_address_size(bits, state), m) && reads_mode(row)
 }
 
 /// The bytes of the displacement.
@@ -69,11 +69,10 @@ pub(crate) fn displacement_len(
         } else {
             0
         },
-        Some(m) => if reads_mode(row) {
-            displacement_bytes(asize, m, sib)
-        } else {
-            0
-        },
+        Some(m) => {
+            let len = displacement_bytes(asize, m, sib);
+            if len == 0 || reads_mode(row) { len } else { 0 }
+        }
     }
 }
 

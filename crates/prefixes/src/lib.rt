@@ -8,7 +8,7 @@ ghost use Rattle.instruction_parts.specs.Bytes.{state_from};
 ghost use Rattle.instruction_parts.specs.declared.spelling.PrefixState.{PrefixState};
 ghost use Rattle.prefixes.specs.Answer.{is_mode, mode_of, answer_of, answer_within_15, answer_in};
 
-use instruction_parts::bytes::state_from;
+use instruction_parts::bytes::state_into;
 use instruction_parts::counting::{forbids_vex, is_64, is_prefix};
 use instruction_parts::sizes::bit_of_byte;
 use instruction_parts::{PrefixState, Vex};
@@ -134,13 +134,14 @@ fn opcode_front(
     match bytes.split_first() {
         None => Err(PrefixError::Ended),
         Some((opcode, _)) => {
-            *place = state_from(
+            state_into(
                 bits,
                 prefixes,
                 prefixes.len() as u8 + lead,
                 vex,
                 map,
                 *opcode,
+                place,
             );
             Ok(())
         }

@@ -15,6 +15,7 @@ use x86_values::Bits;
 fn are_bytes(bytes: &[u8]) -> bool
     ensures { result ≡ spec.are_bytes bytes.now }
 {
+    // Read, since what the type says is known of bytes that are read.
     let _bytes = bytes;
     true
 }
@@ -23,6 +24,7 @@ fn are_bytes(bytes: &[u8]) -> bool
 fn is_byte(b: u8) -> bool
     ensures { result ≡ nat_lt b 256 }
 {
+    // Read, for the same reason.
     let _b = b;
     true
 }

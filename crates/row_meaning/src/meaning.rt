@@ -3,6 +3,7 @@
 ghost use Rattle.std.specs.Prelude.{◌≡◌, ◌<◌, ◌≤◌, ◌+◌, length, Option, None, Some};
 ghost use Rattle.row_meaning.specs.Meaning as spec;
 ghost use Rattle.instruction_parts.specs.Bytes as bytes;
+ghost use Rattle.instruction_parts.specs.Sizes.{state_size};
 
 use crate::numbers::sign_extended;
 use instruction_parts::kinds::File;
@@ -93,8 +94,24 @@ fn native_size(bits: Bits) -> Bits
 
 /// The register of a file with a number.
 #[inline(always)]
-#[tactic(auto, unfolding(crate::specs::Meaning::register_of))]
 pub fn register_of(bits: Bits, row: &Row, state: &PrefixState, file: File, n: u8) -> Register
+    ensures { result ≡ spec.register_of bits row.now state.now file n }
+{
+    register_of_size(bits, state_size(bits, row, state), row, state, file, n)
+}
+
+/// The same, where the operand size is known.
+#[inline(always)]
+#[tactic(auto, unfolding(crate::specs::Meaning::register_of))]
+pub fn register_of_size(
+    bits: Bits,
+    size: Bits,
+    row: &Row,
+    state: &PrefixState,
+    file: File,
+    n: u8,
+) -> Register
+    requires { size ≡ state_size bits row.now state.now }
     ensures { result ≡ spec.register_of bits row.now state.now file n }
 {
     match file {
@@ -102,8 +119,8 @@ pub fn register_of(bits: Bits, row: &Row, state: &PrefixState, file: File, n: u8
         File::Word => Register::R16(n),
         File::Dword => Register::R32(n),
         File::Qword => Register::R64(n),
-        File::OperandSize => general(state_size(bits, row, state), n),
-        File::WordOrDword => general(word_or_dword(state_size(bits, row, state)), n),
+        File::OperandSize => general(size, n),
+        File::WordOrDword => general(word_or_dword(size), n),
         File::ByW => general(size_by_w(bit_w(bits, state)), n),
         File::Native => general(native_size(bits), n),
         File::Segment => Register::Seg(segment_numbered(n % 8)),

@@ -1,15 +1,19 @@
 //! The operands of a fitting spelling.
 
-ghost use Rattle.std.specs.Prelude.{◌≡◌, ◌<◌, ◌≤◌, ◌+◌, false, length, IsTrue};
+ghost use Rattle.std.specs.Prelude.{◌≡◌, ◌<◌, ◌≤◌, ◌+◌, ◌||◌, false, length, IsTrue, Some, None, if◌then◌else◌};
 ghost use Rattle.row_meaning.specs.Meaning as spec;
 ghost use Rattle.row_fit.specs.Fits as fits;
 ghost use Rattle.instruction_parts.specs.Bytes as bytes;
-ghost use Rattle.instruction_parts.specs.Kinds.{method_of};
-ghost use Rattle.instruction_parts.specs.Sizes.{state_size};
+ghost use Rattle.x86_values.specs.declared.Bits.{Bits};
+ghost use Rattle.instruction_parts.specs.Kinds.{method_of, file_of};
+ghost use Rattle.x86_values.specs.declared.Operand.TheVariants.{Reg};
+ghost use Rattle.instruction_parts.specs.Sizes.{state_size, state_address_size, has_address_mark};
 ghost use Rattle.row_fit.specs.Sound.{sound};
 ghost use Rattle.instruction_parts.specs.declared.kinds.Method.TheVariants.{Pointer as PointerMethod};
 
-use crate::meaning::{disp_size_of, general, memory_16, memory_alone, register_of, target};
+use crate::meaning::{
+    disp_size_of, general, memory_16, memory_alone, register_of, register_of_size, target,
+};
 use crate::numbers::{little_endian, sign_extended};
 use instruction_parts::bytes::{lead_len, state_of};
 use instruction_parts::counting::is_64;
@@ -18,8 +22,7 @@ use instruction_parts::sizes::{bit_b, has_address_mark, state_address_size, stat
 use instruction_parts::spelling::{ModRm, PrefixState, Sib, Spelling};
 use row_fit::fits::mode_is_memory;
 use row_fit::tail_fits::{
-    extended, immediate_bytes, index_number, is_memory_method, kind_at, reg_number, rm_number,
-    vvvv_number,
+    extended, immediate_bytes, index_number, kind_at, reg_number, rm_number, vvvv_number,
 };
 use row_types::{Class, OpKind, Row};
 use x86_values::{Bits, Code, Instr, Mem, Operand, Register, Rep, wrap};
@@ -168,33 +171,26 @@ fn memory_of(
     }
 }
 
-/// The operand that is memory by ModRM.
+/// The operand that is memory by ModRM, written to a place.
 #[inline(always)]
 #[tactic(auto, unfolding(crate::specs::Meaning::memory_operand, row_fit::specs::Fits::modrm_in_range))]
-fn memory_operand(
-    bits: Bits,
-    state: &PrefixState,
-    m: Option<ModRm>,
-    sib: Option<Sib>,
-    disp: &[u8],
-    next: u64,
-) -> Operand
-    requires modrm { IsTrue (fits.modrm_in_range m) }
-    requires sib { IsTrue (fits.sib_in_range sib) }
-    requires disp { length disp.now ≤ 8 }
-    ensures { result ≡ spec.memory_operand bits state.now m sib disp.now next }
+fn memory_into(bits: Bits, state: &PrefixState, behind: &Behind, place: &mut Operand)
+    requires modrm { IsTrue (fits.modrm_in_range behind.now.modrm) }
+    requires sib { IsTrue (fits.sib_in_range behind.now.sib) }
+    requires disp { length behind.now.disp.now ≤ 8 }
+    ensures { place.new ≡ spec.memory_operand bits state.now behind.now.modrm behind.now.sib behind.now.disp.now behind.now.next }
 {
-    match m {
-        None => Operand::Absent,
+    match behind.modrm {
+        None => *place = Operand::Absent,
         Some(m) => {
-            Operand::Mem(memory_of(
+            *place = Operand::Mem(memory_of(
                 bits,
                 state_address_size(bits, state),
                 state,
                 m,
-                sib,
-                next,
-                disp,
+                behind.sib,
+                behind.next,
+                behind.disp,
             ))
         }
     }
@@ -319,11 +315,31 @@ pub struct Behind<'a> {
     pub next: u64,
 }
 
-/// An operand by how it is read, written to a place; `imm` are the bytes of the immediates that are its own.
+/// The register of a number that an operand of the kind names, written to a place.
 #[inline(always)]
-#[tactic(auto, unfolding(crate::specs::Meaning::operand_by))]
+fn register_into(
+    bits: Bits,
+    size: Bits,
+    row: &Row,
+    state: &PrefixState,
+    kind: OpKind,
+    n: u8,
+    place: &mut Operand,
+)
+    requires { size ≡ state_size bits row.now state.now }
+    ensures { place.new ≡ Reg (spec.register_of bits row.now state.now (file_of kind) n) }
+{
+    *place = Operand::Reg(register_of_size(bits, size, row, state, file_of_kind(kind), n));
+}
+
+/// An operand by how it is read, written to a place; `imm` are the bytes of the immediates that are its own. It answers whether the operand is
+/// memory.
+// Each arm writes the place: an operand that all arms hand on is put together from its parts again.
+#[inline(always)]
+#[tactic(auto, unfolding(crate::specs::Meaning::operand_by, row_fit::specs::Fits::is_memory_method))]
 fn operand_into(
     bits: Bits,
+    size: Bits,
     row: &Row,
     state: &PrefixState,
     behind: &Behind,
@@ -331,106 +347,103 @@ fn operand_into(
     method: Method,
     imm: &[u8],
     place: &mut Operand,
-)
+) -> bool
+    requires size { size ≡ state_size bits row.now state.now }
     requires modrm { IsTrue (fits.modrm_in_range behind.now.modrm) }
     requires sib { IsTrue (fits.sib_in_range behind.now.sib) }
     requires disp { length behind.now.disp.now ≤ 8 }
     requires imm { length imm.now ≤ 8 }
     requires pointer { method ≡ PointerMethod → length imm.now ≤ 6 }
-    ensures { place.new ≡ spec.operand_by bits row.now state.now
+    ensures operand { place.new ≡ spec.operand_by bits row.now state.now
         (spec.tail behind.now.modrm behind.now.sib behind.now.disp.now behind.now.next) kind method imm.now }
+    ensures memory { result ≡ fits.is_memory_method method behind.now.modrm }
 {
-    *place = match method {
-        Method::Nothing => Operand::Absent,
-        Method::ModRmReg => Operand::Reg(register_of(
-            bits,
-            row,
-            state,
-            file_of_kind(kind),
-            small_reg_number(state, behind.modrm),
-        )),
+    match method {
+        Method::Nothing => {
+            *place = Operand::Absent;
+            false
+        }
+        Method::ModRmReg => {
+            let n = small_reg_number(state, behind.modrm);
+            register_into(bits, size, row, state, kind, n, place);
+            false
+        }
         Method::RegisterOrMemory => {
             if mode_is_memory(behind.modrm) {
-                memory_operand(
-                    bits,
-                    state,
-                    behind.modrm,
-                    behind.sib,
-                    behind.disp,
-                    behind.next,
-                )
+                memory_into(bits, state, behind, place);
+                true
             } else {
-                Operand::Reg(register_of(
-                    bits,
-                    row,
-                    state,
-                    file_of_kind(kind),
-                    small_rm_number(bits, state, behind.modrm),
-                ))
+                let n = small_rm_number(bits, state, behind.modrm);
+                register_into(bits, size, row, state, kind, n, place);
+                false
             }
         }
-        Method::RegisterOnly | Method::AnyMode => Operand::Reg(register_of(
-            bits,
-            row,
-            state,
-            file_of_kind(kind),
-            small_rm_number(bits, state, behind.modrm),
-        )),
-        Method::MemoryOnly => memory_operand(
-            bits,
-            state,
-            behind.modrm,
-            behind.sib,
-            behind.disp,
-            behind.next,
-        ),
-        Method::OpcodeLow => Operand::Reg(register_of(
-            bits,
-            row,
-            state,
-            file_of_kind(kind),
-            small(extended(bit_b(bits, state), state.opcode % 8)),
-        )),
-        Method::Vvvv => Operand::Reg(register_of(
-            bits,
-            row,
-            state,
-            file_of_kind(kind),
-            vvvv_number(bits, state),
-        )),
-        Method::LastByte => Operand::Reg(register_of(
-            bits,
-            row,
-            state,
-            file_of_kind(kind),
-            last_byte_number(bits, imm),
-        )),
-        Method::Gather => gather_operand(
-            bits,
-            row,
-            state,
-            file_of_kind(kind),
-            behind.modrm,
-            behind.sib,
-            behind.disp,
-        ),
-        Method::Offset => Operand::Mem(memory_absolute(
-            state_address_size(bits, state),
-            behind.disp,
-        )),
-        Method::AsWritten => Operand::Imm(little_endian(imm)),
-        Method::Extended => Operand::Imm(sign_extended(state_size(bits, row, state), imm)),
-        Method::Near => near_target(state_size(bits, row, state), behind.next, imm),
-        Method::Pointer => far_pointer(imm),
-        Method::Fixed => Operand::Reg(register_of(
-            bits,
-            row,
-            state,
-            file_of_kind(kind),
-            fixed_number_of_kind(kind),
-        )),
-        Method::One => Operand::Imm(1),
-    };
+        Method::RegisterOnly | Method::AnyMode => {
+            let n = small_rm_number(bits, state, behind.modrm);
+            register_into(bits, size, row, state, kind, n, place);
+            false
+        }
+        Method::MemoryOnly => {
+            memory_into(bits, state, behind, place);
+            true
+        }
+        Method::OpcodeLow => {
+            let n = small(extended(bit_b(bits, state), state.opcode % 8));
+            register_into(bits, size, row, state, kind, n, place);
+            false
+        }
+        Method::Vvvv => {
+            let n = vvvv_number(bits, state);
+            register_into(bits, size, row, state, kind, n, place);
+            false
+        }
+        Method::LastByte => {
+            let n = last_byte_number(bits, imm);
+            register_into(bits, size, row, state, kind, n, place);
+            false
+        }
+        Method::Gather => {
+            *place = gather_operand(
+                bits,
+                row,
+                state,
+                file_of_kind(kind),
+                behind.modrm,
+                behind.sib,
+                behind.disp,
+            );
+            true
+        }
+        Method::Offset => {
+            *place = Operand::Mem(memory_absolute(state_address_size(bits, state), behind.disp));
+            true
+        }
+        Method::AsWritten => {
+            *place = Operand::Imm(little_endian(imm));
+            false
+        }
+        Method::Extended => {
+            *place = Operand::Imm(sign_extended(size, imm));
+            false
+        }
+        Method::Near => {
+            *place = near_target(size, behind.next, imm);
+            false
+        }
+        Method::Pointer => {
+            *place = far_pointer(imm);
+            false
+        }
+        Method::Fixed => {
+            let n = fixed_number_of_kind(kind);
+            register_into(bits, size, row, state, kind, n, place);
+            false
+        }
+        Method::One => {
+            *place = Operand::Imm(1);
+            false
+        }
+    }
 }
 
 /// An operand by how it is read; `imm` are the bytes of the immediates that are its own.
@@ -461,7 +474,18 @@ pub fn operand_by(
         next,
     };
     let mut operand = Operand::Absent;
-    operand_into(bits, row, state, &behind, kind, method, imm, &mut operand);
+    let size = state_size(bits, row, state);
+    operand_into(
+        bits,
+        size,
+        row,
+        state,
+        &behind,
+        kind,
+        method,
+        imm,
+        &mut operand,
+    );
     operand
 }
 
@@ -509,10 +533,9 @@ fn own_immediate<'a>(size: Bits, row: &Row, n: usize, imm: &'a [u8], len: usize)
 /// Whether an operand of the kind has bytes of the immediates.
 #[inline(always)]
 #[tactic(auto, unfolding(row_fit::specs::Fits::immediate_bytes, instruction_parts::specs::Kinds::immediate_width))]
-fn has_immediate(size: Bits, kind: OpKind) -> bool
-    ensures { result ≡ false → fits.immediate_bytes size kind ≡ 0 }
+fn has_immediate(kind: OpKind) -> bool
+    ensures { result ≡ false → (size : Bits) → fits.immediate_bytes size kind ≡ 0 }
 {
-    let _size = size;
     match kind {
         OpKind::Ib
         | OpKind::Iw
@@ -536,7 +559,7 @@ fn immediate_of<'a>(size: Bits, row: &Row, n: usize, kind: OpKind, imm: &'a [u8]
     requires kind { kind ≡ fits.kind_at row.now n }
     ensures { result.now ≡ spec.own_immediate size row.now n imm.now }
 {
-    if has_immediate(size, kind) {
+    if has_immediate(kind) {
         let len = immediate_bytes(size, kind) as usize;
         own_immediate(size, row, n, imm, len)
     } else {
@@ -544,7 +567,7 @@ fn immediate_of<'a>(size: Bits, row: &Row, n: usize, kind: OpKind, imm: &'a [u8]
     }
 }
 
-/// Operand n, where there is one, written to a place.
+/// Operand n, where there is one, written to a place. It answers whether the operand is memory.
 #[inline(never)]
 #[tactic(auto, unfolding(crate::specs::Meaning::operand_at, crate::specs::Meaning::own_immediate))]
 fn present_into(
@@ -556,7 +579,7 @@ fn present_into(
     n: usize,
     kind: OpKind,
     place: &mut Operand,
-)
+) -> bool
     requires size { size ≡ state_size bits row.now state.now }
     requires modrm { IsTrue (fits.modrm_in_range behind.now.modrm) }
     requires sib { IsTrue (fits.sib_in_range behind.now.sib) }
@@ -565,17 +588,18 @@ fn present_into(
     requires whole { length behind.now.imm.now ≡ fits.immediates_bytes size row.now }
     requires number { n < 4 }
     requires kind { kind ≡ fits.kind_at row.now n }
-    ensures { place.new ≡ spec.operand_at bits row.now state.now
+    ensures operand { place.new ≡ spec.operand_at bits row.now state.now
         (spec.tail behind.now.modrm behind.now.sib behind.now.disp.now behind.now.next) behind.now.imm.now n }
+    ensures memory { result ≡ fits.is_memory_method (method_of kind) behind.now.modrm }
 {
     let own = immediate_of(size, row, n, kind, behind.imm);
     let method = method_of_kind(kind);
-    operand_into(bits, row, state, behind, kind, method, own, place)
+    operand_into(bits, size, row, state, behind, kind, method, own, place)
 }
 
-/// Operand n, written to a place.
+/// Operand n, written to a place. It answers whether the operand is memory.
 #[inline(always)]
-#[tactic(auto, unfolding(crate::specs::Meaning::operand_at))]
+#[tactic(auto, unfolding(crate::specs::Meaning::operand_at, instruction_parts::specs::Kinds::method_of, row_fit::specs::Fits::is_memory_method))]
 fn operand_at_into(
     bits: Bits,
     size: Bits,
@@ -583,8 +607,9 @@ fn operand_at_into(
     state: &PrefixState,
     behind: &Behind,
     n: usize,
+    kind: OpKind,
     place: &mut Operand,
-)
+) -> bool
     requires size { size ≡ state_size bits row.now state.now }
     requires modrm { IsTrue (fits.modrm_in_range behind.now.modrm) }
     requires sib { IsTrue (fits.sib_in_range behind.now.sib) }
@@ -592,12 +617,16 @@ fn operand_at_into(
     requires imm { length behind.now.imm.now ≤ 8 }
     requires whole { length behind.now.imm.now ≡ fits.immediates_bytes size row.now }
     requires number { n < 4 }
-    ensures { place.new ≡ spec.operand_at bits row.now state.now
+    requires kind { kind ≡ fits.kind_at row.now n }
+    ensures operand { place.new ≡ spec.operand_at bits row.now state.now
         (spec.tail behind.now.modrm behind.now.sib behind.now.disp.now behind.now.next) behind.now.imm.now n }
+    ensures memory { result ≡ fits.is_memory_method (method_of kind) behind.now.modrm }
 {
-    let kind = kind_at(row, n);
     match kind {
-        OpKind::Absent => *place = Operand::Absent,
+        OpKind::Absent => {
+            *place = Operand::Absent;
+            false
+        }
         _ => present_into(bits, size, row, state, behind, n, kind, place),
     }
 }
@@ -614,35 +643,19 @@ fn kept_repeat(class: Class, rep: Rep) -> Rep
     }
 }
 
-/// Whether an operand of the kind is memory.
+/// Whether one of four operands is memory.
+fn any_of(first: bool, second: bool, third: bool, fourth: bool) -> bool
+    ensures { result ≡ first || (second || (third || fourth)) }
+{
+    first || second || third || fourth
+}
+
+/// The address size of an instruction, where some operand is memory or the row has the mark a.
 #[inline(always)]
-#[tactic(auto, unfolding(instruction_parts::specs::Kinds::method_of, row_fit::specs::Fits::is_memory_method))]
-fn is_memory_kind(kind: OpKind, m: Option<ModRm>) -> bool
-    ensures { result ≡ fits.is_memory_method (method_of kind) m }
+fn kept_address_size(bits: Bits, row: &Row, state: &PrefixState, memory: bool) -> Option<Bits>
+    ensures { result ≡ if memory || has_address_mark row.now then Some (state_address_size bits state.now) else None }
 {
-    match kind {
-        OpKind::Absent => false,
-        OpKind::Eb | OpKind::Ew | OpKind::Ed | OpKind::Eq | OpKind::Ev | OpKind::Ez | OpKind::Ey =>
-            mode_is_memory(m),
-        OpKind::Gb | OpKind::Gw | OpKind::Gd | OpKind::Gv | OpKind::Gy => false,
-        _ => is_memory_method(method_of_kind(kind), m),
-    }
-}
-
-/// Whether some operand is memory.
-#[tactic(auto, unfolding(crate::specs::Meaning::has_memory))]
-fn has_memory(row: &Row, m: Option<ModRm>) -> bool
-    ensures { result ≡ spec.has_memory row.now m }
-{
-    row.ops.iter().any(|kind| is_memory_kind(*kind, m))
-}
-
-/// The address size, where the instruction has a memory operand or the mark a.
-#[tactic(auto, unfolding(crate::specs::Meaning::kept_address_size))]
-fn kept_address_size(bits: Bits, row: &Row, state: &PrefixState, m: Option<ModRm>) -> Option<Bits>
-    ensures { result ≡ spec.kept_address_size bits row.now state.now m }
-{
-    if has_memory(row, m) || has_address_mark(row) {
+    if memory || has_address_mark(row) {
         Some(state_address_size(bits, state))
     } else {
         None
@@ -710,20 +723,52 @@ pub fn instr_into(
         (spec.tail behind.now.modrm behind.now.sib behind.now.disp.now behind.now.next) behind.now.imm.now }
 {
     let size = state_size(bits, row, state);
-    let mut first = Operand::Absent;
-    let mut second = Operand::Absent;
-    let mut third = Operand::Absent;
-    let mut fourth = Operand::Absent;
-    operand_at_into(bits, size, row, state, behind, 0, &mut first);
-    operand_at_into(bits, size, row, state, behind, 1, &mut second);
-    operand_at_into(bits, size, row, state, behind, 2, &mut third);
-    operand_at_into(bits, size, row, state, behind, 3, &mut fourth);
-    place.ops = [first, second, third, fourth];
+    let [first_kind, second_kind, third_kind, fourth_kind] = row.ops;
+    let first = operand_at_into(
+        bits,
+        size,
+        row,
+        state,
+        behind,
+        0,
+        first_kind,
+        &mut place.ops[0],
+    );
+    let second = operand_at_into(
+        bits,
+        size,
+        row,
+        state,
+        behind,
+        1,
+        second_kind,
+        &mut place.ops[1],
+    );
+    let third = operand_at_into(
+        bits,
+        size,
+        row,
+        state,
+        behind,
+        2,
+        third_kind,
+        &mut place.ops[2],
+    );
+    let fourth = operand_at_into(
+        bits,
+        size,
+        row,
+        state,
+        behind,
+        3,
+        fourth_kind,
+        &mut place.ops[3],
+    );
     place.code = code;
     place.lock = state.lock;
     place.rep = kept_repeat(row.class, state.rep);
     place.seg = state.seg;
-    place.asize = kept_address_size(bits, row, state, behind.modrm);
+    place.asize = kept_address_size(bits, row, state, any_of(first, second, third, fourth));
 }
 
 /// The length of a spelling of the row.

@@ -1,6 +1,7 @@
 use Rattle.std.proofs.Common.{◌≡◌, ◌≤◌, ◌+◌, ◌-◌, suc, arith, lit<, sym, refl}
 use Rattle.std.proofs.lemmas.Option.{slice_get_within}
 use Rattle.prefixes.specs.Answer.{mode_of}
+use Rattle.row_fields.proofs.Apart.{map_number-lt}
 use Rattle.row_fields.proofs.Holding.{nowhere, only_row}
 use Rattle.opcode_rows.specs.Table.{table}
 use Rattle.handler_tables.specs.Nodes.{nodes2, nodes3, nodes4, nodes8, splits2, splits3, splits4, splits8}
@@ -14,21 +15,24 @@ use Rattle.handler_tables.proofs.walk.find.Goals.{in-N2, in-N3, in-N4, in-N8}
 pub node8-root-requires : goal.node8-root-requires
 node8-root-requires g c = rw c.root_number.ensures (root-in c.args.fields.now.modrm)
 
+pub next-requires : goal.next-requires
+next-requires g c = (lit< tt, rw c.kind_number.ensures (map_number-lt c.args.fields.now.vex c.args.fields.now.map))
+
 pub returns-in-Stop-clause-row : goal.returns-in-Stop-clause-row
 returns-in-Stop-clause-row g c =
     let bits = mode_of g.row.BITS in
     let f = c.args.fields.now in
     nowhere bits table f
     (root-Stop bits f (known_root bits f (omega arith) c.root_number.result c.node8-root.result Stop
-    c.root_number.ensures c.node8-root.ensures c.in-Stop.ensures.entry))
+    c.root_number.ensures c.node8-root.ensures (rw c.kind_number.ensures at c.in-Stop.ensures.entry)))
 
 pub unreachable-requires : goal.unreachable-requires
 unreachable-requires g c =
     let bits = mode_of g.row.BITS in
     let f = c.args.fields.now in
-    root-only bits f c.along.result
-    (known_root bits f (omega arith) c.root_number.result c.node8-root.result c.along.result
-    c.root_number.ensures c.node8-root.ensures c.along.ensures.entry)
+    root-only bits f c.next.result
+    (known_root bits f (omega arith) c.root_number.result c.node8-root.result c.next.result
+    c.root_number.ensures c.node8-root.ensures (rw c.kind_number.ensures at c.next.ensures.entry))
     c.in_default.not-Stop c.in_default.not-N256
 
 pub node256-cell-requires : goal.node256-cell-requires
@@ -37,17 +41,17 @@ node256-cell-requires g c =
     let f = c.args.fields.now in
     root-N256-in bits f c.in-N256.cells
     (known_root bits f (omega arith) c.root_number.result c.node8-root.result (N256 c.in-N256.cells)
-    c.root_number.ensures c.node8-root.ensures c.in-N256.ensures.entry)
+    c.root_number.ensures c.node8-root.ensures (rw c.kind_number.ensures at c.in-N256.ensures.entry))
 
 pub loop-taken-init : goal.loop-taken-init
 loop-taken-init g c =
     let bits = mode_of g.row.BITS in
     let f = c.args.fields.now in
     record {
-      path = root-goes bits f c.in-N256.cells c.node256-cell.result c.along-next.result
+      path = root-goes bits f c.in-N256.cells c.node256-cell.result c.next-next.result
           (known_root bits f (omega arith) c.root_number.result c.node8-root.result (N256 c.in-N256.cells)
-          c.root_number.ensures c.node8-root.ensures c.in-N256.ensures.entry)
-          c.node256-cell.ensures c.along-next.ensures.entry;
+          c.root_number.ensures c.node8-root.ensures (rw c.kind_number.ensures at c.in-N256.ensures.entry))
+          c.node256-cell.ensures c.next-next.ensures.entry;
       count = omega arith;
     }
 
@@ -92,8 +96,8 @@ split2-requires g c =
     let k = split-there bits f fuel e refl (on_path bits f fuel c.loop-taken.next e c.in-N2.is c.loop-taken.invariant.path) in
     slice_get_within splits2 c.in-N2.at k.0 k.1
 
-pub along-next-requires-in-N2 : goal.along-next-requires-in-N2
-along-next-requires-in-N2 g c =
+pub along-next-requires : goal.along-next-requires
+along-next-requires g c =
     let bits = mode_of g.row.BITS in
     let f = c.args.fields.now in
     let fuel = 10 - c.loop-taken.taken in
@@ -201,30 +205,30 @@ loop-taken-preserved g c =
     let fuel = 10 - c.loop-taken.taken in
     let less = 10 - (c.loop-taken.taken + 1) in
     let falls : fuel ≡ suc less = omega arith in
-    elim c.match-next.branch [
+    elim c.match-next-2.branch [
       | in-N2 w ↦ record {
-        path = on_path bits f less w.along-next-in-N2.result c.match-next.next (sym w.next-is)
-            (goes-on bits f fuel less (N2 w.in-N2.at) w.split2.result w.node2.result w.along-next-in-N2.result falls refl
+        path = on_path bits f less w.along-next.result c.match-next-2.next (sym w.next-is)
+            (goes-on bits f fuel less (N2 w.in-N2.at) w.split2.result w.node2.result w.along-next.result falls refl
             (on_path bits f fuel c.loop-taken.next (N2 w.in-N2.at) w.in-N2.is c.loop-taken.invariant.path)
-            w.split2.ensures w.node2.ensures w.along-next-in-N2.ensures.entry);
+            w.split2.ensures w.node2.ensures w.along-next.ensures.entry);
         count = omega arith;
       }
       | in-N3 w ↦ record {
-        path = on_path bits f less w.along-next-in-N3.result c.match-next.next (sym w.next-is)
+        path = on_path bits f less w.along-next-in-N3.result c.match-next-2.next (sym w.next-is)
             (goes-on bits f fuel less (N3 w.in-N3.at) w.split3.result w.node3.result w.along-next-in-N3.result falls refl
             (on_path bits f fuel c.loop-taken.next (N3 w.in-N3.at) w.in-N3.is c.loop-taken.invariant.path)
             w.split3.ensures w.node3.ensures w.along-next-in-N3.ensures.entry);
         count = omega arith;
       }
       | in-N4 w ↦ record {
-        path = on_path bits f less w.along-next-in-N4.result c.match-next.next (sym w.next-is)
+        path = on_path bits f less w.along-next-in-N4.result c.match-next-2.next (sym w.next-is)
             (goes-on bits f fuel less (N4 w.in-N4.at) w.split4.result w.node4.result w.along-next-in-N4.result falls refl
             (on_path bits f fuel c.loop-taken.next (N4 w.in-N4.at) w.in-N4.is c.loop-taken.invariant.path)
             w.split4.ensures w.node4.ensures w.along-next-in-N4.ensures.entry);
         count = omega arith;
       }
       | in-N8 w ↦ record {
-        path = on_path bits f less w.along-next-in-N8.result c.match-next.next (sym w.next-is)
+        path = on_path bits f less w.along-next-in-N8.result c.match-next-2.next (sym w.next-is)
             (goes-on bits f fuel less (N8 w.in-N8.at) w.split8.result w.node8.result w.along-next-in-N8.result falls refl
             (on_path bits f fuel c.loop-taken.next (N8 w.in-N8.at) w.in-N8.is c.loop-taken.invariant.path)
             w.split8.ensures w.node8.ensures w.along-next-in-N8.ensures.entry);

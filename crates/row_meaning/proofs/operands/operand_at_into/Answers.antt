@@ -14,6 +14,6 @@ absent_operand : (bits : Bits) (row : Row) (state : PrefixState) (t : Tail) (imm
 unfolding operand_at operand_by method_of
 absent_operand bits row state t imm n h = rw h refl
 
-pub returns-in-Absent : goal.returns-in-Absent
-returns-in-Absent c =
-    sym (absent_operand c.args.bits c.args.row.now c.args.state.now _ c.args.behind.now.imm.now c.args.n (sym c.kind_at-kind.ensures ∙ c.in-Absent.is))
+pub returns-in-Absent-clause-operand : goal.returns-in-Absent-clause-operand
+returns-in-Absent-clause-operand c =
+    sym (absent_operand c.args.bits c.args.row.now c.args.state.now _ c.args.behind.now.imm.now c.args.n (sym c.requires.kind ∙ c.in-Absent.is))

@@ -1,7 +1,7 @@
 use Rattle.std.proofs.Common.{◌+◌, ◌≤◌}
 use Rattle.opcode_rows.specs.Table.{table}
 use Rattle.decoder.specs.Cells.{Scanned}
-use Rattle.decoder.proofs.cell.scan.Given as goal
+use Rattle.decoder.proofs.cell.error_of.Given as goal
 
 abbrev pub invariant-loop-n : goal.invariant-loop-n
 invariant-loop-n g l = record {

@@ -5,23 +5,12 @@ use Rattle.modrm_sib.specs.declared.TailError.{TailError}
 use Rattle.opcode_rows.specs.Table.{table}
 use Rattle.opcode_rows.proofs.Sound.{sound-row}
 use Rattle.decoder.specs.Cells.{Scanned}
-use Rattle.decoder.proofs.Formed.{read_is_well_formed}
-use Rattle.decoder.proofs.ReadingLaws.{reads}
-use Rattle.decoder.proofs.Scanning.{scanned_stop, scanned_long, scanned_goes, scanned_too_short, scanned_invalid}
-use Rattle.decoder.proofs.cell.scan.Goals as goal
-use Rattle.decoder.proofs.cell.scan.Goals.{in-Ok+else-decoded-le-LONGEST, in-Err-Ended, in-Err-Forbidden, else-goes_on-via-then-goes_on+else-bytes-lt-LONGEST, else-goes_on-via-else-goes_on}
+use Rattle.decoder.proofs.Scanning.{scanned_stop, scanned_read, scanned_goes, scanned_too_short, scanned_invalid}
+use Rattle.decoder.proofs.cell.error_of.Goals as goal
+use Rattle.decoder.proofs.cell.error_of.Goals.{in-Ok, in-Err-Ended, in-Err-Forbidden, else-goes_on-via-then-goes_on+else-bytes-lt-LONGEST, else-goes_on-via-else-goes_on}
 
 pub read_row-requires-clause-sound : goal.read_row-requires-clause-sound
 read_row-requires-clause-sound g c = sound-row _ _ c.row-row.ensures.row
-
-pub returns-then-decoded-le-LONGEST-clause-reading : goal.returns-then-decoded-le-LONGEST-clause-reading
-returns-then-decoded-le-LONGEST-clause-reading g c =
-    reads table c.args.bits c.args.ip _ c.row-row.result c.args.bytes.now c.in-Ok.decoded c.row-row.ensures.row c.in-Ok.ensures.ok c.if-decoded-le-LONGEST.true
-
-pub returns-then-decoded-le-LONGEST-clause-form : goal.returns-then-decoded-le-LONGEST-clause-form
-returns-then-decoded-le-LONGEST-clause-form g c =
-    read_is_well_formed c.args.bits c.args.ip _ c.row-row.result c.args.bytes.now c.in-Ok.decoded c.row-row.ensures.row
-    (sound-row _ _ c.row-row.ensures.row) c.in-Ok.ensures.ok
 
 pub loop-n-preserved : goal.loop-n-preserved
 loop-n-preserved g c =
@@ -36,10 +25,10 @@ loop-n-preserved g c =
     let before = c.loop-n.invariant.rows in
     let count : c.row-row.new.steps ≤ c.args.steps.now + (c.loop-n.n + 1) = omega arith in
     elim c.match-read_row.branch [
-      | in-Ok+else-decoded-le-LONGEST w ↦ record {
+      | in-Ok w ↦ record {
         rows = subst (λ m. Scanned table bits bytes first m c.match-read_row.goes_on) more
             (subst (λ f. Scanned table bits bytes first (next + 1) f) (sym w.goes_on-is)
-            (scanned_long table bits c.args.ip bytes first next c.loop-n.goes_on code row w.in-Ok.decoded there w.in-Ok.ensures.ok w.if-decoded-le-LONGEST.false before));
+            (scanned_read table bits c.args.ip bytes first c.loop-n.goes_on code row w.in-Ok.field-0 there w.in-Ok.ensures.ok c.requires.nothing before));
         count = count;
       }
       | in-Err-Ended w ↦ (let says = w.in-Err-Ended.ensures.ended (ap (λ (e : TailError). Err e) w.in-Err-Ended.field-0-is) in record {

@@ -1,6 +1,6 @@
 use Rattle.std.proofs.Common.{◌∙◌, sym}
 use Rattle.instruction_parts.proofs.FewPrefixes.{nothing, rex_with_nothing}
-use Rattle.instruction_parts.proofs.bytes.state_from.Goals as goal
+use Rattle.instruction_parts.proofs.bytes.state_into.Goals as goal
 
 pub returns-then-is_rex : goal.returns-then-is_rex
 returns-then-is_rex c =
