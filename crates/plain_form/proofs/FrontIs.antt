@@ -28,7 +28,7 @@ use Rattle.plain_fit.proofs.Places.{places_fit, rule_fits}
 use Rattle.plain_fit.proofs.Whole.{plain_fits, plain_means}
 use Rattle.plain_need.proofs.Given as need
 use Rattle.plain_need.proofs.States.{StateIs, state_is}
-use Rattle.plain_need.proofs.Agreeing.{plain_rex_w}
+use Rattle.plain_spelling.proofs.PlainFrontLaws.{plain_rex_w}
 use Rattle.plain_need.proofs.Used.{read, read_is}
 use Rattle.plain_form.specs.IsPlain.{needed_prefixes, only_if, needs_r, needs_x, needs_b, needs_w, names_low_byte, rex_is_needed, vex_is_short, l_is_needed, vvvv_is_read}
 use Rattle.plain_form.proofs.Prefixes.{Keeps, needed_are}

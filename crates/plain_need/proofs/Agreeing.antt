@@ -13,12 +13,12 @@ use Rattle.instruction_parts.specs.declared.spelling.Vex.{Vex}
 use Rattle.instruction_parts.specs.declared.spelling.PrefixState.{PrefixState}
 use Rattle.instruction_parts.specs.Counting.{is_64, rex_bit}
 use Rattle.instruction_parts.specs.Sizes.{is_vex_row, has_caret, has_bang, operand_size, state_size, bit_w, rex_w}
-use Rattle.instruction_parts.specs.Bytes.{bit}
 use Rattle.row_fit.specs.Fits.{size_fits}
 use Rattle.row_meaning.specs.Meaning.{general, byte_register, vector, word_or_dword, size_by_w, native_size, segment_numbered, register_of}
-use Rattle.plain_spelling.specs.PlainFront.{segment_number, register_number, asks_r, asks_x, asks_b, asks_low_byte, asks_rex_w, asks_vex_w, asks_66, asked_rex, asked_vex, plain_front_of}
+use Rattle.plain_spelling.specs.PlainFront.{segment_number, register_number, asks_rex_w, asks_vex_w, asks_66, asked_rex, asked_vex, plain_front_of}
 use Rattle.plain_spelling.specs.PlainTail.{plain_size}
 use Rattle.plain_spelling.specs.Writable.{Writable, plain_w, says_size, says_w, file_is_told}
+use Rattle.plain_spelling.proofs.PlainFrontLaws.{plain_rex_w, plain_state_size}
 use Rattle.plain_spelling.proofs.Sizes.{plain_size_fits, size-told, word_or_dword-told}
 use Rattle.instruction_parts.proofs.Tests.{either, not_true}
 use Rattle.plain_need.proofs.Counts.{or_none}
@@ -27,38 +27,6 @@ use Rattle.plain_need.proofs.States.{StateIs}
 use Rattle.plain_need.proofs.Front.{size_by}
 
 -- ---- W of the plain front
-
-abbrev rex_of : Bool → Bool → Bool → Bool → Bool → Bool → Option ℕ
-rex_of v w r x b l =
-    if not v && (w || (r || (x || (b || l)))) then Some (0x40 + (bit w * 8 + (bit r * 4 + (bit x * 2 + bit b)))) else None
-
-rex_of_w : (v w r x b l : Bool) → rex_bit 3 (rex_of v w r x b l) ≡ (if v then false else w)
-rex_of_w true w r x b l = refl
-rex_of_w false true true true true l = refl
-rex_of_w false true true true false l = refl
-rex_of_w false true true false true l = refl
-rex_of_w false true true false false l = refl
-rex_of_w false true false true true l = refl
-rex_of_w false true false true false l = refl
-rex_of_w false true false false true l = refl
-rex_of_w false true false false false l = refl
-rex_of_w false false true true true l = refl
-rex_of_w false false true true false l = refl
-rex_of_w false false true false true l = refl
-rex_of_w false false true false false l = refl
-rex_of_w false false false true true l = refl
-rex_of_w false false false true false l = refl
-rex_of_w false false false false true l = refl
-rex_of_w false false false false false true = refl
-rex_of_w false false false false false false = refl
-
-pub plain_rex_w : (row : Row) (i : Instr) → rex_bit 3 (asked_rex row i) ≡ (if is_vex_row row then false else asks_rex_w row)
-unfolding asked_rex
-plain_rex_w row i = rex_of_w (is_vex_row row) (asks_rex_w row) (asks_r row i) (asks_x row i) (asks_b row i) (asks_low_byte i.ops)
-
-pub plain_state_size : (bits : Bits) (row : Row) (i : Instr) → state_size bits row (plain_front_of bits row i) ≡ plain_size bits row
-unfolding state_size plain_front_of plain_size
-plain_state_size bits row i = ap (λ (w : Bool). operand_size bits row w (asks_66 bits row)) (plain_rex_w row i)
 
 -- W as VEX or REX have it
 abbrev w_of : Option Vex → Option ℕ → Bool

@@ -6,7 +6,9 @@ ghost use Rattle.row_types.specs.declared.Place.{Place};
 ghost use Rattle.row_types.specs.declared.Plus.TheVariants.{Register as PlusRegister};
 ghost use Rattle.instruction_parts.specs.Kinds.{method_of};
 ghost use Rattle.plain_spelling.specs.Forms.{is_variant_of};
+ghost use Rattle.instruction_parts.specs.Sizes as sizes;
 ghost use Rattle.row_fit.specs.Fits as fits;
+ghost use Rattle.row_meaning.specs.Meaning as meaning;
 ghost use Rattle.plain_spelling.specs.PlainFront as front;
 ghost use Rattle.plain_spelling.specs.PlainTail as tail;
 ghost use Rattle.plain_spelling.specs.Parts.{ArePartsOf};
@@ -24,12 +26,12 @@ use crate::numbers::{distance, is_below_bytes, is_extended_of, is_of_width};
 use crate::parts::{PlainParts, immediate_len};
 use crate::registers::{numbers_asked, register_number};
 use instruction_parts::counting::{is_16, is_64};
-use instruction_parts::kinds::{Method, file_of_kind, fixed_number_of_kind, method_of_kind};
+use instruction_parts::kinds::{File, Method, file_of_kind, fixed_number_of_kind, method_of_kind};
 use instruction_parts::sizes::{has_address_mark, is_lockable};
 use instruction_parts::spelling::PrefixState;
 use row_fit::fits::{is_no_repeat, is_repeat_f3, reads_gather};
 use row_fit::tail_fits::{is_control_number, is_nop_byte, kind_at};
-use row_meaning::meaning::register_of;
+use row_meaning::meaning::{general, register_of};
 use row_types::{Class, OpKind, Plus, Row};
 use x86_values::{Bits, Instr, Mem, Operand, Register};
 
@@ -71,6 +73,30 @@ fn naming_number(method: Method, kind: OpKind, register: Register) -> u8
     }
 }
 
+/// The register of a file with a number, by the operand size under the prefixes, which is known.
+#[inline(always)]
+#[tactic(auto, unfolding(row_meaning::specs::Meaning::register_of, row_meaning::specs::Meaning::general))]
+fn register_at_size(
+    bits: Bits,
+    row: &Row,
+    state: &PrefixState,
+    size: Bits,
+    file: File,
+    n: u8,
+) -> Register
+    requires { size ≡ sizes.state_size bits row.now state.now }
+    ensures { result ≡ meaning.register_of bits row.now state.now file n }
+{
+    match file {
+        File::OperandSize => general(size, n),
+        File::WordOrDword => match size {
+            Bits::B16 => Register::R16(n),
+            _ => Register::R32(n),
+        },
+        _ => register_of(bits, row, state, file, n),
+    }
+}
+
 /// Whether the register is the one that the kind names by this number under the plain prefixes.
 #[tactic(auto, unfolding(crate::specs::Expressible::is_of_kind))]
 fn is_of_kind(
@@ -78,17 +104,19 @@ fn is_of_kind(
     row: &Row,
     instr: &Instr,
     state: &PrefixState,
+    size: Bits,
     kind: OpKind,
     register: Register,
 ) -> bool
     requires state { state.now ≡ front.byte_front bits row.now instr.now }
+    requires size { size ≡ tail.plain_size bits row.now }
     requires number { front.register_number register < 256 }
     ensures { result ≡ spec.is_of_kind bits row.now instr.now kind register }
 {
     let n = naming_number(method_of_kind(kind), kind, register);
     same_register(
         register,
-        register_of(bits, row, state, file_of_kind(kind), n),
+        register_at_size(bits, row, state, size, file_of_kind(kind), n),
     )
 }
 
@@ -124,17 +152,19 @@ fn is_nameable(
     row: &Row,
     instr: &Instr,
     state: &PrefixState,
+    size: Bits,
     n: usize,
     register: Register,
 ) -> bool
     requires place { n < 4 }
     requires state { state.now ≡ front.byte_front bits row.now instr.now }
+    requires size { size ≡ tail.plain_size bits row.now }
     ensures { result ≡ spec.is_nameable bits row.now instr.now n register }
 {
     let kind = kind_at(row, n);
     exists_in_mode(bits, register)
         && register_number(register) < register_count(bits)
-        && is_of_kind(bits, row, instr, state, kind, register)
+        && is_of_kind(bits, row, instr, state, size, kind, register)
         && is_not_nop(row, method_of_kind(kind), register)
         && kind_allows(bits, n, kind, register)
 }
@@ -254,13 +284,21 @@ fn gather_suits(row: &Row, instr: &Instr, n: usize) -> bool
 }
 
 #[tactic(auto, unfolding(crate::specs::Expressible::register_suits))]
-fn register_suits(bits: Bits, row: &Row, instr: &Instr, state: &PrefixState, n: usize) -> bool
+fn register_suits(
+    bits: Bits,
+    row: &Row,
+    instr: &Instr,
+    state: &PrefixState,
+    size: Bits,
+    n: usize,
+) -> bool
     requires place { n < 4 }
     requires state { state.now ≡ front.byte_front bits row.now instr.now }
+    requires size { size ≡ tail.plain_size bits row.now }
     ensures { result ≡ spec.register_suits bits row.now instr.now n }
 {
     (match operand_at(instr, n) {
-        Operand::Reg(register) => is_nameable(bits, row, instr, state, n, register),
+        Operand::Reg(register) => is_nameable(bits, row, instr, state, size, n, register),
         _ => true,
     }) && gather_suits(row, instr, n)
 }
@@ -516,15 +554,22 @@ fn kind_failure(row: &Row, instr: &Instr) -> Option<NoSpelling>
 }
 
 #[tactic(auto, unfolding(crate::specs::Expressible::first_failing))]
-fn register_failure(bits: Bits, row: &Row, instr: &Instr, state: &PrefixState) -> Option<NoSpelling>
-    requires { state.now ≡ front.byte_front bits row.now instr.now }
+fn register_failure(
+    bits: Bits,
+    row: &Row,
+    instr: &Instr,
+    state: &PrefixState,
+    size: Bits,
+) -> Option<NoSpelling>
+    requires state { state.now ≡ front.byte_front bits row.now instr.now }
+    requires size { size ≡ tail.plain_size bits row.now }
     ensures { result ≡ spec.caused_at cause.Register (spec.first_failing (spec.register_suits bits row.now instr.now)) }
 {
     let failing = first_failing(
-        register_suits(bits, row, instr, state, 0),
-        register_suits(bits, row, instr, state, 1),
-        register_suits(bits, row, instr, state, 2),
-        register_suits(bits, row, instr, state, 3),
+        register_suits(bits, row, instr, state, size, 0),
+        register_suits(bits, row, instr, state, size, 1),
+        register_suits(bits, row, instr, state, size, 2),
+        register_suits(bits, row, instr, state, size, 3),
     );
     match failing {
         None => None,
@@ -611,7 +656,7 @@ fn first_failure(bits: Bits, row: &Row, instr: &Instr, parts: &PlainParts) -> Op
         Some(why) => return Some(why),
         None => {}
     }
-    match register_failure(bits, row, instr, &parts.state) {
+    match register_failure(bits, row, instr, &parts.state, parts.size) {
         Some(why) => return Some(why),
         None => {}
     }
@@ -657,7 +702,7 @@ fn present_suits(bits: Bits, row: &Row, instr: &Instr, parts: &PlainParts, n: us
     }
     match operand {
         Operand::Absent => true,
-        Operand::Reg(register) => is_nameable(bits, row, instr, &parts.state, n, register),
+        Operand::Reg(register) => is_nameable(bits, row, instr, &parts.state, parts.size, n, register),
         Operand::Mem(memory) => {
             shape_suits(bits, row, method, file_of_kind(kind), memory)
                 && displacement_suits(written_size(bits, instr.asize, memory), method, memory)

@@ -187,6 +187,7 @@ fn modrm_with(reg: u8, fields: AddressFields) -> ModRm
 }
 
 /// ModRM and SIB of the plain spelling: reg is the digit, or the low three bits of the register (2.1.5, 3.1.1.1).
+#[inline(always)]
 #[tactic(auto, unfolding(crate::specs::PlainTail::plain_modrm, crate::specs::PlainTail::plain_sib_of))]
 pub fn plain_addressing(bits: Bits, row: &Row, instr: &Instr, asked: &Asked) -> Addressing
     requires { AreAskedOf row.now instr.now asked.now }
