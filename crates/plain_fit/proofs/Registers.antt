@@ -1,7 +1,7 @@
 -- The registers that the plain spelling names fit: their numbers in the fields, and what kinds, gathers and the byte 90 ask of them.
 use Rattle.std.proofs.Common.{◌≡◌, inl, inr, ℕ, zero, suc, ◌+◌, ◌%◌, ◌<◌, Bool, true, false, ◌&&◌, ◌||◌, not, ◌==◌, nat_le, nat_lt, refl, ap, sym, ◌∙◌, subst, arith, if◌then◌else◌, Option, Some, None, is_none, is_some, eq-eqb, List, [], ◌∷◌, length}
 use Rattle.std.specs.Prelude.{slice_index_or}
-use Rattle.std.proofs.lemmas.Bool.{leb-true}
+use Rattle.std.proofs.lemmas.Bool.{leb-true, and_from, lt-ltb}
 use Rattle.std.specs.List.{list_all}
 use borrow.Author.Tests.{ltb-true}
 use Rattle.x86_values.specs.declared.Bits.{Bits}
@@ -57,7 +57,7 @@ use Rattle.plain_spelling.proofs.Asked.{adds_register, proper, plus_register, fo
 use Rattle.plain_fit.proofs.Given.{Given}
 use Rattle.plain_fit.proofs.Numbers.{kind_that_passes, Nameable, nameable-at, numbers_suit}
 use Rattle.plain_fit.proofs.FrontBits.{FrontBits, front_bits, count-most}
-use Rattle.plain_fit.proofs.Places.{lt_true, both, or_true, all-from, reads-at, rule_of_reg, modrm_any, address_small, register_in_rm, reads_b_of_rm, MemoryInRm, memory_in_rm}
+use Rattle.plain_fit.proofs.Places.{or_true, all-from, reads-at, rule_of_reg, modrm_any, address_small, register_in_rm, reads_b_of_rm, MemoryInRm, memory_in_rm}
 
 -- ---- numbers in the fields
 
@@ -204,7 +204,7 @@ register_fits-at bits ip row i n g below = go (kind_at row n) refl
         let k = in_reg bits ip row i n g below (reads_of_kind (kind_at row n) Sw e refl) in
         let small = segment_kind bits row i k.register (subst (λ (kind : OpKind). is_of_kind bits row i kind k.register ≡ true) e k.named.kind) in
         let field = k.field in
-        lt_true (reg_field (plain_modrm bits row i)) 6 (omega arith)
+        lt-ltb (reg_field (plain_modrm bits row i)) 6 (omega arith)
 
     control : kind_at row n ≡ Cn → is_control_number bits (reg_number (plain_front_of bits row i) (plain_modrm bits row i)) ≡ true
     control e =
@@ -500,7 +500,7 @@ gather_by : (bits : Bits) (row : Row) (i : Instr) (asize : Bits) (m : Option Mod
     → differ_pairwise (asked number_in_reg row i) (asked number_in_index row i) (asked number_in_vvvv row i) ≡ true → gather_fits bits (plain_front_of bits row i) m sib ≡ true
 unfolding gather_fits
 gather_by bits row i asize m sib size needs reg index vvvv h =
-    both (has_modrm (λ m. needs_sib (state_address_size bits (plain_front_of bits row i)) m) m) _
+    and_from (has_modrm (λ m. needs_sib (state_address_size bits (plain_front_of bits row i)) m) m) _
     (subst (λ (a : Bits). has_modrm (λ m. needs_sib a m) m ≡ true) (sym size) needs)
     (subst (λ (a : ℕ). differ_pairwise a (index_number (plain_front_of bits row i) sib) (vvvv_number bits (plain_front_of bits row i)) ≡ true) (sym reg)
     (subst (λ (b : ℕ). differ_pairwise (asked number_in_reg row i) b (vvvv_number bits (plain_front_of bits row i)) ≡ true) (sym index)
@@ -508,7 +508,7 @@ gather_by bits row i asize m sib size needs reg index vvvv h =
 
 needs_four : (asize : Bits) (m : ModRm) → not (is_16 asize) ≡ true → m.mode3 < 3 → m.rm ≡ 4 → needs_sib asize m ≡ true
 unfolding needs_sib
-needs_four asize m a b c = both (not (is_16 asize)) _ a (both (nat_lt m.mode3 3) _ (lt_true m.mode3 3 b) (eq-eqb m.rm 4 c))
+needs_four asize m a b c = and_from (not (is_16 asize)) _ a (and_from (nat_lt m.mode3 3) _ (lt-ltb m.mode3 3 b) (eq-eqb m.rm 4 c))
 
 index_asked : (bits : Bits) (ip : ℕ) (row : Row) (i : Instr) (sib : Sib) → Given bits ip row i → sib.index ≡ asked number_in_index row i % 8 → index_number (plain_front_of bits row i) (Some sib) ≡ asked number_in_index row i
 unfolding index_number asks_x
@@ -676,7 +676,7 @@ nop_byte_from : (vex one : Bool) (opcode base low : ℕ) → base % 8 ≡ 0 → 
 nop_byte_from vex one opcode base low multiple sum h =
     let rest = and_right (not vex) (one && opcode == 0x90) h in
     let number : opcode ≡ 0x90 = equal_from opcode 0x90 (and_right one (opcode == 0x90) rest) in
-    (both (not vex) _ (and_left (not vex) (one && opcode == 0x90) h) (both one _ (and_left one (opcode == 0x90) rest) (eq-eqb base 0x90 (omega arith))), omega arith)
+    (and_from (not vex) _ (and_left (not vex) (one && opcode == 0x90) h) (and_from one _ (and_left one (opcode == 0x90) rest) (eq-eqb base 0x90 (omega arith))), omega arith)
 
 large_number : (x : ℕ) → x % 8 ≡ 0 → (x == 0) ≡ false → nat_le 8 x ≡ true
 large_number x h k = elim (either (nat_le 8 x)) [
@@ -770,8 +770,8 @@ unfolding registers_fit
 registers_are_fit bits ip row i g =
     let f = plain_front_of bits row i in
     let m = plain_modrm bits row i in
-    both (list_all (register_fits bits f m) row.ops) _ (each_register_fits bits ip row i g)
-    (both (destination_fits row m) _ (destination bits ip row i g)
-    (both (not (reads_by is_gather row) || gather_fits bits f m (plain_sib_of bits row i)) _
+    and_from (list_all (register_fits bits f m) row.ops) _ (each_register_fits bits ip row i g)
+    (and_from (destination_fits row m) _ (destination bits ip row i g)
+    (and_from (not (reads_by is_gather row) || gather_fits bits f m (plain_sib_of bits row i)) _
     (unless (reads_by is_gather row) (gather_fits bits f m (plain_sib_of bits row i)) (gathers_fit bits ip row i g))
     (unless (is_nop_byte row f.opcode) (nop_fits bits row f) (nops_fit bits ip row i g))))

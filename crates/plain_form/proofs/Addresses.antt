@@ -1,5 +1,6 @@
 -- The fields of an address that is read are the plain ones of it exactly where its SIB is needed, and has no scale that is not read.
 use Rattle.std.proofs.Common.{◌≡◌, eq-eqb, inl, inr, ℕ, zero, suc, ◌%◌, ◌^◌, ◌<◌, Bool, true, false, ◌&&◌, ◌||◌, not, ◌==◌, List, length, Option, Some, None, is_some, refl, ap, sym, ◌∙◌, subst, arith, if◌then◌else◌}
+use Rattle.std.proofs.lemmas.Option.{same_Some}
 use Rattle.std.proofs.lemmas.Bool.{lt-ltb}
 use Rattle.x86_values.specs.declared.Bits.{Bits}
 use Rattle.x86_values.specs.declared.Bits.TheVariants.{B16, B32, B64}
@@ -232,16 +233,13 @@ index_four : (b : Bool) (n : ℕ) → extended b n ≡ 4 → n ≡ 4
 index_four true n h = absurd (omega arith)
 index_four false n h = omega arith
 
-some_sib : (a b : Sib) → Some a ≡ Some b → a ≡ b
-some_sib a b h = cc
-
 none_sib : {T : Type 0} → (a : Sib) → None ≡ Some a → T
 none_sib a h = impossible (let k : true ≡ false = cc in k)
 
 back_neither : (bits : Bits) (m : ModRm) (s : Sib) (long : Bool) → (m.mode3 == 0 && s.base == 5) ≡ true → (if long then fields 0 4 (Some (sib_with 0 4 5)) else fields 0 5 None).sib ≡ Some s → is_64 bits ≡ long → (sib_needed bits m s false ≡ true) × (scale_needed s false ≡ true)
 back_neither bits m s false alone h e = none_sib s h
 back_neither bits m s true alone h e =
-    let k : sib_with 0 4 5 ≡ s = some_sib (sib_with 0 4 5) s h in
+    let k : sib_with 0 4 5 ≡ s = same_Some (sib_with 0 4 5) s h in
     let scale : 0 ≡ s.scale = ap (λ (x : Sib). x.scale) k in
     let zero_is : (s.scale == 0) ≡ true = subst (λ (n : ℕ). (n == 0) ≡ true) scale refl in
     (rw (alone, e) (or_true (s.base == 4)), zero_is)
@@ -269,7 +267,7 @@ neither_is bits asize st m s d scale disp size w g alone none =
 back_base : (bits : Bits) (m : ModRm) (s : Sib) (four : Bool) (k : ℕ) → (s.base == 4) ≡ four → (if four then Some (sib_with 0 4 k) else None) ≡ Some s → (sib_needed bits m s false ≡ true) × (scale_needed s false ≡ true)
 back_base bits m s false k e h = none_sib s h
 back_base bits m s true k e h =
-    let z : sib_with 0 4 k ≡ s = some_sib (sib_with 0 4 k) s h in
+    let z : sib_with 0 4 k ≡ s = same_Some (sib_with 0 4 k) s h in
     let scale : 0 ≡ s.scale = ap (λ (x : Sib). x.scale) z in
     (rw e refl, subst (λ (n : ℕ). (n == 0) ≡ true) scale refl)
 

@@ -1,5 +1,6 @@
 -- The constructed front is plain: its prefixes, REX and VEX.
 use Rattle.std.proofs.Common.{◌≡◌, inl, inr, ℕ, ◌+◌, ◌*◌, ◌<◌, Bool, true, false, ◌&&◌, ◌||◌, not, nat_lt, List, Option, Some, None, refl, ap, sym, ◌∙◌, subst, if◌then◌else◌}
+use Rattle.plain_spelling.proofs.AddressCases.{if_yes, if_no}
 use Rattle.std.proofs.lemmas.Bool.{lt-ltb}
 use Rattle.x86_values.specs.declared.Bits.{Bits}
 use Rattle.x86_values.specs.declared.Operand.{Operand}
@@ -131,12 +132,6 @@ vex_w st row i e = rw e refl
 
 legacy_w : (st : PrefixState) → st.vex ≡ None → shared_bit (λ v. v.w) 3 st ≡ rex_bit 3 st.rex
 legacy_w st e = rw e refl
-
-if_yes : (t a b : Bool) → t ≡ true → (if t then a else b) ≡ a
-if_yes t a b h = rw h refl
-
-if_no : (t a b : Bool) → t ≡ false → (if t then a else b) ≡ b
-if_no t a b h = rw h refl
 
 pub w_plain : (bits : Bits) (row : Row) (i : Instr) → only_if (needs_w row) (shared_bit (λ v. v.w) 3 (plain_front_of bits row i)) ≡ true
 w_plain bits row i =

@@ -1,5 +1,6 @@
 -- The registers of a kind are the same under the plain front of an instruction and under the state that was read.
 use Rattle.std.proofs.Common.{◌≡◌, ◌⊎◌, inl, inr, ℕ, zero, suc, ◌+◌, ◌*◌, ◌%◌, ◌<◌, Bool, true, false, ◌&&◌, ◌||◌, not, Option, Some, None, refl, ap, sym, ◌∙◌, arith, if◌then◌else◌}
+use Rattle.std.proofs.lemmas.Bool.{or_parts}
 use Rattle.x86_values.specs.declared.Bits.{Bits}
 use Rattle.x86_values.specs.declared.Bits.TheVariants.{B16, B32, B64}
 use Rattle.x86_values.specs.declared.Instr.{Instr}
@@ -21,7 +22,6 @@ use Rattle.plain_spelling.specs.Writable.{Writable, plain_w, says_size, says_w, 
 use Rattle.plain_spelling.proofs.PlainFrontLaws.{plain_rex_w, plain_state_size}
 use Rattle.plain_spelling.proofs.Sizes.{plain_size_fits, size-told, word_or_dword-told}
 use Rattle.instruction_parts.proofs.Tests.{either, not_true}
-use Rattle.plain_need.proofs.Counts.{or_none}
 use Rattle.plain_need.proofs.Numbers.{number-general, number-vector, number-byte}
 use Rattle.plain_need.proofs.States.{StateIs}
 use Rattle.plain_need.proofs.Front.{size_by}
@@ -109,11 +109,11 @@ plain_qword row h e = rw e (operand_size_w row (asks_rex_w row) (asks_66 B64 row
 
 w_by_size : (bits : Bits) (row : Row) (st : PrefixState) → StateIs bits row st → Writable bits row → says_size row.size ≡ true → (is_vex_row row || (has_caret row || has_bang row)) ≡ false → bit_w bits st ≡ plain_w bits row
 w_by_size B16 row st f w says marks =
-    let m = or_none (is_vex_row row) (has_caret row || has_bang row) marks in state_w_legacy B16 st (f.legacy m.0) ∙ sym (plain_w_legacy B16 row m.0)
+    let m = or_parts (is_vex_row row) (has_caret row || has_bang row) marks in state_w_legacy B16 st (f.legacy m.0) ∙ sym (plain_w_legacy B16 row m.0)
 w_by_size B32 row st f w says marks =
-    let m = or_none (is_vex_row row) (has_caret row || has_bang row) marks in state_w_legacy B32 st (f.legacy m.0) ∙ sym (plain_w_legacy B32 row m.0)
+    let m = or_parts (is_vex_row row) (has_caret row || has_bang row) marks in state_w_legacy B32 st (f.legacy m.0) ∙ sym (plain_w_legacy B32 row m.0)
 w_by_size B64 row st f w says marks =
-    let m = or_none (is_vex_row row) (has_caret row || has_bang row) marks in
+    let m = or_parts (is_vex_row row) (has_caret row || has_bang row) marks in
     let told = ap is_64 (size-told B64 row st f.size w.size says) in
     let same : rex_w st ≡ asks_rex_w row = sym (state_qword row st m.1) ∙ told ∙ plain_qword row m.1 m.0 in
     state_w_legacy B64 st (f.legacy m.0) ∙ same ∙ sym (plain_w_legacy B64 row m.0)

@@ -53,7 +53,7 @@ no_readers p (kind ∷ kinds) h = elim (either (p (method_of kind))) [
   | inr e ↦ (let k : list_any (λ kind. p (method_of kind)) kinds ≡ false = rw e at h in rw e (let n = no_readers p kinds k in omega arith))
 ]
 
-readers_or : (p q : Method → Bool) (kinds : List OpKind) → readers (λ m. p m || q m) kinds ≤ readers p kinds + readers q kinds
+pub readers_or : (p q : Method → Bool) (kinds : List OpKind) → readers (λ m. p m || q m) kinds ≤ readers p kinds + readers q kinds
 readers_or p q [] = omega arith
 readers_or p q (kind ∷ kinds) =
     let rest = readers_or p q kinds in step (p (method_of kind)) (q (method_of kind)) _ _ _ rest

@@ -306,11 +306,11 @@ if_true : (t a b : Bool) → t ≡ true → (if t then a else b) ≡ true → a 
 if_true true a b n h = h
 if_true false a b n h = cc
 
-vex_proper : (row : Row) → kind_is_proper row ≡ true → is_vex_row row ≡ true → vex_is_proper row ≡ true
+pub vex_proper : (row : Row) → kind_is_proper row ≡ true → is_vex_row row ≡ true → vex_is_proper row ≡ true
 unfolding kind_is_proper
 vex_proper row h v = if_true (is_vex_row row) (vex_is_proper row) (legacy_is_proper row) v h
 
-vex_says_w : (row : Row) → vex_is_proper row ≡ true → size_says_w row.size row.w ≡ true
+pub vex_says_w : (row : Row) → vex_is_proper row ≡ true → size_says_w row.size row.w ≡ true
 unfolding vex_is_proper
 vex_says_w row h =
     let h1 = and_right (not (is_no_w row.w)) _ h in

@@ -1,5 +1,6 @@
 -- The registers, LOCK and the repeat prefix of an instruction that a fitting spelling means are those that its row allows.
 use Rattle.std.proofs.Common.{◌≡◌, inl, inr, ℕ, ◌+◌, ◌%◌, ◌<◌, ◌≤◌, Bool, true, false, ◌&&◌, ◌||◌, not, ◌==◌, nat_lt, List, [], ◌∷◌, length, Option, Some, None, is_some, refl, ap, sym, ◌∙◌, subst, arith, if◌then◌else◌}
+use Rattle.std.proofs.lemmas.Bool.{and_from}
 use Rattle.std.specs.List.{list_any, list_all}
 use Rattle.x86_values.specs.declared.Bits.{Bits}
 use Rattle.x86_values.specs.declared.Rep.{Rep}
@@ -44,7 +45,7 @@ use Rattle.plain_need.proofs.Asks.{apart, placed, each_read, differ, silent_reg,
 use Rattle.plain_need.proofs.States.{StateIs, state_is}
 use Rattle.plain_need.proofs.Used.{read, read_is, bits_of, tail_range, kept_of}
 use Rattle.plain_need.proofs.Variants.{tail_is, read_at, some_reader, gather_reads_rm, memory_stands, kinds_suit}
-use Rattle.plain_need.proofs.Naming.{or_true, both}
+use Rattle.plain_need.proofs.Naming.{or_true}
 use Rattle.plain_need.proofs.Registers.{Reading, by_method, opcode_number, opcode_range, nop_b}
 
 -- ---- what an operand of a fitting spelling rests on
@@ -232,8 +233,8 @@ some_of_them : (a b c : Bool) (x y z : ℕ) → (not (x == y) && (not (x == z) &
     && (two_differ (if a then Some x else None) (if c then Some z else None) && two_differ (if b then Some y else None) (if c then Some z else None))) ≡ true
 some_of_them a b c x y z h =
     let rest = and_right (not (x == y)) _ h in
-    both (two_differ (if a then Some x else None) (if b then Some y else None)) _ (two_of_them a b x y (and_left (not (x == y)) _ h))
-    (both (two_differ (if a then Some x else None) (if c then Some z else None)) _ (two_of_them a c x z (and_left (not (x == z)) _ rest))
+    and_from (two_differ (if a then Some x else None) (if b then Some y else None)) _ (two_of_them a b x y (and_left (not (x == y)) _ h))
+    (and_from (two_differ (if a then Some x else None) (if c then Some z else None)) _ (two_of_them a c x z (and_left (not (x == z)) _ rest))
     (two_of_them b c y z (and_right (not (x == z)) _ rest)))
 
 -- some operand passes a test
@@ -275,7 +276,7 @@ unfolding register_suits
 register_at bits ip code row s i g n h =
     let r = reading bits ip code row s i n g h in
     let named = by_method bits row (state_of bits row s) (tail_of bits ip row s) i n (own_of bits row s n) (method_of (kind_at row n)) r refl r.operand in
-    both _ (gather_suits row i n) named (or_last (not (n == 0)) (reads_by is_gather row) (gather_numbers_differ row i) (gathers_differ bits ip code row s i g))
+    and_from _ (gather_suits row i n) named (or_last (not (n == 0)) (reads_by is_gather row) (gather_numbers_differ row i) (gathers_differ bits ip code row s i g))
 
 -- **each register operand can be named in the mode**
 pub registers_suit : (bits : Bits) (ip : ℕ) (code : Code) (row : Row) (s : Spelling) (i : Instr) → Given bits ip code row s i → each_operand (register_suits bits row i) ≡ true
@@ -303,7 +304,7 @@ lock_by row st i m h e w = elim (either i.lock) [
   | inr no1 ↦ rw no1
   | inl yes1 ↦ (
       let k = or_right (not st.lock) _ (ap not (sym e ∙ yes1)) h in
-      rw yes1 (both (is_lockable row) (is_memory (operand_at i 0)) (and_left (is_lockable row) _ k) (w (and_right (is_lockable row) _ k))))
+      rw yes1 (and_from (is_lockable row) (is_memory (operand_at i 0)) (and_left (is_lockable row) _ k) (w (and_right (is_lockable row) _ k))))
 ]
 
 each_first : (p : ℕ → Bool) → each_operand p ≡ true → p 0 ≡ true
@@ -411,7 +412,7 @@ repeat_suited bits ip code row s i g =
 pub prefixes_suited : (bits : Bits) (ip : ℕ) (code : Code) (row : Row) (s : Spelling) (i : Instr) → Given bits ip code row s i → prefixes_suit row i ≡ true
 unfolding prefixes_suit
 prefixes_suited bits ip code row s i g =
-    both (lock_suits row i) (repeat_suits row i) (lock_suited bits ip code row s i g) (repeat_suited bits ip code row s i g)
+    and_from (lock_suits row i) (repeat_suits row i) (lock_suited bits ip code row s i g) (repeat_suited bits ip code row s i g)
 
 -- **the row exists in the mode**
 pub row_stands : (bits : Bits) (ip : ℕ) (code : Code) (row : Row) (s : Spelling) (i : Instr) → Given bits ip code row s i → row_exists bits row ≡ true

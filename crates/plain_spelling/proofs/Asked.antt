@@ -1,7 +1,7 @@
 -- A field of a sound row is asked for by the one operand that is read from it, and so is the displacement.
 use Rattle.std.proofs.Common.{◌≡◌, ◌⊎◌, inl, inr, ℕ, zero, suc, ◌+◌, ◌%◌, ◌<◌, ◌≤◌, Bool, true, false, ◌&&◌, ◌||◌, not, ◌==◌, List, [], ◌∷◌, length, refl, sym, ◌∙◌, arith, if◌then◌else◌, Option, Some, None, is_none}
 use Rattle.std.specs.Prelude.{slice_index_or}
-use Rattle.std.proofs.lemmas.Bool.{leb-true}
+use Rattle.std.proofs.lemmas.Bool.{leb-true, or_parts}
 use Rattle.std.specs.List.{list_any}
 use Rattle.x86_values.specs.declared.Bits.{Bits}
 use Rattle.x86_values.specs.declared.Register.{Register}
@@ -55,14 +55,10 @@ any_by p kinds = list_any (λ kind. p (method_of kind)) kinds
 abbrev AddsNothing : (Method → Bool) → (Method → Operand → ℕ) → List OpKind → List Operand → Type 0
 AddsNothing p f kinds ops = (k : ℕ) → k < length kinds → p (method_at kinds k) ≡ false → f (method_at kinds k) (slice_index_or ops k AbsentOperand) ≡ 0
 
-or_none : (a b : Bool) → (a || b) ≡ false → (a ≡ false) × (b ≡ false)
-or_none true b h = cc
-or_none false b h = (refl, h)
-
 count_of-none : (p : Method → Bool) (kinds : List OpKind) → any_by p kinds ≡ false → count_by p kinds ≡ 0
 count_of-none p [] h = refl
 count_of-none p (kind ∷ kinds) h =
-    let parts = or_none (p (method_of kind)) (any_by p kinds) h in
+    let parts = or_parts (p (method_of kind)) (any_by p kinds) h in
     rw (parts.0) (rw (count_of-none p kinds parts.1) refl)
 
 count_first : (b : Bool) (n : ℕ) → b ≡ true → (if b then 1 else 0) + n ≤ 1 → n ≡ 0
@@ -161,7 +157,7 @@ or_test p q how = p how || q how
 count-or_left : (p q : Method → Bool) (kinds : List OpKind) → any_by q kinds ≡ false → count_by (or_test p q) kinds ≡ count_by p kinds
 count-or_left p q [] h = refl
 count-or_left p q (kind ∷ kinds) h =
-    let parts = or_none (q (method_of kind)) (any_by q kinds) h in
+    let parts = or_parts (q (method_of kind)) (any_by q kinds) h in
     let rest = count-or_left p q kinds parts.1 in
     by_cases (p (method_of kind)) (q (method_of kind)) (count_by (or_test p q) kinds) (count_by p kinds) parts.0 rest
   where
@@ -173,7 +169,7 @@ count-or_left p q (kind ∷ kinds) h =
 count-or_right : (p q : Method → Bool) (kinds : List OpKind) → any_by p kinds ≡ false → count_by (or_test p q) kinds ≡ count_by q kinds
 count-or_right p q [] h = refl
 count-or_right p q (kind ∷ kinds) h =
-    let parts = or_none (p (method_of kind)) (any_by p kinds) h in
+    let parts = or_parts (p (method_of kind)) (any_by p kinds) h in
     let rest = count-or_right p q kinds parts.1 in
     by_cases (p (method_of kind)) (q (method_of kind)) (count_by (or_test p q) kinds) (count_by q kinds) parts.0 rest
   where
@@ -190,8 +186,8 @@ count-or p q kinds (inr none) hp hq = let e = count-or_left p q kinds none in om
 any-or : (p q : Method → Bool) (kinds : List OpKind) → any_by p kinds ≡ false → any_by q kinds ≡ false → any_by (or_test p q) kinds ≡ false
 any-or p q [] hp hq = refl
 any-or p q (kind ∷ kinds) hp hq =
-    let a = or_none (p (method_of kind)) (any_by p kinds) hp in
-    let b = or_none (q (method_of kind)) (any_by q kinds) hq in
+    let a = or_parts (p (method_of kind)) (any_by p kinds) hp in
+    let b = or_parts (q (method_of kind)) (any_by q kinds) hq in
     rw (a.0) (rw (b.0) (any-or p q kinds a.1 b.1))
 
 -- ---- what a sound row says of its operands
@@ -555,6 +551,7 @@ pub asked_displacement : (row : Row) (i : Instr) → Sound row → asked displac
 asked_displacement row i s =
     let a = apart row s in
     displacement_over row.ops i.ops (count-or reads_rm is_offset row.ops (rm_or_offset row s) a.rm a.offset)
+
 count-short : (size : DispSize) → displacement_count size ≤ 8
 unfolding displacement_count
 count-short D0 = omega arith

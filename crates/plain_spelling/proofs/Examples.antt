@@ -1,5 +1,6 @@
 -- Examples of plain spellings and of the first condition that fails, each proved by computing; their values come from outside.
 use Rattle.std.proofs.Common.{◌≡◌, ℕ, Bool, true, false, List, [], ◌∷◌, refl, Option, Some, None}
+use Rattle.plain_spelling.proofs.Fields.{row}
 use Rattle.x86_values.specs.declared.Bits.{Bits}
 use Rattle.x86_values.specs.declared.Bits.TheVariants.{B16, B32, B64}
 use Rattle.x86_values.specs.declared.Segment.{Segment}
@@ -50,23 +51,6 @@ use Rattle.plain_spelling.specs.PlainFront.{register_number, is_low_byte_of_rex,
 use Rattle.plain_spelling.specs.Addresses.{register_count, has_address_size, general_size, pointer_size, shown_size, written_size, form_of, rm_of_one, rm_of_two, rm_of_short, is_address_register, is_base, is_index, scale_suits, is_flat_size, is_flat_shape, is_shape, index_named, is_vector_index, is_gather_base, is_gather_shape, shape_suits, displacement_count, flat_offers, short_offers, form_offers, offers, is_displacement, displacement_suits, mode_of_count, scale_field, base_bits, index_bits, plain_sib, flat_needs_sib, flat_fields, alone_fields, address_fields}
 use Rattle.plain_spelling.specs.PlainTail.{prefixes_of, plain_size, rm_fields, fixed_rm, plain_modrm, plain_sib_of, displacement_of, operand_immediate, immediate_at, plain_immediates, plain_len, plain_next, plain_spelling}
 use Rattle.plain_spelling.specs.Expressible.{kind_suits, exists_in_mode, is_of_kind, is_not_nop, kind_allows, is_nameable, vector_in_reg, vector_in_index, vector_in_vvvv, gather_numbers_differ, register_suits, address_suits, offered, immediate_suits_how, immediate_suits, near_reaches, address_reaches, target_suits, lock_suits, repeat_suits, prefixes_suit, has_memory_operand, told_size, size_agrees, is_size_of, address_size_suits, first_failing, tail_failure, failure}
-
-abbrev pub row : RowKind → Map → Class → ℕ → Plus → ModRmRule → Place → Size → WBit → LBit → ℕ → OpKind → OpKind → OpKind → OpKind → ℕ → Row
-row kind map class opcode plus modrm place size w l modes a b c d marks = record {
-  kind = kind;
-  map = map;
-  class = class;
-  opcode = opcode;
-  plus = plus;
-  modrm = modrm;
-  place = place;
-  size = size;
-  w = w;
-  l = l;
-  modes = record { 0 = modes };
-  ops = a ∷ b ∷ c ∷ d ∷ [];
-  marks = record { 0 = marks };
-}
 
 abbrev pub memory : Option Register → Option Register → ℕ → ℕ → DispSize → Operand
 memory base index scale disp disp_size =

@@ -1,3 +1,4 @@
+pub mod Fields
 mod Examples
 pub mod Values
 pub mod PlainFrontLaws

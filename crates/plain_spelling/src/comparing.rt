@@ -18,6 +18,7 @@ pub fn same_bits(a: Bits, b: Bits) -> bool
     }
 }
 
+/// Whether two segment registers are one.
 fn same_segment(a: Segment, b: Segment) -> bool
     ensures { result ≡ spec.same_segment a b }
 {

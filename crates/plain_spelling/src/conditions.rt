@@ -37,6 +37,7 @@ use x86_values::{Bits, Instr, Mem, Operand, Register};
 
 // ---- 2. each operand has a variant that its kind allows
 
+/// Whether operand n has a variant that its kind allows.
 #[tactic(auto, unfolding(crate::specs::Expressible::kind_suits))]
 fn kind_suits(row: &Row, instr: &Instr, n: usize) -> bool
     requires { n < 4 }
@@ -169,6 +170,7 @@ fn is_nameable(
         && kind_allows(bits, n, kind, register)
 }
 
+/// Whether a register is XMM or YMM.
 fn is_vector_register(register: Register) -> bool
     ensures { result ≡ spec.is_vector_register register }
 {
@@ -214,6 +216,7 @@ fn vector_in_vvvv(method: Method, operand: Operand) -> bool
     }
 }
 
+/// A number, where its register is a vector register.
 fn number_if(is_vector: bool, number: u16) -> Option<u16>
     ensures { result ≡ (if is_vector then Some number else None) }
 {
@@ -276,6 +279,7 @@ fn gather_numbers_differ(row: &Row, instr: &Instr) -> bool
     differ(destination, index) && differ(destination, mask) && differ(index, mask)
 }
 
+/// The rule on a gather's numbers, which counts with operand 0.
 #[inline(always)]
 fn gather_suits(row: &Row, instr: &Instr, n: usize) -> bool
     ensures { result ≡ spec.gather_suits row.now instr.now n }
@@ -283,6 +287,7 @@ fn gather_suits(row: &Row, instr: &Instr, n: usize) -> bool
     !(n == 0) || !reads_gather(row) || gather_numbers_differ(row, instr)
 }
 
+/// Whether operand n, where it is a register, is one that its kind can name.
 #[tactic(auto, unfolding(crate::specs::Expressible::register_suits))]
 fn register_suits(
     bits: Bits,
@@ -305,6 +310,7 @@ fn register_suits(
 
 // ---- 4. base, index and scale of each memory operand are a shape
 
+/// Whether operand n, where it is memory, has a base, index and scale that can be written.
 #[tactic(auto, unfolding(crate::specs::Expressible::address_suits))]
 fn address_suits(bits: Bits, row: &Row, instr: &Instr, n: usize) -> bool
     requires { n < 4 }
@@ -321,6 +327,7 @@ fn address_suits(bits: Bits, row: &Row, instr: &Instr, n: usize) -> bool
 
 // ---- 5. the shape offers the displacement
 
+/// Whether operand n, where it is memory, has a displacement that its shape offers.
 #[tactic(auto, unfolding(crate::specs::Expressible::offered))]
 fn offered(bits: Bits, row: &Row, instr: &Instr, n: usize) -> bool
     requires { n < 4 }
@@ -358,6 +365,7 @@ fn immediate_suits_how(size: Bits, method: Method, n: u8, operand: Operand) -> b
     }
 }
 
+/// Whether operand n, where it is an immediate, is a value of its written size.
 #[tactic(auto, unfolding(crate::specs::Expressible::immediate_suits))]
 fn immediate_suits(bits: Bits, row: &Row, instr: &Instr, size: Bits, n: usize) -> bool
     requires place { n < 4 }
@@ -398,6 +406,7 @@ fn address_reaches(next: u64, memory: Mem) -> bool
     }
 }
 
+/// Whether operand n, where it has a target, reaches it.
 #[tactic(auto, unfolding(crate::specs::Expressible::target_suits))]
 fn target_suits(bits: Bits, row: &Row, instr: &Instr, parts: &PlainParts, n: usize) -> bool
     requires place { n < 4 }
@@ -416,6 +425,7 @@ fn target_suits(bits: Bits, row: &Row, instr: &Instr, parts: &PlainParts, n: usi
 
 // ---- 8. LOCK and the repeat prefix are allowed
 
+/// LOCK stands on lockable rows with a memory operand first.
 #[tactic(auto, unfolding(crate::specs::Expressible::lock_suits))]
 fn lock_suits(row: &Row, instr: &Instr) -> bool
     ensures { result ≡ spec.lock_suits row.now instr.now }
@@ -423,6 +433,7 @@ fn lock_suits(row: &Row, instr: &Instr) -> bool
     !instr.lock || (is_lockable(row) && is_memory(operand_at(instr, 0)))
 }
 
+/// Whether the row adds a register to the opcode byte and the byte is 90.
 fn is_exchange_of_90(row: &Row, opcode: u8) -> bool
     ensures { result ≡ ((elim row.now.plus [ PlusRegister ↦ true | _ ↦ false ]) && fits.is_nop_byte row.now opcode) }
 {
@@ -445,6 +456,7 @@ fn repeat_suits(row: &Row, instr: &Instr, opcode: u8) -> bool
     }
 }
 
+/// LOCK and the repeat prefix are allowed.
 #[tactic(auto, unfolding(crate::specs::Expressible::prefixes_suit))]
 fn prefixes_suit(row: &Row, instr: &Instr, opcode: u8) -> bool
     requires { opcode ≡ front.asked_opcode row.now instr.now }
@@ -531,12 +543,14 @@ fn first_failing(first: bool, second: bool, third: bool, fourth: bool) -> Option
     }
 }
 
+/// A cause, where a condition does not hold.
 fn caused_unless(holds: bool, why: NoSpelling) -> Option<NoSpelling>
     ensures { result ≡ spec.caused_unless holds why }
 {
     if holds { None } else { Some(why) }
 }
 
+/// The first operand that fails condition 2, as its cause.
 #[tactic(auto, unfolding(crate::specs::Expressible::first_failing))]
 fn kind_failure(row: &Row, instr: &Instr) -> Option<NoSpelling>
     ensures { result ≡ spec.caused_at cause.OperandKind (spec.first_failing (spec.kind_suits row.now instr.now)) }
@@ -553,6 +567,7 @@ fn kind_failure(row: &Row, instr: &Instr) -> Option<NoSpelling>
     }
 }
 
+/// The same of condition 3.
 #[tactic(auto, unfolding(crate::specs::Expressible::first_failing))]
 fn register_failure(
     bits: Bits,
@@ -577,6 +592,7 @@ fn register_failure(
     }
 }
 
+/// The same of condition 4, whose cause names no operand.
 fn memory_failure(bits: Bits, row: &Row, instr: &Instr) -> Option<NoSpelling>
     ensures { result ≡ spec.caused_unless (spec.each_operand (spec.address_suits bits row.now instr.now)) cause.Memory }
 {
@@ -587,6 +603,7 @@ fn memory_failure(bits: Bits, row: &Row, instr: &Instr) -> Option<NoSpelling>
     caused_unless(all, NoSpelling::Memory)
 }
 
+/// The same of condition 5.
 fn displacement_failure(bits: Bits, row: &Row, instr: &Instr) -> Option<NoSpelling>
     ensures { result ≡ spec.caused_unless (spec.each_operand (spec.offered bits row.now instr.now)) cause.Displacement }
 {
@@ -597,6 +614,7 @@ fn displacement_failure(bits: Bits, row: &Row, instr: &Instr) -> Option<NoSpelli
     caused_unless(all, NoSpelling::Displacement)
 }
 
+/// The same of condition 6, with the operand.
 #[tactic(auto, unfolding(crate::specs::Expressible::first_failing))]
 fn immediate_failure(bits: Bits, row: &Row, instr: &Instr, size: Bits) -> Option<NoSpelling>
     requires { size ≡ tail.plain_size bits row.now }
@@ -614,6 +632,7 @@ fn immediate_failure(bits: Bits, row: &Row, instr: &Instr, size: Bits) -> Option
     }
 }
 
+/// The same of condition 7.
 fn target_failure(bits: Bits, row: &Row, instr: &Instr, parts: &PlainParts) -> Option<NoSpelling>
     requires { ArePartsOf bits row.now instr.now parts.now }
     ensures { result ≡ spec.caused_unless (spec.each_operand (spec.target_suits bits parts.now.ip row.now instr.now)) cause.Target }
@@ -625,16 +644,16 @@ fn target_failure(bits: Bits, row: &Row, instr: &Instr, parts: &PlainParts) -> O
     caused_unless(all, NoSpelling::Target)
 }
 
+/// Condition 8, as its cause.
 #[tactic(auto, unfolding(crate::specs::PlainFront::byte_front, crate::specs::PlainFront::plain_front_of))]
 fn prefix_failure(bits: Bits, row: &Row, instr: &Instr, state: &PrefixState) -> Option<NoSpelling>
     requires { state.now ≡ front.byte_front bits row.now instr.now }
     ensures { result ≡ spec.caused_unless (spec.prefixes_suit row.now instr.now) cause.Prefix }
 {
-    // The state that is given is that of a mode, which the proof names by this value.
-    let _bits = bits;
     caused_unless(prefixes_suit(row, instr, state.opcode), NoSpelling::Prefix)
 }
 
+/// Condition 9, as its cause.
 fn address_size_failure(bits: Bits, row: &Row, instr: &Instr) -> Option<NoSpelling>
     ensures { result ≡ spec.caused_unless (spec.address_size_suits bits row.now instr.now) cause.AddressSize }
 {
@@ -702,7 +721,15 @@ fn present_suits(bits: Bits, row: &Row, instr: &Instr, parts: &PlainParts, n: us
     }
     match operand {
         Operand::Absent => true,
-        Operand::Reg(register) => is_nameable(bits, row, instr, &parts.state, parts.size, n, register),
+        Operand::Reg(register) => is_nameable(
+            bits,
+            row,
+            instr,
+            &parts.state,
+            parts.size,
+            n,
+            register,
+        ),
         Operand::Mem(memory) => {
             shape_suits(bits, row, method, file_of_kind(kind), memory)
                 && displacement_suits(written_size(bits, instr.asize, memory), method, memory)

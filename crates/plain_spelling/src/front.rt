@@ -18,6 +18,7 @@ use row_fit::fits::same_map;
 use row_types::{Class, LBit, Map, Plus, Row, Size, WBit};
 use x86_values::{Bits, Instr, Rep};
 
+/// A flag as a bit.
 fn bit(flag: bool) -> u8
     ensures value { result ≡ bytes.bit flag }
     ensures small { result < 2 }
@@ -166,6 +167,7 @@ fn asked_opcode(row: &Row, instr: &Instr, asked: &Asked) -> u8
     }
 }
 
+/// How many bytes a repeat prefix has.
 fn count_repeat(rep: Rep) -> u8
     ensures value { result ≡ spec.count_repeat rep }
     ensures small { result < 2 }

@@ -42,6 +42,7 @@ fn top_of_width(size: Bits) -> u128
     }
 }
 
+/// The number of bits of a size.
 fn bits_of(size: Bits) -> u8
     ensures value { result ≡ width size }
     ensures small { result ≤ 64 }

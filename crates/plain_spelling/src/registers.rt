@@ -12,6 +12,7 @@ use instruction_parts::kinds::{Method, method_of_kind};
 use row_types::{OpKind, Row};
 use x86_values::{Instr, Mem, Operand, Register, Segment};
 
+/// The number that the encoding gives a segment register (3.1.1.1).
 fn segment_number(segment: Segment) -> u8
     ensures value { result ≡ spec.segment_number segment }
     ensures small { result < 6 }
@@ -51,6 +52,7 @@ pub fn register_number(register: Register) -> u16
     }
 }
 
+/// The number of a register, 0 where there is none.
 #[inline]
 fn number_or_zero(register: Option<Register>) -> u16
     ensures value { result ≡ spec.number_or_zero register }
@@ -182,6 +184,7 @@ pub fn numbers_asked(row: &Row, instr: &Instr) -> Asked
     with_operand(k0, operand_at(instr, 0), second)
 }
 
+/// Whether an operand is SPL, BPL, SIL or DIL.
 #[tactic(auto, unfolding(crate::specs::PlainFront::is_low_byte_of_rex))]
 fn is_low_byte_of_rex(operand: Operand) -> bool
     ensures { result ≡ spec.is_low_byte_of_rex operand }

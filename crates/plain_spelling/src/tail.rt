@@ -37,6 +37,7 @@ pub struct Addressing {
     pub sib: Option<Sib>,
 }
 
+/// Whether an operand that is read so is read from r/m.
 fn reads_rm(method: Method) -> bool
     ensures { result ≡ sound_rule.reads_rm method }
 {
@@ -50,6 +51,7 @@ fn reads_rm(method: Method) -> bool
     }
 }
 
+/// Whether an operand that is read so may have a displacement: one in r/m, or one at an absolute address.
 fn reads_rm_or_offset(method: Method) -> bool
     ensures { result ≡ (sound_rule.reads_rm method || fits.is_offset method) }
 {
@@ -104,6 +106,7 @@ pub fn address_operand(row: &Row, instr: &Instr) -> Operand
     }
 }
 
+/// The field mod where no operand is read from r/m: 3 on rows that are limited to a register (2.1.5).
 fn lone_mode(place: Place) -> u8
     ensures { result ≡ spec.lone_mode place }
 {
@@ -176,6 +179,7 @@ fn fixed_rm(row: &Row, instr: &Instr, asked: &Asked, b: u8) -> u8
     }
 }
 
+/// The ModRM of a field reg, and of mod and rm as the operand in r/m has them.
 fn modrm_with(reg: u8, fields: AddressFields) -> ModRm
     ensures { result ≡ spec.modrm_with reg fields }
 {
