@@ -110,7 +110,7 @@ fn shown_size(memory: Mem) -> Option<Bits>
 }
 
 /// The address size that an address shows by a general register, RIP or EIP.
-#[inline(never)]
+#[inline(always)]
 #[tactic(auto, unfolding(crate::specs::Expressible::told_size))]
 pub fn told_size(memory: Mem) -> Option<Bits>
     ensures { result ≡ told_size memory }

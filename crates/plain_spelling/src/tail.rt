@@ -336,7 +336,7 @@ fn append_last_byte<const N: usize>(bytes: &mut ArrayVec<u8, N>, operand: Operan
 }
 
 /// Appends the bytes of an operand that is read so and has n bytes behind the instruction.
-#[inline(never)]
+#[inline(always)]
 #[tactic(auto, unfolding(crate::specs::PlainTail::operand_immediate))]
 fn append_immediate<const N: usize>(
     bytes: &mut ArrayVec<u8, N>,
