@@ -9,7 +9,7 @@ use Rattle.instruction_parts.specs.Sizes.{is_vex_row, operand_size, address_size
 use Rattle.instruction_parts.specs.Bytes.{bit}
 use Rattle.row_fit.specs.Fits.{size_fits, vvvv_number}
 use Rattle.instruction_parts.proofs.Tests.{either, and_right, not_true, or_right}
-use Rattle.plain_spelling.specs.Comparing.{same_bits}
+use Rattle.x86_values.specs.Comparing.{same_bits}
 use Rattle.plain_spelling.specs.PlainFront.{number_in_reg, number_in_rm, number_in_index, number_in_vvvv, asked, asks_r, asks_x, asks_b, asks_low_byte, asks_rex_w, asks_66, asks_67, asked_rex, plain_front_of}
 use Rattle.plain_spelling.specs.Addresses.{register_count, has_address_size}
 use Rattle.plain_spelling.specs.PlainTail.{plain_size}

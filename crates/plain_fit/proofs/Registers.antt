@@ -50,8 +50,8 @@ use Rattle.plain_spelling.specs.Addresses.{register_count, general_size, has_add
 use Rattle.plain_spelling.specs.PlainTail.{modrm_with, plain_modrm, plain_sib_of}
 use Rattle.plain_spelling.specs.Expressible.{each_operand, kind_suits, naming_number, is_of_kind, is_not_nop, kind_allows, is_nameable, is_vector_register, vector_in_reg, vector_in_index, vector_in_vvvv, passes, differ as two_differ, gather_numbers_differ, gather_suits, register_suits, address_suits, is_exchange_of_90, repeat_suits, prefixes_suit, lock_suits, has_memory_operand, size_agrees, is_size_of, address_size_suits}
 use Rattle.plain_spelling.specs.Writable.{nop_is_bare, is_vector_file, names_vectors, gather_is_whole}
-use Rattle.plain_spelling.specs.Comparing.{same_register}
-use Rattle.plain_spelling.proofs.Compared.{same_register-is}
+use Rattle.x86_values.specs.Comparing.{same_register}
+use Rattle.x86_values.proofs.Compared.{same_register-is}
 use Rattle.plain_spelling.proofs.AddressForms.{vectors_named}
 use Rattle.plain_spelling.proofs.Asked.{adds_register, proper, plus_register, four_kinds, each-at, asked_reg-at, asked_rm-at, asked_rm-none, asked_index-at, asked_opcode-at, index_in_rm, reads_b}
 use Rattle.plain_fit.proofs.Given.{Given}

@@ -23,7 +23,7 @@ use Rattle.instruction_parts.specs.Bytes.{lead_bytes, vex_bytes}
 use Rattle.row_fit.specs.Fits.{size_fits, legacy_class_fits, is_repeat_f2, is_repeat_f3, is_no_repeat, same_map, vex_in_range, w_fits, takes_w_as_size, is_map_one}
 use Rattle.row_fit.specs.Sound.{Sound, kind_is_proper, vex_is_proper, legacy_is_proper, size_says_w, is_no_w, is_no_l, is_class_of_vex, is_size_of_vex}
 use Rattle.row_meaning.specs.Meaning.{kept_repeat, kept_address_size}
-use Rattle.plain_spelling.specs.Comparing.{same_bits}
+use Rattle.x86_values.specs.Comparing.{same_bits}
 use Rattle.plain_spelling.specs.PlainFront.{asks_r, asks_x, asks_b, asks_rex_w, asks_vex_w, asks_66, asks_67, asked_repeat, asked_rex, asked_vex, count_repeat}
 use Rattle.instruction_parts.proofs.Tests.{either, and_left, and_right, not_true, or_right}
 use Rattle.plain_need.proofs.Asks.{AskedBits, differ}

@@ -26,12 +26,12 @@ use Rattle.instruction_parts.specs.Sizes.{is_vex_row, state_size, bit_r, bit_b, 
 use Rattle.row_fit.specs.Fits.{extended, kind_at, vvvv_number, is_vex_of_mode, vex_in_range, are_bytes}
 use Rattle.row_meaning.specs.Meaning.{general, byte_register, vector, word_or_dword, size_by_w, native_size, register_of, last_byte_number}
 use Rattle.plain_spelling.specs.Forms.{operand_at}
-use Rattle.plain_spelling.specs.Comparing.{same_register}
+use Rattle.x86_values.specs.Comparing.{same_register}
 use Rattle.plain_spelling.specs.PlainFront.{register_number, number_in_reg, number_in_rm, asked, asks_r, asks_x, asks_b, asks_rex_w, asks_low_byte, is_low_byte_of_rex, asked_rex, plain_front_of}
 use Rattle.plain_spelling.specs.Addresses.{register_count}
 use Rattle.plain_spelling.specs.Expressible.{exists_in_mode, naming_number, is_of_kind, is_not_nop, kind_allows, is_nameable}
 use Rattle.plain_spelling.specs.Writable.{Writable}
-use Rattle.plain_spelling.proofs.Compared.{same_register-refl}
+use Rattle.x86_values.proofs.Compared.{same_register-refl}
 use Rattle.plain_spelling.proofs.Sizes.{file-at-told}
 use Rattle.instruction_parts.proofs.Tests.{either, and_left, not_true, or_right}
 use Rattle.plain_need.proofs.Walking.{asked_part, low_byte_part}

@@ -46,7 +46,7 @@ use Rattle.row_fit.specs.Fits.{fits, reads_mode, reg_number, rm_number, vvvv_num
 use Rattle.row_meaning.specs.Meaning.{meaning, little_endian, sign_extended, segment_numbered, general, byte_register, vector, register_of, disp_size_of, base_16, index_16, memory_16, memory_alone, sib_base, sib_index, memory_with_sib, memory_at_base, memory_flat, memory_of, memory_absolute, gather_memory, last_byte_number, near_target, far_pointer, memory_operand, operand_by, immediates_before, own_immediate, operand_at, kept_repeat, has_memory, kept_address_size, instr_of}
 use Rattle.plain_spelling.specs.Values.{low_bytes, is_extended_of, distance}
 use Rattle.plain_spelling.specs.Forms.{is_allowed_in, is_variant_of}
-use Rattle.plain_spelling.specs.Comparing.{same_register}
+use Rattle.x86_values.specs.Comparing.{same_register}
 use Rattle.plain_spelling.specs.PlainFront.{register_number, is_low_byte_of_rex, number_in_reg, number_in_rm, number_in_index, number_in_vvvv, number_in_opcode, asks_r, asks_x, asks_b, asks_rex_w, asks_vex_w, asks_66, asks_67, asked_repeat, asked_rex, class_pp, asked_vex, asked_opcode, asked_used, plain_front_of}
 use Rattle.plain_spelling.specs.Addresses.{register_count, has_address_size, general_size, pointer_size, shown_size, written_size, form_of, rm_of_one, rm_of_two, rm_of_short, is_address_register, is_base, is_index, scale_suits, is_flat_size, is_flat_shape, is_shape, index_named, is_vector_index, is_gather_base, is_gather_shape, shape_suits, displacement_count, flat_offers, short_offers, form_offers, offers, is_displacement, displacement_suits, mode_of_count, scale_field, base_bits, index_bits, plain_sib, flat_needs_sib, flat_fields, alone_fields, address_fields}
 use Rattle.plain_spelling.specs.PlainTail.{prefixes_of, plain_size, rm_fields, fixed_rm, plain_modrm, plain_sib_of, displacement_of, operand_immediate, immediate_at, plain_immediates, plain_len, plain_next, plain_spelling}

@@ -8,7 +8,6 @@ pub mod AddressCases
 pub mod AddressForms
 pub mod Asked
 pub mod ImmediateBytes
-pub mod Compared
 pub mod FrontRange
 pub mod ImmediateRoom
 pub mod Failures

@@ -6,7 +6,6 @@ ghost use Rattle.row_meaning.specs.Meaning as meaning;
 ghost use Rattle.plain_spelling.specs.Addresses as spec;
 ghost use Rattle.plain_spelling.specs.Expressible.{told_size};
 
-use crate::comparing::{same_bits, same_register};
 use crate::forms::is_scale;
 use crate::numbers::{is_extended_of, is_of_width};
 use crate::registers::register_number;
@@ -15,7 +14,7 @@ use instruction_parts::kinds::{File, Method};
 use instruction_parts::sizes::size_bytes;
 use instruction_parts::spelling::Sib;
 use row_types::{LBit, Row};
-use x86_values::{Bits, DispSize, Mem, Register};
+use x86_values::{Bits, DispSize, Mem, Register, same_bits, same_register};
 
 /// The ways to write an address by ModRM.
 #[derive(Clone, Copy, PartialEq, Eq, Debug)]

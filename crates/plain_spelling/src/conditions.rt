@@ -20,7 +20,6 @@ use crate::addresses::{
     AddressForm, displacement_suits, form_of, has_address_size, register_count, shape_suits,
     told_size, written_size,
 };
-use crate::comparing::{same_bits, same_register};
 use crate::forms::{is_memory, is_variant_of, operand_at};
 use crate::numbers::{distance, is_below_bytes, is_extended_of, is_of_width};
 use crate::parts::{PlainParts, immediate_len};
@@ -33,7 +32,7 @@ use row_fit::fits::{is_no_repeat, is_repeat_f3, reads_gather};
 use row_fit::tail_fits::{is_control_number, is_nop_byte, kind_at};
 use row_meaning::meaning::{general, register_of};
 use row_types::{Class, OpKind, Plus, Row};
-use x86_values::{Bits, Instr, Mem, Operand, Register};
+use x86_values::{Bits, Instr, Mem, Operand, Register, same_bits, same_register};
 
 // ---- 2. each operand has a variant that its kind allows
 

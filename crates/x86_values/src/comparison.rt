@@ -1,17 +1,32 @@
 //! When two instructions are the same: a comparison of each type, which is equality.
 
 ghost use Rattle.std.specs.Prelude.{◌≡◌, ◌↔◌, IsTrue};
+ghost use Rattle.x86_values.specs.Comparing as spec;
 
 use crate::{Bits, DispSize, Instr, Mem, Operand, Register, Rep, Segment};
 
+/// Whether two segment registers are one.
 fn same_segment(a: Segment, b: Segment) -> bool
-    ensures { IsTrue result ↔ (a ≡ b) }
+    ensures value { result ≡ spec.same_segment a b }
+    ensures equal { IsTrue result ↔ (a ≡ b) }
 {
-    a == b
+    match (a, b) {
+        (Segment::Es, Segment::Es) => true,
+        (Segment::Cs, Segment::Cs) => true,
+        (Segment::Ss, Segment::Ss) => true,
+        (Segment::Ds, Segment::Ds) => true,
+        (Segment::Fs, Segment::Fs) => true,
+        (Segment::Gs, Segment::Gs) => true,
+        _ => false,
+    }
 }
 
-fn same_register(a: Register, b: Register) -> bool
-    ensures { IsTrue result ↔ (a ≡ b) }
+/// Whether two registers are one.
+#[inline(always)]
+#[tactic(auto, unfolding(crate::specs::Comparing::same_register))]
+pub fn same_register(a: Register, b: Register) -> bool
+    ensures value { result ≡ spec.same_register a b }
+    ensures equal { IsTrue result ↔ (a ≡ b) }
 {
     match (a, b) {
         (Register::Low8(n), Register::Low8(m)) => n == m,
@@ -105,10 +120,18 @@ fn same_segment_option(a: Option<Segment>, b: Option<Segment>) -> bool
     }
 }
 
-fn same_bits(a: Bits, b: Bits) -> bool
-    ensures { IsTrue result ↔ (a ≡ b) }
+/// Whether two sizes are one.
+#[inline]
+pub fn same_bits(a: Bits, b: Bits) -> bool
+    ensures value { result ≡ spec.same_bits a b }
+    ensures equal { IsTrue result ↔ (a ≡ b) }
 {
-    a == b
+    match (a, b) {
+        (Bits::B16, Bits::B16) => true,
+        (Bits::B32, Bits::B32) => true,
+        (Bits::B64, Bits::B64) => true,
+        _ => false,
+    }
 }
 
 fn same_bits_option(a: Option<Bits>, b: Option<Bits>) -> bool
