@@ -1,5 +1,6 @@
 -- What the prefix bytes of a plain front count for: exactly what the front says.
 use Rattle.std.proofs.Common.{◌≡◌, ℕ, zero, suc, ◌+◌, ◌-◌, ◌/◌, ◌<◌, ◌≤◌, Bool, true, false, ◌&&◌, ◌||◌, ◌==◌, nat_lt, List, [], ◌∷◌, ◌++◌, length, Option, Some, None, is_some, reverse, refl, ap, ◌∙◌, arith, cond, append_assoc, length-append}
+use Rattle.std.proofs.Math.Bool.{or-true}
 use Rattle.std.specs.Prelude.{find, slice_index}
 use Rattle.std.specs.List.{list_any, list_all}
 use Rattle.std.specs.Option.{option_or}
@@ -312,16 +313,12 @@ passes_prefix bits = record { es = refl; cs = refl; ss = refl; ds = refl; fs = r
 passes_byte : PassesLegacy (λ b. nat_lt b 256)
 passes_byte = record { es = refl; cs = refl; ss = refl; ds = refl; fs = refl; gs = refl; size = refl; address = refl; lock = refl; f2 = refl; f3 = refl }
 
-or_true : (b : Bool) → (b || true) ≡ true
-or_true true = refl
-or_true false = refl
-
 rex_is_prefix : (bits : Bits) (rex : Option ℕ) → IsRexIf bits rex → list_all (is_prefix bits) (rex_prefix rex) ≡ true
 unfolding is_prefix
 rex_is_prefix bits None r = refl
 rex_is_prefix bits (Some b) r =
     let e : (is_64 bits && is_rex b) ≡ true = rw r.0 (is_rex-from b r.1) in
-    let p : is_prefix bits b ≡ true = ap (λ x. is_legacy_prefix b || x) e ∙ or_true (is_legacy_prefix b) in
+    let p : is_prefix bits b ≡ true = ap (λ x. is_legacy_prefix b || x) e ∙ or-true (is_legacy_prefix b) in
     rw p refl
 
 rex_is_byte : (bits : Bits) (rex : Option ℕ) → IsRexIf bits rex → are_bytes (rex_prefix rex) ≡ true

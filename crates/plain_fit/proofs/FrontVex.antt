@@ -1,5 +1,6 @@
 -- The opcode byte of a plain front is one of the row's, and its VEX, or the want of one, is what the row asks for.
 use Rattle.std.proofs.Common.{◌≡◌, inl, inr, ℕ, zero, suc, ◌+◌, ◌%◌, ◌<◌, Bool, true, false, ◌&&◌, ◌||◌, not, ◌==◌, nat_le, nat_lt, List, [], ◌∷◌, length, get_or, Option, Some, None, eq-eqb, refl, ap, ◌∙◌, subst, arith, if◌then◌else◌}
+use Rattle.std.proofs.Math.Bool.{or-true}
 use Rattle.std.specs.List.{list_any, list_all}
 use Rattle.std.proofs.lemmas.Bool.{lt-ltb, le-leb, and_from}
 use Rattle.std.proofs.lemmas.List.Folds.{list_all_at}
@@ -237,10 +238,6 @@ of_mode_by : (three : Bool) (x y : Bool) → x ≡ true → y ≡ true → (if t
 of_mode_by true x y hx hy = hx
 of_mode_by false x y hx hy = hy
 
-or_true : (b : Bool) → (b || true) ≡ true
-or_true true = refl
-or_true false = refl
-
 vex_of_mode : (bits : Bits) (row : Row) (i : Instr) → NumbersSuit bits row i → is_vex_of_mode bits (vex_for row i) ≡ true
 unfolding is_vex_of_mode
 vex_of_mode bits row i n = elim (either (is_64 bits)) [
@@ -250,7 +247,7 @@ vex_of_mode bits row i n = elim (either (is_64 bits)) [
       (ap (λ b. is_64 bits || b)
       (of_mode_by (not (same_map row.map M0f) || (asks_x row i || (asks_b row i || asks_vex_w row))) (not (asks_x row i)) (nat_lt (asked number_in_vvvv row i) 8)
       (ap not (no_x bits row i short n)) (lt-ltb (asked number_in_vvvv row i) 8 (asked-small bits (asked number_in_vvvv row i) short n.vvvv)))
-      ∙ or_true (is_64 bits))
+      ∙ or-true (is_64 bits))
 ]
 
 -- nothing before a VEX forbids it

@@ -1,7 +1,7 @@
 -- The registers that the plain spelling names fit: their numbers in the fields, and what kinds, gathers and the byte 90 ask of them.
 use Rattle.std.proofs.Common.{◌≡◌, inl, inr, ℕ, zero, suc, ◌+◌, ◌%◌, ◌<◌, Bool, true, false, ◌&&◌, ◌||◌, not, ◌==◌, nat_le, nat_lt, refl, ap, sym, ◌∙◌, subst, arith, if◌then◌else◌, Option, Some, None, is_none, is_some, eq-eqb, List, [], ◌∷◌, length}
 use Rattle.std.specs.Prelude.{slice_index_or}
-use Rattle.std.proofs.lemmas.Bool.{leb-true, and_from, lt-ltb}
+use Rattle.std.proofs.lemmas.Bool.{leb-true, and_from, lt-ltb, or_left, lt-leb}
 use Rattle.std.specs.List.{list_all}
 use borrow.Author.Tests.{ltb-true}
 use Rattle.x86_values.specs.declared.Bits.{Bits}
@@ -192,9 +192,6 @@ in_reg bits ip row i n g below reads =
 reads_of_kind : (kind of : OpKind) → kind ≡ of → reads_reg (method_of of) ≡ true → reads_reg (method_of kind) ≡ true
 reads_of_kind kind of e h = rw e h
 
-not_le : (x : ℕ) → x < 8 → nat_le 8 x ≡ false
-not_le x h = grind (arith, h)
-
 register_fits-at : (bits : Bits) (ip : ℕ) (row : Row) (i : Instr) (n : ℕ) → Given bits ip row i → n < 4 → register_fits bits (plain_front_of bits row i) (plain_modrm bits row i) (kind_at row n) ≡ true
 unfolding register_fits method_of kind_allows
 register_fits-at bits ip row i n g below = go (kind_at row n) refl
@@ -215,7 +212,7 @@ register_fits-at bits ip row i n g below = go (kind_at row n) refl
     debug e =
         let k = in_reg bits ip row i n g below (reads_of_kind (kind_at row n) Dn e refl) in
         let small = ltb-true (register_number k.register) 8 (subst (λ (kind : OpKind). kind_allows bits n kind k.register ≡ true) e k.named.allowed) in
-        ap not ((says bits ip row i g).r ∙ k.asks ∙ not_le (register_number k.register) small)
+        ap not ((says bits ip row i g).r ∙ k.asks ∙ lt-leb 8 (register_number k.register) small)
 
     go : (kind : OpKind) → kind_at row n ≡ kind → register_fits bits (plain_front_of bits row i) (plain_modrm bits row i) kind ≡ true
     go Sw e = segment e
@@ -313,15 +310,11 @@ gather_fields bits row file asize m h =
       index = plain_sib_index m ∙ index_field m.index index;
     }
 
-or_first : (a b : Bool) → a ≡ true → (a || b) ≡ true
-or_first true b h = refl
-or_first false b h = cc
-
 -- a test that one of the four operands passes
 among : (p : ℕ → Bool) (n : ℕ) → n < 4 → p n ≡ true → (p 0 || (p 1 || (p 2 || p 3))) ≡ true
-among p zero below h = or_first (p 0) (p 1 || (p 2 || p 3)) h
-among p (suc zero) below h = or_true (p 0) _ (or_first (p 1) (p 2 || p 3) h)
-among p (suc (suc zero)) below h = or_true (p 0) _ (or_true (p 1) _ (or_first (p 2) (p 3) h))
+among p zero below h = or_left (p 0) (p 1 || (p 2 || p 3)) h
+among p (suc zero) below h = or_true (p 0) _ (or_left (p 1) (p 2 || p 3) h)
+among p (suc (suc zero)) below h = or_true (p 0) _ (or_true (p 1) _ (or_left (p 2) (p 3) h))
 among p (suc (suc (suc zero))) below h = or_true (p 0) _ (or_true (p 1) _ (or_true (p 2) (p 3) h))
 among p (suc (suc (suc (suc n)))) below h = absurd (omega arith)
 
@@ -570,7 +563,7 @@ reg_vector bits ip row i g w =
     let below : k.0 < 4 = omega arith in
     let how = method_of (kind_at row k.0) in
     let r = register_in_reg row i k.0 g.suits.kinds below k.2 in
-    passes-at vector_in_reg row i k.0 (Reg r.0) below r.1 (reg_passes how r.0 k.2 (vector-at bits ip row i k.0 r.0 g w below r.1 (or_first (reads_reg how) _ k.2)))
+    passes-at vector_in_reg row i k.0 (Reg r.0) below r.1 (reg_passes how r.0 k.2 (vector-at bits ip row i k.0 r.0 g w below r.1 (or_left (reads_reg how) _ k.2)))
 
 -- the mask
 vvvv_vector : (bits : Bits) (ip : ℕ) (row : Row) (i : Instr) → Given bits ip row i → Whole row → some_passes vector_in_vvvv row i ≡ true

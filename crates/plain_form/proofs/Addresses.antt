@@ -1,7 +1,7 @@
 -- The fields of an address that is read are the plain ones of it exactly where its SIB is needed, and has no scale that is not read.
 use Rattle.std.proofs.Common.{◌≡◌, eq-eqb, inl, inr, ℕ, zero, suc, ◌%◌, ◌^◌, ◌<◌, Bool, true, false, ◌&&◌, ◌||◌, not, ◌==◌, List, length, Option, Some, None, is_some, refl, ap, sym, ◌∙◌, subst, arith, if◌then◌else◌}
 use Rattle.std.proofs.lemmas.Option.{same_Some}
-use Rattle.std.proofs.lemmas.Bool.{lt-ltb}
+use Rattle.std.proofs.lemmas.Bool.{lt-ltb, not_from_false, not_from_true}
 use Rattle.x86_values.specs.declared.Bits.{Bits}
 use Rattle.x86_values.specs.declared.Bits.TheVariants.{B16, B32, B64}
 use Rattle.x86_values.specs.declared.Register.{Register}
@@ -297,14 +297,6 @@ base_is bits asize st m s d scale disp w g beside none =
 
 -- ---- an address by a general index
 
-not_true_is : (b : Bool) → b ≡ false → not b ≡ true
-not_true_is true h = impossible h
-not_true_is false h = refl
-
-not_false_is : (b : Bool) → b ≡ true → not b ≡ false
-not_false_is true h = refl
-not_false_is false h = impossible (sym h)
-
 eq_test : (n k : ℕ) → n ≡ k → (n == k) ≡ true
 eq_test n k h = subst (λ (x : ℕ). (n == x) ≡ true) h (same n)
   where
@@ -323,24 +315,24 @@ sib_is bits asize st m s d w g =
           (let base = sib_base-none bits asize st m s alone in
           elim (either (j == 4)) [
             | inl none ↦
-                subst (λ (b : Bool). SibIs bits asize m s b (memory_with_sib bits asize st (sib_index asize st s) m s d)) (sym (not_false_is (j == 4) none))
+                subst (λ (b : Bool). SibIs bits asize m s b (memory_with_sib bits asize st (sib_index asize st s) m s d)) (sym (not_from_true (j == 4) none))
                 (same_sib_is bits asize m s false _ _ (with_parts bits asize st (sib_index asize st s) None None m s d base (sib_index-none asize st s (equal_from j 4 none)))
                 (neither_is bits asize st m s d 1 _ _ w g alone (equal_from j 4 none)))
             | inr other ↦
                 same_sib_is bits asize m s (names_index st s) _ _ (with_parts bits asize st (sib_index asize st s) None (Some (general asize j)) m s d base (sib_index-some asize st s other))
-                (with_index bits asize m s (names_index st s) _ (not_true_is (j == 4) other) (index_is bits asize st m s d (general asize j) _ _ w g alone (index_low asize (bit_x st) s.index small.index)))
+                (with_index bits asize m s (names_index st s) _ (not_from_false (j == 4) other) (index_is bits asize st m s d (general asize j) _ _ w g alone (index_low asize (bit_x st) s.index small.index)))
           ])
       | inr beside ↦
           (let base = sib_base-some bits asize st m s beside in
           let k = extended (bit_b bits st) s.base in
           elim (either (j == 4)) [
             | inl none ↦
-                subst (λ (b : Bool). SibIs bits asize m s b (memory_with_sib bits asize st (sib_index asize st s) m s d)) (sym (not_false_is (j == 4) none))
+                subst (λ (b : Bool). SibIs bits asize m s b (memory_with_sib bits asize st (sib_index asize st s) m s d)) (sym (not_from_true (j == 4) none))
                 (same_sib_is bits asize m s false _ _ (with_parts bits asize st (sib_index asize st s) (Some (general asize k)) None m s d base (sib_index-none asize st s (equal_from j 4 none)))
                 (base_is bits asize st m s d 1 _ w g beside (equal_from j 4 none)))
             | inr other ↦
                 same_sib_is bits asize m s (names_index st s) _ _ (with_parts bits asize st (sib_index asize st s) (Some (general asize k)) (Some (general asize j)) m s d base (sib_index-some asize st s other))
-                (with_index bits asize m s (names_index st s) _ (not_true_is (j == 4) other) (sum_is bits asize st m s d (general asize j) 0 _ w g beside (index_low asize (bit_x st) s.index small.index)))
+                (with_index bits asize m s (names_index st s) _ (not_from_false (j == 4) other) (sum_is bits asize st m s d (general asize j) 0 _ w g beside (index_low asize (bit_x st) s.index small.index)))
           ])
     ]
 

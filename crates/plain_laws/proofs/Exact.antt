@@ -1,6 +1,6 @@
 -- Where the ten conditions hold there is a plain spelling, and nowhere else; no other spelling is shorter.
 use Rattle.std.proofs.Common.{◌≡◌, ℕ, ◌≤◌, ◌<◌, ◌^◌, Bool, true, false, ◌&&◌, ◌||◌, not, List, [], ◌∷◌, length, Option, Some, None, refl, ap, sym, ◌∙◌, subst, arith, slice_get, nat_le}
-use Rattle.std.proofs.lemmas.Bool.{le-leb}
+use Rattle.std.proofs.lemmas.Bool.{le-leb, leb-true}
 use Rattle.x86_values.specs.declared.Bits.{Bits}
 use Rattle.x86_values.specs.declared.Bits.TheVariants.{B16, B32, B64}
 use Rattle.x86_values.specs.declared.Code.{Code}
@@ -85,9 +85,6 @@ writable_row bits row h e =
 
 -- ---- from the conditions to the spelling
 
-le_true : (a b : ℕ) → nat_le a b ≡ true → a ≤ b
-le_true a b h = grind (arith, h)
-
 pub given_fit : (table : List Row) (bits : Bits) (ip : ℕ) (row : Row) (i : Instr) → IsWritable table → slice_get table i.code.0 ≡ Some row → length i.ops ≡ 4 → Suits bits ip row i → fit.Given bits ip row i
 given_fit table bits ip row i w at four a = record {
   is_sound = sound_conditions row (w.is_sound i.code.0 row at);
@@ -110,7 +107,7 @@ plain_from table bits ip row i w at four h =
       fitting = plain_fits bits ip row i g;
       plain = plain_is bits ip row i g;
       means = plain_means bits ip row i g;
-      is_short = rw n (le_true (plain_len bits row i) 15 a.1);
+      is_short = rw n (leb-true (plain_len bits row i) 15 a.1);
     }
 
 -- ---- from a spelling to the conditions

@@ -1,5 +1,6 @@
 -- Each prefix that the plain front of an instruction needs stands in the spelling that was read, and its VEX is no shorter.
 use Rattle.std.proofs.Common.{◌≡◌, ◌⊎◌, inl, inr, ℕ, ◌≤◌, Bool, true, false, ◌&&◌, ◌||◌, not, nat_lt, [], ◌∷◌, length, Option, Some, None, is_some, refl, ap, sym, subst, arith, if◌then◌else◌}
+use Rattle.std.proofs.lemmas.Bool.{or_cases}
 use Rattle.x86_values.specs.declared.Bits.{Bits}
 use Rattle.x86_values.specs.declared.Bits.TheVariants.{B16, B32, B64}
 use Rattle.x86_values.specs.declared.Rep.{Rep}
@@ -150,10 +151,6 @@ w_needs bits true bang w size66 b O64 a h = cc
 w_needs bits false true w size66 b O64 a h = cc
 w_needs bits caret bang w size66 b SizeW1 a h = inr h
 w_needs bits caret bang w size66 b _ a h = cc
-
-or_cases : (a b : Bool) → (a || b) ≡ true → (a ≡ true) ⊎ (b ≡ true)
-or_cases true b h = inl refl
-or_cases false b h = inr h
 
 if_some : {T : Type 0} → (test : Bool) (x : T) → is_some (if test then Some x else None) ≡ true → test ≡ true
 if_some true x h = refl

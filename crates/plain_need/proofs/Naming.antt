@@ -1,5 +1,6 @@
 -- What a register operand of a fitting spelling is: its number is one of the mode, and the plain front names it again.
 use Rattle.std.proofs.Common.{◌≡◌, inl, inr, ℕ, ◌-◌, ◌/◌, ◌%◌, ◌<◌, ◌≤◌, Bool, true, false, ◌&&◌, ◌||◌, not, nat_le, nat_lt, List, [], ◌∷◌, length, Option, Some, None, is_some, refl, ap, sym, ◌∙◌, subst, arith, if◌then◌else◌, slice_index}
+use Rattle.std.proofs.Math.Bool.{or-true}
 use Rattle.std.proofs.lemmas.Bool.{ltb-false, leb-false, and_from, lt-ltb, le-leb, or_parts}
 use borrow.Author.Tests.{ltb-true}
 use Rattle.x86_values.specs.declared.Bits.{Bits}
@@ -133,13 +134,9 @@ unfolding exists_in_mode
 byte_in_mode bits n true e = rw e
 byte_in_mode bits n false e = refl
 
-pub or_true : (a : Bool) → (a || true) ≡ true
-or_true true = refl
-or_true false = refl
-
 exists_byte : (bits : Bits) (rex : Option ℕ) (n : ℕ) → (is_64 bits ≡ false → rex ≡ None) → exists_in_mode bits (byte_register rex n) ≡ true
 unfolding exists_in_mode byte_register
-exists_byte B64 (Some rex) n h = or_true (nat_lt n 4)
+exists_byte B64 (Some rex) n h = or-true (nat_lt n 4)
 exists_byte B16 (Some rex) n h = let e = h refl in cc
 exists_byte B32 (Some rex) n h = let e = h refl in cc
 exists_byte bits None n h = byte_in_mode bits n (nat_lt n 4) refl
@@ -198,16 +195,13 @@ no_rex_asked row i l h =
     let h4 = or_parts (asks_b row i) _ h3.1 in
     record { r = h2.0; b = h4.0; low = h4.1 }
 
-not_eight : (n : ℕ) → nat_le 8 n ≡ false → n < 8
-not_eight n h = let k : n < 8 = leb-false 8 n h in k
-
 asked_reg_small : (row : Row) (i : Instr) → asks_r row i ≡ false → asked number_in_reg row i < 8
 unfolding asks_r
-asked_reg_small row i h = not_eight _ h
+asked_reg_small row i h = leb-false 8 _ h
 
 asked_rm_small : (row : Row) (i : Instr) → asks_b row i ≡ false → asked number_in_rm row i < 8
 unfolding asks_b
-asked_rm_small row i h = not_eight _ h
+asked_rm_small row i h = leb-false 8 _ h
 
 low_in_range : (n : ℕ) → 4 ≤ n → n < 8 → is_low_byte_of_rex (Reg (Low8 n)) ≡ true
 unfolding is_low_byte_of_rex

@@ -1,6 +1,7 @@
 -- The registers, LOCK and the repeat prefix of an instruction that a fitting spelling means are those that its row allows.
 use Rattle.std.proofs.Common.{◌≡◌, inl, inr, ℕ, ◌+◌, ◌%◌, ◌<◌, ◌≤◌, Bool, true, false, ◌&&◌, ◌||◌, not, ◌==◌, nat_lt, List, [], ◌∷◌, length, Option, Some, None, is_some, refl, ap, sym, ◌∙◌, subst, arith, if◌then◌else◌}
-use Rattle.std.proofs.lemmas.Bool.{and_from}
+use Rattle.std.proofs.Math.Bool.{or-true}
+use Rattle.std.proofs.lemmas.Bool.{and_from, or_left}
 use Rattle.std.specs.List.{list_any, list_all}
 use Rattle.x86_values.specs.declared.Bits.{Bits}
 use Rattle.x86_values.specs.declared.Rep.{Rep}
@@ -45,7 +46,6 @@ use Rattle.plain_need.proofs.Asks.{apart, placed, each_read, differ, silent_reg,
 use Rattle.plain_need.proofs.States.{StateIs, state_is}
 use Rattle.plain_need.proofs.Used.{read, read_is, bits_of, tail_range, kept_of}
 use Rattle.plain_need.proofs.Variants.{tail_is, read_at, some_reader, gather_reads_rm, memory_stands, kinds_suit}
-use Rattle.plain_need.proofs.Naming.{or_true}
 use Rattle.plain_need.proofs.Registers.{Reading, by_method, opcode_number, opcode_range, nop_b}
 
 -- ---- what an operand of a fitting spelling rests on
@@ -124,7 +124,7 @@ no_more [] h = refl
 no_more (kind ∷ kinds) h =
     let none = readers_none reads_rm kind kinds h in
     let rest = no_more kinds (readers_left reads_rm kind kinds h) in
-    rw (none, or_true (is_gather (method_of kind))) rest
+    rw (none, or-true (is_gather (method_of kind))) rest
 
 readers_le : (p q : Method → Bool) → ((how : Method) → p how ≡ true → q how ≡ true) → (kinds : List OpKind) → readers p kinds ≤ readers q kinds
 readers_le p q w [] = omega arith
@@ -144,10 +144,6 @@ only_gather (kind ∷ kinds) g n = elim (either (is_gather (method_of kind))) [
         | inl f ↦ absurd (let z = readers_yes reads_rm kind kinds f n in let k = some_reader is_gather kinds more in let l = readers_le is_gather reads_rm gather_reads_rm kinds in omega arith)
       ])
 ]
-
-or_first : (a b : Bool) → a ≡ true → (a || b) ≡ true
-or_first true b h = refl
-or_first false b h = cc
 
 or_more : (a b : Bool) → b ≡ true → (a || b) ≡ true
 or_more true b h = refl
@@ -181,7 +177,7 @@ asked_reg bits code row st t imm sound w =
     asked_is v reads_reg number_in_reg row.ops _ w.reg (apart row sound.apart).reg
     (hold_all names_vectors (Gives v reads_reg number_in_reg) row.ops _ w.vectors
     (each_read (λ kind op. names_vectors kind ≡ true → Gives v reads_reg number_in_reg kind op) bits code row st t imm sound.four_operands
-    (λ kind own k. (λ h. given_reg bits row st t kind (method_of kind) own (vectors_named kind k (or_first (reads_reg (method_of kind)) _ h)) h, silent_reg _ (method_of kind)))))
+    (λ kind own k. (λ h. given_reg bits row st t kind (method_of kind) own (vectors_named kind k (or_left (reads_reg (method_of kind)) _ h)) h, silent_reg _ (method_of kind)))))
 
 asked_vvvv : (bits : Bits) (code : Code) (row : Row) (st : PrefixState) (t : Tail) (imm : List ℕ) → Sound row → Whole row → asked number_in_vvvv row (instr_of bits code row st t imm) ≡ vvvv_number bits st
 asked_vvvv bits code row st t imm sound w =
@@ -201,7 +197,7 @@ any_weaker p q w (kind ∷ kinds) h = elim (either (p (method_of kind))) [
   | inl e ↦ rw (w (method_of kind) e)
   | inr e ↦ (
       let more : list_any (λ kind. p (method_of kind)) kinds ≡ true = rw e at h in
-      rw (any_weaker p q w kinds more) (or_true (q (method_of kind))))
+      rw (any_weaker p q w kinds more) (or-true (q (method_of kind))))
 ]
 
 asked_index : (bits : Bits) (code : Code) (row : Row) (st : PrefixState) (t : Tail) (imm : List ℕ) → Sound row → Whole row → reads_by is_gather row ≡ true → is_some t.modrm ≡ true → is_some t.sib ≡ true → asked number_in_index row (instr_of bits code row st t imm) ≡ index_number st t.sib
@@ -214,7 +210,7 @@ asked_index bits code row st t imm sound w gather m s =
     (each_read (λ kind op. gather_or_not kind ≡ true → names_vectors kind ≡ true → Gives v reads_rm number_in_index kind op) bits code row st t imm sound.four_operands
     (λ kind own g k. (
       λ h. given_index bits row st t kind (method_of kind) own m s
-          (vectors_named kind k (or_more (reads_reg (method_of kind)) _ (or_first (reads_rm (method_of kind)) _ h))) g h,
+          (vectors_named kind k (or_more (reads_reg (method_of kind)) _ (or_left (reads_rm (method_of kind)) _ h))) g h,
       silent_index bits row st t kind (method_of kind) own,
     )))))
 

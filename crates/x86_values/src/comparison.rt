@@ -47,6 +47,7 @@ pub fn same_register(a: Register, b: Register) -> bool
     }
 }
 
+/// Whether two registers, each of which may be absent, are one or both absent.
 fn same_register_option(a: Option<Register>, b: Option<Register>) -> bool
     ensures { IsTrue result ↔ (a ≡ b) }
 {
@@ -57,12 +58,14 @@ fn same_register_option(a: Option<Register>, b: Option<Register>) -> bool
     }
 }
 
+/// Whether two sizes of a displacement are one.
 fn same_disp_size(a: DispSize, b: DispSize) -> bool
     ensures { IsTrue result ↔ (a ≡ b) }
 {
     a == b
 }
 
+/// Whether two memory operands are the same: all their fields are equal.
 fn same_mem(a: Mem, b: Mem) -> bool
     ensures { IsTrue result ↔ (a ≡ b) }
 {
@@ -73,6 +76,7 @@ fn same_mem(a: Mem, b: Mem) -> bool
         && same_disp_size(a.disp_size, b.disp_size)
 }
 
+/// Whether two operands are the same.
 fn same_operand(a: Operand, b: Operand) -> bool
     ensures { IsTrue result ↔ (a ≡ b) }
 {
@@ -96,6 +100,7 @@ fn same_operand(a: Operand, b: Operand) -> bool
     }
 }
 
+/// Whether the operands are the same, one by one.
 fn same_operands(a: &[Operand; 4], b: &[Operand; 4]) -> bool
     ensures { IsTrue result ↔ (a.now ≡ b.now) }
 {
@@ -104,12 +109,14 @@ fn same_operands(a: &[Operand; 4], b: &[Operand; 4]) -> bool
     same_operand(a0, b0) && same_operand(a1, b1) && same_operand(a2, b2) && same_operand(a3, b3)
 }
 
+/// Whether two repeat prefixes are one.
 fn same_rep(a: Rep, b: Rep) -> bool
     ensures { IsTrue result ↔ (a ≡ b) }
 {
     a == b
 }
 
+/// Whether two segment registers, each of which may be absent, are one or both absent.
 fn same_segment_option(a: Option<Segment>, b: Option<Segment>) -> bool
     ensures { IsTrue result ↔ (a ≡ b) }
 {
@@ -134,6 +141,7 @@ pub fn same_bits(a: Bits, b: Bits) -> bool
     }
 }
 
+/// Whether two sizes, each of which may be absent, are one or both absent.
 fn same_bits_option(a: Option<Bits>, b: Option<Bits>) -> bool
     ensures { IsTrue result ↔ (a ≡ b) }
 {
