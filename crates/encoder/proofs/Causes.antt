@@ -1,5 +1,6 @@
 -- What an encoding is, by the conditions in turn.
 use Rattle.std.proofs.Common.{◌≡◌, ℕ, ◌≤◌, ◌<◌, true, false, List, length, Option, Some, None, Result, Ok, Err, refl, sym, ◌∙◌, subst, arith, nat_le, slice_get, IsErr, IfOk, ◌++◌}
+use Rattle.std.proofs.lemmas.Bool.{le-leb, lt-leb}
 use Rattle.x86_values.specs.declared.Bits.{Bits}
 use Rattle.x86_values.specs.declared.Instr.{Instr}
 use Rattle.x86_values.specs.Wrapping.{wrapped}
@@ -39,19 +40,13 @@ pub tail_fails : (bits : Bits) (ip : ℕ) (row : Row) (i : Instr) (why : NoSpell
 unfolding failure
 tail_fails bits ip row i why there h = rw (there, h) refl
 
-le_false : (a b : ℕ) → b < a → nat_le a b ≡ false
-le_false a b h = grind (arith, h)
-
-le_true : (a b : ℕ) → a ≤ b → nat_le a b ≡ true
-le_true a b h = grind (arith, h)
-
 pub length_fails : (bits : Bits) (ip : ℕ) (row : Row) (i : Instr) → exists_in bits row ≡ true → tail_failure bits ip row i ≡ None → 15 < plain_len bits row i → failure bits ip row i ≡ Some cause.Length
 unfolding failure
-length_fails bits ip row i there h long = rw (there, h, le_false (plain_len bits row i) 15 long) refl
+length_fails bits ip row i there h long = rw (there, h, lt-leb (plain_len bits row i) 15 long) refl
 
 pub nothing_fails : (bits : Bits) (ip : ℕ) (row : Row) (i : Instr) → exists_in bits row ≡ true → tail_failure bits ip row i ≡ None → plain_len bits row i ≤ 15 → failure bits ip row i ≡ None
 unfolding failure
-nothing_fails bits ip row i there h short = rw (there, h, le_true (plain_len bits row i) 15 short) refl
+nothing_fails bits ip row i there h short = rw (there, h, le-leb (plain_len bits row i) 15 short) refl
 
 -- ---- what an answer says
 

@@ -21,7 +21,7 @@ use Rattle.plain_spelling.specs.declared.addresses.AddressForm.TheVariants.{Rela
 use Rattle.plain_spelling.specs.Addresses.{form_of, rm_of_short, has_address_size, is_base, is_index, scale_suits, is_flat_size, is_flat_shape, is_shape, is_gather_base, is_vector_index, is_gather_shape, shape_suits, displacement_count, offers, is_displacement, displacement_suits, shown_size, written_size}
 use Rattle.plain_spelling.specs.Forms.{is_scale}
 use Rattle.plain_spelling.specs.Expressible.{size_agrees}
-use Rattle.plain_spelling.proofs.Compared.{same_bits-is}
+use Rattle.x86_values.proofs.Compared.{same_bits-is}
 use Rattle.plain_spelling.proofs.AddressCases.{impossible, form-alone-index, form-short, agrees, written_is}
 use Rattle.plain_spelling.proofs.AddressForms.{shape_is, value_at}
 use Rattle.plain_fit.proofs.AddressShapes.{shape_shown}

@@ -21,7 +21,7 @@ use Rattle.instruction_parts.specs.Sizes.{has_address_mark}
 use Rattle.instruction_parts.proofs.Tests.{and_left, and_right}
 use Rattle.row_fit.specs.Fits.{kind_at}
 use Rattle.opcode_rows.specs.Table.{table}
-use Rattle.plain_spelling.specs.Comparing.{same_bits}
+use Rattle.x86_values.specs.Comparing.{same_bits}
 use Rattle.plain_spelling.specs.Forms.{is_variant_of, is_allowed_in, is_memory, operand_at}
 use Rattle.plain_spelling.specs.Addresses.{has_address_size, displacement_suits, shown_size, written_size}
 use Rattle.plain_spelling.specs.Expressible.{offered, told_size, size_agrees, has_memory_operand, is_size_of, address_size_suits}

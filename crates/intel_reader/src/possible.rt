@@ -5,7 +5,7 @@ ghost use Rattle.x86_values.specs.declared.Bits.TheVariants.{B64};
 ghost use Rattle.x86_values.specs.declared.DispSize.TheVariants.{D0};
 ghost use Rattle.instruction_parts.specs.Kinds.{file_of};
 ghost use Rattle.row_fit.specs.Fits as kinds;
-ghost use Rattle.plain_spelling.specs.Comparing as comparing;
+ghost use Rattle.x86_values.specs.Comparing as comparing;
 ghost use Rattle.plain_spelling.specs.Forms.{is_variant_of};
 ghost use Rattle.intel_reader.specs.Candidate as candidates;
 ghost use Rattle.intel_reader.specs.Possible as spec;

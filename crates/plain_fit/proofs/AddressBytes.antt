@@ -1,5 +1,6 @@
 -- The bytes of a displacement give it back, and the address size that an instruction with a memory operand has.
 use Rattle.std.proofs.Common.{◌≡◌, ℕ, ◌^◌, ◌<◌, ◌≤◌, Bool, true, false, ◌&&◌, ◌||◌, not, List, length, Option, Some, None, refl, sym, ◌∙◌, subst, arith}
+use Rattle.std.proofs.lemmas.Bool.{or_left}
 use borrow.Author.Tests.{ltb-true}
 use Rattle.x86_values.specs.declared.Bits.{Bits}
 use Rattle.x86_values.specs.declared.DispSize.{DispSize}
@@ -35,10 +36,6 @@ pub record SizeIs (bits : Bits) (row : Row) (i : Instr) (a : Bits) : Type 0 wher
   pub has : has_address_size bits a ≡ true
   pub size : (n : ℕ) → n < 4 → size_agrees a (operand_at i n) ≡ true
   pub gather : reads_by is_gather row ≡ true → is_16 a ≡ false
-
-or_left : (a b : Bool) → a ≡ true → (a || b) ≡ true
-or_left true b h = refl
-or_left false b h = cc
 
 not_both : (a b : Bool) → not (a && b) ≡ true → b ≡ true → a ≡ false
 not_both true b h e = (let k = not_true b h in cc)

@@ -1,6 +1,6 @@
 -- The plain fields of an address mean the address.
 use Rattle.std.proofs.Common.{◌≡◌, ℕ, ◌%◌, ◌^◌, ◌<◌, Bool, true, false, ◌&&◌, ◌||◌, not, ◌==◌, nat_le, nat_lt, List, length, Option, Some, None, is_some, refl, ap, sym, ◌∙◌, subst, arith, if◌then◌else◌}
-use Rattle.std.proofs.lemmas.Bool.{lt-ltb}
+use Rattle.std.proofs.lemmas.Bool.{lt-ltb, and_from}
 use Rattle.x86_values.specs.declared.Bits.{Bits}
 use Rattle.x86_values.specs.declared.Bits.TheVariants.{B16, B32, B64}
 use Rattle.x86_values.specs.declared.Register.{Register}
@@ -21,7 +21,7 @@ use Rattle.plain_spelling.specs.PlainFront.{register_number, number_or_zero}
 use Rattle.plain_spelling.specs.declared.addresses.AddressFields.{AddressFields}
 use Rattle.plain_spelling.specs.Addresses.{is_address_register, is_base, is_index, scale_suits, displacement_count, flat_offers, short_offers, rm_of_one, rm_of_two, rm_of_short, mode_of_count, scale_field, base_bits, index_bits, plain_sib, flat_needs_sib, flat_fields, alone_fields}
 use Rattle.plain_spelling.specs.PlainTail.{modrm_with}
-use Rattle.plain_spelling.proofs.AddressCases.{address, same_address, impossible, both, size_from_count, memory_16-register, flat-register, sib_base-none, sib_base-some, sib_index-none, sib_index-some, address_register, count_small, extended_number}
+use Rattle.plain_spelling.proofs.AddressCases.{address, same_address, impossible, size_from_count, memory_16-register, flat-register, sib_base-none, sib_base-some, sib_index-none, sib_index-some, address_register, count_small, extended_number}
 
 -- fields of an address
 abbrev pub fields : ℕ → ℕ → Option Sib → AddressFields
@@ -243,7 +243,7 @@ low_index (Some r) = (let n = register_number r in omega arith)
 pub sib_for-range : (base index : Option Register) (scale : ℕ) → sib_in_range (Some (sib_for base index scale)) ≡ true
 unfolding sib_in_range
 sib_for-range base index scale =
-    both _ _ (by_index index) (both _ _ (lt-ltb (index_bits index) 8 (low_index index)) (lt-ltb (base_bits base) 8 (low_bits base)))
+    and_from _ _ (by_index index) (and_from _ _ (lt-ltb (index_bits index) 8 (low_index index)) (lt-ltb (base_bits base) 8 (low_bits base)))
   where
     by_index : (index : Option Register) → nat_lt (elim index [ None ↦ 0 | Some _ ↦ scale_field scale ]) 4 ≡ true
     by_index None = refl

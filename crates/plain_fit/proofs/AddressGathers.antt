@@ -18,14 +18,14 @@ use Rattle.row_fit.specs.Fits.{needs_sib, displacement_bytes, sib_in_range, inde
 use Rattle.row_meaning.specs.Meaning.{displacement, register_of, memory_absolute, gather_memory, memory_with_sib}
 use Rattle.plain_spelling.specs.Forms.{is_scale}
 use Rattle.plain_spelling.specs.PlainFront.{register_number, number_or_zero}
-use Rattle.plain_spelling.specs.Comparing.{same_register}
+use Rattle.x86_values.specs.Comparing.{same_register}
 use Rattle.plain_spelling.specs.declared.addresses.AddressForm.TheVariants.{Alone, Flat}
 use Rattle.plain_spelling.specs.declared.addresses.AddressFields.{AddressFields}
 use Rattle.plain_spelling.specs.Addresses.{form_of, general_size_if, register_count, has_address_size, general_size, is_address_register, is_base, scale_suits, is_flat_size, index_named, is_vector_index, is_gather_base, is_gather_shape, shown_size, displacement_count, flat_offers, flat_needs_sib, flat_fields, plain_sib, index_bits, address_fields}
 use Rattle.plain_spelling.specs.PlainTail.{modrm_with}
 use Rattle.plain_spelling.specs.Expressible.{size_agrees}
-use Rattle.plain_spelling.proofs.Compared.{same_bits-is}
-use Rattle.plain_spelling.proofs.Compared.{same_register-is}
+use Rattle.x86_values.proofs.Compared.{same_bits-is}
+use Rattle.x86_values.proofs.Compared.{same_register-is}
 use Rattle.plain_spelling.proofs.AddressCases.{address, same_address, impossible, size_from_count, extended_number, count_small, agrees}
 use Rattle.plain_spelling.proofs.AddressForms.{IsVectorFile}
 use Rattle.plain_fit.proofs.AddressFields.{FlatGiven, fields_with_sib, sib_for, sib_back, sib_asked, sib_for-range}

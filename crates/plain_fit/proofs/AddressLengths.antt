@@ -1,6 +1,6 @@
 -- SIB and displacement of a plain spelling are as long as its ModRM asks for.
 use Rattle.std.proofs.Common.{◌≡◌, ◌⊎◌, inl, inr, ℕ, ◌%◌, ◌<◌, Bool, true, false, not, ◌==◌, length, Option, Some, None, is_some, refl, ap, sym, ◌∙◌, subst, arith, if◌then◌else◌}
-use Rattle.std.proofs.lemmas.Bool.{eq-eqb}
+use Rattle.std.proofs.lemmas.Bool.{eq-eqb, and_from}
 use Rattle.x86_values.specs.declared.Bits.{Bits}
 use Rattle.x86_values.specs.declared.Bits.TheVariants.{B16, B32, B64}
 use Rattle.x86_values.specs.declared.Mem.{Mem}
@@ -30,7 +30,7 @@ use Rattle.plain_spelling.specs.Addresses.{displacement_count, address_fields}
 use Rattle.plain_spelling.specs.PlainTail.{modrm_with, no_address, lone_mode, rm_fields, fields_of, plain_modrm, plain_sib_of, operand_displacement, rm_operand, address_operand}
 use Rattle.plain_spelling.specs.Expressible.{kind_suits}
 use Rattle.plain_spelling.proofs.Asked.{each-at, four_kinds, proper, one_rm, rm_operand-at, rm_operand-none, address_operand-at, address_operand-none, reads_address}
-use Rattle.plain_spelling.proofs.AddressCases.{impossible, both, if_yes, if_no}
+use Rattle.plain_spelling.proofs.AddressCases.{impossible, if_yes, if_no}
 use Rattle.plain_fit.proofs.Given.{Given}
 use Rattle.plain_fit.proofs.Numbers.{kind_that_passes}
 use Rattle.plain_fit.proofs.Places.{memory_in_rm, register_in_rm, modrm_none, modrm_any, modrm_digit, modrm_fixed, fixed_mode_is, fixed_modrm}
@@ -74,7 +74,7 @@ same_bool-refl false false e = refl
 address_from : (asize : Bits) (row : Row) (m : ModRm) (sib : Option Sib) (given : ℕ) → reads_mode row ≡ true → is_some sib ≡ needs_sib asize m → given ≡ displacement_bytes asize m sib → address_fits asize row (Some m) sib given ≡ true
 unfolding address_fits
 address_from asize row m sib given reads s d =
-    if_yes (reads_mode row) _ _ reads ∙ both (same_bool (is_some sib) (needs_sib asize m)) (given == displacement_bytes asize m sib) (same_bool-refl (is_some sib) (needs_sib asize m) s) (eq-eqb given (displacement_bytes asize m sib) d)
+    if_yes (reads_mode row) _ _ reads ∙ and_from (same_bool (is_some sib) (needs_sib asize m)) (given == displacement_bytes asize m sib) (same_bool-refl (is_some sib) (needs_sib asize m) s) (eq-eqb given (displacement_bytes asize m sib) d)
 
 bare_otherwise : (asize : Bits) (row : Row) (m : ModRm) → reads_mode row ≡ false → address_fits asize row (Some m) None 0 ≡ true
 unfolding address_fits

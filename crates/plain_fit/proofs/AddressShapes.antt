@@ -18,7 +18,7 @@ use Rattle.plain_spelling.specs.declared.addresses.AddressForm.TheVariants.{Rela
 use Rattle.plain_spelling.specs.declared.addresses.AddressFields.{AddressFields}
 use Rattle.plain_spelling.specs.Addresses.{form_of, general_size, pointer_size, has_address_size, is_base, is_index, scale_suits, is_flat_size, is_flat_shape, is_shape, shown_size, displacement_count, short_offers, form_offers, rm_of_short, mode_of_count, flat_fields, alone_fields, or_zero, address_fields}
 use Rattle.plain_spelling.specs.Expressible.{told_size, size_agrees}
-use Rattle.plain_spelling.proofs.Compared.{same_bits-is}
+use Rattle.x86_values.proofs.Compared.{same_bits-is}
 use Rattle.plain_spelling.proofs.AddressCases.{address, same_address, impossible, form-relative, form-alone, form-alone-index, form-short, agrees, pointer_if, told_is_shown}
 use Rattle.plain_spelling.proofs.AddressForms.{shape_is, offers_is}
 use Rattle.plain_fit.proofs.AddressFields.{fields, Mean, relative_means, alone_means, short_means, flat_means}

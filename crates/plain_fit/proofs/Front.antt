@@ -1,5 +1,6 @@
 -- All that a spelling with the plain front rests on: the front fits the row, says what the instruction asks for, and is read back.
 use Rattle.std.proofs.Common.{◌≡◌, ◌⊎◌, inl, inr, ℕ, ◌+◌, ◌<◌, ◌≤◌, Bool, true, false, ◌&&◌, not, List, ◌∷◌, ◌++◌, length, Option, Some, None, refl, ap, sym, ◌∙◌, arith, append_assoc, length-append}
+use Rattle.plain_spelling.proofs.Fields.{state as fields}
 use Rattle.std.specs.List.{list_all}
 use Rattle.x86_values.specs.declared.Bits.{Bits}
 use Rattle.x86_values.specs.declared.Segment.{Segment}
@@ -30,21 +31,6 @@ use Rattle.plain_fit.proofs.FrontClass.{front_class, front_repeat, front_sizes, 
 use Rattle.plain_fit.proofs.FrontVex.{front_opcode, front_opcode_byte, front_is_opcode, front_is_allowed, front_vex, front_vex_range}
 
 -- ---- the state
-
--- a state of its fields
-abbrev fields : ℕ → Bool → Bool → Bool → Rep → Option Segment → Option ℕ → Option Vex → Map → ℕ → PrefixState
-fields used size66 addr67 lock rep seg rex vex map opcode = record {
-  used = used;
-  size66 = size66;
-  addr67 = addr67;
-  lock = lock;
-  rep = rep;
-  seg = seg;
-  rex = rex;
-  vex = vex;
-  map = map;
-  opcode = opcode;
-}
 
 same_fields : (u u' : ℕ) (s s' a a' l l' : Bool) (r r' : Rep) (g g' : Option Segment) (x x' : Option ℕ) (v v' : Option Vex) (m m' : Map) (o o' : ℕ)
     → u ≡ u' → s ≡ s' → a ≡ a' → l ≡ l' → r ≡ r' → g ≡ g' → x ≡ x' → v ≡ v' → m ≡ m' → o ≡ o'

@@ -1,5 +1,6 @@
 -- The bits and sizes that a plain front says are those that the instruction asks for.
 use Rattle.std.proofs.Common.{◌≡◌, inl, inr, ℕ, ◌+◌, ◌*◌, ◌/◌, ◌%◌, ◌<◌, ◌≤◌, Bool, true, false, ◌&&◌, ◌||◌, not, nat_le, Option, Some, None, refl, ap, sym, subst, arith, if◌then◌else◌}
+use Rattle.std.proofs.lemmas.Bool.{lt-leb}
 use Rattle.x86_values.specs.declared.Bits.{Bits}
 use Rattle.x86_values.specs.declared.Bits.TheVariants.{B16, B32, B64}
 use Rattle.x86_values.specs.declared.Instr.{Instr}
@@ -9,7 +10,7 @@ use Rattle.instruction_parts.specs.Sizes.{is_vex_row, operand_size, address_size
 use Rattle.instruction_parts.specs.Bytes.{bit}
 use Rattle.row_fit.specs.Fits.{size_fits, vvvv_number}
 use Rattle.instruction_parts.proofs.Tests.{either, and_right, not_true, or_right}
-use Rattle.plain_spelling.specs.Comparing.{same_bits}
+use Rattle.x86_values.specs.Comparing.{same_bits}
 use Rattle.plain_spelling.specs.PlainFront.{number_in_reg, number_in_rm, number_in_index, number_in_vvvv, asked, asks_r, asks_x, asks_b, asks_low_byte, asks_rex_w, asks_66, asks_67, asked_rex, plain_front_of}
 use Rattle.plain_spelling.specs.Addresses.{register_count, has_address_size}
 use Rattle.plain_spelling.specs.PlainTail.{plain_size}
@@ -104,20 +105,17 @@ count-most B64 = omega arith
 pub asked-small : (bits : Bits) (n : ℕ) → is_64 bits ≡ false → n < register_count bits → n < 8
 asked-small bits n h k = (let e = count-small bits h in omega arith)
 
-not_eight : (n : ℕ) → n < 8 → nat_le 8 n ≡ false
-not_eight n h = grind (arith)
-
 pub no_r : (bits : Bits) (row : Row) (i : Instr) → is_64 bits ≡ false → NumbersSuit bits row i → asks_r row i ≡ false
 unfolding asks_r
-no_r bits row i h n = not_eight (asked number_in_reg row i) (asked-small bits (asked number_in_reg row i) h n.reg)
+no_r bits row i h n = lt-leb 8 (asked number_in_reg row i) (asked-small bits (asked number_in_reg row i) h n.reg)
 
 pub no_x : (bits : Bits) (row : Row) (i : Instr) → is_64 bits ≡ false → NumbersSuit bits row i → asks_x row i ≡ false
 unfolding asks_x
-no_x bits row i h n = not_eight (asked number_in_index row i) (asked-small bits (asked number_in_index row i) h n.index)
+no_x bits row i h n = lt-leb 8 (asked number_in_index row i) (asked-small bits (asked number_in_index row i) h n.index)
 
 pub no_b : (bits : Bits) (row : Row) (i : Instr) → is_64 bits ≡ false → NumbersSuit bits row i → asks_b row i ≡ false
 unfolding asks_b
-no_b bits row i h n = not_eight (asked number_in_rm row i) (asked-small bits (asked number_in_rm row i) h n.rm)
+no_b bits row i h n = lt-leb 8 (asked number_in_rm row i) (asked-small bits (asked number_in_rm row i) h n.rm)
 
 no_rex_w : (bits : Bits) (row : Row) → is_64 bits ≡ false → is_vex_row row ≡ false → has_plain_size bits row ≡ true → asks_rex_w row ≡ false
 unfolding has_plain_size

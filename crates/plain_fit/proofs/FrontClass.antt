@@ -1,5 +1,6 @@
 -- A plain front meets the row's prefix class and its sizes, and keeps LOCK, the repeat prefix and the segment.
 use Rattle.std.proofs.Common.{◌≡◌, ◌⊎◌, inl, inr, ℕ, Bool, true, false, ◌&&◌, ◌||◌, not, ◌==◌, Some, None, refl, ap, sym, ◌∙◌}
+use Rattle.std.proofs.lemmas.Bool.{and_from}
 use Rattle.x86_values.specs.declared.Bits.{Bits}
 use Rattle.x86_values.specs.declared.Rep.{Rep}
 use Rattle.x86_values.specs.declared.Rep.TheVariants.{None as NoRep, F2 as RepF2, F3 as RepF3}
@@ -28,9 +29,6 @@ use Rattle.plain_spelling.specs.Writable.{plain_w, has_plain_size, class_allows_
 use Rattle.plain_fit.proofs.Given.{Given, NumbersSuit}
 use Rattle.plain_spelling.proofs.FrontRange.{vex_for, vex_of_vex, vex_of_legacy, vex_row}
 use Rattle.plain_fit.proofs.FrontBits.{FrontBits}
-
-pub both : (a b : Bool) → a ≡ true → b ≡ true → (a && b) ≡ true
-both a b h k = rw h k
 
 -- ---- what the conditions on an instruction say of its prefixes
 
@@ -66,10 +64,10 @@ allows class size66 = elim class [ Np ↦ not size66 | _ ↦ true ]
 legacy_by_class : (class : Class) (f : PrefixState) (other : Bool) (rep : Rep) (x : Bool) → f.size66 ≡ sized class other → f.rep ≡ repeated class rep → suits class rep x ≡ true → allows class f.size66 ≡ true → legacy_class_fits class f ≡ true
 unfolding legacy_class_fits
 legacy_by_class AnyClass f other rep x s r h a = refl
-legacy_by_class Np f other rep x s r h a = both (not f.size66) (is_no_repeat f.rep) a (ap is_no_repeat r ∙ h)
+legacy_by_class Np f other rep x s r h a = and_from (not f.size66) (is_no_repeat f.rep) a (ap is_no_repeat r ∙ h)
 legacy_by_class Nfx f other rep x s r h a = ap is_no_repeat r ∙ h
 legacy_by_class Nf3 f other rep x s r h a = ap (λ q. not (is_repeat_f3 q)) r ∙ h
-legacy_by_class P66 f other rep x s r h a = both f.size66 (is_no_repeat f.rep) s (ap is_no_repeat r ∙ h)
+legacy_by_class P66 f other rep x s r h a = and_from f.size66 (is_no_repeat f.rep) s (ap is_no_repeat r ∙ h)
 legacy_by_class ClassF3 f other rep x s r h a = rw r refl
 legacy_by_class ClassF2 f other rep x s r h a = rw r refl
 
@@ -201,14 +199,14 @@ front_size_fits bits row i h b =
 
 vex_sizes : (bits : Bits) (row : Row) (i : Instr) → (elim (asked_vex row i) [ None ↦ true | Some v ↦ w_fits row v && l_fits row.l v ]) ≡ true
 vex_sizes bits row i = elim (either (is_vex_row row)) [
-  | inl vex ↦ rw (vex_of_vex row i vex) (both (w_fits row (vex_for row i)) (l_fits row.l (vex_for row i)) (vex_w row i) (l_by row.l (vex_for row i) refl))
+  | inl vex ↦ rw (vex_of_vex row i vex) (and_from (w_fits row (vex_for row i)) (l_fits row.l (vex_for row i)) (vex_w row i) (l_by row.l (vex_for row i) refl))
   | inr legacy ↦ rw (vex_of_legacy row i legacy) refl
 ]
 
 pub front_sizes : (bits : Bits) (row : Row) (i : Instr) → has_plain_size bits row ≡ true → FrontBits bits row i → sizes_fit bits row (plain_front_of bits row i) ≡ true
 unfolding sizes_fit plain_front_of
 front_sizes bits row i h b =
-    both (size_fits bits row.size (state_size bits row (plain_front_of bits row i)) (bit_w bits (plain_front_of bits row i))) _
+    and_from (size_fits bits row.size (state_size bits row (plain_front_of bits row i)) (bit_w bits (plain_front_of bits row i))) _
     (front_size_fits bits row i h b) (vex_sizes bits row i)
 
 -- ---- vvvv

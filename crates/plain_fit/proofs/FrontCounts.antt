@@ -1,11 +1,12 @@
 -- What the prefix bytes of a plain front count for: exactly what the front says.
 use Rattle.std.proofs.Common.{◌≡◌, ℕ, zero, suc, ◌+◌, ◌-◌, ◌/◌, ◌<◌, ◌≤◌, Bool, true, false, ◌&&◌, ◌||◌, ◌==◌, nat_lt, List, [], ◌∷◌, ◌++◌, length, Option, Some, None, is_some, reverse, refl, ap, ◌∙◌, arith, cond, append_assoc, length-append}
+use Rattle.std.proofs.Math.Bool.{or-true}
 use Rattle.std.specs.Prelude.{find, slice_index}
 use Rattle.std.specs.List.{list_any, list_all}
 use Rattle.std.specs.Option.{option_or}
 use Rattle.std.proofs.lemmas.List.{reverse-append}
 use Rattle.std.proofs.lemmas.List.Folds.{find-append, list_any-append, list_all-append}
-use Rattle.std.proofs.lemmas.Bool.{lt-ltb}
+use Rattle.std.proofs.lemmas.Bool.{lt-ltb, or_parts}
 use Rattle.std.proofs.Math.Seq.{get_or-append_seam}
 use Rattle.x86_values.specs.declared.Bits.{Bits}
 use Rattle.x86_values.specs.declared.Bits.TheVariants.{B16, B32, B64}
@@ -56,14 +57,10 @@ kept-by false x = refl
 last-one : (p : ℕ → Bool) (x : ℕ) → last_where p (x ∷ []) ≡ kept_if (p x) x
 last-one p x = kept-by (p x) x
 
-both_none : (a b : Bool) → (a || b) ≡ false → (a ≡ false) × (b ≡ false)
-both_none true b h = cc
-both_none false b h = (refl, h)
-
 last-none : (p : ℕ → Bool) (xs : List ℕ) → list_any p xs ≡ false → last_where p xs ≡ None
 last-none p [] h = refl
 last-none p (x ∷ xs) h =
-    let n = both_none (p x) (list_any p xs) h in
+    let n = or_parts (p x) (list_any p xs) h in
     last-append p (x ∷ []) xs ∙ ap (λ o. or_else o (last_where p (x ∷ []))) (last-none p xs n.1) ∙ last-one p x ∙ ap (λ b. kept_if b x) n.0
 
 last-front : (p : ℕ → Bool) (xs ys : List ℕ) → list_any p xs ≡ false → last_where p (xs ++ ys) ≡ last_where p ys
@@ -86,8 +83,8 @@ last_if-seam p xs b h =
 
 any_at : (p : ℕ → Bool) (xs : List ℕ) (n : ℕ) → n < length xs → list_any p xs ≡ false → p (slice_index xs n) ≡ false
 any_at p [] n h none = absurd (omega arith)
-any_at p (x ∷ xs) zero h none = (both_none (p x) (list_any p xs) none).0
-any_at p (x ∷ xs) (suc n) h none = any_at p xs n (omega arith) (both_none (p x) (list_any p xs) none).1
+any_at p (x ∷ xs) zero h none = (or_parts (p x) (list_any p xs) none).0
+any_at p (x ∷ xs) (suc n) h none = any_at p xs n (omega arith) (or_parts (p x) (list_any p xs) none).1
 
 last_if-none : (p : ℕ → Bool) (xs : List ℕ) → list_any p xs ≡ false → last_if p xs ≡ None
 last_if-none p [] h = refl
@@ -316,16 +313,12 @@ passes_prefix bits = record { es = refl; cs = refl; ss = refl; ds = refl; fs = r
 passes_byte : PassesLegacy (λ b. nat_lt b 256)
 passes_byte = record { es = refl; cs = refl; ss = refl; ds = refl; fs = refl; gs = refl; size = refl; address = refl; lock = refl; f2 = refl; f3 = refl }
 
-or_true : (b : Bool) → (b || true) ≡ true
-or_true true = refl
-or_true false = refl
-
 rex_is_prefix : (bits : Bits) (rex : Option ℕ) → IsRexIf bits rex → list_all (is_prefix bits) (rex_prefix rex) ≡ true
 unfolding is_prefix
 rex_is_prefix bits None r = refl
 rex_is_prefix bits (Some b) r =
     let e : (is_64 bits && is_rex b) ≡ true = rw r.0 (is_rex-from b r.1) in
-    let p : is_prefix bits b ≡ true = ap (λ x. is_legacy_prefix b || x) e ∙ or_true (is_legacy_prefix b) in
+    let p : is_prefix bits b ≡ true = ap (λ x. is_legacy_prefix b || x) e ∙ or-true (is_legacy_prefix b) in
     rw p refl
 
 rex_is_byte : (bits : Bits) (rex : Option ℕ) → IsRexIf bits rex → are_bytes (rex_prefix rex) ≡ true
@@ -334,20 +327,20 @@ rex_is_byte bits (Some b) r = (let h = r.1 in rw (lt-ltb b 256 (omega arith)) re
 
 -- ---- how many there are
 
-segment_count : (seg : Option Segment) → length (segment_prefix seg) ≡ bit (is_some seg)
+pub segment_count : (seg : Option Segment) → length (segment_prefix seg) ≡ bit (is_some seg)
 segment_count None = refl
 segment_count (Some s) = refl
 
-byte_count : (b : Bool) (x : ℕ) → length (byte_if b x) ≡ bit b
+pub byte_count : (b : Bool) (x : ℕ) → length (byte_if b x) ≡ bit b
 byte_count true x = refl
 byte_count false x = refl
 
-repeat_count : (rep : Rep) → length (repeat_prefix rep) ≡ count_repeat rep
+pub repeat_count : (rep : Rep) → length (repeat_prefix rep) ≡ count_repeat rep
 repeat_count NoRep = refl
 repeat_count RepF2 = refl
 repeat_count RepF3 = refl
 
-rex_count : (rex : Option ℕ) → length (rex_prefix rex) ≡ bit (is_some rex)
+pub rex_count : (rex : Option ℕ) → length (rex_prefix rex) ≡ bit (is_some rex)
 rex_count None = refl
 rex_count (Some b) = refl
 

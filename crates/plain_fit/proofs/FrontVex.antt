@@ -1,7 +1,8 @@
 -- The opcode byte of a plain front is one of the row's, and its VEX, or the want of one, is what the row asks for.
 use Rattle.std.proofs.Common.{◌≡◌, inl, inr, ℕ, zero, suc, ◌+◌, ◌%◌, ◌<◌, Bool, true, false, ◌&&◌, ◌||◌, not, ◌==◌, nat_le, nat_lt, List, [], ◌∷◌, length, get_or, Option, Some, None, eq-eqb, refl, ap, ◌∙◌, subst, arith, if◌then◌else◌}
+use Rattle.std.proofs.Math.Bool.{or-true}
 use Rattle.std.specs.List.{list_any, list_all}
-use Rattle.std.proofs.lemmas.Bool.{lt-ltb, le-leb}
+use Rattle.std.proofs.lemmas.Bool.{lt-ltb, le-leb, and_from}
 use Rattle.std.proofs.lemmas.List.Folds.{list_all_at}
 use borrow.Author.Tests.{ltb-true}
 use Rattle.x86_values.specs.declared.Bits.{Bits}
@@ -32,7 +33,7 @@ use Rattle.plain_spelling.proofs.FrontRange.{vex_for, vex_of_vex, vex_of_legacy,
 use Rattle.plain_fit.proofs.Given.{Given, NumbersSuit}
 use Rattle.plain_fit.proofs.FrontCounts.{Counts}
 use Rattle.plain_fit.proofs.FrontBits.{rex_of_vex, no_r, no_x, asked-small, count-most}
-use Rattle.plain_fit.proofs.FrontClass.{both, vex_repeat, vex_lock}
+use Rattle.plain_fit.proofs.FrontClass.{vex_repeat, vex_lock}
 
 -- ---- the opcode byte
 
@@ -83,7 +84,7 @@ same_number n = eq-eqb n n refl
 fits_by : (plus : Plus) (o k : ℕ) → among_by plus o (byte_by plus o k) ≡ true
 fits_by NoPlus o k = same_number o
 fits_by PlusStack o k = same_number o
-fits_by PlusRegister o k = both (nat_le o (o + k % 8)) (nat_lt (o + k % 8) (o + 8)) (le-leb o (o + k % 8) (omega arith)) (lt-ltb (o + k % 8) (o + 8) (omega arith))
+fits_by PlusRegister o k = and_from (nat_le o (o + k % 8)) (nat_lt (o + k % 8) (o + 8)) (le-leb o (o + k % 8) (omega arith)) (lt-ltb (o + k % 8) (o + 8) (omega arith))
 
 pub front_opcode : (row : Row) (i : Instr) → opcode_fits row (asked_opcode row i) ≡ true
 unfolding opcode_fits asked_opcode
@@ -187,9 +188,9 @@ allowed_by bits One b m memory nil f z h =
     let bound = not (b == 0x62) || memory in
     let pop = not (b == 0x8F) || nil in
     let rest = and_right far (bound && pop) h in
-    both (not (b == 0xC4 || b == 0xC5) || (not (is_64 bits) && has_memory_mode m)) ((not (b == 0x62) || has_memory_mode m) && (not (b == 0x8F) || has_reg_zero m))
+    and_from (not (b == 0xC4 || b == 0xC5) || (not (is_64 bits) && has_memory_mode m)) ((not (b == 0x62) || has_memory_mode m) && (not (b == 0x8F) || has_reg_zero m))
     (or_with (not (b == 0xC4 || b == 0xC5)) (not (is_64 bits) && memory) (not (is_64 bits) && has_memory_mode m) (and_with (not (is_64 bits)) memory (has_memory_mode m) f) (and_left far (bound && pop) h))
-    (both (not (b == 0x62) || has_memory_mode m) (not (b == 0x8F) || has_reg_zero m)
+    (and_from (not (b == 0x62) || has_memory_mode m) (not (b == 0x8F) || has_reg_zero m)
     (or_with (not (b == 0x62)) memory (has_memory_mode m) f (and_left bound pop rest))
     (or_with (not (b == 0x8F)) nil (has_reg_zero m) z (and_right bound pop rest)))
 allowed_by bits M0f b m memory nil f z h = refl
@@ -237,10 +238,6 @@ of_mode_by : (three : Bool) (x y : Bool) → x ≡ true → y ≡ true → (if t
 of_mode_by true x y hx hy = hx
 of_mode_by false x y hx hy = hy
 
-or_true : (b : Bool) → (b || true) ≡ true
-or_true true = refl
-or_true false = refl
-
 vex_of_mode : (bits : Bits) (row : Row) (i : Instr) → NumbersSuit bits row i → is_vex_of_mode bits (vex_for row i) ≡ true
 unfolding is_vex_of_mode
 vex_of_mode bits row i n = elim (either (is_64 bits)) [
@@ -250,7 +247,7 @@ vex_of_mode bits row i n = elim (either (is_64 bits)) [
       (ap (λ b. is_64 bits || b)
       (of_mode_by (not (same_map row.map M0f) || (asks_x row i || (asks_b row i || asks_vex_w row))) (not (asks_x row i)) (nat_lt (asked number_in_vvvv row i) 8)
       (ap not (no_x bits row i short n)) (lt-ltb (asked number_in_vvvv row i) 8 (asked-small bits (asked number_in_vvvv row i) short n.vvvv)))
-      ∙ or_true (is_64 bits))
+      ∙ or-true (is_64 bits))
 ]
 
 -- nothing before a VEX forbids it
@@ -271,13 +268,13 @@ front_allows_vex bits ip row i g c vex =
 vex_fits_for : (bits : Bits) (row : Row) (ps : List ℕ) (v : Vex) (o : ℕ) (m : Option ModRm) → is_vex_row row ≡ true → v.map ≡ row.map → forbids_vex bits ps ≡ false → is_vex_of_mode bits v ≡ true → vex_fits bits row ps (Some v) o m ≡ true
 unfolding vex_fits
 vex_fits_for bits row ps v o m vex map allowed mode =
-    both (is_vex_row row) (same_map v.map row.map && (not (forbids_vex bits ps) && is_vex_of_mode bits v)) vex
-    (both (same_map v.map row.map) (not (forbids_vex bits ps) && is_vex_of_mode bits v) (ap (λ map. same_map map row.map) map ∙ same_map-refl row.map)
-    (both (not (forbids_vex bits ps)) (is_vex_of_mode bits v) (ap not allowed) mode))
+    and_from (is_vex_row row) (same_map v.map row.map && (not (forbids_vex bits ps) && is_vex_of_mode bits v)) vex
+    (and_from (same_map v.map row.map) (not (forbids_vex bits ps) && is_vex_of_mode bits v) (ap (λ map. same_map map row.map) map ∙ same_map-refl row.map)
+    (and_from (not (forbids_vex bits ps)) (is_vex_of_mode bits v) (ap not allowed) mode))
 
 vex_fits_none : (bits : Bits) (row : Row) (ps : List ℕ) (o : ℕ) (m : Option ModRm) → is_vex_row row ≡ false → is_opcode bits row.map o ≡ true → opcode_allows bits row.map o m ≡ true → vex_fits bits row ps None o m ≡ true
 unfolding vex_fits opcode_is_kept
-vex_fits_none bits row ps o m legacy h k = rw legacy (both (is_opcode bits row.map o) (opcode_allows bits row.map o m) h k)
+vex_fits_none bits row ps o m legacy h k = rw legacy (and_from (is_opcode bits row.map o) (opcode_allows bits row.map o m) h k)
 
 -- the VEX fits with any opcode byte and ModRM, and the want of one with those that may stand there
 pub front_vex : (bits : Bits) (ip : ℕ) (row : Row) (i : Instr) (o : ℕ) (m : Option ModRm) → Given bits ip row i → NumbersSuit bits row i → Counts bits (plain_front_of bits row i)

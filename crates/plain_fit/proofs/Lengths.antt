@@ -1,5 +1,6 @@
 -- How many bytes the plain spelling has, whatever it means.
 use Rattle.std.proofs.Common.{◌≡◌, ℕ, ◌+◌, Bool, true, false, ◌++◌, length, Option, Some, None, refl, arith, length-append, is_some}
+use Rattle.plain_fit.proofs.FrontCounts.{segment_count, byte_count, repeat_count, rex_count}
 use Rattle.x86_values.specs.declared.Bits.{Bits}
 use Rattle.x86_values.specs.declared.Segment.{Segment}
 use Rattle.x86_values.specs.declared.Rep.{Rep}
@@ -14,23 +15,6 @@ use Rattle.plain_spelling.specs.Expressible.{each_operand, kind_suits}
 use Rattle.plain_fit.proofs.Parts.{plain_length}
 use Rattle.plain_fit.proofs.Immediates.{immediates-length}
 use Rattle.plain_fit.proofs.AddressBytes.{displacement_length}
-
-byte_count : (b : Bool) (x : ℕ) → length (byte_if b x) ≡ bit b
-byte_count true x = refl
-byte_count false x = refl
-
-segment_count : (s : Option Segment) → length (segment_prefix s) ≡ bit (is_some s)
-segment_count None = refl
-segment_count (Some s) = refl
-
-repeat_count : (r : Rep) → length (repeat_prefix r) ≡ count_repeat r
-repeat_count NoRep = refl
-repeat_count RepF2 = refl
-repeat_count RepF3 = refl
-
-rex_count : (r : Option ℕ) → length (rex_prefix r) ≡ bit (is_some r)
-rex_count None = refl
-rex_count (Some r) = refl
 
 -- the prefixes of a front, counted
 prefix_count : (f : PrefixState) → length (prefixes_of f) ≡ bit (is_some f.seg) + (bit f.size66 + (bit f.addr67 + (bit f.lock + (count_repeat f.rep + bit (is_some f.rex)))))

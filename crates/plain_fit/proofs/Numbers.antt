@@ -24,7 +24,7 @@ use Rattle.instruction_parts.specs.Counting.{is_64}
 use Rattle.row_fit.specs.Fits.{kind_at, reads_by, is_vvvv}
 use Rattle.row_fit.specs.Sound.{Sound, reads_reg, reads_rm, reads_vvvv, reads_opcode}
 use Rattle.instruction_parts.proofs.Tests.{either, and_left, and_right, or_right, equal_from}
-use Rattle.plain_spelling.specs.Comparing.{same_bits, same_register}
+use Rattle.x86_values.specs.Comparing.{same_bits, same_register}
 use Rattle.plain_spelling.specs.Forms.{operand_at, is_scale}
 use Rattle.plain_spelling.specs.PlainFront.{register_number, number_or_zero, is_low_byte_of_rex, operand_number, base_or_register_number, operand_index_number, number_in_reg, number_in_rm, number_in_index, number_in_vvvv, number_in_opcode, asked, asks_low_byte}
 use Rattle.plain_spelling.specs.Addresses.{register_count, general_size, shown_size, form_of, rm_of_one, rm_of_two, rm_of_short, is_address_register, is_base, is_index, scale_suits, is_flat_size, is_flat_shape, is_shape, index_named, is_vector_index, is_gather_base, is_gather_shape, shape_suits}

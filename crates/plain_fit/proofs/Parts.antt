@@ -1,5 +1,6 @@
 -- A plain spelling whose parts fit, fits; one whose operands are read back, means the instruction.
 use Rattle.std.proofs.Common.{◌≡◌, ℕ, ◌<◌, Bool, true, ◌&&◌, List, [], ◌∷◌, ◌++◌, length, Option, refl, sym, ◌∙◌, arith, slice_index_or}
+use Rattle.std.proofs.lemmas.Bool.{and_from}
 use Rattle.x86_values.specs.declared.Bits.{Bits}
 use Rattle.x86_values.specs.declared.Code.{Code}
 use Rattle.x86_values.specs.declared.Segment.{Segment}
@@ -15,9 +16,6 @@ use Rattle.plain_spelling.specs.Forms.{operand_at}
 use Rattle.plain_spelling.specs.PlainFront.{plain_front_of}
 use Rattle.plain_spelling.specs.PlainTail.{prefixes_of, plain_modrm, plain_sib_of, displacement_of_operand, operand_displacement, address_operand, plain_immediates, plain_size, plain_len, plain_next, plain_spelling}
 use Rattle.plain_spelling.proofs.PartLengths.{modrm_count, sib_count, parts_length}
-
-both : (a b : Bool) → a ≡ true → b ≡ true → (a && b) ≡ true
-both a b ha hb = rw (ha, hb)
 
 -- the bytes of displacement and immediates
 abbrev pub plain_disp : Bits → ℕ → Row → Instr → List ℕ
@@ -51,12 +49,12 @@ parts_fit bits ip row i p =
     let d = length (plain_disp bits ip row i) in
     let n = length (plain_imm bits ip row i) in
     rw p.state
-    (both (mode_fits bits row && (class_fits row f && (sizes_fit bits row f && vvvv_fits row f))) _
-    (both (mode_fits bits row) _ p.mode (both (class_fits row f) _ p.class (both (sizes_fit bits row f) _ p.sizes p.vvvv)))
-    (both (prefixes_fit bits (prefixes_of f)) _ p.prefixes
-    (both (vex_fits bits row (prefixes_of f) f.vex f.opcode m) _ p.vex
-    (both (opcode_and_modrm_fit row f.opcode m && (lengths_fit bits row f m sib d n && (lock_fits row f m && registers_fit bits row f m sib))) _
-    (both (opcode_and_modrm_fit row f.opcode m) _ p.opcode (both (lengths_fit bits row f m sib d n) _ p.lengths (both (lock_fits row f m) _ p.lock p.registers)))
+    (and_from (mode_fits bits row && (class_fits row f && (sizes_fit bits row f && vvvv_fits row f))) _
+    (and_from (mode_fits bits row) _ p.mode (and_from (class_fits row f) _ p.class (and_from (sizes_fit bits row f) _ p.sizes p.vvvv)))
+    (and_from (prefixes_fit bits (prefixes_of f)) _ p.prefixes
+    (and_from (vex_fits bits row (prefixes_of f) f.vex f.opcode m) _ p.vex
+    (and_from (opcode_and_modrm_fit row f.opcode m && (lengths_fit bits row f m sib d n && (lock_fits row f m && registers_fit bits row f m sib))) _
+    (and_from (opcode_and_modrm_fit row f.opcode m) _ p.opcode (and_from (lengths_fit bits row f m sib d n) _ p.lengths (and_from (lock_fits row f m) _ p.lock p.registers)))
     p.ranges))))
 
 -- ---- lengths

@@ -1,7 +1,8 @@
 -- The plain ModRM: what its fields are by the row's rule, that it keeps the rule and the limits to register or memory, and its ranges.
 use Rattle.std.proofs.Common.{◌≡◌, inl, inr, ℕ, zero, suc, ◌+◌, ◌*◌, ◌/◌, ◌%◌, ◌<◌, Bool, true, false, ◌&&◌, ◌||◌, not, ◌==◌, nat_le, nat_lt, List, [], ◌∷◌, length, refl, ap, sym, ◌∙◌, subst, arith, if◌then◌else◌, Option, Some, None, eq-eqb}
+use Rattle.std.proofs.lemmas.Option.{same_Some}
 use Rattle.std.specs.Prelude.{slice_index_or}
-use Rattle.std.proofs.lemmas.Bool.{leb-true}
+use Rattle.std.proofs.lemmas.Bool.{leb-true, and_from, lt-ltb}
 use Rattle.std.specs.List.{list_any, list_all}
 use borrow.Author.Tests.{ltb-true}
 use Rattle.x86_values.specs.declared.Bits.{Bits}
@@ -42,16 +43,9 @@ use Rattle.plain_spelling.proofs.Asked.{proper, four_kinds, one_rm, each-at, ask
 use Rattle.plain_fit.proofs.Given.{Given}
 use Rattle.plain_fit.proofs.Numbers.{kind_that_passes}
 
-pub lt_true : (a b : ℕ) → a < b → nat_lt a b ≡ true
-lt_true a b h = grind (arith, h)
-
-pub both : (a b : Bool) → a ≡ true → b ≡ true → (a && b) ≡ true
-both true b ha hb = hb
-both false b ha hb = ha
-
 pub all-from : (p : OpKind → Bool) (kinds : List OpKind) (d : OpKind) → ((k : ℕ) → k < length kinds → p (slice_index_or kinds k d) ≡ true) → list_all p kinds ≡ true
 all-from p [] d h = refl
-all-from p (kind ∷ kinds) d h = both (p kind) (list_all p kinds) (h 0 (omega arith)) (all-from p kinds d (λ k below. h (suc k) (omega arith)))
+all-from p (kind ∷ kinds) d h = and_from (p kind) (list_all p kinds) (h 0 (omega arith)) (all-from p kinds d (λ k below. h (suc k) (omega arith)))
 
 pub or_true : (a b : Bool) → b ≡ true → (a || b) ≡ true
 or_true true b h = refl
@@ -443,15 +437,15 @@ allowed_in_rm row i n s plain kinds below reads =
 mode_allowed : (place : Place) (op : Operand) (m : ModRm) → is_allowed_in place op ≡ true → (is_register op ≡ true → m.mode3 ≡ 3) → (is_memory op ≡ true → m.mode3 < 3) → place_allows place m ≡ true
 unfolding is_allowed_in place_allows
 mode_allowed AnyPlace op m h r k = refl
-mode_allowed OnlyMemory op m h r k = lt_true m.mode3 3 (k h)
+mode_allowed OnlyMemory op m h r k = lt-ltb m.mode3 3 (k h)
 mode_allowed OnlyRegister op m h r k = eq-eqb m.mode3 3 (r h)
 
 -- what the kind of an operand in r/m asks of it
 kind_allowed : (place : Place) (how : Method) (op : Operand) (m : ModRm) → is_variant_of place how op ≡ true → (is_register op ≡ true → m.mode3 ≡ 3) → (is_memory op ≡ true → m.mode3 < 3) → place_allows (place_of how) m ≡ true
 unfolding is_variant_of place_allows
 kind_allowed place method.RegisterOnly op m h r k = eq-eqb m.mode3 3 (r h)
-kind_allowed place method.MemoryOnly op m h r k = lt_true m.mode3 3 (k h)
-kind_allowed place method.Gather op m h r k = lt_true m.mode3 3 (k h)
+kind_allowed place method.MemoryOnly op m h r k = lt-ltb m.mode3 3 (k h)
+kind_allowed place method.Gather op m h r k = lt-ltb m.mode3 3 (k h)
 kind_allowed place _ op m h r k = refl
 
 -- a kind that is not read from r/m asks nothing of mod
@@ -467,20 +461,17 @@ record ModeOf (op : Operand) (m : ModRm) : Type 0 where
   register : is_register op ≡ true → m.mode3 ≡ 3
   memory : is_memory op ≡ true → m.mode3 < 3
 
-same_modrm : (a b : ModRm) → Some a ≡ Some b → a ≡ b
-same_modrm a b h = cc
-
 mode_of_rm : (bits : Bits) (row : Row) (i : Instr) (n : ℕ) (m : ModRm) → Sound row → rule_is_plain row ≡ true → length i.ops ≡ 4 → each_operand (kind_suits row i) ≡ true → n < 4 → reads_rm (method_of (kind_at row n)) ≡ true → plain_modrm bits row i ≡ Some m → ModeOf (operand_at i n) m
 mode_of_rm bits row i n m s plain four kinds below reads e = go (operand_at i n) refl
   where
     go : (op : Operand) → operand_at i n ≡ op → ModeOf op m
     go (Reg r) same =
         let k = register_in_rm bits row i n r s plain four below reads same in
-        let one = same_modrm m k.modrm (sym e ∙ k.is_plain) in
+        let one = same_Some m k.modrm (sym e ∙ k.is_plain) in
         record { register = λ _. ap (λ (x : ModRm). x.mode3) one ∙ k.mode; memory = λ h. cc }
     go (MemOperand a) same =
         let k = memory_in_rm bits row i n a s plain four kinds below reads same in
-        let one = same_modrm m (modrm_with k.reg (address_fields bits (written_size bits i.asize a) a)) (sym e ∙ k.modrm) in
+        let one = same_Some m (modrm_with k.reg (address_fields bits (written_size bits i.asize a) a)) (sym e ∙ k.modrm) in
         let small = (address_small bits (written_size bits i.asize a) a).mode in
         record { register = λ h. cc; memory = λ _. subst (λ (x : ModRm). x.mode3 < 3) (sym one) small }
     go _ same = record { register = λ h. cc; memory = λ h. cc }
@@ -517,13 +508,13 @@ row_allows bits row i m s plain places four kinds e = elim (either (reads_by rea
     alone : (rule : ModRmRule) → row.modrm ≡ rule → fields_of bits row i ≡ no_address (lone_mode row.place) 0 → place_allows row.place m ≡ true
     alone NoModRm rule fields = let k = sym e ∙ modrm_none bits row i rule in cc
     alone AnyModRm rule fields =
-        let one = same_modrm m _ (sym e ∙ modrm_any bits row i rule ∙ ap (λ (x : AddressFields). Some (modrm_with (asked number_in_reg row i % 8) x)) fields) in
+        let one = same_Some m _ (sym e ∙ modrm_any bits row i rule ∙ ap (λ (x : AddressFields). Some (modrm_with (asked number_in_reg row i % 8) x)) fields) in
         rw one (lone_allowed row.place (asked number_in_reg row i % 8))
     alone (Digit d) rule fields =
-        let one = same_modrm m _ (sym e ∙ modrm_digit bits row i d rule ∙ ap (λ (x : AddressFields). Some (modrm_with d x)) fields) in
+        let one = same_Some m _ (sym e ∙ modrm_digit bits row i d rule ∙ ap (λ (x : AddressFields). Some (modrm_with d x)) fields) in
         rw one (lone_allowed row.place d)
     alone (FixedByte b) rule fields =
-        let one = same_modrm m (fixed_modrm row i b) (sym e ∙ modrm_fixed bits row i b rule) in
+        let one = same_Some m (fixed_modrm row i b) (sym e ∙ modrm_fixed bits row i b rule) in
         fixed_allowed row.place m (ap (λ (x : ModRm). x.mode3) one ∙ fixed_mode_is row b s rule)
         (λ only. sym ((places_agree row places).fixed only) ∙ ap (λ (r : ModRmRule). elim r [ FixedByte b ↦ false | _ ↦ true ]) rule)
 
@@ -547,7 +538,7 @@ places_fit bits ip row i g = go (plain_modrm bits row i) refl
     go : (m : Option ModRm) → plain_modrm bits row i ≡ m → place_fits row m ≡ true
     go None e = refl
     go (Some m) e =
-        both (place_allows row.place m) _
+        and_from (place_allows row.place m) _
         (row_allows bits row i m g.is_sound g.is_writable.rule g.is_writable.place g.four g.suits.kinds e)
         (kinds_allow bits row i m g.is_sound g.is_writable.rule g.four g.suits.kinds e)
 
@@ -579,7 +570,7 @@ fixed_rm_small row i b = by_plus row.plus (asked number_in_rm row i)
 
 modrm_small : (m : ModRm) → m.mode3 < 4 → m.reg < 8 → m.rm < 8 → modrm_in_range (Some m) ≡ true
 unfolding modrm_in_range
-modrm_small m a b c = both (nat_lt m.mode3 4) _ (lt_true m.mode3 4 a) (both (nat_lt m.reg 8) _ (lt_true m.reg 8 b) (lt_true m.rm 8 c))
+modrm_small m a b c = and_from (nat_lt m.mode3 4) _ (lt-ltb m.mode3 4 a) (and_from (nat_lt m.reg 8) _ (lt-ltb m.reg 8 b) (lt-ltb m.rm 8 c))
 
 no_modrm : modrm_in_range None ≡ true
 unfolding modrm_in_range

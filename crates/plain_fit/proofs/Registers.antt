@@ -1,7 +1,7 @@
 -- The registers that the plain spelling names fit: their numbers in the fields, and what kinds, gathers and the byte 90 ask of them.
 use Rattle.std.proofs.Common.{◌≡◌, inl, inr, ℕ, zero, suc, ◌+◌, ◌%◌, ◌<◌, Bool, true, false, ◌&&◌, ◌||◌, not, ◌==◌, nat_le, nat_lt, refl, ap, sym, ◌∙◌, subst, arith, if◌then◌else◌, Option, Some, None, is_none, is_some, eq-eqb, List, [], ◌∷◌, length}
 use Rattle.std.specs.Prelude.{slice_index_or}
-use Rattle.std.proofs.lemmas.Bool.{leb-true}
+use Rattle.std.proofs.lemmas.Bool.{leb-true, and_from, lt-ltb, or_left, lt-leb}
 use Rattle.std.specs.List.{list_all}
 use borrow.Author.Tests.{ltb-true}
 use Rattle.x86_values.specs.declared.Bits.{Bits}
@@ -50,14 +50,14 @@ use Rattle.plain_spelling.specs.Addresses.{register_count, general_size, has_add
 use Rattle.plain_spelling.specs.PlainTail.{modrm_with, plain_modrm, plain_sib_of}
 use Rattle.plain_spelling.specs.Expressible.{each_operand, kind_suits, naming_number, is_of_kind, is_not_nop, kind_allows, is_nameable, is_vector_register, vector_in_reg, vector_in_index, vector_in_vvvv, passes, differ as two_differ, gather_numbers_differ, gather_suits, register_suits, address_suits, is_exchange_of_90, repeat_suits, prefixes_suit, lock_suits, has_memory_operand, size_agrees, is_size_of, address_size_suits}
 use Rattle.plain_spelling.specs.Writable.{nop_is_bare, is_vector_file, names_vectors, gather_is_whole}
-use Rattle.plain_spelling.specs.Comparing.{same_register}
-use Rattle.plain_spelling.proofs.Compared.{same_register-is}
+use Rattle.x86_values.specs.Comparing.{same_register}
+use Rattle.x86_values.proofs.Compared.{same_register-is}
 use Rattle.plain_spelling.proofs.AddressForms.{vectors_named}
 use Rattle.plain_spelling.proofs.Asked.{adds_register, proper, plus_register, four_kinds, each-at, asked_reg-at, asked_rm-at, asked_rm-none, asked_index-at, asked_opcode-at, index_in_rm, reads_b}
 use Rattle.plain_fit.proofs.Given.{Given}
 use Rattle.plain_fit.proofs.Numbers.{kind_that_passes, Nameable, nameable-at, numbers_suit}
 use Rattle.plain_fit.proofs.FrontBits.{FrontBits, front_bits, count-most}
-use Rattle.plain_fit.proofs.Places.{lt_true, both, or_true, all-from, reads-at, rule_of_reg, modrm_any, address_small, register_in_rm, reads_b_of_rm, MemoryInRm, memory_in_rm}
+use Rattle.plain_fit.proofs.Places.{or_true, all-from, reads-at, rule_of_reg, modrm_any, address_small, register_in_rm, reads_b_of_rm, MemoryInRm, memory_in_rm}
 
 -- ---- numbers in the fields
 
@@ -192,9 +192,6 @@ in_reg bits ip row i n g below reads =
 reads_of_kind : (kind of : OpKind) → kind ≡ of → reads_reg (method_of of) ≡ true → reads_reg (method_of kind) ≡ true
 reads_of_kind kind of e h = rw e h
 
-not_le : (x : ℕ) → x < 8 → nat_le 8 x ≡ false
-not_le x h = grind (arith, h)
-
 register_fits-at : (bits : Bits) (ip : ℕ) (row : Row) (i : Instr) (n : ℕ) → Given bits ip row i → n < 4 → register_fits bits (plain_front_of bits row i) (plain_modrm bits row i) (kind_at row n) ≡ true
 unfolding register_fits method_of kind_allows
 register_fits-at bits ip row i n g below = go (kind_at row n) refl
@@ -204,7 +201,7 @@ register_fits-at bits ip row i n g below = go (kind_at row n) refl
         let k = in_reg bits ip row i n g below (reads_of_kind (kind_at row n) Sw e refl) in
         let small = segment_kind bits row i k.register (subst (λ (kind : OpKind). is_of_kind bits row i kind k.register ≡ true) e k.named.kind) in
         let field = k.field in
-        lt_true (reg_field (plain_modrm bits row i)) 6 (omega arith)
+        lt-ltb (reg_field (plain_modrm bits row i)) 6 (omega arith)
 
     control : kind_at row n ≡ Cn → is_control_number bits (reg_number (plain_front_of bits row i) (plain_modrm bits row i)) ≡ true
     control e =
@@ -215,7 +212,7 @@ register_fits-at bits ip row i n g below = go (kind_at row n) refl
     debug e =
         let k = in_reg bits ip row i n g below (reads_of_kind (kind_at row n) Dn e refl) in
         let small = ltb-true (register_number k.register) 8 (subst (λ (kind : OpKind). kind_allows bits n kind k.register ≡ true) e k.named.allowed) in
-        ap not ((says bits ip row i g).r ∙ k.asks ∙ not_le (register_number k.register) small)
+        ap not ((says bits ip row i g).r ∙ k.asks ∙ lt-leb 8 (register_number k.register) small)
 
     go : (kind : OpKind) → kind_at row n ≡ kind → register_fits bits (plain_front_of bits row i) (plain_modrm bits row i) kind ≡ true
     go Sw e = segment e
@@ -313,15 +310,11 @@ gather_fields bits row file asize m h =
       index = plain_sib_index m ∙ index_field m.index index;
     }
 
-or_first : (a b : Bool) → a ≡ true → (a || b) ≡ true
-or_first true b h = refl
-or_first false b h = cc
-
 -- a test that one of the four operands passes
 among : (p : ℕ → Bool) (n : ℕ) → n < 4 → p n ≡ true → (p 0 || (p 1 || (p 2 || p 3))) ≡ true
-among p zero below h = or_first (p 0) (p 1 || (p 2 || p 3)) h
-among p (suc zero) below h = or_true (p 0) _ (or_first (p 1) (p 2 || p 3) h)
-among p (suc (suc zero)) below h = or_true (p 0) _ (or_true (p 1) _ (or_first (p 2) (p 3) h))
+among p zero below h = or_left (p 0) (p 1 || (p 2 || p 3)) h
+among p (suc zero) below h = or_true (p 0) _ (or_left (p 1) (p 2 || p 3) h)
+among p (suc (suc zero)) below h = or_true (p 0) _ (or_true (p 1) _ (or_left (p 2) (p 3) h))
 among p (suc (suc (suc zero))) below h = or_true (p 0) _ (or_true (p 1) _ (or_true (p 2) (p 3) h))
 among p (suc (suc (suc (suc n)))) below h = absurd (omega arith)
 
@@ -500,7 +493,7 @@ gather_by : (bits : Bits) (row : Row) (i : Instr) (asize : Bits) (m : Option Mod
     → differ_pairwise (asked number_in_reg row i) (asked number_in_index row i) (asked number_in_vvvv row i) ≡ true → gather_fits bits (plain_front_of bits row i) m sib ≡ true
 unfolding gather_fits
 gather_by bits row i asize m sib size needs reg index vvvv h =
-    both (has_modrm (λ m. needs_sib (state_address_size bits (plain_front_of bits row i)) m) m) _
+    and_from (has_modrm (λ m. needs_sib (state_address_size bits (plain_front_of bits row i)) m) m) _
     (subst (λ (a : Bits). has_modrm (λ m. needs_sib a m) m ≡ true) (sym size) needs)
     (subst (λ (a : ℕ). differ_pairwise a (index_number (plain_front_of bits row i) sib) (vvvv_number bits (plain_front_of bits row i)) ≡ true) (sym reg)
     (subst (λ (b : ℕ). differ_pairwise (asked number_in_reg row i) b (vvvv_number bits (plain_front_of bits row i)) ≡ true) (sym index)
@@ -508,7 +501,7 @@ gather_by bits row i asize m sib size needs reg index vvvv h =
 
 needs_four : (asize : Bits) (m : ModRm) → not (is_16 asize) ≡ true → m.mode3 < 3 → m.rm ≡ 4 → needs_sib asize m ≡ true
 unfolding needs_sib
-needs_four asize m a b c = both (not (is_16 asize)) _ a (both (nat_lt m.mode3 3) _ (lt_true m.mode3 3 b) (eq-eqb m.rm 4 c))
+needs_four asize m a b c = and_from (not (is_16 asize)) _ a (and_from (nat_lt m.mode3 3) _ (lt-ltb m.mode3 3 b) (eq-eqb m.rm 4 c))
 
 index_asked : (bits : Bits) (ip : ℕ) (row : Row) (i : Instr) (sib : Sib) → Given bits ip row i → sib.index ≡ asked number_in_index row i % 8 → index_number (plain_front_of bits row i) (Some sib) ≡ asked number_in_index row i
 unfolding index_number asks_x
@@ -570,7 +563,7 @@ reg_vector bits ip row i g w =
     let below : k.0 < 4 = omega arith in
     let how = method_of (kind_at row k.0) in
     let r = register_in_reg row i k.0 g.suits.kinds below k.2 in
-    passes-at vector_in_reg row i k.0 (Reg r.0) below r.1 (reg_passes how r.0 k.2 (vector-at bits ip row i k.0 r.0 g w below r.1 (or_first (reads_reg how) _ k.2)))
+    passes-at vector_in_reg row i k.0 (Reg r.0) below r.1 (reg_passes how r.0 k.2 (vector-at bits ip row i k.0 r.0 g w below r.1 (or_left (reads_reg how) _ k.2)))
 
 -- the mask
 vvvv_vector : (bits : Bits) (ip : ℕ) (row : Row) (i : Instr) → Given bits ip row i → Whole row → some_passes vector_in_vvvv row i ≡ true
@@ -676,7 +669,7 @@ nop_byte_from : (vex one : Bool) (opcode base low : ℕ) → base % 8 ≡ 0 → 
 nop_byte_from vex one opcode base low multiple sum h =
     let rest = and_right (not vex) (one && opcode == 0x90) h in
     let number : opcode ≡ 0x90 = equal_from opcode 0x90 (and_right one (opcode == 0x90) rest) in
-    (both (not vex) _ (and_left (not vex) (one && opcode == 0x90) h) (both one _ (and_left one (opcode == 0x90) rest) (eq-eqb base 0x90 (omega arith))), omega arith)
+    (and_from (not vex) _ (and_left (not vex) (one && opcode == 0x90) h) (and_from one _ (and_left one (opcode == 0x90) rest) (eq-eqb base 0x90 (omega arith))), omega arith)
 
 large_number : (x : ℕ) → x % 8 ≡ 0 → (x == 0) ≡ false → nat_le 8 x ≡ true
 large_number x h k = elim (either (nat_le 8 x)) [
@@ -770,8 +763,8 @@ unfolding registers_fit
 registers_are_fit bits ip row i g =
     let f = plain_front_of bits row i in
     let m = plain_modrm bits row i in
-    both (list_all (register_fits bits f m) row.ops) _ (each_register_fits bits ip row i g)
-    (both (destination_fits row m) _ (destination bits ip row i g)
-    (both (not (reads_by is_gather row) || gather_fits bits f m (plain_sib_of bits row i)) _
+    and_from (list_all (register_fits bits f m) row.ops) _ (each_register_fits bits ip row i g)
+    (and_from (destination_fits row m) _ (destination bits ip row i g)
+    (and_from (not (reads_by is_gather row) || gather_fits bits f m (plain_sib_of bits row i)) _
     (unless (reads_by is_gather row) (gather_fits bits f m (plain_sib_of bits row i)) (gathers_fit bits ip row i g))
     (unless (is_nop_byte row f.opcode) (nop_fits bits row f) (nops_fit bits ip row i g))))

@@ -1,5 +1,6 @@
 -- What the plain spelling says where an operand is a register, memory or absent.
 use Rattle.std.proofs.Common.{◌≡◌, inl, inr, ℕ, ◌+◌, ◌*◌, ◌%◌, ◌<◌, Bool, true, false, ◌&&◌, ◌||◌, not, nat_le, nat_lt, List, [], ◌∷◌, length, refl, ap, sym, ◌∙◌, subst, arith, if◌then◌else◌, Option}
+use Rattle.std.proofs.lemmas.Bool.{lt-ltb}
 use Rattle.std.specs.Prelude.{slice_index_or}
 use Rattle.std.specs.List.{list_any, list_all}
 use Rattle.x86_values.specs.declared.Bits.{Bits}
@@ -32,7 +33,7 @@ use Rattle.plain_spelling.proofs.Asked.{adds_register, proper, plus_register, fo
 use Rattle.plain_fit.proofs.Given.{Given}
 use Rattle.plain_fit.proofs.Numbers.{nameable-at}
 use Rattle.plain_fit.proofs.FrontBits.{asked-small}
-use Rattle.plain_fit.proofs.Places.{lt_true, or_true, reads-at, address_small, register_in_rm, memory_in_rm}
+use Rattle.plain_fit.proofs.Places.{or_true, reads-at, address_small, register_in_rm, memory_in_rm}
 use Rattle.plain_fit.proofs.Registers.{says, extended_back, below_16, reg_number-at, rm_number-at, register-at, variant-at, reads_b_right, opcode_added, opcode_of_front}
 
 -- ---- which operands are memory
@@ -107,7 +108,7 @@ mode_by_memory bits ip row i n g below some = go (operand_at i n) refl (either_v
     go (MemOperand a) e h =
         let k = memory_in_rm bits row i n a g.is_sound g.is_writable.rule g.four g.suits.kinds below reads e in
         let small = (address_small bits (written_size bits i.asize a) a).mode in
-        ap (has_modrm (λ m. nat_lt m.mode3 3)) k.modrm ∙ lt_true (address_fields bits (written_size bits i.asize a) a).mode3 3 small
+        ap (has_modrm (λ m. nat_lt m.mode3 3)) k.modrm ∙ lt-ltb (address_fields bits (written_size bits i.asize a) a).mode3 3 small
     go _ e h = cc
 
 -- **an operand is read as memory exactly where it is memory**

@@ -1,5 +1,6 @@
 -- The plain spelling of an instruction that meets its conditions fits its row and means the instruction.
 use Rattle.std.proofs.Common.{◌≡◌, ℕ, ◌<◌, true, false, ◌||◌, length, Option, Some, None, refl, ap, ◌∙◌, nat_lt, eq-eqb, if◌then◌else◌, is_none, inl, inr}
+use Rattle.std.proofs.lemmas.Bool.{and_from, lt-ltb}
 use Rattle.x86_values.specs.declared.Bits.{Bits}
 use Rattle.x86_values.specs.declared.Operand.{Operand}
 use Rattle.x86_values.specs.declared.Operand.TheVariants.{Absent as AbsentOperand, Reg, Mem as MemOperand, Imm, Near, Far}
@@ -22,7 +23,7 @@ use Rattle.plain_fit.proofs.Lengths.{plain_long}
 use Rattle.plain_fit.proofs.Numbers.{numbers_suit}
 use Rattle.plain_fit.proofs.FrontBits.{FrontBits}
 use Rattle.plain_fit.proofs.Front.{PlainFrontFits, plain_front_fits}
-use Rattle.plain_fit.proofs.Places.{both, lt_true, rule_fits, places_fit, modrm_fits}
+use Rattle.plain_fit.proofs.Places.{rule_fits, places_fit, modrm_fits}
 use Rattle.plain_fit.proofs.Registers.{registers_are_fit}
 use Rattle.plain_fit.proofs.RegistersBack.{has_memory_is, locks_fit, register_back, absent_back}
 use Rattle.plain_fit.proofs.Immediates.{immediates-length, immediates-bytes, own-immediate, value-read_back, is_value}
@@ -47,7 +48,7 @@ lengths bits ip row i g f =
     let d = displacement_length (plain_next bits ip row i) (address_operand row i) in
     let n = immediates-length bits row i (plain_next bits ip row i) g.suits.kinds in
     rw (d, n, f.says.size)
-    (both (address_fits (state_address_size bits (plain_front_of bits row i)) row (plain_modrm bits row i) (plain_sib_of bits row i) (operand_displacement (address_operand row i))) _
+    (and_from (address_fits (state_address_size bits (plain_front_of bits row i)) row (plain_modrm bits row i) (plain_sib_of bits row i) (operand_displacement (address_operand row i))) _
     (tail_fits bits ip row i g).fits (eq-eqb (immediates_bytes (plain_size bits row) row) (immediates_bytes (plain_size bits row) row) refl))
 
 ranges : (bits : Bits) (ip : ℕ) (row : Row) (i : Instr) → Given bits ip row i → PlainFrontFits bits row i → fields_in_range (plain_spelling bits ip row i) ≡ true
@@ -58,18 +59,18 @@ ranges bits ip row i g f =
     let s = sib_in_range (plain_sib_of bits row i) in
     let d = are_bytes (plain_disp bits ip row i) in
     let n = are_bytes (plain_imm bits ip row i) in
-    both (are_bytes (prefixes_of (plain_front_of bits row i))) _ f.bytes
-    (both v _ f.vex_range
-    (both (nat_lt (plain_front_of bits row i).opcode 256) _ (lt_true (plain_front_of bits row i).opcode 256 f.opcode_byte)
-    (both m _ (modrm_fits bits row i g.is_sound)
-    (both s _ (tail_fits bits ip row i g).sib_range
-    (both d n (displacement_are_bytes (plain_next bits ip row i) (address_operand row i)) (immediates-bytes bits ip row i (plain_next bits ip row i) g))))))
+    and_from (are_bytes (prefixes_of (plain_front_of bits row i))) _ f.bytes
+    (and_from v _ f.vex_range
+    (and_from (nat_lt (plain_front_of bits row i).opcode 256) _ (lt-ltb (plain_front_of bits row i).opcode 256 f.opcode_byte)
+    (and_from m _ (modrm_fits bits row i g.is_sound)
+    (and_from s _ (tail_fits bits ip row i g).sib_range
+    (and_from d n (displacement_are_bytes (plain_next bits ip row i) (address_operand row i)) (immediates-bytes bits ip row i (plain_next bits ip row i) g))))))
 
 opcode_suits : (bits : Bits) (ip : ℕ) (row : Row) (i : Instr) → Given bits ip row i → PlainFrontFits bits row i → opcode_and_modrm_fit row (plain_front_of bits row i).opcode (plain_modrm bits row i) ≡ true
 unfolding opcode_and_modrm_fit
 opcode_suits bits ip row i g f =
-    both (opcode_fits row (plain_front_of bits row i).opcode) _ f.opcode
-    (both (modrm_rule_fits row.plus row.modrm (plain_modrm bits row i)) _ (rule_fits bits row i g.is_sound) (places_fit bits ip row i g))
+    and_from (opcode_fits row (plain_front_of bits row i).opcode) _ f.opcode
+    (and_from (modrm_rule_fits row.plus row.modrm (plain_modrm bits row i)) _ (rule_fits bits row i g.is_sound) (places_fit bits ip row i g))
 
 -- **the plain spelling fits**
 pub plain_fits : (bits : Bits) (ip : ℕ) (row : Row) (i : Instr) → Given bits ip row i → fits bits row (plain_spelling bits ip row i) ≡ true

@@ -1,6 +1,7 @@
 -- The fields of an address that is read are the plain ones of it exactly where its SIB is needed, and has no scale that is not read.
 use Rattle.std.proofs.Common.{◌≡◌, eq-eqb, inl, inr, ℕ, zero, suc, ◌%◌, ◌^◌, ◌<◌, Bool, true, false, ◌&&◌, ◌||◌, not, ◌==◌, List, length, Option, Some, None, is_some, refl, ap, sym, ◌∙◌, subst, arith, if◌then◌else◌}
-use Rattle.std.proofs.lemmas.Bool.{lt-ltb}
+use Rattle.std.proofs.lemmas.Option.{same_Some}
+use Rattle.std.proofs.lemmas.Bool.{lt-ltb, not_from_false, not_from_true}
 use Rattle.x86_values.specs.declared.Bits.{Bits}
 use Rattle.x86_values.specs.declared.Bits.TheVariants.{B16, B32, B64}
 use Rattle.x86_values.specs.declared.Register.{Register}
@@ -232,16 +233,13 @@ index_four : (b : Bool) (n : ℕ) → extended b n ≡ 4 → n ≡ 4
 index_four true n h = absurd (omega arith)
 index_four false n h = omega arith
 
-some_sib : (a b : Sib) → Some a ≡ Some b → a ≡ b
-some_sib a b h = cc
-
 none_sib : {T : Type 0} → (a : Sib) → None ≡ Some a → T
 none_sib a h = impossible (let k : true ≡ false = cc in k)
 
 back_neither : (bits : Bits) (m : ModRm) (s : Sib) (long : Bool) → (m.mode3 == 0 && s.base == 5) ≡ true → (if long then fields 0 4 (Some (sib_with 0 4 5)) else fields 0 5 None).sib ≡ Some s → is_64 bits ≡ long → (sib_needed bits m s false ≡ true) × (scale_needed s false ≡ true)
 back_neither bits m s false alone h e = none_sib s h
 back_neither bits m s true alone h e =
-    let k : sib_with 0 4 5 ≡ s = some_sib (sib_with 0 4 5) s h in
+    let k : sib_with 0 4 5 ≡ s = same_Some (sib_with 0 4 5) s h in
     let scale : 0 ≡ s.scale = ap (λ (x : Sib). x.scale) k in
     let zero_is : (s.scale == 0) ≡ true = subst (λ (n : ℕ). (n == 0) ≡ true) scale refl in
     (rw (alone, e) (or_true (s.base == 4)), zero_is)
@@ -269,7 +267,7 @@ neither_is bits asize st m s d scale disp size w g alone none =
 back_base : (bits : Bits) (m : ModRm) (s : Sib) (four : Bool) (k : ℕ) → (s.base == 4) ≡ four → (if four then Some (sib_with 0 4 k) else None) ≡ Some s → (sib_needed bits m s false ≡ true) × (scale_needed s false ≡ true)
 back_base bits m s false k e h = none_sib s h
 back_base bits m s true k e h =
-    let z : sib_with 0 4 k ≡ s = some_sib (sib_with 0 4 k) s h in
+    let z : sib_with 0 4 k ≡ s = same_Some (sib_with 0 4 k) s h in
     let scale : 0 ≡ s.scale = ap (λ (x : Sib). x.scale) z in
     (rw e refl, subst (λ (n : ℕ). (n == 0) ≡ true) scale refl)
 
@@ -299,14 +297,6 @@ base_is bits asize st m s d scale disp w g beside none =
 
 -- ---- an address by a general index
 
-not_true_is : (b : Bool) → b ≡ false → not b ≡ true
-not_true_is true h = impossible h
-not_true_is false h = refl
-
-not_false_is : (b : Bool) → b ≡ true → not b ≡ false
-not_false_is true h = refl
-not_false_is false h = impossible (sym h)
-
 eq_test : (n k : ℕ) → n ≡ k → (n == k) ≡ true
 eq_test n k h = subst (λ (x : ℕ). (n == x) ≡ true) h (same n)
   where
@@ -325,24 +315,24 @@ sib_is bits asize st m s d w g =
           (let base = sib_base-none bits asize st m s alone in
           elim (either (j == 4)) [
             | inl none ↦
-                subst (λ (b : Bool). SibIs bits asize m s b (memory_with_sib bits asize st (sib_index asize st s) m s d)) (sym (not_false_is (j == 4) none))
+                subst (λ (b : Bool). SibIs bits asize m s b (memory_with_sib bits asize st (sib_index asize st s) m s d)) (sym (not_from_true (j == 4) none))
                 (same_sib_is bits asize m s false _ _ (with_parts bits asize st (sib_index asize st s) None None m s d base (sib_index-none asize st s (equal_from j 4 none)))
                 (neither_is bits asize st m s d 1 _ _ w g alone (equal_from j 4 none)))
             | inr other ↦
                 same_sib_is bits asize m s (names_index st s) _ _ (with_parts bits asize st (sib_index asize st s) None (Some (general asize j)) m s d base (sib_index-some asize st s other))
-                (with_index bits asize m s (names_index st s) _ (not_true_is (j == 4) other) (index_is bits asize st m s d (general asize j) _ _ w g alone (index_low asize (bit_x st) s.index small.index)))
+                (with_index bits asize m s (names_index st s) _ (not_from_false (j == 4) other) (index_is bits asize st m s d (general asize j) _ _ w g alone (index_low asize (bit_x st) s.index small.index)))
           ])
       | inr beside ↦
           (let base = sib_base-some bits asize st m s beside in
           let k = extended (bit_b bits st) s.base in
           elim (either (j == 4)) [
             | inl none ↦
-                subst (λ (b : Bool). SibIs bits asize m s b (memory_with_sib bits asize st (sib_index asize st s) m s d)) (sym (not_false_is (j == 4) none))
+                subst (λ (b : Bool). SibIs bits asize m s b (memory_with_sib bits asize st (sib_index asize st s) m s d)) (sym (not_from_true (j == 4) none))
                 (same_sib_is bits asize m s false _ _ (with_parts bits asize st (sib_index asize st s) (Some (general asize k)) None m s d base (sib_index-none asize st s (equal_from j 4 none)))
                 (base_is bits asize st m s d 1 _ w g beside (equal_from j 4 none)))
             | inr other ↦
                 same_sib_is bits asize m s (names_index st s) _ _ (with_parts bits asize st (sib_index asize st s) (Some (general asize k)) (Some (general asize j)) m s d base (sib_index-some asize st s other))
-                (with_index bits asize m s (names_index st s) _ (not_true_is (j == 4) other) (sum_is bits asize st m s d (general asize j) 0 _ w g beside (index_low asize (bit_x st) s.index small.index)))
+                (with_index bits asize m s (names_index st s) _ (not_from_false (j == 4) other) (sum_is bits asize st m s d (general asize j) 0 _ w g beside (index_low asize (bit_x st) s.index small.index)))
           ])
     ]
 

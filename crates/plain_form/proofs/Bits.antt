@@ -20,7 +20,7 @@ use Rattle.row_meaning.specs.Meaning.{Tail, instr_of, meaning}
 use Rattle.plain_spelling.specs.PlainFront.{register_number, number_or_zero, is_low_byte_of_rex, over_operands, base_or_register_number, number_in_reg, number_in_rm, number_in_index, asks_r, asks_x, asks_b, asks_low_byte}
 use Rattle.plain_need.proofs.Given.{Given}
 use Rattle.plain_need.proofs.Walking.{Hold, readers, readers_yes, readers_no, Silent, asked_none}
-use Rattle.plain_need.proofs.Asks.{each_read, no_readers, Apart, apart, Placed, placed, differ, silent_reg, silent_index}
+use Rattle.plain_need.proofs.Asks.{each_read, no_readers, Apart, apart, Placed, placed, differ, silent_reg, silent_index, readers_or}
 use Rattle.plain_need.proofs.Used.{read_is}
 use Rattle.plain_form.specs.IsPlain.{meant_operands, any_operand, is_high_register, is_high, has_high_base, has_high_index, needs_r, needs_x, needs_b, names_low_byte}
 
@@ -123,17 +123,6 @@ silent_rm op method.AnyMode h = cc
 silent_rm op method.Gather h = cc
 silent_rm op method.OpcodeLow h = cc
 silent_rm op _ h = refl
-
-readers_or : (p q : Method → Bool) (kinds : List OpKind) → readers (λ m. p m || q m) kinds ≤ readers p kinds + readers q kinds
-readers_or p q [] = omega arith
-readers_or p q (kind ∷ kinds) =
-    let rest = readers_or p q kinds in step (p (method_of kind)) (q (method_of kind)) _ _ _ rest
-  where
-    step : (a b : Bool) (n m k : ℕ) → n ≤ m + k → (if a || b then 1 else 0) + n ≤ ((if a then 1 else 0) + m) + ((if b then 1 else 0) + k)
-    step true true n m k h = omega arith
-    step true false n m k h = omega arith
-    step false true n m k h = omega arith
-    step false false n m k h = omega arith
 
 one_of_b : (row : Row) → Apart row → Placed row → readers (λ m. reads_rm m || reads_opcode m) row.ops ≤ 1
 one_of_b row a p =

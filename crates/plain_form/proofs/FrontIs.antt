@@ -1,5 +1,6 @@
 -- The constructed front is plain: its prefixes, REX and VEX.
 use Rattle.std.proofs.Common.{◌≡◌, inl, inr, ℕ, ◌+◌, ◌*◌, ◌<◌, Bool, true, false, ◌&&◌, ◌||◌, not, nat_lt, List, Option, Some, None, refl, ap, sym, ◌∙◌, subst, if◌then◌else◌}
+use Rattle.plain_spelling.proofs.AddressCases.{if_yes, if_no}
 use Rattle.std.proofs.lemmas.Bool.{lt-ltb}
 use Rattle.x86_values.specs.declared.Bits.{Bits}
 use Rattle.x86_values.specs.declared.Operand.{Operand}
@@ -28,7 +29,7 @@ use Rattle.plain_fit.proofs.Places.{places_fit, rule_fits}
 use Rattle.plain_fit.proofs.Whole.{plain_fits, plain_means}
 use Rattle.plain_need.proofs.Given as need
 use Rattle.plain_need.proofs.States.{StateIs, state_is}
-use Rattle.plain_need.proofs.Agreeing.{plain_rex_w}
+use Rattle.plain_spelling.proofs.PlainFrontLaws.{plain_rex_w}
 use Rattle.plain_need.proofs.Used.{read, read_is}
 use Rattle.plain_form.specs.IsPlain.{needed_prefixes, only_if, needs_r, needs_x, needs_b, needs_w, names_low_byte, rex_is_needed, vex_is_short, l_is_needed, vvvv_is_read}
 use Rattle.plain_form.proofs.Prefixes.{Keeps, needed_are}
@@ -131,12 +132,6 @@ vex_w st row i e = rw e refl
 
 legacy_w : (st : PrefixState) → st.vex ≡ None → shared_bit (λ v. v.w) 3 st ≡ rex_bit 3 st.rex
 legacy_w st e = rw e refl
-
-if_yes : (t a b : Bool) → t ≡ true → (if t then a else b) ≡ a
-if_yes t a b h = rw h refl
-
-if_no : (t a b : Bool) → t ≡ false → (if t then a else b) ≡ b
-if_no t a b h = rw h refl
 
 pub w_plain : (bits : Bits) (row : Row) (i : Instr) → only_if (needs_w row) (shared_bit (λ v. v.w) 3 (plain_front_of bits row i)) ≡ true
 w_plain bits row i =

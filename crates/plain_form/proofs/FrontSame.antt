@@ -39,7 +39,7 @@ use Rattle.row_meaning.specs.Meaning.{Tail, operand_by, register_of, tail_of}
 use Rattle.plain_spelling.specs.Forms.{operand_at}
 use Rattle.plain_spelling.specs.PlainFront.{register_number, operand_number, number_in_vvvv, asked, asks_r, asks_x, asks_b, asks_low_byte, asks_rex_w, asks_vex_w, asked_rex, class_pp, asked_vex, asked_opcode, plain_front_of}
 use Rattle.plain_spelling.specs.PlainTail.{prefixes_of}
-use Rattle.plain_spelling.proofs.AddressCases.{impossible}
+use Rattle.plain_spelling.proofs.AddressCases.{impossible, if_yes, if_no}
 use Rattle.plain_spelling.proofs.FrontRange.{vex_for, vex_of_vex, vex_of_legacy}
 use Rattle.plain_spelling.proofs.Asked.{asked_vvvv-at, asked_vvvv-none, four_kinds}
 use Rattle.plain_fit.proofs.Numbers.{kind_that_passes}
@@ -47,7 +47,7 @@ use Rattle.plain_need.proofs.Given.{Given}
 use Rattle.plain_need.proofs.Asks.{differ}
 use Rattle.plain_need.proofs.Numbers.{number-general, number-vector}
 use Rattle.plain_need.proofs.States.{StateIs, state_is, state_vex, state_rex, state_opcode}
-use Rattle.plain_need.proofs.Front.{needs_rex_w, needs_rex}
+use Rattle.plain_need.proofs.Front.{needs_rex_w, needs_rex, vex_proper, vex_says_w}
 use Rattle.plain_need.proofs.Used.{read_is, bits_of}
 use Rattle.plain_need.proofs.Variants.{read_at}
 use Rattle.plain_need.proofs.Suiting.{same_opcode_byte}
@@ -121,23 +121,6 @@ same_size_fits bits O64 st_size b = refl
 same_size_fits bits SizeW0 st_size b = refl
 same_size_fits bits SizeW1 st_size b = refl
 
-if_true : (t a b : Bool) → t ≡ true → (if t then a else b) ≡ true → a ≡ true
-if_true true a b n h = h
-if_true false a b n h = impossible (sym n)
-
-vex_proper : (row : Row) → kind_is_proper row ≡ true → is_vex_row row ≡ true → vex_is_proper row ≡ true
-unfolding kind_is_proper
-vex_proper row h v = if_true (is_vex_row row) (vex_is_proper row) (legacy_is_proper row) v h
-
-vex_says_w : (row : Row) → vex_is_proper row ≡ true → size_says_w row.size row.w ≡ true
-unfolding vex_is_proper
-vex_says_w row h =
-    let h1 = and_right (not (is_no_w row.w)) _ h in
-    let h2 = and_right (not (is_no_l row.l)) _ h1 in
-    let h3 = and_right (is_class_of_vex row.class) _ h2 in
-    let h4 = and_right (is_size_of_vex row.size) _ h3 in
-    and_left (size_says_w row.size row.w) _ h4
-
 vex_w_raw : (bits : Bits) (row : Row) (st : PrefixState) → Sound row → StateIs bits row st → is_vex_row row ≡ true → asks_vex_w row ≡ true → shared_bit (λ v. v.w) 3 st ≡ true
 unfolding asks_vex_w w_fits
 vex_w_raw bits row st sound f e a =
@@ -150,12 +133,6 @@ vex_w_raw bits row st sound f e a =
 needs_w_is : (row : Row) → needs_w row ≡ asks_w row
 unfolding needs_w asks_vex_w asks_rex_w
 needs_w_is row = refl
-
-if_yes : (t a b : Bool) → t ≡ true → (if t then a else b) ≡ a
-if_yes t a b h = rw h refl
-
-if_no : (t a b : Bool) → t ≡ false → (if t then a else b) ≡ b
-if_no t a b h = rw h refl
 
 w_raw : (bits : Bits) (row : Row) (st : PrefixState) → Sound row → StateIs bits row st → asks_w row ≡ true → shared_bit (λ v. v.w) 3 st ≡ true
 w_raw bits row st sound f a = elim (either (is_vex_row row)) [

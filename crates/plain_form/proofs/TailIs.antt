@@ -1,6 +1,6 @@
 -- The constructed tail is plain: the fields of ModRM, and the last byte.
 use Rattle.std.proofs.Common.{◌≡◌, inl, inr, ℕ, ◌*◌, ◌%◌, ◌<◌, Bool, true, false, ◌&&◌, ◌||◌, not, ◌==◌, nat_lt, List, [], ◌∷◌, eq-eqb, Option, Some, refl, ap, sym, ◌∙◌, subst, arith}
-use Rattle.std.proofs.lemmas.Bool.{lt-ltb}
+use Rattle.std.proofs.lemmas.Bool.{lt-ltb, not-false}
 use Rattle.x86_values.specs.declared.Bits.{Bits}
 use Rattle.x86_values.specs.declared.Register.{Register}
 use Rattle.x86_values.specs.declared.Operand.{Operand}
@@ -97,10 +97,6 @@ reads_mode_is : (row : Row) → reads_mode row ≡ not (reads_by is_any_mode row
 unfolding reads_mode
 reads_mode_is row = refl
 
-not_false : (b : Bool) → not b ≡ false → b ≡ true
-not_false true h = refl
-not_false false h = cc
-
 mode_of_some : (m : Option ModRm) (x : ModRm) → m ≡ Some x → x.mode3 ≡ 3 → has_modrm (λ m. m.mode3 == 3) m ≡ true
 mode_of_some m x e k = rw e (eq-eqb x.mode3 3 k)
 
@@ -118,7 +114,7 @@ pub mode_plain : (bits : Bits) (ip : ℕ) (row : Row) (i : Instr) → Given bits
 unfolding mode_is_register
 mode_plain bits ip row i g = elim (either (reads_mode row)) [
   | inl reads ↦ rw reads refl
-  | inr none ↦ rw none (mode_by bits ip row i g (not_false (reads_by is_any_mode row) (sym (reads_mode_is row) ∙ none)))
+  | inr none ↦ rw none (mode_by bits ip row i g (not-false (reads_by is_any_mode row) (sym (reads_mode_is row) ∙ none)))
 ]
 
 -- ---- the last byte

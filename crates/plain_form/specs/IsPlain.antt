@@ -33,7 +33,7 @@ use Rattle.instruction_parts.specs.Bytes.{state_of}
 use Rattle.row_fit.specs.Fits.{same_bool, same_map, reads_by, reads_mode, is_gather, is_repeat_f2, is_repeat_f3, has_modrm, reg_field, index_number, kind_at}
 use Rattle.row_fit.specs.Sound.{reads_reg, reads_rm, reads_opcode, reads_last_byte}
 use Rattle.row_meaning.specs.Meaning.{meaning, kept_repeat, kept_address_size, own_immediate}
-use Rattle.plain_spelling.specs.Comparing.{same_bits}
+use Rattle.x86_values.specs.Comparing.{same_bits}
 use Rattle.plain_spelling.specs.PlainFront.{register_number, is_low_byte_of_rex}
 
 -- ---- what the spelling means

@@ -1,5 +1,6 @@
 -- Where the ten conditions hold there is a plain spelling, and nowhere else; no other spelling is shorter.
 use Rattle.std.proofs.Common.{◌≡◌, ℕ, ◌≤◌, ◌<◌, ◌^◌, Bool, true, false, ◌&&◌, ◌||◌, not, List, [], ◌∷◌, length, Option, Some, None, refl, ap, sym, ◌∙◌, subst, arith, slice_get, nat_le}
+use Rattle.std.proofs.lemmas.Bool.{le-leb, leb-true}
 use Rattle.x86_values.specs.declared.Bits.{Bits}
 use Rattle.x86_values.specs.declared.Bits.TheVariants.{B16, B32, B64}
 use Rattle.x86_values.specs.declared.Code.{Code}
@@ -33,7 +34,7 @@ use Rattle.plain_fit.proofs.Whole.{plain_fits, plain_means}
 use Rattle.plain_need.proofs.Given as need
 use Rattle.plain_need.proofs.Whole.{NeedsHold, needs_hold}
 use Rattle.plain_form.proofs.PlainIs.{plain_is}
-use Rattle.plain_form.proofs.Lengths.{length_same}
+use Rattle.plain_form.proofs.Lengths.{length_same, four_of}
 use Rattle.plain_form.proofs.One.{one_plain}
 use Rattle.row_relation.specs.Spells.{IsSpelledBy, SpellsUnbounded}
 use Rattle.plain_laws.specs.Plain.{IsPlainlySpelled, IsWritable, is_target, has_target}
@@ -84,12 +85,6 @@ writable_row bits row h e =
 
 -- ---- from the conditions to the spelling
 
-le_true : (a b : ℕ) → nat_le a b ≡ true → a ≤ b
-le_true a b h = grind (arith, h)
-
-true_le : (a b : ℕ) → a ≤ b → nat_le a b ≡ true
-true_le a b h = grind (arith, h)
-
 pub given_fit : (table : List Row) (bits : Bits) (ip : ℕ) (row : Row) (i : Instr) → IsWritable table → slice_get table i.code.0 ≡ Some row → length i.ops ≡ 4 → Suits bits ip row i → fit.Given bits ip row i
 given_fit table bits ip row i w at four a = record {
   is_sound = sound_conditions row (w.is_sound i.code.0 row at);
@@ -112,7 +107,7 @@ plain_from table bits ip row i w at four h =
       fitting = plain_fits bits ip row i g;
       plain = plain_is bits ip row i g;
       means = plain_means bits ip row i g;
-      is_short = rw n (le_true (plain_len bits row i) 15 a.1);
+      is_short = rw n (leb-true (plain_len bits row i) 15 a.1);
     }
 
 -- ---- from a spelling to the conditions
@@ -144,14 +139,6 @@ all_hold bits ip row s i n targets = record {
 same_row : (table : List Row) (code : ℕ) (row other : Row) → slice_get table code ≡ Some row → slice_get table code ≡ Some other → row ≡ other
 same_row table code row other a b = cc
 
--- a meaning has four operands
-four_of_meaning : (bits : Bits) (ip : ℕ) (code : Code) (row : Row) (s : Spelling) → length (meaning bits ip code row s).ops ≡ 4
-unfolding meaning instr_of
-four_of_meaning bits ip code row s = refl
-
-four_of : (bits : Bits) (ip : ℕ) (row : Row) (s : Spelling) (i : Instr) → meaning bits ip i.code row s ≡ i → length i.ops ≡ 4
-four_of bits ip row s i e = subst (λ (x : Instr). length x.ops ≡ 4) e (four_of_meaning bits ip i.code row s)
-
 -- what is plainly spelled is as long as the constructed spelling
 constructed_long : (table : List Row) (bits : Bits) (ip : ℕ) (bytes : List ℕ) (i : Instr) → IsWritable table → (p : IsPlainlySpelled table bits ip bytes i) → plain_len bits p.row i ≡ length (bytes_of p.row p.spelling)
 constructed_long table bits ip bytes i w p =
@@ -166,7 +153,7 @@ holds_of_plain table bits ip bytes row i w at p =
     let l = constructed_long table bits ip bytes i w p in
     let short : plain_len bits p.row i ≤ 15 = rw (l, ← p.bytes_are) p.is_short in
     subst (λ (r : Row). failure bits ip r i ≡ None) (same_row table i.code.0 p.row row p.row_is at)
-    (suits-failure bits ip p.row i (all_hold bits ip p.row s i n (n.targets l)) (true_le (plain_len bits p.row i) 15 short))
+    (suits-failure bits ip p.row i (all_hold bits ip p.row s i n (n.targets l)) (le-leb (plain_len bits p.row i) 15 short))
 
 -- **an instruction is plainly spelled by one byte string at most**
 constructed_bytes : (table : List Row) (bits : Bits) (ip : ℕ) (bytes : List ℕ) (i : Instr) → IsWritable table → (p : IsPlainlySpelled table bits ip bytes i) → bytes ≡ bytes_of p.row (plain_spelling bits ip p.row i)
@@ -243,5 +230,5 @@ plain_of_spelled table bits ip bytes i w none short (row, at, (s, e)) =
     let n = needs_hold bits ip i.code row s i g in
     let four = four_of bits ip row s i e.means in
     let all = all_hold bits ip row s i n (all_untargeted bits ip row i none) in
-    let within = true_le (plain_len bits row i) 15 (omega (arith, n.least, ap length e.bytes_are)) in
+    let within = le-leb (plain_len bits row i) 15 (omega (arith, n.least, ap length e.bytes_are)) in
     (bytes_of row (plain_spelling bits ip row i), plain_from table bits ip row i w at four (suits-failure bits ip row i all within))

@@ -1,5 +1,6 @@
 -- The memory operands of what a fitting spelling means meet the conditions on addresses.
 use Rattle.std.proofs.Common.{◌≡◌, ℕ, ◌<◌, Bool, true, false, ◌&&◌, ◌||◌, not, List, [], ◌∷◌, length, Option, Some, None, is_none, refl, ap, sym, ◌∙◌, subst, arith, if◌then◌else◌}
+use Rattle.std.proofs.lemmas.Bool.{and_from}
 use Rattle.std.specs.Prelude.{slice_index_or}
 use Rattle.std.specs.List.{list_any}
 use Rattle.x86_values.specs.declared.Bits.{Bits}
@@ -21,7 +22,7 @@ use Rattle.plain_spelling.specs.Forms.{operand_at, is_memory}
 use Rattle.plain_spelling.specs.Addresses.{has_address_size}
 use Rattle.plain_spelling.specs.Expressible.{each_operand, address_suits, offered, has_memory_operand, size_agrees, is_size_of, address_size_suits}
 use Rattle.plain_spelling.proofs.Asked.{each-from, four_kinds}
-use Rattle.plain_spelling.proofs.AddressCases.{both, if_yes}
+use Rattle.plain_spelling.proofs.AddressCases.{if_yes}
 use Rattle.plain_spelling.proofs.AddressForms.{memory_there}
 use Rattle.plain_need.proofs.Given.{Given}
 use Rattle.plain_need.proofs.Used.{read, read_is}
@@ -116,8 +117,8 @@ displacements_suit bits ip code row s i g =
 size_is : (bits : Bits) (ip : ℕ) (code : Code) (row : Row) (s : Spelling) (i : Instr) → Given bits ip code row s i → is_size_of bits row i (spelled_asize bits row s) ≡ true
 unfolding is_size_of
 size_is bits ip code row s i g =
-    both (has_address_size bits asize) _ (has_size bits (state_of bits row s).addr67)
-    (both (each_operand (λ n. size_agrees asize (operand_at i n))) (not (is_16 asize && reads_by is_gather row))
+    and_from (has_address_size bits asize) _ (has_size bits (state_of bits row s).addr67)
+    (and_from (each_operand (λ n. size_agrees asize (operand_at i n))) (not (is_16 asize && reads_by is_gather row))
     (each-from (λ n. size_agrees asize (operand_at i n)) each) wide)
   where
     asize : Bits

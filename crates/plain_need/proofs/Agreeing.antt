@@ -1,5 +1,6 @@
 -- The registers of a kind are the same under the plain front of an instruction and under the state that was read.
 use Rattle.std.proofs.Common.{◌≡◌, ◌⊎◌, inl, inr, ℕ, zero, suc, ◌+◌, ◌*◌, ◌%◌, ◌<◌, Bool, true, false, ◌&&◌, ◌||◌, not, Option, Some, None, refl, ap, sym, ◌∙◌, arith, if◌then◌else◌}
+use Rattle.std.proofs.lemmas.Bool.{or_parts}
 use Rattle.x86_values.specs.declared.Bits.{Bits}
 use Rattle.x86_values.specs.declared.Bits.TheVariants.{B16, B32, B64}
 use Rattle.x86_values.specs.declared.Instr.{Instr}
@@ -13,52 +14,19 @@ use Rattle.instruction_parts.specs.declared.spelling.Vex.{Vex}
 use Rattle.instruction_parts.specs.declared.spelling.PrefixState.{PrefixState}
 use Rattle.instruction_parts.specs.Counting.{is_64, rex_bit}
 use Rattle.instruction_parts.specs.Sizes.{is_vex_row, has_caret, has_bang, operand_size, state_size, bit_w, rex_w}
-use Rattle.instruction_parts.specs.Bytes.{bit}
 use Rattle.row_fit.specs.Fits.{size_fits}
 use Rattle.row_meaning.specs.Meaning.{general, byte_register, vector, word_or_dword, size_by_w, native_size, segment_numbered, register_of}
-use Rattle.plain_spelling.specs.PlainFront.{segment_number, register_number, asks_r, asks_x, asks_b, asks_low_byte, asks_rex_w, asks_vex_w, asks_66, asked_rex, asked_vex, plain_front_of}
+use Rattle.plain_spelling.specs.PlainFront.{segment_number, register_number, asks_rex_w, asks_vex_w, asks_66, asked_rex, asked_vex, plain_front_of}
 use Rattle.plain_spelling.specs.PlainTail.{plain_size}
 use Rattle.plain_spelling.specs.Writable.{Writable, plain_w, says_size, says_w, file_is_told}
+use Rattle.plain_spelling.proofs.PlainFrontLaws.{plain_rex_w, plain_state_size}
 use Rattle.plain_spelling.proofs.Sizes.{plain_size_fits, size-told, word_or_dword-told}
 use Rattle.instruction_parts.proofs.Tests.{either, not_true}
-use Rattle.plain_need.proofs.Counts.{or_none}
 use Rattle.plain_need.proofs.Numbers.{number-general, number-vector, number-byte}
 use Rattle.plain_need.proofs.States.{StateIs}
 use Rattle.plain_need.proofs.Front.{size_by}
 
 -- ---- W of the plain front
-
-abbrev rex_of : Bool → Bool → Bool → Bool → Bool → Bool → Option ℕ
-rex_of v w r x b l =
-    if not v && (w || (r || (x || (b || l)))) then Some (0x40 + (bit w * 8 + (bit r * 4 + (bit x * 2 + bit b)))) else None
-
-rex_of_w : (v w r x b l : Bool) → rex_bit 3 (rex_of v w r x b l) ≡ (if v then false else w)
-rex_of_w true w r x b l = refl
-rex_of_w false true true true true l = refl
-rex_of_w false true true true false l = refl
-rex_of_w false true true false true l = refl
-rex_of_w false true true false false l = refl
-rex_of_w false true false true true l = refl
-rex_of_w false true false true false l = refl
-rex_of_w false true false false true l = refl
-rex_of_w false true false false false l = refl
-rex_of_w false false true true true l = refl
-rex_of_w false false true true false l = refl
-rex_of_w false false true false true l = refl
-rex_of_w false false true false false l = refl
-rex_of_w false false false true true l = refl
-rex_of_w false false false true false l = refl
-rex_of_w false false false false true l = refl
-rex_of_w false false false false false true = refl
-rex_of_w false false false false false false = refl
-
-pub plain_rex_w : (row : Row) (i : Instr) → rex_bit 3 (asked_rex row i) ≡ (if is_vex_row row then false else asks_rex_w row)
-unfolding asked_rex
-plain_rex_w row i = rex_of_w (is_vex_row row) (asks_rex_w row) (asks_r row i) (asks_x row i) (asks_b row i) (asks_low_byte i.ops)
-
-pub plain_state_size : (bits : Bits) (row : Row) (i : Instr) → state_size bits row (plain_front_of bits row i) ≡ plain_size bits row
-unfolding state_size plain_front_of plain_size
-plain_state_size bits row i = ap (λ (w : Bool). operand_size bits row w (asks_66 bits row)) (plain_rex_w row i)
 
 -- W as VEX or REX have it
 abbrev w_of : Option Vex → Option ℕ → Bool
@@ -141,11 +109,11 @@ plain_qword row h e = rw e (operand_size_w row (asks_rex_w row) (asks_66 B64 row
 
 w_by_size : (bits : Bits) (row : Row) (st : PrefixState) → StateIs bits row st → Writable bits row → says_size row.size ≡ true → (is_vex_row row || (has_caret row || has_bang row)) ≡ false → bit_w bits st ≡ plain_w bits row
 w_by_size B16 row st f w says marks =
-    let m = or_none (is_vex_row row) (has_caret row || has_bang row) marks in state_w_legacy B16 st (f.legacy m.0) ∙ sym (plain_w_legacy B16 row m.0)
+    let m = or_parts (is_vex_row row) (has_caret row || has_bang row) marks in state_w_legacy B16 st (f.legacy m.0) ∙ sym (plain_w_legacy B16 row m.0)
 w_by_size B32 row st f w says marks =
-    let m = or_none (is_vex_row row) (has_caret row || has_bang row) marks in state_w_legacy B32 st (f.legacy m.0) ∙ sym (plain_w_legacy B32 row m.0)
+    let m = or_parts (is_vex_row row) (has_caret row || has_bang row) marks in state_w_legacy B32 st (f.legacy m.0) ∙ sym (plain_w_legacy B32 row m.0)
 w_by_size B64 row st f w says marks =
-    let m = or_none (is_vex_row row) (has_caret row || has_bang row) marks in
+    let m = or_parts (is_vex_row row) (has_caret row || has_bang row) marks in
     let told = ap is_64 (size-told B64 row st f.size w.size says) in
     let same : rex_w st ≡ asks_rex_w row = sym (state_qword row st m.1) ∙ told ∙ plain_qword row m.1 m.0 in
     state_w_legacy B64 st (f.legacy m.0) ∙ same ∙ sym (plain_w_legacy B64 row m.0)

@@ -1,7 +1,7 @@
 -- What all operands of an instruction ask of the bits R, X, B and of a REX stands in the state that was read.
 use Rattle.std.proofs.Common.{◌≡◌, inl, inr, ℕ, zero, suc, ◌+◌, ◌-◌, ◌%◌, ◌<◌, ◌≤◌, Bool, true, false, ◌&&◌, ◌||◌, not, ◌==◌, nat_le, nat_lt, List, [], ◌∷◌, length, Option, Some, None, is_some, refl, arith, if◌then◌else◌}
 use Rattle.std.specs.List.{list_any}
-use Rattle.std.proofs.lemmas.Bool.{leb-true}
+use Rattle.std.proofs.lemmas.Bool.{leb-true, lt-leb}
 use borrow.Author.Tests.{ltb-true}
 use Rattle.x86_values.specs.declared.Bits.{Bits}
 use Rattle.x86_values.specs.declared.Bits.TheVariants.{B16, B32, B64}
@@ -53,7 +53,7 @@ no_readers p (kind ∷ kinds) h = elim (either (p (method_of kind))) [
   | inr e ↦ (let k : list_any (λ kind. p (method_of kind)) kinds ≡ false = rw e at h in rw e (let n = no_readers p kinds k in omega arith))
 ]
 
-readers_or : (p q : Method → Bool) (kinds : List OpKind) → readers (λ m. p m || q m) kinds ≤ readers p kinds + readers q kinds
+pub readers_or : (p q : Method → Bool) (kinds : List OpKind) → readers (λ m. p m || q m) kinds ≤ readers p kinds + readers q kinds
 readers_or p q [] = omega arith
 readers_or p q (kind ∷ kinds) =
     let rest = readers_or p q kinds in step (p (method_of kind)) (q (method_of kind)) _ _ _ rest
@@ -186,12 +186,9 @@ silent_index bits row st t kind _ imm h = refl
 abbrev pub HasRex : PrefixState → Type 0
 HasRex st = is_some st.rex ≡ true
 
-not_le : (a b : ℕ) → b < a → nat_le a b ≡ false
-not_le a b h = grind (arith, h)
-
 if_low : (n : ℕ) (test : Bool) → nat_lt n 4 ≡ test → is_low_byte_of_rex (Reg (if test then Low8 n else High8 (n - 4))) ≡ false
 unfolding is_low_byte_of_rex
-if_low n true e = let h : n < 4 = ltb-true n 4 e in let k : nat_le 4 n ≡ false = not_le 4 n h in rw k
+if_low n true e = let h : n < 4 = ltb-true n 4 e in let k : nat_le 4 n ≡ false = lt-leb 4 n h in rw k
 if_low n false e = refl
 
 low_byte : (rex : Option ℕ) (n : ℕ) → is_low_byte_of_rex (Reg (byte_register rex n)) ≡ true → is_some rex ≡ true

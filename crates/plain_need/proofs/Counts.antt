@@ -1,5 +1,6 @@
 -- How many classes of prefixes a list of bytes has: each byte is of at most one class, so there are no more than bytes.
 use Rattle.std.proofs.Common.{◌≡◌, inl, inr, ℕ, ◌+◌, ◌-◌, ◌<◌, ◌≤◌, Bool, true, false, ◌&&◌, ◌||◌, ◌==◌, nat_lt, List, [], ◌∷◌, length, reverse, Option, None, is_some, refl, ap, sym, ◌∙◌, subst, arith, slice_index}
+use Rattle.std.proofs.lemmas.Bool.{or_parts}
 use Rattle.std.specs.List.{list_any, find}
 use Rattle.std.proofs.lemmas.List.Folds.{list_any_at}
 use Rattle.std.proofs.lemmas.List.Sorted.{list_any-IsPermutation, IsPermutation-reverse}
@@ -110,14 +111,10 @@ classes_fit (x ∷ xs) =
 
 -- ---- what counts stands in the list
 
-pub or_none : (a b : Bool) → (a || b) ≡ false → (a ≡ false) × (b ≡ false)
-or_none true b h = cc
-or_none false b h = (refl, h)
-
 find_none : (p : ℕ → Bool) (xs : List ℕ) → list_any p xs ≡ false → find p xs ≡ None
 find_none p [] h = refl
 find_none p (x ∷ xs) h =
-    let both = or_none (p x) (list_any p xs) h in rw both.0 (find_none p xs both.1)
+    let both = or_parts (p x) (list_any p xs) h in rw both.0 (find_none p xs both.1)
 
 -- a byte that passes last is there
 last_where_none : (p : ℕ → Bool) (xs : List ℕ) → list_any p xs ≡ false → last_where p xs ≡ None
@@ -141,14 +138,14 @@ repeat_counted xs =
 any_weaker : (p q : ℕ → Bool) → ((x : ℕ) → q x ≡ false → p x ≡ false) → (xs : List ℕ) → list_any q xs ≡ false → list_any p xs ≡ false
 any_weaker p q w [] h = refl
 any_weaker p q w (x ∷ xs) h =
-    let both = or_none (q x) (list_any q xs) h in
+    let both = or_parts (q x) (list_any q xs) h in
     rw (w x both.0, any_weaker p q w xs both.1)
 
 fs_or_gs_weaker : (x : ℕ) → is_segment x ≡ false → is_fs_or_gs x ≡ false
 unfolding is_segment
 fs_or_gs_weaker x h =
-    let a = or_none _ (x == 0x65) h in
-    let b = or_none _ (x == 0x64) a.0 in
+    let a = or_parts _ (x == 0x65) h in
+    let b = or_parts _ (x == 0x64) a.0 in
     rw (b.1, a.1)
 
 no_segment_byte : (bits : Bits) (xs : List ℕ) → list_any is_segment xs ≡ false → counting_segment_byte bits xs ≡ None

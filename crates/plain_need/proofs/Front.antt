@@ -1,5 +1,6 @@
 -- Each prefix that the plain front of an instruction needs stands in the spelling that was read, and its VEX is no shorter.
 use Rattle.std.proofs.Common.{◌≡◌, ◌⊎◌, inl, inr, ℕ, ◌≤◌, Bool, true, false, ◌&&◌, ◌||◌, not, nat_lt, [], ◌∷◌, length, Option, Some, None, is_some, refl, ap, sym, subst, arith, if◌then◌else◌}
+use Rattle.std.proofs.lemmas.Bool.{or_cases}
 use Rattle.x86_values.specs.declared.Bits.{Bits}
 use Rattle.x86_values.specs.declared.Bits.TheVariants.{B16, B32, B64}
 use Rattle.x86_values.specs.declared.Rep.{Rep}
@@ -23,7 +24,7 @@ use Rattle.instruction_parts.specs.Bytes.{lead_bytes, vex_bytes}
 use Rattle.row_fit.specs.Fits.{size_fits, legacy_class_fits, is_repeat_f2, is_repeat_f3, is_no_repeat, same_map, vex_in_range, w_fits, takes_w_as_size, is_map_one}
 use Rattle.row_fit.specs.Sound.{Sound, kind_is_proper, vex_is_proper, legacy_is_proper, size_says_w, is_no_w, is_no_l, is_class_of_vex, is_size_of_vex}
 use Rattle.row_meaning.specs.Meaning.{kept_repeat, kept_address_size}
-use Rattle.plain_spelling.specs.Comparing.{same_bits}
+use Rattle.x86_values.specs.Comparing.{same_bits}
 use Rattle.plain_spelling.specs.PlainFront.{asks_r, asks_x, asks_b, asks_rex_w, asks_vex_w, asks_66, asks_67, asked_repeat, asked_rex, asked_vex, count_repeat}
 use Rattle.instruction_parts.proofs.Tests.{either, and_left, and_right, not_true, or_right}
 use Rattle.plain_need.proofs.Asks.{AskedBits, differ}
@@ -150,10 +151,6 @@ w_needs bits true bang w size66 b O64 a h = cc
 w_needs bits false true w size66 b O64 a h = cc
 w_needs bits caret bang w size66 b SizeW1 a h = inr h
 w_needs bits caret bang w size66 b _ a h = cc
-
-or_cases : (a b : Bool) → (a || b) ≡ true → (a ≡ true) ⊎ (b ≡ true)
-or_cases true b h = inl refl
-or_cases false b h = inr h
 
 if_some : {T : Type 0} → (test : Bool) (x : T) → is_some (if test then Some x else None) ≡ true → test ≡ true
 if_some true x h = refl
@@ -306,11 +303,11 @@ if_true : (t a b : Bool) → t ≡ true → (if t then a else b) ≡ true → a 
 if_true true a b n h = h
 if_true false a b n h = cc
 
-vex_proper : (row : Row) → kind_is_proper row ≡ true → is_vex_row row ≡ true → vex_is_proper row ≡ true
+pub vex_proper : (row : Row) → kind_is_proper row ≡ true → is_vex_row row ≡ true → vex_is_proper row ≡ true
 unfolding kind_is_proper
 vex_proper row h v = if_true (is_vex_row row) (vex_is_proper row) (legacy_is_proper row) v h
 
-vex_says_w : (row : Row) → vex_is_proper row ≡ true → size_says_w row.size row.w ≡ true
+pub vex_says_w : (row : Row) → vex_is_proper row ≡ true → size_says_w row.size row.w ≡ true
 unfolding vex_is_proper
 vex_says_w row h =
     let h1 = and_right (not (is_no_w row.w)) _ h in

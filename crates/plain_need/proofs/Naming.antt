@@ -1,6 +1,7 @@
 -- What a register operand of a fitting spelling is: its number is one of the mode, and the plain front names it again.
 use Rattle.std.proofs.Common.{◌≡◌, inl, inr, ℕ, ◌-◌, ◌/◌, ◌%◌, ◌<◌, ◌≤◌, Bool, true, false, ◌&&◌, ◌||◌, not, nat_le, nat_lt, List, [], ◌∷◌, length, Option, Some, None, is_some, refl, ap, sym, ◌∙◌, subst, arith, if◌then◌else◌, slice_index}
-use Rattle.std.proofs.lemmas.Bool.{ltb-false, leb-false}
+use Rattle.std.proofs.Math.Bool.{or-true}
+use Rattle.std.proofs.lemmas.Bool.{ltb-false, leb-false, and_from, lt-ltb, le-leb, or_parts}
 use borrow.Author.Tests.{ltb-true}
 use Rattle.x86_values.specs.declared.Bits.{Bits}
 use Rattle.x86_values.specs.declared.Bits.TheVariants.{B16, B32, B64}
@@ -26,15 +27,14 @@ use Rattle.instruction_parts.specs.Sizes.{is_vex_row, state_size, bit_r, bit_b, 
 use Rattle.row_fit.specs.Fits.{extended, kind_at, vvvv_number, is_vex_of_mode, vex_in_range, are_bytes}
 use Rattle.row_meaning.specs.Meaning.{general, byte_register, vector, word_or_dword, size_by_w, native_size, register_of, last_byte_number}
 use Rattle.plain_spelling.specs.Forms.{operand_at}
-use Rattle.plain_spelling.specs.Comparing.{same_register}
+use Rattle.x86_values.specs.Comparing.{same_register}
 use Rattle.plain_spelling.specs.PlainFront.{register_number, number_in_reg, number_in_rm, asked, asks_r, asks_x, asks_b, asks_rex_w, asks_low_byte, is_low_byte_of_rex, asked_rex, plain_front_of}
 use Rattle.plain_spelling.specs.Addresses.{register_count}
 use Rattle.plain_spelling.specs.Expressible.{exists_in_mode, naming_number, is_of_kind, is_not_nop, kind_allows, is_nameable}
 use Rattle.plain_spelling.specs.Writable.{Writable}
-use Rattle.plain_spelling.proofs.Compared.{same_register-refl}
+use Rattle.x86_values.proofs.Compared.{same_register-refl}
 use Rattle.plain_spelling.proofs.Sizes.{file-at-told}
 use Rattle.instruction_parts.proofs.Tests.{either, and_left, not_true, or_right}
-use Rattle.plain_need.proofs.Counts.{or_none}
 use Rattle.plain_need.proofs.Walking.{asked_part, low_byte_part}
 use Rattle.plain_need.proofs.Numbers.{number-le, number-byte}
 use Rattle.plain_need.proofs.Asks.{AskedBits, differ}
@@ -43,9 +43,6 @@ use Rattle.plain_need.proofs.Front.{needs_rex}
 use Rattle.plain_need.proofs.Agreeing.{same_file, number_back}
 
 -- ---- numbers of the mode
-
-pub lt_true : (a b : ℕ) → a < b → nat_lt a b ≡ true
-lt_true a b h = grind (arith, h)
 
 pub extended_count : (bits : Bits) (b : Bool) (n : ℕ) → n < 8 → (is_64 bits ≡ false → b ≡ false) → extended b n < register_count bits
 unfolding register_count
@@ -137,13 +134,9 @@ unfolding exists_in_mode
 byte_in_mode bits n true e = rw e
 byte_in_mode bits n false e = refl
 
-pub or_true : (a : Bool) → (a || true) ≡ true
-or_true true = refl
-or_true false = refl
-
 exists_byte : (bits : Bits) (rex : Option ℕ) (n : ℕ) → (is_64 bits ≡ false → rex ≡ None) → exists_in_mode bits (byte_register rex n) ≡ true
 unfolding exists_in_mode byte_register
-exists_byte B64 (Some rex) n h = or_true (nat_lt n 4)
+exists_byte B64 (Some rex) n h = or-true (nat_lt n 4)
 exists_byte B16 (Some rex) n h = let e = h refl in cc
 exists_byte B32 (Some rex) n h = let e = h refl in cc
 exists_byte bits None n h = byte_in_mode bits n (nat_lt n 4) refl
@@ -179,7 +172,7 @@ unfolding byte_register
 byte_by (Some a) (Some b) n h k = refl
 byte_by (Some a) None n h k = let e = h refl in cc
 byte_by None None n h k = refl
-byte_by None (Some b) n h k = let e = lt_true n 4 (k refl refl) in rw e
+byte_by None (Some b) n h k = let e = lt-ltb n 4 (k refl refl) in rw e
 
 if_none : {T : Type 0} → (test : Bool) (x : T) → (if test then Some x else None) ≡ None → test ≡ false
 if_none true x h = cc
@@ -196,29 +189,23 @@ unfolding asked_rex
 no_rex_asked row i l h =
     let test = if_none _ _ h in
     let any : (asks_rex_w row || (asks_r row i || (asks_x row i || (asks_b row i || asks_low_byte i.ops)))) ≡ false = rw l at test in
-    let h1 = or_none (asks_rex_w row) _ any in
-    let h2 = or_none (asks_r row i) _ h1.1 in
-    let h3 = or_none (asks_x row i) _ h2.1 in
-    let h4 = or_none (asks_b row i) _ h3.1 in
+    let h1 = or_parts (asks_rex_w row) _ any in
+    let h2 = or_parts (asks_r row i) _ h1.1 in
+    let h3 = or_parts (asks_x row i) _ h2.1 in
+    let h4 = or_parts (asks_b row i) _ h3.1 in
     record { r = h2.0; b = h4.0; low = h4.1 }
-
-not_eight : (n : ℕ) → nat_le 8 n ≡ false → n < 8
-not_eight n h = let k : n < 8 = leb-false 8 n h in k
 
 asked_reg_small : (row : Row) (i : Instr) → asks_r row i ≡ false → asked number_in_reg row i < 8
 unfolding asks_r
-asked_reg_small row i h = not_eight _ h
+asked_reg_small row i h = leb-false 8 _ h
 
 asked_rm_small : (row : Row) (i : Instr) → asks_b row i ≡ false → asked number_in_rm row i < 8
 unfolding asks_b
-asked_rm_small row i h = not_eight _ h
-
-le_true : (a b : ℕ) → a ≤ b → nat_le a b ≡ true
-le_true a b h = grind (arith, h)
+asked_rm_small row i h = leb-false 8 _ h
 
 low_in_range : (n : ℕ) → 4 ≤ n → n < 8 → is_low_byte_of_rex (Reg (Low8 n)) ≡ true
 unfolding is_low_byte_of_rex
-low_in_range n h k = rw (le_true 4 n h) (lt_true n 8 k)
+low_in_range n h k = rw (le-leb 4 n h) (lt-ltb n 8 k)
 
 -- a low byte register below 8 that is not SPL to DIL is below 4
 not_low : (n : ℕ) → is_low_byte_of_rex (Reg (Low8 n)) ≡ false → n < 8 → n < 4
@@ -341,10 +328,6 @@ names_again bits row st i n number c r =
     ∙ same_file bits row st i (file_of kind) number c.state c.is_writable (file-at-told row c.is_writable.told n) (byte_agrees bits row st i n number c r) in
     subst (λ (x : Register). same_register named x ≡ true) (sym again) (same_register-refl named)
 
-pub both : (a b : Bool) → a ≡ true → b ≡ true → (a && b) ≡ true
-both true b ha hb = hb
-both false b ha hb = ha
-
 -- **the register is nameable, as far as its place and its kind allow it**
 pub nameable : (bits : Bits) (row : Row) (st : PrefixState) (i : Instr) (n number : ℕ) → Context bits row st i n → Register_is bits row st i n number → (let r = register_of bits row st (file_of (kind_at row n)) number in is_not_nop row (method_of (kind_at row n)) r ≡ true → kind_allows bits n (kind_at row n) r ≡ true → is_nameable bits row i n r ≡ true)
 unfolding is_nameable
@@ -352,7 +335,7 @@ nameable bits row st i n number c r nop allows =
     let named = register_of bits row st (file_of (kind_at row n)) number in
     let le = number-le bits row st (file_of (kind_at row n)) number in
     let count = r.counted in
-    both (exists_in_mode bits named) _ (register_exists bits row st (file_of (kind_at row n)) number c.state.rex_mode)
-    (both (nat_lt (register_number named) (register_count bits)) _ (lt_true _ _ (omega arith))
-    (both (is_of_kind bits row i (kind_at row n) named) _ (names_again bits row st i n number c r)
-    (both (is_not_nop row (method_of (kind_at row n)) named) _ nop allows)))
+    and_from (exists_in_mode bits named) _ (register_exists bits row st (file_of (kind_at row n)) number c.state.rex_mode)
+    (and_from (nat_lt (register_number named) (register_count bits)) _ (lt-ltb _ _ (omega arith))
+    (and_from (is_of_kind bits row i (kind_at row n) named) _ (names_again bits row st i n number c r)
+    (and_from (is_not_nop row (method_of (kind_at row n)) named) _ nop allows)))

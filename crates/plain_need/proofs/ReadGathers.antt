@@ -21,7 +21,7 @@ use Rattle.plain_spelling.specs.Forms.{is_scale}
 use Rattle.plain_spelling.specs.PlainFront.{register_number}
 use Rattle.plain_spelling.specs.Addresses.{form_of, general_size, pointer_size, register_count, is_address_register, is_flat_size, index_named, is_vector_index, is_gather_base, is_gather_shape, shown_size, displacement_count, flat_offers, is_displacement}
 use Rattle.plain_spelling.specs.Expressible.{told_size, size_agrees}
-use Rattle.plain_spelling.proofs.Compared.{same_register-refl}
+use Rattle.x86_values.proofs.Compared.{same_register-refl}
 use Rattle.plain_spelling.proofs.AddressCases.{address, impossible, sib_base-none, sib_base-some, agrees}
 use Rattle.plain_spelling.proofs.AddressForms.{IsVectorFile}
 use Rattle.plain_need.proofs.ReadShapes.{value_of, Reading, Numbers, sib_small, scale_power, extended_count, bit_b-outside, bytes_of_sib, base_numbers, no_base, with_parts}

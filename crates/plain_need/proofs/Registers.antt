@@ -1,6 +1,6 @@
 -- Each register operand that a fitting spelling means is one that its kind can name in the mode.
 use Rattle.std.proofs.Common.{◌≡◌, inl, inr, ℕ, zero, suc, ◌+◌, ◌%◌, ◌<◌, ◌≤◌, Bool, true, false, ◌&&◌, not, ◌==◌, nat_le, nat_lt, List, Option, Some, None, refl, ap, sym, ◌∙◌, subst, arith}
-use Rattle.std.proofs.lemmas.Bool.{leb-true}
+use Rattle.std.proofs.lemmas.Bool.{leb-true, lt-ltb}
 use borrow.Author.Tests.{ltb-true}
 use Rattle.x86_values.specs.declared.Bits.{Bits}
 use Rattle.x86_values.specs.declared.Instr.{Instr}
@@ -32,7 +32,7 @@ use Rattle.plain_need.proofs.Walking.{all_kinds}
 use Rattle.plain_need.proofs.Numbers.{InRange, reg_small, rm_small, number-general, number-byte}
 use Rattle.plain_need.proofs.Asks.{differ, Placed}
 use Rattle.plain_need.proofs.Variants.{TailIs, reads_at}
-use Rattle.plain_need.proofs.Naming.{Context, Register_is, nameable, lt_true, extended_count, bit_r_mode, bit_b_mode, vvvv_count, last_count, fixed_count, fixed_at_most, asks_b_of_register, reg_byte, rm_byte}
+use Rattle.plain_need.proofs.Naming.{Context, Register_is, nameable, extended_count, bit_r_mode, bit_b_mode, vvvv_count, last_count, fixed_count, fixed_at_most, asks_b_of_register, reg_byte, rm_byte}
 
 -- ---- what a kind asks besides
 
@@ -81,7 +81,7 @@ allowed bits row st m n Sw number small h w e =
     and_not n (segment_number (segment_numbered (number % 8)) == 1) (λ z. ap (λ (x : ℕ). not (x == 1)) same ∙ w z)
 allowed bits row st m n Cn number small h w e = ap (is_control_number bits) (e refl) ∙ h
 allowed bits row st m n Dn number small h w e =
-    let k = reg_without st m small (not_true (bit_r st) h) in let f = e refl in lt_true number 8 (omega arith)
+    let k = reg_without st m small (not_true (bit_r st) h) in let f = e refl in lt-ltb number 8 (omega arith)
 allowed bits row st m n _ number small h w e = refl
 
 -- ---- the opcode byte 90

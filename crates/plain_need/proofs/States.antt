@@ -1,5 +1,6 @@
 -- What the state of a fitting spelling is: a REX and a VEX only where they may stand, and the class, size and W that the row asks for.
 use Rattle.std.proofs.Common.{◌≡◌, ℕ, true, false, ◌&&◌, not, nat_lt, List, Option, Some, None, is_some, refl, ◌∙◌, subst}
+use Rattle.std.proofs.lemmas.Bool.{or_parts}
 use Rattle.x86_values.specs.declared.Bits.{Bits}
 use Rattle.x86_values.specs.declared.Bits.TheVariants.{B16, B32, B64}
 use Rattle.row_types.specs.declared.Row.{Row}
@@ -15,7 +16,6 @@ use Rattle.instruction_parts.specs.Bytes.{state_of, state_from}
 use Rattle.instruction_parts.specs.Front.{forbids_vex}
 use Rattle.row_fit.specs.Fits.{Fits, vex_fits, same_map, is_vex_of_mode, class_fits, legacy_class_fits, vex_class_fits, sizes_fit, size_fits, w_fits, l_fits, fields_in_range, vex_in_range, modrm_in_range, sib_in_range, are_bytes}
 use Rattle.instruction_parts.proofs.Tests.{and_left, and_right, not_true}
-use Rattle.plain_need.proofs.Counts.{or_none}
 use Rattle.plain_need.proofs.Asks.{differ}
 
 pub same_map_is : (a b : Map) → same_map a b ≡ true → a ≡ b
@@ -59,7 +59,7 @@ no_rex bits row ps None opcode m h l = let e = not_true (is_vex_row row) (and_le
 no_rex bits row ps (Some v) opcode m h l =
     let rest = and_right (same_map v.map row.map) (not (forbids_vex bits ps) && is_vex_of_mode bits v) (and_right (is_vex_row row) _ h) in
     let free = not_true _ (and_left (not (forbids_vex bits ps)) (is_vex_of_mode bits v) rest) in
-    none_from (counting_rex bits ps) (or_none _ (is_some (counting_rex bits ps)) free).1
+    none_from (counting_rex bits ps) (or_parts _ (is_some (counting_rex bits ps)) free).1
 
 -- a VEX with what its place says of it
 record VexAt (bits : Bits) (row : Row) (vex : Option Vex) : Type 0 where

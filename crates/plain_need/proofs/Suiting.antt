@@ -1,5 +1,7 @@
 -- The registers, LOCK and the repeat prefix of an instruction that a fitting spelling means are those that its row allows.
 use Rattle.std.proofs.Common.{◌≡◌, inl, inr, ℕ, ◌+◌, ◌%◌, ◌<◌, ◌≤◌, Bool, true, false, ◌&&◌, ◌||◌, not, ◌==◌, nat_lt, List, [], ◌∷◌, length, Option, Some, None, is_some, refl, ap, sym, ◌∙◌, subst, arith, if◌then◌else◌}
+use Rattle.std.proofs.Math.Bool.{or-true}
+use Rattle.std.proofs.lemmas.Bool.{and_from, or_left}
 use Rattle.std.specs.List.{list_any, list_all}
 use Rattle.x86_values.specs.declared.Bits.{Bits}
 use Rattle.x86_values.specs.declared.Rep.{Rep}
@@ -44,7 +46,6 @@ use Rattle.plain_need.proofs.Asks.{apart, placed, each_read, differ, silent_reg,
 use Rattle.plain_need.proofs.States.{StateIs, state_is}
 use Rattle.plain_need.proofs.Used.{read, read_is, bits_of, tail_range, kept_of}
 use Rattle.plain_need.proofs.Variants.{tail_is, read_at, some_reader, gather_reads_rm, memory_stands, kinds_suit}
-use Rattle.plain_need.proofs.Naming.{or_true, both}
 use Rattle.plain_need.proofs.Registers.{Reading, by_method, opcode_number, opcode_range, nop_b}
 
 -- ---- what an operand of a fitting spelling rests on
@@ -123,7 +124,7 @@ no_more [] h = refl
 no_more (kind ∷ kinds) h =
     let none = readers_none reads_rm kind kinds h in
     let rest = no_more kinds (readers_left reads_rm kind kinds h) in
-    rw (none, or_true (is_gather (method_of kind))) rest
+    rw (none, or-true (is_gather (method_of kind))) rest
 
 readers_le : (p q : Method → Bool) → ((how : Method) → p how ≡ true → q how ≡ true) → (kinds : List OpKind) → readers p kinds ≤ readers q kinds
 readers_le p q w [] = omega arith
@@ -143,10 +144,6 @@ only_gather (kind ∷ kinds) g n = elim (either (is_gather (method_of kind))) [
         | inl f ↦ absurd (let z = readers_yes reads_rm kind kinds f n in let k = some_reader is_gather kinds more in let l = readers_le is_gather reads_rm gather_reads_rm kinds in omega arith)
       ])
 ]
-
-or_first : (a b : Bool) → a ≡ true → (a || b) ≡ true
-or_first true b h = refl
-or_first false b h = cc
 
 or_more : (a b : Bool) → b ≡ true → (a || b) ≡ true
 or_more true b h = refl
@@ -180,7 +177,7 @@ asked_reg bits code row st t imm sound w =
     asked_is v reads_reg number_in_reg row.ops _ w.reg (apart row sound.apart).reg
     (hold_all names_vectors (Gives v reads_reg number_in_reg) row.ops _ w.vectors
     (each_read (λ kind op. names_vectors kind ≡ true → Gives v reads_reg number_in_reg kind op) bits code row st t imm sound.four_operands
-    (λ kind own k. (λ h. given_reg bits row st t kind (method_of kind) own (vectors_named kind k (or_first (reads_reg (method_of kind)) _ h)) h, silent_reg _ (method_of kind)))))
+    (λ kind own k. (λ h. given_reg bits row st t kind (method_of kind) own (vectors_named kind k (or_left (reads_reg (method_of kind)) _ h)) h, silent_reg _ (method_of kind)))))
 
 asked_vvvv : (bits : Bits) (code : Code) (row : Row) (st : PrefixState) (t : Tail) (imm : List ℕ) → Sound row → Whole row → asked number_in_vvvv row (instr_of bits code row st t imm) ≡ vvvv_number bits st
 asked_vvvv bits code row st t imm sound w =
@@ -200,7 +197,7 @@ any_weaker p q w (kind ∷ kinds) h = elim (either (p (method_of kind))) [
   | inl e ↦ rw (w (method_of kind) e)
   | inr e ↦ (
       let more : list_any (λ kind. p (method_of kind)) kinds ≡ true = rw e at h in
-      rw (any_weaker p q w kinds more) (or_true (q (method_of kind))))
+      rw (any_weaker p q w kinds more) (or-true (q (method_of kind))))
 ]
 
 asked_index : (bits : Bits) (code : Code) (row : Row) (st : PrefixState) (t : Tail) (imm : List ℕ) → Sound row → Whole row → reads_by is_gather row ≡ true → is_some t.modrm ≡ true → is_some t.sib ≡ true → asked number_in_index row (instr_of bits code row st t imm) ≡ index_number st t.sib
@@ -213,7 +210,7 @@ asked_index bits code row st t imm sound w gather m s =
     (each_read (λ kind op. gather_or_not kind ≡ true → names_vectors kind ≡ true → Gives v reads_rm number_in_index kind op) bits code row st t imm sound.four_operands
     (λ kind own g k. (
       λ h. given_index bits row st t kind (method_of kind) own m s
-          (vectors_named kind k (or_more (reads_reg (method_of kind)) _ (or_first (reads_rm (method_of kind)) _ h))) g h,
+          (vectors_named kind k (or_more (reads_reg (method_of kind)) _ (or_left (reads_rm (method_of kind)) _ h))) g h,
       silent_index bits row st t kind (method_of kind) own,
     )))))
 
@@ -232,8 +229,8 @@ some_of_them : (a b c : Bool) (x y z : ℕ) → (not (x == y) && (not (x == z) &
     && (two_differ (if a then Some x else None) (if c then Some z else None) && two_differ (if b then Some y else None) (if c then Some z else None))) ≡ true
 some_of_them a b c x y z h =
     let rest = and_right (not (x == y)) _ h in
-    both (two_differ (if a then Some x else None) (if b then Some y else None)) _ (two_of_them a b x y (and_left (not (x == y)) _ h))
-    (both (two_differ (if a then Some x else None) (if c then Some z else None)) _ (two_of_them a c x z (and_left (not (x == z)) _ rest))
+    and_from (two_differ (if a then Some x else None) (if b then Some y else None)) _ (two_of_them a b x y (and_left (not (x == y)) _ h))
+    (and_from (two_differ (if a then Some x else None) (if c then Some z else None)) _ (two_of_them a c x z (and_left (not (x == z)) _ rest))
     (two_of_them b c y z (and_right (not (x == z)) _ rest)))
 
 -- some operand passes a test
@@ -275,7 +272,7 @@ unfolding register_suits
 register_at bits ip code row s i g n h =
     let r = reading bits ip code row s i n g h in
     let named = by_method bits row (state_of bits row s) (tail_of bits ip row s) i n (own_of bits row s n) (method_of (kind_at row n)) r refl r.operand in
-    both _ (gather_suits row i n) named (or_last (not (n == 0)) (reads_by is_gather row) (gather_numbers_differ row i) (gathers_differ bits ip code row s i g))
+    and_from _ (gather_suits row i n) named (or_last (not (n == 0)) (reads_by is_gather row) (gather_numbers_differ row i) (gathers_differ bits ip code row s i g))
 
 -- **each register operand can be named in the mode**
 pub registers_suit : (bits : Bits) (ip : ℕ) (code : Code) (row : Row) (s : Spelling) (i : Instr) → Given bits ip code row s i → each_operand (register_suits bits row i) ≡ true
@@ -303,7 +300,7 @@ lock_by row st i m h e w = elim (either i.lock) [
   | inr no1 ↦ rw no1
   | inl yes1 ↦ (
       let k = or_right (not st.lock) _ (ap not (sym e ∙ yes1)) h in
-      rw yes1 (both (is_lockable row) (is_memory (operand_at i 0)) (and_left (is_lockable row) _ k) (w (and_right (is_lockable row) _ k))))
+      rw yes1 (and_from (is_lockable row) (is_memory (operand_at i 0)) (and_left (is_lockable row) _ k) (w (and_right (is_lockable row) _ k))))
 ]
 
 each_first : (p : ℕ → Bool) → each_operand p ≡ true → p 0 ≡ true
@@ -411,7 +408,7 @@ repeat_suited bits ip code row s i g =
 pub prefixes_suited : (bits : Bits) (ip : ℕ) (code : Code) (row : Row) (s : Spelling) (i : Instr) → Given bits ip code row s i → prefixes_suit row i ≡ true
 unfolding prefixes_suit
 prefixes_suited bits ip code row s i g =
-    both (lock_suits row i) (repeat_suits row i) (lock_suited bits ip code row s i g) (repeat_suited bits ip code row s i g)
+    and_from (lock_suits row i) (repeat_suits row i) (lock_suited bits ip code row s i g) (repeat_suited bits ip code row s i g)
 
 -- **the row exists in the mode**
 pub row_stands : (bits : Bits) (ip : ℕ) (code : Code) (row : Row) (s : Spelling) (i : Instr) → Given bits ip code row s i → row_exists bits row ≡ true

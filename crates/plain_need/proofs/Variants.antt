@@ -1,5 +1,6 @@
 -- Each operand that a fitting spelling means has a variant that its kind allows.
 use Rattle.std.proofs.Common.{◌≡◌, inl, inr, ℕ, zero, suc, ◌+◌, ◌<◌, ◌≤◌, Bool, true, false, ◌&&◌, ◌||◌, not, ◌==◌, nat_lt, List, [], ◌∷◌, length, Option, Some, None, is_some, refl, ap, sym, subst, arith, if◌then◌else◌}
+use Rattle.std.proofs.lemmas.Bool.{or_left}
 use Rattle.std.specs.List.{list_any, list_all}
 use borrow.Author.Tests.{ltb-true}
 use Rattle.x86_values.specs.declared.Bits.{Bits}
@@ -174,14 +175,10 @@ or_second : (a b : Bool) → b ≡ true → (a || b) ≡ true
 or_second true b h = refl
 or_second false b h = h
 
-or_first : (a b : Bool) → a ≡ true → (a || b) ≡ true
-or_first true b h = refl
-or_first false b h = cc
-
 by_place : (place : Place) (m : ModRm) (test : Bool) (f g : Operand) → nat_lt m.mode3 3 ≡ test → place_allows place m ≡ true → is_memory f ≡ true → form.is_register g ≡ true → is_allowed_in place (if test then f else g) ≡ true
 unfolding is_allowed_in place_allows
 by_place AnyPlace m true f g e h hf hg = or_second (form.is_register f) (is_memory f) hf
-by_place AnyPlace m false f g e h hf hg = or_first (form.is_register g) (is_memory g) hg
+by_place AnyPlace m false f g e h hf hg = or_left (form.is_register g) (is_memory g) hg
 by_place OnlyMemory m true f g e h hf hg = hf
 by_place OnlyMemory m false f g e h hf hg = cc
 by_place OnlyRegister m true f g e h hf hg =

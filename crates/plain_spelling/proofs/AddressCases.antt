@@ -17,11 +17,11 @@ use Rattle.instruction_parts.specs.Sizes.{bit_b, bit_x}
 use Rattle.row_fit.specs.Fits.{extended, is_displacement_alone, index_number}
 use Rattle.row_meaning.specs.Meaning.{general, disp_size_of, base_16, index_16, memory_16, memory_alone, sib_base, sib_index, memory_at_base, memory_flat, displacement, instruction_pointer}
 use Rattle.plain_spelling.specs.PlainFront.{register_number}
-use Rattle.plain_spelling.specs.Comparing.{same_bits}
+use Rattle.x86_values.specs.Comparing.{same_bits}
 use Rattle.plain_spelling.specs.declared.addresses.AddressForm.TheVariants.{Relative, Alone, Short}
 use Rattle.plain_spelling.specs.Addresses.{form_of, general_size, register_count, is_address_register, displacement_count, pointer_size, shown_size, written_size, size_or}
 use Rattle.plain_spelling.specs.Expressible.{told_size}
-use Rattle.plain_spelling.proofs.Compared.{same_bits-is}
+use Rattle.x86_values.proofs.Compared.{same_bits-is}
 use Rattle.instruction_parts.proofs.Tests.{either, and_left, and_right}
 
 -- an address of its parts

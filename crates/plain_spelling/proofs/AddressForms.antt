@@ -1,5 +1,6 @@
 -- What the conditions on an address ask, form by form.
 use Rattle.std.proofs.Common.{◌≡◌, ◌⊎◌, inl, inr, ℕ, zero, suc, ◌^◌, ◌<◌, Bool, true, false, ◌&&◌, ◌||◌, not, ◌==◌, nat_lt, is_some, is_none, refl, subst, arith}
+use Rattle.std.proofs.lemmas.Bool.{or_left, or_right}
 use Rattle.x86_values.specs.declared.Bits.{Bits}
 use Rattle.x86_values.specs.declared.Mem.{Mem}
 use Rattle.x86_values.specs.declared.Instr.{Instr}
@@ -54,22 +55,14 @@ value_at asize m form =
 
 -- ---- a memory operand among the four
 
-or_left : (a b : Bool) → a ≡ true → (a || b) ≡ true
-or_left true b h = refl
-or_left false b h = cc
-
-or_more : (a b : Bool) → b ≡ true → (a || b) ≡ true
-or_more true b h = refl
-or_more false b h = h
-
 -- an operand that is memory is one of them
 pub memory_there : (i : Instr) (n : ℕ) → n < 4 → is_memory (operand_at i n) ≡ true → has_memory_operand i ≡ true
 unfolding has_memory_operand
 memory_there i zero h e = or_left _ _ e
-memory_there i (suc zero) h e = or_more (is_memory (operand_at i 0)) _ (or_left _ _ e)
-memory_there i (suc (suc zero)) h e = or_more (is_memory (operand_at i 0)) _ (or_more (is_memory (operand_at i 1)) _ (or_left _ _ e))
+memory_there i (suc zero) h e = or_right (is_memory (operand_at i 0)) _ (or_left _ _ e)
+memory_there i (suc (suc zero)) h e = or_right (is_memory (operand_at i 0)) _ (or_right (is_memory (operand_at i 1)) _ (or_left _ _ e))
 memory_there i (suc (suc (suc zero))) h e =
-    or_more (is_memory (operand_at i 0)) _ (or_more (is_memory (operand_at i 1)) _ (or_more (is_memory (operand_at i 2)) (is_memory (operand_at i 3)) e))
+    or_right (is_memory (operand_at i 0)) _ (or_right (is_memory (operand_at i 1)) _ (or_right (is_memory (operand_at i 2)) (is_memory (operand_at i 3)) e))
 memory_there i (suc (suc (suc (suc n)))) h e = absurd (omega arith)
 
 -- ---- gathers

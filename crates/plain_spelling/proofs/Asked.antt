@@ -1,10 +1,12 @@
--- A field of a sound row is asked for by the one operand that is read from it.
+-- A field of a sound row is asked for by the one operand that is read from it, and so is the displacement.
 use Rattle.std.proofs.Common.{◌≡◌, ◌⊎◌, inl, inr, ℕ, zero, suc, ◌+◌, ◌%◌, ◌<◌, ◌≤◌, Bool, true, false, ◌&&◌, ◌||◌, not, ◌==◌, List, [], ◌∷◌, length, refl, sym, ◌∙◌, arith, if◌then◌else◌, Option, Some, None, is_none}
 use Rattle.std.specs.Prelude.{slice_index_or}
-use Rattle.std.proofs.lemmas.Bool.{leb-true}
+use Rattle.std.proofs.lemmas.Bool.{leb-true, or_parts}
 use Rattle.std.specs.List.{list_any}
 use Rattle.x86_values.specs.declared.Bits.{Bits}
 use Rattle.x86_values.specs.declared.Register.{Register}
+use Rattle.x86_values.specs.declared.DispSize.{DispSize}
+use Rattle.x86_values.specs.declared.DispSize.TheVariants.{D0, D8, D16, D32, D64}
 use Rattle.x86_values.specs.declared.Mem.{Mem}
 use Rattle.x86_values.specs.declared.Operand.{Operand}
 use Rattle.x86_values.specs.declared.Operand.TheVariants.{Absent as AbsentOperand, Mem as MemOperand}
@@ -26,9 +28,9 @@ use Rattle.row_fit.specs.Sound.{Sound, count_where, at_most_one, reads_reg, read
 use Rattle.instruction_parts.proofs.Tests.{either, and_left, and_right, not_true, equal_from}
 use Rattle.plain_spelling.specs.Forms.{operand_at, is_variant_of}
 use Rattle.plain_spelling.specs.PlainFront.{over_operands, operand_number, base_or_register_number, operand_index_number, number_in_reg, number_in_rm, number_in_index, number_in_vvvv, number_in_opcode, asked, number_or_zero}
-use Rattle.plain_spelling.specs.Addresses.{shape_suits}
+use Rattle.plain_spelling.specs.Addresses.{displacement_count, shape_suits}
 use Rattle.plain_spelling.specs.Expressible.{each_operand, kind_suits, address_suits}
-use Rattle.plain_spelling.specs.PlainTail.{operand_where, rm_operand, address_operand}
+use Rattle.plain_spelling.specs.PlainTail.{operand_where, rm_operand, address_operand, operand_displacement, displacement_read}
 
 -- the row adds a register to its opcode byte
 abbrev pub adds_register : Plus → Bool
@@ -53,14 +55,10 @@ any_by p kinds = list_any (λ kind. p (method_of kind)) kinds
 abbrev AddsNothing : (Method → Bool) → (Method → Operand → ℕ) → List OpKind → List Operand → Type 0
 AddsNothing p f kinds ops = (k : ℕ) → k < length kinds → p (method_at kinds k) ≡ false → f (method_at kinds k) (slice_index_or ops k AbsentOperand) ≡ 0
 
-or_none : (a b : Bool) → (a || b) ≡ false → (a ≡ false) × (b ≡ false)
-or_none true b h = cc
-or_none false b h = (refl, h)
-
 count_of-none : (p : Method → Bool) (kinds : List OpKind) → any_by p kinds ≡ false → count_by p kinds ≡ 0
 count_of-none p [] h = refl
 count_of-none p (kind ∷ kinds) h =
-    let parts = or_none (p (method_of kind)) (any_by p kinds) h in
+    let parts = or_parts (p (method_of kind)) (any_by p kinds) h in
     rw (parts.0) (rw (count_of-none p kinds parts.1) refl)
 
 count_first : (b : Bool) (n : ℕ) → b ≡ true → (if b then 1 else 0) + n ≤ 1 → n ≡ 0
@@ -159,7 +157,7 @@ or_test p q how = p how || q how
 count-or_left : (p q : Method → Bool) (kinds : List OpKind) → any_by q kinds ≡ false → count_by (or_test p q) kinds ≡ count_by p kinds
 count-or_left p q [] h = refl
 count-or_left p q (kind ∷ kinds) h =
-    let parts = or_none (q (method_of kind)) (any_by q kinds) h in
+    let parts = or_parts (q (method_of kind)) (any_by q kinds) h in
     let rest = count-or_left p q kinds parts.1 in
     by_cases (p (method_of kind)) (q (method_of kind)) (count_by (or_test p q) kinds) (count_by p kinds) parts.0 rest
   where
@@ -171,7 +169,7 @@ count-or_left p q (kind ∷ kinds) h =
 count-or_right : (p q : Method → Bool) (kinds : List OpKind) → any_by p kinds ≡ false → count_by (or_test p q) kinds ≡ count_by q kinds
 count-or_right p q [] h = refl
 count-or_right p q (kind ∷ kinds) h =
-    let parts = or_none (p (method_of kind)) (any_by p kinds) h in
+    let parts = or_parts (p (method_of kind)) (any_by p kinds) h in
     let rest = count-or_right p q kinds parts.1 in
     by_cases (p (method_of kind)) (q (method_of kind)) (count_by (or_test p q) kinds) (count_by q kinds) parts.0 rest
   where
@@ -188,8 +186,8 @@ count-or p q kinds (inr none) hp hq = let e = count-or_left p q kinds none in om
 any-or : (p q : Method → Bool) (kinds : List OpKind) → any_by p kinds ≡ false → any_by q kinds ≡ false → any_by (or_test p q) kinds ≡ false
 any-or p q [] hp hq = refl
 any-or p q (kind ∷ kinds) hp hq =
-    let a = or_none (p (method_of kind)) (any_by p kinds) hp in
-    let b = or_none (q (method_of kind)) (any_by q kinds) hq in
+    let a = or_parts (p (method_of kind)) (any_by p kinds) hp in
+    let b = or_parts (q (method_of kind)) (any_by q kinds) hq in
     rw (a.0) (rw (b.0) (any-or p q kinds a.1 b.1))
 
 -- ---- what a sound row says of its operands
@@ -511,3 +509,58 @@ pub index_in_rm : (bits : Bits) (row : Row) (i : Instr) → each_operand (kind_s
 unfolding kind_suits address_suits
 index_in_rm bits row i kinds shapes =
     λ k below other. index_of_operand bits row row.place (method_of (kind_at row k)) (file_of (kind_at row k)) (operand_at i k) other (each-at (kind_suits row i) k below kinds) (each-at (address_suits bits row i) k below shapes)
+
+-- ---- the displacement
+
+displacement_vanishes : (how : Method) (op : Operand) → reads_address how ≡ false → displacement_read how op ≡ 0
+unfolding displacement_read
+displacement_vanishes method.RegisterOrMemory op h = cc
+displacement_vanishes method.RegisterOnly op h = cc
+displacement_vanishes method.MemoryOnly op h = cc
+displacement_vanishes method.AnyMode op h = cc
+displacement_vanishes method.Gather op h = cc
+displacement_vanishes method.Offset op h = cc
+displacement_vanishes _ op h = refl
+
+displacement_shows : (how : Method) (op : Operand) → reads_address how ≡ true → displacement_read how op ≡ operand_displacement op
+unfolding displacement_read
+displacement_shows method.RegisterOrMemory op h = refl
+displacement_shows method.RegisterOnly op h = refl
+displacement_shows method.MemoryOnly op h = refl
+displacement_shows method.AnyMode op h = refl
+displacement_shows method.Gather op h = refl
+displacement_shows method.Offset op h = refl
+displacement_shows _ op h = cc
+
+displacement_over : (kinds : List OpKind) (ops : List Operand) → count_by reads_address kinds ≤ 1 → over_operands displacement_read kinds ops ≡ operand_displacement (operand_where reads_address kinds ops)
+displacement_over [] ops c = refl
+displacement_over (kind ∷ kinds) [] c = refl
+displacement_over (kind ∷ kinds) (op ∷ ops) c = elim (either (reads_address (method_of kind))) [
+  | inl e ↦
+      let first = displacement_shows (method_of kind) op e in
+      let rest = over-none reads_address displacement_read kinds ops (λ k below other. displacement_vanishes _ _ other) (count_first (reads_address (method_of kind)) (count_by reads_address kinds) e c) in
+      rw e (omega (arith, first, rest))
+  | inr e ↦
+      let first = displacement_vanishes (method_of kind) op e in
+      let rest = displacement_over kinds ops (count_rest (reads_address (method_of kind)) (count_by reads_address kinds) c) in
+      rw e (omega (arith, first, rest))
+]
+
+-- **the displacement that is asked is that of the operand that may have one**
+pub asked_displacement : (row : Row) (i : Instr) → Sound row → asked displacement_read row i ≡ operand_displacement (address_operand row i)
+asked_displacement row i s =
+    let a = apart row s in
+    displacement_over row.ops i.ops (count-or reads_rm is_offset row.ops (rm_or_offset row s) a.rm a.offset)
+
+count-short : (size : DispSize) → displacement_count size ≤ 8
+unfolding displacement_count
+count-short D0 = omega arith
+count-short D8 = omega arith
+count-short D16 = omega arith
+count-short D32 = omega arith
+count-short D64 = omega arith
+
+-- an operand has at most eight bytes of displacement
+pub displacement-short : (op : Operand) → operand_displacement op ≤ 8
+displacement-short (MemOperand m) = count-short m.disp_size
+displacement-short _ = omega arith

@@ -1,5 +1,6 @@
 -- Examples of plain spellings and of the first condition that fails, each proved by computing; their values come from outside.
 use Rattle.std.proofs.Common.{◌≡◌, ℕ, Bool, true, false, List, [], ◌∷◌, refl, Option, Some, None}
+use Rattle.plain_spelling.proofs.Fields.{row}
 use Rattle.x86_values.specs.declared.Bits.{Bits}
 use Rattle.x86_values.specs.declared.Bits.TheVariants.{B16, B32, B64}
 use Rattle.x86_values.specs.declared.Segment.{Segment}
@@ -45,28 +46,11 @@ use Rattle.row_fit.specs.Fits.{fits, reads_mode, reg_number, rm_number, vvvv_num
 use Rattle.row_meaning.specs.Meaning.{meaning, little_endian, sign_extended, segment_numbered, general, byte_register, vector, register_of, disp_size_of, base_16, index_16, memory_16, memory_alone, sib_base, sib_index, memory_with_sib, memory_at_base, memory_flat, memory_of, memory_absolute, gather_memory, last_byte_number, near_target, far_pointer, memory_operand, operand_by, immediates_before, own_immediate, operand_at, kept_repeat, has_memory, kept_address_size, instr_of}
 use Rattle.plain_spelling.specs.Values.{low_bytes, is_extended_of, distance}
 use Rattle.plain_spelling.specs.Forms.{is_allowed_in, is_variant_of}
-use Rattle.plain_spelling.specs.Comparing.{same_register}
+use Rattle.x86_values.specs.Comparing.{same_register}
 use Rattle.plain_spelling.specs.PlainFront.{register_number, is_low_byte_of_rex, number_in_reg, number_in_rm, number_in_index, number_in_vvvv, number_in_opcode, asks_r, asks_x, asks_b, asks_rex_w, asks_vex_w, asks_66, asks_67, asked_repeat, asked_rex, class_pp, asked_vex, asked_opcode, asked_used, plain_front_of}
 use Rattle.plain_spelling.specs.Addresses.{register_count, has_address_size, general_size, pointer_size, shown_size, written_size, form_of, rm_of_one, rm_of_two, rm_of_short, is_address_register, is_base, is_index, scale_suits, is_flat_size, is_flat_shape, is_shape, index_named, is_vector_index, is_gather_base, is_gather_shape, shape_suits, displacement_count, flat_offers, short_offers, form_offers, offers, is_displacement, displacement_suits, mode_of_count, scale_field, base_bits, index_bits, plain_sib, flat_needs_sib, flat_fields, alone_fields, address_fields}
 use Rattle.plain_spelling.specs.PlainTail.{prefixes_of, plain_size, rm_fields, fixed_rm, plain_modrm, plain_sib_of, displacement_of, operand_immediate, immediate_at, plain_immediates, plain_len, plain_next, plain_spelling}
 use Rattle.plain_spelling.specs.Expressible.{kind_suits, exists_in_mode, is_of_kind, is_not_nop, kind_allows, is_nameable, vector_in_reg, vector_in_index, vector_in_vvvv, gather_numbers_differ, register_suits, address_suits, offered, immediate_suits_how, immediate_suits, near_reaches, address_reaches, target_suits, lock_suits, repeat_suits, prefixes_suit, has_memory_operand, told_size, size_agrees, is_size_of, address_size_suits, first_failing, tail_failure, failure}
-
-abbrev pub row : RowKind → Map → Class → ℕ → Plus → ModRmRule → Place → Size → WBit → LBit → ℕ → OpKind → OpKind → OpKind → OpKind → ℕ → Row
-row kind map class opcode plus modrm place size w l modes a b c d marks = record {
-  kind = kind;
-  map = map;
-  class = class;
-  opcode = opcode;
-  plus = plus;
-  modrm = modrm;
-  place = place;
-  size = size;
-  w = w;
-  l = l;
-  modes = record { 0 = modes };
-  ops = a ∷ b ∷ c ∷ d ∷ [];
-  marks = record { 0 = marks };
-}
 
 abbrev pub memory : Option Register → Option Register → ℕ → ℕ → DispSize → Operand
 memory base index scale disp disp_size =

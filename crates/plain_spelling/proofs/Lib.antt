@@ -1,3 +1,4 @@
+pub mod Fields
 mod Examples
 pub mod Values
 pub mod PlainFrontLaws
@@ -7,7 +8,6 @@ pub mod AddressCases
 pub mod AddressForms
 pub mod Asked
 pub mod ImmediateBytes
-pub mod Compared
 pub mod FrontRange
 pub mod ImmediateRoom
 pub mod Failures

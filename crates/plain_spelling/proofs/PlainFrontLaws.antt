@@ -1,5 +1,5 @@
--- The plain front in bytes: its opcode byte and its length, and where a vvvv of at most 255 makes no difference.
-use Rattle.std.proofs.Common.{◌≡◌, ℕ, ◌+◌, ◌<◌, Bool, true, false, length, refl, ap, sym, ◌∙◌, inl, inr, arith, min}
+-- The plain front in bytes: its opcode byte and its length, where a vvvv of at most 255 makes no difference, and the operand size under it.
+use Rattle.std.proofs.Common.{◌≡◌, ℕ, ◌+◌, ◌<◌, ◌*◌, Bool, true, false, ◌&&◌, ◌||◌, not, Option, length, refl, ap, sym, ◌∙◌, inl, inr, arith, min, if◌then◌else◌}
 use Rattle.std.specs.Prelude.{Some, None, is_some, cond}
 use borrow.Author.Tests.{ltb-true}
 use Rattle.x86_values.specs.declared.Bits.{Bits}
@@ -11,12 +11,14 @@ use Rattle.instruction_parts.specs.declared.kinds.File.{File}
 use Rattle.instruction_parts.specs.declared.kinds.File.TheVariants.{ByW as ByWFile}
 use Rattle.instruction_parts.specs.declared.spelling.Vex.{Vex}
 use Rattle.instruction_parts.specs.Bytes.{bit, vex_bytes, lead_bytes}
-use Rattle.instruction_parts.specs.Sizes.{is_vex_row, state_size, bit_w}
+use Rattle.instruction_parts.specs.Counting.{rex_bit}
+use Rattle.instruction_parts.specs.Sizes.{is_vex_row, operand_size, state_size, bit_w}
 use Rattle.instruction_parts.proofs.Tests.{either, and_right}
 use Rattle.row_fit.specs.Sound.{sound, opcodes_are_bytes}
 use Rattle.row_fit.proofs.SoundLaws.{sound_conditions}
 use Rattle.row_meaning.specs.Meaning.{general, size_by_w, register_of}
-use Rattle.plain_spelling.specs.PlainFront.{number_in_vvvv, asked, asks_66, asks_67, asked_repeat, asked_rex, count_repeat, vex_with, asked_vex, asked_used, plain_front_of, byte_front}
+use Rattle.plain_spelling.specs.PlainFront.{number_in_vvvv, asked, asks_r, asks_x, asks_b, asks_low_byte, asks_rex_w, asks_66, asks_67, asked_repeat, asked_rex, count_repeat, vex_with, asked_vex, asked_used, plain_front_of, byte_front}
+use Rattle.plain_spelling.specs.PlainTail.{plain_size}
 
 -- the eight opcode bytes of a row that adds a register are bytes
 pub opcode_room : (row : Row) → sound row ≡ true → row.plus ≡ PlusRegister → row.opcode + 7 < 256
@@ -63,3 +65,43 @@ pub byte_front-names : (bits : Bits) (row : Row) (i : Instr) (file : File) (n : 
 unfolding byte_front plain_front_of register_of state_size
 byte_front-names bits row i ByWFile n = ap (λ w. general (size_by_w w) n) (w_with bits row i)
 byte_front-names bits row i _ n = refl
+
+-- ---- the operand size under the plain prefixes
+
+-- the REX of a row that is a VEX row or not, by what asks for it
+abbrev rex_of : Bool → Bool → Bool → Bool → Bool → Bool → Option ℕ
+rex_of v w r x b l =
+    if not v && (w || (r || (x || (b || l)))) then Some (0x40 + (bit w * 8 + (bit r * 4 + (bit x * 2 + bit b)))) else None
+
+rex_of_w : (v w r x b l : Bool) → rex_bit 3 (rex_of v w r x b l) ≡ (if v then false else w)
+rex_of_w true w r x b l = refl
+rex_of_w false true true true true l = refl
+rex_of_w false true true true false l = refl
+rex_of_w false true true false true l = refl
+rex_of_w false true true false false l = refl
+rex_of_w false true false true true l = refl
+rex_of_w false true false true false l = refl
+rex_of_w false true false false true l = refl
+rex_of_w false true false false false l = refl
+rex_of_w false false true true true l = refl
+rex_of_w false false true true false l = refl
+rex_of_w false false true false true l = refl
+rex_of_w false false true false false l = refl
+rex_of_w false false false true true l = refl
+rex_of_w false false false true false l = refl
+rex_of_w false false false false true l = refl
+rex_of_w false false false false false true = refl
+rex_of_w false false false false false false = refl
+
+pub plain_rex_w : (row : Row) (i : Instr) → rex_bit 3 (asked_rex row i) ≡ (if is_vex_row row then false else asks_rex_w row)
+unfolding asked_rex
+plain_rex_w row i = rex_of_w (is_vex_row row) (asks_rex_w row) (asks_r row i) (asks_x row i) (asks_b row i) (asks_low_byte i.ops)
+
+pub plain_state_size : (bits : Bits) (row : Row) (i : Instr) → state_size bits row (plain_front_of bits row i) ≡ plain_size bits row
+unfolding state_size plain_front_of plain_size
+plain_state_size bits row i = ap (λ (w : Bool). operand_size bits row w (asks_66 bits row)) (plain_rex_w row i)
+
+-- the front in bytes has the plain size too
+pub byte_state_size : (bits : Bits) (row : Row) (i : Instr) → state_size bits row (byte_front bits row i) ≡ plain_size bits row
+unfolding byte_front state_size plain_front_of
+byte_state_size bits row i = plain_state_size bits row i

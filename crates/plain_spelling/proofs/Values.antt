@@ -1,5 +1,6 @@
 -- Numbers in bytes, written and read back.
 use Rattle.std.proofs.Common.{◌≡◌, inl, inr, ℕ, zero, suc, ◌+◌, ◌-◌, ◌*◌, ◌/◌, ◌%◌, ◌^◌, ◌<◌, ◌≤◌, Bool, true, false, ◌||◌, nat_lt, nat_le, List, [], ◌∷◌, length, refl, ap, sym, ◌∙◌, arith, if◌then◌else◌}
+use Rattle.std.proofs.Math.Bool.{or-true}
 use Rattle.std.proofs.lemmas.Bool.{ltb-true, ltb-false, lt-ltb, le-ltb, leb-true, leb-false, le-leb, lt-leb}
 use Rattle.std.proofs.lemmas.Nat.{pow-add, pow_pos, mod-pow-add, mod-mul-add}
 use Rattle.std.proofs.Math.Nat.{mod-eq_of_lt, mod-lt, mod-one, add-mul-mod_self_left, mul-sub, mul_comm, mul_assoc, suc-mul, div-add-mod, add-mod-mod, mod-add-mod}
@@ -117,10 +118,6 @@ signed_narrow t p w b c x e f le some small h = elim (either (nat_lt (2 * x) p))
       rw rest (signed_high t p w c (w - x) (p - (w - x)) f le k (omega arith) (omega arith) (omega arith) ∙ back)
 ]
 
-either_true : (b : Bool) → (b || true) ≡ true
-either_true true = refl
-either_true false = refl
-
 -- the other way round: a signed number is in its range
 signed_in_range : (t p w b c v : ℕ) → w ≡ b * p + p → t ≡ c * w + w → p ≤ t → p ≤ w → v < p → is_signed p w (signed t p w v) ≡ true
 signed_in_range t p w b c v e f le fits below = elim (either (nat_lt (2 * v) p)) [
@@ -131,7 +128,7 @@ signed_in_range t p w b c v e f le fits below = elim (either (nat_lt (2 * v) p))
       let half = ltb-false (2 * v) p high in
       let is : signed t p w v ≡ w - (p - v) = signed_high t p w c (p - v) v f le (omega arith) (omega arith) (omega arith) (omega arith) in
       let top : nat_le (2 * w) (2 * (w - (p - v)) + p) ≡ true = le-leb (2 * w) (2 * (w - (p - v)) + p) (omega arith) in
-      rw is (rw top (either_true (nat_lt (2 * (w - (p - v))) p)))
+      rw is (rw top (or-true (nat_lt (2 * (w - (p - v))) p)))
 ]
 
 -- ---- powers of 2
@@ -230,7 +227,7 @@ signed_more p q w x le h = elim (either (nat_lt (2 * x) p)) [
   | inr high ↦
       let top = leb-true (2 * w) (2 * x + p) (or_right (nat_lt (2 * x) p) (nat_le (2 * w) (2 * x + p)) high h) in
       let top_more : nat_le (2 * w) (2 * x + q) ≡ true = le-leb (2 * w) (2 * x + q) (omega arith) in
-      rw top_more (either_true (nat_lt (2 * x) q))
+      rw top_more (or-true (nat_lt (2 * x) q))
 ]
 
 -- what some bytes hold more bytes hold

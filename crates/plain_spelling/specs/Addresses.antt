@@ -24,7 +24,7 @@ use Rattle.plain_spelling.specs.declared.addresses.AddressForm.TheVariants.{Rela
 use Rattle.plain_spelling.specs.declared.addresses.AddressFields.{AddressFields}
 use Rattle.plain_spelling.specs.Values.{is_extended_of}
 use Rattle.plain_spelling.specs.Forms.{is_scale}
-use Rattle.plain_spelling.specs.Comparing.{same_bits, same_register}
+use Rattle.x86_values.specs.Comparing.{same_bits, same_register}
 use Rattle.plain_spelling.specs.PlainFront.{register_number}
 
 -- ---- sizes

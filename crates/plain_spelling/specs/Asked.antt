@@ -6,6 +6,7 @@ use Rattle.row_types.specs.declared.Row.{Row}
 use Rattle.instruction_parts.specs.declared.kinds.Method.{Method}
 use Rattle.plain_spelling.specs.declared.registers.Asked.{Asked}
 use Rattle.plain_spelling.specs.PlainFront.{number_in_reg, number_in_rm, number_in_index, number_in_vvvv, number_in_opcode, asked}
+use Rattle.plain_spelling.specs.PlainTail.{displacement_read}
 
 -- these are the numbers that the instruction asks of the fields of the row
 pub record AreAskedOf (row : Row) (i : Instr) (numbers : Asked) : Type 0 where
@@ -14,6 +15,7 @@ pub record AreAskedOf (row : Row) (i : Instr) (numbers : Asked) : Type 0 where
   pub index : numbers.index ≡ asked number_in_index row i
   pub vvvv : numbers.vvvv ≡ asked number_in_vvvv row i
   pub opcode : numbers.opcode ≡ asked number_in_opcode row i
+  pub displacement : numbers.displacement ≡ asked displacement_read row i
 
 -- these are the numbers of some operands and of one in front of them, which is read so and adds at most 259 to each
 pub record AreWith (method : Method) (op : Operand) (rest numbers : Asked) : Type 0 where
@@ -22,11 +24,13 @@ pub record AreWith (method : Method) (op : Operand) (rest numbers : Asked) : Typ
   pub index : numbers.index ≡ number_in_index method op + rest.index
   pub vvvv : numbers.vvvv ≡ number_in_vvvv method op + rest.vvvv
   pub opcode : numbers.opcode ≡ number_in_opcode method op + rest.opcode
+  pub displacement : numbers.displacement ≡ displacement_read method op + rest.displacement
   pub reg_most : numbers.reg ≤ 259 + rest.reg
   pub rm_most : numbers.rm ≤ 259 + rest.rm
   pub index_most : numbers.index ≤ 259 + rest.index
   pub vvvv_most : numbers.vvvv ≤ 259 + rest.vvvv
   pub opcode_most : numbers.opcode ≤ 259 + rest.opcode
+  pub displacement_most : numbers.displacement ≤ 259 + rest.displacement
 
 -- each of the numbers is below another
 pub record AreBelow (most : ℕ) (numbers : Asked) : Type 0 where
@@ -35,3 +39,4 @@ pub record AreBelow (most : ℕ) (numbers : Asked) : Type 0 where
   pub index : numbers.index < most
   pub vvvv : numbers.vvvv < most
   pub opcode : numbers.opcode < most
+  pub displacement : numbers.displacement < most

@@ -24,7 +24,7 @@ use Rattle.plain_spelling.specs.declared.NoSpelling.{NoSpelling}
 use Rattle.plain_spelling.specs.declared.NoSpelling.TheVariants as cause
 use Rattle.plain_spelling.specs.Values.{is_extended_of, distance}
 use Rattle.plain_spelling.specs.Forms.{is_variant_of, is_memory, operand_at}
-use Rattle.plain_spelling.specs.Comparing.{same_bits, same_register}
+use Rattle.x86_values.specs.Comparing.{same_bits, same_register}
 use Rattle.plain_spelling.specs.PlainFront.{register_number, number_in_reg, number_in_vvvv, number_in_index, asked, asked_opcode, plain_front_of}
 use Rattle.plain_spelling.specs.declared.addresses.AddressForm.TheVariants.{Relative}
 use Rattle.plain_spelling.specs.Addresses.{form_of, register_count, has_address_size, pointer_size, shown_size, written_size, shape_suits, displacement_suits}

@@ -1,6 +1,5 @@
 pub mod Values
 pub mod Forms
-pub mod Comparing
 pub mod PlainFront
 pub mod Addresses
 pub mod PlainTail

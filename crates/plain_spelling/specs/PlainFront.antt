@@ -28,7 +28,7 @@ use Rattle.instruction_parts.specs.Counting.{is_16}
 use Rattle.instruction_parts.specs.Sizes.{is_vex_row, has_caret, has_bang}
 use Rattle.instruction_parts.specs.Bytes.{bit, lead_bytes}
 use Rattle.row_fit.specs.Fits.{same_map}
-use Rattle.plain_spelling.specs.Comparing.{same_bits}
+use Rattle.x86_values.specs.Comparing.{same_bits}
 
 -- ---- registers by number
 

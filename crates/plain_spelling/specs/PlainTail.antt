@@ -143,6 +143,16 @@ abbrev pub operand_displacement : Operand → ℕ
 operand_displacement (MemOperand m) = displacement_count m.disp_size
 operand_displacement _ = 0
 
+-- how many bytes of displacement an operand has that is read so: by r/m, or at an absolute address
+unfoldable pub displacement_read : Method → Operand → ℕ
+displacement_read method.RegisterOrMemory op = operand_displacement op
+displacement_read method.RegisterOnly op = operand_displacement op
+displacement_read method.MemoryOnly op = operand_displacement op
+displacement_read method.AnyMode op = operand_displacement op
+displacement_read method.Gather op = operand_displacement op
+displacement_read method.Offset op = operand_displacement op
+displacement_read _ op = 0
+
 -- the bytes of a displacement before the next address: at RIP and EIP the distance to the address (2.2.1.6)
 unfoldable pub displacement_of : ℕ → Mem → List ℕ
 displacement_of next m =

@@ -6,7 +6,6 @@ ghost use Rattle.row_meaning.specs.Meaning as meaning;
 ghost use Rattle.plain_spelling.specs.Addresses as spec;
 ghost use Rattle.plain_spelling.specs.Expressible.{told_size};
 
-use crate::comparing::{same_bits, same_register};
 use crate::forms::is_scale;
 use crate::numbers::{is_extended_of, is_of_width};
 use crate::registers::register_number;
@@ -15,7 +14,7 @@ use instruction_parts::kinds::{File, Method};
 use instruction_parts::sizes::size_bytes;
 use instruction_parts::spelling::Sib;
 use row_types::{LBit, Row};
-use x86_values::{Bits, DispSize, Mem, Register};
+use x86_values::{Bits, DispSize, Mem, Register, same_bits, same_register};
 
 /// The ways to write an address by ModRM.
 #[derive(Clone, Copy, PartialEq, Eq, Debug)]
@@ -63,6 +62,7 @@ pub fn has_address_size(bits: Bits, asize: Bits) -> bool
     }
 }
 
+/// The size of a general register; the others have none.
 #[tactic(auto, unfolding(crate::specs::Addresses::general_size))]
 fn general_size(register: Register) -> Option<Bits>
     ensures { result ≡ spec.general_size register }
@@ -75,6 +75,7 @@ fn general_size(register: Register) -> Option<Bits>
     }
 }
 
+/// The size of a general register, where there is one.
 fn general_size_if(register: Option<Register>) -> Option<Bits>
     ensures { result ≡ spec.general_size_if register }
 {
@@ -84,6 +85,7 @@ fn general_size_if(register: Option<Register>) -> Option<Bits>
     }
 }
 
+/// The address size of RIP and EIP.
 #[tactic(auto, unfolding(crate::specs::Addresses::pointer_size))]
 fn pointer_size(register: Register) -> Option<Bits>
     ensures { result ≡ spec.pointer_size register }
@@ -107,7 +109,7 @@ fn shown_size(memory: Mem) -> Option<Bits>
 }
 
 /// The address size that an address shows by a general register, RIP or EIP.
-#[inline(never)]
+#[inline(always)]
 #[tactic(auto, unfolding(crate::specs::Expressible::told_size))]
 pub fn told_size(memory: Mem) -> Option<Bits>
     ensures { result ≡ told_size memory }
@@ -215,6 +217,7 @@ fn is_address_register(bits: Bits, asize: Bits, register: Register) -> bool
     }) && register_number(register) < register_count(bits)
 }
 
+/// Whether a base is none, or a register of the address size.
 #[tactic(auto, unfolding(crate::specs::Addresses::is_base))]
 fn is_base(bits: Bits, asize: Bits, base: Option<Register>) -> bool
     ensures { result ≡ spec.is_base bits asize base }
@@ -225,6 +228,7 @@ fn is_base(bits: Bits, asize: Bits, base: Option<Register>) -> bool
     }
 }
 
+/// Whether an index is none, or a register of the address size other than number 4 (table 2-3).
 #[tactic(auto, unfolding(crate::specs::Addresses::is_index))]
 fn is_index(bits: Bits, asize: Bits, index: Option<Register>) -> bool
     ensures { result ≡ spec.is_index bits asize index }
@@ -236,6 +240,7 @@ fn is_index(bits: Bits, asize: Bits, index: Option<Register>) -> bool
     }
 }
 
+/// Whether a scale is one of a SIB, or 1 without an index.
 #[tactic(auto, unfolding(crate::specs::Addresses::scale_suits))]
 fn scale_suits(index: Option<Register>, scale: u8) -> bool
     ensures { result ≡ spec.scale_suits index scale }
@@ -246,6 +251,7 @@ fn scale_suits(index: Option<Register>, scale: u8) -> bool
     }
 }
 
+/// Whether an address size is 32 or 64 and one of the mode.
 #[tactic(auto, unfolding(crate::specs::Addresses::is_flat_size))]
 fn is_flat_size(bits: Bits, asize: Bits) -> bool
     ensures { result ≡ spec.is_flat_size bits asize }
@@ -284,6 +290,7 @@ fn is_shape(bits: Bits, memory: Mem) -> bool
     }
 }
 
+/// The vector register of a row with a number.
 #[tactic(auto, unfolding(row_meaning::specs::Meaning::vector))]
 fn vector(l: LBit, n: u8) -> Register
     ensures { result ≡ meaning.vector l n }
@@ -335,6 +342,7 @@ fn is_gather_base(bits: Bits, base: Option<Register>) -> bool
     }
 }
 
+/// Whether base, index and scale are an address of a gather (2.3.12).
 #[tactic(auto, unfolding(crate::specs::Addresses::is_gather_shape))]
 fn is_gather_shape(bits: Bits, row: &Row, file: File, memory: Mem) -> bool
     ensures { result ≡ spec.is_gather_shape bits row.now file memory }
@@ -371,6 +379,7 @@ pub fn displacement_count(size: DispSize) -> u8
     }
 }
 
+/// Whether an address by base and index offers a displacement of n bytes (tables 2-2 and 2-3).
 #[tactic(auto, unfolding(crate::specs::Addresses::flat_offers))]
 fn flat_offers(base: Option<Register>, n: u8) -> bool
     ensures { result ≡ spec.flat_offers base n }
@@ -381,6 +390,7 @@ fn flat_offers(base: Option<Register>, n: u8) -> bool
     }
 }
 
+/// Whether 16-bit addressing offers a displacement of n bytes (table 2-1).
 #[tactic(auto, unfolding(crate::specs::Addresses::short_offers))]
 fn short_offers(rm: Option<u8>, n: u8) -> bool
     ensures { result ≡ spec.short_offers rm n }
@@ -453,6 +463,7 @@ fn mode_of_count(n: u8) -> u8
     }
 }
 
+/// The field scale of a SIB.
 #[tactic(auto, unfolding(crate::specs::Addresses::scale_field))]
 fn scale_field(scale: u8) -> u8
     ensures { result ≡ spec.scale_field scale }
@@ -468,6 +479,7 @@ fn scale_field(scale: u8) -> u8
     }
 }
 
+/// The field base of a SIB, 5 without a base.
 #[tactic(auto, unfolding(crate::specs::Addresses::base_bits))]
 fn base_bits(base: Option<Register>) -> u8
     ensures { result ≡ spec.base_bits base }
@@ -478,6 +490,7 @@ fn base_bits(base: Option<Register>) -> u8
     }
 }
 
+/// The field index of a SIB, 4 without an index.
 #[tactic(auto, unfolding(crate::specs::Addresses::index_bits))]
 fn index_bits(index: Option<Register>) -> u8
     ensures { result ≡ spec.index_bits index }
@@ -561,6 +574,7 @@ fn alone_fields(bits: Bits, asize: Bits, memory: Mem) -> AddressFields
     }
 }
 
+/// A number, 0 where there is none.
 fn or_zero(n: Option<u8>) -> u8
     ensures { result ≡ spec.or_zero n }
 {

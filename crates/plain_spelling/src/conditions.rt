@@ -6,7 +6,9 @@ ghost use Rattle.row_types.specs.declared.Place.{Place};
 ghost use Rattle.row_types.specs.declared.Plus.TheVariants.{Register as PlusRegister};
 ghost use Rattle.instruction_parts.specs.Kinds.{method_of};
 ghost use Rattle.plain_spelling.specs.Forms.{is_variant_of};
+ghost use Rattle.instruction_parts.specs.Sizes as sizes;
 ghost use Rattle.row_fit.specs.Fits as fits;
+ghost use Rattle.row_meaning.specs.Meaning as meaning;
 ghost use Rattle.plain_spelling.specs.PlainFront as front;
 ghost use Rattle.plain_spelling.specs.PlainTail as tail;
 ghost use Rattle.plain_spelling.specs.Parts.{ArePartsOf};
@@ -18,23 +20,23 @@ use crate::addresses::{
     AddressForm, displacement_suits, form_of, has_address_size, register_count, shape_suits,
     told_size, written_size,
 };
-use crate::comparing::{same_bits, same_register};
 use crate::forms::{is_memory, is_variant_of, operand_at};
 use crate::numbers::{distance, is_below_bytes, is_extended_of, is_of_width};
 use crate::parts::{PlainParts, immediate_len};
 use crate::registers::{numbers_asked, register_number};
 use instruction_parts::counting::{is_16, is_64};
-use instruction_parts::kinds::{Method, file_of_kind, fixed_number_of_kind, method_of_kind};
+use instruction_parts::kinds::{File, Method, file_of_kind, fixed_number_of_kind, method_of_kind};
 use instruction_parts::sizes::{has_address_mark, is_lockable};
 use instruction_parts::spelling::PrefixState;
 use row_fit::fits::{is_no_repeat, is_repeat_f3, reads_gather};
 use row_fit::tail_fits::{is_control_number, is_nop_byte, kind_at};
-use row_meaning::meaning::register_of;
+use row_meaning::meaning::{general, register_of};
 use row_types::{Class, OpKind, Plus, Row};
-use x86_values::{Bits, Instr, Mem, Operand, Register};
+use x86_values::{Bits, Instr, Mem, Operand, Register, same_bits, same_register};
 
 // ---- 2. each operand has a variant that its kind allows
 
+/// Whether operand n has a variant that its kind allows.
 #[tactic(auto, unfolding(crate::specs::Expressible::kind_suits))]
 fn kind_suits(row: &Row, instr: &Instr, n: usize) -> bool
     requires { n < 4 }
@@ -71,6 +73,30 @@ fn naming_number(method: Method, kind: OpKind, register: Register) -> u8
     }
 }
 
+/// The register of a file with a number, by the operand size under the prefixes, which is known.
+#[inline(always)]
+#[tactic(auto, unfolding(row_meaning::specs::Meaning::register_of, row_meaning::specs::Meaning::general))]
+fn register_at_size(
+    bits: Bits,
+    row: &Row,
+    state: &PrefixState,
+    size: Bits,
+    file: File,
+    n: u8,
+) -> Register
+    requires { size ≡ sizes.state_size bits row.now state.now }
+    ensures { result ≡ meaning.register_of bits row.now state.now file n }
+{
+    match file {
+        File::OperandSize => general(size, n),
+        File::WordOrDword => match size {
+            Bits::B16 => Register::R16(n),
+            _ => Register::R32(n),
+        },
+        _ => register_of(bits, row, state, file, n),
+    }
+}
+
 /// Whether the register is the one that the kind names by this number under the plain prefixes.
 #[tactic(auto, unfolding(crate::specs::Expressible::is_of_kind))]
 fn is_of_kind(
@@ -78,17 +104,19 @@ fn is_of_kind(
     row: &Row,
     instr: &Instr,
     state: &PrefixState,
+    size: Bits,
     kind: OpKind,
     register: Register,
 ) -> bool
     requires state { state.now ≡ front.byte_front bits row.now instr.now }
+    requires size { size ≡ tail.plain_size bits row.now }
     requires number { front.register_number register < 256 }
     ensures { result ≡ spec.is_of_kind bits row.now instr.now kind register }
 {
     let n = naming_number(method_of_kind(kind), kind, register);
     same_register(
         register,
-        register_of(bits, row, state, file_of_kind(kind), n),
+        register_at_size(bits, row, state, size, file_of_kind(kind), n),
     )
 }
 
@@ -124,21 +152,24 @@ fn is_nameable(
     row: &Row,
     instr: &Instr,
     state: &PrefixState,
+    size: Bits,
     n: usize,
     register: Register,
 ) -> bool
     requires place { n < 4 }
     requires state { state.now ≡ front.byte_front bits row.now instr.now }
+    requires size { size ≡ tail.plain_size bits row.now }
     ensures { result ≡ spec.is_nameable bits row.now instr.now n register }
 {
     let kind = kind_at(row, n);
     exists_in_mode(bits, register)
         && register_number(register) < register_count(bits)
-        && is_of_kind(bits, row, instr, state, kind, register)
+        && is_of_kind(bits, row, instr, state, size, kind, register)
         && is_not_nop(row, method_of_kind(kind), register)
         && kind_allows(bits, n, kind, register)
 }
 
+/// Whether a register is XMM or YMM.
 fn is_vector_register(register: Register) -> bool
     ensures { result ≡ spec.is_vector_register register }
 {
@@ -184,6 +215,7 @@ fn vector_in_vvvv(method: Method, operand: Operand) -> bool
     }
 }
 
+/// A number, where its register is a vector register.
 fn number_if(is_vector: bool, number: u16) -> Option<u16>
     ensures { result ≡ (if is_vector then Some number else None) }
 {
@@ -246,6 +278,7 @@ fn gather_numbers_differ(row: &Row, instr: &Instr) -> bool
     differ(destination, index) && differ(destination, mask) && differ(index, mask)
 }
 
+/// The rule on a gather's numbers, which counts with operand 0.
 #[inline(always)]
 fn gather_suits(row: &Row, instr: &Instr, n: usize) -> bool
     ensures { result ≡ spec.gather_suits row.now instr.now n }
@@ -253,20 +286,30 @@ fn gather_suits(row: &Row, instr: &Instr, n: usize) -> bool
     !(n == 0) || !reads_gather(row) || gather_numbers_differ(row, instr)
 }
 
+/// Whether operand n, where it is a register, is one that its kind can name.
 #[tactic(auto, unfolding(crate::specs::Expressible::register_suits))]
-fn register_suits(bits: Bits, row: &Row, instr: &Instr, state: &PrefixState, n: usize) -> bool
+fn register_suits(
+    bits: Bits,
+    row: &Row,
+    instr: &Instr,
+    state: &PrefixState,
+    size: Bits,
+    n: usize,
+) -> bool
     requires place { n < 4 }
     requires state { state.now ≡ front.byte_front bits row.now instr.now }
+    requires size { size ≡ tail.plain_size bits row.now }
     ensures { result ≡ spec.register_suits bits row.now instr.now n }
 {
     (match operand_at(instr, n) {
-        Operand::Reg(register) => is_nameable(bits, row, instr, state, n, register),
+        Operand::Reg(register) => is_nameable(bits, row, instr, state, size, n, register),
         _ => true,
     }) && gather_suits(row, instr, n)
 }
 
 // ---- 4. base, index and scale of each memory operand are a shape
 
+/// Whether operand n, where it is memory, has a base, index and scale that can be written.
 #[tactic(auto, unfolding(crate::specs::Expressible::address_suits))]
 fn address_suits(bits: Bits, row: &Row, instr: &Instr, n: usize) -> bool
     requires { n < 4 }
@@ -283,6 +326,7 @@ fn address_suits(bits: Bits, row: &Row, instr: &Instr, n: usize) -> bool
 
 // ---- 5. the shape offers the displacement
 
+/// Whether operand n, where it is memory, has a displacement that its shape offers.
 #[tactic(auto, unfolding(crate::specs::Expressible::offered))]
 fn offered(bits: Bits, row: &Row, instr: &Instr, n: usize) -> bool
     requires { n < 4 }
@@ -320,6 +364,7 @@ fn immediate_suits_how(size: Bits, method: Method, n: u8, operand: Operand) -> b
     }
 }
 
+/// Whether operand n, where it is an immediate, is a value of its written size.
 #[tactic(auto, unfolding(crate::specs::Expressible::immediate_suits))]
 fn immediate_suits(bits: Bits, row: &Row, instr: &Instr, size: Bits, n: usize) -> bool
     requires place { n < 4 }
@@ -360,6 +405,7 @@ fn address_reaches(next: u64, memory: Mem) -> bool
     }
 }
 
+/// Whether operand n, where it has a target, reaches it.
 #[tactic(auto, unfolding(crate::specs::Expressible::target_suits))]
 fn target_suits(bits: Bits, row: &Row, instr: &Instr, parts: &PlainParts, n: usize) -> bool
     requires place { n < 4 }
@@ -378,6 +424,7 @@ fn target_suits(bits: Bits, row: &Row, instr: &Instr, parts: &PlainParts, n: usi
 
 // ---- 8. LOCK and the repeat prefix are allowed
 
+/// LOCK stands on lockable rows with a memory operand first.
 #[tactic(auto, unfolding(crate::specs::Expressible::lock_suits))]
 fn lock_suits(row: &Row, instr: &Instr) -> bool
     ensures { result ≡ spec.lock_suits row.now instr.now }
@@ -385,6 +432,7 @@ fn lock_suits(row: &Row, instr: &Instr) -> bool
     !instr.lock || (is_lockable(row) && is_memory(operand_at(instr, 0)))
 }
 
+/// Whether the row adds a register to the opcode byte and the byte is 90.
 fn is_exchange_of_90(row: &Row, opcode: u8) -> bool
     ensures { result ≡ ((elim row.now.plus [ PlusRegister ↦ true | _ ↦ false ]) && fits.is_nop_byte row.now opcode) }
 {
@@ -407,6 +455,7 @@ fn repeat_suits(row: &Row, instr: &Instr, opcode: u8) -> bool
     }
 }
 
+/// LOCK and the repeat prefix are allowed.
 #[tactic(auto, unfolding(crate::specs::Expressible::prefixes_suit))]
 fn prefixes_suit(row: &Row, instr: &Instr, opcode: u8) -> bool
     requires { opcode ≡ front.asked_opcode row.now instr.now }
@@ -493,12 +542,14 @@ fn first_failing(first: bool, second: bool, third: bool, fourth: bool) -> Option
     }
 }
 
+/// A cause, where a condition does not hold.
 fn caused_unless(holds: bool, why: NoSpelling) -> Option<NoSpelling>
     ensures { result ≡ spec.caused_unless holds why }
 {
     if holds { None } else { Some(why) }
 }
 
+/// The first operand that fails condition 2, as its cause.
 #[tactic(auto, unfolding(crate::specs::Expressible::first_failing))]
 fn kind_failure(row: &Row, instr: &Instr) -> Option<NoSpelling>
     ensures { result ≡ spec.caused_at cause.OperandKind (spec.first_failing (spec.kind_suits row.now instr.now)) }
@@ -515,16 +566,24 @@ fn kind_failure(row: &Row, instr: &Instr) -> Option<NoSpelling>
     }
 }
 
+/// The same of condition 3.
 #[tactic(auto, unfolding(crate::specs::Expressible::first_failing))]
-fn register_failure(bits: Bits, row: &Row, instr: &Instr, state: &PrefixState) -> Option<NoSpelling>
-    requires { state.now ≡ front.byte_front bits row.now instr.now }
+fn register_failure(
+    bits: Bits,
+    row: &Row,
+    instr: &Instr,
+    state: &PrefixState,
+    size: Bits,
+) -> Option<NoSpelling>
+    requires state { state.now ≡ front.byte_front bits row.now instr.now }
+    requires size { size ≡ tail.plain_size bits row.now }
     ensures { result ≡ spec.caused_at cause.Register (spec.first_failing (spec.register_suits bits row.now instr.now)) }
 {
     let failing = first_failing(
-        register_suits(bits, row, instr, state, 0),
-        register_suits(bits, row, instr, state, 1),
-        register_suits(bits, row, instr, state, 2),
-        register_suits(bits, row, instr, state, 3),
+        register_suits(bits, row, instr, state, size, 0),
+        register_suits(bits, row, instr, state, size, 1),
+        register_suits(bits, row, instr, state, size, 2),
+        register_suits(bits, row, instr, state, size, 3),
     );
     match failing {
         None => None,
@@ -532,6 +591,7 @@ fn register_failure(bits: Bits, row: &Row, instr: &Instr, state: &PrefixState) -
     }
 }
 
+/// The same of condition 4, whose cause names no operand.
 fn memory_failure(bits: Bits, row: &Row, instr: &Instr) -> Option<NoSpelling>
     ensures { result ≡ spec.caused_unless (spec.each_operand (spec.address_suits bits row.now instr.now)) cause.Memory }
 {
@@ -542,6 +602,7 @@ fn memory_failure(bits: Bits, row: &Row, instr: &Instr) -> Option<NoSpelling>
     caused_unless(all, NoSpelling::Memory)
 }
 
+/// The same of condition 5.
 fn displacement_failure(bits: Bits, row: &Row, instr: &Instr) -> Option<NoSpelling>
     ensures { result ≡ spec.caused_unless (spec.each_operand (spec.offered bits row.now instr.now)) cause.Displacement }
 {
@@ -552,6 +613,7 @@ fn displacement_failure(bits: Bits, row: &Row, instr: &Instr) -> Option<NoSpelli
     caused_unless(all, NoSpelling::Displacement)
 }
 
+/// The same of condition 6, with the operand.
 #[tactic(auto, unfolding(crate::specs::Expressible::first_failing))]
 fn immediate_failure(bits: Bits, row: &Row, instr: &Instr, size: Bits) -> Option<NoSpelling>
     requires { size ≡ tail.plain_size bits row.now }
@@ -569,6 +631,7 @@ fn immediate_failure(bits: Bits, row: &Row, instr: &Instr, size: Bits) -> Option
     }
 }
 
+/// The same of condition 7.
 fn target_failure(bits: Bits, row: &Row, instr: &Instr, parts: &PlainParts) -> Option<NoSpelling>
     requires { ArePartsOf bits row.now instr.now parts.now }
     ensures { result ≡ spec.caused_unless (spec.each_operand (spec.target_suits bits parts.now.ip row.now instr.now)) cause.Target }
@@ -580,16 +643,16 @@ fn target_failure(bits: Bits, row: &Row, instr: &Instr, parts: &PlainParts) -> O
     caused_unless(all, NoSpelling::Target)
 }
 
+/// Condition 8, as its cause.
 #[tactic(auto, unfolding(crate::specs::PlainFront::byte_front, crate::specs::PlainFront::plain_front_of))]
 fn prefix_failure(bits: Bits, row: &Row, instr: &Instr, state: &PrefixState) -> Option<NoSpelling>
     requires { state.now ≡ front.byte_front bits row.now instr.now }
     ensures { result ≡ spec.caused_unless (spec.prefixes_suit row.now instr.now) cause.Prefix }
 {
-    // The state that is given is that of a mode, which the proof names by this value.
-    let _bits = bits;
     caused_unless(prefixes_suit(row, instr, state.opcode), NoSpelling::Prefix)
 }
 
+/// Condition 9, as its cause.
 fn address_size_failure(bits: Bits, row: &Row, instr: &Instr) -> Option<NoSpelling>
     ensures { result ≡ spec.caused_unless (spec.address_size_suits bits row.now instr.now) cause.AddressSize }
 {
@@ -611,7 +674,7 @@ fn first_failure(bits: Bits, row: &Row, instr: &Instr, parts: &PlainParts) -> Op
         Some(why) => return Some(why),
         None => {}
     }
-    match register_failure(bits, row, instr, &parts.state) {
+    match register_failure(bits, row, instr, &parts.state, parts.size) {
         Some(why) => return Some(why),
         None => {}
     }
@@ -657,7 +720,15 @@ fn present_suits(bits: Bits, row: &Row, instr: &Instr, parts: &PlainParts, n: us
     }
     match operand {
         Operand::Absent => true,
-        Operand::Reg(register) => is_nameable(bits, row, instr, &parts.state, n, register),
+        Operand::Reg(register) => is_nameable(
+            bits,
+            row,
+            instr,
+            &parts.state,
+            parts.size,
+            n,
+            register,
+        ),
         Operand::Mem(memory) => {
             shape_suits(bits, row, method, file_of_kind(kind), memory)
                 && displacement_suits(written_size(bits, instr.asize, memory), method, memory)

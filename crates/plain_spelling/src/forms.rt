@@ -32,6 +32,7 @@ pub fn is_memory(operand: Operand) -> bool
     matches!(operand, Operand::Mem(_))
 }
 
+/// Whether an operand is one that a row with this limit of r/m allows.
 #[tactic(auto, unfolding(crate::specs::Forms::is_allowed_in))]
 fn is_allowed_in(place: Place, operand: Operand) -> bool
     ensures { result ≡ spec.is_allowed_in place operand }

@@ -8,7 +8,6 @@ ghost use Rattle.plain_spelling.specs.Expressible.{each_operand, register_suits}
 ghost use Rattle.plain_spelling.specs.PlainTail as tail;
 ghost use Rattle.plain_spelling.specs.Asked.{AreAskedOf};
 
-use crate::comparing::same_bits;
 use crate::registers::{Asked, asks_low_byte, numbers_asked};
 use instruction_parts::bytes::lead_len;
 use instruction_parts::counting::is_16;
@@ -16,8 +15,9 @@ use instruction_parts::sizes::{has_bang, has_caret, is_vex_row, operand_size};
 use instruction_parts::spelling::{PrefixState, Vex};
 use row_fit::fits::same_map;
 use row_types::{Class, LBit, Map, Plus, Row, Size, WBit};
-use x86_values::{Bits, Instr, Rep};
+use x86_values::{Bits, Instr, Rep, same_bits};
 
+/// A flag as a bit.
 fn bit(flag: bool) -> u8
     ensures value { result ≡ bytes.bit flag }
     ensures small { result < 2 }
@@ -92,15 +92,17 @@ fn asked_repeat(row: &Row, instr: &Instr) -> Rep
     }
 }
 
-/// The REX of a legacy row, where something needs one: `w`, `r`, `x` and `b` are what the row and the instruction ask of W, R, X and B.
-#[tactic(auto, unfolding(crate::specs::PlainFront::asked_rex))]
-fn asked_rex(row: &Row, instr: &Instr, w: bool, r: bool, x: bool, b: bool) -> Option<u8>
+/// The REX of a legacy row, where something needs one: `w` is what the row asks of W, and the numbers say what is asked of R, X and B.
+#[inline(always)]
+#[tactic(auto, unfolding(crate::specs::PlainFront::asked_rex, crate::specs::PlainFront::asks_r, crate::specs::PlainFront::asks_x, crate::specs::PlainFront::asks_b))]
+fn asked_rex(row: &Row, instr: &Instr, asked: &Asked, w: bool) -> Option<u8>
+    requires asked { AreAskedOf row.now instr.now asked.now }
     requires w { w ≡ spec.asks_rex_w row.now }
-    requires r { r ≡ spec.asks_r row.now instr.now }
-    requires x { x ≡ spec.asks_x row.now instr.now }
-    requires b { b ≡ spec.asks_b row.now instr.now }
     ensures { result ≡ spec.asked_rex row.now instr.now }
 {
+    let r = 8 <= asked.reg;
+    let x = 8 <= asked.index;
+    let b = 8 <= asked.rm;
     if !is_vex_row(row) && (w || r || x || b || asks_low_byte(instr)) {
         Some(0x40 + (bit(w) * 8 + (bit(r) * 4 + (bit(x) * 2 + bit(b)))))
     } else {
@@ -122,14 +124,14 @@ fn class_pp(class: Class) -> u8
 }
 
 /// The VEX of a VEX row; a vvvv of more than 255, which no spelling has, is 255.
-#[tactic(auto, unfolding(crate::specs::PlainFront::asked_vex))]
-fn byte_vex(row: &Row, instr: &Instr, asked: &Asked, r: bool, x: bool, b: bool) -> Option<Vex>
-    requires asked { AreAskedOf row.now instr.now asked.now }
-    requires r { r ≡ spec.asks_r row.now instr.now }
-    requires x { x ≡ spec.asks_x row.now instr.now }
-    requires b { b ≡ spec.asks_b row.now instr.now }
+#[tactic(auto, unfolding(crate::specs::PlainFront::asked_vex, crate::specs::PlainFront::asks_r, crate::specs::PlainFront::asks_x, crate::specs::PlainFront::asks_b))]
+pub(crate) fn byte_vex(row: &Row, instr: &Instr, asked: &Asked) -> Option<Vex>
+    requires { AreAskedOf row.now instr.now asked.now }
     ensures { result ≡ spec.vex_with row.now instr.now (min 255 (spec.asked spec.number_in_vvvv row.now instr.now)) }
 {
+    let r = 8 <= asked.reg;
+    let x = 8 <= asked.index;
+    let b = 8 <= asked.rm;
     let w = asks_vex_w(row);
     if is_vex_row(row) {
         Some(Vex {
@@ -164,6 +166,7 @@ fn asked_opcode(row: &Row, instr: &Instr, asked: &Asked) -> u8
     }
 }
 
+/// How many bytes a repeat prefix has.
 fn count_repeat(rep: Rep) -> u8
     ensures value { result ≡ spec.count_repeat rep }
     ensures small { result < 2 }
@@ -195,8 +198,6 @@ pub fn plain_front(bits: Bits, row: &Row, instr: &Instr) -> PrefixState
 }
 
 /// The same by the numbers that the instruction asks, and by what the row asks of W of a REX and of 66.
-#[inline]
-#[tactic(auto, unfolding(crate::specs::PlainFront::byte_front, crate::specs::PlainFront::plain_front_of, crate::specs::PlainFront::asked_used, crate::specs::PlainFront::asks_r, crate::specs::PlainFront::asks_x, crate::specs::PlainFront::asks_b))]
 pub fn front_asked(
     bits: Bits,
     row: &Row,
@@ -213,13 +214,34 @@ pub fn front_asked(
     ensures exact { IsTrue (each_operand (register_suits bits row.now instr.now)) → result ≡ spec.plain_front_of bits row.now instr.now }
     ensures small { result.used < 16 }
 {
+    let vex = byte_vex(row, instr, asked);
+    front_with(bits, row, instr, asked, w, size66, vex)
+}
+
+/// The same by its VEX too. A caller that knows the row as a legacy one gives None, which is nothing to copy.
+#[inline(always)]
+#[tactic(auto, unfolding(crate::specs::PlainFront::byte_front, crate::specs::PlainFront::plain_front_of, crate::specs::PlainFront::asked_used))]
+pub(crate) fn front_with(
+    bits: Bits,
+    row: &Row,
+    instr: &Instr,
+    asked: &Asked,
+    w: bool,
+    size66: bool,
+    vex: Option<Vex>,
+) -> PrefixState
+    requires sound { IsTrue (sound row.now) }
+    requires asked { AreAskedOf row.now instr.now asked.now }
+    requires w { w ≡ spec.asks_rex_w row.now }
+    requires size66 { size66 ≡ spec.asks_66 bits row.now }
+    requires vex { vex ≡ spec.vex_with row.now instr.now (min 255 (spec.asked spec.number_in_vvvv row.now instr.now)) }
+    ensures value { result ≡ spec.byte_front bits row.now instr.now }
+    ensures exact { IsTrue (each_operand (register_suits bits row.now instr.now)) → result ≡ spec.plain_front_of bits row.now instr.now }
+    ensures small { result.used < 16 }
+{
     let addr67 = asks_67(bits, instr.asize);
     let rep = asked_repeat(row, instr);
-    let r = 8 <= asked.reg;
-    let x = 8 <= asked.index;
-    let b = 8 <= asked.rm;
-    let rex = asked_rex(row, instr, w, r, x, b);
-    let vex = byte_vex(row, instr, asked, r, x, b);
+    let rex = asked_rex(row, instr, asked, w);
     PrefixState {
         used: bit(instr.lock)
             + (count_repeat(rep)

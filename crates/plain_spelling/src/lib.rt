@@ -2,7 +2,6 @@
 #![tactic(auto)]
 
 pub mod addresses;
-mod comparing;
 pub mod conditions;
 pub mod forms;
 pub mod front;

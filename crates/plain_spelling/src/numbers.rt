@@ -42,6 +42,7 @@ fn top_of_width(size: Bits) -> u128
     }
 }
 
+/// The number of bits of a size.
 fn bits_of(size: Bits) -> u8
     ensures value { result ≡ width size }
     ensures small { result ≤ 64 }
@@ -110,7 +111,7 @@ fn half_of_bytes(n: u8) -> u64
 
 /// Whether a number of a size is what n sign-extended bytes give, cut to that size: it is less than half of their range away from 0 or
 /// from the end of the size.
-#[inline(never)]
+#[inline(always)]
 #[tactic(auto, unfolding(crate::specs::Values::is_extended_of))]
 pub fn is_extended_of(n: u8, size: Bits, x: u64) -> bool
     requires { n ≤ 8 }

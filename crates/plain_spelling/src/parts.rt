@@ -1,16 +1,19 @@
 //! What the plain spelling of an instruction is made of, computed once.
 
-ghost use Rattle.std.specs.Prelude.{◌≡◌, ◌<◌, ◌≤◌, ◌+◌, IsTrue};
+ghost use Rattle.std.specs.Prelude.{◌≡◌, ◌<◌, ◌≤◌, ◌+◌, min, IsTrue};
+ghost use Rattle.x86_values.specs.declared.Bits.TheVariants.{B16, B32, B64};
 ghost use Rattle.row_fit.specs.Fits.{immediate_bytes as bytes_of_kind, immediates_bytes as bytes_of_row};
 ghost use Rattle.row_fit.specs.Sound.{sound};
 ghost use Rattle.plain_spelling.specs.PlainFront as front;
 ghost use Rattle.plain_spelling.specs.PlainTail as spec;
 ghost use Rattle.plain_spelling.specs.Parts.{ArePartsOf};
+ghost use Rattle.plain_spelling.specs.Asked.{AreAskedOf};
 
-use crate::front::{asks_66, asks_rex_w, front_asked, plain_size};
-use crate::registers::numbers_asked;
-use crate::tail::{Addressing, address_operand, operand_displacement, plain_addressing};
-use instruction_parts::spelling::PrefixState;
+use crate::front::{asks_66, asks_rex_w, byte_vex, front_with, plain_size};
+use crate::registers::{Asked, numbers_asked};
+use crate::tail::{Addressing, plain_addressing};
+use instruction_parts::sizes::is_vex_row;
+use instruction_parts::spelling::{PrefixState, Vex};
 use row_fit::tail_fits::{immediate_bytes, kind_at};
 use row_types::{OpKind, Row};
 use x86_values::{Bits, Instr, wrap};
@@ -48,17 +51,84 @@ pub fn immediate_len(size: Bits, kind: OpKind) -> u8
     }
 }
 
-/// The bytes of all immediates, at most 32.
+/// The bytes that an operand has behind the instruction at operand size 16.
+#[inline(always)]
+#[tactic(auto, unfolding(row_fit::specs::Fits::immediate_bytes, instruction_parts::specs::Kinds::immediate_width))]
+fn immediate_len_16(kind: OpKind) -> u8
+    ensures value { result ≡ bytes_of_kind B16 kind }
+    ensures small { result ≤ 8 }
+{
+    match kind {
+        OpKind::Ib | OpKind::Ibs | OpKind::Jb | OpKind::Lx => 1,
+        OpKind::Iw | OpKind::Iz | OpKind::Jz | OpKind::Iv => 2,
+        OpKind::Ap => 4,
+        _ => 0,
+    }
+}
+
+/// The same at operand size 32.
+#[inline(always)]
+#[tactic(auto, unfolding(row_fit::specs::Fits::immediate_bytes, instruction_parts::specs::Kinds::immediate_width))]
+fn immediate_len_32(kind: OpKind) -> u8
+    ensures value { result ≡ bytes_of_kind B32 kind }
+    ensures small { result ≤ 8 }
+{
+    match kind {
+        OpKind::Ib | OpKind::Ibs | OpKind::Jb | OpKind::Lx => 1,
+        OpKind::Iw => 2,
+        OpKind::Iz | OpKind::Jz | OpKind::Iv => 4,
+        OpKind::Ap => 6,
+        _ => 0,
+    }
+}
+
+/// The same at operand size 64.
+#[inline(always)]
+#[tactic(auto, unfolding(row_fit::specs::Fits::immediate_bytes, instruction_parts::specs::Kinds::immediate_width))]
+fn immediate_len_64(kind: OpKind) -> u8
+    ensures value { result ≡ bytes_of_kind B64 kind }
+    ensures small { result ≤ 8 }
+{
+    match kind {
+        OpKind::Ib | OpKind::Ibs | OpKind::Jb | OpKind::Lx => 1,
+        OpKind::Iw => 2,
+        OpKind::Iz | OpKind::Jz => 4,
+        OpKind::Iv => 8,
+        OpKind::Ap => 6,
+        _ => 0,
+    }
+}
+
+/// The bytes of all immediates, at most 32. At a size that is known each kind's is one look-up in a table.
+#[inline(always)]
 #[tactic(auto, unfolding(row_fit::specs::Fits::immediates_bytes))]
 fn immediates_len(size: Bits, row: &Row) -> u8
     ensures value { result ≡ bytes_of_row size row.now }
     ensures small { result ≤ 32 }
 {
-    let first = immediate_len(size, kind_at(row, 0));
-    let second = immediate_len(size, kind_at(row, 1));
-    let third = immediate_len(size, kind_at(row, 2));
-    let fourth = immediate_len(size, kind_at(row, 3));
-    first + (second + (third + fourth))
+    let first = kind_at(row, 0);
+    let second = kind_at(row, 1);
+    let third = kind_at(row, 2);
+    let fourth = kind_at(row, 3);
+    match size {
+        Bits::B16 => immediate_len_16(first)
+            + (immediate_len_16(second) + (immediate_len_16(third) + immediate_len_16(fourth))),
+        Bits::B32 => immediate_len_32(first)
+            + (immediate_len_32(second) + (immediate_len_32(third) + immediate_len_32(fourth))),
+        Bits::B64 => immediate_len_64(first)
+            + (immediate_len_64(second) + (immediate_len_64(third) + immediate_len_64(fourth))),
+    }
+}
+
+/// The bytes of the displacement, at most 8.
+#[inline(always)]
+fn displacement_len(row: &Row, instr: &Instr, asked: &Asked) -> u8
+    requires sound { IsTrue (sound row.now) }
+    requires asked { AreAskedOf row.now instr.now asked.now }
+    ensures value { result ≡ spec.operand_displacement (spec.address_operand row.now instr.now) }
+    ensures small { result ≤ 8 }
+{
+    asked.displacement as u8
 }
 
 /// How many bytes the plain spelling has, by those of its front, its displacement and its immediates.
@@ -88,24 +158,32 @@ fn plain_len(
     used + (1 + (modrm + (sib + (displacement + immediates))))
 }
 
-/// The parts of the plain spelling of an instruction of a row at an address.
-#[inline(never)]
+/// The parts of the plain spelling of an instruction of a row at an address, by the numbers that it asks and by the VEX of its front.
+#[inline(always)]
 #[tactic(auto, unfolding(crate::specs::PlainTail::plain_next, crate::specs::PlainFront::byte_front, crate::specs::PlainFront::plain_front_of))]
-pub fn plain_parts(bits: Bits, ip: u64, row: &Row, instr: &Instr) -> PlainParts
-    requires { IsTrue (sound row.now) }
+fn parts_with(
+    bits: Bits,
+    ip: u64,
+    row: &Row,
+    instr: &Instr,
+    asked: &Asked,
+    vex: Option<Vex>,
+) -> PlainParts
+    requires sound { IsTrue (sound row.now) }
+    requires asked { AreAskedOf row.now instr.now asked.now }
+    requires vex { vex ≡ front.vex_with row.now instr.now (min 255 (front.asked front.number_in_vvvv row.now instr.now)) }
     ensures parts { ArePartsOf bits row.now instr.now result }
     ensures ip { result.ip ≡ ip }
     ensures small { result.len < 64 }
 {
-    let asked = numbers_asked(row, instr);
     let w = asks_rex_w(row);
     let size66 = asks_66(bits, row);
-    let addressing = plain_addressing(bits, row, instr, &asked);
+    let addressing = plain_addressing(bits, row, instr, asked);
     let size = plain_size(bits, row, w, size66);
-    let displacement = operand_displacement(address_operand(row, instr));
+    let displacement = displacement_len(row, instr, asked);
     let immediates = immediates_len(size, row);
     // Last, since its many fields would else be kept through the calls above.
-    let state = front_asked(bits, row, instr, &asked, w, size66);
+    let state = front_with(bits, row, instr, asked, w, size66, vex);
     let used = state.used;
     let len = plain_len(bits, row, instr, used, addressing, displacement, immediates);
     let next = wrap(bits, ip as u128 + len as u128);
@@ -118,5 +196,36 @@ pub fn plain_parts(bits: Bits, ip: u64, row: &Row, instr: &Instr) -> PlainParts
         immediates,
         len,
         next,
+    }
+}
+
+/// The parts of the plain spelling of an instruction of a VEX row: kept out of [`plain_parts`], of which few rows are.
+#[inline(never)]
+fn vex_parts(bits: Bits, ip: u64, row: &Row, instr: &Instr) -> PlainParts
+    requires { IsTrue (sound row.now) }
+    ensures parts { ArePartsOf bits row.now instr.now result }
+    ensures ip { result.ip ≡ ip }
+    ensures small { result.len < 64 }
+{
+    let asked = numbers_asked(row, instr);
+    let vex = byte_vex(row, instr, &asked);
+    parts_with(bits, ip, row, instr, &asked, vex)
+}
+
+/// The parts of the plain spelling of an instruction of a row at an address.
+///
+/// It is built into its callers, where the parts then lie once.
+#[inline(always)]
+pub fn plain_parts(bits: Bits, ip: u64, row: &Row, instr: &Instr) -> PlainParts
+    requires { IsTrue (sound row.now) }
+    ensures parts { ArePartsOf bits row.now instr.now result }
+    ensures ip { result.ip ≡ ip }
+    ensures small { result.len < 64 }
+{
+    if is_vex_row(row) {
+        vex_parts(bits, ip, row, instr)
+    } else {
+        let asked = numbers_asked(row, instr);
+        parts_with(bits, ip, row, instr, &asked, None)
     }
 }

@@ -6,11 +6,13 @@ ghost use Rattle.instruction_parts.specs.Kinds.{method_of};
 ghost use Rattle.plain_spelling.specs.PlainFront as spec;
 ghost use Rattle.plain_spelling.specs.Asked.{AreBelow, AreWith, AreAskedOf};
 
+use crate::addresses::displacement_count;
 use crate::forms::operand_at;
 use instruction_parts::kinds::{Method, method_of_kind};
 use row_types::{OpKind, Row};
 use x86_values::{Instr, Mem, Operand, Register, Segment};
 
+/// The number that the encoding gives a segment register (3.1.1.1).
 fn segment_number(segment: Segment) -> u8
     ensures value { result ≡ spec.segment_number segment }
     ensures small { result < 6 }
@@ -50,6 +52,7 @@ pub fn register_number(register: Register) -> u16
     }
 }
 
+/// The number of a register, 0 where there is none.
 #[inline]
 fn number_or_zero(register: Option<Register>) -> u16
     ensures value { result ≡ spec.number_or_zero register }
@@ -61,7 +64,7 @@ fn number_or_zero(register: Option<Register>) -> u16
     }
 }
 
-/// The numbers that an instruction asks of the fields of its spelling, each 0 where no operand asks one.
+/// The numbers that an instruction asks of the fields of its spelling, and how long a displacement, each 0 where no operand asks one.
 #[derive(Clone, Copy, PartialEq, Eq, Debug)]
 pub struct Asked {
     /// Of ModRM.reg.
@@ -74,11 +77,13 @@ pub struct Asked {
     pub vvvv: u16,
     /// Of the opcode byte.
     pub opcode: u16,
+    /// How many bytes the displacement has.
+    pub displacement: u16,
 }
 
 /// The numbers, with that of a register operand that is read so.
 #[inline(always)]
-#[tactic(auto, unfolding(crate::specs::PlainFront::number_in_reg, crate::specs::PlainFront::number_in_rm, crate::specs::PlainFront::number_in_index, crate::specs::PlainFront::number_in_vvvv, crate::specs::PlainFront::number_in_opcode))]
+#[tactic(auto, unfolding(crate::specs::PlainFront::number_in_reg, crate::specs::PlainFront::number_in_rm, crate::specs::PlainFront::number_in_index, crate::specs::PlainFront::number_in_vvvv, crate::specs::PlainFront::number_in_opcode, crate::specs::PlainTail::displacement_read))]
 fn with_register(method: Method, register: Register, rest: Asked) -> Asked
     requires { AreBelow 60000 rest }
     ensures added { AreWith method (Reg register) rest result }
@@ -110,23 +115,34 @@ fn with_register(method: Method, register: Register, rest: Asked) -> Asked
     }
 }
 
-/// The numbers, with those of base and index of a memory operand that is read so.
+/// The numbers, with those of base, index and displacement of a memory operand that is read so.
 #[inline(always)]
-#[tactic(auto, unfolding(crate::specs::PlainFront::number_in_reg, crate::specs::PlainFront::number_in_rm, crate::specs::PlainFront::number_in_index, crate::specs::PlainFront::number_in_vvvv, crate::specs::PlainFront::number_in_opcode))]
+#[tactic(auto, unfolding(crate::specs::PlainFront::number_in_reg, crate::specs::PlainFront::number_in_rm, crate::specs::PlainFront::number_in_index, crate::specs::PlainFront::number_in_vvvv, crate::specs::PlainFront::number_in_opcode, crate::specs::PlainTail::displacement_read))]
 fn with_memory(method: Method, memory: Mem, rest: Asked) -> Asked
     requires { AreBelow 60000 rest }
     ensures added { AreWith method (Memory memory) rest result }
 {
     let index = number_or_zero(memory.index) + rest.index;
+    let displacement = displacement_count(memory.disp_size) as u16 + rest.displacement;
     match method {
         Method::RegisterOrMemory
         | Method::RegisterOnly
         | Method::MemoryOnly
         | Method::AnyMode
-        | Method::Gather
-        | Method::OpcodeLow => Asked {
+        | Method::Gather => Asked {
             rm: number_or_zero(memory.base) + rest.rm,
             index,
+            displacement,
+            ..rest
+        },
+        Method::OpcodeLow => Asked {
+            rm: number_or_zero(memory.base) + rest.rm,
+            index,
+            ..rest
+        },
+        Method::Offset => Asked {
+            index,
+            displacement,
             ..rest
         },
         _ => Asked { index, ..rest },
@@ -135,7 +151,7 @@ fn with_memory(method: Method, memory: Mem, rest: Asked) -> Asked
 
 /// The numbers, with those that one more operand asks.
 #[inline(always)]
-#[tactic(auto, unfolding(crate::specs::PlainFront::number_in_reg, crate::specs::PlainFront::number_in_rm, crate::specs::PlainFront::number_in_index, crate::specs::PlainFront::number_in_vvvv, crate::specs::PlainFront::number_in_opcode))]
+#[tactic(auto, unfolding(crate::specs::PlainFront::number_in_reg, crate::specs::PlainFront::number_in_rm, crate::specs::PlainFront::number_in_index, crate::specs::PlainFront::number_in_vvvv, crate::specs::PlainFront::number_in_opcode, crate::specs::PlainTail::displacement_read))]
 fn with_operand(kind: OpKind, operand: Operand, rest: Asked) -> Asked
     requires { AreBelow 60000 rest }
     ensures added { AreWith (method_of kind) operand rest result }
@@ -160,6 +176,7 @@ pub fn numbers_asked(row: &Row, instr: &Instr) -> Asked
         index: 0,
         vvvv: 0,
         opcode: 0,
+        displacement: 0,
     };
     let fourth = with_operand(k3, operand_at(instr, 3), none);
     let third = with_operand(k2, operand_at(instr, 2), fourth);
@@ -167,6 +184,7 @@ pub fn numbers_asked(row: &Row, instr: &Instr) -> Asked
     with_operand(k0, operand_at(instr, 0), second)
 }
 
+/// Whether an operand is SPL, BPL, SIL or DIL.
 #[tactic(auto, unfolding(crate::specs::PlainFront::is_low_byte_of_rex))]
 fn is_low_byte_of_rex(operand: Operand) -> bool
     ensures { result ≡ spec.is_low_byte_of_rex operand }

@@ -37,6 +37,7 @@ pub struct Addressing {
     pub sib: Option<Sib>,
 }
 
+/// Whether an operand that is read so is read from r/m.
 fn reads_rm(method: Method) -> bool
     ensures { result ≡ sound_rule.reads_rm method }
 {
@@ -50,6 +51,7 @@ fn reads_rm(method: Method) -> bool
     }
 }
 
+/// Whether an operand that is read so may have a displacement: one in r/m, or one at an absolute address.
 fn reads_rm_or_offset(method: Method) -> bool
     ensures { result ≡ (sound_rule.reads_rm method || fits.is_offset method) }
 {
@@ -104,6 +106,7 @@ pub fn address_operand(row: &Row, instr: &Instr) -> Operand
     }
 }
 
+/// The field mod where no operand is read from r/m: 3 on rows that are limited to a register (2.1.5).
 fn lone_mode(place: Place) -> u8
     ensures { result ≡ spec.lone_mode place }
 {
@@ -176,6 +179,7 @@ fn fixed_rm(row: &Row, instr: &Instr, asked: &Asked, b: u8) -> u8
     }
 }
 
+/// The ModRM of a field reg, and of mod and rm as the operand in r/m has them.
 fn modrm_with(reg: u8, fields: AddressFields) -> ModRm
     ensures { result ≡ spec.modrm_with reg fields }
 {
@@ -187,6 +191,7 @@ fn modrm_with(reg: u8, fields: AddressFields) -> ModRm
 }
 
 /// ModRM and SIB of the plain spelling: reg is the digit, or the low three bits of the register (2.1.5, 3.1.1.1).
+#[inline(always)]
 #[tactic(auto, unfolding(crate::specs::PlainTail::plain_modrm, crate::specs::PlainTail::plain_sib_of))]
 pub fn plain_addressing(bits: Bits, row: &Row, instr: &Instr, asked: &Asked) -> Addressing
     requires { AreAskedOf row.now instr.now asked.now }
@@ -331,7 +336,7 @@ fn append_last_byte<const N: usize>(bytes: &mut ArrayVec<u8, N>, operand: Operan
 }
 
 /// Appends the bytes of an operand that is read so and has n bytes behind the instruction.
-#[inline(never)]
+#[inline(always)]
 #[tactic(auto, unfolding(crate::specs::PlainTail::operand_immediate))]
 fn append_immediate<const N: usize>(
     bytes: &mut ArrayVec<u8, N>,

@@ -1,5 +1,6 @@
 -- Examples of spellings, fronts and meanings, each proved by computing; their values come from outside.
 use Rattle.std.proofs.Common.{◌≡◌, ℕ, Bool, true, false, List, [], ◌∷◌, refl, Option, Some, None}
+use Rattle.plain_spelling.proofs.Fields.{row, state}
 use Rattle.arrayvec.specs.ArrayVec.{ArrayVec}
 use Rattle.x86_values.specs.declared.Bits.{Bits}
 use Rattle.x86_values.specs.declared.Bits.TheVariants.{B16, B32, B64}
@@ -47,24 +48,6 @@ use Rattle.row_fit.specs.Fits.{fits}
 use Rattle.row_meaning.specs.Meaning.{meaning}
 use Rattle.row_relation.specs.EveryRule.{every_rule}
 
--- a row of its parts in order
-abbrev pub row : RowKind → Map → Class → ℕ → Plus → ModRmRule → Place → Size → WBit → LBit → ℕ → OpKind → OpKind → OpKind → OpKind → ℕ → Row
-row kind map class opcode plus modrm place size w l modes a b c d marks = record {
-  kind = kind;
-  map = map;
-  class = class;
-  opcode = opcode;
-  plus = plus;
-  modrm = modrm;
-  place = place;
-  size = size;
-  w = w;
-  l = l;
-  modes = record { 0 = modes };
-  ops = a ∷ b ∷ c ∷ d ∷ [];
-  marks = record { 0 = marks };
-}
-
 abbrev pub vex : Bool → Bool → Bool → Bool → Bool → Bool → Map → ℕ → ℕ → Vex
 vex three r x b w l map vvvv pp =
     record { three = three; r = r; x = x; b = b; w = w; l = l; map = map; vvvv = vvvv; pp = pp }
@@ -101,20 +84,6 @@ instr n a b c d lock rep seg asize = record {
   rep = rep;
   seg = seg;
   asize = asize;
-}
-
-abbrev pub state : ℕ → Bool → Bool → Bool → Rep → Option Segment → Option ℕ → Option Vex → Map → ℕ → PrefixState
-state used size66 addr67 lock rep seg rex vex map opcode = record {
-  used = used;
-  size66 = size66;
-  addr67 = addr67;
-  lock = lock;
-  rep = rep;
-  seg = seg;
-  rex = rex;
-  vex = vex;
-  map = map;
-  opcode = opcode;
 }
 
 -- a spelling of a row fits, has these bytes, means this at the address, and its bytes have this front

@@ -1,17 +1,32 @@
 //! When two instructions are the same: a comparison of each type, which is equality.
 
 ghost use Rattle.std.specs.Prelude.{◌≡◌, ◌↔◌, IsTrue};
+ghost use Rattle.x86_values.specs.Comparing as spec;
 
 use crate::{Bits, DispSize, Instr, Mem, Operand, Register, Rep, Segment};
 
+/// Whether two segment registers are one.
 fn same_segment(a: Segment, b: Segment) -> bool
-    ensures { IsTrue result ↔ (a ≡ b) }
+    ensures value { result ≡ spec.same_segment a b }
+    ensures equal { IsTrue result ↔ (a ≡ b) }
 {
-    a == b
+    match (a, b) {
+        (Segment::Es, Segment::Es) => true,
+        (Segment::Cs, Segment::Cs) => true,
+        (Segment::Ss, Segment::Ss) => true,
+        (Segment::Ds, Segment::Ds) => true,
+        (Segment::Fs, Segment::Fs) => true,
+        (Segment::Gs, Segment::Gs) => true,
+        _ => false,
+    }
 }
 
-fn same_register(a: Register, b: Register) -> bool
-    ensures { IsTrue result ↔ (a ≡ b) }
+/// Whether two registers are one.
+#[inline(always)]
+#[tactic(auto, unfolding(crate::specs::Comparing::same_register))]
+pub fn same_register(a: Register, b: Register) -> bool
+    ensures value { result ≡ spec.same_register a b }
+    ensures equal { IsTrue result ↔ (a ≡ b) }
 {
     match (a, b) {
         (Register::Low8(n), Register::Low8(m)) => n == m,
@@ -32,6 +47,7 @@ fn same_register(a: Register, b: Register) -> bool
     }
 }
 
+/// Whether two registers, each of which may be absent, are one or both absent.
 fn same_register_option(a: Option<Register>, b: Option<Register>) -> bool
     ensures { IsTrue result ↔ (a ≡ b) }
 {
@@ -42,12 +58,14 @@ fn same_register_option(a: Option<Register>, b: Option<Register>) -> bool
     }
 }
 
+/// Whether two sizes of a displacement are one.
 fn same_disp_size(a: DispSize, b: DispSize) -> bool
     ensures { IsTrue result ↔ (a ≡ b) }
 {
     a == b
 }
 
+/// Whether two memory operands are the same: all their fields are equal.
 fn same_mem(a: Mem, b: Mem) -> bool
     ensures { IsTrue result ↔ (a ≡ b) }
 {
@@ -58,6 +76,7 @@ fn same_mem(a: Mem, b: Mem) -> bool
         && same_disp_size(a.disp_size, b.disp_size)
 }
 
+/// Whether two operands are the same.
 fn same_operand(a: Operand, b: Operand) -> bool
     ensures { IsTrue result ↔ (a ≡ b) }
 {
@@ -81,6 +100,7 @@ fn same_operand(a: Operand, b: Operand) -> bool
     }
 }
 
+/// Whether the operands are the same, one by one.
 fn same_operands(a: &[Operand; 4], b: &[Operand; 4]) -> bool
     ensures { IsTrue result ↔ (a.now ≡ b.now) }
 {
@@ -89,12 +109,14 @@ fn same_operands(a: &[Operand; 4], b: &[Operand; 4]) -> bool
     same_operand(a0, b0) && same_operand(a1, b1) && same_operand(a2, b2) && same_operand(a3, b3)
 }
 
+/// Whether two repeat prefixes are one.
 fn same_rep(a: Rep, b: Rep) -> bool
     ensures { IsTrue result ↔ (a ≡ b) }
 {
     a == b
 }
 
+/// Whether two segment registers, each of which may be absent, are one or both absent.
 fn same_segment_option(a: Option<Segment>, b: Option<Segment>) -> bool
     ensures { IsTrue result ↔ (a ≡ b) }
 {
@@ -105,12 +127,21 @@ fn same_segment_option(a: Option<Segment>, b: Option<Segment>) -> bool
     }
 }
 
-fn same_bits(a: Bits, b: Bits) -> bool
-    ensures { IsTrue result ↔ (a ≡ b) }
+/// Whether two sizes are one.
+#[inline]
+pub fn same_bits(a: Bits, b: Bits) -> bool
+    ensures value { result ≡ spec.same_bits a b }
+    ensures equal { IsTrue result ↔ (a ≡ b) }
 {
-    a == b
+    match (a, b) {
+        (Bits::B16, Bits::B16) => true,
+        (Bits::B32, Bits::B32) => true,
+        (Bits::B64, Bits::B64) => true,
+        _ => false,
+    }
 }
 
+/// Whether two sizes, each of which may be absent, are one or both absent.
 fn same_bits_option(a: Option<Bits>, b: Option<Bits>) -> bool
     ensures { IsTrue result ↔ (a ≡ b) }
 {

@@ -1,4 +1,6 @@
-use crate::{Bits, Code, DispSize, Instr, Mem, Operand, Register, Rep, same, wrap};
+use crate::{
+    Bits, Code, DispSize, Instr, Mem, Operand, Register, Rep, same, same_bits, same_register, wrap,
+};
 
 // mov of a register and the memory at rsp plus 16, at some place of the table
 fn load(register: Register) -> Instr {
@@ -29,6 +31,14 @@ fn registers_tell_instructions_apart(rt: HostRuntime) {
     let ebx = load(Register::R32(3));
     assert!(rt; same(&rbx, &rbx));
     assert!(rt; !same(&rbx, &ebx));
+}
+
+#[test]
+fn registers_and_sizes_are_compared(rt: HostRuntime) {
+    assert!(rt; same_register(Register::RBX, Register::RBX));
+    assert!(rt; !same_register(Register::RBX, Register::EBX));
+    assert!(rt; same_bits(Bits::B32, Bits::B32));
+    assert!(rt; !same_bits(Bits::B32, Bits::B64));
 }
 
 #[test]

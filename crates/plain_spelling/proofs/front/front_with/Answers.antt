@@ -2,7 +2,7 @@ use Rattle.std.proofs.Common.{◌∙◌, min}
 use Rattle.plain_spelling.specs.PlainFront.{number_in_vvvv, asked, plain_front_of, byte_front}
 use Rattle.plain_spelling.proofs.PlainFrontLaws.{used-with, byte_front-exact}
 use Rattle.plain_spelling.proofs.ImmediateRoom.{vvvv-byte}
-use Rattle.plain_spelling.proofs.front.front_asked.Goals as goal
+use Rattle.plain_spelling.proofs.front.front_with.Goals as goal
 
 pub returns-clause-value : goal.returns-clause-value
 unfolding byte_front plain_front_of

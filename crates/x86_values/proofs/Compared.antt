@@ -1,13 +1,13 @@
 -- Tests for equal registers and sizes pass exactly on equal ones.
 use Rattle.std.proofs.Common.{◌≡◌, ℕ, true, refl, ap, eq-eqb}
+use Rattle.std.proofs.lemmas.Bool.{eqb-true}
 use Rattle.x86_values.specs.declared.Bits.{Bits}
 use Rattle.x86_values.specs.declared.Bits.TheVariants.{B16, B32, B64}
 use Rattle.x86_values.specs.declared.Segment.{Segment}
 use Rattle.x86_values.specs.declared.Segment.TheVariants.{Es, Cs, Ss, Ds, Fs, Gs}
 use Rattle.x86_values.specs.declared.Register.{Register}
 use Rattle.x86_values.specs.declared.Register.TheVariants.{Low8, High8, R16, R32, R64, Seg, Cr, Dr, St, Mm, Xmm, Ymm, Eip, Rip}
-use Rattle.instruction_parts.proofs.Tests.{equal_from}
-use Rattle.plain_spelling.specs.Comparing.{same_bits, same_segment, same_register}
+use Rattle.x86_values.specs.Comparing.{same_bits, same_segment, same_register}
 
 pub same_bits-is : (a b : Bits) → same_bits a b ≡ true → a ≡ b
 same_bits-is B16 B16 h = refl
@@ -39,18 +39,18 @@ same_segment-refl Gs = refl
 
 pub same_register-is : (r s : Register) → same_register r s ≡ true → r ≡ s
 unfolding same_register
-same_register-is (Low8 m) (Low8 n) h = ap (λ (x : ℕ). Low8 x) (equal_from m n h)
-same_register-is (High8 m) (High8 n) h = ap (λ (x : ℕ). High8 x) (equal_from m n h)
-same_register-is (R16 m) (R16 n) h = ap (λ (x : ℕ). R16 x) (equal_from m n h)
-same_register-is (R32 m) (R32 n) h = ap (λ (x : ℕ). R32 x) (equal_from m n h)
-same_register-is (R64 m) (R64 n) h = ap (λ (x : ℕ). R64 x) (equal_from m n h)
+same_register-is (Low8 m) (Low8 n) h = ap (λ (x : ℕ). Low8 x) (eqb-true m n h)
+same_register-is (High8 m) (High8 n) h = ap (λ (x : ℕ). High8 x) (eqb-true m n h)
+same_register-is (R16 m) (R16 n) h = ap (λ (x : ℕ). R16 x) (eqb-true m n h)
+same_register-is (R32 m) (R32 n) h = ap (λ (x : ℕ). R32 x) (eqb-true m n h)
+same_register-is (R64 m) (R64 n) h = ap (λ (x : ℕ). R64 x) (eqb-true m n h)
 same_register-is (Seg s) (Seg t) h = ap (λ (x : Segment). Seg x) (same_segment-is s t h)
-same_register-is (Cr m) (Cr n) h = ap (λ (x : ℕ). Cr x) (equal_from m n h)
-same_register-is (Dr m) (Dr n) h = ap (λ (x : ℕ). Dr x) (equal_from m n h)
-same_register-is (St m) (St n) h = ap (λ (x : ℕ). St x) (equal_from m n h)
-same_register-is (Mm m) (Mm n) h = ap (λ (x : ℕ). Mm x) (equal_from m n h)
-same_register-is (Xmm m) (Xmm n) h = ap (λ (x : ℕ). Xmm x) (equal_from m n h)
-same_register-is (Ymm m) (Ymm n) h = ap (λ (x : ℕ). Ymm x) (equal_from m n h)
+same_register-is (Cr m) (Cr n) h = ap (λ (x : ℕ). Cr x) (eqb-true m n h)
+same_register-is (Dr m) (Dr n) h = ap (λ (x : ℕ). Dr x) (eqb-true m n h)
+same_register-is (St m) (St n) h = ap (λ (x : ℕ). St x) (eqb-true m n h)
+same_register-is (Mm m) (Mm n) h = ap (λ (x : ℕ). Mm x) (eqb-true m n h)
+same_register-is (Xmm m) (Xmm n) h = ap (λ (x : ℕ). Xmm x) (eqb-true m n h)
+same_register-is (Ymm m) (Ymm n) h = ap (λ (x : ℕ). Ymm x) (eqb-true m n h)
 same_register-is Eip Eip h = refl
 same_register-is Rip Rip h = refl
 same_register-is _ _ h = cc
