@@ -4,12 +4,14 @@ ghost use Rattle.std.specs.Prelude.{◌≡◌, ◌↔◌, IsTrue};
 
 use crate::{Bits, DispSize, Instr, Mem, Operand, Register, Rep, Segment};
 
+/// Whether two segment registers are one.
 fn same_segment(a: Segment, b: Segment) -> bool
     ensures { IsTrue result ↔ (a ≡ b) }
 {
     a == b
 }
 
+/// Whether two registers are one.
 fn same_register(a: Register, b: Register) -> bool
     ensures { IsTrue result ↔ (a ≡ b) }
 {
@@ -32,6 +34,7 @@ fn same_register(a: Register, b: Register) -> bool
     }
 }
 
+/// The same of registers that may be absent.
 fn same_register_option(a: Option<Register>, b: Option<Register>) -> bool
     ensures { IsTrue result ↔ (a ≡ b) }
 {
@@ -42,12 +45,14 @@ fn same_register_option(a: Option<Register>, b: Option<Register>) -> bool
     }
 }
 
+/// Whether two displacements are written with as many bits.
 fn same_disp_size(a: DispSize, b: DispSize) -> bool
     ensures { IsTrue result ↔ (a ≡ b) }
 {
     a == b
 }
 
+/// Whether two addresses are written alike: all five parts are the same.
 fn same_mem(a: Mem, b: Mem) -> bool
     ensures { IsTrue result ↔ (a ≡ b) }
 {
@@ -58,6 +63,7 @@ fn same_mem(a: Mem, b: Mem) -> bool
         && same_disp_size(a.disp_size, b.disp_size)
 }
 
+/// Whether two operands are one.
 fn same_operand(a: Operand, b: Operand) -> bool
     ensures { IsTrue result ↔ (a ≡ b) }
 {
@@ -81,6 +87,7 @@ fn same_operand(a: Operand, b: Operand) -> bool
     }
 }
 
+/// The same of all four operands.
 fn same_operands(a: &[Operand; 4], b: &[Operand; 4]) -> bool
     ensures { IsTrue result ↔ (a.now ≡ b.now) }
 {
@@ -89,12 +96,14 @@ fn same_operands(a: &[Operand; 4], b: &[Operand; 4]) -> bool
     same_operand(a0, b0) && same_operand(a1, b1) && same_operand(a2, b2) && same_operand(a3, b3)
 }
 
+/// Whether two instructions keep the same repeat prefix.
 fn same_rep(a: Rep, b: Rep) -> bool
     ensures { IsTrue result ↔ (a ≡ b) }
 {
     a == b
 }
 
+/// Whether two segment prefixes that may be absent are one.
 fn same_segment_option(a: Option<Segment>, b: Option<Segment>) -> bool
     ensures { IsTrue result ↔ (a ≡ b) }
 {
@@ -105,12 +114,14 @@ fn same_segment_option(a: Option<Segment>, b: Option<Segment>) -> bool
     }
 }
 
+/// Whether two sizes are one.
 fn same_bits(a: Bits, b: Bits) -> bool
     ensures { IsTrue result ↔ (a ≡ b) }
 {
     a == b
 }
 
+/// The same of sizes that may be absent.
 fn same_bits_option(a: Option<Bits>, b: Option<Bits>) -> bool
     ensures { IsTrue result ↔ (a ≡ b) }
 {
