@@ -28,6 +28,7 @@ is_vector_file Xmm = true
 is_vector_file Vector = true
 is_vector_file _ = false
 
+-- the kind of an operand names an MMX or a vector register
 unfoldable pub is_vector_kind : OpKind → Bool
 is_vector_kind kind = is_vector_file (file_of kind)
 
@@ -76,6 +77,7 @@ memory_letter row name =
 
 -- ---- names
 
+-- the extensions, whose names show both sizes in AT&T
 unfoldable pub is_zero_extension : List ℕ → Bool
 is_zero_extension name = bytes_eq name (codes "movzx")
 

@@ -60,6 +60,7 @@ unfoldable pub holds_target : OpKind → Bool
 holds_target Ev = true
 holds_target kind = is_far_pointer kind
 
+-- a jump or a call that may be indirect
 unfoldable pub is_branch_name : List ℕ → Bool
 is_branch_name name =
     bytes_eq name (codes "call") || bytes_eq name (codes "jmp") || bytes_eq name (codes "callf") || bytes_eq name (codes "jmpf")

@@ -17,6 +17,7 @@ use crate::operands::append_part;
 use arrayvec::ArrayVec;
 use row_types::Row;
 use text_parts::prefix_words::append_prefix_words;
+use text_parts::text::{TEXT_LEN, Text};
 use text_rows::{printed_name, printed_row};
 use x86_values::{Bits, Instr};
 
@@ -44,7 +45,7 @@ fn append_short<const N: usize>(
 /// Appends the text of an instruction of a row with this name, in a mode.
 ///
 /// At most one operand is memory or a far pointer, and the name has at most 20 bytes: then the
-/// text has at most 160.
+/// text has at most `TEXT_LEN`.
 #[inline]
 #[tactic(auto, using(crate::proofs::Bounds::text_bounds))]
 fn append_row<const N: usize>(
@@ -57,30 +58,30 @@ fn append_row<const N: usize>(
     requires sound { IsTrue (sound row.now) }
     requires name { length name.now ≤ 20 }
     requires operands { IsTrue (has_one_long instr.now) }
-    requires room { array_vec_len out.old + 160 ≤ N }
+    requires room { array_vec_len out.old + TEXT_LEN ≤ N }
     ensures items { out.new.items ≡ out.old.items ++ spec.text_of bits row.now name.now instr.now }
-    ensures len { array_vec_len out.new ≤ array_vec_len out.old + 160 }
+    ensures len { array_vec_len out.new ≤ array_vec_len out.old + TEXT_LEN }
 {
     append_short(out, bits, row, name, instr);
 }
 
-/// Appends the text of a well-formed instruction in the AT&T style, in a mode: ASCII, at most 160 bytes, for which there is
+/// Appends the text of a well-formed instruction in the AT&T style, in a mode: ASCII, at most `TEXT_LEN` bytes, for which there is
 /// room.
 pub fn print_to<const N: usize>(out: &mut ArrayVec<u8, N>, bits: Bits, instr: &Instr)
     requires well { IsTrue (is_well_formed instr.now) }
-    requires room { array_vec_len out.old + 160 ≤ N }
+    requires room { array_vec_len out.old + TEXT_LEN ≤ N }
     ensures items { out.new.items ≡ out.old.items ++ spec.text bits instr.now }
-    ensures len { array_vec_len out.new ≤ array_vec_len out.old + 160 }
+    ensures len { array_vec_len out.new ≤ array_vec_len out.old + TEXT_LEN }
 {
     append_row(out, bits, &printed_row(instr), printed_name(instr), instr);
 }
 
-/// The text of a well-formed instruction in the AT&T style, in a mode: ASCII, at most 160 bytes.
-pub fn print(bits: Bits, instr: &Instr) -> ArrayVec<u8, 160>
+/// The text of a well-formed instruction in the AT&T style, in a mode: ASCII, at most `TEXT_LEN` bytes.
+pub fn print(bits: Bits, instr: &Instr) -> Text
     requires { IsTrue (is_well_formed instr.now) }
     ensures { result.items ≡ spec.text bits instr.now }
 {
-    let mut text = ArrayVec::new();
+    let mut text = Text::new();
     print_to(&mut text, bits, instr);
     text
 }

@@ -27,6 +27,7 @@ use Rattle.entry_lines.specs.Words.{value_among, kind_words, class_words, mark_w
 use Rattle.entry_lines.specs.Variants.{variants, variant_count}
 
 infixl 10 ◌>>=◌
+-- what a function gives of a value that is there
 abbrev pub ◌>>=◌ : {A B : Type 0} → Option A → (A → Option B) → Option B
 o >>= f = option_and_then f o
 
@@ -175,6 +176,7 @@ class_or kind (Some c) = c
 class_or Legacy None = class.Any
 class_or Vex None = class.Np
 
+-- the class of prefixes of an entry
 unfoldable pub class_of : RowKind → List ℕ → Class
 class_of kind line = class_or kind (named_class line)
 
@@ -183,6 +185,7 @@ abbrev pub kinds_or : Option (List OpKind) → List OpKind
 kinds_or (Some ks) = ks
 kinds_or None = op.Absent ∷ op.Absent ∷ op.Absent ∷ op.Absent ∷ []
 
+-- the kinds of the four operands of an entry, absent ones behind those that it names
 unfoldable pub kinds_of : List ℕ → List OpKind
 kinds_of line = kinds_or (named_kinds line)
 

@@ -33,6 +33,7 @@ view x = record { version = x.version; row = x.row; name = x.name.now }
 
 -- ---- the rows of an entry
 
+-- the value of a flag that is set, else 0
 abbrev pub flag : Bool → ℕ → ℕ
 flag set value = if set then value else 0
 
@@ -40,6 +41,7 @@ flag set value = if set then value else 0
 abbrev pub marks : Entry → Marks
 marks e = record { 0 = flag e.lockable 1 + flag e.address 2 + flag e.sized 4 + flag e.caret 8 + flag e.bang 16 }
 
+-- the entry limits its ModRM to memory or to a register
 abbrev pub has_place : Place → Bool
 has_place place.Any = false
 has_place place.Memory = true
@@ -49,6 +51,7 @@ has_place place.Register = true
 abbrev pub rule_by_operands : Entry → ModRmRule
 rule_by_operands e = if has_place e.place || any_has e.ops trait.ReadsModRm then rule.Any else rule.No
 
+-- the rule for ModRM that is named, else another
 abbrev pub rule_or : Option ModRmRule → ModRmRule → ModRmRule
 rule_or (Some r) other = r
 rule_or None other = other
@@ -117,6 +120,7 @@ version_number _ = None
 abbrev pub version_section : ℕ → Option Section
 version_section v = Some (record { version = v; map = None })
 
+-- the section of a map, in the version that was named last
 abbrev pub map_section : Section → Map → Option Section
 map_section at m = Some (record { version = at.version; map = Some m })
 
@@ -134,6 +138,7 @@ entry_at kind named text = do
   e ← entry_of kind m text
   Some (line.Entry e)
 
+-- a line begins a section, or else is an entry
 abbrev pub section_or_entry : RowKind → Section → List ℕ → Option Section → Option Line
 section_or_entry kind at text (Some section) = Some (line.Begins section)
 section_or_entry kind at text None = entry_at kind at.map text

@@ -61,6 +61,7 @@ reads_modrm method.AnyMode = true
 reads_modrm method.Gather = true
 reads_modrm _ = false
 
+-- an operand is read from a ModRM byte that names a register alone; and from one that names memory alone
 abbrev pub is_register_only : Method → Bool
 is_register_only method.RegisterOnly = true
 is_register_only _ = false
@@ -70,6 +71,7 @@ is_memory_only method.MemoryOnly = true
 is_memory_only method.Gather = true
 is_memory_only _ = false
 
+-- the kind of an operand has the trait
 abbrev pub has_trait : OpKind → Trait → Bool
 has_trait kind trait.BySize = is_by_size kind
 has_trait kind trait.ByW = is_by_w kind
@@ -84,6 +86,7 @@ any_has (kind ∷ kinds) t = has_trait kind t || any_has kinds t
 
 -- ---- modes, as the flags of a row
 
+-- each mode in which the entry exists: 1, 2 and 4 for 16, 32 and 64-bit mode
 abbrev pub all_modes : Modes → ℕ
 all_modes modes.All = 7
 all_modes modes.Outside64 = 3
@@ -107,6 +110,7 @@ outside_64 modes.Only64 = 0
 unfoldable pub goes_by_size : Entry → Bool
 goes_by_size e = any_has e.ops trait.BySize || e.more_names == 2
 
+-- the mark that rows go by W, with an operand size of 32 or 64
 abbrev pub is_by_w_mark : Sizes → Bool
 is_by_w_mark sizes.ByW = true
 is_by_w_mark _ = false
@@ -115,9 +119,11 @@ is_by_w_mark _ = false
 unfoldable pub goes_by_w : Entry → Bool
 goes_by_w e = is_by_w_mark e.sizes || (any_has e.ops trait.ByW && not (goes_by_size e))
 
+-- a row of one size, in these modes, that says no W
 abbrev pub sized : Size → ℕ → Variant
 sized s m = record { size = s; w = bit.None; modes = m }
 
+-- no row: it exists in no mode
 abbrev pub nothing : Variant
 nothing = sized size.None 0
 
@@ -171,6 +177,7 @@ w_of_size size.W0 = bit.W0
 w_of_size size.W1 = bit.W1
 w_of_size _ = bit.None
 
+-- the row with the W that its size is
 abbrev pub with_own_w : Variant → Variant
 with_own_w v = record v { w = w_of_size v.size }
 
@@ -212,5 +219,6 @@ vex_lengths l.L256 = lbit.L256 ∷ []
 vex_lengths l.Lig = lbit.Lig ∷ []
 vex_lengths l.Lz = lbit.Lz ∷ []
 
+-- the values of L of an entry's rows; a legacy row has none
 abbrev pub lengths : Entry → List LBit
 lengths e = elim e.kind [ Legacy ↦ lbit.None ∷ [] | Vex ↦ vex_lengths e.l ]

@@ -90,7 +90,7 @@ fn digit(c: u8) -> Option<u8>
     ensures small { IfSome result (λ d. d < 16) }
 {
     match c {
-        b'0'..=b'9' => Some(c - 48),
+        b'0'..=b'9' => Some(c - b'0'),
         b'A'..=b'F' => Some(c - 55),
         _ => None,
     }

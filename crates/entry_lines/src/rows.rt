@@ -200,7 +200,7 @@ fn version_number(text: &[u8]) -> Option<u8>
 {
     match text {
         [c] => if b'1' <= *c && *c <= b'9' {
-            Some(*c - 48)
+            Some(*c - b'0')
         } else {
             None
         },

@@ -100,6 +100,7 @@ text_of (Some bits) None i = Err Syntax
 text_of (Some bits) (Some style) None = Err NoInstr
 text_of (Some bits) (Some style) (Some i) = if is_well_formed i then Ok (style_text style bits i) else Err Form
 
+-- the text of a struct, or why it has none
 abbrev pub text_answer : ℕ → ℕ → FlatInstr → Result (List ℕ) Refusal
 text_answer bits syntax f = text_of (bits_numbered bits) (style_numbered syntax) (instr_back f)
 
@@ -116,6 +117,7 @@ encoding_of None ip i = Err Mode
 encoding_of (Some bits) ip None = Err NoInstr
 encoding_of (Some bits) ip (Some i) = encoding_told (encoding bits ip i)
 
+-- the bytes of a struct, or why it has none
 abbrev pub encode_answer : ℕ → ℕ → FlatInstr → Result (List ℕ) Refusal
 encode_answer bits ip f = encoding_of (bits_numbered bits) ip (instr_back f)
 

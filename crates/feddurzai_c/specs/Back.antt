@@ -42,6 +42,7 @@ abbrev pub operands_of : Option Operand → Option Operand → Option Operand �
 operands_of (Some a) (Some b) (Some c) (Some d) = Some (a ∷ b ∷ c ∷ d ∷ [])
 operands_of _ _ _ _ = None
 
+-- the four operands of a struct, where each is one
 unfoldable pub operands_back : FlatInstr → Option (List Operand)
 operands_back f = operands_of (operand_back f.op0) (operand_back f.op1) (operand_back f.op2) (operand_back f.op3)
 

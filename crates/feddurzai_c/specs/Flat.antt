@@ -110,5 +110,6 @@ flat_instr i len = record {
   asize = asize_number i.asize;
 }
 
+-- the struct of an instruction that was read, with its length
 abbrev pub flat_decoded : Decoded → FlatInstr
 flat_decoded d = flat_instr d.instr d.len

@@ -17,6 +17,7 @@ use Rattle.feddurzai_c.specs.declared.flat.FlatInfo.{FlatInfo}
 use Rattle.feddurzai_c.specs.Refusals.{refused}
 use Rattle.feddurzai_c.specs.Numbers.{class_number}
 
+-- how control goes on, by its number
 abbrev pub flow_number : Flow → ℕ
 flow_number Next = 0
 flow_number UnconditionalBranch = 1
@@ -28,6 +29,7 @@ flow_number IndirectCall = 6
 flow_number Interrupt = 7
 flow_number Exception = 8
 
+-- what is done to an operand or a register: bit 0 for read, bit 1 for written
 abbrev pub access_number : Access → ℕ
 access_number NoAccess = 0
 access_number Read = 1

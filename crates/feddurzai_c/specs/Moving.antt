@@ -50,6 +50,7 @@ pub record StopsAt (bits : Bits) (ip : ℕ) (bytes : List ℕ) (at : ℕ) (e : D
 
 -- ---- the map
 
+-- the form of a moved instruction, by its number
 abbrev pub form_number : Form → ℕ
 form_number Itself = 0
 form_number Short = 1
@@ -150,6 +151,7 @@ refusal_of (Wraps end) = why.Wraps
 refusal_of (TooFar at target) = why.TooFar
 refusal_of Room = why.Room
 
+-- what the call says
 abbrev pub moved_said : Result MovedCode MoveRefusal → ℤ
 moved_said (Ok m) = pos 0
 moved_said (Err e) = refused (refusal_of e)

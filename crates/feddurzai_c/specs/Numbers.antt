@@ -15,6 +15,7 @@ use Rattle.text_parts.specs.declared.style.Style.TheVariants.{Intel, Att, Masm}
 
 -- ---- modes and sizes: their numbers of bits
 
+-- the number of a mode or a size, and back: none of another number
 abbrev pub bits_number : Bits → ℕ
 bits_number B16 = 16
 bits_number B32 = 32
@@ -31,6 +32,7 @@ abbrev pub asize_number : Option Bits → ℕ
 asize_number None = 0
 asize_number (Some bits) = bits_number bits
 
+-- and back
 unfoldable pub asize_numbered : ℕ → Option (Option Bits)
 asize_numbered n =
     if n == 0 then Some None
@@ -46,6 +48,7 @@ disp_number D16 = 16
 disp_number D32 = 32
 disp_number D64 = 64
 
+-- and back
 unfoldable pub disp_numbered : ℕ → Option DispSize
 disp_numbered n =
     if n == 0 then Some D0
@@ -56,6 +59,7 @@ disp_numbered n =
 
 -- ---- styles
 
+-- the style of a number: 0 Intel, 1 AT&T, 2 MASM
 unfoldable pub style_numbered : ℕ → Option Style
 style_numbered n =
     if n == 0 then Some Intel
@@ -69,6 +73,7 @@ abbrev pub lock_number : Bool → ℕ
 lock_number false = 0
 lock_number true = 1
 
+-- and back
 unfoldable pub lock_numbered : ℕ → Option Bool
 lock_numbered n = if n == 0 then Some false else (if n == 1 then Some true else None)
 
@@ -78,6 +83,7 @@ rep_number NoRep = 0
 rep_number F2 = 0xF2
 rep_number F3 = 0xF3
 
+-- and back
 unfoldable pub rep_numbered : ℕ → Option Rep
 rep_numbered n =
     if n == 0 then Some NoRep
@@ -94,6 +100,7 @@ prefix_number (Some Ds) = 4
 prefix_number (Some Fs) = 5
 prefix_number (Some Gs) = 6
 
+-- and back
 unfoldable pub prefix_numbered : ℕ → Option (Option Segment)
 prefix_numbered n =
     if n == 0 then Some None
@@ -106,6 +113,7 @@ prefix_numbered n =
 
 -- ---- registers: a class, and a number in it; class 0 is no register
 
+-- the class of a register, by its number
 abbrev pub class_number : Register → ℕ
 class_number (Low8 n) = 1
 class_number (High8 n) = 2

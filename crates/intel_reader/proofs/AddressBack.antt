@@ -1,7 +1,7 @@
 -- An address of an instruction with a plain spelling is made from its text, its address size and its displacement size.
-use Rattle.std.proofs.Common.{◌≡◌, ◌⊎◌, inl, inr, ℕ, ◌+◌, ◌-◌, ◌*◌, ◌%◌, ◌^◌, ◌<◌, Bool, true, false, ◌||◌, nat_le, nat_lt, Option, Some, None, is_some, is_none, refl, ap, sym, ◌∙◌, arith, if◌then◌else◌}
+use Rattle.std.proofs.Common.{◌≡◌, inl, inr, ℕ, ◌+◌, ◌-◌, ◌*◌, ◌%◌, ◌^◌, ◌<◌, Bool, true, false, ◌||◌, nat_le, nat_lt, Option, Some, None, is_some, is_none, refl, ap, sym, ◌∙◌, arith, if◌then◌else◌}
 use Rattle.std.specs.Prelude.{unwrap_or}
-use Rattle.std.proofs.lemmas.Bool.{leb-true}
+use Rattle.std.proofs.lemmas.Bool.{leb-true, or_cases}
 use borrow.Author.Tests.{ltb-true}
 use Rattle.x86_values.specs.declared.Bits.{Bits}
 use Rattle.x86_values.specs.declared.Bits.TheVariants.{B16, B32, B64}
@@ -21,10 +21,6 @@ use Rattle.intel_words.specs.Words.{is_eip, lone_of, signed_of, scale_of, sum_of
 use Rattle.intel_reader.specs.Candidate.{signed_number, displacement_from, address_from}
 
 -- ---- numbers
-
-or_cases : (a b : Bool) → (a || b) ≡ true → (a ≡ true) ⊎ (b ≡ true)
-or_cases true b h = inl refl
-or_cases false b h = inr h
 
 -- a number of no bytes is 0
 pub of_no_bytes : (a : Bits) (x : ℕ) → is_extended_of 0 (width a) x ≡ true → x ≡ 0

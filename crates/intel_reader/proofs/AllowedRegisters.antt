@@ -1,6 +1,7 @@
 -- What an instruction with a plain spelling says of the registers of its text: each is of the file of its kind.
 use Rattle.std.proofs.Common.{◌≡◌, ℕ, ◌<◌, ◌-◌, Bool, true, false, Option, Some, None, refl, ap, sym, ◌∙◌, subst, arith, if◌then◌else◌}
 use Rattle.std.specs.Prelude.{unwrap_or, nat_lt}
+use Rattle.std.proofs.lemmas.Bool.{and_from}
 use Rattle.x86_values.specs.declared.Bits.{Bits}
 use Rattle.x86_values.specs.declared.Bits.TheVariants.{B16, B32, B64}
 use Rattle.x86_values.specs.declared.DispSize.{DispSize}
@@ -20,7 +21,6 @@ use Rattle.row_meaning.specs.Meaning.{register_of, general, byte_register, word_
 use Rattle.plain_spelling.specs.Forms.{operand_at}
 use Rattle.plain_spelling.specs.PlainFront.{plain_front_of}
 use Rattle.plain_spelling.specs.PlainTail.{plain_size}
-use Rattle.plain_spelling.proofs.AddressCases.{both}
 use Rattle.plain_fit.proofs.Given.{Given}
 use Rattle.plain_fit.proofs.Registers.{says, register-at}
 use Rattle.intel_words.specs.declared.words.IntelWords.{IntelWords}
@@ -83,4 +83,4 @@ pub files_there : (bits : Bits) (ip : ℕ) (row : Row) (code : Code) (words : In
 unfolding files_allow
 files_there bits ip row code words asize size g =
     let one = λ (n : ℕ) (below : n < 4). by_text bits ip row code words asize size n (text_at words n) below g refl in
-    both _ _ (one 0 (omega arith)) (both _ _ (one 1 (omega arith)) (both _ _ (one 2 (omega arith)) (one 3 (omega arith))))
+    and_from _ _ (one 0 (omega arith)) (and_from _ _ (one 1 (omega arith)) (and_from _ _ (one 2 (omega arith)) (one 3 (omega arith))))

@@ -1,6 +1,7 @@
 -- What an instruction with a plain spelling says of the words of its text: no test of them sorts it out.
 use Rattle.std.proofs.Common.{◌≡◌, ℕ, zero, suc, ◌<◌, Bool, true, false, ◌&&◌, ◌||◌, List, Option, Some, None, refl, ap, sym, ◌∙◌, subst, arith, if◌then◌else◌, slice_get}
 use Rattle.std.specs.Prelude.{is_none, unwrap_or}
+use Rattle.std.proofs.lemmas.Bool.{or_parts, and_from}
 use Rattle.x86_values.specs.declared.Bits.{Bits}
 use Rattle.x86_values.specs.declared.Bits.TheVariants.{B64}
 use Rattle.x86_values.specs.declared.DispSize.{DispSize}
@@ -26,7 +27,6 @@ use Rattle.plain_spelling.specs.Forms.{is_variant_of, is_allowed_in, is_memory, 
 use Rattle.plain_spelling.specs.Addresses.{has_address_size, displacement_suits, shown_size, written_size}
 use Rattle.plain_spelling.specs.Expressible.{offered, told_size, size_agrees, has_memory_operand, is_size_of, address_size_suits}
 use Rattle.plain_spelling.proofs.Asked.{each-at}
-use Rattle.plain_spelling.proofs.AddressCases.{both}
 use Rattle.plain_fit.proofs.Given.{Given}
 use Rattle.intel_words.specs.declared.words.IntelWords.{IntelWords}
 use Rattle.intel_words.specs.declared.words.OperandText.{OperandText}
@@ -86,7 +86,7 @@ kinds_there bits ip row code words asize size g =
     let one = λ (n : ℕ) (below : n < 4).
     variant_same row.place (method_of (kind_at row n)) (is_near_at row n) (unwrap_or asize bits) size (text_at words n)
     (variant_at bits ip row i n _ g below (made_at bits row code words asize size n below)) in
-    both _ _ (one 0 (omega arith)) (both _ _ (one 1 (omega arith)) (both _ _ (one 2 (omega arith)) (one 3 (omega arith))))
+    and_from _ _ (one 0 (omega arith)) (and_from _ _ (one 1 (omega arith)) (and_from _ _ (one 2 (omega arith)) (one 3 (omega arith))))
 
 -- ---- the address size
 
@@ -137,7 +137,7 @@ unfolding is_size_of
 size_of_made bits row code words asize size a h =
     let one = λ (n : ℕ) (below : n < 4). agrees_at bits row code words asize size a n below in
     let agree = and_left _ _ (and_right (has_address_size bits a) _ h) in
-    both _ _ (and_left (has_address_size bits a) _ h)
+    and_from _ _ (and_left (has_address_size bits a) _ h)
     (rw (← one 0 (omega arith), ← one 1 (omega arith), ← one 2 (omega arith), ← one 3 (omega arith)) agree)
 
 abbrev agree : Bits → IntelWords → Bits → Bool
@@ -201,17 +201,9 @@ pub displacement_there : (bits : Bits) (ip : ℕ) (row : Row) (code : Code) (wor
 unfolding displacement_allowed
 displacement_there bits ip row code words asize size g =
     let one = λ (n : ℕ) (below : n < 4). offers_at bits ip row code words asize size n below g in
-    both _ _ (one 0 (omega arith)) (both _ _ (one 1 (omega arith)) (both _ _ (one 2 (omega arith)) (one 3 (omega arith))))
+    and_from _ _ (one 0 (omega arith)) (and_from _ _ (one 1 (omega arith)) (and_from _ _ (one 2 (omega arith)) (one 3 (omega arith))))
 
 -- ---- no address
-
-or_left : (a b : Bool) → (a || b) ≡ false → a ≡ false
-or_left true b h = cc
-or_left false b h = refl
-
-or_right : (a b : Bool) → (a || b) ≡ false → b ≡ false
-or_right true b h = cc
-or_right false b h = h
 
 operand_same : (near : Bool) (a : Bits) (size : DispSize) (t : OperandText) → is_address t ≡ false → operand_from near a D0 t ≡ operand_from near a size t
 unfolding operand_from is_address
@@ -226,12 +218,13 @@ pub same_without_address : (bits : Bits) (row : Row) (code : Code) (words : Inte
     → candidate bits row code words asize D0 ≡ candidate bits row code words asize size
 unfolding candidate has_address
 same_without_address bits row code words asize size h =
-    let h1 = or_right (is_address (text_at words 0)) _ h in
-    let h2 = or_right (is_address (text_at words 1)) _ h1 in
+    let h0 = or_parts (is_address (text_at words 0)) _ h in
+    let h1 = or_parts (is_address (text_at words 1)) _ h0.1 in
+    let h2 = or_parts (is_address (text_at words 2)) _ h1.1 in
     let one = λ (n : ℕ) (k : is_address (text_at words n) ≡ false). operand_same (is_near_at row n) (unwrap_or asize bits) size (text_at words n) k in
     rw (
-      one 0 (or_left (is_address (text_at words 0)) _ h),
-      one 1 (or_left (is_address (text_at words 1)) _ h1),
-      one 2 (or_left (is_address (text_at words 2)) _ h2),
-      one 3 (or_right (is_address (text_at words 2)) _ h2),
+      one 0 h0.0,
+      one 1 h1.0,
+      one 2 h2.0,
+      one 3 h2.1,
     ) refl

@@ -22,7 +22,8 @@ use Rattle.plain_spelling.proofs.Asked.{each-at}
 use Rattle.plain_fit.proofs.Given.{Given}
 use Rattle.plain_fit.proofs.Places.{reads-at}
 use Rattle.plain_fit.proofs.Addresses.{memory_at}
-use Rattle.text_parts.specs.PrefixWords.{is_memory, text_address_size}
+use Rattle.x86_values.specs.Operands.{is_memory}
+use Rattle.text_parts.specs.PrefixWords.{text_address_size}
 use Rattle.intel_words.specs.Words.{segment_of, inside_of, operand_of, nth_of, words_of}
 use Rattle.intel_reader.specs.Candidate.{is_near_at, address_from, operand_from, segment_or, segment_from, candidate, HasSize}
 use Rattle.intel_reader.proofs.AddressBack.{AddressIs, address_back}
@@ -98,7 +99,7 @@ operand_back bits ip row i n size g below sized = by_operand bits ip row i n siz
 
 segment_step : (bits : Bits) (row : Row) (i : Instr) (n : ℕ) (op : Operand) (other : Option Segment)
     → segment_or (operand_of bits row i n op) other ≡ (if is_memory op then i.seg else other)
-unfolding segment_or operand_of is_memory
+unfolding segment_or operand_of
 segment_step bits row i n Absent other = refl
 segment_step bits row i n (Reg r) other = refl
 segment_step bits row i n (Imm x) other = refl

@@ -2,6 +2,7 @@
 use Rattle.std.proofs.Common.{◌≡◌, ◌⊎◌, inl, inr, zero, suc, [], ◌∷◌, length, ℕ, ◌<◌, Bool, true, false, ◌||◌, List, Option, Some, None, refl, ap, sym, ◌∙◌, subst, arith, slice_get}
 use Rattle.std.specs.Prelude.{IsTrue, IfSome, IsNone, bytes_eq, codes}
 use Rattle.std.proofs.lemmas.Slice.Eq.{bytes_eq-Decides}
+use Rattle.std.proofs.lemmas.Bool.{or_left, or_right, or_parts}
 use Rattle.x86_values.specs.declared.Bits.{Bits}
 use Rattle.x86_values.specs.declared.DispSize.{DispSize}
 use Rattle.x86_values.specs.declared.Code.{Code}
@@ -18,8 +19,8 @@ use Rattle.name_index.specs.Buckets.{order}
 use Rattle.x86_values.specs.declared.Bits.TheVariants.{B16, B32, B64}
 use Rattle.intel_reader.specs.Possible.{is_counter_word}
 use Rattle.text_parts.specs.Layout.{bracket_layout}
-use Rattle.intel_text.specs.Text.{text_of}
-use Rattle.intel_text.proofs.TextLaws.{text-known}
+use Rattle.text_rows.proofs.AtRow.{text-known}
+use Rattle.intel_text.specs.Text.{text as intel_text, text_of}
 use Rattle.intel_words.specs.declared.words.IntelWords.{IntelWords}
 use Rattle.intel_words.specs.Words.{words_of}
 use Rattle.intel_words.specs.Printable.{is_printable}
@@ -69,20 +70,12 @@ plain_name : (bits : Bits) (name : List ℕ) (i : Instr) → is_counter_jump nam
 unfolding name_text
 plain_name bits name i h = rw h refl
 
-or_false_left : (a b : Bool) → (a || b) ≡ false → a ≡ false
-or_false_left true b h = cc
-or_false_left false b h = refl
-
-or_false_right : (a b : Bool) → (a || b) ≡ false → b ≡ false
-or_false_right true b h = cc
-or_false_right false b h = h
-
 -- no instruction of another name has this one in its text
 pub other_name : (bits : Bits) (name word : List ℕ) (i : Instr) → (bytes_eq name word || is_counter_jump name) ≡ false → word ≡ name_text bits name i → ⊥
 other_name bits name word i h e =
-    let same : word ≡ name = e ∙ plain_name bits name i (or_false_right (bytes_eq name word) (is_counter_jump name) h) in
+    let same : word ≡ name = e ∙ plain_name bits name i (or_parts (bytes_eq name word) (is_counter_jump name) h).1 in
     let equal : bytes_eq name word ≡ true = (bytes_eq-Decides name word).1 (sym same) in
-    let other = or_false_left (bytes_eq name word) (is_counter_jump name) h in
+    let other = (or_parts (bytes_eq name word) (is_counter_jump name) h).0 in
     cc
 
 pub name_test : (name word bytes : List ℕ) (x y : Bool) → bytes ≡ name → x ≡ bytes_eq bytes word → x ≡ false → y ≡ is_counter_jump bytes → y ≡ (bytes_eq name word || is_counter_jump name)
@@ -98,13 +91,13 @@ pub record IsPrinted (bits : Bits) (text : List ℕ) (row : Row) (i : Instr) : T
   pub layout : bracket_layout Intel bits row (name_of i.code.0) i ≡ text
 
 pub printed_facts : (bits : Bits) (ip : ℕ) (text : List ℕ) (b : Assembly) (row : Row) → IsCandidate bits ip text b → slice_get table b.instr.code.0 ≡ Some row → IsPrinted bits text row b.instr
-unfolding text_of
+unfolding intel_text text_of
 printed_facts bits ip text b row k at =
     let i = b.instr in
     let ready = plain_is_ready bits (wrapped bits ip) b.bytes row i k.spelled at in
     record {
       printable = plain_is_printable bits (wrapped bits ip) row i at ready.below ready.formed ready.given;
-      layout = text-known bits i row (name_of i.code.0) at refl ∙ k.printed;
+      layout = text-known (λ r name. bracket_layout Intel bits r name i) i.code.0 row (name_of i.code.0) at refl ∙ k.printed;
     }
 
 -- the row of a candidate
@@ -145,19 +138,11 @@ same_place o x y e f = cc
 pub code_at_place : (k x y : ℕ) → slice_get order k ≡ Some x → slice_get order k ≡ Some y → x ≡ y
 code_at_place k x y e f = same_place (slice_get order k) x y e f
 
-or_left_true : (a b : Bool) → a ≡ true → (a || b) ≡ true
-or_left_true true b h = refl
-or_left_true false b h = cc
-
-or_right_true : (a b : Bool) → b ≡ true → (a || b) ≡ true
-or_right_true true b h = refl
-or_right_true false b h = h
-
 shown_counter : (a : Bits) (word : List ℕ) → word ≡ counter_jump a → is_counter_word word ≡ true
 unfolding is_counter_word
-shown_counter B16 word e = or_left_true _ _ ((bytes_eq-Decides word (counter_jump B16)).1 e)
-shown_counter B32 word e = or_right_true _ _ (or_left_true _ _ ((bytes_eq-Decides word (counter_jump B32)).1 e))
-shown_counter B64 word e = or_right_true _ _ (or_right_true _ _ ((bytes_eq-Decides word (counter_jump B64)).1 e))
+shown_counter B16 word e = or_left _ _ ((bytes_eq-Decides word (counter_jump B16)).1 e)
+shown_counter B32 word e = or_right _ _ (or_left _ _ ((bytes_eq-Decides word (counter_jump B32)).1 e))
+shown_counter B64 word e = or_right _ _ (or_right _ _ ((bytes_eq-Decides word (counter_jump B64)).1 e))
 
 -- the name of a row is the word in the text, or the word is one of the jump on the counter
 pub name_or_counter : (bits : Bits) (name word : List ℕ) (i : Instr) → word ≡ name_text bits name i → (name ≡ word) ⊎ ((name ≡ codes "jrcxz") × (is_counter_word word ≡ true))

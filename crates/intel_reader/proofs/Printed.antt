@@ -1,12 +1,10 @@
 -- An instruction with a plain spelling is one whose text can be read back: it has the form of its row, and its words can be told apart.
-use Rattle.std.proofs.Common.{◌≡◌, ℕ, zero, suc, ◌^◌, ◌<◌, Bool, true, false, ◌&&◌, ◌||◌, not, nat_lt, List, [], ◌∷◌, length, Option, Some, None, refl, ap, sym, ◌∙◌, subst, arith, slice_get}
+use Rattle.std.proofs.Common.{◌≡◌, ℕ, zero, suc, ◌^◌, ◌<◌, Bool, true, false, ◌&&◌, ◌||◌, not, nat_lt, List, [], ◌∷◌, length, Option, Some, refl, ap, sym, ◌∙◌, subst, arith, slice_get}
 use Rattle.std.specs.Prelude.{unwrap_or}
 use Rattle.std.specs.List.{list_all}
-use Rattle.std.proofs.lemmas.Bool.{lt-ltb}
+use Rattle.std.proofs.lemmas.Bool.{lt-ltb, and_from}
 use Rattle.x86_values.specs.declared.Bits.{Bits}
 use Rattle.x86_values.specs.declared.Bits.TheVariants.{B16, B32, B64}
-use Rattle.x86_values.specs.declared.Register.{Register}
-use Rattle.x86_values.specs.declared.Register.TheVariants.{Low8, High8, R16, R32, R64, Seg, Cr, Dr, St, Mm, Xmm, Ymm, Eip, Rip}
 use Rattle.x86_values.specs.declared.Mem.{Mem}
 use Rattle.x86_values.specs.declared.Operand.{Operand}
 use Rattle.x86_values.specs.declared.Operand.TheVariants.{Absent, Reg, Mem as MemOperand, Imm, Near, Far}
@@ -29,20 +27,20 @@ use Rattle.opcode_rows.specs.declared.spots.Part.{Part}
 use Rattle.opcode_rows.specs.declared.spots.Part.TheVariants as part
 use Rattle.opcode_rows.specs.declared.spots.TheConstants.{ROWS}
 use Rattle.opcode_rows.specs.Table.{part_table, table, names, name_of}
-use Rattle.opcode_rows.specs.Allowed.{is_named, is_named_if, has_numbers, operand_is_formed, is_formed}
+use Rattle.opcode_rows.specs.Allowed.{is_named_if, has_numbers, operand_is_formed, is_formed}
 use Rattle.opcode_rows.proofs.JoinFacts.{all_rows, in_each_part}
 use Rattle.plain_spelling.specs.Forms.{is_scale, is_allowed_in, is_variant_of, operand_at}
 use Rattle.plain_spelling.specs.PlainTail.{plain_size, plain_next}
 use Rattle.plain_spelling.specs.Expressible.{target_suits, near_reaches, address_reaches}
 use Rattle.plain_spelling.proofs.Asked.{each-at}
-use Rattle.plain_spelling.proofs.AddressCases.{impossible, both}
+use Rattle.plain_spelling.proofs.AddressCases.{impossible}
 use Rattle.plain_fit.proofs.Given.{Given}
 use Rattle.row_fit.specs.Fits.{immediate_bytes}
 use Rattle.text_parts.specs.PrefixWords.{text_address_size}
 use Rattle.intel_words.specs.Scanning.{is_word_byte}
 use Rattle.intel_words.specs.ReadWords.{is_lock, repeat_named, is_repeat, size_by, size_behind, is_prefix_word}
 use Rattle.intel_words.specs.ReadRegisters.{segment_by, segment_named}
-use Rattle.intel_words.specs.Printable.{is_plain_name, is_register, is_register_if, is_word_number, index_is_shown, is_printable_address, is_printable_operand, nth_is_printable, are_in_front, is_printable}
+use Rattle.intel_words.specs.Printable.{is_plain_name, is_word_number, index_is_shown, is_printable_address, is_printable_operand, nth_is_printable, are_in_front, is_printable}
 use Rattle.intel_reader.proofs.AddressBack.{AddressIs}
 use Rattle.intel_reader.proofs.OperandFacts.{immediate_below, near_below, far_below}
 use Rattle.intel_reader.proofs.CandidateBack.{variant_at, immediate_at, address_at}
@@ -79,27 +77,12 @@ in_front row =
     && ((not (is_nothing (method_of (kind_at row 1))) || is_nothing (method_of (kind_at row 2)))
     && (not (is_nothing (method_of (kind_at row 2))) || is_nothing (method_of (kind_at row 3))))
 
-integer-in_front : all_rows in_front integer_rows ≡ true
-unfolding all_rows in_front is_nothing method_of integer_rows integer_flat
-integer-in_front = refl
-
-x87-in_front : all_rows in_front x87_rows ≡ true
-unfolding all_rows in_front is_nothing method_of x87_rows x87_flat
-x87-in_front = refl
-
-sse-in_front : all_rows in_front sse_rows ≡ true
-unfolding all_rows in_front is_nothing method_of sse_rows sse_flat
-sse-in_front = refl
-
-vex-in_front : all_rows in_front vex_rows ≡ true
-unfolding all_rows in_front is_nothing method_of vex_rows vex_flat
-vex-in_front = refl
-
 each-in_front : (p : Part) → all_rows in_front (part_table p) ≡ true
-each-in_front part.Integer = integer-in_front
-each-in_front part.X87 = x87-in_front
-each-in_front part.Sse = sse-in_front
-each-in_front part.Vex = vex-in_front
+unfolding all_rows in_front is_nothing method_of integer_rows integer_flat x87_rows x87_flat sse_rows sse_flat vex_rows vex_flat
+each-in_front part.Integer = refl
+each-in_front part.X87 = refl
+each-in_front part.Sse = refl
+each-in_front part.Vex = refl
 
 allowed_absent : (place : Place) → is_allowed_in place Absent ≡ false
 unfolding is_allowed_in
@@ -131,28 +114,6 @@ in_front_at bits ip row i at g =
 
 -- ---- operands
 
-named_register : (r : Register) → is_named r ≡ true → is_register r ≡ true
-unfolding is_named is_register
-named_register (Low8 n) h = h
-named_register (High8 n) h = h
-named_register (R16 n) h = h
-named_register (R32 n) h = h
-named_register (R64 n) h = h
-named_register (Seg s) h = h
-named_register (Cr n) h = h
-named_register (Dr n) h = h
-named_register (St n) h = h
-named_register (Mm n) h = h
-named_register (Xmm n) h = h
-named_register (Ymm n) h = h
-named_register Eip h = h
-named_register Rip h = h
-
-named_if : (o : Option Register) → is_named_if o ≡ true → is_register_if o ≡ true
-unfolding is_named_if is_register_if
-named_if None h = refl
-named_if (Some r) h = named_register r h
-
 word_number : (x : ℕ) → x < 2 ^ 64 → is_word_number x ≡ true
 unfolding is_word_number
 word_number x h = lt-ltb x (2 ^ 64) h
@@ -170,10 +131,10 @@ address_printable : (a : Bits) (m : Mem) → AddressIs a m → has_numbers (MemO
 unfolding is_printable_address has_numbers
 address_printable a m k h =
     let registers = and_right (is_scale m.scale) (is_named_if m.base && is_named_if m.index) h in
-    both (is_register_if m.base) _ (named_if m.base (and_left (is_named_if m.base) (is_named_if m.index) registers))
-    (both (is_register_if m.index) _ (named_if m.index (and_right (is_named_if m.base) (is_named_if m.index) registers))
-    (both (nat_lt m.scale 10) _ (small_scale m.scale (and_left (is_scale m.scale) (is_named_if m.base && is_named_if m.index) h))
-    (both (is_word_number m.disp) (index_is_shown a m) (word_number m.disp k.number) (shown_index a m k))))
+    and_from (is_named_if m.base) _ (and_left (is_named_if m.base) (is_named_if m.index) registers)
+    (and_from (is_named_if m.index) _ (and_right (is_named_if m.base) (is_named_if m.index) registers)
+    (and_from (nat_lt m.scale 10) _ (small_scale m.scale (and_left (is_scale m.scale) (is_named_if m.base && is_named_if m.index) h))
+    (and_from (is_word_number m.disp) (index_is_shown a m) (word_number m.disp k.number) (shown_index a m k))))
 
 near_at : (bits : Bits) (ip : ℕ) (row : Row) (i : Instr) (n x : ℕ) → Given bits ip row i → n < 4 → operand_at i n ≡ Near x
     → near_reaches (plain_size bits row) (plain_next bits ip row i) (immediate_bytes (plain_size bits row) (kind_at row n)) x ≡ true
@@ -188,7 +149,7 @@ near_at bits ip row i n x g below e =
 by_operand : (bits : Bits) (ip : ℕ) (row : Row) (i : Instr) (n : ℕ) (op : Operand) → Given bits ip row i → n < 4 → operand_at i n ≡ op → has_numbers op ≡ true → is_printable_operand (text_address_size bits i) op ≡ true
 unfolding is_printable_operand has_numbers
 by_operand bits ip row i n Absent g below e h = refl
-by_operand bits ip row i n (Reg r) g below e h = named_register r h
+by_operand bits ip row i n (Reg r) g below e h = h
 by_operand bits ip row i n (Imm x) g below e h =
     word_number x (immediate_below (plain_size bits row) row.place (kind_at row n) (method_of (kind_at row n)) x refl (variant_at bits ip row i n (Imm x) g below e) (immediate_at bits ip row i n (Imm x) g below e))
 by_operand bits ip row i n (Near x) g below e h = word_number x (near_below (plain_size bits row) _ _ x (near_at bits ip row i n x g below e))
@@ -196,7 +157,7 @@ by_operand bits ip row i n (Far s o) g below e h =
     let k = far_below (plain_size bits row) row.place (kind_at row n) (method_of (kind_at row n)) s o refl (variant_at bits ip row i n (Far s o) g below e) (immediate_at bits ip row i n (Far s o) g below e) in
     let ks : s < 2 ^ 16 = k.selector in
     let ko : o < 2 ^ 32 = k.offset in
-    both (is_word_number s) (is_word_number o) (word_number s (omega arith)) (word_number o (omega arith))
+    and_from (is_word_number s) (is_word_number o) (word_number s (omega arith)) (word_number o (omega arith))
 by_operand bits ip row i n (MemOperand m) g below e h =
     let at = address_at bits ip row i n m g below e in
     let text : text_address_size bits i ≡ at.a = ap (λ (o : Option Bits). unwrap_or o bits) at.size in
@@ -212,8 +173,8 @@ pub plain_is_printable : (bits : Bits) (ip : ℕ) (row : Row) (i : Instr) → sl
 unfolding is_printable
 plain_is_printable bits ip row i at lt formed g =
     let one = λ (n : ℕ) (below : n < 4). by_operand bits ip row i n (operand_at i n) g below refl (formed_at row i n below formed) in
-    both (is_plain_name (name_of i.code.0)) _ (name_is_plain i.code.0 lt)
-    (both (are_in_front i) _ (in_front_at bits ip row i at g)
-    (both (nth_is_printable bits i 0) _ (one 0 (omega arith))
-    (both (nth_is_printable bits i 1) _ (one 1 (omega arith))
-    (both (nth_is_printable bits i 2) (nth_is_printable bits i 3) (one 2 (omega arith)) (one 3 (omega arith))))))
+    and_from (is_plain_name (name_of i.code.0)) _ (name_is_plain i.code.0 lt)
+    (and_from (are_in_front i) _ (in_front_at bits ip row i at g)
+    (and_from (nth_is_printable bits i 0) _ (one 0 (omega arith))
+    (and_from (nth_is_printable bits i 1) _ (one 1 (omega arith))
+    (and_from (nth_is_printable bits i 2) (nth_is_printable bits i 3) (one 2 (omega arith)) (one 3 (omega arith))))))

@@ -51,6 +51,7 @@ unfoldable pub is_near_method : Method → Bool
 is_near_method method.Near = true
 is_near_method _ = false
 
+-- operand n of the row is a near target
 abbrev pub is_near_at : Row → ℕ → Bool
 is_near_at row n = is_near_method (method_of (kind_at row n))
 

@@ -39,6 +39,7 @@ abbrev pub kind_allows : Row → IntelWords → ℕ → Bool
 kind_allows row words n =
     is_variant_of row.place (method_of (kind_at row n)) (operand_from (is_near_at row n) B64 D0 (text_at words n))
 
+-- each operand has a variant that the row's kind allows
 unfoldable pub kinds_allow : Row → IntelWords → Bool
 kinds_allow row words = kind_allows row words 0 && (kind_allows row words 1 && (kind_allows row words 2 && kind_allows row words 3))
 
@@ -51,11 +52,13 @@ is_general B32 (R32 n) = true
 is_general B64 (R64 n) = true
 is_general _ r = false
 
+-- a register of 8 bits
 unfoldable pub is_byte_register : Register → Bool
 is_byte_register (Low8 n) = true
 is_byte_register (High8 n) = true
 is_byte_register _ = false
 
+-- a vector register of 128 bits
 unfoldable pub is_xmm_register : Register → Bool
 is_xmm_register (Xmm n) = true
 is_xmm_register _ = false
@@ -71,6 +74,7 @@ in_file size WordOrDwordFile r = is_general (word_or_dword size) r
 in_file size XmmFile r = is_xmm_register r
 in_file size _ r = true
 
+-- the same of an operand, which may be no register
 unfoldable pub text_in_file : Bits → File → OperandText → Bool
 text_in_file size file (Reg r) = in_file size file r
 text_in_file size file _ = true
@@ -79,12 +83,14 @@ text_in_file size file _ = true
 abbrev pub nth_in_file : Bits → Row → IntelWords → ℕ → Bool
 nth_in_file bits row words n = text_in_file (plain_size bits row) (file_of (kind_at row n)) (text_at words n)
 
+-- each register is one that the row's kind may name
 unfoldable pub files_allow : Bits → Row → IntelWords → Bool
 files_allow bits row words =
     nth_in_file bits row words 0 && (nth_in_file bits row words 1 && (nth_in_file bits row words 2 && nth_in_file bits row words 3))
 
 -- ---- the address size
 
+-- the operand is an address
 unfoldable pub is_address : OperandText → Bool
 is_address (Address a) = true
 is_address _ = false
@@ -122,9 +128,11 @@ text_offers bits asize size how (Address a) =
     let m : Mem = address_from (unwrap_or asize bits) size a.inside in displacement_suits (written_size bits asize m) how m
 text_offers bits asize size how _ = true
 
+-- the same of operand n
 abbrev pub nth_offers : Bits → Row → IntelWords → Option Bits → DispSize → ℕ → Bool
 nth_offers bits row words asize size n = text_offers bits asize size (method_of (kind_at row n)) (text_at words n)
 
+-- each address offers a displacement of this size
 unfoldable pub displacement_allowed : Bits → Row → IntelWords → Option Bits → DispSize → Bool
 displacement_allowed bits row words asize size =
     nth_offers bits row words asize size 0

@@ -148,6 +148,7 @@ pub fn files_allow(bits: Bits, row: &Row, words: &IntelWords) -> bool
         && nth_in_file(size, row, words, 3)
 }
 
+/// Whether an operand is an address.
 #[tactic(auto, unfolding(crate::specs::Possible::is_address))]
 fn is_address(text: &OperandText) -> bool
     ensures { result ≡ spec.is_address text.now }
@@ -245,6 +246,7 @@ fn text_offers(
     }
 }
 
+/// Whether the address of operand `n`, if it is one, offers a displacement of this size.
 fn nth_offers(
     bits: Bits,
     row: &Row,

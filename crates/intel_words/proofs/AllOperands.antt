@@ -2,6 +2,7 @@
 use Rattle.std.proofs.Common.{◌≡◌, ℕ, Bool, true, false, List, [], ◌∷◌, ◌++◌, Option, Some, refl, ap, sym, ◌∙◌, append_assoc}
 use Rattle.std.specs.Prelude.{◌||◌, not}
 use Rattle.std.specs.List.{list_all}
+use Rattle.instruction_parts.proofs.Tests.{and_left, and_right}
 use Rattle.x86_values.specs.declared.Bits.{Bits}
 use Rattle.x86_values.specs.declared.Operand.{Operand}
 use Rattle.x86_values.specs.declared.Operand.TheVariants.{Absent as NoOperand, Reg as RegOperand, Mem as MemOperand, Imm, Near, Far as FarOperand}
@@ -16,7 +17,7 @@ use Rattle.intel_words.specs.Printable.{nth_is_printable, are_in_front}
 use Rattle.intel_words.specs.Scanning.{is_word_byte, is_no_comma, front, back, rest, token, next_operand}
 use Rattle.intel_words.specs.ReadAddresses.{operand_in}
 use Rattle.intel_words.specs.ReadWords.{four, operands_in}
-use Rattle.intel_words.proofs.Cutting.{and_left, and_right, front-ends, front-all, back-append}
+use Rattle.intel_words.proofs.Cutting.{front-ends, front-all, back-append}
 use Rattle.intel_words.proofs.OneOperand.{operand-read}
 use Rattle.intel_words.proofs.NoCommas.{operand-plain}
 

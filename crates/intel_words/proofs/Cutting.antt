@@ -1,22 +1,20 @@
 -- Where words and operands end.
 use Rattle.std.proofs.Common.{◌≡◌, ℕ, suc, ◌+◌, Bool, true, false, cond, List, [], ◌∷◌, ◌++◌, take, drop, refl, ap, ◌∙◌, append-nil, arith}
-use Rattle.std.specs.Prelude.{◌&&◌, if◌then◌else◌}
+use Rattle.std.specs.Prelude.{if◌then◌else◌}
 use Rattle.std.specs.List.{list_all, prefix_len}
+use Rattle.std.proofs.lemmas.Bool.{and_from}
+use Rattle.instruction_parts.proofs.Tests.{and_left, and_right}
 use Rattle.intel_words.specs.Scanning.{front, back}
 
--- ---- both parts of a conjunction
+-- ---- choices
 
-pub and_left : (a b : Bool) → (a && b) ≡ true → a ≡ true
-and_left true b h = refl
-and_left false b h = h
+pub if-no : {A : Type 0} (b : Bool) (x y : A) → b ≡ false → (if b then x else y) ≡ y
+if-no true x y h = absurd cc
+if-no false x y h = refl
 
-pub and_right : (a b : Bool) → (a && b) ≡ true → b ≡ true
-and_right true b h = h
-and_right false b h = absurd cc
-
-pub and_both : (a b : Bool) → a ≡ true → b ≡ true → (a && b) ≡ true
-and_both true b ha hb = hb
-and_both false b ha hb = ha
+pub if-yes : {A : Type 0} (b : Bool) (x y : A) → b ≡ true → (if b then x else y) ≡ x
+if-yes true x y h = refl
+if-yes false x y h = absurd cc
 
 -- ---- front and back by the number of bytes that pass
 
@@ -86,4 +84,4 @@ back-all p (c ∷ cs) h =
 pub all-both : (p : ℕ → Bool) (xs ys : List ℕ) → list_all p xs ≡ true → list_all p ys ≡ true → list_all p (xs ++ ys) ≡ true
 all-both p [] ys hx hy = hy
 all-both p (c ∷ cs) ys hx hy =
-    and_both (p c) (list_all p (cs ++ ys)) (and_left (p c) (list_all p cs) hx) (all-both p cs ys (and_right (p c) (list_all p cs) hx) hy)
+    and_from (p c) (list_all p (cs ++ ys)) (and_left (p c) (list_all p cs) hx) (all-both p cs ys (and_right (p c) (list_all p cs) hx) hy)

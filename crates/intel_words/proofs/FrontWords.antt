@@ -2,6 +2,7 @@
 use Rattle.std.proofs.Common.{◌≡◌, ℕ, suc, ◌<◌, Bool, true, false, cond, List, [], ◌∷◌, ◌++◌, Option, Some, None, refl, ap, arith, lit<}
 use Rattle.std.specs.Prelude.{◌||◌, not, is_some, if◌then◌else◌, codes}
 use Rattle.std.specs.List.{list_all}
+use Rattle.instruction_parts.proofs.Tests.{and_left, and_right}
 use Rattle.x86_values.specs.declared.Bits.{Bits}
 use Rattle.x86_values.specs.declared.Bits.TheVariants.{B16, B32, B64}
 use Rattle.x86_values.specs.declared.Segment.{Segment}
@@ -17,7 +18,7 @@ use Rattle.intel_words.specs.Printable.{is_plain_name}
 use Rattle.intel_words.specs.Scanning.{is_word_byte, front, back, first, rest, word, behind, skip_if}
 use Rattle.intel_words.specs.ReadRegisters.{segment_named, segment_by}
 use Rattle.intel_words.specs.ReadWords.{is_lock, repeat_named, is_repeat, size_by, size_behind, is_prefix_word, behind_lock, behind_repeat, behind_segment, behind_size}
-use Rattle.intel_words.proofs.Cutting.{and_left, and_right, front-ends, back-ends}
+use Rattle.intel_words.proofs.Cutting.{front-ends, back-ends}
 
 -- ---- how late a word stands
 
@@ -57,6 +58,27 @@ rank-4 false false false true e h = absurd (omega arith)
 rank-4 false false false false true h = absurd (omega arith)
 rank-4 false false false false false h = refl
 
+-- a later word is none of the earlier kinds
+no-lock : (w : List ℕ) → 0 < rank w → is_lock w ≡ false
+unfolding rank
+no-lock w h = rank-0 (is_lock w) (is_repeat (repeat_named w)) (is_some (segment_named w)) (is_some (size_behind 97 w)) (is_some (size_behind 111 w)) h
+
+no-repeat_word : (w : List ℕ) → 1 < rank w → is_repeat (repeat_named w) ≡ false
+unfolding rank
+no-repeat_word w h = rank-1 (is_lock w) (is_repeat (repeat_named w)) (is_some (segment_named w)) (is_some (size_behind 97 w)) (is_some (size_behind 111 w)) h
+
+no-segment_word : (w : List ℕ) → 2 < rank w → is_some (segment_named w) ≡ false
+unfolding rank
+no-segment_word w h = rank-2 (is_lock w) (is_repeat (repeat_named w)) (is_some (segment_named w)) (is_some (size_behind 97 w)) (is_some (size_behind 111 w)) h
+
+no-address_word : (w : List ℕ) → 3 < rank w → is_some (size_behind 97 w) ≡ false
+unfolding rank
+no-address_word w h = rank-3 (is_lock w) (is_repeat (repeat_named w)) (is_some (segment_named w)) (is_some (size_behind 97 w)) (is_some (size_behind 111 w)) h
+
+no-operand_word : (w : List ℕ) → 4 < rank w → is_some (size_behind 111 w) ≡ false
+unfolding rank
+no-operand_word w h = rank-4 (is_lock w) (is_repeat (repeat_named w)) (is_some (segment_named w)) (is_some (size_behind 97 w)) (is_some (size_behind 111 w)) h
+
 no-size : (o : Option Bits) → is_some o ≡ false → o ≡ None
 no-size None h = refl
 no-size (Some b) h = absurd cc
@@ -79,24 +101,24 @@ less-of h = omega arith
 pub lock-value : (lock : Bool) (t : List ℕ) → 0 < rank (word t) → is_lock (word (lock_word lock ++ t)) ≡ lock
 unfolding lock_word rank is_lock repeat_named is_repeat segment_named segment_by size_behind size_by skip_if first rest front back is_word_byte
 lock-value true t h = refl
-lock-value false t h = rank-0 (is_lock (word t)) (is_repeat (repeat_named (word t))) (is_some (segment_named (word t))) (is_some (size_behind 97 (word t))) (is_some (size_behind 111 (word t))) h
+lock-value false t h = no-lock (word t) h
 
 pub lock-behind : (lock : Bool) (t : List ℕ) → 0 < rank (word t) → behind_lock (lock_word lock ++ t) ≡ t
 unfolding behind_lock lock_word rank is_lock repeat_named is_repeat segment_named segment_by size_behind size_by skip_if first rest front back is_word_byte
 lock-behind true t h = refl
-lock-behind false t h = ap (λ (b : Bool). skip_if b t) (rank-0 (is_lock (word t)) (is_repeat (repeat_named (word t))) (is_some (segment_named (word t))) (is_some (size_behind 97 (word t))) (is_some (size_behind 111 (word t))) h)
+lock-behind false t h = ap (λ (b : Bool). skip_if b t) (no-lock (word t) h)
 
 -- ---- repeat
 
 pub repeat-value : (rep : Rep) (t : List ℕ) → 1 < rank (word t) → repeat_named (word (repeat_word rep ++ t)) ≡ rep
 unfolding repeat_word rank is_lock repeat_named is_repeat segment_named segment_by size_behind size_by skip_if first rest front back is_word_byte
-repeat-value NoRep t h = no-repeat (repeat_named (word t)) (rank-1 (is_lock (word t)) (is_repeat (repeat_named (word t))) (is_some (segment_named (word t))) (is_some (size_behind 97 (word t))) (is_some (size_behind 111 (word t))) h)
+repeat-value NoRep t h = no-repeat (repeat_named (word t)) (no-repeat_word (word t) h)
 repeat-value F2 t h = refl
 repeat-value F3 t h = refl
 
 pub repeat-behind : (rep : Rep) (t : List ℕ) → 1 < rank (word t) → behind_repeat (repeat_word rep ++ t) ≡ t
 unfolding behind_repeat repeat_word rank is_lock repeat_named is_repeat segment_named segment_by size_behind size_by skip_if first rest front back is_word_byte
-repeat-behind NoRep t h = ap (λ (b : Bool). skip_if b t) (rank-1 (is_lock (word t)) (is_repeat (repeat_named (word t))) (is_some (segment_named (word t))) (is_some (size_behind 97 (word t))) (is_some (size_behind 111 (word t))) h)
+repeat-behind NoRep t h = ap (λ (b : Bool). skip_if b t) (no-repeat_word (word t) h)
 repeat-behind F2 t h = refl
 repeat-behind F3 t h = refl
 
@@ -115,7 +137,7 @@ segment_text (Some s) = segment_name s ++ codes " "
 
 pub segment-value : (seg : Option Segment) (t : List ℕ) → 2 < rank (word t) → segment_named (word (segment_text seg ++ t)) ≡ seg
 unfolding segment_name rank is_lock repeat_named is_repeat segment_named segment_by size_behind size_by skip_if first rest front back is_word_byte
-segment-value None t h = no-segment (segment_named (word t)) (rank-2 (is_lock (word t)) (is_repeat (repeat_named (word t))) (is_some (segment_named (word t))) (is_some (size_behind 97 (word t))) (is_some (size_behind 111 (word t))) h)
+segment-value None t h = no-segment (segment_named (word t)) (no-segment_word (word t) h)
 segment-value (Some Es) t h = refl
 segment-value (Some Cs) t h = refl
 segment-value (Some Ss) t h = refl
@@ -125,7 +147,7 @@ segment-value (Some Gs) t h = refl
 
 pub segment-behind : (seg : Option Segment) (t : List ℕ) → 2 < rank (word t) → behind_segment (segment_text seg ++ t) ≡ t
 unfolding behind_segment segment_name rank is_lock repeat_named is_repeat segment_named segment_by size_behind size_by skip_if first rest front back is_word_byte
-segment-behind None t h = ap (λ (b : Bool). skip_if b t) (rank-2 (is_lock (word t)) (is_repeat (repeat_named (word t))) (is_some (segment_named (word t))) (is_some (size_behind 97 (word t))) (is_some (size_behind 111 (word t))) h)
+segment-behind None t h = ap (λ (b : Bool). skip_if b t) (no-segment_word (word t) h)
 segment-behind (Some Es) t h = refl
 segment-behind (Some Cs) t h = refl
 segment-behind (Some Ss) t h = refl
@@ -152,14 +174,14 @@ sized_text letter (Some size) = sized_word letter size
 
 pub address-value : (size : Option Bits) (t : List ℕ) → 3 < rank (word t) → size_behind 97 (word (sized_text (codes "a") size ++ t)) ≡ size
 unfolding sized_word size_digits rank is_lock repeat_named is_repeat segment_named segment_by size_behind size_by skip_if first rest front back is_word_byte
-address-value None t h = no-size (size_behind 97 (word t)) (rank-3 (is_lock (word t)) (is_repeat (repeat_named (word t))) (is_some (segment_named (word t))) (is_some (size_behind 97 (word t))) (is_some (size_behind 111 (word t))) h)
+address-value None t h = no-size (size_behind 97 (word t)) (no-address_word (word t) h)
 address-value (Some B16) t h = refl
 address-value (Some B32) t h = refl
 address-value (Some B64) t h = refl
 
 pub address-behind : (size : Option Bits) (t : List ℕ) → 3 < rank (word t) → behind_size 97 (sized_text (codes "a") size ++ t) ≡ t
 unfolding behind_size sized_word size_digits rank is_lock repeat_named is_repeat segment_named segment_by size_behind size_by skip_if first rest front back is_word_byte
-address-behind None t h = ap (λ (b : Bool). skip_if b t) (rank-3 (is_lock (word t)) (is_repeat (repeat_named (word t))) (is_some (segment_named (word t))) (is_some (size_behind 97 (word t))) (is_some (size_behind 111 (word t))) h)
+address-behind None t h = ap (λ (b : Bool). skip_if b t) (no-address_word (word t) h)
 address-behind (Some B16) t h = refl
 address-behind (Some B32) t h = refl
 address-behind (Some B64) t h = refl
@@ -173,14 +195,14 @@ address-rank (Some B64) t h = lit< tt
 
 pub operand-value : (size : Option Bits) (t : List ℕ) → 4 < rank (word t) → size_behind 111 (word (sized_text (codes "o") size ++ t)) ≡ size
 unfolding sized_word size_digits rank is_lock repeat_named is_repeat segment_named segment_by size_behind size_by skip_if first rest front back is_word_byte
-operand-value None t h = no-size (size_behind 111 (word t)) (rank-4 (is_lock (word t)) (is_repeat (repeat_named (word t))) (is_some (segment_named (word t))) (is_some (size_behind 97 (word t))) (is_some (size_behind 111 (word t))) h)
+operand-value None t h = no-size (size_behind 111 (word t)) (no-operand_word (word t) h)
 operand-value (Some B16) t h = refl
 operand-value (Some B32) t h = refl
 operand-value (Some B64) t h = refl
 
 pub operand-behind : (size : Option Bits) (t : List ℕ) → 4 < rank (word t) → behind_size 111 (sized_text (codes "o") size ++ t) ≡ t
 unfolding behind_size sized_word size_digits rank is_lock repeat_named is_repeat segment_named segment_by size_behind size_by skip_if first rest front back is_word_byte
-operand-behind None t h = ap (λ (b : Bool). skip_if b t) (rank-4 (is_lock (word t)) (is_repeat (repeat_named (word t))) (is_some (segment_named (word t))) (is_some (size_behind 97 (word t))) (is_some (size_behind 111 (word t))) h)
+operand-behind None t h = ap (λ (b : Bool). skip_if b t) (no-operand_word (word t) h)
 operand-behind (Some B16) t h = refl
 operand-behind (Some B32) t h = refl
 operand-behind (Some B64) t h = refl

@@ -1,9 +1,10 @@
 -- What stands inside the brackets of an address is read again.
-use Rattle.std.proofs.Common.{◌≡◌, ℕ, zero, suc, ◌-◌, ◌*◌, ◌%◌, ◌^◌, ◌<◌, ◌≤◌, Bool, true, false, List, [], ◌∷◌, ◌++◌, Option, Some, None, refl, ap, ◌∙◌, append_assoc, arith, lit<, lit≤}
+use Rattle.std.proofs.Common.{◌≡◌, ℕ, ◌-◌, ◌*◌, ◌%◌, ◌^◌, ◌<◌, ◌≤◌, Bool, true, false, List, [], ◌∷◌, ◌++◌, option_map, Option, Some, None, refl, ap, ◌∙◌, append_assoc, arith, lit<, lit≤}
 use Rattle.std.specs.Prelude.{◌&&◌, ◌==◌, nat_lt, nat_le, is_none, if◌then◌else◌, codes}
 use Rattle.std.proofs.lemmas.Bool.{ltb-true}
 use Rattle.std.proofs.lemmas.Bool.Decides.{nat_tests}
 use Rattle.std.proofs.Math.Nat.{mod-lt}
+use Rattle.instruction_parts.proofs.Tests.{and_left, and_right}
 use Rattle.x86_values.specs.declared.Bits.{Bits}
 use Rattle.x86_values.specs.declared.Bits.TheVariants.{B16, B32, B64}
 use Rattle.x86_values.specs.declared.Register.{Register}
@@ -19,14 +20,16 @@ use Rattle.intel_words.specs.declared.words.Inside.{Inside}
 use Rattle.intel_words.specs.declared.words.Inside.TheVariants.{Lone, Rel, Sum}
 use Rattle.intel_words.specs.declared.words.SignedText.{SignedText}
 use Rattle.intel_words.specs.Words.{is_eip, lone_of, signed_of, scale_of, sum_of, inside_of}
-use Rattle.intel_words.specs.Printable.{is_register, is_register_if, is_word_number, index_is_shown, is_printable_address}
+use Rattle.x86_values.specs.Named.{is_named, is_named_if}
+use Rattle.intel_words.specs.Printable.{is_word_number, index_is_shown, is_printable_address}
 use Rattle.intel_words.specs.Scanning.{is_word_byte, front, back, first, rest, word, behind}
 use Rattle.intel_words.specs.ReadNumbers.{number_named, decimal_digit}
 use Rattle.intel_words.specs.ReadRegisters.{register_named}
-use Rattle.intel_words.specs.ReadAddresses.{signed_by, signed_in, sum_with, scaled_by, behind_index, index_by, sum_by, rel_by, lone_by, relative_in, inside_in}
-use Rattle.intel_words.proofs.Cutting.{and_left, and_right, front-ends, back-ends}
+use Rattle.intel_words.specs.ReadAddresses.{signed_by, signed_in, sum_with, scaled_by, behind_index, index_by, sum_by, rel_by, relative_in, inside_in}
+use Rattle.intel_words.proofs.Cutting.{front-ends, back-ends, if-no, if-yes}
 use Rattle.intel_words.proofs.NumberText.{number-read, number-bytes, number-first}
 use Rattle.intel_words.proofs.RegisterText.{register-read}
+use Rattle.intel_words.proofs.Below.{agree-below}
 
 -- ---- numbers and registers in front of another text
 
@@ -36,12 +39,12 @@ number-word n ys h e = ap number_named (front-ends is_word_byte (number Intel n)
 pub number-behind : (n : ℕ) (ys : List ℕ) → back is_word_byte ys ≡ ys → behind (number Intel n ++ ys) ≡ ys
 number-behind n ys e = back-ends is_word_byte (number Intel n) ys (number-bytes n) e
 
-pub register-word : (r : Register) (ys : List ℕ) → is_register r ≡ true → front is_word_byte ys ≡ [] → register_named (word (register Intel r ++ ys)) ≡ Some r
+pub register-word : (r : Register) (ys : List ℕ) → is_named r ≡ true → front is_word_byte ys ≡ [] → register_named (word (register Intel r ++ ys)) ≡ Some r
 register-word r ys h e =
     let read = register-read r h in
     ap register_named (front-ends is_word_byte (register Intel r) ys read.bytes e) ∙ read.named
 
-pub register-behind : (r : Register) (ys : List ℕ) → is_register r ≡ true → back is_word_byte ys ≡ ys → behind (register Intel r ++ ys) ≡ ys
+pub register-behind : (r : Register) (ys : List ℕ) → is_named r ≡ true → back is_word_byte ys ≡ ys → behind (register Intel r ++ ys) ≡ ys
 register-behind r ys h e =
     let read = register-read r h in
     back-ends is_word_byte (register Intel r) ys read.bytes e
@@ -52,7 +55,7 @@ unfolding first
 first-front [] ys h = absurd cc
 first-front (c ∷ cs) ys h = refl
 
-pub letter-first : (r : Register) (ys : List ℕ) → is_register r ≡ true → nat_le 97 (first (register Intel r ++ ys)) ≡ true
+pub letter-first : (r : Register) (ys : List ℕ) → is_named r ≡ true → nat_le 97 (first (register Intel r ++ ys)) ≡ true
 letter-first r ys h =
     let read = register-read r h in
     ap (λ (c : ℕ). nat_le 97 c) (first-front (register Intel r) ys read.letter) ∙ read.letter
@@ -117,45 +120,17 @@ end-of asize m = end-by m.disp_size asize m.base m.index m.scale m.disp
 
 scale-value : (scale : ℕ) (s : List ℕ) → scale < 10 → decimal_digit (first (decimal scale ++ s)) ≡ Some scale
 unfolding decimal decimal_digit first
-scale-value zero s h = refl
-scale-value (suc zero) s h = refl
-scale-value (suc (suc zero)) s h = refl
-scale-value (suc (suc (suc zero))) s h = refl
-scale-value (suc (suc (suc (suc zero)))) s h = refl
-scale-value (suc (suc (suc (suc (suc zero))))) s h = refl
-scale-value (suc (suc (suc (suc (suc (suc zero)))))) s h = refl
-scale-value (suc (suc (suc (suc (suc (suc (suc zero))))))) s h = refl
-scale-value (suc (suc (suc (suc (suc (suc (suc (suc zero)))))))) s h = refl
-scale-value (suc (suc (suc (suc (suc (suc (suc (suc (suc zero))))))))) s h = refl
-scale-value (suc (suc (suc (suc (suc (suc (suc (suc (suc (suc n)))))))))) s h = absurd (omega arith)
+scale-value scale s h = agree-below (λ k. decimal_digit (first (decimal k ++ s))) (λ k. Some k) 10 scale refl h
 
 scale-rest : (scale : ℕ) (s : List ℕ) → scale < 10 → rest (decimal scale ++ s) ≡ s
 unfolding decimal rest
-scale-rest zero s h = refl
-scale-rest (suc zero) s h = refl
-scale-rest (suc (suc zero)) s h = refl
-scale-rest (suc (suc (suc zero))) s h = refl
-scale-rest (suc (suc (suc (suc zero)))) s h = refl
-scale-rest (suc (suc (suc (suc (suc zero))))) s h = refl
-scale-rest (suc (suc (suc (suc (suc (suc zero)))))) s h = refl
-scale-rest (suc (suc (suc (suc (suc (suc (suc zero))))))) s h = refl
-scale-rest (suc (suc (suc (suc (suc (suc (suc (suc zero)))))))) s h = refl
-scale-rest (suc (suc (suc (suc (suc (suc (suc (suc (suc zero))))))))) s h = refl
-scale-rest (suc (suc (suc (suc (suc (suc (suc (suc (suc (suc n)))))))))) s h = absurd (omega arith)
+scale-rest scale s h = agree-below (λ k. rest (decimal k ++ s)) (λ k. s) 10 scale refl h
 
 -- the scale that is shown
 shown : Bits → ℕ → Option ℕ
 shown B16 scale = None
 shown B32 scale = Some scale
 shown B64 scale = Some scale
-
-if-no : (b : Bool) (x y : Option Inside) → b ≡ false → (if b then x else y) ≡ y
-if-no true x y h = absurd cc
-if-no false x y h = refl
-
-if-yes : (b : Bool) (x y : Option Inside) → b ≡ true → (if b then x else y) ≡ x
-if-yes true x y h = refl
-if-yes false x y h = absurd cc
 
 star-with : (base index : Option Register) (scale : ℕ) (s : List ℕ) (value : Option SignedText) → IsEnd s value →
     scaled_by base index (Some scale) s ≡ Some (Sum (record { base = base; index = index; scale = Some scale; disp = value }))
@@ -193,7 +168,7 @@ scale-stays B64 scale s value e = refl
 
 -- ---- registers
 
-inside-register : (r : Register) (t : List ℕ) → is_register r ≡ true → front is_word_byte t ≡ [] → back is_word_byte t ≡ t → (first t == 32) ≡ false →
+inside-register : (r : Register) (t : List ℕ) → is_named r ≡ true → front is_word_byte t ≡ [] → back is_word_byte t ≡ t → (first t == 32) ≡ false →
     inside_in (register Intel r ++ t) ≡ sum_by (Some r) t
 unfolding inside_in
 inside-register r t h stops stays space =
@@ -205,7 +180,7 @@ inside-register r t h stops stays space =
     ∙ ap (sum_by (Some r)) (register-behind r t h stays))))
 
 -- a base alone
-base-read : (r : Register) (s : List ℕ) (value : Option SignedText) → is_register r ≡ true → IsEnd s value →
+base-read : (r : Register) (s : List ℕ) (value : Option SignedText) → is_named r ≡ true → IsEnd s value →
     inside_in (register Intel r ++ s) ≡ Some (Sum (record { base = Some r; index = None; scale = None; disp = value }))
 unfolding sum_by sum_with
 base-read r s value h e =
@@ -214,7 +189,7 @@ base-read r s value h e =
     ∙ (if-no (first s == 43 && nat_le 97 (first (rest s))) _ _ e.no_index ∙ ap (sum_with (Some r) None None) e.reads))
 
 -- an index alone, with its scale
-lone-index-read : (x : Register) (scale : ℕ) (s : List ℕ) (value : Option SignedText) → is_register x ≡ true → scale < 10 → IsEnd s value →
+lone-index-read : (x : Register) (scale : ℕ) (s : List ℕ) (value : Option SignedText) → is_named x ≡ true → scale < 10 → IsEnd s value →
     inside_in (register Intel x ++ ((codes "*" ++ decimal scale) ++ s))
     ≡ Some (Sum (record { base = None; index = Some x; scale = Some scale; disp = value }))
 unfolding sum_by first front back is_word_byte
@@ -222,7 +197,7 @@ lone-index-read x scale s value h small e =
     inside-register x ((codes "*" ++ decimal scale) ++ s) h refl refl refl ∙ star-read None (Some x) scale s value small e
 
 -- a base and an index
-both-by : (asize : Bits) (r x : Register) (scale : ℕ) (s : List ℕ) (value : Option SignedText) → is_register x ≡ true → scale < 10 → IsEnd s value →
+both-by : (asize : Bits) (r x : Register) (scale : ℕ) (s : List ℕ) (value : Option SignedText) → is_named x ≡ true → scale < 10 → IsEnd s value →
     sum_by (Some r) (codes "+" ++ (register Intel x ++ (scale_text (codes "*") asize scale ++ s)))
     ≡ Some (Sum (record { base = Some r; index = Some x; scale = shown asize scale; disp = value }))
 unfolding sum_by first rest index_by
@@ -233,7 +208,7 @@ both-by asize r x scale s value h small e =
     ∙ (ap (λ (t : List ℕ). behind_index (Some r) (Some x) t) (register-behind x (scale_text (codes "*") asize scale ++ s) h (scale-stays asize scale s value e))
     ∙ index-read asize (Some r) x scale s value small e))
 
-both-read : (asize : Bits) (r x : Register) (scale : ℕ) (s : List ℕ) (value : Option SignedText) → is_register r ≡ true → is_register x ≡ true → scale < 10 → IsEnd s value →
+both-read : (asize : Bits) (r x : Register) (scale : ℕ) (s : List ℕ) (value : Option SignedText) → is_named r ≡ true → is_named x ≡ true → scale < 10 → IsEnd s value →
     inside_in (register Intel r ++ (codes "+" ++ (register Intel x ++ (scale_text (codes "*") asize scale ++ s))))
     ≡ Some (Sum (record { base = Some r; index = Some x; scale = shown asize scale; disp = value }))
 unfolding first front back is_word_byte
@@ -264,7 +239,7 @@ scale-shown B32 b x scale size d = refl
 scale-shown B64 b x scale size d = refl
 
 -- a base alone
-base-sum : (asize : Bits) (r : Register) (scale : ℕ) (size : DispSize) (d : ℕ) → is_register r ≡ true →
+base-sum : (asize : Bits) (r : Register) (scale : ℕ) (size : DispSize) (d : ℕ) → is_named r ≡ true →
     inside_in (sum_text Intel asize (address (Some r) None scale size d) ++ codes "]") ≡ Some (Sum (sum_of asize (address (Some r) None scale size d)))
 unfolding sum_text base_text index_text sum_of
 base-sum asize r scale size d h =
@@ -274,7 +249,7 @@ base-sum asize r scale size d h =
     ∙ ap (λ (o : Option ℕ). Some (Sum (record { base = Some r; index = None; scale = o; disp = signed_of asize m }))) (no-scale asize m refl))
 
 -- an index alone
-index-sum : (asize : Bits) (x : Register) (scale : ℕ) (size : DispSize) (d : ℕ) → is_register x ≡ true → scale < 10 →
+index-sum : (asize : Bits) (x : Register) (scale : ℕ) (size : DispSize) (d : ℕ) → is_named x ≡ true → scale < 10 →
     index_is_shown asize (address None (Some x) scale size d) ≡ true →
     inside_in (sum_text Intel asize (address None (Some x) scale size d) ++ codes "]") ≡ Some (Sum (sum_of asize (address None (Some x) scale size d)))
 unfolding sum_text base_text index_text joint scale_text sum_of scale_of index_is_shown
@@ -293,7 +268,7 @@ index-sum B64 x scale size d h small here =
     ∙ lone-index-read x scale (signed_displacement Intel B64 m ++ codes "]") (signed_of B64 m) h small (end-of B64 m)
 
 -- both
-both-sum : (asize : Bits) (r x : Register) (scale : ℕ) (size : DispSize) (d : ℕ) → is_register r ≡ true → is_register x ≡ true → scale < 10 →
+both-sum : (asize : Bits) (r x : Register) (scale : ℕ) (size : DispSize) (d : ℕ) → is_named r ≡ true → is_named x ≡ true → scale < 10 →
     inside_in (sum_text Intel asize (address (Some r) (Some x) scale size d) ++ codes "]")
     ≡ Some (Sum (sum_of asize (address (Some r) (Some x) scale size d)))
 unfolding sum_text base_text index_text joint sum_of
@@ -305,9 +280,9 @@ both-sum asize r x scale size d hr hx small =
     ∙ ap (λ (o : Option ℕ). Some (Sum (record { base = Some r; index = Some x; scale = o; disp = signed_of asize m }))) (scale-shown asize (Some r) x scale size d))
 
 sum-by : (asize : Bits) (b i : Option Register) (scale : ℕ) (size : DispSize) (d : ℕ) → (is_none b && is_none i) ≡ false →
-    is_register_if b ≡ true → is_register_if i ≡ true → scale < 10 → index_is_shown asize (address b i scale size d) ≡ true →
+    is_named_if b ≡ true → is_named_if i ≡ true → scale < 10 → index_is_shown asize (address b i scale size d) ≡ true →
     inside_in (sum_text Intel asize (address b i scale size d) ++ codes "]") ≡ Some (Sum (sum_of asize (address b i scale size d)))
-unfolding is_register_if
+unfolding is_named_if
 sum-by asize None None scale size d some hb hi small here = absurd cc
 sum-by asize (Some r) None scale size d some hb hi small here = base-sum asize r scale size d hb
 sum-by asize None (Some x) scale size d some hb hi small here = index-sum asize x scale size d hi small here
@@ -333,13 +308,13 @@ unfolding front is_word_byte
 lone-number d small = number-word d (codes "]") small refl
 
 lone-read : (d : ℕ) → d < 2 ^ 64 → inside_in (number Intel d ++ codes "]") ≡ Some (Lone d)
-unfolding inside_in lone_by
+unfolding inside_in
 lone-read d small =
     let zero_first : first (number Intel d ++ codes "]") ≡ 48 = number-first d (codes "]") in
     if-no (first (behind (number Intel d ++ codes "]")) == 32) _ _ (lone-space d)
     ∙ (if-no (first (number Intel d ++ codes "]") == 93) _ _ (ap (λ (c : ℕ). c == 93) zero_first)
     ∙ (if-yes (first (number Intel d ++ codes "]") == 48) _ _ (ap (λ (c : ℕ). c == 48) zero_first)
-    ∙ ap lone_by (lone-number d small)))
+    ∙ ap (option_map Lone) (lone-number d small)))
 
 absolute-by : (b i : Option Register) (scale : ℕ) (size : DispSize) (d : ℕ) → d < 2 ^ 64 →
     inside_in (lone_displacement Intel (address b i scale size d) ++ codes "]") ≡ Some (lone_of (address b i scale size d))
@@ -362,10 +337,10 @@ pick-inside false false x y z u v w f g h = h refl
 pub inside-read : (asize : Bits) (m : Mem) → is_printable_address asize m ≡ true → inside_in (inside Intel asize m ++ codes "]") ≡ Some (inside_of asize m)
 unfolding inside inside_of is_printable_address is_word_number
 inside-read asize m h =
-    let hb : is_register_if m.base ≡ true = and_left (is_register_if m.base) _ h in
-    let h1 : (is_register_if m.index && (nat_lt m.scale 10 && (nat_lt m.disp (2 ^ 64) && index_is_shown asize m))) ≡ true = and_right (is_register_if m.base) _ h in
-    let hi : is_register_if m.index ≡ true = and_left (is_register_if m.index) _ h1 in
-    let h2 : (nat_lt m.scale 10 && (nat_lt m.disp (2 ^ 64) && index_is_shown asize m)) ≡ true = and_right (is_register_if m.index) _ h1 in
+    let hb : is_named_if m.base ≡ true = and_left (is_named_if m.base) _ h in
+    let h1 : (is_named_if m.index && (nat_lt m.scale 10 && (nat_lt m.disp (2 ^ 64) && index_is_shown asize m))) ≡ true = and_right (is_named_if m.base) _ h in
+    let hi : is_named_if m.index ≡ true = and_left (is_named_if m.index) _ h1 in
+    let h2 : (nat_lt m.scale 10 && (nat_lt m.disp (2 ^ 64) && index_is_shown asize m)) ≡ true = and_right (is_named_if m.index) _ h1 in
     let hs : nat_lt m.scale 10 ≡ true = and_left (nat_lt m.scale 10) _ h2 in
     let h3 : (nat_lt m.disp (2 ^ 64) && index_is_shown asize m) ≡ true = and_right (nat_lt m.scale 10) _ h2 in
     let hd : nat_lt m.disp (2 ^ 64) ≡ true = and_left (nat_lt m.disp (2 ^ 64)) _ h3 in

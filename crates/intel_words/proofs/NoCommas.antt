@@ -1,9 +1,10 @@
 -- No operand has a comma in its text.
-use Rattle.std.proofs.Common.{◌≡◌, ℕ, zero, suc, ◌<◌, Bool, true, false, List, [], ◌∷◌, ◌++◌, Option, Some, None, refl, ap, ◌∙◌, arith}
+use Rattle.std.proofs.Common.{◌≡◌, ℕ, ◌<◌, Bool, true, false, List, [], ◌∷◌, ◌++◌, Option, Some, None, refl, ap, ◌∙◌, arith}
 use Rattle.std.specs.Prelude.{nat_lt, if◌then◌else◌, codes}
 use Rattle.std.specs.List.{list_all}
-use Rattle.std.proofs.lemmas.Bool.{ltb-true}
+use Rattle.std.proofs.lemmas.Bool.{ltb-true, and_from}
 use Rattle.std.proofs.lemmas.Bool.Decides.{nat_tests}
+use Rattle.instruction_parts.proofs.Tests.{and_left, and_right}
 use Rattle.x86_values.specs.declared.Bits.{Bits}
 use Rattle.x86_values.specs.declared.Bits.TheVariants.{B16, B32, B64}
 use Rattle.x86_values.specs.declared.Segment.{Segment}
@@ -26,12 +27,14 @@ use Rattle.text_parts.specs.Layout.{behind_size, size_word, bracket_operand}
 use Rattle.intel_words.specs.declared.words.SizeName.{SizeName}
 use Rattle.intel_words.specs.declared.words.SizeName.TheVariants.{None as NoSize, Byte, Word, Dword, Qword, Tbyte, Xmmword, Ymmword, Far16, Far32, Far64}
 use Rattle.intel_words.specs.Words.{size_of}
-use Rattle.intel_words.specs.Printable.{is_register, is_register_if, is_printable_address, is_printable_operand}
+use Rattle.x86_values.specs.Named.{is_named, is_named_if}
+use Rattle.intel_words.specs.Printable.{is_printable_address, is_printable_operand}
 use Rattle.intel_words.specs.Scanning.{is_word_byte, is_no_comma}
-use Rattle.intel_words.proofs.Cutting.{and_left, and_right, and_both, all-both}
+use Rattle.intel_words.proofs.Cutting.{all-both}
 use Rattle.intel_words.proofs.NumberText.{number-bytes}
 use Rattle.intel_words.proofs.RegisterText.{register-read}
 use Rattle.intel_words.proofs.OneOperand.{size_text, size-of-text}
+use Rattle.intel_words.proofs.Below.{agree-below}
 
 -- a letter or a digit is no comma
 byte-no-comma : (c : ℕ) → is_word_byte c ≡ true → is_no_comma c ≡ true
@@ -41,35 +44,25 @@ byte-no-comma c h = grind (arith, nat_tests)
 word-no-comma : (xs : List ℕ) → list_all is_word_byte xs ≡ true → list_all is_no_comma xs ≡ true
 word-no-comma [] h = refl
 word-no-comma (c ∷ cs) h =
-    and_both (is_no_comma c) (list_all is_no_comma cs) (byte-no-comma c (and_left (is_word_byte c) (list_all is_word_byte cs) h))
+    and_from (is_no_comma c) (list_all is_no_comma cs) (byte-no-comma c (and_left (is_word_byte c) (list_all is_word_byte cs) h))
     (word-no-comma cs (and_right (is_word_byte c) (list_all is_word_byte cs) h))
 
 number-plain : (n : ℕ) → list_all is_no_comma (number Intel n) ≡ true
 number-plain n = word-no-comma (number Intel n) (number-bytes n)
 
-register-plain : (r : Register) → is_register r ≡ true → list_all is_no_comma (register Intel r) ≡ true
+register-plain : (r : Register) → is_named r ≡ true → list_all is_no_comma (register Intel r) ≡ true
 register-plain r h = let read = register-read r h in word-no-comma (register Intel r) read.bytes
 
 -- ---- the parts of an address
 
-base-plain : (b : Option Register) → is_register_if b ≡ true → list_all is_no_comma (base_text Intel b) ≡ true
-unfolding base_text is_register_if
+base-plain : (b : Option Register) → is_named_if b ≡ true → list_all is_no_comma (base_text Intel b) ≡ true
+unfolding base_text is_named_if
 base-plain None h = refl
 base-plain (Some r) h = register-plain r h
 
 decimal-plain : (n : ℕ) → n < 10 → list_all is_no_comma (decimal n) ≡ true
 unfolding decimal is_no_comma
-decimal-plain zero h = refl
-decimal-plain (suc zero) h = refl
-decimal-plain (suc (suc zero)) h = refl
-decimal-plain (suc (suc (suc zero))) h = refl
-decimal-plain (suc (suc (suc (suc zero)))) h = refl
-decimal-plain (suc (suc (suc (suc (suc zero))))) h = refl
-decimal-plain (suc (suc (suc (suc (suc (suc zero)))))) h = refl
-decimal-plain (suc (suc (suc (suc (suc (suc (suc zero))))))) h = refl
-decimal-plain (suc (suc (suc (suc (suc (suc (suc (suc zero)))))))) h = refl
-decimal-plain (suc (suc (suc (suc (suc (suc (suc (suc (suc zero))))))))) h = refl
-decimal-plain (suc (suc (suc (suc (suc (suc (suc (suc (suc (suc n)))))))))) h = absurd (omega arith)
+decimal-plain n h = agree-below (λ k. list_all is_no_comma (decimal k)) (λ k. true) 10 n refl h
 
 scale-plain : (asize : Bits) (scale : ℕ) → scale < 10 → list_all is_no_comma (scale_text (codes "*") asize scale) ≡ true
 unfolding scale_text is_no_comma
@@ -86,9 +79,9 @@ joint-plain (Some r) = refl
 abbrev address : Option Register → Option Register → ℕ → DispSize → ℕ → Mem
 address b i scale size d = record { base = b; index = i; scale = scale; disp_size = size; disp = d }
 
-index-plain : (asize : Bits) (b i : Option Register) (scale : ℕ) (size : DispSize) (d : ℕ) → is_register_if i ≡ true → scale < 10 →
+index-plain : (asize : Bits) (b i : Option Register) (scale : ℕ) (size : DispSize) (d : ℕ) → is_named_if i ≡ true → scale < 10 →
     list_all is_no_comma (index_text Intel asize (address b i scale size d)) ≡ true
-unfolding index_text is_register_if
+unfolding index_text is_named_if
 index-plain asize b None scale size d h small = refl
 index-plain asize b (Some x) scale size d h small =
     all-both is_no_comma (joint b) (register Intel x ++ scale_text (codes "*") asize scale) (joint-plain b)
@@ -130,10 +123,10 @@ pick-plain false false x y z hx hy hz = hz
 inside-plain : (asize : Bits) (m : Mem) → is_printable_address asize m ≡ true → list_all is_no_comma (inside Intel asize m) ≡ true
 unfolding inside sum_text is_printable_address
 inside-plain asize m h =
-    let hb : is_register_if m.base ≡ true = and_left (is_register_if m.base) _ h in
-    let h1 = and_right (is_register_if m.base) _ h in
-    let hi : is_register_if m.index ≡ true = and_left (is_register_if m.index) _ h1 in
-    let h2 = and_right (is_register_if m.index) _ h1 in
+    let hb : is_named_if m.base ≡ true = and_left (is_named_if m.base) _ h in
+    let h1 = and_right (is_named_if m.base) _ h in
+    let hi : is_named_if m.index ≡ true = and_left (is_named_if m.index) _ h1 in
+    let h2 = and_right (is_named_if m.index) _ h1 in
     let hs : nat_lt m.scale 10 ≡ true = and_left (nat_lt m.scale 10) _ h2 in
     pick-plain (is_relative m) (is_absolute m) (relative_word Intel m.base ++ number Intel m.disp) (lone_displacement Intel m) (sum_text Intel asize m)
     (all-both is_no_comma (relative_word Intel m.base) (number Intel m.disp) (relative-plain m.base) (number-plain m.disp))

@@ -6,6 +6,7 @@ use Rattle.std.proofs.lemmas.Bool.Decides.{nat_tests}
 use Rattle.std.proofs.lemmas.Nat.{pow-add, leading_length}
 use Rattle.std.proofs.Math.Nat.{div-div-eq-div-mul, div-eq_of_lt}
 use Rattle.std.proofs.Math.Pow.{pow_mono}
+use Rattle.std.proofs.lemmas.Bool.{and_from}
 use lib.Count.{count_leading_zeros}
 use Rattle.text_parts.specs.declared.style.Style.TheVariants.{Intel}
 use Rattle.text_parts.specs.Numbers.{hex_digit, digit_at, last_digits, digit_count, hexadecimal, number}
@@ -15,50 +16,18 @@ use Rattle.intel_words.specs.Scanning.{is_word_byte}
 use Rattle.intel_words.specs.Scanning.{first, rest}
 use Rattle.intel_words.specs.ReadNumbers.{digit_value, digits_from, has_digit_form, number_in, number_named}
 use Rattle.intel_words.proofs.Digits.{digits_from-some}
-use Rattle.intel_words.proofs.Cutting.{and_both}
+use Rattle.intel_words.proofs.Below.{agree-below}
 
 -- ---- digits
 
 -- a digit is read
 digit-read : (d : ℕ) → d < 16 → digit_value (hex_digit d) ≡ Some d
 unfolding digit_value hex_digit
-digit-read zero h = refl
-digit-read (suc zero) h = refl
-digit-read (suc (suc zero)) h = refl
-digit-read (suc (suc (suc zero))) h = refl
-digit-read (suc (suc (suc (suc zero)))) h = refl
-digit-read (suc (suc (suc (suc (suc zero))))) h = refl
-digit-read (suc (suc (suc (suc (suc (suc zero)))))) h = refl
-digit-read (suc (suc (suc (suc (suc (suc (suc zero))))))) h = refl
-digit-read (suc (suc (suc (suc (suc (suc (suc (suc zero)))))))) h = refl
-digit-read (suc (suc (suc (suc (suc (suc (suc (suc (suc zero))))))))) h = refl
-digit-read (suc (suc (suc (suc (suc (suc (suc (suc (suc (suc zero)))))))))) h = refl
-digit-read (suc (suc (suc (suc (suc (suc (suc (suc (suc (suc (suc zero))))))))))) h = refl
-digit-read (suc (suc (suc (suc (suc (suc (suc (suc (suc (suc (suc (suc zero)))))))))))) h = refl
-digit-read (suc (suc (suc (suc (suc (suc (suc (suc (suc (suc (suc (suc (suc zero))))))))))))) h = refl
-digit-read (suc (suc (suc (suc (suc (suc (suc (suc (suc (suc (suc (suc (suc (suc zero)))))))))))))) h = refl
-digit-read (suc (suc (suc (suc (suc (suc (suc (suc (suc (suc (suc (suc (suc (suc (suc zero))))))))))))))) h = refl
-digit-read (suc (suc (suc (suc (suc (suc (suc (suc (suc (suc (suc (suc (suc (suc (suc (suc d)))))))))))))))) h = absurd (omega arith)
+digit-read d h = agree-below (λ k. digit_value (hex_digit k)) (λ k. Some k) 16 d refl h
 
 digit-byte : (d : ℕ) → d < 16 → is_word_byte (hex_digit d) ≡ true
 unfolding is_word_byte hex_digit
-digit-byte zero h = refl
-digit-byte (suc zero) h = refl
-digit-byte (suc (suc zero)) h = refl
-digit-byte (suc (suc (suc zero))) h = refl
-digit-byte (suc (suc (suc (suc zero)))) h = refl
-digit-byte (suc (suc (suc (suc (suc zero))))) h = refl
-digit-byte (suc (suc (suc (suc (suc (suc zero)))))) h = refl
-digit-byte (suc (suc (suc (suc (suc (suc (suc zero))))))) h = refl
-digit-byte (suc (suc (suc (suc (suc (suc (suc (suc zero)))))))) h = refl
-digit-byte (suc (suc (suc (suc (suc (suc (suc (suc (suc zero))))))))) h = refl
-digit-byte (suc (suc (suc (suc (suc (suc (suc (suc (suc (suc zero)))))))))) h = refl
-digit-byte (suc (suc (suc (suc (suc (suc (suc (suc (suc (suc (suc zero))))))))))) h = refl
-digit-byte (suc (suc (suc (suc (suc (suc (suc (suc (suc (suc (suc (suc zero)))))))))))) h = refl
-digit-byte (suc (suc (suc (suc (suc (suc (suc (suc (suc (suc (suc (suc (suc zero))))))))))))) h = refl
-digit-byte (suc (suc (suc (suc (suc (suc (suc (suc (suc (suc (suc (suc (suc (suc zero)))))))))))))) h = refl
-digit-byte (suc (suc (suc (suc (suc (suc (suc (suc (suc (suc (suc (suc (suc (suc (suc zero))))))))))))))) h = refl
-digit-byte (suc (suc (suc (suc (suc (suc (suc (suc (suc (suc (suc (suc (suc (suc (suc (suc d)))))))))))))))) h = absurd (omega arith)
+digit-byte d h = agree-below (λ k. is_word_byte (hex_digit k)) (λ k. true) 16 d refl h
 
 -- a digit of a number
 digit-small : (n k : ℕ) → digit_at n k < 16
@@ -85,7 +54,7 @@ last_digits-bytes : (k n : ℕ) → list_all is_word_byte (last_digits k n) ≡ 
 unfolding last_digits
 last_digits-bytes zero n = refl
 last_digits-bytes (suc k) n =
-    and_both (is_word_byte (hex_digit (digit_at n k))) (list_all is_word_byte (last_digits k n)) (digit-byte (digit_at n k) (digit-small n k)) (last_digits-bytes k n)
+    and_from (is_word_byte (hex_digit (digit_at n k))) (list_all is_word_byte (last_digits k n)) (digit-byte (digit_at n k) (digit-small n k)) (last_digits-bytes k n)
 
 -- ---- a number
 

@@ -1,9 +1,10 @@
 -- The text of one operand is read again.
-use Rattle.std.proofs.Common.{◌≡◌, ℕ, ◌^◌, ◌<◌, Bool, true, false, List, [], ◌∷◌, ◌++◌, Option, Some, None, refl, ap, ◌∙◌, arith}
+use Rattle.std.proofs.Common.{◌≡◌, ℕ, ◌^◌, ◌<◌, Bool, true, false, List, [], ◌∷◌, ◌++◌, option_map, Option, Some, None, refl, ap, ◌∙◌, arith}
 use Rattle.std.specs.Prelude.{◌==◌, nat_lt, nat_le, if◌then◌else◌, codes}
 use Rattle.std.specs.List.{list_all}
 use Rattle.std.proofs.lemmas.Bool.{ltb-true}
 use Rattle.std.proofs.lemmas.Bool.Decides.{nat_tests}
+use Rattle.instruction_parts.proofs.Tests.{and_left, and_right}
 use Rattle.x86_values.specs.declared.Bits.{Bits}
 use Rattle.x86_values.specs.declared.Segment.{Segment}
 use Rattle.x86_values.specs.declared.Segment.TheVariants.{Es, Cs, Ss, Ds, Fs, Gs}
@@ -23,30 +24,22 @@ use Rattle.text_parts.specs.Registers.{register, segment_name, segment_override,
 use Rattle.text_parts.specs.Addresses.{bracket_segment, bracketed}
 use Rattle.text_parts.specs.PrefixWords.{text_address_size}
 use Rattle.text_parts.specs.Layout.{size_name, far_name, is_far_pointer, operand_size_name, behind_size, size_word, bracket_operand}
-use Rattle.intel_words.specs.declared.words.OperandText.{OperandText}
 use Rattle.intel_words.specs.declared.words.OperandText.TheVariants.{Reg, Number, Far, Mem as Address}
 use Rattle.intel_words.specs.declared.words.SizeName.{SizeName}
 use Rattle.intel_words.specs.declared.words.SizeName.TheVariants.{None as NoSize, Byte, Word, Dword, Qword, Tbyte, Xmmword, Ymmword, Far16, Far32, Far64}
 use Rattle.intel_words.specs.Words.{size_of_bytes, size_of_far, size_of, inside_of, operand_of}
-use Rattle.intel_words.specs.Printable.{is_register, is_word_number, is_printable_address, is_printable_operand}
+use Rattle.x86_values.specs.Named.{is_named}
+use Rattle.intel_words.specs.Printable.{is_word_number, is_printable_address, is_printable_operand}
 use Rattle.intel_words.specs.Scanning.{is_word_byte, front, back, first, rest, word, behind}
 use Rattle.intel_words.specs.ReadNumbers.{number_named}
 use Rattle.intel_words.specs.ReadRegisters.{segment_named, segment_by}
-use Rattle.intel_words.specs.ReadAddresses.{size_named, address_by, address_at, address_in, sized_in, register_by, number_by, far_by, plain_in, far_in, some_operand, operand_in}
-use Rattle.intel_words.proofs.Cutting.{and_left, and_right, front-all, back-all}
+use Rattle.intel_words.specs.ReadAddresses.{size_named, address_by, address_at, address_in, sized_in, far_by, plain_in, far_in, some_operand, operand_in}
+use Rattle.intel_words.proofs.Cutting.{front-all, back-all, if-no, if-yes}
 use Rattle.intel_words.proofs.NumberText.{number-read, number-bytes, number-first}
 use Rattle.intel_words.proofs.RegisterText.{register-read}
 use Rattle.intel_words.proofs.InBrackets.{number-word, number-behind, no-letter, inside-read}
 
 -- ---- choices
-
-if-no : (b : Bool) (x y : Option OperandText) → b ≡ false → (if b then x else y) ≡ y
-if-no true x y h = absurd cc
-if-no false x y h = refl
-
-if-yes : (b : Bool) (x y : Option OperandText) → b ≡ true → (if b then x else y) ≡ x
-if-yes true x y h = refl
-if-yes false x y h = absurd cc
 
 -- a text with a first byte is not empty
 not-empty : (xs : List ℕ) → 0 < first xs → operand_in xs ≡ some_operand xs
@@ -69,26 +62,26 @@ plain-read xs bytes bracket =
     ∙ (if-no (first (behind xs) == 58) _ _ (ap (λ (u : List ℕ). first u == 58) none)
     ∙ ap plain_in (front-all is_word_byte xs bytes)))
 
-register-operand : (r : Register) → is_register r ≡ true → operand_in (register Intel r) ≡ Some (Reg r)
-unfolding plain_in register_by
+register-operand : (r : Register) → is_named r ≡ true → operand_in (register Intel r) ≡ Some (Reg r)
+unfolding plain_in
 register-operand r h =
     let read = register-read r h in
     not-empty (register Intel r) (above-zero (first (register Intel r)) read.letter)
     ∙ (plain-read (register Intel r) read.bytes (no-letter (first (register Intel r)) 91 read.letter (omega arith))
-    ∙ (if-no (first (register Intel r) == 48) _ _ (no-letter (first (register Intel r)) 48 read.letter (omega arith)) ∙ ap register_by read.named))
+    ∙ (if-no (first (register Intel r) == 48) _ _ (no-letter (first (register Intel r)) 48 read.letter (omega arith)) ∙ ap (option_map Reg) read.named))
 
 number-zero : (n : ℕ) → first (number Intel n) ≡ 48
 unfolding number first
 number-zero n = refl
 
 number-operand : (n : ℕ) → n < 2 ^ 64 → operand_in (number Intel n) ≡ Some (Number n)
-unfolding plain_in number_by
+unfolding plain_in
 number-operand n h =
     let z : first (number Intel n) ≡ 48 = number-zero n in
     let some : 0 < first (number Intel n) = omega arith in
     not-empty (number Intel n) some
     ∙ (plain-read (number Intel n) (number-bytes n) (ap (λ (c : ℕ). c == 91) z)
-    ∙ (if-yes (first (number Intel n) == 48) _ _ (ap (λ (c : ℕ). c == 48) z) ∙ ap number_by (number-read n h)))
+    ∙ (if-yes (first (number Intel n) == 48) _ _ (ap (λ (c : ℕ). c == 48) z) ∙ ap (option_map Number) (number-read n h)))
 
 -- ---- two numbers
 

@@ -1,7 +1,7 @@
 -- The name of each register that exists is read as that register.
-use Rattle.std.proofs.Common.{◌≡◌, ℕ, zero, suc, ◌<◌, true, Some, refl, arith}
+use Rattle.std.proofs.Common.{◌≡◌, ℕ, ◌<◌, Bool, true, Option, Some, map, refl, ap}
 use Rattle.std.specs.Prelude.{nat_le}
-use Rattle.std.specs.List.{list_all}
+use Rattle.std.specs.List.{list_all, range_with_len}
 use Rattle.std.proofs.lemmas.Bool.{ltb-true}
 use Rattle.x86_values.specs.declared.Segment.{Segment}
 use Rattle.x86_values.specs.declared.Segment.TheVariants.{Es, Cs, Ss, Ds, Fs, Gs}
@@ -10,11 +10,12 @@ use Rattle.x86_values.specs.declared.Register.TheVariants.{Low8, High8, R16, R32
 use Rattle.text_parts.specs.declared.style.Style.TheVariants.{Intel}
 use Rattle.text_parts.specs.Numbers.{decimal}
 use Rattle.text_parts.specs.Registers.{word_name, low_byte_name, high_byte_name, segment_name, stack_name, register_name, sigil, register}
-use Rattle.intel_words.specs.Printable.{is_register}
+use Rattle.x86_values.specs.Named.{is_named}
 use Rattle.intel_words.specs.Scanning.{is_word_byte}
 use Rattle.intel_words.specs.Scanning.{first, rest}
 use Rattle.intel_words.specs.ReadNumbers.{decimal_digit, teen, decimal_in}
-use Rattle.intel_words.specs.ReadRegisters.{segment_by, segment_named, letter_number, word_number, low_at, high_at, word_at, double_at, quad_at, segment_at, control_at, below_8, debug_at, stack_at, mmx_at, xmm_at, ymm_at, pointer_byte, two_letters, lettered, e_named, from_8, sized_by, r_named, vector_number, register_from, register_named}
+use Rattle.intel_words.specs.ReadRegisters.{segment_by, segment_named, letter_number, word_number, below_8, pointer_byte, two_letters, lettered, e_named, from_8, sized_by, r_named, vector_number, register_from, register_named}
+use Rattle.intel_words.proofs.Below.{agree-below}
 
 -- the register is read from its name, which has letters and digits alone and begins with a letter
 pub record IsRead (r : Register) : Type 0 where
@@ -22,223 +23,69 @@ pub record IsRead (r : Register) : Type 0 where
   pub bytes : list_all is_word_byte (register Intel r) ≡ true
   pub letter : nat_le 97 (first (register Intel r)) ≡ true
 
-low8-read : (n : ℕ) → n < 16 → IsRead (Low8 n)
-unfolding word_name low_byte_name high_byte_name segment_name stack_name register_name sigil register decimal is_word_byte first rest decimal_digit teen decimal_in segment_by letter_number word_number low_at high_at word_at double_at quad_at segment_at control_at below_8 debug_at stack_at mmx_at xmm_at ymm_at pointer_byte two_letters lettered e_named from_8 sized_by r_named vector_number register_from register_named
-low8-read zero h = record { named = refl; bytes = refl; letter = refl }
-low8-read (suc zero) h = record { named = refl; bytes = refl; letter = refl }
-low8-read (suc (suc zero)) h = record { named = refl; bytes = refl; letter = refl }
-low8-read (suc (suc (suc zero))) h = record { named = refl; bytes = refl; letter = refl }
-low8-read (suc (suc (suc (suc zero)))) h = record { named = refl; bytes = refl; letter = refl }
-low8-read (suc (suc (suc (suc (suc zero))))) h = record { named = refl; bytes = refl; letter = refl }
-low8-read (suc (suc (suc (suc (suc (suc zero)))))) h = record { named = refl; bytes = refl; letter = refl }
-low8-read (suc (suc (suc (suc (suc (suc (suc zero))))))) h = record { named = refl; bytes = refl; letter = refl }
-low8-read (suc (suc (suc (suc (suc (suc (suc (suc zero)))))))) h = record { named = refl; bytes = refl; letter = refl }
-low8-read (suc (suc (suc (suc (suc (suc (suc (suc (suc zero))))))))) h = record { named = refl; bytes = refl; letter = refl }
-low8-read (suc (suc (suc (suc (suc (suc (suc (suc (suc (suc zero)))))))))) h = record { named = refl; bytes = refl; letter = refl }
-low8-read (suc (suc (suc (suc (suc (suc (suc (suc (suc (suc (suc zero))))))))))) h = record { named = refl; bytes = refl; letter = refl }
-low8-read (suc (suc (suc (suc (suc (suc (suc (suc (suc (suc (suc (suc zero)))))))))))) h = record { named = refl; bytes = refl; letter = refl }
-low8-read (suc (suc (suc (suc (suc (suc (suc (suc (suc (suc (suc (suc (suc zero))))))))))))) h = record { named = refl; bytes = refl; letter = refl }
-low8-read (suc (suc (suc (suc (suc (suc (suc (suc (suc (suc (suc (suc (suc (suc zero)))))))))))))) h = record { named = refl; bytes = refl; letter = refl }
-low8-read (suc (suc (suc (suc (suc (suc (suc (suc (suc (suc (suc (suc (suc (suc (suc zero))))))))))))))) h = record { named = refl; bytes = refl; letter = refl }
-low8-read (suc (suc (suc (suc (suc (suc (suc (suc (suc (suc (suc (suc (suc (suc (suc (suc n)))))))))))))))) h = absurd (omega arith)
+-- the three at once: what is found in the name of a register, and what should be
+abbrev found : Register → Option Register × (Bool × Bool)
+found r = (register_named (register Intel r), (list_all is_word_byte (register Intel r), nat_le 97 (first (register Intel r))))
 
-high8-read : (n : ℕ) → n < 4 → IsRead (High8 n)
-unfolding word_name low_byte_name high_byte_name segment_name stack_name register_name sigil register decimal is_word_byte first rest decimal_digit teen decimal_in segment_by letter_number word_number low_at high_at word_at double_at quad_at segment_at control_at below_8 debug_at stack_at mmx_at xmm_at ymm_at pointer_byte two_letters lettered e_named from_8 sized_by r_named vector_number register_from register_named
-high8-read zero h = record { named = refl; bytes = refl; letter = refl }
-high8-read (suc zero) h = record { named = refl; bytes = refl; letter = refl }
-high8-read (suc (suc zero)) h = record { named = refl; bytes = refl; letter = refl }
-high8-read (suc (suc (suc zero))) h = record { named = refl; bytes = refl; letter = refl }
-high8-read (suc (suc (suc (suc n)))) h = absurd (omega arith)
+abbrev wanted : Register → Option Register × (Bool × Bool)
+wanted r = (Some r, (true, true))
 
-r16-read : (n : ℕ) → n < 16 → IsRead (R16 n)
-unfolding word_name low_byte_name high_byte_name segment_name stack_name register_name sigil register decimal is_word_byte first rest decimal_digit teen decimal_in segment_by letter_number word_number low_at high_at word_at double_at quad_at segment_at control_at below_8 debug_at stack_at mmx_at xmm_at ymm_at pointer_byte two_letters lettered e_named from_8 sized_by r_named vector_number register_from register_named
-r16-read zero h = record { named = refl; bytes = refl; letter = refl }
-r16-read (suc zero) h = record { named = refl; bytes = refl; letter = refl }
-r16-read (suc (suc zero)) h = record { named = refl; bytes = refl; letter = refl }
-r16-read (suc (suc (suc zero))) h = record { named = refl; bytes = refl; letter = refl }
-r16-read (suc (suc (suc (suc zero)))) h = record { named = refl; bytes = refl; letter = refl }
-r16-read (suc (suc (suc (suc (suc zero))))) h = record { named = refl; bytes = refl; letter = refl }
-r16-read (suc (suc (suc (suc (suc (suc zero)))))) h = record { named = refl; bytes = refl; letter = refl }
-r16-read (suc (suc (suc (suc (suc (suc (suc zero))))))) h = record { named = refl; bytes = refl; letter = refl }
-r16-read (suc (suc (suc (suc (suc (suc (suc (suc zero)))))))) h = record { named = refl; bytes = refl; letter = refl }
-r16-read (suc (suc (suc (suc (suc (suc (suc (suc (suc zero))))))))) h = record { named = refl; bytes = refl; letter = refl }
-r16-read (suc (suc (suc (suc (suc (suc (suc (suc (suc (suc zero)))))))))) h = record { named = refl; bytes = refl; letter = refl }
-r16-read (suc (suc (suc (suc (suc (suc (suc (suc (suc (suc (suc zero))))))))))) h = record { named = refl; bytes = refl; letter = refl }
-r16-read (suc (suc (suc (suc (suc (suc (suc (suc (suc (suc (suc (suc zero)))))))))))) h = record { named = refl; bytes = refl; letter = refl }
-r16-read (suc (suc (suc (suc (suc (suc (suc (suc (suc (suc (suc (suc (suc zero))))))))))))) h = record { named = refl; bytes = refl; letter = refl }
-r16-read (suc (suc (suc (suc (suc (suc (suc (suc (suc (suc (suc (suc (suc (suc zero)))))))))))))) h = record { named = refl; bytes = refl; letter = refl }
-r16-read (suc (suc (suc (suc (suc (suc (suc (suc (suc (suc (suc (suc (suc (suc (suc zero))))))))))))))) h = record { named = refl; bytes = refl; letter = refl }
-r16-read (suc (suc (suc (suc (suc (suc (suc (suc (suc (suc (suc (suc (suc (suc (suc (suc n)))))))))))))))) h = absurd (omega arith)
+is_read : (r : Register) → found r ≡ wanted r → IsRead r
+is_read r e = record { named = ap (λ p. p.0) e; bytes = ap (λ p. p.1.0) e; letter = ap (λ p. p.1.1) e }
 
-r32-read : (n : ℕ) → n < 16 → IsRead (R32 n)
-unfolding word_name low_byte_name high_byte_name segment_name stack_name register_name sigil register decimal is_word_byte first rest decimal_digit teen decimal_in segment_by letter_number word_number low_at high_at word_at double_at quad_at segment_at control_at below_8 debug_at stack_at mmx_at xmm_at ymm_at pointer_byte two_letters lettered e_named from_8 sized_by r_named vector_number register_from register_named
-r32-read zero h = record { named = refl; bytes = refl; letter = refl }
-r32-read (suc zero) h = record { named = refl; bytes = refl; letter = refl }
-r32-read (suc (suc zero)) h = record { named = refl; bytes = refl; letter = refl }
-r32-read (suc (suc (suc zero))) h = record { named = refl; bytes = refl; letter = refl }
-r32-read (suc (suc (suc (suc zero)))) h = record { named = refl; bytes = refl; letter = refl }
-r32-read (suc (suc (suc (suc (suc zero))))) h = record { named = refl; bytes = refl; letter = refl }
-r32-read (suc (suc (suc (suc (suc (suc zero)))))) h = record { named = refl; bytes = refl; letter = refl }
-r32-read (suc (suc (suc (suc (suc (suc (suc zero))))))) h = record { named = refl; bytes = refl; letter = refl }
-r32-read (suc (suc (suc (suc (suc (suc (suc (suc zero)))))))) h = record { named = refl; bytes = refl; letter = refl }
-r32-read (suc (suc (suc (suc (suc (suc (suc (suc (suc zero))))))))) h = record { named = refl; bytes = refl; letter = refl }
-r32-read (suc (suc (suc (suc (suc (suc (suc (suc (suc (suc zero)))))))))) h = record { named = refl; bytes = refl; letter = refl }
-r32-read (suc (suc (suc (suc (suc (suc (suc (suc (suc (suc (suc zero))))))))))) h = record { named = refl; bytes = refl; letter = refl }
-r32-read (suc (suc (suc (suc (suc (suc (suc (suc (suc (suc (suc (suc zero)))))))))))) h = record { named = refl; bytes = refl; letter = refl }
-r32-read (suc (suc (suc (suc (suc (suc (suc (suc (suc (suc (suc (suc (suc zero))))))))))))) h = record { named = refl; bytes = refl; letter = refl }
-r32-read (suc (suc (suc (suc (suc (suc (suc (suc (suc (suc (suc (suc (suc (suc zero)))))))))))))) h = record { named = refl; bytes = refl; letter = refl }
-r32-read (suc (suc (suc (suc (suc (suc (suc (suc (suc (suc (suc (suc (suc (suc (suc zero))))))))))))))) h = record { named = refl; bytes = refl; letter = refl }
-r32-read (suc (suc (suc (suc (suc (suc (suc (suc (suc (suc (suc (suc (suc (suc (suc (suc n)))))))))))))))) h = absurd (omega arith)
+-- ---- the classes whose registers have numbers
 
-r64-read : (n : ℕ) → n < 16 → IsRead (R64 n)
-unfolding word_name low_byte_name high_byte_name segment_name stack_name register_name sigil register decimal is_word_byte first rest decimal_digit teen decimal_in segment_by letter_number word_number low_at high_at word_at double_at quad_at segment_at control_at below_8 debug_at stack_at mmx_at xmm_at ymm_at pointer_byte two_letters lettered e_named from_8 sized_by r_named vector_number register_from register_named
-r64-read zero h = record { named = refl; bytes = refl; letter = refl }
-r64-read (suc zero) h = record { named = refl; bytes = refl; letter = refl }
-r64-read (suc (suc zero)) h = record { named = refl; bytes = refl; letter = refl }
-r64-read (suc (suc (suc zero))) h = record { named = refl; bytes = refl; letter = refl }
-r64-read (suc (suc (suc (suc zero)))) h = record { named = refl; bytes = refl; letter = refl }
-r64-read (suc (suc (suc (suc (suc zero))))) h = record { named = refl; bytes = refl; letter = refl }
-r64-read (suc (suc (suc (suc (suc (suc zero)))))) h = record { named = refl; bytes = refl; letter = refl }
-r64-read (suc (suc (suc (suc (suc (suc (suc zero))))))) h = record { named = refl; bytes = refl; letter = refl }
-r64-read (suc (suc (suc (suc (suc (suc (suc (suc zero)))))))) h = record { named = refl; bytes = refl; letter = refl }
-r64-read (suc (suc (suc (suc (suc (suc (suc (suc (suc zero))))))))) h = record { named = refl; bytes = refl; letter = refl }
-r64-read (suc (suc (suc (suc (suc (suc (suc (suc (suc (suc zero)))))))))) h = record { named = refl; bytes = refl; letter = refl }
-r64-read (suc (suc (suc (suc (suc (suc (suc (suc (suc (suc (suc zero))))))))))) h = record { named = refl; bytes = refl; letter = refl }
-r64-read (suc (suc (suc (suc (suc (suc (suc (suc (suc (suc (suc (suc zero)))))))))))) h = record { named = refl; bytes = refl; letter = refl }
-r64-read (suc (suc (suc (suc (suc (suc (suc (suc (suc (suc (suc (suc (suc zero))))))))))))) h = record { named = refl; bytes = refl; letter = refl }
-r64-read (suc (suc (suc (suc (suc (suc (suc (suc (suc (suc (suc (suc (suc (suc zero)))))))))))))) h = record { named = refl; bytes = refl; letter = refl }
-r64-read (suc (suc (suc (suc (suc (suc (suc (suc (suc (suc (suc (suc (suc (suc (suc zero))))))))))))))) h = record { named = refl; bytes = refl; letter = refl }
-r64-read (suc (suc (suc (suc (suc (suc (suc (suc (suc (suc (suc (suc (suc (suc (suc (suc n)))))))))))))))) h = absurd (omega arith)
+-- so for each register of a class with a number below a bound
+abbrev AreFound : (ℕ → Register) → ℕ → Type 0
+AreFound class count = map (λ n. found (class n)) (range_with_len 0 count) ≡ map (λ n. wanted (class n)) (range_with_len 0 count)
 
-cr-read : (n : ℕ) → n < 16 → IsRead (Cr n)
-unfolding word_name low_byte_name high_byte_name segment_name stack_name register_name sigil register decimal is_word_byte first rest decimal_digit teen decimal_in segment_by letter_number word_number low_at high_at word_at double_at quad_at segment_at control_at below_8 debug_at stack_at mmx_at xmm_at ymm_at pointer_byte two_letters lettered e_named from_8 sized_by r_named vector_number register_from register_named
-cr-read zero h = record { named = refl; bytes = refl; letter = refl }
-cr-read (suc zero) h = record { named = refl; bytes = refl; letter = refl }
-cr-read (suc (suc zero)) h = record { named = refl; bytes = refl; letter = refl }
-cr-read (suc (suc (suc zero))) h = record { named = refl; bytes = refl; letter = refl }
-cr-read (suc (suc (suc (suc zero)))) h = record { named = refl; bytes = refl; letter = refl }
-cr-read (suc (suc (suc (suc (suc zero))))) h = record { named = refl; bytes = refl; letter = refl }
-cr-read (suc (suc (suc (suc (suc (suc zero)))))) h = record { named = refl; bytes = refl; letter = refl }
-cr-read (suc (suc (suc (suc (suc (suc (suc zero))))))) h = record { named = refl; bytes = refl; letter = refl }
-cr-read (suc (suc (suc (suc (suc (suc (suc (suc zero)))))))) h = record { named = refl; bytes = refl; letter = refl }
-cr-read (suc (suc (suc (suc (suc (suc (suc (suc (suc zero))))))))) h = record { named = refl; bytes = refl; letter = refl }
-cr-read (suc (suc (suc (suc (suc (suc (suc (suc (suc (suc zero)))))))))) h = record { named = refl; bytes = refl; letter = refl }
-cr-read (suc (suc (suc (suc (suc (suc (suc (suc (suc (suc (suc zero))))))))))) h = record { named = refl; bytes = refl; letter = refl }
-cr-read (suc (suc (suc (suc (suc (suc (suc (suc (suc (suc (suc (suc zero)))))))))))) h = record { named = refl; bytes = refl; letter = refl }
-cr-read (suc (suc (suc (suc (suc (suc (suc (suc (suc (suc (suc (suc (suc zero))))))))))))) h = record { named = refl; bytes = refl; letter = refl }
-cr-read (suc (suc (suc (suc (suc (suc (suc (suc (suc (suc (suc (suc (suc (suc zero)))))))))))))) h = record { named = refl; bytes = refl; letter = refl }
-cr-read (suc (suc (suc (suc (suc (suc (suc (suc (suc (suc (suc (suc (suc (suc (suc zero))))))))))))))) h = record { named = refl; bytes = refl; letter = refl }
-cr-read (suc (suc (suc (suc (suc (suc (suc (suc (suc (suc (suc (suc (suc (suc (suc (suc n)))))))))))))))) h = absurd (omega arith)
+record EachIsFound : Type 0 where
+  low8 : AreFound Low8 16
+  high8 : AreFound High8 4
+  r16 : AreFound R16 16
+  r32 : AreFound R32 16
+  r64 : AreFound R64 16
+  cr : AreFound Cr 16
+  dr : AreFound Dr 8
+  st : AreFound St 8
+  mm : AreFound Mm 8
+  xmm : AreFound Xmm 16
+  ymm : AreFound Ymm 16
 
-dr-read : (n : ℕ) → n < 8 → IsRead (Dr n)
-unfolding word_name low_byte_name high_byte_name segment_name stack_name register_name sigil register decimal is_word_byte first rest decimal_digit teen decimal_in segment_by letter_number word_number low_at high_at word_at double_at quad_at segment_at control_at below_8 debug_at stack_at mmx_at xmm_at ymm_at pointer_byte two_letters lettered e_named from_8 sized_by r_named vector_number register_from register_named
-dr-read zero h = record { named = refl; bytes = refl; letter = refl }
-dr-read (suc zero) h = record { named = refl; bytes = refl; letter = refl }
-dr-read (suc (suc zero)) h = record { named = refl; bytes = refl; letter = refl }
-dr-read (suc (suc (suc zero))) h = record { named = refl; bytes = refl; letter = refl }
-dr-read (suc (suc (suc (suc zero)))) h = record { named = refl; bytes = refl; letter = refl }
-dr-read (suc (suc (suc (suc (suc zero))))) h = record { named = refl; bytes = refl; letter = refl }
-dr-read (suc (suc (suc (suc (suc (suc zero)))))) h = record { named = refl; bytes = refl; letter = refl }
-dr-read (suc (suc (suc (suc (suc (suc (suc zero))))))) h = record { named = refl; bytes = refl; letter = refl }
-dr-read (suc (suc (suc (suc (suc (suc (suc (suc n)))))))) h = absurd (omega arith)
+each_is_found : EachIsFound
+unfolding word_name low_byte_name high_byte_name segment_name stack_name register_name sigil register decimal is_word_byte first rest decimal_digit teen decimal_in segment_by letter_number word_number below_8 pointer_byte two_letters lettered e_named from_8 sized_by r_named vector_number register_from register_named
+each_is_found = record { low8 = refl; high8 = refl; r16 = refl; r32 = refl; r64 = refl; cr = refl; dr = refl; st = refl; mm = refl; xmm = refl; ymm = refl }
 
-st-read : (n : ℕ) → n < 8 → IsRead (St n)
-unfolding word_name low_byte_name high_byte_name segment_name stack_name register_name sigil register decimal is_word_byte first rest decimal_digit teen decimal_in segment_by letter_number word_number low_at high_at word_at double_at quad_at segment_at control_at below_8 debug_at stack_at mmx_at xmm_at ymm_at pointer_byte two_letters lettered e_named from_8 sized_by r_named vector_number register_from register_named
-st-read zero h = record { named = refl; bytes = refl; letter = refl }
-st-read (suc zero) h = record { named = refl; bytes = refl; letter = refl }
-st-read (suc (suc zero)) h = record { named = refl; bytes = refl; letter = refl }
-st-read (suc (suc (suc zero))) h = record { named = refl; bytes = refl; letter = refl }
-st-read (suc (suc (suc (suc zero)))) h = record { named = refl; bytes = refl; letter = refl }
-st-read (suc (suc (suc (suc (suc zero))))) h = record { named = refl; bytes = refl; letter = refl }
-st-read (suc (suc (suc (suc (suc (suc zero)))))) h = record { named = refl; bytes = refl; letter = refl }
-st-read (suc (suc (suc (suc (suc (suc (suc zero))))))) h = record { named = refl; bytes = refl; letter = refl }
-st-read (suc (suc (suc (suc (suc (suc (suc (suc n)))))))) h = absurd (omega arith)
+class-read : (class : ℕ → Register) (count n : ℕ) → AreFound class count → n < count → IsRead (class n)
+class-read class count n e lt = is_read (class n) (agree-below (λ k. found (class k)) (λ k. wanted (class k)) count n e lt)
 
-mm-read : (n : ℕ) → n < 8 → IsRead (Mm n)
-unfolding word_name low_byte_name high_byte_name segment_name stack_name register_name sigil register decimal is_word_byte first rest decimal_digit teen decimal_in segment_by letter_number word_number low_at high_at word_at double_at quad_at segment_at control_at below_8 debug_at stack_at mmx_at xmm_at ymm_at pointer_byte two_letters lettered e_named from_8 sized_by r_named vector_number register_from register_named
-mm-read zero h = record { named = refl; bytes = refl; letter = refl }
-mm-read (suc zero) h = record { named = refl; bytes = refl; letter = refl }
-mm-read (suc (suc zero)) h = record { named = refl; bytes = refl; letter = refl }
-mm-read (suc (suc (suc zero))) h = record { named = refl; bytes = refl; letter = refl }
-mm-read (suc (suc (suc (suc zero)))) h = record { named = refl; bytes = refl; letter = refl }
-mm-read (suc (suc (suc (suc (suc zero))))) h = record { named = refl; bytes = refl; letter = refl }
-mm-read (suc (suc (suc (suc (suc (suc zero)))))) h = record { named = refl; bytes = refl; letter = refl }
-mm-read (suc (suc (suc (suc (suc (suc (suc zero))))))) h = record { named = refl; bytes = refl; letter = refl }
-mm-read (suc (suc (suc (suc (suc (suc (suc (suc n)))))))) h = absurd (omega arith)
-
-xmm-read : (n : ℕ) → n < 16 → IsRead (Xmm n)
-unfolding word_name low_byte_name high_byte_name segment_name stack_name register_name sigil register decimal is_word_byte first rest decimal_digit teen decimal_in segment_by letter_number word_number low_at high_at word_at double_at quad_at segment_at control_at below_8 debug_at stack_at mmx_at xmm_at ymm_at pointer_byte two_letters lettered e_named from_8 sized_by r_named vector_number register_from register_named
-xmm-read zero h = record { named = refl; bytes = refl; letter = refl }
-xmm-read (suc zero) h = record { named = refl; bytes = refl; letter = refl }
-xmm-read (suc (suc zero)) h = record { named = refl; bytes = refl; letter = refl }
-xmm-read (suc (suc (suc zero))) h = record { named = refl; bytes = refl; letter = refl }
-xmm-read (suc (suc (suc (suc zero)))) h = record { named = refl; bytes = refl; letter = refl }
-xmm-read (suc (suc (suc (suc (suc zero))))) h = record { named = refl; bytes = refl; letter = refl }
-xmm-read (suc (suc (suc (suc (suc (suc zero)))))) h = record { named = refl; bytes = refl; letter = refl }
-xmm-read (suc (suc (suc (suc (suc (suc (suc zero))))))) h = record { named = refl; bytes = refl; letter = refl }
-xmm-read (suc (suc (suc (suc (suc (suc (suc (suc zero)))))))) h = record { named = refl; bytes = refl; letter = refl }
-xmm-read (suc (suc (suc (suc (suc (suc (suc (suc (suc zero))))))))) h = record { named = refl; bytes = refl; letter = refl }
-xmm-read (suc (suc (suc (suc (suc (suc (suc (suc (suc (suc zero)))))))))) h = record { named = refl; bytes = refl; letter = refl }
-xmm-read (suc (suc (suc (suc (suc (suc (suc (suc (suc (suc (suc zero))))))))))) h = record { named = refl; bytes = refl; letter = refl }
-xmm-read (suc (suc (suc (suc (suc (suc (suc (suc (suc (suc (suc (suc zero)))))))))))) h = record { named = refl; bytes = refl; letter = refl }
-xmm-read (suc (suc (suc (suc (suc (suc (suc (suc (suc (suc (suc (suc (suc zero))))))))))))) h = record { named = refl; bytes = refl; letter = refl }
-xmm-read (suc (suc (suc (suc (suc (suc (suc (suc (suc (suc (suc (suc (suc (suc zero)))))))))))))) h = record { named = refl; bytes = refl; letter = refl }
-xmm-read (suc (suc (suc (suc (suc (suc (suc (suc (suc (suc (suc (suc (suc (suc (suc zero))))))))))))))) h = record { named = refl; bytes = refl; letter = refl }
-xmm-read (suc (suc (suc (suc (suc (suc (suc (suc (suc (suc (suc (suc (suc (suc (suc (suc n)))))))))))))))) h = absurd (omega arith)
-
-ymm-read : (n : ℕ) → n < 16 → IsRead (Ymm n)
-unfolding word_name low_byte_name high_byte_name segment_name stack_name register_name sigil register decimal is_word_byte first rest decimal_digit teen decimal_in segment_by letter_number word_number low_at high_at word_at double_at quad_at segment_at control_at below_8 debug_at stack_at mmx_at xmm_at ymm_at pointer_byte two_letters lettered e_named from_8 sized_by r_named vector_number register_from register_named
-ymm-read zero h = record { named = refl; bytes = refl; letter = refl }
-ymm-read (suc zero) h = record { named = refl; bytes = refl; letter = refl }
-ymm-read (suc (suc zero)) h = record { named = refl; bytes = refl; letter = refl }
-ymm-read (suc (suc (suc zero))) h = record { named = refl; bytes = refl; letter = refl }
-ymm-read (suc (suc (suc (suc zero)))) h = record { named = refl; bytes = refl; letter = refl }
-ymm-read (suc (suc (suc (suc (suc zero))))) h = record { named = refl; bytes = refl; letter = refl }
-ymm-read (suc (suc (suc (suc (suc (suc zero)))))) h = record { named = refl; bytes = refl; letter = refl }
-ymm-read (suc (suc (suc (suc (suc (suc (suc zero))))))) h = record { named = refl; bytes = refl; letter = refl }
-ymm-read (suc (suc (suc (suc (suc (suc (suc (suc zero)))))))) h = record { named = refl; bytes = refl; letter = refl }
-ymm-read (suc (suc (suc (suc (suc (suc (suc (suc (suc zero))))))))) h = record { named = refl; bytes = refl; letter = refl }
-ymm-read (suc (suc (suc (suc (suc (suc (suc (suc (suc (suc zero)))))))))) h = record { named = refl; bytes = refl; letter = refl }
-ymm-read (suc (suc (suc (suc (suc (suc (suc (suc (suc (suc (suc zero))))))))))) h = record { named = refl; bytes = refl; letter = refl }
-ymm-read (suc (suc (suc (suc (suc (suc (suc (suc (suc (suc (suc (suc zero)))))))))))) h = record { named = refl; bytes = refl; letter = refl }
-ymm-read (suc (suc (suc (suc (suc (suc (suc (suc (suc (suc (suc (suc (suc zero))))))))))))) h = record { named = refl; bytes = refl; letter = refl }
-ymm-read (suc (suc (suc (suc (suc (suc (suc (suc (suc (suc (suc (suc (suc (suc zero)))))))))))))) h = record { named = refl; bytes = refl; letter = refl }
-ymm-read (suc (suc (suc (suc (suc (suc (suc (suc (suc (suc (suc (suc (suc (suc (suc zero))))))))))))))) h = record { named = refl; bytes = refl; letter = refl }
-ymm-read (suc (suc (suc (suc (suc (suc (suc (suc (suc (suc (suc (suc (suc (suc (suc (suc n)))))))))))))))) h = absurd (omega arith)
+-- ---- the others
 
 segment-read : (s : Segment) → IsRead (Seg s)
-unfolding word_name low_byte_name high_byte_name segment_name stack_name register_name sigil register decimal is_word_byte first rest decimal_digit teen decimal_in segment_by letter_number word_number low_at high_at word_at double_at quad_at segment_at control_at below_8 debug_at stack_at mmx_at xmm_at ymm_at pointer_byte two_letters lettered e_named from_8 sized_by r_named vector_number register_from register_named
-segment-read Es = record { named = refl; bytes = refl; letter = refl }
-segment-read Cs = record { named = refl; bytes = refl; letter = refl }
-segment-read Ss = record { named = refl; bytes = refl; letter = refl }
-segment-read Ds = record { named = refl; bytes = refl; letter = refl }
-segment-read Fs = record { named = refl; bytes = refl; letter = refl }
-segment-read Gs = record { named = refl; bytes = refl; letter = refl }
+unfolding word_name low_byte_name high_byte_name segment_name stack_name register_name sigil register decimal is_word_byte first rest decimal_digit teen decimal_in segment_by letter_number word_number below_8 pointer_byte two_letters lettered e_named from_8 sized_by r_named vector_number register_from register_named
+segment-read Es = is_read (Seg Es) refl
+segment-read Cs = is_read (Seg Cs) refl
+segment-read Ss = is_read (Seg Ss) refl
+segment-read Ds = is_read (Seg Ds) refl
+segment-read Fs = is_read (Seg Fs) refl
+segment-read Gs = is_read (Seg Gs) refl
 
-eip-read : IsRead Eip
-unfolding word_name low_byte_name high_byte_name segment_name stack_name register_name sigil register decimal is_word_byte first rest decimal_digit teen decimal_in segment_by letter_number word_number low_at high_at word_at double_at quad_at segment_at control_at below_8 debug_at stack_at mmx_at xmm_at ymm_at pointer_byte two_letters lettered e_named from_8 sized_by r_named vector_number register_from register_named
-eip-read = record { named = refl; bytes = refl; letter = refl }
-
-rip-read : IsRead Rip
-unfolding word_name low_byte_name high_byte_name segment_name stack_name register_name sigil register decimal is_word_byte first rest decimal_digit teen decimal_in segment_by letter_number word_number low_at high_at word_at double_at quad_at segment_at control_at below_8 debug_at stack_at mmx_at xmm_at ymm_at pointer_byte two_letters lettered e_named from_8 sized_by r_named vector_number register_from register_named
-rip-read = record { named = refl; bytes = refl; letter = refl }
-
-pub register-read : (r : Register) → is_register r ≡ true → IsRead r
-unfolding is_register
-register-read (Low8 n) h = low8-read n (ltb-true n 16 h)
-register-read (High8 n) h = high8-read n (ltb-true n 4 h)
-register-read (R16 n) h = r16-read n (ltb-true n 16 h)
-register-read (R32 n) h = r32-read n (ltb-true n 16 h)
-register-read (R64 n) h = r64-read n (ltb-true n 16 h)
+pub register-read : (r : Register) → is_named r ≡ true → IsRead r
+unfolding is_named word_name low_byte_name high_byte_name segment_name stack_name register_name sigil register decimal is_word_byte first rest decimal_digit teen decimal_in segment_by letter_number word_number below_8 pointer_byte two_letters lettered e_named from_8 sized_by r_named vector_number register_from register_named
+register-read (Low8 n) h = class-read Low8 16 n each_is_found.low8 (ltb-true n 16 h)
+register-read (High8 n) h = class-read High8 4 n each_is_found.high8 (ltb-true n 4 h)
+register-read (R16 n) h = class-read R16 16 n each_is_found.r16 (ltb-true n 16 h)
+register-read (R32 n) h = class-read R32 16 n each_is_found.r32 (ltb-true n 16 h)
+register-read (R64 n) h = class-read R64 16 n each_is_found.r64 (ltb-true n 16 h)
 register-read (Seg s) h = segment-read s
-register-read (Cr n) h = cr-read n (ltb-true n 16 h)
-register-read (Dr n) h = dr-read n (ltb-true n 8 h)
-register-read (St n) h = st-read n (ltb-true n 8 h)
-register-read (Mm n) h = mm-read n (ltb-true n 8 h)
-register-read (Xmm n) h = xmm-read n (ltb-true n 16 h)
-register-read (Ymm n) h = ymm-read n (ltb-true n 16 h)
-register-read Eip h = eip-read
-register-read Rip h = rip-read
+register-read (Cr n) h = class-read Cr 16 n each_is_found.cr (ltb-true n 16 h)
+register-read (Dr n) h = class-read Dr 8 n each_is_found.dr (ltb-true n 8 h)
+register-read (St n) h = class-read St 8 n each_is_found.st (ltb-true n 8 h)
+register-read (Mm n) h = class-read Mm 8 n each_is_found.mm (ltb-true n 8 h)
+register-read (Xmm n) h = class-read Xmm 16 n each_is_found.xmm (ltb-true n 16 h)
+register-read (Ymm n) h = class-read Ymm 16 n each_is_found.ymm (ltb-true n 16 h)
+register-read Eip h = is_read Eip refl
+register-read Rip h = is_read Rip refl
 
 -- the name of a segment is read as that segment
 pub segment_name-read : (s : Segment) → segment_named (segment_name s) ≡ Some s

@@ -1,6 +1,7 @@
 -- The whole text of an instruction is read again.
 use Rattle.std.proofs.Common.{◌≡◌, ℕ, Bool, true, List, [], ◌∷◌, ◌++◌, Option, Some, refl, ap, sym, ◌∙◌, append_assoc}
 use Rattle.std.specs.Prelude.{codes}
+use Rattle.instruction_parts.proofs.Tests.{and_left, and_right}
 use Rattle.x86_values.specs.declared.Bits.{Bits}
 use Rattle.x86_values.specs.declared.Segment.{Segment}
 use Rattle.x86_values.specs.declared.Rep.{Rep}
@@ -16,7 +17,6 @@ use Rattle.intel_words.specs.Printable.{is_plain_name, are_in_front, nth_is_prin
 use Rattle.intel_words.specs.Scanning.{rest, word, behind}
 use Rattle.intel_words.specs.ReadRegisters.{segment_named}
 use Rattle.intel_words.specs.ReadWords.{is_lock, repeat_named, size_behind, behind_lock, behind_repeat, behind_segment, behind_size, operands_in}
-use Rattle.intel_words.proofs.Cutting.{and_left, and_right}
 use Rattle.intel_words.proofs.FrontWords.{lock-value, lock-behind, repeat-value, repeat-behind, repeat-rank, segment_text, segment-value, segment-behind, segment-rank, sized_text, address-value, address-behind, address-rank, operand-value, operand-behind, operand-rank, segment-word, address-word, operand-word, name-word, name-behind, name-rank}
 use Rattle.intel_words.proofs.AllOperands.{behind_name, operands-read, operands-stop, operands-stay, operands-found, operands-grouped}
 

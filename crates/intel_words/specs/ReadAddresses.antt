@@ -1,5 +1,5 @@
 -- Reading addresses and other operands.
-use Rattle.std.specs.Prelude.{ℕ, Bool, true, false, ◌&&◌, ◌==◌, nat_le, if◌then◌else◌, List, [], ◌∷◌, Option, Some, None, bytes_eq, codes}
+use Rattle.std.specs.Prelude.{ℕ, Bool, true, false, ◌&&◌, ◌==◌, nat_le, if◌then◌else◌, List, [], ◌∷◌, Option, Some, None, option_map, bytes_eq, codes}
 use Rattle.x86_values.specs.declared.Segment.{Segment}
 use Rattle.x86_values.specs.declared.Register.{Register}
 use Rattle.intel_words.specs.declared.words.OperandText.{OperandText}
@@ -15,6 +15,7 @@ use Rattle.intel_words.specs.ReadRegisters.{register_named, segment_named}
 
 -- ---- displacement
 
+-- the magnitude behind a sign, where it is a number
 unfoldable pub signed_by : Bool → Option ℕ → Option (Option SignedText)
 signed_by negative None = None
 signed_by negative (Some n) = Some (Some (record { negative = negative; magnitude = n }))
@@ -59,13 +60,10 @@ sum_by (Some r) text =
 
 -- ---- inside the brackets
 
+-- a target relative to EIP or RIP, where it is a number
 unfoldable pub rel_by : Bool → Option ℕ → Option Inside
 rel_by eip None = None
 rel_by eip (Some target) = Some (Rel eip target)
-
-unfoldable pub lone_by : Option ℕ → Option Inside
-lone_by None = None
-lone_by (Some n) = Some (Lone n)
 
 -- a target behind rel or rel32
 unfoldable pub relative_in : List ℕ → List ℕ → Option Inside
@@ -78,7 +76,7 @@ unfoldable pub inside_in : List ℕ → Option Inside
 inside_in text =
     if first (behind text) == 32 then relative_in (word text) (rest (behind text))
     else (if first text == 93 then Some Nothing
-    else (if first text == 48 then lone_by (number_named (word text)) else sum_by (register_named (word text)) (behind text)))
+    else (if first text == 48 then option_map Lone (number_named (word text)) else sum_by (register_named (word text)) (behind text)))
 
 -- ---- an address
 
@@ -91,6 +89,7 @@ size_named name =
     else (if bytes_eq name (codes "tbyte") then Some Tbyte else (if bytes_eq name (codes "far16") then Some Far16
     else (if bytes_eq name (codes "far32") then Some Far32 else (if bytes_eq name (codes "far64") then Some Far64 else None)))))))))
 
+-- the address of what was read between the brackets
 unfoldable pub address_by : SizeName → Option Segment → Option Inside → Option OperandText
 address_by size seg None = None
 address_by size seg (Some inside) = Some (Address (record { size = size; seg = seg; inside = inside }))
@@ -113,21 +112,14 @@ sized_in (Some size) text = address_in size text
 
 -- ---- an operand
 
-unfoldable pub register_by : Option Register → Option OperandText
-register_by None = None
-register_by (Some r) = Some (Reg r)
-
-unfoldable pub number_by : Option ℕ → Option OperandText
-number_by None = None
-number_by (Some n) = Some (Number n)
-
+-- a far pointer of a selector and an offset, where both are numbers
 unfoldable pub far_by : Option ℕ → Option ℕ → Option OperandText
 far_by (Some selector) (Some offset) = Some (Far selector offset)
 far_by _ _ = None
 
 -- a register or a number
 unfoldable pub plain_in : List ℕ → Option OperandText
-plain_in name = if first name == 48 then number_by (number_named name) else register_by (register_named name)
+plain_in name = if first name == 48 then option_map Number (number_named name) else option_map Reg (register_named name)
 
 -- two numbers with a colon between them
 unfoldable pub far_in : List ℕ → Option OperandText

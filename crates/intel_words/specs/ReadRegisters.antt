@@ -1,5 +1,5 @@
 -- Reading the names of registers (Intel SDM volume 1, 3.4.1; volume 2, table 3-1).
-use Rattle.std.specs.Prelude.{ℕ, ◌&&◌, ◌==◌, nat_le, nat_lt, if◌then◌else◌, List, [], ◌∷◌, Option, Some, None}
+use Rattle.std.specs.Prelude.{ℕ, ◌&&◌, ◌==◌, nat_le, nat_lt, if◌then◌else◌, List, [], ◌∷◌, Option, Some, None, option_map}
 use Rattle.x86_values.specs.declared.Segment.{Segment}
 use Rattle.x86_values.specs.declared.Segment.TheVariants.{Es, Cs, Ss, Ds, Fs, Gs}
 use Rattle.x86_values.specs.declared.Register.{Register}
@@ -31,59 +31,10 @@ word_number a b =
     else (if b == 112 then (if a == 115 then Some 4 else (if a == 98 then Some 5 else None))
     else (if b == 105 then (if a == 115 then Some 6 else (if a == 100 then Some 7 else None)) else None))
 
--- the register of a class with this number
-unfoldable pub low_at : Option ℕ → Option Register
-low_at None = None
-low_at (Some n) = Some (Low8 n)
-
-unfoldable pub high_at : Option ℕ → Option Register
-high_at None = None
-high_at (Some n) = Some (High8 n)
-
-unfoldable pub word_at : Option ℕ → Option Register
-word_at None = None
-word_at (Some n) = Some (R16 n)
-
-unfoldable pub double_at : Option ℕ → Option Register
-double_at None = None
-double_at (Some n) = Some (R32 n)
-
-unfoldable pub quad_at : Option ℕ → Option Register
-quad_at None = None
-quad_at (Some n) = Some (R64 n)
-
-unfoldable pub segment_at : Option Segment → Option Register
-segment_at None = None
-segment_at (Some s) = Some (Seg s)
-
-unfoldable pub control_at : Option ℕ → Option Register
-control_at None = None
-control_at (Some n) = Some (Cr n)
-
 -- of eight registers
 unfoldable pub below_8 : Option ℕ → Option ℕ
 below_8 None = None
 below_8 (Some n) = if nat_lt n 8 then Some n else None
-
-unfoldable pub debug_at : Option ℕ → Option Register
-debug_at None = None
-debug_at (Some n) = Some (Dr n)
-
-unfoldable pub stack_at : Option ℕ → Option Register
-stack_at None = None
-stack_at (Some n) = Some (St n)
-
-unfoldable pub mmx_at : Option ℕ → Option Register
-mmx_at None = None
-mmx_at (Some n) = Some (Mm n)
-
-unfoldable pub xmm_at : Option ℕ → Option Register
-xmm_at None = None
-xmm_at (Some n) = Some (Xmm n)
-
-unfoldable pub ymm_at : Option ℕ → Option Register
-ymm_at None = None
-ymm_at (Some n) = Some (Ymm n)
 
 -- spl, bpl, sil and dil have names made of sp, bp, si and di
 unfoldable pub pointer_byte : Option ℕ → Option Register
@@ -93,9 +44,9 @@ pointer_byte (Some n) = if nat_le 4 n then Some (Low8 n) else None
 -- a name of two letters
 unfoldable pub two_letters : ℕ → ℕ → Option Register
 two_letters a b =
-    if b == 108 then low_at (letter_number a)
-    else (if b == 104 then high_at (letter_number a)
-    else (if b == 115 then segment_at (segment_by a) else word_at (word_number a b)))
+    if b == 108 then option_map Low8 (letter_number a)
+    else (if b == 104 then option_map High8 (letter_number a)
+    else (if b == 115 then option_map Seg (segment_by a) else option_map R16 (word_number a b)))
 
 -- a name of letters alone without the e or r of a larger register
 unfoldable pub lettered : ℕ → List ℕ → Option Register
@@ -108,7 +59,7 @@ lettered a (b ∷ c ∷ d ∷ more) = None
 unfoldable pub e_named : List ℕ → Option Register
 e_named [] = None
 e_named (a ∷ []) = if a == 115 then Some (Seg Es) else None
-e_named (a ∷ b ∷ []) = if a == 105 && b == 112 then Some Eip else double_at (word_number a b)
+e_named (a ∷ b ∷ []) = if a == 105 && b == 112 then Some Eip else option_map R32 (word_number a b)
 e_named (a ∷ b ∷ c ∷ more) = None
 
 -- r8 to r15 have no other numbers
@@ -118,15 +69,15 @@ from_8 (Some n) = if nat_le 8 n then Some n else None
 
 -- r8 to r15 with the letter of their size
 unfoldable pub sized_by : ℕ → Option ℕ → Option Register
-sized_by letter n = if letter == 98 then low_at n else (if letter == 119 then word_at n else (if letter == 100 then double_at n else None))
+sized_by letter n = if letter == 98 then option_map Low8 n else (if letter == 119 then option_map R16 n else (if letter == 100 then option_map R32 n else None))
 
 -- a name that begins with r
 unfoldable pub r_named : List ℕ → Option Register
 r_named [] = None
-r_named (a ∷ []) = quad_at (from_8 (decimal_in (a ∷ [])))
+r_named (a ∷ []) = option_map R64 (from_8 (decimal_in (a ∷ [])))
 r_named (a ∷ b ∷ []) =
-    if nat_le 97 a then (if a == 105 && b == 112 then Some Rip else quad_at (word_number a b))
-    else (if nat_le 97 b then sized_by b (from_8 (decimal_in (a ∷ []))) else quad_at (from_8 (decimal_in (a ∷ b ∷ []))))
+    if nat_le 97 a then (if a == 105 && b == 112 then Some Rip else option_map R64 (word_number a b))
+    else (if nat_le 97 b then sized_by b (from_8 (decimal_in (a ∷ []))) else option_map R64 (from_8 (decimal_in (a ∷ b ∷ []))))
 r_named (a ∷ b ∷ c ∷ []) = sized_by c (from_8 (decimal_in (a ∷ b ∷ [])))
 r_named (a ∷ b ∷ c ∷ d ∷ more) = None
 
@@ -139,12 +90,12 @@ unfoldable pub register_from : ℕ → List ℕ → Option Register
 register_from a more =
     if a == 114 then r_named more
     else (if a == 101 then e_named more
-    else (if a == 120 then xmm_at (vector_number more)
-    else (if a == 121 then ymm_at (vector_number more)
-    else (if a == 109 && first more == 109 then mmx_at (below_8 (decimal_in (rest more)))
-    else (if a == 115 && first more == 116 then stack_at (below_8 (decimal_in (rest more)))
-    else (if a == 99 && first more == 114 then control_at (decimal_in (rest more))
-    else (if a == 100 && first more == 114 then debug_at (below_8 (decimal_in (rest more)))
+    else (if a == 120 then option_map Xmm (vector_number more)
+    else (if a == 121 then option_map Ymm (vector_number more)
+    else (if a == 109 && first more == 109 then option_map Mm (below_8 (decimal_in (rest more)))
+    else (if a == 115 && first more == 116 then option_map St (below_8 (decimal_in (rest more)))
+    else (if a == 99 && first more == 114 then option_map Cr (decimal_in (rest more))
+    else (if a == 100 && first more == 114 then option_map Dr (below_8 (decimal_in (rest more)))
     else lettered a more)))))))
 
 -- the register of this name

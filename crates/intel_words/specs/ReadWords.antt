@@ -11,12 +11,15 @@ use Rattle.intel_words.specs.ReadAddresses.{operand_in}
 
 -- ---- prefix words
 
+-- the word of LOCK
 unfoldable pub is_lock : List ℕ → Bool
 is_lock name = bytes_eq name (codes "lock")
 
+-- the repeat prefix of a word, none of another word
 unfoldable pub repeat_named : List ℕ → Rep
 repeat_named name = if bytes_eq name (codes "repne") then F2 else (if bytes_eq name (codes "rep") then F3 else NoRep)
 
+-- there is a repeat prefix
 unfoldable pub is_repeat : Rep → Bool
 is_repeat NoRep = false
 is_repeat F2 = true
@@ -56,6 +59,7 @@ behind_size letter text = skip_if (is_some (size_behind letter (word text))) tex
 
 -- ---- operands
 
+-- four operands together, where each was read
 unfoldable pub four : Option OperandText → Option OperandText → Option OperandText → Option OperandText → Option (List OperandText)
 four (Some a) (Some b) (Some c) (Some d) = Some (a ∷ b ∷ c ∷ d ∷ [])
 four _ _ _ _ = None

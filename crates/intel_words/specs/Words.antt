@@ -111,6 +111,7 @@ operand_of bits row instr n (FarOperand selector offset) = Far selector offset
 operand_of bits row instr n (MemOperand m) =
     Address (record { size = size_of row n; seg = instr.seg; inside = inside_of (text_address_size bits instr) m })
 
+-- the words of operand n
 abbrev pub nth_of : Bits → Row → Instr → ℕ → OperandText
 nth_of bits row instr n = operand_of bits row instr n (nth_operand instr n)
 

@@ -118,7 +118,7 @@ fn sum_by(register: Option<Register>, text: &[u8]) -> Option<Inside>
         None => None,
         Some(r) => if first(text) == b'*' {
             behind_index(None, Some(r), text)
-        } else if first(text) == b'+' && 97 <= first(rest(text)) {
+        } else if first(text) == b'+' && b'a' <= first(rest(text)) {
             index_by(
                 Some(r),
                 register_named(word(rest(text))),
@@ -139,18 +139,6 @@ fn rel_by(eip: bool, target: Option<u64>) -> Option<Inside>
     match target {
         None => None,
         Some(target) => Some(Inside::Rel { eip, target }),
-    }
-}
-
-/// A displacement that stands alone.
-#[inline]
-#[tactic(auto, unfolding(crate::specs::ReadAddresses::lone_by))]
-fn lone_by(number: Option<u64>) -> Option<Inside>
-    ensures { result ≡ spec.lone_by number }
-{
-    match number {
-        None => None,
-        Some(n) => Some(Inside::Lone(n)),
     }
 }
 
@@ -178,7 +166,7 @@ pub fn inside_in(text: &[u8]) -> Option<Inside>
     } else if first(text) == b']' {
         Some(Inside::Nothing)
     } else if first(text) == b'0' {
-        lone_by(number_named(word(text)))
+        number_named(word(text)).map(Inside::Lone)
     } else {
         sum_by(register_named(word(text)), behind(text))
     }

@@ -12,9 +12,9 @@ fn digit_value(c: u8) -> Option<u8>
     ensures value { result ≡ spec.digit_value c }
     ensures small { IfSome result (λ d. d < 16) }
 {
-    if 48 <= c && c <= 57 {
-        Some(c - 48)
-    } else if 97 <= c && c <= 102 {
+    if b'0' <= c && c <= b'9' {
+        Some(c - b'0')
+    } else if b'a' <= c && c <= b'f' {
         Some(c - 87)
     } else {
         None
@@ -41,7 +41,7 @@ fn digits_value(digits: &[u8]) -> Option<u64>
 fn number_in(digits: &[u8]) -> Option<u64>
     ensures { result ≡ spec.number_in digits.now }
 {
-    if digits.len() > 0 && digits.len() <= 16 && (digits.len() == 1 || first(digits) != 48) {
+    if digits.len() > 0 && digits.len() <= 16 && (digits.len() == 1 || first(digits) != b'0') {
         digits_value(digits)
     } else {
         None
@@ -53,7 +53,7 @@ fn number_in(digits: &[u8]) -> Option<u64>
 pub fn number_named(word: &[u8]) -> Option<u64>
     ensures { result ≡ spec.number_named word.now }
 {
-    if first(word) == 48 && first(rest(word)) == 120 {
+    if first(word) == b'0' && first(rest(word)) == b'x' {
         number_in(rest(rest(word)))
     } else {
         None
@@ -66,8 +66,8 @@ pub fn number_named(word: &[u8]) -> Option<u64>
 pub fn decimal_digit(c: u8) -> Option<u8>
     ensures { result ≡ spec.decimal_digit c }
 {
-    if 48 <= c && c <= 57 {
-        Some(c - 48)
+    if b'0' <= c && c <= b'9' {
+        Some(c - b'0')
     } else {
         None
     }
@@ -79,7 +79,7 @@ pub fn decimal_digit(c: u8) -> Option<u8>
 fn teen(c: u8) -> Option<u8>
     ensures { result ≡ spec.teen c }
 {
-    if 48 <= c && c <= 53 {
+    if b'0' <= c && c <= b'5' {
         Some(c - 38)
     } else {
         None
@@ -93,7 +93,7 @@ pub fn decimal_in(digits: &[u8]) -> Option<u8>
 {
     match digits {
         [c] => decimal_digit(*c),
-        [c, d] => if *c == 49 { teen(*d) } else { None },
+        [c, d] => if *c == b'1' { teen(*d) } else { None },
         _ => None,
     }
 }

@@ -93,30 +93,6 @@ fn sized_in(size: Option<SizeName>, text: &[u8]) -> Option<OperandText>
     }
 }
 
-/// A register.
-#[inline]
-#[tactic(auto, unfolding(crate::specs::ReadAddresses::register_by))]
-fn register_by(register: Option<Register>) -> Option<OperandText>
-    ensures { result ≡ spec.register_by register }
-{
-    match register {
-        None => None,
-        Some(r) => Some(OperandText::Reg(r)),
-    }
-}
-
-/// A number.
-#[inline]
-#[tactic(auto, unfolding(crate::specs::ReadAddresses::number_by))]
-fn number_by(number: Option<u64>) -> Option<OperandText>
-    ensures { result ≡ spec.number_by number }
-{
-    match number {
-        None => None,
-        Some(n) => Some(OperandText::Number(n)),
-    }
-}
-
 /// A selector and an offset.
 #[inline]
 #[tactic(auto, unfolding(crate::specs::ReadAddresses::far_by))]
@@ -135,9 +111,9 @@ fn plain_in(name: &[u8]) -> Option<OperandText>
     ensures { result ≡ spec.plain_in name.now }
 {
     if first(name) == b'0' {
-        number_by(number_named(name))
+        number_named(name).map(OperandText::Number)
     } else {
-        register_by(register_named(name))
+        register_named(name).map(OperandText::Reg)
     }
 }
 

@@ -73,150 +73,6 @@ fn word_number(a: u8, b: u8) -> Option<u8>
     }
 }
 
-/// A byte register other than AH, CH, DH and BH.
-#[inline]
-#[tactic(auto, unfolding(crate::specs::ReadRegisters::low_at))]
-fn low_at(number: Option<u8>) -> Option<Register>
-    ensures { result ≡ spec.low_at number }
-{
-    match number {
-        None => None,
-        Some(n) => Some(Register::Low8(n)),
-    }
-}
-
-/// The high byte of one of the first four registers.
-#[inline]
-#[tactic(auto, unfolding(crate::specs::ReadRegisters::high_at))]
-fn high_at(number: Option<u8>) -> Option<Register>
-    ensures { result ≡ spec.high_at number }
-{
-    match number {
-        None => None,
-        Some(n) => Some(Register::High8(n)),
-    }
-}
-
-/// A general register of 16 bits.
-#[inline]
-#[tactic(auto, unfolding(crate::specs::ReadRegisters::word_at))]
-fn word_at(number: Option<u8>) -> Option<Register>
-    ensures { result ≡ spec.word_at number }
-{
-    match number {
-        None => None,
-        Some(n) => Some(Register::R16(n)),
-    }
-}
-
-/// A general register of 32 bits.
-#[inline]
-#[tactic(auto, unfolding(crate::specs::ReadRegisters::double_at))]
-fn double_at(number: Option<u8>) -> Option<Register>
-    ensures { result ≡ spec.double_at number }
-{
-    match number {
-        None => None,
-        Some(n) => Some(Register::R32(n)),
-    }
-}
-
-/// A general register of 64 bits.
-#[inline]
-#[tactic(auto, unfolding(crate::specs::ReadRegisters::quad_at))]
-fn quad_at(number: Option<u8>) -> Option<Register>
-    ensures { result ≡ spec.quad_at number }
-{
-    match number {
-        None => None,
-        Some(n) => Some(Register::R64(n)),
-    }
-}
-
-/// A control register.
-#[inline]
-#[tactic(auto, unfolding(crate::specs::ReadRegisters::control_at))]
-fn control_at(number: Option<u8>) -> Option<Register>
-    ensures { result ≡ spec.control_at number }
-{
-    match number {
-        None => None,
-        Some(n) => Some(Register::Cr(n)),
-    }
-}
-
-/// A debug register.
-#[inline]
-#[tactic(auto, unfolding(crate::specs::ReadRegisters::debug_at))]
-fn debug_at(number: Option<u8>) -> Option<Register>
-    ensures { result ≡ spec.debug_at number }
-{
-    match number {
-        None => None,
-        Some(n) => Some(Register::Dr(n)),
-    }
-}
-
-/// A register of the x87 stack.
-#[inline]
-#[tactic(auto, unfolding(crate::specs::ReadRegisters::stack_at))]
-fn stack_at(number: Option<u8>) -> Option<Register>
-    ensures { result ≡ spec.stack_at number }
-{
-    match number {
-        None => None,
-        Some(n) => Some(Register::St(n)),
-    }
-}
-
-/// An MMX register.
-#[inline]
-#[tactic(auto, unfolding(crate::specs::ReadRegisters::mmx_at))]
-fn mmx_at(number: Option<u8>) -> Option<Register>
-    ensures { result ≡ spec.mmx_at number }
-{
-    match number {
-        None => None,
-        Some(n) => Some(Register::Mm(n)),
-    }
-}
-
-/// An XMM register.
-#[inline]
-#[tactic(auto, unfolding(crate::specs::ReadRegisters::xmm_at))]
-fn xmm_at(number: Option<u8>) -> Option<Register>
-    ensures { result ≡ spec.xmm_at number }
-{
-    match number {
-        None => None,
-        Some(n) => Some(Register::Xmm(n)),
-    }
-}
-
-/// A YMM register.
-#[inline]
-#[tactic(auto, unfolding(crate::specs::ReadRegisters::ymm_at))]
-fn ymm_at(number: Option<u8>) -> Option<Register>
-    ensures { result ≡ spec.ymm_at number }
-{
-    match number {
-        None => None,
-        Some(n) => Some(Register::Ymm(n)),
-    }
-}
-
-/// A segment register.
-#[inline]
-#[tactic(auto, unfolding(crate::specs::ReadRegisters::segment_at))]
-fn segment_at(segment: Option<Segment>) -> Option<Register>
-    ensures { result ≡ spec.segment_at segment }
-{
-    match segment {
-        None => None,
-        Some(s) => Some(Register::Seg(s)),
-    }
-}
-
 /// The number of one of eight registers.
 #[inline]
 #[tactic(auto, unfolding(crate::specs::ReadRegisters::below_8))]
@@ -263,10 +119,10 @@ fn two_letters(a: u8, b: u8) -> Option<Register>
     ensures { result ≡ spec.two_letters a b }
 {
     match b {
-        b'l' => low_at(letter_number(a)),
-        b'h' => high_at(letter_number(a)),
-        b's' => segment_at(segment_by(a)),
-        _ => word_at(word_number(a, b)),
+        b'l' => letter_number(a).map(Register::Low8),
+        b'h' => letter_number(a).map(Register::High8),
+        b's' => segment_by(a).map(Register::Seg),
+        _ => word_number(a, b).map(Register::R16),
     }
 }
 
@@ -300,7 +156,7 @@ fn e_named(more: &[u8]) -> Option<Register>
         [a, b] => if *a == b'i' && *b == b'p' {
             Some(Register::Eip)
         } else {
-            double_at(word_number(*a, *b))
+            word_number(*a, *b).map(Register::R32)
         },
         _ => None,
     }
@@ -313,9 +169,9 @@ fn sized_by(letter: u8, number: Option<u8>) -> Option<Register>
     ensures { result ≡ spec.sized_by letter number }
 {
     match letter {
-        b'b' => low_at(number),
-        b'w' => word_at(number),
-        b'd' => double_at(number),
+        b'b' => number.map(Register::Low8),
+        b'w' => number.map(Register::R16),
+        b'd' => number.map(Register::R32),
         _ => None,
     }
 }
@@ -326,17 +182,17 @@ fn r_named(more: &[u8]) -> Option<Register>
     ensures { result ≡ spec.r_named more.now }
 {
     match more {
-        [_] => quad_at(from_8(decimal_in(more))),
-        [a, b] => if 97 <= *a {
+        [_] => from_8(decimal_in(more)).map(Register::R64),
+        [a, b] => if b'a' <= *a {
             if *a == b'i' && *b == b'p' {
                 Some(Register::Rip)
             } else {
-                quad_at(word_number(*a, *b))
+                word_number(*a, *b).map(Register::R64)
             }
-        } else if 97 <= *b {
+        } else if b'a' <= *b {
             sized_by(*b, from_8(decimal_in(&[*a])))
         } else {
-            quad_at(from_8(decimal_in(more)))
+            from_8(decimal_in(more)).map(Register::R64)
         },
         [a, b, c] => sized_by(*c, from_8(decimal_in(&[*a, *b]))),
         _ => None,
@@ -366,17 +222,17 @@ fn register_from(a: u8, more: &[u8]) -> Option<Register>
     } else if a == b'e' {
         e_named(more)
     } else if a == b'x' {
-        xmm_at(vector_number(more))
+        vector_number(more).map(Register::Xmm)
     } else if a == b'y' {
-        ymm_at(vector_number(more))
+        vector_number(more).map(Register::Ymm)
     } else if a == b'm' && first(more) == b'm' {
-        mmx_at(below_8(decimal_in(rest(more))))
+        below_8(decimal_in(rest(more))).map(Register::Mm)
     } else if a == b's' && first(more) == b't' {
-        stack_at(below_8(decimal_in(rest(more))))
+        below_8(decimal_in(rest(more))).map(Register::St)
     } else if a == b'c' && first(more) == b'r' {
-        control_at(decimal_in(rest(more)))
+        decimal_in(rest(more)).map(Register::Cr)
     } else if a == b'd' && first(more) == b'r' {
-        debug_at(below_8(decimal_in(rest(more))))
+        below_8(decimal_in(rest(more))).map(Register::Dr)
     } else {
         lettered(a, more)
     }

@@ -11,7 +11,7 @@ ghost use Rattle.intel_words.specs.Scanning as spec;
 fn is_word_byte(c: u8) -> bool
     ensures { result ≡ is_word_byte c }
 {
-    97 <= c && c <= 122 || 48 <= c && c <= 57
+    b'a' <= c && c <= b'z' || b'0' <= c && c <= b'9'
 }
 
 /// Whether a byte is no comma.
@@ -20,7 +20,7 @@ fn is_word_byte(c: u8) -> bool
 fn is_no_comma(c: u8) -> bool
     ensures { result ≡ spec.is_no_comma c }
 {
-    c != 44
+    c != b','
 }
 
 /// How many bytes the word at the front has.

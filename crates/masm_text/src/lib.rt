@@ -1,60 +1,35 @@
 //! The text of an instruction in the style that MASM reads, as `mov qword ptr [rsp+10h], rbx`.
 #![tactic(auto)]
 
-ghost use Rattle.std.specs.Prelude.{◌≡◌, ◌≤◌, ◌+◌, ◌++◌, length, IsTrue};
+ghost use Rattle.std.specs.Prelude.{◌≡◌, ◌≤◌, ◌+◌, ◌++◌, IsTrue};
 ghost use Rattle.arrayvec.specs.ArrayVec.{array_vec_len};
-ghost use Rattle.row_fit.specs.Sound.{sound};
 ghost use Rattle.opcode_rows.specs.Allowed.{is_well_formed};
-ghost use Rattle.text_parts.specs.Layout.{has_one_long};
 ghost use Rattle.masm_text.specs.Text as spec;
 
 use arrayvec::ArrayVec;
-use row_types::Row;
-use text_parts::layout::append_bracket_layout;
 use text_parts::style::Style;
-use text_rows::{printed_name, printed_row};
+use text_parts::text::{TEXT_LEN, Text};
+use text_rows::append_bracket_text;
 use x86_values::{Bits, Instr};
 
-/// Appends the text of an instruction of a row with this name, in a mode.
-///
-/// At most one operand is memory or a far pointer, and the name has at most 20 bytes: then the
-/// text has at most 160.
-#[inline]
-#[tactic(auto, unfolding(crate::specs::Text::text_of))]
-fn append_row<const N: usize>(
-    out: &mut ArrayVec<u8, N>,
-    bits: Bits,
-    row: &Row,
-    name: &[u8],
-    instr: &Instr,
-)
-    requires sound { IsTrue (sound row.now) }
-    requires name { length name.now ≤ 20 }
-    requires operands { IsTrue (has_one_long instr.now) }
-    requires room { array_vec_len out.old + 160 ≤ N }
-    ensures items { out.new.items ≡ out.old.items ++ spec.text_of bits row.now name.now instr.now }
-    ensures len { array_vec_len out.new ≤ array_vec_len out.old + 160 }
-{
-    append_bracket_layout(out, Style::Masm, bits, row, name, instr);
-}
-
-/// Appends the text of a well-formed instruction in the style that MASM reads, in a mode: ASCII, at most 160 bytes, for which there is
+/// Appends the text of a well-formed instruction in the style that MASM reads, in a mode: ASCII, at most `TEXT_LEN` bytes, for which there is
 /// room.
+#[tactic(auto, unfolding(crate::specs::Text::text, crate::specs::Text::text_of, text_rows::specs::BracketText::bracket_text))]
 pub fn print_to<const N: usize>(out: &mut ArrayVec<u8, N>, bits: Bits, instr: &Instr)
     requires well { IsTrue (is_well_formed instr.now) }
-    requires room { array_vec_len out.old + 160 ≤ N }
+    requires room { array_vec_len out.old + TEXT_LEN ≤ N }
     ensures items { out.new.items ≡ out.old.items ++ spec.text bits instr.now }
-    ensures len { array_vec_len out.new ≤ array_vec_len out.old + 160 }
+    ensures len { array_vec_len out.new ≤ array_vec_len out.old + TEXT_LEN }
 {
-    append_row(out, bits, &printed_row(instr), printed_name(instr), instr);
+    append_bracket_text(out, Style::Masm, bits, instr);
 }
 
-/// The text of a well-formed instruction in the style that MASM reads, in a mode: ASCII, at most 160 bytes.
-pub fn print(bits: Bits, instr: &Instr) -> ArrayVec<u8, 160>
+/// The text of a well-formed instruction in the style that MASM reads, in a mode: ASCII, at most `TEXT_LEN` bytes.
+pub fn print(bits: Bits, instr: &Instr) -> Text
     requires { IsTrue (is_well_formed instr.now) }
     ensures { result.items ≡ spec.text bits instr.now }
 {
-    let mut text = ArrayVec::new();
+    let mut text = Text::new();
     print_to(&mut text, bits, instr);
     text
 }

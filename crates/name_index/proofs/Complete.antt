@@ -1,6 +1,7 @@
 -- Each code of the table lies in the bucket of its name.
 use Rattle.std.proofs.Common.{◌≡◌, ◌⊎◌, inl, inr, ℕ, zero, suc, ◌+◌, ◌-◌, ◌*◌, ◌%◌, ◌<◌, ◌≤◌, Bool, true, false, ◌&&◌, ◌||◌, ◌==◌, List, [], ◌∷◌, length, get_or, drop, Option, Some, None, refl, ap, subst, arith, slice_get, eqb-true, add-one, drop-cons}
 use Rattle.std.specs.Prelude.{unwrap_or}
+use Rattle.std.proofs.lemmas.Bool.{or_cases}
 use Rattle.instruction_parts.proofs.Tests.{and_left, and_right}
 use Rattle.opcode_rows.specs.declared.spots.TheConstants.{ROWS}
 use Rattle.opcode_rows.specs.Table.{names, name_of}
@@ -21,10 +22,6 @@ at_is (Some x) code h = ap (λ (n : ℕ). Some n) (eqb-true x code h)
 unfoldable stands : ℕ → ℕ → ℕ → Bool
 stands code place zero = false
 stands code place (suc n) = is_at (slice_get order place) code || stands code (suc place) n
-
-or_cases : (a b : Bool) → (a || b) ≡ true → (a ≡ true) ⊎ (b ≡ true)
-or_cases true b h = inl refl
-or_cases false b h = inr h
 
 abbrev IsAmong : ℕ → ℕ → ℕ → Type 0
 IsAmong code first end = (k : ℕ) × (first ≤ k) × (k < end) × (slice_get order k ≡ Some code)

@@ -7,6 +7,7 @@ unfoldable pub bucket_from : ℕ → List ℕ → ℕ
 bucket_from bucket [] = bucket
 bucket_from bucket (byte ∷ bytes) = bucket_from ((bucket * 31 + byte) % 1024) bytes
 
+-- the bucket of a name, a number below 1024
 abbrev pub bucket_of : List ℕ → ℕ
 bucket_of name = bucket_from 0 name
 

@@ -74,7 +74,8 @@ some-known : (o : Option Span) → is_some o ≡ true → (s : Span) × (o ≡ S
 some-known None h = cc
 some-known (Some s) h = (s, refl)
 
-span-known : (k : RowKind) (m : Map) (op : ℕ) → op < 256 → (s : Span) × (span_of (spans_of k) (map_index m) op ≡ Some s)
+-- the span of a cell
+pub span-known : (k : RowKind) (m : Map) (op : ℕ) → op < 256 → (s : Span) × (span_of (spans_of k) (map_index m) op ≡ Some s)
 unfolding has_span has_spans
 span-known k m op byte =
     let line : below 256 (λ o. has_span (spans_of k) (map_index m) o) ≡ true =

@@ -1,21 +1,21 @@
 -- How the readings over a table change where rows are added to it in cells that had none.
 use Rattle.std.proofs.Common.{◌≡◌, ℕ, ◌<◌, ◌≤◌, Bool, true, false, List, [], ◌++◌, length, take, drop, slice_get, refl, ap, sym, ◌∙◌, arith, inl, inr, nat_le}
-use Rattle.std.specs.Prelude.{Some, ◌⊎◌, ◌↔◌, IsTrue, if◌then◌else◌}
-use Rattle.std.proofs.lemmas.Bool.{leb-true, le-leb, lt-leb}
+use Rattle.std.specs.Prelude.{Some, ◌⊎◌, if◌then◌else◌}
+use Rattle.std.proofs.lemmas.Bool.{lt-leb}
 use Rattle.std.proofs.lemmas.List.{take-append-drop, append-nil}
 use Rattle.x86_values.specs.declared.Bits.{Bits}
 use Rattle.x86_values.specs.declared.Instr.{Instr}
 use Rattle.row_types.specs.declared.Row.{Row}
 use Rattle.instruction_parts.specs.declared.spelling.Spelling.{Spelling}
 use Rattle.instruction_parts.specs.declared.spelling.PrefixState.{PrefixState}
-use Rattle.instruction_parts.specs.Bytes.{bytes_of, state_of}
+use Rattle.instruction_parts.specs.Bytes.{state_of}
 use Rattle.instruction_parts.specs.Front.{Front, Open, Forbidden, Known, is_open, long_front, within_15, front_of}
 use Rattle.row_fit.specs.Fits.{fits}
 use Rattle.row_fit.proofs.FrontLaws.{front_law}
 use Rattle.row_fit.proofs.FrontConverse.{same_state}
 use Rattle.row_fit.proofs.FrontGrows.{long_front-grows, front-extends, known-used}
 use Rattle.row_fields.proofs.Apart.{bool_cases}
-use Rattle.row_relation.specs.Spells.{IsSpelledBy, SpellsUnbounded, Spells, ReadsAs, SpellsNothing, BeginsSpelling, CanGoOn, IsTooShort, IsInvalid, Reading, Read, TooShort, Invalid, IsReading}
+use Rattle.row_relation.specs.Spells.{IsSpelledBy, SpellsUnbounded, ReadsAs, CanGoOn, Reading, Read, TooShort, Invalid, IsReading}
 use Rattle.opcode_rows.specs.Versions.{has_state}
 
 -- the rows of a table are those of an older one with the same codes, and others; the states of the others are added ones, and no state of the

@@ -21,27 +21,12 @@ use Rattle.opcode_rows.proofs.JoinFacts.{all_rows, in_each_part}
 unfoldable kept : Row → Bool
 kept row = opcodes_are_kept B16 row && (opcodes_are_kept B32 row && opcodes_are_kept B64 row)
 
-integer-kept : all_rows kept integer_rows ≡ true
-unfolding all_rows kept opcodes_are_kept is_opcode exists_in is_segment is_legacy_prefix is_prefix integer_rows integer_flat
-integer-kept = refl
-
-x87-kept : all_rows kept x87_rows ≡ true
-unfolding all_rows kept opcodes_are_kept is_opcode exists_in is_segment is_legacy_prefix is_prefix x87_rows x87_flat
-x87-kept = refl
-
-sse-kept : all_rows kept sse_rows ≡ true
-unfolding all_rows kept opcodes_are_kept is_opcode exists_in is_segment is_legacy_prefix is_prefix sse_rows sse_flat
-sse-kept = refl
-
-vex-kept : all_rows kept vex_rows ≡ true
-unfolding all_rows kept opcodes_are_kept is_opcode exists_in is_segment is_legacy_prefix is_prefix vex_rows vex_flat
-vex-kept = refl
-
 each-kept : (p : Part) → all_rows kept (part_table p) ≡ true
-each-kept part.Integer = integer-kept
-each-kept part.X87 = x87-kept
-each-kept part.Sse = sse-kept
-each-kept part.Vex = vex-kept
+unfolding all_rows kept opcodes_are_kept is_opcode exists_in is_segment is_legacy_prefix is_prefix integer_rows integer_flat x87_rows x87_flat sse_rows sse_flat vex_rows vex_flat
+each-kept part.Integer = refl
+each-kept part.X87 = refl
+each-kept part.Sse = refl
+each-kept part.Vex = refl
 
 in_mode : (bits : Bits) (row : Row) → kept row ≡ true → IsTrue (opcodes_are_kept bits row)
 unfolding kept

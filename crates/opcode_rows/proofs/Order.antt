@@ -59,27 +59,12 @@ counts_up : Part → ℕ → ℕ → List Spot → Bool
 counts_up p n end [] = n == end
 counts_up p n end (s ∷ ss) = is_next (is_part p s.part) s.at n && counts_up p (behind (is_part p s.part) n) end ss
 
-integer-counts_up : counts_up part.Integer 0 (length (part_table part.Integer)) places ≡ true
-unfolding is_part is_next behind counts_up places integer_rows integer_flat
-integer-counts_up = refl
-
-x87-counts_up : counts_up part.X87 0 (length (part_table part.X87)) places ≡ true
-unfolding is_part is_next behind counts_up places x87_rows x87_flat
-x87-counts_up = refl
-
-sse-counts_up : counts_up part.Sse 0 (length (part_table part.Sse)) places ≡ true
-unfolding is_part is_next behind counts_up places sse_rows sse_flat
-sse-counts_up = refl
-
-vex-counts_up : counts_up part.Vex 0 (length (part_table part.Vex)) places ≡ true
-unfolding is_part is_next behind counts_up places vex_rows vex_flat
-vex-counts_up = refl
-
 each-counts_up : (p : Part) → counts_up p 0 (length (part_table p)) places ≡ true
-each-counts_up part.Integer = integer-counts_up
-each-counts_up part.X87 = x87-counts_up
-each-counts_up part.Sse = sse-counts_up
-each-counts_up part.Vex = vex-counts_up
+unfolding is_part is_next behind counts_up places integer_rows integer_flat x87_rows x87_flat sse_rows sse_flat vex_rows vex_flat
+each-counts_up part.Integer = refl
+each-counts_up part.X87 = refl
+each-counts_up part.Sse = refl
+each-counts_up part.Vex = refl
 
 -- ---- what follows from it
 

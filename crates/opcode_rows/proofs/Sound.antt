@@ -16,27 +16,12 @@ use Rattle.opcode_rows.specs.declared.spots.Part.TheVariants as part
 use Rattle.opcode_rows.specs.Table.{part_table, table}
 use Rattle.opcode_rows.proofs.JoinFacts.{all_rows, in_each_part}
 
-integer-sound : all_rows sound integer_rows ≡ true
-unfolding all_rows sound has_four_operands opcodes_are_bytes kind_is_proper size_says_w rule_in_range plus_is_proper opcode_is_proper legacy_is_proper vex_is_proper opcode_is_no_prefix_in opcode_is_no_prefix operands_are_proper operands_are_apart immediates_are_short immediate_bytes immediates_bytes exists_in is_segment is_legacy_prefix is_prefix method_of file_of immediate_width integer_rows integer_flat
-integer-sound = refl
-
-x87-sound : all_rows sound x87_rows ≡ true
-unfolding all_rows sound has_four_operands opcodes_are_bytes kind_is_proper size_says_w rule_in_range plus_is_proper opcode_is_proper legacy_is_proper vex_is_proper opcode_is_no_prefix_in opcode_is_no_prefix operands_are_proper operands_are_apart immediates_are_short immediate_bytes immediates_bytes exists_in is_segment is_legacy_prefix is_prefix method_of file_of immediate_width x87_rows x87_flat
-x87-sound = refl
-
-sse-sound : all_rows sound sse_rows ≡ true
-unfolding all_rows sound has_four_operands opcodes_are_bytes kind_is_proper size_says_w rule_in_range plus_is_proper opcode_is_proper legacy_is_proper vex_is_proper opcode_is_no_prefix_in opcode_is_no_prefix operands_are_proper operands_are_apart immediates_are_short immediate_bytes immediates_bytes exists_in is_segment is_legacy_prefix is_prefix method_of file_of immediate_width sse_rows sse_flat
-sse-sound = refl
-
-vex-sound : all_rows sound vex_rows ≡ true
-unfolding all_rows sound has_four_operands opcodes_are_bytes kind_is_proper size_says_w rule_in_range plus_is_proper opcode_is_proper legacy_is_proper vex_is_proper opcode_is_no_prefix_in opcode_is_no_prefix operands_are_proper operands_are_apart immediates_are_short immediate_bytes immediates_bytes exists_in is_segment is_legacy_prefix is_prefix method_of file_of immediate_width vex_rows vex_flat
-vex-sound = refl
-
 each-sound : (p : Part) → all_rows sound (part_table p) ≡ true
-each-sound part.Integer = integer-sound
-each-sound part.X87 = x87-sound
-each-sound part.Sse = sse-sound
-each-sound part.Vex = vex-sound
+unfolding all_rows sound has_four_operands opcodes_are_bytes kind_is_proper size_says_w rule_in_range plus_is_proper opcode_is_proper legacy_is_proper vex_is_proper opcode_is_no_prefix_in opcode_is_no_prefix operands_are_proper operands_are_apart immediates_are_short immediate_bytes immediates_bytes exists_in is_segment is_legacy_prefix is_prefix method_of file_of immediate_width integer_rows integer_flat x87_rows x87_flat sse_rows sse_flat vex_rows vex_flat
+each-sound part.Integer = refl
+each-sound part.X87 = refl
+each-sound part.Sse = refl
+each-sound part.Vex = refl
 
 pub sound-row : (code : ℕ) (row : Row) → slice_get table code ≡ Some row → IsTrue (sound row)
 sound-row code row at = in_each_part sound each-sound code row at

@@ -1,6 +1,7 @@
 -- Where a spelling fits a row, the row stands in the cell that its VEX, map and opcode byte name.
-use Rattle.std.proofs.Common.{◌≡◌, ℕ, Bool, true, false, not, ◌&&◌, Option, Some, None, is_some, List, refl, ap, sym, ◌∙◌, eq-eqb, ◌+◌, nat_le, nat_lt}
+use Rattle.std.proofs.Common.{◌≡◌, ℕ, true, false, not, ◌&&◌, Option, Some, None, is_some, List, refl, ap, sym, ◌∙◌, eq-eqb, ◌+◌, nat_le, nat_lt}
 use Rattle.std.specs.Prelude.{◌==◌}
+use Rattle.std.proofs.lemmas.Bool.{and_from}
 use Rattle.x86_values.specs.declared.Bits.{Bits}
 use Rattle.row_types.specs.declared.Row.{Row}
 use Rattle.row_types.specs.declared.RowKind.{RowKind}
@@ -19,9 +20,6 @@ use Rattle.instruction_parts.proofs.Tests.{and_left, and_right, not_true, equal_
 use Rattle.row_fit.specs.Fits.{fits, vex_fits, is_vex_of_mode, opcode_is_kept, same_map, opcode_fits, opcode_and_modrm_fit, modrm_rule_fits, place_fits}
 use Rattle.row_fit.proofs.FitLaws.{all_conditions}
 use Rattle.row_fields.specs.Holds.{stands_in, is_vex, map_number, opcode_holds}
-
-both : (a b : Bool) → a ≡ true → b ≡ true → (a && b) ≡ true
-both a b h k = rw h k
 
 -- whether a kind is VEX, as a row says it
 pub kind-vex : (k : RowKind) → is_vex k ≡ (elim k [ kind.Legacy ↦ false | kind.Vex ↦ true ])
@@ -74,7 +72,7 @@ pub stands : (row : Row) (vex : Option Vex) (o : ℕ) → VexSays row vex → op
     → stands_in row (map_number (is_some vex) (spelled_map row.map vex)) o ≡ true
 unfolding opcode_fits
 stands row vex o says h =
-    both (map_number (is_vex row.kind) row.map == map_number (is_some vex) (spelled_map row.map vex)) (opcode_holds row.plus row.opcode o)
+    and_from (map_number (is_vex row.kind) row.map == map_number (is_some vex) (spelled_map row.map vex)) (opcode_holds row.plus row.opcode o)
     (eq-eqb (map_number (is_vex row.kind) row.map) (map_number (is_some vex) (spelled_map row.map vex)) (line-is row vex says))
     (opcode-held row.plus row.opcode o h)
 

@@ -16,27 +16,12 @@ use Rattle.opcode_rows.specs.Table.{part_table, table, names, name_of}
 use Rattle.opcode_rows.specs.Words.{is_name_byte, is_name, is_long, has_one_long_kind}
 use Rattle.opcode_rows.proofs.JoinFacts.{all_rows, in_each_part}
 
-integer-long : all_rows has_one_long_kind integer_rows ≡ true
-unfolding all_rows has_one_long_kind is_long method_of integer_rows integer_flat
-integer-long = refl
-
-x87-long : all_rows has_one_long_kind x87_rows ≡ true
-unfolding all_rows has_one_long_kind is_long method_of x87_rows x87_flat
-x87-long = refl
-
-sse-long : all_rows has_one_long_kind sse_rows ≡ true
-unfolding all_rows has_one_long_kind is_long method_of sse_rows sse_flat
-sse-long = refl
-
-vex-long : all_rows has_one_long_kind vex_rows ≡ true
-unfolding all_rows has_one_long_kind is_long method_of vex_rows vex_flat
-vex-long = refl
-
 each-long : (p : Part) → all_rows has_one_long_kind (part_table p) ≡ true
-each-long part.Integer = integer-long
-each-long part.X87 = x87-long
-each-long part.Sse = sse-long
-each-long part.Vex = vex-long
+unfolding all_rows has_one_long_kind is_long method_of integer_rows integer_flat x87_rows x87_flat sse_rows sse_flat vex_rows vex_flat
+each-long part.Integer = refl
+each-long part.X87 = refl
+each-long part.Sse = refl
+each-long part.Vex = refl
 
 pub one-long-row : (code : ℕ) (row : Row) → slice_get table code ≡ Some row → IsTrue (has_one_long_kind row)
 one-long-row code row at = in_each_part has_one_long_kind each-long code row at

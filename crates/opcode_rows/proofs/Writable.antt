@@ -18,27 +18,12 @@ use Rattle.opcode_rows.specs.declared.spots.Part.TheVariants as part
 use Rattle.opcode_rows.specs.Table.{part_table, table}
 use Rattle.opcode_rows.proofs.JoinFacts.{all_rows, in_each_part}
 
-integer-writable : all_rows writable integer_rows ≡ true
-unfolding all_rows writable writable_in has_plain_size plain_size plain_w operand_size size_fits asks_rex_w asks_vex_w asks_66 class_allows_size opcode_is_plain opcode_is_allowed is_opcode kind_is_told file_is_told width_is_told value_is_told says_w lock_is_legacy nop_is_bare rule_is_plain place_is_plain gather_is_whole exists_in is_segment is_legacy_prefix is_prefix method_of file_of immediate_width integer_rows integer_flat
-integer-writable = refl
-
-x87-writable : all_rows writable x87_rows ≡ true
-unfolding all_rows writable writable_in has_plain_size plain_size plain_w operand_size size_fits asks_rex_w asks_vex_w asks_66 class_allows_size opcode_is_plain opcode_is_allowed is_opcode kind_is_told file_is_told width_is_told value_is_told says_w lock_is_legacy nop_is_bare rule_is_plain place_is_plain gather_is_whole exists_in is_segment is_legacy_prefix is_prefix method_of file_of immediate_width x87_rows x87_flat
-x87-writable = refl
-
-sse-writable : all_rows writable sse_rows ≡ true
-unfolding all_rows writable writable_in has_plain_size plain_size plain_w operand_size size_fits asks_rex_w asks_vex_w asks_66 class_allows_size opcode_is_plain opcode_is_allowed is_opcode kind_is_told file_is_told width_is_told value_is_told says_w lock_is_legacy nop_is_bare rule_is_plain place_is_plain gather_is_whole exists_in is_segment is_legacy_prefix is_prefix method_of file_of immediate_width sse_rows sse_flat
-sse-writable = refl
-
-vex-writable : all_rows writable vex_rows ≡ true
-unfolding all_rows writable writable_in has_plain_size plain_size plain_w operand_size size_fits asks_rex_w asks_vex_w asks_66 class_allows_size opcode_is_plain opcode_is_allowed is_opcode kind_is_told file_is_told width_is_told value_is_told says_w lock_is_legacy nop_is_bare rule_is_plain place_is_plain gather_is_whole exists_in is_segment is_legacy_prefix is_prefix method_of file_of immediate_width vex_rows vex_flat
-vex-writable = refl
-
 each-writable : (p : Part) → all_rows writable (part_table p) ≡ true
-each-writable part.Integer = integer-writable
-each-writable part.X87 = x87-writable
-each-writable part.Sse = sse-writable
-each-writable part.Vex = vex-writable
+unfolding all_rows writable writable_in has_plain_size plain_size plain_w operand_size size_fits asks_rex_w asks_vex_w asks_66 class_allows_size opcode_is_plain opcode_is_allowed is_opcode kind_is_told file_is_told width_is_told value_is_told says_w lock_is_legacy nop_is_bare rule_is_plain place_is_plain gather_is_whole exists_in is_segment is_legacy_prefix is_prefix method_of file_of immediate_width integer_rows integer_flat x87_rows x87_flat sse_rows sse_flat vex_rows vex_flat
+each-writable part.Integer = refl
+each-writable part.X87 = refl
+each-writable part.Sse = refl
+each-writable part.Vex = refl
 
 pub writable-row : (code : ℕ) (row : Row) → slice_get table code ≡ Some row → IsTrue (writable row)
 writable-row code row at = in_each_part writable each-writable code row at

@@ -1,10 +1,9 @@
 -- When an instruction has the form of its row.
-use Rattle.std.specs.Prelude.{ℕ, Bool, true, false, ◌&&◌, nat_lt, Option, Some, None, slice_get}
+use Rattle.std.specs.Prelude.{ℕ, Bool, true, false, ◌&&◌, Option, Some, None, slice_get}
 use Rattle.x86_values.specs.declared.Instr.{Instr}
 use Rattle.x86_values.specs.declared.Operand.{Operand}
 use Rattle.x86_values.specs.declared.Operand.TheVariants.{Reg, Mem as Memory}
-use Rattle.x86_values.specs.declared.Register.{Register}
-use Rattle.x86_values.specs.declared.Register.TheVariants.{Low8, High8, R16, R32, R64, Seg, Cr, Dr, St, Mm, Xmm, Ymm, Eip, Rip}
+unfoldable pub use Rattle.x86_values.specs.Named.{is_named, is_named_if}
 use Rattle.row_types.specs.declared.Row.{Row}
 use Rattle.instruction_parts.specs.Kinds.{method_of}
 use Rattle.row_fit.specs.Fits.{kind_at}
@@ -12,28 +11,6 @@ use Rattle.plain_spelling.specs.Forms.{is_variant_of, is_scale, operand_at}
 use Rattle.opcode_rows.specs.Table.{table}
 
 -- ---- numbers
-
--- the number of a register is below the size of its class
-unfoldable pub is_named : Register → Bool
-is_named (Low8 n) = nat_lt n 16
-is_named (High8 n) = nat_lt n 4
-is_named (R16 n) = nat_lt n 16
-is_named (R32 n) = nat_lt n 16
-is_named (R64 n) = nat_lt n 16
-is_named (Seg _) = true
-is_named (Cr n) = nat_lt n 16
-is_named (Dr n) = nat_lt n 8
-is_named (St n) = nat_lt n 8
-is_named (Mm n) = nat_lt n 8
-is_named (Xmm n) = nat_lt n 16
-is_named (Ymm n) = nat_lt n 16
-is_named Eip = true
-is_named Rip = true
-
--- the same of a register that may be absent
-unfoldable pub is_named_if : Option Register → Bool
-is_named_if None = true
-is_named_if (Some r) = is_named r
 
 -- the scale of a memory operand is one, and the registers of the operand have numbers of their class
 unfoldable pub has_numbers : Operand → Bool

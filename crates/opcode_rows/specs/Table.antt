@@ -28,6 +28,7 @@ part_table part.Vex = vex_rows
 unfoldable pub places : List Spot
 places = SPOTS
 
+-- the rows with one in front, where there is one
 abbrev pub with_item : Option Row → List Row → List Row
 with_item None rows = rows
 with_item (Some r) rows = r ∷ rows

@@ -1,5 +1,5 @@
 -- The versions of the table: which rows are those of version 1, and the cells that version 2 fills.
-use Rattle.std.specs.Prelude.{ℕ, Bool, true, false, ◌&&◌, ◌||◌, ◌==◌, ◌<◌, ◌≤◌, ◌⊎◌, nat_le, List, take, Option, Some, None}
+use Rattle.std.specs.Prelude.{ℕ, Bool, false, ◌&&◌, ◌||◌, ◌==◌, ◌<◌, ◌≤◌, ◌⊎◌, nat_le, List, take, Option, Some, None}
 use Rattle.x86_values.specs.declared.Bits.{Bits}
 use Rattle.row_types.specs.declared.Row.{Row}
 use Rattle.row_types.specs.declared.RowKind.{RowKind}

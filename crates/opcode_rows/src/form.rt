@@ -23,6 +23,7 @@ pub fn well_formed(instr: &Instr) -> bool
     }
 }
 
+/// Whether all operands have the form that the row asks for.
 #[tactic(auto, unfolding(crate::specs::Allowed::is_formed))]
 fn is_formed(row: &Row, instr: &Instr) -> bool
     ensures { result ≡ spec.is_formed row.now instr.now }
@@ -33,6 +34,7 @@ fn is_formed(row: &Row, instr: &Instr) -> bool
         && operand_is_formed(row, instr, 3)
 }
 
+/// Whether operand `n` is of a variant that the row's kind takes, with registers that exist.
 #[tactic(auto, unfolding(crate::specs::Allowed::operand_is_formed))]
 fn operand_is_formed(row: &Row, instr: &Instr, n: usize) -> bool
     requires { n < 4 }
@@ -42,12 +44,13 @@ fn operand_is_formed(row: &Row, instr: &Instr, n: usize) -> bool
     is_variant_of(row.place, method_of_kind(kind_at(row, n)), operand) && has_numbers(operand)
 }
 
+/// Whether each register of an operand exists and a scale is one that SIB can hold (2.1.5).
 #[tactic(auto, unfolding(crate::specs::Allowed::has_numbers))]
 fn has_numbers(operand: Operand) -> bool
     ensures { result ≡ spec.has_numbers operand }
 {
     match operand {
-        Operand::Reg(register) => is_named(register),
+        Operand::Reg(register) => register.is_named(),
         Operand::Mem(memory) => is_scale(memory.scale)
             && is_named_if(memory.base)
             && is_named_if(memory.index),
@@ -55,26 +58,13 @@ fn has_numbers(operand: Operand) -> bool
     }
 }
 
+/// The same of a register that may be absent.
 #[tactic(auto, unfolding(crate::specs::Allowed::is_named_if))]
 fn is_named_if(register: Option<Register>) -> bool
     ensures { result ≡ spec.is_named_if register }
 {
     match register {
         None => true,
-        Some(register) => is_named(register),
-    }
-}
-
-#[tactic(auto, unfolding(crate::specs::Allowed::is_named))]
-fn is_named(register: Register) -> bool
-    ensures { result ≡ spec.is_named register }
-{
-    match register {
-        Register::Low8(n) => n < 16,
-        Register::High8(n) => n < 4,
-        Register::R16(n) | Register::R32(n) | Register::R64(n) => n < 16,
-        Register::Cr(n) | Register::Xmm(n) | Register::Ymm(n) => n < 16,
-        Register::Dr(n) | Register::St(n) | Register::Mm(n) => n < 8,
-        Register::Seg(_) | Register::Eip | Register::Rip => true,
+        Some(register) => register.is_named(),
     }
 }

@@ -13,14 +13,14 @@ mod spots;
 
 ghost use Rattle.std.specs.Prelude.{◌≡◌, ◌+◌, ◌<◌, ◌≤◌, ◌↔◌, length, map, slice_get, Some, IfSome, IsNone};
 ghost use Rattle.row_lists.specs.Cells.{map_index, span_of, IsRunOf};
-ghost use Rattle.opcode_rows.specs.Table.{part_table, places, table, name_of, cell, legacy_spans, vex_spans, spans_of};
+ghost use Rattle.opcode_rows.specs.Table.{part_table, places, table, name_of, cell, spans_of};
 ghost use Rattle.opcode_rows.specs.Table as spec;
 
 pub use by_name::code_of;
 use cells::{LEGACY_SPANS, VEX_SPANS};
 pub use form::well_formed;
 use names::{ADDED_NAMES, NAMES};
-use row_lists::{Span, map_number};
+use row_lists::{Span, span_in};
 use row_types::{Map, Row, RowKind};
 pub use spots::{ROWS, VERSION1_ROWS};
 use spots::{ADDED_ROWS, Part, SPOTS, Spot};
@@ -109,6 +109,7 @@ fn added_name(code: u16) -> &'static str
     added_names()[(code - VERSION1_ROWS) as usize]
 }
 
+/// The names of the rows of version 1, by code.
 fn first_names() -> &'static [&'static str; VERSION1_ROWS as usize]
     ensures names { map (λ name. name.now) result.now ≡ spec.first_names }
     ensures count { length result.now ≡ VERSION1_ROWS }
@@ -116,6 +117,7 @@ fn first_names() -> &'static [&'static str; VERSION1_ROWS as usize]
     &NAMES
 }
 
+/// The names of the rows of version 2, by code from `VERSION1_ROWS` on.
 fn added_names() -> &'static [&'static str; ADDED_ROWS as usize]
     ensures names { map (λ name. name.now) result.now ≡ spec.added_names }
     ensures count { length result.now ≡ ADDED_ROWS }
@@ -123,6 +125,7 @@ fn added_names() -> &'static [&'static str; ADDED_ROWS as usize]
     &ADDED_NAMES
 }
 
+/// Where the row of a code lies.
 #[inline]
 fn spot_at(code: u16) -> Spot
     requires { code < ROWS }
@@ -131,6 +134,7 @@ fn spot_at(code: u16) -> Spot
     SPOTS[code as usize]
 }
 
+/// The row that lies at a spot.
 #[inline]
 fn spot_row(spot: Spot) -> Row
     requires { spot.at < length (part_table spot.part) }
@@ -144,37 +148,21 @@ fn spot_row(spot: Spot) -> Row
     }
 }
 
+/// Where the rows of a cell lie: the code of the first, and how many there are.
 fn span_at(kind: RowKind, map: Map, opcode: u8) -> Span
     ensures { span_of (spans_of kind) (map_index map) opcode ≡ Some result }
 {
-    line_at(kind, map_number(map))[opcode as usize]
+    span_in(kind_spans(kind), map, opcode)
 }
 
-fn line_at(kind: RowKind, line: usize) -> &'static [Span; 256]
-    requires { line < 4 }
-    ensures line { slice_get (spans_of kind) line ≡ Some result.now }
-    ensures width { length result.now ≡ 256 }
+/// Where the rows of each cell of a kind lie.
+fn kind_spans(kind: RowKind) -> &'static [[Span; 256]; 4]
+    ensures { result.now ≡ spans_of kind }
 {
     match kind {
-        RowKind::Legacy => legacy_line_at(line),
-        RowKind::Vex => vex_line_at(line),
+        RowKind::Legacy => &LEGACY_SPANS,
+        RowKind::Vex => &VEX_SPANS,
     }
-}
-
-fn legacy_line_at(line: usize) -> &'static [Span; 256]
-    requires { line < 4 }
-    ensures line { slice_get legacy_spans line ≡ Some result.now }
-    ensures width { length result.now ≡ 256 }
-{
-    &LEGACY_SPANS[line]
-}
-
-fn vex_line_at(line: usize) -> &'static [Span; 256]
-    requires { line < 4 }
-    ensures line { slice_get vex_spans line ≡ Some result.now }
-    ensures width { length result.now ≡ 256 }
-{
-    &VEX_SPANS[line]
 }
 
 #[cfg(test)]

@@ -80,6 +80,7 @@ fn rows_of_names(rt: HostRuntime) {
     }
 }
 
+/// The row of a code, looked up on a count of its own.
 fn row_of_code<L: Ledger>(blank: Blank, code: Code) -> Row
     requires name { blank.name ≡ L.name }
     requires parts { blank.parts ≡ L.parts }

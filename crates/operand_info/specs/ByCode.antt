@@ -9,6 +9,7 @@ use Rattle.operand_info.specs.declared.columns.Access.{Access}
 use Rattle.operand_info.specs.declared.columns.Access.TheVariants.{None as NoAccess}
 use Rattle.operand_info.specs.Columns.{flow_at, access_at}
 
+-- the columns of a row that may be absent
 abbrev pub flow_in : Option Row → List ℕ → Flow
 flow_in None name = Next
 flow_in (Some r) name = flow_at name r

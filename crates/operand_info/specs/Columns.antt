@@ -99,6 +99,7 @@ second_access name row =
 unfoldable pub third_access : Row → Access
 third_access row = if is_gather row then ReadWrite else Read
 
+-- what an instruction of the row does to the whole of operand n, which the row has
 abbrev pub access_by_place : List ℕ → Row → ℕ → Access
 access_by_place name row zero = first_access name row
 access_by_place name row (suc zero) = second_access name row

@@ -3,5 +3,6 @@ use Rattle.std.specs.Prelude.{List}
 use Rattle.operand_info.specs.declared.columns.Columns.{Columns}
 use Rattle.operand_info.specs.declared.table.TheConstants.{COLUMNS}
 
+-- the lines, by code
 unfoldable pub columns : List Columns
 columns = COLUMNS

@@ -20,9 +20,11 @@ legacy_name name row = if is_vex_row row && is_of_family (codes "v" ∷ []) name
 
 -- ---- branches
 
+-- a jump that is always taken, near or far
 unfoldable pub is_jump : List ℕ → Bool
 is_jump = is_one_of (codes "jmp" ∷ codes "jmpf" ∷ [])
 
+-- a call of a procedure, near or far
 unfoldable pub is_call : List ℕ → Bool
 is_call = is_one_of (codes "call" ∷ codes "callf" ∷ [])
 
@@ -35,9 +37,11 @@ unfoldable pub is_return : List ℕ → Bool
 is_return name =
     is_one_of (codes "ret" ∷ codes "retf" ∷ codes "sysret" ∷ codes "sysexit" ∷ []) name || is_of_family (codes "iret" ∷ []) name
 
+-- a fast call to a system procedure
 unfoldable pub is_system_call : List ℕ → Bool
 is_system_call = is_one_of (codes "syscall" ∷ codes "sysenter" ∷ [])
 
+-- a call to an interrupt handler
 unfoldable pub is_interrupt : List ℕ → Bool
 is_interrupt = is_one_of (codes "int" ∷ codes "int1" ∷ codes "int3" ∷ codes "into" ∷ [])
 
@@ -75,9 +79,11 @@ is_merging =
 unfoldable pub is_half_move : List ℕ → Bool
 is_half_move = is_one_of (codes "movlps" ∷ codes "movlpd" ∷ codes "movhps" ∷ codes "movhpd" ∷ [])
 
+-- MULX, which writes its first two operands
 unfoldable pub is_mulx : List ℕ → Bool
 is_mulx = is_one_of (codes "mulx" ∷ [])
 
+-- IMUL, in its forms of one, two and three operands
 unfoldable pub is_imul : List ℕ → Bool
 is_imul = is_one_of (codes "imul" ∷ [])
 
@@ -101,6 +107,7 @@ is_vector_reader name =
     is_one_of (codes "ldmxcsr" ∷ codes "ptest" ∷ codes "maskmovq" ∷ codes "maskmovdqu" ∷ []) name
     || is_of_family (codes "fxrstor" ∷ codes "xrstor" ∷ codes "comis" ∷ codes "ucomis" ∷ codes "pcmpestr" ∷ codes "pcmpistr" ∷ []) name
 
+-- VTESTPS and VTESTPD, which set flags alone
 unfoldable pub is_vector_test : List ℕ → Bool
 is_vector_test = is_of_family (codes "vtest" ∷ [])
 

@@ -53,6 +53,7 @@ pub struct Columns {
     pub memory: u8,
 }
 
+/// The line of a code.
 #[inline]
 fn line_at(code: Code) -> Columns
     requires { code.0 < ROWS }

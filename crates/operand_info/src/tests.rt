@@ -65,6 +65,7 @@ fn columns_of_codes(rt: HostRuntime) {
     }
 }
 
+/// An instruction with these operands and no prefix.
 fn plain(code: Code, first: Operand, second: Operand) -> Instr {
     Instr {
         code,

@@ -1,19 +1,11 @@
 -- What `read_prefixes` answers, by the front of the bytes.
-use Rattle.std.specs.Prelude.{ℕ, Bool, ◌||◌, ◌==◌, nat_le, if◌then◌else◌, Result, Ok, Err}
-use Rattle.x86_values.specs.declared.Bits.{Bits}
-use Rattle.x86_values.specs.declared.Bits.TheVariants.{B16, B32, B64}
+use Rattle.std.specs.Prelude.{ℕ, nat_le, if◌then◌else◌, Result, Ok, Err}
+pub use Rattle.x86_values.specs.Modes.{is_mode}
+unfoldable pub use Rattle.x86_values.specs.Modes.{mode_of}
 use Rattle.instruction_parts.specs.declared.spelling.PrefixState.{PrefixState}
 use Rattle.instruction_parts.specs.Front.{Front, Open, Forbidden, Known}
 use Rattle.prefixes.specs.declared.PrefixError.{PrefixError}
 use Rattle.prefixes.specs.declared.PrefixError.TheVariants.{Ended, Forbidden as ForbiddenError}
-
--- the number is that of a mode
-abbrev pub is_mode : ℕ → Bool
-is_mode n = n == 16 || n == 32 || n == 64
-
--- the mode of a number
-unfoldable pub mode_of : ℕ → Bits
-mode_of n = if n == 16 then B16 else (if n == 32 then B32 else B64)
 
 -- an open front is Ended, a forbidden one Forbidden, and a known one its state
 abbrev pub answer_of : Front → Result PrefixState PrefixError

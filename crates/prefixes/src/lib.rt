@@ -21,6 +21,7 @@ mod write;
 use row_types::Map;
 use thiserror::Error;
 pub use write::{append_front, write_prefixes};
+pub use x86_values::mode_of;
 use x86_values::{Bits, Rep};
 
 /// Why bytes have no front.
@@ -33,20 +34,6 @@ pub enum PrefixError {
     /// counts, 62 stands as an opcode byte in 64-bit mode, 0F follows the escape byte 0F, or 15 bytes hold no opcode byte.
     #[error("no opcode byte can follow these prefixes")]
     Forbidden,
-}
-
-/// The mode of a number, 16, 32 or 64.
-#[tactic(auto, unfolding(crate::specs::Answer::mode_of))]
-pub fn mode_of<const BITS: u32>() -> Bits
-    ensures { result ≡ mode_of BITS }
-{
-    if BITS == 16 {
-        Bits::B16
-    } else if BITS == 32 {
-        Bits::B32
-    } else {
-        Bits::B64
-    }
 }
 
 /// The length of the run of prefix bytes at the front.

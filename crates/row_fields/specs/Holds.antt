@@ -28,6 +28,7 @@ use Rattle.row_fields.specs.declared.Fields.{Fields}
 
 -- ---- where a row stands
 
+-- the row is one behind a VEX prefix (Intel SDM volume 2, 2.3.5)
 abbrev pub is_vex : RowKind → Bool
 is_vex kind.Legacy = false
 is_vex kind.Vex = true
@@ -59,6 +60,7 @@ at_90 r op = (map_number (is_vex r.kind) r.map == 0) && (op == 0x90)
 
 -- ---- the prefix that counts: 0 for none, 1 for 66, 2 for F3 and 3 for F2, where F3 and F2 outrank 66
 
+-- by the repeat prefix that counts and by whether 66 counts
 abbrev pub prefix_of : Rep → Bool → ℕ
 prefix_of rep.F3 _ = 2
 prefix_of rep.F2 _ = 3
@@ -75,6 +77,7 @@ class_allows class.P66 prefix = prefix == 1
 class_allows class.F3 prefix = prefix == 2
 class_allows class.F2 prefix = prefix == 3
 
+-- the row adds a register number to its opcode byte (3.1.1.1, +rb to +ro)
 abbrev pub adds_register : Plus → Bool
 adds_register plus.Register = true
 adds_register plus.No = false
@@ -90,6 +93,7 @@ rex_b_at_90 plus.Register _ b = b
 rex_b_at_90 _ class.F3 b = true
 rex_b_at_90 _ _ b = not b
 
+-- a row's condition on REX.B, which only the rows at 90 have
 unfoldable pub rex_b_holds : Row → ℕ → Bool → Bool
 rex_b_holds r op b = not (at_90 r op) || rex_b_at_90 r.plus r.class b
 
@@ -137,6 +141,7 @@ size_allows size.O64 n = is_64 n
 size_allows size.W0 n = true
 size_allows size.W1 n = true
 
+-- a row's condition on the operand size, by 66 and W (3.1.1.1, REX.W)
 unfoldable pub size_holds : Bits → Row → Bool → Bool → Bool
 size_holds bits r size66 w = size_allows r.size (operand_size bits r (is_64 bits && w) size66)
 
@@ -155,6 +160,7 @@ w_allows _ w.W0 b = not b
 w_allows _ w.W1 b = b
 w_allows _ w.Wig b = true
 
+-- a row's condition on W: as its size, or as its notation says (3.1.1.2)
 unfoldable pub w_holds : Bits → Row → Bool → Bool
 w_holds bits r w = w_as_size r.size (is_64 bits && w) && w_allows r.size r.w w
 
@@ -168,6 +174,7 @@ l_holds l.Lz b = not b
 
 -- ---- the nine fields together
 
+-- all conditions of a row
 unfoldable pub holds : Bits → Row → Fields → Bool
 holds bits r f =
     let byte = byte_of f.modrm in

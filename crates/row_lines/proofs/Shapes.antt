@@ -16,27 +16,12 @@ use Rattle.opcode_rows.proofs.JoinFacts.{all_rows, in_each_part}
 unfoldable pub has_shape : Row → Bool
 has_shape row = is_proper (shape row)
 
-integer-shapes : all_rows has_shape integer_rows ≡ true
-unfolding all_rows has_shape size_word plus_word imm_word_of imm_word shape is_opcode_of_map is_rule_in_range is_stack_proper is_legacy_proper is_vex_proper is_proper integer_rows integer_flat
-integer-shapes = refl
-
-x87-shapes : all_rows has_shape x87_rows ≡ true
-unfolding all_rows has_shape size_word plus_word imm_word_of imm_word shape is_opcode_of_map is_rule_in_range is_stack_proper is_legacy_proper is_vex_proper is_proper x87_rows x87_flat
-x87-shapes = refl
-
-sse-shapes : all_rows has_shape sse_rows ≡ true
-unfolding all_rows has_shape size_word plus_word imm_word_of imm_word shape is_opcode_of_map is_rule_in_range is_stack_proper is_legacy_proper is_vex_proper is_proper sse_rows sse_flat
-sse-shapes = refl
-
-vex-shapes : all_rows has_shape vex_rows ≡ true
-unfolding all_rows has_shape size_word plus_word imm_word_of imm_word shape is_opcode_of_map is_rule_in_range is_stack_proper is_legacy_proper is_vex_proper is_proper vex_rows vex_flat
-vex-shapes = refl
-
 each-shape : (p : Part) → all_rows has_shape (part_table p) ≡ true
-each-shape part.Integer = integer-shapes
-each-shape part.X87 = x87-shapes
-each-shape part.Sse = sse-shapes
-each-shape part.Vex = vex-shapes
+unfolding all_rows has_shape size_word plus_word imm_word_of imm_word shape is_opcode_of_map is_rule_in_range is_stack_proper is_legacy_proper is_vex_proper is_proper integer_rows integer_flat x87_rows x87_flat sse_rows sse_flat vex_rows vex_flat
+each-shape part.Integer = refl
+each-shape part.X87 = refl
+each-shape part.Sse = refl
+each-shape part.Vex = refl
 
 pub proper-row : (code : ℕ) (row : Row) → slice_get table code ≡ Some row → IsTrue (is_proper (shape row))
 unfolding has_shape

@@ -6,7 +6,6 @@ pub mod laws;
 mod tests;
 
 ghost use Rattle.std.specs.Prelude.{◌≡◌, ◌<◌, ◌≤◌, ◌+◌, ◌∷◌, ◌++◌, [], length, IsTrue, Some, slice_get, decimal};
-ghost use Rattle.arrayvec.specs.ArrayVec.{array_vec_len};
 ghost use Rattle.row_notation.specs.Shape.{is_proper, shape};
 ghost use Rattle.row_notation.specs.Notation.{notation};
 ghost use Rattle.opcode_rows.specs.Table.{table, name_of};
@@ -17,6 +16,7 @@ use itoa::Buffer;
 use opcode_rows::{ROWS, name, row_of};
 use row_notation::write_notation;
 use row_types::Row;
+use text_parts::text::append;
 use x86_values::Code;
 
 /// The row of a code, which makes a proper shape.
@@ -26,17 +26,6 @@ fn proper_row(code: Code) -> Row
     ensures proper { IsTrue (is_proper (shape result)) }
 {
     row_of(code)
-}
-
-/// Appends a piece of a line.
-fn append(line: &mut ArrayVec<u8, 128>, piece: &[u8])
-    requires { array_vec_len line.old + length piece.now ≤ 128 }
-    ensures { line.new.items ≡ line.old.items ++ piece.now }
-{
-    match line.try_extend_from_slice(piece) {
-        Ok(()) => {}
-        Err(_) => {}
-    }
 }
 
 /// The notation of the row of a code below `ROWS`.

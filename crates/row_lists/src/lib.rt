@@ -1,8 +1,11 @@
 //! Rows as constant data, and the cells of a list of rows.
 #![tactic(auto)]
 
-ghost use Rattle.std.specs.Prelude.{◌≡◌, ◌<◌};
-ghost use Rattle.row_lists.specs.Cells.{map_index};
+ghost use Rattle.std.specs.Prelude.{◌≡◌, ◌<◌, length, slice_get, Some};
+ghost use Rattle.row_lists.specs.Cells.{map_index, cell_of, span_of};
+ghost use Rattle.row_lists.specs.declared.Span.{Span};
+ghost use Rattle.row_lists.specs.Flat.{row_of, rows_of};
+ghost use Rattle.row_lists.specs.Spans.{AreSpansOf};
 
 use row_types::{
     Class, LBit, Map, Marks, ModRmRule, ModeMask, OpKind, Place, Plus, Row, RowKind, Size, WBit,
@@ -30,8 +33,6 @@ pub struct FlatRow {
 }
 
 impl FlatRow {
-    ghost use Rattle.row_lists.specs.Flat.{row_of};
-
     /// The row itself.
     #[inline]
     pub fn row(&self) -> Row
@@ -60,6 +61,52 @@ impl FlatRow {
 pub struct Span {
     pub first: u16,
     pub count: u16,
+}
+
+/// A list of rows of one kind, with where the rows of each of its cells lie: a line of spans for each map.
+#[derive(Clone, Copy)]
+pub struct RowList {
+    pub kind: RowKind,
+    pub rows: &'static [FlatRow],
+    pub spans: &'static [[Span; 256]; 4],
+}
+
+impl RowList {
+    /// The row at a place of the list, which begins at 0.
+    #[inline]
+    pub fn row_at(&self, at: usize) -> Row
+        requires { at < length (rows_of self.now.rows.now) }
+        ensures { slice_get (rows_of self.now.rows.now) at ≡ Some result }
+    {
+        self.rows[at].row()
+    }
+
+    /// How many of the rows stand at an opcode byte of a map. A row that adds a register to its opcode byte stands at eight.
+    pub fn cell_len(&self, map: Map, opcode: u8) -> u16
+        requires { AreSpansOf self.now.kind (rows_of self.now.rows.now) self.now.spans.now }
+        ensures { result ≡ length (cell_of (rows_of self.now.rows.now) self.now.kind map opcode) }
+    {
+        span_in(self.spans, map, opcode).count
+    }
+
+    /// The `i`-th of these rows, from 0, in the order of the list.
+    pub fn cell_row(&self, map: Map, opcode: u8, i: u16) -> Row
+        requires spans { AreSpansOf self.now.kind (rows_of self.now.rows.now) self.now.spans.now }
+        requires within { i < length (cell_of (rows_of self.now.rows.now) self.now.kind map opcode) }
+        ensures { slice_get (cell_of (rows_of self.now.rows.now) self.now.kind map opcode) i ≡ Some result }
+    {
+        let first = span_in(self.spans, map, opcode).first;
+        self.row_at(first as usize + i as usize)
+    }
+}
+
+/// Where the rows of a cell lie, from a line of spans for each map.
+pub fn span_in(spans: &[[Span; 256]; 4], map: Map, opcode: u8) -> Span
+    requires { (s : Span) × (span_of spans.now (map_index map) opcode ≡ Some s) }
+    ensures { span_of spans.now (map_index map) opcode ≡ Some result }
+{
+    let line = &spans[map_number(map)];
+    line[opcode as usize]
 }
 
 /// The opcode maps in the order of a table's lines of cells.

@@ -1,7 +1,8 @@
 -- The notation of each proper shape is a text of the languages.
 use Rattle.std.proofs.Common.{◌≡◌, inl, inr, ℕ, ◌+◌, ◌*◌, ◌/◌, ◌%◌, ◌<◌, List, [], ◌∷◌, ◌++◌, refl, sym, ap, ◌∙◌, subst, arith, Bool, true, false, ◌&&◌, ◌||◌, not, ◌==◌, nat_lt, nat_le, Some}
-use Rattle.std.proofs.lemmas.Bool.{eqb-true}
+use Rattle.std.proofs.lemmas.Bool.{eqb-true, and_from}
 use Rattle.std.proofs.lemmas.List.{append-nil}
+use Rattle.instruction_parts.proofs.Tests.{and_left, and_right}
 use Rattle.row_types.specs.declared.RowKind.{RowKind}
 use Rattle.row_types.specs.declared.RowKind.TheVariants.{Legacy, Vex}
 use Rattle.row_types.specs.declared.Map.{Map}
@@ -27,7 +28,7 @@ use Rattle.row_notation.specs.Texts.{IsTextOf}
 use Rattle.row_notation.specs.Reading.{imm_words, plus_words, maps, size_words, classes, w_words, vex_maps, vex_classes, l_words, blank}
 use Rattle.row_notation.proofs.Languages.{Language, word_then, one_of}
 use Rattle.row_notation.proofs.Grammar.{ends, imm_texts, stack_texts, any_digit, register_digit, modrm_texts, plus_texts, opcode_digit, opcode_texts, map_texts, size_texts, class_texts, w_texts, vex_map_texts, pp_texts, vex_texts, all_texts}
-use Rattle.row_notation.proofs.Parts.{full, before_modrm, and-left, and-right, and-both, choose, nth, imm_allowed, fixed_allowed, plus_allowed, opcode_allowed}
+use Rattle.row_notation.proofs.Parts.{full, before_modrm, choose, nth, imm_allowed, fixed_allowed, plus_allowed, opcode_allowed}
 
 imm-at : (k : RowKind) (shape : RowShape) (n : ℕ) (i : ImmWord) → nth (imm_words k) n ≡ Some i
     → one_of (imm_words k) (λ x. word_then (imm_text x) (ends (record shape { imm = x }))) (imm_text i) (record shape { imm = i })
@@ -147,8 +148,8 @@ plus-complete Vex added.Ro L text s e h = absurd cc
 opcode-test : (k : RowKind) (m : Map) (c : Class) (z : SizeWord) (l : LBit) (w : WBit) (b : ℕ) → opcode_allowed k m b ≡ true
     → opcode_digit (full k m c z 0 added.None l w rule.No false imm.None) (b / 16) (b % 16) ≡ true
 opcode-test Legacy m c z l w b h =
-    and-both (nat_lt (b % 16) 16) (is_opcode_of_map m ((b / 16) * 16 + b % 16)) (low-test b) (ap (λ x. is_opcode_of_map m x) (whole-byte b) ∙ h)
-opcode-test Vex m c z l w b h = and-both (nat_lt (b % 16) 16) true (low-test b) refl
+    and_from (nat_lt (b % 16) 16) (is_opcode_of_map m ((b / 16) * 16 + b % 16)) (low-test b) (ap (λ x. is_opcode_of_map m x) (whole-byte b) ∙ h)
+opcode-test Vex m c z l w b h = and_from (nat_lt (b % 16) 16) true (low-test b) refl
 
 -- from the opcode byte on
 opcode-complete : (k : RowKind) (m : Map) (c : Class) (z : SizeWord) (b : ℕ) (p : PlusWord) (l : LBit) (w : WBit) (r : ModRmRule) (st : Bool) (i : ImmWord)
@@ -281,12 +282,12 @@ vex-complete m c b l w r st i small range stack fixed has_l has_w vex_class own 
 pub from-legacy : (s : RowShape) → is_legacy_proper s ≡ true → (is_no_l s.l ≡ true) × (is_no_w s.w ≡ true) × (imm_allowed Legacy s.imm ≡ true) × (is_opcode_of_map s.map s.opcode ≡ true)
 unfolding is_legacy_proper
 from-legacy s h =
-    let r1 = and-right (is_no_l s.l) (is_no_w s.w && (not (is_four_bits s.imm) && is_opcode_of_map s.map s.opcode)) h in
-    let r2 = and-right (is_no_w s.w) (not (is_four_bits s.imm) && is_opcode_of_map s.map s.opcode) r1 in (
-      and-left (is_no_l s.l) (is_no_w s.w && (not (is_four_bits s.imm) && is_opcode_of_map s.map s.opcode)) h,
-      and-left (is_no_w s.w) (not (is_four_bits s.imm) && is_opcode_of_map s.map s.opcode) r1,
-      and-left (not (is_four_bits s.imm)) (is_opcode_of_map s.map s.opcode) r2,
-      and-right (not (is_four_bits s.imm)) (is_opcode_of_map s.map s.opcode) r2,
+    let r1 = and_right (is_no_l s.l) (is_no_w s.w && (not (is_four_bits s.imm) && is_opcode_of_map s.map s.opcode)) h in
+    let r2 = and_right (is_no_w s.w) (not (is_four_bits s.imm) && is_opcode_of_map s.map s.opcode) r1 in (
+      and_left (is_no_l s.l) (is_no_w s.w && (not (is_four_bits s.imm) && is_opcode_of_map s.map s.opcode)) h,
+      and_left (is_no_w s.w) (not (is_four_bits s.imm) && is_opcode_of_map s.map s.opcode) r1,
+      and_left (not (is_four_bits s.imm)) (is_opcode_of_map s.map s.opcode) r2,
+      and_right (not (is_four_bits s.imm)) (is_opcode_of_map s.map s.opcode) r2,
     )
 
 -- the parts of a proper VEX shape
@@ -307,19 +308,19 @@ from-vex s h =
     let t4 : Bool = is_no_size_word s.size_word && t5 in
     let t3 : Bool = is_vex_class s.class && t4 in
     let t2 : Bool = not (is_no_w s.w) && t3 in
-    let r2 = and-right (not (is_no_l s.l)) t2 h in
-    let r3 = and-right (not (is_no_w s.w)) t3 r2 in
-    let r4 = and-right (is_vex_class s.class) t4 r3 in
-    let r5 = and-right (is_no_size_word s.size_word) t5 r4 in
-    let r6 = and-right (is_no_plus_word s.plus_word) t6 r5 in
+    let r2 = and_right (not (is_no_l s.l)) t2 h in
+    let r3 = and_right (not (is_no_w s.w)) t3 r2 in
+    let r4 = and_right (is_vex_class s.class) t4 r3 in
+    let r5 = and_right (is_no_size_word s.size_word) t5 r4 in
+    let r6 = and_right (is_no_plus_word s.plus_word) t6 r5 in
     record {
-      has_l = and-left (not (is_no_l s.l)) t2 h;
-      has_w = and-left (not (is_no_w s.w)) t3 r2;
-      vex_class = and-left (is_vex_class s.class) t4 r3;
-      size = and-left (is_no_size_word s.size_word) t5 r4;
-      plus = and-left (is_no_plus_word s.plus_word) t6 r5;
-      fixed = and-left (not (is_fixed s.modrm)) (not (is_map_one s.map)) r6;
-      own = and-right (not (is_fixed s.modrm)) (not (is_map_one s.map)) r6;
+      has_l = and_left (not (is_no_l s.l)) t2 h;
+      has_w = and_left (not (is_no_w s.w)) t3 r2;
+      vex_class = and_left (is_vex_class s.class) t4 r3;
+      size = and_left (is_no_size_word s.size_word) t5 r4;
+      plus = and_left (is_no_plus_word s.plus_word) t6 r5;
+      fixed = and_left (not (is_fixed s.modrm)) (not (is_map_one s.map)) r6;
+      own = and_right (not (is_fixed s.modrm)) (not (is_map_one s.map)) r6;
     }
 
 pub no-l : (l : LBit) → is_no_l l ≡ true → l ≡ lbit.None
@@ -376,11 +377,11 @@ complete-proper s h =
     let kind-test : Bool = elim s.kind as (λ _. Bool) [ Legacy ↦ is_legacy_proper s | Vex ↦ is_vex_proper s ] in
     let t2 : Bool = is_stack_proper s.modrm s.stack && kind-test in
     let t1 : Bool = is_rule_in_range s.modrm && t2 in
-    let r1 = and-right (nat_lt s.opcode 256) t1 h in
-    let r2 = and-right (is_rule_in_range s.modrm) t2 r1 in
+    let r1 = and_right (nat_lt s.opcode 256) t1 h in
+    let r2 = and_right (is_rule_in_range s.modrm) t2 r1 in
     complete-by s.kind s.map s.class s.size_word s.opcode s.plus_word s.l s.w s.modrm s.stack s.imm
-    (small-opcode s.opcode (and-left (nat_lt s.opcode 256) t1 h)) (and-left (is_rule_in_range s.modrm) t2 r1)
-    (and-left (is_stack_proper s.modrm s.stack) kind-test r2) (and-right (is_stack_proper s.modrm s.stack) kind-test r2)
+    (small-opcode s.opcode (and_left (nat_lt s.opcode 256) t1 h)) (and_left (is_rule_in_range s.modrm) t2 r1)
+    (and_left (is_stack_proper s.modrm s.stack) kind-test r2) (and_right (is_stack_proper s.modrm s.stack) kind-test r2)
 
 -- a shape's text is a text of the languages
 pub complete : (text : List ℕ) (s : RowShape) → IsTextOf text s → all_texts text s

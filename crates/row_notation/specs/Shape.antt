@@ -149,6 +149,7 @@ unfoldable pub is_stack_proper : ModRmRule → Bool → Bool
 is_stack_proper (rule.Fixed b) stack = not stack || b % 8 == 0
 is_stack_proper _ stack = not stack
 
+-- the notation has no word for the part: L, W, size, what is added to the opcode byte
 abbrev pub is_no_l : LBit → Bool
 is_no_l l.None = true
 is_no_l _ = false
@@ -157,6 +158,7 @@ abbrev pub is_no_w : WBit → Bool
 is_no_w w.None = true
 is_no_w _ = false
 
+-- a register in the upper four bits of the last byte, /is4 (Intel SDM volume 2, 3.1.1.2)
 abbrev pub is_four_bits : ImmWord → Bool
 is_four_bits imm.Is4 = true
 is_four_bits _ = false
@@ -169,10 +171,12 @@ abbrev pub is_no_plus_word : PlusWord → Bool
 is_no_plus_word added.None = true
 is_no_plus_word _ = false
 
+-- the whole ModRM byte is fixed
 abbrev pub is_fixed : ModRmRule → Bool
 is_fixed (rule.Fixed _) = true
 is_fixed _ = false
 
+-- the one-byte map
 abbrev pub is_map_one : Map → Bool
 is_map_one map.One = true
 is_map_one _ = false

@@ -113,7 +113,7 @@ fn digit_value(c: u8) -> u8
     ensures small { result ≤ 16 }
 {
     match c {
-        b'0'..=b'9' => c - 48,
+        b'0'..=b'9' => c - b'0',
         b'A'..=b'F' => c - 55,
         _ => 16,
     }

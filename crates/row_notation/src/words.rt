@@ -138,5 +138,5 @@ pub fn digit_text(d: u8) -> u8
     requires { d < 16 }
     ensures { result ≡ spec.digit_text d }
 {
-    if d < 10 { 48 + d } else { 55 + d }
+    if d < 10 { b'0' + d } else { 55 + d }
 }

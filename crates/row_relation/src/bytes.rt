@@ -43,6 +43,7 @@ fn map_number(map: Map) -> u8
     }
 }
 
+/// A bit as a number.
 fn bit(b: bool) -> u8
     ensures value { result ≡ spec.bit b }
     ensures small { result < 2 }
@@ -50,6 +51,7 @@ fn bit(b: bool) -> u8
     if b { 1 } else { 0 }
 }
 
+/// A bit as it is stored in a VEX, inverted (2.3.5).
 fn inverted(b: bool) -> u8
     ensures value { result ≡ spec.inverted b }
     ensures small { result < 2 }

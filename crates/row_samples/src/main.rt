@@ -3,20 +3,17 @@
 //! there are and on how many all calls agree; each other row has a line of its own.
 #![tactic(auto)]
 
-ghost use Rattle.std.specs.Prelude.{◌≡◌, ◌<◌};
+ghost use Rattle.std.specs.Prelude.{◌<◌};
 
 mod reading;
 mod sample;
 
 use encoder::encode;
 use instruction_parts::sizes::exists_in;
-use opcode_rows::{ROWS, name, row};
+use opcode_rows::{ROWS, name, row_of};
 use reading::{Answers, answers};
 use row_types::Row;
 use sample::sample;
-use std::marker::Brand;
-use std::sync::ledger::{Blank, Ledger};
-use step_count::Steps;
 use x86_values::{Bits, Code, Instr, same};
 
 /// Where the instructions stand.
@@ -74,17 +71,6 @@ fn width(bits: Bits) -> u32 {
     }
 }
 
-/// The row of a code, looked up on a count of its own.
-fn row_of<L: Ledger>(blank: Blank, code: Code) -> Row
-    requires code { code.0 < ROWS }
-    requires name { blank.name ≡ L.name }
-    requires parts { blank.parts ≡ L.parts }
-    requires some { 0 < L.parts }
-{
-    let mut steps = Steps::<L>::open(blank);
-    row(code, &mut steps)
-}
-
 /// Tells of a row whose instruction is not read as it should, and answers whether it is.
 fn tell(rt: &HostRuntime, bits: Bits, code: Code, row: &Row) -> anyhow::Result<bool>
     requires { code.0 < ROWS }
@@ -108,7 +94,7 @@ fn tell_mode(rt: &HostRuntime, bits: Bits) -> anyhow::Result<()> {
     let mut rows = 0_u32;
     let mut agree = 0_u32;
     for number in 0..ROWS {
-        let row = row_of::<Brand>(Blank::new(1), Code(number));
+        let row = row_of(Code(number));
         if exists_in(bits, &row) {
             rows = rows.wrapping_add(1);
             if tell(rt, bits, Code(number), &row)? {

@@ -139,10 +139,6 @@ fn operand(bits: Bits, row: &Row, kind: OpKind) -> Operand {
     }
 }
 
-fn is_memory(operand: &Operand) -> bool {
-    matches!(operand, Operand::Mem(_))
-}
-
 /// An instruction of the row in a mode, at address 0x1000.
 pub fn sample(bits: Bits, code: Code, row: &Row) -> Instr {
     let [first, second, third, fourth] = row.ops;
@@ -152,7 +148,7 @@ pub fn sample(bits: Bits, code: Code, row: &Row) -> Instr {
         operand(bits, row, third),
         operand(bits, row, fourth),
     ];
-    let has_address = has_address_mark(row) || ops.iter().any(|op| is_memory(op));
+    let has_address = has_address_mark(row) || ops.iter().any(|op| op.is_memory());
     Instr {
         code,
         ops,

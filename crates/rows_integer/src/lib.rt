@@ -5,13 +5,28 @@ pub mod laws;
 mod table;
 
 ghost use Rattle.std.specs.Prelude.{◌≡◌, ◌<◌, length, slice_get, Some};
-ghost use Rattle.row_lists.specs.Cells.{map_index, span_of};
-ghost use Rattle.rows_integer.specs.Table.{flat_rows, table, cell, spans};
+ghost use Rattle.row_types.specs.declared.RowKind.TheVariants.{Legacy};
+ghost use Rattle.row_lists.specs.Flat.{rows_of};
+ghost use Rattle.rows_integer.specs.Table.{table, cell, spans};
 
-use row_lists::{FlatRow, Span, map_number};
-use row_types::{Map, Row};
+use row_lists::RowList;
+use row_types::{Map, Row, RowKind};
 pub use table::ROWS;
 use table::{FLAT_ROWS, SPANS};
+
+/// The rows as one list.
+#[inline]
+fn list() -> RowList
+    ensures kind { result.kind ≡ Legacy }
+    ensures rows { rows_of result.rows.now ≡ table }
+    ensures spans { result.spans.now ≡ spans }
+{
+    RowList {
+        kind: RowKind::Legacy,
+        rows: &FLAT_ROWS,
+        spans: &SPANS,
+    }
+}
 
 /// The row at a place of the list, which begins at 0.
 #[inline]
@@ -19,14 +34,14 @@ pub fn row_at(at: u16) -> Row
     requires { at < ROWS }
     ensures { slice_get table at ≡ Some result }
 {
-    flat_at(at).row()
+    list().row_at(at as usize)
 }
 
 /// How many of the rows stand at an opcode byte of a map. A row that adds a register to its opcode byte stands at eight.
 pub fn cell_len(map: Map, opcode: u8) -> u16
     ensures { result ≡ length (cell map opcode) }
 {
-    span_at(map, opcode).count
+    list().cell_len(map, opcode)
 }
 
 /// The `i`-th of these rows, from 0, in the order of the table.
@@ -34,27 +49,5 @@ pub fn cell_row(map: Map, opcode: u8, i: u16) -> Row
     requires { i < length (cell map opcode) }
     ensures { slice_get (cell map opcode) i ≡ Some result }
 {
-    row_at(span_at(map, opcode).first + i)
-}
-
-#[inline]
-fn flat_at(at: u16) -> FlatRow
-    requires { at < ROWS }
-    ensures { slice_get flat_rows at ≡ Some result }
-{
-    FLAT_ROWS[at as usize]
-}
-
-fn span_at(map: Map, opcode: u8) -> Span
-    ensures { span_of spans (map_index map) opcode ≡ Some result }
-{
-    line_at(map_number(map))[opcode as usize]
-}
-
-fn line_at(line: usize) -> &'static [Span; 256]
-    requires { line < 4 }
-    ensures line { slice_get spans line ≡ Some result.now }
-    ensures width { length result.now ≡ 256 }
-{
-    &SPANS[line]
+    list().cell_row(map, opcode, i)
 }

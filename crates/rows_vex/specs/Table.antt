@@ -9,6 +9,7 @@ use Rattle.row_lists.specs.Flat.{rows_of}
 use Rattle.row_lists.specs.Cells.{cell_of}
 use Rattle.rows_vex.specs.declared.table.TheConstants.{FLAT_ROWS, SPANS}
 
+-- the rows as they lie in the table of constants
 unfoldable pub flat_rows : List FlatRow
 flat_rows = FLAT_ROWS
 
@@ -17,6 +18,7 @@ unfoldable pub table : List Row
 unfolding flat_rows
 table = rows_of flat_rows
 
+-- where the rows of each cell lie: for each map a line of spans by opcode byte
 unfoldable pub spans : List (List Span)
 spans = SPANS
 

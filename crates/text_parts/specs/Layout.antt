@@ -49,6 +49,7 @@ behind_size style [] = []
 behind_size Masm (c ∷ cs) = codes " ptr "
 behind_size _ (c ∷ cs) = codes " "
 
+-- the size of what operand n of the row has in memory, in the words of a style
 unfoldable pub size_word : Style → Row → ℕ → List ℕ
 size_word style row n = operand_size_name row n ++ behind_size style (operand_size_name row n)
 

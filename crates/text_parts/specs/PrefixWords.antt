@@ -15,24 +15,23 @@ use Rattle.row_types.specs.declared.Row.{Row}
 use Rattle.row_types.specs.declared.Size.{Size}
 use Rattle.row_types.specs.declared.Size.TheVariants.{None as NoSize, O16, O32, O32or64, O64, W0, W1}
 use Rattle.instruction_parts.specs.Sizes.{has_mark, operand_size}
+pub use Rattle.x86_values.specs.Operands.{is_memory}
 use Rattle.text_parts.specs.Registers.{segment_name}
 
 -- ---- LOCK and repeat (Intel SDM volume 2, 2.1.1)
 
+-- the word of LOCK and the space behind it, where the instruction has it
 unfoldable pub lock_word : Bool → List ℕ
 lock_word true = codes "lock "
 lock_word false = []
 
+-- the word of F2 or F3 and the space behind it
 unfoldable pub repeat_word : Rep → List ℕ
 repeat_word NoRep = []
 repeat_word F2 = codes "repne "
 repeat_word F3 = codes "rep "
 
 -- ---- the segment, which a memory operand shows
-
-unfoldable pub is_memory : Operand → Bool
-is_memory (MemOperand m) = true
-is_memory _ = false
 
 -- some operand is memory
 abbrev pub has_memory : Instr → Bool
@@ -46,6 +45,7 @@ segment_word instr =
 
 -- ---- sizes
 
+-- a size in bits, in decimal
 unfoldable pub size_digits : Bits → List ℕ
 size_digits B16 = codes "16"
 size_digits B32 = codes "32"
@@ -55,6 +55,7 @@ size_digits B64 = codes "64"
 unfoldable pub sized_word : List ℕ → Bits → List ℕ
 sized_word letter size = letter ++ (size_digits size ++ codes " ")
 
+-- two sizes are not the same
 unfoldable pub differs : Bits → Bits → Bool
 differs a b = not (width a == width b)
 
@@ -111,6 +112,7 @@ named_size O64 = Some B64
 named_size W0 = Some B32
 named_size W1 = Some B64
 
+-- the row takes its operand size from W
 unfoldable pub is_by_w : Size → Bool
 is_by_w W0 = true
 is_by_w W1 = true

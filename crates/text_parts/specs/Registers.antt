@@ -25,6 +25,7 @@ unfoldable pub high_byte_name : ℕ → List ℕ
 high_byte_name n =
     if n == 0 then codes "ah" else (if n == 1 then codes "ch" else (if n == 2 then codes "dh" else codes "bh"))
 
+-- the name of a segment register
 unfoldable pub segment_name : Segment → List ℕ
 segment_name Es = codes "es"
 segment_name Cs = codes "cs"
@@ -51,6 +52,7 @@ unfoldable pub stack_name : Style → ℕ → List ℕ
 stack_name Intel n = numbered (codes "st") n []
 stack_name _ n = numbered (codes "st(") n (codes ")")
 
+-- the name of a register, without the sign of a style in front
 unfoldable pub register_name : Style → Register → List ℕ
 register_name style (Low8 n) = low_byte n
 register_name style (High8 n) = high_byte_name n

@@ -38,23 +38,11 @@ fn append_repeat_word<const N: usize>(out: &mut ArrayVec<u8, N>, rep: Rep)
     }
 }
 
-/// Whether an operand is memory.
-#[inline]
-#[tactic(auto, unfolding(crate::specs::PrefixWords::is_memory))]
-pub fn is_memory(op: Operand) -> bool
-    ensures { result ≡ spec.is_memory op }
-{
-    match op {
-        Operand::Mem(_) => true,
-        _ => false,
-    }
-}
-
 /// Whether some operand is memory.
 pub fn has_memory(instr: &Instr) -> bool
     ensures { result ≡ spec.has_memory instr.now }
 {
-    instr.ops.iter().any(|op| is_memory(*op))
+    instr.ops.iter().any(|op| op.is_memory())
 }
 
 /// Appends the segment's name, where no operand is memory.

@@ -5,8 +5,11 @@ ghost use Rattle.arrayvec.specs.ArrayVec.{array_vec_len};
 
 use arrayvec::ArrayVec;
 
-/// The text of an instruction: ASCII, at most 160 bytes.
-pub type Text = ArrayVec<u8, 160>;
+/// How many bytes the text of an instruction has at most.
+pub const TEXT_LEN: usize = 160;
+
+/// The text of an instruction: ASCII, at most `TEXT_LEN` bytes.
+pub type Text = ArrayVec<u8, TEXT_LEN>;
 
 /// Appends bytes.
 #[inline]

@@ -86,27 +86,12 @@ may_have_one_long row =
     nat_le (most (method_of (kind_at row 0)) + (most (method_of (kind_at row 1))
     + (most (method_of (kind_at row 2)) + most (method_of (kind_at row 3))))) 1
 
-integer-one : all_rows may_have_one_long integer_rows ≡ true
-unfolding all_rows may_have_one_long method_of integer_rows integer_flat
-integer-one = refl
-
-x87-one : all_rows may_have_one_long x87_rows ≡ true
-unfolding all_rows may_have_one_long method_of x87_rows x87_flat
-x87-one = refl
-
-sse-one : all_rows may_have_one_long sse_rows ≡ true
-unfolding all_rows may_have_one_long method_of sse_rows sse_flat
-sse-one = refl
-
-vex-one : all_rows may_have_one_long vex_rows ≡ true
-unfolding all_rows may_have_one_long method_of vex_rows vex_flat
-vex-one = refl
-
 each-one : (p : Part) → all_rows may_have_one_long (part_table p) ≡ true
-each-one part.Integer = integer-one
-each-one part.X87 = x87-one
-each-one part.Sse = sse-one
-each-one part.Vex = vex-one
+unfolding all_rows may_have_one_long method_of integer_rows integer_flat x87_rows x87_flat sse_rows sse_flat vex_rows vex_flat
+each-one part.Integer = refl
+each-one part.X87 = refl
+each-one part.Sse = refl
+each-one part.Vex = refl
 
 few-kinds : (code : ℕ) (row : Row) → slice_get table code ≡ Some row → most (method_of (kind_at row 0)) + (most (method_of (kind_at row 1)) + (most (method_of (kind_at row 2)) + most (method_of (kind_at row 3)))) ≤ 1
 unfolding may_have_one_long

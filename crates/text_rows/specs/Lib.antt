@@ -1,1 +1,2 @@
 pub mod AtRow
+pub mod BracketText

@@ -1,15 +1,21 @@
-//! The row and the name that a well-formed instruction is printed by, with what keeps its text short.
+//! The row and the name that a well-formed instruction is printed by, with what keeps its text short, and the text in a style with brackets.
 #![tactic(auto)]
 
-ghost use Rattle.std.specs.Prelude.{◌≡◌, ◌≤◌, length, slice_get, Some, IsTrue};
+ghost use Rattle.std.specs.Prelude.{◌≡◌, ◌≤◌, ◌+◌, ◌++◌, length, slice_get, Some, IsTrue};
+ghost use Rattle.arrayvec.specs.ArrayVec.{array_vec_len};
 ghost use Rattle.row_fit.specs.Sound.{sound};
 ghost use Rattle.opcode_rows.specs.Table.{table, name_of};
 ghost use Rattle.opcode_rows.specs.Allowed.{is_well_formed};
 ghost use Rattle.text_parts.specs.Layout.{has_one_long};
+ghost use Rattle.text_rows.specs.BracketText.{bracket_text};
 
+use arrayvec::ArrayVec;
 use opcode_rows::{name, row_of};
 use row_types::Row;
-use x86_values::Instr;
+use text_parts::layout::append_bracket_layout;
+use text_parts::style::Style;
+use text_parts::text::TEXT_LEN;
+use x86_values::{Bits, Instr};
 
 /// The row of a well-formed instruction: it is sound, and at most one operand of the instruction
 /// is memory or a far pointer.
@@ -31,4 +37,27 @@ pub fn printed_name(instr: &Instr) -> &'static [u8]
     ensures short { length result.now ≤ 20 }
 {
     name(instr.code).as_bytes()
+}
+
+/// Appends the text of a well-formed instruction in a style with brackets, in a mode: ASCII, at most `TEXT_LEN` bytes, for which there is room.
+#[inline]
+pub fn append_bracket_text<const N: usize>(
+    out: &mut ArrayVec<u8, N>,
+    style: Style,
+    bits: Bits,
+    instr: &Instr,
+)
+    requires well { IsTrue (is_well_formed instr.now) }
+    requires room { array_vec_len out.old + TEXT_LEN ≤ N }
+    ensures items { out.new.items ≡ out.old.items ++ bracket_text style bits instr.now }
+    ensures len { array_vec_len out.new ≤ array_vec_len out.old + TEXT_LEN }
+{
+    append_bracket_layout(
+        out,
+        style,
+        bits,
+        &printed_row(instr),
+        printed_name(instr),
+        instr,
+    );
 }

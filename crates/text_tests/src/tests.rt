@@ -27,10 +27,12 @@ fn memory(base: Option<Register>, disp: u64, disp_size: DispSize) -> Operand {
     })
 }
 
+/// A general register of 64 bits.
 fn r64(n: u8) -> Operand {
     Operand::Reg(Register::R64(n))
 }
 
+/// EAX.
 fn eax() -> Operand {
     Operand::Reg(Register::R32(0))
 }

@@ -1,6 +1,7 @@
 -- Where a spelling fits a row, the row's conditions hold on its nine fields.
 use Rattle.std.proofs.Common.{◌≡◌, ℕ, ◌<◌, Bool, true, false, not, ◌&&◌, ◌||◌, Option, Some, None, is_some, List, refl, ap, sym, ◌∙◌, subst, eq-eqb, nat_lt, length, if◌then◌else◌, inl, inr}
 use Rattle.std.specs.Prelude.{◌==◌, ◌⊎◌}
+use Rattle.std.proofs.lemmas.Bool.{and_from, cases_Bool}
 use Rattle.x86_values.specs.declared.Bits.{Bits}
 use Rattle.row_types.specs.declared.Row.{Row}
 use Rattle.row_types.specs.declared.Map.{Map}
@@ -29,9 +30,6 @@ use Rattle.unique_spelling.specs.FieldsOf.{fields_of, repeat_of, repeat_of_pp, s
 use Rattle.opcode_rows.proofs.Standing.{VexSays, vex-says, stands, opcode-parts}
 use Rattle.unique_spelling.proofs.Parts.{nop-byte, legacy-class, vex-class, nf3, rex-64, size-allowed, size-of_vex, w-as_size, w-of_legacy, w-of_vex, l-of_legacy, l-of_vex}
 use Rattle.unique_spelling.proofs.ModRmParts.{ByteMeets, no_rule, byte-met}
-
-both : (a b : Bool) → a ≡ true → b ≡ true → (a && b) ≡ true
-both a b h k = rw h k
 
 -- ---- where the row stands
 
@@ -91,10 +89,6 @@ nop-there row o r f prefix e means h =
 vex-elsewhere : (row : Row) (o : ℕ) → is_vex_row row ≡ true → at_90 row o ≡ false
 vex-elsewhere row o h = at_90-is row o ∙ ap (λ b. not b && (is_map_one row.map && (o == 0x90))) h
 
-bool_cases : (b : Bool) → (b ≡ true) ⊎ (b ≡ false)
-bool_cases true = inl refl
-bool_cases false = inr refl
-
 or_left_false : (a b : Bool) → (not a || b) ≡ true → a ≡ true → b ≡ true
 or_left_false true b h e = h
 or_left_false false b h e = cc
@@ -147,11 +141,11 @@ said-legacy bits row ps used map o legacy proper class sizes nop =
       size_is =
           ap (λ b. size_allows row.size (operand_size bits row b (has_66 ps))) plain
           ∙ size-allowed bits row.size (operand_size bits row (rex_bit 3 rex) (has_66 ps)) (is_64 bits && rex_bit 3 rex) sized;
-      w_is = both (w_as_size row.size (is_64 bits && rex_bit 3 rex)) (w_allows row.size row.w (rex_bit 3 rex))
+      w_is = and_from (w_as_size row.size (is_64 bits && rex_bit 3 rex)) (w_allows row.size row.w (rex_bit 3 rex))
           (w-as_size bits row.size (operand_size bits row (rex_bit 3 rex) (has_66 ps)) (is_64 bits && rex_bit 3 rex) sized)
           (w-of_legacy row.size row.w (rex_bit 3 rex) parts.0);
       l_is = l-of_legacy row.l parts.1;
-      nop_is = elim (bool_cases (at_90 row o)) [
+      nop_is = elim (cases_Bool (at_90 row o)) [
         | inl e ↦ nop-there row o (rex_bit 0 rex) (not (is_repeat_f3 (counting_repeat ps))) (prefix_of (counting_repeat ps) (has_66 ps)) e
             (nf3 (has_66 ps) (counting_repeat ps))
             (subst (λ b. nop_asks row.plus row.class b (not (is_repeat_f3 (counting_repeat ps))) ≡ true) (rex-64 bits ps 0)
@@ -172,7 +166,7 @@ said-vex bits row ps v used map o is proper class sizes =
     record {
       class_is = vex-class row.class v class;
       size_is = size-of_vex row.size (operand_size bits row (is_64 bits && v.w) (v.pp == 1)) (size_of_vex row (proper-vex row proper is));
-      w_is = both (w_as_size row.size (is_64 bits && v.w)) (w_allows row.size row.w v.w)
+      w_is = and_from (w_as_size row.size (is_64 bits && v.w)) (w_allows row.size row.w v.w)
           (w-as_size bits row.size size (is_64 bits && v.w) sized)
           (w-of_vex row.size row.w v.w (and_left (w_fits row v) (l_fits row.l v) fields));
       l_is = l-of_vex row.l v (and_right (w_fits row v) (l_fits row.l v) fields);
@@ -213,16 +207,16 @@ joined : (bits : Bits) (row : Row) (ps : List ℕ) (vex : Option Vex) (used : �
     → holds bits row (fields_of (state_from bits ps used vex (spelled_map row.map vex) o) next) ≡ true
 unfolding holds fields_of state_from prefix_holds
 joined bits row ps vex used o next says exists opcode said byte =
-    both _ _ (stands row vex o says opcode)
-    (both _ _ exists
-    (both _ _ byte.is_there
-    (both _ _ (both _ _ said.class_is said.nop_is.no_f3)
-    (both _ _ byte.place_is
-    (both _ _ byte.reg_is
-    (both _ _ byte.rm_is
-    (both _ _ said.size_is
-    (both _ _ said.w_is
-    (both _ _ said.l_is said.nop_is.b_is)))))))))
+    and_from _ _ (stands row vex o says opcode)
+    (and_from _ _ exists
+    (and_from _ _ byte.is_there
+    (and_from _ _ (and_from _ _ said.class_is said.nop_is.no_f3)
+    (and_from _ _ byte.place_is
+    (and_from _ _ byte.reg_is
+    (and_from _ _ byte.rm_is
+    (and_from _ _ said.size_is
+    (and_from _ _ said.w_is
+    (and_from _ _ said.l_is said.nop_is.b_is)))))))))
 
 said : (bits : Bits) (row : Row) (ps : List ℕ) (vex : Option Vex) (used : ℕ) (map : Map) (o : ℕ) → VexSays row vex → kind_is_proper row ≡ true
     → class_fits row (state_from bits ps used vex map o) ≡ true → sizes_fit bits row (state_from bits ps used vex map o) ≡ true

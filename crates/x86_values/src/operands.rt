@@ -14,6 +14,7 @@ impl Operand {
     }
 
     /// Whether the operand is an address.
+    #[inline]
     pub fn is_memory(&self) -> bool
         ensures { result ≡ spec.is_memory self.now }
     {
@@ -31,12 +32,14 @@ impl Operand {
     }
 }
 
+/// The place of the first operand that is absent.
 fn first_absent(ops: &[Operand; 4]) -> Option<usize>
     ensures { result ≡ position spec.is_absent ops.now }
 {
     ops.iter().position(|operand| operand.is_absent())
 }
 
+/// The first operand that is an address.
 fn first_address(ops: &[Operand; 4]) -> Option<Operand>
     ensures { result ≡ find spec.is_memory ops.now }
 {

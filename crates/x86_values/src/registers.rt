@@ -1,6 +1,7 @@
 //! Registers by their names, their numbers and their sizes.
 
 ghost use Rattle.std.specs.Prelude.{◌≡◌};
+ghost use Rattle.x86_values.specs.Named as named;
 ghost use Rattle.x86_values.specs.Registers as spec;
 
 use crate::{Register, Segment};
@@ -301,6 +302,23 @@ impl Register {
             | Register::Ymm(n) => n,
             Register::Seg(segment) => segment as u8,
             Register::Eip | Register::Rip => 0,
+        }
+    }
+
+    /// Whether there is such a register: its number is below the size of its class, which is 4 for the high byte registers, 8 for the stack, MMX and
+    /// debug registers, and 16 for all others.
+    #[inline]
+    #[tactic(auto, unfolding(crate::specs::Named::is_named))]
+    pub const fn is_named(self) -> bool
+        ensures { result ≡ named.is_named self }
+    {
+        match self {
+            Register::Low8(n) => n < 16,
+            Register::High8(n) => n < 4,
+            Register::R16(n) | Register::R32(n) | Register::R64(n) => n < 16,
+            Register::Cr(n) | Register::Xmm(n) | Register::Ymm(n) => n < 16,
+            Register::Dr(n) | Register::St(n) | Register::Mm(n) => n < 8,
+            Register::Seg(_) | Register::Eip | Register::Rip => true,
         }
     }
 

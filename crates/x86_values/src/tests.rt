@@ -1,5 +1,6 @@
 use crate::{
-    Bits, Code, DispSize, Instr, Mem, Operand, Register, Rep, same, same_bits, same_register, wrap,
+    Bits, Code, DispSize, Instr, Mem, Operand, Register, Rep, mode_of, same, same_bits, same_register,
+    wrap,
 };
 
 // mov of a register and the memory at rsp plus 16, at some place of the table
@@ -86,4 +87,26 @@ fn operands_are_counted_and_the_address_is_found(rt: HostRuntime) {
     assert_eq!(rt; instr.op_count(), 2);
     assert_eq!(rt; instr.memory_operand(), instr.ops[1].memory());
     assert!(rt; instr.ops[1].is_memory() && instr.ops[3].is_absent());
+}
+
+// AH to BH are four registers, R15 is the last general one, and there is no ST(8)
+#[test]
+fn registers_exist_below_the_size_of_their_class(rt: HostRuntime) {
+    for (register, want) in [
+        (Register::BH, true),
+        (Register::High8(4), false),
+        (Register::R15, true),
+        (Register::R64(16), false),
+        (Register::St(8), false),
+        (Register::Rip, true),
+    ] {
+        assert!(rt; register.is_named() == want);
+    }
+}
+
+#[test]
+fn modes_have_their_bits(rt: HostRuntime) {
+    assert!(rt; mode_of::<16>() == Bits::B16);
+    assert!(rt; mode_of::<32>() == Bits::B32);
+    assert!(rt; mode_of::<64>() == Bits::B64);
 }

@@ -1,9 +1,8 @@
-use Rattle.std.proofs.Common.{arith, sym}
-use Rattle.row_types.specs.declared.RowKind.TheVariants.{Legacy}
-use Rattle.row_lists.proofs.Runs.{length-cell}
-use Rattle.rows_sse.specs.Table.{spans, table}
-use Rattle.rows_sse.proofs.TableFacts.{are_runs}
+use Rattle.rows_sse.proofs.Spans.{are_spans}
 use Rattle.rows_sse.proofs.cell_len.Goals as goal
 
+pub cell_len-requires : goal.cell_len-requires
+cell_len-requires c = rw (c.list.ensures.kind, c.list.ensures.rows, c.list.ensures.spans) are_spans
+
 pub returns : goal.returns
-returns c = sym (length-cell Legacy c.args.map c.args.opcode spans table c.span_at.result are_runs (omega arith) c.span_at.ensures)
+returns c = cc

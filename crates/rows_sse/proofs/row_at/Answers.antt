@@ -1,9 +1,8 @@
-use Rattle.std.proofs.Common.{ap, ◌∙◌, sym, Some, option_map}
-use Rattle.std.proofs.lemmas.Option.{slice_get-map}
-use Rattle.row_lists.specs.Flat.{row_of}
-use Rattle.rows_sse.specs.Table.{flat_rows, table}
+use Rattle.rows_sse.proofs.TableFacts.{length-table}
 use Rattle.rows_sse.proofs.row_at.Goals as goal
 
+pub row_at-requires : goal.row_at-requires
+row_at-requires c = rw (c.list.ensures.rows, length-table) c.requires
+
 pub returns : goal.returns
-unfolding table
-returns c = slice_get-map row_of flat_rows c.args.at ∙ ap (option_map row_of) c.flat_at.ensures ∙ ap Some (sym c.row.ensures)
+returns c = rw (← c.list.ensures.rows) c.row_at.ensures

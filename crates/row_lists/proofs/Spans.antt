@@ -1,0 +1,54 @@
+-- Spans that pass the computed test say where the rows of each cell lie.
+use Rattle.std.proofs.Common.{◌≡◌, ℕ, ◌+◌, ◌<◌, Bool, true, List, [], length, get_or, slice_get, refl, sym, subst, ◌∙◌}
+use Rattle.std.proofs.lemmas.Option.{slice_get-get_or, slice_get_within}
+use Rattle.std.specs.Prelude.{Option, None, Some}
+use Rattle.row_types.specs.declared.Row.{Row}
+use Rattle.row_types.specs.declared.RowKind.{RowKind}
+use Rattle.row_types.specs.declared.Map.{Map}
+use Rattle.row_fields.proofs.Cands.{Coded, coded, of_number, at_opcode, below-at}
+use Rattle.row_lists.specs.declared.Span.{Span}
+use Rattle.row_lists.specs.Cells.{map_index, cell_of, span_of}
+use Rattle.row_lists.specs.Spans.{IsSpanOf, AreSpansOf}
+use Rattle.row_lists.proofs.Runs.{run_at, line_runs, first_number, spans_fit, map_index-lt, length-cell, row-of_span}
+
+run-there : (o : Option Span) (cs : List Coded) → run_at o cs ≡ true → (s : Span) × (o ≡ Some s)
+unfolding run_at
+run-there None cs h = cc
+run-there (Some s) cs h = (s, refl)
+
+-- each cell has a span
+span-there : (k : RowKind) (m : Map) (op : ℕ) (spans : List (List Span)) (rows : List Row) → spans_fit k spans rows ≡ true → op < 256
+    → (s : Span) × (span_of spans (map_index m) op ≡ Some s)
+unfolding spans_fit line_runs
+span-there k m op spans rows h byte =
+    let of_line : (line : ℕ) → Bool = λ line. line_runs spans line (of_number (first_number k + line) (coded 0 rows)) in
+    let cs : List Coded = of_number (first_number k + map_index m) (coded 0 rows) in
+    let here : line_runs spans (map_index m) cs ≡ true = below-at 4 of_line (map_index m) h (map_index-lt m) in
+    run-there (span_of spans (map_index m) op) (at_opcode op cs)
+    (below-at 256 (λ o. run_at (span_of spans (map_index m) o) (at_opcode o cs)) op here byte)
+
+pub spans-of_fit : (k : RowKind) (spans : List (List Span)) (rows : List Row) → spans_fit k spans rows ≡ true → AreSpansOf k rows spans
+spans-of_fit k spans rows h m op byte =
+    let s = span-there k m op spans rows h byte in
+    let count : length (cell_of rows k m op) ≡ s.0.count = length-cell k m op spans rows s.0 h byte s.1 in
+    (s.0, s.1, (count, λ i lt. (let t = row-of_span k m op spans rows s.0 h byte s.1 i (rw count lt) in (t.0, t.2, t.1))))
+
+-- the span that was read is that of its cell
+pub span-read_is : (k : RowKind) (m : Map) (op : ℕ) (spans : List (List Span)) (rows : List Row) (s : Span)
+    → AreSpansOf k rows spans → op < 256 → span_of spans (map_index m) op ≡ Some s → IsSpanOf k rows m op s
+span-read_is k m op spans rows s h byte at =
+    let t = h m op byte in
+    let same : t.0 ≡ s = same-span t.0 s (sym t.1 ∙ at) in
+    subst (IsSpanOf k rows m op) same t.2
+  where
+    same-span : (a b : Span) → Some a ≡ Some b → a ≡ b
+    same-span a b e = cc
+
+-- a span is read line by line
+pub span-found : (spans : List (List Span)) (line op : ℕ) (s other : Span) → line < length spans → span_of spans line op ≡ Some s
+    → span_of spans line op ≡ Some (get_or (get_or spans line []) op other)
+unfolding span_of
+span-found spans line op s other lt at =
+    let here : slice_get spans line ≡ Some (get_or spans line []) = slice_get-get_or spans line [] lt in
+    let is : span_of spans line op ≡ slice_get (get_or spans line []) op = rw here refl in
+    is ∙ slice_get-get_or (get_or spans line []) op other (slice_get_within (get_or spans line []) op s (sym is ∙ at))
