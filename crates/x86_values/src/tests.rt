@@ -1,6 +1,6 @@
 use crate::{
-    Bits, Code, DispSize, Instr, Mem, Operand, Register, Rep, mode_of, same, same_bits, same_register,
-    wrap,
+    Bits, Code, DispSize, Instr, Mem, Operand, Register, Rep, mode_of, same, same_bits,
+    same_register, wrap,
 };
 
 // mov of a register and the memory at rsp plus 16, at some place of the table
