@@ -12,6 +12,7 @@ use branch_forms::{Image, image_of};
 use branch_sizes::{Form, Reach};
 use encoder::encode;
 use move_layout::Seat;
+use moved_targets::laws::without_target_nothing_changes;
 use moved_targets::{target_of, target_reach};
 use std::alloc::AllocError;
 use x86_values::{Bits, Instr, wrap};
@@ -119,6 +120,7 @@ fn append_seated(
 {
     let [_first, _second, _third, _fourth] = instr.ops;
     if target_of(instr).is_none() {
+        without_target_nothing_changes();
         return Ok(append_piece(bits, seat.place, instr, bytes)?.is_some());
     }
     let image = image_of(
