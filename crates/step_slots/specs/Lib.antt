@@ -4,5 +4,5 @@ pub mod Stepping
 pub mod Running
 pub mod Holding
 pub mod Keeping
-pub mod LawsBelow
 pub mod Facts
+pub mod LawsBelow
