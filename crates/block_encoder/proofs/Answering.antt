@@ -1,5 +1,5 @@
 -- The answers of a moving, by the plan of the blocks.
-use Rattle.std.proofs.Common.{◌≡◌, ◌≤◌, ℕ, List, length, Some, None, Result, Ok, Err, inr, sym, subst, ◌∙◌}
+use Rattle.std.proofs.Common.{◌≡◌, ◌≤◌, ℕ, List, length, Some, Result, Ok, Err, inr, sym, subst, ◌∙◌}
 use Rattle.x86_values.specs.declared.Bits.{Bits}
 use Rattle.branch_sizes.specs.declared.plan.BlockSpan.{BlockSpan}
 use Rattle.branch_sizes.specs.Plan.{BlockPlan}
@@ -12,16 +12,8 @@ use Rattle.block_encoder.specs.declared.error.MoveError.TheVariants.{Memory, Too
 use Rattle.block_encoder.specs.Moved.{MovedLists, IsOldSound, IsAnswer}
 use Rattle.block_encoder.specs.ByPlan.{IsPassBy, IsPlanAnswer, IsOutsideAnswer}
 use Rattle.block_encoder.specs.Written.{first_end_past}
+use Rattle.block_encoder.specs.LawsBelow.{LawsBelow}
 use Rattle.block_encoder.proofs.Seats.{same_pass}
-
--- a new end passes the address space
-pub new_pass : (bits : Bits) (p : BlockPlan) (laid : Layout) → IsLaidLeast p laid → (end : ℕ) → first_end_past bits laid.ends.items ≡ Some end
-    → IsPassBy bits p end
-new_pass bits p laid ll end h = record {
-  layout = ll.0;
-  least = ll.1;
-  passes = sym (same_pass bits p ll.0 laid ll.2) ∙ h;
-}
 
 module _ (bits : Bits) (items : List Placed) (spans : List BlockSpan) (old : IsOldSound bits items spans) where
   -- where the old items are sound the plan of the blocks decides
@@ -46,3 +38,13 @@ outside_answer bits items new_base few (Err (TooMany n)) h = absurd h
 outside_answer bits items new_base few (Err (OldOrder n)) h = (few, h)
 outside_answer bits items new_base few (Err (Wraps end)) h = (few, h)
 outside_answer bits items new_base few (Err (TooFar at target)) h = (few, h)
+
+module _ (laws : LawsBelow) where
+  -- a new end passes the address space
+  pub new_pass : (bits : Bits) (p : BlockPlan) (laid : Layout) → IsLaidLeast p laid → (end : ℕ) → first_end_past bits laid.ends.items ≡ Some end
+      → IsPassBy bits p end
+  new_pass bits p laid ll end h = record {
+    layout = ll.0;
+    least = ll.1;
+    passes = sym (same_pass laws bits p ll.0 laid ll.2) ∙ h;
+  }

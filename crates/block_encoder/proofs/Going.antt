@@ -1,7 +1,7 @@
 -- Where the instructions of an image go.
-use Rattle.std.proofs.Common.{◌≡◌, ℕ, zero, suc, ◌+◌, ◌<◌, Bool, true, false, List, [], ◌∷◌, length, get_or, take, Option, Some, None, refl, ap, ◌∙◌, arith}
-use Rattle.std.specs.Prelude.{if◌then◌else◌}
+use Rattle.std.proofs.Common.{◌≡◌, ℕ, zero, suc, ◌+◌, ◌<◌, true, false, List, [], ◌∷◌, length, get_or, take, Option, Some, None, refl, ap, ◌∙◌, arith}
 use Rattle.std.specs.Option.{option_or}
+use Rattle.std.proofs.lemmas.Bool.{cond-true}
 use Rattle.x86_values.specs.declared.Bits.{Bits}
 use Rattle.x86_values.specs.declared.Instr.{Instr}
 use Rattle.x86_values.specs.Wrapping.{wrapped}
@@ -13,9 +13,7 @@ use Rattle.branch_sizes.specs.declared.plan.Form.{Form}
 use Rattle.branch_sizes.specs.declared.plan.Form.TheVariants.{Itself, Short, Near as NearForm, Far, Bridge, FarBridge}
 use Rattle.branch_sizes.specs.Plan.{BlockPlan}
 use Rattle.branch_sizes.specs.Layout.{IsLayout, block_number, chosen, place}
-use Rattle.moved_targets.specs.Targets.{target_of, aimed, aimed_operand, plain_length}
-use Rattle.moved_targets.proofs.Lengths.{aimed-length}
-use Rattle.moved_targets.proofs.Aims.{untargeted-aimed}
+use Rattle.moved_targets.specs.Targets.{target_of, aimed, plain_length}
 use Rattle.branch_forms.specs.declared.branch.Action.{Action}
 use Rattle.branch_forms.specs.declared.branch.Action.TheVariants.{Jump, Call, Condition, Count}
 use Rattle.branch_forms.specs.declared.branch.RelativeBranch.{RelativeBranch}
@@ -28,8 +26,8 @@ use Rattle.move_layout.specs.Laid.{is_far, is_far_at, goal_address, slot_address
 use Rattle.move_goals.specs.Goals.{goal_at}
 use Rattle.block_encoder.specs.Bytes.{image_at}
 use Rattle.block_encoder.specs.Aims.{last_instr}
+use Rattle.block_encoder.specs.LawsBelow.{LawsBelow}
 use Rattle.block_encoder.proofs.Pieces.{spelled-four}
-use Rattle.block_encoder.proofs.NearFirst.{no_branch-no_near}
 use Rattle.block_encoder.proofs.Chosen.{is_own, seat-own}
 
 -- ---- single instructions
@@ -53,18 +51,6 @@ near-jump b t = near-branch_to (near_code Jump b.size) None t
 ip-slot : (code slot : ℕ) → first_value ip_value (through_slot code slot) ≡ Some slot
 unfolding through_slot ip_value
 ip-slot code slot = refl
-
-pub branch_to-length : (bits : Bits) (code : ℕ) (asize : Option Bits) (t : ℕ) → plain_length bits (branch_to code asize t) ≡ plain_length bits (branch_to code asize 0)
-unfolding branch_to aimed aimed_operand
-branch_to-length bits code asize t = aimed-length bits t (branch_to code asize 0)
-
-pub short-length : (bits : Bits) (b : RelativeBranch) (asize : Option Bits) (t : ℕ) → plain_length bits (short_branch b asize t) ≡ plain_length bits (short_branch b asize 0)
-unfolding short_branch
-short-length bits b asize t = branch_to-length bits (short_code b.action b.size) (counter_size b.action asize) t
-
-pub skip-length : (bits : Bits) (t : ℕ) → plain_length bits (skip bits t) ≡ plain_length bits (skip bits 0)
-unfolding skip
-skip-length bits t = branch_to-length bits (short_code Jump bits) None t
 
 -- ---- the last instruction
 
@@ -102,51 +88,6 @@ branch-far bits i b _ at goal slot far = cc
 abbrev GoesOver : Bits → ℕ → List Instr → ℕ → Type 0
 GoesOver bits at is n = first_value near_value (get_or is n no_instr) ≡ Some (wrapped bits (at + pieces_length bits (take (n + 2) is)))
 
-bridge-over : (bits : Bits) (b : RelativeBranch) (asize : Option Bits) (at : ℕ) (last : Instr) (n : ℕ) → n + 1 < length (bridge bits b asize at last) → GoesOver bits at (bridge bits b asize at last) n
-unfolding bridge bridge_inner
-bridge-over bits b asize at last zero lt =
-    let inner = plain_length bits (short_branch b asize 0) + plain_length bits (skip bits 0) in
-    let onto = wrapped bits (at + inner) in
-    let over = wrapped bits (at + inner + plain_length bits last) in
-    near-short b asize onto
-    ∙ ap (λ (m : ℕ). Some (wrapped bits m)) (omega (arith, short-length bits b asize onto, skip-length bits over))
-bridge-over bits b asize at last (suc zero) lt =
-    let inner = plain_length bits (short_branch b asize 0) + plain_length bits (skip bits 0) in
-    let onto = wrapped bits (at + inner) in
-    let over = wrapped bits (at + inner + plain_length bits last) in
-    near-skip bits over
-    ∙ ap (λ (m : ℕ). Some (wrapped bits m)) (omega (arith, short-length bits b asize onto, skip-length bits over))
-bridge-over bits b asize at last (suc (suc n)) lt = absurd (omega arith)
-
-far-over : (bits : Bits) (b : RelativeBranch) (at : ℕ) (action : Action) (slot n : ℕ) → n + 1 < length (far_image bits b at action slot) → GoesOver bits at (far_image bits b at action slot) n
-unfolding far_image
-far-over bits b at Jump slot n lt = absurd (omega arith)
-far-over bits b at Call slot n lt = absurd (omega arith)
-far-over bits b at (Count c) slot n lt = absurd (omega arith)
-far-over bits b at (Condition c) slot zero lt =
-    let code = short_code (Condition (inverted c)) b.size in
-    let over = wrapped bits (at + plain_length bits (branch_to code None 0) + plain_length bits (through_slot (far_code Jump) slot)) in
-    near-branch_to code None over
-    ∙ ap (λ (m : ℕ). Some (wrapped bits m)) (omega (arith, branch_to-length bits code None over))
-far-over bits b at (Condition c) slot (suc n) lt = absurd (omega arith)
-
-branch-over : (bits : Bits) (i : Instr) (b : RelativeBranch) (form : Form) (at goal slot n : ℕ) → n + 1 < length (branch_image bits i b form at goal slot) → GoesOver bits at (branch_image bits i b form at goal slot) n
-unfolding branch_image
-branch-over bits i b Itself at goal slot n lt = absurd (omega arith)
-branch-over bits i b Short at goal slot n lt = absurd (omega arith)
-branch-over bits i b NearForm at goal slot n lt = absurd (omega arith)
-branch-over bits i b Far at goal slot n lt = far-over bits b at b.action slot n lt
-branch-over bits i b Bridge at goal slot n lt = bridge-over bits b i.asize at (bridge_jump b goal) n lt
-branch-over bits i b FarBridge at goal slot n lt = bridge-over bits b i.asize at (through_slot (far_code Jump) slot) n lt
-
-by-over : (bits : Bits) (i : Instr) (b : Option RelativeBranch) (form : Form) (at goal slot n : ℕ) → n + 1 < length (image_by bits i b form at goal slot) → GoesOver bits at (image_by bits i b form at goal slot) n
-by-over bits i None form at goal slot n lt = absurd (omega arith)
-by-over bits i (Some b) form at goal slot n lt = branch-over bits i b form at goal slot n lt
-
-image-over : (bits : Bits) (i : Instr) (form : Form) (at goal slot n : ℕ) → n + 1 < length (image_of bits i form at goal slot) → GoesOver bits at (image_of bits i form at goal slot) n
-unfolding image_of
-image-over bits i form at goal slot n lt = by-over bits i (branch_of i) form at goal slot n lt
-
 -- ---- the image of an instruction
 
 -- without a near target it is no relative branch
@@ -166,102 +107,144 @@ no_near : (i : Instr) → target_of i ≡ None → first_value near_value i ≡ 
 unfolding target_of
 no_near i h = or_none (first_value near_value i) (first_value ip_value i) h
 
--- with a near target what is spelled is one
-pub branched : (bits : Bits) (ip : ℕ) (bytes : List ℕ) (i : Instr) (t : ℕ) → Spells table bits ip bytes i → first_value near_value i ≡ Some t → (b : RelativeBranch) × (branch_of i ≡ Some b)
-branched bits ip bytes i t s h = by_branch (branch_of i) refl
-  where
-    by_branch : (o : Option RelativeBranch) → branch_of i ≡ o → (b : RelativeBranch) × (branch_of i ≡ Some b)
-    by_branch None e = let k = no_branch-no_near bits ip bytes i s e in cc
-    by_branch (Some b) e = (b, e)
-
--- **what has no target stays as it is**
-pub untargeted-image : (bits : Bits) (i : Instr) (form : Form) (place goal slot : ℕ) → length i.ops ≡ 4 → target_of i ≡ None
-    → image_of bits i form place goal slot ≡ i ∷ []
-untargeted-image bits i form place goal slot four none =
-    image-address bits i form place goal slot (no_near i none) ∙ ap (λ (x : Instr). x ∷ []) (untargeted-aimed goal i four none)
-
 -- ---- items
-
-cond_true : (b : Bool) (x y : ℕ) → b ≡ true → (if b then x else y) ≡ x
-cond_true true x y h = refl
-cond_true false x y h = cc
 
 -- a far form has the slot of its goal
 pub slot-is : (p : BlockPlan) (layout : List ℕ) (k : ℕ) → is_far_at p layout k ≡ true
     → (seat_at p layout k).slot ≡ slot_address p layout (block_number p.spans k) (goal_address p layout k)
 unfolding seat_at
-slot-is p layout k far = cond_true (is_far_at p layout k) (slot_address p layout (block_number p.spans k) (goal_address p layout k)) 0 far
+slot-is p layout k far = cond-true (is_far_at p layout k) (slot_address p layout (block_number p.spans k) (goal_address p layout k)) 0 far
 
-module _ (bits : Bits) (items : List Placed) (spans : List BlockSpan) (layout : List ℕ) (k : ℕ) where
-  -- the image, by the parts of the seat
-  image-is : image_at bits items (plan_for bits spans items) layout k
-      ≡ image_of bits (item_at items k).instr (chosen (plan_for bits spans items) layout k).form (place (plan_for bits spans items) layout k)
-      (goal_address (plan_for bits spans items) layout k) (seat_at (plan_for bits spans items) layout k).slot
-  unfolding seat_at
-  image-is = refl
+module _ (laws : LawsBelow) where
+  bridge-over : (bits : Bits) (b : RelativeBranch) (asize : Option Bits) (at : ℕ) (last : Instr) (n : ℕ) → n + 1 < length (bridge bits b asize at last) → GoesOver bits at (bridge bits b asize at last) n
+  unfolding bridge bridge_inner
+  bridge-over bits b asize at last zero lt =
+      let inner = plain_length bits (short_branch b asize 0) + plain_length bits (skip bits 0) in
+      let onto = wrapped bits (at + inner) in
+      let over = wrapped bits (at + inner + plain_length bits last) in
+      near-short b asize onto
+      ∙ ap (λ (m : ℕ). Some (wrapped bits m)) (omega (arith, laws.pieces.short-length bits b asize onto, laws.pieces.skip-length bits over))
+  bridge-over bits b asize at last (suc zero) lt =
+      let inner = plain_length bits (short_branch b asize 0) + plain_length bits (skip bits 0) in
+      let onto = wrapped bits (at + inner) in
+      let over = wrapped bits (at + inner + plain_length bits last) in
+      near-skip bits over
+      ∙ ap (λ (m : ℕ). Some (wrapped bits m)) (omega (arith, laws.pieces.short-length bits b asize onto, laws.pieces.skip-length bits over))
+  bridge-over bits b asize at last (suc (suc n)) lt = absurd (omega arith)
 
-  -- **each instruction of an image but the last goes over the next one**
-  pub goes-over : (n : ℕ) → n + 1 < length (image_at bits items (plan_for bits spans items) layout k)
-      → first_value near_value (get_or (image_at bits items (plan_for bits spans items) layout k) n no_instr)
-      ≡ Some (wrapped bits (place (plan_for bits spans items) layout k + pieces_length bits (take (n + 2) (image_at bits items (plan_for bits spans items) layout k))))
-  unfolding seat_at
-  goes-over n lt =
-      image-over bits (item_at items k).instr (chosen (plan_for bits spans items) layout k).form (place (plan_for bits spans items) layout k)
-      (goal_address (plan_for bits spans items) layout k) (seat_at (plan_for bits spans items) layout k).slot n lt
+  far-over : (bits : Bits) (b : RelativeBranch) (at : ℕ) (action : Action) (slot n : ℕ) → n + 1 < length (far_image bits b at action slot) → GoesOver bits at (far_image bits b at action slot) n
+  unfolding far_image
+  far-over bits b at Jump slot n lt = absurd (omega arith)
+  far-over bits b at Call slot n lt = absurd (omega arith)
+  far-over bits b at (Count c) slot n lt = absurd (omega arith)
+  far-over bits b at (Condition c) slot zero lt =
+      let code = short_code (Condition (inverted c)) b.size in
+      let over = wrapped bits (at + plain_length bits (branch_to code None 0) + plain_length bits (through_slot (far_code Jump) slot)) in
+      near-branch_to code None over
+      ∙ ap (λ (m : ℕ). Some (wrapped bits m)) (omega (arith, laws.pieces.branch_to-length bits code None over))
+  far-over bits b at (Condition c) slot (suc n) lt = absurd (omega arith)
 
-  -- **what has no near target is aimed at the goal**
-  pub goes-address : first_value near_value (item_at items k).instr ≡ None
-      → image_at bits items (plan_for bits spans items) layout k ≡ aimed (goal_address (plan_for bits spans items) layout k) (item_at items k).instr ∷ []
-  goes-address none =
-      image-is
-      ∙ image-address bits (item_at items k).instr (chosen (plan_for bits spans items) layout k).form (place (plan_for bits spans items) layout k)
-      (goal_address (plan_for bits spans items) layout k) (seat_at (plan_for bits spans items) layout k).slot none
+  branch-over : (bits : Bits) (i : Instr) (b : RelativeBranch) (form : Form) (at goal slot n : ℕ) → n + 1 < length (branch_image bits i b form at goal slot) → GoesOver bits at (branch_image bits i b form at goal slot) n
+  unfolding branch_image
+  branch-over bits i b Itself at goal slot n lt = absurd (omega arith)
+  branch-over bits i b Short at goal slot n lt = absurd (omega arith)
+  branch-over bits i b NearForm at goal slot n lt = absurd (omega arith)
+  branch-over bits i b Far at goal slot n lt = far-over bits b at b.action slot n lt
+  branch-over bits i b Bridge at goal slot n lt = bridge-over bits b i.asize at (bridge_jump b goal) n lt
+  branch-over bits i b FarBridge at goal slot n lt = bridge-over bits b i.asize at (through_slot (far_code Jump) slot) n lt
 
-  module _ (placed : ArePlaced bits items) (lt : k < length items) where
-    -- **what has no target stays as it is**
-    pub goes-nowhere : target_of (item_at items k).instr ≡ None → image_at bits items (plan_for bits spans items) layout k ≡ (item_at items k).instr ∷ []
-    goes-nowhere none =
-        let i = placed k lt in
-        let four = spelled-four bits (wrapped bits (item_at items k).ip) i.bytes (item_at items k).instr i.spelled in
+  by-over : (bits : Bits) (i : Instr) (b : Option RelativeBranch) (form : Form) (at goal slot n : ℕ) → n + 1 < length (image_by bits i b form at goal slot) → GoesOver bits at (image_by bits i b form at goal slot) n
+  by-over bits i None form at goal slot n lt = absurd (omega arith)
+  by-over bits i (Some b) form at goal slot n lt = branch-over bits i b form at goal slot n lt
+
+  image-over : (bits : Bits) (i : Instr) (form : Form) (at goal slot n : ℕ) → n + 1 < length (image_of bits i form at goal slot) → GoesOver bits at (image_of bits i form at goal slot) n
+  unfolding image_of
+  image-over bits i form at goal slot n lt = by-over bits i (branch_of i) form at goal slot n lt
+
+  -- with a near target what is spelled is one
+  pub branched : (bits : Bits) (ip : ℕ) (bytes : List ℕ) (i : Instr) (t : ℕ) → Spells table bits ip bytes i → first_value near_value i ≡ Some t → (b : RelativeBranch) × (branch_of i ≡ Some b)
+  branched bits ip bytes i t s h = by_branch (branch_of i) refl
+    where
+      by_branch : (o : Option RelativeBranch) → branch_of i ≡ o → (b : RelativeBranch) × (branch_of i ≡ Some b)
+      by_branch None e = let k = laws.forms.no_branch-no_near bits ip bytes i s e in cc
+      by_branch (Some b) e = (b, e)
+
+  -- **what has no target stays as it is**
+  pub untargeted-image : (bits : Bits) (i : Instr) (form : Form) (place goal slot : ℕ) → length i.ops ≡ 4 → target_of i ≡ None
+      → image_of bits i form place goal slot ≡ i ∷ []
+  untargeted-image bits i form place goal slot four none =
+      image-address bits i form place goal slot (no_near i none) ∙ ap (λ (x : Instr). x ∷ []) (laws.targets.untargeted-aimed goal i four none)
+
+  module _ (bits : Bits) (items : List Placed) (spans : List BlockSpan) (layout : List ℕ) (k : ℕ) where
+    -- the image, by the parts of the seat
+    image-is : image_at bits items (plan_for bits spans items) layout k
+        ≡ image_of bits (item_at items k).instr (chosen (plan_for bits spans items) layout k).form (place (plan_for bits spans items) layout k)
+        (goal_address (plan_for bits spans items) layout k) (seat_at (plan_for bits spans items) layout k).slot
+    unfolding seat_at
+    image-is = refl
+
+    -- **each instruction of an image but the last goes over the next one**
+    pub goes-over : (n : ℕ) → n + 1 < length (image_at bits items (plan_for bits spans items) layout k)
+        → first_value near_value (get_or (image_at bits items (plan_for bits spans items) layout k) n no_instr)
+        ≡ Some (wrapped bits (place (plan_for bits spans items) layout k + pieces_length bits (take (n + 2) (image_at bits items (plan_for bits spans items) layout k))))
+    unfolding seat_at
+    goes-over n lt =
+        image-over bits (item_at items k).instr (chosen (plan_for bits spans items) layout k).form (place (plan_for bits spans items) layout k)
+        (goal_address (plan_for bits spans items) layout k) (seat_at (plan_for bits spans items) layout k).slot n lt
+
+    -- **what has no near target is aimed at the goal**
+    pub goes-address : first_value near_value (item_at items k).instr ≡ None
+        → image_at bits items (plan_for bits spans items) layout k ≡ aimed (goal_address (plan_for bits spans items) layout k) (item_at items k).instr ∷ []
+    goes-address none =
         image-is
-        ∙ untargeted-image bits (item_at items k).instr (chosen (plan_for bits spans items) layout k).form (place (plan_for bits spans items) layout k)
-        (goal_address (plan_for bits spans items) layout k) (seat_at (plan_for bits spans items) layout k).slot four none
+        ∙ image-address bits (item_at items k).instr (chosen (plan_for bits spans items) layout k).form (place (plan_for bits spans items) layout k)
+        (goal_address (plan_for bits spans items) layout k) (seat_at (plan_for bits spans items) layout k).slot none
 
-    -- the image of a branch
-    image-branch : (t : ℕ) → first_value near_value (item_at items k).instr ≡ Some t
-        → (b : RelativeBranch) × (branch_of (item_at items k).instr ≡ Some b) × (image_at bits items (plan_for bits spans items) layout k
-        ≡ branch_image bits (item_at items k).instr b (chosen (plan_for bits spans items) layout k).form (place (plan_for bits spans items) layout k)
-        (goal_address (plan_for bits spans items) layout k) (seat_at (plan_for bits spans items) layout k).slot)
-    unfolding image_of
-    image-branch t some =
-        let i = placed k lt in
-        let b = branched bits (wrapped bits (item_at items k).ip) i.bytes (item_at items k).instr t i.spelled some in (
-          b.0,
-          b.1,
-          image-is ∙ ap (λ (o : Option RelativeBranch). image_by bits (item_at items k).instr o (chosen (plan_for bits spans items) layout k).form (place (plan_for bits spans items) layout k)
-              (goal_address (plan_for bits spans items) layout k) (seat_at (plan_for bits spans items) layout k).slot) b.1,
-        )
+    module _ (placed : ArePlaced bits items) (lt : k < length items) where
+      -- **what has no target stays as it is**
+      pub goes-nowhere : target_of (item_at items k).instr ≡ None → image_at bits items (plan_for bits spans items) layout k ≡ (item_at items k).instr ∷ []
+      goes-nowhere none =
+          let i = placed k lt in
+          let four = spelled-four bits (wrapped bits (item_at items k).ip) i.bytes (item_at items k).instr i.spelled in
+          image-is
+          ∙ untargeted-image bits (item_at items k).instr (chosen (plan_for bits spans items) layout k).form (place (plan_for bits spans items) layout k)
+          (goal_address (plan_for bits spans items) layout k) (seat_at (plan_for bits spans items) layout k).slot four none
 
-    -- **a branch goes to its goal**
-    pub goes-near : IsLayout (plan_for bits spans items) layout → (t : ℕ) → first_value near_value (item_at items k).instr ≡ Some t
-        → is_far_at (plan_for bits spans items) layout k ≡ false
-        → first_value near_value (last_instr (image_at bits items (plan_for bits spans items) layout k)) ≡ Some (goal_address (plan_for bits spans items) layout k)
-    goes-near l t some far =
-        let b = image-branch t some in
-        let moved = seat-own bits spans items (goal_at spans items) layout l k lt b.0 b.1 in
-        ap (λ (is : List Instr). first_value near_value (last_instr is)) b.2
-        ∙ branch-near bits (item_at items k).instr b.0 (chosen (plan_for bits spans items) layout k).form (place (plan_for bits spans items) layout k)
-        (goal_address (plan_for bits spans items) layout k) (seat_at (plan_for bits spans items) layout k).slot moved far
+      -- the image of a branch
+      image-branch : (t : ℕ) → first_value near_value (item_at items k).instr ≡ Some t
+          → (b : RelativeBranch) × (branch_of (item_at items k).instr ≡ Some b) × (image_at bits items (plan_for bits spans items) layout k
+          ≡ branch_image bits (item_at items k).instr b (chosen (plan_for bits spans items) layout k).form (place (plan_for bits spans items) layout k)
+          (goal_address (plan_for bits spans items) layout k) (seat_at (plan_for bits spans items) layout k).slot)
+      unfolding image_of
+      image-branch t some =
+          let i = placed k lt in
+          let b = branched bits (wrapped bits (item_at items k).ip) i.bytes (item_at items k).instr t i.spelled some in (
+            b.0,
+            b.1,
+            image-is ∙ ap (λ (o : Option RelativeBranch). image_by bits (item_at items k).instr o (chosen (plan_for bits spans items) layout k).form (place (plan_for bits spans items) layout k)
+                (goal_address (plan_for bits spans items) layout k) (seat_at (plan_for bits spans items) layout k).slot) b.1,
+          )
 
-    -- **or through the slot of its goal**
-    pub goes-far : (t : ℕ) → first_value near_value (item_at items k).instr ≡ Some t
-        → is_far_at (plan_for bits spans items) layout k ≡ true
-        → first_value ip_value (last_instr (image_at bits items (plan_for bits spans items) layout k))
-        ≡ Some (slot_address (plan_for bits spans items) layout (block_number spans k) (goal_address (plan_for bits spans items) layout k))
-    unfolding plan_with
-    goes-far t some far =
-        let b = image-branch t some in
-        ap (λ (is : List Instr). first_value ip_value (last_instr is)) b.2
-        ∙ (branch-far bits (item_at items k).instr b.0 (chosen (plan_for bits spans items) layout k).form (place (plan_for bits spans items) layout k)
-        (goal_address (plan_for bits spans items) layout k) (seat_at (plan_for bits spans items) layout k).slot far
-        ∙ ap Some (slot-is (plan_for bits spans items) layout k far))
+      -- **a branch goes to its goal**
+      pub goes-near : IsLayout (plan_for bits spans items) layout → (t : ℕ) → first_value near_value (item_at items k).instr ≡ Some t
+          → is_far_at (plan_for bits spans items) layout k ≡ false
+          → first_value near_value (last_instr (image_at bits items (plan_for bits spans items) layout k)) ≡ Some (goal_address (plan_for bits spans items) layout k)
+      goes-near l t some far =
+          let b = image-branch t some in
+          let moved = seat-own bits spans items (goal_at spans items) layout l k lt b.0 b.1 in
+          ap (λ (is : List Instr). first_value near_value (last_instr is)) b.2
+          ∙ branch-near bits (item_at items k).instr b.0 (chosen (plan_for bits spans items) layout k).form (place (plan_for bits spans items) layout k)
+          (goal_address (plan_for bits spans items) layout k) (seat_at (plan_for bits spans items) layout k).slot moved far
+
+      -- **or through the slot of its goal**
+      pub goes-far : (t : ℕ) → first_value near_value (item_at items k).instr ≡ Some t
+          → is_far_at (plan_for bits spans items) layout k ≡ true
+          → first_value ip_value (last_instr (image_at bits items (plan_for bits spans items) layout k))
+          ≡ Some (slot_address (plan_for bits spans items) layout (block_number spans k) (goal_address (plan_for bits spans items) layout k))
+      unfolding plan_with
+      goes-far t some far =
+          let b = image-branch t some in
+          ap (λ (is : List Instr). first_value ip_value (last_instr is)) b.2
+          ∙ (branch-far bits (item_at items k).instr b.0 (chosen (plan_for bits spans items) layout k).form (place (plan_for bits spans items) layout k)
+          (goal_address (plan_for bits spans items) layout k) (seat_at (plan_for bits spans items) layout k).slot far
+          ∙ ap Some (slot-is (plan_for bits spans items) layout k far))

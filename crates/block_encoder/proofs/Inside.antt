@@ -7,13 +7,10 @@ use Rattle.x86_values.specs.declared.Bits.TheVariants.{B16, B32, B64}
 use Rattle.x86_values.specs.Wrapping.{width}
 use Rattle.branch_sizes.specs.Plan.{BlockPlan}
 use Rattle.branch_sizes.specs.Layout.{block_number, first_of_block, span_at, image_length, place}
-use Rattle.branch_sizes.proofs.Totals.{first_le}
-use Rattle.branch_sizes.proofs.Now.{block_below}
 use Rattle.move_goals.specs.Items.{passes, first_below, first_passing}
-use Rattle.move_goals.proofs.First.{none_below}
-use Rattle.move_goals.proofs.Blocks.{block_below as within_block}
 use Rattle.move_layout.specs.Laid.{slots_of, images_end, new_end}
 use Rattle.block_encoder.specs.Moved.{first_new_pass}
+use Rattle.block_encoder.specs.LawsBelow.{LawsBelow}
 use Rattle.block_encoder.proofs.Places.{place-last, place-next, place-rises, place-is}
 
 -- ---- ends
@@ -21,11 +18,6 @@ use Rattle.block_encoder.proofs.Places.{place-last, place-next, place-rises, pla
 no_first : (end : ℕ → ℕ) (o : Option ℕ) → (elim o as (λ (x : Option ℕ). Option ℕ) [ Some b ↦ Some (end b) | None ↦ None ]) ≡ None → o ≡ None
 no_first end None h = refl
 no_first end (Some b) h = cc
-
-pub end_within : (bits : Bits) (end : ℕ → ℕ) (n : ℕ) → first_passing bits end n ≡ None → (b : ℕ) → b < n → end b ≤ 2 ^ width bits
-end_within bits end n h b lt =
-    let none = no_first end (first_below (λ b. passes bits (end b)) n) h in
-    ltb-false (2 ^ width bits) (end b) (none_below (λ b. passes bits (end b)) n none b lt)
 
 behind_images : (empty : Bool) (images slots : ℕ) → images ≤ (if empty then images else (images + 7) / 8 * 8 + 8 * slots)
 behind_images true images slots = omega arith
@@ -40,23 +32,29 @@ width-most B16 = omega arith
 width-most B32 = omega arith
 width-most B64 = omega arith
 
-module _ (bits : Bits) (p : BlockPlan) (layout : List ℕ) (inside : first_new_pass bits p layout ≡ None) where
-  -- **the images of a block end inside the address space**
-  pub images-within : (b : ℕ) → b < length p.spans → images_end p layout b ≤ 2 ^ width bits
-  images-within b lt = omega (arith, images_before p layout b, end_within bits (new_end p layout) (length p.spans) inside b lt)
+module _ (laws : LawsBelow) where
+  pub end_within : (bits : Bits) (end : ℕ → ℕ) (n : ℕ) → first_passing bits end n ≡ None → (b : ℕ) → b < n → end b ≤ 2 ^ width bits
+  end_within bits end n h b lt =
+      let none = no_first end (first_below (λ b. passes bits (end b)) n) h in
+      ltb-false (2 ^ width bits) (end b) (laws.firsts.none_below (λ b. passes bits (end b)) n none b lt)
 
-  -- **each image ends inside the address space**
-  pub image-within : (k : ℕ) → k < sum_by (λ s. s.count) p.spans → place p layout k + image_length p layout k ≤ 2 ^ width bits
-  image-within k lt =
-      let b = block_number p.spans k in
-      let bl = block_below p.spans k lt in
-      let from = first_le p.spans k in
-      let below = within_block p.spans k lt in
-      omega (
-        arith,
-        place-is p layout b k bl from below,
-        place-next p layout b k from,
-        place-rises p layout b (k + 1) (first_of_block p.spans b + (span_at p.spans b).count) (omega (arith, below)),
-        place-last p layout b,
-        images-within b bl,
-      )
+  module _ (bits : Bits) (p : BlockPlan) (layout : List ℕ) (inside : first_new_pass bits p layout ≡ None) where
+    -- **the images of a block end inside the address space**
+    pub images-within : (b : ℕ) → b < length p.spans → images_end p layout b ≤ 2 ^ width bits
+    images-within b lt = omega (arith, images_before p layout b, end_within bits (new_end p layout) (length p.spans) inside b lt)
+
+    -- **each image ends inside the address space**
+    pub image-within : (k : ℕ) → k < sum_by (λ s. s.count) p.spans → place p layout k + image_length p layout k ≤ 2 ^ width bits
+    image-within k lt =
+        let b = block_number p.spans k in
+        let bl = laws.blocks.block_below p.spans k lt in
+        let from = laws.blocks.first_le p.spans k in
+        let below = laws.blocks.within_block p.spans k lt in
+        omega (
+          arith,
+          place-is laws p layout b k bl from below,
+          place-next laws p layout b k from,
+          place-rises laws p layout b (k + 1) (first_of_block p.spans b + (span_at p.spans b).count) (omega (arith, below)),
+          place-last p layout b,
+          images-within b bl,
+        )

@@ -8,13 +8,10 @@ pub mod Pieces
 pub mod Places
 pub mod Chosen
 pub mod Joined
-pub mod NearFirst
 pub mod Inside
-pub mod Aimed
 pub mod Reached
 pub mod Going
 pub mod Standing
-pub mod Nearby
 pub mod Spelled
 pub mod Formed
 pub mod Counting

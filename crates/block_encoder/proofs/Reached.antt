@@ -1,125 +1,108 @@
 -- What is no relative branch has its bytes wherever it reaches its goal.
-use Rattle.std.proofs.Common.{◌≡◌, ℕ, ◌+◌, ◌^◌, ◌<◌, ◌≤◌, List, [], ◌∷◌, length, get_or, Option, Some, None, Result, Ok, Err, refl, ap, sym, ◌∙◌, subst, arith}
-use Rattle.std.specs.Prelude.{IsSome, is_some, not, ◌&&◌}
+use Rattle.std.proofs.Common.{◌≡◌, ℕ, ◌+◌, ◌^◌, ◌<◌, ◌≤◌, List, [], ◌∷◌, length, get_or, Option, Some, None, refl, ap, sym, ◌∙◌, subst, arith}
+use Rattle.std.specs.Prelude.{IsSome, not, ◌&&◌}
 use Rattle.x86_values.specs.declared.Bits.{Bits}
 use Rattle.x86_values.specs.declared.Instr.{Instr}
 use Rattle.x86_values.specs.Wrapping.{width, wrapped}
-use Rattle.plain_spelling.specs.declared.NoSpelling.{NoSpelling}
-use Rattle.operand_info.specs.Operands.{near_value, first_value}
-use Rattle.encoder.specs.Encoding.{encoding}
 use Rattle.branch_sizes.specs.declared.plan.BlockSpan.{BlockSpan}
 use Rattle.branch_sizes.specs.declared.plan.Form.{Form}
 use Rattle.branch_sizes.specs.declared.plan.Form.TheVariants.{Itself}
 use Rattle.branch_sizes.specs.Layout.{IsLayout, Reaches, place, image_length}
-use Rattle.branch_sizes.proofs.Rising.{length_at_least}
 use Rattle.moved_targets.specs.Targets.{target_of, target_reach, aimed, plain_length}
-use Rattle.moved_targets.proofs.Elsewhere.{encoded-elsewhere}
 use Rattle.branch_forms.specs.declared.branch.RelativeBranch.{RelativeBranch}
 use Rattle.branch_forms.specs.Branches.{branch_of}
 use Rattle.branch_forms.specs.Images.{image_by, image_of}
 use Rattle.branch_forms.specs.Choices.{choices_of}
-use Rattle.branch_forms.proofs.Lengths.{other-length}
-use Rattle.branch_forms.proofs.Fit.{spelled-fit}
 use Rattle.move_goals.specs.declared.items.Placed.{Placed}
 use Rattle.move_goals.specs.Items.{AreSpansOf, ArePlaced, item_at}
 use Rattle.move_goals.specs.Goals.{is_in_block_of, begins_at, own_item, other_item, goal_among, goal_of_target, goal_of, goal_at}
 use Rattle.move_goals.specs.Plan.{plan_with, plan_for}
-use Rattle.move_goals.proofs.First.{some_below}
 use Rattle.move_layout.specs.Laid.{goal_value, goal_address, seat_at}
-use Rattle.block_encoder.specs.Bytes.{in_front, bytes_from}
+use Rattle.block_encoder.specs.Bytes.{bytes_from}
 use Rattle.block_encoder.specs.Moved.{seat_reach, IsReached, first_new_pass}
-use Rattle.block_encoder.proofs.NearFirst.{no_branch-no_near}
+use Rattle.block_encoder.specs.LawsBelow.{LawsBelow}
+use Rattle.block_encoder.proofs.Sweeping.{one_spelled}
 use Rattle.block_encoder.proofs.Inside.{width-most, image-within}
-use Rattle.block_encoder.proofs.Aimed.{spelled-below}
 use Rattle.block_encoder.proofs.Chosen.{plan-item, choice-is, choice-below, seat-length, seat-no_branch, seat-place, seat-image_length}
-
--- ---- the bytes of one instruction
-
-one_spelled : (bits : Bits) (at : ℕ) (i : Instr) (bytes : List ℕ) → encoding bits at i ≡ Ok bytes → IsSome (bytes_from bits at (i ∷ []))
-unfolding bytes_from
-one_spelled bits at i bytes h =
-    ap (λ (r : Result (List ℕ) NoSpelling). is_some (elim r as (λ (x : Result (List ℕ) NoSpelling). Option (List ℕ)) [ Ok b ↦ in_front b (Some []) | Err why ↦ None ])) h
 
 -- what is no relative branch is itself in each form, aimed at its goal
 other_image : (bits : Bits) (i : Instr) (form : Form) (at goal slot : ℕ) → branch_of i ≡ None → image_of bits i form at goal slot ≡ aimed goal i ∷ []
 unfolding image_of
 other_image bits i form at goal slot none = ap (λ (b : Option RelativeBranch). image_by bits i b form at goal slot) none
 
--- ---- goals
+module _ (laws : LawsBelow) where
+  -- ---- goals
 
-module _ (bits : Bits) (items : List Placed) (spans : List BlockSpan) (s : AreSpansOf items spans) (placed : ArePlaced bits items)
-    (layout : List ℕ) (l : IsLayout (plan_for bits spans items) layout) (inside : first_new_pass bits (plan_for bits spans items) layout ≡ None) where
-  -- an image has a byte
-  some_byte : (k : ℕ) → k < length items → 1 ≤ image_length (plan_for bits spans items) layout k
-  some_byte k lt =
-      let i = placed k lt in
-      let fit = spelled-fit bits (wrapped bits (item_at items k).ip) i.bytes (item_at items k).instr i.spelled in
-      let low = length_at_least 1 (choices_of bits (item_at items k).instr) (get_or layout k 0) fit.2 (choice-below bits spans items (goal_at spans items) layout l k lt) in
-      omega (arith, low, ap (λ c. c.len) (choice-is bits spans items (goal_at spans items) layout l k lt))
-
-  -- an image ends inside the address space
-  ends : (k : ℕ) → k < length items → place (plan_for bits spans items) layout k + image_length (plan_for bits spans items) layout k ≤ 2 ^ width bits
-  unfolding plan_with
-  ends k lt = image-within bits (plan_for bits spans items) layout inside k (omega (arith, lt, s.counts))
-
-  place_below : (k : ℕ) → k < length items → place (plan_for bits spans items) layout k < 2 ^ 64
-  place_below k lt = omega (arith, some_byte k lt, ends k lt, width-most bits)
-
-  -- an item or an address is below 2 to the power of 64
-  among_below : (own other : Option ℕ) (t : ℕ) → ((j : ℕ) → own ≡ Some j → j < length items) → ((j : ℕ) → other ≡ Some j → j < length items) → t < 2 ^ 64 → goal_value (plan_for bits spans items) layout (goal_among own other t) < 2 ^ 64
-  among_below (Some j) other t a b below = place_below j (a j refl)
-  among_below None (Some j) t a b below = place_below j (b j refl)
-  among_below None None t a b below = below
-
-  target_below : (k t : ℕ) → t < 2 ^ 64 → goal_value (plan_for bits spans items) layout (goal_of_target spans items k t) < 2 ^ 64
-  unfolding goal_of_target own_item other_item
-  target_below k t below =
-      among_below (own_item spans items k t) (other_item spans items k t) t
-      (λ j e. (some_below (λ n. is_in_block_of spans k n && begins_at items t n) (length items) j e).0)
-      (λ j e. (some_below (λ n. not (is_in_block_of spans k n) && begins_at items t n) (length items) j e).0)
-      below
-
-  module _ (k : ℕ) (lt : k < length items) where
-    by_target : (o : Option ℕ) → ((t : ℕ) → o ≡ Some t → t < 2 ^ 64) → goal_value (plan_for bits spans items) layout (goal_of spans items k o) < 2 ^ 64
-    by_target None h = omega arith
-    by_target (Some t) h = target_below k t (h t refl)
-
-    -- **the goal of an address is an address**
-    pub goal-below : ((t : ℕ) → target_of (item_at items k).instr ≡ Some t → t < 2 ^ 64) → goal_address (plan_for bits spans items) layout k < 2 ^ 64
-    goal-below below =
-        subst (λ b. goal_value (plan_for bits spans items) layout b.goal < 2 ^ 64) (sym (plan-item bits spans items (goal_at spans items) k lt))
-        (by_target (target_of (item_at items k).instr) below)
-
-    goal_below : first_value near_value (item_at items k).instr ≡ None → goal_address (plan_for bits spans items) layout k < 2 ^ 64
-    goal_below none =
+  module _ (bits : Bits) (items : List Placed) (spans : List BlockSpan) (s : AreSpansOf items spans) (placed : ArePlaced bits items)
+      (layout : List ℕ) (l : IsLayout (plan_for bits spans items) layout) (inside : first_new_pass bits (plan_for bits spans items) layout ≡ None) where
+    -- an image has a byte
+    some_byte : (k : ℕ) → k < length items → 1 ≤ image_length (plan_for bits spans items) layout k
+    some_byte k lt =
         let i = placed k lt in
-        goal-below (λ t e. spelled-below bits (wrapped bits (item_at items k).ip) i.bytes (item_at items k).instr t i.spelled none e)
+        let fit = laws.forms.spelled-fit bits (wrapped bits (item_at items k).ip) i.bytes (item_at items k).instr i.spelled in
+        let low = laws.lengths.length_at_least 1 (choices_of bits (item_at items k).instr) (get_or layout k 0) fit.2 (choice-below bits spans items (goal_at spans items) layout l k lt) in
+        omega (arith, low, ap (λ c. c.len) (choice-is bits spans items (goal_at spans items) layout l k lt))
 
-    seat_goal : (seat_at (plan_for bits spans items) layout k).goal ≡ goal_address (plan_for bits spans items) layout k
-    unfolding seat_at
-    seat_goal = refl
+    -- an image ends inside the address space
+    ends : (k : ℕ) → k < length items → place (plan_for bits spans items) layout k + image_length (plan_for bits spans items) layout k ≤ 2 ^ width bits
+    unfolding plan_with
+    ends k lt = image-within laws bits (plan_for bits spans items) layout inside k (omega (arith, lt, s.counts))
 
-    -- **it has its bytes where it reaches its goal**
-    pub other-reached : (seat_at (plan_for bits spans items) layout k).form ≡ Itself
-        → Reaches (seat_reach (item_at items k).instr (seat_at (plan_for bits spans items) layout k).form (seat_at (plan_for bits spans items) layout k).reach) (seat_at (plan_for bits spans items) layout k).len (seat_at (plan_for bits spans items) layout k).place (seat_at (plan_for bits spans items) layout k).goal
-        → IsReached bits items (plan_for bits spans items) layout k
-    other-reached own reaches =
-        let seat = seat_at (plan_for bits spans items) layout k in
-        let instr = (item_at items k).instr in
-        let i = placed k lt in
-        let old = wrapped bits (item_at items k).ip in
-        let no_branch = seat-no_branch bits spans items (goal_at spans items) layout l k lt own in
-        let none = no_branch-no_near bits old i.bytes instr i.spelled no_branch in
-        let len : seat.len ≡ plain_length bits instr = seat-length bits spans items (goal_at spans items) layout l k lt ∙ other-length bits instr seat.form no_branch in
-        let target : Reaches (target_reach instr) seat.len seat.place seat.goal =
-        subst (λ (form : Form). Reaches (seat_reach instr form seat.reach) seat.len seat.place seat.goal) own reaches in
-        let there : Reaches (target_reach instr) (plain_length bits instr) seat.place seat.goal =
-        subst (λ (n : ℕ). Reaches (target_reach instr) n seat.place seat.goal) len target in
-        let within : seat.place + plain_length bits instr ≤ 2 ^ width bits =
-        omega (arith, len, ends k lt, seat-place bits spans items (goal_at spans items) layout l k lt, seat-image_length bits spans items (goal_at spans items) layout l k lt) in
-        let below : seat.goal < 2 ^ 64 = omega (arith, seat_goal, goal_below none) in
-        let e = encoded-elsewhere bits old seat.place seat.goal i.bytes instr i.spelled none there within below in (
-          reaches,
-          subst (λ (is : List Instr). IsSome (bytes_from bits seat.place is)) (sym (other_image bits instr seat.form seat.place seat.goal seat.slot no_branch))
-              (one_spelled bits seat.place (aimed seat.goal instr) e.0 e.1),
-        )
+    place_below : (k : ℕ) → k < length items → place (plan_for bits spans items) layout k < 2 ^ 64
+    place_below k lt = omega (arith, some_byte k lt, ends k lt, width-most bits)
+
+    -- an item or an address is below 2 to the power of 64
+    among_below : (own other : Option ℕ) (t : ℕ) → ((j : ℕ) → own ≡ Some j → j < length items) → ((j : ℕ) → other ≡ Some j → j < length items) → t < 2 ^ 64 → goal_value (plan_for bits spans items) layout (goal_among own other t) < 2 ^ 64
+    among_below (Some j) other t a b below = place_below j (a j refl)
+    among_below None (Some j) t a b below = place_below j (b j refl)
+    among_below None None t a b below = below
+
+    target_below : (k t : ℕ) → t < 2 ^ 64 → goal_value (plan_for bits spans items) layout (goal_of_target spans items k t) < 2 ^ 64
+    unfolding goal_of_target own_item other_item
+    target_below k t below =
+        among_below (own_item spans items k t) (other_item spans items k t) t
+        (λ j e. (laws.firsts.some_below (λ n. is_in_block_of spans k n && begins_at items t n) (length items) j e).0)
+        (λ j e. (laws.firsts.some_below (λ n. not (is_in_block_of spans k n) && begins_at items t n) (length items) j e).0)
+        below
+
+    module _ (k : ℕ) (lt : k < length items) where
+      by_target : (o : Option ℕ) → ((t : ℕ) → o ≡ Some t → t < 2 ^ 64) → goal_value (plan_for bits spans items) layout (goal_of spans items k o) < 2 ^ 64
+      by_target None h = omega arith
+      by_target (Some t) h = target_below k t (h t refl)
+
+      -- **its goal is an address**
+      pub goal-below : goal_address (plan_for bits spans items) layout k < 2 ^ 64
+      goal-below =
+          let i = placed k lt in
+          subst (λ b. goal_value (plan_for bits spans items) layout b.goal < 2 ^ 64) (sym (plan-item bits spans items (goal_at spans items) k lt))
+          (by_target (target_of (item_at items k).instr)
+          (λ t e. laws.targets.target-below bits (wrapped bits (item_at items k).ip) i.bytes (item_at items k).instr t i.spelled e))
+
+      seat_goal : (seat_at (plan_for bits spans items) layout k).goal ≡ goal_address (plan_for bits spans items) layout k
+      unfolding seat_at
+      seat_goal = refl
+
+      -- **it has its bytes where it reaches its goal**
+      pub other-reached : (seat_at (plan_for bits spans items) layout k).form ≡ Itself
+          → Reaches (seat_reach (item_at items k).instr (seat_at (plan_for bits spans items) layout k).form (seat_at (plan_for bits spans items) layout k).reach) (seat_at (plan_for bits spans items) layout k).len (seat_at (plan_for bits spans items) layout k).place (seat_at (plan_for bits spans items) layout k).goal
+          → IsReached bits items (plan_for bits spans items) layout k
+      other-reached own reaches =
+          let seat = seat_at (plan_for bits spans items) layout k in
+          let instr = (item_at items k).instr in
+          let i = placed k lt in
+          let old = wrapped bits (item_at items k).ip in
+          let no_branch = seat-no_branch bits spans items (goal_at spans items) layout l k lt own in
+          let none = laws.forms.no_branch-no_near bits old i.bytes instr i.spelled no_branch in
+          let len : seat.len ≡ plain_length bits instr = seat-length bits spans items (goal_at spans items) layout l k lt ∙ laws.forms.other-length bits instr seat.form no_branch in
+          let target : Reaches (target_reach instr) seat.len seat.place seat.goal =
+          subst (λ (form : Form). Reaches (seat_reach instr form seat.reach) seat.len seat.place seat.goal) own reaches in
+          let there : Reaches (target_reach instr) (plain_length bits instr) seat.place seat.goal =
+          subst (λ (n : ℕ). Reaches (target_reach instr) n seat.place seat.goal) len target in
+          let within : seat.place + plain_length bits instr ≤ 2 ^ width bits =
+          omega (arith, len, ends k lt, seat-place bits spans items (goal_at spans items) layout l k lt, seat-image_length bits spans items (goal_at spans items) layout l k lt) in
+          let below : seat.goal < 2 ^ 64 = omega (arith, seat_goal, goal-below) in
+          let e = laws.targets.encoded-elsewhere bits old seat.place seat.goal i.bytes instr i.spelled none there within below in (
+            reaches,
+            subst (λ (is : List Instr). IsSome (bytes_from bits seat.place is)) (sym (other_image bits instr seat.form seat.place seat.goal seat.slot no_branch))
+                (one_spelled bits seat.place (aimed seat.goal instr) e.0 e.1),
+          )

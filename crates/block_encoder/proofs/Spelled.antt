@@ -1,5 +1,6 @@
 -- The branches of images have plain spellings in 64-bit mode.
-use Rattle.std.proofs.Common.{◌≡◌, ℕ, ◌+◌, ◌^◌, ◌≤◌, ◌<◌, ◌⊎◌, inl, inr, Bool, true, false, ◌&&◌, List, Option, Some, None, Ok, nat_lt, nat_le, slice_get, refl, ap, sym, ◌∙◌, arith}
+use Rattle.std.proofs.Common.{◌≡◌, ℕ, ◌+◌, ◌^◌, ◌≤◌, ◌<◌, ◌⊎◌, inl, inr, Bool, true, false, ◌&&◌, List, Option, Some, None, Ok, nat_lt, slice_get, refl, ap, sym, ◌∙◌, arith}
+use Rattle.std.proofs.lemmas.Bool.{lt-ltb}
 use Rattle.x86_values.specs.declared.Bits.{Bits}
 use Rattle.x86_values.specs.declared.Bits.TheVariants.{B32, B64}
 use Rattle.x86_values.specs.declared.Instr.{Instr}
@@ -14,22 +15,14 @@ use Rattle.row_fit.specs.Fits.{immediate_bytes}
 use Rattle.plain_spelling.specs.Values.{is_extended_of, distance}
 use Rattle.plain_spelling.specs.Forms.{is_variant_of, is_allowed_in}
 use Rattle.plain_spelling.specs.Addresses.{has_address_size, form_of, offers, form_offers, displacement_count, is_displacement, displacement_suits, is_shape, shape_suits, pointer_size, shown_size, written_size}
-use Rattle.plain_spelling.specs.PlainTail.{plain_size, plain_len, plain_next, plain_spelling}
+use Rattle.plain_spelling.specs.PlainTail.{plain_size, plain_next, plain_spelling}
 use Rattle.plain_spelling.specs.Expressible.{Suits, kind_suits, register_suits, address_suits, offered, immediate_suits, immediate_suits_how, near_reaches, address_reaches, target_suits, lock_suits, repeat_suits, prefixes_suit, has_memory_operand, told_size, size_agrees, is_size_of, address_size_suits}
-use Rattle.plain_spelling.proofs.Failures.{suits-failure}
 use Rattle.opcode_rows.specs.Table.{table}
 use Rattle.encoder.specs.Encoding.{encoding}
-use Rattle.encoder.proofs.Causes.{by_row}
 use Rattle.moved_targets.specs.Targets.{plain_length}
-use Rattle.moved_targets.proofs.Lengths.{plain_length-row}
 use Rattle.branch_forms.specs.Images.{branch_to, through_slot}
 use Rattle.branch_forms.specs.Rows.{offset_row, memory_row}
-
-true_lt : (a b : ℕ) → a < b → nat_lt a b ≡ true
-true_lt a b h = grind (arith, h)
-
-true_le : (a b : ℕ) → a ≤ b → nat_le a b ≡ true
-true_le a b h = grind (arith, h)
+use Rattle.block_encoder.specs.LawsBelow.{LawsBelow}
 
 only_first : (a b : Bool) → a ≡ true → b ≡ true → ((a && b) && (true && (true && true))) ≡ true
 only_first a b p q = rw (p, q) refl
@@ -40,17 +33,6 @@ first_alone a p = rw p refl
 -- an instruction has an encoding at an address of 64-bit mode
 abbrev pub IsEncoded : ℕ → Instr → Type 0
 IsEncoded at i = (bytes : List ℕ) × (encoding B64 at i ≡ Ok bytes)
-
-row-encoded : (at : ℕ) (row : Row) (i : Instr) → slice_get table i.code.0 ≡ Some row → Suits B64 (wrapped B64 at) row i → plain_length B64 i ≤ 15 → IsEncoded at i
-row-encoded at row i there suits short =
-    let l = plain_length-row B64 i row there in
-    let holds = suits-failure B64 (wrapped B64 at) row i suits (true_le (plain_len B64 row i) 15 (omega (arith, l, short))) in
-    (bytes_of row (plain_spelling B64 (wrapped B64 at) row i), sym (by_row B64 at row i there) ∙ rw holds refl)
-
--- the address behind the instruction
-next_is : (at : ℕ) (row : Row) (i : Instr) → slice_get table i.code.0 ≡ Some row → plain_next B64 (wrapped B64 at) row i ≡ wrapped B64 (wrapped B64 at + plain_length B64 i)
-unfolding plain_next
-next_is at row i there = ap (λ (n : ℕ). wrapped B64 (wrapped B64 at + n)) (sym (plain_length-row B64 i row there))
 
 -- ---- offsets
 
@@ -71,7 +53,7 @@ short-suits map true opcode code asize t ip sized below near = record {
   addresses = refl;
   displacements = refl;
   immediates = refl;
-  targets = only_first (nat_lt t (2 ^ 64)) (is_extended_of 1 64 (distance B64 (plain_next B64 ip (offset_row map opcode Jb 22 B64) (branch_to code asize t)) t)) (true_lt t (2 ^ 64) below) near;
+  targets = only_first (nat_lt t (2 ^ 64)) (is_extended_of 1 64 (distance B64 (plain_next B64 ip (offset_row map opcode Jb 22 B64) (branch_to code asize t)) t)) (lt-ltb t (2 ^ 64) below) near;
   prefixes = refl;
   address_size = sized;
 }
@@ -82,7 +64,7 @@ short-suits map false opcode code asize t ip sized below near = record {
   addresses = refl;
   displacements = refl;
   immediates = refl;
-  targets = only_first (nat_lt t (2 ^ 64)) (is_extended_of 1 64 (distance B64 (plain_next B64 ip (offset_row map opcode Jb 20 B64) (branch_to code asize t)) t)) (true_lt t (2 ^ 64) below) near;
+  targets = only_first (nat_lt t (2 ^ 64)) (is_extended_of 1 64 (distance B64 (plain_next B64 ip (offset_row map opcode Jb 20 B64) (branch_to code asize t)) t)) (lt-ltb t (2 ^ 64) below) near;
   prefixes = refl;
   address_size = sized;
 }
@@ -98,7 +80,7 @@ near-suits map opcode code t ip below near = record {
   addresses = refl;
   displacements = refl;
   immediates = refl;
-  targets = only_first (nat_lt t (2 ^ 64)) (is_extended_of 4 64 (distance B64 (plain_next B64 ip (offset_row map opcode Jz 20 B64) (branch_to code None t)) t)) (true_lt t (2 ^ 64) below) near;
+  targets = only_first (nat_lt t (2 ^ 64)) (is_extended_of 4 64 (distance B64 (plain_next B64 ip (offset_row map opcode Jz 20 B64) (branch_to code None t)) t)) (lt-ltb t (2 ^ 64) below) near;
   prefixes = refl;
   address_size = refl;
 }
@@ -118,28 +100,6 @@ branch_to-code : (code : ℕ) (asize : Option Bits) (t : ℕ) → (branch_to cod
 unfolding branch_to
 branch_to-code code asize t = refl
 
-pub short-encoded : (map : Map) (counts : Bool) (opcode code : ℕ) (asize : Option Bits) (t at : ℕ) → slice_get table code ≡ Some (offset_row map opcode Jb (marks_of counts) B64)
-    → address_size_suits B64 (offset_row map opcode Jb (marks_of counts) B64) (branch_to code asize t) ≡ true → plain_length B64 (branch_to code asize t) ≤ 15 → t < 2 ^ 64
-    → is_extended_of 1 64 (distance B64 (wrapped B64 (wrapped B64 at + plain_length B64 (branch_to code asize t))) t) ≡ true
-    → IsEncoded at (branch_to code asize t)
-short-encoded map counts opcode code asize t at there sized short below near =
-    let row = offset_row map opcode Jb (marks_of counts) B64 in
-    let here = ap (slice_get table) (branch_to-code code asize t) ∙ there in
-    row-encoded at row (branch_to code asize t) here
-    (short-suits map counts opcode code asize t (wrapped B64 at) sized below (ap (λ (n : ℕ). is_extended_of 1 64 (distance B64 n t)) (next_is at row (branch_to code asize t) here) ∙ near))
-    short
-
-pub near-encoded : (map : Map) (opcode code t at : ℕ) → slice_get table code ≡ Some (offset_row map opcode Jz 20 B64)
-    → plain_length B64 (branch_to code None t) ≤ 15 → t < 2 ^ 64
-    → is_extended_of 4 64 (distance B64 (wrapped B64 (wrapped B64 at + plain_length B64 (branch_to code None t))) t) ≡ true
-    → IsEncoded at (branch_to code None t)
-near-encoded map opcode code t at there short below near =
-    let row = offset_row map opcode Jz 20 B64 in
-    let here = ap (slice_get table) (branch_to-code code None t) ∙ there in
-    row-encoded at row (branch_to code None t) here
-    (near-suits map opcode code t (wrapped B64 at) below (ap (λ (n : ℕ). is_extended_of 4 64 (distance B64 n t)) (next_is at row (branch_to code None t) here) ∙ near))
-    short
-
 -- ---- slots
 
 slot-suits : (digit code slot ip : ℕ) → slot < 2 ^ 64
@@ -151,7 +111,7 @@ slot-suits digit code slot ip below near = record {
   kinds = refl;
   registers = refl;
   addresses = refl;
-  displacements = first_alone (nat_lt slot (2 ^ 64)) (true_lt slot (2 ^ 64) below);
+  displacements = first_alone (nat_lt slot (2 ^ 64)) (lt-ltb slot (2 ^ 64) below);
   immediates = refl;
   targets = first_alone (is_extended_of 4 64 (distance B64 (plain_next B64 ip (memory_row digit) (through_slot code slot)) slot)) near;
   prefixes = refl;
@@ -162,13 +122,46 @@ through_slot-code : (code slot : ℕ) → (through_slot code slot).code.0 ≡ co
 unfolding through_slot
 through_slot-code code slot = refl
 
-pub slot-encoded : (digit code slot at : ℕ) → slice_get table code ≡ Some (memory_row digit)
-    → plain_length B64 (through_slot code slot) ≤ 15 → slot < 2 ^ 64
-    → is_extended_of 4 64 (distance B64 (wrapped B64 (wrapped B64 at + plain_length B64 (through_slot code slot))) slot) ≡ true
-    → IsEncoded at (through_slot code slot)
-slot-encoded digit code slot at there short below near =
-    let row = memory_row digit in
-    let here = ap (slice_get table) (through_slot-code code slot) ∙ there in
-    row-encoded at row (through_slot code slot) here
-    (slot-suits digit code slot (wrapped B64 at) below (ap (λ (n : ℕ). is_extended_of 4 64 (distance B64 n slot)) (next_is at row (through_slot code slot) here) ∙ near))
-    short
+module _ (laws : LawsBelow) where
+  row-encoded : (at : ℕ) (row : Row) (i : Instr) → slice_get table i.code.0 ≡ Some row → Suits B64 (wrapped B64 at) row i → plain_length B64 i ≤ 15 → IsEncoded at i
+  row-encoded at row i there suits short =
+      let l = laws.targets.plain_length-row B64 i row there in
+      (bytes_of row (plain_spelling B64 (wrapped B64 at) row i), laws.encodings.suits-encoded B64 at row i there suits (omega (arith, l, short)))
+
+  -- the address behind the instruction
+  next_is : (at : ℕ) (row : Row) (i : Instr) → slice_get table i.code.0 ≡ Some row → plain_next B64 (wrapped B64 at) row i ≡ wrapped B64 (wrapped B64 at + plain_length B64 i)
+  unfolding plain_next
+  next_is at row i there = ap (λ (n : ℕ). wrapped B64 (wrapped B64 at + n)) (sym (laws.targets.plain_length-row B64 i row there))
+
+  pub short-encoded : (map : Map) (counts : Bool) (opcode code : ℕ) (asize : Option Bits) (t at : ℕ) → slice_get table code ≡ Some (offset_row map opcode Jb (marks_of counts) B64)
+      → address_size_suits B64 (offset_row map opcode Jb (marks_of counts) B64) (branch_to code asize t) ≡ true → plain_length B64 (branch_to code asize t) ≤ 15 → t < 2 ^ 64
+      → is_extended_of 1 64 (distance B64 (wrapped B64 (wrapped B64 at + plain_length B64 (branch_to code asize t))) t) ≡ true
+      → IsEncoded at (branch_to code asize t)
+  short-encoded map counts opcode code asize t at there sized short below near =
+      let row = offset_row map opcode Jb (marks_of counts) B64 in
+      let here = ap (slice_get table) (branch_to-code code asize t) ∙ there in
+      row-encoded at row (branch_to code asize t) here
+      (short-suits map counts opcode code asize t (wrapped B64 at) sized below (ap (λ (n : ℕ). is_extended_of 1 64 (distance B64 n t)) (next_is at row (branch_to code asize t) here) ∙ near))
+      short
+
+  pub near-encoded : (map : Map) (opcode code t at : ℕ) → slice_get table code ≡ Some (offset_row map opcode Jz 20 B64)
+      → plain_length B64 (branch_to code None t) ≤ 15 → t < 2 ^ 64
+      → is_extended_of 4 64 (distance B64 (wrapped B64 (wrapped B64 at + plain_length B64 (branch_to code None t))) t) ≡ true
+      → IsEncoded at (branch_to code None t)
+  near-encoded map opcode code t at there short below near =
+      let row = offset_row map opcode Jz 20 B64 in
+      let here = ap (slice_get table) (branch_to-code code None t) ∙ there in
+      row-encoded at row (branch_to code None t) here
+      (near-suits map opcode code t (wrapped B64 at) below (ap (λ (n : ℕ). is_extended_of 4 64 (distance B64 n t)) (next_is at row (branch_to code None t) here) ∙ near))
+      short
+
+  pub slot-encoded : (digit code slot at : ℕ) → slice_get table code ≡ Some (memory_row digit)
+      → plain_length B64 (through_slot code slot) ≤ 15 → slot < 2 ^ 64
+      → is_extended_of 4 64 (distance B64 (wrapped B64 (wrapped B64 at + plain_length B64 (through_slot code slot))) slot) ≡ true
+      → IsEncoded at (through_slot code slot)
+  slot-encoded digit code slot at there short below near =
+      let row = memory_row digit in
+      let here = ap (slice_get table) (through_slot-code code slot) ∙ there in
+      row-encoded at row (through_slot code slot) here
+      (slot-suits digit code slot (wrapped B64 at) below (ap (λ (n : ℕ). is_extended_of 4 64 (distance B64 n slot)) (next_is at row (through_slot code slot) here) ∙ near))
+      short

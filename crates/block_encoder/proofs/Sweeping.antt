@@ -1,21 +1,21 @@
 -- Plain spellings that stand one behind another: joined, how long they are, and that the sweep of them gives the instructions.
 use Rattle.std.proofs.Common.{◌≡◌, ℕ, zero, suc, ◌+◌, ◌<◌, ◌≤◌, List, [], ◌∷◌, ◌++◌, length, Option, Some, None, Result, Ok, Err, slice_get, refl, ap, sym, ◌∙◌, subst, append_assoc, arith, length-append}
 use Rattle.std.specs.List.{flat_map, range_with_len}
+use Rattle.std.specs.Prelude.{IsSome, is_some}
 use Rattle.std.proofs.Math.Seq.{take-append_seam, drop-append_seam}
 use Rattle.x86_values.specs.declared.Bits.{Bits}
 use Rattle.x86_values.specs.declared.Instr.{Instr}
 use Rattle.x86_values.specs.Wrapping.{wrapped}
 use Rattle.row_types.specs.declared.Row.{Row}
 use Rattle.plain_spelling.specs.declared.NoSpelling.{NoSpelling}
-use Rattle.plain_laws.proofs.ReadBack.{plain_reads}
+use Rattle.plain_spelling.specs.declared.NoSpelling.TheVariants as cause
 use Rattle.opcode_rows.specs.Table.{table}
 use Rattle.opcode_rows.specs.Sweep.{IsReadAt, IsItemAt, Sweeps}
 use Rattle.encoder.specs.Encoding.{encoding}
-use Rattle.encoder.proofs.Causes.{plain_bytes_are, without_row}
-use Rattle.moved_targets.proofs.Lengths.{encoding-length, plain_length-row, some_byte}
 use Rattle.branch_forms.specs.Images.{pieces_length}
 use Rattle.block_encoder.specs.Bytes.{in_front, bytes_from}
 use Rattle.block_encoder.specs.Read.{read_item, read_items}
+use Rattle.block_encoder.specs.LawsBelow.{LawsBelow}
 
 -- each of some instructions has four operands
 abbrev pub HaveFour : List Instr → Type 0
@@ -28,24 +28,16 @@ have_four-append (i ∷ is) js (a, more) b = (a, have_four-append is js more b)
 
 -- ---- one spelling
 
--- it has a byte
-some_bytes : (bits : Bits) (at : ℕ) (i : Instr) (bytes : List ℕ) → encoding bits at i ≡ Ok bytes → 0 < length bytes
-some_bytes bits at i bytes h = by_row (slice_get table i.code.0) refl
-  where
-    by_row : (row : Option Row) → slice_get table i.code.0 ≡ row → 0 < length bytes
-    by_row None e = let k = without_row bits at i e in cc
-    by_row (Some row) e = omega (arith, encoding-length bits at i bytes h, plain_length-row bits i row e, some_byte bits row i)
+-- an instruction with an encoding has its bytes
+pub one_spelled : (bits : Bits) (at : ℕ) (i : Instr) (bytes : List ℕ) → encoding bits at i ≡ Ok bytes → IsSome (bytes_from bits at (i ∷ []))
+unfolding bytes_from
+one_spelled bits at i bytes h =
+    ap (λ (r : Result (List ℕ) NoSpelling). is_some (elim r as (λ (x : Result (List ℕ) NoSpelling). Option (List ℕ)) [ Ok b ↦ in_front b (Some []) | Err why ↦ None ])) h
 
--- it is an item of the sweep, whatever stands behind it
-spelled_item : (bits : Bits) (base offset : ℕ) (i : Instr) (bytes rest : List ℕ) → length i.ops ≡ 4 → encoding bits (base + offset) i ≡ Ok bytes → IsItemAt bits base offset (bytes ++ rest) (read_item offset bytes i)
-unfolding IsReadAt
-spelled_item bits base offset i bytes rest four h = record {
-  offset_is = refl;
-  reads = plain_reads table bits (wrapped bits (base + offset)) bytes rest i (plain_bytes_are bits (base + offset) i bytes four (sym h));
-  within = omega (arith, length-append bytes rest);
-  some = some_bytes bits (base + offset) i bytes h;
-  bytes_are = sym (take-append_seam bytes rest);
-}
+-- an instruction without a row has none
+without_row : (bits : Bits) (at : ℕ) (i : Instr) → slice_get table i.code.0 ≡ None → Err cause.Row ≡ encoding bits at i
+unfolding encoding
+without_row bits at i none = rw none refl
 
 -- ---- several spellings
 
@@ -71,28 +63,6 @@ parted bits at i is all h = by_encoding (encoding bits at i) refl h
     by_encoding (Ok bytes) e h =
         let k = in_front-some bytes (bytes_from bits (at + length bytes) is) all h in
         record { bytes = bytes; rest = k.0; first = e; others = k.1; all_are = k.2 }
-
--- **the sweep of plain spellings gives the instructions**
-pub spellings-sweep : (bits : Bits) (base offset : ℕ) (is : List Instr) (all : List ℕ) → HaveFour is → bytes_from bits (base + offset) is ≡ Some all → Sweeps bits base offset all (read_items bits base offset is) []
-unfolding bytes_from read_items
-spellings-sweep bits base offset [] all four h = cc
-spellings-sweep bits base offset (i ∷ is) all (four, more) h =
-    let p = parted bits (base + offset) i is all h in
-    let e : base + offset + length p.bytes ≡ base + (offset + length p.bytes) = omega arith in
-    let others = subst (λ (at : ℕ). bytes_from bits at is ≡ Some p.rest) e p.others in
-    let next = spellings-sweep bits base (offset + length p.bytes) is p.rest more others in
-    let behind = subst (λ (l : List ℕ). Sweeps bits base (offset + length p.bytes) l (read_items bits base (offset + length p.bytes) is) []) (sym (drop-append_seam p.bytes p.rest)) next in
-    let item = spelled_item bits base offset i p.bytes p.rest four p.first in
-    subst (λ (l : List ℕ). Sweeps bits base offset l (elim (encoding bits (base + offset) i) [ Ok bytes ↦ read_item offset bytes i ∷ read_items bits base (offset + length bytes) is | Err why ↦ [] ]) []) (sym p.all_are)
-    (rw p.first (item, behind))
-
--- **they are as long as the pieces**
-pub spellings-length : (bits : Bits) (at : ℕ) (is : List Instr) (all : List ℕ) → bytes_from bits at is ≡ Some all → length all ≡ pieces_length bits is
-unfolding bytes_from
-spellings-length bits at [] all h = let k : all ≡ [] = cc in rw k refl
-spellings-length bits at (i ∷ is) all h =
-    let p = parted bits at i is all h in
-    omega (arith, ap length p.all_are, length-append p.bytes p.rest, encoding-length bits at i p.bytes p.first, spellings-length bits (at + length p.bytes) is p.rest p.others)
 
 -- a spelling in front of others
 cons-spelled : (bits : Bits) (at : ℕ) (i : Instr) (is : List Instr) (bytes rest : List ℕ) → encoding bits at i ≡ Ok bytes → bytes_from bits (at + length bytes) is ≡ Some rest → bytes_from bits at (i ∷ is) ≡ Some (bytes ++ rest)
@@ -138,3 +108,45 @@ images-have_four image first zero h = tt
 images-have_four image first (suc n) h =
     have_four-append (image first) (flat_map image (range_with_len (first + 1) n)) (h first (omega arith) (omega arith))
     (images-have_four image (first + 1) n (λ k a b. h k (omega arith) (omega arith)))
+
+module _ (laws : LawsBelow) where
+  -- it has a byte
+  some_bytes : (bits : Bits) (at : ℕ) (i : Instr) (bytes : List ℕ) → encoding bits at i ≡ Ok bytes → 0 < length bytes
+  some_bytes bits at i bytes h = by_row (slice_get table i.code.0) refl
+    where
+      by_row : (row : Option Row) → slice_get table i.code.0 ≡ row → 0 < length bytes
+      by_row None e = let k = without_row bits at i e in cc
+      by_row (Some row) e = omega (arith, laws.targets.encoding-length bits at i bytes h, laws.targets.plain_length-row bits i row e, laws.targets.some_byte bits row i)
+
+  -- it is an item of the sweep, whatever stands behind it
+  spelled_item : (bits : Bits) (base offset : ℕ) (i : Instr) (bytes rest : List ℕ) → length i.ops ≡ 4 → encoding bits (base + offset) i ≡ Ok bytes → IsItemAt bits base offset (bytes ++ rest) (read_item offset bytes i)
+  unfolding IsReadAt
+  spelled_item bits base offset i bytes rest four h = record {
+    offset_is = refl;
+    reads = laws.encodings.plain-reads bits (wrapped bits (base + offset)) bytes rest i (laws.encodings.encoded-plain bits (base + offset) i bytes four h);
+    within = omega (arith, length-append bytes rest);
+    some = some_bytes bits (base + offset) i bytes h;
+    bytes_are = sym (take-append_seam bytes rest);
+  }
+
+  -- **the sweep of plain spellings gives the instructions**
+  pub spellings-sweep : (bits : Bits) (base offset : ℕ) (is : List Instr) (all : List ℕ) → HaveFour is → bytes_from bits (base + offset) is ≡ Some all → Sweeps bits base offset all (read_items bits base offset is) []
+  unfolding bytes_from read_items
+  spellings-sweep bits base offset [] all four h = cc
+  spellings-sweep bits base offset (i ∷ is) all (four, more) h =
+      let p = parted bits (base + offset) i is all h in
+      let e : base + offset + length p.bytes ≡ base + (offset + length p.bytes) = omega arith in
+      let others = subst (λ (at : ℕ). bytes_from bits at is ≡ Some p.rest) e p.others in
+      let next = spellings-sweep bits base (offset + length p.bytes) is p.rest more others in
+      let behind = subst (λ (l : List ℕ). Sweeps bits base (offset + length p.bytes) l (read_items bits base (offset + length p.bytes) is) []) (sym (drop-append_seam p.bytes p.rest)) next in
+      let item = spelled_item bits base offset i p.bytes p.rest four p.first in
+      subst (λ (l : List ℕ). Sweeps bits base offset l (elim (encoding bits (base + offset) i) [ Ok bytes ↦ read_item offset bytes i ∷ read_items bits base (offset + length bytes) is | Err why ↦ [] ]) []) (sym p.all_are)
+      (rw p.first (item, behind))
+
+  -- **they are as long as the pieces**
+  pub spellings-length : (bits : Bits) (at : ℕ) (is : List Instr) (all : List ℕ) → bytes_from bits at is ≡ Some all → length all ≡ pieces_length bits is
+  unfolding bytes_from
+  spellings-length bits at [] all h = let k : all ≡ [] = cc in rw k refl
+  spellings-length bits at (i ∷ is) all h =
+      let p = parted bits at i is all h in
+      omega (arith, ap length p.all_are, length-append p.bytes p.rest, laws.targets.encoding-length bits at i p.bytes p.first, spellings-length bits (at + length p.bytes) is p.rest p.others)

@@ -7,7 +7,7 @@ use Rattle.move_goals.specs.declared.items.Placed.{Placed}
 use Rattle.move_goals.specs.Plan.{plan_outside}
 use Rattle.move_layout.specs.Laid.{goal_address}
 use Rattle.block_encoder.specs.declared.error.MoveError.{MoveError}
-use Rattle.block_encoder.specs.declared.error.MoveError.TheVariants.{Memory, TooMany, OldOrder, Wraps, TooFar}
+use Rattle.block_encoder.specs.declared.error.MoveError.TheVariants.{Memory, TooMany, Wraps, TooFar}
 use Rattle.block_encoder.specs.Moved.{MovedLists, IsReached, IsFirstUnreached, AreListsOf, first_new_pass}
 
 -- in the least layout every new end is inside the address space and every item reaches its goal, and the lists are those of that layout

@@ -32,10 +32,11 @@ seated_image bits i seat = image_of bits i seat.form seat.place seat.goal seat.s
 abbrev pub seated_bytes : Bits → Instr → Seat → Option (List ℕ)
 seated_bytes bits i seat = bytes_from bits seat.place (seated_image bits i seat)
 
--- the image of item k in a layout, and its bytes
+-- the image of item k in a layout
 abbrev pub image_at : Bits → List Placed → BlockPlan → List ℕ → ℕ → List Instr
 image_at bits items p layout k = seated_image bits (item_at items k).instr (seat_at p layout k)
 
+-- its bytes there
 abbrev pub image_bytes : Bits → List Placed → BlockPlan → List ℕ → ℕ → Option (List ℕ)
 image_bytes bits items p layout k = seated_bytes bits (item_at items k).instr (seat_at p layout k)
 

@@ -6,3 +6,4 @@ pub mod Aims
 pub mod ByPlan
 pub mod Last
 pub mod Facts
+pub mod LawsBelow

@@ -6,6 +6,7 @@ ghost use Rattle.block_encoder.specs.ByPlan.{IsPlanAnswer};
 ghost use Rattle.block_encoder.specs.Written.{first_end_past};
 
 use crate::error::MoveError;
+use crate::laws_below::laws_below;
 use crate::moved::MovedBlocks;
 use crate::write::write_blocks;
 use branch_sizes::Plan;
@@ -30,6 +31,7 @@ fn passes(bits: Bits, end: u128) -> bool
 fn first_new_pass(bits: Bits, ends: &[BlockEnd]) -> Option<u128>
     ensures { result ≡ first_end_past bits ends.now }
 {
+    laws_below();
     for end in ends {
         if passes(bits, end.end) {
             return Some(end.end);
@@ -48,6 +50,7 @@ pub(crate) fn move_by_plan(
     requires { length plan.now.items ≡ length items.now }
     ensures { IsPlanAnswer bits items.now plan.now result }
 {
+    laws_below();
     let laid = match lay_out(alloc, plan) {
         Ok(laid) => laid,
         Err(_) => return Err(MoveError::Memory),

@@ -8,6 +8,7 @@ ghost use Rattle.block_encoder.specs.Bytes.{bytes_from, seated_bytes};
 ghost use Rattle.block_encoder.specs.Moved as moved;
 ghost use Rattle.block_encoder.specs.Written.{IsPieceAppended, AreAppended, IsSeatWritten};
 
+use crate::laws_below::laws_below;
 use branch_forms::{Image, image_of};
 use branch_sizes::{Form, Reach};
 use encoder::encode;
@@ -117,6 +118,7 @@ fn append_seated(
     requires goal { goal ≡ seat.now.goal }
     ensures { IfOk result (λ done. AreAppended (seated_bytes bits instr.now seat.now) bytes.old.items bytes.new.items done) }
 {
+    laws_below();
     let [_first, _second, _third, _fourth] = instr.ops;
     if target_of(instr).is_none() {
         return Ok(append_piece(bits, seat.place, instr, bytes)?.is_some());

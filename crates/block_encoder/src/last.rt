@@ -7,6 +7,7 @@ ghost use Rattle.move_goals.specs.Items.{ArePlaced, IsPlaced, item_at};
 ghost use Rattle.move_layout.specs.Laid.{with_goal};
 ghost use Rattle.block_encoder.specs.Last as spec;
 
+use crate::laws_below::laws_below;
 use arrayvec::ArrayVec;
 use branch_forms::choices_of;
 use branch_sizes::Choice;
@@ -20,6 +21,7 @@ fn last_choice(bits: Bits, item: &Placed) -> Choice
     requires { IsPlaced bits item.now }
     ensures { result ≡ spec.last_choice bits item.now.instr }
 {
+    laws_below();
     let choices = choices_of(bits, &item.instr);
     choices[choices.len() - 1]
 }
@@ -59,6 +61,7 @@ pub fn last_len(bits: Bits, items: &[Placed], new_base: u64) -> u64
     ensures value { result ≡ spec.last_len bits items.now new_base }
     ensures small { result ≤ 53 }
 {
+    laws_below();
     let mut images = u128::from(new_base);
     let mut goals: ArrayVec<u64, 2> = ArrayVec::new();
     'items: for k in 0..items.len() {

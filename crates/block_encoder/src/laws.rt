@@ -20,12 +20,16 @@ ghost use Rattle.block_encoder.specs.Moved.{seat_reach, IsReached, IsMoved, firs
 ghost use Rattle.block_encoder.specs.Read.{IsReadAsImages};
 ghost use Rattle.block_encoder.specs.Facts.{SeatFacts, MovedFacts, ReachFacts, LastFacts};
 
+use crate::laws_below::laws_below;
+
 /// Moved code is read as it was written: of moved blocks the sweep of each, from its new base to its gap, gives the instructions of the images in order.
 pub fn moved_code_is_read_as_images()
     ensures { (bits : Bits) (items : List Placed) (spans : List BlockSpan) → AreSpansOf items spans → ArePlaced bits items
         → (m : MovedLists) (moved : IsMoved bits items spans m) (b : ℕ) → b < length spans
         → IsReadAsImages bits items (plan_for bits spans items) moved.layout b }
-{}
+{
+    laws_below();
+}
 
 /// An instruction that is no relative branch is too far only where its operand at RIP or EIP does not reach: otherwise it has a plain spelling at its new
 /// place.
@@ -35,7 +39,9 @@ pub fn only_targets_are_too_far()
         → (k : ℕ) → k < length items → let seat = seat_at (plan_for bits spans items) layout k in
         seat.form ≡ Itself → Reaches (seat_reach (item_at items k).instr seat.form seat.reach) seat.len seat.place seat.goal
         → IsReached bits items (plan_for bits spans items) layout k }
-{}
+{
+    laws_below();
+}
 
 /// Where an image goes. What has no target stays as it is; what is aimed at RIP or EIP is aimed at the goal instead; of a branch the last instruction
 /// goes to the goal, or through the slot that has it, and each instruction before the last one goes over the next.
@@ -60,7 +66,9 @@ pub fn images_go_to_their_goals()
         → first_value near_value (slice_index_or (image_at bits items (plan_for bits spans items) layout k) n no_instr)
         ≡ Some (wrapped bits (place (plan_for bits spans items) layout k
         + pieces_length bits (take (n + 2) (image_at bits items (plan_for bits spans items) layout k)))) }
-{}
+{
+    laws_below();
+}
 
 /// Each image stands at its place in its block, and a block ends at its new end.
 pub fn images_stand_at_their_places()
@@ -71,14 +79,18 @@ pub fn images_stand_at_their_places()
         → (m : MovedLists) (moved : IsMoved bits items spans m) (b : ℕ) → b < length spans
         → (span_at spans b).new_base + length (block_bytes bits items (plan_for bits spans items) moved.layout b)
         ≡ new_end (plan_for bits spans items) moved.layout b }
-{}
+{
+    laws_below();
+}
 
 /// The slot that a branch of a far form goes through has its goal.
 pub fn slots_have_their_goals()
     ensures { (bits : Bits) (items : List Placed) (spans : List BlockSpan) → AreSpansOf items spans
         → (m : MovedLists) (moved : IsMoved bits items spans m) (k : ℕ) → k < length items → is_far_at (plan_for bits spans items) moved.layout k ≡ true
         → HasSlot bits items (plan_for bits spans items) moved.layout (block_number spans k) (goal_address (plan_for bits spans items) moved.layout k) }
-{}
+{
+    laws_below();
+}
 
 /// In 64-bit mode no relative branch is too far.
 pub fn branches_reach_in_64_bit_mode()
@@ -86,7 +98,9 @@ pub fn branches_reach_in_64_bit_mode()
         → (layout : List ℕ) → IsLeast (plan_for B64 spans items) layout → first_new_pass B64 (plan_for B64 spans items) layout ≡ None
         → (k t : ℕ) → k < length items → first_value near_value (item_at items k).instr ≡ Some t
         → IsReached B64 items (plan_for B64 spans items) layout k }
-{}
+{
+    laws_below();
+}
 
 /// The plan of some items has their forms and goals, and a layout of it gives each the seat of its choice.
 #[inline]
@@ -110,6 +124,7 @@ pub fn moved_blocks_keep_their_laws()
 pub fn items_reach_their_goals()
     ensures { ReachFacts }
 {
+    laws_below();
     only_targets_are_too_far();
     branches_reach_in_64_bit_mode();
 }
@@ -118,4 +133,6 @@ pub fn items_reach_their_goals()
 #[inline]
 pub fn last_forms_bound_the_length()
     ensures { LastFacts }
-{}
+{
+    laws_below();
+}

@@ -9,6 +9,7 @@ mod error;
 mod image;
 mod last;
 pub mod laws;
+mod laws_below;
 mod moved;
 mod outside;
 mod write;

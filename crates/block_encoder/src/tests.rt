@@ -4,6 +4,7 @@ ghost use Rattle.move_goals.specs.Items.{AreSpansOf, ArePlaced, IsPlaced};
 
 use crate::{BlockSpan, Form, MoveError, Placed, last_len, move_block, move_blocks, move_outside};
 use encoder::encode;
+use encoder::laws::encodings_are_plain;
 use std::alloc::{AllocError, Global};
 use std::test::Fail;
 use x86_values::{Bits, Code, DispSize, Instr, Mem, Operand, Register, Rep};
@@ -46,6 +47,7 @@ fn placed(ip: u64, len: u8, instr: Instr) -> Result<Placed, Fail>
         return Err(Fail::new("an instruction has 1 to 15 bytes"));
     }
     let _bytes = encode(Bits::B64, ip, &instr)?;
+    encodings_are_plain();
     Ok(Placed { ip, len, instr })
 }
 

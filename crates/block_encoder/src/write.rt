@@ -8,6 +8,7 @@ ghost use Rattle.block_encoder.specs.Written.{IsGoalAddress, IsSeatOf, IsItemWri
 use crate::ends::write_end;
 use crate::error::MoveError;
 use crate::image::write_image;
+use crate::laws_below::laws_below;
 use crate::moved::MovedBlocks;
 use branch_sizes::{BlockSpan, Branch, Goal, Plan};
 use move_goals::Placed;
@@ -73,6 +74,7 @@ pub(crate) fn write_blocks(
     requires ends { first_end_past bits laid.now.ends.items ≡ None }
     ensures { IsPlanAnswer bits items.now plan.now result }
 {
+    laws_below();
     let spans = plan.spans();
     let branches = plan.items();
     let mut bytes = Vec::with_capacity(alloc, byte_count(spans, &laid.ends))?;

@@ -32,6 +32,7 @@ below_or_last (suc n) zero lt = absurd (omega arith)
 below_or_last (suc n) (suc m) lt =
     elim (below_or_last n m (omega arith)) [ inl less ↦ inl (omega arith) | inr same ↦ inr (ap suc same) ]
 
+-- the values of a function at n - 1 down to 0
 unfoldable listed : {A : Type 0} → (ℕ → A) → ℕ → List A
 listed f zero = []
 listed f (suc n) = f n ∷ listed f n
@@ -45,6 +46,7 @@ listed-at f g (suc m) h n lt =
       | inr same ↦ let here : f m ≡ g m = cc in rw same here
     ]
 
+-- so many rows from a code on
 unfoldable rows_behind : ℕ → ℕ → List Row → List (Option Row)
 rows_behind first count rows = listed (λ k. slice_get rows (first + k)) count
 
@@ -52,6 +54,7 @@ rows_behind first count rows = listed (λ k. slice_get rows (first + k)) count
 abbrev branch_row : Map → ℕ → OpKind → ℕ → ℕ → Option Row
 branch_row map opcode kind marks k = Some (offset_row map (opcode + k / 3) kind marks (numbered (k % 3)))
 
+-- so many rows of branches
 unfoldable branch_rows : Map → ℕ → OpKind → ℕ → ℕ → List (Option Row)
 branch_rows map opcode kind marks count = listed (branch_row map opcode kind marks) count
 

@@ -37,6 +37,7 @@ unfoldable pub has_shape : List Choice → Bool
 has_shape cs =
     nat_lt 0 (length cs) && (nat_le (length cs) 3 && (list_all (λ c. is_fit_reach c.reach) cs && forms_differ cs))
 
+-- a branch by its parts
 abbrev pub branch_with : Action → Bool → Bits → RelativeBranch
 branch_with action is_short size = record { action = action; is_short = is_short; size = size }
 

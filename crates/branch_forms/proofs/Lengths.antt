@@ -16,7 +16,7 @@ use Rattle.branch_forms.specs.Images.{branch_to, through_slot, counter_size, sho
 
 -- ---- single instructions
 
-branch_to-length : (bits : Bits) (code : ℕ) (asize : Option Bits) (t : ℕ) → plain_length bits (branch_to code asize t) ≡ plain_length bits (branch_to code asize 0)
+pub branch_to-length : (bits : Bits) (code : ℕ) (asize : Option Bits) (t : ℕ) → plain_length bits (branch_to code asize t) ≡ plain_length bits (branch_to code asize 0)
 unfolding branch_to aimed aimed_operand
 branch_to-length bits code asize t = aimed-length bits t (branch_to code asize 0)
 
@@ -24,11 +24,11 @@ slot-length : (bits : Bits) (code slot : ℕ) → plain_length bits (through_slo
 unfolding through_slot aimed aimed_operand aimed_base
 slot-length bits code slot = aimed-length bits slot (through_slot code 0)
 
-short-length : (bits : Bits) (b : RelativeBranch) (asize : Option Bits) (t : ℕ) → plain_length bits (short_branch b asize t) ≡ plain_length bits (short_branch b asize 0)
+pub short-length : (bits : Bits) (b : RelativeBranch) (asize : Option Bits) (t : ℕ) → plain_length bits (short_branch b asize t) ≡ plain_length bits (short_branch b asize 0)
 unfolding short_branch
 short-length bits b asize t = branch_to-length bits (short_code b.action b.size) (counter_size b.action asize) t
 
-skip-length : (bits : Bits) (t : ℕ) → plain_length bits (skip bits t) ≡ plain_length bits (skip bits 0)
+pub skip-length : (bits : Bits) (t : ℕ) → plain_length bits (skip bits t) ≡ plain_length bits (skip bits 0)
 unfolding skip
 skip-length bits t = branch_to-length bits (short_code Jump bits) None t
 

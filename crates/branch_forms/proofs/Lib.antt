@@ -3,6 +3,7 @@ pub mod Named
 pub mod Pieces
 pub mod Lengths
 pub mod Offsets
+pub mod NearFirst
 pub mod Own
 pub mod Fit
 pub mod Sized

@@ -19,16 +19,20 @@ use Rattle.operand_info.specs.Operands.{near_value, first_value}
 use Rattle.branch_forms.specs.declared.branch.RelativeBranch.{RelativeBranch}
 use Rattle.branch_forms.specs.Branches.{size_of, short_action, near_action, branch_in, branch_by, branch_of, is_pair, in_range}
 
+-- a row that exists in a mode has an operand size of it
 abbrev is_sized_in : Row → Bits → Bits → Bool
 is_sized_in row size bits = not (exists_in bits row) || is_pair bits size
 
+-- in each mode
 abbrev is_sized : Row → Bits → Bool
 is_sized row size = is_sized_in row size B16 && (is_sized_in row size B32 && is_sized_in row size B64)
 
+-- a row of a branch has a condition or counter that is one, and sizes of its modes
 abbrev is_fit_by : Row → Option RelativeBranch → Bool
 is_fit_by row None = true
 is_fit_by row (Some b) = in_range b.action b.is_short && is_sized row b.size
 
+-- the same of the branch that the row is
 unfoldable is_fit_row : Row → Bool
 is_fit_row row = is_fit_by row (branch_in row)
 

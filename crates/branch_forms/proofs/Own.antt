@@ -14,10 +14,12 @@ use Rattle.branch_forms.specs.declared.branch.RelativeBranch.{RelativeBranch}
 use Rattle.branch_forms.specs.Branches.{size_of, short_action, near_action, branch_in, branch_of, size_number, short_code, near_code, own_code}
 use Rattle.branch_forms.proofs.Offsets.{branch-in-row, row-of-branch}
 
+-- a code is that of the branch that there is as it stands
 abbrev is_own : ℕ → Option RelativeBranch → Bool
 is_own code None = true
 is_own code (Some b) = own_code b == code
 
+-- the same of each row of some from a code on
 unfoldable all_own : ℕ → List Row → Bool
 all_own first [] = true
 all_own first (row ∷ rows) = is_own first (branch_in row) && all_own (suc first) rows

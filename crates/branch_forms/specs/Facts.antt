@@ -9,15 +9,16 @@ use Rattle.row_types.specs.declared.OpKind.TheVariants.{Jb, Jz}
 use Rattle.instruction_parts.specs.Sizes.{exists_in}
 use Rattle.row_relation.specs.Spells.{Spells}
 use Rattle.opcode_rows.specs.Table.{table}
+use Rattle.operand_info.specs.Operands.{near_value, first_value}
 use Rattle.branch_sizes.specs.declared.plan.Form.{Form}
 use Rattle.branch_sizes.specs.Plan.{lengths_rise_from, is_fit_reach, forms_differ}
 use Rattle.moved_targets.specs.Targets.{plain_length}
 use Rattle.branch_forms.specs.declared.branch.Action.TheVariants.{Jump, Call, Condition, Count}
 use Rattle.branch_forms.specs.declared.branch.RelativeBranch.{RelativeBranch}
-use Rattle.branch_forms.specs.Branches.{branch_of, in_range, is_pair, short_code, near_code, far_code, inverted}
+use Rattle.branch_forms.specs.Branches.{branch_in, branch_of, in_range, is_pair, short_code, near_code, far_code, inverted}
 use Rattle.branch_forms.specs.Rows.{offset_row, memory_row}
 use Rattle.branch_forms.specs.Lengths.{size_byte, address_byte, offset_bytes, slot_bytes}
-use Rattle.branch_forms.specs.Images.{branch_to, through_slot, image_of, pieces_length, form_length}
+use Rattle.branch_forms.specs.Images.{branch_to, through_slot, short_branch, skip, image_of, pieces_length, form_length}
 use Rattle.branch_forms.specs.Choices.{choices_of}
 
 -- the rows of the codes
@@ -43,6 +44,12 @@ pub record PieceFacts : Type 0 where
       → plain_length bits (branch_to (near_code (Condition n) size) None t) ≡ 2 + size_byte bits size + offset_bytes bits size
   pub slot_call-length : (bits : Bits) (slot : ℕ) → plain_length bits (through_slot (far_code Call) slot) ≡ slot_bytes bits
   pub slot_jump-length : (bits : Bits) (slot : ℕ) → plain_length bits (through_slot (far_code Jump) slot) ≡ slot_bytes bits
+  -- they do not depend on the target
+  pub branch_to-length : (bits : Bits) (code : ℕ) (asize : Option Bits) (t : ℕ)
+      → plain_length bits (branch_to code asize t) ≡ plain_length bits (branch_to code asize 0)
+  pub short-length : (bits : Bits) (b : RelativeBranch) (asize : Option Bits) (t : ℕ)
+      → plain_length bits (short_branch b asize t) ≡ plain_length bits (short_branch b asize 0)
+  pub skip-length : (bits : Bits) (t : ℕ) → plain_length bits (skip bits t) ≡ plain_length bits (skip bits 0)
   -- the other condition is one too
   pub inverted-small : (n : ℕ) → n < 16 → inverted n < 16
 
@@ -56,6 +63,10 @@ pub record FormFacts : Type 0 where
       → (0 < length (choices_of bits i)) × (length (choices_of bits i) ≤ 3)
       × IsTrue (lengths_rise_from 1 (choices_of bits i)) × IsTrue (list_all (λ c. is_fit_reach c.reach) (choices_of bits i))
       × IsTrue (forms_differ (choices_of bits i))
+  -- the branch of an instruction is that of its row, and what is spelled and is no branch has no near target
+  pub branch-in-row : (i : Instr) (row : Row) (b : RelativeBranch) → slice_get table i.code.0 ≡ Some row → branch_of i ≡ Some b → branch_in row ≡ Some b
+  pub no_branch-no_near : (bits : Bits) (ip : ℕ) (bytes : List ℕ) (i : Instr) → Spells table bits ip bytes i → branch_of i ≡ None
+      → first_value near_value i ≡ None
   -- the condition or counter of a branch is one, and its size is one of the mode
   pub branch-range : (i : Instr) (row : Row) (b : RelativeBranch) → slice_get table i.code.0 ≡ Some row → branch_of i ≡ Some b → in_range b.action b.is_short ≡ true
   pub branch-pair : (bits : Bits) (i : Instr) (row : Row) (b : RelativeBranch) → slice_get table i.code.0 ≡ Some row → branch_of i ≡ Some b

@@ -13,6 +13,7 @@ use Rattle.branch_sizes.specs.Layout.{block_number, place, first_layout, chosen,
 use Rattle.branch_sizes.proofs.Rising.{first_at_most}
 use Rattle.branch_sizes.proofs.Growing.{first_is_layout, one_less, one_grows}
 
+-- a claim holds, or it does not
 abbrev Decided : Type 0 → Type 0
 Decided P = P ⊎ (P → ⊥)
 

@@ -6,7 +6,7 @@ use Rattle.std.specs.Prelude.{nat_le}
 use Rattle.std.specs.List.{list_all}
 use Rattle.branch_sizes.specs.declared.plan.Choice.{Choice}
 use Rattle.branch_sizes.specs.declared.plan.Branch.{Branch}
-use Rattle.branch_sizes.specs.Plan.{BlockPlan, item_at, choices_at, no_choice, no_branch, lengths_rise_from, is_fit_branch, is_fit_reach, is_fit_goal, IsWellFormed}
+use Rattle.branch_sizes.specs.Plan.{BlockPlan, item_at, choices_at, no_choice, no_branch, lengths_rise_from, is_fit_branch, IsWellFormed}
 use Rattle.branch_sizes.specs.Layout.{IsLayout, AtMost, image_length, first_layout}
 use Rattle.branch_sizes.specs.Facts.{IsFit}
 

@@ -16,6 +16,7 @@ pub record BlockPlan : Type 0 where
   pub spans : List BlockSpan
   pub items : List Branch
 
+-- items in blocks
 abbrev pub plan_of : List BlockSpan → List Branch → BlockPlan
 plan_of spans items = record { spans = spans; items = items }
 
@@ -23,16 +24,19 @@ plan_of spans items = record { spans = spans; items = items }
 abbrev pub one_block : ℕ → List Branch → BlockPlan
 one_block base items = plan_of (record { count = length items; new_base = base } ∷ []) items
 
--- what stands for an item or a choice that is not there
+-- what stands for a choice that is not there
 abbrev pub no_choice : Choice
 no_choice = record { form = Itself; len = 0; reach = Always }
 
+-- what stands for an item that is not there
 abbrev pub no_branch : Branch
 no_branch = record { choices = record { items = [] }; goal = NoGoal }
 
+-- item k
 abbrev pub item_at : BlockPlan → ℕ → Branch
 item_at p k = slice_index_or p.items k no_branch
 
+-- its choices
 abbrev pub choices_at : BlockPlan → ℕ → List Choice
 choices_at p k = (item_at p k).choices.items
 

@@ -147,8 +147,9 @@ pub(crate) fn image_len(item: &Branch, f: u8) -> u8
     item.choices[usize::from(f)].len
 }
 
-/// The place of each item in a layout.
-pub(crate) fn places(
+/// The place of each item in a layout, which has the number of each item's choice: the address of its image, which may lie behind the end of the
+/// address space. The only refusal is want of memory.
+pub fn places(
     alloc: Global,
     spans: &[BlockSpan],
     items: &[Branch],

@@ -11,7 +11,7 @@ mod suspects;
 mod tables;
 mod worklist;
 
-pub use layout::{LayoutError, least_layout};
+pub use layout::{LayoutError, least_layout, places};
 pub use plan::{BlockSpan, Branch, Choice, Form, Goal, Plan, Reach};
 pub use sums::Sums;
 

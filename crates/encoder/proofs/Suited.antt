@@ -1,5 +1,5 @@
 -- What meets the conditions has its plain spelling as its encoding.
-use Rattle.std.proofs.Common.{◌≡◌, ℕ, ◌≤◌, Some, Ok, nat_le, slice_get, refl, sym, ◌∙◌}
+use Rattle.std.proofs.Common.{◌≡◌, ℕ, ◌≤◌, Some, Ok, slice_get, refl, sym, ◌∙◌}
 use Rattle.std.proofs.lemmas.Bool.{le-leb}
 use Rattle.x86_values.specs.declared.Bits.{Bits}
 use Rattle.x86_values.specs.declared.Instr.{Instr}

@@ -12,6 +12,7 @@ use Rattle.plain_laws.specs.Plain.{IsPlainlySpelled}
 use Rattle.opcode_rows.specs.Table.{table}
 use Rattle.encoder.specs.Encoding.{encoding}
 
+-- encodings, what is plainly spelled, and what is read
 pub record EncodingFacts : Type 0 where
   -- what meets the conditions of the row of its code, with a plain spelling of at most 15 bytes, has that as its encoding
   pub suits-encoded : (bits : Bits) (ip : ℕ) (row : Row) (i : Instr) → slice_get table i.code.0 ≡ Some row → Suits bits (wrapped bits ip) row i

@@ -1,33 +1,14 @@
 -- The blocks of some items: where an item stands in its block.
-use Rattle.std.proofs.Common.{◌≡◌, ℕ, zero, suc, ◌+◌, ◌-◌, ◌<◌, ◌≤◌, true, false, ◌||◌, List, [], ◌∷◌, length, ◌⊎◌, inl, inr, arith, sym, ap, ◌∙◌}
-use Rattle.std.proofs.lemmas.Bool.{cases_lt, eq-eqb, ne_eqb, cond_both, ltb-true, ltb-false, lt-ltb, le-ltb, lt-leb, le-leb, and_from, and_left, and_right}
-use Rattle.std.proofs.lemmas.List.Sums.{sum_by-cons}
-use Rattle.std.specs.Prelude.{◌==◌, if◌then◌else◌, nat_le, nat_lt, sum_by}
+use Rattle.std.proofs.Common.{◌≡◌, ℕ, suc, ◌+◌, ◌-◌, ◌<◌, ◌≤◌, true, false, ◌||◌, List, length, ◌⊎◌, inl, inr, arith, sym, ap, ◌∙◌}
+use Rattle.std.proofs.lemmas.Bool.{cases_lt, eq-eqb, ne_eqb, lt-ltb, le-ltb, lt-leb, le-leb, and_from, and_left, and_right}
+use Rattle.std.specs.Prelude.{◌==◌, if◌then◌else◌, nat_le, nat_lt}
 use Rattle.branch_sizes.specs.declared.plan.BlockSpan.{BlockSpan}
-use Rattle.branch_sizes.specs.Layout.{total, block_number, span_at, first_of_block}
-use Rattle.branch_sizes.proofs.Totals.{total_rises, first_of_end, first_le, block_at}
+use Rattle.branch_sizes.specs.Layout.{block_number, span_at, first_of_block}
+use Rattle.branch_sizes.proofs.Totals.{total_rises, first_of_end, first_le, block_at, within_block}
 use Rattle.move_goals.specs.declared.items.Placed.{Placed}
 use Rattle.move_goals.specs.Items.{AreSpansOf, item_at, old_end, begins_block, is_in_order, block_old_end}
 use Rattle.move_goals.specs.Goals.{is_in_block_of}
 use Rattle.move_goals.specs.Starts.{is_between}
-
-total_from_front : (f : ℕ → ℕ) (n : ℕ) → total f (suc n) ≡ f 0 + total (λ i. f (suc i)) n
-total_from_front f zero = omega arith
-total_from_front f (suc n) = omega (arith, total_from_front f n)
-
--- a block has each of its items
-pub block_below : (spans : List BlockSpan) (k : ℕ) → k < sum_by (λ s. s.count) spans
-    → k < first_of_block spans (block_number spans k) + (span_at spans (block_number spans k)).count
-block_below [] k lt = absurd (omega arith)
-block_below (s ∷ ss) k lt =
-    cond_both (nat_lt k s.count) 0 (suc (block_number ss (k - s.count))) (λ b. k < first_of_block (s ∷ ss) b + (span_at (s ∷ ss) b).count)
-    (λ e. omega (arith, ltb-true k s.count e))
-    (λ e. omega (
-      arith,
-      ltb-false k s.count e,
-      total_from_front (λ i. (span_at (s ∷ ss) i).count) (block_number ss (k - s.count)),
-      block_below ss (k - s.count) (omega (arith, ltb-false k s.count e, sum_by-cons (λ (x : BlockSpan). x.count) s ss)),
-    ))
 
 module _ (items : List Placed) (spans : List BlockSpan) (s : AreSpansOf items spans) where
   -- behind the last block all items have passed
@@ -96,7 +77,7 @@ module _ (items : List Placed) (spans : List BlockSpan) (s : AreSpansOf items sp
             e,
             ap (first_of_block spans) at,
             ap (λ n. (span_at spans n).count) at,
-            block_below spans j (omega (arith, lt, s.counts)),
+            within_block spans j (omega (arith, lt, s.counts)),
           ) in
           elim outside [ inl l ↦ omega arith | inr g ↦ omega arith ]
 

@@ -35,6 +35,7 @@ goal_among None None t = Outside t
 unfoldable pub goal_of_target : List BlockSpan → List Placed → ℕ → ℕ → Goal
 goal_of_target spans items k t = goal_among (own_item spans items k t) (other_item spans items k t) t
 
+-- the goal of item k by its target; without a target it has none
 abbrev pub goal_of : List BlockSpan → List Placed → ℕ → Option ℕ → Goal
 goal_of spans items k None = NoGoal
 goal_of spans items k (Some t) = goal_of_target spans items k t

@@ -15,10 +15,11 @@ abbrev pub first_below : (ℕ → Bool) → ℕ → Option ℕ
 first_below p zero = None
 first_below p (suc n) = elim (first_below p n) [ Some k ↦ Some k | None ↦ if p n then Some n else None ]
 
--- what stands for an item that is not there
+-- what stands for an instruction that is not there
 abbrev pub no_instr : Instr
 no_instr = record { code = record { 0 = 0 }; lock = false; rep = NoRep; seg = None; asize = None; ops = [] }
 
+-- and for an item
 abbrev pub no_item : Placed
 no_item = record { ip = 0; len = 0; instr = no_instr }
 

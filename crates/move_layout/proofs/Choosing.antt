@@ -10,6 +10,7 @@ use Rattle.branch_sizes.specs.declared.plan.Form.{Form}
 use Rattle.branch_sizes.specs.declared.plan.Form.TheVariants.{Itself, Short, Near, Far, Bridge, FarBridge}
 use Rattle.branch_sizes.specs.Plan.{BlockPlan, item_at, no_choice, no_branch, is_same_form, forms_differ, lengths_rise_from, is_fit_reach, is_fit_goal, is_fit_branch, IsWellFormed}
 use Rattle.branch_sizes.specs.Layout.{IsLayout, forms_of}
+use Rattle.branch_sizes.proofs.Forms.{length-forms_of, get_or-forms_of}
 use Rattle.branch_sizes.proofs.Rising.{passes_at}
 
 same_form_self : (f : Form) → is_same_form f f ≡ true
@@ -51,22 +52,10 @@ item_differs count b h =
     let x = and_parts reaches (goal && forms_differ cs) v.1 in
     (and_parts goal (forms_differ cs) x.1).1
 
-length_forms : (items : List Branch) (layout : List ℕ) → length layout ≡ length items → length (forms_of items layout) ≡ length items
-length_forms [] layout e = refl
-length_forms (b ∷ bs) [] e = absurd (omega arith)
-length_forms (b ∷ bs) (f ∷ layout) e = ap suc (length_forms bs layout (omega arith))
-
-form_read : (items : List Branch) (layout : List ℕ) (k : ℕ) → length layout ≡ length items → k < length items
-    → get_or (forms_of items layout) k Itself ≡ (get_or (get_or items k no_branch).choices.items (get_or layout k 0) no_choice).form
-form_read [] layout k e lt = absurd (omega arith)
-form_read (b ∷ bs) [] k e lt = absurd (omega arith)
-form_read (b ∷ bs) (f ∷ layout) zero e lt = refl
-form_read (b ∷ bs) (f ∷ layout) (suc k) e lt = form_read bs layout k (omega arith) (omega arith)
-
 module _ (p : BlockPlan) (w : IsWellFormed p) (best : List ℕ) (l : IsLayout p best) (forms : List Form)
     (e : forms ≡ forms_of p.items best) where
   pub forms_len : length forms ≡ length p.items
-  forms_len = ap length e ∙ length_forms p.items best l.len
+  forms_len = ap length e ∙ length-forms_of p.items best l.len
 
   module _ (k : ℕ) (lt : k < length p.items) (x : Branch) (is : x ≡ get_or p.items k x) where
     at_item : x ≡ item_at p k
@@ -82,5 +71,5 @@ module _ (p : BlockPlan) (w : IsWellFormed p) (best : List ℕ) (l : IsLayout p 
 
     pub form_here : get_or forms k Itself ≡ (get_or x.choices.items (get_or best k 0) no_choice).form
     form_here =
-        (ap (λ fs. get_or fs k Itself) e ∙ form_read p.items best k l.len lt)
+        (ap (λ fs. get_or fs k Itself) e ∙ get_or-forms_of p.items best k l.len lt)
         ∙ ap (λ (b : Branch). (get_or b.choices.items (get_or best k 0) no_choice).form) (sym at_item)

@@ -1,42 +1,18 @@
 -- Where the images of a block stand: one behind the other, from the new base to the end of the images.
-use Rattle.std.proofs.Common.{◌≡◌, ℕ, ◌+◌, ◌-◌, ◌^◌, ◌<◌, ◌≤◌, List, length, arith, add-one, refl, ap}
+use Rattle.std.proofs.Common.{◌≡◌, ℕ, ◌+◌, ◌-◌, ◌<◌, ◌≤◌, List, length, arith, add-one, refl, ap}
 use Rattle.branch_sizes.specs.Plan.{BlockPlan, IsWellFormed}
 use Rattle.branch_sizes.specs.Layout.{total, block_number, first_of_block, span_at, image_length, place}
-use Rattle.branch_sizes.proofs.Totals.{total_rises, total_small}
-use Rattle.branch_sizes.proofs.Rising.{image_short}
+use Rattle.branch_sizes.proofs.Totals.{total_rises}
 use Rattle.branch_sizes.proofs.Filling.{index_below, block_is, place_is}
-use Rattle.branch_sizes.proofs.Now.{first_below}
 use Rattle.move_layout.specs.Laid.{images_end}
 
 module _ (p : BlockPlan) (w : IsWellFormed p) (layout : List ℕ) (b : ℕ) where
-  -- the sums of the lengths before the block and up to its end
-  sums_rise : total (image_length p layout) (first_of_block p.spans b)
-      ≤ total (image_length p layout) (first_of_block p.spans b + (span_at p.spans b).count)
-  sums_rise =
-      total_rises (image_length p layout) (first_of_block p.spans b) (first_of_block p.spans b + (span_at p.spans b).count) (omega arith)
-
   -- the images end at their base where there are none
   pub images-none : (span_at p.spans b).count ≡ 0 → images_end p layout b ≡ (span_at p.spans b).new_base
   unfolding images_end
   images-none e =
       let same : first_of_block p.spans b + (span_at p.spans b).count ≡ first_of_block p.spans b = omega arith in
       omega (arith, ap (total (image_length p layout)) same)
-
-  -- and not before it where there are some
-  pub base-le-images : (span_at p.spans b).new_base ≤ images_end p layout b
-  unfolding images_end
-  base-le-images = omega arith
-
-  pub images-small : b < length p.spans → (span_at p.spans b).new_base < 2 ^ 64 → images_end p layout b < 2 ^ 64 + 983040
-  unfolding images_end
-  images-small lt fits =
-      omega (
-        arith,
-        w.few_items,
-        w.counts,
-        first_below p.spans b lt,
-        total_small (image_length p layout) 15 (image_short p w layout) (first_of_block p.spans b + (span_at p.spans b).count),
-      )
 
   -- item k, which is item i of block b
   module _ (i k : ℕ) (bl : b < length p.spans) (il : i < (span_at p.spans b).count) (e : k ≡ first_of_block p.spans b + i) where
@@ -56,9 +32,6 @@ module _ (p : BlockPlan) (w : IsWellFormed p) (layout : List ℕ) (b : ℕ) wher
     behind : total (image_length p layout) (k + 1) ≡ total (image_length p layout) k + image_length p layout k
     behind = rw add-one refl
 
-    pub base-le-place : (span_at p.spans b).new_base ≤ place p layout k
-    base-le-place = omega (arith, place-is)
-
     -- each image ends at or before the end of the images
     pub place-within : place p layout k + image_length p layout k ≤ images_end p layout b
     unfolding images_end
@@ -72,17 +45,3 @@ module _ (p : BlockPlan) (w : IsWellFormed p) (layout : List ℕ) (b : ℕ) wher
     place-last last =
         let same : k + 1 ≡ first_of_block p.spans b + (span_at p.spans b).count = omega arith in
         omega (arith, place-is, first_rises, behind, ap (total (image_length p layout)) same)
-
-  -- the first item stands at the new base
-  pub place-first : b < length p.spans → 0 < (span_at p.spans b).count
-      → place p layout (first_of_block p.spans b) ≡ (span_at p.spans b).new_base
-  place-first bl some =
-      omega (arith, place-is 0 (first_of_block p.spans b) bl some (omega arith))
-
-  -- the next item of the block stands behind item k
-  pub place-next : (i k : ℕ) → b < length p.spans → i + 1 < (span_at p.spans b).count → k ≡ first_of_block p.spans b + i
-      → place p layout (k + 1) ≡ place p layout k + image_length p layout k
-  place-next i k bl il e =
-      let here = place-is i k bl (omega arith) e in
-      let next = place-is (i + 1) (k + 1) bl il (omega arith) in
-      omega (arith, here, next, behind i k bl (omega arith) e, first_rises i k bl (omega arith) e)

@@ -102,9 +102,11 @@ end_at p layout b = record {
   end = new_end p layout b;
 }
 
+-- what stands for a seat that is not there
 abbrev pub no_seat : Seat
 no_seat = record { form = Itself; len = 0; reach = Always; place = 0; goal = 0; slot = 0 }
 
+-- and for an end
 abbrev pub no_end : BlockEnd
 no_end = record { images = 0; slots = 0; end = 0 }
 

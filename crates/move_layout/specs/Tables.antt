@@ -6,6 +6,7 @@ use Rattle.move_layout.specs.declared.layout.BlockEnd.{BlockEnd}
 use Rattle.move_layout.specs.declared.tables.Tables.{Tables}
 use Rattle.move_layout.specs.Laid.{seat_at, end_at, no_seat, no_end}
 
+-- the blocks and items of the tables
 abbrev pub plan_in : Tables → BlockPlan
 plan_in t = plan_of t.spans.now t.items.now
 

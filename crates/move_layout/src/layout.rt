@@ -7,10 +7,10 @@ ghost use Rattle.move_layout.specs.Slots.{seat_over, IsNumbering};
 ghost use Rattle.move_layout.specs.Tables.{plan_in, AreSeats, AreEnds};
 
 use crate::choices::least_choices;
-use crate::places::{choice_of, goal_of, images_end_of, places};
+use crate::places::{choice_of, goal_of, images_end_of};
 use crate::slots::{block_end, is_far_form, next_multiple_of_8, slot_number};
 use crate::tables::Tables;
-use branch_sizes::{Form, LayoutError, Plan, Reach};
+use branch_sizes::{Form, LayoutError, Plan, Reach, places};
 use std::alloc::{AllocError, Global};
 use std::collections::BTreeMap;
 

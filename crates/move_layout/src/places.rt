@@ -1,47 +1,12 @@
-//! Where the images stand, where they end, and where their goals are.
+//! The choice of an item, the address of its goal, and where the images of a block end.
 
-ghost use Rattle.std.specs.Prelude.{◌≡◌, ◌<◌, ◌^◌, IfOk, length, slice_index, slice_index_or, EachIndex};
-ghost use Rattle.branch_sizes.specs.Plan.{plan_of, no_choice, IsWellFormed};
-ghost use Rattle.branch_sizes.specs.Layout.{IsLayout, ArePlaces, chosen, first_of_block};
+ghost use Rattle.std.specs.Prelude.{◌≡◌, ◌<◌, ◌^◌, length};
+ghost use Rattle.branch_sizes.specs.Layout.{chosen, first_of_block};
 ghost use Rattle.move_layout.specs.Laid.{goal_address, images_end};
 ghost use Rattle.move_layout.specs.Tables.{plan_in};
 
 use crate::tables::Tables;
-use branch_sizes::{BlockSpan, Branch, Choice, Goal};
-use std::alloc::{AllocError, Global};
-
-/// The length of an item's image under one of its choices.
-fn image_len(item: &Branch, f: u8) -> u8
-    requires { f < length item.now.choices.items }
-    ensures { result ≡ (slice_index_or item.now.choices.items f no_choice).len }
-{
-    item.choices[usize::from(f)].len
-}
-
-/// The place of each item in a layout.
-pub(crate) fn places(
-    alloc: Global,
-    spans: &[BlockSpan],
-    items: &[Branch],
-    layout: &[u8],
-) -> Result<Vec<u128>, AllocError>
-    requires plan { IsWellFormed (plan_of spans.now items.now) }
-    requires layout { IsLayout (plan_of spans.now items.now) layout.now }
-    ensures places { IfOk result (λ places. ArePlaces (plan_of spans.now items.now) layout.now places.items) }
-    ensures below { IfOk result (λ places. EachIndex places.items (λ k. slice_index places.items k < 2 ^ 66)) }
-{
-    let mut places = Vec::with_capacity(alloc, items.len())?;
-    let mut k: usize = 0;
-    for span in spans {
-        let mut at = u128::from(span.new_base);
-        for _ in 0..span.count {
-            places.push(at)?;
-            at += u128::from(image_len(&items[k], layout[k]));
-            k += 1;
-        }
-    }
-    Ok(places)
-}
+use branch_sizes::{Choice, Goal};
 
 /// The choice of item `k`.
 pub(crate) fn choice_of(tables: &Tables, k: usize) -> Choice

@@ -33,7 +33,7 @@ near_instead t (Near x) = refl
 near_instead t (Far a b) = refl
 
 -- the value at a base
-abbrev value_at : Option Register → ℕ → Option ℕ
+abbrev pub value_at : Option Register → ℕ → Option ℕ
 value_at base disp = elim base [ None ↦ None | Some r ↦ elim r [ Rip ↦ Some disp | Eip ↦ Some disp | _ ↦ None ] ]
 
 ip_base : (t : ℕ) (m : Mem) (base : Option Register) → m.base ≡ base → ip_value (aimed_base t (Memory m) base) ≡ instead t (value_at base m.disp)

@@ -1,5 +1,5 @@
 -- What is spelled at some address and is no near branch has a plain spelling elsewhere.
-use Rattle.std.proofs.Common.{◌≡◌, ◌+◌, ◌≤◌, ◌<◌, ◌^◌, ℕ, Bool, true, ◌&&◌, List, Some, None, Ok, length, slice_get, nat_le, refl, ap, sym, ◌∙◌, arith}
+use Rattle.std.proofs.Common.{◌≡◌, ◌+◌, ◌≤◌, ◌<◌, ◌^◌, ℕ, Bool, true, ◌&&◌, List, Some, None, Ok, length, slice_get, refl, ap, sym, ◌∙◌, arith}
 use Rattle.x86_values.specs.declared.Bits.{Bits}
 use Rattle.x86_values.specs.declared.Instr.{Instr}
 use Rattle.x86_values.specs.Wrapping.{width, wrapped}
@@ -13,12 +13,11 @@ use Rattle.row_relation.specs.Spells.{Spells}
 use Rattle.plain_spelling.specs.Forms.{operand_at}
 use Rattle.plain_spelling.specs.PlainTail.{plain_spelling, plain_size, plain_len, plain_next}
 use Rattle.plain_spelling.specs.Expressible.{Suits, each_operand, kind_suits, register_suits, address_suits, offered, immediate_suits, target_suits}
-use Rattle.plain_spelling.proofs.Failures.{suits-failure}
 use Rattle.plain_need.proofs.Whole.{NeedsHold}
 use Rattle.opcode_rows.specs.Table.{table}
 use Rattle.operand_info.specs.Operands.{near_value, first_value}
 use Rattle.encoder.specs.Encoding.{encoding}
-use Rattle.encoder.proofs.Causes.{by_row}
+use Rattle.encoder.proofs.Suited.{suits-encoded}
 use Rattle.branch_sizes.specs.Layout.{Reaches}
 use Rattle.moved_targets.specs.Targets.{operand_reach, target_reach, aimed, plain_length}
 use Rattle.moved_targets.proofs.Ignored.{operand_at-aimed}
@@ -112,9 +111,6 @@ suits-elsewhere bits old place t row s i n none reach within below =
 
 -- ---- the encoding
 
-true_le : (a b : ℕ) → a ≤ b → nat_le a b ≡ true
-true_le a b h = grind (arith, h)
-
 -- **what is spelled at some address and is no near branch has an encoding elsewhere, aimed at what it reaches from there**
 pub encoded-elsewhere : (bits : Bits) (old place t : ℕ) (bytes : List ℕ) (i : Instr) → Spells table bits old bytes i → first_value near_value i ≡ None → Reaches (target_reach i) (plain_length bits i) place t → place + plain_length bits i ≤ 2 ^ width bits → t < 2 ^ 64 → (plain : List ℕ) × (encoding bits place (aimed t i) ≡ Ok plain)
 encoded-elsewhere bits old place t bytes i (short, (row, at, (s, e))) none reach within below =
@@ -122,7 +118,5 @@ encoded-elsewhere bits old place t bytes i (short, (row, at, (s, e))) none reach
     let l = plain_length-row bits i row at in
     let suits = suits-elsewhere bits old place t row s i n none (rw l at reach) (rw l at within) below in
     let there : plain_len bits row (aimed t i) ≤ 15 = omega (arith, len-aimed bits t row i, n.least, ap length e.bytes_are) in
-    let holds = suits-failure bits (wrapped bits place) row (aimed t i) suits (true_le (plain_len bits row (aimed t i)) 15 there) in
     let row_at : slice_get table (aimed t i).code.0 ≡ Some row = rw (code-aimed t i) at in
-    let plain = bytes_of row (plain_spelling bits (wrapped bits place) row (aimed t i)) in
-    (plain, sym (by_row bits place row (aimed t i) row_at) ∙ rw holds refl)
+    (bytes_of row (plain_spelling bits (wrapped bits place) row (aimed t i)), suits-encoded bits place row (aimed t i) row_at suits there)

@@ -3,6 +3,8 @@ pub mod Unchanged
 pub mod Lengths
 pub mod Aims
 pub mod Conditions
+pub mod Nearby
 pub mod Reaches
+pub mod Below
 pub mod Shared
 pub mod Elsewhere

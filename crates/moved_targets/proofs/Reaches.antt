@@ -1,7 +1,6 @@
 -- An operand at RIP or EIP that is aimed at what it reaches meets the conditions on its displacement and its target.
 use Rattle.std.proofs.Common.{◌≡◌, ℕ, ◌+◌, ◌-◌, ◌*◌, ◌%◌, ◌^◌, ◌≤◌, ◌<◌, Bool, true, false, ◌&&◌, ◌||◌, ◌==◌, nat_lt, nat_le, Option, Some, None, is_none, refl, ap, ◌∙◌, arith, ◌⊎◌, inl, inr}
-use Rattle.std.proofs.Math.Nat.{mod-eq_of_lt}
-use Rattle.std.proofs.lemmas.Bool.{cases_lt}
+use Rattle.std.proofs.lemmas.Bool.{lt-ltb}
 use Rattle.std.specs.Prelude.{unwrap_or}
 use Rattle.x86_values.specs.declared.Bits.{Bits}
 use Rattle.x86_values.specs.declared.Bits.TheVariants.{B16, B32, B64}
@@ -30,6 +29,7 @@ use Rattle.branch_sizes.specs.Layout.{Reaches}
 use Rattle.moved_targets.specs.Targets.{base_reach, operand_reach, aimed_operand}
 use Rattle.moved_targets.proofs.Ignored.{aimed_disp, aimed-memory}
 use Rattle.moved_targets.proofs.Unchanged.{written_size-disp}
+use Rattle.moved_targets.proofs.Nearby.{reached}
 
 -- a form of this length at a place reaches the target as far as it has to reach one
 abbrev pub Reached : Option Reach → ℕ → ℕ → ℕ → Type 0
@@ -37,55 +37,9 @@ Reached reach len place t = Reaches (unwrap_or reach Always) len place t
 
 -- ---- numbers
 
-true_lt : (a b : ℕ) → a < b → nat_lt a b ≡ true
-true_lt a b h = grind (arith, h)
-
-true_le : (a b : ℕ) → a ≤ b → nat_le a b ≡ true
-true_le a b h = grind (arith, h)
-
-or_true : (b : Bool) → (b || true) ≡ true
-or_true true = refl
-or_true false = refl
-
--- a number of 64 bits that is a signed one of 32 bits
-signed_32 : (x : ℕ) → x < 2 ^ 64 → (2 * x < 2 ^ 32) ⊎ (2 * 2 ^ 64 ≤ 2 * x + 2 ^ 32) → is_extended_of 4 64 x ≡ true
-unfolding is_extended_of
-signed_32 x below (inl h) = rw (true_lt x (2 ^ 64) below, true_lt (2 * x) (2 ^ 32) h) refl
-signed_32 x below (inr h) = rw (true_lt x (2 ^ 64) below, true_le (2 * 2 ^ 64) (2 * x + 2 ^ 32) h) (or_true (nat_lt (2 * x) (2 ^ 32)))
-
 any_32 : (x : ℕ) → x < 2 ^ 32 → is_extended_of 4 32 x ≡ true
 unfolding is_extended_of
-any_32 x below = rw (true_lt x (2 ^ 32) below) refl
-
--- the address behind the instruction is the end, or 0 where that is 2 to the power of 64
-behind : (place len : ℕ) → 1 ≤ len → place + len ≤ 2 ^ 64 → ((place + len < 2 ^ 64) × ((place % 2 ^ 64 + len) % 2 ^ 64 ≡ place + len)) ⊎ ((place + len ≡ 2 ^ 64) × ((place % 2 ^ 64 + len) % 2 ^ 64 ≡ 0))
-behind place len some within =
-    let e : place % 2 ^ 64 ≡ place = mod-eq_of_lt (omega arith) in
-    by_end e (cases_lt (place + len) (2 ^ 64))
-  where
-    by_end : place % 2 ^ 64 ≡ place → (place + len < 2 ^ 64) ⊎ (2 ^ 64 ≤ place + len) → ((place + len < 2 ^ 64) × ((place % 2 ^ 64 + len) % 2 ^ 64 ≡ place + len)) ⊎ ((place + len ≡ 2 ^ 64) × ((place % 2 ^ 64 + len) % 2 ^ 64 ≡ 0))
-    by_end e (inl h) = inl (h, rw e (mod-eq_of_lt h))
-    by_end e (inr h) = inr (omega arith, omega arith)
-
--- forwards the distance is below half the range, and backwards at most so far below the whole
-ahead : (next t : ℕ) → next ≤ t → t < 2 ^ 64 → t < next + 2 ^ 31 → 2 * ((t + (2 ^ 64 - next)) % 2 ^ 64) < 2 ^ 32
-ahead next t a b c = omega arith
-
-back : (next t : ℕ) → t < next → next < 2 ^ 64 → next ≤ t + 2 ^ 31 → 2 * 2 ^ 64 ≤ 2 * ((t + (2 ^ 64 - next)) % 2 ^ 64) + 2 ^ 32
-back next t a b c = omega arith
-
--- **an address at RIP is reached at a signed distance of 32 bits**
-rip_reached : (place len t : ℕ) → 1 ≤ len → place + len ≤ 2 ^ 64 → t < 2 ^ 64 → (place + len ≤ t + 2 ^ 31) × (t < place + len + 2 ^ 31) → is_extended_of 4 64 (distance B64 (wrapped B64 (wrapped B64 place + len)) t) ≡ true
-unfolding distance
-rip_reached place len t some within below reach = by_end (behind place len some within)
-  where
-    by_side : (next : ℕ) → next < 2 ^ 64 → next ≤ t + 2 ^ 31 → t < next + 2 ^ 31 → (t < next) ⊎ (next ≤ t) → is_extended_of 4 64 ((t + (2 ^ 64 - next)) % 2 ^ 64) ≡ true
-    by_side next n a b (inl h) = signed_32 ((t + (2 ^ 64 - next)) % 2 ^ 64) (omega arith) (inr (back next t h n a))
-    by_side next n a b (inr h) = signed_32 ((t + (2 ^ 64 - next)) % 2 ^ 64) (omega arith) (inl (ahead next t h below b))
-
-    by_end : ((place + len < 2 ^ 64) × ((place % 2 ^ 64 + len) % 2 ^ 64 ≡ place + len)) ⊎ ((place + len ≡ 2 ^ 64) × ((place % 2 ^ 64 + len) % 2 ^ 64 ≡ 0)) → is_extended_of 4 64 ((t + (2 ^ 64 - (place % 2 ^ 64 + len) % 2 ^ 64)) % 2 ^ 64) ≡ true
-    by_end (inl (h, e)) = rw e (by_side (place + len) h reach.0 reach.1 (cases_lt t (place + len)))
-    by_end (inr (h, e)) = rw e (signed_32 ((t + 2 ^ 64) % 2 ^ 64) (omega arith) (inr (omega arith)))
+any_32 x below = rw (lt-ltb x (2 ^ 32) below) refl
 
 -- **an address at EIP is reached wherever it is**
 eip_reached : (next t : ℕ) → is_extended_of 4 32 (distance B32 next t) ≡ true
@@ -95,15 +49,15 @@ eip_reached next t = any_32 ((t + (2 ^ 64 - next)) % 2 ^ 32) (omega arith)
 -- ---- the displacement
 
 -- the test of a displacement by the form
-abbrev displaced_by : Bits → AddressForm → DispSize → ℕ → Bool
+abbrev pub displaced_by : Bits → AddressForm → DispSize → ℕ → Bool
 displaced_by asize form size disp =
     elim form [ Relative size ↦ nat_lt disp (2 ^ width size) | _ ↦ is_extended_of (displacement_count size) (width asize) disp ]
 
 displaced : (asize : Bits) (base index : Option Register) (size : DispSize) (disp len place t : ℕ) → Reached (base_reach base) len place t → t < 2 ^ 64 → displaced_by asize (form_of base index) size disp ≡ true → displaced_by asize (form_of base index) size (aimed_disp t base disp) ≡ true
 unfolding base_reach form_of
 displaced asize None index size disp len place t reach below h = h
-displaced asize (Some Rip) index size disp len place t reach below h = true_lt t (2 ^ 64) below
-displaced asize (Some Eip) index size disp len place t reach below h = true_lt t (2 ^ 32) reach
+displaced asize (Some Rip) index size disp len place t reach below h = lt-ltb t (2 ^ 64) below
+displaced asize (Some Eip) index size disp len place t reach below h = lt-ltb t (2 ^ 32) reach
 displaced asize (Some _) index size disp len place t reach below h = h
 
 offers_same : (asize : Bits) (how : Method) (m : Mem) (disp n : ℕ) → offers asize how (record m { disp = disp }) n ≡ offers asize how m n
@@ -162,7 +116,7 @@ base_reached bits None None disp len place t mode reach below some within = refl
 base_reached bits None (Some r) disp len place t mode reach below some within = refl
 base_reached bits (Some Rip) index disp len place t mode reach below some within =
     let e = mode refl in
-    rw e (rip_reached place len t some (rw e at within) below reach)
+    rw e (reached 4 (2 ^ 31) refl (omega arith) place len t some (rw e at within) below reach)
 base_reached bits (Some Eip) index disp len place t mode reach below some within = eip_reached (wrapped bits (wrapped bits place + len)) t
 base_reached bits (Some _) index disp len place t mode reach below some within = refl
 

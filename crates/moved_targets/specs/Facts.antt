@@ -1,11 +1,13 @@
 -- What holds of plain spellings wherever they stand and are aimed, and of what is spelled.
-use Rattle.std.specs.Prelude.{◌≡◌, ℕ, ◌+◌, ◌^◌, ◌≤◌, ◌<◌, true, List, length, Some, None, Ok, slice_get}
+use Rattle.std.specs.Prelude.{◌≡◌, ◌⊎◌, ℕ, ◌+◌, ◌*◌, ◌^◌, ◌≤◌, ◌<◌, true, List, length, Some, None, Ok, slice_get}
 use Rattle.x86_values.specs.declared.Bits.{Bits}
+use Rattle.x86_values.specs.declared.Bits.TheVariants.{B64}
 use Rattle.x86_values.specs.declared.Instr.{Instr}
-use Rattle.x86_values.specs.Wrapping.{width}
+use Rattle.x86_values.specs.Wrapping.{width, wrapped}
 use Rattle.row_types.specs.declared.Row.{Row}
 use Rattle.instruction_parts.specs.declared.spelling.Spelling.{Spelling}
 use Rattle.row_relation.specs.Spells.{Spells, IsSpelledBy}
+use Rattle.plain_spelling.specs.Values.{is_extended_of, distance}
 use Rattle.plain_spelling.specs.PlainTail.{plain_len}
 use Rattle.plain_spelling.specs.Expressible.{each_operand, row_exists, kind_suits, register_suits, address_suits, offered, immediate_suits, prefixes_suit, address_size_suits}
 use Rattle.opcode_rows.specs.Table.{table}
@@ -25,6 +27,17 @@ pub record SuitsElsewhere (bits : Bits) (row : Row) (i : Instr) : Type 0 where
   pub prefixes : prefixes_suit row i ≡ true
   pub address_size : address_size_suits bits row i ≡ true
 
+-- which addresses an offset holds in 64-bit mode
+pub record DistanceFacts : Type 0 where
+  -- a number of 64 bits that is a signed one of n bytes, of which half the range is h
+  pub signed : (n h x : ℕ) → 2 ^ (8 * n) ≡ 2 * h → x < 2 ^ 64 → (x < h) ⊎ (2 ^ 64 ≤ x + h) → is_extended_of n 64 x ≡ true
+  -- an address at such a distance from the end of some bytes is held, and one a few bytes behind it, also where it wraps
+  pub reached : (n h : ℕ) → 2 ^ (8 * n) ≡ 2 * h → h ≤ 2 ^ 31 → (place len t : ℕ) → 1 ≤ len → place + len ≤ 2 ^ 64 → t < 2 ^ 64
+      → (place + len ≤ t + h) × (t < place + len + h) → is_extended_of n 64 (distance B64 (wrapped B64 (wrapped B64 place + len)) t) ≡ true
+  pub over-reached : (place len d : ℕ) → 1 ≤ len → place + len ≤ 2 ^ 64 → d < 128
+      → is_extended_of 1 64 (distance B64 (wrapped B64 (wrapped B64 place + len)) (wrapped B64 (place + len + d))) ≡ true
+
+-- plain spellings, where they stand and what they are aimed at
 pub record TargetFacts : Type 0 where
   -- the plain length is that of the plain spelling by the row of the code, which has a byte
   pub plain_length-row : (bits : Bits) (i : Instr) (row : Row) → slice_get table i.code.0 ≡ Some row → plain_length bits i ≡ plain_len bits row i
@@ -37,7 +50,9 @@ pub record TargetFacts : Type 0 where
   -- what is spelled meets every condition but the reach of targets
   pub spelled-suits : (bits : Bits) (ip : ℕ) (bytes : List ℕ) (i : Instr) (row : Row) (s : Spelling) → slice_get table i.code.0 ≡ Some row
       → IsSpelledBy bits ip bytes i row s → SuitsElsewhere bits row i
-  -- and is encoded wherever its target reaches, where it is no near branch
+  -- and has a target below 2 to the power of 64, if it has one
+  pub target-below : (bits : Bits) (ip : ℕ) (bytes : List ℕ) (i : Instr) (t : ℕ) → Spells table bits ip bytes i → target_of i ≡ Some t → t < 2 ^ 64
+  -- it is encoded wherever its target reaches, where it is no near branch
   pub encoded-elsewhere : (bits : Bits) (old place t : ℕ) (bytes : List ℕ) (i : Instr) → Spells table bits old bytes i
       → first_value near_value i ≡ None → Reaches (target_reach i) (plain_length bits i) place t → place + plain_length bits i ≤ 2 ^ width bits
       → t < 2 ^ 64 → (plain : List ℕ) × (encoding bits place (aimed t i) ≡ Ok plain)

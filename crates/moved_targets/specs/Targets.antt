@@ -48,6 +48,7 @@ base_reach (Some Rip) = Some Signed32
 base_reach (Some Eip) = Some (Below 32)
 base_reach _ = None
 
+-- what an operand at RIP or EIP reaches
 unfoldable pub operand_reach : Operand → Option Reach
 operand_reach (Memory m) = base_reach m.base
 operand_reach _ = None

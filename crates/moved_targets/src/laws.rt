@@ -10,7 +10,7 @@ ghost use Rattle.operand_info.specs.Operands.{near_value, first_value};
 ghost use Rattle.encoder.specs.Encoding.{encoding};
 ghost use Rattle.branch_sizes.specs.Layout.{Reaches};
 ghost use Rattle.moved_targets.specs.Targets.{target_of, aimed, target_reach, plain_length};
-ghost use Rattle.moved_targets.specs.Facts.{TargetFacts};
+ghost use Rattle.moved_targets.specs.Facts.{DistanceFacts, TargetFacts};
 
 /// An encoding has the length of the plain spelling.
 pub fn encodings_have_their_length()
@@ -51,4 +51,10 @@ pub fn without_target_nothing_changes()
 #[inline]
 pub fn spellings_are_moved()
     ensures { TargetFacts }
+{}
+
+/// An offset holds each address at a signed distance of its size from the end of an instruction.
+#[inline]
+pub fn near_addresses_are_reached()
+    ensures { DistanceFacts }
 {}

@@ -2,11 +2,8 @@
 
 ghost use Rattle.moving_run.specs.Facts.{InputFacts, PlacedFacts, AnswerFacts, ReadBackFacts};
 
-use block_encoder::laws::{
-    images_go_to_their_goals, images_stand_at_their_places, moved_code_is_read_as_images,
-    slots_have_their_goals,
-};
-use branch_sizes::laws::{blocks_have_all_items, least_is_unique};
+use block_encoder::laws::moved_blocks_keep_their_laws;
+use branch_sizes::laws::least_is_unique;
 use sweep_text::laws::sweeps_agree;
 
 /// Some input is read as one list of instructions, and has one first single byte, or none.
@@ -37,8 +34,5 @@ pub fn inputs_have_one_answer()
 pub fn moved_blocks_are_read_back()
     ensures { ReadBackFacts }
 {
-    moved_code_is_read_as_images();
-    images_stand_at_their_places();
-    images_go_to_their_goals();
-    slots_have_their_goals();
+    moved_blocks_keep_their_laws();
 }

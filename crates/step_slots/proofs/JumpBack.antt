@@ -2,6 +2,7 @@
 use Rattle.std.proofs.Common.{◌≡◌, ℕ, zero, suc, ◌+◌, ◌-◌, ◌%◌, ◌^◌, ◌≤◌, ◌<◌, inr, Bool, true, false, ◌&&◌, List, [], ◌∷◌, length, get_or, Option, Some, None, Result, Ok, Err, nat_lt, nat_le, slice_get, refl, ap, sym, ◌∙◌, subst, arith}
 use Rattle.std.specs.Prelude.{IsSome, is_some, if◌then◌else◌, unwrap_or}
 use Rattle.std.specs.Option.{option_or}
+use Rattle.std.proofs.lemmas.Bool.{lt-ltb}
 use Rattle.x86_values.specs.declared.Bits.{Bits}
 use Rattle.x86_values.specs.declared.Bits.TheVariants.{B16, B32, B64}
 use Rattle.x86_values.specs.declared.Instr.{Instr}
@@ -19,12 +20,9 @@ use Rattle.plain_spelling.specs.Forms.{is_variant_of}
 use Rattle.plain_spelling.specs.PlainFront.{asks_rex_w, asks_66}
 use Rattle.plain_spelling.specs.PlainTail.{plain_size, plain_len, plain_next, plain_spelling}
 use Rattle.plain_spelling.specs.Expressible.{Suits, kind_suits, register_suits, address_suits, offered, immediate_suits, immediate_suits_how, near_reaches, target_suits, lock_suits, repeat_suits, prefixes_suit, has_memory_operand, address_size_suits}
-use Rattle.plain_spelling.proofs.Failures.{suits-failure}
-use Rattle.plain_laws.proofs.ReadBack.{plain_spells}
 use Rattle.opcode_rows.specs.Table.{table}
 use Rattle.operand_info.specs.Operands.{near_value, ip_value, first_value}
 use Rattle.encoder.specs.Encoding.{encoding}
-use Rattle.encoder.proofs.Causes.{by_row, plain_bytes_are}
 use Rattle.branch_sizes.specs.declared.plan.Choice.{Choice}
 use Rattle.branch_sizes.specs.declared.plan.Form.TheVariants.{Near as NearForm}
 use Rattle.branch_sizes.specs.declared.plan.Goal.{Goal}
@@ -32,34 +30,20 @@ use Rattle.branch_sizes.specs.declared.plan.Goal.TheVariants.{Outside}
 use Rattle.branch_sizes.specs.Plan.{no_choice}
 use Rattle.branch_sizes.specs.Layout.{IsLayout, IsLeast, Reaches, ReachesGoal, chosen, place}
 use Rattle.moved_targets.specs.Targets.{target_of, plain_length}
-use Rattle.moved_targets.proofs.Lengths.{plain_length-row}
 use Rattle.branch_forms.specs.declared.branch.Action.TheVariants.{Jump}
 use Rattle.branch_forms.specs.declared.branch.RelativeBranch.{RelativeBranch}
 use Rattle.branch_forms.specs.Branches.{size_of, near_action, branch_in, branch_by, branch_of, near_code}
 use Rattle.branch_forms.specs.Images.{branch_to, branch_image, image_by, image_of}
 use Rattle.branch_forms.specs.Choices.{branch_forms, near_reach, form_reach, branch_choice, choices_by, choices_of}
 use Rattle.branch_forms.specs.Rows.{offset_row}
-use Rattle.branch_forms.proofs.Codes.{near-jump}
-use Rattle.branch_forms.proofs.Pieces.{near_jump-length}
 use Rattle.move_goals.specs.declared.items.Placed.{Placed}
 use Rattle.move_goals.specs.Items.{IsPlaced, ArePlaced, item_at, one_span}
 use Rattle.move_goals.specs.Plan.{kept_goal, kept_goals, plan_outside}
-use Rattle.move_goals.proofs.Planned.{one_span-of, outside-fit}
 use Rattle.move_layout.specs.Laid.{goal_value, goal_address, seat_at}
 use Rattle.block_encoder.specs.Bytes.{in_front, bytes_from}
 use Rattle.block_encoder.specs.Moved.{seat_reach, IsReached, first_new_pass}
-use Rattle.block_encoder.proofs.Chosen.{choice-is, choice-below}
-use Rattle.block_encoder.proofs.Nearby.{signed}
-use Rattle.block_encoder.proofs.Spelled.{near-encoded}
-use Rattle.block_encoder.proofs.LastForms.{kept-address}
-use Rattle.block_encoder.proofs.Branching.{branch-reached-in_64}
 use Rattle.step_slots.specs.Block.{jump_to}
-
-true_lt : (a b : ℕ) → a < b → nat_lt a b ≡ true
-true_lt a b h = grind (arith, h)
-
-true_le : (a b : ℕ) → a ≤ b → nat_le a b ≡ true
-true_le a b h = grind (arith, h)
+use Rattle.step_slots.specs.LawsBelow.{LawsBelow}
 
 first_two : (a b : Bool) → a ≡ true → b ≡ true → ((a && b) && (true && (true && true))) ≡ true
 first_two a b p q = rw (p, q) refl
@@ -68,21 +52,15 @@ first_two a b p q = rw (p, q) refl
 abbrev IsEncodedIn : Bits → ℕ → Instr → Type 0
 IsEncodedIn bits at i = (bytes : List ℕ) × (encoding bits at i ≡ Ok bytes)
 
-jump-size : (bits : Bits) (t : ℕ) → (1 ≤ plain_length bits (jump_to bits t)) × (plain_length bits (jump_to bits t) ≤ 15)
-unfolding jump_to
-jump-size B16 t = let e = near_jump-length B16 B16 t in (omega (arith, e), omega (arith, e))
-jump-size B32 t = let e = near_jump-length B32 B32 t in (omega (arith, e), omega (arith, e))
-jump-size B64 t = let e = near_jump-length B64 B64 t in (omega (arith, e), omega (arith, e))
-
 -- ---- outside 64-bit mode an offset of the operand size comes to every address
 
 all_near-16 : (next t : ℕ) → is_extended_of 2 16 (distance B16 next t) ≡ true
 unfolding is_extended_of distance
-all_near-16 next t = rw (true_lt ((t + (2 ^ 64 - next)) % 2 ^ 16) (2 ^ 16) (omega arith)) refl
+all_near-16 next t = rw (lt-ltb ((t + (2 ^ 64 - next)) % 2 ^ 16) (2 ^ 16) (omega arith)) refl
 
 all_near-32 : (next t : ℕ) → is_extended_of 4 32 (distance B32 next t) ≡ true
 unfolding is_extended_of distance
-all_near-32 next t = rw (true_lt ((t + (2 ^ 64 - next)) % 2 ^ 32) (2 ^ 32) (omega arith)) refl
+all_near-32 next t = rw (lt-ltb ((t + (2 ^ 64 - next)) % 2 ^ 32) (2 ^ 32) (omega arith)) refl
 
 suits-16 : (t ip : ℕ) → t < 2 ^ 16 → Suits B16 ip (offset_row One 0xE9 Jz 20 B16) (branch_to (near_code Jump B16) None t)
 unfolding branch_to exists_in kind_suits is_variant_of method_of register_suits address_suits offered immediate_suits immediate_suits_how target_suits near_reaches plain_size operand_size immediate_bytes immediate_width prefixes_suit lock_suits repeat_suits address_size_suits has_memory_operand asks_rex_w asks_66
@@ -95,7 +73,7 @@ suits-16 t ip below = record {
   immediates = refl;
   targets =
       first_two (nat_lt t (2 ^ 16)) (is_extended_of 2 16 (distance B16 (plain_next B16 ip (offset_row One 0xE9 Jz 20 B16) (branch_to (near_code Jump B16) None t)) t))
-      (true_lt t (2 ^ 16) below) (all_near-16 (plain_next B16 ip (offset_row One 0xE9 Jz 20 B16) (branch_to (near_code Jump B16) None t)) t);
+      (lt-ltb t (2 ^ 16) below) (all_near-16 (plain_next B16 ip (offset_row One 0xE9 Jz 20 B16) (branch_to (near_code Jump B16) None t)) t);
   prefixes = refl;
   address_size = refl;
 }
@@ -111,71 +89,23 @@ suits-32 t ip below = record {
   immediates = refl;
   targets =
       first_two (nat_lt t (2 ^ 32)) (is_extended_of 4 32 (distance B32 (plain_next B32 ip (offset_row One 0xE9 Jz 20 B32) (branch_to (near_code Jump B32) None t)) t))
-      (true_lt t (2 ^ 32) below) (all_near-32 (plain_next B32 ip (offset_row One 0xE9 Jz 20 B32) (branch_to (near_code Jump B32) None t)) t);
+      (lt-ltb t (2 ^ 32) below) (all_near-32 (plain_next B32 ip (offset_row One 0xE9 Jz 20 B32) (branch_to (near_code Jump B32) None t)) t);
   prefixes = refl;
   address_size = refl;
 }
 
-row-encoded : (bits : Bits) (at : ℕ) (row : Row) (i : Instr) → slice_get table i.code.0 ≡ Some row → Suits bits (wrapped bits at) row i → plain_length bits i ≤ 15
-    → IsEncodedIn bits at i
-row-encoded bits at row i there suits short =
-    let l = plain_length-row bits i row there in
-    let holds = suits-failure bits (wrapped bits at) row i suits (true_le (plain_len bits row i) 15 (omega (arith, l, short))) in
-    (bytes_of row (plain_spelling bits (wrapped bits at) row i), sym (by_row bits at row i there) ∙ rw holds refl)
-
 branch_to-code : (bits : Bits) (t : ℕ) → (branch_to (near_code Jump bits) None t).code.0 ≡ near_code Jump bits
 unfolding branch_to
 branch_to-code bits t = refl
-
--- **outside 64-bit mode the jump is encoded at every address**
-jump-encoded-16 : (at t : ℕ) → t < 2 ^ 16 → IsEncodedIn B16 at (jump_to B16 t)
-unfolding jump_to
-jump-encoded-16 at t below =
-    row-encoded B16 at (offset_row One 0xE9 Jz 20 B16) (branch_to (near_code Jump B16) None t) (ap (slice_get table) (branch_to-code B16 t) ∙ near-jump B16)
-    (suits-16 t (wrapped B16 at) below) (let e = near_jump-length B16 B16 t in omega (arith, e))
-
-jump-encoded-32 : (at t : ℕ) → t < 2 ^ 32 → IsEncodedIn B32 at (jump_to B32 t)
-unfolding jump_to
-jump-encoded-32 at t below =
-    row-encoded B32 at (offset_row One 0xE9 Jz 20 B32) (branch_to (near_code Jump B32) None t) (ap (slice_get table) (branch_to-code B32 t) ∙ near-jump B32)
-    (suits-32 t (wrapped B32 at) below) (let e = near_jump-length B32 B32 t in omega (arith, e))
 
 -- ---- the jump as one that stands at its target
 
 back_by : (t n : ℕ) → t < 2 ^ 64 → n ≡ 5 → 2 ^ 64 ≤ (t + (2 ^ 64 - (t % 2 ^ 64 + n) % 2 ^ 64)) % 2 ^ 64 + 2 ^ 31
 back_by t n below e = omega (arith, below, e)
 
-jump-encoded-64 : (t : ℕ) → t < 2 ^ 64 → IsEncodedIn B64 t (jump_to B64 t)
-unfolding jump_to distance
-jump-encoded-64 t below =
-    let e = near_jump-length B64 B64 t in
-    let len : plain_length B64 (branch_to (near_code Jump B64) None t) ≡ 5 = omega (arith, e) in
-    let n = plain_length B64 (branch_to (near_code Jump B64) None t) in
-    near-encoded One 0xE9 (near_code Jump B64) t t (near-jump B64) (omega (arith, len)) below
-    (signed 4 (2 ^ 31) ((t + (2 ^ 64 - (t % 2 ^ 64 + n) % 2 ^ 64)) % 2 ^ 64) refl (omega arith) (inr (back_by t n below len)))
-
-encoded-there : (bits : Bits) (t : ℕ) → t < 2 ^ width bits → IsEncodedIn bits t (jump_to bits t)
-encoded-there B16 t below = jump-encoded-16 t t below
-encoded-there B32 t below = jump-encoded-32 t t below
-encoded-there B64 t below = jump-encoded-64 t below
-
 jump-four : (bits : Bits) (t : ℕ) → length (jump_to bits t).ops ≡ 4
 unfolding jump_to branch_to
 jump-four bits t = refl
-
--- **it is well placed**
-pub jump-placed : (bits : Bits) (t len : ℕ) → t < 2 ^ width bits → 1 ≤ len → len ≤ 15 → IsPlaced bits (record { ip = t; len = len; instr = jump_to bits t })
-jump-placed bits t len below some few =
-    let e = encoded-there bits t below in
-    record {
-      some = some;
-      few = few;
-      bytes = e.0;
-      spelled = plain_spells table bits (wrapped bits t) e.0 (jump_to bits t) (plain_bytes_are bits t (jump_to bits t) e.0 (jump-four bits t) (sym e.1));
-    }
-
-pub jump-length : (bits : Bits) (t : ℕ) → (1 ≤ plain_length bits (jump_to bits t)) × (plain_length bits (jump_to bits t) ≤ 15)
-jump-length bits t = jump-size bits t
 
 -- ---- the jump in a step block
 
@@ -196,32 +126,14 @@ in_row B16 = refl
 in_row B32 = refl
 in_row B64 = refl
 
-branch_by-row : (bits : Bits) → branch_by (slice_get table (near_code Jump bits)) ≡ Some (back_branch bits)
-branch_by-row bits = ap branch_by (near-jump bits) ∙ in_row bits
-
 branch_to-near : (bits : Bits) (t : ℕ) → first_value near_value (branch_to (near_code Jump bits) None t) ≡ Some t
 unfolding branch_to near_value
 branch_to-near bits t = refl
-
-branch_to-branch : (bits : Bits) (t : ℕ) → branch_of (branch_to (near_code Jump bits) None t) ≡ Some (back_branch bits)
-unfolding branch_of
-branch_to-branch bits t =
-    ap (λ (o : Option ℕ). if is_some o then branch_by (slice_get table (branch_to (near_code Jump bits) None t).code.0) else None) (branch_to-near bits t)
-    ∙ (ap (λ (c : ℕ). branch_by (slice_get table c)) (branch_to-code bits t) ∙ branch_by-row bits)
-
-jump-branch : (bits : Bits) (t : ℕ) → branch_of (jump_to bits t) ≡ Some (back_branch bits)
-unfolding jump_to
-jump-branch bits t = branch_to-branch bits t
 
 one-some : (bits : Bits) (at : ℕ) (i : Instr) → IsEncodedIn bits at i → IsSome (bytes_from bits at (i ∷ []))
 unfolding bytes_from
 one-some bits at i (bytes, h) =
     ap (λ (r : Result (List ℕ) NoSpelling). is_some (elim r as (λ (x : Result (List ℕ) NoSpelling). Option (List ℕ)) [ Ok b ↦ in_front b (Some []) | Err why ↦ None ])) h
-
--- in its near form it is itself
-jump-image : (bits : Bits) (t at goal slot : ℕ) → image_of bits (jump_to bits t) NearForm at goal slot ≡ jump_to bits goal ∷ []
-unfolding image_of branch_image jump_to
-jump-image bits t at goal slot = ap (λ (b : Option RelativeBranch). image_by bits (branch_to (near_code Jump bits) None t) b NearForm at goal slot) (branch_to-branch bits t)
 
 -- ---- outside 64-bit mode it has one form
 
@@ -229,65 +141,137 @@ first_of_one : (c : Choice) (f : ℕ) → f < length (c ∷ []) → get_or (c �
 first_of_one c zero lt = refl
 first_of_one c (suc f) lt = absurd (omega arith)
 
-module _ (bits : Bits) (items : List Placed) (new_base : ℕ) (layout : List ℕ) (l : IsLayout (plan_outside bits items new_base) layout)
-    (k : ℕ) (lt : k < length items) (t : ℕ) (is : (item_at items k).instr ≡ jump_to bits t) where
-  jump-goal : goal_address (plan_outside bits items new_base) layout k ≡ t
-  jump-goal =
-      kept-address bits items new_base k lt layout
-      ∙ (ap (λ (i : Instr). unwrap_or (target_of i) 0) is ∙ ap (λ (o : Option ℕ). unwrap_or o 0) (jump-target bits t))
+module _ (laws : LawsBelow) where
+  jump-size : (bits : Bits) (t : ℕ) → (1 ≤ plain_length bits (jump_to bits t)) × (plain_length bits (jump_to bits t) ≤ 15)
+  unfolding jump_to
+  jump-size B16 t = let e = laws.pieces.near_jump-length B16 B16 t in (omega (arith, e), omega (arith, e))
+  jump-size B32 t = let e = laws.pieces.near_jump-length B32 B32 t in (omega (arith, e), omega (arith, e))
+  jump-size B64 t = let e = laws.pieces.near_jump-length B64 B64 t in (omega (arith, e), omega (arith, e))
 
-  one-reached : choices_of bits (jump_to bits t) ≡ branch_choice bits (jump_to bits t) (back_branch bits) NearForm ∷ []
-      → ((len at : ℕ) → Reaches (form_reach bits (back_branch bits) (jump_to bits t).asize NearForm) len at t)
-      → IsEncodedIn bits (place (plan_outside bits items new_base) layout k) (jump_to bits t)
+  row-encoded : (bits : Bits) (at : ℕ) (row : Row) (i : Instr) → slice_get table i.code.0 ≡ Some row → Suits bits (wrapped bits at) row i → plain_length bits i ≤ 15
+      → IsEncodedIn bits at i
+  row-encoded bits at row i there suits short =
+      let l = laws.targets.plain_length-row bits i row there in
+      (bytes_of row (plain_spelling bits (wrapped bits at) row i), laws.encodings.suits-encoded bits at row i there suits (omega (arith, l, short)))
+
+  -- **outside 64-bit mode the jump is encoded at every address**
+  jump-encoded-16 : (at t : ℕ) → t < 2 ^ 16 → IsEncodedIn B16 at (jump_to B16 t)
+  unfolding jump_to
+  jump-encoded-16 at t below =
+      row-encoded B16 at (offset_row One 0xE9 Jz 20 B16) (branch_to (near_code Jump B16) None t) (ap (slice_get table) (branch_to-code B16 t) ∙ laws.codes.near-jump B16)
+      (suits-16 t (wrapped B16 at) below) (let e = laws.pieces.near_jump-length B16 B16 t in omega (arith, e))
+
+  jump-encoded-32 : (at t : ℕ) → t < 2 ^ 32 → IsEncodedIn B32 at (jump_to B32 t)
+  unfolding jump_to
+  jump-encoded-32 at t below =
+      row-encoded B32 at (offset_row One 0xE9 Jz 20 B32) (branch_to (near_code Jump B32) None t) (ap (slice_get table) (branch_to-code B32 t) ∙ laws.codes.near-jump B32)
+      (suits-32 t (wrapped B32 at) below) (let e = laws.pieces.near_jump-length B32 B32 t in omega (arith, e))
+
+  jump-encoded-64 : (t : ℕ) → t < 2 ^ 64 → IsEncodedIn B64 t (jump_to B64 t)
+  unfolding jump_to distance
+  jump-encoded-64 t below =
+      let e = laws.pieces.near_jump-length B64 B64 t in
+      let len : plain_length B64 (branch_to (near_code Jump B64) None t) ≡ 5 = omega (arith, e) in
+      let n = plain_length B64 (branch_to (near_code Jump B64) None t) in
+      laws.reach.near-encoded One 0xE9 (near_code Jump B64) t t (laws.codes.near-jump B64) (omega (arith, len)) below
+      (laws.reach.signed 4 (2 ^ 31) ((t + (2 ^ 64 - (t % 2 ^ 64 + n) % 2 ^ 64)) % 2 ^ 64) refl (omega arith) (inr (back_by t n below len)))
+
+  encoded-there : (bits : Bits) (t : ℕ) → t < 2 ^ width bits → IsEncodedIn bits t (jump_to bits t)
+  encoded-there B16 t below = jump-encoded-16 t t below
+  encoded-there B32 t below = jump-encoded-32 t t below
+  encoded-there B64 t below = jump-encoded-64 t below
+
+  -- **it is well placed**
+  pub jump-placed : (bits : Bits) (t len : ℕ) → t < 2 ^ width bits → 1 ≤ len → len ≤ 15 → IsPlaced bits (record { ip = t; len = len; instr = jump_to bits t })
+  jump-placed bits t len below some few =
+      let e = encoded-there bits t below in
+      record {
+        some = some;
+        few = few;
+        bytes = e.0;
+        spelled = laws.encodings.plain-spells bits (wrapped bits t) e.0 (jump_to bits t) (laws.encodings.encoded-plain bits t (jump_to bits t) e.0 (jump-four bits t) e.1);
+      }
+
+  pub jump-length : (bits : Bits) (t : ℕ) → (1 ≤ plain_length bits (jump_to bits t)) × (plain_length bits (jump_to bits t) ≤ 15)
+  jump-length bits t = jump-size bits t
+
+  branch_by-row : (bits : Bits) → branch_by (slice_get table (near_code Jump bits)) ≡ Some (back_branch bits)
+  branch_by-row bits = ap branch_by (laws.codes.near-jump bits) ∙ in_row bits
+
+  branch_to-branch : (bits : Bits) (t : ℕ) → branch_of (branch_to (near_code Jump bits) None t) ≡ Some (back_branch bits)
+  unfolding branch_of
+  branch_to-branch bits t =
+      ap (λ (o : Option ℕ). if is_some o then branch_by (slice_get table (branch_to (near_code Jump bits) None t).code.0) else None) (branch_to-near bits t)
+      ∙ (ap (λ (c : ℕ). branch_by (slice_get table c)) (branch_to-code bits t) ∙ branch_by-row bits)
+
+  jump-branch : (bits : Bits) (t : ℕ) → branch_of (jump_to bits t) ≡ Some (back_branch bits)
+  unfolding jump_to
+  jump-branch bits t = branch_to-branch bits t
+
+  -- in its near form it is itself
+  jump-image : (bits : Bits) (t at goal slot : ℕ) → image_of bits (jump_to bits t) NearForm at goal slot ≡ jump_to bits goal ∷ []
+  unfolding image_of branch_image jump_to
+  jump-image bits t at goal slot = ap (λ (b : Option RelativeBranch). image_by bits (branch_to (near_code Jump bits) None t) b NearForm at goal slot) (branch_to-branch bits t)
+
+  module _ (bits : Bits) (items : List Placed) (new_base : ℕ) (layout : List ℕ) (l : IsLayout (plan_outside bits items new_base) layout)
+      (k : ℕ) (lt : k < length items) (t : ℕ) (is : (item_at items k).instr ≡ jump_to bits t) where
+    jump-goal : goal_address (plan_outside bits items new_base) layout k ≡ t
+    jump-goal =
+        laws.last.kept-address bits items new_base k lt layout
+        ∙ (ap (λ (i : Instr). unwrap_or (target_of i) 0) is ∙ ap (λ (o : Option ℕ). unwrap_or o 0) (jump-target bits t))
+
+    one-reached : choices_of bits (jump_to bits t) ≡ branch_choice bits (jump_to bits t) (back_branch bits) NearForm ∷ []
+        → ((len at : ℕ) → Reaches (form_reach bits (back_branch bits) (jump_to bits t).asize NearForm) len at t)
+        → IsEncodedIn bits (place (plan_outside bits items new_base) layout k) (jump_to bits t)
+        → IsReached bits items (plan_outside bits items new_base) layout k
+    unfolding seat_at
+    one-reached choices reaches encoded =
+        let p = plan_outside bits items new_base in
+        let at = place p layout k in
+        let goal = goal_address p layout k in
+        let slot = (seat_at p layout k).slot in
+        let c = branch_choice bits (jump_to bits t) (back_branch bits) NearForm in
+        let all : choices_of bits (item_at items k).instr ≡ c ∷ [] = ap (choices_of bits) is ∙ choices in
+        let below : get_or layout k 0 < length (c ∷ []) =
+        subst (λ (cs : List Choice). get_or layout k 0 < length cs) all (laws.seats.choice-below bits (one_span items new_base) items (kept_goals items) layout l k lt) in
+        let chosen_is : chosen p layout k ≡ c =
+        laws.seats.choice-is bits (one_span items new_base) items (kept_goals items) layout l k lt
+        ∙ (ap (λ (cs : List Choice). get_or cs (get_or layout k 0) no_choice) all ∙ first_of_one c (get_or layout k 0) below) in
+        let there : Reaches c.reach c.len at goal = subst (λ (g : ℕ). Reaches c.reach c.len at g) (sym jump-goal) (reaches c.len at) in
+        let image : image_of bits (item_at items k).instr NearForm at goal slot ≡ jump_to bits t ∷ [] =
+        ap (λ (i : Instr). image_of bits i NearForm at goal slot) is
+        ∙ (jump-image bits t at goal slot ∙ ap (λ (g : ℕ). jump_to bits g ∷ []) jump-goal) in
+        let written : IsSome (bytes_from bits at (image_of bits (item_at items k).instr NearForm at goal slot)) =
+        subst (λ (is : List Instr). IsSome (bytes_from bits at is)) (sym image) (one-some bits at (jump_to bits t) encoded) in
+        subst (λ (d : Choice). Reaches (seat_reach (item_at items k).instr d.form d.reach) d.len at goal
+        × IsSome (bytes_from bits at (image_of bits (item_at items k).instr d.form at goal slot))) (sym chosen_is) (there, written)
+
+  jump-choices-16 : (t : ℕ) → choices_of B16 (jump_to B16 t) ≡ branch_choice B16 (jump_to B16 t) (back_branch B16) NearForm ∷ []
+  unfolding choices_of branch_forms
+  jump-choices-16 t = ap (choices_by B16 (jump_to B16 t)) (jump-branch B16 t)
+
+  jump-choices-32 : (t : ℕ) → choices_of B32 (jump_to B32 t) ≡ branch_choice B32 (jump_to B32 t) (back_branch B32) NearForm ∷ []
+  unfolding choices_of branch_forms
+  jump-choices-32 t = ap (choices_by B32 (jump_to B32 t)) (jump-branch B32 t)
+
+  -- **the jump back reaches from every place at which its block ends inside the address space**
+  pub jump-reached : (bits : Bits) (items : List Placed) (new_base : ℕ) (placed : ArePlaced bits items) (few : length items ≤ 65536) (layout : List ℕ)
+      → IsLeast (plan_outside bits items new_base) layout → first_new_pass bits (plan_outside bits items new_base) layout ≡ None
+      → (k : ℕ) → k < length items → (t : ℕ) → (item_at items k).instr ≡ jump_to bits t → t < 2 ^ width bits
       → IsReached bits items (plan_outside bits items new_base) layout k
-  unfolding seat_at
-  one-reached choices reaches encoded =
-      let p = plan_outside bits items new_base in
-      let at = place p layout k in
-      let goal = goal_address p layout k in
-      let slot = (seat_at p layout k).slot in
-      let c = branch_choice bits (jump_to bits t) (back_branch bits) NearForm in
-      let all : choices_of bits (item_at items k).instr ≡ c ∷ [] = ap (choices_of bits) is ∙ choices in
-      let below : get_or layout k 0 < length (c ∷ []) =
-      subst (λ (cs : List Choice). get_or layout k 0 < length cs) all (choice-below bits (one_span items new_base) items (kept_goals items) layout l k lt) in
-      let chosen_is : chosen p layout k ≡ c =
-      choice-is bits (one_span items new_base) items (kept_goals items) layout l k lt
-      ∙ (ap (λ (cs : List Choice). get_or cs (get_or layout k 0) no_choice) all ∙ first_of_one c (get_or layout k 0) below) in
-      let there : Reaches c.reach c.len at goal = subst (λ (g : ℕ). Reaches c.reach c.len at g) (sym jump-goal) (reaches c.len at) in
-      let image : image_of bits (item_at items k).instr NearForm at goal slot ≡ jump_to bits t ∷ [] =
-      ap (λ (i : Instr). image_of bits i NearForm at goal slot) is
-      ∙ (jump-image bits t at goal slot ∙ ap (λ (g : ℕ). jump_to bits g ∷ []) jump-goal) in
-      let written : IsSome (bytes_from bits at (image_of bits (item_at items k).instr NearForm at goal slot)) =
-      subst (λ (is : List Instr). IsSome (bytes_from bits at is)) (sym image) (one-some bits at (jump_to bits t) encoded) in
-      subst (λ (d : Choice). Reaches (seat_reach (item_at items k).instr d.form d.reach) d.len at goal
-      × IsSome (bytes_from bits at (image_of bits (item_at items k).instr d.form at goal slot))) (sym chosen_is) (there, written)
-
-jump-choices-16 : (t : ℕ) → choices_of B16 (jump_to B16 t) ≡ branch_choice B16 (jump_to B16 t) (back_branch B16) NearForm ∷ []
-unfolding choices_of branch_forms
-jump-choices-16 t = ap (choices_by B16 (jump_to B16 t)) (jump-branch B16 t)
-
-jump-choices-32 : (t : ℕ) → choices_of B32 (jump_to B32 t) ≡ branch_choice B32 (jump_to B32 t) (back_branch B32) NearForm ∷ []
-unfolding choices_of branch_forms
-jump-choices-32 t = ap (choices_by B32 (jump_to B32 t)) (jump-branch B32 t)
-
--- **the jump back reaches from every place at which its block ends inside the address space**
-pub jump-reached : (bits : Bits) (items : List Placed) (new_base : ℕ) (placed : ArePlaced bits items) (few : length items ≤ 65536) (layout : List ℕ)
-    → IsLeast (plan_outside bits items new_base) layout → first_new_pass bits (plan_outside bits items new_base) layout ≡ None
-    → (k : ℕ) → k < length items → (t : ℕ) → (item_at items k).instr ≡ jump_to bits t → t < 2 ^ width bits
-    → IsReached bits items (plan_outside bits items new_base) layout k
-unfolding form_reach near_reach
-jump-reached B16 items new_base placed few layout least inside k lt t is below =
-    one-reached B16 items new_base layout least.closed.is_layout k lt t is (jump-choices-16 t) (λ len at. below)
-    (jump-encoded-16 (place (plan_outside B16 items new_base) layout k) t below)
-jump-reached B32 items new_base placed few layout least inside k lt t is below =
-    one-reached B32 items new_base layout least.closed.is_layout k lt t is (jump-choices-32 t) (λ len at. below)
-    (jump-encoded-32 (place (plan_outside B32 items new_base) layout k) t below)
-jump-reached B64 items new_base placed few layout least inside k lt t is below =
-    let p = plan_outside B64 items new_base in
-    let goal : goal_address p layout k ≡ t = jump-goal B64 items new_base layout least.closed.is_layout k lt t is in
-    let stays : kept_goals items k ≡ Outside t = ap (λ (i : Instr). kept_goal (target_of i)) is ∙ ap kept_goal (jump-target B64 t) in
-    branch-reached-in_64 items (one_span items new_base) (kept_goals items) (one_span-of items new_base) placed few (outside-fit B64 items new_base placed few)
-    layout least inside k lt
-    (λ c h. subst (λ (g : Goal). Reaches c.reach c.len (place p layout k) (goal_value p layout g)) (sym stays)
-    (subst (λ (g : Goal). ReachesGoal p layout k c g) stays h).0)
-    (omega (arith, goal, below)) t (ap (first_value near_value) is ∙ jump-near B64 t)
+  unfolding form_reach near_reach
+  jump-reached B16 items new_base placed few layout least inside k lt t is below =
+      one-reached B16 items new_base layout least.closed.is_layout k lt t is (jump-choices-16 t) (λ len at. below)
+      (jump-encoded-16 (place (plan_outside B16 items new_base) layout k) t below)
+  jump-reached B32 items new_base placed few layout least inside k lt t is below =
+      one-reached B32 items new_base layout least.closed.is_layout k lt t is (jump-choices-32 t) (λ len at. below)
+      (jump-encoded-32 (place (plan_outside B32 items new_base) layout k) t below)
+  jump-reached B64 items new_base placed few layout least inside k lt t is below =
+      let p = plan_outside B64 items new_base in
+      let goal : goal_address p layout k ≡ t = jump-goal B64 items new_base layout least.closed.is_layout k lt t is in
+      let stays : kept_goals items k ≡ Outside t = ap (λ (i : Instr). kept_goal (target_of i)) is ∙ ap kept_goal (jump-target B64 t) in
+      laws.reach.branch-reached-in_64 items (one_span items new_base) (kept_goals items) (laws.plans.one_span-of items new_base) placed few (laws.plans.outside-fit B64 items new_base placed few)
+      layout least inside k lt
+      (λ c h. subst (λ (g : Goal). Reaches c.reach c.len (place p layout k) (goal_value p layout g)) (sym stays)
+      (subst (λ (g : Goal). ReachesGoal p layout k c g) stays h).0)
+      (omega (arith, goal, below)) t (ap (first_value near_value) is ∙ jump-near B64 t)

@@ -21,11 +21,9 @@ use Rattle.code_region.specs.Laws.{AreInUnits}
 use Rattle.code_region.proofs.Lawful.{sound-restores}
 use Rattle.step_slots.specs.Block.{step_items, reserved}
 use Rattle.step_slots.specs.Stepping.{IsBlockStepped, IsOfLength, IsOfReach, place_refusal_of, move_refusal_of}
+use Rattle.step_slots.specs.LawsBelow.{LawsBelow}
 use Rattle.step_slots.proofs.Region.{answer-not_empty, placed-can_fill}
 use Rattle.step_slots.proofs.Stepped.{step-placed, reserved-some, block-fits, never-passes, only-first}
-
-pub items-placed : (bits : Bits) (item : Placed) → IsPlaced bits item → (items : List Placed) → items ≡ step_items bits item → ArePlaced bits items
-items-placed bits item spelled items are = subst (ArePlaced bits) (sym are) (step-placed bits item spelled)
 
 pub reserved-is : (bits : Bits) (item : Placed) (region : RegionState) (base : ℕ) → base ≡ region.base → (items : List Placed) → items ≡ step_items bits item
     → (len : ℕ) → len ≡ last_len bits items base → len ≡ reserved bits region.base item
@@ -42,53 +40,57 @@ outside-is bits given items same place answer told is h =
     subst (λ (xs : List Placed). IsOutsideAnswer bits xs place told) same
     (subst (λ (r : Result MovedLists MoveError). IsOutsideAnswer bits given place r) is h)
 
-module _ (bits : Bits) (item : Placed) (spelled : IsPlaced bits item) (region : RegionState) where
-  pub length-refusal : (why : PlaceError) → place_answer region (reserved bits region.base item) ≡ Err why → IsOfLength why
-  length-refusal place_error.Empty e = answer-not_empty region (reserved bits region.base item) (reserved-some bits item spelled region.base) e
-  length-refusal (place_error.TooManyBlocks max) e = tt
-  length-refusal (place_error.Full len largest) e = tt
+module _ (laws : LawsBelow) where
+  pub items-placed : (bits : Bits) (item : Placed) → IsPlaced bits item → (items : List Placed) → items ≡ step_items bits item → ArePlaced bits items
+  items-placed bits item spelled items are = subst (ArePlaced bits) (sym are) (step-placed laws bits item spelled)
 
-  pub no-place : (why : PlaceError) (len : ℕ) → len ≡ rounded (reserved bits region.base item) → place_answer region (reserved bits region.base item) ≡ Err why
-      → (new : RegionState) → new ≡ region → IsBlockStepped bits region item (Err (place_refusal_of why len)) new
-  no-place place_error.Empty len l e new same = same
-  no-place (place_error.TooManyBlocks max) len l e new same = ((e, l), same)
-  no-place (place_error.Full n largest) len l e new same = (e, same)
+  module _ (bits : Bits) (item : Placed) (spelled : IsPlaced bits item) (region : RegionState) where
+    pub length-refusal : (why : PlaceError) → place_answer region (reserved bits region.base item) ≡ Err why → IsOfLength why
+    length-refusal place_error.Empty e = answer-not_empty region (reserved bits region.base item) (reserved-some laws bits item spelled region.base) e
+    length-refusal (place_error.TooManyBlocks max) e = tt
+    length-refusal (place_error.Full len largest) e = tt
 
-  module _ (inside : region.base + region.size ≤ 2 ^ width bits) (sound : IsSound region) (units : AreInUnits region) (place : ℕ)
-      (e : place_answer region (reserved bits region.base item) ≡ Ok place) where
-    pub reach-refusal : (why : MoveError) → IsOutsideAnswer bits (step_items bits item) place (Err why) → IsOfReach why
-    reach-refusal Memory h = tt
-    reach-refusal (TooMany n) h = let many = h.0 in absurd (omega (arith, many))
-    reach-refusal (OldOrder n) h = h.1
-    reach-refusal (Wraps end) h = never-passes bits item spelled region inside sound units place e end h.1
-    reach-refusal (TooFar at target) h = tt
+    pub no-place : (why : PlaceError) (len : ℕ) → len ≡ rounded (reserved bits region.base item) → place_answer region (reserved bits region.base item) ≡ Err why
+        → (new : RegionState) → new ≡ region → IsBlockStepped bits region item (Err (place_refusal_of why len)) new
+    no-place place_error.Empty len l e new same = same
+    no-place (place_error.TooManyBlocks max) len l e new same = ((e, l), same)
+    no-place (place_error.Full n largest) len l e new same = (e, same)
 
-    pub not-moved : (why : MoveError) → IsOutsideAnswer bits (step_items bits item) place (Err why) → (new : RegionState) → new ≡ region
-        → IsBlockStepped bits region item (Err (move_refusal_of why)) new
-    not-moved Memory h new same = same
-    not-moved (TooMany n) h new same = same
-    not-moved (OldOrder n) h new same = same
-    not-moved (Wraps end) h new same = same
-    not-moved (TooFar at target) h new same =
-        ((place, (e, only-first bits item spelled region inside sound units place e at target h.1)), same)
+    module _ (inside : region.base + region.size ≤ 2 ^ width bits) (sound : IsSound region) (units : AreInUnits region) (place : ℕ)
+        (e : place_answer region (reserved bits region.base item) ≡ Ok place) where
+      pub reach-refusal : (why : MoveError) → IsOutsideAnswer bits (step_items bits item) place (Err why) → IsOfReach why
+      reach-refusal Memory h = tt
+      reach-refusal (TooMany n) h = let many = h.0 in absurd (omega (arith, many))
+      reach-refusal (OldOrder n) h = h.1
+      reach-refusal (Wraps end) h = never-passes laws bits item spelled region inside sound units place e end h.1
+      reach-refusal (TooFar at target) h = tt
 
-    pub moved-fits : (m : MovedLists) → IsOutsideAnswer bits (step_items bits item) place (Ok m) → length m.bytes ≤ rounded (reserved bits region.base item)
-    moved-fits m h = block-fits bits item spelled region inside sound units place e m h.1
+      pub not-moved : (why : MoveError) → IsOutsideAnswer bits (step_items bits item) place (Err why) → (new : RegionState) → new ≡ region
+          → IsBlockStepped bits region item (Err (move_refusal_of why)) new
+      not-moved Memory h new same = same
+      not-moved (TooMany n) h new same = same
+      not-moved (OldOrder n) h new same = same
+      not-moved (Wraps end) h new same = same
+      not-moved (TooFar at target) h new same =
+          ((place, (e, only-first laws bits item spelled region inside sound units place e at target h.1)), same)
 
-    -- so they can be filled in
-    pub moved-can_fill : (m : MovedLists) → IsOutsideAnswer bits (step_items bits item) place (Ok m) → (now : RegionState)
-        → now ≡ placed region (reserved bits region.base item) → (bytes : List ℕ) → bytes ≡ m.bytes → IsTrue (can_fill now place (length bytes))
-    moved-can_fill m h now is bytes same =
-        let fits = moved-fits m h in
-        let long = ap length same in
-        subst (λ (r : RegionState). IsTrue (can_fill r place (length bytes))) (sym is)
-        (placed-can_fill region (reserved bits region.base item) place sound e (length bytes) (omega (arith, fits, long)))
+      pub moved-fits : (m : MovedLists) → IsOutsideAnswer bits (step_items bits item) place (Ok m) → length m.bytes ≤ rounded (reserved bits region.base item)
+      moved-fits m h = block-fits laws bits item spelled region inside sound units place e m h.1
 
-    -- a place that is given back leaves the region as it was
-    pub given-back : (now : RegionState) → now ≡ placed region (reserved bits region.base item) → (new : RegionState) → new ≡ released now place → new ≡ region
-    given-back now is new same =
-        same ∙ (ap (λ (r : RegionState). released r place) is ∙ (sound-restores region (reserved bits region.base item) place sound e).blocks)
+      -- so they can be filled in
+      pub moved-can_fill : (m : MovedLists) → IsOutsideAnswer bits (step_items bits item) place (Ok m) → (now : RegionState)
+          → now ≡ placed region (reserved bits region.base item) → (bytes : List ℕ) → bytes ≡ m.bytes → IsTrue (can_fill now place (length bytes))
+      moved-can_fill m h now is bytes same =
+          let fits = moved-fits m h in
+          let long = ap length same in
+          subst (λ (r : RegionState). IsTrue (can_fill r place (length bytes))) (sym is)
+          (placed-can_fill region (reserved bits region.base item) place sound e (length bytes) (omega (arith, fits, long)))
 
-    pub moved-steps : (m : MovedLists) → IsOutsideAnswer bits (step_items bits item) place (Ok m) → (new : RegionState)
-        → new ≡ filled (placed region (reserved bits region.base item)) place m.bytes → IsBlockStepped bits region item (Ok place) new
-    moved-steps m h new is = (e, (m.bytes, ((m, (h.1, refl)), is)))
+      -- a place that is given back leaves the region as it was
+      pub given-back : (now : RegionState) → now ≡ placed region (reserved bits region.base item) → (new : RegionState) → new ≡ released now place → new ≡ region
+      given-back now is new same =
+          same ∙ (ap (λ (r : RegionState). released r place) is ∙ (sound-restores region (reserved bits region.base item) place sound e).blocks)
+
+      pub moved-steps : (m : MovedLists) → IsOutsideAnswer bits (step_items bits item) place (Ok m) → (new : RegionState)
+          → new ≡ filled (placed region (reserved bits region.base item)) place m.bytes → IsBlockStepped bits region item (Ok place) new
+      moved-steps m h new is = (e, (m.bytes, ((m, (h.1, refl)), is)))

@@ -12,13 +12,13 @@ use Rattle.move_layout.specs.Laid.{new_end}
 use Rattle.block_encoder.specs.Moved.{MovedLists}
 use Rattle.block_encoder.specs.ByPlan.{IsMovedBy, IsPassBy, IsTooFarBy}
 use Rattle.block_encoder.specs.Last.{last_layout, last_len}
-use Rattle.block_encoder.proofs.LastForms.{moved-within, end-below, last-bound, last-some, last-moves}
 use Rattle.code_region.specs.State.{LiveBlock, RegionState, rounded}
 use Rattle.code_region.specs.Placing.{place_answer}
 use Rattle.code_region.specs.Keeping.{IsSound}
 use Rattle.code_region.specs.Laws.{AreInUnits}
 use Rattle.code_region.proofs.Units.{IsUnits, AreUnits, place-units}
 use Rattle.step_slots.specs.Block.{back_address, step_items, step_plan, IsOutOfReach, reserved}
+use Rattle.step_slots.specs.LawsBelow.{LawsBelow}
 use Rattle.step_slots.proofs.JumpBack.{jump-placed, jump-length, jump-reached}
 use Rattle.step_slots.proofs.Region.{placed-inside}
 
@@ -28,14 +28,6 @@ back-below : (bits : Bits) (item : Placed) → back_address bits item < 2 ^ widt
 back-below B16 item = omega arith
 back-below B32 item = omega arith
 back-below B64 item = omega arith
-
-pub step-placed : (bits : Bits) (item : Placed) → IsPlaced bits item → ArePlaced bits (step_items bits item)
-step-placed bits item placed zero lt = placed
-step-placed bits item placed (suc zero) lt =
-    let back = back_address bits item in
-    let size = jump-length bits back in
-    jump-placed bits back _ (back-below bits item) size.0 size.1
-step-placed bits item placed (suc (suc k)) lt = absurd (omega arith)
 
 -- ---- lengths
 
@@ -51,13 +43,6 @@ all-units : (base : ℕ) (live : List LiveBlock) → ((k : ℕ) (d : LiveBlock) 
 all-units base [] h = tt
 all-units base (block ∷ live) h = (h 0 block (omega arith), all-units base live (λ k d lt. h (suc k) d (omega arith)))
 
-module _ (bits : Bits) (item : Placed) (placed : IsPlaced bits item) where
-  pub reserved-some : (base : ℕ) → 0 < reserved bits base item
-  reserved-some base = last-some bits (step_items bits item) base (step-placed bits item placed) (omega arith) (omega arith)
-
-  pub reserved-short : (base : ℕ) → reserved bits base item ≤ 53
-  reserved-short base = last-bound bits (step_items bits item) base (step-placed bits item placed) (omega arith)
-
 -- ---- at a place
 
 end-is : (bits : Bits) (items : List Placed) (place : ℕ)
@@ -69,51 +54,67 @@ one_block : (bits : Bits) (items : List Placed) (place : ℕ) → (plan_outside 
 unfolding plan_with
 one_block bits items place = refl
 
-module _ (bits : Bits) (item : Placed) (placed : IsPlaced bits item) (region : RegionState) (inside : region.base + region.size ≤ 2 ^ width bits)
-    (sound : IsSound region) (units : AreInUnits region) (place : ℕ) (e : place_answer region (reserved bits region.base item) ≡ Ok place) where
-  same-len : last_len bits (step_items bits item) place ≡ reserved bits region.base item
-  same-len =
-      let u = place-units region (reserved bits region.base item) place sound (all-units region.base region.live units) e in
-      last-moves bits (step_items bits item) region.base place u.0 u.1
+module _ (laws : LawsBelow) where
+  pub step-placed : (bits : Bits) (item : Placed) → IsPlaced bits item → ArePlaced bits (step_items bits item)
+  step-placed bits item placed zero lt = placed
+  step-placed bits item placed (suc zero) lt =
+      let back = back_address bits item in
+      let size = jump-length laws bits back in
+      jump-placed laws bits back _ (back-below bits item) size.0 size.1
+  step-placed bits item placed (suc (suc k)) lt = absurd (omega arith)
 
-  -- **the block fits the place**
-  pub block-fits : (m : MovedLists) → IsMovedBy bits (step_items bits item) (step_plan bits item place) m → length m.bytes ≤ rounded (reserved bits region.base item)
-  block-fits m moved =
-      omega (
-        arith,
-        moved-within bits (step_items bits item) place (step-placed bits item placed) (omega arith) m moved,
-        same-len,
-        rounded-above (reserved bits region.base item) (reserved-short bits item placed region.base),
-      )
+  module _ (bits : Bits) (item : Placed) (placed : IsPlaced bits item) where
+    pub reserved-some : (base : ℕ) → 0 < reserved bits base item
+    reserved-some base = laws.last.last-some bits (step_items bits item) base (step-placed bits item placed) (omega arith) (omega arith)
 
-  -- **it ends inside the address space**
-  pub never-passes : (end : ℕ) → IsPassBy bits (step_plan bits item place) end → ⊥
-  never-passes end pass =
-      let p = step_plan bits item place in
-      let low = end-below bits (step_items bits item) place (step-placed bits item placed) (omega arith) pass.layout pass.least in
-      let at = end-is bits (step_items bits item) place in
-      let room = placed-inside region (reserved bits region.base item) place sound e in
-      let above = rounded-above (reserved bits region.base item) (reserved-short bits item placed region.base) in
-      let ends : new_end p pass.layout 0 ≤ 2 ^ width bits = omega (arith, low, at, same-len, room, above, inside) in
-      let count : length p.spans ≡ 1 = ap length (one_block bits (step_items bits item) place) in
-      let passes : first_passing bits (new_end p pass.layout) 1 ≡ Some end =
-      subst (λ (n : ℕ). first_passing bits (new_end p pass.layout) n ≡ Some end) count pass.passes in
-      none_some (new_end p pass.layout) ends end passes
-    where
-      none_some : (ends : ℕ → ℕ) → ends 0 ≤ 2 ^ width bits → (x : ℕ) → first_passing bits ends 1 ≡ Some x → ⊥
-      none_some ends le x h =
-          let first : Option ℕ = Some 0 in
-          let absent : Option ℕ = None in
-          let found : Bool → Option ℕ =
-          λ (t : Bool). elim (if t then first else absent) as (λ (o : Option ℕ). Option ℕ) [ Some b ↦ Some (ends b) | None ↦ None ] in
-          let none : first_passing bits ends 1 ≡ None = ap found (le-ltb (2 ^ width bits) (ends 0) le) in
-          cc
+    pub reserved-short : (base : ℕ) → reserved bits base item ≤ 53
+    reserved-short base = laws.last.last-bound bits (step_items bits item) base (step-placed bits item placed) (omega arith)
 
-  -- **only the instruction may be out of reach**
-  pub only-first : (at target : ℕ) → IsTooFarBy bits (step_items bits item) (step_plan bits item place) at target → IsOutOfReach bits item place target
-  only-first zero target far = far
-  only-first (suc zero) target far =
-      absurd (far.first.unreached
-      (jump-reached bits (step_items bits item) place (step-placed bits item placed) (omega arith) far.layout far.least far.ends 1 (omega arith)
-      (back_address bits item) refl (back-below bits item)))
-  only-first (suc (suc n)) target far = let w = far.first.within in absurd (omega (arith, w))
+  module _ (bits : Bits) (item : Placed) (placed : IsPlaced bits item) (region : RegionState) (inside : region.base + region.size ≤ 2 ^ width bits)
+      (sound : IsSound region) (units : AreInUnits region) (place : ℕ) (e : place_answer region (reserved bits region.base item) ≡ Ok place) where
+    same-len : last_len bits (step_items bits item) place ≡ reserved bits region.base item
+    same-len =
+        let u = place-units region (reserved bits region.base item) place sound (all-units region.base region.live units) e in
+        laws.last.last-moves bits (step_items bits item) region.base place u.0 u.1
+
+    -- **the block fits the place**
+    pub block-fits : (m : MovedLists) → IsMovedBy bits (step_items bits item) (step_plan bits item place) m → length m.bytes ≤ rounded (reserved bits region.base item)
+    block-fits m moved =
+        omega (
+          arith,
+          laws.last.moved-within bits (step_items bits item) place (step-placed bits item placed) (omega arith) m moved,
+          same-len,
+          rounded-above (reserved bits region.base item) (reserved-short bits item placed region.base),
+        )
+
+    -- **it ends inside the address space**
+    pub never-passes : (end : ℕ) → IsPassBy bits (step_plan bits item place) end → ⊥
+    never-passes end pass =
+        let p = step_plan bits item place in
+        let low = laws.last.end-below bits (step_items bits item) place (step-placed bits item placed) (omega arith) pass.layout pass.least in
+        let at = end-is bits (step_items bits item) place in
+        let room = placed-inside region (reserved bits region.base item) place sound e in
+        let above = rounded-above (reserved bits region.base item) (reserved-short bits item placed region.base) in
+        let ends : new_end p pass.layout 0 ≤ 2 ^ width bits = omega (arith, low, at, same-len, room, above, inside) in
+        let count : length p.spans ≡ 1 = ap length (one_block bits (step_items bits item) place) in
+        let passes : first_passing bits (new_end p pass.layout) 1 ≡ Some end =
+        subst (λ (n : ℕ). first_passing bits (new_end p pass.layout) n ≡ Some end) count pass.passes in
+        none_some (new_end p pass.layout) ends end passes
+      where
+        none_some : (ends : ℕ → ℕ) → ends 0 ≤ 2 ^ width bits → (x : ℕ) → first_passing bits ends 1 ≡ Some x → ⊥
+        none_some ends le x h =
+            let first : Option ℕ = Some 0 in
+            let absent : Option ℕ = None in
+            let found : Bool → Option ℕ =
+            λ (t : Bool). elim (if t then first else absent) as (λ (o : Option ℕ). Option ℕ) [ Some b ↦ Some (ends b) | None ↦ None ] in
+            let none : first_passing bits ends 1 ≡ None = ap found (le-ltb (2 ^ width bits) (ends 0) le) in
+            cc
+
+    -- **only the instruction may be out of reach**
+    pub only-first : (at target : ℕ) → IsTooFarBy bits (step_items bits item) (step_plan bits item place) at target → IsOutOfReach bits item place target
+    only-first zero target far = far
+    only-first (suc zero) target far =
+        absurd (far.first.unreached
+        (jump-reached laws bits (step_items bits item) place (step-placed bits item placed) (omega arith) far.layout far.least far.ends 1 (omega arith)
+        (back_address bits item) refl (back-below bits item)))
+    only-first (suc (suc n)) target far = let w = far.first.within in absurd (omega (arith, w))

@@ -5,3 +5,4 @@ pub mod Running
 pub mod Holding
 pub mod Keeping
 pub mod Facts
+pub mod LawsBelow

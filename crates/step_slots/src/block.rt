@@ -11,6 +11,7 @@ ghost use Rattle.move_goals.specs.Items.{IsPlaced};
 ghost use Rattle.step_slots.specs.Block as spec;
 ghost use Rattle.step_slots.specs.Stepping.{IsBlockStepped, IsOfLength, IsOfReach, place_refusal_of, move_refusal_of};
 
+use crate::laws_below::laws_below;
 use crate::refusals::StepError;
 use block_encoder::{MoveError, Placed, last_len, move_outside};
 use code_region::{PlaceError, Region};
@@ -114,6 +115,7 @@ pub(crate) fn step_block(
     requires units { AreInUnits region.old }
     ensures { IsBlockStepped bits region.old item result region.new }
 {
+    laws_below();
     let items = step_items(bits, item);
     let len = last_len(bits, &items, base);
     let place = match region.place(len) {

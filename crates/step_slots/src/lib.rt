@@ -5,6 +5,7 @@
 mod block;
 mod commands;
 pub mod laws;
+mod laws_below;
 #[cfg(test)]
 mod model_tests;
 mod order;

@@ -10,6 +10,7 @@ ghost use Rattle.step_slots.specs.Stepping.{slots_refusal, IsStepped, finished};
 ghost use Rattle.step_slots.specs.Holding.{AreApart, HoldsSlots};
 
 use crate::block::step_block;
+use crate::laws_below::laws_below;
 use crate::order::{insert_slot, remove_slot};
 use crate::refusals::StepError;
 use block_encoder::Placed;
@@ -130,6 +131,7 @@ impl StepSlots {
         requires { IsPlaced self.old.bits item }
         ensures { IsStepped self.old item result self.new }
     {
+        laws_below();
         let place = step_block(alloc, self.bits, self.base, &mut self.region, item)?;
         insert_slot(&mut self.live, StepSlot { place, item });
         Ok(place)

@@ -1,6 +1,5 @@
 use Rattle.std.proofs.Common.{rules, ap, ◌∙◌}
 use Rattle.branch_sizes.specs.Plan.{BlockPlan}
-use Rattle.move_goals.specs.Plan.{plan_with}
 use Rattle.std.proofs.Common.{length}
 use Rattle.block_encoder.specs.Moved.{IsOldSound}
 use Rattle.block_encoder.proofs.Chosen.{plan-count}

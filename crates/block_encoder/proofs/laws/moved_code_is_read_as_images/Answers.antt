@@ -5,4 +5,4 @@ use Rattle.block_encoder.proofs.laws.moved_code_is_read_as_images.Goals as goal
 
 pub returns : goal.returns
 returns c = λ bits items spans s placed m moved b bl.
-    block-read bits items spans (goal_at spans items) moved.layout moved.least.closed.is_layout s placed b bl (λ k lt. (moved.reached k lt).1)
+    block-read c.laws_below.ensures bits items spans (goal_at spans items) moved.layout moved.least.closed.is_layout s placed b bl (λ k lt. (moved.reached k lt).1)

@@ -8,7 +8,7 @@ use Rattle.block_encoder.proofs.write.write_blocks.Goals as goal
 pub index-requires : goal.index-requires
 index-requires c =
     let bl : c.loop-b.b < length c.args.plan.now.spans = omega (arith, c.loop-b-test.true, ap length c.spans-spans.ensures.spans) in
-    let f = item_facts c.args.bits c.args.items.now c.args.plan.now c.args.laid.now c.spans-spans.ensures.plan c.requires.plan c.requires.laid c.requires.ends
+    let f = item_facts c.laws_below.ensures c.args.bits c.args.items.now c.args.plan.now c.args.laid.now c.spans-spans.ensures.plan c.requires.plan c.requires.laid c.requires.ends
     c.loop-b.b c.loop.counter c.loop.bytes.items c.loop.starts.items c.loop.forms.items c.loop-b.slots.items c.loop-b.ends.items
     (c.loop.invariant.written c.requires.laid.0 c.requires.laid.2) bl
     (omega (arith, c.loop-test.true, c.loop.invariant.count_is)) c.len-k.result (c.len-k.ensures ∙ c.loop.starts.ok.0) in
@@ -17,7 +17,7 @@ index-requires c =
 pub offset_bounds-items-k : goal.offset_bounds-items-k
 offset_bounds-items-k c =
     let bl : c.loop-b.b < length c.args.plan.now.spans = omega (arith, c.loop-b-test.true, ap length c.spans-spans.ensures.spans) in
-    let f = item_facts c.args.bits c.args.items.now c.args.plan.now c.args.laid.now c.spans-spans.ensures.plan c.requires.plan c.requires.laid c.requires.ends
+    let f = item_facts c.laws_below.ensures c.args.bits c.args.items.now c.args.plan.now c.args.laid.now c.spans-spans.ensures.plan c.requires.plan c.requires.laid c.requires.ends
     c.loop-b.b c.loop.counter c.loop.bytes.items c.loop.starts.items c.loop.forms.items c.loop-b.slots.items c.loop-b.ends.items
     (c.loop.invariant.written c.requires.laid.0 c.requires.laid.2) bl
     (omega (arith, c.loop-test.true, c.loop.invariant.count_is)) c.len-k.result (c.len-k.ensures ∙ c.loop.starts.ok.0) in
@@ -26,7 +26,7 @@ offset_bounds-items-k c =
 pub bounds-items-k : goal.bounds-items-k
 bounds-items-k c =
     let bl : c.loop-b.b < length c.args.plan.now.spans = omega (arith, c.loop-b-test.true, ap length c.spans-spans.ensures.spans) in
-    let f = item_facts c.args.bits c.args.items.now c.args.plan.now c.args.laid.now c.spans-spans.ensures.plan c.requires.plan c.requires.laid c.requires.ends
+    let f = item_facts c.laws_below.ensures c.args.bits c.args.items.now c.args.plan.now c.args.laid.now c.spans-spans.ensures.plan c.requires.plan c.requires.laid c.requires.ends
     c.loop-b.b c.loop.counter c.loop.bytes.items c.loop.starts.items c.loop.forms.items c.loop-b.slots.items c.loop-b.ends.items
     (c.loop.invariant.written c.requires.laid.0 c.requires.laid.2) bl
     (omega (arith, c.loop-test.true, c.loop.invariant.count_is)) c.len-k.result (c.len-k.ensures ∙ c.loop.starts.ok.0) in
@@ -35,7 +35,7 @@ bounds-items-k c =
 pub offset_bounds-branches-k : goal.offset_bounds-branches-k
 offset_bounds-branches-k c =
     let bl : c.loop-b.b < length c.args.plan.now.spans = omega (arith, c.loop-b-test.true, ap length c.spans-spans.ensures.spans) in
-    let f = item_facts c.args.bits c.args.items.now c.args.plan.now c.args.laid.now c.spans-spans.ensures.plan c.requires.plan c.requires.laid c.requires.ends
+    let f = item_facts c.laws_below.ensures c.args.bits c.args.items.now c.args.plan.now c.args.laid.now c.spans-spans.ensures.plan c.requires.plan c.requires.laid c.requires.ends
     c.loop-b.b c.loop.counter c.loop.bytes.items c.loop.starts.items c.loop.forms.items c.loop-b.slots.items c.loop-b.ends.items
     (c.loop.invariant.written c.requires.laid.0 c.requires.laid.2) bl
     (omega (arith, c.loop-test.true, c.loop.invariant.count_is)) c.len-k.result (c.len-k.ensures ∙ c.loop.starts.ok.0) in
@@ -44,7 +44,7 @@ offset_bounds-branches-k c =
 pub bounds-branches-k : goal.bounds-branches-k
 bounds-branches-k c =
     let bl : c.loop-b.b < length c.args.plan.now.spans = omega (arith, c.loop-b-test.true, ap length c.spans-spans.ensures.spans) in
-    let f = item_facts c.args.bits c.args.items.now c.args.plan.now c.args.laid.now c.spans-spans.ensures.plan c.requires.plan c.requires.laid c.requires.ends
+    let f = item_facts c.laws_below.ensures c.args.bits c.args.items.now c.args.plan.now c.args.laid.now c.spans-spans.ensures.plan c.requires.plan c.requires.laid c.requires.ends
     c.loop-b.b c.loop.counter c.loop.bytes.items c.loop.starts.items c.loop.forms.items c.loop-b.slots.items c.loop-b.ends.items
     (c.loop.invariant.written c.requires.laid.0 c.requires.laid.2) bl
     (omega (arith, c.loop-test.true, c.loop.invariant.count_is)) c.len-k.result (c.len-k.ensures ∙ c.loop.starts.ok.0) in
@@ -53,7 +53,7 @@ bounds-branches-k c =
 pub write_item-requires : goal.write_item-requires
 write_item-requires c =
     let bl : c.loop-b.b < length c.args.plan.now.spans = omega (arith, c.loop-b-test.true, ap length c.spans-spans.ensures.spans) in
-    let f = item_facts c.args.bits c.args.items.now c.args.plan.now c.args.laid.now c.spans-spans.ensures.plan c.requires.plan c.requires.laid c.requires.ends
+    let f = item_facts c.laws_below.ensures c.args.bits c.args.items.now c.args.plan.now c.args.laid.now c.spans-spans.ensures.plan c.requires.plan c.requires.laid c.requires.ends
     c.loop-b.b c.loop.counter c.loop.bytes.items c.loop.starts.items c.loop.forms.items c.loop-b.slots.items c.loop-b.ends.items
     (c.loop.invariant.written c.requires.laid.0 c.requires.laid.2) bl
     (omega (arith, c.loop-test.true, c.loop.invariant.count_is)) c.len-k.result (c.len-k.ensures ∙ c.loop.starts.ok.0) in
@@ -62,13 +62,13 @@ write_item-requires c =
 pub returns-in_err-write_item : goal.returns-in_err-write_item
 returns-in_err-write_item c =
     let bl : c.loop-b.b < length c.args.plan.now.spans = omega (arith, c.loop-b-test.true, ap length c.spans-spans.ensures.spans) in
-    let f = item_facts c.args.bits c.args.items.now c.args.plan.now c.args.laid.now c.spans-spans.ensures.plan c.requires.plan c.requires.laid c.requires.ends
+    let f = item_facts c.laws_below.ensures c.args.bits c.args.items.now c.args.plan.now c.args.laid.now c.spans-spans.ensures.plan c.requires.plan c.requires.laid c.requires.ends
     c.loop-b.b c.loop.counter c.loop.bytes.items c.loop.starts.items c.loop.forms.items c.loop-b.slots.items c.loop-b.ends.items
     (c.loop.invariant.written c.requires.laid.0 c.requires.laid.2) bl
     (omega (arith, c.loop-test.true, c.loop.invariant.count_is)) c.len-k.result (c.len-k.ensures ∙ c.loop.starts.ok.0) in
     let p = err_from_is_err_and c.from_residual-in_err-write_item.result c.from_residual-in_err-write_item.ensures.1 in
     rw (p.1, p.2)
-    (item_refuses c.args.bits c.args.items.now c.args.plan.now c.args.laid.now c.spans-spans.ensures.plan c.requires.plan c.requires.laid c.requires.ends
+    (item_refuses c.laws_below.ensures c.args.bits c.args.items.now c.args.plan.now c.args.laid.now c.spans-spans.ensures.plan c.requires.plan c.requires.laid c.requires.ends
     c.loop-b.b c.loop.counter c.loop.bytes.items c.loop.starts.items c.loop.forms.items c.loop-b.slots.items c.loop-b.ends.items
     (c.loop.invariant.written c.requires.laid.0 c.requires.laid.2) bl c.len-k.result f c.index.result.now c.index.ensures
     c.loop.bytes.items c.write_item.new.bytes.items c.in_err-write_item.field-0.0 c.in_err-write_item.ensures)
@@ -76,7 +76,7 @@ returns-in_err-write_item c =
 pub overflow_cast-seat : goal.overflow_cast-seat
 overflow_cast-seat c =
     let bl : c.loop-b.b < length c.args.plan.now.spans = omega (arith, c.loop-b-test.true, ap length c.spans-spans.ensures.spans) in
-    let f = item_facts c.args.bits c.args.items.now c.args.plan.now c.args.laid.now c.spans-spans.ensures.plan c.requires.plan c.requires.laid c.requires.ends
+    let f = item_facts c.laws_below.ensures c.args.bits c.args.items.now c.args.plan.now c.args.laid.now c.spans-spans.ensures.plan c.requires.plan c.requires.laid c.requires.ends
     c.loop-b.b c.loop.counter c.loop.bytes.items c.loop.starts.items c.loop.forms.items c.loop-b.slots.items c.loop-b.ends.items
     (c.loop.invariant.written c.requires.laid.0 c.requires.laid.2) bl
     (omega (arith, c.loop-test.true, c.loop.invariant.count_is)) c.len-k.result (c.len-k.ensures ∙ c.loop.starts.ok.0) in
@@ -86,7 +86,7 @@ overflow_cast-seat c =
 pub loop-preserved : goal.loop-preserved
 loop-preserved c =
     let bl : c.loop-b.b < length c.args.plan.now.spans = omega (arith, c.loop-b-test.true, ap length c.spans-spans.ensures.spans) in
-    let f = item_facts c.args.bits c.args.items.now c.args.plan.now c.args.laid.now c.spans-spans.ensures.plan c.requires.plan c.requires.laid c.requires.ends
+    let f = item_facts c.laws_below.ensures c.args.bits c.args.items.now c.args.plan.now c.args.laid.now c.spans-spans.ensures.plan c.requires.plan c.requires.laid c.requires.ends
     c.loop-b.b c.loop.counter c.loop.bytes.items c.loop.starts.items c.loop.forms.items c.loop-b.slots.items c.loop-b.ends.items
     (c.loop.invariant.written c.requires.laid.0 c.requires.laid.2) bl
     (omega (arith, c.loop-test.true, c.loop.invariant.count_is)) c.len-k.result (c.len-k.ensures ∙ c.loop.starts.ok.0) in
@@ -103,7 +103,7 @@ loop-preserved c =
 pub overflow_add-goals : goal.overflow_add-goals
 overflow_add-goals c =
     let bl : c.loop-b.b < length c.args.plan.now.spans = omega (arith, c.loop-b-test.true, ap length c.spans-spans.ensures.spans) in
-    let f = end_facts c.args.bits c.args.items.now c.args.plan.now c.args.laid.now c.spans-spans.ensures.plan c.requires.plan c.requires.laid c.requires.ends
+    let f = end_facts c.laws_below.ensures c.args.bits c.args.items.now c.args.plan.now c.args.laid.now c.spans-spans.ensures.plan c.requires.plan c.requires.laid c.requires.ends
     c.loop-b.b c.loop.counter c.loop.bytes.items c.loop.starts.items c.loop.forms.items c.loop-b.slots.items c.loop-b.ends.items
     (c.loop.invariant.written c.requires.laid.0 c.requires.laid.2) bl
     (omega (arith, c.loop-test.false, c.loop.auto.counter-end, c.loop.invariant.count_is)) c.len-first.result (c.len-first.ensures ∙ c.loop-b.slots.ok.0)
@@ -113,7 +113,7 @@ overflow_add-goals c =
 pub offset_bounds-deref-first : goal.offset_bounds-deref-first
 offset_bounds-deref-first c =
     let bl : c.loop-b.b < length c.args.plan.now.spans = omega (arith, c.loop-b-test.true, ap length c.spans-spans.ensures.spans) in
-    let f = end_facts c.args.bits c.args.items.now c.args.plan.now c.args.laid.now c.spans-spans.ensures.plan c.requires.plan c.requires.laid c.requires.ends
+    let f = end_facts c.laws_below.ensures c.args.bits c.args.items.now c.args.plan.now c.args.laid.now c.spans-spans.ensures.plan c.requires.plan c.requires.laid c.requires.ends
     c.loop-b.b c.loop.counter c.loop.bytes.items c.loop.starts.items c.loop.forms.items c.loop-b.slots.items c.loop-b.ends.items
     (c.loop.invariant.written c.requires.laid.0 c.requires.laid.2) bl
     (omega (arith, c.loop-test.false, c.loop.auto.counter-end, c.loop.invariant.count_is)) c.len-first.result (c.len-first.ensures ∙ c.loop-b.slots.ok.0)
@@ -123,7 +123,7 @@ offset_bounds-deref-first c =
 pub slice_bounds-goals-end : goal.slice_bounds-goals-end
 slice_bounds-goals-end c =
     let bl : c.loop-b.b < length c.args.plan.now.spans = omega (arith, c.loop-b-test.true, ap length c.spans-spans.ensures.spans) in
-    let f = end_facts c.args.bits c.args.items.now c.args.plan.now c.args.laid.now c.spans-spans.ensures.plan c.requires.plan c.requires.laid c.requires.ends
+    let f = end_facts c.laws_below.ensures c.args.bits c.args.items.now c.args.plan.now c.args.laid.now c.spans-spans.ensures.plan c.requires.plan c.requires.laid c.requires.ends
     c.loop-b.b c.loop.counter c.loop.bytes.items c.loop.starts.items c.loop.forms.items c.loop-b.slots.items c.loop-b.ends.items
     (c.loop.invariant.written c.requires.laid.0 c.requires.laid.2) bl
     (omega (arith, c.loop-test.false, c.loop.auto.counter-end, c.loop.invariant.count_is)) c.len-first.result (c.len-first.ensures ∙ c.loop-b.slots.ok.0)
@@ -133,7 +133,7 @@ slice_bounds-goals-end c =
 pub write_end-requires-clause-images : goal.write_end-requires-clause-images
 write_end-requires-clause-images c =
     let bl : c.loop-b.b < length c.args.plan.now.spans = omega (arith, c.loop-b-test.true, ap length c.spans-spans.ensures.spans) in
-    let f = end_facts c.args.bits c.args.items.now c.args.plan.now c.args.laid.now c.spans-spans.ensures.plan c.requires.plan c.requires.laid c.requires.ends
+    let f = end_facts c.laws_below.ensures c.args.bits c.args.items.now c.args.plan.now c.args.laid.now c.spans-spans.ensures.plan c.requires.plan c.requires.laid c.requires.ends
     c.loop-b.b c.loop.counter c.loop.bytes.items c.loop.starts.items c.loop.forms.items c.loop-b.slots.items c.loop-b.ends.items
     (c.loop.invariant.written c.requires.laid.0 c.requires.laid.2) bl
     (omega (arith, c.loop-test.false, c.loop.auto.counter-end, c.loop.invariant.count_is)) c.len-first.result (c.len-first.ensures ∙ c.loop-b.slots.ok.0)
@@ -143,7 +143,7 @@ write_end-requires-clause-images c =
 pub write_end-requires-clause-goals : goal.write_end-requires-clause-goals
 write_end-requires-clause-goals c =
     let bl : c.loop-b.b < length c.args.plan.now.spans = omega (arith, c.loop-b-test.true, ap length c.spans-spans.ensures.spans) in
-    let f = end_facts c.args.bits c.args.items.now c.args.plan.now c.args.laid.now c.spans-spans.ensures.plan c.requires.plan c.requires.laid c.requires.ends
+    let f = end_facts c.laws_below.ensures c.args.bits c.args.items.now c.args.plan.now c.args.laid.now c.spans-spans.ensures.plan c.requires.plan c.requires.laid c.requires.ends
     c.loop-b.b c.loop.counter c.loop.bytes.items c.loop.starts.items c.loop.forms.items c.loop-b.slots.items c.loop-b.ends.items
     (c.loop.invariant.written c.requires.laid.0 c.requires.laid.2) bl
     (omega (arith, c.loop-test.false, c.loop.auto.counter-end, c.loop.invariant.count_is)) c.len-first.result (c.len-first.ensures ∙ c.loop-b.slots.ok.0)
@@ -156,12 +156,12 @@ loop-b-preserved c =
     let bl : c.loop-b.b < length c.args.plan.now.spans = omega (arith, c.loop-b-test.true, ap length c.spans-spans.ensures.spans) in
     let whole : (span_at c.args.plan.now.spans c.loop-b.b).count ≡ c.loop.counter =
     omega (arith, c.loop-test.false, c.loop.auto.counter-end, c.loop.invariant.count_is) in
-    let f = end_facts c.args.bits c.args.items.now c.args.plan.now c.args.laid.now c.spans-spans.ensures.plan c.requires.plan c.requires.laid c.requires.ends
+    let f = end_facts c.laws_below.ensures c.args.bits c.args.items.now c.args.plan.now c.args.laid.now c.spans-spans.ensures.plan c.requires.plan c.requires.laid c.requires.ends
     c.loop-b.b c.loop.counter c.loop.bytes.items c.loop.starts.items c.loop.forms.items c.loop-b.slots.items c.loop-b.ends.items
     (c.loop.invariant.written c.requires.laid.0 c.requires.laid.2) bl whole c.len-first.result (c.len-first.ensures ∙ c.loop-b.slots.ok.0)
     c.index-in-loop-b.result.now c.index-in-loop-b.ensures in
     λ layout is.
-    end_step c.args.bits c.args.items.now c.args.plan.now c.args.laid.now layout is c.loop-b.b c.loop.counter
+    end_step c.laws_below.ensures c.args.bits c.args.items.now c.args.plan.now c.args.laid.now layout is c.loop-b.b c.loop.counter
     c.loop.bytes.items c.loop.starts.items c.loop.forms.items c.loop-b.slots.items c.loop-b.ends.items (c.loop.invariant.written layout is) bl whole
     c.len-first.result (c.len-first.ensures ∙ c.loop-b.slots.ok.0) c.index-in-loop-b.result.now f.end_is
     c.deref-in-loop-b.result.now (c.len-first.result + c.index-in-loop-b.result.now.slots - c.len-first.result)
@@ -171,6 +171,6 @@ loop-b-preserved c =
 
 pub returns : goal.returns
 returns c =
-    blocks_moved c.args.bits c.args.items.now c.args.plan.now c.args.laid.now c.spans-spans.ensures.plan c.requires.plan c.requires.laid c.requires.ends
+    blocks_moved c.laws_below.ensures c.args.bits c.args.items.now c.args.plan.now c.args.laid.now c.spans-spans.ensures.plan c.requires.plan c.requires.laid c.requires.ends
     c.loop-b.b (omega (arith, c.loop-b-test.false, c.loop-b.auto.b-end, ap length c.spans-spans.ensures.spans))
     _ (c.loop-b.invariant c.requires.laid.0 c.requires.laid.2)

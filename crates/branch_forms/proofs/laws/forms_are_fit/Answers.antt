@@ -1,5 +1,6 @@
 use Rattle.branch_forms.proofs.Fit as fit
 use Rattle.branch_forms.proofs.Lengths as lengths
+use Rattle.branch_forms.proofs.NearFirst as near
 use Rattle.branch_forms.proofs.Offsets as offsets
 use Rattle.branch_forms.proofs.laws.forms_are_fit.Goals as goal
 
@@ -8,6 +9,8 @@ returns c = record {
   image_of-length = lengths.image_of-length;
   other-length = lengths.other-length;
   spelled-fit = fit.spelled-fit;
+  branch-in-row = offsets.branch-in-row;
+  no_branch-no_near = near.no_branch-no_near;
   branch-range = offsets.branch-range;
   branch-pair = offsets.branch-pair;
 }

@@ -1,3 +1,4 @@
+use Rattle.branch_forms.proofs.Lengths as lengths
 use Rattle.branch_forms.proofs.Pieces as pieces
 use Rattle.branch_forms.proofs.laws.pieces_have_their_lengths.Goals as goal
 
@@ -11,5 +12,8 @@ returns c = record {
   near_condition-length = pieces.near_condition-length;
   slot_call-length = pieces.slot_call-length;
   slot_jump-length = pieces.slot_jump-length;
+  branch_to-length = lengths.branch_to-length;
+  short-length = lengths.short-length;
+  skip-length = lengths.skip-length;
   inverted-small = pieces.inverted-small;
 }

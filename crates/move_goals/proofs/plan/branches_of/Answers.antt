@@ -1,6 +1,6 @@
 use Rattle.std.proofs.Common.{◌≡◌, arith, ap, map, ◌∙◌, length}
 use Rattle.std.specs.List.{range_with_len}
-use Rattle.move_goals.specs.Plan.{plan_with, branch_at, plan_for}
+use Rattle.move_goals.specs.Plan.{plan_with, branch_at}
 use Rattle.move_goals.proofs.Blocks.{end_is, end_below, other_block}
 use Rattle.move_goals.proofs.Aims.{ascend}
 use Rattle.move_goals.proofs.Planned.{one_more, planned_item}

@@ -1,6 +1,6 @@
 use Rattle.std.proofs.Common.{ap, ◌∙◌, sym, subst}
 use Rattle.branch_sizes.specs.Plan.{plan_of, IsWellFormed}
-use Rattle.move_goals.specs.Plan.{plan_with, plan_for}
+use Rattle.move_goals.specs.Plan.{plan_with}
 use Rattle.move_goals.proofs.Planned.{well_formed}
 use Rattle.move_goals.proofs.plan.plan_for.Goals as goal
 

@@ -1,4 +1,5 @@
 use Rattle.moved_targets.proofs.Aims as aims
+use Rattle.moved_targets.proofs.Below as targets
 use Rattle.moved_targets.proofs.Elsewhere as elsewhere
 use Rattle.moved_targets.proofs.Lengths as lengths
 use Rattle.moved_targets.proofs.laws.spellings_are_moved.Goals as goal
@@ -21,5 +22,6 @@ returns c = record {
         prefixes = n.prefixes;
         address_size = n.address_size;
       };
+  target-below = targets.target-below;
   encoded-elsewhere = elsewhere.encoded-elsewhere;
 }

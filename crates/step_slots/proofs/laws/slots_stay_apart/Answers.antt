@@ -5,7 +5,7 @@ use Rattle.step_slots.proofs.laws.slots_stay_apart.Goals as goal
 pub returns : goal.returns
 returns c = record {
   kept-made = blocks.kept-made;
-  stepped-made = slotted.stepped-made;
+  stepped-made = slotted.stepped-made c.laws_below.ensures;
   kept-units = blocks.kept-units;
   kept-seen = blocks.kept-seen;
 }

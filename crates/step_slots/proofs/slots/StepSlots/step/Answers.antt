@@ -23,7 +23,7 @@ insert_slot-requires-clause-room c =
     let spelled = subst (λ (s : SlotState). IsPlaced s.bits c.args.item) (sym c.self.view_is) c.requires in
     let P : Result ℕ StepError → Type 0 = λ (r : Result ℕ StepError). IsBlockStepped f.bits f.region c.args.item r c.step_block.new.region in
     let stepped : P (Ok c.in_ok-place.place) = subst P c.in_ok-place.was c.step_block.ensures in
-    let room = stepped-room f.bits f.region f.live.items (vec_capacity f.live) c.self.invariant.1 c.args.item spelled c.in_ok-place.place
+    let room = stepped-room c.laws_below.ensures f.bits f.region f.live.items (vec_capacity f.live) c.self.invariant.1 c.args.item spelled c.in_ok-place.place
     c.step_block.new.region stepped in
     omega (arith, room, f.live.ok.0)
 
@@ -33,5 +33,5 @@ invariant_of-self-2 c =
     let spelled = subst (λ (s : SlotState). IsPlaced s.bits c.args.item) (sym c.self.view_is) c.requires in
     let P : Result ℕ StepError → Type 0 = λ (r : Result ℕ StepError). IsBlockStepped f.bits f.region c.args.item r c.step_block.new.region in
     let stepped : P (Ok c.in_ok-place.place) = subst P c.in_ok-place.was c.step_block.ensures in
-    stepped-made f.bits f.region f.live.items (vec_capacity f.live) c.self.invariant.1 c.args.item spelled c.in_ok-place.place
+    stepped-made c.laws_below.ensures f.bits f.region f.live.items (vec_capacity f.live) c.self.invariant.1 c.args.item spelled c.in_ok-place.place
     c.step_block.new.region stepped _ c.insert_slot.ensures.capacity c.insert_slot.new.slots.items c.insert_slot.ensures.items f.base c.self.invariant.0

@@ -38,6 +38,7 @@ abbrev is_offset_method : Method → Bool
 is_offset_method method.Near = true
 is_offset_method _ = false
 
+-- operand n of a row is one
 abbrev is_offset_at : Row → ℕ → Bool
 is_offset_at row n = is_offset_method (method_of (kind_at row n))
 

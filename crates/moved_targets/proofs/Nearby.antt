@@ -1,16 +1,10 @@
 -- Which addresses are at a signed distance in 64-bit mode.
 use Rattle.std.proofs.Common.{◌≡◌, ℕ, ◌+◌, ◌-◌, ◌*◌, ◌%◌, ◌^◌, ◌≤◌, ◌<◌, ◌⊎◌, inl, inr, Bool, true, false, ◌||◌, nat_lt, nat_le, refl, arith}
 use Rattle.std.proofs.Math.Nat.{mod-eq_of_lt}
-use Rattle.std.proofs.lemmas.Bool.{cases_lt}
+use Rattle.std.proofs.lemmas.Bool.{cases_lt, lt-ltb, le-leb}
 use Rattle.x86_values.specs.declared.Bits.TheVariants.{B64}
 use Rattle.x86_values.specs.Wrapping.{wrapped}
 use Rattle.plain_spelling.specs.Values.{is_extended_of, distance}
-
-true_lt : (a b : ℕ) → a < b → nat_lt a b ≡ true
-true_lt a b h = grind (arith, h)
-
-true_le : (a b : ℕ) → a ≤ b → nat_le a b ≡ true
-true_le a b h = grind (arith, h)
 
 or_first : (a b : Bool) → (a || (true || b)) ≡ true
 or_first true b = refl
@@ -25,9 +19,9 @@ or_second false false = refl
 pub signed : (n h x : ℕ) → 2 ^ (8 * n) ≡ 2 * h → x < 2 ^ 64 → (x < h) ⊎ (2 ^ 64 ≤ x + h) → is_extended_of n 64 x ≡ true
 unfolding is_extended_of
 signed n h x e below (inl lt) =
-    rw (true_lt x (2 ^ 64) below, true_lt (2 * x) (2 ^ (8 * n)) (omega (arith, e, lt))) (or_first (nat_le 64 (8 * n)) (nat_le (2 * 2 ^ 64) (2 * x + 2 ^ (8 * n))))
+    rw (lt-ltb x (2 ^ 64) below, lt-ltb (2 * x) (2 ^ (8 * n)) (omega (arith, e, lt))) (or_first (nat_le 64 (8 * n)) (nat_le (2 * 2 ^ 64) (2 * x + 2 ^ (8 * n))))
 signed n h x e below (inr ge) =
-    rw (true_lt x (2 ^ 64) below, true_le (2 * 2 ^ 64) (2 * x + 2 ^ (8 * n)) (omega (arith, e, ge))) (or_second (nat_le 64 (8 * n)) (nat_lt (2 * x) (2 ^ (8 * n))))
+    rw (lt-ltb x (2 ^ 64) below, le-leb (2 * 2 ^ 64) (2 * x + 2 ^ (8 * n)) (omega (arith, e, ge))) (or_second (nat_le 64 (8 * n)) (nat_lt (2 * x) (2 ^ (8 * n))))
 
 -- the address behind the instruction is the end, or 0 where that is 2 to the power of 64
 behind : (place len : ℕ) → 1 ≤ len → place + len ≤ 2 ^ 64 → ((place + len < 2 ^ 64) × ((place % 2 ^ 64 + len) % 2 ^ 64 ≡ place + len)) ⊎ ((place + len ≡ 2 ^ 64) × ((place % 2 ^ 64 + len) % 2 ^ 64 ≡ 0))

@@ -1,0 +1,18 @@
+//! What the laws of the crates below say, for the proofs of this crate.
+
+ghost use Rattle.step_slots.specs.LawsBelow.{LawsBelow};
+
+/// The laws of the crates below as one fact. It does nothing.
+#[inline]
+pub(crate) fn laws_below()
+    ensures { LawsBelow }
+{
+    encoder::laws::encodings_are_plain();
+    moved_targets::laws::spellings_are_moved();
+    branch_forms::laws::codes_have_their_rows();
+    branch_forms::laws::pieces_have_their_lengths();
+    move_goals::laws::plans_are_well_formed();
+    block_encoder::laws::plans_seat_their_items();
+    block_encoder::laws::items_reach_their_goals();
+    block_encoder::laws::last_forms_bound_the_length();
+}
