@@ -39,7 +39,7 @@ CountFits _ asize = Unit {0}
 abbrev IsNear : ℕ → ℕ → ℕ → ℕ → Type 0
 IsNear n at len t = is_extended_of n 64 (distance B64 (wrapped B64 (wrapped B64 at + len)) t) ≡ true
 
--- ---- several spellings
+-- ---- spellings one behind another
 
 one-some : (at : ℕ) (i : Instr) → IsEncoded at i → IsSome (bytes_from B64 at (i ∷ []))
 one-some at i (bytes, h) = one_spelled B64 at i bytes h
@@ -48,7 +48,7 @@ in_front-there : (bytes : List ℕ) (o : Option (List ℕ)) → IsSome o → IsS
 in_front-there bytes None h = h
 in_front-there bytes (Some x) h = refl
 
--- ---- pieces
+-- ---- actions and forms
 
 count-small : (asize : Option Bits) → (asize ≡ Some B32) ⊎ (asize ≡ Some B64) → address_byte B64 asize ≤ 1
 count-small asize (inl e) = rw e (omega arith)
@@ -58,8 +58,6 @@ count-small asize (inr e) = rw e (omega arith)
 abbrev pub is_counting : Action → Bool
 is_counting (Count n) = true
 is_counting _ = false
-
--- ---- images
 
 wrapped-small : (n : ℕ) → wrapped B64 n < 2 ^ 64
 wrapped-small n = omega arith
@@ -114,6 +112,8 @@ module _ (laws : LawsBelow) where
       subst (λ (n : ℕ). IsSome (bytes_from B64 (at + n) is)) (sym (laws.targets.encoding-length B64 at i bytes h)) more in
       ap (λ (r : Result (List ℕ) NoSpelling). is_some (elim r as (λ (x : Result (List ℕ) NoSpelling). Option (List ℕ)) [ Ok b ↦ in_front b (bytes_from B64 (at + length b) is) | Err why ↦ None ])) h
       ∙ in_front-there bytes (bytes_from B64 (at + length bytes) is) there
+
+  -- ---- pieces
 
   short-size : (action : Action) (short : Bool) (asize : Option Bits) (t : ℕ) → in_range action true ≡ true → CountFits action asize
       → (2 ≤ plain_length B64 (short_branch (sized action short) asize t)) × (plain_length B64 (short_branch (sized action short) asize t) ≤ 3)
@@ -176,6 +176,8 @@ module _ (laws : LawsBelow) where
 
   call-piece : (slot at : ℕ) → slot < 2 ^ 64 → IsNear 4 at (plain_length B64 (through_slot (far_code Call) slot)) slot → IsEncoded at (through_slot (far_code Call) slot)
   call-piece slot at below near = slot-encoded laws 2 (far_code Call) slot at laws.codes.far-call (omega (arith, laws.pieces.slot_call-length B64 slot)) below near
+
+  -- ---- images
 
   -- a bridge, where its last instruction has one behind the other two
   bridge-spelled : (action : Action) (short : Bool) (asize : Option Bits) (at : ℕ) (last : Instr) → in_range action true ≡ true → CountFits action asize

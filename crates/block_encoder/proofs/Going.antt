@@ -107,6 +107,12 @@ no_near : (i : Instr) → target_of i ≡ None → first_value near_value i ≡ 
 unfolding target_of
 no_near i h = or_none (first_value near_value i) (first_value ip_value i) h
 
+-- **what stays as it is when it is aimed elsewhere, since it has no target, is its own image**
+pub untargeted-image : (bits : Bits) (i : Instr) (form : Form) (place goal slot : ℕ) → aimed goal i ≡ i → target_of i ≡ None
+    → image_of bits i form place goal slot ≡ i ∷ []
+untargeted-image bits i form place goal slot stays none =
+    image-address bits i form place goal slot (no_near i none) ∙ ap (λ (x : Instr). x ∷ []) stays
+
 -- ---- items
 
 -- a far form has the slot of its goal
@@ -116,6 +122,8 @@ unfolding seat_at
 slot-is p layout k far = cond-true (is_far_at p layout k) (slot_address p layout (block_number p.spans k) (goal_address p layout k)) 0 far
 
 module _ (laws : LawsBelow) where
+  -- ---- over the next one
+
   bridge-over : (bits : Bits) (b : RelativeBranch) (asize : Option Bits) (at : ℕ) (last : Instr) (n : ℕ) → n + 1 < length (bridge bits b asize at last) → GoesOver bits at (bridge bits b asize at last) n
   unfolding bridge bridge_inner
   bridge-over bits b asize at last zero lt =
@@ -161,6 +169,8 @@ module _ (laws : LawsBelow) where
   unfolding image_of
   image-over bits i form at goal slot n lt = by-over bits i (branch_of i) form at goal slot n lt
 
+  -- ---- what is spelled
+
   -- with a near target what is spelled is one
   pub branched : (bits : Bits) (ip : ℕ) (bytes : List ℕ) (i : Instr) (t : ℕ) → Spells table bits ip bytes i → first_value near_value i ≡ Some t → (b : RelativeBranch) × (branch_of i ≡ Some b)
   branched bits ip bytes i t s h = by_branch (branch_of i) refl
@@ -169,11 +179,7 @@ module _ (laws : LawsBelow) where
       by_branch None e = let k = laws.forms.no_branch-no_near bits ip bytes i s e in cc
       by_branch (Some b) e = (b, e)
 
-  -- **what has no target stays as it is**
-  pub untargeted-image : (bits : Bits) (i : Instr) (form : Form) (place goal slot : ℕ) → length i.ops ≡ 4 → target_of i ≡ None
-      → image_of bits i form place goal slot ≡ i ∷ []
-  untargeted-image bits i form place goal slot four none =
-      image-address bits i form place goal slot (no_near i none) ∙ ap (λ (x : Instr). x ∷ []) (laws.targets.untargeted-aimed goal i four none)
+  -- ---- moved items
 
   module _ (bits : Bits) (items : List Placed) (spans : List BlockSpan) (layout : List ℕ) (k : ℕ) where
     -- the image, by the parts of the seat
@@ -208,7 +214,8 @@ module _ (laws : LawsBelow) where
           let four = spelled-four bits (wrapped bits (item_at items k).ip) i.bytes (item_at items k).instr i.spelled in
           image-is
           ∙ untargeted-image bits (item_at items k).instr (chosen (plan_for bits spans items) layout k).form (place (plan_for bits spans items) layout k)
-          (goal_address (plan_for bits spans items) layout k) (seat_at (plan_for bits spans items) layout k).slot four none
+          (goal_address (plan_for bits spans items) layout k) (seat_at (plan_for bits spans items) layout k).slot
+          (laws.targets.untargeted-aimed (goal_address (plan_for bits spans items) layout k) (item_at items k).instr four none) none
 
       -- the image of a branch
       image-branch : (t : ℕ) → first_value near_value (item_at items k).instr ≡ Some t

@@ -155,6 +155,8 @@ module _ (laws : LawsBelow) where
       (near-suits map opcode code t (wrapped B64 at) below (ap (λ (n : ℕ). is_extended_of 4 64 (distance B64 n t)) (next_is at row (branch_to code None t) here) ∙ near))
       short
 
+  -- ---- through a slot
+
   pub slot-encoded : (digit code slot at : ℕ) → slice_get table code ≡ Some (memory_row digit)
       → plain_length B64 (through_slot code slot) ≤ 15 → slot < 2 ^ 64
       → is_extended_of 4 64 (distance B64 (wrapped B64 (wrapped B64 at + plain_length B64 (through_slot code slot))) slot) ≡ true

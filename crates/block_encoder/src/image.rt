@@ -8,11 +8,11 @@ ghost use Rattle.block_encoder.specs.Bytes.{bytes_from, seated_bytes};
 ghost use Rattle.block_encoder.specs.Moved as moved;
 ghost use Rattle.block_encoder.specs.Written.{IsPieceAppended, AreAppended, IsSeatWritten};
 
-use crate::laws_below::laws_below;
 use branch_forms::{Image, image_of};
 use branch_sizes::{Form, Reach};
 use encoder::encode;
 use move_layout::Seat;
+use moved_targets::laws::without_target_nothing_changes;
 use moved_targets::{target_of, target_reach};
 use std::alloc::AllocError;
 use x86_values::{Bits, Instr, wrap};
@@ -118,9 +118,9 @@ fn append_seated(
     requires goal { goal ≡ seat.now.goal }
     ensures { IfOk result (λ done. AreAppended (seated_bytes bits instr.now seat.now) bytes.old.items bytes.new.items done) }
 {
-    laws_below();
     let [_first, _second, _third, _fourth] = instr.ops;
     if target_of(instr).is_none() {
+        without_target_nothing_changes();
         return Ok(append_piece(bits, seat.place, instr, bytes)?.is_some());
     }
     let image = image_of(

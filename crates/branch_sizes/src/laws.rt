@@ -22,16 +22,19 @@ pub fn least_is_unique()
 {}
 
 /// An item stands in the block whose number it has, and the blocks have all items.
+#[inline]
 pub fn blocks_have_all_items()
     ensures { BlockFacts }
 {}
 
 /// An image of a well-formed plan has at most 15 bytes, and no more in a lower layout.
+#[inline]
 pub fn images_are_short()
     ensures { LengthFacts }
 {}
 
 /// Sums of more numbers, and of larger ones, are larger.
+#[inline]
 pub fn totals_rise()
     ensures { TotalFacts }
 {}

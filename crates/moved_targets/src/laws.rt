@@ -43,6 +43,7 @@ pub fn aimed_has_its_target()
 {}
 
 /// What has no target stays as it is.
+#[inline]
 pub fn without_target_nothing_changes()
     ensures { (t : ℕ) (i : Instr) → length i.ops ≡ 4 → target_of i ≡ None → aimed t i ≡ i }
 {}

@@ -32,6 +32,7 @@ pub fn each_row_has_one_code()
 {}
 
 /// The table has no rows but those of the four parts: what holds of each row of each part holds of each row of the table.
+#[inline]
 pub fn rows_are_of_the_parts()
     ensures { (test : Row → Bool) → ((part : Part) → IsTrue (list_all test (part_table part)))
         → (code : ℕ) (row : Row) → slice_get table code ≡ Some row → IsTrue (test row) }

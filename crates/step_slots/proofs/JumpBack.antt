@@ -1,5 +1,5 @@
 -- The jump back of a step block has its bytes wherever the block stands.
-use Rattle.std.proofs.Common.{◌≡◌, ℕ, zero, suc, ◌+◌, ◌-◌, ◌%◌, ◌^◌, ◌≤◌, ◌<◌, inr, Bool, true, false, ◌&&◌, List, [], ◌∷◌, length, get_or, Option, Some, None, Result, Ok, Err, nat_lt, nat_le, slice_get, refl, ap, sym, ◌∙◌, subst, arith}
+use Rattle.std.proofs.Common.{◌≡◌, ℕ, zero, suc, ◌+◌, ◌-◌, ◌%◌, ◌^◌, ◌≤◌, ◌<◌, inr, Bool, true, false, ◌&&◌, List, [], ◌∷◌, length, get_or, Option, Some, None, Result, Ok, Err, nat_lt, slice_get, refl, ap, sym, ◌∙◌, subst, arith}
 use Rattle.std.specs.Prelude.{IsSome, is_some, if◌then◌else◌, unwrap_or}
 use Rattle.std.specs.Option.{option_or}
 use Rattle.std.proofs.lemmas.Bool.{lt-ltb}
@@ -18,7 +18,7 @@ use Rattle.plain_spelling.specs.declared.NoSpelling.{NoSpelling}
 use Rattle.plain_spelling.specs.Values.{is_extended_of, distance}
 use Rattle.plain_spelling.specs.Forms.{is_variant_of}
 use Rattle.plain_spelling.specs.PlainFront.{asks_rex_w, asks_66}
-use Rattle.plain_spelling.specs.PlainTail.{plain_size, plain_len, plain_next, plain_spelling}
+use Rattle.plain_spelling.specs.PlainTail.{plain_size, plain_next, plain_spelling}
 use Rattle.plain_spelling.specs.Expressible.{Suits, kind_suits, register_suits, address_suits, offered, immediate_suits, immediate_suits_how, near_reaches, target_suits, lock_suits, repeat_suits, prefixes_suit, has_memory_operand, address_size_suits}
 use Rattle.opcode_rows.specs.Table.{table}
 use Rattle.operand_info.specs.Operands.{near_value, ip_value, first_value}
@@ -98,7 +98,7 @@ branch_to-code : (bits : Bits) (t : ℕ) → (branch_to (near_code Jump bits) No
 unfolding branch_to
 branch_to-code bits t = refl
 
--- ---- the jump as one that stands at its target
+-- ---- the jump
 
 back_by : (t n : ℕ) → t < 2 ^ 64 → n ≡ 5 → 2 ^ 64 ≤ (t + (2 ^ 64 - (t % 2 ^ 64 + n) % 2 ^ 64)) % 2 ^ 64 + 2 ^ 31
 back_by t n below e = omega (arith, below, e)
@@ -106,8 +106,6 @@ back_by t n below e = omega (arith, below, e)
 jump-four : (bits : Bits) (t : ℕ) → length (jump_to bits t).ops ≡ 4
 unfolding jump_to branch_to
 jump-four bits t = refl
-
--- ---- the jump in a step block
 
 abbrev back_branch : Bits → RelativeBranch
 back_branch bits = record { action = Jump; is_short = false; size = bits }
@@ -181,6 +179,8 @@ module _ (laws : LawsBelow) where
   encoded-there B32 t below = jump-encoded-32 t t below
   encoded-there B64 t below = jump-encoded-64 t below
 
+  -- ---- the jump as one that stands at its target
+
   -- **it is well placed**
   pub jump-placed : (bits : Bits) (t len : ℕ) → t < 2 ^ width bits → 1 ≤ len → len ≤ 15 → IsPlaced bits (record { ip = t; len = len; instr = jump_to bits t })
   jump-placed bits t len below some few =
@@ -212,6 +212,8 @@ module _ (laws : LawsBelow) where
   jump-image : (bits : Bits) (t at goal slot : ℕ) → image_of bits (jump_to bits t) NearForm at goal slot ≡ jump_to bits goal ∷ []
   unfolding image_of branch_image jump_to
   jump-image bits t at goal slot = ap (λ (b : Option RelativeBranch). image_by bits (branch_to (near_code Jump bits) None t) b NearForm at goal slot) (branch_to-branch bits t)
+
+  -- ---- the jump in a step block
 
   module _ (bits : Bits) (items : List Placed) (new_base : ℕ) (layout : List ℕ) (l : IsLayout (plan_outside bits items new_base) layout)
       (k : ℕ) (lt : k < length items) (t : ℕ) (is : (item_at items k).instr ≡ jump_to bits t) where

@@ -22,8 +22,6 @@ use Rattle.step_slots.specs.LawsBelow.{LawsBelow}
 use Rattle.step_slots.proofs.JumpBack.{jump-placed, jump-length, jump-reached}
 use Rattle.step_slots.proofs.Region.{placed-inside}
 
--- ---- the items
-
 back-below : (bits : Bits) (item : Placed) → back_address bits item < 2 ^ width bits
 back-below B16 item = omega arith
 back-below B32 item = omega arith
@@ -55,6 +53,8 @@ unfolding plan_with
 one_block bits items place = refl
 
 module _ (laws : LawsBelow) where
+  -- ---- the items
+
   pub step-placed : (bits : Bits) (item : Placed) → IsPlaced bits item → ArePlaced bits (step_items bits item)
   step-placed bits item placed zero lt = placed
   step-placed bits item placed (suc zero) lt =

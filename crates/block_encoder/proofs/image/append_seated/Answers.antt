@@ -13,5 +13,6 @@ returns-then-is_none c =
     let none : target_of c.args.instr.now ≡ None = search rules in
     own_piece c.args.bits seat.place i (seated_image c.args.bits i seat) c.args.bytes.now.items c.append_piece.new.bytes.items
     c.in_ok-append_piece.field-0 c.is_some.result
-    (untargeted-image c.laws_below.ensures c.args.bits i seat.form seat.place seat.goal seat.slot four none)
+    (untargeted-image c.args.bits i seat.form seat.place seat.goal seat.slot
+    (c.without_target_nothing_changes.ensures seat.goal i four none) none)
     c.in_ok-append_piece.ensures.piece c.is_some.ensures
