@@ -6,7 +6,7 @@ use Rattle.std.proofs.lemmas.Bool.Decides.{nat_tests}
 use Rattle.std.proofs.lemmas.Slice.Eq.{bytes_eq-Decides}
 use Rattle.std.proofs.lemmas.List.{take-append-drop}
 use Rattle.std.proofs.lemmas.Bool.{and_parts}
-use Rattle.sweep_text.specs.declared.syntax.Syntax.TheVariants.{Intel}
+use Rattle.text_parts.specs.declared.style.Style.TheVariants.{Intel}
 use Rattle.sweep_text.specs.Listing.{byte_directive, single_byte_text}
 use Rattle.text_parts.specs.Numbers.{hex_digit, digit_at, last_digits, digit_count, hexadecimal, number}
 use Rattle.asm_run.specs.Bytes.{digit_value, two_digits, byte_of_digits}

@@ -2,7 +2,7 @@
 use Rattle.std.specs.Prelude.{◌≡◌, ◌⊎◌, ℕ, ◌+◌, ◌<◌, ◌==◌, if◌then◌else◌, List, [], ◌∷◌, ◌++◌, length}
 use Rattle.x86_values.specs.declared.Bits.{Bits}
 use Rattle.x86_values.specs.Wrapping.{wrapped}
-use Rattle.sweep_text.specs.declared.syntax.Syntax.TheVariants.{Intel}
+use Rattle.text_parts.specs.declared.style.Style.TheVariants.{Intel}
 use Rattle.sweep_text.specs.Listing.{single_byte_text}
 use Rattle.intel_reader.specs.Assembled.{AssemblesTo}
 

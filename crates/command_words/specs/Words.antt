@@ -6,8 +6,8 @@ use Rattle.hex.specs.Hex.{hex_digit_value}
 use Rattle.x86_values.specs.declared.Bits.{Bits}
 use Rattle.x86_values.specs.declared.Bits.TheVariants.{B16, B32, B64}
 use Rattle.x86_values.specs.Wrapping.{width}
-use Rattle.sweep_text.specs.declared.syntax.Syntax.{Syntax}
-use Rattle.sweep_text.specs.declared.syntax.Syntax.TheVariants.{Intel, Att, Masm}
+use Rattle.text_parts.specs.declared.style.Style.{Style}
+use Rattle.text_parts.specs.declared.style.Style.TheVariants.{Intel, Att, Masm}
 use Rattle.command_words.specs.declared.commands.Command.{Command}
 use Rattle.command_words.specs.declared.commands.Command.TheVariants.{Help, Version, List as ListCommand, Info, Recode, Flow, Asm, Move, Map, Blocks, Slots, Rows, Sample, Wrong}
 use Rattle.command_words.specs.declared.commands.BlockWords.{BlockWords}
@@ -33,7 +33,7 @@ mode_named word =
     else (if same_text word (codes "64") then Some B64 else None))
 
 -- the style that a word names
-unfoldable pub syntax_named : List ℕ → Option Syntax
+unfoldable pub syntax_named : List ℕ → Option Style
 syntax_named word =
     if same_text word (codes "intel") then Some Intel
     else (if same_text word (codes "att") then Some Att
@@ -59,7 +59,7 @@ at_end [] word command = command
 at_end (_ ∷ _) word command = Wrong word
 
 -- the words behind `list BITS BASE SYNTAX`
-unfoldable pub list_end : Bits → ℕ → Option Syntax → List (List ℕ) → Command
+unfoldable pub list_end : Bits → ℕ → Option Style → List (List ℕ) → Command
 list_end bits base None words = Wrong 4
 list_end bits base (Some syntax) words = at_end words 5 (ListCommand bits base syntax)
 

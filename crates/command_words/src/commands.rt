@@ -3,7 +3,7 @@
 use crate::count::SampleCount;
 use crate::range::SlotRange;
 use arrayvec::ArrayVec;
-use sweep_text::Syntax;
+use sweep_text::Style;
 use x86_values::Bits;
 
 /// What a command line asks for.
@@ -17,7 +17,7 @@ pub enum Command {
     List {
         bits: Bits,
         base: u64,
-        syntax: Syntax,
+        syntax: Style,
     },
     /// What each instruction of the input does, the input being code of a mode whose first byte has the address `base`.
     Info {

@@ -9,7 +9,7 @@ use crate::commands::{BlockWords, Command, Through};
 use crate::count::SampleCount;
 use crate::range::SlotRange;
 use arrayvec::ArrayVec;
-use sweep_text::Syntax;
+use sweep_text::Style;
 use x86_values::Bits;
 
 /// Whether a word is this name.
@@ -38,15 +38,15 @@ fn mode_named(word: &str) -> Option<Bits>
 
 /// The style that a word names.
 #[tactic(auto, unfolding(crate::specs::Words::syntax_named))]
-fn syntax_named(word: &str) -> Option<Syntax>
+fn syntax_named(word: &str) -> Option<Style>
     ensures { result ≡ spec.syntax_named word.now }
 {
     if is(word, "intel") {
-        Some(Syntax::Intel)
+        Some(Style::Intel)
     } else if is(word, "att") {
-        Some(Syntax::Att)
+        Some(Style::Att)
     } else if is(word, "masm") {
-        Some(Syntax::Masm)
+        Some(Style::Masm)
     } else {
         None
     }
@@ -130,7 +130,7 @@ fn at_end(words: &[&str], word: u64, command: Command) -> Command
 
 /// The words behind `list BITS BASE SYNTAX`.
 #[tactic(auto, unfolding(crate::specs::Words::list_end))]
-fn list_end(bits: Bits, base: u64, syntax: Option<Syntax>, words: &[&str]) -> Command
+fn list_end(bits: Bits, base: u64, syntax: Option<Style>, words: &[&str]) -> Command
     ensures { result ≡ spec.list_end bits base syntax (spec.texts words.now) }
 {
     match syntax {

@@ -102,7 +102,7 @@ pub mod streams {
         CountSink, FailAt, Failed, MakeError, MemSink, MemSource, Sink, SlowSource, Source,
     };
     pub use sweep::{
-        Lines, ListError, StreamError, Syntax, info_stream, list_stream, recode_stream,
+        Lines, ListError, StreamError, Style, info_stream, list_stream, recode_stream,
         stream_lines,
     };
 }

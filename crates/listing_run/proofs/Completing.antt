@@ -2,7 +2,7 @@
 use Rattle.std.proofs.Common.{ℕ, List, Option, Ok, Err, refl}
 use Rattle.x86_values.specs.declared.Bits.{Bits}
 use Rattle.byte_ports.specs.Ports.{Rose}
-use Rattle.sweep_text.specs.declared.syntax.Syntax.{Syntax}
+use Rattle.text_parts.specs.declared.style.Style.{Style}
 use Rattle.sweep_text.specs.declared.lines.Lines.TheVariants.{Listing}
 use Rattle.run_parts.specs.declared.status.Status.{Status}
 use Rattle.run_parts.specs.declared.status.Status.TheVariants.{Done, BadCode, ReadFault, WriteFault, TooLarge}
@@ -11,7 +11,7 @@ use Rattle.sweep.specs.Facts.{ListingFacts}
 use Rattle.listing_run.specs.Outcome.{GoesThroughAs, CompletesList}
 
 -- **a listing that meets no fault comes to the end of its input**
-pub completes_list : (ends : ListingFacts) (bits : Bits) (base : ℕ) (syntax : Syntax) (left left' held held' : Option (List ℕ)) (read read' put put' : ℕ)
+pub completes_list : (ends : ListingFacts) (bits : Bits) (base : ℕ) (syntax : Style) (left left' held held' : Option (List ℕ)) (read read' put put' : ℕ)
     (status : Status) → GoesThroughAs bits base (Listing syntax) left left' held held' (Rose read read') (Rose put put') status →
     (Rose read read' → ⊥) → (Rose put put' → ⊥) →
     CompletesList left status

@@ -3,7 +3,7 @@ use Rattle.std.proofs.Common.{◌≡◌, ℕ, ◌+◌, ◌*◌, ◌≤◌, List,
 use Rattle.x86_values.specs.declared.Bits.TheVariants.{B64}
 use Rattle.row_relation.specs.Spells.{Reading}
 use Rattle.opcode_rows.specs.Sweep.{Item, IsReadAt, IsSweep, item_len}
-use Rattle.sweep_text.specs.declared.syntax.Syntax.TheVariants.{Intel}
+use Rattle.text_parts.specs.declared.style.Style.TheVariants.{Intel}
 use Rattle.sweep_text.specs.Listing.{item_line, listing}
 use Rattle.sweep_text.specs.Sweeping.{TakesSome, SweptTo, item_read}
 use Rattle.sweep_text.specs.Facts.{SweptFacts}

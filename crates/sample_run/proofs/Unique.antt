@@ -4,7 +4,7 @@ use Rattle.std.specs.List.{range_with_len}
 use Rattle.x86_values.specs.declared.Bits.{Bits}
 use Rattle.x86_values.specs.declared.Bits.TheVariants.{B64}
 use Rattle.opcode_rows.specs.Sweep.{Item}
-use Rattle.sweep_text.specs.declared.syntax.Syntax.TheVariants.{Intel}
+use Rattle.text_parts.specs.declared.style.Style.TheVariants.{Intel}
 use Rattle.sweep_text.specs.Listing.{listing}
 use Rattle.sweep_text.specs.Facts.{OneSweepFacts}
 use Rattle.branch_sizes.specs.declared.plan.BlockSpan.{BlockSpan}

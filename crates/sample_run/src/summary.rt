@@ -3,7 +3,7 @@
 ghost use Rattle.std.specs.Prelude.{◌≡◌, ◌≤◌, List, length, sum, MatchResult};
 ghost use Rattle.sweep_text.specs.Listing.{listing};
 ghost use Rattle.x86_values.specs.declared.Bits.TheVariants.{B64};
-ghost use Rattle.sweep_text.specs.declared.syntax.Syntax.TheVariants.{Intel};
+ghost use Rattle.text_parts.specs.declared.style.Style.TheVariants.{Intel};
 ghost use Rattle.opcode_rows.specs.Sweep.{IsSweep, Item};
 ghost use Rattle.sample_code.specs.Generator.{code_base};
 ghost use Rattle.sample_run.specs.Sample as spec;
@@ -20,7 +20,7 @@ use sample_code::laws::made_code_has_instructions_alone;
 use sample_code::{CODE_BASE, sample_code};
 use std::alloc::Global;
 use sweep_text::laws::items_stand_in_turn;
-use sweep_text::{Chunk, Lines, Syntax, append_line, item_len, read_at};
+use sweep_text::{Chunk, Lines, Style, append_line, item_len, read_at};
 use x86_values::{Bits, Instr};
 
 /// The address that made code is moved to.
@@ -50,7 +50,7 @@ fn listing_len(code: &[u8]) -> u64
 {
     items_stand_in_turn();
     let lines = Lines::Listing {
-        syntax: Syntax::Intel,
+        syntax: Style::Intel,
     };
     let mut line = Chunk::new();
     let mut text = 0;

@@ -19,7 +19,7 @@ use Rattle.sweep.specs.declared.error.StreamError.TheVariants.{BadCode, ReadFaul
 use Rattle.sweep.specs.Steps.{IsReady}
 use Rattle.sweep.specs.Streams.{AreHandled, Sees, WritesLinesBefore, StreamsAs}
 use Rattle.sweep.specs.Ends.{end_of, CompletesStream, CompletesListing}
-use Rattle.sweep_text.specs.declared.syntax.Syntax.{Syntax}
+use Rattle.text_parts.specs.declared.style.Style.{Style}
 use Rattle.sweep_text.specs.declared.lines.Lines.TheVariants.{Listing}
 use Rattle.sweep.proofs.Longer.{all_ready, sweeps_longer}
 
@@ -196,14 +196,14 @@ module _ (one : OneSweepFacts) where
     completes bits base lines None left' held held' source_rose out_rose (Err (TooLarge limit)) h s o = tt
 
 -- a listing goes on behind every item
-pub no_bad_code : (bits : Bits) (base : ℕ) (syntax : Syntax) (left left' held held' : Option (List ℕ)) (source_rose out_rose : Type 0) (offset : ℕ)
+pub no_bad_code : (bits : Bits) (base : ℕ) (syntax : Style) (left left' held held' : Option (List ℕ)) (source_rose out_rose : Type 0) (offset : ℕ)
     (error : DecodeError) → StreamsAs bits base (Listing syntax) left left' held held' source_rose out_rose (Err (BadCode offset error)) → ⊥
 no_bad_code bits base syntax left left' held held' source_rose out_rose offset error h =
     let stops : None ≡ Some error = h.1.1.1.stops in absurd cc
 
 module _ (reads : ReadFacts) where
   -- **a listing that meets no fault comes to the end of its input**
-  pub completes_listing : (bits : Bits) (base : ℕ) (syntax : Syntax) (left left' held held' : Option (List ℕ)) (source_rose out_rose : Type 0)
+  pub completes_listing : (bits : Bits) (base : ℕ) (syntax : Style) (left left' held held' : Option (List ℕ)) (source_rose out_rose : Type 0)
       (result : Result ℕ StreamError) → StreamsAs bits base (Listing syntax) left left' held held' source_rose out_rose result → (source_rose → ⊥) →
       (out_rose → ⊥) → CompletesListing left result
   completes_listing bits base syntax (Some bytes) left' held held' source_rose out_rose (Ok count) h s o =

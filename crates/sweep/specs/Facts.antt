@@ -2,7 +2,7 @@
 use Rattle.std.specs.Prelude.{ℕ, List, Option, Result}
 use Rattle.x86_values.specs.declared.Bits.{Bits}
 use Rattle.byte_ports.specs.Ports.{Rose}
-use Rattle.sweep_text.specs.declared.syntax.Syntax.{Syntax}
+use Rattle.text_parts.specs.declared.style.Style.{Style}
 use Rattle.sweep_text.specs.declared.lines.Lines.TheVariants.{Listing}
 use Rattle.sweep.specs.declared.error.StreamError.{StreamError}
 use Rattle.sweep.specs.Streams.{StreamsAs}
@@ -10,6 +10,6 @@ use Rattle.sweep.specs.Ends.{CompletesListing}
 
 -- a listing whose source and sink do not fail, by their counts of faults, comes to the end of its input
 pub record ListingFacts : Type 0 where
-  pub completes_listing : (bits : Bits) (base : ℕ) (syntax : Syntax) (left left' held held' : Option (List ℕ)) (read read' put put' : ℕ)
+  pub completes_listing : (bits : Bits) (base : ℕ) (syntax : Style) (left left' held held' : Option (List ℕ)) (read read' put put' : ℕ)
       (result : Result ℕ StreamError) → StreamsAs bits base (Listing syntax) left left' held held' (Rose read read') (Rose put put') result →
       (Rose read read' → ⊥) → (Rose put put' → ⊥) → CompletesListing left result

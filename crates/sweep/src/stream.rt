@@ -17,7 +17,7 @@ use prefixes::mode_of;
 use run_parts::CODE_LIMIT;
 use run_parts::laws::{pieces_join, told_bytes_are_read};
 use sweep_text::laws::sweeps_agree;
-use sweep_text::{Lines, Syntax};
+use sweep_text::{Lines, Style};
 use x86_values::Bits;
 
 /// The most bytes of a source that are handled.
@@ -103,7 +103,7 @@ pub fn stream_lines<S: Source, K: Sink>(
 /// count of faults rose.
 pub fn list_stream<const BITS: u32, S: Source, K: Sink>(
     base: u64,
-    syntax: Syntax,
+    syntax: Style,
     source: &mut S,
     sink: &mut K,
 ) -> Result<u64, ListError>

@@ -8,10 +8,10 @@ mod line;
 mod lines;
 mod reading;
 mod recode;
-mod syntax;
+mod texts;
 
 pub use info::flow_name;
 pub use line::{CHUNK_LEN, Chunk, LINE_LEN, append, append_address};
 pub use lines::{Lines, append_line, stop_of};
 pub use reading::{item_len, read_at};
-pub use syntax::Syntax;
+pub use text_parts::style::Style;

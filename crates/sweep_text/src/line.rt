@@ -8,9 +8,10 @@ ghost use Rattle.decoder.specs.Answer.{reading_of};
 ghost use Rattle.opcode_rows.specs.Sweep.{item_len};
 ghost use Rattle.sweep_text.specs.Listing as spec;
 
-use crate::syntax::{Syntax, append_instr_text, append_single_byte};
+use crate::texts::{append_instr_text, append_single_byte};
 use arrayvec::ArrayVec;
 use decoder::DecodeError;
+use text_parts::style::Style;
 use x86_values::{Bits, Decoded, wrap};
 
 /// How many bytes of text are held before they are written.
@@ -92,7 +93,7 @@ fn append_column(out: &mut Chunk, bytes: &[u8])
 fn append_text(
     out: &mut Chunk,
     bits: Bits,
-    syntax: Syntax,
+    syntax: Style,
     bytes: &[u8],
     reading: &Result<Decoded, DecodeError>,
 )
@@ -117,7 +118,7 @@ pub(crate) fn append_item_line(
     out: &mut Chunk,
     bits: Bits,
     base: u64,
-    syntax: Syntax,
+    syntax: Style,
     offset: usize,
     bytes: &[u8],
     reading: &Result<Decoded, DecodeError>,

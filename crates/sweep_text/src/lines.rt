@@ -11,16 +11,16 @@ ghost use Rattle.sweep_text.specs.Lines as spec;
 use crate::info::info_text;
 use crate::line::{CHUNK_LEN, Chunk, LINE_LEN, TEXT_LEN, append, append_address, append_item_line};
 use crate::recode::recode_text;
-use crate::syntax::Syntax;
 use decoder::DecodeError;
 use operand_info::laws::well_formed_codes_are_in_the_table;
+use text_parts::style::Style;
 use x86_values::{Bits, Decoded, Instr};
 
 /// What a command writes of the items of a sweep, a line each.
 #[derive(Clone, Copy, PartialEq, Eq, Debug)]
 pub enum Lines {
     /// The address, the bytes and the text of each item, in a style.
-    Listing { syntax: Syntax },
+    Listing { syntax: Style },
     /// What each instruction does, as `Next w r m8 @ 0x8`: its flow, the access of each operand (`n` none, `r`, `w`, `rw`),
     /// the size of its memory operand in bytes, its near target, and the address of its operand relative to the next
     /// instruction. There is no line for a single byte.

@@ -1,4 +1,4 @@
-//! The styles in which a listing is written, and the text of an instruction or of a single byte in each.
+//! The text of an instruction or of a single byte in each style.
 
 ghost use Rattle.std.specs.Prelude.{◌≡◌, ◌≤◌, ◌+◌, ◌++◌, length, IsTrue};
 ghost use Rattle.arrayvec.specs.ArrayVec.{array_vec_len};
@@ -12,57 +12,34 @@ use text_parts::style::Style;
 use text_parts::text::{Text, append};
 use x86_values::{Bits, Instr};
 
-/// A style of assembly text, in which a listing is written.
-#[derive(Clone, Copy, PartialEq, Eq, Debug)]
-pub enum Syntax {
-    /// The Intel manual's order and numbers, as `mov qword [rsp+0x10], rbx`.
-    Intel,
-    /// As the GNU assembler reads it by default, as `movq %rbx, 0x10(%rsp)`.
-    Att,
-    /// As MASM reads it, as `mov qword ptr [rsp+10h], rbx`.
-    Masm,
-}
-
-/// The style of a syntax's numbers.
-#[inline]
-fn style_of(syntax: Syntax) -> Style
-    ensures { result ≡ spec.style_of syntax }
-{
-    match syntax {
-        Syntax::Intel => Style::Intel,
-        Syntax::Att => Style::Att,
-        Syntax::Masm => Style::Masm,
-    }
-}
-
 /// The directive that stands before the number of a single byte.
 #[inline]
 #[tactic(auto, unfolding(crate::specs::Listing::byte_directive))]
-fn byte_directive(syntax: Syntax) -> &'static [u8]
+fn byte_directive(syntax: Style) -> &'static [u8]
     ensures text { result.now ≡ spec.byte_directive syntax }
     ensures short { length result.now ≤ 6 }
 {
     match syntax {
-        Syntax::Att => b".byte ",
+        Style::Att => b".byte ",
         _ => b"db ",
     }
 }
 
 /// The text of a byte at which no instruction is read.
 #[tactic(auto, unfolding(crate::specs::Listing::single_byte_text))]
-fn single_byte_text(syntax: Syntax, byte: u8) -> Text
+fn single_byte_text(syntax: Style, byte: u8) -> Text
     ensures { result.items ≡ spec.single_byte_text syntax byte }
 {
     numbers_are_short();
     let mut text = Text::new();
     append(&mut text, byte_directive(syntax));
-    append_number(&mut text, style_of(syntax), u64::from(byte));
+    append_number(&mut text, syntax, u64::from(byte));
     text
 }
 
 /// Appends the text of a byte at which no instruction is read.
 #[inline(never)]
-pub(crate) fn append_single_byte(out: &mut Chunk, syntax: Syntax, byte: u8)
+pub(crate) fn append_single_byte(out: &mut Chunk, syntax: Style, byte: u8)
     requires { array_vec_len out.old + TEXT_LEN ≤ CHUNK_LEN }
     ensures items { out.new.items ≡ out.old.items ++ spec.single_byte_text syntax byte }
     ensures len { array_vec_len out.new ≤ array_vec_len out.old + TEXT_LEN }
@@ -71,15 +48,15 @@ pub(crate) fn append_single_byte(out: &mut Chunk, syntax: Syntax, byte: u8)
 }
 
 /// Appends the text of a well-formed instruction.
-pub(crate) fn append_instr_text(out: &mut Chunk, syntax: Syntax, bits: Bits, instr: &Instr)
+pub(crate) fn append_instr_text(out: &mut Chunk, syntax: Style, bits: Bits, instr: &Instr)
     requires well { IsTrue (is_well_formed instr.now) }
     requires room { array_vec_len out.old + TEXT_LEN ≤ CHUNK_LEN }
     ensures items { out.new.items ≡ out.old.items ++ spec.instr_text syntax bits instr.now }
     ensures len { array_vec_len out.new ≤ array_vec_len out.old + TEXT_LEN }
 {
     match syntax {
-        Syntax::Intel => intel_text::print_to(out, bits, instr),
-        Syntax::Att => att_text::print_to(out, bits, instr),
-        Syntax::Masm => masm_text::print_to(out, bits, instr),
+        Style::Intel => intel_text::print_to(out, bits, instr),
+        Style::Att => att_text::print_to(out, bits, instr),
+        Style::Masm => masm_text::print_to(out, bits, instr),
     }
 }
