@@ -102,8 +102,7 @@ pub mod streams {
         CountSink, FailAt, Failed, MakeError, MemSink, MemSource, Sink, SlowSource, Source,
     };
     pub use sweep::{
-        Lines, ListError, StreamError, Style, info_stream, list_stream, recode_stream,
-        stream_lines,
+        Lines, ListError, StreamError, Style, info_stream, list_stream, recode_stream, stream_lines,
     };
 }
 
