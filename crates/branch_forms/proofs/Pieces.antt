@@ -13,7 +13,7 @@ use Rattle.instruction_parts.specs.Kinds.{method_of, immediate_width}
 use Rattle.instruction_parts.specs.Sizes.{operand_size}
 use Rattle.row_fit.specs.Fits.{immediate_bytes}
 use Rattle.plain_spelling.specs.PlainFront.{register_number, is_low_byte_of_rex, number_in_reg, number_in_rm, number_in_index, number_in_vvvv, number_in_opcode, asks_r, asks_x, asks_b, asks_rex_w, asks_vex_w, asks_66, asks_67, asked_repeat, asked_rex, class_pp, asked_vex, asked_opcode, asked_used, plain_front_of}
-use Rattle.plain_spelling.specs.Addresses.{written_size, shown_size, general_size, pointer_size, form_of, address_fields, alone_fields, flat_fields, flat_needs_sib, displacement_count}
+use Rattle.plain_spelling.specs.Addresses.{written_size, shown_size, general_size, pointer_size, form_of, address_fields, alone_fields, wide_fields, wide_needs_sib, displacement_count}
 use Rattle.plain_spelling.specs.PlainTail.{plain_size, rm_fields, fixed_rm, plain_modrm, plain_sib_of, plain_len}
 use Rattle.opcode_rows.specs.Table.{table}
 use Rattle.moved_targets.specs.Targets.{plain_length}
@@ -89,7 +89,7 @@ condition-len opcode code t =
 
 -- JMP and CALL through a slot
 slot-len : (digit code slot : ℕ) (bits : Bits) → plain_len bits (memory_row digit) (through_slot code slot) ≡ slot_bytes bits
-unfolding through_slot plain_len plain_size plain_modrm plain_sib_of rm_fields fixed_rm operand_size immediate_bytes immediate_width method_of plain_front_of asked_used asked_repeat asked_rex asks_rex_w asks_r asks_x asks_b asks_66 asks_67 asked_vex asks_vex_w asked_opcode class_pp lead_bytes number_in_reg number_in_rm number_in_index number_in_vvvv number_in_opcode is_low_byte_of_rex register_number written_size shown_size general_size pointer_size form_of address_fields alone_fields flat_fields flat_needs_sib displacement_count
+unfolding through_slot plain_len plain_size plain_modrm plain_sib_of rm_fields fixed_rm operand_size immediate_bytes immediate_width method_of plain_front_of asked_used asked_repeat asked_rex asks_rex_w asks_r asks_x asks_b asks_66 asks_67 asked_vex asks_vex_w asked_opcode class_pp lead_bytes number_in_reg number_in_rm number_in_index number_in_vvvv number_in_opcode is_low_byte_of_rex register_number written_size shown_size general_size pointer_size form_of address_fields alone_fields wide_fields wide_needs_sib displacement_count
 slot-len digit code slot B16 = refl
 slot-len digit code slot B32 = refl
 slot-len digit code slot B64 = refl

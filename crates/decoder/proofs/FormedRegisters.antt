@@ -17,7 +17,7 @@ use Rattle.instruction_parts.specs.declared.spelling.Sib.{Sib}
 use Rattle.instruction_parts.specs.declared.spelling.PrefixState.{PrefixState}
 use Rattle.instruction_parts.specs.Sizes.{state_size, bit_x, bit_b, bit_w, shared_bit}
 use Rattle.row_fit.specs.Fits.{extended, is_displacement_alone, index_number}
-use Rattle.row_meaning.specs.Meaning.{general, byte_register, vector, word_or_dword, size_by_w, native_size, register_of, base_16, index_16, memory_16, memory_alone, scale_of, sib_base, sib_index, memory_with_sib, memory_at_base, memory_flat, memory_of, memory_absolute}
+use Rattle.row_meaning.specs.Meaning.{general, byte_register, vector, word_or_dword, size_by_w, native_size, register_of, base_16, index_16, memory_16, memory_alone, scale_of, sib_base, sib_index, memory_with_sib, memory_at_base, memory_wide, memory_of, memory_absolute}
 use Rattle.plain_spelling.specs.Forms.{is_scale}
 use Rattle.opcode_rows.specs.Allowed.{is_named, is_named_if, has_numbers}
 
@@ -183,16 +183,16 @@ abbrev pub SibRangeIf : Option Sib → Type 0
 SibRangeIf None = Unit {0}
 SibRangeIf (Some s) = SibRange s
 
-flat_address : (bits asize : Bits) (state : PrefixState) (m : ModRm) (sib : Option Sib) (next : ℕ) (disp : List ℕ) → m.rm < 8 → SibRangeIf sib → IsAddress (memory_flat bits asize state m sib next disp)
-unfolding memory_flat
-flat_address bits asize state m (Some s) next disp h r = with_sib_address bits asize state (sib_index asize state s) m s disp r (sib_index_named asize state s r.index)
-flat_address bits asize state m None next disp h r = if_address (m.mode3 == 0 && m.rm == 5) _ _ (alone_address bits asize next disp) (at_base_address bits asize state m disp h)
+wide_address : (bits asize : Bits) (state : PrefixState) (m : ModRm) (sib : Option Sib) (next : ℕ) (disp : List ℕ) → m.rm < 8 → SibRangeIf sib → IsAddress (memory_wide bits asize state m sib next disp)
+unfolding memory_wide
+wide_address bits asize state m (Some s) next disp h r = with_sib_address bits asize state (sib_index asize state s) m s disp r (sib_index_named asize state s r.index)
+wide_address bits asize state m None next disp h r = if_address (m.mode3 == 0 && m.rm == 5) _ _ (alone_address bits asize next disp) (at_base_address bits asize state m disp h)
 
 pub memory_address : (bits asize : Bits) (state : PrefixState) (m : ModRm) (sib : Option Sib) (next : ℕ) (disp : List ℕ) → m.rm < 8 → SibRangeIf sib → IsAddress (memory_of bits asize state m sib next disp)
 unfolding memory_of
 memory_address bits B16 state m sib next disp h r = memory_16_address m disp
-memory_address bits B32 state m sib next disp h r = flat_address bits B32 state m sib next disp h r
-memory_address bits B64 state m sib next disp h r = flat_address bits B64 state m sib next disp h r
+memory_address bits B32 state m sib next disp h r = wide_address bits B32 state m sib next disp h r
+memory_address bits B64 state m sib next disp h r = wide_address bits B64 state m sib next disp h r
 
 pub absolute_address : (asize : Bits) (disp : List ℕ) → IsAddress (memory_absolute asize disp)
 unfolding memory_absolute is_named_if

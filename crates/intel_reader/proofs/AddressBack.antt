@@ -87,15 +87,15 @@ pub record ScaleIs (a : Bits) (index : Option Register) (scale : ℕ) : Type 0 w
   pub short : a ≡ B16 → scale ≡ 1
   pub alone : index ≡ None → scale ≡ 1
 
-scale_flat : (m : Mem) (index : Option Register) → m.index ≡ index → (index ≡ None → m.scale ≡ 1) → unwrap_or (elim m.index [ None ↦ None | Some r ↦ Some m.scale ]) 1 ≡ m.scale
-scale_flat m None e h = rw e (sym (h refl))
-scale_flat m (Some r) e h = rw e refl
+scale_wide : (m : Mem) (index : Option Register) → m.index ≡ index → (index ≡ None → m.scale ≡ 1) → unwrap_or (elim m.index [ None ↦ None | Some r ↦ Some m.scale ]) 1 ≡ m.scale
+scale_wide m None e h = rw e (sym (h refl))
+scale_wide m (Some r) e h = rw e refl
 
 scale_back : (a : Bits) (m : Mem) → ScaleIs a m.index m.scale → unwrap_or (scale_of a m) 1 ≡ m.scale
 unfolding scale_of
 scale_back B16 m s = sym (s.short refl)
-scale_back B32 m s = scale_flat m m.index refl s.alone
-scale_back B64 m s = scale_flat m m.index refl s.alone
+scale_back B32 m s = scale_wide m m.index refl s.alone
+scale_back B64 m s = scale_wide m m.index refl s.alone
 
 -- ---- the address by its form
 

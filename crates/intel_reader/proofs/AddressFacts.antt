@@ -18,15 +18,15 @@ use Rattle.instruction_parts.specs.Counting.{is_16, is_64}
 use Rattle.instruction_parts.proofs.Tests.{and_left, and_right, equal_from}
 use Rattle.plain_spelling.specs.Values.{is_extended_of}
 use Rattle.plain_spelling.specs.declared.addresses.AddressForm.{AddressForm}
-use Rattle.plain_spelling.specs.declared.addresses.AddressForm.TheVariants.{Relative, Alone, Short, Flat}
-use Rattle.plain_spelling.specs.Addresses.{form_of, rm_of_short, has_address_size, is_base, is_index, scale_suits, is_flat_size, is_flat_shape, is_shape, is_gather_base, is_vector_index, is_gather_shape, shape_suits, displacement_count, offers, is_displacement, displacement_suits, shown_size, written_size}
+use Rattle.plain_spelling.specs.declared.addresses.AddressForm.TheVariants.{Relative, Alone, Short, Wide}
+use Rattle.plain_spelling.specs.Addresses.{form_of, rm_of_short, has_address_size, is_base, is_index, scale_suits, is_wide_size, is_wide_shape, is_shape, is_gather_base, is_vector_index, is_gather_shape, shape_suits, displacement_count, offers, is_displacement, displacement_suits, shown_size, written_size}
 use Rattle.plain_spelling.specs.Forms.{is_scale}
 use Rattle.plain_spelling.specs.Expressible.{size_agrees}
 use Rattle.x86_values.proofs.Compared.{same_bits-is}
 use Rattle.plain_spelling.proofs.AddressCases.{impossible, form-alone-index, form-short, agrees, written_is}
 use Rattle.plain_spelling.proofs.AddressForms.{shape_is, value_at}
 use Rattle.plain_fit.proofs.AddressShapes.{shape_shown}
-use Rattle.plain_fit.proofs.AddressGathers.{gather_is_flat, gather_shown, absolute_shown, absolute_is_alone}
+use Rattle.plain_fit.proofs.AddressGathers.{gather_is_wide, gather_shown, absolute_shown, absolute_is_alone}
 use Rattle.text_parts.specs.Addresses.{is_instruction_pointer, is_relative}
 use Rattle.intel_reader.proofs.AddressBack.{of_no_bytes, of_width, DisplacementIs, AddressIs}
 
@@ -54,12 +54,12 @@ short_base (Some Rip) index n h = cc
 short_base (Some Eip) index n h = cc
 short_base (Some r) index n h = refl
 
-flat_base : (base index : Option Register) → form_of base index ≡ Flat → is_instruction_pointer base ≡ false
+wide_base : (base index : Option Register) → form_of base index ≡ Wide → is_instruction_pointer base ≡ false
 unfolding form_of is_instruction_pointer
-flat_base None index h = refl
-flat_base (Some Rip) index h = cc
-flat_base (Some Eip) index h = cc
-flat_base (Some r) index h = refl
+wide_base None index h = refl
+wide_base (Some Rip) index h = cc
+wide_base (Some Eip) index h = cc
+wide_base (Some r) index h = refl
 
 pointer_some : (base : Option Register) → is_instruction_pointer base ≡ true → is_some base ≡ true
 unfolding is_instruction_pointer
@@ -135,11 +135,11 @@ abbrev flat_at : Bits → Mem → Option Bits → Bool
 flat_at bits m o =
     elim o [
       | None ↦ false
-      | Some asize ↦ is_flat_size bits asize && (is_base bits asize m.base && (is_index bits asize m.index && scale_suits m.index m.scale))
+      | Some asize ↦ is_wide_size bits asize && (is_base bits asize m.base && (is_index bits asize m.index && scale_suits m.index m.scale))
     ]
 
-no_word_size : (bits a : Bits) → is_flat_size bits a ≡ true → a ≡ B16 → true ≡ false
-unfolding is_flat_size
+no_word_size : (bits a : Bits) → is_wide_size bits a ≡ true → a ≡ B16 → true ≡ false
+unfolding is_wide_size
 no_word_size bits B16 h e = sym (and_right (has_address_size bits B16) false h)
 no_word_size bits B32 h e = cc
 no_word_size bits B64 h e = cc
@@ -149,24 +149,24 @@ unfolding scale_suits
 alone_scale None scale h e = equal_from scale 1 h
 alone_scale (Some r) scale h e = cc
 
-flat_from : (bits a : Bits) (m : Mem) (o : Option Bits) → flat_at bits m o ≡ true → agrees a o ≡ true → (is_flat_size bits a ≡ true) × (scale_suits m.index m.scale ≡ true)
-flat_from bits a m None h s = cc
-flat_from bits a m (Some z) h s =
+wide_from : (bits a : Bits) (m : Mem) (o : Option Bits) → flat_at bits m o ≡ true → agrees a o ≡ true → (is_wide_size bits a ≡ true) × (scale_suits m.index m.scale ≡ true)
+wide_from bits a m None h s = cc
+wide_from bits a m (Some z) h s =
     let same : z ≡ a = same_bits-is z a s in
-    let rest = and_right (is_flat_size bits z) (is_base bits z m.base && (is_index bits z m.index && scale_suits m.index m.scale)) h in
+    let rest = and_right (is_wide_size bits z) (is_base bits z m.base && (is_index bits z m.index && scale_suits m.index m.scale)) h in
     let last = and_right (is_base bits z m.base) (is_index bits z m.index && scale_suits m.index m.scale) rest in (
-      subst (λ (b : Bits). is_flat_size bits b ≡ true) same (and_left (is_flat_size bits z) (is_base bits z m.base && (is_index bits z m.index && scale_suits m.index m.scale)) h),
+      subst (λ (b : Bits). is_wide_size bits b ≡ true) same (and_left (is_wide_size bits z) (is_base bits z m.base && (is_index bits z m.index && scale_suits m.index m.scale)) h),
       and_right (is_index bits z m.index) (scale_suits m.index m.scale) last,
     )
 
-flat_shape : (bits a : Bits) (m : Mem) → is_flat_shape bits m ≡ true → agrees a (shown_size m) ≡ true → (is_flat_size bits a ≡ true) × (scale_suits m.index m.scale ≡ true)
-unfolding is_flat_shape
-flat_shape bits a m h s = flat_from bits a m (shown_size m) h s
+wide_shape : (bits a : Bits) (m : Mem) → is_wide_shape bits m ≡ true → agrees a (shown_size m) ≡ true → (is_wide_size bits a ≡ true) × (scale_suits m.index m.scale ≡ true)
+unfolding is_wide_shape
+wide_shape bits a m h s = wide_from bits a m (shown_size m) h s
 
-flat_is : (bits a : Bits) (m : Mem) → form_of m.base m.index ≡ Flat → is_shape bits m ≡ true → agrees a (shown_size m) ≡ true → is_displacement a m ≡ true → AddressIs a m
-flat_is bits a m e shape shows value =
-    let f = flat_shape bits a m (shape_is bits m Flat e shape) shows in
-    beside_is a m (flat_base m.base m.index e) (value_is a m Flat e value) (λ h. impossible (no_word_size bits a f.0 h)) (alone_scale m.index m.scale f.1)
+wide_is : (bits a : Bits) (m : Mem) → form_of m.base m.index ≡ Wide → is_shape bits m ≡ true → agrees a (shown_size m) ≡ true → is_displacement a m ≡ true → AddressIs a m
+wide_is bits a m e shape shows value =
+    let f = wide_shape bits a m (shape_is bits m Wide e shape) shows in
+    beside_is a m (wide_base m.base m.index e) (value_is a m Wide e value) (λ h. impossible (no_word_size bits a f.0 h)) (alone_scale m.index m.scale f.1)
     (λ h. impossible (no_word_size bits a f.0 h))
 
 index_there : (bits : Bits) (row : Row) (file : File) (index : Option Register) → is_vector_index bits row file index ≡ true → index ≡ None → true ≡ false
@@ -182,10 +182,10 @@ not_word B64 h e = cc
 gather_is : (bits a : Bits) (row : Row) (file : File) (m : Mem) → is_gather_shape bits row file m ≡ true → is_16 a ≡ false → is_displacement a m ≡ true → AddressIs a m
 unfolding is_gather_shape
 gather_is bits a row file m shape size value =
-    let flat = gather_is_flat bits row file m shape in
+    let wide = gather_is_wide bits row file m shape in
     let rest = and_right (is_gather_base bits m.base) (is_vector_index bits row file m.index && is_scale m.scale) shape in
     let index = and_left (is_vector_index bits row file m.index) (is_scale m.scale) rest in
-    beside_is a m (flat_base m.base m.index flat) (value_is a m Flat flat value) (λ h. impossible (not_word a size h)) (λ h. impossible (index_there bits row file m.index index h))
+    beside_is a m (wide_base m.base m.index wide) (value_is a m Wide wide value) (λ h. impossible (not_word a size h)) (λ h. impossible (index_there bits row file m.index index h))
     (λ h. impossible (not_word a size h))
 
 -- ---- all of it
@@ -209,7 +209,7 @@ modrm_is bits a how m shape size disp = by_form (form_of m.base m.index) refl
     by_form (Relative z) e = relative_is bits a m z e shape value
     by_form Alone e = lone_is a m e (equal_from m.scale 1 (shape_is bits m Alone e shape)) value
     by_form (Short n) e = short_is bits a m n e shape value
-    by_form Flat e = flat_is bits a m e shape shows value
+    by_form Wide e = wide_is bits a m e shape shows value
 
 offset_is : (bits a : Bits) (how : Method) (m : Mem) → (is_none m.base && (is_none m.index && m.scale == 1)) ≡ true → displacement_suits (written_size bits (Some a) m) how m ≡ true → AddressIs a m
 offset_is bits a how m shape disp =

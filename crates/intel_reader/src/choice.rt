@@ -176,8 +176,8 @@ fn with_row(
         return none;
     }
     let short = with_sizes(none, bits, ip, text, row, code, words, Some(Bits::B16));
-    let flat = with_sizes(short, bits, ip, text, row, code, words, Some(Bits::B32));
-    with_sizes(flat, bits, ip, text, row, code, words, Some(Bits::B64))
+    let wide = with_sizes(short, bits, ip, text, row, code, words, Some(Bits::B32));
+    with_sizes(wide, bits, ip, text, row, code, words, Some(Bits::B64))
 }
 
 /// The same with the candidates of a code, where the words are those of each candidate of the text.

@@ -17,7 +17,7 @@ use Rattle.instruction_parts.specs.declared.kinds.File.{File}
 use Rattle.instruction_parts.specs.Kinds.{method_of, file_of}
 use Rattle.row_fit.specs.Fits.{kind_at, immediate_bytes, is_nop_byte, is_repeat_f3, is_no_repeat}
 use Rattle.plain_spelling.specs.Forms.{is_memory, is_allowed_in, is_variant_of, operand_at}
-use Rattle.plain_spelling.specs.Addresses.{shown_size, is_flat_shape, is_shape, is_gather_shape, shape_suits}
+use Rattle.plain_spelling.specs.Addresses.{shown_size, is_wide_shape, is_shape, is_gather_shape, shape_suits}
 use Rattle.plain_spelling.specs.PlainFront.{asked, number_in_reg, number_in_index, number_in_vvvv}
 use Rattle.plain_spelling.specs.PlainTail.{plain_size}
 use Rattle.plain_spelling.specs.Expressible.{each_operand, kind_suits, is_of_kind, is_nameable, vector_in_reg, vector_in_index, vector_in_vvvv, passes, asked_vector, differ, gather_numbers_differ, gather_suits, register_suits, address_suits, immediate_suits_how, immediate_suits, lock_suits, repeat_suits, prefixes_suit, has_memory_operand, told_size, size_agrees, is_size_of, address_size_suits}
@@ -117,7 +117,7 @@ abbrev addressed : (Mem → Bool) → Operand → Bool
 addressed p op = elim op [ Memory m ↦ p m | _ ↦ true ]
 
 shape_same : (bits : Bits) (row : Row) (how : Method) (file : File) (m : Mem) (disp : ℕ) → shape_suits bits row how file (record m { disp = disp }) ≡ shape_suits bits row how file m
-unfolding shape_suits is_gather_shape is_shape is_flat_shape shown_size
+unfolding shape_suits is_gather_shape is_shape is_wide_shape shown_size
 shape_same bits row method.Gather file m disp = refl
 shape_same bits row method.Offset file m disp = refl
 shape_same bits row _ file m disp = refl

@@ -16,7 +16,7 @@ use Rattle.plain_spelling.specs.declared.addresses.AddressFields.{AddressFields}
 use Rattle.row_fit.specs.Fits.{is_offset}
 use Rattle.row_fit.specs.Sound.{reads_rm}
 use Rattle.plain_spelling.specs.PlainFront.{number_in_reg, number_in_rm, number_in_index, number_in_vvvv, number_in_opcode, asked, asks_low_byte, asks_r, asks_x, asks_b, asked_rex, asked_vex, asked_opcode, asked_used, asked_repeat, plain_front_of}
-use Rattle.plain_spelling.specs.Addresses.{address_fields, alone_fields, flat_fields, plain_sib, written_size, shown_size, flat_needs_sib}
+use Rattle.plain_spelling.specs.Addresses.{address_fields, alone_fields, wide_fields, plain_sib, written_size, shown_size, wide_needs_sib}
 use Rattle.plain_spelling.specs.PlainTail.{operand_where, rm_fields, fields_of, fixed_rm, modrm_with, plain_modrm, plain_sib_of, operand_displacement, address_operand, plain_len}
 use Rattle.moved_targets.specs.Targets.{aimed}
 use Rattle.moved_targets.proofs.Ignored.{IgnoresTarget, ignored, over_operands-map, operand_where-map, asks_low_byte-map}
@@ -130,7 +130,7 @@ unfolding written_size
 written_size-disp bits asize m disp = rw (shown m disp) refl
 
 fields-disp : (bits asize : Bits) (m : Mem) (disp : ℕ) → address_fields bits asize (record m { disp = disp }) ≡ address_fields bits asize m
-unfolding address_fields alone_fields flat_fields plain_sib flat_needs_sib
+unfolding address_fields alone_fields wide_fields plain_sib wide_needs_sib
 fields-disp bits asize m disp = refl
 
 in_fields : (bits : Bits) (asize : Option Bits) (place : Place) → IgnoresTarget (rm_fields bits asize place)

@@ -19,7 +19,7 @@ use Rattle.row_meaning.specs.Meaning.{displacement, target_of}
 use Rattle.plain_spelling.specs.Values.{low_bytes, is_extended_of, distance}
 use Rattle.plain_spelling.specs.Forms.{operand_at}
 use Rattle.plain_spelling.specs.declared.addresses.AddressForm.{AddressForm}
-use Rattle.plain_spelling.specs.declared.addresses.AddressForm.TheVariants.{Relative, Alone, Short, Flat}
+use Rattle.plain_spelling.specs.declared.addresses.AddressForm.TheVariants.{Relative, Alone, Short, Wide}
 use Rattle.plain_spelling.specs.Addresses.{form_of, has_address_size, displacement_count, is_displacement}
 use Rattle.plain_spelling.specs.PlainTail.{operand_displacement, displacement_of, displacement_of_operand}
 use Rattle.plain_spelling.specs.Expressible.{each_operand, address_reaches, has_memory_operand, size_agrees, is_size_of, address_size_suits}
@@ -117,7 +117,7 @@ written_at asize next m (Relative size) e below h r = record {
         (reached (displacement_count m.disp_size) four)
 written_at asize next m Alone e below h r = written_value asize next m Alone e (λ size k. cc) h
 written_at asize next m (Short n) e below h r = written_value asize next m (Short n) e (λ size k. cc) h
-written_at asize next m Flat e below h r = written_value asize next m Flat e (λ size k. cc) h
+written_at asize next m Wide e below h r = written_value asize next m Wide e (λ size k. cc) h
 
 pub written : (asize : Bits) (next : ℕ) (m : Mem) → next < 2 ^ 64 → is_displacement asize m ≡ true → address_reaches next m ≡ true → Written asize next m (displacement_of next m)
 unfolding is_displacement address_reaches displacement_of
@@ -127,7 +127,7 @@ bytes_by : (next : ℕ) (m : Mem) (form : AddressForm) → (are_bytes (bytes_at 
 bytes_by next m (Relative size) = (low_bytes-bytes _ _, low_bytes-length _ _)
 bytes_by next m Alone = (low_bytes-bytes _ _, low_bytes-length _ _)
 bytes_by next m (Short n) = (low_bytes-bytes _ _, low_bytes-length _ _)
-bytes_by next m Flat = (low_bytes-bytes _ _, low_bytes-length _ _)
+bytes_by next m Wide = (low_bytes-bytes _ _, low_bytes-length _ _)
 
 -- **the bytes of a displacement are bytes**
 pub displacement_are_bytes : (next : ℕ) (op : Operand) → are_bytes (displacement_of_operand next op) ≡ true

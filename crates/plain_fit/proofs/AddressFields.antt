@@ -15,13 +15,13 @@ use Rattle.instruction_parts.specs.Counting.{is_16}
 use Rattle.instruction_parts.specs.Sizes.{bit_b, bit_x}
 use Rattle.instruction_parts.proofs.Tests.{and_left, and_right, not_true, equal_from}
 use Rattle.row_fit.specs.Fits.{is_displacement_alone, displacement_bytes, full_displacement, needs_sib, sib_in_range, index_number}
-use Rattle.row_meaning.specs.Meaning.{general, disp_size_of, base_16, index_16, memory_16, memory_alone, scale_of, sib_base, sib_index, memory_with_sib, memory_flat, memory_of, displacement, instruction_pointer, target_of}
+use Rattle.row_meaning.specs.Meaning.{general, disp_size_of, base_16, index_16, memory_16, memory_alone, scale_of, sib_base, sib_index, memory_with_sib, memory_wide, memory_of, displacement, instruction_pointer, target_of}
 use Rattle.plain_spelling.specs.Forms.{is_scale}
 use Rattle.plain_spelling.specs.PlainFront.{register_number, number_or_zero}
 use Rattle.plain_spelling.specs.declared.addresses.AddressFields.{AddressFields}
-use Rattle.plain_spelling.specs.Addresses.{is_address_register, is_base, is_index, scale_suits, displacement_count, flat_offers, short_offers, rm_of_one, rm_of_two, rm_of_short, mode_of_count, scale_field, base_bits, index_bits, plain_sib, flat_needs_sib, flat_fields, alone_fields}
+use Rattle.plain_spelling.specs.Addresses.{is_address_register, is_base, is_index, scale_suits, displacement_count, wide_offers, short_offers, rm_of_one, rm_of_two, rm_of_short, mode_of_count, scale_field, base_bits, index_bits, plain_sib, wide_needs_sib, wide_fields, alone_fields}
 use Rattle.plain_spelling.specs.PlainTail.{modrm_with}
-use Rattle.plain_spelling.proofs.AddressCases.{address, same_address, impossible, size_from_count, memory_16-register, flat-register, sib_base-none, sib_base-some, sib_index-none, sib_index-some, address_register, count_small, extended_number}
+use Rattle.plain_spelling.proofs.AddressCases.{address, same_address, impossible, size_from_count, memory_16-register, wide-register, sib_base-none, sib_base-some, sib_index-none, sib_index-some, address_register, count_small, extended_number}
 
 -- fields of an address
 abbrev pub fields : ℕ → ℕ → Option Sib → AddressFields
@@ -39,7 +39,7 @@ pub record Mean (bits asize : Bits) (f : PrefixState) (m : Mem) (reg next : ℕ)
 -- ---- at RIP and EIP
 
 pub relative_means : (size : Bits) (f : PrefixState) (m : Mem) (reg next : ℕ) (d : List ℕ) → is_16 size ≡ false → Some (instruction_pointer size) ≡ m.base → None ≡ m.index → 1 ≡ m.scale → target_of size next d ≡ m.disp → displacement_count m.disp_size ≡ 4 → Mean B64 size f m reg next d (fields 0 5 None)
-unfolding memory_of memory_flat memory_alone needs_sib displacement_bytes is_displacement_alone sib_in_range disp_size_of
+unfolding memory_of memory_wide memory_alone needs_sib displacement_bytes is_displacement_alone sib_in_range disp_size_of
 relative_means B16 f m reg next d short b i s t c = cc
 relative_means B32 f m reg next d short b i s t c =
     record { back = same_address _ _ _ _ _ _ _ _ _ _ b i s t (size_from_count m.disp_size 4 c); sib = refl; count = sym c; mode3 = omega arith; rm = omega arith; sib_range = refl }
@@ -49,7 +49,7 @@ relative_means B64 f m reg next d short b i s t c =
 -- ---- a displacement alone
 
 pub alone_means : (bits asize : Bits) (f : PrefixState) (scale disp : ℕ) (size : DispSize) (reg next : ℕ) (d : List ℕ) → 1 ≡ scale → displacement asize d ≡ disp → length d ≡ displacement_count size → displacement_count size ≡ full_displacement asize → bit_x f ≡ false → Mean bits asize f (address None None scale disp size) reg next d (alone_fields bits asize (address None None scale disp size))
-unfolding alone_fields memory_of memory_16 memory_flat memory_alone memory_with_sib sib_base sib_index index_number plain_sib index_bits base_bits needs_sib displacement_bytes is_displacement_alone sib_in_range disp_size_of
+unfolding alone_fields memory_of memory_16 memory_wide memory_alone memory_with_sib sib_base sib_index index_number plain_sib index_bits base_bits needs_sib displacement_bytes is_displacement_alone sib_in_range disp_size_of
 alone_means bits B16 f scale disp size reg next d s t l c x =
     record { back = same_address _ _ _ _ _ _ _ _ _ _ refl refl s t (size_from_count size 2 c); sib = refl; count = sym c; mode3 = omega arith; rm = omega arith; sib_range = refl }
 alone_means B16 B32 f scale disp size reg next d s t l c x =
@@ -164,35 +164,35 @@ pub record FlatOffer (asize : Bits) (low n reg scale index : ℕ) : Type 0 where
   pub without : displacement_bytes asize (record { mode3 = mode_of_count n; reg = reg; rm = low }) None ≡ n
   pub mode3 : mode_of_count n < 3
 
-flat_offer : (asize : Bits) (r : Register) (size : DispSize) (reg scale index : ℕ) → is_16 asize ≡ false → flat_offers (Some r) (displacement_count size) ≡ true → FlatOffer asize (register_number r % 8) (displacement_count size) reg scale index
-unfolding flat_offers displacement_count displacement_bytes is_displacement_alone mode_of_count
-flat_offer asize r D0 reg scale index wide h =
+wide_offer : (asize : Bits) (r : Register) (size : DispSize) (reg scale index : ℕ) → is_16 asize ≡ false → wide_offers (Some r) (displacement_count size) ≡ true → FlatOffer asize (register_number r % 8) (displacement_count size) reg scale index
+unfolding wide_offers displacement_count displacement_bytes is_displacement_alone mode_of_count
+wide_offer asize r D0 reg scale index wide h =
     let n = not_true (register_number r % 8 == 5) h in
     record { alone = n; with_sib = rw (wide, n) refl; without = rw (wide, n) (none_alone (register_number r % 8 == 4)); mode3 = omega arith }
   where
     none_alone : (t : Bool) → (let n : ℕ = if t && false then 4 else 0 in n ≡ 0)
     none_alone true = refl
     none_alone false = refl
-flat_offer asize r D8 reg scale index wide h = record { alone = refl; with_sib = refl; without = refl; mode3 = omega arith }
-flat_offer asize r D16 reg scale index wide h = impossible (sym h)
-flat_offer asize r D32 reg scale index wide h = record { alone = refl; with_sib = rw wide refl; without = rw wide refl; mode3 = omega arith }
-flat_offer asize r D64 reg scale index wide h = impossible (sym h)
+wide_offer asize r D8 reg scale index wide h = record { alone = refl; with_sib = refl; without = refl; mode3 = omega arith }
+wide_offer asize r D16 reg scale index wide h = impossible (sym h)
+wide_offer asize r D32 reg scale index wide h = record { alone = refl; with_sib = rw wide refl; without = rw wide refl; mode3 = omega arith }
+wide_offer asize r D64 reg scale index wide h = impossible (sym h)
 
 -- mod beside a base that may be absent
-abbrev pub flat_mode : Option Register → ℕ → ℕ
-flat_mode base n = elim base [ None ↦ 0 | Some _ ↦ mode_of_count n ]
+abbrev pub wide_mode : Option Register → ℕ → ℕ
+wide_mode base n = elim base [ None ↦ 0 | Some _ ↦ mode_of_count n ]
 
 -- the plain SIB of base, index and scale
 abbrev pub sib_for : Option Register → Option Register → ℕ → Sib
 sib_for base index scale = record { scale = elim index [ None ↦ 0 | Some _ ↦ scale_field scale ]; index = index_bits index; base = base_bits base }
 
-pub base_back : (bits asize : Bits) (f : PrefixState) (base index : Option Register) (scale : ℕ) (size : DispSize) (reg : ℕ) → is_16 asize ≡ false → is_base bits asize base ≡ true → flat_offers base (displacement_count size) ≡ true → bit_b bits f ≡ nat_le 8 (number_or_zero base) → sib_base bits asize f (record { mode3 = flat_mode base (displacement_count size); reg = reg; rm = 4 }) (sib_for base index scale) ≡ base
+pub base_back : (bits asize : Bits) (f : PrefixState) (base index : Option Register) (scale : ℕ) (size : DispSize) (reg : ℕ) → is_16 asize ≡ false → is_base bits asize base ≡ true → wide_offers base (displacement_count size) ≡ true → bit_b bits f ≡ nat_le 8 (number_or_zero base) → sib_base bits asize f (record { mode3 = wide_mode base (displacement_count size); reg = reg; rm = 4 }) (sib_for base index scale) ≡ base
 unfolding is_base base_bits
 base_back bits asize f None index scale size reg wide h o b = sib_base-none bits asize f _ _ refl
 base_back bits asize f (Some r) index scale size reg wide h o b =
     let a = address_register bits asize r h in
     let few : register_number r < 16 = (let lt = a.number in let le = count_small bits in omega arith) in
-    sib_base-some bits asize f _ _ (flat_offer asize r size reg 0 0 wide o).alone
+    sib_base-some bits asize f _ _ (wide_offer asize r size reg 0 0 wide o).alone
     ∙ ap (λ (x : ℕ). Some (general asize x)) (extended_number (bit_b bits f) (register_number r) few b) ∙ ap (λ (x : Register). Some x) a.is
 
 pub index_back : (bits asize : Bits) (f : PrefixState) (base index : Option Register) (scale : ℕ) → is_index bits asize index ≡ true → bit_x f ≡ nat_le 8 (number_or_zero index) → sib_index asize f (sib_for base index scale) ≡ index
@@ -256,14 +256,14 @@ pub record FlatGiven (bits asize : Bits) (f : PrefixState) (base index : Option 
   pub wide : is_16 asize ≡ false
   pub base_is : is_base bits asize base ≡ true
   pub scale_is : scale_suits index scale ≡ true
-  pub offer : flat_offers base (displacement_count size) ≡ true
+  pub offer : wide_offers base (displacement_count size) ≡ true
   pub value : displacement asize d ≡ disp
   pub len : length d ≡ displacement_count size
   pub b : bit_b bits f ≡ nat_le 8 (number_or_zero base)
 
 -- the fields with a SIB
 abbrev pub fields_with_sib : Option Register → Option Register → ℕ → DispSize → AddressFields
-fields_with_sib base index scale size = fields (flat_mode base (displacement_count size)) 4 (Some (sib_for base index scale))
+fields_with_sib base index scale size = fields (wide_mode base (displacement_count size)) 4 (Some (sib_for base index scale))
 
 -- an address with a SIB, whatever gives its index
 pub sib_back : (bits asize : Bits) (f : PrefixState) (base index : Option Register) (scale disp : ℕ) (size : DispSize) (reg : ℕ) (d : List ℕ) (given : Option Register) → FlatGiven bits asize f base index scale disp size d → given ≡ index → memory_with_sib bits asize f given (modrm_with reg (fields_with_sib base index scale size)) (sib_for base index scale) d ≡ address base index scale disp size
@@ -277,18 +277,18 @@ sib_back bits asize f base index scale disp size reg d given g e =
 pub record SibAsked (asize : Bits) (base index : Option Register) (scale : ℕ) (size : DispSize) (reg : ℕ) : Type 0 where
   pub needed : needs_sib asize (modrm_with reg (fields_with_sib base index scale size)) ≡ true
   pub count : displacement_bytes asize (modrm_with reg (fields_with_sib base index scale size)) (Some (sib_for base index scale)) ≡ displacement_count size
-  pub mode3 : flat_mode base (displacement_count size) < 3
+  pub mode3 : wide_mode base (displacement_count size) < 3
 
-pub sib_asked : (asize : Bits) (base index : Option Register) (scale : ℕ) (size : DispSize) (reg : ℕ) → is_16 asize ≡ false → flat_offers base (displacement_count size) ≡ true → SibAsked asize base index scale size reg
-unfolding needs_sib displacement_bytes is_displacement_alone base_bits flat_offers
+pub sib_asked : (asize : Bits) (base index : Option Register) (scale : ℕ) (size : DispSize) (reg : ℕ) → is_16 asize ≡ false → wide_offers base (displacement_count size) ≡ true → SibAsked asize base index scale size reg
+unfolding needs_sib displacement_bytes is_displacement_alone base_bits wide_offers
 sib_asked asize None index scale size reg wide offer =
     record { needed = rw wide refl; count = rw wide (sym (equal_from (displacement_count size) 4 offer)); mode3 = omega arith }
 sib_asked asize (Some r) index scale size reg wide offer =
-    let o = flat_offer asize r size reg (elim index [ None ↦ 0 | Some _ ↦ scale_field scale ]) (index_bits index) wide offer in
+    let o = wide_offer asize r size reg (elim index [ None ↦ 0 | Some _ ↦ scale_field scale ]) (index_bits index) wide offer in
     record { needed = rw (wide, lt-ltb _ 3 o.mode3) refl; count = o.with_sib; mode3 = o.mode3 }
 
 pub sib_means : (bits asize : Bits) (f : PrefixState) (base index : Option Register) (scale disp : ℕ) (size : DispSize) (reg next : ℕ) (d : List ℕ) → FlatGiven bits asize f base index scale disp size d → is_index bits asize index ≡ true → bit_x f ≡ nat_le 8 (number_or_zero index) → Mean bits asize f (address base index scale disp size) reg next d (fields_with_sib base index scale size)
-unfolding memory_of memory_flat
+unfolding memory_of memory_wide
 sib_means bits B16 f base index scale disp size reg next d g i x = impossible g.wide
 sib_means bits B32 f base index scale disp size reg next d g i x =
     let a = sib_asked B32 base index scale size reg g.wide g.offer in
@@ -312,12 +312,12 @@ sib_means bits B64 f base index scale disp size reg next d g i x =
     }
 
 -- a base alone, whose low three bits are not 4
-register_back : (bits asize : Bits) (f : PrefixState) (r : Register) (scale disp : ℕ) (size : DispSize) (reg next : ℕ) (d : List ℕ) → FlatGiven bits asize f (Some r) None scale disp size d → memory_flat bits asize f (record { mode3 = mode_of_count (displacement_count size); reg = reg; rm = register_number r % 8 }) None next d ≡ address (Some r) None scale disp size
+register_back : (bits asize : Bits) (f : PrefixState) (r : Register) (scale disp : ℕ) (size : DispSize) (reg next : ℕ) (d : List ℕ) → FlatGiven bits asize f (Some r) None scale disp size d → memory_wide bits asize f (record { mode3 = mode_of_count (displacement_count size); reg = reg; rm = register_number r % 8 }) None next d ≡ address (Some r) None scale disp size
 unfolding is_base scale_suits
 register_back bits asize f r scale disp size reg next d g =
     let a = address_register bits asize r g.base_is in
     let few : register_number r < 16 = (let lt = a.number in let le = count_small bits in omega arith) in
-    flat-register bits asize f _ next d (flat_offer asize r size reg 0 0 g.wide g.offer).alone
+    wide-register bits asize f _ next d (wide_offer asize r size reg 0 0 g.wide g.offer).alone
     ∙ same_address _ _ _ _ _ _ _ _ _ _ (ap (λ (x : ℕ). Some (general asize x)) (extended_number (bit_b bits f) (register_number r) few g.b) ∙ ap (λ (x : Register). Some x) a.is)
     refl (sym (equal_from scale 1 g.scale_is)) g.value (size_from_count size (length d) (sym g.len))
 
@@ -325,7 +325,7 @@ pub register_means : (bits asize : Bits) (f : PrefixState) (r : Register) (scale
 unfolding memory_of needs_sib sib_in_range
 register_means bits B16 f r scale disp size reg next d g n = impossible g.wide
 register_means bits B32 f r scale disp size reg next d g n =
-    let o = flat_offer B32 r size reg 0 0 g.wide g.offer in
+    let o = wide_offer B32 r size reg 0 0 g.wide g.offer in
     let k = register_number r in
     record {
       back = register_back bits B32 f r scale disp size reg next d g;
@@ -336,7 +336,7 @@ register_means bits B32 f r scale disp size reg next d g n =
       sib_range = refl;
     }
 register_means bits B64 f r scale disp size reg next d g n =
-    let o = flat_offer B64 r size reg 0 0 g.wide g.offer in
+    let o = wide_offer B64 r size reg 0 0 g.wide g.offer in
     let k = register_number r in
     record {
       back = register_back bits B64 f r scale disp size reg next d g;
@@ -348,11 +348,11 @@ register_means bits B64 f r scale disp size reg next d g n =
     }
 
 -- the plain fields of base and index
-pub flat_means : (bits asize : Bits) (f : PrefixState) (base index : Option Register) (scale disp : ℕ) (size : DispSize) (reg next : ℕ) (d : List ℕ) → FlatGiven bits asize f base index scale disp size d → is_index bits asize index ≡ true → bit_x f ≡ nat_le 8 (number_or_zero index) → Mean bits asize f (address base index scale disp size) reg next d (flat_fields (address base index scale disp size))
-unfolding flat_fields flat_needs_sib plain_sib base_bits
-flat_means bits asize f base (Some r) scale disp size reg next d g i x = sib_means bits asize f base (Some r) scale disp size reg next d g i x
-flat_means bits asize f None None scale disp size reg next d g i x = sib_means bits asize f None None scale disp size reg next d g i x
-flat_means bits asize f (Some r) None scale disp size reg next d g i x = by_test (register_number r % 8 == 4) refl
+pub wide_means : (bits asize : Bits) (f : PrefixState) (base index : Option Register) (scale disp : ℕ) (size : DispSize) (reg next : ℕ) (d : List ℕ) → FlatGiven bits asize f base index scale disp size d → is_index bits asize index ≡ true → bit_x f ≡ nat_le 8 (number_or_zero index) → Mean bits asize f (address base index scale disp size) reg next d (wide_fields (address base index scale disp size))
+unfolding wide_fields wide_needs_sib plain_sib base_bits
+wide_means bits asize f base (Some r) scale disp size reg next d g i x = sib_means bits asize f base (Some r) scale disp size reg next d g i x
+wide_means bits asize f None None scale disp size reg next d g i x = sib_means bits asize f None None scale disp size reg next d g i x
+wide_means bits asize f (Some r) None scale disp size reg next d g i x = by_test (register_number r % 8 == 4) refl
   where
     by_test : (t : Bool) → (register_number r % 8 == 4) ≡ t → Mean bits asize f (address (Some r) None scale disp size) reg next d (fields (mode_of_count (displacement_count size)) (if t then 4 else register_number r % 8) (if t then Some (sib_for (Some r) None scale) else None))
     by_test true e = sib_means bits asize f (Some r) None scale disp size reg next d g i x

@@ -19,9 +19,9 @@ use Rattle.row_meaning.specs.Meaning.{displacement, register_of, memory_absolute
 use Rattle.plain_spelling.specs.Forms.{is_scale}
 use Rattle.plain_spelling.specs.PlainFront.{register_number, number_or_zero}
 use Rattle.x86_values.specs.Comparing.{same_register}
-use Rattle.plain_spelling.specs.declared.addresses.AddressForm.TheVariants.{Alone, Flat}
+use Rattle.plain_spelling.specs.declared.addresses.AddressForm.TheVariants.{Alone, Wide}
 use Rattle.plain_spelling.specs.declared.addresses.AddressFields.{AddressFields}
-use Rattle.plain_spelling.specs.Addresses.{form_of, general_size_if, register_count, has_address_size, general_size, is_address_register, is_base, scale_suits, is_flat_size, index_named, is_vector_index, is_gather_base, is_gather_shape, shown_size, displacement_count, flat_offers, flat_needs_sib, flat_fields, plain_sib, index_bits, address_fields}
+use Rattle.plain_spelling.specs.Addresses.{form_of, general_size_if, register_count, has_address_size, general_size, is_address_register, is_base, scale_suits, is_wide_size, index_named, is_vector_index, is_gather_base, is_gather_shape, shown_size, displacement_count, wide_offers, wide_needs_sib, wide_fields, plain_sib, index_bits, address_fields}
 use Rattle.plain_spelling.specs.PlainTail.{modrm_with}
 use Rattle.plain_spelling.specs.Expressible.{size_agrees}
 use Rattle.x86_values.proofs.Compared.{same_bits-is}
@@ -34,7 +34,7 @@ use Rattle.plain_fit.proofs.AddressShapes.{agreed_size, fields_are}
 -- the address of a gather, with its bytes of displacement and the bits that stand for its registers
 pub record GatherPlaced (bits asize : Bits) (row : Row) (f : PrefixState) (file : File) (m : Mem) (d : List ℕ) : Type 0 where
   pub shape : is_gather_shape bits row file m ≡ true
-  pub offer : flat_offers m.base (displacement_count m.disp_size) ≡ true
+  pub offer : wide_offers m.base (displacement_count m.disp_size) ≡ true
   pub size : size_agrees asize (MemOperand m) ≡ true
   pub wide : is_16 asize ≡ false
   pub len : length d ≡ displacement_count m.disp_size
@@ -57,8 +57,8 @@ index_read bits row f file base r scale v h x =
     vector_register bits row f file _ v ∙ ap (λ (n : ℕ). index_named row file n) (extended_number (bit_x f) k few x)
     ∙ sym (same_register-is r (index_named row file k) (and_left same (nat_lt k (register_count bits)) h))
 
-gather_form : (bits : Bits) (base : Option Register) (r : Register) → is_gather_base bits base ≡ true → form_of base (Some r) ≡ Flat
-unfolding form_of is_gather_base general_size is_flat_size
+gather_form : (bits : Bits) (base : Option Register) (r : Register) → is_gather_base bits base ≡ true → form_of base (Some r) ≡ Wide
+unfolding form_of is_gather_base general_size is_wide_size
 gather_form bits None r h = refl
 gather_form bits (Some Rip) r h = impossible (sym h)
 gather_form bits (Some Eip) r h = impossible (sym h)
@@ -66,10 +66,10 @@ gather_form bits (Some (R16 n)) r h =
     impossible (sym (and_right (has_address_size bits B16) false (and_left (has_address_size bits B16 && false) (is_address_register bits B16 (R16 n)) h)))
 gather_form bits (Some b) r h = refl
 
-gather_by : (bits asize : Bits) (b : Register) (o : Option Bits) → agrees asize o ≡ true → (elim o [ None ↦ false | Some size ↦ is_flat_size bits size && is_address_register bits size b ]) ≡ true → is_address_register bits asize b ≡ true
+gather_by : (bits asize : Bits) (b : Register) (o : Option Bits) → agrees asize o ≡ true → (elim o [ None ↦ false | Some size ↦ is_wide_size bits size && is_address_register bits size b ]) ≡ true → is_address_register bits asize b ≡ true
 gather_by bits asize b None s h = impossible (sym h)
 gather_by bits asize b (Some size) s h =
-    subst (λ (z : Bits). is_address_register bits z b ≡ true) (same_bits-is size asize s) (and_right (is_flat_size bits size) (is_address_register bits size b) h)
+    subst (λ (z : Bits). is_address_register bits z b ≡ true) (same_bits-is size asize s) (and_right (is_wide_size bits size) (is_address_register bits size b) h)
 
 some_shown : (asize : Bits) (o p : Option Bits) → agrees asize (or_else o p) ≡ true → agrees asize o ≡ true
 some_shown asize None p h = refl
@@ -96,9 +96,9 @@ pub record GatherMean (bits asize : Bits) (row : Row) (f : PrefixState) (file : 
   pub sib_range : sib_in_range a.sib ≡ true
   pub needed : needs_sib asize (modrm_with reg a) ≡ true
 
-gather_fields : (bits asize : Bits) (base : Option Register) (r : Register) (scale disp : ℕ) (size : DispSize) → form_of base (Some r) ≡ Flat → address_fields bits asize (address base (Some r) scale disp size) ≡ fields_with_sib base (Some r) scale size
-unfolding flat_fields flat_needs_sib plain_sib
-gather_fields bits asize base r scale disp size e = fields_are bits asize (address base (Some r) scale disp size) Flat e
+gather_fields : (bits asize : Bits) (base : Option Register) (r : Register) (scale disp : ℕ) (size : DispSize) → form_of base (Some r) ≡ Wide → address_fields bits asize (address base (Some r) scale disp size) ≡ fields_with_sib base (Some r) scale size
+unfolding wide_fields wide_needs_sib plain_sib
+gather_fields bits asize base r scale disp size e = fields_are bits asize (address base (Some r) scale disp size) Wide e
 
 scaled : (r : Register) (scale : ℕ) → is_scale scale ≡ true → scale_suits (Some r) scale ≡ true
 unfolding scale_suits
@@ -175,17 +175,17 @@ absolute_means asize m d h l v =
 
 -- ---- the address size
 
-form_by : (bits : Bits) (row : Row) (file : File) (base index : Option Register) (scale : ℕ) → (is_gather_base bits base && (is_vector_index bits row file index && is_scale scale)) ≡ true → form_of base index ≡ Flat
+form_by : (bits : Bits) (row : Row) (file : File) (base index : Option Register) (scale : ℕ) → (is_gather_base bits base && (is_vector_index bits row file index && is_scale scale)) ≡ true → form_of base index ≡ Wide
 unfolding is_vector_index
 form_by bits row file base None scale h = impossible (sym (and_right (is_gather_base bits base) false h))
 form_by bits row file base (Some r) scale h = gather_form bits base r (and_left (is_gather_base bits base) _ h)
 
-pub gather_is_flat : (bits : Bits) (row : Row) (file : File) (m : Mem) → is_gather_shape bits row file m ≡ true → form_of m.base m.index ≡ Flat
+pub gather_is_wide : (bits : Bits) (row : Row) (file : File) (m : Mem) → is_gather_shape bits row file m ≡ true → form_of m.base m.index ≡ Wide
 unfolding is_gather_shape
-gather_is_flat bits row file m h = form_by bits row file m.base m.index m.scale h
+gather_is_wide bits row file m h = form_by bits row file m.base m.index m.scale h
 
 pub gather_shown : (bits asize : Bits) (row : Row) (file : File) (m : Mem) → is_gather_shape bits row file m ≡ true → size_agrees asize (MemOperand m) ≡ true → agrees asize (shown_size m) ≡ true
-gather_shown bits asize row file m h s = agreed_size m asize (gather_is_flat bits row file m h) s
+gather_shown bits asize row file m h s = agreed_size m asize (gather_is_wide bits row file m h) s
 
 no_register : (asize : Bits) (base index : Option Register) (scale : ℕ) → (is_none base && (is_none index && scale == 1)) ≡ true → agrees asize (or_else (general_size_if base) (general_size_if index)) ≡ true
 no_register asize None None scale h = refl

@@ -14,14 +14,14 @@ use Rattle.row_fit.specs.Fits.{full_displacement}
 use Rattle.row_meaning.specs.Meaning.{displacement, instruction_pointer, target_of}
 use Rattle.plain_spelling.specs.PlainFront.{number_or_zero}
 use Rattle.plain_spelling.specs.declared.addresses.AddressForm.{AddressForm}
-use Rattle.plain_spelling.specs.declared.addresses.AddressForm.TheVariants.{Relative, Alone, Short, Flat}
+use Rattle.plain_spelling.specs.declared.addresses.AddressForm.TheVariants.{Relative, Alone, Short, Wide}
 use Rattle.plain_spelling.specs.declared.addresses.AddressFields.{AddressFields}
-use Rattle.plain_spelling.specs.Addresses.{form_of, general_size, pointer_size, has_address_size, is_base, is_index, scale_suits, is_flat_size, is_flat_shape, is_shape, shown_size, displacement_count, short_offers, form_offers, rm_of_short, mode_of_count, flat_fields, alone_fields, or_zero, address_fields}
+use Rattle.plain_spelling.specs.Addresses.{form_of, general_size, pointer_size, has_address_size, is_base, is_index, scale_suits, is_wide_size, is_wide_shape, is_shape, shown_size, displacement_count, short_offers, form_offers, rm_of_short, mode_of_count, wide_fields, alone_fields, or_zero, address_fields}
 use Rattle.plain_spelling.specs.Expressible.{told_size, size_agrees}
 use Rattle.x86_values.proofs.Compared.{same_bits-is}
 use Rattle.plain_spelling.proofs.AddressCases.{address, same_address, impossible, form-relative, form-alone, form-alone-index, form-short, agrees, pointer_if, told_is_shown}
 use Rattle.plain_spelling.proofs.AddressForms.{shape_is, offers_is}
-use Rattle.plain_fit.proofs.AddressFields.{fields, Mean, relative_means, alone_means, short_means, flat_means}
+use Rattle.plain_fit.proofs.AddressFields.{fields, Mean, relative_means, alone_means, short_means, wide_means}
 
 -- ---- by the form of an address
 
@@ -31,7 +31,7 @@ fields_at bits asize m form =
       | Relative size ↦ fields 0 5 None
       | Alone ↦ alone_fields bits asize m
       | Short base ↦ fields (mode_of_count (displacement_count m.disp_size)) (or_zero (rm_of_short base m.index)) None
-      | Flat ↦ flat_fields m
+      | Wide ↦ wide_fields m
     ]
 
 pub fields_are : (bits asize : Bits) (m : Mem) (form : AddressForm) → form_of m.base m.index ≡ form → address_fields bits asize m ≡ fields_at bits asize m form
@@ -155,12 +155,12 @@ by_short bits asize f m reg next d n e p = by_rm (rm_of_short n m.index) refl (a
         (subst (λ (a : Bits). Mean bits a f m reg next d (fields mode3 rm None)) size
         (subst (λ (k : Mem). Mean bits B16 f k reg next d (fields mode3 rm None)) base found)))
 
-pub flat_pointer : (base index : Option Register) → form_of base index ≡ Flat → pointer_if base ≡ None
+pub wide_pointer : (base index : Option Register) → form_of base index ≡ Wide → pointer_if base ≡ None
 unfolding form_of pointer_size
-flat_pointer None index h = refl
-flat_pointer (Some Rip) index h = cc
-flat_pointer (Some Eip) index h = cc
-flat_pointer (Some r) index h = refl
+wide_pointer None index h = refl
+wide_pointer (Some Rip) index h = cc
+wide_pointer (Some Eip) index h = cc
+wide_pointer (Some r) index h = refl
 
 -- what a shape of base and index is
 pub record FlatShape (bits asize : Bits) (m : Mem) : Type 0 where
@@ -171,28 +171,28 @@ pub record FlatShape (bits asize : Bits) (m : Mem) : Type 0 where
   pub index_is : is_index bits asize m.index ≡ true
   pub scale_is : scale_suits m.index m.scale ≡ true
 
-pub agreed_size : (m : Mem) (asize : Bits) → form_of m.base m.index ≡ Flat → size_agrees asize (MemOperand m) ≡ true → agrees asize (shown_size m) ≡ true
+pub agreed_size : (m : Mem) (asize : Bits) → form_of m.base m.index ≡ Wide → size_agrees asize (MemOperand m) ≡ true → agrees asize (shown_size m) ≡ true
 unfolding size_agrees
-agreed_size m asize e h = subst (λ (o : Option Bits). agrees asize o ≡ true) (told_is_shown m (flat_pointer m.base m.index e)) h
+agreed_size m asize e h = subst (λ (o : Option Bits). agrees asize o ≡ true) (told_is_shown m (wide_pointer m.base m.index e)) h
 
 abbrev flat_at : Bits → Mem → Option Bits → Bool
 flat_at bits m o =
     elim o [
       | None ↦ false
-      | Some asize ↦ is_flat_size bits asize && (is_base bits asize m.base && (is_index bits asize m.index && scale_suits m.index m.scale))
+      | Some asize ↦ is_wide_size bits asize && (is_base bits asize m.base && (is_index bits asize m.index && scale_suits m.index m.scale))
     ]
 
-flat_given : (bits asize : Bits) (m : Mem) (o : Option Bits) → shown_size m ≡ o → agrees asize o ≡ true → flat_at bits m o ≡ true → FlatShape bits asize m
-unfolding is_flat_size
-flat_given bits asize m None e s h = impossible (sym h)
-flat_given bits asize m (Some size) e s h =
+wide_given : (bits asize : Bits) (m : Mem) (o : Option Bits) → shown_size m ≡ o → agrees asize o ≡ true → flat_at bits m o ≡ true → FlatShape bits asize m
+unfolding is_wide_size
+wide_given bits asize m None e s h = impossible (sym h)
+wide_given bits asize m (Some size) e s h =
     let same = same_bits-is size asize s in
     let b = is_base bits asize m.base in
     let i = is_index bits asize m.index in
     let c = scale_suits m.index m.scale in
     let h1 = subst (λ (z : Bits). flat_at bits m (Some z) ≡ true) same h in
-    let hs = and_left (is_flat_size bits asize) (b && (i && c)) h1 in
-    let h2 = and_right (is_flat_size bits asize) (b && (i && c)) h1 in
+    let hs = and_left (is_wide_size bits asize) (b && (i && c)) h1 in
+    let h2 = and_right (is_wide_size bits asize) (b && (i && c)) h1 in
     let h3 = and_right b (i && c) h2 in
     record {
       shown = e ∙ ap (λ (z : Bits). Some z) same;
@@ -203,20 +203,20 @@ flat_given bits asize m (Some size) e s h =
       scale_is = and_right i c h3;
     }
 
-pub flat_shape : (bits asize : Bits) (m : Mem) → form_of m.base m.index ≡ Flat → is_shape bits m ≡ true → size_agrees asize (MemOperand m) ≡ true → FlatShape bits asize m
-unfolding is_flat_shape
-flat_shape bits asize m e h s = flat_given bits asize m (shown_size m) refl (agreed_size m asize e s) (shape_is bits m Flat e h)
+pub wide_shape : (bits asize : Bits) (m : Mem) → form_of m.base m.index ≡ Wide → is_shape bits m ≡ true → size_agrees asize (MemOperand m) ≡ true → FlatShape bits asize m
+unfolding is_wide_shape
+wide_shape bits asize m e h s = wide_given bits asize m (shown_size m) refl (agreed_size m asize e s) (shape_is bits m Wide e h)
 
-by_flat : (bits asize : Bits) (f : PrefixState) (m : Mem) (reg next : ℕ) (d : List ℕ) → form_of m.base m.index ≡ Flat → Placed bits asize f m next d → Goal bits asize f m reg next d
-by_flat bits asize f m reg next d e p =
-    let h = flat_shape bits asize m e p.shape p.size in
-    through bits asize f m reg next d Flat e (flat_means bits asize f m.base m.index m.scale m.disp m.disp_size reg next d
+by_wide : (bits asize : Bits) (f : PrefixState) (m : Mem) (reg next : ℕ) (d : List ℕ) → form_of m.base m.index ≡ Wide → Placed bits asize f m next d → Goal bits asize f m reg next d
+by_wide bits asize f m reg next d e p =
+    let h = wide_shape bits asize m e p.shape p.size in
+    through bits asize f m reg next d Wide e (wide_means bits asize f m.base m.index m.scale m.disp m.disp_size reg next d
     (record {
       wide = h.wide;
       base_is = h.base_is;
       scale_is = h.scale_is;
-      offer = offers_is asize m (displacement_count m.disp_size) Flat e p.offer;
-      value = p.value (no_relative m.base m.index Flat e (λ size h. cc));
+      offer = offers_is asize m (displacement_count m.disp_size) Wide e p.offer;
+      value = p.value (no_relative m.base m.index Wide e (λ size h. cc));
       len = p.len;
       b = p.b;
     }) h.index_is p.x)
@@ -229,7 +229,7 @@ shape_means bits asize f m reg next d p = by_form (form_of m.base m.index) refl
     by_form (Relative size) e = by_relative bits asize f m reg next d size e p
     by_form Alone e = by_alone bits asize f m reg next d e p
     by_form (Short n) e = by_short bits asize f m reg next d n e p
-    by_form Flat e = by_flat bits asize f m reg next d e p
+    by_form Wide e = by_wide bits asize f m reg next d e p
 
 -- ---- the address size that an address is written with
 
@@ -262,4 +262,4 @@ shape_shown bits asize m h s = by_form (form_of m.base m.index) refl
         subst (λ (k : Mem). agrees asize (shown_size k) ≡ true) same (pointer_shows m asize size)
     by_form Alone e = shown_agrees asize m Alone e (λ size k. cc) s
     by_form (Short n) e = shown_agrees asize m (Short n) e (λ size k. cc) s
-    by_form Flat e = shown_agrees asize m Flat e (λ size k. cc) s
+    by_form Wide e = shown_agrees asize m Wide e (λ size k. cc) s

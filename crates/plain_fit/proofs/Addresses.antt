@@ -23,9 +23,9 @@ use Rattle.row_meaning.specs.Meaning.{Tail, tail, operand_by, memory_operand, me
 use Rattle.plain_spelling.specs.Forms.{operand_at, is_variant_of, is_memory}
 use Rattle.plain_spelling.specs.PlainFront.{asks_x, asks_b, number_or_zero, base_or_register_number, operand_index_number, plain_front_of}
 use Rattle.plain_spelling.specs.declared.addresses.AddressForm.{AddressForm}
-use Rattle.plain_spelling.specs.declared.addresses.AddressForm.TheVariants.{Relative, Alone, Flat}
+use Rattle.plain_spelling.specs.declared.addresses.AddressForm.TheVariants.{Relative, Alone, Wide}
 use Rattle.plain_spelling.specs.declared.addresses.AddressFields.{AddressFields}
-use Rattle.plain_spelling.specs.Addresses.{form_of, is_shape, is_gather_shape, shape_suits, displacement_count, form_offers, flat_offers, offers, is_displacement, displacement_suits, written_size, shown_size, address_fields}
+use Rattle.plain_spelling.specs.Addresses.{form_of, is_shape, is_gather_shape, shape_suits, displacement_count, form_offers, wide_offers, offers, is_displacement, displacement_suits, written_size, shown_size, address_fields}
 use Rattle.plain_spelling.specs.PlainTail.{modrm_with, plain_modrm, plain_sib_of, displacement_of, displacement_of_operand, address_operand, plain_next, plain_size}
 use Rattle.plain_spelling.specs.Expressible.{kind_suits, address_suits, offered, target_suits, address_reaches, near_reaches, size_agrees}
 use Rattle.plain_spelling.proofs.Asked.{each-at, index_in_rm, asked_rm-at, asked_index-at, reads_b, address_operand-at, reads_address}
@@ -37,7 +37,7 @@ use Rattle.plain_fit.proofs.Numbers.{numbers_suit}
 use Rattle.plain_fit.proofs.Places.{reads-at, memory_in_rm}
 use Rattle.plain_fit.proofs.Immediates.{next-below}
 use Rattle.plain_fit.proofs.AddressShapes.{Placed, shape_means, shape_shown}
-use Rattle.plain_fit.proofs.AddressGathers.{gather_means, absolute_means, gather_is_flat, gather_shown, absolute_is_alone, absolute_shown}
+use Rattle.plain_fit.proofs.AddressGathers.{gather_means, absolute_means, gather_is_wide, gather_shown, absolute_is_alone, absolute_shown}
 use Rattle.plain_fit.proofs.AddressBytes.{SizeIs, size_of, written}
 
 -- ---- what the conditions say of a memory operand
@@ -180,7 +180,7 @@ shape_in_rm bits ip row i n m reg a asize placed how =
           ∙ ap (λ (z : Bits). MemOperand (memory_of bits z f (modrm_with reg fields) fields.sib next d)) asize ∙ ap (λ (x : Mem). MemOperand x) mean.back;
     }
 
-gather_in_rm : (bits : Bits) (ip : ℕ) (row : Row) (i : Instr) (n : ℕ) (m : Mem) (reg : ℕ) → Given bits ip row i → n < 4 → operand_at i n ≡ MemOperand m → method_of (kind_at row n) ≡ method.Gather → (at : MemoryAt bits ip row i n m) → is_gather_shape bits row (file_of (kind_at row n)) m ≡ true → flat_offers m.base (displacement_count m.disp_size) ≡ true → is_displacement at.a m ≡ true → InRm bits ip row i n m at.a reg
+gather_in_rm : (bits : Bits) (ip : ℕ) (row : Row) (i : Instr) (n : ℕ) (m : Mem) (reg : ℕ) → Given bits ip row i → n < 4 → operand_at i n ≡ MemOperand m → method_of (kind_at row n) ≡ method.Gather → (at : MemoryAt bits ip row i n m) → is_gather_shape bits row (file_of (kind_at row n)) m ≡ true → wide_offers m.base (displacement_count m.disp_size) ≡ true → is_displacement at.a m ≡ true → InRm bits ip row i n m at.a reg
 gather_in_rm bits ip row i n m reg g below e how at shape offer value =
     let f = plain_front_of bits row i in
     let next = plain_next bits ip row i in
@@ -189,14 +189,14 @@ gather_in_rm bits ip row i n m reg g below e how at shape offer value =
     let fields = address_fields bits at.a m in
     let stand = bits_stand bits ip row i n m g below e (ap reads_rm how) in
     let w = written at.a next m (next-below bits ip row i) value at.reach in
-    let form = gather_is_flat bits row file m shape in
+    let form = gather_is_wide bits row file m shape in
     let mean = gather_means bits at.a row f file m reg d (gather_file (kind_at row n) how) (record {
       shape = shape;
       offer = offer;
       size = at.agrees_with;
       wide = at.size.gather (reads-at is_gather row n g.is_sound below (ap is_gather how));
       len = w.len;
-      value = w.value (λ size k. impossible (flat_apart (form_of m.base m.index) size form k));
+      value = w.value (λ size k. impossible (wide_apart (form_of m.base m.index) size form k));
       x = stand.x;
       b = stand.b;
     }) in
@@ -206,8 +206,8 @@ gather_in_rm bits ip row i n m reg g below e how at shape offer value =
           ∙ by_gather bits row f (kind_at row n) (modrm_with reg fields) fields.sib d next imm ∙ mean.back at.asize;
     }
   where
-    flat_apart : (form : AddressForm) (size : Bits) → form ≡ Flat → form ≡ Relative size → true ≡ false
-    flat_apart form size p q = cc
+    wide_apart : (form : AddressForm) (size : Bits) → form ≡ Wide → form ≡ Relative size → true ≡ false
+    wide_apart form size p q = cc
 
 -- **the plain fields of an address in r/m mean it, and have the lengths and ranges that they ask for**
 pub in_rm : (bits : Bits) (ip : ℕ) (row : Row) (i : Instr) (n : ℕ) (m : Mem) (reg : ℕ) → Given bits ip row i → n < 4 → operand_at i n ≡ MemOperand m → reads_rm (method_of (kind_at row n)) ≡ true → (at : MemoryAt bits ip row i n m) → (written_size bits i.asize m ≡ at.a) × InRm bits ip row i n m at.a reg

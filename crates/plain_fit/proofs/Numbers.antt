@@ -27,7 +27,7 @@ use Rattle.instruction_parts.proofs.Tests.{either, and_left, and_right, or_right
 use Rattle.x86_values.specs.Comparing.{same_bits, same_register}
 use Rattle.plain_spelling.specs.Forms.{operand_at, is_scale}
 use Rattle.plain_spelling.specs.PlainFront.{register_number, number_or_zero, is_low_byte_of_rex, operand_number, base_or_register_number, operand_index_number, number_in_reg, number_in_rm, number_in_index, number_in_vvvv, number_in_opcode, asked, asks_low_byte}
-use Rattle.plain_spelling.specs.Addresses.{register_count, general_size, shown_size, form_of, rm_of_one, rm_of_two, rm_of_short, is_address_register, is_base, is_index, scale_suits, is_flat_size, is_flat_shape, is_shape, index_named, is_vector_index, is_gather_base, is_gather_shape, shape_suits}
+use Rattle.plain_spelling.specs.Addresses.{register_count, general_size, shown_size, form_of, rm_of_one, rm_of_two, rm_of_short, is_address_register, is_base, is_index, scale_suits, is_wide_size, is_wide_shape, is_shape, index_named, is_vector_index, is_gather_base, is_gather_shape, shape_suits}
 use Rattle.plain_spelling.specs.Expressible.{each_operand, exists_in_mode, is_of_kind, is_not_nop, kind_allows, is_nameable, gather_suits, register_suits, address_suits}
 use Rattle.plain_spelling.proofs.Asked.{asked_reg-at, asked_reg-none, asked_rm-at, asked_rm-none, asked_index-at, asked_index-none, asked_vvvv-at, asked_vvvv-none, asked_opcode-at, asked_opcode-none, four_kinds, index_in_rm, each-at, reads_b}
 use Rattle.plain_fit.proofs.Given.{Given, NumbersSuit}
@@ -160,26 +160,26 @@ unfolding is_base
 base_small bits asize None h = let c = count_positive bits in omega arith
 base_small bits asize (Some r) h = address_register_small bits asize r h
 
-flat_index_small : (bits asize : Bits) (r : Option Register) → is_index bits asize r ≡ true → number_or_zero r < register_count bits
+wide_index_small : (bits asize : Bits) (r : Option Register) → is_index bits asize r ≡ true → number_or_zero r < register_count bits
 unfolding is_index
-flat_index_small bits asize None h = let c = count_positive bits in omega arith
-flat_index_small bits asize (Some r) h = address_register_small bits asize r (and_left (is_address_register bits asize r) (not (register_number r == 4)) h)
+wide_index_small bits asize None h = let c = count_positive bits in omega arith
+wide_index_small bits asize (Some r) h = address_register_small bits asize r (and_left (is_address_register bits asize r) (not (register_number r == 4)) h)
 
-flat_at_size : (bits : Bits) (base index : Option Register) (scale : ℕ) (shown : Option Bits) → (elim shown [ None ↦ false | Some asize ↦ is_flat_size bits asize && (is_base bits asize base && (is_index bits asize index && scale_suits index scale)) ]) ≡ true → SmallAddress bits base index
-flat_at_size bits base index scale None h = cc
-flat_at_size bits base index scale (Some asize) h =
+wide_at_size : (bits : Bits) (base index : Option Register) (scale : ℕ) (shown : Option Bits) → (elim shown [ None ↦ false | Some asize ↦ is_wide_size bits asize && (is_base bits asize base && (is_index bits asize index && scale_suits index scale)) ]) ≡ true → SmallAddress bits base index
+wide_at_size bits base index scale None h = cc
+wide_at_size bits base index scale (Some asize) h =
     let b = is_base bits asize base in
     let i = is_index bits asize index in
     let s = scale_suits index scale in
-    let h1 = and_right (is_flat_size bits asize) (b && (i && s)) h in
+    let h1 = and_right (is_wide_size bits asize) (b && (i && s)) h in
     record {
       base_is = base_small bits asize base (and_left b (i && s) h1);
-      index_is = flat_index_small bits asize index (and_left i s (and_right b (i && s) h1));
+      index_is = wide_index_small bits asize index (and_left i s (and_right b (i && s) h1));
     }
 
-flat_small : (bits : Bits) (m : Mem) → is_flat_shape bits m ≡ true → SmallAddress bits m.base m.index
-unfolding is_flat_shape
-flat_small bits m h = flat_at_size bits m.base m.index m.scale (shown_size m) h
+wide_small : (bits : Bits) (m : Mem) → is_wide_shape bits m ≡ true → SmallAddress bits m.base m.index
+unfolding is_wide_shape
+wide_small bits m h = wide_at_size bits m.base m.index m.scale (shown_size m) h
 
 no_index : (bits : Bits) (index : Option Register) → is_none index ≡ true → number_or_zero index < register_count bits
 no_index bits None h = let c = count_positive bits in omega arith
@@ -200,18 +200,18 @@ shape_small : (bits : Bits) (base index : Option Register) (scale disp : ℕ) (d
 unfolding is_shape form_of register_number
 shape_small bits None None scale disp disp_size h =
     let c = count_positive bits in record { base_is = omega arith; index_is = omega arith }
-shape_small bits None (Some r) scale disp disp_size h = flat_small bits (address None (Some r) scale disp disp_size) h
+shape_small bits None (Some r) scale disp disp_size h = wide_small bits (address None (Some r) scale disp disp_size) h
 shape_small bits (Some Rip) index scale disp disp_size h = pointer_small bits Rip index scale refl h
 shape_small bits (Some Eip) index scale disp disp_size h = pointer_small bits Eip index scale refl h
 shape_small bits (Some (R16 n)) index scale disp disp_size h =
     let some = is_some (rm_of_short n index) in
     let k = short_small bits n index (and_left some (scale == 1) (and_right (not (is_64 bits)) (some && scale == 1) h)) in
     record { base_is = k.0; index_is = k.1 }
-shape_small bits (Some r) index scale disp disp_size h = flat_small bits (address (Some r) index scale disp disp_size) h
+shape_small bits (Some r) index scale disp disp_size h = wide_small bits (address (Some r) index scale disp disp_size) h
 
-gather_base_at : (bits : Bits) (r : Register) (size : Option Bits) → (elim size [ None ↦ false | Some asize ↦ is_flat_size bits asize && is_address_register bits asize r ]) ≡ true → register_number r < register_count bits
+gather_base_at : (bits : Bits) (r : Register) (size : Option Bits) → (elim size [ None ↦ false | Some asize ↦ is_wide_size bits asize && is_address_register bits asize r ]) ≡ true → register_number r < register_count bits
 gather_base_at bits r None h = cc
-gather_base_at bits r (Some asize) h = address_register_small bits asize r (and_right (is_flat_size bits asize) (is_address_register bits asize r) h)
+gather_base_at bits r (Some asize) h = address_register_small bits asize r (and_right (is_wide_size bits asize) (is_address_register bits asize r) h)
 
 gather_base_small : (bits : Bits) (base : Option Register) → is_gather_base bits base ≡ true → number_or_zero base < register_count bits
 unfolding is_gather_base

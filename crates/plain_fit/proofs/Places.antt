@@ -33,9 +33,9 @@ use Rattle.instruction_parts.proofs.Tests.{either, and_left, and_right, not_true
 use Rattle.plain_spelling.specs.Forms.{operand_at, is_variant_of, is_allowed_in, is_register, is_memory}
 use Rattle.plain_spelling.specs.PlainFront.{register_number, number_in_reg, number_in_rm, asked, base_or_register_number}
 use Rattle.plain_spelling.specs.declared.addresses.AddressForm.{AddressForm}
-use Rattle.plain_spelling.specs.declared.addresses.AddressForm.TheVariants.{Relative, Alone, Short, Flat}
+use Rattle.plain_spelling.specs.declared.addresses.AddressForm.TheVariants.{Relative, Alone, Short, Wide}
 use Rattle.plain_spelling.specs.declared.addresses.AddressFields.{AddressFields}
-use Rattle.plain_spelling.specs.Addresses.{written_size, form_of, rm_of_one, rm_of_two, rm_of_short, displacement_count, mode_of_count, base_bits, flat_needs_sib, flat_fields, alone_fields, or_zero, address_fields}
+use Rattle.plain_spelling.specs.Addresses.{written_size, form_of, rm_of_one, rm_of_two, rm_of_short, displacement_count, mode_of_count, base_bits, wide_needs_sib, wide_fields, alone_fields, or_zero, address_fields}
 use Rattle.plain_spelling.specs.PlainTail.{rm_operand, rm_fields, no_address, lone_mode, fields_of, modrm_with, fixed_rm, plain_modrm, plain_sib_of}
 use Rattle.plain_spelling.specs.Expressible.{each_operand, kind_suits}
 use Rattle.plain_spelling.specs.Writable.{rule_is_plain, place_is_plain, is_register_only, is_memory_only}
@@ -110,11 +110,11 @@ base_mode : (base : Option Register) (n : ℕ) → n < 3 → (elim base [ None �
 base_mode None n h = omega arith
 base_mode (Some r) n h = h
 
-flat_small : (m : Mem) → FieldsSmall (flat_fields m)
-unfolding flat_fields
-flat_small m = record {
+wide_small : (m : Mem) → FieldsSmall (wide_fields m)
+unfolding wide_fields
+wide_small m = record {
   mode = base_mode m.base (mode_of_count (displacement_count m.disp_size)) (mode_small (displacement_count m.disp_size));
-  rm = if_below (flat_needs_sib m) 4 (base_bits m.base) 8 (omega arith) (base_below m.base);
+  rm = if_below (wide_needs_sib m) 4 (base_bits m.base) 8 (omega arith) (base_below m.base);
 }
 
 alone_small : (bits asize : Bits) (m : Mem) → FieldsSmall (alone_fields bits asize m)
@@ -131,12 +131,12 @@ form_small : (form : AddressForm) (bits asize : Bits) (m : Mem) → FieldsSmall 
   | Relative size ↦ record { mode3 = 0; rm = 5; sib = None }
   | Alone ↦ alone_fields bits asize m
   | Short base ↦ record { mode3 = mode_of_count (displacement_count m.disp_size); rm = or_zero (rm_of_short base m.index); sib = None }
-  | Flat ↦ flat_fields m
+  | Wide ↦ wide_fields m
 ])
 form_small (Relative size) bits asize m = record { mode = omega arith; rm = omega arith }
 form_small Alone bits asize m = alone_small bits asize m
 form_small (Short base) bits asize m = record { mode = mode_small (displacement_count m.disp_size); rm = short_below base m.index }
-form_small Flat bits asize m = flat_small m
+form_small Wide bits asize m = wide_small m
 
 -- **an address has mod below 3**
 pub address_small : (bits asize : Bits) (m : Mem) → FieldsSmall (address_fields bits asize m)

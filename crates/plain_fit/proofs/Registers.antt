@@ -44,9 +44,9 @@ use Rattle.row_meaning.specs.Meaning.{vector, register_of}
 use Rattle.instruction_parts.proofs.Tests.{either, and_left, and_right, not_true, or_right, equal_from}
 use Rattle.plain_spelling.specs.Forms.{operand_at, is_variant_of, is_register, is_memory, is_scale}
 use Rattle.plain_spelling.specs.PlainFront.{segment_number, register_number, number_or_zero, operand_number, operand_index_number, base_or_register_number, number_in_reg, number_in_rm, number_in_index, number_in_vvvv, number_in_opcode, asked, asks_r, asks_x, asks_b, asked_opcode, asked_repeat, plain_front_of}
-use Rattle.plain_spelling.specs.declared.addresses.AddressForm.TheVariants.{Flat}
+use Rattle.plain_spelling.specs.declared.addresses.AddressForm.TheVariants.{Wide}
 use Rattle.plain_spelling.specs.declared.addresses.AddressFields.{AddressFields}
-use Rattle.plain_spelling.specs.Addresses.{register_count, general_size, has_address_size, is_flat_size, is_address_register, form_of, written_size, index_bits, plain_sib, flat_needs_sib, flat_fields, address_fields, is_gather_base, index_named, is_vector_index, is_gather_shape, shape_suits}
+use Rattle.plain_spelling.specs.Addresses.{register_count, general_size, has_address_size, is_wide_size, is_address_register, form_of, written_size, index_bits, plain_sib, wide_needs_sib, wide_fields, address_fields, is_gather_base, index_named, is_vector_index, is_gather_shape, shape_suits}
 use Rattle.plain_spelling.specs.PlainTail.{modrm_with, plain_modrm, plain_sib_of}
 use Rattle.plain_spelling.specs.Expressible.{each_operand, kind_suits, naming_number, is_of_kind, is_not_nop, kind_allows, is_nameable, is_vector_register, vector_in_reg, vector_in_index, vector_in_vvvv, passes, differ as two_differ, gather_numbers_differ, gather_suits, register_suits, address_suits, is_exchange_of_90, repeat_suits, prefixes_suit, lock_suits, has_memory_operand, size_agrees, is_size_of, address_size_suits}
 use Rattle.plain_spelling.specs.Writable.{nop_is_bare, is_vector_file, names_vectors, gather_is_whole}
@@ -247,15 +247,15 @@ destination bits ip row i g = go (kind_at row 0) refl
 
 -- ---- gathers
 
-gather_form : (bits : Bits) (base index : Option Register) → is_gather_base bits base ≡ true → is_some index ≡ true → form_of base index ≡ Flat
-unfolding is_gather_base general_size is_flat_size form_of
+gather_form : (bits : Bits) (base index : Option Register) → is_gather_base bits base ≡ true → is_some index ≡ true → form_of base index ≡ Wide
+unfolding is_gather_base general_size is_wide_size form_of
 gather_form bits None None h k = cc
 gather_form bits None (Some r) h k = refl
 gather_form bits (Some Rip) index h k = cc
 gather_form bits (Some Eip) index h k = cc
 gather_form bits (Some (R16 n)) index h k =
-    let flat = and_left (has_address_size bits B16 && not (is_16 B16)) (is_address_register bits B16 (R16 n)) h in
-    let none : false ≡ true = and_right (has_address_size bits B16) (not (is_16 B16)) flat in
+    let wide = and_left (has_address_size bits B16 && not (is_16 B16)) (is_address_register bits B16 (R16 n)) h in
+    let none : false ≡ true = and_right (has_address_size bits B16) (not (is_16 B16)) wide in
     cc
 gather_form bits (Some _) index h k = refl
 
@@ -277,17 +277,17 @@ unfolding index_bits
 index_field None h = cc
 index_field (Some r) h = refl
 
-needs_by_index : (m : Mem) → is_some m.index ≡ true → flat_needs_sib m ≡ true
-unfolding flat_needs_sib
+needs_by_index : (m : Mem) → is_some m.index ≡ true → wide_needs_sib m ≡ true
+unfolding wide_needs_sib
 needs_by_index m h = rw h refl
 
-flat_of : (bits asize : Bits) (m : Mem) → form_of m.base m.index ≡ Flat → address_fields bits asize m ≡ flat_fields m
+wide_of : (bits asize : Bits) (m : Mem) → form_of m.base m.index ≡ Wide → address_fields bits asize m ≡ wide_fields m
 unfolding address_fields
-flat_of bits asize m e = rw (e, address_fields) refl
+wide_of bits asize m e = rw (e, address_fields) refl
 
-flat_rm : (m : Mem) → flat_needs_sib m ≡ true → ((flat_fields m).rm ≡ 4) × ((flat_fields m).sib ≡ Some (plain_sib m))
-unfolding flat_fields
-flat_rm m h = (rw h refl, rw h refl)
+wide_rm : (m : Mem) → wide_needs_sib m ≡ true → ((wide_fields m).rm ≡ 4) × ((wide_fields m).sib ≡ Some (plain_sib m))
+unfolding wide_fields
+wide_rm m h = (rw h refl, rw h refl)
 
 plain_sib_index : (m : Mem) → (plain_sib m).index ≡ index_bits m.index
 unfolding plain_sib
@@ -300,13 +300,13 @@ gather_fields bits row file asize m h =
     let i = is_vector_index bits row file m.index in
     let s = is_scale m.scale in
     let index = vector_index_is bits row file m.index (and_left i s (and_right b (i && s) h)) in
-    let flat = flat_of bits asize m (gather_form bits m.base m.index (and_left b (i && s) h) index) in
-    let parts = flat_rm m (needs_by_index m index) in
+    let wide = wide_of bits asize m (gather_form bits m.base m.index (and_left b (i && s) h) index) in
+    let parts = wide_rm m (needs_by_index m index) in
     record {
       mode = (address_small bits asize m).mode;
-      rm = ap (λ (x : AddressFields). x.rm) flat ∙ parts.0;
+      rm = ap (λ (x : AddressFields). x.rm) wide ∙ parts.0;
       sib = plain_sib m;
-      has_sib = ap (λ (x : AddressFields). x.sib) flat ∙ parts.1;
+      has_sib = ap (λ (x : AddressFields). x.sib) wide ∙ parts.1;
       index = plain_sib_index m ∙ index_field m.index index;
     }
 

@@ -20,11 +20,11 @@ use Rattle.instruction_parts.specs.Counting.{is_16, is_64}
 use Rattle.instruction_parts.specs.Sizes.{bit_b, bit_x}
 use Rattle.instruction_parts.proofs.Tests.{either, and_left, and_right, equal_from}
 use Rattle.row_fit.specs.Fits.{extended, is_displacement_alone, displacement_bytes, needs_sib, index_number}
-use Rattle.row_meaning.specs.Meaning.{general, vector, register_of, displacement, disp_size_of, index_16, memory_16, memory_alone, memory_with_sib, memory_flat, memory_of, sib_index}
+use Rattle.row_meaning.specs.Meaning.{general, vector, register_of, displacement, disp_size_of, index_16, memory_16, memory_alone, memory_with_sib, memory_wide, memory_of, sib_index}
 use Rattle.plain_spelling.specs.PlainFront.{register_number}
 use Rattle.plain_spelling.specs.declared.addresses.AddressFields.{AddressFields}
-use Rattle.plain_spelling.specs.Addresses.{form_of, displacement_count, mode_of_count, scale_field, base_bits, index_bits, plain_sib, flat_needs_sib, flat_fields, alone_fields, address_fields, or_zero, rm_of_short}
-use Rattle.plain_spelling.proofs.AddressCases.{address, impossible, memory_16-alone, memory_16-register, flat-alone, flat-register, sib_base-none, sib_base-some, sib_index-none, sib_index-some, number_of_general}
+use Rattle.plain_spelling.specs.Addresses.{form_of, displacement_count, mode_of_count, scale_field, base_bits, index_bits, plain_sib, wide_needs_sib, wide_fields, alone_fields, address_fields, or_zero, rm_of_short}
+use Rattle.plain_spelling.proofs.AddressCases.{address, impossible, memory_16-alone, memory_16-register, wide-alone, wide-register, sib_base-none, sib_base-some, sib_index-none, sib_index-some, number_of_general}
 use Rattle.plain_spelling.proofs.AddressForms.{IsVectorFile}
 use Rattle.plain_need.proofs.ReadShapes.{Reading, named, extended_low, with_parts, rm_is_four, sib_small}
 
@@ -84,19 +84,19 @@ fields_neither bits B32 scale disp size w = refl
 fields_neither bits B64 scale disp size w = refl
 
 fields_index : (bits asize : Bits) (r : Register) (scale disp : ℕ) (size : DispSize) → address_fields bits asize (address None (Some r) scale disp size) ≡ fields 0 4 (Some (sib_with (scale_field scale) (register_number r % 8) 5))
-unfolding address_fields form_of flat_fields flat_needs_sib plain_sib index_bits base_bits
+unfolding address_fields form_of wide_fields wide_needs_sib plain_sib index_bits base_bits
 fields_index bits asize r scale disp size = refl
 
 fields_both : (bits asize : Bits) (k : ℕ) (r : Register) (scale disp : ℕ) (size : DispSize) → is_16 asize ≡ false → address_fields bits asize (address (Some (general asize k)) (Some r) scale disp size)
     ≡ fields (mode_of_count (displacement_count size)) 4 (Some (sib_with (scale_field scale) (register_number r % 8) (k % 8)))
-unfolding general address_fields form_of flat_fields flat_needs_sib plain_sib index_bits base_bits register_number
+unfolding general address_fields form_of wide_fields wide_needs_sib plain_sib index_bits base_bits register_number
 fields_both bits B16 k r scale disp size w = impossible w
 fields_both bits B32 k r scale disp size w = refl
 fields_both bits B64 k r scale disp size w = refl
 
 fields_base : (bits asize : Bits) (k : ℕ) (scale disp : ℕ) (size : DispSize) → is_16 asize ≡ false → address_fields bits asize (address (Some (general asize k)) None scale disp size)
     ≡ fields (mode_of_count (displacement_count size)) (if k % 8 == 4 then 4 else k % 8) (if k % 8 == 4 then Some (sib_with 0 4 (k % 8)) else None)
-unfolding general address_fields form_of flat_fields flat_needs_sib plain_sib index_bits base_bits register_number
+unfolding general address_fields form_of wide_fields wide_needs_sib plain_sib index_bits base_bits register_number
 fields_base bits B16 k scale disp size w = impossible w
 fields_base bits B32 k scale disp size w = refl
 fields_base bits B64 k scale disp size w = refl
@@ -158,15 +158,15 @@ if_there : {T : Type 0} → (t : Bool) (a b : T) → t ≡ true → (if t then a
 if_there true a b h = refl
 if_there false a b h = impossible (sym h)
 
-plain_without : (bits asize : Bits) (st : PrefixState) (m : ModRm) (next : ℕ) (d : List ℕ) → is_16 asize ≡ false → Reading bits asize st m None d → address_fields bits asize (memory_flat bits asize st m None next d) ≡ fields m.mode3 m.rm None
+plain_without : (bits asize : Bits) (st : PrefixState) (m : ModRm) (next : ℕ) (d : List ℕ) → is_16 asize ≡ false → Reading bits asize st m None d → address_fields bits asize (memory_wide bits asize st m None next d) ≡ fields m.mode3 m.rm None
 plain_without bits asize st m next d w g = elim (either (m.mode3 == 0 && m.rm == 5)) [
   | inl alone ↦
-      ap (λ (x : Mem). address_fields bits asize x) (flat-alone bits asize st m next d alone) ∙ pointer_fields bits asize next d w
+      ap (λ (x : Mem). address_fields bits asize x) (wide-alone bits asize st m next d alone) ∙ pointer_fields bits asize next d w
       ∙ same_fields 0 m.mode3 5 m.rm None None (sym (equal_from m.mode3 0 (and_left (m.mode3 == 0) (m.rm == 5) alone))) (sym (equal_from m.rm 5 (and_right (m.mode3 == 0) (m.rm == 5) alone))) refl
   | inr beside ↦ (let k = extended (bit_b bits st) m.rm in
       let low : k % 8 ≡ m.rm = extended_low (bit_b bits st) m.rm g.rm in
       let four : (k % 8 == 4) ≡ false = ap (λ (x : ℕ). x == 4) low ∙ rm_not_four asize m w g.mode3 g.sib_is in
-      ap (λ (x : Mem). address_fields bits asize x) (flat-register bits asize st m next d beside) ∙ fields_base bits asize k 1 _ (disp_size_of (length d)) w
+      ap (λ (x : Mem). address_fields bits asize x) (wide-register bits asize st m next d beside) ∙ fields_base bits asize k 1 _ (disp_size_of (length d)) w
       ∙ same_fields _ m.mode3 _ m.rm _ None (mode_back bits asize st m None d g (alone_none asize m w ∙ beside)) (if_same (k % 8 == 4) 4 (k % 8) four ∙ low) (if_same (k % 8 == 4) _ None four))
 ]
 
@@ -379,7 +379,7 @@ without_sib bits B64 st m next d g = plain_without bits B64 st m next d refl g
 
 -- with one they are exactly where it is needed
 pub with_sib : (bits asize : Bits) (st : PrefixState) (m : ModRm) (s : Sib) (next : ℕ) (d : List ℕ) → Reading bits asize st m (Some s) d → SibIs bits asize m s (names_index st s) (memory_of bits asize st m (Some s) next d)
-unfolding memory_of memory_flat
+unfolding memory_of memory_wide
 with_sib bits B16 st m s next d g = none_sib s (sym (sib_none B16 m (Some s) refl g.sib_is))
 with_sib bits B32 st m s next d g = sib_is bits B32 st m s d refl g
 with_sib bits B64 st m s next d g = sib_is bits B64 st m s d refl g

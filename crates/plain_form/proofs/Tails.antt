@@ -17,9 +17,9 @@ use Rattle.instruction_parts.specs.Kinds.{file_of}
 use Rattle.instruction_parts.specs.Sizes.{size_bytes, state_address_size}
 use Rattle.instruction_parts.proofs.Tests.{either}
 use Rattle.row_fit.specs.Fits.{are_bytes, has_modrm, rm_number, is_displacement_alone, displacement_bytes, is_memory_method}
-use Rattle.row_meaning.specs.Meaning.{tail, operand_by, register_of, displacement, memory_16, memory_alone, memory_with_sib, memory_flat, memory_of, memory_absolute, memory_operand, gather_memory, with_modrm, target_of}
+use Rattle.row_meaning.specs.Meaning.{tail, operand_by, register_of, displacement, memory_16, memory_alone, memory_with_sib, memory_wide, memory_of, memory_absolute, memory_operand, gather_memory, with_modrm, target_of}
 use Rattle.plain_spelling.specs.Forms.{is_memory}
-use Rattle.plain_spelling.proofs.AddressCases.{impossible, flat-alone, flat-register}
+use Rattle.plain_spelling.proofs.AddressCases.{impossible, wide-alone, wide-register}
 use Rattle.plain_spelling.proofs.Asked.{reads_address}
 use Rattle.plain_spelling.proofs.Values.{width-le}
 use Rattle.plain_need.proofs.ReadShapes.{Reading}
@@ -73,23 +73,23 @@ alone_same B16 asize next a b p e = by_value asize a b p e
 alone_same B32 asize next a b p e = by_value asize a b p e
 alone_same B64 asize next a b p e = by_target asize next a b p e
 
-flat_same : (bits asize : Bits) (st : PrefixState) (m : ModRm) (sib : Option Sib) (next : ℕ) (a b : List ℕ) → Pair asize a b → (memory_flat bits asize st m sib next a).disp ≡ (memory_flat bits asize st m sib next b).disp → a ≡ b
-unfolding memory_flat memory_with_sib
-flat_same bits asize st m (Some s) next a b p e = by_value asize a b p e
-flat_same bits asize st m None next a b p e = elim (either (m.mode3 == 0 && m.rm == 5)) [
+wide_same : (bits asize : Bits) (st : PrefixState) (m : ModRm) (sib : Option Sib) (next : ℕ) (a b : List ℕ) → Pair asize a b → (memory_wide bits asize st m sib next a).disp ≡ (memory_wide bits asize st m sib next b).disp → a ≡ b
+unfolding memory_wide memory_with_sib
+wide_same bits asize st m (Some s) next a b p e = by_value asize a b p e
+wide_same bits asize st m None next a b p e = elim (either (m.mode3 == 0 && m.rm == 5)) [
   | inl alone ↦
       alone_same bits asize next a b p
-      (sym (ap (λ (x : Mem). x.disp) (flat-alone bits asize st m next a alone)) ∙ e ∙ ap (λ (x : Mem). x.disp) (flat-alone bits asize st m next b alone))
+      (sym (ap (λ (x : Mem). x.disp) (wide-alone bits asize st m next a alone)) ∙ e ∙ ap (λ (x : Mem). x.disp) (wide-alone bits asize st m next b alone))
   | inr beside ↦
       by_value asize a b p
-      (sym (ap (λ (x : Mem). x.disp) (flat-register bits asize st m next a beside)) ∙ e ∙ ap (λ (x : Mem). x.disp) (flat-register bits asize st m next b beside))
+      (sym (ap (λ (x : Mem). x.disp) (wide-register bits asize st m next a beside)) ∙ e ∙ ap (λ (x : Mem). x.disp) (wide-register bits asize st m next b beside))
 ]
 
 memory_same : (bits asize : Bits) (st : PrefixState) (m : ModRm) (sib : Option Sib) (next : ℕ) (a b : List ℕ) → Reading bits asize st m sib a → Reading bits asize st m sib b → memory_of bits asize st m sib next a ≡ memory_of bits asize st m sib next b → a ≡ b
 unfolding memory_of
 memory_same bits B16 st m sib next a b g h e = by_value B16 a b (pair_of bits B16 st m sib a b g h) (sym (disp_16 m a) ∙ ap (λ (x : Mem). x.disp) e ∙ disp_16 m b)
-memory_same bits B32 st m sib next a b g h e = flat_same bits B32 st m sib next a b (pair_of bits B32 st m sib a b g h) (ap (λ (x : Mem). x.disp) e)
-memory_same bits B64 st m sib next a b g h e = flat_same bits B64 st m sib next a b (pair_of bits B64 st m sib a b g h) (ap (λ (x : Mem). x.disp) e)
+memory_same bits B32 st m sib next a b g h e = wide_same bits B32 st m sib next a b (pair_of bits B32 st m sib a b g h) (ap (λ (x : Mem). x.disp) e)
+memory_same bits B64 st m sib next a b g h e = wide_same bits B64 st m sib next a b (pair_of bits B64 st m sib a b g h) (ap (λ (x : Mem). x.disp) e)
 
 -- ---- an operand
 

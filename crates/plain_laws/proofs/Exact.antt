@@ -22,7 +22,7 @@ use Rattle.row_fit.proofs.SoundLaws.{sound_conditions}
 use Rattle.row_meaning.specs.Meaning.{meaning, instr_of}
 use Rattle.plain_spelling.specs.Forms.{operand_at}
 use Rattle.plain_spelling.specs.declared.addresses.AddressForm.{AddressForm}
-use Rattle.plain_spelling.specs.declared.addresses.AddressForm.TheVariants.{Relative, Alone, Short, Flat}
+use Rattle.plain_spelling.specs.declared.addresses.AddressForm.TheVariants.{Relative, Alone, Short, Wide}
 use Rattle.plain_spelling.specs.Addresses.{form_of}
 use Rattle.plain_spelling.specs.PlainTail.{plain_spelling, plain_len, plain_size, plain_next}
 use Rattle.plain_spelling.specs.Expressible.{Suits, each_operand, failure, target_suits, near_reaches, address_reaches, kind_suits}
@@ -189,7 +189,7 @@ by_form : (next : ℕ) (m : Mem) (form : AddressForm) → (elim form [ Relative 
 by_form next m (Relative size) h = cc
 by_form next m Alone h = refl
 by_form next m (Short n) h = refl
-by_form next m Flat h = refl
+by_form next m Wide h = refl
 
 reached_at : (next : ℕ) (m : Mem) → is_target (MemOperand m) ≡ false → address_reaches next m ≡ true
 unfolding is_target address_reaches

@@ -23,7 +23,7 @@ use Rattle.instruction_parts.specs.declared.spelling.PrefixState.{PrefixState}
 use Rattle.instruction_parts.specs.Kinds.{file_of}
 use Rattle.instruction_parts.specs.Sizes.{state_size, state_address_size, bit_r, bit_x, bit_b, bit_w}
 use Rattle.row_fit.specs.Fits.{extended, has_modrm, reg_field, rm_field, reg_number, rm_number, index_number, is_displacement_alone, modrm_in_range, sib_in_range}
-use Rattle.row_meaning.specs.Meaning.{general, byte_register, vector, word_or_dword, size_by_w, native_size, segment_numbered, register_of, base_16, index_16, memory_16, memory_alone, sib_base, sib_index, memory_with_sib, memory_at_base, memory_flat, memory_of, memory_absolute, with_modrm, memory_operand, gather_memory, near_target, far_pointer, Tail, operand_by}
+use Rattle.row_meaning.specs.Meaning.{general, byte_register, vector, word_or_dword, size_by_w, native_size, segment_numbered, register_of, base_16, index_16, memory_16, memory_alone, sib_base, sib_index, memory_with_sib, memory_at_base, memory_wide, memory_of, memory_absolute, with_modrm, memory_operand, gather_memory, near_target, far_pointer, Tail, operand_by}
 use Rattle.plain_spelling.specs.PlainFront.{segment_number, register_number, number_or_zero, base_or_register_number, operand_index_number, number_in_reg, number_in_rm, number_in_index}
 use Rattle.instruction_parts.proofs.Tests.{and_left, and_right}
 
@@ -197,19 +197,19 @@ at_base-needs : (bits asize : Bits) (x : Bool) (st : PrefixState) (m : ModRm) (d
 unfolding memory_at_base
 at_base-needs bits asize x st m disp h = record { base = general_needs asize (bit_b bits st) m.rm h; index = no_number x }
 
-flat-needs : (bits asize : Bits) (st : PrefixState) (m : ModRm) (sib : Option Sib) (next : ℕ) (disp : List ℕ) → m.rm < 8 → sib_in_range sib ≡ true → AddressNeeds (bit_b bits st) (bit_x st) (memory_flat bits asize st m sib next disp)
-unfolding memory_flat
-flat-needs bits asize st m (Some s) next disp h r =
+wide-needs : (bits asize : Bits) (st : PrefixState) (m : ModRm) (sib : Option Sib) (next : ℕ) (disp : List ℕ) → m.rm < 8 → sib_in_range sib ≡ true → AddressNeeds (bit_b bits st) (bit_x st) (memory_wide bits asize st m sib next disp)
+unfolding memory_wide
+wide-needs bits asize st m (Some s) next disp h r =
     with_sib-needs bits asize st (sib_index asize st s) m s disp (sib_base_small s r) (sib_index-needs asize st s (sib_index_small s r))
-flat-needs bits asize st m None next disp h r =
+wide-needs bits asize st m None next disp h r =
     if_holds (AddressNeeds (bit_b bits st) (bit_x st)) (m.mode3 == 0 && m.rm == 5) _ _ (alone-needs (bit_b bits st) (bit_x st) bits asize next disp)
     (at_base-needs bits asize (bit_x st) st m disp h)
 
 pub memory-needs : (bits asize : Bits) (st : PrefixState) (m : ModRm) (sib : Option Sib) (next : ℕ) (disp : List ℕ) → m.rm < 8 → sib_in_range sib ≡ true → AddressNeeds (bit_b bits st) (bit_x st) (memory_of bits asize st m sib next disp)
 unfolding memory_of
 memory-needs bits B16 st m sib next disp h r = memory_16-needs (bit_b bits st) (bit_x st) m disp
-memory-needs bits B32 st m sib next disp h r = flat-needs bits B32 st m sib next disp h r
-memory-needs bits B64 st m sib next disp h r = flat-needs bits B64 st m sib next disp h r
+memory-needs bits B32 st m sib next disp h r = wide-needs bits B32 st m sib next disp h r
+memory-needs bits B64 st m sib next disp h r = wide-needs bits B64 st m sib next disp h r
 
 -- ---- operands
 

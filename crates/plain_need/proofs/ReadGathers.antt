@@ -19,7 +19,7 @@ use Rattle.row_fit.specs.Fits.{are_bytes, extended, index_number}
 use Rattle.row_meaning.specs.Meaning.{general, vector, register_of, disp_size_of, memory_absolute, memory_with_sib, displacement}
 use Rattle.plain_spelling.specs.Forms.{is_scale}
 use Rattle.plain_spelling.specs.PlainFront.{register_number}
-use Rattle.plain_spelling.specs.Addresses.{form_of, general_size, pointer_size, register_count, is_address_register, is_flat_size, index_named, is_vector_index, is_gather_base, is_gather_shape, shown_size, displacement_count, flat_offers, is_displacement}
+use Rattle.plain_spelling.specs.Addresses.{form_of, general_size, pointer_size, register_count, is_address_register, is_wide_size, index_named, is_vector_index, is_gather_base, is_gather_shape, shown_size, displacement_count, wide_offers, is_displacement}
 use Rattle.plain_spelling.specs.Expressible.{told_size, size_agrees}
 use Rattle.x86_values.proofs.Compared.{same_register-refl}
 use Rattle.plain_spelling.proofs.AddressCases.{address, impossible, sib_base-none, sib_base-some, agrees}
@@ -53,7 +53,7 @@ read_vector bits row st file n (inr e) = rw e refl
 -- the address of a gather that was read
 pub record IsGatherRead (bits asize : Bits) (row : Row) (file : File) (m : Mem) (n : ℕ) : Type 0 where
   pub shape : is_gather_shape bits row file m ≡ true
-  pub offer : flat_offers m.base n ≡ true
+  pub offer : wide_offers m.base n ≡ true
   pub value : is_displacement asize m ≡ true
   pub size : size_agrees asize (MemOperand m) ≡ true
   pub shown : agrees asize (shown_size m) ≡ true
@@ -78,7 +78,7 @@ gather_none bits asize row file r scale d n plain index scaled g = record {
 
 gather_some : (bits asize : Bits) (row : Row) (file : File) (k : ℕ) (r : Register) (scale : ℕ) (d : List ℕ) (n : ℕ) → is_16 asize ≡ false → nat_lt k (register_count bits) ≡ true → is_vector_index bits row file (Some r) ≡ true → is_scale scale ≡ true → Numbers bits asize (Some (general asize k)) d n
     → IsGatherRead bits asize row file (address (Some (general asize k)) (Some r) scale (displacement asize d) (disp_size_of n)) n
-unfolding general is_gather_shape is_gather_base is_flat_size is_address_register register_number form_of is_displacement size_agrees told_size shown_size general_size pointer_size
+unfolding general is_gather_shape is_gather_base is_wide_size is_address_register register_number form_of is_displacement size_agrees told_size shown_size general_size pointer_size
 gather_some bits B16 row file k r scale d n wide small index scaled g = impossible wide
 gather_some bits B32 row file k r scale d n wide small index scaled g = record {
   shape = rw (g.has, small, index, scaled) refl;

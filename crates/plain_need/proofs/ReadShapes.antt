@@ -17,14 +17,14 @@ use Rattle.instruction_parts.specs.Counting.{is_16, is_64}
 use Rattle.instruction_parts.specs.Sizes.{bit_b, bit_x}
 use Rattle.instruction_parts.proofs.Tests.{either, and_left, and_right, equal_from}
 use Rattle.row_fit.specs.Fits.{are_bytes, extended, is_displacement_alone, displacement_bytes, needs_sib, sib_in_range}
-use Rattle.row_meaning.specs.Meaning.{general, disp_size_of, base_16, index_16, memory_16, memory_alone, scale_of, sib_base, sib_index, memory_with_sib, memory_flat, memory_of, displacement, target_of}
+use Rattle.row_meaning.specs.Meaning.{general, disp_size_of, base_16, index_16, memory_16, memory_alone, scale_of, sib_base, sib_index, memory_with_sib, memory_wide, memory_of, displacement, target_of}
 use Rattle.plain_spelling.specs.Values.{is_extended_of}
 use Rattle.plain_spelling.specs.Forms.{is_scale}
 use Rattle.plain_spelling.specs.PlainFront.{register_number}
-use Rattle.plain_spelling.specs.Addresses.{form_of, general_size, pointer_size, register_count, has_address_size, is_address_register, is_base, is_index, scale_suits, is_flat_size, is_flat_shape, is_shape, shown_size, displacement_count, flat_offers, short_offers, form_offers, rm_of_one, rm_of_two, rm_of_short, is_displacement}
+use Rattle.plain_spelling.specs.Addresses.{form_of, general_size, pointer_size, register_count, has_address_size, is_address_register, is_base, is_index, scale_suits, is_wide_size, is_wide_shape, is_shape, shown_size, displacement_count, wide_offers, short_offers, form_offers, rm_of_one, rm_of_two, rm_of_short, is_displacement}
 use Rattle.plain_spelling.specs.Expressible.{told_size, size_agrees}
 use Rattle.plain_spelling.proofs.Values.{sign_extended-is_extended, width-le, target-below}
-use Rattle.plain_spelling.proofs.AddressCases.{address, impossible, if_yes, if_no, memory_16-alone, memory_16-register, flat-alone, flat-register, sib_base-none, sib_base-some, sib_index-none, sib_index-some, number_of_general, agrees}
+use Rattle.plain_spelling.proofs.AddressCases.{address, impossible, if_yes, if_no, memory_16-alone, memory_16-register, wide-alone, wide-register, sib_base-none, sib_base-some, sib_index-none, sib_index-some, number_of_general, agrees}
 
 -- an address that was read: a shape whose displacement has these bytes, and whose registers show the address size or none
 pub record IsRead (bits asize : Bits) (m : Mem) (n : ℕ) : Type 0 where
@@ -108,26 +108,26 @@ IsIndexNumber bits (Some j) scale = (nat_lt j (register_count bits) ≡ true) ×
 -- an address of these numbers
 pub record Numbers (bits asize : Bits) (base : Option Register) (d : List ℕ) (n : ℕ) : Type 0 where
   pub has : has_address_size bits asize ≡ true
-  pub offer : flat_offers base n ≡ true
+  pub offer : wide_offers base n ≡ true
   pub count : displacement_count (disp_size_of n) ≡ n
   pub few : n ≤ 8
   pub len : length d ≡ n
   pub bytes : are_bytes d ≡ true
 
 base_read : (bits asize : Bits) (k : ℕ) (d : List ℕ) (n : ℕ) → is_16 asize ≡ false → nat_lt k (register_count bits) ≡ true → Numbers bits asize (Some (general asize k)) d n → IsRead bits asize (address (Some (general asize k)) None 1 (displacement asize d) (disp_size_of n)) n
-unfolding general is_shape form_of is_flat_shape is_flat_size is_base is_index scale_suits is_address_register register_number form_offers is_displacement size_agrees told_size shown_size general_size pointer_size
+unfolding general is_shape form_of is_wide_shape is_wide_size is_base is_index scale_suits is_address_register register_number form_offers is_displacement size_agrees told_size shown_size general_size pointer_size
 base_read bits B16 k d n wide hk g = impossible wide
 base_read bits B32 k d n wide hk g = record { shape = rw (g.has, hk) refl; offer = g.offer; value = rw g.count (value_of B32 d n g.len g.few g.bytes); size = refl; shown = refl; count = g.count }
 base_read bits B64 k d n wide hk g = record { shape = rw (g.has, hk) refl; offer = g.offer; value = rw g.count (value_of B64 d n g.len g.few g.bytes); size = refl; shown = refl; count = g.count }
 
 index_read : (bits asize : Bits) (j scale : ℕ) (d : List ℕ) (n : ℕ) → is_16 asize ≡ false → IsIndexNumber bits (Some j) scale → Numbers bits asize None d n → IsRead bits asize (address None (Some (general asize j)) scale (displacement asize d) (disp_size_of n)) n
-unfolding general is_shape form_of is_flat_shape is_flat_size is_base is_index scale_suits is_address_register register_number form_offers is_displacement size_agrees told_size shown_size general_size pointer_size
+unfolding general is_shape form_of is_wide_shape is_wide_size is_base is_index scale_suits is_address_register register_number form_offers is_displacement size_agrees told_size shown_size general_size pointer_size
 index_read bits B16 j scale d n wide hj g = impossible wide
 index_read bits B32 j scale d n wide hj g = record { shape = rw (g.has, hj.0, hj.1, hj.2) refl; offer = g.offer; value = rw g.count (value_of B32 d n g.len g.few g.bytes); size = refl; shown = refl; count = g.count }
 index_read bits B64 j scale d n wide hj g = record { shape = rw (g.has, hj.0, hj.1, hj.2) refl; offer = g.offer; value = rw g.count (value_of B64 d n g.len g.few g.bytes); size = refl; shown = refl; count = g.count }
 
 sum_read : (bits asize : Bits) (k j scale : ℕ) (d : List ℕ) (n : ℕ) → is_16 asize ≡ false → nat_lt k (register_count bits) ≡ true → IsIndexNumber bits (Some j) scale → Numbers bits asize (Some (general asize k)) d n → IsRead bits asize (address (Some (general asize k)) (Some (general asize j)) scale (displacement asize d) (disp_size_of n)) n
-unfolding general is_shape form_of is_flat_shape is_flat_size is_base is_index scale_suits is_address_register register_number form_offers is_displacement size_agrees told_size shown_size general_size pointer_size
+unfolding general is_shape form_of is_wide_shape is_wide_size is_base is_index scale_suits is_address_register register_number form_offers is_displacement size_agrees told_size shown_size general_size pointer_size
 sum_read bits B16 k j scale d n wide hk hj g = impossible wide
 sum_read bits B32 k j scale d n wide hk hj g = record { shape = rw (g.has, hk, hj.0, hj.1, hj.2) refl; offer = g.offer; value = rw g.count (value_of B32 d n g.len g.few g.bytes); size = refl; shown = refl; count = g.count }
 sum_read bits B64 k j scale d n wide hk hj g = record { shape = rw (g.has, hk, hj.0, hj.1, hj.2) refl; offer = g.offer; value = rw g.count (value_of B64 d n g.len g.few g.bytes); size = refl; shown = refl; count = g.count }
@@ -169,12 +169,12 @@ bit_b-outside bits st e = rw e refl
 -- the bytes of a displacement beside a base of 32 or 64-bit addressing, whose low bits are a field
 pub record FlatBytes (low mode3 n : ℕ) : Type 0 where
   pub none : (mode3 == 0 && low == 5) ≡ true → n ≡ 4
-  pub offer : (mode3 == 0 && low == 5) ≡ false → (r : Register) → register_number r % 8 ≡ low → flat_offers (Some r) n ≡ true
+  pub offer : (mode3 == 0 && low == 5) ≡ false → (r : Register) → register_number r % 8 ≡ low → wide_offers (Some r) n ≡ true
   pub count : displacement_count (disp_size_of n) ≡ n
   pub few : n ≤ 8
 
-zero_offer : (r : Register) (low : ℕ) → (low == 5) ≡ false → register_number r % 8 ≡ low → flat_offers (Some r) 0 ≡ true
-unfolding flat_offers
+zero_offer : (r : Register) (low : ℕ) → (low == 5) ≡ false → register_number r % 8 ≡ low → wide_offers (Some r) 0 ≡ true
+unfolding wide_offers
 zero_offer r low h e = ap not (ap (λ (k : ℕ). k == 5) e ∙ h)
 
 zero_bytes : (low : ℕ) (test : Bool) → (low == 5) ≡ test → FlatBytes low 0 (if test then 4 else 0)
@@ -183,11 +183,11 @@ zero_bytes low true e = record { none = λ h. refl; offer = λ h. impossible (sy
 zero_bytes low false e = record { none = λ h. impossible (sym h ∙ e); offer = λ h r k. zero_offer r low e k; count = refl; few = omega arith }
 
 one_bytes : (low : ℕ) → FlatBytes low 1 1
-unfolding displacement_count disp_size_of flat_offers
+unfolding displacement_count disp_size_of wide_offers
 one_bytes low = record { none = λ h. impossible (sym h); offer = λ h r k. refl; count = refl; few = omega arith }
 
 two_bytes : (low : ℕ) → FlatBytes low 2 4
-unfolding displacement_count disp_size_of flat_offers
+unfolding displacement_count disp_size_of wide_offers
 two_bytes low = record { none = λ h. impossible (sym h); offer = λ h r k. refl; count = refl; few = omega arith }
 
 none_more : (test a : Bool) (x y : ℕ) → (if test || (a && false) then x else y) ≡ (if test then x else y)
@@ -313,7 +313,7 @@ base_numbers bits asize st m sib d low small g f other = record {
 
 -- the same without a base
 pub no_base : (bits asize : Bits) (st : PrefixState) (m : ModRm) (s : Sib) (d : List ℕ) → Reading bits asize st m (Some s) d → FlatBytes s.base m.mode3 (length d) → (m.mode3 == 0 && s.base == 5) ≡ true → Numbers bits asize None d (length d)
-unfolding flat_offers
+unfolding wide_offers
 no_base bits asize st m s d g f alone = record { has = g.has; offer = eq-eqb (length d) 4 (f.none alone); count = f.count; few = f.few; len = refl; bytes = g.bytes }
 
 index_number_is : (bits asize : Bits) (st : PrefixState) (m : ModRm) (s : Sib) (d : List ℕ) → Reading bits asize st m (Some s) d → (extended (bit_x st) s.index == 4) ≡ false → IsIndexNumber bits (Some (extended (bit_x st) s.index)) (2 ^ s.scale)
@@ -362,22 +362,22 @@ read_at_base bits asize st m s d wide g beside =
 bytes_of_rm : (bits asize : Bits) (st : PrefixState) (m : ModRm) (d : List ℕ) → is_16 asize ≡ false → Reading bits asize st m None d → FlatBytes m.rm m.mode3 (length d)
 bytes_of_rm bits asize st m d wide g = subst (λ (n : ℕ). FlatBytes m.rm m.mode3 n) (sym g.len) (rm_bytes asize m.mode3 m.reg m.rm wide g.mode3)
 
-read_without : (bits asize : Bits) (st : PrefixState) (m : ModRm) (next : ℕ) (d : List ℕ) → is_16 asize ≡ false → Reading bits asize st m None d → IsRead bits asize (memory_flat bits asize st m None next d) (length d)
+read_without : (bits asize : Bits) (st : PrefixState) (m : ModRm) (next : ℕ) (d : List ℕ) → is_16 asize ≡ false → Reading bits asize st m None d → IsRead bits asize (memory_wide bits asize st m None next d) (length d)
 read_without bits asize st m next d wide g =
     let f = bytes_of_rm bits asize st m d wide g in
     elim (either (m.mode3 == 0 && m.rm == 5)) [
       | inl alone ↦
-          same_read bits asize _ _ (length d) (flat-alone bits asize st m next d alone)
+          same_read bits asize _ _ (length d) (wide-alone bits asize st m next d alone)
           (subst (λ (n : ℕ). IsRead bits asize (memory_alone bits asize next d) n) (sym (f.none alone)) (pointer_read bits asize next d wide (f.none alone) g.bytes))
       | inr beside ↦
-          same_read bits asize _ _ (length d) (flat-register bits asize st m next d beside)
+          same_read bits asize _ _ (length d) (wide-register bits asize st m next d beside)
           (base_read bits asize (extended (bit_b bits st) m.rm) d (length d) wide (extended_count bits (bit_b bits st) m.rm g.rm (bit_b-outside bits st)) (base_numbers bits asize st m None d m.rm g.rm g f beside))
     ]
 
-read_flat : (bits asize : Bits) (st : PrefixState) (m : ModRm) (sib : Option Sib) (next : ℕ) (d : List ℕ) → is_16 asize ≡ false → Reading bits asize st m sib d → IsRead bits asize (memory_flat bits asize st m sib next d) (length d)
-unfolding memory_flat
-read_flat bits asize st m None next d wide g = read_without bits asize st m next d wide g
-read_flat bits asize st m (Some s) next d wide g = elim (either (m.mode3 == 0 && s.base == 5)) [
+read_wide : (bits asize : Bits) (st : PrefixState) (m : ModRm) (sib : Option Sib) (next : ℕ) (d : List ℕ) → is_16 asize ≡ false → Reading bits asize st m sib d → IsRead bits asize (memory_wide bits asize st m sib next d) (length d)
+unfolding memory_wide
+read_wide bits asize st m None next d wide g = read_without bits asize st m next d wide g
+read_wide bits asize st m (Some s) next d wide g = elim (either (m.mode3 == 0 && s.base == 5)) [
   | inl alone ↦ read_no_base bits asize st m s d wide g alone
   | inr beside ↦ read_at_base bits asize st m s d wide g beside
 ]
@@ -386,5 +386,5 @@ read_flat bits asize st m (Some s) next d wide g = elim (either (m.mode3 == 0 &&
 pub memory_read : (bits asize : Bits) (st : PrefixState) (m : ModRm) (sib : Option Sib) (next : ℕ) (d : List ℕ) → Reading bits asize st m sib d → IsRead bits asize (memory_of bits asize st m sib next d) (length d)
 unfolding memory_of
 memory_read bits B16 st m sib next d g = read_16 bits st m sib d g
-memory_read bits B32 st m sib next d g = read_flat bits B32 st m sib next d refl g
-memory_read bits B64 st m sib next d g = read_flat bits B64 st m sib next d refl g
+memory_read bits B32 st m sib next d g = read_wide bits B32 st m sib next d refl g
+memory_read bits B64 st m sib next d g = read_wide bits B64 st m sib next d refl g

@@ -24,12 +24,12 @@ use Rattle.instruction_parts.specs.Sizes.{bit_b, state_address_size}
 use Rattle.instruction_parts.proofs.Tests.{either}
 use Rattle.row_fit.specs.Fits.{extended, is_displacement_alone, needs_sib, has_modrm, is_memory_method, rm_number}
 use Rattle.row_fit.specs.Sound.{reads_rm}
-use Rattle.row_meaning.specs.Meaning.{general, displacement, disp_size_of, index_16, memory_16, memory_alone, memory_flat, memory_of, Tail, operand_by, memory_operand, register_of}
+use Rattle.row_meaning.specs.Meaning.{general, displacement, disp_size_of, index_16, memory_16, memory_alone, memory_wide, memory_of, Tail, operand_by, memory_operand, register_of}
 use Rattle.plain_spelling.specs.Forms.{is_memory}
 use Rattle.plain_spelling.specs.PlainFront.{register_number}
-use Rattle.plain_spelling.specs.Addresses.{form_of, base_bits, flat_needs_sib, flat_fields, alone_fields, address_fields, written_size}
+use Rattle.plain_spelling.specs.Addresses.{form_of, base_bits, wide_needs_sib, wide_fields, alone_fields, address_fields, written_size}
 use Rattle.plain_spelling.specs.PlainTail.{rm_fields}
-use Rattle.plain_spelling.proofs.AddressCases.{address, impossible, written_is, memory_16-alone, memory_16-register, flat-alone, flat-register}
+use Rattle.plain_spelling.proofs.AddressCases.{address, impossible, written_is, memory_16-alone, memory_16-register, wide-alone, wide-register}
 use Rattle.plain_need.proofs.ReadShapes.{Reading, memory_read, named, extended_low}
 use Rattle.plain_need.proofs.ReadOperands.{TailReads}
 
@@ -68,7 +68,7 @@ pointer_no_sib B32 B64 next d wide = record { none = refl }
 pointer_no_sib B64 B64 next d wide = record { none = refl }
 
 base_no_sib : (bits asize : Bits) (k : ℕ) (disp : ℕ) (size : DispSize) → is_16 asize ≡ false → (k % 8 == 4) ≡ false → NoSib bits asize (address (Some (general asize k)) None 1 disp size)
-unfolding general address_fields form_of flat_fields flat_needs_sib base_bits register_number
+unfolding general address_fields form_of wide_fields wide_needs_sib base_bits register_number
 base_no_sib bits B16 k disp size wide h = impossible wide
 base_no_sib bits B32 k disp size wide h = record { none = rw h refl }
 base_no_sib bits B64 k disp size wide h = record { none = rw h refl }
@@ -79,11 +79,11 @@ rm_not_four B16 m wide small h = impossible wide
 rm_not_four B32 m wide small h = (let e = lt-ltb m.mode3 3 small in sym (ap (λ (b : Bool). b && m.rm == 4) e) ∙ sym h)
 rm_not_four B64 m wide small h = (let e = lt-ltb m.mode3 3 small in sym (ap (λ (b : Bool). b && m.rm == 4) e) ∙ sym h)
 
-no_sib_flat : (bits asize : Bits) (st : PrefixState) (m : ModRm) (next : ℕ) (d : List ℕ) → is_16 asize ≡ false → Reading bits asize st m None d → NoSib bits asize (memory_flat bits asize st m None next d)
-no_sib_flat bits asize st m next d wide g = elim (either (m.mode3 == 0 && m.rm == 5)) [
-  | inl alone ↦ same_no_sib bits asize _ _ (flat-alone bits asize st m next d alone) (pointer_no_sib bits asize next d wide)
+no_sib_wide : (bits asize : Bits) (st : PrefixState) (m : ModRm) (next : ℕ) (d : List ℕ) → is_16 asize ≡ false → Reading bits asize st m None d → NoSib bits asize (memory_wide bits asize st m None next d)
+no_sib_wide bits asize st m next d wide g = elim (either (m.mode3 == 0 && m.rm == 5)) [
+  | inl alone ↦ same_no_sib bits asize _ _ (wide-alone bits asize st m next d alone) (pointer_no_sib bits asize next d wide)
   | inr beside ↦
-      same_no_sib bits asize _ _ (flat-register bits asize st m next d beside)
+      same_no_sib bits asize _ _ (wide-register bits asize st m next d beside)
       (base_no_sib bits asize (extended (bit_b bits st) m.rm) _ _ wide (ap (λ (k : ℕ). k == 4) (extended_low (bit_b bits st) m.rm g.rm) ∙ rm_not_four asize m wide g.mode3 g.sib_is))
 ]
 
@@ -91,8 +91,8 @@ no_sib_flat bits asize st m next d wide g = elim (either (m.mode3 == 0 && m.rm =
 pub no_sib : (bits asize : Bits) (st : PrefixState) (m : ModRm) (next : ℕ) (d : List ℕ) → Reading bits asize st m None d → NoSib bits asize (memory_of bits asize st m None next d)
 unfolding memory_of
 no_sib bits B16 st m next d g = no_sib_16 bits m d g.rm
-no_sib bits B32 st m next d g = no_sib_flat bits B32 st m next d refl g
-no_sib bits B64 st m next d g = no_sib_flat bits B64 st m next d refl g
+no_sib bits B32 st m next d g = no_sib_wide bits B32 st m next d refl g
+no_sib bits B64 st m next d g = no_sib_wide bits B64 st m next d refl g
 
 -- ---- an operand in r/m
 

@@ -26,7 +26,7 @@ use Rattle.instruction_parts.specs.Sizes.{state_size, state_address_size}
 use Rattle.instruction_parts.specs.Bytes.{state_of, bytes_of}
 use Rattle.instruction_parts.proofs.Tests.{either, and_left, and_right, equal_from}
 use Rattle.row_fit.specs.Fits.{are_bytes, kind_at, immediate_bytes, immediates_bytes, has_modrm, reads_mode, same_bool, needs_sib, full_displacement, displacement_bytes, is_displacement_alone, address_fits, lengths_fit, rm_number}
-use Rattle.row_meaning.specs.Meaning.{Tail, tail_of, operand_by, own_immediate, near_target, far_pointer, with_modrm, register_of, target_of, base_16, memory_16, memory_alone, memory_with_sib, memory_at_base, memory_flat, memory_of, memory_absolute, memory_operand, gather_memory, sib_base, general}
+use Rattle.row_meaning.specs.Meaning.{Tail, tail_of, operand_by, own_immediate, near_target, far_pointer, with_modrm, register_of, target_of, base_16, memory_16, memory_alone, memory_with_sib, memory_at_base, memory_wide, memory_of, memory_absolute, memory_operand, gather_memory, sib_base, general}
 use Rattle.row_meaning.specs.Meaning as meant
 use Rattle.plain_spelling.specs.Values.{is_extended_of, distance}
 use Rattle.plain_spelling.specs.Forms.{operand_at}
@@ -120,23 +120,23 @@ four_bytes size next disp short below h =
 
 reached_alone : (bits asize : Bits) (next : ℕ) (disp : List ℕ) → is_16 asize ≡ false → length disp ≤ 4 → next < 2 ^ 64 → are_bytes disp ≡ true → Reached next (memory_alone bits asize next disp)
 unfolding memory_alone address_reaches form_of
-reached_alone B64 B64 next disp flat short below h = four_bytes B64 next disp short below h
-reached_alone B64 B32 next disp flat short below h = four_bytes B32 next disp short below h
-reached_alone B64 B16 next disp flat short below h = cc
-reached_alone B32 asize next disp flat short below h = refl
-reached_alone B16 asize next disp flat short below h = refl
+reached_alone B64 B64 next disp wide short below h = four_bytes B64 next disp short below h
+reached_alone B64 B32 next disp wide short below h = four_bytes B32 next disp short below h
+reached_alone B64 B16 next disp wide short below h = cc
+reached_alone B32 asize next disp wide short below h = refl
+reached_alone B16 asize next disp wide short below h = refl
 
-reached_flat : (bits asize : Bits) (st : PrefixState) (m : ModRm) (sib : Option Sib) (next : ℕ) (disp : List ℕ) → is_16 asize ≡ false → length disp ≤ 4 → next < 2 ^ 64 → are_bytes disp ≡ true → Reached next (memory_flat bits asize st m sib next disp)
-unfolding memory_flat
-reached_flat bits asize st m (Some s) next disp flat short below h = reached_with_sib bits asize st _ m s next disp
-reached_flat bits asize st m None next disp flat short below h =
-    if_is (Reached next) (m.mode3 == 0 && m.rm == 5) _ _ (reached_alone bits asize next disp flat short below h) (reached_at_base bits asize st m next disp)
+reached_wide : (bits asize : Bits) (st : PrefixState) (m : ModRm) (sib : Option Sib) (next : ℕ) (disp : List ℕ) → is_16 asize ≡ false → length disp ≤ 4 → next < 2 ^ 64 → are_bytes disp ≡ true → Reached next (memory_wide bits asize st m sib next disp)
+unfolding memory_wide
+reached_wide bits asize st m (Some s) next disp wide short below h = reached_with_sib bits asize st _ m s next disp
+reached_wide bits asize st m None next disp wide short below h =
+    if_is (Reached next) (m.mode3 == 0 && m.rm == 5) _ _ (reached_alone bits asize next disp wide short below h) (reached_at_base bits asize st m next disp)
 
 reached_any : (bits asize : Bits) (st : PrefixState) (m : ModRm) (sib : Option Sib) (next : ℕ) (disp : List ℕ) → length disp ≤ 4 → next < 2 ^ 64 → are_bytes disp ≡ true → Reached next (memory_of bits asize st m sib next disp)
 unfolding memory_of
 reached_any bits B16 st m sib next disp short below h = reached_16 next m disp
-reached_any bits B32 st m sib next disp short below h = reached_flat bits B32 st m sib next disp refl short below h
-reached_any bits B64 st m sib next disp short below h = reached_flat bits B64 st m sib next disp refl short below h
+reached_any bits B32 st m sib next disp short below h = reached_wide bits B32 st m sib next disp refl short below h
+reached_any bits B64 st m sib next disp short below h = reached_wide bits B64 st m sib next disp refl short below h
 
 -- ---- one operand
 

@@ -15,7 +15,7 @@ use Rattle.instruction_parts.specs.declared.spelling.PrefixState.{PrefixState}
 use Rattle.instruction_parts.specs.Counting.{or_else}
 use Rattle.instruction_parts.specs.Sizes.{bit_b, bit_x}
 use Rattle.row_fit.specs.Fits.{extended, is_displacement_alone, index_number}
-use Rattle.row_meaning.specs.Meaning.{general, disp_size_of, base_16, index_16, memory_16, memory_alone, sib_base, sib_index, memory_at_base, memory_flat, displacement, instruction_pointer}
+use Rattle.row_meaning.specs.Meaning.{general, disp_size_of, base_16, index_16, memory_16, memory_alone, sib_base, sib_index, memory_at_base, memory_wide, displacement, instruction_pointer}
 use Rattle.plain_spelling.specs.PlainFront.{register_number}
 use Rattle.x86_values.specs.Comparing.{same_bits}
 use Rattle.plain_spelling.specs.declared.addresses.AddressForm.TheVariants.{Relative, Alone, Short}
@@ -72,13 +72,13 @@ pub memory_16-register : (m : ModRm) (disp : List ℕ) → is_displacement_alone
 unfolding memory_16
 memory_16-register m disp h = if_no (is_displacement_alone B16 m None) _ _ h
 
-pub flat-alone : (bits asize : Bits) (state : PrefixState) (m : ModRm) (next : ℕ) (disp : List ℕ) → (m.mode3 == 0 && m.rm == 5) ≡ true → memory_flat bits asize state m None next disp ≡ memory_alone bits asize next disp
-unfolding memory_flat
-flat-alone bits asize state m next disp h = if_yes (m.mode3 == 0 && m.rm == 5) _ _ h
+pub wide-alone : (bits asize : Bits) (state : PrefixState) (m : ModRm) (next : ℕ) (disp : List ℕ) → (m.mode3 == 0 && m.rm == 5) ≡ true → memory_wide bits asize state m None next disp ≡ memory_alone bits asize next disp
+unfolding memory_wide
+wide-alone bits asize state m next disp h = if_yes (m.mode3 == 0 && m.rm == 5) _ _ h
 
-pub flat-register : (bits asize : Bits) (state : PrefixState) (m : ModRm) (next : ℕ) (disp : List ℕ) → (m.mode3 == 0 && m.rm == 5) ≡ false → memory_flat bits asize state m None next disp ≡ address (Some (general asize (extended (bit_b bits state) m.rm))) None 1 (displacement asize disp) (disp_size_of (length disp))
-unfolding memory_flat memory_at_base
-flat-register bits asize state m next disp h = if_no (m.mode3 == 0 && m.rm == 5) _ _ h
+pub wide-register : (bits asize : Bits) (state : PrefixState) (m : ModRm) (next : ℕ) (disp : List ℕ) → (m.mode3 == 0 && m.rm == 5) ≡ false → memory_wide bits asize state m None next disp ≡ address (Some (general asize (extended (bit_b bits state) m.rm))) None 1 (displacement asize disp) (disp_size_of (length disp))
+unfolding memory_wide memory_at_base
+wide-register bits asize state m next disp h = if_no (m.mode3 == 0 && m.rm == 5) _ _ h
 
 pub sib_base-none : (bits asize : Bits) (state : PrefixState) (m : ModRm) (s : Sib) → (m.mode3 == 0 && s.base == 5) ≡ true → sib_base bits asize state m s ≡ None
 unfolding sib_base

@@ -20,8 +20,8 @@ use Rattle.plain_spelling.specs.Expressible.{has_memory_operand}
 use Rattle.plain_spelling.specs.Writable.{is_vector_file, names_vectors}
 use Rattle.plain_spelling.proofs.AddressCases.{impossible}
 use Rattle.plain_spelling.specs.declared.addresses.AddressForm.{AddressForm}
-use Rattle.plain_spelling.specs.declared.addresses.AddressForm.TheVariants.{Relative, Alone, Short, Flat}
-use Rattle.plain_spelling.specs.Addresses.{form_of, is_shape, is_flat_shape, rm_of_short, displacement_count, flat_offers, short_offers, form_offers}
+use Rattle.plain_spelling.specs.declared.addresses.AddressForm.TheVariants.{Relative, Alone, Short, Wide}
+use Rattle.plain_spelling.specs.Addresses.{form_of, is_shape, is_wide_shape, rm_of_short, displacement_count, wide_offers, short_offers, form_offers}
 
 abbrev pub shape_at : Bits → Mem → AddressForm → Bool
 shape_at bits m form =
@@ -29,7 +29,7 @@ shape_at bits m form =
       | Relative size ↦ is_64 bits && (is_none m.index && m.scale == 1)
       | Alone ↦ m.scale == 1
       | Short n ↦ not (is_64 bits) && (is_some (rm_of_short n m.index) && m.scale == 1)
-      | Flat ↦ is_flat_shape bits m
+      | Wide ↦ is_wide_shape bits m
     ]
 
 pub shape_is : (bits : Bits) (m : Mem) (form : AddressForm) → form_of m.base m.index ≡ form → is_shape bits m ≡ true → shape_at bits m form ≡ true
@@ -42,7 +42,7 @@ offers_at asize m n form =
       | Relative size ↦ n == 4
       | Alone ↦ n == full_displacement asize
       | Short base ↦ short_offers (rm_of_short base m.index) n
-      | Flat ↦ flat_offers m.base n
+      | Wide ↦ wide_offers m.base n
     ]
 
 pub offers_is : (asize : Bits) (m : Mem) (n : ℕ) (form : AddressForm) → form_of m.base m.index ≡ form → form_offers asize m n ≡ true → offers_at asize m n form ≡ true

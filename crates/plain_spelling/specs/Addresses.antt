@@ -20,7 +20,7 @@ use Rattle.instruction_parts.specs.Sizes.{size_bytes}
 use Rattle.row_fit.specs.Fits.{full_displacement}
 use Rattle.row_meaning.specs.Meaning.{vector}
 use Rattle.plain_spelling.specs.declared.addresses.AddressForm.{AddressForm}
-use Rattle.plain_spelling.specs.declared.addresses.AddressForm.TheVariants.{Relative, Alone, Short, Flat}
+use Rattle.plain_spelling.specs.declared.addresses.AddressForm.TheVariants.{Relative, Alone, Short, Wide}
 use Rattle.plain_spelling.specs.declared.addresses.AddressFields.{AddressFields}
 use Rattle.plain_spelling.specs.Values.{is_extended_of}
 use Rattle.plain_spelling.specs.Forms.{is_scale}
@@ -77,11 +77,11 @@ written_size bits asize m = size_or (shown_size m) (size_or asize bits)
 -- the form that base and index ask for
 unfoldable pub form_of : Option Register → Option Register → AddressForm
 form_of None None = Alone
-form_of None (Some _) = Flat
+form_of None (Some _) = Wide
 form_of (Some Rip) _ = Relative B64
 form_of (Some Eip) _ = Relative B32
 form_of (Some (R16 n)) _ = Short n
-form_of (Some _) _ = Flat
+form_of (Some _) _ = Wide
 
 -- rm of a lone register of 16-bit addressing: SI, DI, BP, BX (table 2-1)
 unfoldable pub rm_of_one : ℕ → Option ℕ
@@ -123,15 +123,15 @@ scale_suits None scale = scale == 1
 scale_suits (Some _) scale = is_scale scale
 
 -- a size of 32 or 64-bit addressing that the mode has
-unfoldable pub is_flat_size : Bits → Bits → Bool
-is_flat_size bits asize = has_address_size bits asize && not (is_16 asize)
+unfoldable pub is_wide_size : Bits → Bits → Bool
+is_wide_size bits asize = has_address_size bits asize && not (is_16 asize)
 
 -- a shape of 32 and 64-bit addressing (tables 2-2 and 2-3)
-unfoldable pub is_flat_shape : Bits → Mem → Bool
-is_flat_shape bits m =
+unfoldable pub is_wide_shape : Bits → Mem → Bool
+is_wide_shape bits m =
     elim (shown_size m) [
       | None ↦ false
-      | Some asize ↦ is_flat_size bits asize && (is_base bits asize m.base && (is_index bits asize m.index && scale_suits m.index m.scale))
+      | Some asize ↦ is_wide_size bits asize && (is_base bits asize m.base && (is_index bits asize m.index && scale_suits m.index m.scale))
     ]
 
 -- a shape that ModRM can write: RIP and EIP stand alone and in 64-bit mode, 16-bit addressing elsewhere
@@ -141,7 +141,7 @@ is_shape bits m =
       | Relative size ↦ is_64 bits && (is_none m.index && m.scale == 1)
       | Alone ↦ m.scale == 1
       | Short n ↦ not (is_64 bits) && (is_some (rm_of_short n m.index) && m.scale == 1)
-      | Flat ↦ is_flat_shape bits m
+      | Wide ↦ is_wide_shape bits m
     ]
 
 -- the vector register of a file with a number: XMM, or the row's vector
@@ -158,7 +158,7 @@ is_vector_index bits row file (Some r) =
 unfoldable pub is_gather_base : Bits → Option Register → Bool
 is_gather_base bits None = true
 is_gather_base bits (Some r) =
-    elim (general_size r) [ None ↦ false | Some asize ↦ is_flat_size bits asize && is_address_register bits asize r ]
+    elim (general_size r) [ None ↦ false | Some asize ↦ is_wide_size bits asize && is_address_register bits asize r ]
 
 -- a shape of a gather
 unfoldable pub is_gather_shape : Bits → Row → File → Mem → Bool
@@ -182,9 +182,9 @@ displacement_count D32 = 4
 displacement_count D64 = 8
 
 -- with a base all lengths stand, but none without bytes where the base's low three bits are 5; without a base four bytes (table 2-3)
-unfoldable pub flat_offers : Option Register → ℕ → Bool
-flat_offers None n = n == 4
-flat_offers (Some r) n = n == 1 || (n == 4 || (n == 0 && not (register_number r % 8 == 5)))
+unfoldable pub wide_offers : Option Register → ℕ → Bool
+wide_offers None n = n == 4
+wide_offers (Some r) n = n == 1 || (n == 4 || (n == 0 && not (register_number r % 8 == 5)))
 
 -- in 16-bit addressing all lengths stand, but BP alone has one byte or two (table 2-1)
 unfoldable pub short_offers : Option ℕ → ℕ → Bool
@@ -197,12 +197,12 @@ form_offers asize m n =
       | Relative size ↦ n == 4
       | Alone ↦ n == full_displacement asize
       | Short base ↦ short_offers (rm_of_short base m.index) n
-      | Flat ↦ flat_offers m.base n
+      | Wide ↦ wide_offers m.base n
     ]
 
 -- an operand that is read so offers it; an absolute address has the address size (2.2.1.4)
 unfoldable pub offers : Bits → Method → Mem → ℕ → Bool
-offers asize method.Gather m n = flat_offers m.base n
+offers asize method.Gather m n = wide_offers m.base n
 offers asize method.Offset m n = n == size_bytes asize
 offers asize _ m n = form_offers asize m n
 
@@ -247,15 +247,15 @@ plain_sib m = record {
 }
 
 -- an address of base and index needs a SIB with an index, without a base, and with a base whose low three bits are 4 (2.1.5, table 2-2)
-unfoldable pub flat_needs_sib : Mem → Bool
-flat_needs_sib m = is_some m.index || (is_none m.base || base_bits m.base == 4)
+unfoldable pub wide_needs_sib : Mem → Bool
+wide_needs_sib m = is_some m.index || (is_none m.base || base_bits m.base == 4)
 
 -- the fields in 32 and 64-bit addressing; without a base mod is 0
-unfoldable pub flat_fields : Mem → AddressFields
-flat_fields m = record {
+unfoldable pub wide_fields : Mem → AddressFields
+wide_fields m = record {
   mode3 = elim m.base [ None ↦ 0 | Some _ ↦ mode_of_count (displacement_count m.disp_size) ];
-  rm = if flat_needs_sib m then 4 else base_bits m.base;
-  sib = if flat_needs_sib m then Some (plain_sib m) else None;
+  rm = if wide_needs_sib m then 4 else base_bits m.base;
+  sib = if wide_needs_sib m then Some (plain_sib m) else None;
 }
 
 -- the fields of a displacement alone: rm 6 in 16-bit addressing, rm 5 in 32-bit modes, and a SIB in 64-bit mode, where rm 5 is relative
@@ -277,5 +277,5 @@ address_fields bits asize m =
       | Relative size ↦ record { mode3 = 0; rm = 5; sib = None }
       | Alone ↦ alone_fields bits asize m
       | Short base ↦ record { mode3 = mode_of_count (displacement_count m.disp_size); rm = or_zero (rm_of_short base m.index); sib = None }
-      | Flat ↦ flat_fields m
+      | Wide ↦ wide_fields m
     ]

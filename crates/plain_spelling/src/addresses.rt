@@ -26,7 +26,7 @@ pub enum AddressForm {
     /// A register or a sum of two in 16-bit addressing, by the number of its first register (table 2-1).
     Short(u8),
     /// Base, index or both in 32 or 64-bit addressing (tables 2-2 and 2-3).
-    Flat,
+    Wide,
 }
 
 /// What ModRM.mod, ModRM.rm and the SIB are.
@@ -145,12 +145,12 @@ pub fn form_of(base: Option<Register>, index: Option<Register>) -> AddressForm
     match base {
         None => match index {
             None => AddressForm::Alone,
-            Some(_) => AddressForm::Flat,
+            Some(_) => AddressForm::Wide,
         },
         Some(Register::Rip) => AddressForm::Relative(Bits::B64),
         Some(Register::Eip) => AddressForm::Relative(Bits::B32),
         Some(Register::R16(n)) => AddressForm::Short(n),
-        Some(_) => AddressForm::Flat,
+        Some(_) => AddressForm::Wide,
     }
 }
 
@@ -252,22 +252,22 @@ fn scale_suits(index: Option<Register>, scale: u8) -> bool
 }
 
 /// Whether an address size is 32 or 64 and one of the mode.
-#[tactic(auto, unfolding(crate::specs::Addresses::is_flat_size))]
-fn is_flat_size(bits: Bits, asize: Bits) -> bool
-    ensures { result ≡ spec.is_flat_size bits asize }
+#[tactic(auto, unfolding(crate::specs::Addresses::is_wide_size))]
+fn is_wide_size(bits: Bits, asize: Bits) -> bool
+    ensures { result ≡ spec.is_wide_size bits asize }
 {
     has_address_size(bits, asize) && !is_16(asize)
 }
 
 /// Whether base, index and scale are a shape of 32 and 64-bit addressing.
-#[tactic(auto, unfolding(crate::specs::Addresses::is_flat_shape))]
-fn is_flat_shape(bits: Bits, memory: Mem) -> bool
-    ensures { result ≡ spec.is_flat_shape bits memory }
+#[tactic(auto, unfolding(crate::specs::Addresses::is_wide_shape))]
+fn is_wide_shape(bits: Bits, memory: Mem) -> bool
+    ensures { result ≡ spec.is_wide_shape bits memory }
 {
     match shown_size(memory) {
         None => false,
         Some(asize) => {
-            is_flat_size(bits, asize)
+            is_wide_size(bits, asize)
                 && is_base(bits, asize, memory.base)
                 && is_index(bits, asize, memory.index)
                 && scale_suits(memory.index, memory.scale)
@@ -286,7 +286,7 @@ fn is_shape(bits: Bits, memory: Mem) -> bool
         AddressForm::Short(n) => !is_64(bits)
             && rm_of_short(n, memory.index).is_some()
             && memory.scale == 1,
-        AddressForm::Flat => is_flat_shape(bits, memory),
+        AddressForm::Wide => is_wide_shape(bits, memory),
     }
 }
 
@@ -336,7 +336,7 @@ fn is_gather_base(bits: Bits, base: Option<Register>) -> bool
         Some(register) => match general_size(register) {
             None => false,
             Some(asize) => {
-                is_flat_size(bits, asize) && is_address_register(bits, asize, register)
+                is_wide_size(bits, asize) && is_address_register(bits, asize, register)
             }
         },
     }
@@ -380,9 +380,9 @@ pub fn displacement_count(size: DispSize) -> u8
 }
 
 /// Whether an address by base and index offers a displacement of n bytes (tables 2-2 and 2-3).
-#[tactic(auto, unfolding(crate::specs::Addresses::flat_offers))]
-fn flat_offers(base: Option<Register>, n: u8) -> bool
-    ensures { result ≡ spec.flat_offers base n }
+#[tactic(auto, unfolding(crate::specs::Addresses::wide_offers))]
+fn wide_offers(base: Option<Register>, n: u8) -> bool
+    ensures { result ≡ spec.wide_offers base n }
 {
     match base {
         None => n == 4,
@@ -413,7 +413,7 @@ fn form_offers(asize: Bits, memory: Mem, n: u8) -> bool
         AddressForm::Relative(_) => n == 4,
         AddressForm::Alone => n == (if is_16(asize) { 2 } else { 4 }),
         AddressForm::Short(base) => short_offers(rm_of_short(base, memory.index), n),
-        AddressForm::Flat => flat_offers(memory.base, n),
+        AddressForm::Wide => wide_offers(memory.base, n),
     }
 }
 
@@ -423,7 +423,7 @@ fn offers(asize: Bits, method: Method, memory: Mem, n: u8) -> bool
     ensures { result ≡ spec.offers asize method memory n }
 {
     match method {
-        Method::Gather => flat_offers(memory.base, n),
+        Method::Gather => wide_offers(memory.base, n),
         Method::Offset => n == size_bytes(asize),
         _ => form_offers(asize, memory, n),
     }
@@ -517,23 +517,23 @@ fn plain_sib(memory: Mem) -> Sib
 }
 
 /// Whether an address of base and index needs a SIB: with an index, without a base, and with a base whose low three bits are 4.
-#[tactic(auto, unfolding(crate::specs::Addresses::flat_needs_sib))]
-fn flat_needs_sib(memory: Mem) -> bool
-    ensures { result ≡ spec.flat_needs_sib memory }
+#[tactic(auto, unfolding(crate::specs::Addresses::wide_needs_sib))]
+fn wide_needs_sib(memory: Mem) -> bool
+    ensures { result ≡ spec.wide_needs_sib memory }
 {
     memory.index.is_some() || memory.base.is_none() || base_bits(memory.base) == 4
 }
 
 /// The fields in 32 and 64-bit addressing; without a base mod is 0.
-#[tactic(auto, unfolding(crate::specs::Addresses::flat_fields))]
-fn flat_fields(memory: Mem) -> AddressFields
-    ensures { result ≡ spec.flat_fields memory }
+#[tactic(auto, unfolding(crate::specs::Addresses::wide_fields))]
+fn wide_fields(memory: Mem) -> AddressFields
+    ensures { result ≡ spec.wide_fields memory }
 {
     let mode3 = match memory.base {
         None => 0,
         Some(_) => mode_of_count(displacement_count(memory.disp_size)),
     };
-    if flat_needs_sib(memory) {
+    if wide_needs_sib(memory) {
         AddressFields {
             mode3,
             rm: 4,
@@ -602,6 +602,6 @@ pub fn address_fields(bits: Bits, asize: Bits, memory: Mem) -> AddressFields
             rm: or_zero(rm_of_short(base, memory.index)),
             sib: None,
         },
-        AddressForm::Flat => flat_fields(memory),
+        AddressForm::Wide => wide_fields(memory),
     }
 }

@@ -201,18 +201,18 @@ memory_at_base bits asize state m disp = record {
 }
 
 -- an address in 32 and 64-bit addressing (tables 2-2 and 2-3)
-unfoldable pub memory_flat : Bits → Bits → PrefixState → ModRm → Option Sib → ℕ → List ℕ → Mem
-memory_flat bits asize state m (Some s) next disp =
+unfoldable pub memory_wide : Bits → Bits → PrefixState → ModRm → Option Sib → ℕ → List ℕ → Mem
+memory_wide bits asize state m (Some s) next disp =
     memory_with_sib bits asize state (sib_index asize state s) m s disp
-memory_flat bits asize state m None next disp =
+memory_wide bits asize state m None next disp =
     if m.mode3 == 0 && m.rm == 5 then memory_alone bits asize next disp
     else memory_at_base bits asize state m disp
 
 -- an address of any size
 unfoldable pub memory_of : Bits → Bits → PrefixState → ModRm → Option Sib → ℕ → List ℕ → Mem
 memory_of bits B16 state m sib next disp = memory_16 m disp
-memory_of bits B32 state m sib next disp = memory_flat bits B32 state m sib next disp
-memory_of bits B64 state m sib next disp = memory_flat bits B64 state m sib next disp
+memory_of bits B32 state m sib next disp = memory_wide bits B32 state m sib next disp
+memory_of bits B64 state m sib next disp = memory_wide bits B64 state m sib next disp
 
 -- an absolute address of address size (2.2.1.4)
 unfoldable pub memory_absolute : Bits → List ℕ → Mem

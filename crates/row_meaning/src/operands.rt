@@ -120,8 +120,8 @@ fn memory_at_base(bits: Bits, asize: Bits, state: &PrefixState, m: ModRm, disp: 
 }
 
 /// An address in 32 and 64-bit addressing.
-#[tactic(auto, unfolding(crate::specs::Meaning::memory_flat, row_fit::specs::Fits::sib_in_range))]
-fn memory_flat(
+#[tactic(auto, unfolding(crate::specs::Meaning::memory_wide, row_fit::specs::Fits::sib_in_range))]
+fn memory_wide(
     bits: Bits,
     asize: Bits,
     state: &PrefixState,
@@ -133,7 +133,7 @@ fn memory_flat(
     requires rm { m.rm < 8 }
     requires sib { IsTrue (fits.sib_in_range sib) }
     requires disp { length disp.now ≤ 8 }
-    ensures { result ≡ spec.memory_flat bits asize state.now m sib next disp.now }
+    ensures { result ≡ spec.memory_wide bits asize state.now m sib next disp.now }
 {
     match sib {
         Some(s) => memory_with_sib(bits, asize, state, sib_index(asize, state, s), m, s, disp),
@@ -166,8 +166,8 @@ fn memory_of(
 {
     match asize {
         Bits::B16 => memory_16(m, disp),
-        Bits::B32 => memory_flat(bits, Bits::B32, state, m, sib, next, disp),
-        Bits::B64 => memory_flat(bits, Bits::B64, state, m, sib, next, disp),
+        Bits::B32 => memory_wide(bits, Bits::B32, state, m, sib, next, disp),
+        Bits::B64 => memory_wide(bits, Bits::B64, state, m, sib, next, disp),
     }
 }
 

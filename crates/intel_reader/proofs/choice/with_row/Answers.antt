@@ -10,11 +10,11 @@ use Rattle.intel_reader.proofs.choice.with_row.Goals as goal
 
 pub returns-clause-covers : goal.returns-clause-covers
 returns-clause-covers c = λ b asize size k e.
-    four c.args.bits c.args.ip c.args.text.now c.with_sizes-none.result c.with_sizes-short.result c.with_sizes-flat.result c.with_sizes.result b
+    four c.args.bits c.args.ip c.args.text.now c.with_sizes-none.result c.with_sizes-short.result c.with_sizes-wide.result c.with_sizes.result b
     (λ (z : Option Bits). spec.candidate c.args.bits c.args.row.now c.args.code c.args.words.now z size ≡ b.instr)
-    c.with_sizes-short.ensures.progress c.with_sizes-flat.ensures.progress c.with_sizes.ensures.progress
+    c.with_sizes-short.ensures.progress c.with_sizes-wide.ensures.progress c.with_sizes.ensures.progress
     (λ p. c.with_sizes-none.ensures.covers b size k p) (λ p. c.with_sizes-short.ensures.covers b size k p)
-    (λ p. c.with_sizes-flat.ensures.covers b size k p) (λ p. c.with_sizes.ensures.covers b size k p) asize e
+    (λ p. c.with_sizes-wide.ensures.covers b size k p) (λ p. c.with_sizes.ensures.covers b size k p) asize e
 
 pub returns-then-not-kinds_allow-clause-covers : goal.returns-then-not-kinds_allow-clause-covers
 returns-then-not-kinds_allow-clause-covers c = λ b asize size k e.
