@@ -12,7 +12,7 @@ use instruction_parts::sizes::is_vex_row;
 use row_meaning::row_memory_size;
 use row_types::{Map, OpKind, Row, Size};
 use text_parts::prefix_words::{has_memory, name_text};
-use text_parts::text::{append, append_literal};
+use text_parts::text::{append, append_few};
 use x86_values::{Bits, Instr};
 
 /// Whether a row is one of the x87 unit.
@@ -181,8 +181,8 @@ fn append_extension_letters<const N: usize>(out: &mut ArrayVec<u8, N>, row: &Row
     requires room { array_vec_len out.old + length (spec.extension_letters row.now) ≤ N }
     ensures { out.new.items ≡ out.old.items ++ spec.extension_letters row.now }
 {
-    append_literal(out, size_letter(row_memory_size(row)));
-    append_literal(out, operand_letter(row.size));
+    append_few(out, size_letter(row_memory_size(row)));
+    append_few(out, operand_letter(row.size));
 }
 
 /// Appends the name of an instruction whose row has this name, with its letters.
@@ -199,15 +199,15 @@ pub fn append_name<const N: usize>(
     ensures { out.new.items ≡ out.old.items ++ spec.att_name bits row.now name.now instr.now }
 {
     if is_zero_extension(name) {
-        append_literal(out, b"movz");
+        append_few(out, b"movz");
         append_extension_letters(out, row);
     } else if is_sign_extension(name) {
-        append_literal(out, b"movs");
+        append_few(out, b"movs");
         append_extension_letters(out, row);
     } else {
         append(out, name_text(bits, name, instr));
         if has_memory(instr) {
-            append_literal(out, memory_letter(row, name));
+            append_few(out, memory_letter(row, name));
         }
     }
 }

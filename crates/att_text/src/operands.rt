@@ -17,7 +17,7 @@ use text_parts::numbers::append_number;
 use text_parts::prefix_words::text_address_size;
 use text_parts::registers::{append_override, append_register};
 use text_parts::style::Style;
-use text_parts::text::append_literal;
+use text_parts::text::append_few;
 use x86_values::{Bits, Instr, Mem, Operand, Segment};
 
 /// Appends an index with its scale, if there is one.
@@ -29,7 +29,7 @@ fn append_index<const N: usize>(out: &mut ArrayVec<u8, N>, asize: Bits, m: &Mem)
     match m.index {
         None => {}
         Some(r) => {
-            append_literal(out, b",");
+            append_few(out, b",");
             append_register(out, Style::Att, r);
             append_scale(out, b",", asize, m.scale);
         }
@@ -42,10 +42,10 @@ fn append_registers<const N: usize>(out: &mut ArrayVec<u8, N>, asize: Bits, m: &
     requires { array_vec_len out.old + length (spec.att_registers asize m.now) ≤ N }
     ensures { out.new.items ≡ out.old.items ++ spec.att_registers asize m.now }
 {
-    append_literal(out, b"(");
+    append_few(out, b"(");
     append_base(out, Style::Att, m.base);
     append_index(out, asize, m);
-    append_literal(out, b")");
+    append_few(out, b")");
 }
 
 /// Appends a target in front of the instruction pointer.
@@ -55,9 +55,9 @@ fn append_relative<const N: usize>(out: &mut ArrayVec<u8, N>, m: &Mem)
     ensures { out.new.items ≡ out.old.items ++ spec.att_relative m.now }
 {
     append_number(out, Style::Att, m.disp);
-    append_literal(out, b"(");
+    append_few(out, b"(");
     append_base(out, Style::Att, m.base);
-    append_literal(out, b")");
+    append_few(out, b")");
 }
 
 /// Appends an address.
@@ -101,14 +101,14 @@ fn append_operand<const N: usize>(out: &mut ArrayVec<u8, N>, bits: Bits, instr: 
         Operand::Absent => {}
         Operand::Reg(r) => append_register(out, Style::Att, r),
         Operand::Imm(x) => {
-            append_literal(out, b"$");
+            append_few(out, b"$");
             append_number(out, Style::Att, x);
         }
         Operand::Near(x) => append_number(out, Style::Att, x),
         Operand::Far { selector, offset } => {
-            append_literal(out, b"$");
+            append_few(out, b"$");
             append_number(out, Style::Att, selector as u64);
-            append_literal(out, b", $");
+            append_few(out, b", $");
             append_number(out, Style::Att, offset as u64);
         }
         Operand::Mem(m) => append_memory(out, instr.seg, text_address_size(bits, instr), &m),
@@ -178,7 +178,7 @@ pub fn append_part<const N: usize>(
     ensures { out.new.items ≡ out.old.items ++ spec.att_part bits row.now name.now instr.now n }
 {
     let op = nth_operand(instr, n);
-    append_literal(out, separator(is_last(instr, n), op));
-    append_literal(out, star(row, name, n));
+    append_few(out, separator(is_last(instr, n), op));
+    append_few(out, star(row, name, n));
     append_operand(out, bits, instr, op);
 }

@@ -2,6 +2,7 @@
 //! says, and the front of some bytes (Intel SDM volume 2, chapter 2 and appendix A).
 #![tactic(auto)]
 
+pub mod append;
 pub mod bytes;
 pub mod counting;
 pub mod kinds;

@@ -11,18 +11,8 @@ use crate::words::{
     vex_map_text, w_text,
 };
 use arrayvec::ArrayVec;
+use instruction_parts::append::append;
 use row_types::{ModRmRule, Row, RowKind, RowShape};
-
-/// Appends a word.
-fn append(out: &mut ArrayVec<u8, 64>, word: &[u8])
-    requires { array_vec_len out.old + length word.now ≤ 64 }
-    ensures { out.new.items ≡ out.old.items ++ word.now }
-{
-    match out.try_extend_from_slice(word) {
-        Ok(()) => {}
-        Err(_) => {}
-    }
-}
 
 /// Appends a byte in two digits.
 fn append_byte(out: &mut ArrayVec<u8, 64>, b: u8)

@@ -12,6 +12,7 @@ ghost use Rattle.plain_spelling.specs.PlainTail.{address_operand, operand_displa
 ghost use Rattle.row_relation.specs.PlainBytes.{plain_tail_bytes, tail_count};
 
 use arrayvec::ArrayVec;
+use instruction_parts::append::{append, append_few};
 use instruction_parts::{ModRm, Sib, Spelling, Vex};
 use plain_spelling::parts::PlainParts;
 use plain_spelling::tail::{self, append_displacement, append_immediates};
@@ -83,16 +84,6 @@ fn vex_map_byte(v: Vex) -> u8
     r * 128 + x * 64 + b * 32 + map
 }
 
-/// Appends bytes.
-fn append<const N: usize>(out: &mut ArrayVec<u8, N>, bytes: &[u8])
-    requires { array_vec_len out.old + length bytes.now ≤ N }
-    ensures { out.new.items ≡ out.old.items ++ bytes.now }
-{
-    for b in bytes {
-        out.push(*b);
-    }
-}
-
 /// Appends a VEX.
 #[tactic(auto, unfolding(instruction_parts::specs::Bytes::vex_bytes))]
 fn append_vex(out: &mut ArrayVec<u8, 15>, v: Vex)
@@ -102,9 +93,9 @@ fn append_vex(out: &mut ArrayVec<u8, 15>, v: Vex)
     ensures { out.new.items ≡ out.old.items ++ spec.vex_bytes v }
 {
     if v.three {
-        append(out, &[0xC4, vex_map_byte(v), vex_last_byte(bit(v.w), v)]);
+        append_few(out, &[0xC4, vex_map_byte(v), vex_last_byte(bit(v.w), v)]);
     } else {
-        append(out, &[0xC5, vex_last_byte(inverted(v.r), v)]);
+        append_few(out, &[0xC5, vex_last_byte(inverted(v.r), v)]);
     }
 }
 
@@ -116,7 +107,7 @@ pub fn append_lead(out: &mut ArrayVec<u8, 15>, map: Map, vex: Option<Vex>)
     ensures { out.new.items ≡ out.old.items ++ spec.lead_bytes map vex }
 {
     match vex {
-        None => append(out, escape_bytes(map)),
+        None => append_few(out, escape_bytes(map)),
         Some(v) => append_vex(out, v),
     }
 }

@@ -5,7 +5,7 @@ ghost use Rattle.std.specs.Fmt.{digit_glyph};
 ghost use Rattle.arrayvec.specs.ArrayVec.{array_vec_len};
 ghost use Rattle.run_parts.specs.Hexadecimal as spec;
 
-use text_parts::text::{Text, append};
+use text_parts::text::{TEXT_LEN, Text, append};
 
 /// The places of a number's digits, more than 128 bits need.
 const PLACES: usize = 64;
@@ -40,7 +40,7 @@ fn write_digits(n: u128, places: &mut [u8; 64]) -> usize
 
 /// Appends a number in hexadecimal digits without leading zeros.
 pub fn append_hexadecimal(out: &mut Text, n: u128)
-    requires { array_vec_len out.old + 64 ≤ 160 }
+    requires { array_vec_len out.old + 64 ≤ TEXT_LEN }
     ensures items { out.new.items ≡ out.old.items ++ spec.hexadecimal n }
     ensures len { array_vec_len out.new ≤ array_vec_len out.old + 64 }
 {

@@ -5,7 +5,6 @@ ghost use Rattle.arrayvec.specs.ArrayVec.{array_vec_len};
 ghost use Rattle.opcode_rows.specs.Allowed.{is_well_formed};
 ghost use Rattle.sweep_text.specs.Info as spec;
 
-use crate::line::TEXT_LEN;
 use itoa::Buffer;
 use opcode_rows::ROWS;
 use operand_info::{Access, Flow, access_of, flow_of, ip_operand, memory_size, near_target};
@@ -13,7 +12,7 @@ use text_parts::laws::numbers_are_short;
 use text_parts::numbers::append_number;
 use text_parts::prefix_words::has_memory;
 use text_parts::style::Style;
-use text_parts::text::{Text, append};
+use text_parts::text::{TEXT_LEN, Text, append};
 use x86_values::{Instr, Operand};
 
 /// The name of a flow, as `info` and `flow` print it.

@@ -11,7 +11,8 @@ mod recode;
 mod texts;
 
 pub use info::flow_name;
-pub use line::{CHUNK_LEN, Chunk, LINE_LEN, append, append_address};
+pub use line::{CHUNK_LEN, Chunk, LINE_LEN, append_address};
 pub use lines::{Lines, append_line, stop_of};
 pub use reading::{item_len, read_at};
 pub use text_parts::style::Style;
+pub use text_parts::text::append;

@@ -12,6 +12,7 @@ use crate::texts::{append_instr_text, append_single_byte};
 use arrayvec::ArrayVec;
 use decoder::DecodeError;
 use text_parts::style::Style;
+use text_parts::text::{TEXT_LEN, append};
 use x86_values::{Bits, Decoded, wrap};
 
 /// How many bytes of text are held before they are written.
@@ -20,27 +21,11 @@ pub const CHUNK_LEN: usize = 16384;
 /// How many bytes a line of the listing has at most.
 pub const LINE_LEN: usize = 209;
 
-/// How many bytes the text of an item has at most.
-pub(crate) const TEXT_LEN: usize = 160;
-
 /// Text that is held before it is written.
-pub type Chunk = ArrayVec<u8, 16384>;
+pub type Chunk = ArrayVec<u8, CHUNK_LEN>;
 
 /// The places of the byte column: two for each of 15 bytes.
 const COLUMN_LEN: usize = 30;
-
-/// Appends bytes.
-#[inline]
-pub fn append<const N: usize>(out: &mut ArrayVec<u8, N>, bytes: &[u8])
-    requires { array_vec_len out.old + length bytes.now ≤ N }
-    ensures items { out.new.items ≡ out.old.items ++ bytes.now }
-    ensures len { array_vec_len out.new ≡ array_vec_len out.old + length bytes.now }
-{
-    match out.try_extend_from_slice(bytes) {
-        Ok(()) => {}
-        Err(_) => unreachable!(),
-    }
-}
 
 /// Appends the hexadecimal digits of some bytes.
 #[inline]

@@ -9,11 +9,12 @@ ghost use Rattle.sweep_text.specs.Recode.{recode_text};
 ghost use Rattle.sweep_text.specs.Lines as spec;
 
 use crate::info::info_text;
-use crate::line::{CHUNK_LEN, Chunk, LINE_LEN, TEXT_LEN, append, append_address, append_item_line};
+use crate::line::{CHUNK_LEN, Chunk, LINE_LEN, append_address, append_item_line};
 use crate::recode::recode_text;
 use decoder::DecodeError;
 use operand_info::laws::well_formed_codes_are_in_the_table;
 use text_parts::style::Style;
+use text_parts::text::{TEXT_LEN, append};
 use x86_values::{Bits, Decoded, Instr};
 
 /// What a command writes of the items of a sweep, a line each.

@@ -6,11 +6,11 @@ ghost use Rattle.x86_values.specs.Wrapping.{wrapped};
 ghost use Rattle.encoder.specs.Encoding.{written};
 ghost use Rattle.sweep_text.specs.Recode as spec;
 
-use crate::line::{TEXT_LEN, append_bytes};
+use crate::line::append_bytes;
 use arrayvec::ArrayVec;
 use encoder::{NoSpelling, encode};
 use itoa::Buffer;
-use text_parts::text::{Text, append};
+use text_parts::text::{TEXT_LEN, Text, append};
 use x86_values::{Bits, Instr, wrap};
 
 /// The number of a cause: the conditions are counted from 1.

@@ -5,11 +5,11 @@ ghost use Rattle.arrayvec.specs.ArrayVec.{array_vec_len};
 ghost use Rattle.opcode_rows.specs.Allowed.{is_well_formed};
 ghost use Rattle.sweep_text.specs.Listing as spec;
 
-use crate::line::{CHUNK_LEN, Chunk, TEXT_LEN, append as append_all};
+use crate::line::{CHUNK_LEN, Chunk};
 use text_parts::laws::numbers_are_short;
 use text_parts::numbers::append_number;
 use text_parts::style::Style;
-use text_parts::text::{Text, append};
+use text_parts::text::{TEXT_LEN, Text, append};
 use x86_values::{Bits, Instr};
 
 /// The directive that stands before the number of a single byte.
@@ -44,7 +44,7 @@ pub(crate) fn append_single_byte(out: &mut Chunk, syntax: Style, byte: u8)
     ensures items { out.new.items ≡ out.old.items ++ spec.single_byte_text syntax byte }
     ensures len { array_vec_len out.new ≤ array_vec_len out.old + TEXT_LEN }
 {
-    append_all(out, &single_byte_text(syntax, byte));
+    append(out, &single_byte_text(syntax, byte));
 }
 
 /// Appends the text of a well-formed instruction.

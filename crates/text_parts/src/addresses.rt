@@ -8,7 +8,7 @@ ghost use Rattle.text_parts.specs.Addresses as spec;
 use crate::numbers::{append_decimal, append_number};
 use crate::registers::{append_override, append_register};
 use crate::style::Style;
-use crate::text::append_literal;
+use crate::text::append_few;
 use arrayvec::ArrayVec;
 use x86_values::{Bits, DispSize, Mem, Register, Segment, wrap};
 
@@ -76,11 +76,11 @@ fn append_sign<const N: usize>(out: &mut ArrayVec<u8, N>, style: Style, negative
     ensures { out.new.items ≡ out.old.items ++ spec.sign style negative }
 {
     if negative {
-        append_literal(out, b"-");
+        append_few(out, b"-");
     } else {
         match style {
             Style::Att => {}
-            _ => append_literal(out, b"+"),
+            _ => append_few(out, b"+"),
         }
     }
 }
@@ -130,8 +130,8 @@ fn append_relative_word<const N: usize>(
 {
     match style {
         Style::Intel => match base {
-            Some(Register::Eip) => append_literal(out, b"rel32 "),
-            _ => append_literal(out, b"rel "),
+            Some(Register::Eip) => append_few(out, b"rel32 "),
+            _ => append_few(out, b"rel "),
         },
         _ => {}
     }
@@ -158,7 +158,7 @@ fn append_joint<const N: usize>(out: &mut ArrayVec<u8, N>, base: Option<Register
 {
     match base {
         None => {}
-        Some(_) => append_literal(out, b"+"),
+        Some(_) => append_few(out, b"+"),
     }
 }
 
@@ -171,7 +171,7 @@ pub fn append_scale<const N: usize>(out: &mut ArrayVec<u8, N>, mark: &[u8], asiz
     match asize {
         Bits::B16 => {}
         _ => {
-            append_literal(out, mark);
+            append_few(out, mark);
             append_decimal(out, scale);
         }
     }
@@ -235,7 +235,7 @@ fn append_bracket_segment<const N: usize>(
         Style::Masm => match segment {
             None => {
                 if is_absolute(m) {
-                    append_literal(out, b"ds:");
+                    append_few(out, b"ds:");
                 }
             }
             Some(_) => append_override(out, style, segment),
@@ -257,7 +257,7 @@ pub fn append_bracketed<const N: usize>(
     ensures { out.new.items ≡ out.old.items ++ spec.bracketed style segment asize m.now }
 {
     append_bracket_segment(out, style, segment, m);
-    append_literal(out, b"[");
+    append_few(out, b"[");
     append_inside(out, style, asize, m);
-    append_literal(out, b"]");
+    append_few(out, b"]");
 }

@@ -13,7 +13,7 @@ use crate::numbers::append_number;
 use crate::prefix_words::{append_prefix_words, name_text, text_address_size};
 use crate::registers::append_register;
 use crate::style::Style;
-use crate::text::{TEXT_LEN, Text, append, append_literal};
+use crate::text::{TEXT_LEN, Text, append, append_few};
 use arrayvec::ArrayVec;
 use row_fit::tail_fits::kind_at;
 use row_meaning::row_memory_size;
@@ -31,8 +31,8 @@ fn append_name<const N: usize>(out: &mut ArrayVec<u8, N>, style: Style, name: &[
     match name {
         [] => {}
         _ => match style {
-            Style::Masm => append_literal(out, b" ptr "),
-            _ => append_literal(out, b" "),
+            Style::Masm => append_few(out, b" ptr "),
+            _ => append_few(out, b" "),
         },
     }
 }
@@ -137,9 +137,9 @@ fn append_separator<const N: usize>(out: &mut ArrayVec<u8, N>, first: bool, op: 
     match op {
         Operand::Absent => {}
         _ => if first {
-            append_literal(out, b" ")
+            append_few(out, b" ")
         } else {
-            append_literal(out, b", ")
+            append_few(out, b", ")
         },
     }
 }
@@ -173,7 +173,7 @@ fn append_far<const N: usize>(out: &mut ArrayVec<u8, N>, style: Style, selector:
     ensures { out.new.items ≡ out.old.items ++ (number style selector ++ (codes ":" ++ number style offset)) }
 {
     append_number(out, style, u64::from(selector));
-    append_literal(out, b":");
+    append_few(out, b":");
     append_number(out, style, u64::from(offset));
 }
 

@@ -6,7 +6,7 @@ ghost use Rattle.text_parts.specs.Numbers as spec;
 
 use crate::digit_pairs::digit_pair;
 use crate::style::Style;
-use crate::text::append_literal;
+use crate::text::append_few;
 use arrayvec::ArrayVec;
 
 /// The ASCII code of a hexadecimal digit.
@@ -128,12 +128,12 @@ pub fn append_number<const N: usize>(out: &mut ArrayVec<u8, N>, style: Style, n:
 {
     match style {
         Style::Masm => {
-            append_literal(out, leading_zero(n));
+            append_few(out, leading_zero(n));
             append_hexadecimal(out, n);
-            append_literal(out, b"h");
+            append_few(out, b"h");
         }
         _ => {
-            append_literal(out, b"0x");
+            append_few(out, b"0x");
             append_hexadecimal(out, n);
         }
     }

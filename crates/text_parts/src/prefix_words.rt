@@ -6,7 +6,7 @@ ghost use Rattle.arrayvec.specs.ArrayVec.{array_vec_len};
 ghost use Rattle.text_parts.specs.PrefixWords as spec;
 
 use crate::registers::segment_name;
-use crate::text::append_literal;
+use crate::text::append_few;
 use arrayvec::ArrayVec;
 use instruction_parts::sizes::operand_size;
 use row_types::{Row, Size};
@@ -20,7 +20,7 @@ fn append_lock_word<const N: usize>(out: &mut ArrayVec<u8, N>, lock: bool)
     ensures { out.new.items ≡ out.old.items ++ spec.lock_word lock }
 {
     if lock {
-        append_literal(out, b"lock ");
+        append_few(out, b"lock ");
     }
 }
 
@@ -33,8 +33,8 @@ fn append_repeat_word<const N: usize>(out: &mut ArrayVec<u8, N>, rep: Rep)
 {
     match rep {
         Rep::None => {}
-        Rep::F2 => append_literal(out, b"repne "),
-        Rep::F3 => append_literal(out, b"rep "),
+        Rep::F2 => append_few(out, b"repne "),
+        Rep::F3 => append_few(out, b"rep "),
     }
 }
 
@@ -55,8 +55,8 @@ fn append_segment_word<const N: usize>(out: &mut ArrayVec<u8, N>, instr: &Instr)
         None => {}
         Some(s) => {
             if !has_memory(instr) {
-                append_literal(out, segment_name(s));
-                append_literal(out, b" ");
+                append_few(out, segment_name(s));
+                append_few(out, b" ");
             }
         }
     }
@@ -81,9 +81,9 @@ fn append_sized_word<const N: usize>(out: &mut ArrayVec<u8, N>, letter: &[u8], s
     requires { array_vec_len out.old + length (spec.sized_word letter.now size) ≤ N }
     ensures { out.new.items ≡ out.old.items ++ spec.sized_word letter.now size }
 {
-    append_literal(out, letter);
-    append_literal(out, size_digits(size));
-    append_literal(out, b" ");
+    append_few(out, letter);
+    append_few(out, size_digits(size));
+    append_few(out, b" ");
 }
 
 /// Whether two sizes differ.

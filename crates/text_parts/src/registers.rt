@@ -6,7 +6,7 @@ ghost use Rattle.text_parts.specs.Registers as spec;
 
 use crate::numbers::append_decimal;
 use crate::style::Style;
-use crate::text::{Text, append_literal};
+use crate::text::{Text, append_few};
 use arrayvec::ArrayVec;
 use x86_values::{Register, Segment};
 
@@ -82,9 +82,9 @@ fn append_numbered<const N: usize>(out: &mut ArrayVec<u8, N>, front: &[u8], n: u
     requires { array_vec_len out.old + length (spec.numbered front.now n back.now) ≤ N }
     ensures { out.new.items ≡ out.old.items ++ spec.numbered front.now n back.now }
 {
-    append_literal(out, front);
+    append_few(out, front);
     append_decimal(out, n);
-    append_literal(out, back);
+    append_few(out, back);
 }
 
 /// Appends the name of a general register.
@@ -94,8 +94,8 @@ fn append_general<const N: usize>(out: &mut ArrayVec<u8, N>, front: &[u8], n: u8
     ensures { out.new.items ≡ out.old.items ++ spec.general_name front.now n letter.now }
 {
     if n < 8 {
-        append_literal(out, front);
-        append_literal(out, word_name(n));
+        append_few(out, front);
+        append_few(out, word_name(n));
     } else {
         append_numbered(out, b"r", n, letter);
     }
@@ -108,7 +108,7 @@ fn append_low_byte<const N: usize>(out: &mut ArrayVec<u8, N>, n: u8)
     ensures { out.new.items ≡ out.old.items ++ spec.low_byte n }
 {
     if n < 8 {
-        append_literal(out, low_byte_name(n));
+        append_few(out, low_byte_name(n));
     } else {
         append_numbered(out, b"r", n, b"b");
     }
@@ -134,19 +134,19 @@ fn append_register_name<const N: usize>(out: &mut ArrayVec<u8, N>, style: Style,
 {
     match r {
         Register::Low8(n) => append_low_byte(out, n),
-        Register::High8(n) => append_literal(out, high_byte_name(n)),
+        Register::High8(n) => append_few(out, high_byte_name(n)),
         Register::R16(n) => append_general(out, b"", n, b"w"),
         Register::R32(n) => append_general(out, b"e", n, b"d"),
         Register::R64(n) => append_general(out, b"r", n, b""),
-        Register::Seg(s) => append_literal(out, segment_name(s)),
+        Register::Seg(s) => append_few(out, segment_name(s)),
         Register::Cr(n) => append_numbered(out, b"cr", n, b""),
         Register::Dr(n) => append_numbered(out, b"dr", n, b""),
         Register::St(n) => append_stack(out, style, n),
         Register::Mm(n) => append_numbered(out, b"mm", n, b""),
         Register::Xmm(n) => append_numbered(out, b"xmm", n, b""),
         Register::Ymm(n) => append_numbered(out, b"ymm", n, b""),
-        Register::Eip => append_literal(out, b"eip"),
-        Register::Rip => append_literal(out, b"rip"),
+        Register::Eip => append_few(out, b"eip"),
+        Register::Rip => append_few(out, b"rip"),
     }
 }
 
@@ -158,7 +158,7 @@ fn append_sigil<const N: usize>(out: &mut ArrayVec<u8, N>, style: Style)
     ensures { out.new.items ≡ out.old.items ++ spec.sigil style }
 {
     match style {
-        Style::Att => append_literal(out, b"%"),
+        Style::Att => append_few(out, b"%"),
         _ => {}
     }
 }
@@ -187,8 +187,8 @@ pub fn append_override<const N: usize>(
         None => {}
         Some(s) => {
             append_sigil(out, style);
-            append_literal(out, segment_name(s));
-            append_literal(out, b":");
+            append_few(out, segment_name(s));
+            append_few(out, b":");
         }
     }
 }
