@@ -4,17 +4,18 @@ use Rattle.x86_values.specs.declared.Bits.{Bits}
 use Rattle.x86_values.specs.declared.Bits.TheVariants.{B16, B32, B64}
 use Rattle.x86_values.specs.declared.Rep.{Rep}
 use Rattle.x86_values.specs.declared.Rep.TheVariants as rep
+use Rattle.instruction_parts.specs.Bytes.{bit}
 use Rattle.row_fields.specs.declared.Fields.{Fields}
 use Rattle.row_fields.specs.Holds.{prefix_of}
-use Rattle.row_fields.proofs.Masks.{number_of, size_number, plain_size}
+use Rattle.row_fields.specs.FieldNumbers.{size_number, plain_size}
 use Rattle.row_fields.proofs.Apart.{map_number-lt}
 use Rattle.handler_tables.specs.declared.node.Split.{Split}
 use Rattle.handler_tables.specs.declared.node.Split.TheVariants as split
 use Rattle.handler_tables.specs.Splits.{width_of, field_at}
 
-number_of-lt : (b : Bool) → number_of b < 2
-number_of-lt true = lit< tt
-number_of-lt false = lit< tt
+bit-lt : (b : Bool) → bit b < 2
+bit-lt true = lit< tt
+bit-lt false = lit< tt
 
 prefix_of-lt : (r : Rep) (b : Bool) → prefix_of r b < 4
 prefix_of-lt rep.F3 b = lit< tt
@@ -32,11 +33,11 @@ pub field_at-lt : (bits : Bits) (s : Split) (f : Fields) → f.opcode < 256 → 
 field_at-lt bits split.Kind f lt = map_number-lt f.vex f.map
 field_at-lt bits split.Opcode f lt = lt
 field_at-lt bits split.Prefix f lt = prefix_of-lt f.rep f.size66
-field_at-lt bits split.Place f lt = number_of-lt _
+field_at-lt bits split.Place f lt = bit-lt _
 field_at-lt bits split.Reg f lt = omega arith
 field_at-lt bits split.Rm f lt = omega arith
 field_at-lt bits split.Mode f lt = size_number-lt bits
 field_at-lt bits split.Size f lt = size_number-lt (plain_size bits f.size66 f.w)
-field_at-lt bits split.W f lt = number_of-lt f.w
-field_at-lt bits split.L f lt = number_of-lt f.l
-field_at-lt bits split.RexB f lt = number_of-lt f.rex_b
+field_at-lt bits split.W f lt = bit-lt f.w
+field_at-lt bits split.L f lt = bit-lt f.l
+field_at-lt bits split.RexB f lt = bit-lt f.rex_b

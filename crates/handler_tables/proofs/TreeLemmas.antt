@@ -5,7 +5,8 @@ use Rattle.x86_values.specs.declared.Bits.{Bits}
 use Rattle.x86_values.specs.declared.Code.{Code}
 use Rattle.row_fields.specs.declared.Fields.{Fields}
 use Rattle.row_fields.specs.Holds.{codes_holding}
-use Rattle.row_fields.proofs.Masks.{values, size_number}
+use Rattle.row_fields.proofs.Masks.{values}
+use Rattle.row_fields.specs.FieldNumbers.{size_number}
 use Rattle.row_fields.proofs.Cands.{Cand, alive, keep, value_at, alive-keep, alive-is_empty, alive-is_one, and-left, and-right}
 use Rattle.opcode_rows.specs.Table.{table}
 use Rattle.handler_tables.specs.declared.node.Next.{Next}

@@ -1,9 +1,10 @@
 -- What a node splits by, as a number of the fields.
 use Rattle.std.specs.Prelude.{ℕ, ◌==◌, ◌/◌, ◌%◌, Option, Some, None}
 use Rattle.x86_values.specs.declared.Bits.{Bits}
+use Rattle.instruction_parts.specs.Bytes.{bit}
 use Rattle.row_fields.specs.declared.Fields.{Fields}
 use Rattle.row_fields.specs.Holds.{map_number, byte_of, prefix_of}
-use Rattle.row_fields.proofs.Masks.{number_of, size_number, plain_size}
+use Rattle.row_fields.specs.FieldNumbers.{size_number, plain_size}
 use Rattle.handler_tables.specs.declared.node.Split.{Split}
 use Rattle.handler_tables.specs.declared.node.Split.TheVariants as split
 
@@ -26,14 +27,14 @@ abbrev pub field_at : Bits → Split → Fields → ℕ
 field_at bits split.Kind f = map_number f.vex f.map
 field_at bits split.Opcode f = f.opcode
 field_at bits split.Prefix f = prefix_of f.rep f.size66
-field_at bits split.Place f = number_of (byte_of f.modrm / 64 == 3)
+field_at bits split.Place f = bit (byte_of f.modrm / 64 == 3)
 field_at bits split.Reg f = byte_of f.modrm / 8 % 8
 field_at bits split.Rm f = byte_of f.modrm % 8
 field_at bits split.Mode f = size_number bits
 field_at bits split.Size f = size_number (plain_size bits f.size66 f.w)
-field_at bits split.W f = number_of f.w
-field_at bits split.L f = number_of f.l
-field_at bits split.RexB f = number_of f.rex_b
+field_at bits split.W f = bit f.w
+field_at bits split.L f = bit f.l
+field_at bits split.RexB f = bit f.rex_b
 
 -- the root for fields with a ModRM byte and for those without one
 abbrev pub root_of : Option ℕ → ℕ

@@ -2,7 +2,8 @@
 ghost use Rattle.std.specs.Prelude.{◌≡◌};
 ghost use Rattle.prefixes.specs.Answer.{mode_of};
 ghost use Rattle.row_fields.specs.Holds.{map_number, prefix_of, byte_of};
-ghost use Rattle.row_fields.proofs.Masks.{number_of, size_number, plain_size};
+ghost use Rattle.row_fields.specs.FieldNumbers.{size_number, plain_size};
+ghost use Rattle.instruction_parts.specs.Bytes as parts;
 ghost use Rattle.handler_tables.specs.Splits.{field_at};
 
 use crate::node::Split;
@@ -31,8 +32,9 @@ pub fn field_of<const BITS: u32>(split: Split, fields: &Fields) -> usize
     }
 }
 
+/// A bit as a number.
 fn bit(b: bool) -> usize
-    ensures { result ≡ number_of b }
+    ensures { result ≡ parts.bit b }
 {
     if b { 1 } else { 0 }
 }
@@ -54,6 +56,7 @@ pub(crate) fn kind_number(fields: &Fields) -> usize
     }
 }
 
+/// The prefixes that count, by number: 0 for none, 1 for 66, 2 for F3 and 3 for F2, which outrank 66 (2.1.1, 3.1.1.1).
 fn prefix_number(fields: &Fields) -> usize
     ensures { result ≡ prefix_of fields.now.rep fields.now.size66 }
 {
@@ -89,6 +92,7 @@ fn plain_size(bits: Bits, fields: &Fields) -> Bits
     }
 }
 
+/// The ModRM byte, or 0 where there is none.
 fn byte_number(fields: &Fields) -> u8
     ensures { result ≡ byte_of fields.now.modrm }
 {

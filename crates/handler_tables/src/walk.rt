@@ -76,6 +76,7 @@ fn root_number(fields: &Fields) -> u16
     }
 }
 
+/// A node of two entries.
 fn node2(at: u16) -> Node<2>
     requires { at < length nodes2 }
     ensures { slice_get nodes2 at ≡ Some result }
@@ -83,6 +84,7 @@ fn node2(at: u16) -> Node<2>
     Node::new(&NODES2[at as usize])
 }
 
+/// What a node of two entries splits by.
 fn split2(at: u16) -> Split
     requires { at < length splits2 }
     ensures { slice_get splits2 at ≡ Some result }
@@ -90,6 +92,7 @@ fn split2(at: u16) -> Split
     SPLITS2[at as usize]
 }
 
+/// A node of three entries.
 fn node3(at: u16) -> Node<3>
     requires { at < length nodes3 }
     ensures { slice_get nodes3 at ≡ Some result }
@@ -97,6 +100,7 @@ fn node3(at: u16) -> Node<3>
     Node::new(&NODES3[at as usize])
 }
 
+/// What a node of three entries splits by.
 fn split3(at: u16) -> Split
     requires { at < length splits3 }
     ensures { slice_get splits3 at ≡ Some result }
@@ -104,6 +108,7 @@ fn split3(at: u16) -> Split
     SPLITS3[at as usize]
 }
 
+/// A node of four entries.
 fn node4(at: u16) -> Node<4>
     requires { at < length nodes4 }
     ensures { slice_get nodes4 at ≡ Some result }
@@ -111,6 +116,7 @@ fn node4(at: u16) -> Node<4>
     Node::new(&NODES4[at as usize])
 }
 
+/// What a node of four entries splits by.
 fn split4(at: u16) -> Split
     requires { at < length splits4 }
     ensures { slice_get splits4 at ≡ Some result }
@@ -118,6 +124,7 @@ fn split4(at: u16) -> Split
     SPLITS4[at as usize]
 }
 
+/// A node of eight entries.
 fn node8(at: u16) -> Node<8>
     requires { at < length nodes8 }
     ensures { slice_get nodes8 at ≡ Some result }
@@ -125,6 +132,7 @@ fn node8(at: u16) -> Node<8>
     Node::new(&NODES8[at as usize])
 }
 
+/// What a node of eight entries splits by.
 fn split8(at: u16) -> Split
     requires { at < length splits8 }
     ensures { slice_get splits8 at ≡ Some result }
@@ -132,6 +140,7 @@ fn split8(at: u16) -> Split
     SPLITS8[at as usize]
 }
 
+/// A node of 256 entries.
 fn node256(at: u16) -> Node<256>
     requires { at < length nodes256 }
     ensures { slice_get nodes256 at ≡ Some result }

@@ -14,7 +14,9 @@ use Rattle.instruction_parts.specs.Counting.{is_64}
 use Rattle.instruction_parts.specs.Sizes.{exists_in, operand_size, has_bang}
 use Rattle.row_fields.specs.declared.Fields.{Fields}
 use Rattle.row_fields.specs.Holds.{holds, stands_in, map_number, byte_of, byte_holds, prefix_of, prefix_holds, place_holds, reg_holds, rm_holds, size_allows, size_holds, w_holds, l_holds, rex_b_holds}
-use Rattle.row_fields.proofs.Masks.{number_of, nth, allows, meets, two, three, four, reg_mask, rm_mask, plain_size, size_number, marked_size, size_mask, masks, values}
+use Rattle.instruction_parts.specs.Bytes.{bit}
+use Rattle.row_fields.specs.FieldNumbers.{plain_size, size_number}
+use Rattle.row_fields.proofs.Masks.{nth, allows, meets, two, three, four, reg_mask, rm_mask, marked_size, size_mask, masks, values}
 
 pub both : {a b c d : Bool} → a ≡ b → c ≡ d → (a && c) ≡ (b && d)
 both p q = cc
@@ -27,7 +29,7 @@ unfoldable pick : Bool → Bool → Bool → Bool
 pick x y true = y
 pick x y false = x
 
-two-any : (x y b : Bool) → allows (two x y) (number_of b) ≡ pick x y b
+two-any : (x y b : Bool) → allows (two x y) (bit b) ≡ pick x y b
 unfolding allows two nth pick
 two-any true true true = refl
 two-any true true false = refl
@@ -43,7 +45,7 @@ unfolding pick
 pick-at g true = refl
 pick-at g false = refl
 
-two-at : (g : Bool → Bool) (b : Bool) → allows (two (g false) (g true)) (number_of b) ≡ g b
+two-at : (g : Bool → Bool) (b : Bool) → allows (two (g false) (g true)) (bit b) ≡ g b
 two-at g b = two-any (g false) (g true) b ∙ pick-at g b
 
 three-0 : (a b c : Bool) → allows (three a b c) 0 ≡ a

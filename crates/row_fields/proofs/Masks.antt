@@ -9,8 +9,9 @@ use Rattle.row_types.specs.declared.ModRmRule.TheVariants as rule
 use Rattle.row_fields.specs.declared.Fields.{Fields}
 use Rattle.x86_values.specs.declared.Bits.{Bits}
 use Rattle.x86_values.specs.declared.Bits.TheVariants.{B16, B32, B64}
-use Rattle.instruction_parts.specs.Counting.{is_64}
-use Rattle.instruction_parts.specs.Sizes.{default_size, other_size, has_bang, has_caret}
+use Rattle.instruction_parts.specs.Bytes.{bit}
+use Rattle.instruction_parts.specs.Sizes.{has_bang, has_caret}
+use Rattle.row_fields.specs.FieldNumbers.{plain_size, size_number}
 use Rattle.row_fields.specs.Holds.{byte_of, byte_holds, prefix_of, prefix_holds, place_holds, size_allows, w_holds, l_holds, rex_b_holds}
 
 -- the values that a field may have
@@ -60,21 +61,6 @@ rm_mask (rule.Fixed b) plus.Stack = free
 rm_mask (rule.Fixed b) _ = only (b % 8)
 rm_mask _ _ = free
 
--- 1 for true
-abbrev pub number_of : Bool → ℕ
-number_of true = 1
-number_of false = 0
-
--- the operand size by the prefixes and the mode alone
-unfoldable pub plain_size : Bits → Bool → Bool → Bits
-plain_size bits size66 w = if is_64 bits && w then B64 else (if size66 then other_size bits else default_size bits)
-
--- the operand sizes by number
-unfoldable pub size_number : Bits → ℕ
-size_number B16 = 0
-size_number B32 = 1
-size_number B64 = 2
-
 -- the size that a row makes of it: in 64-bit mode BANG makes it 64, and CARET makes 32 to 64
 unfoldable pub marked_size : Bits → Row → Bits → Bits
 marked_size B64 r B16 = if has_bang r then B64 else B16
@@ -105,13 +91,13 @@ masks bits op r =
 -- what the fields have, in the same order
 unfoldable pub values : Bits → Fields → List ℕ
 values bits f =
-    number_of (is_some f.modrm)
+    bit (is_some f.modrm)
     ∷ prefix_of f.rep f.size66
-    ∷ number_of (byte_of f.modrm / 64 == 3)
+    ∷ bit (byte_of f.modrm / 64 == 3)
     ∷ byte_of f.modrm / 8 % 8
     ∷ byte_of f.modrm % 8
     ∷ size_number (plain_size bits f.size66 f.w)
-    ∷ number_of f.w
-    ∷ number_of f.l
-    ∷ number_of f.rex_b
+    ∷ bit f.w
+    ∷ bit f.l
+    ∷ bit f.rex_b
     ∷ []
