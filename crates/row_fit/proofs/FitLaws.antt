@@ -50,25 +50,37 @@ all_conditions bits row s h =
       ranges = and_right t r h3;
     }
 
--- the ranges of ModRM and SIB
-pub modrm_range : (s : Spelling) → fields_in_range s ≡ true → modrm_in_range s.modrm ≡ true
+-- the ranges of what stands behind the opcode byte
+pub record RangesBehind (s : Spelling) : Type 0 where
+  pub modrm : modrm_in_range s.modrm ≡ true
+  pub sib : sib_in_range s.sib ≡ true
+  pub disp : are_bytes s.disp.items ≡ true
+  pub imm : are_bytes s.imm.items ≡ true
+
+pub ranges_behind : (s : Spelling) → fields_in_range s ≡ true → RangesBehind s
 unfolding fields_in_range
-modrm_range s h =
-    let bytes = are_bytes s.disp.items && are_bytes s.imm.items in
-    let r1 = modrm_in_range s.modrm && (sib_in_range s.sib && bytes) in
-    let r2 = and_right (are_bytes s.prefixes.items) (vex_in_range s.vex && (nat_lt s.opcode 256 && r1)) h in
-    let r3 = and_right (vex_in_range s.vex) (nat_lt s.opcode 256 && r1) r2 in
-    and_left (modrm_in_range s.modrm) (sib_in_range s.sib && bytes) (and_right (nat_lt s.opcode 256) r1 r3)
+ranges_behind s h =
+    let m = modrm_in_range s.modrm in
+    let sib = sib_in_range s.sib in
+    let disp = are_bytes s.disp.items in
+    let imm = are_bytes s.imm.items in
+    let r1 = m && (sib && (disp && imm)) in
+    let h2 = and_right (are_bytes s.prefixes.items) (vex_in_range s.vex && (nat_lt s.opcode 256 && r1)) h in
+    let h3 = and_right (nat_lt s.opcode 256) r1 (and_right (vex_in_range s.vex) (nat_lt s.opcode 256 && r1) h2) in
+    let h4 = and_right m (sib && (disp && imm)) h3 in
+    let h5 = and_right sib (disp && imm) h4 in
+    record {
+      modrm = and_left m (sib && (disp && imm)) h3;
+      sib = and_left sib (disp && imm) h4;
+      disp = and_left disp imm h5;
+      imm = and_right disp imm h5;
+    }
+
+pub modrm_range : (s : Spelling) → fields_in_range s ≡ true → modrm_in_range s.modrm ≡ true
+modrm_range s h = (ranges_behind s h).modrm
 
 pub sib_range : (s : Spelling) → fields_in_range s ≡ true → sib_in_range s.sib ≡ true
-unfolding fields_in_range
-sib_range s h =
-    let bytes = are_bytes s.disp.items && are_bytes s.imm.items in
-    let r1 = modrm_in_range s.modrm && (sib_in_range s.sib && bytes) in
-    let r2 = and_right (are_bytes s.prefixes.items) (vex_in_range s.vex && (nat_lt s.opcode 256 && r1)) h in
-    let r3 = and_right (vex_in_range s.vex) (nat_lt s.opcode 256 && r1) r2 in
-    let r4 = and_right (modrm_in_range s.modrm) (sib_in_range s.sib && bytes) (and_right (nat_lt s.opcode 256) r1 r3) in
-    and_left (sib_in_range s.sib) bytes r4
+sib_range s h = (ranges_behind s h).sib
 
 -- the immediates are as long as the row asks
 pub immediates_length : (bits : Bits) (row : Row) (s : Spelling) → lengths_fit bits row (state_of bits row s) s.modrm s.sib (length s.disp.items) (length s.imm.items) ≡ true → length s.imm.items ≡ immediates_bytes (state_size bits row (state_of bits row s)) row

@@ -62,7 +62,7 @@ same_tail bits row state m n s t d e i j more others alike ls lt hm hn hs ht h =
     record { modrm = first.0; sib = second.0; disp = third.0; imm = fourth.0; rest = fourth.1 }
 
 -- a spelling of its parts
-abbrev spelled : List ℕ → Option Vex → ℕ → Option ModRm → Option Sib → List ℕ → List ℕ → Spelling
+abbrev pub spelled : List ℕ → Option Vex → ℕ → Option ModRm → Option Sib → List ℕ → List ℕ → Spelling
 spelled ps vex o m s d i = record {
   prefixes = record { items = ps };
   vex = vex;
