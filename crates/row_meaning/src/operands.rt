@@ -263,6 +263,7 @@ fn small_reg_number(state: &PrefixState, m: Option<ModRm>) -> u8
     small(reg_number(state, m))
 }
 
+/// The same of r/m.
 #[tactic(auto, unfolding(row_fit::specs::Fits::modrm_in_range, row_fit::specs::Fits::rm_number))]
 fn small_rm_number(bits: Bits, state: &PrefixState, m: Option<ModRm>) -> u8
     requires { IsTrue (fits.modrm_in_range m) }
