@@ -108,30 +108,6 @@ address_back bits row state (Some m) sib h =
 
 -- ---- the lead
 
-same_map-refl : (map : Map) → same_map map map ≡ true
-same_map-refl One = refl
-same_map-refl M0f = refl
-same_map-refl M0f38 = refl
-same_map-refl M0f3a = refl
-
-same_map-is : (a b : Map) → same_map a b ≡ true → a ≡ b
-same_map-is One One h = refl
-same_map-is One M0f h = cc
-same_map-is One M0f38 h = cc
-same_map-is One M0f3a h = cc
-same_map-is M0f One h = cc
-same_map-is M0f M0f h = refl
-same_map-is M0f M0f38 h = cc
-same_map-is M0f M0f3a h = cc
-same_map-is M0f38 One h = cc
-same_map-is M0f38 M0f h = cc
-same_map-is M0f38 M0f38 h = refl
-same_map-is M0f38 M0f3a h = cc
-same_map-is M0f3a One h = cc
-same_map-is M0f3a M0f h = cc
-same_map-is M0f3a M0f38 h = cc
-same_map-is M0f3a M0f3a h = refl
-
 -- a fitting VEX, or none, has the row's lead
 lead_from : (bits : Bits) (row : Row) (ps : List ℕ) (used : ℕ) (vex : Option Vex) (o : ℕ) (m : Option ModRm) → vex_fits bits row ps vex o m ≡ true → lead_fits bits row (state_from bits ps used vex (spelled_map row.map vex) o) m ≡ true
 unfolding lead_fits vex_fits state_from opcode_is_kept
@@ -340,18 +316,6 @@ tail_of_spelling bits row bytes state p s more behind h front e =
     }
 
 -- ---- from a tail to its spelling
-
--- a spelling of its parts
-abbrev pub spelled : List ℕ → Option Vex → ℕ → Option ModRm → Option Sib → List ℕ → List ℕ → Spelling
-spelled ps vex o m s d i = record {
-  prefixes = record { items = ps };
-  vex = vex;
-  opcode = o;
-  modrm = m;
-  sib = s;
-  disp = record { items = d };
-  imm = record { items = i };
-}
 
 fits_from : (bits : Bits) (row : Row) (s : Spelling) (state : PrefixState) → state_of bits row s ≡ state → state_fits bits row state ≡ true → prefixes_fit bits s.prefixes.items ≡ true → vex_fits bits row s.prefixes.items s.vex s.opcode s.modrm ≡ true → tail_fits bits row state s.modrm s.sib (length s.disp.items) (length s.imm.items) ≡ true → fields_in_range s ≡ true → fits bits row s ≡ true
 unfolding fits
