@@ -1,11 +1,16 @@
 -- The eleven conditions of a fitting spelling, each by its name.
-use Rattle.std.proofs.Common.{◌≡◌, true, ◌&&◌, ◌==◌, nat_lt, length}
+use Rattle.std.proofs.Common.{◌≡◌, true, false, ◌&&◌, ◌==◌, nat_lt, length, Option, Some, None, is_some, is_none, refl}
 use Rattle.x86_values.specs.declared.Bits.{Bits}
 use Rattle.row_types.specs.declared.Row.{Row}
+use Rattle.row_types.specs.declared.Plus.{Plus}
+use Rattle.row_types.specs.declared.ModRmRule.{ModRmRule}
+use Rattle.row_types.specs.declared.ModRmRule.TheVariants.{No as NoModRm, Any as AnyModRm, Digit, Fixed as FixedByte}
+use Rattle.instruction_parts.specs.declared.spelling.ModRm.{ModRm}
 use Rattle.instruction_parts.specs.declared.spelling.Spelling.{Spelling}
 use Rattle.instruction_parts.specs.Sizes.{state_size, state_address_size}
 use Rattle.instruction_parts.specs.Bytes.{state_of, state_from}
-use Rattle.row_fit.specs.Fits.{fits, Fits, mode_fits, prefixes_fit, class_fits, vex_fits, opcode_and_modrm_fit, sizes_fit, vvvv_fits, lengths_fit, lock_fits, registers_fit, fields_in_range, state_fits, tail_fits, vex_in_range, modrm_in_range, sib_in_range, are_bytes, address_fits, immediates_bytes}
+use Rattle.row_fit.specs.Fits.{fits, Fits, mode_fits, prefixes_fit, class_fits, vex_fits, opcode_and_modrm_fit, modrm_rule_fits, sizes_fit, vvvv_fits, lengths_fit, lock_fits, registers_fit, fields_in_range, state_fits, tail_fits, vex_in_range, modrm_in_range, sib_in_range, are_bytes, address_fits, immediates_bytes}
+use Rattle.row_fit.specs.Sound.{has_modrm_rule}
 use Rattle.instruction_parts.proofs.Tests.{and_left, and_right, equal_from}
 
 -- a fitting spelling meets each condition
@@ -49,6 +54,20 @@ all_conditions bits row s h =
       registers = and_right k g ht2;
       ranges = and_right t r h3;
     }
+
+no_modrm : (m : Option ModRm) → is_none m ≡ true → is_some m ≡ false
+no_modrm None h = refl
+no_modrm (Some m) h = cc
+
+-- a ModRM stands exactly where the row's rule has one
+pub modrm_stands : (plus : Plus) (rule : ModRmRule) (m : Option ModRm) → modrm_rule_fits plus rule m ≡ true → is_some m ≡ has_modrm_rule rule
+unfolding modrm_rule_fits
+modrm_stands plus NoModRm m h = no_modrm m h
+modrm_stands plus AnyModRm m h = h
+modrm_stands plus (Digit d) (Some m) h = refl
+modrm_stands plus (Digit d) None h = cc
+modrm_stands plus (FixedByte b) (Some m) h = refl
+modrm_stands plus (FixedByte b) None h = cc
 
 -- the ranges of what stands behind the opcode byte
 pub record RangesBehind (s : Spelling) : Type 0 where
