@@ -37,10 +37,12 @@ names_each_number Cn = false
 names_each_number Dn = false
 names_each_number _ = true
 
+-- an operand with every register number, that is no gather and whose limit to register or memory the row itself says
 unfoldable pub kind_is_bare : Place → OpKind → Bool
 kind_is_bare where_ kind =
     names_each_number kind && (not (is_gather (method_of kind)) && place_is_said where_ (place_of (method_of kind)))
 
+-- the ModRM byte is not fixed
 abbrev pub rule_is_bare : ModRmRule → Bool
 rule_is_bare (rule.Fixed _) = false
 rule_is_bare _ = true
@@ -51,6 +53,7 @@ bytes_are_bare plus.Register first = nat_le (first + 8) 0x62 || (nat_lt 0x90 fir
 bytes_are_bare _ first =
     not (first == 0x62) && (not (first == 0x8F) && (not (first == 0x90) && (not (first == 0xC4) && not (first == 0xC5))))
 
+-- the same, asked of rows of the one-byte map
 unfoldable pub opcode_is_bare : Map → Plus → ℕ → Bool
 opcode_is_bare map p first = not (is_map_one map) || bytes_are_bare p first
 

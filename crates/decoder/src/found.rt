@@ -89,6 +89,7 @@ fn fields_of(state: &PrefixState, next: Option<u8>) -> Fields
     }
 }
 
+/// The repeat prefix that counts, or that pp of the VEX says.
 fn repeat_of(vex: Option<Vex>, rep: Rep) -> Rep
     ensures { result ≡ spec.repeat_of vex rep }
 {
@@ -106,6 +107,7 @@ fn repeat_of(vex: Option<Vex>, rep: Rep) -> Rep
     }
 }
 
+/// Whether 66 occurs, or pp of the VEX says it.
 fn size66_of(vex: Option<Vex>, size66: bool) -> bool
     ensures { result ≡ spec.size66_of vex size66 }
 {
@@ -115,6 +117,7 @@ fn size66_of(vex: Option<Vex>, size66: bool) -> bool
     }
 }
 
+/// W of the VEX, else of the REX.
 fn w_of(vex: Option<Vex>, rex: Option<u8>) -> bool
     ensures { result ≡ spec.w_of vex rex }
 {
@@ -124,6 +127,7 @@ fn w_of(vex: Option<Vex>, rex: Option<u8>) -> bool
     }
 }
 
+/// L of the VEX, else no.
 fn l_of(vex: Option<Vex>) -> bool
     ensures { result ≡ spec.l_of vex }
 {

@@ -63,10 +63,12 @@ modrm_byte m = m.mode3 * 64 + m.reg * 8 + m.rm
 abbrev pub sib_byte : Sib → ℕ
 sib_byte s = s.scale * 64 + s.index * 8 + s.base
 
+-- the ModRM byte, where there is one
 abbrev pub modrm_bytes : Option ModRm → List ℕ
 modrm_bytes None = []
 modrm_bytes (Some m) = modrm_byte m ∷ []
 
+-- the SIB byte, where there is one
 abbrev pub sib_bytes : Option Sib → List ℕ
 sib_bytes None = []
 sib_bytes (Some s) = sib_byte s ∷ []

@@ -14,6 +14,7 @@ use Rattle.instruction_parts.specs.Counting.{is_64, rex_bit}
 abbrev pub has_mark : ℕ → Row → Bool
 has_mark mark row = bit_and row.marks.0 mark == mark
 
+-- the mark of rows that LOCK may stand before
 abbrev pub is_lockable : Row → Bool
 is_lockable row = has_mark 1 row
 
@@ -39,6 +40,7 @@ mode_flag B64 = 4
 unfoldable pub exists_in : Bits → Row → Bool
 exists_in bits row = bit_and row.modes.0 (mode_flag bits) == mode_flag bits
 
+-- the row is spelled with a VEX
 abbrev pub is_vex_row : Row → Bool
 is_vex_row row = elim row.kind [ Legacy ↦ false | VexRow ↦ true ]
 

@@ -38,24 +38,7 @@ fn spelled_map(map: Map, vex: Option<Vex>) -> Map
     }
 }
 
-/// What prefixes, VEX, map and opcode byte say.
-#[inline(always)]
-pub fn state_from(
-    bits: Bits,
-    prefixes: &[u8],
-    used: u8,
-    vex: Option<Vex>,
-    map: Map,
-    opcode: u8,
-) -> PrefixState
-    ensures { result ≡ spec.state_from bits prefixes.now used vex map opcode }
-{
-    let mut state = state_of_rex(None, used, vex, map, opcode);
-    state_into(bits, prefixes, used, vex, map, opcode, &mut state);
-    state
-}
-
-/// The same, written to a place.
+/// What prefixes, VEX, map and opcode byte say, written to a place.
 // Most instructions have no prefix or a REX alone: neither takes a pass over the prefixes.
 #[inline(always)]
 pub fn state_into(
@@ -115,16 +98,12 @@ fn state_behind(
     ensures { place.new ≡ spec.state_from bits prefixes.now used vex map opcode }
 {
     *place = PrefixState {
-        used,
         size66: has_66(prefixes),
         addr67: has_67(prefixes),
         lock: has_lock(prefixes),
         rep: counting_repeat(prefixes),
         seg: counting_segment(bits, prefixes),
-        rex: counting_rex(bits, prefixes),
-        vex,
-        map,
-        opcode,
+        ..state_of_rex(counting_rex(bits, prefixes), used, vex, map, opcode)
     };
 }
 
@@ -136,12 +115,8 @@ pub fn state_of(bits: Bits, row: &Row, s: &Spelling) -> PrefixState
 {
     let prefixes = s.prefixes.as_slice();
     let used = prefixes.len() as u8 + lead_len(row.map, s.vex);
-    state_from(
-        bits,
-        prefixes,
-        used,
-        s.vex,
-        spelled_map(row.map, s.vex),
-        s.opcode,
-    )
+    let map = spelled_map(row.map, s.vex);
+    let mut state = state_of_rex(None, used, s.vex, map, s.opcode);
+    state_into(bits, prefixes, used, s.vex, map, s.opcode, &mut state);
+    state
 }

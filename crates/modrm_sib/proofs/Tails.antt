@@ -2,11 +2,7 @@
 use Rattle.std.proofs.Common.{◌≡◌, inl, inr, ℕ, ◌+◌, Bool, true, false, ◌&&◌, not, ◌==◌, List, [], ◌∷◌, ◌++◌, length, Option, Some, None, refl, ap, sym, ◌∙◌, subst, arith, append_assoc, length-append, if◌then◌else◌, is_some, is_none, nat_lt, eq-eqb}
 use Rattle.x86_values.specs.declared.Bits.{Bits}
 use Rattle.row_types.specs.declared.Map.{Map}
-use Rattle.row_types.specs.declared.Map.TheVariants.{One, M0f, M0f38, M0f3a}
 use Rattle.row_types.specs.declared.Row.{Row}
-use Rattle.row_types.specs.declared.Plus.{Plus}
-use Rattle.row_types.specs.declared.ModRmRule.{ModRmRule}
-use Rattle.row_types.specs.declared.ModRmRule.TheVariants.{No as NoModRm, Any as AnyModRm, Digit, Fixed as FixedByte}
 use Rattle.instruction_parts.specs.declared.spelling.Vex.{Vex}
 use Rattle.instruction_parts.specs.declared.spelling.ModRm.{ModRm}
 use Rattle.instruction_parts.specs.declared.spelling.Sib.{Sib}
@@ -18,9 +14,11 @@ use Rattle.instruction_parts.specs.Front.{forbids_vex, long_front, Known}
 use Rattle.row_fit.specs.Fits.{fits, Fits, mode_fits, class_fits, sizes_fit, prefixes_fit, vex_fits, opcode_is_kept, is_opcode, opcode_allows, is_vex_of_mode, same_map, same_bool, opcode_and_modrm_fit, opcode_fits, modrm_rule_fits, place_fits, lengths_fit, address_fits, reads_mode, reads_by, is_offset, needs_sib, displacement_bytes, immediates_bytes, lock_fits, registers_fit, state_fits, tail_fits, are_bytes, vex_in_range, modrm_in_range, sib_in_range, fields_in_range}
 use Rattle.row_fit.specs.Sound.{has_modrm_rule}
 use Rattle.instruction_parts.proofs.Tests.{either, and_left, and_right, not_true, equal_from}
-use Rattle.row_fit.proofs.FitLaws.{all_conditions, modrm_range, sib_range}
+use Rattle.row_fit.proofs.FitLaws.{all_conditions, modrm_stands, ranges_behind}
 use Rattle.row_fit.proofs.FrontLaws.{front_law}
 use Rattle.row_fit.proofs.FrontConverse.{same_state}
+use Rattle.row_fit.proofs.OneSpelling.{spelled, all_parted}
+use Rattle.row_fit.proofs.SameMap.{same_map-is, same_map-refl}
 use Rattle.row_fit.proofs.TailLaws.{cancel_front}
 use Rattle.modrm_sib.specs.Parts.{takes_sib, displacement_len, lead_fits, parts_fit}
 use Rattle.row_fit.specs.FrontParts.{LeadIsProper, Parted}
@@ -107,30 +105,6 @@ address_back bits row state (Some m) sib h =
     ]
 
 -- ---- the lead
-
-same_map-refl : (map : Map) → same_map map map ≡ true
-same_map-refl One = refl
-same_map-refl M0f = refl
-same_map-refl M0f38 = refl
-same_map-refl M0f3a = refl
-
-same_map-is : (a b : Map) → same_map a b ≡ true → a ≡ b
-same_map-is One One h = refl
-same_map-is One M0f h = cc
-same_map-is One M0f38 h = cc
-same_map-is One M0f3a h = cc
-same_map-is M0f One h = cc
-same_map-is M0f M0f h = refl
-same_map-is M0f M0f38 h = cc
-same_map-is M0f M0f3a h = cc
-same_map-is M0f38 One h = cc
-same_map-is M0f38 M0f h = cc
-same_map-is M0f38 M0f38 h = refl
-same_map-is M0f38 M0f3a h = cc
-same_map-is M0f3a One h = cc
-same_map-is M0f3a M0f h = cc
-same_map-is M0f3a M0f38 h = cc
-same_map-is M0f3a M0f3a h = refl
 
 -- a fitting VEX, or none, has the row's lead
 lead_from : (bits : Bits) (row : Row) (ps : List ℕ) (used : ℕ) (vex : Option Vex) (o : ℕ) (m : Option ModRm) → vex_fits bits row ps vex o m ≡ true → lead_fits bits row (state_from bits ps used vex (spelled_map row.map vex) o) m ≡ true
@@ -223,20 +197,6 @@ parts_back bits row state m sib p =
     both (state_fits bits row state) (b && (o && (k && g))) p.state_fits
     (both b (o && (k && g)) p.lead (both o (k && g) p.opcode (both k g p.lock p.registers)))
 
-some_is : (o : Option ModRm) → is_none o ≡ true → is_some o ≡ false
-some_is None h = refl
-some_is (Some m) h = cc
-
--- a ModRM stands exactly where the row's rule has one
-modrm_stands : (plus : Plus) (rule : ModRmRule) (m : Option ModRm) → modrm_rule_fits plus rule m ≡ true → is_some m ≡ has_modrm_rule rule
-unfolding modrm_rule_fits
-modrm_stands plus NoModRm m h = some_is m h
-modrm_stands plus AnyModRm m h = h
-modrm_stands plus (Digit d) (Some m) h = refl
-modrm_stands plus (Digit d) None h = cc
-modrm_stands plus (FixedByte b) (Some m) h = refl
-modrm_stands plus (FixedByte b) None h = cc
-
 rule_of : (row : Row) (o : ℕ) (m : Option ModRm) → opcode_and_modrm_fit row o m ≡ true → is_some m ≡ has_modrm_rule row.modrm
 unfolding opcode_and_modrm_fit
 rule_of row o m h =
@@ -260,18 +220,6 @@ fits_of_tail bits row s f = record {
   registers = f.registers;
 }
 
--- the bytes of displacement and immediates
-disp_imm_bytes : (s : Spelling) → fields_in_range s ≡ true → (are_bytes s.disp.items ≡ true) × (are_bytes s.imm.items ≡ true)
-unfolding fields_in_range
-disp_imm_bytes s h =
-    let bytes = are_bytes s.disp.items && are_bytes s.imm.items in
-    let r1 = modrm_in_range s.modrm && (sib_in_range s.sib && bytes) in
-    let r2 = and_right (are_bytes s.prefixes.items) (vex_in_range s.vex && (nat_lt s.opcode 256 && r1)) h in
-    let r3 = and_right (vex_in_range s.vex) (nat_lt s.opcode 256 && r1) r2 in
-    let r4 = and_right (modrm_in_range s.modrm) (sib_in_range s.sib && bytes) (and_right (nat_lt s.opcode 256) r1 r3) in
-    let r5 = and_right (sib_in_range s.sib) bytes r4 in
-    (and_left (are_bytes s.disp.items) (are_bytes s.imm.items) r5, and_right (are_bytes s.disp.items) (are_bytes s.imm.items) r5)
-
 -- the tail of a fitting spelling fits behind its state
 own_tail : (bits : Bits) (row : Row) (s : Spelling) → fits bits row s ≡ true → TailFits bits row (state_of bits row s) s.modrm s.sib s.disp.items s.imm.items
 unfolding lengths_fit
@@ -281,21 +229,17 @@ own_tail bits row s h =
     let i = immediates_bytes (state_size bits row state) row in
     let address = address_fits (state_address_size bits state) row s.modrm s.sib (length s.disp.items) in
     let a = address_parts bits row state s.modrm s.sib (length s.disp.items) (and_left address (length s.imm.items == i) f.lengths) in
-    let b = disp_imm_bytes s f.ranges in
+    let b = ranges_behind s f.ranges in
     record {
       parts = parts_back bits row state s.modrm s.sib (fits_of_tail bits row s f);
       sib_is = a.0;
       disp_len = a.1;
       imm_len = equal_from (length s.imm.items) i (and_right address (length s.imm.items == i) f.lengths);
-      modrm_range = modrm_range s f.ranges;
-      sib_range = sib_range s f.ranges;
-      disp_bytes = b.0;
-      imm_bytes = b.1;
+      modrm_range = b.modrm;
+      sib_range = b.sib;
+      disp_bytes = b.disp;
+      imm_bytes = b.imm;
     }
-
-all_parted : (row : Row) (s : Spelling) (behind : List ℕ) → bytes_of row s ++ behind ≡ s.prefixes.items ++ (lead_bytes row.map s.vex ++ (s.opcode ∷ whole s.modrm s.sib s.disp.items s.imm.items behind))
-unfolding bytes_of front_bytes tail_bytes
-all_parted row s behind = simp append_assoc
 
 -- what is equal in two states that are equal
 state_lead : (bits : Bits) (row : Row) (s : Spelling) (state : PrefixState) → state_of bits row s ≡ state → lead_bytes row.map s.vex ≡ lead_bytes state.map state.vex
@@ -340,18 +284,6 @@ tail_of_spelling bits row bytes state p s more behind h front e =
     }
 
 -- ---- from a tail to its spelling
-
--- a spelling of its parts
-abbrev pub spelled : List ℕ → Option Vex → ℕ → Option ModRm → Option Sib → List ℕ → List ℕ → Spelling
-spelled ps vex o m s d i = record {
-  prefixes = record { items = ps };
-  vex = vex;
-  opcode = o;
-  modrm = m;
-  sib = s;
-  disp = record { items = d };
-  imm = record { items = i };
-}
 
 fits_from : (bits : Bits) (row : Row) (s : Spelling) (state : PrefixState) → state_of bits row s ≡ state → state_fits bits row state ≡ true → prefixes_fit bits s.prefixes.items ≡ true → vex_fits bits row s.prefixes.items s.vex s.opcode s.modrm ≡ true → tail_fits bits row state s.modrm s.sib (length s.disp.items) (length s.imm.items) ≡ true → fields_in_range s ≡ true → fits bits row s ≡ true
 unfolding fits

@@ -17,6 +17,7 @@ use Rattle.instruction_parts.specs.Sizes.{is_vex_row}
 use Rattle.row_fit.specs.Fits.{prefixes_fit, tail_fits, state_fits, sib_in_range, are_bytes, fits, is_opcode, opcode_allows, opcode_is_kept, vex_fits, has_memory_mode, has_reg_zero, is_vex_of_mode, vex_in_range, modrm_in_range, fields_in_range, same_map, is_map_one}
 use borrow.Author.Tests.{ltb-true}
 use Rattle.instruction_parts.proofs.Tests.{either, and_left, and_right, not_true, or_right}
+use Rattle.row_fit.proofs.SameMap.{same_map-is}
 
 -- prefixes in front of a byte that is none are the run
 pub prefix_run-append : (bits : Bits) (ps : List ℕ) (b : ℕ) (more : List ℕ) → list_all (is_prefix bits) ps ≡ true → is_prefix bits b ≡ false → prefix_run bits (ps ++ (b ∷ more)) ≡ ps
@@ -203,12 +204,6 @@ top_set b h = rw h
 lt_from : (a b : ℕ) → nat_lt a b ≡ true → a < b
 lt_from a b h = ltb-true a b h
 
-map_is_0f : (map : Map) → same_map map M0f ≡ true → map ≡ M0f
-map_is_0f One h = cc
-map_is_0f M0f h = refl
-map_is_0f M0f38 h = cc
-map_is_0f M0f3a h = cc
-
 vex_bytes-short : (v : Vex) → v.three ≡ false → vex_bytes v ≡ 0xC5 ∷ vex_last_byte (inverted v.r) v ∷ []
 unfolding vex_bytes
 vex_bytes-short v three = rw three
@@ -242,7 +237,7 @@ vex_range v h =
             not_true v.x (and_left (not v.x) (not v.b && (not v.w && same_map v.map M0f)) t),
             not_true v.b (and_left (not v.b) (not v.w && same_map v.map M0f) t1),
             not_true v.w (and_left (not v.w) (same_map v.map M0f) t2),
-            map_is_0f v.map (and_right (not v.w) (same_map v.map M0f) t2),
+            same_map-is v.map M0f (and_right (not v.w) (same_map v.map M0f) t2),
           );
     }
 

@@ -5,3 +5,4 @@ pub mod TailLaws
 pub mod OneSpelling
 pub mod FrontGrows
 pub mod SoundLaws
+pub mod SameMap

@@ -1,10 +1,7 @@
 -- Bytes have at most one spelling of a row.
-use Rattle.std.proofs.Common.{◌≡◌, ℕ, true, false, ◌&&◌, ◌==◌, List, ◌∷◌, ◌++◌, length, Option, Some, None, refl, ap, sym, ◌∙◌, subst, append_assoc, is_some, is_none}
+use Rattle.std.proofs.Common.{◌≡◌, ℕ, true, ◌&&◌, ◌==◌, List, ◌∷◌, ◌++◌, length, Option, ap, sym, ◌∙◌, subst, append_assoc, is_some}
 use Rattle.x86_values.specs.declared.Bits.{Bits}
 use Rattle.row_types.specs.declared.Row.{Row}
-use Rattle.row_types.specs.declared.Plus.{Plus}
-use Rattle.row_types.specs.declared.ModRmRule.{ModRmRule}
-use Rattle.row_types.specs.declared.ModRmRule.TheVariants.{No as NoModRm, Any as AnyModRm, Digit, Fixed as FixedByte}
 use Rattle.instruction_parts.specs.declared.spelling.Vex.{Vex}
 use Rattle.instruction_parts.specs.declared.spelling.ModRm.{ModRm}
 use Rattle.instruction_parts.specs.declared.spelling.Sib.{Sib}
@@ -15,26 +12,10 @@ use Rattle.instruction_parts.specs.Bytes.{bytes_of, front_bytes, tail_bytes, lea
 use Rattle.instruction_parts.specs.Front.{prefix_run, long_front}
 use Rattle.row_fit.specs.Fits.{fits, Fits, prefixes_fit, opcode_and_modrm_fit, opcode_fits, modrm_rule_fits, place_fits, lengths_fit, address_fits, immediates_bytes, modrm_in_range, sib_in_range}
 use Rattle.instruction_parts.proofs.Tests.{and_left, and_right, equal_from}
-use Rattle.row_fit.proofs.FitLaws.{all_conditions, modrm_range, sib_range}
+use Rattle.row_fit.proofs.FitLaws.{all_conditions, modrm_stands, modrm_range, sib_range}
 use Rattle.row_fit.proofs.FrontLaws.{front_law, run_law}
 use Rattle.row_fit.proofs.FrontConverse.{same_state}
 use Rattle.row_fit.proofs.TailLaws.{cancel_front, same_modrm_option, same_sib_option, sib_alike, displacement_alike}
-
-some_is : (o : Option ModRm) → is_none o ≡ true → is_some o ≡ false
-some_is None h = refl
-some_is (Some m) h = cc
-
--- under one rule a ModRM is there or not alike
-modrm_alike : (plus : Plus) (rule : ModRmRule) (m n : Option ModRm) → modrm_rule_fits plus rule m ≡ true → modrm_rule_fits plus rule n ≡ true → is_some m ≡ is_some n
-unfolding modrm_rule_fits
-modrm_alike plus NoModRm m n hm hn = some_is m hm ∙ sym (some_is n hn)
-modrm_alike plus AnyModRm m n hm hn = hm ∙ sym hn
-modrm_alike plus (Digit d) (Some m) (Some n) hm hn = refl
-modrm_alike plus (Digit d) None n hm hn = cc
-modrm_alike plus (Digit d) (Some m) None hm hn = cc
-modrm_alike plus (FixedByte b) (Some m) (Some n) hm hn = refl
-modrm_alike plus (FixedByte b) None n hm hn = cc
-modrm_alike plus (FixedByte b) (Some m) None hm hn = cc
 
 -- what two tails share
 record SameTail (m n : Option ModRm) (s t : Option Sib) (d e i j more others : List ℕ) : Type 0 where
@@ -62,7 +43,7 @@ same_tail bits row state m n s t d e i j more others alike ls lt hm hn hs ht h =
     record { modrm = first.0; sib = second.0; disp = third.0; imm = fourth.0; rest = fourth.1 }
 
 -- a spelling of its parts
-abbrev spelled : List ℕ → Option Vex → ℕ → Option ModRm → Option Sib → List ℕ → List ℕ → Spelling
+abbrev pub spelled : List ℕ → Option Vex → ℕ → Option ModRm → Option Sib → List ℕ → List ℕ → Spelling
 spelled ps vex o m s d i = record {
   prefixes = record { items = ps };
   vex = vex;
@@ -76,7 +57,8 @@ spelled ps vex o m s d i = record {
 same_spelled : (ps ps' : List ℕ) (v v' : Option Vex) (o o' : ℕ) (m m' : Option ModRm) (s s' : Option Sib) (d d' i i' : List ℕ) → ps ≡ ps' → v ≡ v' → o ≡ o' → m ≡ m' → s ≡ s' → d ≡ d' → i ≡ i' → spelled ps v o m s d i ≡ spelled ps' v' o' m' s' d' i'
 same_spelled ps ps' v v' o o' m m' s s' d d' i i' e1 e2 e3 e4 e5 e6 e7 = cc
 
-all_parted : (row : Row) (s : Spelling) (rest : List ℕ) → bytes_of row s ++ rest ≡ s.prefixes.items ++ (lead_bytes row.map s.vex ++ (s.opcode ∷ (modrm_bytes s.modrm ++ (sib_bytes s.sib ++ (s.disp.items ++ (s.imm.items ++ rest))))))
+-- the bytes of a spelling, part by part
+pub all_parted : (row : Row) (s : Spelling) (rest : List ℕ) → bytes_of row s ++ rest ≡ s.prefixes.items ++ (lead_bytes row.map s.vex ++ (s.opcode ∷ (modrm_bytes s.modrm ++ (sib_bytes s.sib ++ (s.disp.items ++ (s.imm.items ++ rest))))))
 unfolding bytes_of front_bytes tail_bytes
 all_parted row s rest = simp append_assoc
 
@@ -116,7 +98,7 @@ one_spelling bits row s t rest others hs ht h =
     let two = cancel_front (lead_bytes row.map s.vex) (lead_bytes row.map t.vex) _ _ (ap (λ (v : Option Vex). length (lead_bytes row.map v)) vex) one.1 in
     let lt = subst (λ (x : PrefixState). lengths_fit bits row x t.modrm t.sib (length t.disp.items) (length t.imm.items) ≡ true) (sym state) ft.lengths in
     let tails = same_tail bits row (state_of bits row s) s.modrm t.modrm s.sib t.sib s.disp.items t.disp.items s.imm.items t.imm.items rest others
-    (modrm_alike row.plus row.modrm s.modrm t.modrm (rule_fits row s.opcode s.modrm fs.opcode) (rule_fits row t.opcode t.modrm ft.opcode))
+    (modrm_stands row.plus row.modrm s.modrm (rule_fits row s.opcode s.modrm fs.opcode) ∙ sym (modrm_stands row.plus row.modrm t.modrm (rule_fits row t.opcode t.modrm ft.opcode)))
     fs.lengths lt (modrm_range s fs.ranges) (modrm_range t ft.ranges) (sib_range s fs.ranges) (sib_range t ft.ranges)
     (tail_of_cons s.opcode t.opcode _ _ two.1) in (
       same_spelled s.prefixes.items t.prefixes.items s.vex t.vex s.opcode t.opcode s.modrm t.modrm s.sib t.sib s.disp.items t.disp.items s.imm.items t.imm.items

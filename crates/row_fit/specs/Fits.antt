@@ -38,10 +38,12 @@ use Rattle.instruction_parts.specs.Front.{forbids_vex}
 
 -- ---- tests of the parts of a row
 
+-- the one-byte map
 abbrev pub is_map_one : Map → Bool
 is_map_one One = true
 is_map_one _ = false
 
+-- two maps are one
 abbrev pub same_map : Map → Map → Bool
 same_map One One = true
 same_map M0f M0f = true
@@ -49,14 +51,17 @@ same_map M0f38 M0f38 = true
 same_map M0f3a M0f3a = true
 same_map _ _ = false
 
+-- no repeat prefix counts
 abbrev pub is_no_repeat : Rep → Bool
 is_no_repeat NoRep = true
 is_no_repeat _ = false
 
+-- F3 counts
 abbrev pub is_repeat_f3 : Rep → Bool
 is_repeat_f3 RepF3 = true
 is_repeat_f3 _ = false
 
+-- F2 counts
 abbrev pub is_repeat_f2 : Rep → Bool
 is_repeat_f2 RepF2 = true
 is_repeat_f2 _ = false
@@ -65,18 +70,22 @@ is_repeat_f2 _ = false
 abbrev pub reads_by : (Method → Bool) → Row → Bool
 reads_by p row = list_any (λ kind. p (method_of kind)) row.ops
 
+-- read by r/m whatever mod is
 abbrev pub is_any_mode : Method → Bool
 is_any_mode AnyMode = true
 is_any_mode _ = false
 
+-- read from vvvv
 abbrev pub is_vvvv : Method → Bool
 is_vvvv Vvvv = true
 is_vvvv _ = false
 
+-- memory by r/m whose index is a vector register
 abbrev pub is_gather : Method → Bool
 is_gather Gather = true
 is_gather _ = false
 
+-- memory at an absolute address behind the opcode byte
 abbrev pub is_offset : Method → Bool
 is_offset Offset = true
 is_offset _ = false
@@ -138,11 +147,13 @@ index_number state sib = extended (bit_x state) (elim sib [ None ↦ 0 | Some s 
 
 -- ---- 1. the row exists in the mode
 
+-- the modes of the row have it
 abbrev pub mode_fits : Bits → Row → Bool
 mode_fits bits row = exists_in bits row
 
 -- ---- 2. each prefix byte is one of the mode
 
+-- legacy prefixes, and in 64-bit mode REX
 unfoldable pub prefixes_fit : Bits → List ℕ → Bool
 prefixes_fit bits prefixes = list_all (is_prefix bits) prefixes
 
@@ -166,6 +177,7 @@ vex_class_fits ClassF3 v = v.pp == 2
 vex_class_fits ClassF2 v = v.pp == 3
 vex_class_fits _ v = false
 
+-- by the legacy prefixes on legacy rows, by pp on VEX rows (3.1.1.1)
 unfoldable pub class_fits : Row → PrefixState → Bool
 class_fits row state =
     elim state.vex [ None ↦ legacy_class_fits row.class state | Some v ↦ vex_class_fits row.class v ]
@@ -241,6 +253,7 @@ place_fits row None = true
 place_fits row (Some m) =
     place_allows row.place m && list_all (λ kind. place_allows (place_of (method_of kind)) m) row.ops
 
+-- the opcode byte, the rule of ModRM, and the limits to register or memory
 unfoldable pub opcode_and_modrm_fit : Row → ℕ → Option ModRm → Bool
 opcode_and_modrm_fit row opcode m =
     opcode_fits row opcode && (modrm_rule_fits row.plus row.modrm m && place_fits row m)
@@ -275,6 +288,7 @@ l_fits L256 v = v.l
 l_fits Lz v = not v.l
 l_fits _ v = true
 
+-- the operand size or W that the row asks for, and W and L of its notation
 unfoldable pub sizes_fit : Bits → Row → PrefixState → Bool
 sizes_fit bits row state =
     size_fits bits row.size (state_size bits row state) (bit_w bits state)
@@ -282,6 +296,7 @@ sizes_fit bits row state =
 
 -- ---- 7. a vvvv that the row does not use is stored as 1111
 
+-- without an operand in vvvv it is 0, which is stored as 1111 (2.3.5.6)
 unfoldable pub vvvv_fits : Row → PrefixState → Bool
 vvvv_fits row state =
     elim state.vex [ None ↦ true | Some v ↦ v.vvvv == 0 || reads_by is_vvvv row ]
@@ -342,6 +357,7 @@ immediates_bytes size row =
     immediate_bytes size (kind_at row 0) + (immediate_bytes size (kind_at row 1)
     + (immediate_bytes size (kind_at row 2) + immediate_bytes size (kind_at row 3)))
 
+-- SIB and displacement are those of the ModRM, and the immediates are as long as the operands ask
 unfoldable pub lengths_fit : Bits → Row → PrefixState → Option ModRm → Option Sib → ℕ → ℕ → Bool
 lengths_fit bits row state m sib disp imm =
     address_fits (state_address_size bits state) row m sib disp
@@ -357,6 +373,7 @@ is_memory_method Gather m = true
 is_memory_method Offset m = true
 is_memory_method _ m = false
 
+-- LOCK stands only on lockable rows whose first operand is memory
 unfoldable pub lock_fits : Row → PrefixState → Option ModRm → Bool
 lock_fits row state m =
     not state.lock || (is_lockable row && is_memory_method (method_of (kind_at row 0)) m)
@@ -398,6 +415,7 @@ nop_fits bits row state =
 abbrev pub is_nop_byte : Row → ℕ → Bool
 is_nop_byte row opcode = not (is_vex_row row) && (is_map_one row.map && opcode == 0x90)
 
+-- each register exists, and the destination, a gather and the byte 90 have their own conditions
 unfoldable pub registers_fit : Bits → Row → PrefixState → Option ModRm → Option Sib → Bool
 registers_fit bits row state m sib =
     list_all (register_fits bits state m) row.ops
@@ -407,6 +425,7 @@ registers_fit bits row state m sib =
 
 -- ---- 11. each part is a value of its field
 
+-- each is below 256
 abbrev pub are_bytes : List ℕ → Bool
 are_bytes bytes = list_all (λ b. nat_lt b 256) bytes
 
@@ -417,14 +436,17 @@ vex_in_range (Some v) =
     nat_lt v.vvvv 16 && (nat_lt v.pp 4 && (not (is_map_one v.map)
     && (v.three || (not v.x && (not v.b && (not v.w && same_map v.map M0f))))))
 
+-- mod is below 4, reg and rm below 8
 unfoldable pub modrm_in_range : Option ModRm → Bool
 modrm_in_range None = true
 modrm_in_range (Some m) = nat_lt m.mode3 4 && (nat_lt m.reg 8 && nat_lt m.rm 8)
 
+-- scale is below 4, index and base below 8
 unfoldable pub sib_in_range : Option Sib → Bool
 sib_in_range None = true
 sib_in_range (Some s) = nat_lt s.scale 4 && (nat_lt s.index 8 && nat_lt s.base 8)
 
+-- all parts of a spelling
 unfoldable pub fields_in_range : Spelling → Bool
 fields_in_range s =
     are_bytes s.prefixes.items && (vex_in_range s.vex && (nat_lt s.opcode 256

@@ -30,6 +30,7 @@ use Rattle.row_fit.specs.Fits.{reads_by, is_any_mode, immediates_bytes, is_offse
 
 -- ---- how many operands are read from a place
 
+-- how many of the list pass the test
 abbrev pub count_where : {T : Type 0} → (T → Bool) → List T → ℕ
 count_where p [] = 0
 count_where p (x ∷ xs) = (if p x then 1 else 0) + count_where p xs
@@ -38,10 +39,12 @@ count_where p (x ∷ xs) = (if p x then 1 else 0) + count_where p xs
 abbrev pub at_most_one : (Method → Bool) → Row → Bool
 at_most_one p row = nat_le (count_where (λ kind. p (method_of kind)) row.ops) 1
 
+-- a register by ModRM.reg
 abbrev pub reads_reg : Method → Bool
 reads_reg ModRmReg = true
 reads_reg _ = false
 
+-- register or memory by r/m
 abbrev pub reads_rm : Method → Bool
 reads_rm RegisterOrMemory = true
 reads_rm RegisterOnly = true
@@ -50,20 +53,24 @@ reads_rm AnyMode = true
 reads_rm Gather = true
 reads_rm _ = false
 
+-- a register by vvvv
 abbrev pub reads_vvvv : Method → Bool
 reads_vvvv Vvvv = true
 reads_vvvv _ = false
 
+-- a register by the low bits of the opcode byte
 abbrev pub reads_opcode : Method → Bool
 reads_opcode OpcodeLow = true
 reads_opcode _ = false
 
+-- a register by the last byte
 abbrev pub reads_last_byte : Method → Bool
 reads_last_byte LastByte = true
 reads_last_byte _ = false
 
 -- ---- the parts
 
+-- the row has a ModRM
 abbrev pub has_modrm_rule : ModRmRule → Bool
 has_modrm_rule NoModRm = false
 has_modrm_rule _ = true
@@ -89,14 +96,17 @@ opcode_is_proper One b = not (b == 0x0F || b == 0x66 || b == 0xF2 || b == 0xF3)
 opcode_is_proper M0f b = not (b == 0x38 || b == 0x3A)
 opcode_is_proper _ b = true
 
+-- the notation names no W
 abbrev pub is_no_w : WBit → Bool
 is_no_w NoW = true
 is_no_w _ = false
 
+-- the notation names no L
 abbrev pub is_no_l : LBit → Bool
 is_no_l NoL = true
 is_no_l _ = false
 
+-- a class that pp can say (2.3.6.2)
 abbrev pub is_class_of_vex : Class → Bool
 is_class_of_vex Np = true
 is_class_of_vex P66 = true
@@ -104,16 +114,19 @@ is_class_of_vex ClassF3 = true
 is_class_of_vex ClassF2 = true
 is_class_of_vex _ = false
 
+-- no operand size, or W in its place
 abbrev pub is_size_of_vex : Size → Bool
 is_size_of_vex NoSize = true
 is_size_of_vex SizeW0 = true
 is_size_of_vex SizeW1 = true
 is_size_of_vex _ = false
 
+-- the one-byte map
 abbrev pub is_one : Map → Bool
 is_one One = true
 is_one _ = false
 
+-- the ModRM byte is fixed
 abbrev pub is_fixed_rule : ModRmRule → Bool
 is_fixed_rule (FixedByte _) = true
 is_fixed_rule _ = false
@@ -127,6 +140,7 @@ opcodes_of row =
       | _ ↦ row.opcode ∷ []
     ]
 
+-- a legacy row names no W and no L, reads no vvvv and no register in the last byte, and its opcode bytes are proper
 unfoldable pub legacy_is_proper : Row → Bool
 legacy_is_proper row =
     is_no_w row.w && (is_no_l row.l && (list_all (opcode_is_proper row.map) (opcodes_of row)
@@ -143,6 +157,7 @@ size_says_w SizeW0 w = elim w [ W0 ↦ true | _ ↦ false ]
 size_says_w SizeW1 w = elim w [ W1 ↦ true | _ ↦ false ]
 size_says_w _ w = true
 
+-- a VEX row names W, L, a class that pp can say and a map behind an escape byte; its ModRM is not fixed, and no operand is a byte register
 unfoldable pub vex_is_proper : Row → Bool
 vex_is_proper row =
     not (is_no_w row.w) && (not (is_no_l row.l) && (is_class_of_vex row.class && (is_size_of_vex row.size
@@ -154,6 +169,7 @@ unfoldable pub opcode_is_no_prefix_in : Bits → Row → Bool
 opcode_is_no_prefix_in bits row =
     not (exists_in bits row) || not (list_any (is_prefix bits) (opcodes_of row))
 
+-- the same in each mode
 unfoldable pub opcode_is_no_prefix : Row → Bool
 opcode_is_no_prefix row =
     not (is_one row.map)

@@ -6,11 +6,13 @@ ghost use Rattle.row_fit.specs.Fits as spec;
 ghost use Rattle.instruction_parts.specs.Kinds.{method_of};
 
 use instruction_parts::counting::{forbids_vex, is_16, is_32, is_64, is_prefix};
+use instruction_parts::kinds::{Method, method_of_kind};
 use instruction_parts::sizes::{bit_w, exists_in, is_vex_row, state_size};
 use instruction_parts::spelling::{ModRm, PrefixState, Vex};
 use row_types::{Class, LBit, Map, ModRmRule, OpKind, Place, Plus, Row, Size, WBit};
 use x86_values::{Bits, Rep};
 
+/// Whether the map is the one-byte map.
 pub fn is_map_one(map: Map) -> bool
     ensures { result ≡ spec.is_map_one map }
 {
@@ -20,6 +22,7 @@ pub fn is_map_one(map: Map) -> bool
     }
 }
 
+/// Whether two maps are one.
 pub fn same_map(a: Map, b: Map) -> bool
     ensures { result ≡ spec.same_map a b }
 {
@@ -32,6 +35,7 @@ pub fn same_map(a: Map, b: Map) -> bool
     }
 }
 
+/// Whether no repeat prefix counts.
 pub fn is_no_repeat(rep: Rep) -> bool
     ensures { result ≡ spec.is_no_repeat rep }
 {
@@ -41,6 +45,7 @@ pub fn is_no_repeat(rep: Rep) -> bool
     }
 }
 
+/// Whether F3 counts.
 pub fn is_repeat_f3(rep: Rep) -> bool
     ensures { result ≡ spec.is_repeat_f3 rep }
 {
@@ -50,6 +55,7 @@ pub fn is_repeat_f3(rep: Rep) -> bool
     }
 }
 
+/// Whether F2 counts.
 pub fn is_repeat_f2(rep: Rep) -> bool
     ensures { result ≡ spec.is_repeat_f2 rep }
 {
@@ -61,48 +67,44 @@ pub fn is_repeat_f2(rep: Rep) -> bool
 
 /// Whether an operand of the kind is read by r/m whatever mod is.
 #[inline]
-#[tactic(auto, unfolding(instruction_parts::specs::Kinds::method_of))]
 fn is_any_mode_kind(kind: OpKind) -> bool
     ensures { result ≡ spec.is_any_mode (method_of kind) }
 {
-    match kind {
-        OpKind::Rm => true,
+    match method_of_kind(kind) {
+        Method::AnyMode => true,
         _ => false,
     }
 }
 
 /// Whether an operand of the kind is read from vvvv.
 #[inline]
-#[tactic(auto, unfolding(instruction_parts::specs::Kinds::method_of))]
 fn is_vvvv_kind(kind: OpKind) -> bool
     ensures { result ≡ spec.is_vvvv (method_of kind) }
 {
-    match kind {
-        OpKind::By | OpKind::Hx | OpKind::Ho => true,
+    match method_of_kind(kind) {
+        Method::Vvvv => true,
         _ => false,
     }
 }
 
 /// Whether the kind is a gather.
 #[inline]
-#[tactic(auto, unfolding(instruction_parts::specs::Kinds::method_of))]
 fn is_gather_kind(kind: OpKind) -> bool
     ensures { result ≡ spec.is_gather (method_of kind) }
 {
-    match kind {
-        OpKind::GatherX | OpKind::GatherL => true,
+    match method_of_kind(kind) {
+        Method::Gather => true,
         _ => false,
     }
 }
 
 /// Whether an operand of the kind has an absolute address.
 #[inline]
-#[tactic(auto, unfolding(instruction_parts::specs::Kinds::method_of))]
 fn is_offset_kind(kind: OpKind) -> bool
     ensures { result ≡ spec.is_offset (method_of kind) }
 {
-    match kind {
-        OpKind::Ob | OpKind::Ov => true,
+    match method_of_kind(kind) {
+        Method::Offset => true,
         _ => false,
     }
 }
@@ -201,6 +203,7 @@ fn size_fits(bits: Bits, size: Size, operand_size: Bits, w: bool) -> bool
     }
 }
 
+/// Whether the row names W in place of an operand size.
 fn takes_w_as_size(size: Size) -> bool
     ensures { result ≡ spec.takes_w_as_size size }
 {
@@ -276,6 +279,7 @@ pub fn state_fits(bits: Bits, row: &Row, state: &PrefixState) -> bool
         && vvvv_fits(row, state)
 }
 
+/// Whether there is a ModRM whose mod says memory.
 pub fn mode_is_memory(m: Option<ModRm>) -> bool
     ensures { result ≡ spec.has_memory_mode m }
 {
@@ -285,6 +289,7 @@ pub fn mode_is_memory(m: Option<ModRm>) -> bool
     }
 }
 
+/// Whether there is a ModRM whose reg is 0.
 fn reg_is_zero(m: Option<ModRm>) -> bool
     ensures { result ≡ spec.has_reg_zero m }
 {
@@ -415,27 +420,12 @@ fn place_allows(place: Place, m: ModRm) -> bool
 
 /// The limit that an operand's kind sets by itself.
 #[inline]
-#[tactic(auto, unfolding(instruction_parts::specs::Kinds::method_of))]
 fn place_of_kind(kind: OpKind) -> Place
     ensures { result ≡ spec.place_of (method_of kind) }
 {
-    match kind {
-        OpKind::Absent => Place::Any,
-        OpKind::Rv | OpKind::Ry | OpKind::Nq | OpKind::Ux | OpKind::StI => Place::Register,
-        OpKind::M
-        | OpKind::Mb
-        | OpKind::Mw
-        | OpKind::Md
-        | OpKind::Mq
-        | OpKind::Mt
-        | OpKind::Mv
-        | OpKind::Mx
-        | OpKind::Mo
-        | OpKind::Ma
-        | OpKind::Mp
-        | OpKind::Mf
-        | OpKind::GatherX
-        | OpKind::GatherL => Place::Memory,
+    match method_of_kind(kind) {
+        Method::RegisterOnly => Place::Register,
+        Method::MemoryOnly | Method::Gather => Place::Memory,
         _ => Place::Any,
     }
 }

@@ -18,6 +18,7 @@ use instruction_parts::spelling::{ModRm, PrefixState, Sib};
 use row_types::{Class, OpKind, Plus, Row};
 use x86_values::Bits;
 
+/// Whether both hold, or neither.
 fn same_bool(a: bool, b: bool) -> bool
     ensures { result ≡ spec.same_bool a b }
 {
@@ -97,6 +98,7 @@ pub fn needs_sib(asize: Bits, m: ModRm) -> bool
     !is_16(asize) && m.mode3 < 3 && m.rm == 4
 }
 
+/// The field base of a SIB, 0 without one.
 fn base_field(sib: Option<Sib>) -> u8
     ensures { result ≡ spec.base_field sib }
 {
@@ -119,6 +121,7 @@ pub fn is_displacement_alone(asize: Bits, m: ModRm, sib: Option<Sib>) -> bool
         })
 }
 
+/// The bytes of a displacement that is no byte: 2 in 16-bit addressing, else 4.
 fn full_displacement(asize: Bits) -> u8
     ensures { result ≡ spec.full_displacement asize }
 {
@@ -286,6 +289,7 @@ fn destination_fits(row: &Row, m: Option<ModRm>) -> bool
     }
 }
 
+/// Whether there is a ModRM that asks for a SIB.
 fn modrm_needs_sib(asize: Bits, m: Option<ModRm>) -> bool
     ensures { result ≡ spec.has_modrm (λ m. spec.needs_sib asize m) m }
 {

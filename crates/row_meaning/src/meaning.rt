@@ -68,6 +68,7 @@ fn vector(l: LBit, n: u8) -> Register
     }
 }
 
+/// 16 at size 16, else 32.
 fn word_or_dword(size: Bits) -> Bits
     ensures { result ≡ spec.word_or_dword size }
 {
@@ -77,12 +78,14 @@ fn word_or_dword(size: Bits) -> Bits
     }
 }
 
+/// 64 where W is 1, else 32.
 fn size_by_w(w: bool) -> Bits
     ensures { result ≡ spec.size_by_w w }
 {
     if w { Bits::B64 } else { Bits::B32 }
 }
 
+/// 64 in 64-bit mode, else 32.
 fn native_size(bits: Bits) -> Bits
     ensures { result ≡ spec.native_size bits }
 {

@@ -263,6 +263,7 @@ fn small_reg_number(state: &PrefixState, m: Option<ModRm>) -> u8
     small(reg_number(state, m))
 }
 
+/// The same of r/m.
 #[tactic(auto, unfolding(row_fit::specs::Fits::modrm_in_range, row_fit::specs::Fits::rm_number))]
 fn small_rm_number(bits: Bits, state: &PrefixState, m: Option<ModRm>) -> u8
     requires { IsTrue (fits.modrm_in_range m) }
@@ -444,49 +445,6 @@ fn operand_into(
             false
         }
     }
-}
-
-/// An operand by how it is read; `imm` are the bytes of the immediates that are its own.
-pub fn operand_by(
-    bits: Bits,
-    row: &Row,
-    state: &PrefixState,
-    m: Option<ModRm>,
-    sib: Option<Sib>,
-    disp: &[u8],
-    next: u64,
-    kind: OpKind,
-    method: Method,
-    imm: &[u8],
-) -> Operand
-    requires modrm { IsTrue (fits.modrm_in_range m) }
-    requires sib { IsTrue (fits.sib_in_range sib) }
-    requires disp { length disp.now ≤ 8 }
-    requires imm { length imm.now ≤ 8 }
-    requires pointer { method ≡ PointerMethod → length imm.now ≤ 6 }
-    ensures { result ≡ spec.operand_by bits row.now state.now (spec.tail m sib disp.now next) kind method imm.now }
-{
-    let behind = Behind {
-        modrm: m,
-        sib,
-        disp,
-        imm,
-        next,
-    };
-    let mut operand = Operand::Absent;
-    let size = state_size(bits, row, state);
-    operand_into(
-        bits,
-        size,
-        row,
-        state,
-        &behind,
-        kind,
-        method,
-        imm,
-        &mut operand,
-    );
-    operand
 }
 
 /// The bytes of the immediates before those of operand n.
@@ -672,38 +630,8 @@ pub const UNREAD: Instr = Instr {
     ops: [Operand::Absent; 4],
 };
 
-/// What a state, a tail and its immediates mean.
-pub fn instr_of(
-    bits: Bits,
-    code: Code,
-    row: &Row,
-    state: &PrefixState,
-    m: Option<ModRm>,
-    sib: Option<Sib>,
-    disp: &[u8],
-    next: u64,
-    imm: &[u8],
-) -> Instr
-    requires modrm { IsTrue (fits.modrm_in_range m) }
-    requires sib { IsTrue (fits.sib_in_range sib) }
-    requires disp { length disp.now ≤ 8 }
-    requires imm { length imm.now ≤ 8 }
-    requires whole { length imm.now ≡ fits.immediates_bytes (state_size bits row.now state.now) row.now }
-    ensures { result ≡ spec.instr_of bits code row.now state.now (spec.tail m sib disp.now next) imm.now }
-{
-    let behind = Behind {
-        modrm: m,
-        sib,
-        disp,
-        imm,
-        next,
-    };
-    let mut instr = UNREAD;
-    instr_into(bits, code, row, state, &behind, &mut instr);
-    instr
-}
-
-/// The same, written to a place. An instruction as a value is copied at each call that it comes through.
+/// What a state, a tail and its immediates mean, written to a place. An instruction as a value is copied at each call that it comes
+/// through.
 #[inline(always)]
 #[tactic(auto, unfolding(crate::specs::Meaning::instr_of))]
 pub fn instr_into(
@@ -797,15 +725,14 @@ pub fn row_meaning(bits: Bits, ip: u64, code: Code, row: &Row, s: &Spelling) -> 
 {
     let state = state_of(bits, row, s);
     let next = wrap(bits, ip as u128 + spelling_len(row, s) as u128);
-    instr_of(
-        bits,
-        code,
-        row,
-        &state,
-        s.modrm,
-        s.sib,
-        s.disp.as_slice(),
+    let behind = Behind {
+        modrm: s.modrm,
+        sib: s.sib,
+        disp: s.disp.as_slice(),
+        imm: s.imm.as_slice(),
         next,
-        s.imm.as_slice(),
-    )
+    };
+    let mut instr = UNREAD;
+    instr_into(bits, code, row, &state, &behind, &mut instr);
+    instr
 }

@@ -17,25 +17,16 @@ use Rattle.x86_values.specs.declared.Rep.{Rep}
 use Rattle.x86_values.specs.declared.Rep.TheVariants.{None as NoRep, F2 as RepF2, F3 as RepF3}
 use Rattle.x86_values.specs.declared.Instr.{Instr}
 use Rattle.row_types.specs.declared.Row.{Row}
-use Rattle.row_types.specs.declared.RowKind.{RowKind}
 use Rattle.row_types.specs.declared.RowKind.TheVariants.{Legacy as LegacyRow, Vex as VexRow}
 use Rattle.row_types.specs.declared.Map.{Map}
 use Rattle.row_types.specs.declared.Map.TheVariants.{One as MapOne, M0f, M0f38, M0f3a}
-use Rattle.row_types.specs.declared.Class.{Class}
 use Rattle.row_types.specs.declared.Class.TheVariants.{Any as AnyClass, Np, Nf3, P66, F3 as ClassF3}
-use Rattle.row_types.specs.declared.Plus.{Plus}
 use Rattle.row_types.specs.declared.Plus.TheVariants.{No as NoPlus, Register as PlusRegister, Stack as PlusStack}
-use Rattle.row_types.specs.declared.ModRmRule.{ModRmRule}
 use Rattle.row_types.specs.declared.ModRmRule.TheVariants.{No as NoModRm, Any as AnyModRm, Digit, Fixed as FixedByte}
-use Rattle.row_types.specs.declared.Place.{Place}
 use Rattle.row_types.specs.declared.Place.TheVariants.{Any as AnyPlace, Memory as MemoryPlace}
-use Rattle.row_types.specs.declared.Size.{Size}
 use Rattle.row_types.specs.declared.Size.TheVariants.{None as NoSize, O16, O32, O64, W0 as SizeW0}
-use Rattle.row_types.specs.declared.WBit.{WBit}
 use Rattle.row_types.specs.declared.WBit.TheVariants.{None as NoW, W0, Wig}
-use Rattle.row_types.specs.declared.LBit.{LBit}
 use Rattle.row_types.specs.declared.LBit.TheVariants.{None as NoL, L128, Lz}
-use Rattle.row_types.specs.declared.OpKind.{OpKind}
 use Rattle.row_types.specs.declared.OpKind.TheVariants.{Eb as KEb, Ew as KEw, Ev as KEv, Ey as KEy, Qq as KQq, Wx as KWx, Wd as KWd, Rm as KRm, Mp as KMp, GatherL as KGatherL, Gb as KGb, Gv as KGv, Gy as KGy, Sw as KSw, Cn as KCn, Dn as KDn, Pq as KPq, Vx as KVx, By as KBy, Hx as KHx, Zv as KZv, Lx as KLx, Ov as KOv, Ibs as KIbs, Iz as KIz, Iv as KIv, Jb as KJb, Jz as KJz, RaxAny as KRaxAny, St as KSt, StI as KStI, Ap as KAp, Absent as KAbsent}
 use Rattle.instruction_parts.specs.declared.spelling.Vex.{Vex}
 use Rattle.instruction_parts.specs.declared.spelling.ModRm.{ModRm}
@@ -86,6 +77,52 @@ instr n a b c d lock rep seg asize = record {
   asize = asize;
 }
 
+-- ---- rows of more than one example
+
+-- o32 01 /r add
+abbrev add_row : Row
+add_row = row LegacyRow MapOne AnyClass 0x01 NoPlus AnyModRm AnyPlace O32 NoW NoL 7 KEv KGv KAbsent KAbsent 1
+
+-- o64 50+ro push
+abbrev push_row : Row
+push_row = row LegacyRow MapOne AnyClass 0x50 PlusRegister NoModRm AnyPlace O64 NoW NoL 4 KZv KAbsent KAbsent KAbsent 8
+
+-- 88 /r mov
+abbrev mov_byte_row : Row
+mov_byte_row = row LegacyRow MapOne AnyClass 0x88 NoPlus AnyModRm AnyPlace NoSize NoW NoL 7 KEb KGb KAbsent KAbsent 0
+
+-- o32 8B /r mov
+abbrev mov_row : Row
+mov_row = row LegacyRow MapOne AnyClass 0x8B NoPlus AnyModRm AnyPlace O32 NoW NoL 7 KGv KEv KAbsent KAbsent 0
+
+-- NF3 90 nop
+abbrev nop_row : Row
+nop_row = row LegacyRow MapOne Nf3 0x90 NoPlus NoModRm AnyPlace NoSize NoW NoL 7 KAbsent KAbsent KAbsent KAbsent 0
+
+-- o32 90+rd xchg
+abbrev xchg_row : Row
+xchg_row = row LegacyRow MapOne AnyClass 0x90 PlusRegister NoModRm AnyPlace O32 NoW NoL 7 KZv KRaxAny KAbsent KAbsent 0
+
+-- F3 90 pause
+abbrev pause_row : Row
+pause_row = row LegacyRow MapOne ClassF3 0x90 NoPlus NoModRm AnyPlace NoSize NoW NoL 7 KAbsent KAbsent KAbsent KAbsent 0
+
+-- o64 EB cb jmp
+abbrev jmp_row : Row
+jmp_row = row LegacyRow MapOne AnyClass 0xEB NoPlus NoModRm AnyPlace O64 NoW NoL 4 KJb KAbsent KAbsent KAbsent 20
+
+-- VEX.128.0F.WIG 58 /r vaddps
+abbrev vaddps_row : Row
+vaddps_row = row VexRow M0f Np 0x58 NoPlus AnyModRm AnyPlace NoSize Wig L128 7 KVx KHx KWx KAbsent 0
+
+-- VEX.128.0F.WIG 77 vzeroupper
+abbrev vzeroupper_row : Row
+vzeroupper_row = row VexRow M0f Np 0x77 NoPlus NoModRm AnyPlace NoSize Wig L128 7 KAbsent KAbsent KAbsent KAbsent 0
+
+-- VEX.128.66.0F38.W0 92 /r vgatherdps
+abbrev vgatherdps_row : Row
+vgatherdps_row = row VexRow M0f38 P66 0x92 NoPlus AnyModRm MemoryPlace NoSize W0 L128 7 KVx KGatherL KHx KAbsent 0
+
 -- a spelling of a row fits, has these bytes, means this at the address, and its bytes have this front
 pub record Spelled (bits : Bits) (ip : ℕ) (r : Row) (s : Spelling) (expected : List ℕ) (i : Instr) (f : PrefixState) : Type 0 where
   pub fitting : fits bits r s ≡ true
@@ -100,7 +137,7 @@ NotFitting bits r s = fits bits r s ≡ false
 
 -- without prefixes the operand size is 32 in 64-bit mode (o32 01 /r add: 01 C0)
 add_of_registers : Spelled B64 0x401000
-    (row LegacyRow MapOne AnyClass 0x01 NoPlus AnyModRm AnyPlace O32 NoW NoL 7 KEv KGv KAbsent KAbsent 1)
+    add_row
     (spell ([]) None 0x01 (Some (modrm 3 0 0)) None ([]) ([]))
     (0x01 ∷ 0xC0 ∷ [])
     (instr 2 (Reg (R32 0)) (Reg (R32 0)) NoOperand NoOperand false NoRep None None)
@@ -120,7 +157,7 @@ rex_w_gives_size_64 = record { fitting = refl; bytes_are = refl; means = refl; f
 
 -- PUSH has the operand size 64 in 64-bit mode without a REX (o64 50+ro push: 50)
 push_is_64_by_default : Spelled B64 0x401000
-    (row LegacyRow MapOne AnyClass 0x50 PlusRegister NoModRm AnyPlace O64 NoW NoL 4 KZv KAbsent KAbsent KAbsent 8)
+    push_row
     (spell ([]) None 0x50 None None ([]) ([]))
     (0x50 ∷ [])
     (instr 120 (Reg (R64 0)) NoOperand NoOperand NoOperand false NoRep None None)
@@ -130,7 +167,7 @@ push_is_64_by_default = record { fitting = refl; bytes_are = refl; means = refl;
 
 -- REX.B adds 8 to the register in the opcode byte (o64 50+ro push: 41 50)
 rex_b_adds_to_opcode_register : Spelled B64 0x401000
-    (row LegacyRow MapOne AnyClass 0x50 PlusRegister NoModRm AnyPlace O64 NoW NoL 4 KZv KAbsent KAbsent KAbsent 8)
+    push_row
     (spell (0x41 ∷ []) None 0x50 None None ([]) ([]))
     (0x41 ∷ 0x50 ∷ [])
     (instr 120 (Reg (R64 8)) NoOperand NoOperand NoOperand false NoRep None None)
@@ -150,7 +187,7 @@ call_counts_from_next_address = record { fitting = refl; bytes_are = refl; means
 
 -- 67 gives the address size 32 in 64-bit mode (o32 8B /r mov: 67 8B 00)
 prefix_67_gives_addresses_of_32 : Spelled B64 0x401000
-    (row LegacyRow MapOne AnyClass 0x8B NoPlus AnyModRm AnyPlace O32 NoW NoL 7 KGv KEv KAbsent KAbsent 0)
+    mov_row
     (spell (0x67 ∷ []) None 0x8B (Some (modrm 0 0 0)) None ([]) ([]))
     (0x67 ∷ 0x8B ∷ 0x00 ∷ [])
     (instr 278 (Reg (R32 0)) (MemOperand (memory (Some (R32 0)) None 1 0 D0)) NoOperand NoOperand false NoRep None (Some B32))
@@ -170,7 +207,7 @@ rip_operand_is_absolute = record { fitting = refl; bytes_are = refl; means = ref
 
 -- with 67 it is EIP-relative (o32 8B /r mov: 67 8B 05 00 00 00 00)
 eip_operand_is_absolute : Spelled B64 0x401000
-    (row LegacyRow MapOne AnyClass 0x8B NoPlus AnyModRm AnyPlace O32 NoW NoL 7 KGv KEv KAbsent KAbsent 0)
+    mov_row
     (spell (0x67 ∷ []) None 0x8B (Some (modrm 0 0 5)) None (0x00 ∷ 0x00 ∷ 0x00 ∷ 0x00 ∷ []) ([]))
     (0x67 ∷ 0x8B ∷ 0x05 ∷ 0x00 ∷ 0x00 ∷ 0x00 ∷ 0x00 ∷ [])
     (instr 278 (Reg (R32 0)) (MemOperand (memory (Some Eip) None 1 0x401007 D32)) NoOperand NoOperand false NoRep None (Some B32))
@@ -180,7 +217,7 @@ eip_operand_is_absolute = record { fitting = refl; bytes_are = refl; means = ref
 
 -- without a REX the byte register 4 is AH (88 /r mov: 88 E0)
 ah_without_rex : Spelled B64 0x401000
-    (row LegacyRow MapOne AnyClass 0x88 NoPlus AnyModRm AnyPlace NoSize NoW NoL 7 KEb KGb KAbsent KAbsent 0)
+    mov_byte_row
     (spell ([]) None 0x88 (Some (modrm 3 4 0)) None ([]) ([]))
     (0x88 ∷ 0xE0 ∷ [])
     (instr 272 (Reg (Low8 0)) (Reg (High8 0)) NoOperand NoOperand false NoRep None None)
@@ -190,7 +227,7 @@ ah_without_rex = record { fitting = refl; bytes_are = refl; means = refl; front_
 
 -- with a REX it is SPL (88 /r mov: 40 88 E0)
 spl_with_rex : Spelled B64 0x401000
-    (row LegacyRow MapOne AnyClass 0x88 NoPlus AnyModRm AnyPlace NoSize NoW NoL 7 KEb KGb KAbsent KAbsent 0)
+    mov_byte_row
     (spell (0x40 ∷ []) None 0x88 (Some (modrm 3 4 0)) None ([]) ([]))
     (0x40 ∷ 0x88 ∷ 0xE0 ∷ [])
     (instr 272 (Reg (Low8 0)) (Reg (Low8 4)) NoOperand NoOperand false NoRep None None)
@@ -200,7 +237,7 @@ spl_with_rex = record { fitting = refl; bytes_are = refl; means = refl; front_is
 
 -- 90 is NOP (NF3 90 nop: 90)
 nop_at_90 : Spelled B64 0x401000
-    (row LegacyRow MapOne Nf3 0x90 NoPlus NoModRm AnyPlace NoSize NoW NoL 7 KAbsent KAbsent KAbsent KAbsent 0)
+    nop_row
     (spell ([]) None 0x90 None None ([]) ([]))
     (0x90 ∷ [])
     (instr 290 NoOperand NoOperand NoOperand NoOperand false NoRep None None)
@@ -210,7 +247,7 @@ nop_at_90 = record { fitting = refl; bytes_are = refl; means = refl; front_is = 
 
 -- 90 with REX.B is XCHG (o32 90+rd xchg: 41 90)
 xchg_at_90_with_rex_b : Spelled B64 0x401000
-    (row LegacyRow MapOne AnyClass 0x90 PlusRegister NoModRm AnyPlace O32 NoW NoL 7 KZv KRaxAny KAbsent KAbsent 0)
+    xchg_row
     (spell (0x41 ∷ []) None 0x90 None None ([]) ([]))
     (0x41 ∷ 0x90 ∷ [])
     (instr 292 (Reg (R32 8)) (Reg (R32 0)) NoOperand NoOperand false NoRep None None)
@@ -220,7 +257,7 @@ xchg_at_90_with_rex_b = record { fitting = refl; bytes_are = refl; means = refl;
 
 -- 90 with F3 is PAUSE (F3 90 pause: F3 90)
 pause_at_90_with_f3 : Spelled B64 0x401000
-    (row LegacyRow MapOne ClassF3 0x90 NoPlus NoModRm AnyPlace NoSize NoW NoL 7 KAbsent KAbsent KAbsent KAbsent 0)
+    pause_row
     (spell (0xF3 ∷ []) None 0x90 None None ([]) ([]))
     (0xF3 ∷ 0x90 ∷ [])
     (instr 294 NoOperand NoOperand NoOperand NoOperand false NoRep None None)
@@ -230,7 +267,7 @@ pause_at_90_with_f3 = record { fitting = refl; bytes_are = refl; means = refl; f
 
 -- a REX that a legacy prefix follows is ignored (NF3 90 nop: 48 66 90)
 rex_before_66_is_ignored : Spelled B64 0x401000
-    (row LegacyRow MapOne Nf3 0x90 NoPlus NoModRm AnyPlace NoSize NoW NoL 7 KAbsent KAbsent KAbsent KAbsent 0)
+    nop_row
     (spell (0x48 ∷ 0x66 ∷ []) None 0x90 None None ([]) ([]))
     (0x48 ∷ 0x66 ∷ 0x90 ∷ [])
     (instr 290 NoOperand NoOperand NoOperand NoOperand false NoRep None None)
@@ -240,7 +277,7 @@ rex_before_66_is_ignored = record { fitting = refl; bytes_are = refl; means = re
 
 -- of F2 and F3 the last one counts (F3 90 pause: F2 F3 90)
 last_repeat_counts : Spelled B64 0x401000
-    (row LegacyRow MapOne ClassF3 0x90 NoPlus NoModRm AnyPlace NoSize NoW NoL 7 KAbsent KAbsent KAbsent KAbsent 0)
+    pause_row
     (spell (0xF2 ∷ 0xF3 ∷ []) None 0x90 None None ([]) ([]))
     (0xF2 ∷ 0xF3 ∷ 0x90 ∷ [])
     (instr 294 NoOperand NoOperand NoOperand NoOperand false NoRep None None)
@@ -250,7 +287,7 @@ last_repeat_counts = record { fitting = refl; bytes_are = refl; means = refl; fr
 
 -- F3 before F2 is F2, which NOP keeps (NF3 90 nop: F3 F2 90)
 last_repeat_counts_also_f2 : Spelled B64 0x401000
-    (row LegacyRow MapOne Nf3 0x90 NoPlus NoModRm AnyPlace NoSize NoW NoL 7 KAbsent KAbsent KAbsent KAbsent 0)
+    nop_row
     (spell (0xF3 ∷ 0xF2 ∷ []) None 0x90 None None ([]) ([]))
     (0xF3 ∷ 0xF2 ∷ 0x90 ∷ [])
     (instr 290 NoOperand NoOperand NoOperand NoOperand false RepF2 None None)
@@ -260,7 +297,7 @@ last_repeat_counts_also_f2 = record { fitting = refl; bytes_are = refl; means = 
 
 -- a VEX of two bytes (VEX.128.0F.WIG 58 /r vaddps: C5 F8 58 C1)
 two_byte_vex : Spelled B64 0x401000
-    (row VexRow M0f Np 0x58 NoPlus AnyModRm AnyPlace NoSize Wig L128 7 KVx KHx KWx KAbsent 0)
+    vaddps_row
     (spell ([]) (Some (vex false false false false false false M0f 0 0)) 0x58 (Some (modrm 3 0 1)) None ([]) ([]))
     (0xC5 ∷ 0xF8 ∷ 0x58 ∷ 0xC1 ∷ [])
     (instr 1496 (Reg (Xmm 0)) (Reg (Xmm 0)) (Reg (Xmm 1)) NoOperand false NoRep None None)
@@ -270,7 +307,7 @@ two_byte_vex = record { fitting = refl; bytes_are = refl; means = refl; front_is
 
 -- a VEX of three bytes means the same (VEX.128.0F.WIG 58 /r vaddps: C4 E1 78 58 C1)
 three_byte_vex_means_the_same : Spelled B64 0x401000
-    (row VexRow M0f Np 0x58 NoPlus AnyModRm AnyPlace NoSize Wig L128 7 KVx KHx KWx KAbsent 0)
+    vaddps_row
     (spell ([]) (Some (vex true false false false false false M0f 0 0)) 0x58 (Some (modrm 3 0 1)) None ([]) ([]))
     (0xC4 ∷ 0xE1 ∷ 0x78 ∷ 0x58 ∷ 0xC1 ∷ [])
     (instr 1496 (Reg (Xmm 0)) (Reg (Xmm 0)) (Reg (Xmm 1)) NoOperand false NoRep None None)
@@ -280,7 +317,7 @@ three_byte_vex_means_the_same = record { fitting = refl; bytes_are = refl; means
 
 -- the index of a gather is a vector register (VEX.128.66.0F38.W0 92 /r vgatherdps: C4 E2 69 92 04 08)
 gather_index_is_a_vector : Spelled B64 0x401000
-    (row VexRow M0f38 P66 0x92 NoPlus AnyModRm MemoryPlace NoSize W0 L128 7 KVx KGatherL KHx KAbsent 0)
+    vgatherdps_row
     (spell ([]) (Some (vex true false false false false false M0f38 2 1)) 0x92 (Some (modrm 0 0 4)) (Some (sib 0 1 0)) ([]) ([]))
     (0xC4 ∷ 0xE2 ∷ 0x69 ∷ 0x92 ∷ 0x04 ∷ 0x08 ∷ [])
     (instr 1881 (Reg (Xmm 0)) (MemOperand (memory (Some (R64 0)) (Some (Xmm 1)) 1 0 D0)) (Reg (Xmm 2)) NoOperand false NoRep None (Some B64))
@@ -290,7 +327,7 @@ gather_index_is_a_vector = record { fitting = refl; bytes_are = refl; means = re
 
 -- LOCK stands with a memory operand first (o32 01 /r add: F0 01 00)
 lock_with_memory : Spelled B64 0x401000
-    (row LegacyRow MapOne AnyClass 0x01 NoPlus AnyModRm AnyPlace O32 NoW NoL 7 KEv KGv KAbsent KAbsent 1)
+    add_row
     (spell (0xF0 ∷ []) None 0x01 (Some (modrm 0 0 0)) None ([]) ([]))
     (0xF0 ∷ 0x01 ∷ 0x00 ∷ [])
     (instr 2 (MemOperand (memory (Some (R64 0)) None 1 0 D0)) (Reg (R32 0)) NoOperand NoOperand true NoRep None (Some B64))
@@ -320,7 +357,7 @@ immediate_is_sign_extended = record { fitting = refl; bytes_are = refl; means = 
 
 -- in 64-bit mode FS outranks CS, whichever stands last (o32 8B /r mov: 64 2E 8B 00)
 fs_outranks_cs : Spelled B64 0x401000
-    (row LegacyRow MapOne AnyClass 0x8B NoPlus AnyModRm AnyPlace O32 NoW NoL 7 KGv KEv KAbsent KAbsent 0)
+    mov_row
     (spell (0x64 ∷ 0x2E ∷ []) None 0x8B (Some (modrm 0 0 0)) None ([]) ([]))
     (0x64 ∷ 0x2E ∷ 0x8B ∷ 0x00 ∷ [])
     (instr 278 (Reg (R32 0)) (MemOperand (memory (Some (R64 0)) None 1 0 D0)) NoOperand NoOperand false NoRep (Some SFs) (Some B64))
@@ -350,7 +387,7 @@ mmx_ignores_rex = record { fitting = refl; bytes_are = refl; means = refl; front
 
 -- a VEX row without operands (VEX.128.0F.WIG 77 vzeroupper: C5 F8 77)
 vzeroupper_in_64_bit_mode : Spelled B64 0x401000
-    (row VexRow M0f Np 0x77 NoPlus NoModRm AnyPlace NoSize Wig L128 7 KAbsent KAbsent KAbsent KAbsent 0)
+    vzeroupper_row
     (spell ([]) (Some (vex false false false false false false M0f 0 0)) 0x77 None None ([]) ([]))
     (0xC5 ∷ 0xF8 ∷ 0x77 ∷ [])
     (instr 1610 NoOperand NoOperand NoOperand NoOperand false NoRep None None)
@@ -370,7 +407,7 @@ f3_outranks_66 = record { fitting = refl; bytes_are = refl; means = refl; front_
 
 -- a jump over minus 2 (o64 EB cb jmp: EB FE)
 jump_to_itself : Spelled B64 0x401000
-    (row LegacyRow MapOne AnyClass 0xEB NoPlus NoModRm AnyPlace O64 NoW NoL 4 KJb KAbsent KAbsent KAbsent 20)
+    jmp_row
     (spell ([]) None 0xEB None None ([]) (0xFE ∷ []))
     (0xEB ∷ 0xFE ∷ [])
     (instr 631 (Near 0x401000) NoOperand NoOperand NoOperand false NoRep None None)
@@ -380,7 +417,7 @@ jump_to_itself = record { fitting = refl; bytes_are = refl; means = refl; front_
 
 -- a near branch ignores 66 in 64-bit mode, and the 66 moves its next address (o64 EB cb jmp: 66 EB 7F)
 jump_ignores_66_in_64_bit_mode : Spelled B64 0x401000
-    (row LegacyRow MapOne AnyClass 0xEB NoPlus NoModRm AnyPlace O64 NoW NoL 4 KJb KAbsent KAbsent KAbsent 20)
+    jmp_row
     (spell (0x66 ∷ []) None 0xEB None None ([]) (0x7F ∷ []))
     (0x66 ∷ 0xEB ∷ 0x7F ∷ [])
     (instr 631 (Near 0x401082) NoOperand NoOperand NoOperand false NoRep None None)
@@ -420,7 +457,7 @@ cr8_by_rex_r = record { fitting = refl; bytes_are = refl; means = refl; front_is
 
 -- fourteen prefixes and an opcode byte (NF3 90 nop: 66 66 66 66 66 66 66 66 66 66 66 66 66 66 90)
 fifteen_bytes : Spelled B64 0
-    (row LegacyRow MapOne Nf3 0x90 NoPlus NoModRm AnyPlace NoSize NoW NoL 7 KAbsent KAbsent KAbsent KAbsent 0)
+    nop_row
     (spell (0x66 ∷ 0x66 ∷ 0x66 ∷ 0x66 ∷ 0x66 ∷ 0x66 ∷ 0x66 ∷ 0x66 ∷ 0x66 ∷ 0x66 ∷ 0x66 ∷ 0x66 ∷ 0x66 ∷ 0x66 ∷ []) None 0x90 None None ([]) ([]))
     (0x66 ∷ 0x66 ∷ 0x66 ∷ 0x66 ∷ 0x66 ∷ 0x66 ∷ 0x66 ∷ 0x66 ∷ 0x66 ∷ 0x66 ∷ 0x66 ∷ 0x66 ∷ 0x66 ∷ 0x66 ∷ 0x90 ∷ [])
     (instr 290 NoOperand NoOperand NoOperand NoOperand false NoRep None None)
@@ -460,7 +497,7 @@ vex_b_is_ignored_in_32_bit_mode = record { fitting = refl; bytes_are = refl; mea
 
 -- 67 gives 16-bit addressing in 32-bit mode: BX plus SI (o32 8B /r mov: 67 8B 00)
 addresses_of_16_bits : Spelled B32 4096
-    (row LegacyRow MapOne AnyClass 0x8B NoPlus AnyModRm AnyPlace O32 NoW NoL 7 KGv KEv KAbsent KAbsent 0)
+    mov_row
     (spell (0x67 ∷ []) None 0x8B (Some (modrm 0 0 0)) None ([]) ([]))
     (0x67 ∷ 0x8B ∷ 0x00 ∷ [])
     (instr 278 (Reg (R32 0)) (MemOperand (memory (Some (R16 3)) (Some (R16 6)) 1 0 D0)) NoOperand NoOperand false NoRep None (Some B16))
@@ -470,7 +507,7 @@ addresses_of_16_bits = record { fitting = refl; bytes_are = refl; means = refl; 
 
 -- C5 before a byte that begins with 11 is a VEX (VEX.128.0F.WIG 77 vzeroupper: C5 F8 77)
 vzeroupper_in_32_bit_mode : Spelled B32 4096
-    (row VexRow M0f Np 0x77 NoPlus NoModRm AnyPlace NoSize Wig L128 7 KAbsent KAbsent KAbsent KAbsent 0)
+    vzeroupper_row
     (spell ([]) (Some (vex false false false false false false M0f 0 0)) 0x77 None None ([]) ([]))
     (0xC5 ∷ 0xF8 ∷ 0x77 ∷ [])
     (instr 1610 NoOperand NoOperand NoOperand NoOperand false NoRep None None)
@@ -550,42 +587,42 @@ call_of_32_bits_in_16_bit_mode = record { fitting = refl; bytes_are = refl; mean
 
 -- LOCK with a register destination (o32 01 /r add)
 lock_needs_memory : NotFitting B64
-    (row LegacyRow MapOne AnyClass 0x01 NoPlus AnyModRm AnyPlace O32 NoW NoL 7 KEv KGv KAbsent KAbsent 1)
+    add_row
     (spell (0xF0 ∷ []) None 0x01 (Some (modrm 3 0 0)) None ([]) ([]))
 unfolding every_rule
 lock_needs_memory = refl
 
 -- 66 before a row of the operand size 32 (o32 01 /r add)
 size_32_without_66 : NotFitting B64
-    (row LegacyRow MapOne AnyClass 0x01 NoPlus AnyModRm AnyPlace O32 NoW NoL 7 KEv KGv KAbsent KAbsent 1)
+    add_row
     (spell (0x66 ∷ []) None 0x01 (Some (modrm 3 0 0)) None ([]) ([]))
 unfolding every_rule
 size_32_without_66 = refl
 
 -- REX.W before a row of the operand size 32 (o32 01 /r add)
 size_32_without_rex_w : NotFitting B64
-    (row LegacyRow MapOne AnyClass 0x01 NoPlus AnyModRm AnyPlace O32 NoW NoL 7 KEv KGv KAbsent KAbsent 1)
+    add_row
     (spell (0x48 ∷ []) None 0x01 (Some (modrm 3 0 0)) None ([]) ([]))
 unfolding every_rule
 size_32_without_rex_w = refl
 
 -- a vvvv that the row does not use (VEX.128.0F.WIG 77 vzeroupper)
 unused_vvvv_is_1111 : NotFitting B64
-    (row VexRow M0f Np 0x77 NoPlus NoModRm AnyPlace NoSize Wig L128 7 KAbsent KAbsent KAbsent KAbsent 0)
+    vzeroupper_row
     (spell ([]) (Some (vex false false false false false false M0f 1 0)) 0x77 None None ([]) ([]))
 unfolding every_rule
 unused_vvvv_is_1111 = refl
 
 -- a VEX behind 66 (VEX.128.0F.WIG 77 vzeroupper)
 no_vex_behind_66 : NotFitting B64
-    (row VexRow M0f Np 0x77 NoPlus NoModRm AnyPlace NoSize Wig L128 7 KAbsent KAbsent KAbsent KAbsent 0)
+    vzeroupper_row
     (spell (0x66 ∷ []) (Some (vex false false false false false false M0f 0 0)) 0x77 None None ([]) ([]))
 unfolding every_rule
 no_vex_behind_66 = refl
 
 -- a VEX directly behind a REX (VEX.128.0F.WIG 77 vzeroupper)
 no_vex_behind_rex : NotFitting B64
-    (row VexRow M0f Np 0x77 NoPlus NoModRm AnyPlace NoSize Wig L128 7 KAbsent KAbsent KAbsent KAbsent 0)
+    vzeroupper_row
     (spell (0x48 ∷ []) (Some (vex false false false false false false M0f 0 0)) 0x77 None None ([]) ([]))
 unfolding every_rule
 no_vex_behind_rex = refl
@@ -599,7 +636,7 @@ gather_registers_differ = refl
 
 -- a gather in 16-bit addressing (VEX.128.66.0F38.W0 92 /r vgatherdps)
 gather_needs_32_bit_addresses : NotFitting B32
-    (row VexRow M0f38 P66 0x92 NoPlus AnyModRm MemoryPlace NoSize W0 L128 7 KVx KGatherL KHx KAbsent 0)
+    vgatherdps_row
     (spell (0x67 ∷ []) (Some (vex true false false false false false M0f38 2 1)) 0x92 (Some (modrm 0 0 4)) None ([]) ([]))
 unfolding every_rule
 gather_needs_32_bit_addresses = refl
@@ -613,21 +650,21 @@ no_debug_register_of_rex_r = refl
 
 -- NOP with REX.B (NF3 90 nop)
 nop_without_rex_b : NotFitting B64
-    (row LegacyRow MapOne Nf3 0x90 NoPlus NoModRm AnyPlace NoSize NoW NoL 7 KAbsent KAbsent KAbsent KAbsent 0)
+    nop_row
     (spell (0x41 ∷ []) None 0x90 None None ([]) ([]))
 unfolding every_rule
 nop_without_rex_b = refl
 
 -- XCHG at 90 without REX.B (o32 90+rd xchg)
 xchg_at_90_needs_rex_b : NotFitting B64
-    (row LegacyRow MapOne AnyClass 0x90 PlusRegister NoModRm AnyPlace O32 NoW NoL 7 KZv KRaxAny KAbsent KAbsent 0)
+    xchg_row
     (spell ([]) None 0x90 None None ([]) ([]))
 unfolding every_rule
 xchg_at_90_needs_rex_b = refl
 
 -- XCHG at 90 with F3 (o32 90+rd xchg)
 xchg_at_90_without_f3 : NotFitting B64
-    (row LegacyRow MapOne AnyClass 0x90 PlusRegister NoModRm AnyPlace O32 NoW NoL 7 KZv KRaxAny KAbsent KAbsent 0)
+    xchg_row
     (spell (0xF3 ∷ 0x41 ∷ []) None 0x90 None None ([]) ([]))
 unfolding every_rule
 xchg_at_90_without_f3 = refl
@@ -641,7 +678,7 @@ les_needs_memory = refl
 
 -- PAUSE with F2 (F3 90 pause)
 pause_needs_f3 : NotFitting B64
-    (row LegacyRow MapOne ClassF3 0x90 NoPlus NoModRm AnyPlace NoSize NoW NoL 7 KAbsent KAbsent KAbsent KAbsent 0)
+    pause_row
     (spell (0xF2 ∷ []) None 0x90 None None ([]) ([]))
 unfolding every_rule
 pause_needs_f3 = refl

@@ -1,5 +1,5 @@
 -- Where a spelling fits a row, the row's conditions hold on its nine fields.
-use Rattle.std.proofs.Common.{◌≡◌, ℕ, ◌<◌, Bool, true, false, not, ◌&&◌, ◌||◌, Option, Some, None, is_some, List, refl, ap, sym, ◌∙◌, subst, eq-eqb, nat_lt, length, if◌then◌else◌, inl, inr}
+use Rattle.std.proofs.Common.{◌≡◌, ℕ, ◌<◌, Bool, true, false, not, ◌&&◌, ◌||◌, Option, Some, None, is_some, List, refl, ap, sym, ◌∙◌, subst, nat_lt, length, if◌then◌else◌, inl, inr}
 use Rattle.std.specs.Prelude.{◌==◌, ◌⊎◌}
 use Rattle.std.proofs.lemmas.Bool.{and_from, cases_Bool}
 use Rattle.x86_values.specs.declared.Bits.{Bits}
@@ -18,14 +18,13 @@ use Rattle.instruction_parts.specs.declared.spelling.PrefixState.{PrefixState}
 use Rattle.instruction_parts.specs.Counting.{is_64, rex_bit, counting_rex, counting_repeat, has_66}
 use Rattle.instruction_parts.specs.Sizes.{exists_in, is_vex_row, operand_size, bit_b, bit_w, state_size}
 use Rattle.instruction_parts.specs.Bytes.{front_bytes, modrm_byte, state_of, state_from, spelled_map}
-use Rattle.instruction_parts.specs.Front.{forbids_vex}
-use Rattle.instruction_parts.proofs.Tests.{and_left, and_right, not_true}
-use Rattle.row_fit.specs.Fits.{fits, class_fits, vex_fits, is_vex_of_mode, opcode_is_kept, same_map, opcode_and_modrm_fit, opcode_fits, modrm_rule_fits, place_fits, place_allows, sizes_fit, size_fits, w_fits, l_fits, registers_fit, destination_fits, gather_fits, reads_by, is_gather, is_nop_byte, nop_fits, is_map_one, is_repeat_f3, modrm_in_range, fields_in_range, vex_in_range, are_bytes}
+use Rattle.instruction_parts.proofs.Tests.{and_left, and_right}
+use Rattle.row_fit.specs.Fits.{fits, class_fits, opcode_and_modrm_fit, opcode_fits, modrm_rule_fits, place_fits, place_allows, sizes_fit, size_fits, w_fits, l_fits, registers_fit, destination_fits, gather_fits, reads_by, is_gather, is_nop_byte, nop_fits, is_map_one, is_repeat_f3, modrm_in_range, fields_in_range, vex_in_range, are_bytes}
 use borrow.Author.Tests.{ltb-true}
 use Rattle.row_fit.specs.Sound.{sound, kind_is_proper, legacy_is_proper, vex_is_proper, is_no_w, is_no_l, is_size_of_vex, rule_in_range}
 use Rattle.row_fit.proofs.FitLaws.{all_conditions, modrm_range}
 use Rattle.row_fit.proofs.SoundLaws.{sound_conditions}
-use Rattle.row_fields.specs.Holds.{holds, stands_in, is_vex, map_number, opcode_holds, at_90, adds_register, prefix_of, prefix_holds, class_allows, rex_b_at_90, rex_b_holds, byte_of, size_allows, size_holds, w_as_size, w_allows, w_holds, l_holds}
+use Rattle.row_fields.specs.Holds.{holds, at_90, adds_register, prefix_of, prefix_holds, class_allows, rex_b_at_90, rex_b_holds, byte_of, size_allows, size_holds, w_as_size, w_allows, w_holds, l_holds}
 use Rattle.unique_spelling.specs.FieldsOf.{fields_of, repeat_of, repeat_of_pp, size66_of, w_of, l_of}
 use Rattle.opcode_rows.proofs.Standing.{VexSays, vex-says, stands, opcode-parts}
 use Rattle.unique_spelling.proofs.Parts.{nop-byte, legacy-class, vex-class, nf3, rex-64, size-allowed, size-of_vex, w-as_size, w-of_legacy, w-of_vex, l-of_legacy, l-of_vex}
@@ -137,7 +136,7 @@ said-legacy bits row ps used map o legacy proper class sizes nop =
     let sized : size_fits bits row.size (operand_size bits row (rex_bit 3 rex) (has_66 ps)) (is_64 bits && rex_bit 3 rex) ≡ true =
     and_left (size_fits bits row.size (operand_size bits row (rex_bit 3 rex) (has_66 ps)) (is_64 bits && rex_bit 3 rex)) true sizes in
     record {
-      class_is = legacy-class row.class (state_from bits ps used None map o) class;
+      class_is = sym (legacy-class row.class (state_from bits ps used None map o)) ∙ class;
       size_is =
           ap (λ b. size_allows row.size (operand_size bits row b (has_66 ps))) plain
           ∙ size-allowed bits row.size (operand_size bits row (rex_bit 3 rex) (has_66 ps)) (is_64 bits && rex_bit 3 rex) sized;
@@ -147,7 +146,7 @@ said-legacy bits row ps used map o legacy proper class sizes nop =
       l_is = l-of_legacy row.l parts.1;
       nop_is = elim (cases_Bool (at_90 row o)) [
         | inl e ↦ nop-there row o (rex_bit 0 rex) (not (is_repeat_f3 (counting_repeat ps))) (prefix_of (counting_repeat ps) (has_66 ps)) e
-            (nf3 (has_66 ps) (counting_repeat ps))
+            (λ h. sym (nf3 (has_66 ps) (counting_repeat ps)) ∙ h)
             (subst (λ b. nop_asks row.plus row.class b (not (is_repeat_f3 (counting_repeat ps))) ≡ true) (rex-64 bits ps 0)
             (nop (sym (at_90-is row o) ∙ e)))
         | inr e ↦ nop-elsewhere row o (rex_bit 0 rex) (prefix_of (counting_repeat ps) (has_66 ps)) e

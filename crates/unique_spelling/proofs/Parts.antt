@@ -1,5 +1,5 @@
 -- What each condition of a fit says of the fields: class, place in the table, sizes, W and L.
-use Rattle.std.proofs.Common.{◌≡◌, ℕ, ◌+◌, List, Bool, true, false, not, ◌&&◌, ◌||◌, refl, ap, sym, ◌∙◌, eq-eqb, nat_le, nat_lt}
+use Rattle.std.proofs.Common.{◌≡◌, ℕ, ◌+◌, List, Bool, true, false, not, ◌&&◌, ◌||◌, refl, ap, ◌∙◌, nat_lt}
 use Rattle.std.specs.Prelude.{◌==◌}
 use Rattle.x86_values.specs.declared.Bits.{Bits}
 use Rattle.x86_values.specs.declared.Bits.TheVariants.{B16, B32, B64}
@@ -11,8 +11,6 @@ use Rattle.row_types.specs.declared.Map.{Map}
 use Rattle.row_types.specs.declared.Map.TheVariants as map
 use Rattle.row_types.specs.declared.Class.{Class}
 use Rattle.row_types.specs.declared.Class.TheVariants as class
-use Rattle.row_types.specs.declared.Plus.{Plus}
-use Rattle.row_types.specs.declared.Plus.TheVariants as plus
 use Rattle.row_types.specs.declared.Size.{Size}
 use Rattle.row_types.specs.declared.Size.TheVariants as size
 use Rattle.row_types.specs.declared.WBit.{WBit}
@@ -23,9 +21,9 @@ use Rattle.instruction_parts.specs.declared.spelling.Vex.{Vex}
 use Rattle.instruction_parts.specs.declared.spelling.PrefixState.{PrefixState}
 use Rattle.instruction_parts.specs.Counting.{is_64, rex_bit, counting_rex}
 use Rattle.instruction_parts.proofs.Tests.{equal_from}
-use Rattle.row_fit.specs.Fits.{same_map, is_map_one, is_no_repeat, is_repeat_f3, is_repeat_f2, legacy_class_fits, vex_class_fits, size_fits, takes_w_as_size, l_fits}
+use Rattle.row_fit.specs.Fits.{is_map_one, is_no_repeat, is_repeat_f3, is_repeat_f2, legacy_class_fits, vex_class_fits, size_fits, takes_w_as_size, l_fits}
 use Rattle.row_fit.specs.Sound.{is_no_w, is_no_l, is_size_of_vex}
-use Rattle.row_fields.specs.Holds.{is_vex, map_number, opcode_holds, prefix_of, class_allows, size_allows, w_as_size, w_allows, l_holds}
+use Rattle.row_fields.specs.Holds.{is_vex, map_number, prefix_of, class_allows, size_allows, w_as_size, w_allows, l_holds}
 use Rattle.unique_spelling.specs.FieldsOf.{repeat_of_pp}
 
 -- ---- kind and map
@@ -44,51 +42,56 @@ nop-byte kind.Vex map.M0f3a b = refl
 
 -- ---- class
 
-np : (s : Bool) (r : Rep) → (not s && is_no_repeat r) ≡ true → (prefix_of r s == 0) ≡ true
-np false rep.None h = refl
-np false rep.F2 h = cc
-np false rep.F3 h = cc
-np true rep.None h = cc
-np true rep.F2 h = cc
-np true rep.F3 h = cc
+np : (s : Bool) (r : Rep) → (not s && is_no_repeat r) ≡ (prefix_of r s == 0)
+np false rep.None = refl
+np false rep.F2 = refl
+np false rep.F3 = refl
+np true rep.None = refl
+np true rep.F2 = refl
+np true rep.F3 = refl
 
-nfx : (s : Bool) (r : Rep) → is_no_repeat r ≡ true → nat_lt (prefix_of r s) 2 ≡ true
-nfx false rep.None h = refl
-nfx true rep.None h = refl
-nfx s rep.F2 h = cc
-nfx s rep.F3 h = cc
+nfx : (s : Bool) (r : Rep) → is_no_repeat r ≡ nat_lt (prefix_of r s) 2
+nfx false rep.None = refl
+nfx true rep.None = refl
+nfx s rep.F2 = refl
+nfx s rep.F3 = refl
 
-pub nf3 : (s : Bool) (r : Rep) → not (is_repeat_f3 r) ≡ true → not (prefix_of r s == 2) ≡ true
-nf3 false rep.None h = refl
-nf3 true rep.None h = refl
-nf3 s rep.F2 h = refl
-nf3 s rep.F3 h = cc
+pub nf3 : (s : Bool) (r : Rep) → not (is_repeat_f3 r) ≡ not (prefix_of r s == 2)
+nf3 false rep.None = refl
+nf3 true rep.None = refl
+nf3 s rep.F2 = refl
+nf3 s rep.F3 = refl
 
-p66 : (s : Bool) (r : Rep) → (s && is_no_repeat r) ≡ true → (prefix_of r s == 1) ≡ true
-p66 true rep.None h = refl
-p66 true rep.F2 h = cc
-p66 true rep.F3 h = cc
-p66 false r h = cc
+p66 : (s : Bool) (r : Rep) → (s && is_no_repeat r) ≡ (prefix_of r s == 1)
+p66 false rep.None = refl
+p66 false rep.F2 = refl
+p66 false rep.F3 = refl
+p66 true rep.None = refl
+p66 true rep.F2 = refl
+p66 true rep.F3 = refl
 
-f3 : (s : Bool) (r : Rep) → is_repeat_f3 r ≡ true → (prefix_of r s == 2) ≡ true
-f3 s rep.None h = cc
-f3 s rep.F2 h = cc
-f3 s rep.F3 h = refl
+f3 : (s : Bool) (r : Rep) → is_repeat_f3 r ≡ (prefix_of r s == 2)
+f3 false rep.None = refl
+f3 true rep.None = refl
+f3 s rep.F2 = refl
+f3 s rep.F3 = refl
 
-f2 : (s : Bool) (r : Rep) → is_repeat_f2 r ≡ true → (prefix_of r s == 3) ≡ true
-f2 s rep.None h = cc
-f2 s rep.F2 h = refl
-f2 s rep.F3 h = cc
+f2 : (s : Bool) (r : Rep) → is_repeat_f2 r ≡ (prefix_of r s == 3)
+f2 false rep.None = refl
+f2 true rep.None = refl
+f2 s rep.F2 = refl
+f2 s rep.F3 = refl
 
-pub legacy-class : (c : Class) (state : PrefixState) → legacy_class_fits c state ≡ true → class_allows c (prefix_of state.rep state.size66) ≡ true
+-- a legacy row takes the prefix that counts exactly where its class allows it
+pub legacy-class : (c : Class) (state : PrefixState) → legacy_class_fits c state ≡ class_allows c (prefix_of state.rep state.size66)
 unfolding legacy_class_fits
-legacy-class class.Any state h = refl
-legacy-class class.Np state h = np state.size66 state.rep h
-legacy-class class.Nfx state h = nfx state.size66 state.rep h
-legacy-class class.Nf3 state h = nf3 state.size66 state.rep h
-legacy-class class.P66 state h = p66 state.size66 state.rep h
-legacy-class class.F3 state h = f3 state.size66 state.rep h
-legacy-class class.F2 state h = f2 state.size66 state.rep h
+legacy-class class.Any state = refl
+legacy-class class.Np state = np state.size66 state.rep
+legacy-class class.Nfx state = nfx state.size66 state.rep
+legacy-class class.Nf3 state = nf3 state.size66 state.rep
+legacy-class class.P66 state = p66 state.size66 state.rep
+legacy-class class.F3 state = f3 state.size66 state.rep
+legacy-class class.F2 state = f2 state.size66 state.rep
 
 -- the prefix that pp stands for
 abbrev pub prefix_of_pp : ℕ → ℕ

@@ -7,12 +7,14 @@ use Rattle.x86_values.specs.declared.Segment.TheVariants.{Es, Cs, Ss, Ds, Fs, Gs
 use Rattle.x86_values.specs.declared.Register.{Register}
 use Rattle.x86_values.specs.declared.Register.TheVariants.{Low8, High8, R16, R32, R64, Seg, Cr, Dr, St, Mm, Xmm, Ymm, Eip, Rip}
 
+-- two sizes are one
 abbrev pub same_bits : Bits → Bits → Bool
 same_bits B16 B16 = true
 same_bits B32 B32 = true
 same_bits B64 B64 = true
 same_bits _ _ = false
 
+-- two segment registers are one
 abbrev pub same_segment : Segment → Segment → Bool
 same_segment Es Es = true
 same_segment Cs Cs = true

@@ -1,0 +1,11 @@
+//! Laws of the definitions, as the contracts of functions that do nothing.
+
+ghost use Rattle.std.specs.Prelude.{◌≡◌, ℕ};
+ghost use Rattle.x86_values.specs.declared.Bits.{Bits};
+ghost use Rattle.x86_values.specs.Wrapping.{wrapped};
+
+/// A number that is wrapped twice is wrapped once.
+#[inline]
+pub fn wrapped_twice()
+    ensures { (bits : Bits) (x : ℕ) → wrapped bits (wrapped bits x) ≡ wrapped bits x }
+{}
