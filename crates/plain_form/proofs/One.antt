@@ -30,7 +30,8 @@ use Rattle.plain_fit.proofs.Numbers.{kind_that_passes}
 use Rattle.plain_fit.proofs.Given as fit
 use Rattle.plain_need.proofs.Given.{Given}
 use Rattle.plain_need.proofs.Whole.{needs_hold}
-use Rattle.plain_need.proofs.Immediates.{operand-meant, immediates-len, spelled_bytes, bytes_behind, own-bytes, own-length-at}
+use Rattle.plain_spelling.proofs.Ranges.{bytes_behind}
+use Rattle.plain_need.proofs.Immediates.{operand-meant, immediates-len, spelled_bytes, own-bytes, own-length-at}
 use Rattle.plain_need.proofs.ReadOperands.{TailReads}
 use Rattle.plain_need.proofs.ReadTails.{tail_reads}
 use Rattle.plain_form.specs.IsPlain.{IsPlain, last_byte_is_bare, last_byte_is_read, immediates_are_read}

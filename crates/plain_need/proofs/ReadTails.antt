@@ -34,7 +34,7 @@ use Rattle.plain_need.proofs.States.{StateIs, state_is}
 use Rattle.plain_need.proofs.Front.{short_vex_is}
 use Rattle.plain_need.proofs.Walking.{all_kinds}
 use Rattle.plain_need.proofs.Variants.{tail_is, reads_at}
-use Rattle.plain_need.proofs.Immediates.{bytes_behind}
+use Rattle.plain_spelling.proofs.Ranges.{bytes_behind}
 use Rattle.plain_need.proofs.ReadShapes.{Reading}
 use Rattle.plain_need.proofs.ReadOperands.{TailReads}
 

@@ -39,7 +39,8 @@ use Rattle.plain_spelling.proofs.AddressForms.{vectors_named}
 use Rattle.plain_spelling.proofs.Asked.{each-from}
 use Rattle.instruction_parts.proofs.Tests.{either, and_left, and_right, not_true, or_right, equal_from}
 use Rattle.plain_need.proofs.Given.{Given}
-use Rattle.plain_need.proofs.Immediates.{own-bytes, bytes_behind}
+use Rattle.plain_spelling.proofs.Ranges.{bytes_behind}
+use Rattle.plain_need.proofs.Immediates.{own-bytes}
 use Rattle.plain_need.proofs.Walking.{Gives, hold_all, readers, readers_yes, readers_no, readers_none, readers_left, asked_is}
 use Rattle.plain_need.proofs.Numbers.{number-vector}
 use Rattle.plain_need.proofs.Asks.{apart, placed, each_read, differ, silent_reg, silent_vvvv, silent_opcode, silent_index}

@@ -38,7 +38,8 @@ use Rattle.plain_spelling.proofs.Asked.{each-from}
 use Rattle.plain_spelling.proofs.Values.{is_extended-more, distance-of-target, target-below}
 use Rattle.plain_spelling.proofs.ImmediateBytes.{bytes_short}
 use Rattle.plain_need.proofs.Given.{Given}
-use Rattle.plain_need.proofs.Immediates.{BySize, size-at, operand-meant, own-bytes, own-length-at, bytes_behind}
+use Rattle.plain_spelling.proofs.Ranges.{bytes_behind}
+use Rattle.plain_need.proofs.Immediates.{BySize, size-at, operand-meant, own-bytes, own-length-at}
 
 -- ---- addresses at no instruction pointer
 

@@ -4,6 +4,7 @@ pub mod Values
 pub mod PlainFrontLaws
 pub mod Sizes
 pub mod PartLengths
+pub mod Ranges
 pub mod AddressCases
 pub mod AddressForms
 pub mod Asked
