@@ -6,17 +6,11 @@ use Rattle.row_types.specs.declared.RowKind.{RowKind}
 use Rattle.row_types.specs.declared.RowKind.TheVariants.{Legacy, Vex}
 use Rattle.row_types.specs.declared.Map.{Map}
 use Rattle.row_types.specs.declared.Map.TheVariants as map
-use Rattle.row_types.specs.declared.Class.{Class}
 use Rattle.row_types.specs.declared.ModRmRule.TheVariants as rule
-use Rattle.row_types.specs.declared.WBit.{WBit}
-use Rattle.row_types.specs.declared.LBit.{LBit}
-use Rattle.row_types.specs.declared.SizeWord.{SizeWord}
-use Rattle.row_types.specs.declared.PlusWord.{PlusWord}
-use Rattle.row_types.specs.declared.ImmWord.{ImmWord}
 use Rattle.row_types.specs.declared.RowShape.{RowShape}
 use Rattle.row_notation.specs.Shape.{is_opcode_of_map}
 use Rattle.row_notation.specs.Notation.{class_text, size_text, map_text, digit_text, plus_text, imm_text, l_text, pp_text, vex_map_text, w_text}
-use Rattle.row_notation.specs.Reading.{Answer, better, best, read_end, imm_words, read_imm, digit_value, read_stack_word, read_stack, read_fixed_low, read_fixed, read_digit, read_fixed_of, read_any, read_slash_digit, read_modrm, plus_words, read_plus, is_opcode_of, read_opcode_low, read_opcode, maps, read_map, size_words, read_size, classes, read_class, w_words, read_w, vex_maps, read_vex_map, vex_classes, read_pp, l_words, read_l, blank, read_vex, read_text}
+use Rattle.row_notation.specs.Reading.{Answer, better, read_end, imm_words, read_imm, digit_value, read_stack_word, read_stack, read_fixed_low, read_fixed, read_digit, read_fixed_of, read_any, read_slash_digit, read_modrm, plus_words, read_plus, is_opcode_of, read_opcode_low, read_opcode, maps, read_map, size_words, read_size, classes, read_class, w_words, read_w, vex_maps, read_vex_map, vex_classes, read_pp, l_words, read_l, blank, read_vex, read_text}
 use Rattle.row_notation.proofs.Languages.{Language, IsInhabited, IsEmpty, behind_byte, either_of, word_then, one_of, IsRight, right-same, right-inhabited, right-better, right-word, right-byte, right-stop, right-if, right-or_nothing, has_some, right-one_of}
 
 -- ---- the end
