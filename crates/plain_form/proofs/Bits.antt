@@ -14,8 +14,7 @@ use Rattle.instruction_parts.specs.declared.spelling.Spelling.{Spelling}
 use Rattle.instruction_parts.specs.declared.spelling.PrefixState.{PrefixState}
 use Rattle.instruction_parts.specs.Kinds.{method_of}
 use Rattle.instruction_parts.proofs.Tests.{either}
-use Rattle.row_fit.specs.Fits.{reads_by}
-use Rattle.row_fit.specs.Sound.{Sound, reads_reg, reads_rm, reads_opcode, has_modrm_rule}
+use Rattle.row_fit.specs.Sound.{Sound, reads_reg, reads_rm, reads_opcode}
 use Rattle.row_meaning.specs.Meaning.{Tail, instr_of, meaning}
 use Rattle.plain_spelling.specs.PlainFront.{register_number, number_or_zero, is_low_byte_of_rex, over_operands, base_or_register_number, number_in_reg, number_in_rm, number_in_index, asks_r, asks_x, asks_b, asks_low_byte}
 use Rattle.plain_need.proofs.Given.{Given}
