@@ -170,7 +170,14 @@ fn next_layout(
     ensures each { IfOk result (λ next. (k : ℕ) → k < length items.now → GrowsItem (plan_of spans.now items.now) layout.now next.items k) }
 {
     let places = places(alloc, spans, items, layout)?;
-    let pass = Pass { spans, items, blocks, first, layout, places: &places };
+    let pass = Pass {
+        spans,
+        items,
+        blocks,
+        first,
+        layout,
+        places: &places,
+    };
     let mut next = Vec::with_capacity(alloc, items.len())?;
     for k in 0..items.len() {
         let closed = is_item_closed(&pass, k);
