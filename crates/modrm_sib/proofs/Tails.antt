@@ -24,6 +24,7 @@ use Rattle.row_fit.proofs.FrontConverse.{same_state}
 use Rattle.row_fit.proofs.TailLaws.{cancel_front}
 use Rattle.modrm_sib.specs.Parts.{takes_sib, displacement_len, lead_fits, parts_fit}
 use Rattle.row_fit.specs.FrontParts.{LeadIsProper, Parted}
+use Rattle.plain_spelling.proofs.Ranges.{bytes_behind}
 
 pub both : (a b : Bool) → a ≡ true → b ≡ true → (a && b) ≡ true
 both true b ha hb = hb
@@ -260,18 +261,6 @@ fits_of_tail bits row s f = record {
   registers = f.registers;
 }
 
--- the bytes of displacement and immediates
-disp_imm_bytes : (s : Spelling) → fields_in_range s ≡ true → (are_bytes s.disp.items ≡ true) × (are_bytes s.imm.items ≡ true)
-unfolding fields_in_range
-disp_imm_bytes s h =
-    let bytes = are_bytes s.disp.items && are_bytes s.imm.items in
-    let r1 = modrm_in_range s.modrm && (sib_in_range s.sib && bytes) in
-    let r2 = and_right (are_bytes s.prefixes.items) (vex_in_range s.vex && (nat_lt s.opcode 256 && r1)) h in
-    let r3 = and_right (vex_in_range s.vex) (nat_lt s.opcode 256 && r1) r2 in
-    let r4 = and_right (modrm_in_range s.modrm) (sib_in_range s.sib && bytes) (and_right (nat_lt s.opcode 256) r1 r3) in
-    let r5 = and_right (sib_in_range s.sib) bytes r4 in
-    (and_left (are_bytes s.disp.items) (are_bytes s.imm.items) r5, and_right (are_bytes s.disp.items) (are_bytes s.imm.items) r5)
-
 -- the tail of a fitting spelling fits behind its state
 own_tail : (bits : Bits) (row : Row) (s : Spelling) → fits bits row s ≡ true → TailFits bits row (state_of bits row s) s.modrm s.sib s.disp.items s.imm.items
 unfolding lengths_fit
@@ -281,7 +270,7 @@ own_tail bits row s h =
     let i = immediates_bytes (state_size bits row state) row in
     let address = address_fits (state_address_size bits state) row s.modrm s.sib (length s.disp.items) in
     let a = address_parts bits row state s.modrm s.sib (length s.disp.items) (and_left address (length s.imm.items == i) f.lengths) in
-    let b = disp_imm_bytes s f.ranges in
+    let b = bytes_behind s f.ranges in
     record {
       parts = parts_back bits row state s.modrm s.sib (fits_of_tail bits row s f);
       sib_is = a.0;
