@@ -47,78 +47,57 @@ pub(crate) fn reaches_from_both(choice: &Choice, place: u128, first: u128, goal:
     reaches(choice, place, goal) && reaches(choice, first, goal)
 }
 
-/// Whether a choice of item `k` reaches the goal. `first` and `places` are the places in the layout of first choices
-/// and in this one, and `blocks` the numbers of the blocks.
-fn reaches_goal(
-    spans: &[BlockSpan],
-    items: &[Branch],
-    blocks: &[u32],
-    first: &[u128],
-    layout: &[u8],
-    places: &[u128],
-    k: usize,
-    choice: &Choice,
-    goal: Goal,
-) -> bool
-    requires blocks { AreBlocks (plan_of spans.now items.now) blocks.now }
-    requires first { ArePlaces (plan_of spans.now items.now) (first_layout (plan_of spans.now items.now)) first.now }
-    requires places { ArePlaces (plan_of spans.now items.now) layout.now places.now }
-    requires below_first { EachIndex first.now (λ i. slice_index first.now i < 2 ^ 66) }
-    requires below { EachIndex places.now (λ i. slice_index places.now i < 2 ^ 66) }
-    requires item { k < length items.now }
-    requires inside { (j : ℕ) → goal ≡ Goal.Inside j → j < length items.now }
+/// What a pass reads and does not change: a plan, the number of the block of each item, and the places in the layout of first
+/// choices and in the layout at hand.
+#[derive(Clone, Copy)]
+struct Pass<'a> {
+    spans: &'a [BlockSpan],
+    items: &'a [Branch],
+    blocks: &'a [u32],
+    first: &'a [u128],
+    layout: &'a [u8],
+    places: &'a [u128],
+    ghost plan: { IsWellFormed (plan_of spans.now items.now) },
+    ghost right_blocks: { AreBlocks (plan_of spans.now items.now) blocks.now },
+    ghost right_first: { ArePlaces (plan_of spans.now items.now) (first_layout (plan_of spans.now items.now)) first.now },
+    ghost small_first: { EachIndex first.now (λ i. slice_index first.now i < 2 ^ 66) },
+    ghost right_layout: { IsLayout (plan_of spans.now items.now) layout.now },
+    ghost right_places: { ArePlaces (plan_of spans.now items.now) layout.now places.now },
+    ghost small_places: { EachIndex places.now (λ i. slice_index places.now i < 2 ^ 66) },
+}
+
+/// Whether a choice of item `k` reaches the goal.
+fn reaches_goal(pass: &Pass, k: usize, choice: &Choice, goal: Goal) -> bool
+    requires item { k < length pass.now.items.now }
+    requires inside { (j : ℕ) → goal ≡ Goal.Inside j → j < length pass.now.items.now }
     requires fit { IsTrue (is_fit_reach choice.now.reach) }
-    ensures { IsTrue result ↔ ReachesGoal (plan_of spans.now items.now) layout.now k choice.now goal }
+    ensures { IsTrue result ↔ ReachesGoal (plan_of pass.now.spans.now pass.now.items.now) pass.now.layout.now k choice.now goal }
 {
     match goal {
         Goal::None => true,
-        Goal::Outside(t) => reaches_from_both(choice, places[k], first[k], u128::from(t)),
+        Goal::Outside(t) => {
+            reaches_from_both(choice, pass.places[k], pass.first[k], u128::from(t))
+        }
         Goal::Inside(j) => {
             let j = j as usize;
-            if blocks[j] == blocks[k] {
-                reaches(choice, places[k], places[j])
+            if pass.blocks[j] == pass.blocks[k] {
+                reaches(choice, pass.places[k], pass.places[j])
             } else {
-                reaches_from_both(choice, places[k], first[k], places[j])
-                    && reaches_from_both(choice, places[k], first[k], first[j])
+                reaches_from_both(choice, pass.places[k], pass.first[k], pass.places[j])
+                    && reaches_from_both(choice, pass.places[k], pass.first[k], pass.first[j])
             }
         }
     }
 }
 
 /// Whether item `k` has its last choice or reaches its goal.
-fn is_item_closed(
-    spans: &[BlockSpan],
-    items: &[Branch],
-    blocks: &[u32],
-    first: &[u128],
-    layout: &[u8],
-    places: &[u128],
-    k: usize,
-) -> bool
-    requires plan { IsWellFormed (plan_of spans.now items.now) }
-    requires layout { IsLayout (plan_of spans.now items.now) layout.now }
-    requires blocks { AreBlocks (plan_of spans.now items.now) blocks.now }
-    requires first { ArePlaces (plan_of spans.now items.now) (first_layout (plan_of spans.now items.now)) first.now }
-    requires places { ArePlaces (plan_of spans.now items.now) layout.now places.now }
-    requires below_first { EachIndex first.now (λ i. slice_index first.now i < 2 ^ 66) }
-    requires below { EachIndex places.now (λ i. slice_index places.now i < 2 ^ 66) }
-    requires item { k < length items.now }
-    ensures { IsTrue result ↔ IsItemClosed (plan_of spans.now items.now) layout.now k }
+fn is_item_closed(pass: &Pass, k: usize) -> bool
+    requires { k < length pass.now.items.now }
+    ensures { IsTrue result ↔ IsItemClosed (plan_of pass.now.spans.now pass.now.items.now) pass.now.layout.now k }
 {
-    let item = &items[k];
-    let f = usize::from(layout[k]);
-    f + 1 == item.choices.len()
-        || reaches_goal(
-            spans,
-            items,
-            blocks,
-            first,
-            layout,
-            places,
-            k,
-            &item.choices[f],
-            item.goal,
-        )
+    let item = &pass.items[k];
+    let f = usize::from(pass.layout[k]);
+    f + 1 == item.choices.len() || reaches_goal(pass, k, &item.choices[f], item.goal)
 }
 
 /// The number of the block of each item.
@@ -191,9 +170,17 @@ fn next_layout(
     ensures each { IfOk result (λ next. (k : ℕ) → k < length items.now → GrowsItem (plan_of spans.now items.now) layout.now next.items k) }
 {
     let places = places(alloc, spans, items, layout)?;
+    let pass = Pass {
+        spans,
+        items,
+        blocks,
+        first,
+        layout,
+        places: &places,
+    };
     let mut next = Vec::with_capacity(alloc, items.len())?;
     for k in 0..items.len() {
-        let closed = is_item_closed(spans, items, blocks, first, layout, &places, k);
+        let closed = is_item_closed(&pass, k);
         next.push(if closed { layout[k] } else { layout[k] + 1 })?;
     }
     Ok(next)
@@ -248,6 +235,7 @@ pub enum LayoutError {
 }
 
 impl From<AllocError> for LayoutError {
+    /// The one refusal is want of memory.
     fn from(_e: AllocError) -> LayoutError {
         LayoutError::Memory
     }

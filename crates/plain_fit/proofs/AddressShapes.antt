@@ -61,14 +61,14 @@ none_is (Some r) h = cc
 
 -- ---- at RIP and EIP
 
-wide_pointer : (base index : Option Register) (size : Bits) → form_of base index ≡ Relative size → is_16 size ≡ false
+pointer_is_wide : (base index : Option Register) (size : Bits) → form_of base index ≡ Relative size → is_16 size ≡ false
 unfolding form_of
-wide_pointer base index B32 h = refl
-wide_pointer base index B64 h = refl
-wide_pointer (Some Rip) index B16 h = cc
-wide_pointer (Some r) index B16 h = cc
-wide_pointer None None B16 h = cc
-wide_pointer None (Some r) B16 h = cc
+pointer_is_wide base index B32 h = refl
+pointer_is_wide base index B64 h = refl
+pointer_is_wide (Some Rip) index B16 h = cc
+pointer_is_wide (Some r) index B16 h = cc
+pointer_is_wide None None B16 h = cc
+pointer_is_wide None (Some r) B16 h = cc
 
 -- an address with another base that is equal
 rebased : (m : Mem) (base : Option Register) → m.base ≡ base → address base m.index m.scale m.disp m.disp_size ≡ m
@@ -83,7 +83,7 @@ at_pointer m asize B64 wide h = same_bits-is B64 asize h
 pub relative_size : (m : Mem) (asize size : Bits) → form_of m.base m.index ≡ Relative size → size_agrees asize (MemOperand m) ≡ true → size ≡ asize
 relative_size m asize size e h =
     let base = form-relative m.base m.index size e in
-    at_pointer m asize size (wide_pointer m.base m.index size e)
+    at_pointer m asize size (pointer_is_wide m.base m.index size e)
     (subst (λ (k : Mem). size_agrees asize (MemOperand k) ≡ true) (sym (rebased m (Some (instruction_pointer size)) base)) h)
 
 in_64 : (bits : Bits) → is_64 bits ≡ true → B64 ≡ bits
@@ -97,7 +97,7 @@ by_relative bits asize f m reg next d size e p =
     let rest = and_right (is_64 bits) (is_none m.index && m.scale == 1) h in
     let mode = in_64 bits (and_left (is_64 bits) (is_none m.index && m.scale == 1) h) in
     let four = equal_from (displacement_count m.disp_size) 4 (offers_is asize m (displacement_count m.disp_size) (Relative size) e p.offer) in
-    let found = relative_means size f m reg next d (wide_pointer m.base m.index size e) (sym (form-relative m.base m.index size e))
+    let found = relative_means size f m reg next d (pointer_is_wide m.base m.index size e) (sym (form-relative m.base m.index size e))
     (none_is m.index (and_left (is_none m.index) (m.scale == 1) rest)) (sym (equal_from m.scale 1 (and_right (is_none m.index) (m.scale == 1) rest)))
     (p.target size e) four in
     through bits asize f m reg next d (Relative size) e

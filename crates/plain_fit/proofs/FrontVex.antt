@@ -1,9 +1,8 @@
 -- The opcode byte of a plain front is one of the row's, and its VEX, or the want of one, is what the row asks for.
-use Rattle.std.proofs.Common.{◌≡◌, inl, inr, ℕ, zero, suc, ◌+◌, ◌%◌, ◌<◌, Bool, true, false, ◌&&◌, ◌||◌, not, ◌==◌, nat_le, nat_lt, List, [], ◌∷◌, length, get_or, Option, Some, None, eq-eqb, refl, ap, ◌∙◌, subst, arith, if◌then◌else◌}
+use Rattle.std.proofs.Common.{◌≡◌, inl, inr, ℕ, ◌+◌, ◌%◌, ◌<◌, Bool, true, false, ◌&&◌, ◌||◌, not, ◌==◌, nat_le, nat_lt, List, [], ◌∷◌, Option, Some, None, eq-eqb, refl, ap, ◌∙◌, subst, arith, if◌then◌else◌}
 use Rattle.std.proofs.Math.Bool.{or-true}
 use Rattle.std.specs.List.{list_any, list_all}
 use Rattle.std.proofs.lemmas.Bool.{lt-ltb, le-leb, and_from}
-use Rattle.std.proofs.lemmas.List.Folds.{list_all_at}
 use borrow.Author.Tests.{ltb-true}
 use Rattle.x86_values.specs.declared.Bits.{Bits}
 use Rattle.x86_values.specs.declared.Instr.{Instr}
@@ -30,32 +29,13 @@ use Rattle.plain_spelling.specs.PlainFront.{number_in_vvvv, number_in_opcode, as
 use Rattle.plain_spelling.specs.PlainTail.{prefixes_of}
 use Rattle.plain_spelling.specs.Writable.{is_memory_only, is_digit_zero, opcode_is_allowed, opcode_is_plain}
 use Rattle.plain_spelling.proofs.FrontRange.{vex_for, vex_of_vex, vex_of_legacy, asked_vex-range}
+use Rattle.row_fit.proofs.SoundLaws.{all_at, eight, eight_at}
 use Rattle.plain_fit.proofs.Given.{Given, NumbersSuit}
 use Rattle.plain_fit.proofs.FrontCounts.{Counts}
 use Rattle.plain_fit.proofs.FrontBits.{rex_of_vex, no_r, no_x, asked-small, count-most}
 use Rattle.plain_fit.proofs.FrontClass.{vex_repeat, vex_lock}
 
 -- ---- the opcode byte
-
-all_at : (p : ℕ → Bool) (xs : List ℕ) (i : ℕ) → i < length xs → list_all p xs ≡ true → p (get_or xs i 0) ≡ true
-all_at p xs i h all = elim (either (p (get_or xs i 0))) [
-  | inl yes1 ↦ yes1
-  | inr no1 ↦ (let e = list_all_at p xs i 0 h no1 in cc)
-]
-
-abbrev eight : ℕ → List ℕ
-eight r = r ∷ (r + 1) ∷ (r + 2) ∷ (r + 3) ∷ (r + 4) ∷ (r + 5) ∷ (r + 6) ∷ (r + 7) ∷ []
-
-eight_at : (r k : ℕ) → k < 8 → get_or (eight r) k 0 ≡ r + k
-eight_at r zero h = omega arith
-eight_at r (suc zero) h = omega arith
-eight_at r (suc (suc zero)) h = omega arith
-eight_at r (suc (suc (suc zero))) h = omega arith
-eight_at r (suc (suc (suc (suc zero)))) h = omega arith
-eight_at r (suc (suc (suc (suc (suc zero))))) h = omega arith
-eight_at r (suc (suc (suc (suc (suc (suc zero)))))) h = omega arith
-eight_at r (suc (suc (suc (suc (suc (suc (suc zero))))))) h = omega arith
-eight_at r (suc (suc (suc (suc (suc (suc (suc (suc k)))))))) h = absurd (omega arith)
 
 abbrev bytes_by : Plus → ℕ → List ℕ
 bytes_by plus o = elim plus [ PlusRegister ↦ eight o | _ ↦ o ∷ [] ]

@@ -43,7 +43,7 @@ use Rattle.row_fit.specs.Sound.{reads_reg, reads_rm, reads_vvvv, reads_opcode}
 use Rattle.row_meaning.specs.Meaning.{vector, register_of}
 use Rattle.instruction_parts.proofs.Tests.{either, and_left, and_right, not_true, or_right, equal_from}
 use Rattle.plain_spelling.specs.Forms.{operand_at, is_variant_of, is_register, is_memory, is_scale}
-use Rattle.plain_spelling.specs.PlainFront.{segment_number, register_number, number_or_zero, operand_number, operand_index_number, base_or_register_number, number_in_reg, number_in_rm, number_in_index, number_in_vvvv, number_in_opcode, asked, asks_r, asks_x, asks_b, asked_opcode, asked_repeat, plain_front_of}
+use Rattle.plain_spelling.specs.PlainFront.{register_number, number_or_zero, operand_number, operand_index_number, base_or_register_number, number_in_reg, number_in_rm, number_in_index, number_in_vvvv, number_in_opcode, asked, asks_r, asks_x, asks_b, asked_opcode, asked_repeat, plain_front_of}
 use Rattle.plain_spelling.specs.declared.addresses.AddressForm.TheVariants.{Wide}
 use Rattle.plain_spelling.specs.declared.addresses.AddressFields.{AddressFields}
 use Rattle.plain_spelling.specs.Addresses.{register_count, general_size, has_address_size, is_wide_size, is_address_register, form_of, written_size, index_bits, plain_sib, wide_needs_sib, wide_fields, address_fields, is_gather_base, index_named, is_vector_index, is_gather_shape, shape_suits}
@@ -52,6 +52,7 @@ use Rattle.plain_spelling.specs.Expressible.{each_operand, kind_suits, naming_nu
 use Rattle.plain_spelling.specs.Writable.{nop_is_bare, is_vector_file, names_vectors, gather_is_whole}
 use Rattle.x86_values.specs.Comparing.{same_register}
 use Rattle.x86_values.proofs.Compared.{same_register-is}
+use Rattle.x86_values.specs.Registers.{segment_number}
 use Rattle.plain_spelling.proofs.AddressForms.{vectors_named}
 use Rattle.plain_spelling.proofs.Asked.{adds_register, proper, plus_register, four_kinds, each-at, asked_reg-at, asked_rm-at, asked_rm-none, asked_index-at, asked_opcode-at, index_in_rm, reads_b}
 use Rattle.plain_fit.proofs.Given.{Given}

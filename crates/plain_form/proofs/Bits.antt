@@ -14,13 +14,12 @@ use Rattle.instruction_parts.specs.declared.spelling.Spelling.{Spelling}
 use Rattle.instruction_parts.specs.declared.spelling.PrefixState.{PrefixState}
 use Rattle.instruction_parts.specs.Kinds.{method_of}
 use Rattle.instruction_parts.proofs.Tests.{either}
-use Rattle.row_fit.specs.Fits.{reads_by}
-use Rattle.row_fit.specs.Sound.{Sound, reads_reg, reads_rm, reads_opcode, has_modrm_rule}
+use Rattle.row_fit.specs.Sound.{Sound, reads_reg, reads_rm, reads_opcode}
 use Rattle.row_meaning.specs.Meaning.{Tail, instr_of, meaning}
 use Rattle.plain_spelling.specs.PlainFront.{register_number, number_or_zero, is_low_byte_of_rex, over_operands, base_or_register_number, number_in_reg, number_in_rm, number_in_index, asks_r, asks_x, asks_b, asks_low_byte}
 use Rattle.plain_need.proofs.Given.{Given}
 use Rattle.plain_need.proofs.Walking.{Hold, readers, readers_yes, readers_no, Silent, asked_none}
-use Rattle.plain_need.proofs.Asks.{each_read, no_readers, Apart, apart, Placed, placed, differ, silent_reg, silent_index, readers_or}
+use Rattle.plain_need.proofs.Asks.{each_read, one_of_b, apart, placed, silent_reg, silent_rm, silent_index}
 use Rattle.plain_need.proofs.Used.{read_is}
 use Rattle.plain_form.specs.IsPlain.{meant_operands, any_operand, is_high_register, is_high, has_high_base, has_high_index, needs_r, needs_x, needs_b, names_low_byte}
 
@@ -111,30 +110,6 @@ tests_rm method.AnyMode op = tests_base op
 tests_rm method.Gather op = tests_base op
 tests_rm method.OpcodeLow op = tests_base op
 tests_rm _ op = refl
-
--- ---- B is asked for by at most one operand
-
-silent_rm : (op : Operand) (how : Method) → (reads_rm how || reads_opcode how) ≡ false → number_in_rm how op ≡ 0
-unfolding number_in_rm
-silent_rm op method.RegisterOrMemory h = cc
-silent_rm op method.RegisterOnly h = cc
-silent_rm op method.MemoryOnly h = cc
-silent_rm op method.AnyMode h = cc
-silent_rm op method.Gather h = cc
-silent_rm op method.OpcodeLow h = cc
-silent_rm op _ h = refl
-
-one_of_b : (row : Row) → Apart row → Placed row → readers (λ m. reads_rm m || reads_opcode m) row.ops ≤ 1
-one_of_b row a p =
-    let sum = readers_or reads_rm reads_opcode row.ops in
-    let one = a.rm in let two = a.opcode in
-    elim (either (reads_by reads_opcode row)) [
-      | inr e ↦ (let none = no_readers reads_opcode row.ops e in omega arith)
-      | inl e ↦ elim (either (reads_by reads_rm row)) [
-        | inr f ↦ (let none = no_readers reads_rm row.ops f in omega arith)
-        | inl f ↦ (let yes1 = p.rm f in let no1 = p.bare (p.adds e) in absurd (differ (has_modrm_rule row.modrm) yes1 no1))
-      ]
-    ]
 
 -- ---- what is needed is what is asked for
 

@@ -7,6 +7,7 @@ use Rattle.x86_values.specs.declared.Operand.TheVariants.{Absent as AbsentOperan
 use Rattle.x86_values.specs.declared.Instr.{Instr}
 use Rattle.row_types.specs.declared.Row.{Row}
 use Rattle.row_types.specs.declared.OpKind.TheVariants.{Absent}
+use Rattle.row_fit.proofs.FitLaws.{ranges_behind}
 use Rattle.instruction_parts.specs.declared.spelling.Vex.{Vex}
 use Rattle.instruction_parts.specs.declared.spelling.ModRm.{ModRm}
 use Rattle.instruction_parts.specs.declared.spelling.Sib.{Sib}
@@ -30,7 +31,7 @@ use Rattle.plain_fit.proofs.Numbers.{kind_that_passes}
 use Rattle.plain_fit.proofs.Given as fit
 use Rattle.plain_need.proofs.Given.{Given}
 use Rattle.plain_need.proofs.Whole.{needs_hold}
-use Rattle.plain_need.proofs.Immediates.{operand-meant, immediates-len, spelled_bytes, bytes_behind, own-bytes, own-length-at}
+use Rattle.plain_need.proofs.Immediates.{operand-meant, immediates-len, spelled_bytes, own-bytes, own-length-at}
 use Rattle.plain_need.proofs.ReadOperands.{TailReads}
 use Rattle.plain_need.proofs.ReadTails.{tail_reads}
 use Rattle.plain_form.specs.IsPlain.{IsPlain, last_byte_is_bare, last_byte_is_read, immediates_are_read}
@@ -178,7 +179,7 @@ own_one bits ip code row s u i n g h p q a below =
     imm_same bits row st (tail_of bits ip row s) (beside bits ip row s u) kind how (own_of bits row s s n) (own_of bits row s u n) refl refl (len_s ∙ sym len_u)
     (subst (λ (x : ℕ). BytesSuit how x) (sym len_s) (bytes_suit (plain_size bits row) kind))
     (subst (λ (x : ℕ). Narrow size how x) (sym len_state) (narrow_kind size kind))
-    (own-bytes size row n s.imm.items (bytes_behind s g.fitting.ranges).1) (own-bytes size row n u.imm.items (bytes_behind u h.fitting.ranges).1)
+    (own-bytes size row n s.imm.items (ranges_behind s g.fitting.ranges).imm) (own-bytes size row n u.imm.items (ranges_behind u h.fitting.ranges).imm)
     (λ e. (bare_of bits row s n (each_last bits row s n below p.last) e, bare_u e))
     (sym (read_self bits ip code row s i n g below) ∙ read_other bits ip code row s u i n h a below)
 

@@ -7,6 +7,7 @@ use Rattle.x86_values.specs.declared.Code.{Code}
 use Rattle.x86_values.specs.declared.Operand.{Operand}
 use Rattle.x86_values.specs.declared.Operand.TheVariants.{Reg}
 use Rattle.x86_values.specs.declared.Instr.{Instr}
+use Rattle.x86_values.specs.Registers.{segment_number}
 use Rattle.row_types.specs.declared.Row.{Row}
 use Rattle.row_types.specs.declared.Place.{Place}
 use Rattle.row_types.specs.declared.Plus.{Plus}
@@ -29,7 +30,7 @@ use Rattle.row_fit.specs.Fits.{reads_by, extended, reg_number, address_fits, is_
 use Rattle.row_fit.specs.Sound.{reads_reg, reads_rm}
 use Rattle.row_meaning.specs.Meaning.{Tail, tail_of, operand_by, own_immediate, register_of, segment_numbered}
 use Rattle.plain_spelling.specs.Forms.{is_variant_of, is_register, operand_at}
-use Rattle.plain_spelling.specs.PlainFront.{register_number, segment_number, operand_number, base_or_register_number, number_in_reg, number_in_rm, asked}
+use Rattle.plain_spelling.specs.PlainFront.{register_number, operand_number, base_or_register_number, number_in_reg, number_in_rm, asked}
 use Rattle.plain_spelling.specs.declared.addresses.AddressFields.{AddressFields}
 use Rattle.plain_spelling.specs.PlainTail.{modrm_with, fixed_rm, plain_modrm, plain_sib_of}
 use Rattle.plain_spelling.specs.Writable.{rule_is_plain, is_register_only}

@@ -53,14 +53,17 @@ abbrev pub is_high_register : Operand → Bool
 is_high_register (Reg r) = nat_le 8 (register_number r)
 is_high_register _ = false
 
+-- the same of a register that may be absent
 abbrev pub is_high : Option Register → Bool
 is_high None = false
 is_high (Some r) = nat_le 8 (register_number r)
 
+-- the base of the operand is such a register
 abbrev pub has_high_base : Operand → Bool
 has_high_base (MemOperand m) = is_high m.base
 has_high_base _ = false
 
+-- the index of the operand is such a register
 abbrev pub has_high_index : Operand → Bool
 has_high_index (MemOperand m) = is_high m.index
 has_high_index _ = false
@@ -74,6 +77,7 @@ asks_for_word_or_dword O32 = true
 asks_for_word_or_dword O32or64 = true
 asks_for_word_or_dword _ = false
 
+-- the size is 16 or 32, and not the own one
 abbrev pub is_other_size : Bits → Bits → Bool
 is_other_size size own = (is_16 size || is_32 size) && not (same_bits size own)
 
@@ -204,6 +208,7 @@ lone_is_zero row m =
     reads_by reads_rm row
     || has_modrm (λ m. m.mode3 == (elim row.place [ OnlyRegister ↦ 3 | _ ↦ 0 ]) && m.rm == 0) m
 
+-- rm and mod are read, or say nothing: a fixed byte, or none, is said by the row
 unfoldable pub rm_is_read : Row → Option ModRm → Bool
 rm_is_read row m = elim row.modrm [ AnyModRm ↦ lone_is_zero row m | Digit d ↦ lone_is_zero row m | _ ↦ true ]
 
@@ -236,11 +241,13 @@ scale_is_read row state (Some s) = has_index row state s || s.scale == 0
 abbrev pub last_byte_is_bare : Bits → List ℕ → Bool
 last_byte_is_bare bits own = slice_index own 0 % 16 == 0 && (is_64 bits || nat_lt (slice_index own 0) 128)
 
+-- all bits of operand n are read, where it is in the last byte
 unfoldable pub last_byte_is_read : Bits → Row → Spelling → ℕ → Bool
 last_byte_is_read bits row s n =
     not (reads_last_byte (method_of (kind_at row n)))
     || last_byte_is_bare bits (own_immediate (state_size bits row (state_of bits row s)) row n s.imm.items)
 
+-- all bits of the immediates are read
 unfoldable pub immediates_are_read : Bits → Row → Spelling → Bool
 immediates_are_read bits row s =
     last_byte_is_read bits row s 0

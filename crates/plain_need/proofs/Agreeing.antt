@@ -5,6 +5,7 @@ use Rattle.x86_values.specs.declared.Bits.{Bits}
 use Rattle.x86_values.specs.declared.Bits.TheVariants.{B16, B32, B64}
 use Rattle.x86_values.specs.declared.Instr.{Instr}
 use Rattle.x86_values.specs.declared.Register.TheVariants.{Seg, St, Mm}
+use Rattle.x86_values.specs.Registers.{segment_number}
 use Rattle.row_types.specs.declared.Row.{Row}
 use Rattle.row_types.specs.declared.Size.{Size}
 use Rattle.row_types.specs.declared.Size.TheVariants.{None as NoSize, O16, O32, O32or64, O64, W0 as SizeW0, W1 as SizeW1}
@@ -16,7 +17,7 @@ use Rattle.instruction_parts.specs.Counting.{is_64, rex_bit}
 use Rattle.instruction_parts.specs.Sizes.{is_vex_row, has_caret, has_bang, operand_size, state_size, bit_w, rex_w}
 use Rattle.row_fit.specs.Fits.{size_fits}
 use Rattle.row_meaning.specs.Meaning.{general, byte_register, vector, word_or_dword, size_by_w, native_size, segment_numbered, register_of}
-use Rattle.plain_spelling.specs.PlainFront.{segment_number, register_number, asks_rex_w, asks_vex_w, asks_66, asked_rex, asked_vex, plain_front_of}
+use Rattle.plain_spelling.specs.PlainFront.{register_number, asks_rex_w, asks_vex_w, asks_66, asked_rex, asked_vex, plain_front_of}
 use Rattle.plain_spelling.specs.PlainTail.{plain_size}
 use Rattle.plain_spelling.specs.Writable.{Writable, plain_w, says_size, says_w, file_is_told}
 use Rattle.plain_spelling.proofs.PlainFrontLaws.{plain_rex_w, plain_state_size}

@@ -132,7 +132,7 @@ pub differ : (b : Bool) → b ≡ true → b ≡ false → ⊥
 differ b h k = let e : zero ≡ suc zero = cc in absurd (omega arith)
 
 -- B is asked for by at most one operand: one in r/m or in the opcode byte
-one_of_b : (row : Row) → Apart row → Placed row → readers (λ m. reads_rm m || reads_opcode m) row.ops ≤ 1
+pub one_of_b : (row : Row) → Apart row → Placed row → readers (λ m. reads_rm m || reads_opcode m) row.ops ≤ 1
 one_of_b row a p =
     let sum = readers_or reads_rm reads_opcode row.ops in
     let one = a.rm in let two = a.opcode in
@@ -161,7 +161,7 @@ unfolding number_in_opcode
 silent_opcode op method.OpcodeLow h = cc
 silent_opcode op _ h = refl
 
-silent_rm : (op : Operand) (how : Method) → (reads_rm how || reads_opcode how) ≡ false → number_in_rm how op ≡ 0
+pub silent_rm : (op : Operand) (how : Method) → (reads_rm how || reads_opcode how) ≡ false → number_in_rm how op ≡ 0
 unfolding number_in_rm
 silent_rm op method.RegisterOrMemory h = cc
 silent_rm op method.RegisterOnly h = cc

@@ -18,8 +18,8 @@ use Rattle.instruction_parts.specs.Kinds.{method_of}
 use Rattle.instruction_parts.specs.Sizes.{state_size, bit_w}
 use Rattle.instruction_parts.specs.Bytes.{state_of}
 use Rattle.instruction_parts.proofs.Tests.{and_left, and_right}
-use Rattle.row_fit.specs.Fits.{are_bytes, kind_at, immediate_bytes, immediates_bytes, size_fits, sizes_fit, fields_in_range, vex_in_range, modrm_in_range, sib_in_range}
-use Rattle.row_fit.proofs.FitLaws.{immediates_length}
+use Rattle.row_fit.specs.Fits.{are_bytes, kind_at, immediate_bytes, immediates_bytes, size_fits, sizes_fit}
+use Rattle.row_fit.proofs.FitLaws.{immediates_length, ranges_behind}
 use Rattle.row_meaning.specs.Meaning.{Tail, tail_of, operand_by, own_immediate, immediates_before, little_endian, sign_extended, far_pointer, instr_of, meaning}
 use Rattle.row_meaning.specs.Meaning as meant
 use Rattle.row_meaning.proofs.ImmediateLaws.{before_within}
@@ -54,18 +54,6 @@ spelled_size bits ip code row s i g = and_left (size_fits bits row.size (state_s
 pub spelled_bytes : (bits : Bits) (ip : ℕ) (code : Code) (row : Row) (s : Spelling) (i : Instr) (n : ℕ) → Given bits ip code row s i → immediate_bytes (state_size bits row (state_of bits row s)) (kind_at row n) ≡ immediate_bytes (plain_size bits row) (kind_at row n)
 spelled_bytes bits ip code row s i n g =
     width-told bits row (state_of bits row s) (kind_at row n) (spelled_size bits ip code row s i g) g.is_writable.size (width-at-told row g.is_writable.told n)
-
--- displacement and immediates are bytes
-pub bytes_behind : (s : Spelling) → fields_in_range s ≡ true → (are_bytes s.disp.items ≡ true) × (are_bytes s.imm.items ≡ true)
-unfolding fields_in_range
-bytes_behind s h =
-    let bytes = are_bytes s.disp.items && are_bytes s.imm.items in
-    let r1 = modrm_in_range s.modrm && (sib_in_range s.sib && bytes) in
-    let r2 = and_right (are_bytes s.prefixes.items) (vex_in_range s.vex && (nat_lt s.opcode 256 && r1)) h in
-    let r3 = and_right (vex_in_range s.vex) (nat_lt s.opcode 256 && r1) r2 in
-    let r4 = and_right (modrm_in_range s.modrm) (sib_in_range s.sib && bytes) (and_right (nat_lt s.opcode 256) r1 r3) in
-    let r5 = and_right (sib_in_range s.sib) bytes r4 in
-    (and_left (are_bytes s.disp.items) (are_bytes s.imm.items) r5, and_right (are_bytes s.disp.items) (are_bytes s.imm.items) r5)
 
 -- **the bytes of the immediates are as many as in the plain spelling**
 pub immediates-len : (bits : Bits) (ip : ℕ) (code : Code) (row : Row) (s : Spelling) (i : Instr) → Given bits ip code row s i → immediate_bytes (plain_size bits row) (kind_at row 0) + (immediate_bytes (plain_size bits row) (kind_at row 1) + (immediate_bytes (plain_size bits row) (kind_at row 2) + immediate_bytes (plain_size bits row) (kind_at row 3))) ≡ length s.imm.items
@@ -158,7 +146,7 @@ suits-at bits ip code row s i n g below =
     rw (operand-meant bits ip code row s i n g below)
     (read_suits bits row st (tail_of bits ip row s) (kind_at row n) (plain_size bits row) k (method_of (kind_at row n)) (own_immediate (state_size bits row st) row n s.imm.items)
     (own-length-at bits ip code row s i n g below) (bytes_short (plain_size bits row) (kind_at row n))
-    (own-bytes (state_size bits row st) row n s.imm.items (bytes_behind s g.fitting.ranges).1)
+    (own-bytes (state_size bits row st) row n s.imm.items (ranges_behind s g.fitting.ranges).imm)
     (bytes_suit (plain_size bits row) (kind_at row n)) (size-at bits ip code row s i n g))
 
 -- **each immediate of the instruction is a value of its size**

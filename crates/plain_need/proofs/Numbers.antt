@@ -9,6 +9,7 @@ use Rattle.x86_values.specs.declared.Register.TheVariants.{Low8, High8}
 use Rattle.x86_values.specs.declared.Mem.{Mem}
 use Rattle.x86_values.specs.declared.Operand.{Operand}
 use Rattle.x86_values.specs.declared.Operand.TheVariants.{Reg}
+use Rattle.x86_values.specs.Registers.{segment_number}
 use Rattle.row_types.specs.declared.Row.{Row}
 use Rattle.row_types.specs.declared.LBit.{LBit}
 use Rattle.row_types.specs.declared.LBit.TheVariants.{None as NoL, L128, L256, Lig, Lz}
@@ -24,7 +25,7 @@ use Rattle.instruction_parts.specs.Kinds.{file_of}
 use Rattle.instruction_parts.specs.Sizes.{state_size, state_address_size, bit_r, bit_x, bit_b, bit_w}
 use Rattle.row_fit.specs.Fits.{extended, has_modrm, reg_field, rm_field, reg_number, rm_number, index_number, is_displacement_alone, modrm_in_range, sib_in_range}
 use Rattle.row_meaning.specs.Meaning.{general, byte_register, vector, word_or_dword, size_by_w, native_size, segment_numbered, register_of, base_16, index_16, memory_16, memory_alone, sib_base, sib_index, memory_with_sib, memory_at_base, memory_wide, memory_of, memory_absolute, with_modrm, memory_operand, gather_memory, near_target, far_pointer, Tail, operand_by}
-use Rattle.plain_spelling.specs.PlainFront.{segment_number, register_number, number_or_zero, base_or_register_number, operand_index_number, number_in_reg, number_in_rm, number_in_index}
+use Rattle.plain_spelling.specs.PlainFront.{register_number, number_or_zero, base_or_register_number, operand_index_number, number_in_reg, number_in_rm, number_in_index}
 use Rattle.instruction_parts.proofs.Tests.{and_left, and_right}
 
 -- ---- registers

@@ -43,27 +43,20 @@ OperandFits bits asize row how file n _ = Unit {0}
 
 -- ---- by how the operand is read
 
+-- a shape and a displacement that the method offers, and what else was read
+read_by : (bits asize : Bits) (row : Row) (how : Method) (file : File) (m : Mem) (n : ℕ) → IsRead bits asize m n → shape_suits bits row how file m ≡ true → offers asize how m (displacement_count m.disp_size) ≡ true → MemoryFits bits asize row how file n m
+read_by bits asize row how file m n r shape offer = record { shape = shape; offer = offer; value = r.value; size = r.size; shown = r.shown; count = r.count }
+
+offered_count : (bits asize : Bits) (m : Mem) (n : ℕ) → IsRead bits asize m n → form_offers asize m (displacement_count m.disp_size) ≡ true
+offered_count bits asize m n r = subst (λ (k : ℕ). form_offers asize m k ≡ true) (sym r.count) r.offer
+
 register_or_memory : (bits asize : Bits) (row : Row) (file : File) (m : Mem) (n : ℕ) → IsRead bits asize m n → MemoryFits bits asize row method.RegisterOrMemory file n m
 unfolding shape_suits offers
-register_or_memory bits asize row file m n r = record {
-  shape = r.shape;
-  offer = subst (λ (k : ℕ). form_offers asize m k ≡ true) (sym r.count) r.offer;
-  value = r.value;
-  size = r.size;
-  shown = r.shown;
-  count = r.count;
-}
+register_or_memory bits asize row file m n r = read_by bits asize row method.RegisterOrMemory file m n r r.shape (offered_count bits asize m n r)
 
 memory_only : (bits asize : Bits) (row : Row) (file : File) (m : Mem) (n : ℕ) → IsRead bits asize m n → MemoryFits bits asize row method.MemoryOnly file n m
 unfolding shape_suits offers
-memory_only bits asize row file m n r = record {
-  shape = r.shape;
-  offer = subst (λ (k : ℕ). form_offers asize m k ≡ true) (sym r.count) r.offer;
-  value = r.value;
-  size = r.size;
-  shown = r.shown;
-  count = r.count;
-}
+memory_only bits asize row file m n r = read_by bits asize row method.MemoryOnly file m n r r.shape (offered_count bits asize m n r)
 
 gathered : (bits asize : Bits) (row : Row) (file : File) (m : Mem) (n : ℕ) → IsGatherRead bits asize row file m n → MemoryFits bits asize row method.Gather file n m
 unfolding shape_suits offers

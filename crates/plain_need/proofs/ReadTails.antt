@@ -25,7 +25,7 @@ use Rattle.instruction_parts.specs.Bytes.{state_of}
 use Rattle.instruction_parts.proofs.Tests.{either, and_left, and_right, not_true, or_right, equal_from}
 use Rattle.row_fit.specs.Fits.{Fits, kind_at, reads_by, reads_mode, is_gather, is_offset, is_any_mode, has_modrm, same_bool, needs_sib, displacement_bytes, address_fits, lengths_fit, immediates_bytes, place_fits, place_allows, place_of, modrm_rule_fits, opcode_and_modrm_fit, opcode_fits, is_memory_method, modrm_in_range, gather_fits, is_vex_of_mode, vex_in_range}
 use Rattle.row_fit.specs.Sound.{Sound, reads_rm, has_modrm_rule}
-use Rattle.row_fit.proofs.FitLaws.{modrm_range, sib_range}
+use Rattle.row_fit.proofs.FitLaws.{modrm_range, sib_range, ranges_behind}
 use Rattle.row_meaning.specs.Meaning.{tail_of}
 use Rattle.plain_spelling.specs.Addresses.{has_address_size}
 use Rattle.plain_spelling.proofs.Asked.{four_kinds, proper, one_rm}
@@ -34,7 +34,6 @@ use Rattle.plain_need.proofs.States.{StateIs, state_is}
 use Rattle.plain_need.proofs.Front.{short_vex_is}
 use Rattle.plain_need.proofs.Walking.{all_kinds}
 use Rattle.plain_need.proofs.Variants.{tail_is, reads_at}
-use Rattle.plain_need.proofs.Immediates.{bytes_behind}
 use Rattle.plain_need.proofs.ReadShapes.{Reading}
 use Rattle.plain_need.proofs.ReadOperands.{TailReads}
 
@@ -186,7 +185,7 @@ reading_at bits row s n m sound f below e b =
       sib_is = asks.0;
       sib_range = sib_range s f.ranges;
       len = asks.1;
-      bytes = (bytes_behind s f.ranges).0;
+      bytes = (ranges_behind s f.ranges).disp;
       x = no_x bits row st (state_is bits row s f);
     }
 
@@ -206,7 +205,7 @@ tail_reads bits ip row s n sound f below =
           let w = gather_is_wide bits ip row s sound f any in (w.0, w.1, tail.sib any));
       absolute = λ e. (let any = reads_at is_offset row n sound.four_operands below (ap is_offset e) in
           absolute_count (state_address_size bits st) row s.modrm s.sib (length s.disp.items) (no_modrm bits row s sound f any) any fits);
-      bytes = (bytes_behind s f.ranges).0;
+      bytes = (ranges_behind s f.ranges).disp;
     }
   where
     apart : (o : Option ModRm) (m : ModRm) → o ≡ Some m → o ≡ None → true ≡ false

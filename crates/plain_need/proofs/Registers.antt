@@ -7,6 +7,7 @@ use Rattle.x86_values.specs.declared.Instr.{Instr}
 use Rattle.x86_values.specs.declared.Register.{Register}
 use Rattle.x86_values.specs.declared.Operand.{Operand}
 use Rattle.x86_values.specs.declared.Operand.TheVariants.{Reg}
+use Rattle.x86_values.specs.Registers.{segment_number}
 use Rattle.row_types.specs.declared.Row.{Row}
 use Rattle.row_types.specs.declared.Plus.TheVariants.{Register as PlusRegister}
 use Rattle.row_types.specs.declared.OpKind.{OpKind}
@@ -24,7 +25,7 @@ use Rattle.row_fit.specs.Fits.{kind_at, has_modrm, extended, reg_field, rm_field
 use Rattle.row_fit.specs.Sound.{has_four_operands, reads_opcode}
 use Rattle.row_meaning.specs.Meaning.{register_of, segment_numbered, last_byte_number, with_modrm, memory_operand, gather_memory, near_target, far_pointer, Tail, operand_by}
 use Rattle.plain_spelling.specs.Forms.{operand_at}
-use Rattle.plain_spelling.specs.PlainFront.{segment_number, register_number, asked_rex}
+use Rattle.plain_spelling.specs.PlainFront.{register_number, asked_rex}
 use Rattle.plain_spelling.specs.Addresses.{register_count}
 use Rattle.plain_spelling.specs.Expressible.{is_not_nop, kind_allows, is_nameable}
 use Rattle.instruction_parts.proofs.Tests.{either, and_left, and_right, not_true, equal_from}

@@ -16,6 +16,7 @@ use Rattle.row_types.specs.declared.Plus.TheVariants.{No as NoPlus, Register as 
 use Rattle.row_types.specs.declared.ModRmRule.{ModRmRule}
 use Rattle.row_types.specs.declared.ModRmRule.TheVariants.{Any as AnyModRm}
 use Rattle.row_types.specs.declared.OpKind.{OpKind}
+use Rattle.row_fit.proofs.FitLaws.{ranges_behind}
 use Rattle.instruction_parts.specs.declared.kinds.Method.{Method}
 use Rattle.instruction_parts.specs.declared.kinds.Method.TheVariants as method
 use Rattle.instruction_parts.specs.declared.kinds.File.{File}
@@ -39,7 +40,7 @@ use Rattle.plain_spelling.proofs.AddressForms.{vectors_named}
 use Rattle.plain_spelling.proofs.Asked.{each-from}
 use Rattle.instruction_parts.proofs.Tests.{either, and_left, and_right, not_true, or_right, equal_from}
 use Rattle.plain_need.proofs.Given.{Given}
-use Rattle.plain_need.proofs.Immediates.{own-bytes, bytes_behind}
+use Rattle.plain_need.proofs.Immediates.{own-bytes}
 use Rattle.plain_need.proofs.Walking.{Gives, hold_all, readers, readers_yes, readers_no, readers_none, readers_left, asked_is}
 use Rattle.plain_need.proofs.Numbers.{number-vector}
 use Rattle.plain_need.proofs.Asks.{apart, placed, each_read, differ, silent_reg, silent_vvvv, silent_opcode, silent_index}
@@ -78,7 +79,7 @@ reading bits ip code row s i n g h =
       range = tail_range bits ip row s g.fitting.ranges;
       places = placed row g.is_sound.operands g.is_sound.plus;
       four = g.is_sound.four_operands;
-      bytes = own-bytes (state_size bits row (state_of bits row s)) row n s.imm.items (bytes_behind s g.fitting.ranges).1;
+      bytes = own-bytes (state_size bits row (state_of bits row s)) row n s.imm.items (ranges_behind s g.fitting.ranges).imm;
       operand = ap (λ (x : Instr). operand_at x n) (sym same) ∙ read_at bits code row (state_of bits row s) (tail_of bits ip row s) s.imm.items n h;
     }
 

@@ -13,6 +13,7 @@ use Rattle.x86_values.specs.declared.Instr.{Instr}
 use Rattle.x86_values.specs.Wrapping.{width, wrapped}
 use Rattle.row_types.specs.declared.Row.{Row}
 use Rattle.row_types.specs.declared.OpKind.{OpKind}
+use Rattle.row_fit.proofs.FitLaws.{ranges_behind}
 use Rattle.instruction_parts.specs.declared.kinds.Method.{Method}
 use Rattle.instruction_parts.specs.declared.kinds.Method.TheVariants as method
 use Rattle.instruction_parts.specs.declared.kinds.File.{File}
@@ -38,7 +39,7 @@ use Rattle.plain_spelling.proofs.Asked.{each-from}
 use Rattle.plain_spelling.proofs.Values.{is_extended-more, distance-of-target, target-below}
 use Rattle.plain_spelling.proofs.ImmediateBytes.{bytes_short}
 use Rattle.plain_need.proofs.Given.{Given}
-use Rattle.plain_need.proofs.Immediates.{BySize, size-at, operand-meant, own-bytes, own-length-at, bytes_behind}
+use Rattle.plain_need.proofs.Immediates.{BySize, size-at, operand-meant, own-bytes, own-length-at}
 
 -- ---- addresses at no instruction pointer
 
@@ -231,9 +232,9 @@ in_reach-at bits ip code row s i n g below =
     subst (λ (op : Operand). IsInReach (plain_size bits row) (tail_of bits ip row s).next k op) (sym (operand-meant bits ip code row s i n g below))
     (read_in_reach bits row st (tail_of bits ip row s) (kind_at row n) (plain_size bits row) k (method_of (kind_at row n)) (own_immediate (state_size bits row st) row n s.imm.items)
     (own-length-at bits ip code row s i n g below) (bytes_short (plain_size bits row) (kind_at row n))
-    (own-bytes (state_size bits row st) row n s.imm.items (bytes_behind s g.fitting.ranges).1)
+    (own-bytes (state_size bits row st) row n s.imm.items (ranges_behind s g.fitting.ranges).imm)
     (size-at bits ip code row s i n g) (wrapped-below bits (ip + length (bytes_of row s)))
-    (spelled_short bits row s g.fitting.lengths) (bytes_behind s g.fitting.ranges).0)
+    (spelled_short bits row s g.fitting.lengths) (ranges_behind s g.fitting.ranges).disp)
 
 -- the next address is that of the plain spelling, where both are as long
 next_is : (bits : Bits) (ip : ℕ) (row : Row) (s : Spelling) (i : Instr) → plain_len bits row i ≡ length (bytes_of row s) → plain_next bits ip row i ≡ (tail_of bits ip row s).next

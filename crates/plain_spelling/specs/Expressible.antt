@@ -32,11 +32,13 @@ use Rattle.plain_spelling.specs.PlainTail.{plain_size, plain_len, plain_next}
 
 -- ---- 1. the row exists in the mode
 
+-- the row exists in the mode (3.1.1.3, 64/32-bit mode)
 abbrev pub row_exists : Bits → Row → Bool
 row_exists bits row = exists_in bits row
 
 -- ---- 2. each operand has a variant that its kind allows
 
+-- operand n has a variant that its kind allows
 unfoldable pub kind_suits : Row → Instr → ℕ → Bool
 kind_suits row i n = is_variant_of row.place (method_of (kind_at row n)) (operand_at i n)
 
@@ -125,18 +127,21 @@ gather_numbers_differ row i =
 abbrev pub gather_suits : Row → Instr → ℕ → Bool
 gather_suits row i n = not (n == 0) || (not (reads_by is_gather row) || gather_numbers_differ row i)
 
+-- operand n, where it is a register, is one that its kind can name
 unfoldable pub register_suits : Bits → Row → Instr → ℕ → Bool
 register_suits bits row i n =
     (elim (operand_at i n) [ Reg r ↦ is_nameable bits row i n r | _ ↦ true ]) && gather_suits row i n
 
 -- ---- 4. base, index and scale of each memory operand are a shape
 
+-- operand n, where it is memory, has a base, index and scale that can be written
 unfoldable pub address_suits : Bits → Row → Instr → ℕ → Bool
 address_suits bits row i n =
     elim (operand_at i n) [ MemOperand m ↦ shape_suits bits row (method_of (kind_at row n)) (file_of (kind_at row n)) m | _ ↦ true ]
 
 -- ---- 5. the shape offers the displacement
 
+-- operand n, where it is memory, has a displacement that its shape offers
 unfoldable pub offered : Bits → Row → Instr → ℕ → Bool
 offered bits row i n =
     elim (operand_at i n) [ MemOperand m ↦ displacement_suits (written_size bits i.asize m) (method_of (kind_at row n)) m | _ ↦ true ]
@@ -151,6 +156,7 @@ immediate_suits_how size method.One n (Imm x) = x == 1
 immediate_suits_how size method.Pointer n (Far selector offset) = nat_lt selector (2 ^ 16) && nat_lt offset (2 ^ (8 * (n - 2)))
 immediate_suits_how size how n op = true
 
+-- operand n, where it is an immediate, is a value of its written size
 unfoldable pub immediate_suits : Bits → Row → Instr → ℕ → Bool
 immediate_suits bits row i n =
     immediate_suits_how (plain_size bits row) (method_of (kind_at row n)) (immediate_bytes (plain_size bits row) (kind_at row n)) (operand_at i n)
@@ -166,6 +172,7 @@ unfoldable pub address_reaches : ℕ → Mem → Bool
 address_reaches next m =
     elim (form_of m.base m.index) [ Relative size ↦ is_extended_of 4 (width size) (distance size next m.disp) | _ ↦ true ]
 
+-- operand n, where it is a near target or an address at RIP or EIP, is reached from the next address
 unfoldable pub target_suits : Bits → ℕ → Row → Instr → ℕ → Bool
 target_suits bits ip row i n =
     let next = plain_next bits ip row i in
@@ -194,6 +201,7 @@ repeat_suits row i =
       | _ ↦ is_no_repeat i.rep
     ]
 
+-- LOCK and the repeat prefix are allowed (2.1.1, group 1)
 unfoldable pub prefixes_suit : Row → Instr → Bool
 prefixes_suit row i = lock_suits row i && repeat_suits row i
 
@@ -229,6 +237,7 @@ address_size_suits bits row i =
 
 -- ---- 10. the plain spelling has at most 15 bytes
 
+-- an instruction has at most 15 bytes (2.3.11)
 abbrev pub is_short : Bits → Row → Instr → Bool
 is_short bits row i = nat_le (plain_len bits row i) 15
 

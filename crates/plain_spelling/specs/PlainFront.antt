@@ -1,15 +1,14 @@
 -- The front that the plain spelling of an instruction has: the prefixes, the VEX, the map and the opcode byte.
 use Rattle.std.specs.Prelude.{ℕ, ◌+◌, ◌*◌, ◌%◌, Bool, true, false, ◌&&◌, ◌||◌, not, nat_le, nat_lt, min, if◌then◌else◌, List, [], ◌∷◌, length, Option, Some, None, is_some}
 use Rattle.x86_values.specs.declared.Bits.{Bits}
-use Rattle.x86_values.specs.declared.Segment.{Segment}
-use Rattle.x86_values.specs.declared.Segment.TheVariants.{Es, Cs, Ss, Ds, Fs, Gs}
 use Rattle.x86_values.specs.declared.Register.{Register}
-use Rattle.x86_values.specs.declared.Register.TheVariants.{Low8, High8, R16, R32, R64, Seg, Cr, Dr, St, Mm, Xmm, Ymm, Eip, Rip}
+use Rattle.x86_values.specs.declared.Register.TheVariants.{Low8, High8}
 use Rattle.x86_values.specs.declared.Operand.{Operand}
 use Rattle.x86_values.specs.declared.Operand.TheVariants.{Reg, Mem as MemOperand}
 use Rattle.x86_values.specs.declared.Rep.{Rep}
 use Rattle.x86_values.specs.declared.Rep.TheVariants.{None as NoRep, F2 as RepF2, F3 as RepF3}
 use Rattle.x86_values.specs.declared.Instr.{Instr}
+use Rattle.x86_values.specs.Registers.{number}
 use Rattle.row_types.specs.declared.Row.{Row}
 use Rattle.row_types.specs.declared.Map.TheVariants.{M0f}
 use Rattle.row_types.specs.declared.Class.{Class}
@@ -32,31 +31,10 @@ use Rattle.x86_values.specs.Comparing.{same_bits}
 
 -- ---- registers by number
 
--- the number that the encoding gives a segment register
-abbrev pub segment_number : Segment → ℕ
-segment_number Es = 0
-segment_number Cs = 1
-segment_number Ss = 2
-segment_number Ds = 3
-segment_number Fs = 4
-segment_number Gs = 5
-
 -- the number that the encoding gives a register; AH, CH, DH and BH have 4 to 7
 unfoldable pub register_number : Register → ℕ
-register_number (Low8 n) = n
 register_number (High8 n) = 4 + n
-register_number (R16 n) = n
-register_number (R32 n) = n
-register_number (R64 n) = n
-register_number (Seg s) = segment_number s
-register_number (Cr n) = n
-register_number (Dr n) = n
-register_number (St n) = n
-register_number (Mm n) = n
-register_number (Xmm n) = n
-register_number (Ymm n) = n
-register_number Eip = 0
-register_number Rip = 0
+register_number r = number r
 
 -- the number of a register that may be absent, 0 without one
 abbrev pub number_or_zero : Option Register → ℕ
@@ -125,12 +103,15 @@ number_in_opcode _ op = 0
 abbrev pub asked : (Method → Operand → ℕ) → Row → Instr → ℕ
 asked f row i = over_operands f row.ops i.ops
 
+-- ModRM.reg needs a fourth bit: R (2.2.1.2)
 unfoldable pub asks_r : Row → Instr → Bool
 asks_r row i = nat_le 8 (asked number_in_reg row i)
 
+-- the index of SIB needs a fourth bit: X (2.2.1.2)
 unfoldable pub asks_x : Row → Instr → Bool
 asks_x row i = nat_le 8 (asked number_in_index row i)
 
+-- ModRM.r/m, the base of SIB or the register of the opcode byte needs a fourth bit: B (2.2.1.2)
 unfoldable pub asks_b : Row → Instr → Bool
 asks_b row i = nat_le 8 (asked number_in_rm row i)
 
@@ -206,6 +187,7 @@ unfoldable pub asked_opcode : Row → Instr → ℕ
 asked_opcode row i =
     elim row.plus [ PlusRegister ↦ row.opcode + asked number_in_opcode row i % 8 | _ ↦ row.opcode ]
 
+-- how many repeat prefixes there are
 abbrev pub count_repeat : Rep → ℕ
 count_repeat NoRep = 0
 count_repeat _ = 1

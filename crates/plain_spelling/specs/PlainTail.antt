@@ -51,6 +51,7 @@ segment_byte Ds = 0x3E
 segment_byte Fs = 0x64
 segment_byte Gs = 0x65
 
+-- the segment prefix, where there is one
 abbrev pub segment_prefix : Option Segment → List ℕ
 segment_prefix None = []
 segment_prefix (Some s) = segment_byte s ∷ []
@@ -61,6 +62,7 @@ repeat_prefix NoRep = []
 repeat_prefix RepF2 = 0xF2 ∷ []
 repeat_prefix RepF3 = 0xF3 ∷ []
 
+-- the REX, where there is one
 abbrev pub rex_prefix : Option ℕ → List ℕ
 rex_prefix None = []
 rex_prefix (Some rex) = rex ∷ []
@@ -96,6 +98,7 @@ plain_size bits row = operand_size bits row (if is_vex_row row then false else a
 
 -- ---- ModRM and SIB
 
+-- mod and rm of no memory operand, without a SIB
 abbrev pub no_address : ℕ → ℕ → AddressFields
 no_address mode3 rm = record { mode3 = mode3; rm = rm; sib = None }
 
@@ -114,6 +117,7 @@ rm_fields bits asize place _ = no_address (lone_mode place) 0
 abbrev pub fields_of : Bits → Row → Instr → AddressFields
 fields_of bits row i = rm_fields bits i.asize row.place (rm_operand row i)
 
+-- the ModRM byte of these fields and reg
 abbrev pub modrm_with : ℕ → AddressFields → ModRm
 modrm_with reg fields = record { mode3 = fields.mode3; reg = reg; rm = fields.rm }
 
@@ -161,6 +165,7 @@ displacement_of next m =
       | _ ↦ low_bytes (displacement_count m.disp_size) m.disp
     ]
 
+-- the displacement of a memory operand; other operands have none
 abbrev pub displacement_of_operand : ℕ → Operand → List ℕ
 displacement_of_operand next (MemOperand m) = displacement_of next m
 displacement_of_operand next _ = []
@@ -206,6 +211,7 @@ plain_immediates size row i next =
 
 -- ---- all of it
 
+-- one byte, or none
 abbrev pub byte_count : Bool → ℕ
 byte_count true = 1
 byte_count false = 0

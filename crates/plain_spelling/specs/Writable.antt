@@ -78,6 +78,7 @@ value_is_told row method.Extended = says_size row.size
 value_is_told row method.Near = says_size row.size
 value_is_told row _ = true
 
+-- the row tells the file, the width and the value of a kind
 unfoldable pub kind_is_told : Row → OpKind → Bool
 kind_is_told row kind =
     file_is_told row (file_of kind) && (width_is_told row (immediate_width kind) && value_is_told row (method_of kind))
@@ -94,14 +95,17 @@ lock_is_legacy row = not (is_vex_row row && is_lockable row)
 
 -- ---- the opcode byte and ModRM
 
+-- r/m holds memory and no register
 abbrev pub is_memory_only : Method → Bool
 is_memory_only method.MemoryOnly = true
 is_memory_only _ = false
 
+-- r/m holds a register and no memory
 abbrev pub is_register_only : Method → Bool
 is_register_only method.RegisterOnly = true
 is_register_only _ = false
 
+-- reg is 0 by the rule of the row (3.1.1.1, /digit)
 abbrev pub is_digit_zero : ModRmRule → Bool
 is_digit_zero (Digit d) = d == 0
 is_digit_zero _ = false
@@ -166,6 +170,7 @@ gather_is_whole row =
 
 -- ---- all of it
 
+-- the row has plain spellings in a mode in which it exists
 unfoldable pub writable_in : Bits → Row → Bool
 writable_in bits row =
     not (exists_in bits row) || (has_plain_size bits row && (class_allows_size bits row && opcode_is_plain bits row))

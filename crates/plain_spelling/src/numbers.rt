@@ -6,6 +6,7 @@ ghost use Rattle.x86_values.specs.Wrapping.{width};
 ghost use Rattle.plain_spelling.specs.Values as spec;
 
 use arrayvec::ArrayVec;
+use row_meaning::numbers::top_of;
 use x86_values::{Bits, wrap};
 
 /// Appends the low n bytes of a number, the lowest first, to an array of eight.
@@ -51,25 +52,6 @@ fn bits_of(size: Bits) -> u8
         Bits::B16 => 16,
         Bits::B32 => 32,
         Bits::B64 => 64,
-    }
-}
-
-/// 2 to the number of bits in n bytes.
-pub fn top_of_bytes(n: u8) -> u128
-    requires { n ≤ 8 }
-    ensures value { result ≡ 2 ^ (8 * n) }
-    ensures small { result ≤ 2 ^ 64 }
-{
-    match n {
-        0 => 1,
-        1 => 0x100,
-        2 => 0x1_0000,
-        3 => 0x100_0000,
-        4 => 0x1_0000_0000,
-        5 => 0x100_0000_0000,
-        6 => 0x1_0000_0000_0000,
-        7 => 0x100_0000_0000_0000,
-        _ => 0x1_0000_0000_0000_0000,
     }
 }
 
@@ -142,5 +124,5 @@ pub fn is_below_bytes(n: u8, x: u64) -> bool
     requires { n ≤ 8 }
     ensures { result ≡ nat_lt x (2 ^ (8 * n)) }
 {
-    (x as u128) < top_of_bytes(n)
+    (x as u128) < top_of(n as usize)
 }

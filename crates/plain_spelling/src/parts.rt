@@ -51,7 +51,8 @@ pub fn immediate_len(size: Bits, kind: OpKind) -> u8
     }
 }
 
-/// The bytes that an operand has behind the instruction at operand size 16.
+/// The bytes that an operand has behind the instruction at operand size 16. Each size has a function of its own, for which a kind is one
+/// look-up in a table: one function over the size would test it again for each operand.
 #[inline(always)]
 #[tactic(auto, unfolding(row_fit::specs::Fits::immediate_bytes, instruction_parts::specs::Kinds::immediate_width))]
 fn immediate_len_16(kind: OpKind) -> u8

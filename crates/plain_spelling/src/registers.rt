@@ -10,22 +10,7 @@ use crate::addresses::displacement_count;
 use crate::forms::operand_at;
 use instruction_parts::kinds::{Method, method_of_kind};
 use row_types::{OpKind, Row};
-use x86_values::{Instr, Mem, Operand, Register, Segment};
-
-/// The number that the encoding gives a segment register (3.1.1.1).
-fn segment_number(segment: Segment) -> u8
-    ensures value { result ≡ spec.segment_number segment }
-    ensures small { result < 6 }
-{
-    match segment {
-        Segment::Es => 0,
-        Segment::Cs => 1,
-        Segment::Ss => 2,
-        Segment::Ds => 3,
-        Segment::Fs => 4,
-        Segment::Gs => 5,
-    }
-}
+use x86_values::{Instr, Mem, Operand, Register};
 
 /// The number that the encoding gives a register; AH, CH, DH and BH have 4 to 7 (2.1.5, 3.1.1.1).
 #[inline(always)]
@@ -40,7 +25,7 @@ pub fn register_number(register: Register) -> u16
         Register::R16(n) => n as u16,
         Register::R32(n) => n as u16,
         Register::R64(n) => n as u16,
-        Register::Seg(segment) => segment_number(segment) as u16,
+        Register::Seg(segment) => segment as u16,
         Register::Cr(n) => n as u16,
         Register::Dr(n) => n as u16,
         Register::St(n) => n as u16,

@@ -38,7 +38,8 @@ pub fn little_endian(bytes: &[u8]) -> u64
 }
 
 /// 2 to the number of bits in so many bytes.
-fn top_of(len: usize) -> u128
+#[inline]
+pub fn top_of(len: usize) -> u128
     requires { len ≤ 8 }
     ensures value { result ≡ 2 ^ (8 * len) }
     ensures below { result ≤ 2 ^ 64 }

@@ -6,18 +6,12 @@ use Rattle.row_types.specs.declared.RowKind.{RowKind}
 use Rattle.row_types.specs.declared.RowKind.TheVariants.{Legacy, Vex}
 use Rattle.row_types.specs.declared.Map.{Map}
 use Rattle.row_types.specs.declared.Map.TheVariants as map
-use Rattle.row_types.specs.declared.Class.{Class}
 use Rattle.row_types.specs.declared.ModRmRule.TheVariants as rule
-use Rattle.row_types.specs.declared.WBit.{WBit}
-use Rattle.row_types.specs.declared.LBit.{LBit}
-use Rattle.row_types.specs.declared.SizeWord.{SizeWord}
-use Rattle.row_types.specs.declared.PlusWord.{PlusWord}
-use Rattle.row_types.specs.declared.ImmWord.{ImmWord}
 use Rattle.row_types.specs.declared.RowShape.{RowShape}
 use Rattle.row_notation.specs.Shape.{is_opcode_of_map}
 use Rattle.row_notation.specs.Notation.{class_text, size_text, map_text, digit_text, plus_text, imm_text, l_text, pp_text, vex_map_text, w_text}
-use Rattle.row_notation.specs.Reading.{Answer, better, best, read_end, imm_words, read_imm_word, read_imm, digit_value, read_stack_word, read_stack, read_fixed_low, read_fixed, read_digit, read_fixed_of, read_any, read_slash_digit, read_modrm, plus_words, read_plus_word, read_plus, is_opcode_of, read_opcode_low, read_opcode, maps, read_map_word, read_map, size_words, read_size_word, read_size, classes, read_class_word, read_class, w_words, read_w_word, read_w, vex_maps, read_vex_map_word, read_vex_map, vex_classes, read_pp_word, read_pp, l_words, read_l_word, read_l, blank, read_vex, read_text}
-use Rattle.row_notation.proofs.Languages.{Language, IsInhabited, IsEmpty, behind_byte, either_of, word_then, one_of, IsRight, right-same, right-inhabited, right-better, right-word, right-byte, right-stop, right-if, right-or_nothing, right-choice}
+use Rattle.row_notation.specs.Reading.{Answer, better, read_end, imm_words, read_imm, digit_value, read_stack_word, read_stack, read_fixed_low, read_fixed, read_digit, read_fixed_of, read_any, read_slash_digit, read_modrm, plus_words, read_plus, is_opcode_of, read_opcode_low, read_opcode, maps, read_map, size_words, read_size, classes, read_class, w_words, read_w, vex_maps, read_vex_map, vex_classes, read_pp, l_words, read_l, blank, read_vex, read_text}
+use Rattle.row_notation.proofs.Languages.{Language, IsInhabited, IsEmpty, behind_byte, either_of, word_then, one_of, IsRight, right-same, right-inhabited, right-better, right-word, right-byte, right-stop, right-if, right-or_nothing, has_some, right-one_of}
 
 -- ---- the end
 
@@ -90,18 +84,14 @@ right-digit p L next c text small some right =
 abbrev pub imm_texts : RowShape → Language
 imm_texts s = one_of (imm_words s.kind) (λ i. word_then (imm_text i) (ends (record s { imm = i })))
 
-right-imm_word : (s : RowShape) (text : List ℕ) (i : ImmWord) → IsRight (word_then (imm_text i) (ends (record s { imm = i }))) text (read_imm_word s text i)
-right-imm_word s text i =
-    let t : RowShape = record s { imm = i } in
-    right-word (imm_text i) (ends t) (read_end t) text ([], (t, (refl, refl))) (right-end t)
-
-right-imm_list : (k : RowKind) (L : ImmWord → Language) (text : List ℕ) (f : ImmWord → Answer) → ((i : ImmWord) → IsRight (L i) text (f i)) → IsRight (one_of (imm_words k) L) text (best text (map f (imm_words k)))
-right-imm_list Legacy L text f each = right-choice (imm_words Legacy) refl L text f each
-right-imm_list Vex L text f each = right-choice (imm_words Vex) refl L text f each
+some-imm_word : (k : RowKind) → has_some (imm_words k) ≡ true
+some-imm_word Legacy = refl
+some-imm_word Vex = refl
 
 pub right-imm : (s : RowShape) (text : List ℕ) → IsRight (imm_texts s) text (read_imm s text)
 unfolding read_imm
-right-imm s text = right-imm_list s.kind (λ i. word_then (imm_text i) (ends (record s { imm = i }))) text (read_imm_word s text) (right-imm_word s text)
+right-imm s text =
+    right-one_of (imm_words s.kind) (some-imm_word s.kind) imm_text (λ i. ends (record s { imm = i })) (λ i. read_end (record s { imm = i })) text (λ i. right-end (record s { imm = i }))
 
 some-imm : (s : RowShape) → IsInhabited (imm_texts s)
 some-imm s = right-inhabited (imm_texts s) [] (read_imm s []) (right-imm s [])
@@ -119,7 +109,7 @@ right-stack_word s b text e =
     let t : RowShape = record s { stack = true } in
     right-same (word_then (codes "+i") (imm_texts t)) (stack_word_texts s b) text (read_stack_word s text)
     (λ x y m. (eqb-true (b % 8) 0 e, m)) (λ x y m. m.1)
-    (right-word (codes "+i") (imm_texts t) (read_imm t) text (some-imm t) (right-imm t))
+    (right-word (codes "+i") (imm_texts t) (read_imm t) text (right-imm t))
 
 no-stack_word : (s : RowShape) (b : ℕ) → (b % 8 == 0) ≡ false → IsEmpty (stack_word_texts s b)
 no-stack_word s b e t x m = true-is-not-false (sym (eq-eqb (b % 8) 0 m.0) ∙ e)
@@ -225,14 +215,14 @@ abbrev pub modrm_texts : RowShape → Language
 modrm_texts s = either_of (plain_texts s) (either_of (slash_texts s) (fixed_of s.kind s))
 
 right-any : (s : RowShape) (text : List ℕ) → IsRight (any_texts s) text (read_any s text)
-right-any s text = let t : RowShape = record s { modrm = rule.Any } in right-word (codes " /r") (imm_texts t) (read_imm t) text (some-imm t) (right-imm t)
+right-any s text = let t : RowShape = record s { modrm = rule.Any } in right-word (codes " /r") (imm_texts t) (read_imm t) text (right-imm t)
 
 right-slash : (s : RowShape) (text : List ℕ) → IsRight (slash_texts s) text (read_slash_digit s text)
-right-slash s text = right-word (codes " /") (octal_texts s) (read_digit s) text (some-octal s) (right-octal s)
+right-slash s text = right-word (codes " /") (octal_texts s) (read_digit s) text (right-octal s)
 
 right-later : (k : RowKind) (s : RowShape) (text : List ℕ) → IsRight (either_of (slash_texts s) (fixed_of k s)) text (better (read_slash_digit s text) (read_fixed_of k s text))
 right-later Legacy s text = right-better (slash_texts s) (fixed_of Legacy s) text (read_slash_digit s text) (read_fixed_of Legacy s text) (right-slash s text)
-    (right-word (codes " ") (fixed_texts s) (read_fixed s) text (some-fixed s) (right-fixed s))
+    (right-word (codes " ") (fixed_texts s) (read_fixed s) text (right-fixed s))
 right-later Vex s text = right-or_nothing (slash_texts s) (fixed_of Vex s) text (read_slash_digit s text) (λ t x m. m) (right-slash s text)
 
 pub right-modrm : (s : RowShape) (text : List ℕ) → IsRight (modrm_texts s) text (read_modrm s text)
@@ -243,24 +233,19 @@ right-modrm s text =
     (right-better (imm_texts t) (any_texts s) text (read_imm t text) (read_any s text) (right-imm t text) (right-any s text))
     (right-later s.kind s text)
 
-some-modrm : (s : RowShape) → IsInhabited (modrm_texts s)
-some-modrm s = right-inhabited (modrm_texts s) [] (read_modrm s []) (right-modrm s [])
-
 -- ---- an added register, and the opcode byte
 
 abbrev pub plus_texts : RowShape → Language
 plus_texts s = one_of (plus_words s.kind) (λ p. word_then (plus_text p) (modrm_texts (record s { plus_word = p })))
 
-right-plus_word : (s : RowShape) (text : List ℕ) (p : PlusWord) → IsRight (word_then (plus_text p) (modrm_texts (record s { plus_word = p }))) text (read_plus_word s text p)
-right-plus_word s text p = let t : RowShape = record s { plus_word = p } in right-word (plus_text p) (modrm_texts t) (read_modrm t) text (some-modrm t) (right-modrm t)
-
-right-plus_list : (k : RowKind) (L : PlusWord → Language) (text : List ℕ) (f : PlusWord → Answer) → ((p : PlusWord) → IsRight (L p) text (f p)) → IsRight (one_of (plus_words k) L) text (best text (map f (plus_words k)))
-right-plus_list Legacy L text f each = right-choice (plus_words Legacy) refl L text f each
-right-plus_list Vex L text f each = right-choice (plus_words Vex) refl L text f each
+some-plus_word : (k : RowKind) → has_some (plus_words k) ≡ true
+some-plus_word Legacy = refl
+some-plus_word Vex = refl
 
 pub right-plus : (s : RowShape) (text : List ℕ) → IsRight (plus_texts s) text (read_plus s text)
 unfolding read_plus
-right-plus s text = right-plus_list s.kind (λ p. word_then (plus_text p) (modrm_texts (record s { plus_word = p }))) text (read_plus_word s text) (right-plus_word s text)
+right-plus s text =
+    right-one_of (plus_words s.kind) (some-plus_word s.kind) plus_text (λ p. modrm_texts (record s { plus_word = p })) (λ p. read_modrm (record s { plus_word = p })) text (λ p. right-modrm (record s { plus_word = p }))
 
 some-plus : (s : RowShape) → IsInhabited (plus_texts s)
 some-plus s = right-inhabited (plus_texts s) [] (read_plus s []) (right-plus s [])
@@ -322,106 +307,71 @@ right-opcode s (c ∷ text) = right-digit any_digit (opcode_low_texts s) (read_o
 abbrev pub map_texts : RowShape → Language
 map_texts s = one_of maps (λ x. word_then (map_text x) (opcode_texts (record s { map = x })))
 
-right-map_word : (s : RowShape) (text : List ℕ) (x : Map) → IsRight (word_then (map_text x) (opcode_texts (record s { map = x }))) text (read_map_word s text x)
-right-map_word s text x = let t : RowShape = record s { map = x } in right-word (map_text x) (opcode_texts t) (read_opcode t) text (some-opcode t) (right-opcode t)
-
 pub right-map : (s : RowShape) (text : List ℕ) → IsRight (map_texts s) text (read_map s text)
 unfolding read_map
-right-map s text = right-choice maps refl (λ x. word_then (map_text x) (opcode_texts (record s { map = x }))) text (read_map_word s text) (right-map_word s text)
-
-some-map : (s : RowShape) → IsInhabited (map_texts s)
-some-map s = right-inhabited (map_texts s) [] (read_map s []) (right-map s [])
+right-map s text =
+    right-one_of maps refl map_text (λ x. opcode_texts (record s { map = x })) (λ x. read_opcode (record s { map = x })) text (λ x. right-opcode (record s { map = x }))
 
 -- from the size word on
 abbrev pub size_texts : RowShape → Language
 size_texts s = one_of size_words (λ x. word_then (size_text x) (map_texts (record s { size_word = x })))
 
-right-size_word : (s : RowShape) (text : List ℕ) (x : SizeWord) → IsRight (word_then (size_text x) (map_texts (record s { size_word = x }))) text (read_size_word s text x)
-right-size_word s text x = let t : RowShape = record s { size_word = x } in right-word (size_text x) (map_texts t) (read_map t) text (some-map t) (right-map t)
-
 pub right-size : (s : RowShape) (text : List ℕ) → IsRight (size_texts s) text (read_size s text)
 unfolding read_size
-right-size s text = right-choice size_words refl (λ x. word_then (size_text x) (map_texts (record s { size_word = x }))) text (read_size_word s text) (right-size_word s text)
-
-some-size : (s : RowShape) → IsInhabited (size_texts s)
-some-size s = right-inhabited (size_texts s) [] (read_size s []) (right-size s [])
+right-size s text =
+    right-one_of size_words refl size_text (λ x. map_texts (record s { size_word = x })) (λ x. read_map (record s { size_word = x })) text (λ x. right-map (record s { size_word = x }))
 
 -- a legacy text
 abbrev pub class_texts : RowShape → Language
 class_texts s = one_of classes (λ x. word_then (class_text x) (size_texts (record s { class = x })))
 
-right-class_word : (s : RowShape) (text : List ℕ) (x : Class) → IsRight (word_then (class_text x) (size_texts (record s { class = x }))) text (read_class_word s text x)
-right-class_word s text x = let t : RowShape = record s { class = x } in right-word (class_text x) (size_texts t) (read_size t) text (some-size t) (right-size t)
-
 pub right-class : (s : RowShape) (text : List ℕ) → IsRight (class_texts s) text (read_class s text)
 unfolding read_class
-right-class s text = right-choice classes refl (λ x. word_then (class_text x) (size_texts (record s { class = x }))) text (read_class_word s text) (right-class_word s text)
-
-some-class : (s : RowShape) → IsInhabited (class_texts s)
-some-class s = right-inhabited (class_texts s) [] (read_class s []) (right-class s [])
+right-class s text =
+    right-one_of classes refl class_text (λ x. size_texts (record s { class = x })) (λ x. read_size (record s { class = x })) text (λ x. right-size (record s { class = x }))
 
 -- a VEX text from W on
 abbrev pub w_texts : RowShape → Language
 w_texts s = one_of w_words (λ x. word_then (w_text x) (opcode_texts (record s { w = x })))
 
-right-w_word : (s : RowShape) (text : List ℕ) (x : WBit) → IsRight (word_then (w_text x) (opcode_texts (record s { w = x }))) text (read_w_word s text x)
-right-w_word s text x = let t : RowShape = record s { w = x } in right-word (w_text x) (opcode_texts t) (read_opcode t) text (some-opcode t) (right-opcode t)
-
 pub right-w : (s : RowShape) (text : List ℕ) → IsRight (w_texts s) text (read_w s text)
 unfolding read_w
-right-w s text = right-choice w_words refl (λ x. word_then (w_text x) (opcode_texts (record s { w = x }))) text (read_w_word s text) (right-w_word s text)
-
-some-w : (s : RowShape) → IsInhabited (w_texts s)
-some-w s = right-inhabited (w_texts s) [] (read_w s []) (right-w s [])
+right-w s text =
+    right-one_of w_words refl w_text (λ x. opcode_texts (record s { w = x })) (λ x. read_opcode (record s { w = x })) text (λ x. right-opcode (record s { w = x }))
 
 -- a VEX text from its map on
 abbrev pub vex_map_texts : RowShape → Language
 vex_map_texts s = one_of vex_maps (λ x. word_then (vex_map_text x) (w_texts (record s { map = x })))
 
-right-vex_map_word : (s : RowShape) (text : List ℕ) (x : Map) → IsRight (word_then (vex_map_text x) (w_texts (record s { map = x }))) text (read_vex_map_word s text x)
-right-vex_map_word s text x = let t : RowShape = record s { map = x } in right-word (vex_map_text x) (w_texts t) (read_w t) text (some-w t) (right-w t)
-
 pub right-vex_map : (s : RowShape) (text : List ℕ) → IsRight (vex_map_texts s) text (read_vex_map s text)
 unfolding read_vex_map
-right-vex_map s text = right-choice vex_maps refl (λ x. word_then (vex_map_text x) (w_texts (record s { map = x }))) text (read_vex_map_word s text) (right-vex_map_word s text)
-
-some-vex_map : (s : RowShape) → IsInhabited (vex_map_texts s)
-some-vex_map s = right-inhabited (vex_map_texts s) [] (read_vex_map s []) (right-vex_map s [])
+right-vex_map s text =
+    right-one_of vex_maps refl vex_map_text (λ x. w_texts (record s { map = x })) (λ x. read_w (record s { map = x })) text (λ x. right-w (record s { map = x }))
 
 -- a VEX text from pp on
 abbrev pub pp_texts : RowShape → Language
 pp_texts s = one_of vex_classes (λ x. word_then (pp_text x) (vex_map_texts (record s { class = x })))
 
-right-pp_word : (s : RowShape) (text : List ℕ) (x : Class) → IsRight (word_then (pp_text x) (vex_map_texts (record s { class = x }))) text (read_pp_word s text x)
-right-pp_word s text x = let t : RowShape = record s { class = x } in right-word (pp_text x) (vex_map_texts t) (read_vex_map t) text (some-vex_map t) (right-vex_map t)
-
 pub right-pp : (s : RowShape) (text : List ℕ) → IsRight (pp_texts s) text (read_pp s text)
 unfolding read_pp
-right-pp s text = right-choice vex_classes refl (λ x. word_then (pp_text x) (vex_map_texts (record s { class = x }))) text (read_pp_word s text) (right-pp_word s text)
-
-some-pp : (s : RowShape) → IsInhabited (pp_texts s)
-some-pp s = right-inhabited (pp_texts s) [] (read_pp s []) (right-pp s [])
+right-pp s text =
+    right-one_of vex_classes refl pp_text (λ x. vex_map_texts (record s { class = x })) (λ x. read_vex_map (record s { class = x })) text (λ x. right-vex_map (record s { class = x }))
 
 -- a VEX text behind its first word
 abbrev pub l_texts : RowShape → Language
 l_texts s = one_of l_words (λ x. word_then (l_text x) (pp_texts (record s { l = x })))
 
-right-l_word : (s : RowShape) (text : List ℕ) (x : LBit) → IsRight (word_then (l_text x) (pp_texts (record s { l = x }))) text (read_l_word s text x)
-right-l_word s text x = let t : RowShape = record s { l = x } in right-word (l_text x) (pp_texts t) (read_pp t) text (some-pp t) (right-pp t)
-
 pub right-l : (s : RowShape) (text : List ℕ) → IsRight (l_texts s) text (read_l s text)
 unfolding read_l
-right-l s text = right-choice l_words refl (λ x. word_then (l_text x) (pp_texts (record s { l = x }))) text (read_l_word s text) (right-l_word s text)
-
-some-l : (s : RowShape) → IsInhabited (l_texts s)
-some-l s = right-inhabited (l_texts s) [] (read_l s []) (right-l s [])
+right-l s text =
+    right-one_of l_words refl l_text (λ x. pp_texts (record s { l = x })) (λ x. read_pp (record s { l = x })) text (λ x. right-pp (record s { l = x }))
 
 -- a VEX text
 abbrev pub vex_texts : Language
 vex_texts = word_then (codes "VEX.") (l_texts (blank Vex))
 
 right-vex : (text : List ℕ) → IsRight vex_texts text (read_vex text)
-right-vex text = right-word (codes "VEX.") (l_texts (blank Vex)) (read_l (blank Vex)) text (some-l (blank Vex)) (right-l (blank Vex))
+right-vex text = right-word (codes "VEX.") (l_texts (blank Vex)) (read_l (blank Vex)) text (right-l (blank Vex))
 
 -- any text
 abbrev pub all_texts : Language

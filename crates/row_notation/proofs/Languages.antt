@@ -161,17 +161,20 @@ right-word_on c d word L text r e h =
     (λ t s m. subst (λ x. word_then (c ∷ word) L (x ∷ t) s) (equal-from c d e) (cut_word c word L t s m))
     (λ t s m. (m.0, tail_of d c t (word ++ m.0) m.1, m.2)) h)
 
--- what the reader of the rest answers behind a word is right
-pub right-word : (word : List ℕ) (L : Language) (next : List ℕ → Answer) (text : List ℕ) → IsInhabited L → ((t : List ℕ) → IsRight L t (next t)) → IsRight (word_then word L) text (behind (after_word word text) next)
+right-word_some : (word : List ℕ) (L : Language) (next : List ℕ → Answer) (text : List ℕ) → IsInhabited L → ((t : List ℕ) → IsRight L t (next t)) → IsRight (word_then word L) text (behind (after_word word text) next)
 unfolding after_word
-right-word [] L next text some right =
+right-word_some [] L next text some right =
     right-same L (word_then [] L) text (next text) (λ t s m. (t, refl, m)) (λ t s m. subst (λ x. L x s) (sym m.1) m.2) (right text)
-right-word (c ∷ word) L next [] some right =
+right-word_some (c ∷ word) L next [] some right =
     (refl, word-inhabited (c ∷ word) L some, λ s m. nothing c (word ++ m.0) m.1)
-right-word (c ∷ word) L next (d ∷ text) some right =
+right-word_some (c ∷ word) L next (d ∷ text) some right =
     right-branch (word_then (c ∷ word) L) (d ∷ text) next (c == d) (after_word word text) (Err (1 + length text))
-    (λ e. right-word_on c d word L text (behind (after_word word text) next) e (right-word word L next text some right))
+    (λ e. right-word_on c d word L text (behind (after_word word text) next) e (right-word_some word L next text some right))
     (λ e. right-stop (word_then (c ∷ word) L) d text (word-inhabited (c ∷ word) L some) (no-text-behind c d word L e))
+
+-- what the reader of the rest answers behind a word is right
+pub right-word : (word : List ℕ) (L : Language) (next : List ℕ → Answer) (text : List ℕ) → ((t : List ℕ) → IsRight L t (next t)) → IsRight (word_then word L) text (behind (after_word word text) next)
+right-word word L next text right = right-word_some word L next text (right-inhabited L [] (next []) (right [])) right
 
 -- ---- a choice among words
 
@@ -217,3 +220,13 @@ pub right-choice : {V : Type 0} → (vs : List V) → has_some vs ≡ true → (
     → ((x : V) → IsRight (L x) text (f x)) → IsRight (one_of vs L) text (best text (map f vs))
 right-choice [] e L text f each = absurd cc
 right-choice (v ∷ vs) e L text f each = right-best v vs L text f each
+
+-- the word of a value, and what follows it
+abbrev read_word : {V : Type 0} → (V → List ℕ) → (V → List ℕ → Answer) → List ℕ → V → Answer
+read_word word next text v = behind (after_word (word v) text) (next v)
+
+-- what the reader answers behind the word of one of several values is right
+pub right-one_of : {V : Type 0} → (vs : List V) → has_some vs ≡ true → (word : V → List ℕ) (L : V → Language) (next : V → List ℕ → Answer) (text : List ℕ)
+    → ((v : V) (t : List ℕ) → IsRight (L v) t (next v t)) → IsRight (one_of vs (λ v. word_then (word v) (L v))) text (best text (map (read_word word next text) vs))
+right-one_of vs e word L next text right =
+    right-choice vs e (λ v. word_then (word v) (L v)) text (read_word word next text) (λ v. right-word (word v) (L v) (next v) text (right v))

@@ -154,6 +154,7 @@ abbrev pub is_no_l : LBit → Bool
 is_no_l l.None = true
 is_no_l _ = false
 
+-- no word for W
 abbrev pub is_no_w : WBit → Bool
 is_no_w w.None = true
 is_no_w _ = false
@@ -163,10 +164,12 @@ abbrev pub is_four_bits : ImmWord → Bool
 is_four_bits imm.Is4 = true
 is_four_bits _ = false
 
+-- no word for the operand size
 abbrev pub is_no_size_word : SizeWord → Bool
 is_no_size_word word.None = true
 is_no_size_word _ = false
 
+-- no word for what is added to the opcode byte
 abbrev pub is_no_plus_word : PlusWord → Bool
 is_no_plus_word added.None = true
 is_no_plus_word _ = false
