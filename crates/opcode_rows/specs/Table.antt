@@ -33,7 +33,7 @@ abbrev pub with_item : Option Row → List Row → List Row
 with_item None rows = rows
 with_item (Some r) rows = r ∷ rows
 
--- the rows that lie at these places
+-- the rows that lie at these spots
 unfoldable pub rows_in : List Spot → List Row
 rows_in [] = []
 rows_in (s ∷ ss) = with_item (slice_get (part_table s.part) s.at) (rows_in ss)
