@@ -14,7 +14,7 @@ ROWS_DOC = '''/// The rows in their order: map, class, opcode byte and what is a
 /// 16, 32 and 64-bit mode); operands; marks (1 lockable, 2 address size, 4 size word, 8 and 16 a default size of 64 bits).
 '''
 
-SPOT = '''/// Where a row lies: the crate, and the place among its rows.
+SPOT = '''/// Where a row lies: the crate, and the index among its rows.
 #[derive(Clone, Copy)]
 pub struct Spot {
     pub part: Part,
@@ -43,7 +43,7 @@ def row_text(row):
 
 
 def cells(rows, kind):
-    """For each map and opcode byte the first place and the number of the rows of a kind."""
+    """For each map and opcode byte the first index and the number of the rows of a kind."""
     out = [[(0, 0)] * 256 for _ in MAP_ORDER]
     for at, row in enumerate(rows):
         if row.kind != kind:
@@ -73,7 +73,7 @@ def part_text(part, rows):
         if row.first:
             text += ''.join(f'    // {line}\n' for line in row.entry.headings + [row.entry.text])
         text += row_text(row)
-    return text + '};\n\n' + cells_text('SPANS', 'The rows of each cell, by map and opcode byte: the place of the first, and how many.', rows, part.kind)
+    return text + '};\n\n' + cells_text('SPANS', 'The rows of each cell, by map and opcode byte: the index of the first, and how many.', rows, part.kind)
 
 
 def spots_text(table):

@@ -77,10 +77,11 @@ memory_letter row name =
 
 -- ---- names
 
--- the extensions, whose names show both sizes in AT&T
+-- the extension by zeros, whose name shows both sizes in AT&T
 unfoldable pub is_zero_extension : List ℕ → Bool
 is_zero_extension name = bytes_eq name (codes "movzx")
 
+-- the extensions by the sign, whose names do the same
 unfoldable pub is_sign_extension : List ℕ → Bool
 is_sign_extension name = bytes_eq name (codes "movsx") || bytes_eq name (codes "movsxd")
 

@@ -2,10 +2,11 @@
 use Rattle.std.specs.Prelude.{ℕ, zero, suc, ◌+◌, ◌*◌, ◌^◌, Bool, ◌&&◌, nat_eq, nat_lt, nat_le, if◌then◌else◌, List, [], ◌∷◌, ◌++◌, length, drop, codes, Option, Some, None, Result, Ok, Err}
 use Rattle.std.specs.Borrow.{Bor}
 use Rattle.std.specs.Cmp.Lexicographic.{pointwise}
-use Rattle.hex.specs.Hex.{hex_digit_value}
 use Rattle.x86_values.specs.declared.Bits.{Bits}
 use Rattle.x86_values.specs.declared.Bits.TheVariants.{B16, B32, B64}
 use Rattle.x86_values.specs.Wrapping.{width}
+use Rattle.text_parts.specs.declared.digit_values.LetterCase.TheVariants.{Either}
+use Rattle.text_parts.specs.DigitValues.{digits_from}
 use Rattle.text_parts.specs.declared.style.Style.{Style}
 use Rattle.text_parts.specs.declared.style.Style.TheVariants.{Intel, Att, Masm}
 use Rattle.command_words.specs.declared.commands.Command.{Command}
@@ -39,14 +40,9 @@ syntax_named word =
     else (if same_text word (codes "att") then Some Att
     else (if same_text word (codes "masm") then Some Masm else None))
 
--- a number and the hexadecimal digits behind it, where all are digits of either case
-unfoldable pub hex_from : ℕ → List ℕ → Option ℕ
-hex_from value [] = Some value
-hex_from value (c ∷ digits) = elim (hex_digit_value c) [ None ↦ None | Some d ↦ hex_from (16 * value + d) digits ]
-
--- the number that a word of 1 to 16 hexadecimal digits names
+-- the number that a word of 1 to 16 hexadecimal digits of either case names
 unfoldable pub number_named : List ℕ → Option ℕ
-number_named word = if nat_lt 0 (length word) && nat_le (length word) 16 then hex_from 0 word else None
+number_named word = if nat_lt 0 (length word) && nat_le (length word) 16 then digits_from Either 0 word else None
 
 -- the number, where it is an address of the mode
 unfoldable pub address_in : Bits → Option ℕ → Option ℕ

@@ -3,7 +3,7 @@
 use crate::count::SampleCount;
 use crate::range::SlotRange;
 use arrayvec::ArrayVec;
-use sweep_text::Style;
+use text_parts::style::Style;
 use x86_values::Bits;
 
 /// What a command line asks for.

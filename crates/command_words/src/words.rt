@@ -2,14 +2,14 @@
 
 ghost use Rattle.std.specs.Prelude.{◌≡◌, ◌<◌, ◌≤◌, ◌^◌, ◌↔◌, IsTrue, IfSome, [], length};
 ghost use Rattle.x86_values.specs.Wrapping.{width};
-ghost use Rattle.hex.specs.Hex.{hex_digit_value};
 ghost use Rattle.command_words.specs.Words as spec;
 
 use crate::commands::{BlockWords, Command, Through};
 use crate::count::SampleCount;
 use crate::range::SlotRange;
 use arrayvec::ArrayVec;
-use sweep_text::Style;
+use text_parts::digit_values::{LetterCase, digits_value};
+use text_parts::style::Style;
 use x86_values::Bits;
 
 /// Whether a word is this name.
@@ -52,43 +52,14 @@ fn syntax_named(word: &str) -> Option<Style>
     }
 }
 
-/// The value of a hexadecimal digit of either case.
-#[inline]
-fn digit_value(c: u8) -> Option<u8>
-    ensures value { result ≡ hex_digit_value c }
-    ensures small { IfSome result (λ d. d < 16) }
-{
-    match c {
-        b'A'..=b'F' => Some(c - b'A' + 10),
-        b'a'..=b'f' => Some(c - b'a' + 10),
-        b'0'..=b'9' => Some(c - b'0'),
-        _ => None,
-    }
-}
-
-/// The number that at most 16 hexadecimal digits name.
-fn digits_value(digits: &[u8]) -> Option<u64>
-    requires { length digits.now ≤ 16 }
-    ensures { result ≡ spec.hex_from 0 digits.now }
-{
-    let mut value = 0;
-    for c in digits {
-        match digit_value(*c) {
-            None => return None,
-            Some(d) => value = 16 * value + u64::from(d),
-        }
-    }
-    Some(value)
-}
-
-/// The number that a word of 1 to 16 hexadecimal digits names.
+/// The number that a word of 1 to 16 hexadecimal digits of either case names.
 #[tactic(auto, unfolding(crate::specs::Words::number_named))]
 fn number_named(word: &str) -> Option<u64>
     ensures { result ≡ spec.number_named word.now }
 {
     let digits = word.as_bytes();
     if !digits.is_empty() && digits.len() <= 16 {
-        digits_value(digits)
+        digits_value(LetterCase::Either, digits)
     } else {
         None
     }

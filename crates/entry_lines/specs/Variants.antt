@@ -61,11 +61,12 @@ reads_modrm method.AnyMode = true
 reads_modrm method.Gather = true
 reads_modrm _ = false
 
--- an operand is read from a ModRM byte that names a register alone; and from one that names memory alone
+-- an operand is read from a ModRM byte that names a register alone
 abbrev pub is_register_only : Method → Bool
 is_register_only method.RegisterOnly = true
 is_register_only _ = false
 
+-- an operand is read from a ModRM byte that names memory alone
 abbrev pub is_memory_only : Method → Bool
 is_memory_only method.MemoryOnly = true
 is_memory_only method.Gather = true

@@ -6,16 +6,19 @@ use Rattle.row_types.specs.declared.Map.{Map}
 use Rattle.entry_lines.specs.declared.words.Mark.{Mark}
 use Rattle.entry_lines.specs.declared.words.TheConstants.{KIND_WORDS, CLASS_WORDS, MAP_WORDS, MARK_WORDS}
 
--- the words, each with what it stands for: the kinds of operands, the classes of prefixes, the maps, the marks
+-- the words of the kinds of operands, each with the kind that it stands for
 unfoldable pub kind_words : List (List ℕ × OpKind)
 kind_words = map (λ w. (w.0.now, w.1)) KIND_WORDS
 
+-- those of the classes of prefixes
 unfoldable pub class_words : List (List ℕ × Class)
 class_words = map (λ w. (w.0.now, w.1)) CLASS_WORDS
 
+-- those of the maps
 unfoldable pub map_words : List (List ℕ × Map)
 map_words = map (λ w. (w.0.now, w.1)) MAP_WORDS
 
+-- those of the marks
 unfoldable pub mark_words : List (List ℕ × Mark)
 mark_words = map (λ w. (w.0.now, w.1)) MARK_WORDS
 

@@ -152,6 +152,7 @@ fn goes_by_w(e: &Entry) -> bool
     is_by_w_mark(e.sizes) || any_has(&e.ops, Trait::ByW) && !goes_by_size(e)
 }
 
+/// Whether the sizes are those by W.
 fn is_by_w_mark(sizes: Sizes) -> bool
     ensures { result ≡ spec.is_by_w_mark sizes }
 {

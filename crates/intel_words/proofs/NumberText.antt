@@ -10,20 +10,22 @@ use Rattle.std.proofs.lemmas.Bool.{and_from}
 use lib.Count.{count_leading_zeros}
 use Rattle.text_parts.specs.declared.style.Style.TheVariants.{Intel}
 use Rattle.text_parts.specs.Numbers.{hex_digit, digit_at, last_digits, digit_count, hexadecimal, number}
+use Rattle.text_parts.specs.declared.digit_values.LetterCase.TheVariants.{Lower}
+use Rattle.text_parts.specs.DigitValues.{digit_value, digits_from}
 use Rattle.text_parts.proofs.Digits.{length-last_digits}
+use Rattle.text_parts.proofs.DigitValues.{digits_from-some}
 use Rattle.text_parts.proofs.NumberLaws.{first-above}
 use Rattle.intel_words.specs.Scanning.{is_word_byte}
 use Rattle.intel_words.specs.Scanning.{first, rest}
-use Rattle.intel_words.specs.ReadNumbers.{digit_value, digits_from, has_digit_form, number_in, number_named}
-use Rattle.intel_words.proofs.Digits.{digits_from-some}
+use Rattle.intel_words.specs.ReadNumbers.{has_digit_form, number_in, number_named}
 use Rattle.intel_words.proofs.Below.{agree-below}
 
 -- ---- digits
 
 -- a digit is read
-digit-read : (d : ℕ) → d < 16 → digit_value (hex_digit d) ≡ Some d
+digit-read : (d : ℕ) → d < 16 → digit_value Lower (hex_digit d) ≡ Some d
 unfolding digit_value hex_digit
-digit-read d h = agree-below (λ k. digit_value (hex_digit k)) (λ k. Some k) 16 d refl h
+digit-read d h = agree-below (λ k. digit_value Lower (hex_digit k)) (λ k. Some k) 16 d refl h
 
 digit-byte : (d : ℕ) → d < 16 → is_word_byte (hex_digit d) ≡ true
 unfolding is_word_byte hex_digit
@@ -43,12 +45,12 @@ next-quotient k n =
     rw (apart, split) (omega arith)
 
 -- the last digits join the others
-last_digits-read : (k n : ℕ) → digits_from (n / 2 ^ (4 * k)) (last_digits k n) ≡ Some n
+last_digits-read : (k n : ℕ) → digits_from Lower (n / 2 ^ (4 * k)) (last_digits k n) ≡ Some n
 unfolding last_digits digits_from
 last_digits-read zero n = let e : n / 1 ≡ n = omega arith in ap (λ (m : ℕ). Some m) e
 last_digits-read (suc k) n =
-    digits_from-some (n / 2 ^ (4 * suc k)) (hex_digit (digit_at n k)) (digit_at n k) (last_digits k n) (digit-read (digit_at n k) (digit-small n k))
-    ∙ (ap (λ (v : ℕ). digits_from v (last_digits k n)) (next-quotient k n) ∙ last_digits-read k n)
+    digits_from-some Lower (n / 2 ^ (4 * suc k)) (hex_digit (digit_at n k)) (digit_at n k) (last_digits k n) (digit-read (digit_at n k) (digit-small n k))
+    ∙ (ap (λ (v : ℕ). digits_from Lower v (last_digits k n)) (next-quotient k n) ∙ last_digits-read k n)
 
 last_digits-bytes : (k n : ℕ) → list_all is_word_byte (last_digits k n) ≡ true
 unfolding last_digits
@@ -96,11 +98,11 @@ unfolding has_digit_form hexadecimal last_digits hex_digit digit_at digit_count 
 form-of zero h = refl
 form-of (suc n) h = form-above (suc n) (omega arith) h
 
-hexadecimal-read : (n : ℕ) → n < 2 ^ 64 → digits_from 0 (hexadecimal n) ≡ Some n
+hexadecimal-read : (n : ℕ) → n < 2 ^ 64 → digits_from Lower 0 (hexadecimal n) ≡ Some n
 unfolding hexadecimal
 hexadecimal-read n h =
     let none : n / 2 ^ (4 * digit_count n) ≡ 0 = div-eq_of_lt (within-digits n h) in
-    ap (λ (v : ℕ). digits_from v (last_digits (digit_count n) n)) (sym none) ∙ last_digits-read (digit_count n) n
+    ap (λ (v : ℕ). digits_from Lower v (last_digits (digit_count n) n)) (sym none) ∙ last_digits-read (digit_count n) n
 
 number_in-read : (n : ℕ) → n < 2 ^ 64 → number_in (hexadecimal n) ≡ Some n
 unfolding number_in

@@ -1,16 +1,8 @@
 -- Reading numbers.
 use Rattle.std.specs.Prelude.{ℕ, ◌+◌, ◌-◌, ◌*◌, Bool, not, ◌&&◌, ◌||◌, ◌==◌, nat_le, nat_lt, if◌then◌else◌, List, [], ◌∷◌, length, Option, Some, None}
+use Rattle.text_parts.specs.declared.digit_values.LetterCase.TheVariants.{Lower}
+use Rattle.text_parts.specs.DigitValues.{digits_from}
 use Rattle.intel_words.specs.Scanning.{first, rest}
-
--- the value of a hexadecimal digit in lower case
-unfoldable pub digit_value : ℕ → Option ℕ
-digit_value c =
-    if nat_le 48 c && nat_le c 57 then Some (c - 48) else (if nat_le 97 c && nat_le c 102 then Some (c - 87) else None)
-
--- a number and the digits behind it
-unfoldable pub digits_from : ℕ → List ℕ → Option ℕ
-digits_from value [] = Some value
-digits_from value (c ∷ digits) = elim (digit_value c) [ None ↦ None | Some d ↦ digits_from (16 * value + d) digits ]
 
 -- 1 to 16 bytes, of which the first is no 0 unless it is the only one
 unfoldable pub has_digit_form : List ℕ → Bool
@@ -18,7 +10,7 @@ has_digit_form digits = nat_lt 0 (length digits) && (nat_le (length digits) 16 &
 
 -- the number that 1 to 16 hexadecimal digits without leading zeros name
 unfoldable pub number_in : List ℕ → Option ℕ
-number_in digits = if has_digit_form digits then digits_from 0 digits else None
+number_in digits = if has_digit_form digits then digits_from Lower 0 digits else None
 
 -- the number that a word names: 0x and its digits
 unfoldable pub number_named : List ℕ → Option ℕ

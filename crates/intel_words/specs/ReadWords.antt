@@ -44,16 +44,19 @@ is_prefix_word name =
     is_lock name || (is_repeat (repeat_named name) || (is_some (segment_named name)
     || (is_some (size_behind 97 name) || is_some (size_behind 111 name))))
 
--- the text behind each prefix word
+-- what stands behind the word of LOCK, if it is at the front
 unfoldable pub behind_lock : List ℕ → List ℕ
 behind_lock text = skip_if (is_lock (word text)) text
 
+-- what stands behind the word of a repeat prefix, if it is at the front
 unfoldable pub behind_repeat : List ℕ → List ℕ
 behind_repeat text = skip_if (is_repeat (repeat_named (word text))) text
 
+-- what stands behind the name of a segment, if it is at the front
 unfoldable pub behind_segment : List ℕ → List ℕ
 behind_segment text = skip_if (is_some (segment_named (word text))) text
 
+-- what stands behind a letter with a size, as a32, if it is at the front
 unfoldable pub behind_size : ℕ → List ℕ → List ℕ
 behind_size letter text = skip_if (is_some (size_behind letter (word text))) text
 

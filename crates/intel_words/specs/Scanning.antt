@@ -25,10 +25,11 @@ unfoldable pub rest : List ℕ → List ℕ
 rest [] = []
 rest (c ∷ cs) = cs
 
--- the word at the front, and what stands behind it
+-- the word at the front
 abbrev pub word : List ℕ → List ℕ
 word text = front is_word_byte text
 
+-- what stands behind that word
 abbrev pub behind : List ℕ → List ℕ
 behind text = back is_word_byte text
 
@@ -36,10 +37,11 @@ behind text = back is_word_byte text
 unfoldable pub is_no_comma : ℕ → Bool
 is_no_comma c = not (c == 44)
 
--- the operand at the front, and the text of the next one behind its comma and space
+-- the operand at the front
 abbrev pub token : List ℕ → List ℕ
 token text = front is_no_comma text
 
+-- the text of the next operand, behind a comma and a space
 abbrev pub next_operand : List ℕ → List ℕ
 next_operand text = rest (rest (back is_no_comma text))
 

@@ -1,40 +1,10 @@
 //! Reading numbers.
 
-ghost use Rattle.std.specs.Prelude.{◌≡◌, ◌<◌, ◌≤◌, IfSome, length};
+ghost use Rattle.std.specs.Prelude.{◌≡◌};
 ghost use Rattle.intel_words.specs.ReadNumbers as spec;
 
 use crate::scanning::{first, rest};
-
-/// The value of a hexadecimal digit in lower case.
-#[inline]
-#[tactic(auto, unfolding(crate::specs::ReadNumbers::digit_value))]
-fn digit_value(c: u8) -> Option<u8>
-    ensures value { result ≡ spec.digit_value c }
-    ensures small { IfSome result (λ d. d < 16) }
-{
-    if b'0' <= c && c <= b'9' {
-        Some(c - b'0')
-    } else if b'a' <= c && c <= b'f' {
-        Some(c - 87)
-    } else {
-        None
-    }
-}
-
-/// The number that at most 16 hexadecimal digits name.
-fn digits_value(digits: &[u8]) -> Option<u64>
-    requires { length digits.now ≤ 16 }
-    ensures { result ≡ spec.digits_from 0 digits.now }
-{
-    let mut value = 0;
-    for c in digits {
-        match digit_value(*c) {
-            None => return None,
-            Some(d) => value = 16 * value + u64::from(d),
-        }
-    }
-    Some(value)
-}
+use text_parts::digit_values::{LetterCase, digits_value};
 
 /// The number that 1 to 16 hexadecimal digits without leading zeros name.
 #[tactic(auto, unfolding(crate::specs::ReadNumbers::number_in, crate::specs::ReadNumbers::has_digit_form))]
@@ -42,7 +12,7 @@ fn number_in(digits: &[u8]) -> Option<u64>
     ensures { result ≡ spec.number_in digits.now }
 {
     if digits.len() > 0 && digits.len() <= 16 && (digits.len() == 1 || first(digits) != b'0') {
-        digits_value(digits)
+        digits_value(LetterCase::Lower, digits)
     } else {
         None
     }

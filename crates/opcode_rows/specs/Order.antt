@@ -9,11 +9,11 @@ use Rattle.opcode_rows.specs.Table.{places, table}
 abbrev pub opcode_number : Row → ℕ
 opcode_number row = 256 * map_number (is_vex row.kind) row.map + row.opcode
 
--- the code is that of the row at this place of a part's list
+-- the code is that of the row at this index of a part's list
 abbrev pub LiesAt : Part → ℕ → ℕ → Type 0
 LiesAt part at code = slice_get places code ≡ Some (record { part = part; at = at })
 
--- the row at this place of a part's list stands in the table at one code, and at no other
+-- the row at this index of a part's list stands in the table at one code, and at no other
 pub record HasOneCode (part : Part) (at : ℕ) (row : Row) : Type 0 where
   pub code : ℕ
   pub lies : LiesAt part at code

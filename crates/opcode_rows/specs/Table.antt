@@ -33,7 +33,7 @@ abbrev pub with_item : Option Row → List Row → List Row
 with_item None rows = rows
 with_item (Some r) rows = r ∷ rows
 
--- the rows that lie at these places
+-- the rows that lie at these spots
 unfoldable pub rows_in : List Spot → List Row
 rows_in [] = []
 rows_in (s ∷ ss) = with_item (slice_get (part_table s.part) s.at) (rows_in ss)
@@ -47,10 +47,11 @@ table = rows_in places
 abbrev pub cell : RowKind → Map → ℕ → List Row
 cell kind m op = cell_of table kind m op
 
--- the names of the rows of version 1, and of those that version 2 adds
+-- the names of the rows of version 1
 abbrev pub first_names : List (List ℕ)
 first_names = map (λ name. name.now) NAMES
 
+-- the names of the rows that version 2 adds
 abbrev pub added_names : List (List ℕ)
 added_names = map (λ name. name.now) ADDED_NAMES
 
@@ -62,13 +63,15 @@ names = first_names ++ added_names
 unfoldable pub name_of : ℕ → List ℕ
 name_of code = unwrap_or (slice_get names code) []
 
--- where the rows of each cell lie
+-- where the legacy rows of each cell lie
 unfoldable pub legacy_spans : List (List Span)
 legacy_spans = LEGACY_SPANS
 
+-- where the VEX rows of each cell lie
 unfoldable pub vex_spans : List (List Span)
 vex_spans = VEX_SPANS
 
+-- where the rows of each cell of a kind lie
 abbrev pub spans_of : RowKind → List (List Span)
 spans_of kind.Legacy = legacy_spans
 spans_of kind.Vex = vex_spans

@@ -12,10 +12,11 @@ use Rattle.instruction_parts.specs.Front.{Front, Known, Open, Forbidden, front_o
 use Rattle.opcode_rows.specs.declared.spots.TheConstants.{VERSION1_ROWS}
 use Rattle.opcode_rows.specs.Table.{table, names}
 
--- the rows of version 1, and their names: those with the codes below VERSION1_ROWS
+-- the rows of version 1: those with the codes below VERSION1_ROWS
 unfoldable pub version1 : List Row
 version1 = take VERSION1_ROWS table
 
+-- the names of the rows of version 1
 unfoldable pub version1_names : List (List ℕ)
 version1_names = take VERSION1_ROWS names
 

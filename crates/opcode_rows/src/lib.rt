@@ -141,10 +141,10 @@ fn spot_row(spot: Spot) -> Row
     ensures { slice_get (part_table spot.part) spot.at ≡ Some result }
 {
     match spot.part {
-        Part::Integer => rows_integer::row_at(spot.at),
-        Part::X87 => rows_x87::row_at(spot.at),
-        Part::Sse => rows_sse::row_at(spot.at),
-        Part::Vex => rows_vex::row_at(spot.at),
+        Part::Integer => rows_integer::list().row_at(spot.at as usize),
+        Part::X87 => rows_x87::list().row_at(spot.at as usize),
+        Part::Sse => rows_sse::list().row_at(spot.at as usize),
+        Part::Vex => rows_vex::list().row_at(spot.at as usize),
     }
 }
 

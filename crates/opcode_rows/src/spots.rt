@@ -8,7 +8,7 @@ pub enum Part {
     Vex,
 }
 
-/// Where a row lies: the crate, and the place among its rows.
+/// Where a row lies: the crate, and the index among its rows.
 #[derive(Clone, Copy)]
 pub struct Spot {
     pub part: Part,

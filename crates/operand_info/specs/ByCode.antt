@@ -9,15 +9,17 @@ use Rattle.operand_info.specs.declared.columns.Access.{Access}
 use Rattle.operand_info.specs.declared.columns.Access.TheVariants.{None as NoAccess}
 use Rattle.operand_info.specs.Columns.{flow_at, access_at}
 
--- the columns of a row that may be absent
+-- the flow of a row that may be absent
 abbrev pub flow_in : Option Row → List ℕ → Flow
 flow_in None name = Next
 flow_in (Some r) name = flow_at name r
 
+-- the access to an operand of a row that may be absent
 abbrev pub access_in : Option Row → List ℕ → ℕ → Access
 access_in None name n = NoAccess
 access_in (Some r) name n = access_at name r n
 
+-- the bytes of memory of a row that may be absent
 abbrev pub memory_size_in : Option Row → ℕ
 memory_size_in None = 0
 memory_size_in (Some r) = row.memory_size r

@@ -27,6 +27,7 @@ impl Default for RegUse {
     }
 }
 
+/// At most 16 uses of registers.
 type Uses = ArrayVec<RegUse, 16>;
 
 /// Appends a register operand with its access, if there is one.

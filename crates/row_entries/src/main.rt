@@ -76,6 +76,7 @@ fn tell_difference(rows: &[NamedRow], at: u16) -> Result<()> {
     }
 }
 
+/// Reads the files of entries and compares their rows with those of the table.
 fn main(rt: HostRuntime) -> Result<()> {
     let alloc = rt.alloc();
     let mut texts = Vec::new(alloc);

@@ -52,7 +52,7 @@ line_number-is kind.Vex M0f = refl
 line_number-is kind.Vex M0f38 = refl
 line_number-is kind.Vex M0f3a = refl
 
--- the rows of a cell with their places
+-- the rows of a cell with their indices
 abbrev pub coded_cell : List Row → RowKind → Map → ℕ → List Coded
 coded_cell rows k m op = at_opcode op (of_number (line_number k m) (coded 0 rows))
 
@@ -86,7 +86,7 @@ slice_get-known [] i lt = absurd (omega arith)
 slice_get-known (c ∷ cs) zero lt = (c, refl)
 slice_get-known (c ∷ cs) (suc i) lt = slice_get-known cs i (omega arith)
 
--- the i-th row of a cell is the list's, at the place that lies i behind the first
+-- the i-th row of a cell is the list's, at the index that lies i behind the first
 pub row-of_span : (k : RowKind) (m : Map) (op : ℕ) (spans : List (List Span)) (rows : List Row) (s : Span)
     → spans_fit k spans rows ≡ true → op < 256 → span_of spans (map_index m) op ≡ Some s → (i : ℕ) → i < length (cell_of rows k m op)
     → (r : Row) × (slice_get (cell_of rows k m op) i ≡ Some r) × (slice_get rows (s.first + i) ≡ Some r)
@@ -97,18 +97,18 @@ row-of_span k m op spans rows s h byte at i lt =
     let c : Coded = found.0 in
     let code : c.code ≡ s.first + i = code-is_run s.first s.count cs (span-is_run k m op spans rows s h byte at) i c found.1 in
     let t = table-at_code (line_number k m) op 0 rows i c found.1 in
-    let place : t.0 ≡ s.first + i = omega (arith, t.1, code) in
+    let index : t.0 ≡ s.first + i = omega (arith, t.1, code) in
     let here : slice_get (cell_of rows k m op) i ≡ Some c.row =
     ap (λ l. slice_get l i) (sym (cell-rows k m op rows)) ∙ slice_get-map (λ d. d.row) cs i ∙ ap (option_map (λ d. d.row)) found.1
     in
-    (c.row, here, rw place at t.2)
+    (c.row, here, rw index at t.2)
 
 -- ---- the rows of a cell are those of its run
 
 abbrev coded_as : ℕ → Row → Coded
 coded_as code row = record { code = code; row = row }
 
--- a row that stands in the cell is among its rows with its place
+-- a row that stands in the cell is among its rows with its index
 found-in_cell : (number op first : ℕ) (rows : List Row) (k : ℕ) (r : Row) → slice_get rows k ≡ Some r → stands_in r number op ≡ true
     → (i : ℕ) × (slice_get (at_opcode op (of_number number (coded first rows))) i ≡ Some (record { code = first + k; row = r }))
 unfolding coded of_number at_opcode
@@ -170,7 +170,7 @@ stands-in_cell number op first (x ∷ rs) i c at =
         ap (λ y. stands_in y.row number op) (sym same) ∙ ap (λ y. stands_in y number op) is ∙ met
     first_or_later number op x d c ds later is met (suc i) h = later i h
 
--- a row stands in the cell exactly where its place is in the run
+-- a row stands in the cell exactly where its index is in the run
 pub run-of_span : (k : RowKind) (m : Map) (op : ℕ) (spans : List (List Span)) (rows : List Row) (s : Span)
     → spans_fit k spans rows ≡ true → op < 256 → span_of spans (map_index m) op ≡ Some s
     → IsRunOf rows k m op s.first s.count
@@ -190,8 +190,8 @@ run-of_span k m op spans rows s h byte at code row there =
           let c : Coded = found.0 in
           let is : c.code ≡ s.first + (code - s.first) = code-is_run s.first s.count cs run (code - s.first) c found.1 in
           let t = table-at_code (line_number k m) op 0 rows (code - s.first) c found.1 in
-          let place : t.0 ≡ code = omega (arith, t.1, is, low) in
-          let got : slice_get rows code ≡ Some c.row = rw place at t.2 in
+          let index : t.0 ≡ code = omega (arith, t.1, is, low) in
+          let got : slice_get rows code ≡ Some c.row = rw index at t.2 in
           let same : c.row ≡ row = some-inj c.row row (sym got ∙ there) in
           ap (λ y. stands_in y (line_number k m) op) (sym same) ∙ stands-in_cell (line_number k m) op 0 rows (code - s.first) c found.1),
     )

@@ -7,7 +7,7 @@ use Rattle.row_types.specs.declared.Map.TheVariants.{One, M0f, M0f38, M0f3a}
 use Rattle.row_fields.specs.Holds.{is_vex, map_number, rows_at, stands_in}
 use Rattle.row_lists.specs.declared.Span.{Span}
 
--- the place of a map among the lines of cells
+-- the index of a map among the lines of cells
 abbrev pub map_index : Map → ℕ
 map_index One = 0
 map_index M0f = 1
@@ -34,7 +34,7 @@ span_of spans line op = span_in (slice_get spans line)
     span_in None = None
     span_in (Some l) = slice_get l op
 
--- the rows of a cell are those from a first place on: a row of the list stands in the cell exactly where its place is one of them
+-- the rows of a cell are those from a first index on: a row of the list stands in the cell exactly where its index is one of them
 abbrev pub IsRunOf : List Row → RowKind → Map → ℕ → ℕ → ℕ → Type 0
 IsRunOf rows kind m op first count =
     (code : ℕ) (row : Row) → slice_get rows code ≡ Some row

@@ -6,7 +6,7 @@ use Rattle.row_types.specs.declared.Map.{Map}
 use Rattle.row_lists.specs.declared.Span.{Span}
 use Rattle.row_lists.specs.Cells.{map_index, cell_of, span_of}
 
--- a cell has as many rows as its span counts, and they are those of the list from the span's first place on
+-- a cell has as many rows as its span counts, and they are those of the list from the span's first index on
 abbrev pub IsSpanOf : RowKind → List Row → Map → ℕ → Span → Type 0
 IsSpanOf kind rows m op s =
     (length (cell_of rows kind m op) ≡ s.count)

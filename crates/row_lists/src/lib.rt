@@ -56,7 +56,7 @@ impl FlatRow {
     }
 }
 
-/// Where the rows of a cell lie: the place of the first, and how many there are.
+/// Where the rows of a cell lie: the index of the first, and how many there are.
 #[derive(Clone, Copy)]
 pub struct Span {
     pub first: u16,
@@ -72,7 +72,7 @@ pub struct RowList {
 }
 
 impl RowList {
-    /// The row at a place of the list, which begins at 0.
+    /// The row at an index of the list, from 0.
     #[inline]
     pub fn row_at(&self, at: usize) -> Row
         requires { at < length (rows_of self.now.rows.now) }
@@ -155,7 +155,7 @@ macro_rules! rows {
     };
 }
 
-/// Lines of spans: each map's line in braces, each span as its first place and its count.
+/// Lines of spans: each map's line in braces, each span as its first index and its count.
 #[macro_export]
 macro_rules! spans {
     ($({ $($first:literal $count:literal),* })*) => {

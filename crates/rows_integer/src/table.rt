@@ -1384,7 +1384,7 @@ pub static FLAT_ROWS: [FlatRow; 891] = rows! {
     { M0f38 F3 0xf6 No, Any Any, W1 None None 4, Gy Ey Absent Absent, 0 }
 };
 
-/// The rows of each cell, by map and opcode byte: the place of the first, and how many.
+/// The rows of each cell, by map and opcode byte: the index of the first, and how many.
 pub static SPANS: [[Span; 256]; 4] = spans! {
     {
         0 1, 1 3, 4 1, 5 3, 8 1, 9 3, 12 2, 14 2, 16 1, 17 3, 20 1, 21 3, 24 1, 25 3, 28 2, 0 0, 30 1, 31 3, 34 1, 35 3, 38 1, 39 3, 42 2, 44 2, 46 1,

@@ -780,7 +780,7 @@ pub static FLAT_ROWS: [FlatRow; 376] = rows! {
     { M0f3a P66 0xdf No, Any Any, None None None 7, Vx Wx Ib Absent, 0 }
 };
 
-/// The rows of each cell, by map and opcode byte: the place of the first, and how many.
+/// The rows of each cell, by map and opcode byte: the index of the first, and how many.
 pub static SPANS: [[Span; 256]; 4] = spans! {
     {
         0 0, 0 0, 0 0, 0 0, 0 0, 0 0, 0 0, 0 0, 0 0, 0 0, 0 0, 0 0, 0 0, 0 0, 0 0, 0 0, 0 0, 0 0, 0 0, 0 0, 0 0, 0 0, 0 0, 0 0, 0 0, 0 0, 0 0, 0 0,

@@ -290,7 +290,7 @@ pub static FLAT_ROWS: [FlatRow; 136] = rows! {
     { One Any 0xdf Stack, Fixed(0xf0) Any, None None None 7, St StI Absent Absent, 0 }
 };
 
-/// The rows of each cell, by map and opcode byte: the place of the first, and how many.
+/// The rows of each cell, by map and opcode byte: the index of the first, and how many.
 pub static SPANS: [[Span; 256]; 4] = spans! {
     {
         0 0, 0 0, 0 0, 0 0, 0 0, 0 0, 0 0, 0 0, 0 0, 0 0, 0 0, 0 0, 0 0, 0 0, 0 0, 0 0, 0 0, 0 0, 0 0, 0 0, 0 0, 0 0, 0 0, 0 0, 0 0, 0 0, 0 0, 0 0,

@@ -9,20 +9,20 @@ unfoldable digits_from : ℕ → ℕ → List (List ℕ)
 digits_from zero byte = []
 digits_from (suc count) byte = digit_pair byte ∷ digits_from count (suc byte)
 
--- each place of the table holds the digits of its number
+-- each position of the table holds the digits of its number
 pairs-are : pairs ≡ digits_from 256 0
 unfolding pairs digits_from digit_pair hex_digit
 pairs-are = refl
 
--- what stands at a place of the digits from a byte on
-digits-at : (count byte place : ℕ) (x : List ℕ) → slice_get (digits_from count byte) place ≡ Some x → x ≡ digit_pair (byte + place)
+-- what stands at a position of the digits from a byte on
+digits-at : (count byte position : ℕ) (x : List ℕ) → slice_get (digits_from count byte) position ≡ Some x → x ≡ digit_pair (byte + position)
 unfolding digits_from
-digits-at zero byte place x e = cc
+digits-at zero byte position x e = cc
 digits-at (suc count) byte zero x e = let same : byte + 0 ≡ byte = omega arith in rw same cc
-digits-at (suc count) byte (suc place) x e =
-    let same : byte + suc place ≡ suc byte + place = omega arith in rw same (digits-at count (suc byte) place x e)
+digits-at (suc count) byte (suc position) x e =
+    let same : byte + suc position ≡ suc byte + position = omega arith in rw same (digits-at count (suc byte) position x e)
 
--- what stands at a place of the table
+-- what stands at a position of the table
 pub pair-at : (byte : ℕ) (x : List ℕ) → slice_get pairs byte ≡ Some x → x ≡ digit_pair byte
 pair-at byte x e =
     let same : 0 + byte ≡ byte = omega arith in

@@ -29,27 +29,27 @@ pub ruleset digit_steps = (last_digits_none, last_digits_step)
 -- ---- the digits of a byte
 
 -- the digits of a byte of a number are two digits of the number
-pub high_digit : (n place : ℕ) → n / 2 ^ (8 * place) % 256 / 16 ≡ digit_at n (2 * place + 1)
+pub high_digit : (n position : ℕ) → n / 2 ^ (8 * position) % 256 / 16 ≡ digit_at n (2 * position + 1)
 unfolding digit_at
-high_digit n place =
-    let apart : 4 * (2 * place + 1) ≡ 8 * place + 4 = omega arith in
-    let split : n / 2 ^ (8 * place + 4) ≡ n / 2 ^ (8 * place) / 16 = rw (pow-add 2 (8 * place) 4) (sym (div-div-eq-div-mul n (2 ^ (8 * place)) 16)) in
+high_digit n position =
+    let apart : 4 * (2 * position + 1) ≡ 8 * position + 4 = omega arith in
+    let split : n / 2 ^ (8 * position + 4) ≡ n / 2 ^ (8 * position) / 16 = rw (pow-add 2 (8 * position) 4) (sym (div-div-eq-div-mul n (2 ^ (8 * position)) 16)) in
     rw (apart, split) (omega arith)
 
-pub low_digit : (n place : ℕ) → n / 2 ^ (8 * place) % 256 % 16 ≡ digit_at n (2 * place)
+pub low_digit : (n position : ℕ) → n / 2 ^ (8 * position) % 256 % 16 ≡ digit_at n (2 * position)
 unfolding digit_at
-low_digit n place = let apart : 4 * (2 * place) ≡ 8 * place = omega arith in rw apart (omega arith)
+low_digit n position = let apart : 4 * (2 * position) ≡ 8 * position = omega arith in rw apart (omega arith)
 
 -- the pair of a byte of a number holds them
-pub high_of_pair : (pair : List ℕ) (byte n place : ℕ) → pair ≡ digit_pair byte → byte ≡ n / 2 ^ (8 * place) % 256 → slice_index_or pair 0 0 ≡ hex_digit (digit_at n (2 * place + 1))
+pub high_of_pair : (pair : List ℕ) (byte n position : ℕ) → pair ≡ digit_pair byte → byte ≡ n / 2 ^ (8 * position) % 256 → slice_index_or pair 0 0 ≡ hex_digit (digit_at n (2 * position + 1))
 unfolding digit_pair
-high_of_pair pair byte n place pair_is byte_is =
-    ap (λ (xs : List ℕ). slice_index_or xs 0 0) pair_is ∙ ap (λ (k : ℕ). hex_digit (k / 16)) byte_is ∙ ap hex_digit (high_digit n place)
+high_of_pair pair byte n position pair_is byte_is =
+    ap (λ (xs : List ℕ). slice_index_or xs 0 0) pair_is ∙ ap (λ (k : ℕ). hex_digit (k / 16)) byte_is ∙ ap hex_digit (high_digit n position)
 
-pub low_of_pair : (pair : List ℕ) (byte n place : ℕ) → pair ≡ digit_pair byte → byte ≡ n / 2 ^ (8 * place) % 256 → slice_index_or pair 1 0 ≡ hex_digit (digit_at n (2 * place))
+pub low_of_pair : (pair : List ℕ) (byte n position : ℕ) → pair ≡ digit_pair byte → byte ≡ n / 2 ^ (8 * position) % 256 → slice_index_or pair 1 0 ≡ hex_digit (digit_at n (2 * position))
 unfolding digit_pair
-low_of_pair pair byte n place pair_is byte_is =
-    ap (λ (xs : List ℕ). slice_index_or xs 1 0) pair_is ∙ ap (λ (k : ℕ). hex_digit (k % 16)) byte_is ∙ ap hex_digit (low_digit n place)
+low_of_pair pair byte n position pair_is byte_is =
+    ap (λ (xs : List ℕ). slice_index_or xs 1 0) pair_is ∙ ap (λ (k : ℕ). hex_digit (k % 16)) byte_is ∙ ap hex_digit (low_digit n position)
 
 -- the first two of the last digits
 pub last_digits_byte : (left n : ℕ) → 0 < left → last_digits (2 * left) n ≡ hex_digit (digit_at n (2 * (left - 1) + 1)) ∷ hex_digit (digit_at n (2 * (left - 1))) ∷ last_digits (2 * (left - 1)) n

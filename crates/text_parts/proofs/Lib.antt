@@ -1,5 +1,6 @@
 pub mod Digits
 pub mod DigitPairs
+pub mod DigitValues
 pub mod Bounds
 pub mod AddressBounds
 pub mod LayoutBounds

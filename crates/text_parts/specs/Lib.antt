@@ -1,5 +1,6 @@
 pub mod Numbers
 pub mod DigitPairs
+pub mod DigitValues
 pub mod Registers
 pub mod Addresses
 pub mod PrefixWords

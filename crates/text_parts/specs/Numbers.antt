@@ -8,9 +8,9 @@ use Rattle.text_parts.specs.declared.style.Style.TheVariants.{Masm}
 unfoldable pub hex_digit : ℕ → ℕ
 hex_digit d = if nat_lt d 10 then 48 + d else 87 + d
 
--- the hexadecimal digit at a place, counted from the last
+-- the hexadecimal digit at a position, counted from the last
 unfoldable pub digit_at : ℕ → ℕ → ℕ
-digit_at n place = n / 2 ^ (4 * place) % 16
+digit_at n position = n / 2 ^ (4 * position) % 16
 
 -- the last k hexadecimal digits
 unfoldable pub last_digits : ℕ → ℕ → List ℕ

@@ -10,7 +10,7 @@ use Rattle.x86_values.specs.declared.Operand.TheVariants.{Mem as MemOperand}
 use Rattle.x86_values.specs.declared.Rep.{Rep}
 use Rattle.x86_values.specs.declared.Rep.TheVariants.{None as NoRep, F2, F3}
 use Rattle.x86_values.specs.declared.Instr.{Instr}
-use Rattle.x86_values.specs.Wrapping.{width}
+use Rattle.x86_values.specs.Comparing.{same_bits}
 use Rattle.row_types.specs.declared.Row.{Row}
 use Rattle.row_types.specs.declared.Size.{Size}
 use Rattle.row_types.specs.declared.Size.TheVariants.{None as NoSize, O16, O32, O32or64, O64, W0, W1}
@@ -57,7 +57,7 @@ sized_word letter size = letter ++ (size_digits size ++ codes " ")
 
 -- two sizes are not the same
 unfoldable pub differs : Bits → Bits → Bool
-differs a b = not (width a == width b)
+differs a b = not (same_bits a b)
 
 -- ---- the address size, which a register of an address shows
 

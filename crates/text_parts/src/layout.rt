@@ -13,7 +13,7 @@ use crate::numbers::append_number;
 use crate::prefix_words::{append_prefix_words, name_text, text_address_size};
 use crate::registers::append_register;
 use crate::style::Style;
-use crate::text::{TEXT_LEN, Text, append, append_few};
+use crate::text::{TEXT_LEN, append, append_few};
 use arrayvec::ArrayVec;
 use row_fit::tail_fits::kind_at;
 use row_meaning::row_memory_size;
@@ -295,19 +295,4 @@ pub fn append_bracket_layout<const N: usize>(
     ensures len { array_vec_len out.new ≤ array_vec_len out.old + TEXT_LEN }
 {
     append_short(out, style, bits, row, name, instr);
-}
-
-/// The text of an instruction of a row with this name, in a style with brackets.
-///
-/// At most one operand is memory or a far pointer, and the name has at most 20 bytes: then the
-/// text has at most `TEXT_LEN`.
-pub fn print_bracketed(style: Style, bits: Bits, row: &Row, name: &[u8], instr: &Instr) -> Text
-    requires sound { IsTrue (sound row.now) }
-    requires name { length name.now ≤ 20 }
-    requires operands { IsTrue (spec.has_one_long instr.now) }
-    ensures { result.items ≡ spec.bracket_layout style bits row.now name.now instr.now }
-{
-    let mut out = Text::new();
-    append_bracket_layout(&mut out, style, bits, row, name, instr);
-    out
 }

@@ -3,6 +3,7 @@
 
 pub mod addresses;
 pub mod digit_pairs;
+pub mod digit_values;
 pub mod laws;
 pub mod layout;
 pub mod numbers;

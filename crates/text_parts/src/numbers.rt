@@ -36,15 +36,15 @@ fn hex_digit(d: u8) -> u8
     }
 }
 
-/// The hexadecimal digit at a place, counted from the last.
+/// The hexadecimal digit at a position, counted from the last.
 #[inline]
 #[tactic(auto, unfolding(crate::specs::Numbers::digit_at))]
-fn digit_at(n: u64, place: u32) -> u8
-    requires { place < 16 }
-    ensures value { result ≡ spec.digit_at n place }
+fn digit_at(n: u64, position: u32) -> u8
+    requires { position < 16 }
+    ensures value { result ≡ spec.digit_at n position }
     ensures small { result < 16 }
 {
-    ((n >> (4 * place)) % 16) as u8
+    ((n >> (4 * position)) % 16) as u8
 }
 
 /// How many hexadecimal digits a number has without leading zeros.
@@ -58,13 +58,13 @@ fn digit_count(n: u64) -> u32
     ((67 - n.leading_zeros()) / 4).max(1)
 }
 
-/// The byte at a place, counted from the last.
+/// The byte at a position, counted from the last.
 #[inline]
-fn byte_at(n: u64, place: u32) -> u8
-    requires { place < 8 }
-    ensures { result ≡ n / 2 ^ (8 * place) % 256 }
+fn byte_at(n: u64, position: u32) -> u8
+    requires { position < 8 }
+    ensures { result ≡ n / 2 ^ (8 * position) % 256 }
 {
-    ((n >> (8 * place)) % 256) as u8
+    ((n >> (8 * position)) % 256) as u8
 }
 
 /// Appends the last hexadecimal digits of a number, two for each of so many bytes.

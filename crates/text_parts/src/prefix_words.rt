@@ -10,7 +10,7 @@ use crate::text::append_few;
 use arrayvec::ArrayVec;
 use instruction_parts::sizes::operand_size;
 use row_types::{Row, Size};
-use x86_values::{Bits, Instr, Operand, Register, Rep};
+use x86_values::{Bits, Instr, Operand, Register, Rep, same_bits};
 
 /// Appends the word of LOCK.
 #[inline]
@@ -92,12 +92,7 @@ fn append_sized_word<const N: usize>(out: &mut ArrayVec<u8, N>, letter: &[u8], s
 fn differs(a: Bits, b: Bits) -> bool
     ensures { result ≡ spec.differs a b }
 {
-    match (a, b) {
-        (Bits::B16, Bits::B16) => false,
-        (Bits::B32, Bits::B32) => false,
-        (Bits::B64, Bits::B64) => false,
-        _ => true,
-    }
+    !same_bits(a, b)
 }
 
 /// The address size of a text: the instruction's, else the mode's.

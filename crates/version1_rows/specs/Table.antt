@@ -6,9 +6,11 @@ use Rattle.row_lists.specs.Flat.{rows_of}
 use Rattle.version1_rows.specs.declared.table.TheConstants.{LEGACY_ROWS, VEX_ROWS}
 use Rattle.version1_rows.specs.declared.names.TheConstants.{NAMES}
 
+-- the legacy rows of version 1, by code
 unfoldable pub legacy_rows : List FlatRow
 legacy_rows = LEGACY_ROWS
 
+-- the VEX rows of version 1, which stand behind them
 unfoldable pub vex_rows : List FlatRow
 vex_rows = VEX_ROWS
 
