@@ -12,7 +12,7 @@ use Rattle.rows_integer.specs.Table.{table as integer_rows, flat_rows as integer
 use Rattle.rows_x87.specs.Table.{table as x87_rows, flat_rows as x87_flat}
 use Rattle.rows_sse.specs.Table.{table as sse_rows, flat_rows as sse_flat}
 use Rattle.rows_vex.specs.Table.{table as vex_rows, flat_rows as vex_flat}
-use Rattle.opcode_rows.specs.Table.{places, rows_in, table}
+use Rattle.opcode_rows.specs.Table.{spots, rows_in, table}
 use Rattle.branch_forms.specs.declared.branch.Action.TheVariants.{Jump, Call, Condition, Count}
 use Rattle.branch_forms.specs.Branches.{size_number, short_code, near_code, far_code}
 use Rattle.branch_forms.specs.Rows.{offset_row, memory_row}
@@ -91,31 +91,31 @@ row-of-size first count map opcode kind marks h n size fits =
 -- ---- the rows of the table
 
 short_conditions : rows_behind 152 48 table ≡ branch_rows One 0x70 Jb 20 48
-unfolding rows_behind branch_rows listed table rows_in places integer_rows integer_flat x87_rows x87_flat sse_rows sse_flat vex_rows vex_flat
+unfolding rows_behind branch_rows listed table rows_in spots integer_rows integer_flat x87_rows x87_flat sse_rows sse_flat vex_rows vex_flat
 short_conditions = refl
 
 near_conditions : rows_behind 992 48 table ≡ branch_rows M0f 0x80 Jz 20 48
-unfolding rows_behind branch_rows listed table rows_in places integer_rows integer_flat x87_rows x87_flat sse_rows sse_flat vex_rows vex_flat
+unfolding rows_behind branch_rows listed table rows_in spots integer_rows integer_flat x87_rows x87_flat sse_rows sse_flat vex_rows vex_flat
 near_conditions = refl
 
 counts : rows_behind 603 12 table ≡ branch_rows One 0xE0 Jb 22 12
-unfolding rows_behind branch_rows listed table rows_in places integer_rows integer_flat x87_rows x87_flat sse_rows sse_flat vex_rows vex_flat
+unfolding rows_behind branch_rows listed table rows_in spots integer_rows integer_flat x87_rows x87_flat sse_rows sse_flat vex_rows vex_flat
 counts = refl
 
 near_calls : rows_behind 621 3 table ≡ branch_rows One 0xE8 Jz 20 3
-unfolding rows_behind branch_rows listed table rows_in places integer_rows integer_flat x87_rows x87_flat sse_rows sse_flat vex_rows vex_flat
+unfolding rows_behind branch_rows listed table rows_in spots integer_rows integer_flat x87_rows x87_flat sse_rows sse_flat vex_rows vex_flat
 near_calls = refl
 
 near_jumps : rows_behind 624 3 table ≡ branch_rows One 0xE9 Jz 20 3
-unfolding rows_behind branch_rows listed table rows_in places integer_rows integer_flat x87_rows x87_flat sse_rows sse_flat vex_rows vex_flat
+unfolding rows_behind branch_rows listed table rows_in spots integer_rows integer_flat x87_rows x87_flat sse_rows sse_flat vex_rows vex_flat
 near_jumps = refl
 
 short_jumps : rows_behind 629 3 table ≡ branch_rows One 0xEB Jb 20 3
-unfolding rows_behind branch_rows listed table rows_in places integer_rows integer_flat x87_rows x87_flat sse_rows sse_flat vex_rows vex_flat
+unfolding rows_behind branch_rows listed table rows_in spots integer_rows integer_flat x87_rows x87_flat sse_rows sse_flat vex_rows vex_flat
 short_jumps = refl
 
 through_memory : slice_get table 685 ∷ slice_get table 691 ∷ [] ≡ Some (memory_row 2) ∷ Some (memory_row 4) ∷ []
-unfolding table rows_in places integer_rows integer_flat x87_rows x87_flat sse_rows sse_flat vex_rows vex_flat
+unfolding table rows_in spots integer_rows integer_flat x87_rows x87_flat sse_rows sse_flat vex_rows vex_flat
 through_memory = refl
 
 -- ---- by code

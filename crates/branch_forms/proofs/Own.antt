@@ -9,7 +9,7 @@ use Rattle.rows_integer.specs.Table.{table as integer_rows, flat_rows as integer
 use Rattle.rows_x87.specs.Table.{table as x87_rows, flat_rows as x87_flat}
 use Rattle.rows_sse.specs.Table.{table as sse_rows, flat_rows as sse_flat}
 use Rattle.rows_vex.specs.Table.{table as vex_rows, flat_rows as vex_flat}
-use Rattle.opcode_rows.specs.Table.{places, rows_in, table}
+use Rattle.opcode_rows.specs.Table.{spots, rows_in, table}
 use Rattle.branch_forms.specs.declared.branch.RelativeBranch.{RelativeBranch}
 use Rattle.branch_forms.specs.Branches.{size_of, short_action, near_action, branch_in, branch_of, size_number, short_code, near_code, own_code}
 use Rattle.branch_forms.proofs.Offsets.{branch-in-row, row-of-branch}
@@ -25,7 +25,7 @@ all_own first [] = true
 all_own first (row ∷ rows) = is_own first (branch_in row) && all_own (suc first) rows
 
 table-own : all_own 0 table ≡ true
-unfolding all_own branch_in size_of short_action near_action size_number short_code near_code table rows_in places integer_rows integer_flat x87_rows x87_flat sse_rows sse_flat vex_rows vex_flat
+unfolding all_own branch_in size_of short_action near_action size_number short_code near_code table rows_in spots integer_rows integer_flat x87_rows x87_flat sse_rows sse_flat vex_rows vex_flat
 table-own = refl
 
 own-at : (first : ℕ) (rows : List Row) (k : ℕ) (row : Row) → all_own first rows ≡ true → slice_get rows k ≡ Some row → is_own (first + k) (branch_in row) ≡ true

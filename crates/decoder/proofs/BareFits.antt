@@ -41,7 +41,7 @@ use Rattle.rows_integer.specs.Table.{table as integer_rows, flat_rows as integer
 use Rattle.rows_x87.specs.Table.{table as x87_rows, flat_rows as x87_flat}
 use Rattle.rows_sse.specs.Table.{table as sse_rows, flat_rows as sse_flat}
 use Rattle.rows_vex.specs.Table.{table as vex_rows, flat_rows as vex_flat}
-use Rattle.opcode_rows.specs.Table.{places, rows_in, table}
+use Rattle.opcode_rows.specs.Table.{spots, rows_in, table}
 use Rattle.decoder.specs.Bare.{bare_rows, is_bare_front, place_is_said, names_each_number, kind_is_bare, rule_is_bare, bytes_are_bare, opcode_is_bare, row_is_bare}
 use Rattle.decoder.proofs.InCell.{kind_is_vex}
 
@@ -502,7 +502,7 @@ bare-fits bits row state tail sib bare start small h =
 -- ---- the table
 
 by_rule : map row_is_bare table ≡ bare_rows
-unfolding row_is_bare kind_is_bare opcode_is_bare method_of bare_rows table rows_in places integer_rows integer_flat x87_rows x87_flat sse_rows sse_flat vex_rows vex_flat
+unfolding row_is_bare kind_is_bare opcode_is_bare method_of bare_rows table rows_in spots integer_rows integer_flat x87_rows x87_flat sse_rows sse_flat vex_rows vex_flat
 by_rule = refl
 
 same_flag : (a b : Bool) → Some a ≡ Some b → a ≡ b

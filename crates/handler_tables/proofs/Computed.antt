@@ -9,10 +9,10 @@ use Rattle.rows_integer.specs.Table.{table as integer_rows, flat_rows as integer
 use Rattle.rows_x87.specs.Table.{table as x87_rows, flat_rows as x87_flat}
 use Rattle.rows_sse.specs.Table.{table as sse_rows, flat_rows as sse_flat}
 use Rattle.rows_vex.specs.Table.{table as vex_rows, flat_rows as vex_flat}
-use Rattle.opcode_rows.specs.Table.{places, rows_in, table}
+use Rattle.opcode_rows.specs.Table.{spots, rows_in, table}
 use Rattle.handler_tables.specs.Nodes.{nodes2, nodes3, nodes4, nodes8, nodes256, splits2, splits3, splits4, splits8}
 use Rattle.handler_tables.proofs.Tree.{mask_of, is_mode_split, entry_ok, each_ok, split_ok, node_ok, ok, get_in, under, both_ok, cell_ok, kind_ok, root_entry, tables_ok}
 
 pub tables_fit : tables_ok table ≡ true
-unfolding prefix_holds w_holds rex_b_holds exists_in nth allows meets two three four reg_mask rm_mask marked_size size_mask masks size_number coded of_number at_opcode cands mask_at clear keep is_empty is_free all_free is_one below table rows_in places integer_rows integer_flat x87_rows x87_flat sse_rows sse_flat vex_rows vex_flat nodes2 nodes3 nodes4 nodes8 nodes256 splits2 splits3 splits4 splits8 mask_of is_mode_split entry_ok each_ok split_ok node_ok ok get_in under both_ok cell_ok kind_ok root_entry tables_ok
+unfolding prefix_holds w_holds rex_b_holds exists_in nth allows meets two three four reg_mask rm_mask marked_size size_mask masks size_number coded of_number at_opcode cands mask_at clear keep is_empty is_free all_free is_one below table rows_in spots integer_rows integer_flat x87_rows x87_flat sse_rows sse_flat vex_rows vex_flat nodes2 nodes3 nodes4 nodes8 nodes256 splits2 splits3 splits4 splits8 mask_of is_mode_split entry_ok each_ok split_ok node_ok ok get_in under both_ok cell_ok kind_ok root_entry tables_ok
 tables_fit = refl

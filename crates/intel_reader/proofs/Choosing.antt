@@ -126,17 +126,17 @@ length-order : length order ≡ ROWS
 unfolding order
 length-order = refl
 
-pub place_below : (k x : ℕ) → slice_get order k ≡ Some x → k < ROWS
-place_below k x h = omega (some_below order k x h, length-order, arith)
+pub index_below : (k x : ℕ) → slice_get order k ≡ Some x → k < ROWS
+index_below k x h = omega (some_below order k x h, length-order, arith)
 
 pub code_below : (bits : Bits) (ip : ℕ) (text : List ℕ) (b : Assembly) → IsCandidate bits ip text b → b.instr.code.0 < ROWS
 code_below bits ip text b k = (row_there bits (wrapped bits ip) b.bytes b.instr k.spelled).2.below
 
-same_place : (o : Option ℕ) (x y : ℕ) → o ≡ Some x → o ≡ Some y → x ≡ y
-same_place o x y e f = cc
+same_index : (o : Option ℕ) (x y : ℕ) → o ≡ Some x → o ≡ Some y → x ≡ y
+same_index o x y e f = cc
 
-pub code_at_place : (k x y : ℕ) → slice_get order k ≡ Some x → slice_get order k ≡ Some y → x ≡ y
-code_at_place k x y e f = same_place (slice_get order k) x y e f
+pub code_at_index : (k x y : ℕ) → slice_get order k ≡ Some x → slice_get order k ≡ Some y → x ≡ y
+code_at_index k x y e f = same_index (slice_get order k) x y e f
 
 shown_counter : (a : Bits) (word : List ℕ) → word ≡ counter_jump a → is_counter_word word ≡ true
 unfolding is_counter_word
@@ -162,10 +162,10 @@ last_or_below (suc k) (suc n) h = elim (last_or_below k n (omega arith)) [
   | inr below ↦ inr (omega (arith, below))
 ]
 
--- one place more was gone over
-pub place_led : (bits : Bits) (ip : ℕ) (text : List ℕ) (led after : Option Found) (b : Assembly) (place k : ℕ) → IsProgress bits ip text led after → (k < place → slice_get order k ≡ Some b.instr.code.0 → Leads led b)
-    → (slice_get order place ≡ Some b.instr.code.0 → Leads after b) → k < suc place → slice_get order k ≡ Some b.instr.code.0 → Leads after b
-place_led bits ip text led after b place k p earlier here lt at = elim (last_or_below k place lt) [
+-- one index more was gone over
+pub index_led : (bits : Bits) (ip : ℕ) (text : List ℕ) (led after : Option Found) (b : Assembly) (index k : ℕ) → IsProgress bits ip text led after → (k < index → slice_get order k ≡ Some b.instr.code.0 → Leads led b)
+    → (slice_get order index ≡ Some b.instr.code.0 → Leads after b) → k < suc index → slice_get order k ≡ Some b.instr.code.0 → Leads after b
+index_led bits ip text led after b index k p earlier here lt at = elim (last_or_below k index lt) [
   | inl e ↦ here (ap (slice_get order) (sym e) ∙ at)
   | inr below ↦ p.kept b (earlier below at)
 ]

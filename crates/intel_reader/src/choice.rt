@@ -24,7 +24,7 @@ use instruction_parts::sizes::exists_in;
 use intel_text::print;
 use intel_words::reading::read_words;
 use intel_words::words::IntelWords;
-use name_index::{code_at, places_of};
+use name_index::{code_at, indices_of};
 use opcode_rows::{ROWS, name, row_of, well_formed};
 use row_types::Row;
 use std::cmp::Ordering;
@@ -241,26 +241,26 @@ fn with_named(
     }
 }
 
-/// What was found, with the candidates of the code at a place in the order by names.
-fn with_place(
+/// What was found, with the candidates of the code at an index in the order by names.
+fn with_index(
     best: Option<Found>,
     bits: Bits,
     ip: u64,
     text: &[u8],
     words: &IntelWords,
     word: &[u8],
-    place: u16,
+    index: u16,
 ) -> Option<Found>
     requires read { (b : Assembly) (row : Row) → IsCandidate bits ip text.now b → slice_get table b.instr.code.0 ≡ Some row
         → words.now ≡ words_of bits row (name_of b.instr.code.0) b.instr }
     requires named { (b : Assembly) → IsCandidate bits ip text.now b → word.now ≡ name_text bits (name_of b.instr.code.0) b.instr }
     ensures progress { IsProgress bits ip text.now best result }
-    ensures covers { (b : Assembly) → IsCandidate bits ip text.now b → slice_get order place ≡ Some b.instr.code.0 → Leads result b }
+    ensures covers { (b : Assembly) → IsCandidate bits ip text.now b → slice_get order index ≡ Some b.instr.code.0 → Leads result b }
 {
-    if place >= ROWS {
+    if index >= ROWS {
         return best;
     }
-    let code = code_at(place);
+    let code = code_at(index);
     if code.0 >= ROWS {
         return best;
     }
@@ -283,10 +283,10 @@ fn with_name(
     ensures progress { IsProgress bits ip text.now best result }
     ensures covers { (b : Assembly) → IsCandidate bits ip text.now b → name_of b.instr.code.0 ≡ name.now → Leads result b }
 {
-    let places = places_of(name);
+    let indices = indices_of(name);
     let mut led = best;
-    for place in places.first..places.end {
-        led = with_place(led, bits, ip, text, words, word, place);
+    for index in indices.first..indices.end {
+        led = with_index(led, bits, ip, text, words, word, index);
     }
     led
 }

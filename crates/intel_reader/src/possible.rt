@@ -5,7 +5,6 @@ ghost use Rattle.x86_values.specs.declared.Bits.TheVariants.{B64};
 ghost use Rattle.x86_values.specs.declared.DispSize.TheVariants.{D0};
 ghost use Rattle.instruction_parts.specs.Kinds.{file_of};
 ghost use Rattle.row_fit.specs.Fits as kinds;
-ghost use Rattle.x86_values.specs.Comparing as comparing;
 ghost use Rattle.plain_spelling.specs.Forms.{is_variant_of};
 ghost use Rattle.intel_reader.specs.Candidate as candidates;
 ghost use Rattle.intel_reader.specs.Possible as spec;
@@ -18,7 +17,7 @@ use plain_spelling::addresses::{displacement_suits, has_address_size, told_size,
 use plain_spelling::front::{asks_66, asks_rex_w, plain_size};
 use row_fit::tail_fits::kind_at;
 use row_types::{Place, Row};
-use x86_values::{Bits, DispSize, Register};
+use x86_values::{Bits, DispSize, Register, same_bits};
 
 /// Whether the words of an operand are of a variant that a kind of this method allows.
 #[tactic(auto, unfolding(plain_spelling::specs::Forms::is_variant_of, plain_spelling::specs::Forms::is_allowed_in, crate::specs::Candidate::operand_from, crate::specs::Candidate::is_near_method))]
@@ -175,18 +174,6 @@ pub fn has_size(row: &Row, words: &IntelWords) -> bool
     ensures { result ≡ spec.has_size row.now words.now }
 {
     has_address(words) || has_address_mark(row)
-}
-
-/// Whether two sizes are one.
-fn same_bits(a: Bits, b: Bits) -> bool
-    ensures { result ≡ comparing.same_bits a b }
-{
-    match (a, b) {
-        (Bits::B16, Bits::B16) => true,
-        (Bits::B32, Bits::B32) => true,
-        (Bits::B64, Bits::B64) => true,
-        _ => false,
-    }
 }
 
 /// Whether an address size agrees with what an address shows.

@@ -7,7 +7,7 @@ use Rattle.opcode_rows.specs.declared.spots.TheConstants.{ROWS}
 use Rattle.opcode_rows.specs.Table.{names, name_of}
 use Rattle.name_index.specs.Buckets.{bucket_from, bucket_of, order, starts}
 
--- ---- a code at one of some places
+-- ---- a code at one of some indices
 
 unfoldable is_at : Option ℕ → ℕ → Bool
 is_at None code = false
@@ -18,22 +18,22 @@ unfolding is_at
 at_is None code h = cc
 at_is (Some x) code h = ap (λ (n : ℕ). Some n) (eqb-true x code h)
 
--- the code stands at one of n places from this on
+-- the code stands at one of n indices from this on
 unfoldable stands : ℕ → ℕ → ℕ → Bool
-stands code place zero = false
-stands code place (suc n) = is_at (slice_get order place) code || stands code (suc place) n
+stands code index zero = false
+stands code index (suc n) = is_at (slice_get order index) code || stands code (suc index) n
 
 abbrev IsAmong : ℕ → ℕ → ℕ → Type 0
 IsAmong code first end = (k : ℕ) × (first ≤ k) × (k < end) × (slice_get order k ≡ Some code)
 
-among : (code place n : ℕ) → stands code place n ≡ true → IsAmong code place (place + n)
+among : (code index n : ℕ) → stands code index n ≡ true → IsAmong code index (index + n)
 unfolding stands
-among code place zero h = cc
-among code place (suc n) h = elim (or_cases (is_at (slice_get order place) code) (stands code (suc place) n) h) [
-  | inl here ↦ (place, (omega arith), (omega arith), at_is (slice_get order place) code here)
-  | inr there ↦ (let k = among code (suc place) n there in
-      let le : suc place ≤ k.0 = k.1 in
-      let lt : k.0 < suc place + n = k.2 in
+among code index zero h = cc
+among code index (suc n) h = elim (or_cases (is_at (slice_get order index) code) (stands code (suc index) n) h) [
+  | inl here ↦ (index, (omega arith), (omega arith), at_is (slice_get order index) code here)
+  | inr there ↦ (let k = among code (suc index) n there in
+      let le : suc index ≤ k.0 = k.1 in
+      let lt : k.0 < suc index + n = k.2 in
       (k.0, omega arith, omega arith, k.3))
 ]
 

@@ -15,6 +15,6 @@ bucket_of name = bucket_from 0 name
 unfoldable pub order : List ℕ
 order = ORDER
 
--- the place in the order at which each bucket begins, and that behind the last
+-- the index in the order at which each bucket begins, and that behind the last
 unfoldable pub starts : List ℕ
 starts = STARTS

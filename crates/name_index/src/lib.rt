@@ -11,9 +11,9 @@ use buckets::{ORDER, STARTS};
 use opcode_rows::ROWS;
 use x86_values::Code;
 
-/// Places in the order of the codes by their names: those from the first up to the end, which is not one of them.
+/// Indices in the order of the codes by their names: those from the first up to the end, which is not one of them.
 #[derive(Clone, Copy, PartialEq, Eq, Debug)]
-pub struct Places {
+pub struct Indices {
     pub first: u16,
     pub end: u16,
 }
@@ -38,21 +38,21 @@ fn start_at(bucket: u16) -> u16
     STARTS[bucket as usize]
 }
 
-/// Places among which is that of each code whose row has this name, a mnemonic in lower case; there are few others among them.
-pub fn places_of(name: &[u8]) -> Places
+/// Indices among which is that of each code whose row has this name, a mnemonic in lower case; there are few others among them.
+pub fn indices_of(name: &[u8]) -> Indices
     ensures { (code : ℕ) → code < ROWS → name_of code ≡ name.now → (k : ℕ) × (result.first ≤ k) × (k < result.end) × (slice_get order k ≡ Some code) }
 {
     let bucket = bucket(name);
-    Places {
+    Indices {
         first: start_at(bucket),
         end: start_at(bucket + 1),
     }
 }
 
-/// The code at a place.
-pub fn code_at(place: u16) -> Code
-    requires { place < ROWS }
-    ensures { slice_get order place ≡ Some result.0 }
+/// The code at an index.
+pub fn code_at(index: u16) -> Code
+    requires { index < ROWS }
+    ensures { slice_get order index ≡ Some result.0 }
 {
-    Code(ORDER[place as usize])
+    Code(ORDER[index as usize])
 }

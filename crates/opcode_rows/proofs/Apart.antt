@@ -12,10 +12,10 @@ use Rattle.rows_integer.specs.Table.{table as integer_rows, flat_rows as integer
 use Rattle.rows_x87.specs.Table.{table as x87_rows, flat_rows as x87_flat}
 use Rattle.rows_sse.specs.Table.{table as sse_rows, flat_rows as sse_flat}
 use Rattle.rows_vex.specs.Table.{table as vex_rows, flat_rows as vex_flat}
-use Rattle.opcode_rows.specs.Table.{places, rows_in, table}
+use Rattle.opcode_rows.specs.Table.{spots, rows_in, table}
 
 is_apart : table_apart table ≡ true
-unfolding prefix_holds w_holds rex_b_holds exists_in nth allows meets two three four reg_mask rm_mask marked_size size_mask masks coded of_number at_opcode cands below disjoint mask_apart masks_apart apart_from all_apart cell_apart kind_apart table_apart table rows_in places integer_rows integer_flat x87_rows x87_flat sse_rows sse_flat vex_rows vex_flat
+unfolding prefix_holds w_holds rex_b_holds exists_in nth allows meets two three four reg_mask rm_mask marked_size size_mask masks coded of_number at_opcode cands below disjoint mask_apart masks_apart apart_from all_apart cell_apart kind_apart table_apart table rows_in spots integer_rows integer_flat x87_rows x87_flat sse_rows sse_flat vex_rows vex_flat
 is_apart = refl
 
 pub rows_apart : (bits : Bits) (f : Fields) → f.opcode < 256 → AreApart bits table f

@@ -8,7 +8,7 @@ use Rattle.opcode_rows.specs.Table.{names, name_of}
 use Rattle.opcode_rows.specs.ByName.{count_of, rows_named, rows_named_before}
 use Rattle.opcode_rows.proofs.Words.{length-names}
 
--- what a test of the name of a code says of the code's place in the list
+-- what a test of the name of a code says of the code's index in the list
 test-at : (k : ℕ) (name : List ℕ) (b : Bool) → bytes_eq (name_of k) name ≡ b → bytes_eq (get_or names k []) name ≡ b
 unfolding name_of
 test-at k name b h = ap (λ y. bytes_eq y name) (sym (unwrap_or-slice_get names k [])) ∙ h

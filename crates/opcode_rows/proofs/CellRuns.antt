@@ -15,15 +15,15 @@ use Rattle.rows_x87.specs.Table.{table as x87_rows, flat_rows as x87_flat}
 use Rattle.rows_sse.specs.Table.{table as sse_rows, flat_rows as sse_flat}
 use Rattle.rows_vex.specs.Table.{table as vex_rows, flat_rows as vex_flat}
 use Rattle.opcode_rows.specs.declared.spots.TheConstants.{ROWS}
-use Rattle.opcode_rows.specs.Table.{places, rows_in, table, cell, legacy_spans, vex_spans, spans_of}
+use Rattle.opcode_rows.specs.Table.{spots, rows_in, table, cell, legacy_spans, vex_spans, spans_of}
 use Rattle.opcode_rows.proofs.JoinFacts.{length-table}
 
 legacy_runs : spans_fit kind.Legacy legacy_spans table ≡ true
-unfolding coded of_number at_opcode below is_run run_at line_runs spans_fit span_of legacy_spans table rows_in places integer_rows integer_flat x87_rows x87_flat sse_rows sse_flat vex_rows vex_flat
+unfolding coded of_number at_opcode below is_run run_at line_runs spans_fit span_of legacy_spans table rows_in spots integer_rows integer_flat x87_rows x87_flat sse_rows sse_flat vex_rows vex_flat
 legacy_runs = refl
 
 vex_runs : spans_fit kind.Vex vex_spans table ≡ true
-unfolding coded of_number at_opcode below is_run run_at line_runs spans_fit span_of vex_spans table rows_in places integer_rows integer_flat x87_rows x87_flat sse_rows sse_flat vex_rows vex_flat
+unfolding coded of_number at_opcode below is_run run_at line_runs spans_fit span_of vex_spans table rows_in spots integer_rows integer_flat x87_rows x87_flat sse_rows sse_flat vex_rows vex_flat
 vex_runs = refl
 
 runs_of : (k : RowKind) → spans_fit k (spans_of k) table ≡ true

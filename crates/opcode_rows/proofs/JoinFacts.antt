@@ -1,4 +1,4 @@
--- Each place has its row.
+-- Each spot has its row.
 use Rattle.std.proofs.Common.{◌≡◌, ℕ, zero, suc, Bool, true, ◌&&◌, is_some, List, [], ◌∷◌, length, slice_get, ◌<◌, refl, ap, sym, ◌∙◌, arith}
 use Rattle.std.specs.Prelude.{Option, Some, None}
 use Rattle.std.proofs.lemmas.Option.{slice_get_within}
@@ -11,14 +11,14 @@ use Rattle.rows_vex.specs.Table.{table as vex_rows, flat_rows as vex_flat}
 use Rattle.opcode_rows.specs.declared.spots.Spot.{Spot}
 use Rattle.opcode_rows.specs.declared.spots.Part.{Part}
 use Rattle.opcode_rows.specs.declared.spots.TheConstants.{ROWS}
-use Rattle.opcode_rows.specs.Table.{part_table, places, with_item, rows_in, table}
+use Rattle.opcode_rows.specs.Table.{part_table, spots, with_item, rows_in, table}
 
 unfoldable all_there : List Spot → Bool
 all_there [] = true
 all_there (s ∷ ss) = is_some (slice_get (part_table s.part) s.at) && all_there ss
 
-are_there : all_there places ≡ true
-unfolding all_there places integer_rows integer_flat x87_rows x87_flat sse_rows sse_flat vex_rows vex_flat
+are_there : all_there spots ≡ true
+unfolding all_there spots integer_rows integer_flat x87_rows x87_flat sse_rows sse_flat vex_rows vex_flat
 are_there = refl
 
 some-known : (o : Option Row) → is_some o ≡ true → (r : Row) × (o ≡ Some r)
@@ -51,17 +51,17 @@ length-rows_in (x ∷ ss) h =
     let here = some-known (slice_get (part_table x.part) x.at) (and-left (is_some (slice_get (part_table x.part) x.at)) (all_there ss) h) in
     rw here.1 (ap suc (length-rows_in ss (and-right (is_some (slice_get (part_table x.part) x.at)) (all_there ss) h)))
 
-pub length-places : length places ≡ ROWS
-unfolding places
-length-places = refl
+pub length-spots : length spots ≡ ROWS
+unfolding spots
+length-spots = refl
 
 pub length-table : length table ≡ ROWS
 unfolding table
-length-table = length-rows_in places are_there ∙ length-places
+length-table = length-rows_in spots are_there ∙ length-spots
 
-pub row-there : (k : ℕ) (s : Spot) → slice_get places k ≡ Some s → (r : Row) × (slice_get (part_table s.part) s.at ≡ Some r) × (slice_get table k ≡ Some r)
+pub row-there : (k : ℕ) (s : Spot) → slice_get spots k ≡ Some s → (r : Row) × (slice_get (part_table s.part) s.at ≡ Some r) × (slice_get table k ≡ Some r)
 unfolding table
-row-there k s at = rows_in-get places k s are_there at
+row-there k s at = rows_in-get spots k s are_there at
 
 -- ---- a test of every row of every part is one of every row of the table
 
@@ -89,8 +89,8 @@ pub in_each_part : (p : Row → Bool) → ((part : Part) → all_rows p (part_ta
     → (code : ℕ) (row : Row) → slice_get table code ≡ Some row → p row ≡ true
 in_each_part p h code row at =
     let lt : code < length table = slice_get_within table code row at in
-    let lt' : code < length places = omega (arith, lt, length-table, length-places) in
-    let s = slice_get-known places code lt' in
+    let lt' : code < length spots = omega (arith, lt, length-table, length-spots) in
+    let s = slice_get-known spots code lt' in
     let t = row-there code s.0 s.1 in
     let same : t.0 ≡ row = some-inj t.0 row (sym t.2 ∙ at) in
     ap p (sym same) ∙ all_rows-at p (part_table s.0.part) s.0.at t.0 (h s.0.part) t.1

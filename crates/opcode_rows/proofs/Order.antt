@@ -1,4 +1,4 @@
--- The places of each part's rows ascend by one, and the opcode bytes of the rows ascend.
+-- The indices of each part's rows ascend by one, and the opcode bytes of the rows ascend.
 use Rattle.std.proofs.Common.{◌≡◌, ℕ, zero, suc, Bool, true, false, ◌&&◌, List, [], ◌∷◌, length, take, drop, slice_get, ◌<◌, ◌≤◌, ◌+◌, ◌-◌, refl, ap, sym, ◌∙◌, arith, inl, inr, eqb-true}
 use Rattle.std.specs.Prelude.{Some, ◌==◌, nat_le}
 use Rattle.std.proofs.lemmas.Option.{slice_get_within}
@@ -14,7 +14,7 @@ use Rattle.opcode_rows.specs.declared.spots.Spot.{Spot}
 use Rattle.opcode_rows.specs.declared.spots.Part.{Part}
 use Rattle.opcode_rows.specs.declared.spots.Part.TheVariants as part
 use Rattle.opcode_rows.specs.declared.spots.TheConstants.{VERSION1_ROWS}
-use Rattle.opcode_rows.specs.Table.{part_table, places, rows_in, table}
+use Rattle.opcode_rows.specs.Table.{part_table, spots, rows_in, table}
 use Rattle.opcode_rows.specs.Order.{opcode_number, LiesAt, HasOneCode}
 use Rattle.opcode_rows.specs.Versions.{AreOfOneVersion}
 use Rattle.opcode_rows.proofs.JoinFacts.{row-there}
@@ -44,23 +44,23 @@ is_part-same part.Sse part.Sse h = refl
 is_part-same part.Vex part.Vex h = refl
 is_part-same _ _ h = cc
 
--- a place of the part is the next one
+-- an index of the part is the next one
 is_next : Bool → ℕ → ℕ → Bool
 is_next true at n = at == n
 is_next false at n = true
 
--- the next place behind it
+-- the next index behind it
 behind : Bool → ℕ → ℕ
 behind true n = suc n
 behind false n = n
 
--- the places of the part are n and those behind it, one after the other, up to end
+-- the indices of the part are n and those behind it, one after the other, up to end
 counts_up : Part → ℕ → ℕ → List Spot → Bool
 counts_up p n end [] = n == end
 counts_up p n end (s ∷ ss) = is_next (is_part p s.part) s.at n && counts_up p (behind (is_part p s.part) n) end ss
 
-each-counts_up : (p : Part) → counts_up p 0 (length (part_table p)) places ≡ true
-unfolding is_part is_next behind counts_up places integer_rows integer_flat x87_rows x87_flat sse_rows sse_flat vex_rows vex_flat
+each-counts_up : (p : Part) → counts_up p 0 (length (part_table p)) spots ≡ true
+unfolding is_part is_next behind counts_up spots integer_rows integer_flat x87_rows x87_flat sse_rows sse_flat vex_rows vex_flat
 each-counts_up part.Integer = refl
 each-counts_up part.X87 = refl
 each-counts_up part.Sse = refl
@@ -91,7 +91,7 @@ unfolding behind
 behind-other true n e = cc
 behind-other false n e = refl
 
--- the front place of the part
+-- the front index of the part
 front-at : (p : Part) (n end at : ℕ) (s : Spot) (ss : List Spot) → counts_up p n end (s ∷ ss) ≡ true → Some s ≡ Some (spot p at) → at ≡ n
 unfolding counts_up
 front-at p n end at s ss h e =
@@ -106,7 +106,7 @@ unfolding counts_up
 rest-counts_up p n end s ss h =
     let b : Bool = is_part p s.part in and-right (is_next b s.at n) (counts_up p (behind b n) end ss) h
 
--- no place of the part lies below n
+-- no index of the part lies below n
 counts_up-from : (p : Part) (n end : ℕ) (ss : List Spot) → counts_up p n end ss ≡ true → (k at : ℕ) → slice_get ss k ≡ Some (spot p at) → n ≤ at
 counts_up-from p n end [] h k at e = cc
 counts_up-from p n end (s ∷ ss) h zero at e = let here = front-at p n end at s ss h e in omega arith
@@ -115,7 +115,7 @@ counts_up-from p n end (s ∷ ss) h (suc k) at e =
     let le = behind-le (is_part p s.part) n in
     omega arith
 
--- places of the part ascend
+-- indices of the part ascend
 counts_up-ordered : (p : Part) (n end : ℕ) (ss : List Spot) → counts_up p n end ss ≡ true → (j k a b : ℕ) → j < k →
     slice_get ss j ≡ Some (spot p a) → slice_get ss k ≡ Some (spot p b) → a < b
 counts_up-ordered p n end [] h j k a b lt at at' = cc
@@ -141,7 +141,7 @@ counts_up-end : (p : Part) (n end : ℕ) → counts_up p n end [] ≡ true → n
 unfolding counts_up
 counts_up-end p n end h = eqb-true n end h
 
--- each place from n on, up to end, is there
+-- each index from n on, up to end, is there
 counts_up-found : (p : Part) (n end : ℕ) (ss : List Spot) → counts_up p n end ss ≡ true → (at : ℕ) → n ≤ at → at < end → (k : ℕ) × (slice_get ss k ≡ Some (spot p at))
 counts_up-found p n end [] h at low high = let e = counts_up-end p n end h in absurd (omega arith)
 counts_up-found p n end (s ∷ ss) h at low high =
@@ -159,8 +159,8 @@ counts_up-found p n end (s ∷ ss) h at low high =
       | inr other ↦ (let same = behind-other (is_part p s.part) n other in later (omega arith))
     ]
 
-pub places-ordered : (j k : ℕ) (p : Part) (a b : ℕ) → j < k → LiesAt p a j → LiesAt p b k → a < b
-places-ordered j k p a b lt at at' = counts_up-ordered p 0 (length (part_table p)) places (each-counts_up p) j k a b lt at at'
+pub spots-ordered : (j k : ℕ) (p : Part) (a b : ℕ) → j < k → LiesAt p a j → LiesAt p b k → a < b
+spots-ordered j k p a b lt at at' = counts_up-ordered p 0 (length (part_table p)) spots (each-counts_up p) j k a b lt at at'
 
 same_row : (q r : Row) → Some q ≡ Some r → q ≡ r
 same_row q r e = cc
@@ -168,10 +168,10 @@ same_row q r e = cc
 one_place : (p : Part) (at j k : ℕ) → LiesAt p at j → LiesAt p at k → j ≡ k
 one_place p at j k h h' =
     elim (cases_lt j k) [
-      | inl lt ↦ (let bad = places-ordered j k p at at lt h h' in absurd (omega arith))
+      | inl lt ↦ (let bad = spots-ordered j k p at at lt h h' in absurd (omega arith))
       | inr le ↦ (
           elim (cases_lt k j) [
-            | inl lt ↦ (let bad = places-ordered k j p at at lt h' h in absurd (omega arith))
+            | inl lt ↦ (let bad = spots-ordered k j p at at lt h' h in absurd (omega arith))
             | inr ge ↦ omega arith
           ])
     ]
@@ -180,7 +180,7 @@ one_place p at j k h h' =
 pub one_code : (p : Part) (at : ℕ) (row : Row) → slice_get (part_table p) at ≡ Some row → HasOneCode p at row
 one_code p at row there =
     let lt : at < length (part_table p) = slice_get_within (part_table p) at row there in
-    let found = counts_up-found p 0 (length (part_table p)) places (each-counts_up p) at (omega arith) lt in
+    let found = counts_up-found p 0 (length (part_table p)) spots (each-counts_up p) at (omega arith) lt in
     let t = row-there found.0 (spot p at) found.1 in
     let same : t.0 ≡ row = same_row t.0 row (sym t.1 ∙ there) in
     record {
@@ -198,11 +198,11 @@ ascends low [] = true
 ascends low (r ∷ rs) = nat_le low (opcode_number r) && ascends (opcode_number r) rs
 
 version1-ascends : ascends 0 (take VERSION1_ROWS table) ≡ true
-unfolding ascends table rows_in places integer_rows integer_flat x87_rows x87_flat sse_rows sse_flat vex_rows vex_flat
+unfolding ascends table rows_in spots integer_rows integer_flat x87_rows x87_flat sse_rows sse_flat vex_rows vex_flat
 version1-ascends = refl
 
 version2-ascends : ascends 0 (drop VERSION1_ROWS table) ≡ true
-unfolding ascends table rows_in places integer_rows integer_flat x87_rows x87_flat sse_rows sse_flat vex_rows vex_flat
+unfolding ascends table rows_in spots integer_rows integer_flat x87_rows x87_flat sse_rows sse_flat vex_rows vex_flat
 version2-ascends = refl
 
 ascends-from : (low : ℕ) (rows : List Row) → ascends low rows ≡ true → (k : ℕ) (r : Row) → slice_get rows k ≡ Some r → low ≤ opcode_number r

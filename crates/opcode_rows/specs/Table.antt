@@ -25,8 +25,8 @@ part_table part.Sse = sse_rows
 part_table part.Vex = vex_rows
 
 -- where the rows lie, by code
-unfoldable pub places : List Spot
-places = SPOTS
+unfoldable pub spots : List Spot
+spots = SPOTS
 
 -- the rows with one in front, where there is one
 abbrev pub with_item : Option Row → List Row → List Row
@@ -40,8 +40,8 @@ rows_in (s ∷ ss) = with_item (slice_get (part_table s.part) s.at) (rows_in ss)
 
 -- the table
 unfoldable pub table : List Row
-unfolding rows_in places
-table = rows_in places
+unfolding rows_in spots
+table = rows_in spots
 
 -- the rows that stand at an opcode byte of a kind and map, in their order
 abbrev pub cell : RowKind → Map → ℕ → List Row

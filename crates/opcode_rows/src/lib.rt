@@ -13,7 +13,7 @@ mod spots;
 
 ghost use Rattle.std.specs.Prelude.{◌≡◌, ◌+◌, ◌<◌, ◌≤◌, ◌↔◌, length, map, slice_get, Some, IfSome, IsNone};
 ghost use Rattle.row_lists.specs.Cells.{map_index, span_of, IsRunOf};
-ghost use Rattle.opcode_rows.specs.Table.{part_table, places, table, name_of, cell, spans_of};
+ghost use Rattle.opcode_rows.specs.Table.{part_table, spots, table, name_of, cell, spans_of};
 ghost use Rattle.opcode_rows.specs.Table as spec;
 
 pub use by_name::code_of;
@@ -129,7 +129,7 @@ fn added_names() -> &'static [&'static str; ADDED_ROWS as usize]
 #[inline]
 fn spot_at(code: u16) -> Spot
     requires { code < ROWS }
-    ensures { slice_get places code ≡ Some result }
+    ensures { slice_get spots code ≡ Some result }
 {
     SPOTS[code as usize]
 }

@@ -9,7 +9,7 @@ use Rattle.rows_integer.specs.Table.{table as integer_rows, flat_rows as integer
 use Rattle.rows_x87.specs.Table.{table as x87_rows, flat_rows as x87_flat}
 use Rattle.rows_sse.specs.Table.{table as sse_rows, flat_rows as sse_flat}
 use Rattle.rows_vex.specs.Table.{table as vex_rows, flat_rows as vex_flat}
-use Rattle.opcode_rows.specs.Table.{places, rows_in, table}
+use Rattle.opcode_rows.specs.Table.{spots, rows_in, table}
 use Rattle.operand_info.specs.declared.columns.Access.{Access}
 use Rattle.operand_info.specs.declared.columns.Access.TheVariants.{None as NoAccess, Read, Write, ReadWrite}
 use Rattle.operand_info.specs.declared.columns.Columns.{Columns}
@@ -57,7 +57,7 @@ reads_constants line row =
     read_if_constant row 0 line.op0 && (read_if_constant row 1 line.op1 && (read_if_constant row 2 line.op2 && read_if_constant row 3 line.op3))
 
 constants_read : all_lines reads_constants columns table ≡ true
-unfolding all_lines reads_constants read_if_constant is_constant method_of columns table rows_in places integer_rows integer_flat x87_rows x87_flat sse_rows sse_flat vex_rows vex_flat
+unfolding all_lines reads_constants read_if_constant is_constant method_of columns table rows_in spots integer_rows integer_flat x87_rows x87_flat sse_rows sse_flat vex_rows vex_flat
 constants_read = refl
 
 read-of_test : (row : Row) (n : ℕ) (access : Access) → read_if_constant row n access ≡ true → IsTrue (is_constant (method_of (kind_at row n))) → access ≡ Read
@@ -113,7 +113,7 @@ unfoldable target_stands : Columns → Row → Bool
 target_stands line row = same (has_direct_target row) (goes_to_operand line.flow row)
 
 targets_stand : all_lines target_stands columns table ≡ true
-unfolding all_lines target_stands has_direct_target goes_to_operand has_operand columns table rows_in places integer_rows integer_flat x87_rows x87_flat sse_rows sse_flat vex_rows vex_flat
+unfolding all_lines target_stands has_direct_target goes_to_operand has_operand columns table rows_in spots integer_rows integer_flat x87_rows x87_flat sse_rows sse_flat vex_rows vex_flat
 targets_stand = refl
 
 pub target-of_flow : (code : ℕ) (row : Row) → slice_get table code ≡ Some row → has_direct_target row ≡ goes_to_operand (flow_of code) row

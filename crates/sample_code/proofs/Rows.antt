@@ -21,7 +21,7 @@ use Rattle.rows_integer.specs.Table.{table as integer_rows, flat_rows as integer
 use Rattle.rows_x87.specs.Table.{table as x87_rows, flat_rows as x87_flat}
 use Rattle.rows_sse.specs.Table.{table as sse_rows, flat_rows as sse_flat}
 use Rattle.rows_vex.specs.Table.{table as vex_rows, flat_rows as vex_flat}
-use Rattle.opcode_rows.specs.Table.{places, rows_in, table}
+use Rattle.opcode_rows.specs.Table.{spots, rows_in, table}
 
 -- a legacy row of the one-byte map
 abbrev one_byte : Class → ℕ → Plus → ModRmRule → Size → ℕ → OpKind → OpKind → ℕ → Row
@@ -82,7 +82,7 @@ add_row = record {
 rows_are : slice_get table 290 ∷ slice_get table 275 ∷ slice_get table 346 ∷ slice_get table 278 ∷ slice_get table 169 ∷ slice_get table 623
     ∷ slice_get table 279 ∷ slice_get table 1496 ∷ []
     ≡ Some nop_row ∷ Some store_row ∷ Some number_row ∷ Some load_row ∷ Some branch_row ∷ Some call_row ∷ Some wide_load_row ∷ Some add_row ∷ []
-unfolding table rows_in places integer_rows integer_flat x87_rows x87_flat sse_rows sse_flat vex_rows vex_flat
+unfolding table rows_in spots integer_rows integer_flat x87_rows x87_flat sse_rows sse_flat vex_rows vex_flat
 rows_are = refl
 
 pub at-nop : slice_get table 290 ≡ Some nop_row

@@ -4,4 +4,4 @@ use Rattle.name_index.proofs.code_at.Goals as goal
 
 pub returns : goal.returns
 unfolding order
-returns c = slice_get-get_or order c.args.place _ c.requires
+returns c = slice_get-get_or order c.args.index _ c.requires

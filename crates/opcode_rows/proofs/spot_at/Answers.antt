@@ -1,7 +1,7 @@
 use Rattle.std.proofs.lemmas.Option.{slice_get-get_or}
-use Rattle.opcode_rows.specs.Table.{places}
+use Rattle.opcode_rows.specs.Table.{spots}
 use Rattle.opcode_rows.proofs.spot_at.Goals as goal
 
 pub returns : goal.returns
-unfolding places
-returns c = slice_get-get_or places c.args.code _ c.requires
+unfolding spots
+returns c = slice_get-get_or spots c.args.code _ c.requires

@@ -4,8 +4,8 @@ use Rattle.intel_reader.specs.Assembled.{Assembly, IsCandidate}
 use Rattle.intel_reader.specs.Choice.{Leads, IsProgress}
 use Rattle.intel_reader.proofs.choice.with_name.Given as goal
 
-abbrev pub invariant-loop-place : goal.invariant-loop-place
-invariant-loop-place l = record {
+abbrev pub invariant-loop-index : goal.invariant-loop-index
+invariant-loop-index l = record {
   progress : IsProgress l.bits l.ip l.text l.fn.best l.led;
-  led : (b : Assembly) → IsCandidate l.bits l.ip l.text b → (k : ℕ) → l.initial.place ≤ k → k < l.place → slice_get order k ≡ Some b.instr.code.0 → Leads l.led b;
+  led : (b : Assembly) → IsCandidate l.bits l.ip l.text b → (k : ℕ) → l.initial.index ≤ k → k < l.index → slice_get order k ≡ Some b.instr.code.0 → Leads l.led b;
 }

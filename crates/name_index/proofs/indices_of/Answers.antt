@@ -1,7 +1,7 @@
 use Rattle.std.proofs.Common.{◌≡◌, ◌+◌, Some, ap, sym, ◌∙◌, slice_get}
 use Rattle.name_index.specs.Buckets.{bucket_of, starts}
 use Rattle.name_index.proofs.Complete.{complete}
-use Rattle.name_index.proofs.places_of.Goals as goal
+use Rattle.name_index.proofs.indices_of.Goals as goal
 
 pub returns : goal.returns
 returns c = λ code lt e.
