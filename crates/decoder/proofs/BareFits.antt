@@ -6,13 +6,9 @@ use Rattle.std.proofs.lemmas.Option.{slice_get-map, get_or_from_slice_get}
 use borrow.Author.Tests.{ltb-true}
 use Rattle.x86_values.specs.declared.Bits.{Bits}
 use Rattle.x86_values.specs.declared.Bits.TheVariants.{B16, B32, B64}
-use Rattle.x86_values.specs.declared.Rep.{Rep}
-use Rattle.x86_values.specs.declared.Rep.TheVariants as rep
 use Rattle.row_types.specs.declared.Row.{Row}
 use Rattle.row_types.specs.declared.Map.{Map}
 use Rattle.row_types.specs.declared.Map.TheVariants as maps
-use Rattle.row_types.specs.declared.Class.{Class}
-use Rattle.row_types.specs.declared.Class.TheVariants as class
 use Rattle.row_types.specs.declared.Plus.{Plus}
 use Rattle.row_types.specs.declared.Plus.TheVariants as plus
 use Rattle.row_types.specs.declared.ModRmRule.{ModRmRule}
@@ -31,10 +27,11 @@ use Rattle.instruction_parts.specs.Counting.{is_64, rex_bit}
 use Rattle.instruction_parts.specs.Kinds.{method_of}
 use Rattle.instruction_parts.specs.Sizes.{exists_in, is_lockable, is_vex_row, operand_size, state_size, bit_w}
 use Rattle.instruction_parts.proofs.Tests.{and_left, and_right, not_true, equal_from}
-use Rattle.row_fit.specs.Fits.{same_map, vex_class_fits, w_fits, l_fits, is_vvvv, is_memory_method, reg_field, is_map_one, is_no_repeat, is_repeat_f3, is_repeat_f2, legacy_class_fits, class_fits, size_fits, takes_w_as_size, sizes_fit, vvvv_fits, opcode_allows, opcode_fits, modrm_rule_fits, place_allows, place_of, place_fits, opcode_and_modrm_fit, is_gather, reads_by, kind_at, lock_fits, register_fits, destination_fits, gather_fits, nop_fits, registers_fit, state_fits}
+use Rattle.row_fit.specs.Fits.{same_map, vex_class_fits, w_fits, l_fits, is_vvvv, is_memory_method, reg_field, is_map_one, legacy_class_fits, class_fits, size_fits, takes_w_as_size, sizes_fit, vvvv_fits, opcode_allows, opcode_fits, modrm_rule_fits, place_allows, place_of, place_fits, opcode_and_modrm_fit, is_gather, reads_by, kind_at, lock_fits, register_fits, destination_fits, gather_fits, nop_fits, registers_fit, state_fits}
 use Rattle.row_fit.specs.Sound.{has_modrm_rule}
 use Rattle.row_fields.specs.declared.Fields.{Fields}
 use Rattle.row_fields.specs.Holds.{is_vex, map_number, stands_in, opcode_holds, prefix_of, class_allows, prefix_holds, byte_of, byte_holds, place_holds, reg_holds, rm_holds, size_allows, size_holds, w_holds, l_holds, rex_b_holds, holds}
+use Rattle.unique_spelling.proofs.Parts.{legacy-class}
 use Rattle.unique_spelling.specs.FieldsOf.{fields_of, first_byte, repeat_of, size66_of, w_of}
 use Rattle.modrm_sib.specs.Parts.{modrm_of_byte, lead_fits, parts_fit, modrm_in}
 use Rattle.rows_integer.specs.Table.{table as integer_rows, flat_rows as integer_flat}
@@ -229,50 +226,6 @@ no-nop false m o is = refl
 
 -- ---- class and size
 
-np : (s : Bool) (r : Rep) → (prefix_of r s == 0) ≡ true → (not s && is_no_repeat r) ≡ true
-np false rep.None h = refl
-np true rep.None h = cc
-np s rep.F2 h = cc
-np s rep.F3 h = cc
-
-nfx : (s : Bool) (r : Rep) → nat_lt (prefix_of r s) 2 ≡ true → is_no_repeat r ≡ true
-nfx s rep.None h = refl
-nfx s rep.F2 h = cc
-nfx s rep.F3 h = cc
-
-nf3 : (s : Bool) (r : Rep) → not (prefix_of r s == 2) ≡ true → not (is_repeat_f3 r) ≡ true
-nf3 s rep.None h = refl
-nf3 s rep.F2 h = refl
-nf3 s rep.F3 h = cc
-
-p66 : (s : Bool) (r : Rep) → (prefix_of r s == 1) ≡ true → (s && is_no_repeat r) ≡ true
-p66 true rep.None h = refl
-p66 false rep.None h = cc
-p66 s rep.F2 h = cc
-p66 s rep.F3 h = cc
-
-f3 : (s : Bool) (r : Rep) → (prefix_of r s == 2) ≡ true → is_repeat_f3 r ≡ true
-f3 true rep.None h = cc
-f3 false rep.None h = cc
-f3 s rep.F2 h = cc
-f3 s rep.F3 h = refl
-
-f2 : (s : Bool) (r : Rep) → (prefix_of r s == 3) ≡ true → is_repeat_f2 r ≡ true
-f2 true rep.None h = cc
-f2 false rep.None h = cc
-f2 s rep.F2 h = refl
-f2 s rep.F3 h = cc
-
-legacy-class : (c : Class) (state : PrefixState) → class_allows c (prefix_of state.rep state.size66) ≡ true → legacy_class_fits c state ≡ true
-unfolding legacy_class_fits
-legacy-class class.Any state h = refl
-legacy-class class.Np state h = np state.size66 state.rep h
-legacy-class class.Nfx state h = nfx state.size66 state.rep h
-legacy-class class.Nf3 state h = nf3 state.size66 state.rep h
-legacy-class class.P66 state h = p66 state.size66 state.rep h
-legacy-class class.F3 state h = f3 state.size66 state.rep h
-legacy-class class.F2 state h = f2 state.size66 state.rep h
-
 size-fits : (bits : Bits) (z : Size) (n : Bits) (w : Bool) → takes_w_as_size z ≡ false → size_allows z n ≡ true → size_fits bits z n w ≡ true
 unfolding size_fits
 size-fits bits size.None n w free h = refl
@@ -434,7 +387,7 @@ front bits state h =
 class-of : (row : Row) (state : PrefixState) (v : Option Vex) → v ≡ None
     → class_allows row.class (prefix_of (repeat_of v state.rep) (size66_of v state.size66)) ≡ true
     → (elim v [ None ↦ legacy_class_fits row.class state | Some v ↦ vex_class_fits row.class v ]) ≡ true
-class-of row state None e h = legacy-class row.class state h
+class-of row state None e h = legacy-class row.class state ∙ h
 class-of row state (Some v) e h = cc
 
 sized : (bits : Bits) (row : Row) (state : PrefixState) (v : Option Vex) → v ≡ None → (is_64 bits || is_none state.rex) ≡ true

@@ -1,9 +1,9 @@
 -- The reading at a decoder's position.
 use Rattle.std.proofs.Common.{◌≡◌, ℕ, ◌<◌, true, List, [], ◌∷◌, length, Result, Ok, Err, refl, ap, ◌∙◌, subst, arith, inl}
 use Rattle.x86_values.specs.declared.Bits.{Bits}
-use Rattle.x86_values.specs.declared.Bits.TheVariants.{B16, B32, B64}
 use Rattle.x86_values.specs.declared.Decoded.{Decoded}
 use Rattle.x86_values.specs.Wrapping.{wrapped}
+use Rattle.x86_values.proofs.Wrapped.{twice}
 use Rattle.row_types.specs.declared.Row.{Row}
 use Rattle.instruction_parts.specs.Front.{prefix_run, lead_front, long_front, within_15, front_of, is_open}
 use Rattle.row_relation.specs.Spells.{Reading, IsReading}
@@ -11,16 +11,10 @@ use Rattle.decoder.specs.declared.DecodeError.{DecodeError}
 use Rattle.decoder.specs.declared.DecodeError.TheVariants.{Invalid, TooShort}
 use Rattle.decoder.specs.Answer.{reading_of}
 
--- a wrapped address stays itself
-wrapped_twice : (bits : Bits) (x : ℕ) → wrapped bits (wrapped bits x) ≡ wrapped bits x
-wrapped_twice B16 x = omega arith
-wrapped_twice B32 x = omega arith
-wrapped_twice B64 x = omega arith
-
 -- a reading of the rest, at its wrapped address
 pub reading_at : (table : List Row) (bits : Bits) (address x : ℕ) (rest bytes : List ℕ) (r : Reading) → address ≡ wrapped bits x → rest ≡ bytes → IsReading table bits (wrapped bits address) rest r → IsReading table bits (wrapped bits x) bytes r
 reading_at table bits address x rest bytes r a e h =
-    let same : wrapped bits address ≡ wrapped bits x = ap (wrapped bits) a ∙ wrapped_twice bits x in
+    let same : wrapped bits address ≡ wrapped bits x = ap (wrapped bits) a ∙ twice bits x in
     subst (λ (n : ℕ). IsReading table bits n bytes r) same (subst (λ (xs : List ℕ). IsReading table bits (wrapped bits address) xs r) e h)
 
 no_bytes_are_open : (bits : Bits) → is_open (front_of bits []) ≡ true

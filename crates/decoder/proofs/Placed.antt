@@ -2,8 +2,6 @@
 use Rattle.std.proofs.Common.{◌≡◌, ℕ, ◌<◌, true, ◌&&◌, not, List, ◌∷◌, length, Option, Some, None, refl, arith, is_some, length-append}
 use Rattle.x86_values.specs.declared.Bits.{Bits}
 use Rattle.row_types.specs.declared.Row.{Row}
-use Rattle.row_types.specs.declared.Map.{Map}
-use Rattle.row_types.specs.declared.Map.TheVariants.{One, M0f, M0f38, M0f3a}
 use Rattle.instruction_parts.specs.declared.spelling.Vex.{Vex}
 use Rattle.instruction_parts.specs.declared.spelling.ModRm.{ModRm}
 use Rattle.instruction_parts.specs.declared.spelling.Spelling.{Spelling}
@@ -12,26 +10,9 @@ use Rattle.instruction_parts.specs.Bytes.{front_bytes, tail_bytes, bytes_of, spe
 use Rattle.row_fit.specs.Fits.{fits, vex_fits, opcode_is_kept, opcode_fits, opcode_and_modrm_fit, modrm_rule_fits, place_fits, same_map, is_vex_of_mode}
 use Rattle.instruction_parts.specs.Front.{forbids_vex}
 use Rattle.row_fit.proofs.FitLaws.{all_conditions}
+use Rattle.row_fit.proofs.SameMap.{same_map-is}
 use Rattle.decoder.specs.Cells.{IsPlaced}
 use Rattle.instruction_parts.proofs.Tests.{and_left, and_right, not_true}
-
-same_map_is : (a b : Map) → same_map a b ≡ true → a ≡ b
-same_map_is One One h = refl
-same_map_is M0f M0f h = refl
-same_map_is M0f38 M0f38 h = refl
-same_map_is M0f3a M0f3a h = refl
-same_map_is One M0f h = cc
-same_map_is One M0f38 h = cc
-same_map_is One M0f3a h = cc
-same_map_is M0f One h = cc
-same_map_is M0f M0f38 h = cc
-same_map_is M0f M0f3a h = cc
-same_map_is M0f38 One h = cc
-same_map_is M0f38 M0f h = cc
-same_map_is M0f38 M0f3a h = cc
-same_map_is M0f3a One h = cc
-same_map_is M0f3a M0f h = cc
-same_map_is M0f3a M0f38 h = cc
 
 vex_placed : (bits : Bits) (row : Row) (prefixes : List ℕ) (vex : Option Vex) (opcode : ℕ) (m : Option ModRm) → vex_fits bits row prefixes vex opcode m ≡ true → (is_vex_row row ≡ is_some vex) × (spelled_map row.map vex ≡ row.map)
 unfolding vex_fits
@@ -40,7 +21,7 @@ vex_placed bits row prefixes None opcode m h =
 vex_placed bits row prefixes (Some v) opcode m h =
     let rest = not (forbids_vex bits prefixes) && is_vex_of_mode bits v in (
       and_left (is_vex_row row) (same_map v.map row.map && rest) h,
-      same_map_is v.map row.map (and_left (same_map v.map row.map) rest (and_right (is_vex_row row) (same_map v.map row.map && rest) h)),
+      same_map-is v.map row.map (and_left (same_map v.map row.map) rest (and_right (is_vex_row row) (same_map v.map row.map && rest) h)),
     )
 
 opcode_placed : (row : Row) (opcode : ℕ) (m : Option ModRm) → opcode_and_modrm_fit row opcode m ≡ true → opcode_fits row opcode ≡ true

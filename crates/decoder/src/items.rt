@@ -52,6 +52,7 @@ impl<'a> Iterator for Items<'a> {
 
     ghost remaining = { λ s. at_most (length s.bytes.now) };
 
+    /// The next item: an instruction, or a single byte where none stands.
     fn next(&mut self) -> Option<Item<'a>> {
         if self.bytes.is_empty() {
             return None;
