@@ -11,11 +11,12 @@ use Rattle.feddurzai_c.specs.declared.flat.FlatOperand.{FlatOperand}
 use Rattle.feddurzai_c.specs.declared.flat.FlatInstr.{FlatInstr}
 use Rattle.feddurzai_c.specs.Numbers.{class_number, disp_number, lock_number, rep_number, prefix_number, asize_number}
 
--- the class and the number of a register that may be absent
+-- the class of a register that may be absent: 0 without one
 abbrev pub base_class : Option Register → ℕ
 base_class None = 0
 base_class (Some r) = class_number r
 
+-- its number: 0 without one
 abbrev pub base_number : Option Register → ℕ
 base_number None = 0
 base_number (Some r) = number r
