@@ -9,7 +9,7 @@ use crate::code_lines::code_of_lines;
 use crate::laws::texts_have_one_answer;
 use byte_ports::{Sink, Source};
 use run_parts::laws::told_bytes_are_read;
-use run_parts::{ReadError, Status, WHOLE_LIMIT, put_all, read_all};
+use run_parts::{Status, put_all, read_whole};
 use std::alloc::Global;
 use x86_values::Bits;
 
@@ -38,15 +38,9 @@ pub fn assemble_code<S: Source, K: Sink>(
 {
     told_bytes_are_read();
     texts_have_one_answer();
-    let input = match read_all(alloc, source, WHOLE_LIMIT) {
+    let input = match read_whole(alloc, source) {
         Ok(input) => input,
-        Err(ReadError::Fault) => return Status::ReadFault,
-        Err(ReadError::Memory) => return Status::Memory,
-        Err(ReadError::TooLarge) => {
-            return Status::TooLarge {
-                limit: u64::from(WHOLE_LIMIT),
-            };
-        }
+        Err(unread) => return unread,
     };
     let code = match code_of_lines(alloc, bits, base, &input) {
         Ok(code) => code,

@@ -1,7 +1,6 @@
 //! Moving blocks by a plan of them.
 
 ghost use Rattle.std.specs.Prelude.{◌≡◌, length};
-ghost use Rattle.move_goals.specs.Items as old;
 ghost use Rattle.block_encoder.specs.ByPlan.{IsPlanAnswer};
 ghost use Rattle.block_encoder.specs.Written.{first_end_past};
 
@@ -10,22 +9,10 @@ use crate::laws_below::laws_below;
 use crate::moved::MovedBlocks;
 use crate::write::write_blocks;
 use branch_sizes::Plan;
-use move_goals::Placed;
+use move_goals::{Placed, passes};
 use move_layout::{BlockEnd, lay_out};
 use std::alloc::Global;
 use x86_values::Bits;
-
-/// Whether an address lies behind the address space of a mode.
-fn passes(bits: Bits, end: u128) -> bool
-    ensures { result ≡ old.passes bits end }
-{
-    let width = match bits {
-        Bits::B16 => 16,
-        Bits::B32 => 32,
-        Bits::B64 => 64,
-    };
-    end > 1 << width
-}
 
 /// The first new end that passes the address space of the mode.
 fn first_new_pass(bits: Bits, ends: &[BlockEnd]) -> Option<u128>

@@ -71,25 +71,26 @@ carried before now own own' r le = elim r [
 ]
 
 -- at a listed call the count of faults rises
-pub listed_call_counts : {T E : Type 0} (inner : ℕ) (calls : List ℕ) (made : ℕ) (result : Result T E) →
-    fails_next calls made ≡ true →
-    HasCause (faults_with inner calls made) (faults_with inner calls (counted made)) result
+pub listed_call_counts : {T E : Type 0} (inner : ℕ) (calls : List ℕ) (made made' : ℕ) (result : Result T E) →
+    made' ≡ counted made → fails_next calls made ≡ true →
+    HasCause (faults_with inner calls made) (faults_with inner calls made') result
 unfolding faults_with
-listed_call_counts inner calls made result h =
+listed_call_counts inner calls made made' result e h =
     let next = fails_next-lt calls made h in
     let lt = next.0 in
     let more = listed-lt calls made next.1 in
-    rw (counted-next made lt) record { later = omega arith; failed = λ _. rose (inner + listed_so_far calls made) (inner + listed_so_far calls (made + 1)) (omega arith) }
+    rw (e, counted-next made lt) record { later = omega arith; failed = λ _. rose (inner + listed_so_far calls made) (inner + listed_so_far calls (made + 1)) (omega arith) }
 
 -- at any other call the inner port's faults are counted
-pub inner_call_counts : {T E : Type 0} (before now : ℕ) (calls : List ℕ) (made : ℕ) (result : Result T E) →
-    made ≤ last_count → HasCause before now result →
-    HasCause (faults_with before calls made) (faults_with now calls (counted made)) result
+pub inner_call_counts : {T E : Type 0} (before now : ℕ) (calls : List ℕ) (made made' : ℕ) (result : Result T E) →
+    made' ≡ counted made → made ≤ made' → HasCause before now result →
+    HasCause (faults_with before calls made) (faults_with now calls made') result
 unfolding faults_with
-inner_call_counts before now calls made result le cause =
+inner_call_counts before now calls made made' result e rises cause =
+    let le : made ≤ last_count = omega (arith, e) in
     let more = counted-ge calls made le in
     let later = cause.later in
-    record {
+    rw e record {
       later = omega arith;
       failed = λ err. carried before now (listed_so_far calls made) (listed_so_far calls (counted made)) (cause.failed err) more;
     }

@@ -158,14 +158,24 @@ can_fill-none state place count e h =
     let P : Option LiveBlock → Type 0 = λ found. IsTrue (holds found count) in
     let no : false ≡ true = subst P e h in cc
 
--- what a fill leaves
-pub refilled-found : (base max_blocks capacity place index : ℕ) (bytes bytes' content : List ℕ) (spans : List Span) (state : RegionState) (span : Span) →
+-- what fits the live block fits the stretch that was found
+pub fits-found : (base max_blocks capacity place index count : ℕ) (bytes : List ℕ) (spans : List Span) (state : RegionState) (span : Span) →
     state_of base max_blocks bytes spans ≡ state → IsKept base max_blocks bytes spans capacity → IsAt base place spans index →
-    span ≡ get_or spans index span → length content ≤ span.len →
+    span ≡ get_or spans index span → IsTrue (can_fill state place count) → count ≤ span.len
+fits-found base max_blocks capacity place index count bytes spans state span e kept at read h =
+    let P : Span → Type 0 = λ x. count ≤ x.len in
+    subst P (sym (get_or_read spans index span at.inside read nowhere))
+    (can_fill-some state place count _ (live_block-at base max_blocks capacity bytes spans state place index e kept at) h)
+
+-- what a fill leaves
+refilled-found : (base max_blocks capacity place index : ℕ) (bytes bytes' content : List ℕ) (spans : List Span) (state : RegionState) (span : Span) →
+    state_of base max_blocks bytes spans ≡ state → IsKept base max_blocks bytes spans capacity → IsAt base place spans index →
+    span ≡ get_or spans index span → IsTrue (can_fill state place (length content)) →
     bytes' ≡ overwritten bytes span.start (content ++ replicate (span.len - length content) int3) →
     IsKept base max_blocks bytes' spans capacity × (state_of base max_blocks bytes' spans ≡ filled state place content)
 unfolding filled
-refilled-found base max_blocks capacity place index bytes bytes' content spans state span e kept at read fits b =
+refilled-found base max_blocks capacity place index bytes bytes' content spans state span e kept at read can b =
+    let fits = fits-found base max_blocks capacity place index (length content) bytes spans state span e kept at read can in
     let same = get_or_read spans index span at.inside read nowhere in
     let inside = found-inside base max_blocks capacity place index bytes spans span kept at read in
     let rest = replicate (span.len - length content) int3 in
@@ -196,14 +206,15 @@ refilled-found base max_blocks capacity place index bytes bytes' content spans s
           ap (with_live base max_blocks (length bytes)) left.blocks),
     )
 
--- what fits the live block fits the stretch that was found
-pub fits-found : (base max_blocks capacity place index count : ℕ) (bytes : List ℕ) (spans : List Span) (state : RegionState) (span : Span) →
-    state_of base max_blocks bytes spans ≡ state → IsKept base max_blocks bytes spans capacity → IsAt base place spans index →
-    span ≡ get_or spans index span → IsTrue (can_fill state place count) → count ≤ span.len
-fits-found base max_blocks capacity place index count bytes spans state span e kept at read h =
-    let P : Span → Type 0 = λ x. count ≤ x.len in
-    subst P (sym (get_or_read spans index span at.inside read nowhere))
-    (can_fill-some state place count _ (live_block-at base max_blocks capacity bytes spans state place index e kept at) h)
+-- the same, where bytes and stretches are equal
+pub refilled-same : (base max_blocks capacity place index : ℕ) (bytes old new bytes' content : List ℕ) (spans spans' : List Span) (state : RegionState) (span : Span) →
+    state_of base max_blocks bytes spans ≡ state → IsKept base max_blocks bytes spans capacity → spans' ≡ spans → IsAt base place spans' index →
+    span ≡ get_or spans index span → IsTrue (can_fill state place (length content)) → old ≡ bytes →
+    new ≡ overwritten old span.start (content ++ replicate (span.len - length content) int3) → bytes' ≡ new →
+    IsKept base max_blocks bytes' spans capacity × (state_of base max_blocks bytes' spans ≡ filled state place content)
+refilled-same base max_blocks capacity place index bytes old new bytes' content spans spans' state span e kept s at read can o n b =
+    refilled-found base max_blocks capacity place index bytes bytes' content spans state span e kept (at-same base place spans' spans index s at) read can
+    (b ∙ n ∙ ap (λ xs. overwritten xs span.start (content ++ replicate (span.len - length content) int3)) o)
 
 -- the length of the stretch that was found
 pub len-found : (base max_blocks capacity place index : ℕ) (bytes : List ℕ) (spans : List Span) (state : RegionState) (span : Span) →

@@ -11,22 +11,23 @@ use Rattle.feddurzai_c.specs.declared.flat.FlatOperand.{FlatOperand}
 use Rattle.feddurzai_c.specs.declared.flat.FlatInstr.{FlatInstr}
 use Rattle.feddurzai_c.specs.Numbers.{class_number, disp_number, lock_number, rep_number, prefix_number, asize_number}
 
--- the class and the number of a register that may be absent
+-- the class of a register that may be absent: 0 without one
 abbrev pub base_class : Option Register → ℕ
 base_class None = 0
 base_class (Some r) = class_number r
 
+-- its number: 0 without one
 abbrev pub base_number : Option Register → ℕ
 base_number None = 0
 base_number (Some r) = number r
 
--- an operand: its kind, what it holds, and 0 in the fields that its kind does not use
-unfoldable pub flat_operand : Operand → FlatOperand
-flat_operand Absent = record {
+-- an operand of a kind, with 0 in all other fields
+abbrev pub bare_operand : ℕ → FlatOperand
+bare_operand kind = record {
   value = 0;
   offset = 0;
   selector = 0;
-  kind = 0;
+  kind = kind;
   reg_class = 0;
   reg_number = 0;
   index_class = 0;
@@ -34,18 +35,11 @@ flat_operand Absent = record {
   scale = 0;
   disp_bits = 0;
 }
-flat_operand (Reg r) = record {
-  value = 0;
-  offset = 0;
-  selector = 0;
-  kind = 1;
-  reg_class = class_number r;
-  reg_number = number r;
-  index_class = 0;
-  index_number = 0;
-  scale = 0;
-  disp_bits = 0;
-}
+
+-- an operand: its kind, what it holds, and 0 in the fields that its kind does not use
+unfoldable pub flat_operand : Operand → FlatOperand
+flat_operand Absent = bare_operand 0
+flat_operand (Reg r) = record (bare_operand 1) { reg_class = class_number r; reg_number = number r }
 flat_operand (Memory m) = record {
   value = m.disp;
   offset = 0;
@@ -58,42 +52,9 @@ flat_operand (Memory m) = record {
   scale = m.scale;
   disp_bits = disp_number m.disp_size;
 }
-flat_operand (Imm x) = record {
-  value = x;
-  offset = 0;
-  selector = 0;
-  kind = 3;
-  reg_class = 0;
-  reg_number = 0;
-  index_class = 0;
-  index_number = 0;
-  scale = 0;
-  disp_bits = 0;
-}
-flat_operand (Near x) = record {
-  value = x;
-  offset = 0;
-  selector = 0;
-  kind = 4;
-  reg_class = 0;
-  reg_number = 0;
-  index_class = 0;
-  index_number = 0;
-  scale = 0;
-  disp_bits = 0;
-}
-flat_operand (Far s x) = record {
-  value = 0;
-  offset = x;
-  selector = s;
-  kind = 5;
-  reg_class = 0;
-  reg_number = 0;
-  index_class = 0;
-  index_number = 0;
-  scale = 0;
-  disp_bits = 0;
-}
+flat_operand (Imm x) = record (bare_operand 3) { value = x }
+flat_operand (Near x) = record (bare_operand 4) { value = x }
+flat_operand (Far s x) = record (bare_operand 5) { offset = x; selector = s }
 
 -- an instruction of so many bytes
 unfoldable pub flat_instr : Instr → ℕ → FlatInstr

@@ -31,11 +31,12 @@ abbrev pub graph_said : Result Graph Refusal → ℤ
 graph_said (Ok graph) = pos (length graph.starts)
 graph_said (Err why) = refused why
 
--- the rooms begin with the lists, and are unchanged behind them and after a refusal
+-- the room of the starts begins with them, and is unchanged behind them and after a refusal
 abbrev pub starts_left : List ℕ → Result Graph Refusal → List ℕ
 starts_left old (Ok graph) = graph.starts ++ drop (length graph.starts) old
 starts_left old (Err why) = old
 
+-- the room of the leaders, likewise
 abbrev pub leaders_left : List ℕ → Result Graph Refusal → List ℕ
 leaders_left old (Ok graph) = graph.leaders ++ drop (length graph.leaders) old
 leaders_left old (Err why) = old

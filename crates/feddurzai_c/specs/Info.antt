@@ -36,11 +36,12 @@ access_number Read = 1
 access_number Write = 2
 access_number ReadWrite = 3
 
--- a value that may be absent: whether it is there, and itself or 0
+-- whether a value is there that may be absent
 abbrev pub presence : Option ℕ → ℕ
 presence None = 0
 presence (Some x) = 1
 
+-- the value itself, or 0
 abbrev pub value_or_zero : Option ℕ → ℕ
 value_or_zero None = 0
 value_or_zero (Some x) = x
@@ -78,11 +79,12 @@ unfoldable pub info_of : Option Instr → Result FlatInfo Refusal
 info_of None = Err NoInstr
 info_of (Some i) = if is_well_formed i then Ok (flat_info i) else Err Form
 
--- what is said, and what the struct has then
+-- what is said of an instruction
 abbrev pub info_said : Result FlatInfo Refusal → ℤ
 info_said (Ok told) = pos 0
 info_said (Err why) = refused why
 
+-- what the struct has then: it is unchanged after a refusal
 abbrev pub info_left : FlatInfo → Result FlatInfo Refusal → FlatInfo
 info_left old (Ok told) = told
 info_left old (Err why) = old

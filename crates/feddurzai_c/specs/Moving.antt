@@ -156,11 +156,12 @@ abbrev pub moved_said : Result MovedCode MoveRefusal → ℤ
 moved_said (Ok m) = pos 0
 moved_said (Err e) = refused (refusal_of e)
 
--- the rooms begin with the moved bytes and the map, and are unchanged behind them and after a refusal
+-- the room of the bytes begins with the moved ones, and is unchanged behind them and after a refusal
 abbrev pub bytes_left : List ℕ → Result MovedCode MoveRefusal → List ℕ
 bytes_left old (Ok m) = m.moved.bytes ++ drop (length m.moved.bytes) old
 bytes_left old (Err e) = old
 
+-- the room of the map, likewise
 abbrev pub entries_left : List FlatMoved → Result MovedCode MoveRefusal → List FlatMoved
 entries_left old (Ok m) = m.entries.items ++ drop (length m.entries.items) old
 entries_left old (Err e) = old

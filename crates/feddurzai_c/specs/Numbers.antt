@@ -15,12 +15,13 @@ use Rattle.text_parts.specs.declared.style.Style.TheVariants.{Intel, Att, Masm}
 
 -- ---- modes and sizes: their numbers of bits
 
--- the number of a mode or a size, and back: none of another number
+-- the number of a mode or a size
 abbrev pub bits_number : Bits → ℕ
 bits_number B16 = 16
 bits_number B32 = 32
 bits_number B64 = 64
 
+-- the mode or the size of a number: none of another number
 unfoldable pub bits_numbered : ℕ → Option Bits
 bits_numbered n =
     if n == 16 then Some B16

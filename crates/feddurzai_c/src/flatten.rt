@@ -11,7 +11,7 @@ use crate::numbers::{
 use x86_values::{Decoded, Mem, Operand, Register};
 
 /// An operand that is absent.
-const ABSENT: FlatOperand = FlatOperand {
+pub(crate) const ABSENT: FlatOperand = FlatOperand {
     value: 0,
     offset: 0,
     selector: 0,

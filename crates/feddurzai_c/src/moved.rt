@@ -1,7 +1,7 @@
 //! Some code read and moved.
 
 ghost use Rattle.std.specs.Prelude.{◌≡◌, ◌+◌, ◌≤◌, ◌^◌, ◌<◌, length, None, IfOk, MatchResult};
-ghost use Rattle.move_goals.specs.Items.{ArePlaced, first_disorder, one_span, passes};
+ghost use Rattle.move_goals.specs.Items.{ArePlaced, first_disorder, one_span};
 ghost use Rattle.feddurzai_c.specs.Moving as spec;
 ghost use Rattle.feddurzai_c.specs.Numbers.{bits_numbered};
 
@@ -9,6 +9,7 @@ use crate::flat::FlatMoved;
 use crate::numbers::bits_numbered;
 use block_encoder::{Form, MoveError, Moved, Placed, move_block};
 use decoder::{DecodeError, decode_in};
+use move_goals::passes;
 use std::alloc::{AllocError, Global};
 use x86_values::Bits;
 
@@ -55,18 +56,6 @@ fn form_number(form: Form) -> u8
         Form::Bridge => 4,
         Form::FarBridge => 5,
     }
-}
-
-/// Whether an address lies past the address space of a mode.
-fn is_past(bits: Bits, end: u128) -> bool
-    ensures { result ≡ passes bits end }
-{
-    let width = match bits {
-        Bits::B16 => 16,
-        Bits::B32 => 32,
-        Bits::B64 => 64,
-    };
-    end > 1 << width
 }
 
 /// Reads the instructions of some code, each with its address.
@@ -180,7 +169,7 @@ fn move_in(
         return Err(MoveRefusal::TooLarge);
     }
     let end = u128::from(old) + bytes.len() as u128;
-    if is_past(bits, end) {
+    if passes(bits, end) {
         return Err(MoveRefusal::Wraps { end });
     }
     match read_items(alloc, bits, old, bytes) {

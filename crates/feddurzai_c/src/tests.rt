@@ -1,6 +1,7 @@
 use crate::decoding::feddurzai_decode;
 use crate::encoding::feddurzai_encode;
-use crate::flat::{FlatInfo, FlatInstr, FlatMove, FlatMoved, FlatOperand, FlatUse};
+use crate::flat::{FlatInfo, FlatInstr, FlatMove, FlatMoved, FlatUse};
+use crate::flatten::ABSENT;
 use crate::flow::feddurzai_flow;
 use crate::info::feddurzai_info;
 use crate::moving::feddurzai_move;
@@ -8,24 +9,11 @@ use crate::rows::{feddurzai_code_of, feddurzai_name, feddurzai_notation};
 use crate::texts::feddurzai_text;
 use std::test::Fail;
 
-const NO_OPERAND: FlatOperand = FlatOperand {
-    value: 0,
-    offset: 0,
-    selector: 0,
-    kind: 0,
-    reg_class: 0,
-    reg_number: 0,
-    index_class: 0,
-    index_number: 0,
-    scale: 0,
-    disp_bits: 0,
-};
-
 const NO_INSTR: FlatInstr = FlatInstr {
-    op0: NO_OPERAND,
-    op1: NO_OPERAND,
-    op2: NO_OPERAND,
-    op3: NO_OPERAND,
+    op0: ABSENT,
+    op1: ABSENT,
+    op2: ABSENT,
+    op3: ABSENT,
     code: 0,
     len: 0,
     lock: 0,

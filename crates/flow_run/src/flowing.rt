@@ -8,7 +8,8 @@ ghost use Rattle.flow_run.specs.Flowing.{FlowsAs, CompletesFlow};
 use crate::lines::write_flow;
 use byte_ports::{Sink, Source};
 use flow_graph::flow_graph_in;
-use run_parts::{ReadError, Status, WHOLE_LIMIT, read_all};
+use run_parts::laws::told_bytes_are_read;
+use run_parts::{Status, read_whole};
 use std::alloc::Global;
 use x86_values::Bits;
 
@@ -33,15 +34,10 @@ pub fn flow_code<S: Source, K: Sink>(
     ensures taken { Takes whole_limit (S.left source.old) (S.left source.new)
         × (result ≡ Status.ReadFault → EndsAtFault S.pull_gives S.left source.new) }
 {
-    let input = match read_all(alloc, source, WHOLE_LIMIT) {
+    told_bytes_are_read();
+    let input = match read_whole(alloc, source) {
         Ok(input) => input,
-        Err(ReadError::Fault) => return Status::ReadFault,
-        Err(ReadError::Memory) => return Status::Memory,
-        Err(ReadError::TooLarge) => {
-            return Status::TooLarge {
-                limit: u64::from(WHOLE_LIMIT),
-            };
-        }
+        Err(unread) => return unread,
     };
     let graph = match flow_graph_in(alloc, bits, base, &input) {
         Ok(graph) => graph,

@@ -9,7 +9,7 @@ mod plan;
 mod starts;
 
 pub use items::Placed;
-pub use order::{first_disorder, first_old_pass};
+pub use order::{first_disorder, first_old_pass, passes};
 pub use outside::plan_outside;
 pub use plan::plan_for;
 

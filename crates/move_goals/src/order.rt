@@ -41,8 +41,8 @@ pub fn first_disorder(items: &[Placed], spans: &[BlockSpan]) -> Option<usize>
     None
 }
 
-/// Whether an address lies behind the address space of a mode.
-fn passes(bits: Bits, end: u128) -> bool
+/// Whether an address lies behind the address space of a mode: one byte more than that space is still its end.
+pub fn passes(bits: Bits, end: u128) -> bool
     ensures { result ≡ spec.passes bits end }
 {
     let width = match bits {

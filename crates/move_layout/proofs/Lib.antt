@@ -1,5 +1,6 @@
 pub mod Choosing
 pub mod Slotting
 pub mod Standing
+pub mod Tabled
 pub mod Laid
 pub mod Blocks

@@ -9,8 +9,8 @@ use Rattle.block_encoder.specs.declared.error.MoveError.TheVariants as error
 use Rattle.block_encoder.specs.Moved.{MovedLists, IsMoved, IsRefused}
 use Rattle.command_words.specs.declared.commands.BlockWords.{BlockWords}
 use Rattle.run_parts.specs.declared.status.Status.{Status}
-use Rattle.run_parts.specs.declared.status.Status.TheVariants.{BadCode, Memory, Wraps, TooFar, TooMany}
-use Rattle.run_parts.specs.Reads.{whole_limit, ReadsAll}
+use Rattle.run_parts.specs.declared.status.Status.TheVariants.{BadCode, ReadFault, Memory, TooLarge, Wraps, TooFar, TooMany}
+use Rattle.run_parts.specs.Reads.{whole_limit, ReadsAll, IsUnread}
 use Rattle.moving_run.specs.declared.moving.Wanted.{Wanted}
 use Rattle.moving_run.specs.declared.code.Code.{Code}
 use Rattle.moving_run.specs.Code.{all_placed, all_spans}
@@ -103,6 +103,14 @@ moves_code back wanted bits words bytes placed m few h = record {
       (are_placed bits words bytes h.items h.swept) m h.is_moved;
   text_is = ap (λ (items : List Placed). wanted_text wanted bits items m) h.placed_is;
 }
+
+-- a source that was not read whole, after which nothing was written
+pub unread : (wanted : Wanted) (bits : Bits) (words : List BlockWords) (left left' held held' : Option (List ℕ)) (source_rose out_rose : Type 0) (status : Status) → held' ≡ held →
+    IsUnread left left' source_rose status → MovesAs wanted bits words left left' held held' source_rose out_rose status
+unread wanted bits words left left' held held' source_rose out_rose ReadFault kept h = (h, kept)
+unread wanted bits words left left' held held' source_rose out_rose Memory kept h = kept
+unread wanted bits words left left' held held' source_rose out_rose (TooLarge limit) kept h = (h.0, (h.1, kept))
+unread wanted bits words left left' held held' source_rose out_rose _ kept h = absurd h
 
 -- a status that tells why, after which nothing was written
 pub refusal : (wanted : Wanted) (bits : Bits) (words : List BlockWords) (bytes : List ℕ) (left left' held held' : Option (List ℕ)) (source_rose out_rose : Type 0) (status : Status) →

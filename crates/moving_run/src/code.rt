@@ -1,7 +1,6 @@
 //! The input cut into blocks, and the instructions of each.
 
 ghost use Rattle.std.specs.Prelude.{◌≡◌, ◌≤◌, ◌+◌, ◌++◌, ◌∷◌, [], length, vec_len, IfOk, OnOk, MatchResult};
-ghost use Rattle.move_goals.specs.Items as item_spec;
 ghost use Rattle.moving_run.specs.Code.{taken, left_by};
 ghost use Rattle.moving_run.specs.Ends as end_spec;
 ghost use Rattle.moving_run.specs.Read as spec;
@@ -9,7 +8,7 @@ ghost use Rattle.moving_run.specs.Read as spec;
 use branch_sizes::BlockSpan;
 use command_words::BlockWords;
 use decoder::DecodeError;
-use move_goals::Placed;
+use move_goals::{Placed, passes};
 use std::alloc::{AllocError, Global};
 use sweep_text::laws::items_stand_in_turn;
 use sweep_text::read_at;
@@ -71,18 +70,6 @@ fn end_of(word: &BlockWords, len: usize) -> u128
     } else {
         u128::from(word.old) + len as u128
     }
-}
-
-/// Whether an address lies past the address space of a mode.
-fn passes(bits: Bits, end: u128) -> bool
-    ensures { result ≡ item_spec.passes bits end }
-{
-    let width = match bits {
-        Bits::B16 => 16,
-        Bits::B32 => 32,
-        Bits::B64 => 64,
-    };
-    end > 1 << width
 }
 
 /// The first old end of the blocks that passes the address space of the mode.

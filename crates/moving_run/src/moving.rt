@@ -15,7 +15,7 @@ use byte_ports::{Failed, Sink, Source};
 use command_words::BlockWords;
 use move_goals::Placed;
 use run_parts::laws::told_bytes_are_read;
-use run_parts::{ReadError, Status, WHOLE_LIMIT, put_all, read_all};
+use run_parts::{Status, put_all, read_whole};
 use std::alloc::Global;
 use x86_values::Bits;
 
@@ -121,15 +121,9 @@ pub fn move_code<S: Source, K: Sink>(
     told_bytes_are_read();
     inputs_have_one_answer();
     moved_blocks_are_read_back();
-    let input = match read_all(alloc, source, WHOLE_LIMIT) {
+    let input = match read_whole(alloc, source) {
         Ok(input) => input,
-        Err(ReadError::Fault) => return Status::ReadFault,
-        Err(ReadError::Memory) => return Status::Memory,
-        Err(ReadError::TooLarge) => {
-            return Status::TooLarge {
-                limit: u64::from(WHOLE_LIMIT),
-            };
-        }
+        Err(unread) => return unread,
     };
     let moved = match move_input(alloc, bits, words, &input) {
         Ok(moved) => moved,

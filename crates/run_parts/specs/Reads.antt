@@ -2,6 +2,8 @@
 use Rattle.std.specs.Prelude.{◌≡◌, ℕ, ◌+◌, ◌≤◌, List, [], ◌++◌, length, Option, IfSome, Result, Err}
 use Rattle.byte_ports.specs.declared.failed.Failed.{Failed}
 use Rattle.byte_ports.specs.Ports.{with_front}
+use Rattle.run_parts.specs.declared.status.Status.{Status}
+use Rattle.run_parts.specs.declared.status.Status.TheVariants.{ReadFault, Memory, TooLarge}
 
 -- how many bytes a command that takes its input as a whole reads at most
 unfoldable pub whole_limit : ℕ
@@ -25,6 +27,13 @@ pub record ReadsAll (limit : ℕ) (left left' : Option (List ℕ)) (bytes : List
 pub record ReadsTooMany (limit : ℕ) (left left' : Option (List ℕ)) (bytes : List ℕ) : Type 0 where
   pub read : left ≡ with_front bytes left'
   pub over : length bytes ≡ limit + 1
+
+-- a status that tells why a source was not read whole
+abbrev pub IsUnread : Option (List ℕ) → Option (List ℕ) → Type 0 → Status → Type 0
+IsUnread left left' rose ReadFault = rose
+IsUnread left left' rose Memory = Unit {0}
+IsUnread left left' rose (TooLarge limit) = (limit ≡ whole_limit) × ((bytes : List ℕ) × ReadsTooMany whole_limit left left' bytes)
+IsUnread left left' rose _ = ⊥
 
 -- a piece of this length was read and stands behind what was there; an empty one says that no byte is left
 pub record ReadsPiece (left left' : Option (List ℕ)) (before after : List ℕ) (count : ℕ) : Type 0 where

@@ -1,9 +1,10 @@
 //! Reading a source to its end.
 
-ghost use Rattle.std.specs.Prelude.{◌≡◌, ◌<◌, ◌≤◌, ℕ, List, [], length, IfOk, OnOk, IsErrOf};
+ghost use Rattle.std.specs.Prelude.{◌≡◌, ◌<◌, ◌≤◌, ℕ, List, [], length, IfOk, IfErr, OnOk, IsErrOf};
 ghost use Rattle.byte_ports.specs.Ports.{Rose, with_front};
-ghost use Rattle.run_parts.specs.Reads.{ReadsAll, ReadsPiece, ReadsTooMany, Takes, EndsAtFault};
+ghost use Rattle.run_parts.specs.Reads.{whole_limit, ReadsAll, ReadsPiece, ReadsTooMany, IsUnread, Takes, EndsAtFault};
 
+use crate::status::Status;
 use byte_ports::{Failed, Source};
 use std::alloc::Global;
 use thiserror::Error;
@@ -98,4 +99,25 @@ pub fn read_all<S: Source>(alloc: Global, source: &mut S, limit: u32) -> Result<
     let mut input = Vec::new(alloc);
     read_chunks(source, limit, &mut chunk, &mut input)?;
     Ok(input)
+}
+
+/// Reads a source to its end, where it has at most [`WHOLE_LIMIT`] bytes, or tells by a status why not. Whatever the answer is, it takes at most one byte more.
+///
+/// `ReadFault` comes only where the source failed, and the source is not asked again; `TooLarge` only where one byte more than the limit was taken, and `Memory` at any point.
+#[tactic(auto, unfolding(crate::specs::Reads::whole_limit))]
+pub fn read_whole<S: Source>(alloc: Global, source: &mut S) -> Result<Vec<u8>, Status>
+    ensures ok { IfOk result (λ input. ReadsAll whole_limit (S.left source.old) (S.left source.new) input.items) }
+    ensures unread { IfErr result (λ status. IsUnread (S.left source.old) (S.left source.new) (Rose (S.faults source.old) (S.faults source.new)) status) }
+    ensures last { IsErrOf result Status.ReadFault → EndsAtFault S.pull_gives S.left source.new }
+    ensures taken { Takes whole_limit (S.left source.old) (S.left source.new) }
+    ensures later { S.faults source.old ≤ S.faults source.new }
+{
+    match read_all(alloc, source, WHOLE_LIMIT) {
+        Ok(input) => Ok(input),
+        Err(ReadError::Fault) => Err(Status::ReadFault),
+        Err(ReadError::Memory) => Err(Status::Memory),
+        Err(ReadError::TooLarge) => Err(Status::TooLarge {
+            limit: u64::from(WHOLE_LIMIT),
+        }),
+    }
 }

@@ -4,11 +4,19 @@ use Rattle.command_words.specs.Ranges.{Range}
 use Rattle.run_parts.specs.declared.status.Status.{Status}
 use Rattle.run_parts.specs.declared.status.Status.TheVariants.{Done, BadCode, ReadFault, WriteFault, Memory, TooLarge, TooFar, RegionFull}
 use Rattle.run_parts.specs.Facts.{ReadFacts}
-use Rattle.run_parts.specs.Reads.{whole_limit, ReadsAll}
+use Rattle.run_parts.specs.Reads.{whole_limit, ReadsAll, IsUnread}
 use Rattle.slots_run.specs.Slotting.{IsRefusal, IsSlotsAnswer, RefusesAs, SlotsAs, CompletesSlots}
 use Rattle.slots_run.specs.Facts.{AnswerFacts}
 
 module _ (range : Range) (base : ℕ) where
+  -- a source that was not read whole, after which nothing was written
+  pub unread : (left left' held held' : Option (List ℕ)) (source_rose out_rose : Type 0) (status : Status) → held' ≡ held →
+      IsUnread left left' source_rose status → SlotsAs range base left left' held held' source_rose out_rose status
+  unread left left' held held' source_rose out_rose ReadFault kept h = (h, kept)
+  unread left left' held held' source_rose out_rose Memory kept h = kept
+  unread left left' held held' source_rose out_rose (TooLarge limit) kept h = (h.0, (h.1, kept))
+  unread left left' held held' source_rose out_rose _ kept h = absurd h
+
   -- a status that tells why, after which nothing was written
   pub refusal : (bytes : List ℕ) (left left' held held' : Option (List ℕ)) (source_rose out_rose : Type 0) (status : Status) →
       ReadsAll whole_limit left left' bytes → held' ≡ held → IsRefusal range base bytes status →

@@ -10,7 +10,7 @@ use crate::stepping::step_all;
 use byte_ports::{Sink, Source};
 use command_words::SlotRange;
 use run_parts::laws::told_bytes_are_read;
-use run_parts::{ReadError, Status, WHOLE_LIMIT, put_all, read_all};
+use run_parts::{Status, put_all, read_whole};
 use std::alloc::Global;
 use step_slots::StepSlots;
 use step_slots::laws::{reserved_lengths_are_short, slots_stay_apart};
@@ -43,15 +43,9 @@ pub fn slot_code<S: Source, K: Sink>(
     code_has_one_answer();
     slots_stay_apart();
     reserved_lengths_are_short();
-    let input = match read_all(alloc, source, WHOLE_LIMIT) {
+    let input = match read_whole(alloc, source) {
         Ok(input) => input,
-        Err(ReadError::Fault) => return Status::ReadFault,
-        Err(ReadError::Memory) => return Status::Memory,
-        Err(ReadError::TooLarge) => {
-            return Status::TooLarge {
-                limit: u64::from(WHOLE_LIMIT),
-            };
-        }
+        Err(unread) => return unread,
     };
     let mut slots = match StepSlots::make(alloc, range.bits(), range.base(), range.size(), MOST) {
         Ok(slots) => slots,

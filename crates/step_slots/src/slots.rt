@@ -1,7 +1,6 @@
 //! The slots.
 
 ghost use Rattle.std.specs.Prelude.{◌≡◌, ◌⊎◌, IfSome, IfOk, IfErr, OnErr, Ok, Err, Some};
-ghost use Rattle.move_goals.specs.Items as old;
 ghost use Rattle.move_goals.specs.Items.{IsPlaced};
 ghost use Rattle.code_region.specs.State.{image_of};
 ghost use Rattle.code_region.specs.Releasing.{release_answer};
@@ -15,6 +14,7 @@ use crate::order::{insert_slot, remove_slot};
 use crate::refusals::StepError;
 use block_encoder::Placed;
 use code_region::{NotTaken, OpenError, Region};
+use move_goals::passes;
 use std::alloc::Global;
 use std::marker::Model;
 use x86_values::Bits;
@@ -57,18 +57,6 @@ impl Model for StepSlots {
     ghost view = { λ s. record { bits = s.bits; region = s.region; slots = s.live.items } };
 
     ghost invariant = { λ s. (s.base ≡ s.region.base) × AreKept s.bits s.region s.live.items (vec_capacity s.live) };
-}
-
-/// Whether an address lies behind the address space of a mode.
-fn passes(bits: Bits, end: u128) -> bool
-    ensures { result ≡ old.passes bits end }
-{
-    let width = match bits {
-        Bits::B16 => 16,
-        Bits::B32 => 32,
-        Bits::B64 => 64,
-    };
-    end > 1 << width
 }
 
 /// Why slots are refused, if they are; memory is another matter.

@@ -1,15 +1,21 @@
 use Rattle.std.proofs.Common.{refl}
 use Rattle.run_parts.specs.Reads.{whole_limit}
 use Rattle.run_parts.specs.declared.status.Status.TheVariants.{Done}
-use Rattle.asm_run.proofs.Completing.{refusal, completes}
+use Rattle.asm_run.proofs.Completing.{unread, refusal, completes}
 use Rattle.asm_run.proofs.assembling.assemble_code.Goals as goal
 
 pub returns-in-Err-clause-complete : goal.returns-in-Err-clause-complete
 unfolding whole_limit
 returns-in-Err-clause-complete g c =
-    let refused = rw c.deref.ensures.value at c.in-Err.ensures.refused in
-    let answer = refusal c.args.bits c.args.base c.in-Ok.input.items _ _ (g.K.Sink.held c.args.out.now) _ _ _ c.in-Err.status c.in-Ok.ensures.ok refl refused in
-    completes c.args.bits c.args.base c.told_bytes_are_read.ensures c.texts_have_one_answer.ensures _ _ (g.K.Sink.held c.args.out.now) _ _ _ c.in-Err.status answer
+    let answer = unread c.args.bits c.args.base _ _ (g.K.Sink.held c.args.out.now) _ _ _ c.in-Err.unread refl c.in-Err.ensures.unread in
+    completes c.args.bits c.args.base c.told_bytes_are_read.ensures c.texts_have_one_answer.ensures _ _ (g.K.Sink.held c.args.out.now) _ _ _ c.in-Err.unread answer
+
+pub returns-in-Err-code_of_lines-clause-complete : goal.returns-in-Err-code_of_lines-clause-complete
+unfolding whole_limit
+returns-in-Err-code_of_lines-clause-complete g c =
+    let refused = rw c.deref.ensures.value at c.in-Err-code_of_lines.ensures.refused in
+    let answer = refusal c.args.bits c.args.base c.in-Ok.input.items _ _ (g.K.Sink.held c.args.out.now) _ _ _ c.in-Err-code_of_lines.status c.in-Ok.ensures.ok refl refused in
+    completes c.args.bits c.args.base c.told_bytes_are_read.ensures c.texts_have_one_answer.ensures _ _ (g.K.Sink.held c.args.out.now) _ _ _ c.in-Err-code_of_lines.status answer
 
 pub returns-in-Ok-put_all-clause-complete : goal.returns-in-Ok-put_all-clause-complete
 unfolding whole_limit

@@ -1,8 +1,8 @@
 use Rattle.std.proofs.Common.{◌≡◌, ◌+◌, ◌-◌, arith, ap}
 use Rattle.branch_sizes.specs.Layout.{span_at, image_length, place}
-use Rattle.branch_sizes.proofs.Now.{first_below}
 use Rattle.move_layout.specs.Tables.{plan_in}
 use Rattle.move_layout.proofs.Standing.{images-none, item-below, place-last}
+use Rattle.move_layout.proofs.Tabled.{block-fits}
 use Rattle.move_layout.proofs.places.images_end_of.Goals as goal
 
 pub returns-then-span-eq0-clause-value : goal.returns-then-span-eq0-clause-value
@@ -10,43 +10,17 @@ returns-then-span-eq0-clause-value c =
     omega (arith, c.from.ensures, images-none (plan_in c.args.tables.now) c.args.tables.now.plan c.args.tables.now.layout.now c.args.b c.if-span-eq0.true)
 
 pub overflow_add-last : goal.overflow_add-last
-overflow_add-last c =
-    omega (
-      arith,
-      c.requires.first,
-      c.args.tables.now.plan.few_items,
-      c.args.tables.now.plan.counts,
-      first_below c.args.tables.now.spans.now c.args.b c.requires.block,
-    )
+overflow_add-last c = let fits = block-fits c.args.tables.now c.args.b c.args.first c.requires.block c.requires.first in omega (arith, fits.0, fits.1)
 
 pub offset_bounds-tables-last : goal.offset_bounds-tables-last
-offset_bounds-tables-last c =
-    omega (
-      arith,
-      c.requires.first,
-      c.args.tables.now.plan.few_items,
-      c.args.tables.now.plan.counts,
-      first_below c.args.tables.now.spans.now c.args.b c.requires.block,
-    )
+offset_bounds-tables-last c = let fits = block-fits c.args.tables.now c.args.b c.args.first c.requires.block c.requires.first in omega (arith, fits.0, fits.1)
 
 pub bounds-tables-last : goal.bounds-tables-last
 bounds-tables-last c =
-    omega (
-      arith,
-      c.requires.first,
-      c.args.tables.now.right_places.len,
-      c.args.tables.now.plan.counts,
-      first_below c.args.tables.now.spans.now c.args.b c.requires.block,
-    )
+    let fits = block-fits c.args.tables.now c.args.b c.args.first c.requires.block c.requires.first in omega (arith, c.args.tables.now.right_places.len, fits.0)
 
 pub choice_of-requires : goal.choice_of-requires
-choice_of-requires c =
-    omega (
-      arith,
-      c.requires.first,
-      c.args.tables.now.plan.counts,
-      first_below c.args.tables.now.spans.now c.args.b c.requires.block,
-    )
+choice_of-requires c = let fits = block-fits c.args.tables.now c.args.b c.args.first c.requires.block c.requires.first in omega (arith, fits.0)
 
 pub returns-clause-value : goal.returns-clause-value
 returns-clause-value c =

@@ -1,17 +1,23 @@
 use Rattle.std.proofs.Common.{refl}
 use Rattle.run_parts.specs.Reads.{whole_limit}
 use Rattle.run_parts.specs.declared.status.Status.TheVariants.{Done}
-use Rattle.moving_run.proofs.Moved.{starts_length, forms_length, moves_code, refusal}
+use Rattle.moving_run.proofs.Moved.{starts_length, forms_length, moves_code, unread, refusal}
 use Rattle.moving_run.proofs.Completing.{completes}
 use Rattle.moving_run.proofs.moving.move_code.Goals as goal
 
 pub returns-in-Err-clause-complete : goal.returns-in-Err-clause-complete
 unfolding whole_limit
 returns-in-Err-clause-complete g c =
+    let answer = unread c.args.wanted c.args.bits c.args.words.now _ _ (g.K.Sink.held c.args.out.now) _ _ _ c.in-Err.unread refl c.in-Err.ensures.unread in
+    completes c.told_bytes_are_read.ensures c.inputs_have_one_answer.ensures c.args.wanted c.args.bits c.args.words.now _ _ (g.K.Sink.held c.args.out.now) _ _ _ c.in-Err.unread answer
+
+pub returns-in-Err-move_input-clause-complete : goal.returns-in-Err-move_input-clause-complete
+unfolding whole_limit
+returns-in-Err-move_input-clause-complete g c =
     let reads = c.in-Ok.ensures.ok in
-    let refused = rw c.deref.ensures.value at c.in-Err.ensures in
-    let answer = refusal c.args.wanted _ _ _ _ _ (g.K.Sink.held c.args.out.now) _ _ _ c.in-Err.status reads refl refused in
-    completes c.told_bytes_are_read.ensures c.inputs_have_one_answer.ensures c.args.wanted _ _ _ _ (g.K.Sink.held c.args.out.now) _ _ _ c.in-Err.status answer
+    let refused = rw c.deref.ensures.value at c.in-Err-move_input.ensures in
+    let answer = refusal c.args.wanted _ _ _ _ _ (g.K.Sink.held c.args.out.now) _ _ _ c.in-Err-move_input.status reads refl refused in
+    completes c.told_bytes_are_read.ensures c.inputs_have_one_answer.ensures c.args.wanted _ _ _ _ (g.K.Sink.held c.args.out.now) _ _ _ c.in-Err-move_input.status answer
 
 pub write_wanted-requires-clause-starts : goal.write_wanted-requires-clause-starts
 write_wanted-requires-clause-starts g c = rw c.deref-2.ensures.value (starts_length _ _ _ _ _ c.in-Ok-move_input.ensures)

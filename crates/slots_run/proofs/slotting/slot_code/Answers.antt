@@ -2,8 +2,14 @@ use Rattle.std.proofs.Common.{refl}
 use Rattle.run_parts.specs.Reads.{whole_limit}
 use Rattle.run_parts.specs.declared.status.Status.TheVariants.{Done}
 use Rattle.slots_run.proofs.Kept.{all-slotted}
-use Rattle.slots_run.proofs.Completing.{refusal, completes}
+use Rattle.slots_run.proofs.Completing.{unread, refusal, completes}
 use Rattle.slots_run.proofs.slotting.slot_code.Goals as goal
+
+pub returns-in-Err-clause-complete : goal.returns-in-Err-clause-complete
+unfolding whole_limit
+returns-in-Err-clause-complete g c =
+    let answer = unread c.args.range.now c.args.base _ _ (g.K.Sink.held c.args.out.now) _ _ _ c.in-Err.unread refl c.in-Err.ensures.unread in
+    completes c.args.range.now c.args.base c.told_bytes_are_read.ensures c.code_has_one_answer.ensures _ _ (g.K.Sink.held c.args.out.now) _ _ _ c.in-Err.unread answer
 
 pub returns-in-Err-step_all-clause-complete : goal.returns-in-Err-step_all-clause-complete
 unfolding whole_limit

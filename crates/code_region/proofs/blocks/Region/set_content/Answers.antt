@@ -1,9 +1,7 @@
-use Rattle.std.proofs.Common.{arith, ◌∙◌, ◌-◌, ◌++◌, ap, length, replicate}
+use Rattle.std.proofs.Common.{arith, ap, length}
 use Rattle.std.proofs.lemmas.List.{with_items_is}
-use Rattle.code_region.specs.State.{int3}
-use Rattle.code_region.specs.Keeping.{overwritten}
 use Rattle.code_region.specs.Contents.{bytes_of}
-use Rattle.code_region.proofs.Found.{apart-addresses, at-same, nowhere-same, live_block-nowhere, found-inside, can_fill-none, fits-found, refilled-found}
+use Rattle.code_region.proofs.Found.{apart-addresses, at-same, nowhere-same, live_block-nowhere, found-inside, can_fill-none, fits-found, refilled-same}
 use Rattle.code_region.proofs.blocks.Region.set_content.Goals as goal
 
 pub find_place-requires : goal.find_place-requires
@@ -36,27 +34,15 @@ write-requires-clause-fits c =
 pub invariant_of-self : goal.invariant_of-self
 invariant_of-self c =
     let f = c.self.inside in
-    let at = at-same f.base c.args.place _ f.spans.items c.in-Some.index c.deref.ensures.value (c.in-Some.ensures {u = tt}).found in
-    let span = c.index-span.result.now in
-    let content = bytes_of c.args.content in
-    let fits = fits-found f.base f.max_blocks _ c.args.place c.in-Some.index (length content) f.bytes.items f.spans.items c.args.self.now span
-    c.self.view_is c.self.invariant.0 at c.index-span.ensures c.requires in
-    let written = with_items_is f.bytes c.write.new.image (omega arith) ∙ c.write.ensures ∙
-    ap (λ xs. overwritten xs span.start (content ++ replicate (span.len - length content) int3)) c.deref_mut.ensures.value in (
-      (refilled-found f.base f.max_blocks _ c.args.place c.in-Some.index f.bytes.items _ content f.spans.items c.args.self.now span
-          c.self.view_is c.self.invariant.0 at c.index-span.ensures fits written).0,
+    let written = with_items_is f.bytes c.write.new.image (omega arith) in (
+      (refilled-same f.base f.max_blocks _ c.args.place c.in-Some.index f.bytes.items _ _ _ (bytes_of c.args.content) f.spans.items _ c.args.self.now c.index-span.result.now c.self.view_is
+          c.self.invariant.0 c.deref.ensures.value (c.in-Some.ensures {u = tt}).found c.index-span.ensures c.requires c.deref_mut.ensures.value c.write.ensures written).0,
       c.self.invariant.1,
     )
 
 pub returns : goal.returns
 returns c =
     let f = c.self.inside in
-    let at = at-same f.base c.args.place _ f.spans.items c.in-Some.index c.deref.ensures.value (c.in-Some.ensures {u = tt}).found in
-    let span = c.index-span.result.now in
-    let content = bytes_of c.args.content in
-    let fits = fits-found f.base f.max_blocks _ c.args.place c.in-Some.index (length content) f.bytes.items f.spans.items c.args.self.now span
-    c.self.view_is c.self.invariant.0 at c.index-span.ensures c.requires in
-    let written = with_items_is f.bytes c.write.new.image (omega arith) ∙ c.write.ensures ∙
-    ap (λ xs. overwritten xs span.start (content ++ replicate (span.len - length content) int3)) c.deref_mut.ensures.value in
-    (refilled-found f.base f.max_blocks _ c.args.place c.in-Some.index f.bytes.items _ content f.spans.items c.args.self.now span
-    c.self.view_is c.self.invariant.0 at c.index-span.ensures fits written).1
+    let written = with_items_is f.bytes c.write.new.image (omega arith) in
+    (refilled-same f.base f.max_blocks _ c.args.place c.in-Some.index f.bytes.items _ _ _ (bytes_of c.args.content) f.spans.items _ c.args.self.now c.index-span.result.now c.self.view_is
+    c.self.invariant.0 c.deref.ensures.value (c.in-Some.ensures {u = tt}).found c.index-span.ensures c.requires c.deref_mut.ensures.value c.write.ensures written).1
