@@ -29,8 +29,8 @@ use Rattle.instruction_parts.specs.Kinds.{method_of, file_of, fixed_number}
 use Rattle.instruction_parts.specs.Counting.{is_64}
 use Rattle.instruction_parts.specs.Sizes.{state_size, bit_r, bit_x, bit_b, is_vex_row, state_address_size}
 use Rattle.instruction_parts.specs.Bytes.{state_of, state_from}
-use Rattle.row_fit.specs.Fits.{fits, Fits, has_modrm, reads_by, is_gather, is_any_mode, reads_mode, extended, reg_field, rm_field, reg_number, rm_number, vvvv_number, index_number, same_bool, place_allows, place_fits, modrm_rule_fits, opcode_fits, opcode_and_modrm_fit, needs_sib, displacement_bytes, address_fits, kind_at, lengths_fit, immediate_bytes, register_fits, destination_fits, gather_fits, registers_fit, are_bytes, vex_in_range, modrm_in_range, sib_in_range, fields_in_range, vex_fits}
-use Rattle.row_fit.specs.Sound.{Sound, sound, reads_reg, reads_rm, has_modrm_rule, kind_is_proper, vex_is_proper, legacy_is_proper, is_fixed_rule, is_one, size_says_w, is_size_of_vex, is_class_of_vex, is_no_l, is_no_w, is_byte_file, operands_are_proper, operands_are_apart, count_where, at_most_one}
+use Rattle.row_fit.specs.Fits.{fits, Fits, has_modrm, reads_by, is_gather, is_any_mode, reads_mode, extended, reg_field, rm_field, reg_number, rm_number, vvvv_number, index_number, same_bool, place_allows, place_fits, modrm_rule_fits, opcode_fits, opcode_and_modrm_fit, needs_sib, displacement_bytes, address_fits, kind_at, lengths_fit, immediate_bytes, register_fits, destination_fits, gather_fits, registers_fit, are_bytes, vex_in_range, modrm_in_range, sib_in_range, fields_in_range, vex_fits, is_map_one}
+use Rattle.row_fit.specs.Sound.{Sound, sound, reads_reg, reads_rm, has_modrm_rule, kind_is_proper, vex_is_proper, legacy_is_proper, is_fixed_rule, size_says_w, is_size_of_vex, is_class_of_vex, is_no_l, is_no_w, is_byte_file, operands_are_proper, operands_are_apart, count_where, at_most_one}
 use Rattle.row_fit.proofs.SoundLaws.{sound_conditions}
 use Rattle.row_fit.proofs.FitLaws.{all_conditions, modrm_range, sib_range}
 use Rattle.row_meaning.specs.Meaning.{Tail, tail_of, register_of, memory_of, memory_operand, with_modrm, gather_memory, last_byte_number, near_target, far_pointer, operand_by, immediates_before, own_immediate, operand_at, instr_of, meaning}
@@ -171,7 +171,7 @@ record OperandFacts (bits : Bits) (row : Row) (state : PrefixState) (m : Option 
 no_byte_file : (row : Row) → vex_is_proper row ≡ true → list_any (λ kind. is_byte_file (file_of kind)) row.ops ≡ false
 unfolding vex_is_proper
 no_byte_file row h =
-    not_true _ (and_right (not (is_fixed_rule row.modrm)) _ (and_right (not (is_one row.map)) _ (and_right (size_says_w row.size row.w) _
+    not_true _ (and_right (not (is_fixed_rule row.modrm)) _ (and_right (not (is_map_one row.map)) _ (and_right (size_says_w row.size row.w) _
     (and_right (is_size_of_vex row.size) _ (and_right (is_class_of_vex row.class) _ (and_right (not (is_no_l row.l)) _ (and_right (not (is_no_w row.w)) _ h)))))))
 
 absent_is_no_byte : is_byte_file (file_of Absent) ≡ false

@@ -18,6 +18,7 @@ use Rattle.instruction_parts.specs.Bytes.{spelled_map, state_of, state_from}
 use Rattle.instruction_parts.specs.Front.{forbids_vex}
 use Rattle.instruction_parts.proofs.Tests.{and_left, and_right, not_true, equal_from}
 use Rattle.row_fit.specs.Fits.{fits, vex_fits, is_vex_of_mode, opcode_is_kept, same_map, opcode_fits, opcode_and_modrm_fit, modrm_rule_fits, place_fits}
+use Rattle.row_fit.proofs.SameMap.{same_map-is}
 use Rattle.row_fit.proofs.FitLaws.{all_conditions}
 use Rattle.row_fields.specs.Holds.{stands_in, is_vex, map_number, opcode_holds}
 
@@ -25,24 +26,6 @@ use Rattle.row_fields.specs.Holds.{stands_in, is_vex, map_number, opcode_holds}
 pub kind-vex : (k : RowKind) → is_vex k ≡ (elim k [ kind.Legacy ↦ false | kind.Vex ↦ true ])
 kind-vex kind.Legacy = refl
 kind-vex kind.Vex = refl
-
-pub same_map-eq : (a b : Map) → same_map a b ≡ true → a ≡ b
-same_map-eq map.One map.One h = refl
-same_map-eq map.One map.M0f h = cc
-same_map-eq map.One map.M0f38 h = cc
-same_map-eq map.One map.M0f3a h = cc
-same_map-eq map.M0f map.One h = cc
-same_map-eq map.M0f map.M0f h = refl
-same_map-eq map.M0f map.M0f38 h = cc
-same_map-eq map.M0f map.M0f3a h = cc
-same_map-eq map.M0f38 map.One h = cc
-same_map-eq map.M0f38 map.M0f h = cc
-same_map-eq map.M0f38 map.M0f38 h = refl
-same_map-eq map.M0f38 map.M0f3a h = cc
-same_map-eq map.M0f3a map.One h = cc
-same_map-eq map.M0f3a map.M0f h = cc
-same_map-eq map.M0f3a map.M0f38 h = cc
-same_map-eq map.M0f3a map.M0f3a h = refl
 
 pub opcode-held : (p : Plus) (first o : ℕ)
     → (elim p [ plus.Register ↦ nat_le first o && nat_lt o (first + 8) | _ ↦ o == first ]) ≡ true → opcode_holds p first o ≡ true
@@ -61,7 +44,7 @@ vex-says bits row ps None o m h = not_true (is_vex_row row) (and_left (not (is_v
 vex-says bits row ps (Some v) o m h =
     let rest = and_right (is_vex_row row) (same_map v.map row.map && (not (forbids_vex bits ps) && is_vex_of_mode bits v)) h in (
       and_left (is_vex_row row) (same_map v.map row.map && (not (forbids_vex bits ps) && is_vex_of_mode bits v)) h,
-      same_map-eq v.map row.map (and_left (same_map v.map row.map) (not (forbids_vex bits ps) && is_vex_of_mode bits v) rest),
+      same_map-is v.map row.map (and_left (same_map v.map row.map) (not (forbids_vex bits ps) && is_vex_of_mode bits v) rest),
     )
 
 line-is : (row : Row) (vex : Option Vex) → VexSays row vex → map_number (is_vex row.kind) row.map ≡ map_number (is_some vex) (spelled_map row.map vex)

@@ -29,6 +29,7 @@ use Rattle.plain_spelling.specs.PlainFront.{number_in_vvvv, number_in_opcode, as
 use Rattle.plain_spelling.specs.PlainTail.{prefixes_of}
 use Rattle.plain_spelling.specs.Writable.{is_memory_only, is_digit_zero, opcode_is_allowed, opcode_is_plain}
 use Rattle.plain_spelling.proofs.FrontRange.{vex_for, vex_of_vex, vex_of_legacy, asked_vex-range}
+use Rattle.row_fit.proofs.SameMap.{same_map-refl}
 use Rattle.row_fit.proofs.SoundLaws.{all_at, eight, eight_at}
 use Rattle.plain_fit.proofs.Given.{Given, NumbersSuit}
 use Rattle.plain_fit.proofs.FrontCounts.{Counts}
@@ -201,12 +202,6 @@ front_is_allowed bits row i m s legacy h place rule =
     (opcode_passes row i (opcode_is_allowed bits row) (opcodes_pass bits row legacy h).is_allowed)
 
 -- ---- the VEX
-
-same_map-refl : (map : Map) → same_map map map ≡ true
-same_map-refl One = refl
-same_map-refl M0f = refl
-same_map-refl M0f38 = refl
-same_map-refl M0f3a = refl
 
 pub front_vex_range : (bits : Bits) (row : Row) (i : Instr) → Sound row → NumbersSuit bits row i → vex_in_range (asked_vex row i) ≡ true
 front_vex_range bits row i s n =

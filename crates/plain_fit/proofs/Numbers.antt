@@ -22,7 +22,7 @@ use Rattle.instruction_parts.specs.declared.kinds.File.{File}
 use Rattle.instruction_parts.specs.Kinds.{method_of, file_of}
 use Rattle.instruction_parts.specs.Counting.{is_64}
 use Rattle.row_fit.specs.Fits.{kind_at, reads_by, is_vvvv}
-use Rattle.row_fit.specs.Sound.{Sound, reads_reg, reads_rm, reads_vvvv, reads_opcode}
+use Rattle.row_fit.specs.Sound.{Sound, reads_reg, reads_rm, reads_opcode}
 use Rattle.instruction_parts.proofs.Tests.{either, and_left, and_right, or_right, equal_from}
 use Rattle.x86_values.specs.Comparing.{same_bits, same_register}
 use Rattle.plain_spelling.specs.Forms.{operand_at, is_scale}
@@ -42,14 +42,6 @@ kind_that_passes p (kind ∷ kinds) d h = elim (either (p kind)) [
       let rest = kind_that_passes p kinds d (or_right (p kind) (list_any p kinds) other h) in
       (suc rest.0, omega arith, rest.2)
 ]
-
-same_any : (p q : OpKind → Bool) (kinds : List OpKind) → ((kind : OpKind) → p kind ≡ q kind) → list_any p kinds ≡ list_any q kinds
-same_any p q [] h = refl
-same_any p q (kind ∷ kinds) h = rw (h kind) (rw (same_any p q kinds h) refl)
-
-vvvv_is : (how : Method) → is_vvvv how ≡ reads_vvvv how
-vvvv_is method.Vvvv = refl
-vvvv_is _ = refl
 
 -- ---- registers
 
@@ -350,10 +342,10 @@ numbers_suit bits ip row i g =
           (λ none. let k = none_of_both (λ kind. reads_rm (method_of kind)) (λ kind. reads_opcode (method_of kind)) row.ops none in asked_rm-none row i k.0 k.1);
       index = field_small bits reads_rm operand_index_number row i (asked number_in_index row i) s (λ n below. (small n below).index)
           (λ n below e. asked_index-at row i n s g.four below index e) (asked_index-none row i s index);
-      vvvv = field_small bits reads_vvvv operand_number row i (asked number_in_vvvv row i) s (λ n below. (small n below).register)
+      vvvv = field_small bits is_vvvv operand_number row i (asked number_in_vvvv row i) s (λ n below. (small n below).register)
           (λ n below e. asked_vvvv-at row i n s g.four below e) (asked_vvvv-none row i);
       opcode = field_small bits reads_opcode operand_number row i (asked number_in_opcode row i) s (λ n below. (small n below).register)
           (λ n below e. asked_opcode-at row i n s g.four below e) (asked_opcode-none row i);
       low = low_outside bits row i g.four g.suits.registers;
-      vvvv_unused = λ none. asked_vvvv-none row i (sym (same_any (λ kind. is_vvvv (method_of kind)) (λ kind. reads_vvvv (method_of kind)) row.ops (λ kind. vvvv_is (method_of kind))) ∙ none);
+      vvvv_unused = λ none. asked_vvvv-none row i none;
     }

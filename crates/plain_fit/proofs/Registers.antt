@@ -38,8 +38,8 @@ use Rattle.instruction_parts.specs.declared.spelling.Sib.{Sib}
 use Rattle.instruction_parts.specs.Kinds.{method_of, file_of}
 use Rattle.instruction_parts.specs.Counting.{is_16}
 use Rattle.instruction_parts.specs.Sizes.{is_vex_row, bit_r, bit_b, state_address_size}
-use Rattle.row_fit.specs.Fits.{kind_at, reads_by, is_gather, is_map_one, is_repeat_f3, is_no_repeat, has_modrm, extended, reg_field, rm_field, reg_number, rm_number, index_number, vvvv_number, needs_sib, register_fits, destination_fits, gather_fits, nop_fits, is_nop_byte, is_control_number, registers_fit}
-use Rattle.row_fit.specs.Sound.{reads_reg, reads_rm, reads_vvvv, reads_opcode}
+use Rattle.row_fit.specs.Fits.{kind_at, reads_by, is_gather, is_map_one, is_repeat_f3, is_no_repeat, has_modrm, extended, reg_field, rm_field, reg_number, rm_number, index_number, vvvv_number, needs_sib, register_fits, destination_fits, gather_fits, nop_fits, is_nop_byte, is_control_number, registers_fit, is_vvvv}
+use Rattle.row_fit.specs.Sound.{reads_reg, reads_rm, reads_opcode}
 use Rattle.row_meaning.specs.Meaning.{vector, register_of}
 use Rattle.instruction_parts.proofs.Tests.{either, and_left, and_right, not_true, or_right, equal_from}
 use Rattle.plain_spelling.specs.Forms.{operand_at, is_variant_of, is_register, is_memory, is_scale}
@@ -360,7 +360,7 @@ record Whole (row : Row) : Type 0 where
   vex : is_vex_row row ≡ true
   rule : row.modrm ≡ AnyModRm
   reg : reads_by reads_reg row ≡ true
-  vvvv : reads_by reads_vvvv row ≡ true
+  vvvv : reads_by is_vvvv row ≡ true
   vectors : list_all names_vectors row.ops ≡ true
 
 any_rule : (rule : ModRmRule) (x : Bool) → (elim rule [ AnyModRm ↦ x | _ ↦ false ]) ≡ true → (rule ≡ AnyModRm) × (x ≡ true)
@@ -370,7 +370,7 @@ any_rule _ x h = cc
 whole : (row : Row) → gather_is_whole row ≡ true → reads_by is_gather row ≡ true → Whole row
 unfolding gather_is_whole
 whole row h gather =
-    let mask = reads_by reads_vvvv row && list_all names_vectors row.ops in
+    let mask = reads_by is_vvvv row && list_all names_vectors row.ops in
     let both_read = reads_by reads_reg row && mask in
     let rule : Bool = elim row.modrm [ AnyModRm ↦ both_read | _ ↦ false ] in
     let k = or_right (not (reads_by is_gather row)) (is_vex_row row && rule) (ap not gather) h in
@@ -380,8 +380,8 @@ whole row h gather =
       vex = and_left (is_vex_row row) rule k;
       rule = any.0;
       reg = and_left (reads_by reads_reg row) mask any.1;
-      vvvv = and_left (reads_by reads_vvvv row) (list_all names_vectors row.ops) masked;
-      vectors = and_right (reads_by reads_vvvv row) (list_all names_vectors row.ops) masked;
+      vvvv = and_left (reads_by is_vvvv row) (list_all names_vectors row.ops) masked;
+      vectors = and_right (reads_by is_vvvv row) (list_all names_vectors row.ops) masked;
     }
 
 -- ---- the registers of a gather are vector registers
@@ -404,7 +404,7 @@ names-at (kind ∷ kinds) (suc n) below h = names-at kinds n (omega arith) (and_
 
 -- a register operand of a gather, read from reg, r/m or vvvv
 vector-at : (bits : Bits) (ip : ℕ) (row : Row) (i : Instr) (n : ℕ) (r : Register) → Given bits ip row i → Whole row → n < 4 → operand_at i n ≡ Reg r
-    → (reads_reg (method_of (kind_at row n)) || (reads_rm (method_of (kind_at row n)) || reads_vvvv (method_of (kind_at row n)))) ≡ true → is_vector_register r ≡ true
+    → (reads_reg (method_of (kind_at row n)) || (reads_rm (method_of (kind_at row n)) || is_vvvv (method_of (kind_at row n)))) ≡ true → is_vector_register r ≡ true
 vector-at bits ip row i n r g w below e reads =
     let four = four_kinds row g.is_sound in
     let file = vectors_named (kind_at row n) (names-at row.ops n (omega arith) w.vectors) reads in
@@ -416,7 +416,7 @@ unfolding vector_in_reg
 reg_passes method.ModRmReg r h k = k
 reg_passes _ r h k = cc
 
-vvvv_passes : (how : Method) (r : Register) → reads_vvvv how ≡ true → is_vector_register r ≡ true → vector_in_vvvv how (Reg r) ≡ true
+vvvv_passes : (how : Method) (r : Register) → is_vvvv how ≡ true → is_vector_register r ≡ true → vector_in_vvvv how (Reg r) ≡ true
 unfolding vector_in_vvvv
 vvvv_passes method.Vvvv r h k = k
 vvvv_passes _ r h k = cc
@@ -450,7 +450,7 @@ some_passes p row i = passes p row i 0 || (passes p row i 1 || (passes p row i 2
 passes-at : (p : Method → Operand → Bool) (row : Row) (i : Instr) (n : ℕ) (op : Operand) → n < 4 → operand_at i n ≡ op → p (method_of (kind_at row n)) op ≡ true → some_passes p row i ≡ true
 passes-at p row i n op below e h = among (passes p row i) n below (ap (p (method_of (kind_at row n))) e ∙ h)
 
-vvvv_variant : (place : Place) (how : Method) (op : Operand) → reads_vvvv how ≡ true → is_variant_of place how op ≡ true → is_register op ≡ true
+vvvv_variant : (place : Place) (how : Method) (op : Operand) → is_vvvv how ≡ true → is_variant_of place how op ≡ true → is_register op ≡ true
 unfolding is_variant_of
 vvvv_variant place method.Vvvv op h k = k
 vvvv_variant place _ op h k = cc
@@ -569,7 +569,7 @@ reg_vector bits ip row i g w =
 -- the mask
 vvvv_vector : (bits : Bits) (ip : ℕ) (row : Row) (i : Instr) → Given bits ip row i → Whole row → some_passes vector_in_vvvv row i ≡ true
 vvvv_vector bits ip row i g w =
-    let k = kind_that_passes (λ kind. reads_vvvv (method_of kind)) row.ops Absent w.vvvv in
+    let k = kind_that_passes (λ kind. is_vvvv (method_of kind)) row.ops Absent w.vvvv in
     let four = four_kinds row g.is_sound in
     let below : k.0 < 4 = omega arith in
     let how = method_of (kind_at row k.0) in

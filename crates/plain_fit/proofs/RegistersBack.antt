@@ -20,8 +20,8 @@ use Rattle.instruction_parts.specs.declared.spelling.PrefixState.{PrefixState}
 use Rattle.instruction_parts.specs.Kinds.{method_of, file_of}
 use Rattle.instruction_parts.specs.Counting.{is_64}
 use Rattle.instruction_parts.specs.Sizes.{is_vex_row, is_lockable, bit_b}
-use Rattle.row_fit.specs.Fits.{kind_at, reads_by, has_modrm, extended, reg_number, rm_number, vvvv_number, is_memory_method, lock_fits, immediate_bytes}
-use Rattle.row_fit.specs.Sound.{Sound, reads_reg, reads_rm, reads_vvvv, reads_opcode, reads_last_byte, kind_is_proper, vex_is_proper, legacy_is_proper, is_no_w, is_no_l, opcode_is_proper, opcodes_of}
+use Rattle.row_fit.specs.Fits.{kind_at, reads_by, has_modrm, extended, reg_number, rm_number, vvvv_number, is_memory_method, lock_fits, immediate_bytes, is_vvvv}
+use Rattle.row_fit.specs.Sound.{Sound, reads_reg, reads_rm, reads_opcode, reads_last_byte, kind_is_proper, vex_is_proper, legacy_is_proper, is_no_w, is_no_l, opcode_is_proper, opcodes_of}
 use Rattle.row_meaning.specs.Meaning.{Tail, register_of, operand_by, last_byte_number, has_memory}
 use Rattle.instruction_parts.proofs.Tests.{either, and_left, and_right, not_true}
 use Rattle.plain_spelling.specs.Forms.{operand_at, is_variant_of, is_allowed_in, is_absent, is_register, is_memory, is_immediate, is_near, is_far}
@@ -152,17 +152,17 @@ locks_fit bits ip row i g =
 -- ---- registers read back
 
 -- vvvv and the last byte name registers on VEX rows alone
-vex_of_vvvv : (row : Row) → Sound row → reads_by reads_vvvv row ≡ true → is_vex_row row ≡ true
+vex_of_vvvv : (row : Row) → Sound row → reads_by is_vvvv row ≡ true → is_vex_row row ≡ true
 unfolding kind_is_proper legacy_is_proper
 vex_of_vvvv row s h = elim (either (is_vex_row row)) [
   | inl vex ↦ vex
   | inr legacy ↦
       let opcodes = list_all (opcode_is_proper row.map) (opcodes_of row) in
-      let vvvv = not (reads_by reads_vvvv row) in
+      let vvvv = not (reads_by is_vvvv row) in
       let last = not (reads_by reads_last_byte row) in
       let l = if_false (is_vex_row row) (vex_is_proper row) (legacy_is_proper row) legacy s.kind in
       let k = and_left vvvv last (and_right opcodes (vvvv && last) (and_right (is_no_l row.l) (opcodes && (vvvv && last)) (and_right (is_no_w row.w) (is_no_l row.l && (opcodes && (vvvv && last))) l))) in
-      let e = not_true (reads_by reads_vvvv row) k in
+      let e = not_true (reads_by is_vvvv row) k in
       cc
 ]
   where
@@ -210,7 +210,7 @@ record ReadBack (bits : Bits) (row : Row) (i : Instr) (n : ℕ) (r : Register) (
   rm : reads_rm how ≡ true → rm_number bits (plain_front_of bits row i) t.modrm ≡ register_number r
   mode : reads_rm how ≡ true → has_modrm (λ m. nat_lt m.mode3 3) t.modrm ≡ false
   opcode : reads_opcode how ≡ true → extended (bit_b bits (plain_front_of bits row i)) ((plain_front_of bits row i).opcode % 8) ≡ register_number r
-  vvvv : reads_vvvv how ≡ true → vvvv_number bits (plain_front_of bits row i) ≡ register_number r
+  vvvv : is_vvvv how ≡ true → vvvv_number bits (plain_front_of bits row i) ≡ register_number r
   last : how ≡ method.LastByte → last_byte_number bits imm ≡ register_number r
 
 -- a register by its number
@@ -245,7 +245,7 @@ register_back bits ip row i n r t next imm g below e modrm bytes = read_by bits 
       ap (has_modrm (λ m. nat_lt m.mode3 3)) (modrm ∙ k.is_plain) ∙ ap (λ (x : ℕ). nat_lt x 3) k.mode;
   opcode = λ reads. opcode_number bits ip row i n r g below reads e;
   vvvv = λ reads.
-      (says bits ip row i g).vvvv (vex_of_vvvv row g.is_sound (reads-at reads_vvvv row n g.is_sound below reads))
+      (says bits ip row i g).vvvv (vex_of_vvvv row g.is_sound (reads-at is_vvvv row n g.is_sound below reads))
       ∙ asked_vvvv-at row i n g.is_sound g.four below reads ∙ ap operand_number e;
   last = λ how.
       last_number bits (register_number r) imm (nameable-at bits row i n r g.suits.registers below e).number

@@ -34,7 +34,7 @@ use Rattle.instruction_parts.specs.Sizes.{is_vex_row, state_size, shared_bit, bi
 use Rattle.instruction_parts.specs.Bytes.{bit, state_of}
 use Rattle.instruction_parts.proofs.Tests.{either, and_left, and_right, not_true, equal_from}
 use Rattle.row_fit.specs.Fits.{reads_by, is_vvvv, kind_at, same_bool, same_map, size_fits, w_fits, l_fits, sizes_fit, vvvv_fits, vvvv_number, takes_w_as_size, vex_class_fits, opcode_fits, opcode_and_modrm_fit}
-use Rattle.row_fit.specs.Sound.{Sound, kind_is_proper, vex_is_proper, legacy_is_proper, size_says_w, is_no_w, is_no_l, is_class_of_vex, is_size_of_vex, reads_vvvv}
+use Rattle.row_fit.specs.Sound.{Sound, kind_is_proper, vex_is_proper, legacy_is_proper, size_says_w, is_no_w, is_no_l, is_class_of_vex, is_size_of_vex}
 use Rattle.row_meaning.specs.Meaning.{Tail, operand_by, register_of, tail_of}
 use Rattle.plain_spelling.specs.Forms.{operand_at}
 use Rattle.plain_spelling.specs.PlainFront.{register_number, operand_number, number_in_vvvv, asked, asks_r, asks_x, asks_b, asks_low_byte, asks_rex_w, asks_vex_w, asked_rex, class_pp, asked_vex, asked_opcode, plain_front_of}
@@ -303,12 +303,12 @@ vvvv_kept bits row st Hx n h = number-vector row.l n
 vvvv_kept bits row st Ho n h = refl
 vvvv_kept bits row st kind n h = impossible cc
 
-vvvv_operand : (bits : Bits) (row : Row) (st : PrefixState) (t : Tail) (kind : OpKind) (how : Method) (imm : List ℕ) → method_of kind ≡ how → reads_vvvv how ≡ true → operand_number (operand_by bits row st t kind how imm) ≡ vvvv_number bits st
+vvvv_operand : (bits : Bits) (row : Row) (st : PrefixState) (t : Tail) (kind : OpKind) (how : Method) (imm : List ℕ) → method_of kind ≡ how → is_vvvv how ≡ true → operand_number (operand_by bits row st t kind how imm) ≡ vvvv_number bits st
 unfolding operand_by
 vvvv_operand bits row st t kind method.Vvvv imm e h = vvvv_kept bits row st kind (vvvv_number bits st) e
 vvvv_operand bits row st t kind _ imm e h = impossible (sym h)
 
-vvvv_at : (bits : Bits) (ip : ℕ) (code : Code) (row : Row) (s : Spelling) (i : Instr) (n : ℕ) → Given bits ip code row s i → n < 4 → reads_vvvv (method_of (kind_at row n)) ≡ true → operand_number (operand_at i n) ≡ vvvv_number bits (state_of bits row s)
+vvvv_at : (bits : Bits) (ip : ℕ) (code : Code) (row : Row) (s : Spelling) (i : Instr) (n : ℕ) → Given bits ip code row s i → n < 4 → is_vvvv (method_of (kind_at row n)) ≡ true → operand_number (operand_at i n) ≡ vvvv_number bits (state_of bits row s)
 vvvv_at bits ip code row s i n g below reads =
     let st = state_of bits row s in
     let t = tail_of bits ip row s in
@@ -324,17 +324,6 @@ number_of_vvvv bits st v e h = rw e (by_mode (is_64 bits) h)
     by_mode true h = refl
     by_mode false h = (let k = ltb-true v.vvvv 8 h in omega arith)
 
-is_vvvv_same : (how : Method) → is_vvvv how ≡ reads_vvvv how
-is_vvvv_same method.Vvvv = refl
-is_vvvv_same _ = refl
-
-any_same : (p q : OpKind → Bool) (kinds : List OpKind) → ((kind : OpKind) → p kind ≡ q kind) → list_any p kinds ≡ list_any q kinds
-any_same p q [] h = refl
-any_same p q (kind ∷ kinds) h = rw (h kind) (rw (any_same p q kinds h) refl)
-
-reads_vvvv_same : (row : Row) → reads_by is_vvvv row ≡ reads_by reads_vvvv row
-reads_vvvv_same row = any_same (λ kind. is_vvvv (method_of kind)) (λ kind. reads_vvvv (method_of kind)) row.ops (λ kind. is_vvvv_same (method_of kind))
-
 unused_vvvv : (row : Row) (st : PrefixState) (v : Vex) → st.vex ≡ Some v → vvvv_fits row st ≡ true → reads_by is_vvvv row ≡ false → v.vvvv ≡ 0
 unfolding vvvv_fits
 unused_vvvv row st v e h none =
@@ -346,9 +335,9 @@ unused_vvvv row st v e h none =
     or_left false b n h = impossible (sym h ∙ n)
 
 vvvv_same : (bits : Bits) (ip : ℕ) (code : Code) (row : Row) (s : Spelling) (i : Instr) (v : Vex) → Given bits ip code row s i → length i.ops ≡ 4 → (state_of bits row s).vex ≡ Some v → (is_64 bits || nat_lt v.vvvv 8) ≡ true → v.vvvv ≡ asked number_in_vvvv row i
-vvvv_same bits ip code row s i v g four e h = elim (either (reads_by reads_vvvv row)) [
-  | inr none ↦ unused_vvvv row (state_of bits row s) v e g.fitting.vvvv (reads_vvvv_same row ∙ none) ∙ sym (asked_vvvv-none row i none)
-  | inl some ↦ (let k = kind_that_passes (λ kind. reads_vvvv (method_of kind)) row.ops Absent some in
+vvvv_same bits ip code row s i v g four e h = elim (either (reads_by is_vvvv row)) [
+  | inr none ↦ unused_vvvv row (state_of bits row s) v e g.fitting.vvvv none ∙ sym (asked_vvvv-none row i none)
+  | inl some ↦ (let k = kind_that_passes (λ kind. is_vvvv (method_of kind)) row.ops Absent some in
       let kinds = four_kinds row g.is_sound in
       let below : k.0 < 4 = omega (arith, k.1, kinds) in
       sym (number_of_vvvv bits (state_of bits row s) v e h) ∙ sym (vvvv_at bits ip code row s i k.0 g below k.2) ∙ sym (asked_vvvv-at row i k.0 g.is_sound four below k.2))

@@ -25,8 +25,8 @@ use Rattle.instruction_parts.specs.declared.spelling.Sib.{Sib}
 use Rattle.instruction_parts.specs.declared.spelling.PrefixState.{PrefixState}
 use Rattle.instruction_parts.specs.Kinds.{method_of, file_of}
 use Rattle.instruction_parts.specs.Sizes.{is_vex_row, state_size, bit_r, bit_x, bit_b, bit_w}
-use Rattle.row_fit.specs.Fits.{kind_at, has_modrm, reads_by, is_offset}
-use Rattle.row_fit.specs.Sound.{Sound, has_four_operands, plus_is_proper, operands_are_proper, operands_are_apart, at_most_one, reads_reg, reads_rm, reads_vvvv, reads_opcode, reads_last_byte, has_modrm_rule}
+use Rattle.row_fit.specs.Fits.{kind_at, has_modrm, reads_by, is_offset, is_vvvv}
+use Rattle.row_fit.specs.Sound.{Sound, has_four_operands, plus_is_proper, operands_are_proper, operands_are_apart, at_most_one, reads_reg, reads_rm, reads_opcode, reads_last_byte, has_modrm_rule}
 use Rattle.row_meaning.specs.Meaning.{general, byte_register, vector, word_or_dword, size_by_w, native_size, register_of, memory_absolute, near_target, far_pointer, with_modrm, memory_operand, gather_memory, Tail, operand_by, operand_at, instr_of}
 use Rattle.plain_spelling.specs.PlainFront.{number_in_reg, number_in_rm, number_in_index, number_in_vvvv, number_in_opcode, asks_r, asks_x, asks_b, asks_low_byte, is_low_byte_of_rex}
 use Rattle.instruction_parts.proofs.Tests.{either, and_left, and_right, not_true, equal_from}
@@ -67,7 +67,7 @@ readers_or p q (kind ∷ kinds) =
 pub record Apart (row : Row) : Type 0 where
   pub reg : readers reads_reg row.ops ≤ 1
   pub rm : readers reads_rm row.ops ≤ 1
-  pub vvvv : readers reads_vvvv row.ops ≤ 1
+  pub vvvv : readers is_vvvv row.ops ≤ 1
   pub opcode : readers reads_opcode row.ops ≤ 1
   pub last : readers reads_last_byte row.ops ≤ 1
   pub offset : readers is_offset row.ops ≤ 1
@@ -75,7 +75,7 @@ pub record Apart (row : Row) : Type 0 where
 pub apart : (row : Row) → operands_are_apart row ≡ true → Apart row
 unfolding operands_are_apart
 apart row h =
-    let a = at_most_one reads_reg row in let b = at_most_one reads_rm row in let c = at_most_one reads_vvvv row in
+    let a = at_most_one reads_reg row in let b = at_most_one reads_rm row in let c = at_most_one is_vvvv row in
     let d = at_most_one reads_opcode row in let e = at_most_one reads_last_byte row in let f = at_most_one is_offset row in
     let h1 = and_right a (b && (c && (d && (e && f)))) h in
     let h2 = and_right b (c && (d && (e && f))) h1 in
@@ -84,7 +84,7 @@ apart row h =
     record {
       reg = one_reader reads_reg row (and_left a (b && (c && (d && (e && f)))) h);
       rm = one_reader reads_rm row (and_left b (c && (d && (e && f))) h1);
-      vvvv = one_reader reads_vvvv row (and_left c (d && (e && f)) h2);
+      vvvv = one_reader is_vvvv row (and_left c (d && (e && f)) h2);
       opcode = one_reader reads_opcode row (and_left d (e && f) h3);
       last = one_reader reads_last_byte row (and_left e f h4);
       offset = one_reader is_offset row (and_right e f h4);
@@ -151,7 +151,7 @@ unfolding number_in_reg
 silent_reg op method.ModRmReg h = cc
 silent_reg op _ h = refl
 
-pub silent_vvvv : (op : Operand) (how : Method) → reads_vvvv how ≡ false → number_in_vvvv how op ≡ 0
+pub silent_vvvv : (op : Operand) (how : Method) → is_vvvv how ≡ false → number_in_vvvv how op ≡ 0
 unfolding number_in_vvvv
 silent_vvvv op method.Vvvv h = cc
 silent_vvvv op _ h = refl

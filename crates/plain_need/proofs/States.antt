@@ -14,16 +14,10 @@ use Rattle.instruction_parts.specs.Counting.{is_64, counting_rex}
 use Rattle.instruction_parts.specs.Sizes.{is_vex_row, state_size, bit_w}
 use Rattle.instruction_parts.specs.Bytes.{state_of, state_from}
 use Rattle.instruction_parts.specs.Front.{forbids_vex}
+use Rattle.row_fit.proofs.SameMap.{same_map-is}
 use Rattle.row_fit.specs.Fits.{Fits, vex_fits, same_map, is_vex_of_mode, class_fits, legacy_class_fits, vex_class_fits, sizes_fit, size_fits, w_fits, l_fits, fields_in_range, vex_in_range, modrm_in_range, sib_in_range, are_bytes}
 use Rattle.instruction_parts.proofs.Tests.{and_left, and_right, not_true}
 use Rattle.plain_need.proofs.Asks.{differ}
-
-pub same_map_is : (a b : Map) → same_map a b ≡ true → a ≡ b
-same_map_is One One h = refl
-same_map_is M0f M0f h = refl
-same_map_is M0f38 M0f38 h = refl
-same_map_is M0f3a M0f3a h = refl
-same_map_is _ _ h = cc
 
 -- the VEX of a fitting spelling
 pub record VexIs (bits : Bits) (row : Row) (st : PrefixState) : Type 0 where
@@ -77,7 +71,7 @@ vex_at bits row ps (Some v) opcode m h l =
     record {
       v = v;
       stands = refl;
-      map_is = same_map_is v.map row.map (and_left (same_map v.map row.map) _ inner);
+      map_is = same_map-is v.map row.map (and_left (same_map v.map row.map) _ inner);
       mode = and_right (not (forbids_vex bits ps)) (is_vex_of_mode bits v) rest;
     }
 

@@ -29,8 +29,8 @@ use Rattle.instruction_parts.specs.declared.spelling.PrefixState.{PrefixState}
 use Rattle.instruction_parts.specs.Kinds.{method_of, file_of}
 use Rattle.instruction_parts.specs.Sizes.{is_vex_row, is_lockable, state_size, state_address_size, bit_b}
 use Rattle.instruction_parts.specs.Bytes.{state_of}
-use Rattle.row_fit.specs.Fits.{kind_at, has_modrm, reads_by, is_gather, extended, reg_number, vvvv_number, index_number, needs_sib, gather_fits, is_nop_byte, is_memory_method, lock_fits, is_repeat_f3, is_no_repeat, legacy_class_fits, vex_class_fits}
-use Rattle.row_fit.specs.Sound.{Sound, has_four_operands, reads_reg, reads_rm, reads_vvvv, reads_opcode}
+use Rattle.row_fit.specs.Fits.{kind_at, has_modrm, reads_by, is_gather, extended, reg_number, vvvv_number, index_number, needs_sib, gather_fits, is_nop_byte, is_memory_method, lock_fits, is_repeat_f3, is_no_repeat, legacy_class_fits, vex_class_fits, is_vvvv}
+use Rattle.row_fit.specs.Sound.{Sound, has_four_operands, reads_reg, reads_rm, reads_opcode}
 use Rattle.row_meaning.specs.Meaning.{register_of, memory_with_sib, with_modrm, gather_memory, kept_repeat, Tail, tail_of, instr_of, operand_by, own_immediate}
 use Rattle.plain_spelling.specs.Forms.{is_variant_of, is_memory, operand_at}
 use Rattle.plain_spelling.specs.PlainFront.{register_number, number_in_reg, number_in_index, number_in_vvvv, number_in_opcode, operand_index_number, asked, asked_opcode}
@@ -96,7 +96,7 @@ unfolding number_in_reg operand_by
 given_reg bits row st t kind method.ModRmReg own k h = kept_number bits row st (file_of kind) (reg_number st t.modrm) k
 given_reg bits row st t kind _ own k h = cc
 
-given_vvvv : (bits : Bits) (row : Row) (st : PrefixState) (t : Tail) (kind : OpKind) (how : Method) (own : List ℕ) → is_vector_file (file_of kind) ≡ true → reads_vvvv how ≡ true → number_in_vvvv how (operand_by bits row st t kind how own) ≡ vvvv_number bits st
+given_vvvv : (bits : Bits) (row : Row) (st : PrefixState) (t : Tail) (kind : OpKind) (how : Method) (own : List ℕ) → is_vector_file (file_of kind) ≡ true → is_vvvv how ≡ true → number_in_vvvv how (operand_by bits row st t kind how own) ≡ vvvv_number bits st
 unfolding number_in_vvvv operand_by
 given_vvvv bits row st t kind method.Vvvv own k h = kept_number bits row st (file_of kind) (vvvv_number bits st) k
 given_vvvv bits row st t kind _ own k h = cc
@@ -153,7 +153,7 @@ or_more false b h = h
 -- what a row with a gather is
 record Whole (row : Row) : Type 0 where
   reg : reads_by reads_reg row ≡ true
-  vvvv : reads_by reads_vvvv row ≡ true
+  vvvv : reads_by is_vvvv row ≡ true
   vectors : list_all names_vectors row.ops ≡ true
 
 any_rule : (rule : ModRmRule) (x : Bool) → (elim rule [ AnyModRm ↦ x | _ ↦ false ]) ≡ true → x ≡ true
@@ -168,8 +168,8 @@ whole row h gather =
     let rest = and_right (reads_by reads_reg row) _ rule in
     record {
       reg = and_left (reads_by reads_reg row) _ rule;
-      vvvv = and_left (reads_by reads_vvvv row) _ rest;
-      vectors = and_right (reads_by reads_vvvv row) _ rest;
+      vvvv = and_left (reads_by is_vvvv row) _ rest;
+      vectors = and_right (reads_by is_vvvv row) _ rest;
     }
 
 asked_reg : (bits : Bits) (code : Code) (row : Row) (st : PrefixState) (t : Tail) (imm : List ℕ) → Sound row → Whole row → asked number_in_reg row (instr_of bits code row st t imm) ≡ reg_number st t.modrm
@@ -183,9 +183,9 @@ asked_reg bits code row st t imm sound w =
 asked_vvvv : (bits : Bits) (code : Code) (row : Row) (st : PrefixState) (t : Tail) (imm : List ℕ) → Sound row → Whole row → asked number_in_vvvv row (instr_of bits code row st t imm) ≡ vvvv_number bits st
 asked_vvvv bits code row st t imm sound w =
     let v = vvvv_number bits st in
-    asked_is v reads_vvvv number_in_vvvv row.ops _ w.vvvv (apart row sound.apart).vvvv
-    (hold_all names_vectors (Gives v reads_vvvv number_in_vvvv) row.ops _ w.vectors
-    (each_read (λ kind op. names_vectors kind ≡ true → Gives v reads_vvvv number_in_vvvv kind op) bits code row st t imm sound.four_operands
+    asked_is v is_vvvv number_in_vvvv row.ops _ w.vvvv (apart row sound.apart).vvvv
+    (hold_all names_vectors (Gives v is_vvvv number_in_vvvv) row.ops _ w.vectors
+    (each_read (λ kind op. names_vectors kind ≡ true → Gives v is_vvvv number_in_vvvv kind op) bits code row st t imm sound.four_operands
     (λ kind own k. (
       λ h. given_vvvv bits row st t kind (method_of kind) own
           (vectors_named kind k (or_more (reads_reg (method_of kind)) _ (or_more (reads_rm (method_of kind)) _ h))) h,

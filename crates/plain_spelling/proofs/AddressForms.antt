@@ -12,8 +12,8 @@ use Rattle.instruction_parts.specs.declared.kinds.File.{File}
 use Rattle.instruction_parts.specs.declared.kinds.File.TheVariants.{Xmm as XmmFile, Vector as VectorFile}
 use Rattle.instruction_parts.specs.Kinds.{method_of, file_of}
 use Rattle.instruction_parts.specs.Counting.{is_64}
-use Rattle.row_fit.specs.Fits.{full_displacement}
-use Rattle.row_fit.specs.Sound.{reads_reg, reads_rm, reads_vvvv}
+use Rattle.row_fit.specs.Fits.{full_displacement, is_vvvv}
+use Rattle.row_fit.specs.Sound.{reads_reg, reads_rm}
 use Rattle.plain_spelling.specs.Values.{is_extended_of}
 use Rattle.plain_spelling.specs.Forms.{operand_at, is_memory}
 use Rattle.plain_spelling.specs.Expressible.{has_memory_operand}
@@ -83,5 +83,5 @@ or_left_not false true h e = h
 or_left_not false false h e = e
 
 -- a kind that names vector registers, where it is read from reg, r/m or vvvv
-pub vectors_named : (kind : OpKind) → names_vectors kind ≡ true → (reads_reg (method_of kind) || (reads_rm (method_of kind) || reads_vvvv (method_of kind))) ≡ true → is_vector_file (file_of kind) ≡ true
+pub vectors_named : (kind : OpKind) → names_vectors kind ≡ true → (reads_reg (method_of kind) || (reads_rm (method_of kind) || is_vvvv (method_of kind))) ≡ true → is_vector_file (file_of kind) ≡ true
 vectors_named kind h e = or_left_not (is_vector_file (file_of kind)) _ h e

@@ -23,8 +23,8 @@ use Rattle.instruction_parts.specs.declared.kinds.Method.TheVariants as method
 use Rattle.instruction_parts.specs.declared.kinds.File.{File}
 use Rattle.instruction_parts.specs.Kinds.{method_of, file_of}
 use Rattle.instruction_parts.specs.Sizes.{is_vex_row}
-use Rattle.row_fit.specs.Fits.{kind_at, reads_by, is_offset, is_any_mode}
-use Rattle.row_fit.specs.Sound.{Sound, count_where, at_most_one, reads_reg, reads_rm, reads_vvvv, reads_opcode, reads_last_byte, has_modrm_rule, is_any_place, plus_is_proper, operands_are_proper, operands_are_apart, has_four_operands}
+use Rattle.row_fit.specs.Fits.{kind_at, reads_by, is_offset, is_any_mode, is_vvvv}
+use Rattle.row_fit.specs.Sound.{Sound, count_where, at_most_one, reads_reg, reads_rm, reads_opcode, reads_last_byte, has_modrm_rule, is_any_place, plus_is_proper, operands_are_proper, operands_are_apart, has_four_operands}
 use Rattle.instruction_parts.proofs.Tests.{either, and_left, and_right, not_true, equal_from}
 use Rattle.plain_spelling.specs.Forms.{operand_at, is_variant_of}
 use Rattle.plain_spelling.specs.PlainFront.{over_operands, operand_number, base_or_register_number, operand_index_number, number_in_reg, number_in_rm, number_in_index, number_in_vvvv, number_in_opcode, asked, number_or_zero}
@@ -203,7 +203,7 @@ at_most p row h = leb-true (count_by p row.ops) 1 h
 record Apart (row : Row) : Type 0 where
   reg : count_by reads_reg row.ops ≤ 1
   rm : count_by reads_rm row.ops ≤ 1
-  vvvv : count_by reads_vvvv row.ops ≤ 1
+  vvvv : count_by is_vvvv row.ops ≤ 1
   opcode : count_by reads_opcode row.ops ≤ 1
   last : count_by reads_last_byte row.ops ≤ 1
   offset : count_by is_offset row.ops ≤ 1
@@ -213,7 +213,7 @@ unfolding operands_are_apart
 apart row s =
     let a = at_most_one reads_reg row in
     let b = at_most_one reads_rm row in
-    let c = at_most_one reads_vvvv row in
+    let c = at_most_one is_vvvv row in
     let d = at_most_one reads_opcode row in
     let e = at_most_one reads_last_byte row in
     let f = at_most_one is_offset row in
@@ -224,7 +224,7 @@ apart row s =
     record {
       reg = at_most reads_reg row (and_left a (b && (c && (d && (e && f)))) s.apart);
       rm = at_most reads_rm row (and_left b (c && (d && (e && f))) h1);
-      vvvv = at_most reads_vvvv row (and_left c (d && (e && f)) h2);
+      vvvv = at_most is_vvvv row (and_left c (d && (e && f)) h2);
       opcode = at_most reads_opcode row (and_left d (e && f) h3);
       last = at_most reads_last_byte row (and_left e f h4);
       offset = at_most is_offset row (and_right e f h4);
@@ -350,12 +350,12 @@ unfolding number_in_reg
 reg_shows method.ModRmReg op h = refl
 reg_shows _ op h = cc
 
-vvvv_vanishes : (how : Method) (op : Operand) → reads_vvvv how ≡ false → number_in_vvvv how op ≡ 0
+vvvv_vanishes : (how : Method) (op : Operand) → is_vvvv how ≡ false → number_in_vvvv how op ≡ 0
 unfolding number_in_vvvv
 vvvv_vanishes method.Vvvv op h = cc
 vvvv_vanishes _ op h = refl
 
-vvvv_shows : (how : Method) (op : Operand) → reads_vvvv how ≡ true → number_in_vvvv how op ≡ operand_number op
+vvvv_shows : (how : Method) (op : Operand) → is_vvvv how ≡ true → number_in_vvvv how op ≡ operand_number op
 unfolding number_in_vvvv
 vvvv_shows method.Vvvv op h = refl
 vvvv_shows _ op h = cc
@@ -410,12 +410,12 @@ asked_reg-at row i n s four h e =
 pub asked_reg-none : (row : Row) (i : Instr) → reads_by reads_reg row ≡ false → asked number_in_reg row i ≡ 0
 asked_reg-none row i h = no_field reads_reg number_in_reg row i (λ k _ other. reg_vanishes _ _ other) h
 
-pub asked_vvvv-at : (row : Row) (i : Instr) (n : ℕ) → Sound row → length i.ops ≡ 4 → n < 4 → reads_vvvv (method_of (kind_at row n)) ≡ true → asked number_in_vvvv row i ≡ operand_number (operand_at i n)
+pub asked_vvvv-at : (row : Row) (i : Instr) (n : ℕ) → Sound row → length i.ops ≡ 4 → n < 4 → is_vvvv (method_of (kind_at row n)) ≡ true → asked number_in_vvvv row i ≡ operand_number (operand_at i n)
 asked_vvvv-at row i n s four h e =
-    at_field reads_vvvv number_in_vvvv row i n s four h (λ k _ other. vvvv_vanishes _ _ other) (apart row s).vvvv e ∙ vvvv_shows _ _ e
+    at_field is_vvvv number_in_vvvv row i n s four h (λ k _ other. vvvv_vanishes _ _ other) (apart row s).vvvv e ∙ vvvv_shows _ _ e
 
-pub asked_vvvv-none : (row : Row) (i : Instr) → reads_by reads_vvvv row ≡ false → asked number_in_vvvv row i ≡ 0
-asked_vvvv-none row i h = no_field reads_vvvv number_in_vvvv row i (λ k _ other. vvvv_vanishes _ _ other) h
+pub asked_vvvv-none : (row : Row) (i : Instr) → reads_by is_vvvv row ≡ false → asked number_in_vvvv row i ≡ 0
+asked_vvvv-none row i h = no_field is_vvvv number_in_vvvv row i (λ k _ other. vvvv_vanishes _ _ other) h
 
 pub asked_opcode-at : (row : Row) (i : Instr) (n : ℕ) → Sound row → length i.ops ≡ 4 → n < 4 → reads_opcode (method_of (kind_at row n)) ≡ true → asked number_in_opcode row i ≡ operand_number (operand_at i n)
 asked_opcode-at row i n s four h e =

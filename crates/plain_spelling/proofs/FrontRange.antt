@@ -16,8 +16,8 @@ use Rattle.row_types.specs.declared.OpKind.TheVariants.{Absent}
 use Rattle.instruction_parts.specs.declared.spelling.Vex.{Vex}
 use Rattle.instruction_parts.specs.Kinds.{method_of, file_of}
 use Rattle.instruction_parts.specs.Sizes.{is_vex_row}
-use Rattle.row_fit.specs.Fits.{is_map_one, same_map, reads_by, vex_in_range}
-use Rattle.row_fit.specs.Sound.{Sound, reads_vvvv, kind_is_proper, vex_is_proper, is_no_w, is_no_l, is_class_of_vex, is_size_of_vex, size_says_w, is_one, is_fixed_rule, is_byte_file, has_four_operands}
+use Rattle.row_fit.specs.Fits.{is_map_one, same_map, reads_by, vex_in_range, is_vvvv}
+use Rattle.row_fit.specs.Sound.{Sound, kind_is_proper, vex_is_proper, is_no_w, is_no_l, is_class_of_vex, is_size_of_vex, size_says_w, is_fixed_rule, is_byte_file, has_four_operands}
 use Rattle.instruction_parts.proofs.Tests.{either, and_left, and_right, not_true, or_right, equal_from}
 use Rattle.plain_spelling.specs.PlainFront.{number_in_vvvv, asked, asks_r, asks_x, asks_b, asks_vex_w, asked_vex, class_pp, plain_front_of, byte_front}
 use Rattle.plain_spelling.specs.Expressible.{each_operand, register_suits}
@@ -54,20 +54,20 @@ vex_of_legacy row i h = rw h refl
 -- the parts of a VEX row
 pub record VexRow (row : Row) : Type 0 where
   pub class : is_class_of_vex row.class ≡ true
-  pub map : is_one row.map ≡ false
+  pub map : is_map_one row.map ≡ false
 
 vex_row_from : (row : Row) → vex_is_proper row ≡ true → VexRow row
 unfolding vex_is_proper
 vex_row_from row h =
     let bytes = not (list_any (λ kind. is_byte_file (file_of kind)) row.ops) in
-    let h1 = and_right (not (is_no_w row.w)) (not (is_no_l row.l) && (is_class_of_vex row.class && (is_size_of_vex row.size && (size_says_w row.size row.w && (not (is_one row.map) && (not (is_fixed_rule row.modrm) && bytes)))))) h in
-    let h2 = and_right (not (is_no_l row.l)) (is_class_of_vex row.class && (is_size_of_vex row.size && (size_says_w row.size row.w && (not (is_one row.map) && (not (is_fixed_rule row.modrm) && bytes))))) h1 in
-    let h3 = and_right (is_class_of_vex row.class) (is_size_of_vex row.size && (size_says_w row.size row.w && (not (is_one row.map) && (not (is_fixed_rule row.modrm) && bytes)))) h2 in
-    let h4 = and_right (is_size_of_vex row.size) (size_says_w row.size row.w && (not (is_one row.map) && (not (is_fixed_rule row.modrm) && bytes))) h3 in
-    let h5 = and_right (size_says_w row.size row.w) (not (is_one row.map) && (not (is_fixed_rule row.modrm) && bytes)) h4 in
+    let h1 = and_right (not (is_no_w row.w)) (not (is_no_l row.l) && (is_class_of_vex row.class && (is_size_of_vex row.size && (size_says_w row.size row.w && (not (is_map_one row.map) && (not (is_fixed_rule row.modrm) && bytes)))))) h in
+    let h2 = and_right (not (is_no_l row.l)) (is_class_of_vex row.class && (is_size_of_vex row.size && (size_says_w row.size row.w && (not (is_map_one row.map) && (not (is_fixed_rule row.modrm) && bytes))))) h1 in
+    let h3 = and_right (is_class_of_vex row.class) (is_size_of_vex row.size && (size_says_w row.size row.w && (not (is_map_one row.map) && (not (is_fixed_rule row.modrm) && bytes)))) h2 in
+    let h4 = and_right (is_size_of_vex row.size) (size_says_w row.size row.w && (not (is_map_one row.map) && (not (is_fixed_rule row.modrm) && bytes))) h3 in
+    let h5 = and_right (size_says_w row.size row.w) (not (is_map_one row.map) && (not (is_fixed_rule row.modrm) && bytes)) h4 in
     record {
-      class = and_left (is_class_of_vex row.class) (is_size_of_vex row.size && (size_says_w row.size row.w && (not (is_one row.map) && (not (is_fixed_rule row.modrm) && bytes)))) h2;
-      map = not_true (is_one row.map) (and_left (not (is_one row.map)) (not (is_fixed_rule row.modrm) && bytes) h5);
+      class = and_left (is_class_of_vex row.class) (is_size_of_vex row.size && (size_says_w row.size row.w && (not (is_map_one row.map) && (not (is_fixed_rule row.modrm) && bytes)))) h2;
+      map = not_true (is_map_one row.map) (and_left (not (is_map_one row.map)) (not (is_fixed_rule row.modrm) && bytes) h5);
     }
 
 pub vex_row : (row : Row) → Sound row → is_vex_row row ≡ true → VexRow row
@@ -75,12 +75,6 @@ unfolding kind_is_proper
 vex_row row s vex = vex_row_from row (rw vex at s.kind)
 
 -- ---- the ranges
-
-map_is_not_one : (map : Map) → is_one map ≡ false → is_map_one map ≡ false
-map_is_not_one One h = h
-map_is_not_one M0f h = refl
-map_is_not_one M0f38 h = refl
-map_is_not_one M0f3a h = refl
 
 pp_below : (class : Class) → class_pp class < 4
 unfolding class_pp
@@ -104,7 +98,7 @@ unfolding vex_in_range
 vex_for-range row i s small vex =
     rw (lt-ltb (asked number_in_vvvv row i) 16 small)
     (rw (lt-ltb (class_pp row.class) 4 (pp_below row.class))
-    (rw (map_is_not_one row.map (vex_row row s vex).map) (two_or_three (same_map row.map M0f) (asks_x row i) (asks_b row i) (asks_vex_w row))))
+    (rw (vex_row row s vex).map (two_or_three (same_map row.map M0f) (asks_x row i) (asks_b row i) (asks_vex_w row))))
 
 no_vex_in_range : vex_in_range None ≡ true
 unfolding vex_in_range
@@ -134,9 +128,9 @@ four_kinds_of row s = equal_from (length row.ops) 4 s.four_operands
 
 -- **where each register operand can be named, vvvv has a number of the mode**
 pub vvvv-small : (bits : Bits) (row : Row) (i : Instr) → Sound row → length i.ops ≡ 4 → each_operand (register_suits bits row i) ≡ true → asked number_in_vvvv row i < 16
-vvvv-small bits row i s four h = elim (either (reads_by reads_vvvv row)) [
+vvvv-small bits row i s four h = elim (either (reads_by is_vvvv row)) [
   | inl reads ↦
-      let some = some_kind (λ kind. reads_vvvv (method_of kind)) row.ops reads in
+      let some = some_kind (λ kind. is_vvvv (method_of kind)) row.ops reads in
       let whole = four_kinds_of row s in
       let n = some.0 in
       let within : n < 4 = omega (arith, some.1) in

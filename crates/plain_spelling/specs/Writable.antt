@@ -21,8 +21,8 @@ use Rattle.instruction_parts.specs.declared.kinds.Width.TheVariants as bytes
 use Rattle.instruction_parts.specs.Kinds.{method_of, file_of, immediate_width}
 use Rattle.instruction_parts.specs.Counting.{is_64}
 use Rattle.instruction_parts.specs.Sizes.{exists_in, is_vex_row, is_lockable, has_caret, has_bang}
-use Rattle.row_fit.specs.Fits.{is_map_one, size_fits, is_opcode, reads_by, is_gather, is_nop_byte}
-use Rattle.row_fit.specs.Sound.{opcodes_of, reads_reg, reads_rm, reads_vvvv, reads_opcode}
+use Rattle.row_fit.specs.Fits.{is_map_one, size_fits, is_opcode, reads_by, is_gather, is_nop_byte, is_vvvv}
+use Rattle.row_fit.specs.Sound.{opcodes_of, reads_reg, reads_rm, reads_opcode}
 use Rattle.plain_spelling.specs.PlainFront.{asks_rex_w, asks_vex_w, asks_66}
 use Rattle.plain_spelling.specs.PlainTail.{plain_size}
 
@@ -159,14 +159,14 @@ is_vector_file _ = false
 -- a kind that is read from reg, r/m or vvvv names vector registers
 abbrev pub names_vectors : OpKind → Bool
 names_vectors kind =
-    is_vector_file (file_of kind) || not (reads_reg (method_of kind) || (reads_rm (method_of kind) || reads_vvvv (method_of kind)))
+    is_vector_file (file_of kind) || not (reads_reg (method_of kind) || (reads_rm (method_of kind) || is_vvvv (method_of kind)))
 
 -- a gather has a destination in reg and a mask in vvvv, and they and its index are vector registers (2.3.12)
 unfoldable pub gather_is_whole : Row → Bool
 gather_is_whole row =
     not (reads_by is_gather row)
     || (is_vex_row row
-    && (elim row.modrm [ AnyModRm ↦ reads_by reads_reg row && (reads_by reads_vvvv row && list_all names_vectors row.ops) | _ ↦ false ]))
+    && (elim row.modrm [ AnyModRm ↦ reads_by reads_reg row && (reads_by is_vvvv row && list_all names_vectors row.ops) | _ ↦ false ]))
 
 -- ---- all of it
 

@@ -12,8 +12,8 @@ use Rattle.row_types.specs.declared.Plus.{Plus}
 use Rattle.row_types.specs.declared.Plus.TheVariants.{No as NoPlus, Register as PlusRegister, Stack as PlusStack}
 use Rattle.instruction_parts.specs.Counting.{is_prefix}
 use Rattle.instruction_parts.specs.Sizes.{exists_in, is_vex_row}
-use Rattle.row_fit.specs.Fits.{opcode_fits, reads_by}
-use Rattle.row_fit.specs.Sound.{sound, Sound, has_four_operands, opcodes_are_bytes, kind_is_proper, reads_vvvv, reads_last_byte, rule_in_range, plus_is_proper, vex_is_proper, legacy_is_proper, opcode_is_proper, opcodes_of, is_one, is_no_w, is_no_l, opcode_is_no_prefix, opcode_is_no_prefix_in, operands_are_proper, operands_are_apart, immediates_are_short, begins_nothing}
+use Rattle.row_fit.specs.Fits.{opcode_fits, reads_by, is_vvvv, is_map_one}
+use Rattle.row_fit.specs.Sound.{sound, Sound, has_four_operands, opcodes_are_bytes, kind_is_proper, reads_last_byte, rule_in_range, plus_is_proper, vex_is_proper, legacy_is_proper, opcode_is_proper, opcodes_of, is_no_w, is_no_l, opcode_is_no_prefix, opcode_is_no_prefix_in, operands_are_proper, operands_are_apart, immediates_are_short, begins_nothing}
 use borrow.Author.Tests.{ltb-true}
 use Rattle.instruction_parts.proofs.Tests.{either, and_left, and_right, not_true, or_right, equal_from}
 
@@ -107,7 +107,7 @@ if_false false a b n h = h
 legacy_opcodes : (row : Row) → is_vex_row row ≡ false → kind_is_proper row ≡ true → list_all (opcode_is_proper row.map) (opcodes_of row) ≡ true
 unfolding kind_is_proper legacy_is_proper
 legacy_opcodes row legacy h =
-    let no_vvvv = not (reads_by reads_vvvv row) && not (reads_by reads_last_byte row) in
+    let no_vvvv = not (reads_by is_vvvv row) && not (reads_by reads_last_byte row) in
     let opcodes = list_all (opcode_is_proper row.map) (opcodes_of row) in
     let l = if_false (is_vex_row row) (vex_is_proper row) (legacy_is_proper row) legacy h in
     and_left opcodes no_vvvv (and_right (is_no_l row.l) (opcodes && no_vvvv) (and_right (is_no_w row.w) (is_no_l row.l && (opcodes && no_vvvv)) l))
@@ -118,18 +118,18 @@ each_mode p B16 h1 h2 h3 = h1
 each_mode p B32 h1 h2 h3 = h2
 each_mode p B64 h1 h2 h3 = h3
 
-no_prefix_of_mode : (bits : Bits) (row : Row) → is_one row.map ≡ true → opcode_is_no_prefix row ≡ true → exists_in bits row ≡ true → list_any (is_prefix bits) (opcodes_of row) ≡ false
+no_prefix_of_mode : (bits : Bits) (row : Row) → is_map_one row.map ≡ true → opcode_is_no_prefix row ≡ true → exists_in bits row ≡ true → list_any (is_prefix bits) (opcodes_of row) ≡ false
 unfolding opcode_is_no_prefix opcode_is_no_prefix_in
 no_prefix_of_mode bits row one h here =
     let a = opcode_is_no_prefix_in B16 row in
     let b = opcode_is_no_prefix_in B32 row in
     let c = opcode_is_no_prefix_in B64 row in
-    let all = or_right (not (is_one row.map)) (a && (b && c)) (ap not one) h in
+    let all = or_right (not (is_map_one row.map)) (a && (b && c)) (ap not one) h in
     not_true (list_any (is_prefix bits) (opcodes_of row))
     (or_right (not (exists_in bits row)) (not (list_any (is_prefix bits) (opcodes_of row))) (ap not here)
     (each_mode (λ m. opcode_is_no_prefix_in m row) bits (and_left a (b && c) all) (and_left b c (and_right a (b && c) all)) (and_right b c (and_right a (b && c) all))))
 
-begins_nothing_from : (bits : Bits) (map : Map) (o : ℕ) → opcode_is_proper map o ≡ true → (is_one map ≡ true → is_prefix bits o ≡ false) → begins_nothing bits map o ≡ true
+begins_nothing_from : (bits : Bits) (map : Map) (o : ℕ) → opcode_is_proper map o ≡ true → (is_map_one map ≡ true → is_prefix bits o ≡ false) → begins_nothing bits map o ≡ true
 unfolding begins_nothing opcode_is_proper
 begins_nothing_from bits One o h p =
     let all = not_true ((((o == 0x0F) || (o == 0x66)) || (o == 0xF2)) || (o == 0xF3)) h in

@@ -26,7 +26,7 @@ use Rattle.instruction_parts.specs.declared.kinds.File.TheVariants.{Byte as Byte
 use Rattle.instruction_parts.specs.Kinds.{method_of, file_of}
 use Rattle.instruction_parts.specs.Counting.{is_prefix}
 use Rattle.instruction_parts.specs.Sizes.{exists_in, is_vex_row}
-use Rattle.row_fit.specs.Fits.{reads_by, is_any_mode, immediates_bytes, is_offset}
+use Rattle.row_fit.specs.Fits.{reads_by, is_any_mode, is_map_one, is_vvvv, immediates_bytes, is_offset}
 
 -- ---- how many operands are read from a place
 
@@ -52,11 +52,6 @@ reads_rm MemoryOnly = true
 reads_rm AnyMode = true
 reads_rm Gather = true
 reads_rm _ = false
-
--- a register by vvvv
-abbrev pub reads_vvvv : Method → Bool
-reads_vvvv Vvvv = true
-reads_vvvv _ = false
 
 -- a register by the low bits of the opcode byte
 abbrev pub reads_opcode : Method → Bool
@@ -121,11 +116,6 @@ is_size_of_vex SizeW0 = true
 is_size_of_vex SizeW1 = true
 is_size_of_vex _ = false
 
--- the one-byte map
-abbrev pub is_one : Map → Bool
-is_one One = true
-is_one _ = false
-
 -- the ModRM byte is fixed
 abbrev pub is_fixed_rule : ModRmRule → Bool
 is_fixed_rule (FixedByte _) = true
@@ -144,7 +134,7 @@ opcodes_of row =
 unfoldable pub legacy_is_proper : Row → Bool
 legacy_is_proper row =
     is_no_w row.w && (is_no_l row.l && (list_all (opcode_is_proper row.map) (opcodes_of row)
-    && (not (reads_by reads_vvvv row) && not (reads_by reads_last_byte row))))
+    && (not (reads_by is_vvvv row) && not (reads_by reads_last_byte row))))
 
 -- no operand of a VEX row is a byte register
 abbrev pub is_byte_file : File → Bool
@@ -161,7 +151,7 @@ size_says_w _ w = true
 unfoldable pub vex_is_proper : Row → Bool
 vex_is_proper row =
     not (is_no_w row.w) && (not (is_no_l row.l) && (is_class_of_vex row.class && (is_size_of_vex row.size
-    && (size_says_w row.size row.w && (not (is_one row.map) && (not (is_fixed_rule row.modrm)
+    && (size_says_w row.size row.w && (not (is_map_one row.map) && (not (is_fixed_rule row.modrm)
     && not (list_any (λ kind. is_byte_file (file_of kind)) row.ops)))))))
 
 -- in a mode in which a row of the one-byte map exists, its opcode byte is no prefix
@@ -172,7 +162,7 @@ opcode_is_no_prefix_in bits row =
 -- the same in each mode
 unfoldable pub opcode_is_no_prefix : Row → Bool
 opcode_is_no_prefix row =
-    not (is_one row.map)
+    not (is_map_one row.map)
     || (opcode_is_no_prefix_in B16 row && (opcode_is_no_prefix_in B32 row && opcode_is_no_prefix_in B64 row))
 
 -- the row has no limit to register or memory
@@ -192,7 +182,7 @@ operands_are_proper row =
 -- no two operands are read from one place
 unfoldable pub operands_are_apart : Row → Bool
 operands_are_apart row =
-    at_most_one reads_reg row && (at_most_one reads_rm row && (at_most_one reads_vvvv row
+    at_most_one reads_reg row && (at_most_one reads_rm row && (at_most_one is_vvvv row
     && (at_most_one reads_opcode row && (at_most_one reads_last_byte row && at_most_one is_offset row))))
 
 -- the immediates fit their list, whatever the operand size
