@@ -9,7 +9,9 @@ use Rattle.std.proofs.lemmas.Bool.{and_parts}
 use Rattle.text_parts.specs.declared.style.Style.TheVariants.{Intel}
 use Rattle.sweep_text.specs.Listing.{byte_directive, single_byte_text}
 use Rattle.text_parts.specs.Numbers.{hex_digit, digit_at, last_digits, digit_count, hexadecimal, number}
-use Rattle.asm_run.specs.Bytes.{digit_value, two_digits, byte_of_digits}
+use Rattle.text_parts.specs.declared.digit_values.LetterCase.TheVariants.{Lower}
+use Rattle.text_parts.specs.DigitValues.{digit_value, upper_value}
+use Rattle.asm_run.specs.Bytes.{two_digits, byte_of_digits}
 use Rattle.asm_run.specs.Lines.{IsByteLine}
 
 -- ---- tests of many numbers
@@ -45,7 +47,7 @@ unfoldable reads_back : ℕ → Bool
 reads_back b = is_read_as b (byte_of_digits (hexadecimal b))
 
 all_read_back : all_below reads_back 256 ≡ true
-unfolding all_below reads_back byte_of_digits two_digits digit_value hexadecimal last_digits digit_at hex_digit digit_count count_leading_zeros
+unfolding all_below reads_back byte_of_digits two_digits digit_value upper_value hexadecimal last_digits digit_at hex_digit digit_count count_leading_zeros
 all_read_back = refl
 
 -- the digits of a byte are read as it
@@ -87,8 +89,8 @@ two_of high low some h l =
 
 -- ---- what is read
 
-digit_read : (c d : ℕ) → digit_value c ≡ Some d → (d < 16) × (c ≡ hex_digit d)
-unfolding digit_value hex_digit
+digit_read : (c d : ℕ) → digit_value Lower c ≡ Some d → (d < 16) × (c ≡ hex_digit d)
+unfolding digit_value upper_value hex_digit
 digit_read c d h = grind (arith, nat_tests)
 
 same_value : (x y : ℕ) → Some x ≡ Some y → x ≡ y
@@ -99,7 +101,7 @@ chosen true n b e = cc
 chosen false n b e = (refl, same_value n b e)
 
 -- two digits that are read
-both_read : (high low : ℕ) (h l : Option ℕ) (b : ℕ) → digit_value high ≡ h → digit_value low ≡ l → two_digits h l ≡ Some b →
+both_read : (high low : ℕ) (h l : Option ℕ) (b : ℕ) → digit_value Lower high ≡ h → digit_value Lower low ≡ l → two_digits h l ≡ Some b →
     (b < 256) × (high ∷ (low ∷ []) ≡ hexadecimal b)
 unfolding two_digits
 both_read high low None l b he le e = cc

@@ -6,21 +6,8 @@ ghost use Rattle.asm_run.specs.Lines.{IsByteLine, IsCodeOfLine};
 
 use arrayvec::ArrayVec;
 use intel_reader::assemble;
+use text_parts::digit_values::{LetterCase, digit_value};
 use x86_values::Bits;
-
-/// The value of a lower-case hexadecimal digit.
-#[inline]
-#[tactic(auto, unfolding(crate::specs::Bytes::digit_value))]
-fn digit_value(c: u8) -> Option<u8>
-    ensures value { result ≡ spec.digit_value c }
-    ensures small { IfSome result (λ d. d < 16) }
-{
-    match c {
-        b'0'..=b'9' => Some(c - b'0'),
-        b'a'..=b'f' => Some(c - b'a' + 10),
-        _ => None,
-    }
-}
 
 /// The number of two digits, the first of which is not 0.
 #[inline]
@@ -42,8 +29,11 @@ fn byte_of_digits(digits: &[u8]) -> Option<u8>
     ensures { result ≡ spec.byte_of_digits digits.now }
 {
     match digits {
-        [low] => digit_value(*low),
-        [high, low] => two_digits(digit_value(*high), digit_value(*low)),
+        [low] => digit_value(LetterCase::Lower, *low),
+        [high, low] => two_digits(
+            digit_value(LetterCase::Lower, *high),
+            digit_value(LetterCase::Lower, *low),
+        ),
         _ => None,
     }
 }

@@ -3,7 +3,6 @@ use Rattle.std.proofs.Common.{◌≡◌, ℕ, ◌+◌, Bool, true, false, List, 
 use Rattle.std.proofs.lemmas.List.{append-nil, append_assoc}
 use Rattle.arrayvec.specs.ArrayVec.{ArrayVec}
 use Rattle.x86_values.specs.declared.Bits.{Bits}
-use Rattle.x86_values.specs.declared.Bits.TheVariants.{B16, B32, B64}
 use Rattle.x86_values.specs.declared.Instr.{Instr}
 use Rattle.x86_values.specs.Wrapping.{wrapped}
 use Rattle.plain_spelling.specs.declared.NoSpelling.{NoSpelling}
@@ -11,21 +10,15 @@ use Rattle.encoder.specs.Encoding.{encoding, written}
 use Rattle.block_encoder.specs.Bytes.{in_front, bytes_from}
 use Rattle.block_encoder.specs.Written.{IsPieceAppended, AreAppended}
 
--- a wrapped address stays itself
-wrapped_twice : (bits : Bits) (x : ℕ) → wrapped bits (wrapped bits x) ≡ wrapped bits x
-wrapped_twice B16 x = omega arith
-wrapped_twice B32 x = omega arith
-wrapped_twice B64 x = omega arith
-
 -- an encoding rests on the address of the mode alone
-encoding_wraps : (bits : Bits) (at : ℕ) (i : Instr) → encoding bits (wrapped bits at) i ≡ encoding bits at i
+encoding_wraps : ((b : Bits) (x : ℕ) → wrapped b (wrapped b x) ≡ wrapped b x) → (bits : Bits) (at : ℕ) (i : Instr) → encoding bits (wrapped bits at) i ≡ encoding bits at i
 unfolding encoding
-encoding_wraps bits at i = rw (wrapped_twice bits at) refl
+encoding_wraps twice bits at i = rw (twice bits at) refl
 
 -- what was written at the wrapped address is the encoding at the address
-pub written_at : (bits : Bits) (at ip : ℕ) (i : Instr) (r : Result (ArrayVec ℕ) NoSpelling) → ip ≡ wrapped bits at
+pub written_at : ((b : Bits) (x : ℕ) → wrapped b (wrapped b x) ≡ wrapped b x) → (bits : Bits) (at ip : ℕ) (i : Instr) (r : Result (ArrayVec ℕ) NoSpelling) → ip ≡ wrapped bits at
     → written r ≡ encoding bits ip i → written r ≡ encoding bits at i
-written_at bits at ip i r e w = w ∙ (ap (λ (n : ℕ). encoding bits n i) e ∙ encoding_wraps bits at i)
+written_at twice bits at ip i r e w = w ∙ (ap (λ (n : ℕ). encoding bits n i) e ∙ encoding_wraps twice bits at i)
 
 pub piece_ok : (e : Result (List ℕ) NoSpelling) (piece old new : List ℕ) (at n : ℕ) → Ok piece ≡ e → new ≡ old ++ piece
     → n ≡ length piece → IsPieceAppended e at old new (Some (at + n))

@@ -15,6 +15,7 @@ use move_layout::Seat;
 use moved_targets::laws::without_target_nothing_changes;
 use moved_targets::{target_of, target_reach};
 use std::alloc::AllocError;
+use x86_values::laws::wrapped_twice;
 use x86_values::{Bits, Instr, wrap};
 
 /// Whether an address is below 2 to a number of bits.
@@ -65,6 +66,7 @@ fn append_piece(
     ensures piece { IfOk result (λ next. IsPieceAppended (encoding bits at instr.now) at bytes.old.items bytes.new.items next) }
     ensures near { IfOk result (λ next. IfSome next (λ n. n ≤ at + 15)) }
 {
+    wrapped_twice();
     match encode(bits, wrap(bits, at), instr) {
         Ok(piece) => {
             bytes.extend_from_slice(&piece)?;

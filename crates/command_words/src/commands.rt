@@ -88,7 +88,8 @@ pub struct BlockWords {
     pub len: Option<u64>,
 }
 
-/// A command that goes through code, or makes it. The words behind its name begin with `BITS BASE`.
+/// A command that goes through code, or makes it, by its name alone. The words behind the name begin with `BITS BASE`; their values, which a
+/// `Command` has, are known only once all words were read.
 #[derive(Clone, Copy, PartialEq, Eq, Debug)]
 pub enum Through {
     List,

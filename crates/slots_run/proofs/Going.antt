@@ -3,7 +3,6 @@ use Rattle.std.proofs.Common.{◌≡◌, ℕ, ◌+◌, ◌<◌, ◌≤◌, List,
 use Rattle.std.specs.Prelude.{All}
 use Rattle.std.proofs.lemmas.List.Elements.{All-nil, All-cons, All-append, All-head, All-tail}
 use Rattle.x86_values.specs.declared.Bits.{Bits}
-use Rattle.x86_values.specs.declared.Bits.TheVariants.{B16, B32, B64}
 use Rattle.x86_values.specs.declared.Decoded.{Decoded}
 use Rattle.x86_values.specs.Wrapping.{wrapped}
 use Rattle.row_relation.specs.Spells.{Reading, Read, TooShort, Invalid, Spells}
@@ -26,20 +25,15 @@ use Rattle.slots_run.specs.Steps.{IsTried, IsNext, HasCome, IsGoneThrough}
 
 -- ---- one instruction
 
-wrapped_twice : (bits : Bits) (n : ℕ) → wrapped bits (wrapped bits n) ≡ wrapped bits n
-wrapped_twice B16 n = omega arith
-wrapped_twice B32 n = omega arith
-wrapped_twice B64 n = omega arith
-
 -- an instruction that is read at an offset, with its own address
 abbrev pub item_at : Bits → ℕ → ℕ → Decoded → Placed
 item_at bits base offset d = record { ip = wrapped bits (base + offset); len = d.len; instr = d.instr }
 
 -- **it can be given a slot**
-pub item-placed : (bits : Bits) (base offset : ℕ) (bytes : List ℕ) (d : Decoded) → IsReadAt bits base offset bytes (Read d) → 0 < d.len →
+pub item-placed : ((b : Bits) (x : ℕ) → wrapped b (wrapped b x) ≡ wrapped b x) → (bits : Bits) (base offset : ℕ) (bytes : List ℕ) (d : Decoded) → IsReadAt bits base offset bytes (Read d) → 0 < d.len →
     d.len ≤ length bytes → IsPlaced bits (item_at bits base offset d)
 unfolding IsReadAt
-item-placed bits base offset bytes d reads some within =
+item-placed twice bits base offset bytes d reads some within =
     let S : ℕ → Type 0 = λ n. Spells table bits n (take d.len bytes) d.instr in
     let spells : S (wrapped bits (base + offset)) = reads.1 in
     let short : length (take d.len bytes) ≤ 15 = spells.0 in
@@ -47,7 +41,7 @@ item-placed bits base offset bytes d reads some within =
       some = omega arith;
       few = omega (arith, length-take d.len bytes);
       bytes = take d.len bytes;
-      spelled = subst S (sym (wrapped_twice bits (base + offset))) spells;
+      spelled = subst S (sym (twice bits (base + offset))) spells;
     }
 
 slotted_in-append : (bits : Bits) (base : ℕ) (xs ys : List Item) → slotted_in bits base (xs ++ ys) ≡ slotted_in bits base xs ++ slotted_in bits base ys
@@ -148,11 +142,11 @@ module _ (turn : SweptFacts) where
   }
 
   -- one more instruction
-  pub begun-step : (range : Range) (base : ℕ) (bytes : List ℕ) (at number : ℕ) (refused told : Option Status) (slots slots' : SlotState) (d : Decoded) →
+  pub begun-step : ((b : Bits) (x : ℕ) → wrapped b (wrapped b x) ≡ wrapped b x) → (range : Range) (base : ℕ) (bytes : List ℕ) (at number : ℕ) (refused told : Option Status) (slots slots' : SlotState) (d : Decoded) →
       Begun range base bytes at number refused slots → IsReadAt range.bits base at (drop at bytes) (Read d) →
       TakesSome (Read d) (length (drop at bytes)) → IsNext slots refused number (item_at range.bits base at d) told slots' →
       Begun range base bytes (at + d.len) (number + 1) told slots'
-  begun-step range base bytes at number refused told slots slots' d b reads takes next =
+  begun-step twice range base bytes at number refused told slots slots' d b reads takes next =
       let item = item_read at (drop at bytes) (Read d) in
       let new = item_at range.bits base at d in
       let some : 0 < d.len = takes.some in
@@ -170,7 +164,7 @@ module _ (turn : SweptFacts) where
         few = omega (arith, b.few);
         placed = subst (All (IsPlaced range.bits)) (sym joined)
             (All-append (IsPlaced range.bits) (slotted_in range.bits base b.items) (new ∷ []) b.placed
-            (All-cons (IsPlaced range.bits) new [] (item-placed range.bits base at (drop at bytes) d reads some takes.within) (All-nil (IsPlaced range.bits))));
+            (All-cons (IsPlaced range.bits) new [] (item-placed twice range.bits base at (drop at bytes) d reads some takes.within) (All-nil (IsPlaced range.bits))));
         bits_are = next-bits slots slots' refused number new told next ∙ b.bits_are;
         come = subst H (sym joined) come;
       }

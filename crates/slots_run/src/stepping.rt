@@ -12,6 +12,7 @@ use step_slots::laws::{reserved_lengths_are_short, slots_stay_apart};
 use step_slots::{Placed, StepError, StepSlots};
 use sweep_text::laws::items_stand_in_turn;
 use sweep_text::read_at;
+use x86_values::laws::wrapped_twice;
 use x86_values::wrap;
 
 /// The status that tells why the instruction of this number gets no slot.
@@ -59,6 +60,7 @@ pub fn step_all(
     requires short { length input.now ≤ 1048576 }
     ensures { spec.GoesThrough range.now base input.now result slots.new }
 {
+    wrapped_twice();
     items_stand_in_turn();
     slots_stay_apart();
     reserved_lengths_are_short();

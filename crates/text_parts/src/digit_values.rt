@@ -1,4 +1,4 @@
-//! The number that hexadecimal digits name.
+//! The numbers that hexadecimal digits name.
 
 ghost use Rattle.std.specs.Prelude.{◌≡◌, ◌<◌, ◌≤◌, IfSome, length};
 ghost use Rattle.text_parts.specs.DigitValues as spec;
@@ -29,10 +29,10 @@ fn upper_value(letters: LetterCase, c: u8) -> Option<u8>
     }
 }
 
-/// The value of a hexadecimal digit.
+/// The value of a hexadecimal digit, 0 to 15, or none where it is no digit.
 #[inline]
 #[tactic(auto, unfolding(crate::specs::DigitValues::digit_value))]
-fn digit_value(letters: LetterCase, c: u8) -> Option<u8>
+pub fn digit_value(letters: LetterCase, c: u8) -> Option<u8>
     ensures value { result ≡ spec.digit_value letters c }
     ensures small { IfSome result (λ d. d < 16) }
 {

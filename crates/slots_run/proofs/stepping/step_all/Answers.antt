@@ -8,7 +8,7 @@ step_next-refused-requires c =
     let reads = rw (c.split_at.ensures.back, c.bits-bits.ensures.value) at c.in-Ok.ensures.reading in
     let some : 0 < length c.split_at.result.1.now = omega (arith, c.split_at.ensures.back_len, c.loop-at-test.true) in
     let takes = rw c.split_at.ensures.back at (c.in-Ok.ensures.takes some) in
-    let placed = item-placed c.args.range.now.bits c.args.base c.loop-at.at _ c.in-Ok.d reads takes.some takes.within in
+    let placed = item-placed c.wrapped_twice.ensures c.args.range.now.bits c.args.base c.loop-at.at _ c.in-Ok.d reads takes.some takes.within in
     rw (c.loop-at.invariant.bits_are, c.wrap-ip.ensures, c.from.ensures, c.bits-bits.ensures.value) placed
 
 pub loop-at-preserved : goal.loop-at-preserved
@@ -17,7 +17,7 @@ loop-at-preserved c =
     let some : 0 < length c.split_at.result.1.now = omega (arith, c.split_at.ensures.back_len, c.loop-at-test.true) in
     let takes = rw c.split_at.ensures.back at (c.in-Ok.ensures.takes some) in
     let next = rw (c.wrap-ip.ensures, c.from.ensures, c.bits-bits.ensures.value) at c.step_next-refused.ensures in
-    rw c.from-at.ensures (begun-step c.items_stand_in_turn.ensures _ _ _ c.loop-at.at c.loop-at.number c.loop-at.refused c.step_next-refused.result c.loop-at.slots
+    rw c.from-at.ensures (begun-step c.items_stand_in_turn.ensures c.wrapped_twice.ensures _ _ _ c.loop-at.at c.loop-at.number c.loop-at.refused c.step_next-refused.result c.loop-at.slots
     c.step_next-refused.new.slots c.in-Ok.d c.loop-at.invariant reads takes next)
 
 pub returns-in-Err : goal.returns-in-Err
