@@ -1,6 +1,6 @@
 use super::*;
 use crate::moving_tests::expect;
-use crate::tests::at;
+use crate::tests::{at, status_of};
 use byte_ports::{FailAt, MemSink, MemSource};
 use std::test::Fail;
 
@@ -97,20 +97,20 @@ fn a_port_that_fails_ends_the_texts(rt: HostRuntime) -> Result<(), Fail> {
 
     let mut source = FailAt::new(MemSource::new(code), at(2));
     let mut out = MemSink::new(rt.alloc(), 80)?;
-    let status = run(rt.alloc(), &words, &mut source, &mut out, &mut err);
+    let status = status_of(rt.alloc(), &words, &mut source, &mut out, &mut err);
     assert_eq!(rt; status, Status::ReadFault);
     assert_eq!(rt; out.bytes(), b"".as_slice());
 
     // A bad line is told before the sink is asked.
     let mut source = MemSource::new(b"nop\nno\n");
     let mut out = FailAt::new(MemSink::new(rt.alloc(), 80)?, at(1));
-    let status = run(rt.alloc(), &words, &mut source, &mut out, &mut err);
+    let status = status_of(rt.alloc(), &words, &mut source, &mut out, &mut err);
     assert_eq!(rt; status, Status::BadText { line: 2 });
 
     // A sink with room for one byte takes the first and then fails.
     let mut source = MemSource::new(code);
     let mut out = MemSink::new(rt.alloc(), 1)?;
-    let status = run(rt.alloc(), &words, &mut source, &mut out, &mut err);
+    let status = status_of(rt.alloc(), &words, &mut source, &mut out, &mut err);
     assert_eq!(rt; status, Status::WriteFault);
     assert_eq!(rt; out.bytes(), b"\x90".as_slice());
     assert_eq!(rt;

@@ -1,6 +1,6 @@
 use super::*;
 use crate::moving_tests::expect;
-use crate::tests::at;
+use crate::tests::{at, status_of};
 use byte_ports::{FailAt, MemSink, MemSource};
 use std::test::Fail;
 
@@ -212,14 +212,14 @@ fn a_port_that_fails_ends_the_flow(rt: HostRuntime) -> Result<(), Fail> {
 
     let mut source = FailAt::new(MemSource::new(&code), at(2));
     let mut out = MemSink::new(rt.alloc(), 80)?;
-    let status = run(rt.alloc(), &words, &mut source, &mut out, &mut err);
+    let status = status_of(rt.alloc(), &words, &mut source, &mut out, &mut err);
     assert_eq!(rt; status, Status::ReadFault);
     assert_eq!(rt; out.bytes(), b"".as_slice());
 
     // A sink with room for one line takes the front of the second and then fails.
     let mut source = MemSource::new(&code);
     let mut out = MemSink::new(rt.alloc(), 40)?;
-    let status = run(rt.alloc(), &words, &mut source, &mut out, &mut err);
+    let status = status_of(rt.alloc(), &words, &mut source, &mut out, &mut err);
     assert_eq!(rt; status, Status::WriteFault);
     assert_eq!(rt;
         out.bytes(),

@@ -1,5 +1,5 @@
 use super::*;
-use crate::tests::at;
+use crate::tests::{at, status_of};
 use byte_ports::{CountSink, FailAt, MemSink, MemSource};
 use decoder::DecodeError;
 use std::str::from_utf8;
@@ -103,7 +103,7 @@ fn a_fault_of_a_port_leaves_what_it_should(rt: HostRuntime) -> Result<(), Fail> 
         let mut source = FailAt::new(MemSource::new(&input), at(pull));
         let mut out = FailAt::new(MemSink::new(rt.alloc(), 256)?, at(put));
         let mut err = FailAt::new(MemSink::new(rt.alloc(), 80)?, at(say));
-        let answer = run(rt.alloc(), &words, &mut source, &mut out, &mut err);
+        let answer = status_of(rt.alloc(), &words, &mut source, &mut out, &mut err);
         assert_eq!(rt; answer, status, "{command}");
         assert_eq!(rt; from_utf8(out.inner().bytes())?, written, "{command}");
         assert_eq!(rt; from_utf8(err.inner().bytes())?, line, "{command}");
@@ -144,7 +144,7 @@ fn code_is_moved_to_the_ends_of_the_address_space(rt: HostRuntime) -> Result<(),
         let mut source = MemSource::new(&input);
         let mut out = MemSink::new(rt.alloc(), 256)?;
         let mut err = MemSink::new(rt.alloc(), 80)?;
-        let answer = run(rt.alloc(), &words, &mut source, &mut out, &mut err);
+        let answer = status_of(rt.alloc(), &words, &mut source, &mut out, &mut err);
         let (status, written) = match end {
             None => (Status::Done, input.as_slice()),
             Some(end) => (Status::Wraps { end }, [].as_slice()),
@@ -178,7 +178,7 @@ fn many_prefixes_are_single_bytes(rt: HostRuntime) -> Result<(), Fail> {
         let mut source = MemSource::new(&prefixes);
         let mut out = CountSink::new();
         let mut err = CountSink::new();
-        let answer = run(rt.alloc(), words, &mut source, &mut out, &mut err);
+        let answer = status_of(rt.alloc(), words, &mut source, &mut out, &mut err);
         assert_eq!(rt; (answer, out.count()), (status, count), "{words:?}");
     }
     Ok(())

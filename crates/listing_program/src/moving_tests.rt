@@ -1,5 +1,5 @@
 use super::*;
-use crate::tests::{at, expect_port_faults};
+use crate::tests::{at, expect_port_faults, status_of};
 use byte_ports::{FailAt, MemSink, MemSource};
 use decoder::DecodeError;
 use std::process::Abort;
@@ -24,7 +24,7 @@ pub(crate) fn expect<R: Abort + AllocGlobal>(
     let mut source = MemSource::new(input);
     let mut out = MemSink::new(rt.alloc(), MANY)?;
     let mut err = MemSink::new(rt.alloc(), 80)?;
-    let answer = run(rt.alloc(), &words, &mut source, &mut out, &mut err);
+    let answer = status_of(rt.alloc(), &words, &mut source, &mut out, &mut err);
     assert_eq!(rt; answer, status, "{command}");
     assert_eq!(rt; out.bytes(), written, "{command}");
     assert_eq!(rt; from_utf8(err.bytes())?, line, "{command}");
@@ -115,7 +115,7 @@ fn a_branch_over_many_instructions_is_moved(rt: HostRuntime) -> Result<(), Fail>
     let mut out = MemSink::new(rt.alloc(), MANY)?;
     let mut err = MemSink::new(rt.alloc(), 80)?;
     let words = ["move", "64", "1000", "5000"];
-    let status = run(rt.alloc(), &words, &mut source, &mut out, &mut err);
+    let status = status_of(rt.alloc(), &words, &mut source, &mut out, &mut err);
     assert_eq!(rt; status, Status::Done);
     assert_eq!(rt; out.bytes().len(), 243);
     assert!(rt; out.bytes().ends_with(&[0x90, 0xeb, 0xfd]));
@@ -246,10 +246,10 @@ fn a_wrong_word_of_a_moving_is_named(rt: HostRuntime) -> Result<(), Fail> {
     let mut source = MemSource::new(&[]);
     let mut out = MemSink::new(rt.alloc(), MANY)?;
     let mut err = MemSink::new(rt.alloc(), 80)?;
-    let status = run(rt.alloc(), &words, &mut source, &mut out, &mut err);
+    let status = status_of(rt.alloc(), &words, &mut source, &mut out, &mut err);
     assert_eq!(rt; status, Status::Done);
     words.push("16")?;
-    let status = run(rt.alloc(), &words, &mut source, &mut out, &mut err);
+    let status = status_of(rt.alloc(), &words, &mut source, &mut out, &mut err);
     assert_eq!(rt; status, Status::Usage { word: 50 });
     assert_eq!(rt; out.bytes(), b"".as_slice());
     Ok(())
@@ -263,7 +263,7 @@ fn a_port_that_fails_ends_a_moving(rt: HostRuntime) -> Result<(), Fail> {
     let mut out = MemSink::new(rt.alloc(), MANY)?;
     let mut err = FailAt::new(MemSink::new(rt.alloc(), 80)?, at(1));
     let words = ["move", "64", "0", "0"];
-    let status = run(rt.alloc(), &words, &mut source, &mut out, &mut err);
+    let status = status_of(rt.alloc(), &words, &mut source, &mut out, &mut err);
     assert_eq!(rt; status_number(&status), 2);
     assert_eq!(rt; out.bytes(), b"".as_slice());
     assert_eq!(rt; err.inner().bytes(), b"".as_slice());

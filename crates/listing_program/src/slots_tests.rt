@@ -1,6 +1,6 @@
 use super::*;
 use crate::moving_tests::expect;
-use crate::tests::at;
+use crate::tests::{at, status_of};
 use byte_ports::{FailAt, MemSink, MemSource};
 use decoder::DecodeError;
 use std::test::Fail;
@@ -170,14 +170,14 @@ fn a_port_that_fails_ends_the_slots(rt: HostRuntime) -> Result<(), Fail> {
 
     let mut source = FailAt::new(MemSource::new(&code), at(2));
     let mut out = MemSink::new(rt.alloc(), 80)?;
-    let status = run(rt.alloc(), &words, &mut source, &mut out, &mut err);
+    let status = status_of(rt.alloc(), &words, &mut source, &mut out, &mut err);
     assert_eq!(rt; status, Status::ReadFault);
     assert_eq!(rt; out.bytes(), b"".as_slice());
 
     // A sink with room for 3 bytes takes those and then fails.
     let mut source = MemSource::new(&code);
     let mut out = MemSink::new(rt.alloc(), 3)?;
-    let status = run(rt.alloc(), &words, &mut source, &mut out, &mut err);
+    let status = status_of(rt.alloc(), &words, &mut source, &mut out, &mut err);
     assert_eq!(rt; status, Status::WriteFault);
     assert_eq!(rt; out.bytes(), [0x90, 0xe9, 0xfb].as_slice());
     assert_eq!(rt; err.bytes(), b"read fault\nwrite fault\n".as_slice());

@@ -1,12 +1,23 @@
 use super::*;
 use arrayvec::ArrayVec;
-use byte_ports::{CountSink, FailAt, MemSink, MemSource, SlowSource};
+use byte_ports::{CountSink, FailAt, MemSink, MemSource, SlowSource, Source};
 use decoder::DecodeError;
 use std::process::Abort;
 use std::str::from_utf8;
 use std::test::Fail;
 
 const MANY: usize = 16384;
+
+/// Carries out the words of a command line. It stands between `run` and the tests, so that their proofs do not carry along what `run` promises.
+pub(crate) fn status_of<S: Source, K: Sink, E: Sink>(
+    alloc: Global,
+    words: &[&str],
+    source: &mut S,
+    out: &mut K,
+    err: &mut E,
+) -> Status {
+    run(alloc, words, source, out, err)
+}
 
 /// Compares what a command line gives for an input.
 fn expect<R: Abort + AllocGlobal>(
@@ -20,7 +31,7 @@ fn expect<R: Abort + AllocGlobal>(
     let mut source = MemSource::new(input);
     let mut out = MemSink::new(rt.alloc(), MANY)?;
     let mut err = MemSink::new(rt.alloc(), 80)?;
-    let answer = run(rt.alloc(), words, &mut source, &mut out, &mut err);
+    let answer = status_of(rt.alloc(), words, &mut source, &mut out, &mut err);
     assert_eq!(rt; answer, status, "{words:?}");
     assert_eq!(rt; from_utf8(out.bytes())?, written, "{words:?}");
     assert_eq!(rt; from_utf8(err.bytes())?, line, "{words:?}");
@@ -47,7 +58,7 @@ fn expect_texts_in<R: Abort + AllocGlobal>(
     let mut source = MemSource::new(input);
     let mut out = MemSink::new(rt.alloc(), MANY)?;
     let mut err = MemSink::new(rt.alloc(), 80)?;
-    let status = run(rt.alloc(), &words, &mut source, &mut out, &mut err);
+    let status = status_of(rt.alloc(), &words, &mut source, &mut out, &mut err);
     assert_eq!(rt; status, Status::Done, "{input:?}");
     let mut found = String::new(rt.alloc());
     for line in from_utf8(out.bytes())?.lines() {
@@ -223,7 +234,7 @@ fn expect_info<R: Abort + AllocGlobal>(
     let mut out = MemSink::new(rt.alloc(), MANY)?;
     let mut err = MemSink::new(rt.alloc(), 80)?;
     let words = ["info", mode, "0"];
-    let status = run(rt.alloc(), &words, &mut source, &mut out, &mut err);
+    let status = status_of(rt.alloc(), &words, &mut source, &mut out, &mut err);
     assert_eq!(rt; status, Status::Done, "{input:?}");
     let mut found = String::new(rt.alloc());
     for line in from_utf8(out.bytes())?.lines() {
@@ -343,7 +354,7 @@ fn bad_code_ends_what_is_told(rt: HostRuntime) -> Result<(), Fail> {
     let mut source = MemSource::new(&code);
     let mut out = CountSink::new();
     let mut err = MemSink::new(rt.alloc(), 80)?;
-    let status = run(rt.alloc(), &words, &mut source, &mut out, &mut err);
+    let status = status_of(rt.alloc(), &words, &mut source, &mut out, &mut err);
     let (offset, error) = (2000, DecodeError::Invalid);
     assert_eq!(rt; status, Status::BadCode { offset, error });
     assert_eq!(rt; out.count(), 44_000);
@@ -440,7 +451,7 @@ fn the_table_has_a_line_for_each_row(rt: HostRuntime) -> Result<(), Fail> {
     let mut source = MemSource::new(&[0x90]);
     let mut out = MemSink::new(rt.alloc(), 131_072)?;
     let mut err = MemSink::new(rt.alloc(), 80)?;
-    let status = run(rt.alloc(), &["rows"], &mut source, &mut out, &mut err);
+    let status = status_of(rt.alloc(), &["rows"], &mut source, &mut out, &mut err);
     assert_eq!(rt; status, Status::Done);
     let text = from_utf8(out.bytes())?;
     assert!(rt;
@@ -461,7 +472,7 @@ fn the_table_has_a_line_for_each_row(rt: HostRuntime) -> Result<(), Fail> {
 
     // A sink with less room takes the front of it.
     let mut out = MemSink::new(rt.alloc(), 15)?;
-    let status = run(rt.alloc(), &["rows"], &mut source, &mut out, &mut err);
+    let status = status_of(rt.alloc(), &["rows"], &mut source, &mut out, &mut err);
     assert_eq!(rt; status, Status::WriteFault);
     assert_eq!(rt; from_utf8(out.bytes())?, "0 00 /r add\n1 o");
     Ok(())
@@ -582,7 +593,7 @@ pub(crate) fn expect_port_faults<R: Abort + AllocGlobal>(
     let mut source = FailAt::new(MemSource::new(code), at(pull));
     let mut out = MemSink::new(rt.alloc(), MANY)?;
     let mut err = MemSink::new(rt.alloc(), 80)?;
-    let status = run(rt.alloc(), words, &mut source, &mut out, &mut err);
+    let status = status_of(rt.alloc(), words, &mut source, &mut out, &mut err);
     assert_eq!(rt; (status, status_number(&status)), (Status::ReadFault, 3));
     assert_eq!(rt; out.bytes(), b"".as_slice());
     assert_eq!(rt; err.bytes(), b"read fault\n".as_slice());
@@ -590,7 +601,7 @@ pub(crate) fn expect_port_faults<R: Abort + AllocGlobal>(
     let mut source = MemSource::new(code);
     let mut out = FailAt::new(MemSink::new(rt.alloc(), MANY)?, at(1));
     let mut err = MemSink::new(rt.alloc(), 80)?;
-    let status = run(rt.alloc(), words, &mut source, &mut out, &mut err);
+    let status = status_of(rt.alloc(), words, &mut source, &mut out, &mut err);
     assert_eq!(rt; (status, status_number(&status)), (Status::WriteFault, 4));
     assert_eq!(rt; out.inner().bytes(), b"".as_slice());
     assert_eq!(rt; err.bytes(), b"write fault\n".as_slice());
@@ -608,7 +619,7 @@ fn a_port_that_fails_ends_the_run(rt: HostRuntime) -> Result<(), Fail> {
     let mut source = MemSource::new(&code);
     let mut out = MemSink::new(rt.alloc(), 60)?;
     let mut err = FailAt::new(MemSink::new(rt.alloc(), 80)?, at(1));
-    let status = run(rt.alloc(), &words, &mut source, &mut out, &mut err);
+    let status = status_of(rt.alloc(), &words, &mut source, &mut out, &mut err);
     assert_eq!(rt; status, Status::WriteFault);
     assert_eq!(rt;
         out.bytes(),
@@ -626,20 +637,20 @@ fn a_port_that_fails_ends_what_is_told(rt: HostRuntime) -> Result<(), Fail> {
     let mut source = FailAt::new(MemSource::new(&code), at(2));
     let mut out = MemSink::new(rt.alloc(), MANY)?;
     let mut err = MemSink::new(rt.alloc(), 80)?;
-    let status = run(rt.alloc(), &words, &mut source, &mut out, &mut err);
+    let status = status_of(rt.alloc(), &words, &mut source, &mut out, &mut err);
     assert_eq!(rt; status, Status::ReadFault);
     assert_eq!(rt; out.bytes(), b"".as_slice());
 
     // The line before the bad code finds no room for its end.
     let mut source = MemSource::new(&code);
     let mut out = MemSink::new(rt.alloc(), 18)?;
-    let status = run(rt.alloc(), &words, &mut source, &mut out, &mut err);
+    let status = status_of(rt.alloc(), &words, &mut source, &mut out, &mut err);
     assert_eq!(rt; status, Status::WriteFault);
     assert_eq!(rt; out.bytes(), b"0000000000000000 N".as_slice());
 
     let mut source = MemSource::new(&code[..1]);
     let mut out = FailAt::new(MemSink::new(rt.alloc(), MANY)?, at(1));
-    let status = run(rt.alloc(), &words, &mut source, &mut out, &mut err);
+    let status = status_of(rt.alloc(), &words, &mut source, &mut out, &mut err);
     assert_eq!(rt; status, Status::WriteFault);
     assert_eq!(rt; out.inner().bytes(), b"".as_slice());
     Ok(())
@@ -682,7 +693,7 @@ fn lines_are_written_before_more_is_read(rt: HostRuntime) -> Result<(), Fail> {
         let mut source = FailAt::new(SlowSource::new(MemSource::new(&code)), at(call));
         let mut out = MemSink::new(rt.alloc(), MANY)?;
         let mut err = MemSink::new(rt.alloc(), 80)?;
-        let answer = run(rt.alloc(), words, &mut source, &mut out, &mut err);
+        let answer = status_of(rt.alloc(), words, &mut source, &mut out, &mut err);
         assert_eq!(rt; answer, status, "{words:?} at {call}");
         assert_eq!(rt; from_utf8(out.bytes())?, written, "{words:?} at {call}");
     }
@@ -699,7 +710,7 @@ fn a_sink_that_fails_holds_a_part(rt: HostRuntime) -> Result<(), Fail> {
         let mut source = MemSource::new(&[0x90, 0xC3]);
         let mut out = FailAt::new(MemSink::new(rt.alloc(), MANY)?, at(k));
         let mut err = MemSink::new(rt.alloc(), 80)?;
-        let status = run(rt.alloc(), &words, &mut source, &mut out, &mut err);
+        let status = status_of(rt.alloc(), &words, &mut source, &mut out, &mut err);
         let (wanted, held) = if k == 1 {
             (Status::WriteFault, b"".as_slice())
         } else {
