@@ -66,45 +66,50 @@ pub fn is_repeat_f2(rep: Rep) -> bool
 }
 
 /// Whether an operand of the kind is read by r/m whatever mod is.
+// This and the three tests below name their kinds, and do not ask for the method: that is a jump by table for each operand that is read.
 #[inline]
+#[tactic(auto, unfolding(instruction_parts::specs::Kinds::method_of))]
 fn is_any_mode_kind(kind: OpKind) -> bool
     ensures { result ≡ spec.is_any_mode (method_of kind) }
 {
-    match method_of_kind(kind) {
-        Method::AnyMode => true,
+    match kind {
+        OpKind::Rm => true,
         _ => false,
     }
 }
 
 /// Whether an operand of the kind is read from vvvv.
 #[inline]
+#[tactic(auto, unfolding(instruction_parts::specs::Kinds::method_of))]
 fn is_vvvv_kind(kind: OpKind) -> bool
     ensures { result ≡ spec.is_vvvv (method_of kind) }
 {
-    match method_of_kind(kind) {
-        Method::Vvvv => true,
+    match kind {
+        OpKind::By | OpKind::Hx | OpKind::Ho => true,
         _ => false,
     }
 }
 
 /// Whether the kind is a gather.
 #[inline]
+#[tactic(auto, unfolding(instruction_parts::specs::Kinds::method_of))]
 fn is_gather_kind(kind: OpKind) -> bool
     ensures { result ≡ spec.is_gather (method_of kind) }
 {
-    match method_of_kind(kind) {
-        Method::Gather => true,
+    match kind {
+        OpKind::GatherX | OpKind::GatherL => true,
         _ => false,
     }
 }
 
 /// Whether an operand of the kind has an absolute address.
 #[inline]
+#[tactic(auto, unfolding(instruction_parts::specs::Kinds::method_of))]
 fn is_offset_kind(kind: OpKind) -> bool
     ensures { result ≡ spec.is_offset (method_of kind) }
 {
-    match method_of_kind(kind) {
-        Method::Offset => true,
+    match kind {
+        OpKind::Ob | OpKind::Ov => true,
         _ => false,
     }
 }
