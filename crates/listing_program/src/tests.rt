@@ -2,6 +2,7 @@ use super::*;
 use arrayvec::ArrayVec;
 use byte_ports::{CountSink, FailAt, MemSink, MemSource, SlowSource, Source};
 use decoder::DecodeError;
+use std::alloc::Global;
 use std::process::Abort;
 use std::str::from_utf8;
 use std::test::Fail;
