@@ -97,7 +97,7 @@ def spots_text(table):
 def all_cells_text(table):
     text = HEAD.format('The cells of the table') + 'use row_lists::{Span, spans};\n\n'
     text += cells_text('LEGACY_SPANS', 'The legacy rows of each cell, by map and opcode byte: the code of the first, and how many.', table, 'Legacy')
-    return text + '\n' + cells_text('VEX_SPANS', 'The same of the VEX rows.', table, 'Vex')
+    return text + '\n' + cells_text('VEX_SPANS', 'Where the VEX rows of each cell lie in the table, by map and opcode byte: the code of the first of them, and their number.', table, 'Vex')
 
 
 def names_of(rows, static, doc):

@@ -1,4 +1,4 @@
-//! Reading instructions from bytes (Intel SDM volume 2, chapter 2). `laws` has that no bytes have two spellings.
+//! Reading instructions from bytes (Intel SDM volume 2, 2.1 to 2.3). `laws` has that no bytes have two spellings.
 #![tactic(auto)]
 
 mod bare;

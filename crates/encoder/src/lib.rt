@@ -1,4 +1,4 @@
-//! Instructions, written as bytes (Intel SDM volume 2, chapter 2).
+//! Instructions, written as bytes (Intel SDM volume 2, 2.1 to 2.3).
 #![tactic(auto)]
 
 ghost use Rattle.std.specs.Prelude.{◌≡◌, ℕ, ◌≤◌, ◌<◌, ◌++◌, List, length, [], IfOk, IsErr, IfSome, IsNone, IsTrue, slice_get, Some};

@@ -61,7 +61,7 @@ pub static LEGACY_SPANS: [[Span; 256]; 4] = spans! {
     }
 };
 
-/// The same of the VEX rows.
+/// Where the VEX rows of each cell lie in the table, by map and opcode byte: the code of the first of them, and their number.
 pub static VEX_SPANS: [[Span; 256]; 4] = spans! {
     {
         0 0, 0 0, 0 0, 0 0, 0 0, 0 0, 0 0, 0 0, 0 0, 0 0, 0 0, 0 0, 0 0, 0 0, 0 0, 0 0, 0 0, 0 0, 0 0, 0 0, 0 0, 0 0, 0 0, 0 0, 0 0, 0 0, 0 0, 0 0,

@@ -58,7 +58,7 @@ fn has_numbers(operand: Operand) -> bool
     }
 }
 
-/// The same of a register that may be absent.
+/// Whether a register that may be absent exists where it is there.
 #[tactic(auto, unfolding(crate::specs::Allowed::is_named_if))]
 fn is_named_if(register: Option<Register>) -> bool
     ensures { result ≡ spec.is_named_if register }

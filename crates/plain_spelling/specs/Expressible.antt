@@ -1,4 +1,4 @@
--- When an instruction has a plain spelling: ten conditions, in the order in which an encoder names them (Intel SDM volume 2, chapter 2).
+-- When an instruction has a plain spelling: ten conditions, in the order in which an encoder names them (Intel SDM volume 2, 2.1 to 2.3).
 use Rattle.std.specs.Prelude.{◌≡◌, ℕ, ◌-◌, ◌*◌, ◌^◌, Bool, true, false, ◌&&◌, ◌||◌, not, ◌==◌, nat_le, nat_lt, if◌then◌else◌, Option, Some, None, is_none}
 use Rattle.x86_values.specs.declared.Bits.{Bits}
 use Rattle.x86_values.specs.declared.Register.{Register}

@@ -566,7 +566,7 @@ fn kind_failure(row: &Row, instr: &Instr) -> Option<NoSpelling>
     }
 }
 
-/// The same of condition 3.
+/// The cause where condition 3 fails: the first operand whose register cannot stand there, or operand 0 where two numbers of a gather are equal.
 #[tactic(auto, unfolding(crate::specs::Expressible::first_failing))]
 fn register_failure(
     bits: Bits,
@@ -591,7 +591,7 @@ fn register_failure(
     }
 }
 
-/// The same of condition 4, whose cause names no operand.
+/// The cause where condition 4 fails, for any operand: an address that ModRM and SIB cannot say. It names no operand.
 fn memory_failure(bits: Bits, row: &Row, instr: &Instr) -> Option<NoSpelling>
     ensures { result ≡ spec.caused_unless (spec.each_operand (spec.address_suits bits row.now instr.now)) cause.Memory }
 {
@@ -602,7 +602,7 @@ fn memory_failure(bits: Bits, row: &Row, instr: &Instr) -> Option<NoSpelling>
     caused_unless(all, NoSpelling::Memory)
 }
 
-/// The same of condition 5.
+/// The cause where condition 5 fails, for any operand: a displacement that its address does not have. It names no operand.
 fn displacement_failure(bits: Bits, row: &Row, instr: &Instr) -> Option<NoSpelling>
     ensures { result ≡ spec.caused_unless (spec.each_operand (spec.offered bits row.now instr.now)) cause.Displacement }
 {
@@ -613,7 +613,7 @@ fn displacement_failure(bits: Bits, row: &Row, instr: &Instr) -> Option<NoSpelli
     caused_unless(all, NoSpelling::Displacement)
 }
 
-/// The same of condition 6, with the operand.
+/// The cause where condition 6 fails: the first operand whose immediate its size does not hold.
 #[tactic(auto, unfolding(crate::specs::Expressible::first_failing))]
 fn immediate_failure(bits: Bits, row: &Row, instr: &Instr, size: Bits) -> Option<NoSpelling>
     requires { size ≡ tail.plain_size bits row.now }
@@ -631,7 +631,7 @@ fn immediate_failure(bits: Bits, row: &Row, instr: &Instr, size: Bits) -> Option
     }
 }
 
-/// The same of condition 7.
+/// The cause where condition 7 fails, for any operand: a near, RIP or EIP target out of reach. It names no operand.
 fn target_failure(bits: Bits, row: &Row, instr: &Instr, parts: &PlainParts) -> Option<NoSpelling>
     requires { ArePartsOf bits row.now instr.now parts.now }
     ensures { result ≡ spec.caused_unless (spec.each_operand (spec.target_suits bits parts.now.ip row.now instr.now)) cause.Target }

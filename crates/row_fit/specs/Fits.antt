@@ -1,4 +1,4 @@
--- When a spelling fits a row: eleven conditions, each of them a test (Intel SDM volume 2, chapter 2).
+-- When a spelling fits a row: eleven conditions, each of them a test (Intel SDM volume 2, 2.1 to 2.3).
 use Rattle.std.specs.Prelude.{ℕ, ◌+◌, ◌*◌, ◌%◌, Bool, true, false, ◌&&◌, ◌||◌, not, ◌==◌, nat_le, nat_lt, if◌then◌else◌, List, length, Option, Some, None, is_some, is_none, IsTrue, slice_index_or}
 use Rattle.std.specs.List.{list_any, list_all}
 use Rattle.x86_values.specs.declared.Bits.{Bits}

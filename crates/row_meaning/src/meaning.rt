@@ -103,7 +103,7 @@ pub fn register_of(bits: Bits, row: &Row, state: &PrefixState, file: File, n: u8
     register_of_size(bits, state_size(bits, row, state), row, state, file, n)
 }
 
-/// The same, where the operand size is known.
+/// The register of a file with a number, where the operand size is known.
 #[inline(always)]
 #[tactic(auto, unfolding(crate::specs::Meaning::register_of))]
 pub fn register_of_size(

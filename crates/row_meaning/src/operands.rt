@@ -263,7 +263,7 @@ fn small_reg_number(state: &PrefixState, m: Option<ModRm>) -> u8
     small(reg_number(state, m))
 }
 
-/// The same of r/m.
+/// The number that r/m asks for, below 16.
 #[tactic(auto, unfolding(row_fit::specs::Fits::modrm_in_range, row_fit::specs::Fits::rm_number))]
 fn small_rm_number(bits: Bits, state: &PrefixState, m: Option<ModRm>) -> u8
     requires { IsTrue (fits.modrm_in_range m) }
@@ -508,7 +508,7 @@ fn has_immediate(kind: OpKind) -> bool
     }
 }
 
-/// The same bytes, asked for only where the kind has some.
+/// The bytes of an operand's own immediate, asked for only where its kind has some.
 #[inline(always)]
 #[tactic(auto, unfolding(crate::specs::Meaning::own_immediate))]
 fn immediate_of<'a>(size: Bits, row: &Row, n: usize, kind: OpKind, imm: &'a [u8]) -> &'a [u8]
