@@ -30,7 +30,7 @@ use instruction_parts::sizes::{has_address_mark, is_lockable};
 use instruction_parts::spelling::PrefixState;
 use row_fit::fits::{is_no_repeat, is_repeat_f3, reads_gather};
 use row_fit::tail_fits::{is_control_number, is_nop_byte, kind_at};
-use row_meaning::meaning::{general, register_of};
+use row_meaning::meaning::{general_register, register_of};
 use row_types::{Class, OpKind, Plus, Row};
 use x86_values::{Bits, Instr, Mem, Operand, Register, same_bits, same_register};
 
@@ -75,7 +75,7 @@ fn naming_number(method: Method, kind: OpKind, register: Register) -> u8
 
 /// The register of a file with a number, by the operand size under the prefixes, which is known.
 #[inline(always)]
-#[tactic(auto, unfolding(row_meaning::specs::Meaning::register_of, row_meaning::specs::Meaning::general))]
+#[tactic(auto, unfolding(row_meaning::specs::Meaning::register_of, row_meaning::specs::Meaning::general_register))]
 fn register_at_size(
     bits: Bits,
     row: &Row,
@@ -88,7 +88,7 @@ fn register_at_size(
     ensures { result ≡ meaning.register_of bits row.now state.now file n }
 {
     match file {
-        File::OperandSize => general(size, n),
+        File::OperandSize => general_register(size, n),
         File::WordOrDword => match size {
             Bits::B16 => Register::R16(n),
             _ => Register::R32(n),
@@ -665,10 +665,10 @@ fn address_size_failure(bits: Bits, row: &Row, instr: &Instr) -> Option<NoSpelli
 /// The first that fails of the conditions 2 to 9, tested one after the other on all operands, None where all hold.
 #[cold]
 #[inline(never)]
-#[tactic(auto, unfolding(crate::specs::Expressible::tail_failure))]
+#[tactic(auto, unfolding(crate::specs::Expressible::first_failed_condition))]
 fn first_failure(bits: Bits, row: &Row, instr: &Instr, parts: &PlainParts) -> Option<NoSpelling>
     requires { ArePartsOf bits row.now instr.now parts.now }
-    ensures { result ≡ spec.tail_failure bits parts.now.ip row.now instr.now }
+    ensures { result ≡ spec.first_failed_condition bits parts.now.ip row.now instr.now }
 {
     match kind_failure(row, instr) {
         Some(why) => return Some(why),
@@ -792,9 +792,14 @@ fn tail_suits(bits: Bits, row: &Row, instr: &Instr, parts: &PlainParts) -> bool
 /// the address at which it is to stand.
 ///
 /// Mostly all hold, which one test of each operand shows; only else the conditions are tested in their order.
-pub fn tail_failure(bits: Bits, row: &Row, instr: &Instr, parts: &PlainParts) -> Option<NoSpelling>
+pub fn first_failed_condition(
+    bits: Bits,
+    row: &Row,
+    instr: &Instr,
+    parts: &PlainParts,
+) -> Option<NoSpelling>
     requires { ArePartsOf bits row.now instr.now parts.now }
-    ensures { result ≡ spec.tail_failure bits parts.now.ip row.now instr.now }
+    ensures { result ≡ spec.first_failed_condition bits parts.now.ip row.now instr.now }
 {
     if tail_suits(bits, row, instr, parts) {
         None
