@@ -21,6 +21,3 @@ pub use last::last_len;
 pub use move_goals::Placed;
 pub use moved::{Moved, MovedBlocks};
 pub use outside::move_outside;
-
-#[cfg(test)]
-mod tests;

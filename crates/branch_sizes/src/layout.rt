@@ -1,10 +1,10 @@
-//! The least closed layout, by passes over all items.
+//! The least closed layout, and what a layout is made of: reach, places and forms.
 
 ghost use Rattle.std.specs.Prelude.{◌≡◌, ◌↔◌, ◌+◌, ◌<◌, ◌≤◌, ◌^◌, ℕ, IsTrue, IfOk, OnOk, OnErr, length, slice_index, slice_index_or, EachIndex};
 ghost use Rattle.branch_sizes.specs.Plan.{plan_of, no_choice, no_branch, is_fit_reach, IsWellFormed};
-ghost use Rattle.branch_sizes.specs.Layout.{Reaches, ReachesFromBoth, first_layout, ReachesGoal, IsItemClosed, IsLayout, ArePlaces, AreBlocks, GrowsItem, IsLeast, forms_of, AreLeastForms};
+ghost use Rattle.branch_sizes.specs.Layout.{Reaches, ReachesFromBoth, IsLayout, ArePlaces, AreBlocks, forms_of, AreLeastForms};
 
-use crate::plan::{BlockSpan, Branch, Choice, Form, Goal, Plan, Reach};
+use crate::plan::{BlockSpan, Branch, Choice, Form, Plan, Reach};
 use crate::worklist;
 use std::alloc::{AllocError, Global};
 use thiserror::Error;
@@ -45,59 +45,6 @@ pub(crate) fn reaches_from_both(choice: &Choice, place: u128, first: u128, goal:
     ensures { IsTrue result ↔ ReachesFromBoth choice.now place first goal }
 {
     reaches(choice, place, goal) && reaches(choice, first, goal)
-}
-
-/// What a pass reads and does not change: a plan, the number of the block of each item, and the places in the layout of first
-/// choices and in the layout at hand.
-#[derive(Clone, Copy)]
-struct Pass<'a> {
-    spans: &'a [BlockSpan],
-    items: &'a [Branch],
-    blocks: &'a [u32],
-    first: &'a [u128],
-    layout: &'a [u8],
-    places: &'a [u128],
-    ghost plan: { IsWellFormed (plan_of spans.now items.now) },
-    ghost right_blocks: { AreBlocks (plan_of spans.now items.now) blocks.now },
-    ghost right_first: { ArePlaces (plan_of spans.now items.now) (first_layout (plan_of spans.now items.now)) first.now },
-    ghost small_first: { EachIndex first.now (λ i. slice_index first.now i < 2 ^ 66) },
-    ghost right_layout: { IsLayout (plan_of spans.now items.now) layout.now },
-    ghost right_places: { ArePlaces (plan_of spans.now items.now) layout.now places.now },
-    ghost small_places: { EachIndex places.now (λ i. slice_index places.now i < 2 ^ 66) },
-}
-
-/// Whether a choice of item `k` reaches the goal.
-fn reaches_goal(pass: &Pass, k: usize, choice: &Choice, goal: Goal) -> bool
-    requires item { k < length pass.now.items.now }
-    requires inside { (j : ℕ) → goal ≡ Goal.Inside j → j < length pass.now.items.now }
-    requires fit { IsTrue (is_fit_reach choice.now.reach) }
-    ensures { IsTrue result ↔ ReachesGoal (plan_of pass.now.spans.now pass.now.items.now) pass.now.layout.now k choice.now goal }
-{
-    match goal {
-        Goal::None => true,
-        Goal::Outside(t) => {
-            reaches_from_both(choice, pass.places[k], pass.first[k], u128::from(t))
-        }
-        Goal::Inside(j) => {
-            let j = j as usize;
-            if pass.blocks[j] == pass.blocks[k] {
-                reaches(choice, pass.places[k], pass.places[j])
-            } else {
-                reaches_from_both(choice, pass.places[k], pass.first[k], pass.places[j])
-                    && reaches_from_both(choice, pass.places[k], pass.first[k], pass.first[j])
-            }
-        }
-    }
-}
-
-/// Whether item `k` has its last choice or reaches its goal.
-fn is_item_closed(pass: &Pass, k: usize) -> bool
-    requires { k < length pass.now.items.now }
-    ensures { IsTrue result ↔ IsItemClosed (plan_of pass.now.spans.now pass.now.items.now) pass.now.layout.now k }
-{
-    let item = &pass.items[k];
-    let f = usize::from(pass.layout[k]);
-    f + 1 == item.choices.len() || reaches_goal(pass, k, &item.choices[f], item.goal)
 }
 
 /// The number of the block of each item.
@@ -150,63 +97,6 @@ pub fn places(
         }
     }
     Ok(places)
-}
-
-/// The layout in which each item that is not closed in `layout` has grown, and no other.
-fn next_layout(
-    alloc: Global,
-    spans: &[BlockSpan],
-    items: &[Branch],
-    blocks: &[u32],
-    first: &[u128],
-    layout: &[u8],
-) -> Result<Vec<u8>, AllocError>
-    requires plan { IsWellFormed (plan_of spans.now items.now) }
-    requires layout { IsLayout (plan_of spans.now items.now) layout.now }
-    requires blocks { AreBlocks (plan_of spans.now items.now) blocks.now }
-    requires first { ArePlaces (plan_of spans.now items.now) (first_layout (plan_of spans.now items.now)) first.now }
-    requires below_first { EachIndex first.now (λ i. slice_index first.now i < 2 ^ 66) }
-    ensures len { IfOk result (λ next. length next.items ≡ length items.now) }
-    ensures each { IfOk result (λ next. (k : ℕ) → k < length items.now → GrowsItem (plan_of spans.now items.now) layout.now next.items k) }
-{
-    let places = places(alloc, spans, items, layout)?;
-    let pass = Pass {
-        spans,
-        items,
-        blocks,
-        first,
-        layout,
-        places: &places,
-    };
-    let mut next = Vec::with_capacity(alloc, items.len())?;
-    for k in 0..items.len() {
-        let closed = is_item_closed(&pass, k);
-        next.push(if closed { layout[k] } else { layout[k] + 1 })?;
-    }
-    Ok(next)
-}
-
-/// The least closed layout: grown from the first choices until a pass grows nothing. It is the plain body beside
-/// that of `worklist`.
-pub fn least_choices_by_passes(
-    alloc: Global,
-    spans: &[BlockSpan],
-    items: &[Branch],
-) -> Result<Vec<u8>, AllocError>
-    requires { IsWellFormed (plan_of spans.now items.now) }
-    ensures { IfOk result (λ layout. IsLeast (plan_of spans.now items.now) layout.items) }
-{
-    let blocks = block_numbers(alloc, spans, items)?;
-    let mut layout = vec![in alloc; 0u8; items.len()]?;
-    let first = places(alloc, spans, items, &layout)?;
-    'passes: loop {
-        let next = next_layout(alloc, spans, items, &blocks, &first, &layout)?;
-        if next.as_slice() == layout.as_slice() {
-            break;
-        }
-        layout = next;
-    }
-    Ok(layout)
 }
 
 /// The forms of a layout.

@@ -14,6 +14,3 @@ mod worklist;
 pub use layout::{LayoutError, least_layout, places};
 pub use plan::{BlockSpan, Branch, Choice, Form, Goal, Plan, Reach};
 pub use sums::Sums;
-
-#[cfg(test)]
-mod tests;

@@ -17,6 +17,3 @@ pub use memory::{MakeError, MemSink, MemSource};
 pub use ports::{Sink, Source};
 pub use slow::SlowSource;
 pub use standard::{ReaderSource, WriterSink};
-
-#[cfg(test)]
-mod tests;

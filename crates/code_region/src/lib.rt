@@ -10,8 +10,6 @@ mod contents;
 mod gaps;
 pub mod laws;
 mod refusals;
-#[cfg(test)]
-mod tests;
 
 pub use blocks::Region;
 pub use commands::{Command, Reply, replay};

@@ -10,8 +10,6 @@ mod found;
 mod items;
 mod reading;
 pub mod reading_laws;
-#[cfg(test)]
-mod tests;
 
 pub use by_mode::decode_in;
 pub use cursor::Decoder;

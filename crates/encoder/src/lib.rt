@@ -28,8 +28,6 @@ use row_types::Row;
 use x86_values::{Bits, Instr, wrap};
 
 pub mod laws;
-#[cfg(test)]
-mod tests;
 
 /// Writes the encoding of an instruction of a row that exists in the mode, at an address of the mode, or answers why there is none.
 ///

@@ -5,8 +5,6 @@
 #![tactic(auto)]
 
 mod intel;
-#[cfg(test)]
-mod tests;
 
 /// Registers, operands and instructions as data.
 pub mod values {

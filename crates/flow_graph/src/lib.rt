@@ -9,6 +9,3 @@ mod reading;
 mod walk;
 
 pub use graph::{FlowError, FlowGraph, flow_graph, flow_graph_in};
-
-#[cfg(test)]
-mod tests;

@@ -12,8 +12,6 @@ mod candidate;
 mod choice;
 pub mod laws;
 mod possible;
-#[cfg(test)]
-mod tests;
 
 use arrayvec::ArrayVec;
 use choice::first_of;

@@ -8,6 +8,4 @@ mod prefixes;
 pub mod reading;
 mod registers;
 mod scanning;
-#[cfg(test)]
-mod tests;
 pub mod words;

@@ -13,8 +13,6 @@ mod ends;
 pub mod laws;
 mod parts;
 mod read;
-#[cfg(test)]
-mod tests;
 mod write;
 
 use instruction_parts::PrefixState;

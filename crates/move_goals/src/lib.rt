@@ -12,6 +12,3 @@ pub use items::Placed;
 pub use order::{first_disorder, first_old_pass, passes};
 pub use outside::plan_outside;
 pub use plan::plan_for;
-
-#[cfg(test)]
-mod tests;

@@ -10,6 +10,3 @@ mod tables;
 
 pub use layout::{BlockEnd, Layout, Seat, lay_out};
 pub use slots::{block_end, is_far_form, next_multiple_of_8};
-
-#[cfg(test)]
-mod tests;

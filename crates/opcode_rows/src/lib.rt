@@ -164,6 +164,3 @@ fn kind_spans(kind: RowKind) -> &'static [[Span; 256]; 4]
         RowKind::Vex => &VEX_SPANS,
     }
 }
-
-#[cfg(test)]
-mod tests;

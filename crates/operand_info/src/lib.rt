@@ -11,6 +11,3 @@ mod targets;
 pub use columns::{Access, Flow, access_of, flow_of, memory_size};
 pub use registers::{RegUse, used_registers};
 pub use targets::{ip_operand, near_target};
-
-#[cfg(test)]
-mod tests;

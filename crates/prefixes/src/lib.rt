@@ -14,8 +14,6 @@ use instruction_parts::sizes::bit_of_byte;
 use instruction_parts::{PrefixState, Vex};
 
 pub mod laws;
-#[cfg(test)]
-mod tests;
 mod write;
 
 use row_types::Map;

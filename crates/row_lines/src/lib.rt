@@ -2,8 +2,6 @@
 #![tactic(auto)]
 
 pub mod laws;
-#[cfg(test)]
-mod tests;
 
 ghost use Rattle.std.specs.Prelude.{◌≡◌, ◌<◌, ◌≤◌, ◌+◌, ◌∷◌, ◌++◌, [], length, IsTrue, Some, slice_get, decimal};
 ghost use Rattle.row_notation.specs.Shape.{is_proper, shape};

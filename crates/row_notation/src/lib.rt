@@ -4,8 +4,6 @@
 pub mod laws;
 mod reading;
 mod shape;
-#[cfg(test)]
-mod tests;
 mod words;
 mod writing;
 

@@ -3,8 +3,6 @@
 
 mod bytes;
 mod front;
-#[cfg(test)]
-mod tests;
 
 pub use bytes::{append_lead, append_plain_tail, append_tail, spelling_bytes};
 pub use front::plain_front;

@@ -17,7 +17,7 @@ pub const CODE_LIMIT: u32 = 16_777_216;
 
 /// Why a source was not read to its end.
 #[derive(Clone, Copy, PartialEq, Eq, Debug, Error)]
-pub enum ReadError {
+enum ReadError {
     /// The source failed.
     #[error("read fault")]
     Fault,
@@ -87,7 +87,7 @@ fn read_chunks<S: Source>(
 /// Reads a source to its end, where it has at most `limit` bytes. Whatever the answer is, it takes at most one byte more.
 ///
 /// `Fault` comes only where the source failed, and the source is not asked again; `TooLarge` only where one byte more than the limit was taken, and `Memory` at any point.
-pub fn read_all<S: Source>(alloc: Global, source: &mut S, limit: u32) -> Result<Vec<u8>, ReadError>
+fn read_all<S: Source>(alloc: Global, source: &mut S, limit: u32) -> Result<Vec<u8>, ReadError>
     ensures ok { IfOk result (λ input. ReadsAll limit (S.left source.old) (S.left source.new) input.items) }
     ensures fault { IsErrOf result ReadError.Fault → Rose (S.faults source.old) (S.faults source.new) }
     ensures last { IsErrOf result ReadError.Fault → EndsAtFault S.pull_gives S.left source.new }

@@ -7,6 +7,6 @@ pub mod laws;
 mod output;
 mod status;
 
-pub use input::{CODE_LIMIT, ReadError, WHOLE_LIMIT, read_all, read_whole};
+pub use input::{CODE_LIMIT, WHOLE_LIMIT, read_whole};
 pub use output::{make_room, put_all, say};
 pub use status::{Status, status_line, status_number};

@@ -6,13 +6,9 @@ mod block;
 mod commands;
 pub mod laws;
 mod laws_below;
-#[cfg(test)]
-mod model_tests;
 mod order;
 mod refusals;
 mod slots;
-#[cfg(test)]
-mod tests;
 
 pub use block_encoder::Placed;
 pub use code_region::{NotTaken, OpenError};
