@@ -2,11 +2,11 @@
 #![tactic(auto)]
 
 mod bare;
-mod bare_rows;
 mod by_mode;
 mod cell;
 mod cursor;
 mod found;
+mod generated_bare_rows;
 mod items;
 mod reading;
 pub mod reading_laws;

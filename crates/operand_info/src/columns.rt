@@ -4,7 +4,7 @@ ghost use Rattle.std.specs.Prelude.{◌≡◌, ◌<◌, slice_get, Some};
 ghost use Rattle.operand_info.specs.Lines.{columns};
 ghost use Rattle.operand_info.specs.ByCode as spec;
 
-use crate::table::COLUMNS;
+use crate::generated_columns::COLUMNS;
 use opcode_rows::ROWS;
 use x86_values::Code;
 
