@@ -2,7 +2,7 @@ ghost use Rattle.std.specs.Prelude.{◌≡◌, IfOk, IfSome};
 ghost use Rattle.x86_values.specs.declared.Bits.{Bits};
 ghost use Rattle.move_goals.specs.Items.{AreSpansOf, ArePlaced, IsPlaced};
 
-use crate::{BlockSpan, Form, MoveError, Placed, last_len, move_block, move_blocks, move_outside};
+use block_encoder::{BlockSpan, Form, MoveError, Placed, last_len, move_block, move_blocks, move_outside};
 use encoder::encode;
 use encoder::laws::encodings_are_plain;
 use std::alloc::{AllocError, Global};

@@ -1,14 +1,14 @@
-use crate::decoding::decode_in;
-use crate::encoding::{NoSpelling, encode, encoded_len};
-use crate::flow::flow_graph_in;
-use crate::format::Intel;
-use crate::info::{Flow, flow_of};
-use crate::moving::move_block;
-use crate::region::{NotTaken, Region};
-use crate::rows::code_of;
-use crate::slots::StepSlots;
-use crate::streams::{MemSink, MemSource, info_stream};
-use crate::values::Bits;
+use feddurzai::decoding::decode_in;
+use feddurzai::encoding::{NoSpelling, encode, encoded_len};
+use feddurzai::flow::flow_graph_in;
+use feddurzai::format::Intel;
+use feddurzai::info::{Flow, flow_of};
+use feddurzai::moving::move_block;
+use feddurzai::region::{NotTaken, Region};
+use feddurzai::rows::code_of;
+use feddurzai::slots::StepSlots;
+use feddurzai::streams::{MemSink, MemSource, info_stream};
+use feddurzai::values::Bits;
 use std::test::Fail;
 
 // `jne` over 16 bytes: each module is called once, and what it says is the manual's.

@@ -3,7 +3,7 @@ ghost use Rattle.x86_values.specs.declared.Bits.{Bits};
 ghost use Rattle.move_goals.specs.Items as spec;
 ghost use Rattle.move_goals.specs.Items.{AreSpansOf, ArePlaced, IsPlaced};
 
-use crate::{Placed, first_disorder, first_old_pass, plan_for};
+use move_goals::{Placed, first_disorder, first_old_pass, plan_for};
 use branch_sizes::{BlockSpan, Goal};
 use encoder::encode;
 use plain_spelling::NoSpelling;

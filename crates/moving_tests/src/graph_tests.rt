@@ -1,4 +1,4 @@
-use crate::{flow_graph, flow_graph_in};
+use flow_graph::{flow_graph, flow_graph_in};
 use decoder::DecodeError;
 use operand_info::Flow;
 use std::test::Fail;

@@ -2,7 +2,7 @@ ghost use Rattle.std.specs.Prelude.{◌≡◌, ◌<◌, ◌≤◌, ◌∷◌, []
 ghost use Rattle.std.specs.List.{list_all};
 ghost use Rattle.branch_sizes.specs.Plan.{is_fit_branch};
 
-use crate::{BlockEnd, Layout, Seat, lay_out};
+use move_layout::{BlockEnd, Layout, Seat, lay_out};
 use arrayvec::ArrayVec;
 use branch_sizes::{BlockSpan, Branch, Choice, Form, Goal, Plan, Reach};
 use std::alloc::{AllocError, Global};

@@ -1,7 +1,7 @@
 ghost use Rattle.std.specs.Prelude.{◌≡◌, IfOk};
 
-use super::*;
 use arrayvec::ArrayVec;
+use byte_ports::{CountSink, FailAt, Failed, MemSink, MemSource, ReaderSource, Sink, SlowSource, Source, WriterSink};
 use std::io;
 use std::io::{Read, Write};
 use std::test::Fail;

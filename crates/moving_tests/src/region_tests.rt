@@ -3,7 +3,7 @@
 ghost use Rattle.std.specs.Prelude.{◌≡◌, IfOk};
 ghost use Rattle.code_region.specs.Opening.{opened};
 
-use crate::{Command, NotTaken, OpenError, PlaceError, Region, Reply, replay};
+use code_region::{Command, NotTaken, OpenError, PlaceError, Region, Reply, replay};
 use std::test::Fail;
 
 fn region_of(rt: &HostRuntime, base: u64, size: u64, max_blocks: u64) -> Result<Region, OpenError>

@@ -2,8 +2,8 @@ ghost use Rattle.std.specs.Prelude.{◌≡◌, ◌<◌, ◌≤◌, ◌∷◌, []
 ghost use Rattle.std.specs.List.{list_all};
 ghost use Rattle.branch_sizes.specs.Plan.{is_fit_branch};
 
-use crate::layout::{chosen_forms, least_choices_by_passes};
-use crate::{BlockSpan, Branch, Choice, Form, Goal, Plan, Reach, Sums, least_layout};
+use branch_sizes::layout::{chosen_forms, least_choices_by_passes};
+use branch_sizes::{BlockSpan, Branch, Choice, Form, Goal, Plan, Reach, Sums, least_layout};
 use arrayvec::ArrayVec;
 use std::alloc::{AllocError, Global};
 use std::test::Fail;

@@ -4,8 +4,8 @@ ghost use Rattle.std.specs.Prelude.{◌≡◌, IfOk};
 ghost use Rattle.x86_values.specs.declared.Bits.{Bits};
 ghost use Rattle.move_goals.specs.Items.{IsPlaced};
 
-use crate::tests::{finish, load, nop, placed, slots_of, step};
-use crate::{NotTaken, Placed, StepError};
+use crate::slot_tests::{finish, load, nop, placed, slots_of, step};
+use step_slots::{NotTaken, Placed, StepError};
 use std::alloc::{AllocError, Global};
 use std::test::Fail;
 

@@ -4,7 +4,7 @@ ghost use Rattle.std.specs.Prelude.{◌≡◌, IfOk};
 ghost use Rattle.x86_values.specs.declared.Bits.{Bits};
 ghost use Rattle.move_goals.specs.Items.{IsPlaced};
 
-use crate::{NotTaken, OpenError, Placed, StepCommand, StepError, StepReply, StepSlots, replay};
+use step_slots::{NotTaken, OpenError, Placed, StepCommand, StepError, StepReply, StepSlots, replay};
 use encoder::encode;
 use std::alloc::Global;
 use std::test::Fail;

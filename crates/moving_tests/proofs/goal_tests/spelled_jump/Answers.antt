@@ -4,7 +4,7 @@ use Rattle.x86_values.specs.Wrapping.{wrapped}
 use Rattle.row_relation.specs.Spells.{Spells}
 use Rattle.opcode_rows.specs.Table.{table}
 use Rattle.plain_laws.proofs.ReadBack.{plain_spells}
-use Rattle.move_goals.proofs.tests.spelled_jump.Goals as goal
+use Rattle.moving_tests.proofs.goal_tests.spelled_jump.Goals as goal
 
 pub returns : goal.returns
 returns c = record {
