@@ -4,6 +4,10 @@ ghost use Rattle.std.specs.Prelude.{IsTrue};
 ghost use Rattle.prefixes.specs.Answer.{is_mode};
 ghost use Rattle.row_fit.specs.Sound.{sound};
 
+use Sample::{
+    Add16, Add32, Add64, AddImmediate, AddStack, Bound, Call, Gather, LoadFar, MoveByte,
+    MoveFromAddress, MoveFromDebug, Pop,
+};
 use intel_text::print;
 use modrm_sib::{TailError, read_operands};
 use opcode_rows::{code_of, well_formed};
@@ -13,6 +17,7 @@ use row_types::{
 };
 use std::str::from_utf8;
 use std::test::Fail;
+use x86_values::Bits::{B16, B32, B64};
 use x86_values::{Bits, Code, Decoded, DispSize, Instr};
 
 /// Rows that tell much, by what they stand for.
@@ -212,79 +217,55 @@ fn disp_bits(instr: &Instr) -> u8 {
 #[test]
 fn operands_and_lengths_are_read(rt: HostRuntime) -> Result<(), Fail> {
     for (bits, sample, digits, size, text) in [
-        (Bits::B16, Sample::Add16, "0100", 0, "add word [bx+si], ax"),
-        (
-            Bits::B16,
-            Sample::Add16,
-            "0140ff",
-            8,
-            "add word [bx+si-0x1], ax",
-        ),
-        (
-            Bits::B16,
-            Sample::Add16,
-            "01063412",
-            16,
-            "add word [0x1234], ax",
-        ),
-        (Bits::B16, Sample::Add16, "670100", 0, "add word [eax], ax"),
+        (B16, Add16, "0100", 0, "add word [bx+si], ax"),
+        (B16, Add16, "0140ff", 8, "add word [bx+si-0x1], ax"),
+        (B16, Add16, "01063412", 16, "add word [0x1234], ax"),
+        (B16, Add16, "670100", 0, "add word [eax], ax"),
         // 16-bit addressing has no SIB
+        (B32, Add32, "670100", 0, "add dword [bx+si], eax"),
+        (B64, Add32, "014c24f0", 8, "add dword [rsp-0x10], ecx"),
         (
-            Bits::B32,
-            Sample::Add32,
-            "670100",
-            0,
-            "add dword [bx+si], eax",
-        ),
-        (
-            Bits::B64,
-            Sample::Add32,
-            "014c24f0",
-            8,
-            "add dword [rsp-0x10], ecx",
-        ),
-        (
-            Bits::B64,
-            Sample::Add64,
+            B64,
+            Add64,
             "4e018cb3f0ffffff",
             32,
             "add qword [rbx+r14*4-0x10], r9",
         ),
         (
-            Bits::B64,
-            Sample::Add32,
+            B64,
+            Add32,
             "010510000000",
             32,
             "add dword [rel 0x1016], eax",
         ),
         (
-            Bits::B64,
-            Sample::Add32,
+            B64,
+            Add32,
             "67010510000000",
             32,
             "add dword [rel32 0x1017], eax",
         ),
-        (Bits::B32, Sample::LoadFar, "c400", 0, "les eax, [eax]"),
-        (Bits::B32, Sample::Pop, "8f00", 0, "pop dword [eax]"),
-        (Bits::B64, Sample::Call, "e8f60f0000", 0, "call 0x1ffb"),
+        (B32, LoadFar, "c400", 0, "les eax, [eax]"),
+        (B32, Pop, "8f00", 0, "pop dword [eax]"),
+        (B64, Call, "e8f60f0000", 0, "call 0x1ffb"),
         (
-            Bits::B64,
-            Sample::AddImmediate,
+            B64,
+            AddImmediate,
             "4881c0ffffffff",
             0,
             "add rax, 0xffffffffffffffff",
         ),
         (
-            Bits::B64,
-            Sample::MoveFromAddress,
+            B64,
+            MoveFromAddress,
             "a08877665544332211",
             64,
             "mov al, byte [0x1122334455667788]",
         ),
-        (Bits::B64, Sample::AddStack, "d8c1", 0, "fadd st0, st1"),
+        (B64, AddStack, "d8c1", 0, "fadd st0, st1"),
         (
-            Bits::B64,
-            Sample::Gather,
+            B64,
+            Gather,
             "c4e269920408",
             0,
             "vgatherdps xmm0, dword [rax+xmm1*1], xmm2",
@@ -310,33 +291,33 @@ fn ended_is_told_from_forbidden(rt: HostRuntime) -> Result<(), Fail> {
     let forbidden = TailError::Forbidden;
     for (bits, sample, digits, want) in [
         // ModRM, SIB, displacement or immediate is missing
-        (Bits::B64, Sample::Add32, "01", ended),
-        (Bits::B64, Sample::Add32, "0104", ended),
-        (Bits::B64, Sample::Add32, "0140", ended),
-        (Bits::B64, Sample::Add32, "0105000000", ended),
-        (Bits::B64, Sample::Call, "e8000000", ended),
+        (B64, Add32, "01", ended),
+        (B64, Add32, "0104", ended),
+        (B64, Add32, "0140", ended),
+        (B64, Add32, "0105000000", ended),
+        (B64, Call, "e8000000", ended),
         // LOCK may still meet memory, but never a register, and not on a row that is not lockable
-        (Bits::B64, Sample::Add32, "f001", ended),
-        (Bits::B64, Sample::Add32, "f001c0", forbidden),
-        (Bits::B64, Sample::MoveByte, "f088", forbidden),
+        (B64, Add32, "f001", ended),
+        (B64, Add32, "f001c0", forbidden),
+        (B64, MoveByte, "f088", forbidden),
         // a debug register has no REX.R
-        (Bits::B64, Sample::MoveFromDebug, "0f21", ended),
-        (Bits::B64, Sample::MoveFromDebug, "440f21", forbidden),
+        (B64, MoveFromDebug, "0f21", ended),
+        (B64, MoveFromDebug, "440f21", forbidden),
         // another operand size, or a mode in which the row is not
-        (Bits::B64, Sample::Add32, "6601", forbidden),
-        (Bits::B32, Sample::Add64, "01", forbidden),
+        (B64, Add32, "6601", forbidden),
+        (B32, Add64, "01", forbidden),
         // 62 and 8F that begin something else
-        (Bits::B32, Sample::Bound, "62", ended),
-        (Bits::B32, Sample::Bound, "62c0", forbidden),
-        (Bits::B32, Sample::Pop, "8f", ended),
-        (Bits::B32, Sample::Pop, "8f08", forbidden),
+        (B32, Bound, "62", ended),
+        (B32, Bound, "62c0", forbidden),
+        (B32, Pop, "8f", ended),
+        (B32, Pop, "8f08", forbidden),
         // a fixed ModRM byte
-        (Bits::B64, Sample::AddStack, "d8c8", forbidden),
+        (B64, AddStack, "d8c8", forbidden),
         // a gather needs a SIB, which 16-bit addressing has not, and three registers that differ
-        (Bits::B64, Sample::Gather, "c4e2699204", ended),
-        (Bits::B64, Sample::Gather, "c4e2699200", forbidden),
-        (Bits::B32, Sample::Gather, "67c4e26992", forbidden),
-        (Bits::B64, Sample::Gather, "c4e2699214", forbidden),
+        (B64, Gather, "c4e2699204", ended),
+        (B64, Gather, "c4e2699200", forbidden),
+        (B32, Gather, "67c4e26992", forbidden),
+        (B64, Gather, "c4e2699214", forbidden),
     ] {
         let bytes = hex::decode(rt.alloc(), digits)?;
         let read = answer_in(bits, sample, &bytes)?;
