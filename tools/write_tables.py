@@ -14,11 +14,11 @@ CRATES = os.path.join(os.path.dirname(os.path.dirname(os.path.abspath(__file__))
 HELP = '''\
 The entries are read once (docs/entries.md says how a line is read) and expanded to the rows of the table; the stages behind make of these rows
 
-  rows      crates/rows_*/src/table.rt, crates/opcode_rows/src/{spots,cells,names}.rt
-  columns   crates/operand_info/src/table.rt
-  nodes     crates/handler_tables/src/nodes.rt
-  bare      crates/decoder/src/bare_rows.rt
-  names     crates/name_index/src/buckets.rt
+  rows      crates/rows_*/src/generated_table.rt, crates/opcode_rows/src/generated_{spots,cells,names}.rt
+  columns   crates/operand_info/src/generated_columns.rt
+  nodes     crates/handler_tables/src/generated_nodes.rt
+  bare      crates/decoder/src/generated_bare_rows.rt
+  names     crates/name_index/src/generated_buckets.rt
 
 Nothing rests on this program: the crates prove of what it writes what their contracts and laws say, and row_entries compares the entries with the
 rows. The exit status is 0 where all files are as the entries say, with --check 1 where a file differs (each is named), and 2 where a line is no

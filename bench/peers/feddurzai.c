@@ -1,9 +1,11 @@
-// The library for C: the instruction as a struct, or with its Intel text (-DWITH_TEXT).
+// The library for C: the instruction as a struct, or with its Intel text (-DWITH_TEXT), or encoded again (-DWITH_ENCODE).
 #include "measure.h"
 #include "feddurzai.h"
 
 #ifdef WITH_TEXT
 #define NAME "feddurzai in C, text"
+#elif defined WITH_ENCODE
+#define NAME "feddurzai in C, encoded"
 #else
 #define NAME "feddurzai in C"
 #endif
@@ -18,6 +20,9 @@ static void sweep(const uint8_t *bytes, size_t size, int bits, struct counts *co
 #ifdef WITH_TEXT
             char text[FEDDURZAI_MAX_TEXT];
             counts->sum += (uint64_t)feddurzai_text((uint32_t)bits, FEDDURZAI_INTEL, &instr, text, sizeof text);
+#elif defined WITH_ENCODE
+            uint8_t bytes_again[FEDDURZAI_MAX_LEN];
+            counts->sum += (uint64_t)feddurzai_encode((uint32_t)bits, place, &instr, bytes_again, sizeof bytes_again);
 #else
             counts->sum += instr.code;
 #endif

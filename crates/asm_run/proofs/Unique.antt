@@ -11,7 +11,7 @@ use Rattle.std.specs.Cmp.{IsTotalOrder}
 use Rattle.x86_values.specs.declared.Bits.{Bits}
 use Rattle.x86_values.specs.declared.Instr.{Instr}
 use Rattle.x86_values.specs.Wrapping.{wrapped}
-use Rattle.opcode_rows.specs.declared.spots.TheConstants.{ROWS}
+use Rattle.opcode_rows.specs.declared.generated_spots.TheConstants.{ROWS}
 use Rattle.opcode_rows.specs.Table.{table}
 use Rattle.intel_text.specs.Text.{text as text_of}
 use Rattle.intel_reader.specs.Assembled.{Assembly, rank, IsCandidate, IsFirst, AssemblesTo, IsNoText}

@@ -16,7 +16,7 @@ use Rattle.moved_targets.specs.Targets.{plain_length}
 use Rattle.branch_forms.specs.declared.branch.Action.{Action}
 use Rattle.branch_forms.specs.declared.branch.Action.TheVariants.{Jump, Call, Condition, Count}
 use Rattle.branch_forms.specs.declared.branch.RelativeBranch.{RelativeBranch}
-use Rattle.branch_forms.specs.Branches.{in_range, short_code, near_code, far_code, inverted}
+use Rattle.branch_forms.specs.Branches.{in_range, short_code, near_code, far_code, opposite_condition}
 use Rattle.branch_forms.specs.Images.{branch_to, through_slot, counter_size, short_branch, skip, bridge_jump, bridge_inner, bridge, far_image, branch_image, pieces_length}
 use Rattle.branch_forms.specs.Choices.{near_reach, bridge_reach, form_reach}
 use Rattle.branch_forms.specs.Lengths.{address_byte}
@@ -221,16 +221,16 @@ module _ (laws : LawsBelow) where
       one-some at (through_slot (far_code Call) slot)
       (call-piece slot at below (laws.distances.reached 4 (2 ^ 31) refl (omega arith) at (plain_length B64 (through_slot (far_code Call) slot)) slot (omega (arith, len)) (omega (arith, within)) below (omega (arith, low), omega (arith, high))))
   far-spelled (Condition n) short at slot h range within (below, low, high) =
-      let lt = laws.pieces.inverted-small n (ltb-true n 16 range) in
-      let code = short_code (Condition (inverted n)) B64 in
+      let lt = laws.pieces.opposite_condition-small n (ltb-true n 16 range) in
+      let code = short_code (Condition (opposite_condition n)) B64 in
       let last = through_slot (far_code Jump) slot in
       let len = laws.pieces.slot_jump-length B64 slot in
       let one = plain_length B64 (branch_to code None 0) in
       let over = wrapped B64 (at + one + plain_length B64 last) in
-      let long = laws.pieces.short_condition-length B64 B64 (inverted n) lt 0 in
+      let long = laws.pieces.short_condition-length B64 B64 (opposite_condition n) lt 0 in
       let same = laws.pieces.branch_to-length B64 code None over in
       let near = laws.distances.over-reached at one (plain_length B64 last) (omega (arith, long)) (omega (arith, within, same)) (omega (arith, len)) in
-      let first = short-encoded laws One false (0x70 + inverted n) code None over at (laws.codes.short-condition (inverted n) B64 lt) (no_size One (0x70 + inverted n) code over)
+      let first = short-encoded laws One false (0x70 + opposite_condition n) code None over at (laws.codes.short-condition (opposite_condition n) B64 lt) (no_size One (0x70 + opposite_condition n) code over)
       (omega (arith, long, same)) (wrapped-small (at + one + plain_length B64 last)) (subst (λ (n : ℕ). IsNear 1 at n over) (sym same) near) in
       let at_last = at + plain_length B64 (branch_to code None over) in
       more-some at (branch_to code None over) (last ∷ []) first

@@ -13,11 +13,11 @@ use Rattle.branch_sizes.specs.declared.plan.Form.{Form}
 use Rattle.branch_sizes.specs.declared.plan.Form.TheVariants.{Itself, Short, Near as NearForm, Far, Bridge, FarBridge}
 use Rattle.branch_sizes.specs.Plan.{BlockPlan}
 use Rattle.branch_sizes.specs.Layout.{IsLayout, block_number, chosen, place}
-use Rattle.moved_targets.specs.Targets.{target_of, aimed, plain_length}
+use Rattle.moved_targets.specs.Targets.{target_of, with_target, plain_length}
 use Rattle.branch_forms.specs.declared.branch.Action.{Action}
 use Rattle.branch_forms.specs.declared.branch.Action.TheVariants.{Jump, Call, Condition, Count}
 use Rattle.branch_forms.specs.declared.branch.RelativeBranch.{RelativeBranch}
-use Rattle.branch_forms.specs.Branches.{branch_of, short_code, near_code, far_code, inverted}
+use Rattle.branch_forms.specs.Branches.{branch_of, short_code, near_code, far_code, opposite_condition}
 use Rattle.branch_forms.specs.Images.{branch_to, through_slot, counter_size, short_branch, skip, bridge_jump, bridge_inner, bridge, far_image, branch_image, image_by, image_of, pieces_length}
 use Rattle.move_goals.specs.declared.items.Placed.{Placed}
 use Rattle.move_goals.specs.Items.{ArePlaced, no_instr, item_at}
@@ -95,7 +95,7 @@ unbranched : (i : Instr) → first_value near_value i ≡ None → branch_of i �
 unfolding branch_of
 unbranched i h = rw h refl
 
-image-address : (bits : Bits) (i : Instr) (form : Form) (at goal slot : ℕ) → first_value near_value i ≡ None → image_of bits i form at goal slot ≡ aimed goal i ∷ []
+image-address : (bits : Bits) (i : Instr) (form : Form) (at goal slot : ℕ) → first_value near_value i ≡ None → image_of bits i form at goal slot ≡ with_target goal i ∷ []
 unfolding image_of
 image-address bits i form at goal slot h = ap (λ (b : Option RelativeBranch). image_by bits i b form at goal slot) (unbranched i h)
 
@@ -108,7 +108,7 @@ unfolding target_of
 no_near i h = or_none (first_value near_value i) (first_value ip_value i) h
 
 -- **what stays as it is when it is aimed elsewhere, since it has no target, is its own image**
-pub untargeted-image : (bits : Bits) (i : Instr) (form : Form) (place goal slot : ℕ) → aimed goal i ≡ i → target_of i ≡ None
+pub untargeted-image : (bits : Bits) (i : Instr) (form : Form) (place goal slot : ℕ) → with_target goal i ≡ i → target_of i ≡ None
     → image_of bits i form place goal slot ≡ i ∷ []
 untargeted-image bits i form place goal slot stays none =
     image-address bits i form place goal slot (no_near i none) ∙ ap (λ (x : Instr). x ∷ []) stays
@@ -146,7 +146,7 @@ module _ (laws : LawsBelow) where
   far-over bits b at Call slot n lt = absurd (omega arith)
   far-over bits b at (Count c) slot n lt = absurd (omega arith)
   far-over bits b at (Condition c) slot zero lt =
-      let code = short_code (Condition (inverted c)) b.size in
+      let code = short_code (Condition (opposite_condition c)) b.size in
       let over = wrapped bits (at + plain_length bits (branch_to code None 0) + plain_length bits (through_slot (far_code Jump) slot)) in
       near-branch_to code None over
       ∙ ap (λ (m : ℕ). Some (wrapped bits m)) (omega (arith, laws.pieces.branch_to-length bits code None over))
@@ -200,7 +200,7 @@ module _ (laws : LawsBelow) where
 
     -- **what has no near target is aimed at the goal**
     pub goes-address : first_value near_value (item_at items k).instr ≡ None
-        → image_at bits items (plan_for bits spans items) layout k ≡ aimed (goal_address (plan_for bits spans items) layout k) (item_at items k).instr ∷ []
+        → image_at bits items (plan_for bits spans items) layout k ≡ with_target (goal_address (plan_for bits spans items) layout k) (item_at items k).instr ∷ []
     goes-address none =
         image-is
         ∙ image-address bits (item_at items k).instr (chosen (plan_for bits spans items) layout k).form (place (plan_for bits spans items) layout k)
@@ -215,7 +215,7 @@ module _ (laws : LawsBelow) where
           image-is
           ∙ untargeted-image bits (item_at items k).instr (chosen (plan_for bits spans items) layout k).form (place (plan_for bits spans items) layout k)
           (goal_address (plan_for bits spans items) layout k) (seat_at (plan_for bits spans items) layout k).slot
-          (laws.targets.untargeted-aimed (goal_address (plan_for bits spans items) layout k) (item_at items k).instr four none) none
+          (laws.targets.untargeted-with_target (goal_address (plan_for bits spans items) layout k) (item_at items k).instr four none) none
 
       -- the image of a branch
       image-branch : (t : ℕ) → first_value near_value (item_at items k).instr ≡ Some t

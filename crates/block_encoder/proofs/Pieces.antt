@@ -11,7 +11,7 @@ use Rattle.row_relation.specs.Spells.{Spells}
 use Rattle.opcode_rows.specs.Table.{table}
 use Rattle.branch_sizes.specs.declared.plan.Form.{Form}
 use Rattle.branch_sizes.specs.declared.plan.Form.TheVariants.{Itself, Short, Near as NearForm, Far, Bridge, FarBridge}
-use Rattle.moved_targets.specs.Targets.{aimed_operand, aimed}
+use Rattle.moved_targets.specs.Targets.{aimed_operand, with_target}
 use Rattle.branch_forms.specs.declared.branch.Action.{Action}
 use Rattle.branch_forms.specs.declared.branch.Action.TheVariants.{Jump, Call, Condition, Count}
 use Rattle.branch_forms.specs.declared.branch.RelativeBranch.{RelativeBranch}
@@ -31,9 +31,9 @@ spelled-four bits ip bytes i (short, (row, at, (s, e))) =
 
 -- ---- images
 
-aimed-four : (t : ℕ) (i : Instr) → length i.ops ≡ 4 → length (aimed t i).ops ≡ 4
-unfolding aimed
-aimed-four t i four = length-map i.ops (aimed_operand t) ∙ four
+with_target-four : (t : ℕ) (i : Instr) → length i.ops ≡ 4 → length (with_target t i).ops ≡ 4
+unfolding with_target
+with_target-four t i four = length-map i.ops (aimed_operand t) ∙ four
 
 branch_to-four : (code : ℕ) (asize : Option Bits) (t : ℕ) → length (branch_to code asize t).ops ≡ 4
 unfolding branch_to
@@ -64,7 +64,7 @@ jump-four b t = refl
 
 branch-four : (bits : Bits) (i : Instr) (b : RelativeBranch) (form : Form) (place goal slot : ℕ) → length i.ops ≡ 4 → HaveFour (branch_image bits i b form place goal slot)
 unfolding branch_image branch_to
-branch-four bits i b Itself place goal slot four = (aimed-four goal i four, tt)
+branch-four bits i b Itself place goal slot four = (with_target-four goal i four, tt)
 branch-four bits i b Short place goal slot four = (short-four b i.asize goal, tt)
 branch-four bits i b NearForm place goal slot four = (refl, tt)
 branch-four bits i b Far place goal slot four = far-four bits b place b.action slot
@@ -72,7 +72,7 @@ branch-four bits i b Bridge place goal slot four = bridge-four bits b i.asize pl
 branch-four bits i b FarBridge place goal slot four = bridge-four bits b i.asize place (through_slot _ slot) (slot-four _ slot)
 
 by-four : (bits : Bits) (i : Instr) (b : Option RelativeBranch) (form : Form) (place goal slot : ℕ) → length i.ops ≡ 4 → HaveFour (image_by bits i b form place goal slot)
-by-four bits i None form place goal slot four = (aimed-four goal i four, tt)
+by-four bits i None form place goal slot four = (with_target-four goal i four, tt)
 by-four bits i (Some b) form place goal slot four = branch-four bits i b form place goal slot four
 
 -- **each instruction of an image has four operands**

@@ -8,7 +8,7 @@ use Rattle.branch_sizes.specs.declared.plan.BlockSpan.{BlockSpan}
 use Rattle.branch_sizes.specs.declared.plan.Form.{Form}
 use Rattle.branch_sizes.specs.declared.plan.Form.TheVariants.{Itself}
 use Rattle.branch_sizes.specs.Layout.{IsLayout, Reaches, place, image_length}
-use Rattle.moved_targets.specs.Targets.{target_of, target_reach, aimed, plain_length}
+use Rattle.moved_targets.specs.Targets.{target_of, target_reach, with_target, plain_length}
 use Rattle.branch_forms.specs.declared.branch.RelativeBranch.{RelativeBranch}
 use Rattle.branch_forms.specs.Branches.{branch_of}
 use Rattle.branch_forms.specs.Images.{image_by, image_of}
@@ -26,7 +26,7 @@ use Rattle.block_encoder.proofs.Inside.{width-most, image-within}
 use Rattle.block_encoder.proofs.Chosen.{plan-item, choice-is, choice-below, seat-length, seat-no_branch, seat-place, seat-image_length}
 
 -- what is no relative branch is itself in each form, aimed at its goal
-other_image : (bits : Bits) (i : Instr) (form : Form) (at goal slot : ℕ) → branch_of i ≡ None → image_of bits i form at goal slot ≡ aimed goal i ∷ []
+other_image : (bits : Bits) (i : Instr) (form : Form) (at goal slot : ℕ) → branch_of i ≡ None → image_of bits i form at goal slot ≡ with_target goal i ∷ []
 unfolding image_of
 other_image bits i form at goal slot none = ap (λ (b : Option RelativeBranch). image_by bits i b form at goal slot) none
 
@@ -104,5 +104,5 @@ module _ (laws : LawsBelow) where
           let e = laws.targets.encoded-elsewhere bits old seat.place seat.goal i.bytes instr i.spelled none there within below in (
             reaches,
             subst (λ (is : List Instr). IsSome (bytes_from bits seat.place is)) (sym (other_image bits instr seat.form seat.place seat.goal seat.slot no_branch))
-                (one_spelled bits seat.place (aimed seat.goal instr) e.0 e.1),
+                (one_spelled bits seat.place (with_target seat.goal instr) e.0 e.1),
           )

@@ -7,7 +7,7 @@ use Rattle.plain_spelling.specs.Values.{low_bytes}
 use Rattle.operand_info.specs.Operands.{near_value, ip_value, first_value}
 use Rattle.branch_sizes.specs.Plan.{BlockPlan}
 use Rattle.branch_sizes.specs.Layout.{span_at, image_length, place}
-use Rattle.moved_targets.specs.Targets.{target_of, aimed}
+use Rattle.moved_targets.specs.Targets.{target_of, with_target}
 use Rattle.branch_forms.specs.Images.{pieces_length}
 use Rattle.move_goals.specs.declared.items.Placed.{Placed}
 use Rattle.move_goals.specs.Items.{item_at, no_instr}
@@ -42,7 +42,7 @@ pub record HasSlot (bits : Bits) (items : List Placed) (p : BlockPlan) (layout :
 pub record GoesToGoal (bits : Bits) (items : List Placed) (p : BlockPlan) (layout : List ℕ) (b k : ℕ) : Type 0 where
   pub stays : target_of (item_at items k).instr ≡ None → image_at bits items p layout k ≡ (item_at items k).instr ∷ []
   pub address : first_value near_value (item_at items k).instr ≡ None
-      → image_at bits items p layout k ≡ aimed (goal_address p layout k) (item_at items k).instr ∷ []
+      → image_at bits items p layout k ≡ with_target (goal_address p layout k) (item_at items k).instr ∷ []
   pub near : (t : ℕ) → first_value near_value (item_at items k).instr ≡ Some t → is_far_at p layout k ≡ false
       → first_value near_value (last_instr (image_at bits items p layout k)) ≡ Some (goal_address p layout k)
   pub far : (t : ℕ) → first_value near_value (item_at items k).instr ≡ Some t → is_far_at p layout k ≡ true

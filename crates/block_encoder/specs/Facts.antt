@@ -16,7 +16,7 @@ use Rattle.branch_sizes.specs.declared.plan.Goal.{Goal}
 use Rattle.branch_sizes.specs.Plan.{BlockPlan, IsWellFormed, no_choice}
 use Rattle.branch_sizes.specs.Plan as plan
 use Rattle.branch_sizes.specs.Layout.{IsLayout, IsLeast, Reaches, ReachesGoal, block_number, span_at, chosen, place, image_length}
-use Rattle.moved_targets.specs.Targets.{target_of, aimed, plain_length}
+use Rattle.moved_targets.specs.Targets.{target_of, with_target, plain_length}
 use Rattle.branch_forms.specs.Rows.{offset_row}
 use Rattle.branch_forms.specs.Images.{branch_to, pieces_length}
 use Rattle.branch_forms.specs.Choices.{choices_of}
@@ -73,7 +73,7 @@ pub record MovedFacts : Type 0 where
       → image_at bits items (plan_for bits spans items) layout k ≡ (item_at items k).instr ∷ []
   pub address : (bits : Bits) (items : List Placed) (spans : List BlockSpan) → ArePlaced bits items → (layout : List ℕ) (k : ℕ) → k < length items
       → first_value near_value (item_at items k).instr ≡ None
-      → image_at bits items (plan_for bits spans items) layout k ≡ aimed (goal_address (plan_for bits spans items) layout k) (item_at items k).instr ∷ []
+      → image_at bits items (plan_for bits spans items) layout k ≡ with_target (goal_address (plan_for bits spans items) layout k) (item_at items k).instr ∷ []
   pub near : (bits : Bits) (items : List Placed) (spans : List BlockSpan) → ArePlaced bits items
       → (layout : List ℕ) → IsLayout (plan_for bits spans items) layout → (k t : ℕ) → k < length items
       → first_value near_value (item_at items k).instr ≡ Some t → is_far_at (plan_for bits spans items) layout k ≡ false

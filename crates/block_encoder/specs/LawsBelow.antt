@@ -2,7 +2,7 @@
 use Rattle.std.specs.Prelude.{◌≡◌, ℕ, Bool, IsTrue, Some, slice_get}
 use Rattle.std.specs.List.{list_all}
 use Rattle.row_types.specs.declared.Row.{Row}
-use Rattle.opcode_rows.specs.declared.spots.Part.{Part}
+use Rattle.opcode_rows.specs.declared.spot.Part.{Part}
 use Rattle.opcode_rows.specs.Table.{part_table, table}
 use Rattle.encoder.specs.Facts.{EncodingFacts}
 use Rattle.branch_sizes.specs.Facts.{BlockFacts, LengthFacts, TotalFacts}

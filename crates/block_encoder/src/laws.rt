@@ -8,7 +8,7 @@ ghost use Rattle.operand_info.specs.Operands.{near_value, ip_value, first_value}
 ghost use Rattle.branch_sizes.specs.declared.plan.BlockSpan.{BlockSpan};
 ghost use Rattle.branch_sizes.specs.declared.plan.Form.TheVariants.{Itself};
 ghost use Rattle.branch_sizes.specs.Layout.{IsLayout, IsLeast, Reaches, block_number, span_at, place};
-ghost use Rattle.moved_targets.specs.Targets.{target_of, aimed};
+ghost use Rattle.moved_targets.specs.Targets.{target_of, with_target};
 ghost use Rattle.branch_forms.specs.Images.{pieces_length};
 ghost use Rattle.move_goals.specs.declared.items.Placed.{Placed};
 ghost use Rattle.move_goals.specs.Items.{AreSpansOf, ArePlaced, item_at, no_instr};
@@ -51,7 +51,7 @@ pub fn images_go_to_their_goals()
         → image_at bits items (plan_for bits spans items) layout k ≡ (item_at items k).instr ∷ [] }
     ensures address { (bits : Bits) (items : List Placed) (spans : List BlockSpan) → ArePlaced bits items → (layout : List ℕ) (k : ℕ) → k < length items
         → first_value near_value (item_at items k).instr ≡ None
-        → image_at bits items (plan_for bits spans items) layout k ≡ aimed (goal_address (plan_for bits spans items) layout k) (item_at items k).instr ∷ [] }
+        → image_at bits items (plan_for bits spans items) layout k ≡ with_target (goal_address (plan_for bits spans items) layout k) (item_at items k).instr ∷ [] }
     ensures near { (bits : Bits) (items : List Placed) (spans : List BlockSpan) → ArePlaced bits items
         → (layout : List ℕ) → IsLayout (plan_for bits spans items) layout → (k t : ℕ) → k < length items
         → first_value near_value (item_at items k).instr ≡ Some t → is_far_at (plan_for bits spans items) layout k ≡ false

@@ -22,11 +22,11 @@ use Rattle.moved_targets.proofs.Lengths.{spelled-needs, spelled-length}
 use Rattle.branch_forms.specs.declared.branch.Action.{Action}
 use Rattle.branch_forms.specs.declared.branch.Action.TheVariants.{Jump, Call, Condition, Count}
 use Rattle.branch_forms.specs.declared.branch.RelativeBranch.{RelativeBranch}
-use Rattle.branch_forms.specs.Branches.{branch_of, is_pair, in_range, far_code, inverted}
+use Rattle.branch_forms.specs.Branches.{branch_of, is_pair, in_range, far_code, opposite_condition}
 use Rattle.branch_forms.specs.Images.{counter_size, short_branch, skip, bridge_jump, bridge_inner, through_slot, form_length}
 use Rattle.branch_forms.specs.Lengths.{size_byte, address_byte, offset_bytes}
 use Rattle.branch_forms.specs.Choices.{in_64, branch_forms, near_reach, bridge_reach, form_reach, branch_choice, choices_by, choices_of}
-use Rattle.branch_forms.proofs.Pieces.{by_pair, short_jump-length, short_condition-length, short_count-length, near_jump-length, near_call-length, near_condition-length, slot_call-length, slot_jump-length, inverted-small}
+use Rattle.branch_forms.proofs.Pieces.{by_pair, short_jump-length, short_condition-length, short_count-length, near_jump-length, near_call-length, near_condition-length, slot_call-length, slot_jump-length, opposite_condition-small}
 use Rattle.branch_forms.proofs.Lengths.{far_size, form_size, branch-length, other-length}
 use Rattle.branch_forms.proofs.Offsets.{branch-range, branch-pair}
 
@@ -167,7 +167,7 @@ condition-far : (bits size : Bits) (i : Instr) (s : Bool) (n : ℕ) → n < 16 �
     → form_size bits i (branch_with (Condition n) s size) Far ≡ 2 + size_byte bits size + 6
 unfolding form_size far_size
 condition-far bits size i s n lt pair h =
-    omega (arith, short_condition-length bits size (inverted n) (inverted-small n lt) 0, slot_jump-in bits h)
+    omega (arith, short_condition-length bits size (opposite_condition n) (opposite_condition-small n lt) 0, slot_jump-in bits h)
 
 -- the two branches before the last jump of a bridge
 count-inner : (bits size : Bits) (asize : Option Bits) (s : Bool) (n : ℕ) → n < 4 → is_pair bits size ≡ true

@@ -6,23 +6,23 @@ use Rattle.x86_values.specs.declared.Instr.{Instr}
 use Rattle.x86_values.specs.Wrapping.{wrapped}
 use Rattle.branch_sizes.specs.declared.plan.Form.{Form}
 use Rattle.branch_sizes.specs.declared.plan.Form.TheVariants.{Itself, Short, Near as NearForm, Far, Bridge, FarBridge}
-use Rattle.moved_targets.specs.Targets.{aimed, aimed_operand, aimed_base, plain_length}
-use Rattle.moved_targets.proofs.Lengths.{aimed-length}
+use Rattle.moved_targets.specs.Targets.{with_target, aimed_operand, aimed_base, plain_length}
+use Rattle.moved_targets.proofs.Lengths.{with_target-length}
 use Rattle.branch_forms.specs.declared.branch.Action.{Action}
 use Rattle.branch_forms.specs.declared.branch.Action.TheVariants.{Jump, Call, Condition, Count}
 use Rattle.branch_forms.specs.declared.branch.RelativeBranch.{RelativeBranch}
-use Rattle.branch_forms.specs.Branches.{branch_of, short_code, near_code, far_code, inverted}
+use Rattle.branch_forms.specs.Branches.{branch_of, short_code, near_code, far_code, opposite_condition}
 use Rattle.branch_forms.specs.Images.{branch_to, through_slot, counter_size, short_branch, skip, bridge_jump, bridge_inner, bridge, far_image, branch_image, image_by, image_of, pieces_length, form_length}
 
 -- ---- single instructions
 
 pub branch_to-length : (bits : Bits) (code : ℕ) (asize : Option Bits) (t : ℕ) → plain_length bits (branch_to code asize t) ≡ plain_length bits (branch_to code asize 0)
-unfolding branch_to aimed aimed_operand
-branch_to-length bits code asize t = aimed-length bits t (branch_to code asize 0)
+unfolding branch_to with_target aimed_operand
+branch_to-length bits code asize t = with_target-length bits t (branch_to code asize 0)
 
 slot-length : (bits : Bits) (code slot : ℕ) → plain_length bits (through_slot code slot) ≡ plain_length bits (through_slot code 0)
-unfolding through_slot aimed aimed_operand aimed_base
-slot-length bits code slot = aimed-length bits slot (through_slot code 0)
+unfolding through_slot with_target aimed_operand aimed_base
+slot-length bits code slot = with_target-length bits slot (through_slot code 0)
 
 pub short-length : (bits : Bits) (b : RelativeBranch) (asize : Option Bits) (t : ℕ) → plain_length bits (short_branch b asize t) ≡ plain_length bits (short_branch b asize 0)
 unfolding short_branch
@@ -40,7 +40,7 @@ jump-length bits b t = branch_to-length bits (near_code Jump b.size) None t
 
 -- the length of the far image of a branch
 unfoldable pub far_size : Bits → RelativeBranch → Action → ℕ
-far_size bits b (Condition n) = plain_length bits (branch_to (short_code (Condition (inverted n)) b.size) None 0) + plain_length bits (through_slot (far_code Jump) 0)
+far_size bits b (Condition n) = plain_length bits (branch_to (short_code (Condition (opposite_condition n)) b.size) None 0) + plain_length bits (through_slot (far_code Jump) 0)
 far_size bits b action = plain_length bits (through_slot (far_code action) 0)
 
 -- the length of an image of a branch
@@ -67,7 +67,7 @@ unfolding far_image far_size
 far-length bits b place slot Jump = omega (arith, slot-length bits (far_code Jump) slot)
 far-length bits b place slot Call = omega (arith, slot-length bits (far_code Call) slot)
 far-length bits b place slot (Condition n) =
-    let over = short_code (Condition (inverted n)) b.size in
+    let over = short_code (Condition (opposite_condition n)) b.size in
     let last = plain_length bits (through_slot (far_code Jump) slot) in
     omega (
       arith,
@@ -78,7 +78,7 @@ far-length bits b place slot (Count n) = omega (arith, slot-length bits (far_cod
 
 image-length : (bits : Bits) (i : Instr) (b : RelativeBranch) (form : Form) (place goal slot : ℕ) → pieces_length bits (branch_image bits i b form place goal slot) ≡ form_size bits i b form
 unfolding branch_image form_size
-image-length bits i b Itself place goal slot = omega (arith, aimed-length bits goal i)
+image-length bits i b Itself place goal slot = omega (arith, with_target-length bits goal i)
 image-length bits i b Short place goal slot = omega (arith, short-length bits b i.asize goal)
 image-length bits i b NearForm place goal slot = omega (arith, branch_to-length bits (near_code b.action b.size) None goal)
 image-length bits i b Far place goal slot = far-length bits b place slot b.action
@@ -89,7 +89,7 @@ image-length bits i b FarBridge place goal slot =
 
 by-length : (bits : Bits) (i : Instr) (b : Option RelativeBranch) (form : Form) (place goal slot : ℕ)
     → pieces_length bits (image_by bits i b form place goal slot) ≡ pieces_length bits (image_by bits i b form 0 0 0)
-by-length bits i None form place goal slot = omega (arith, aimed-length bits goal i, aimed-length bits 0 i)
+by-length bits i None form place goal slot = omega (arith, with_target-length bits goal i, with_target-length bits 0 i)
 by-length bits i (Some b) form place goal slot = image-length bits i b form place goal slot ∙ sym (image-length bits i b form 0 0 0)
 
 -- **the length rests neither on the place nor on the goal**
@@ -100,7 +100,7 @@ image_of-length bits i form place goal slot = by-length bits i (branch_of i) for
 -- what is no branch is as long as its plain spelling
 pub other-length : (bits : Bits) (i : Instr) (form : Form) → branch_of i ≡ None → form_length bits i form ≡ plain_length bits i
 unfolding form_length image_of
-other-length bits i form none = ap (λ b. pieces_length bits (image_by bits i b form 0 0 0)) none ∙ omega (arith, aimed-length bits 0 i)
+other-length bits i form none = ap (λ b. pieces_length bits (image_by bits i b form 0 0 0)) none ∙ omega (arith, with_target-length bits 0 i)
 
 pub branch-length : (bits : Bits) (i : Instr) (b : RelativeBranch) (form : Form) → branch_of i ≡ Some b → form_length bits i form ≡ form_size bits i b form
 unfolding form_length image_of

@@ -18,7 +18,7 @@ use Rattle.plain_spelling.specs.PlainTail.{plain_size, rm_fields, fixed_rm, plai
 use Rattle.opcode_rows.specs.Table.{table}
 use Rattle.moved_targets.specs.Targets.{plain_length}
 use Rattle.branch_forms.specs.declared.branch.Action.TheVariants.{Jump, Call, Condition, Count}
-use Rattle.branch_forms.specs.Branches.{is_pair, short_code, near_code, far_code, inverted}
+use Rattle.branch_forms.specs.Branches.{is_pair, short_code, near_code, far_code, opposite_condition}
 use Rattle.branch_forms.specs.Images.{branch_to, through_slot}
 use Rattle.branch_forms.specs.Lengths.{size_byte, address_byte, offset_bytes, slot_bytes}
 use Rattle.branch_forms.specs.Rows.{offset_row, memory_row}
@@ -137,6 +137,6 @@ slot_call-length bits slot = slot-row bits (memory_row 2) (far_code Call) slot f
 pub slot_jump-length : (bits : Bits) (slot : ℕ) → plain_length bits (through_slot (far_code Jump) slot) ≡ slot_bytes bits
 slot_jump-length bits slot = slot-row bits (memory_row 4) (far_code Jump) slot far-jump ∙ slot-len 4 (far_code Jump) slot bits
 
-pub inverted-small : (n : ℕ) → n < 16 → inverted n < 16
-unfolding inverted
-inverted-small n lt = xor_lt 4 n 1 lt (omega arith)
+pub opposite_condition-small : (n : ℕ) → n < 16 → opposite_condition n < 16
+unfolding opposite_condition
+opposite_condition-small n lt = xor_lt 4 n 1 lt (omega arith)

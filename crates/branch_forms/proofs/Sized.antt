@@ -12,12 +12,12 @@ use Rattle.moved_targets.specs.Targets.{plain_length}
 use Rattle.branch_forms.specs.declared.branch.Action.{Action}
 use Rattle.branch_forms.specs.declared.branch.Action.TheVariants.{Jump, Call, Condition, Count}
 use Rattle.branch_forms.specs.declared.branch.RelativeBranch.{RelativeBranch}
-use Rattle.branch_forms.specs.Branches.{branch_of, in_range, short_code, near_code, far_code, inverted}
+use Rattle.branch_forms.specs.Branches.{branch_of, in_range, short_code, near_code, far_code, opposite_condition}
 use Rattle.branch_forms.specs.Images.{branch_to, through_slot, counter_size, short_branch, skip, bridge_jump, bridge_inner, form_length}
 use Rattle.branch_forms.specs.Lengths.{near_bytes, short_bytes, slot_bytes}
 use Rattle.branch_forms.proofs.Lengths.{far_size, form_size, branch-length}
 use Rattle.branch_forms.proofs.Offsets.{row-of-branch, branch-range}
-use Rattle.branch_forms.proofs.Pieces.{short_jump-length, short_condition-length, short_count-length, near_jump-length, near_call-length, near_condition-length, slot_call-length, slot_jump-length, inverted-small}
+use Rattle.branch_forms.proofs.Pieces.{short_jump-length, short_condition-length, short_count-length, near_jump-length, near_call-length, near_condition-length, slot_call-length, slot_jump-length, opposite_condition-small}
 
 -- a branch has one of the conditions and counters
 pub is-in-range : (i : Instr) (b : RelativeBranch) → branch_of i ≡ Some b → in_range b.action b.is_short ≡ true
@@ -97,7 +97,7 @@ module _ (bits : Bits) (i : Instr) where
       rw is
       (omega (
         arith,
-        short_condition-length bits b.size (inverted n) (inverted-small n (ltb-true n 16 (rw is at range))) 0,
+        short_condition-length bits b.size (opposite_condition n) (opposite_condition-small n (ltb-true n 16 (rw is at range))) 0,
         slot_jump-length bits 0,
       ))
 

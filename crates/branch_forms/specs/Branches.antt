@@ -95,5 +95,5 @@ far_code Call = 685
 far_code _ = 691
 
 -- the other condition: the lowest bit of its number changes (B.1.4.7)
-unfoldable pub inverted : ℕ → ℕ
-inverted n = bit_xor n 1
+unfoldable pub opposite_condition : ℕ → ℕ
+opposite_condition n = bit_xor n 1

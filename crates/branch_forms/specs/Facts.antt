@@ -15,7 +15,7 @@ use Rattle.branch_sizes.specs.Plan.{lengths_rise_from, is_fit_reach, forms_diffe
 use Rattle.moved_targets.specs.Targets.{plain_length}
 use Rattle.branch_forms.specs.declared.branch.Action.TheVariants.{Jump, Call, Condition, Count}
 use Rattle.branch_forms.specs.declared.branch.RelativeBranch.{RelativeBranch}
-use Rattle.branch_forms.specs.Branches.{branch_in, branch_of, in_range, is_pair, short_code, near_code, far_code, inverted}
+use Rattle.branch_forms.specs.Branches.{branch_in, branch_of, in_range, is_pair, short_code, near_code, far_code, opposite_condition}
 use Rattle.branch_forms.specs.Rows.{offset_row, memory_row}
 use Rattle.branch_forms.specs.Lengths.{size_byte, address_byte, offset_bytes, slot_bytes}
 use Rattle.branch_forms.specs.Images.{branch_to, through_slot, short_branch, skip, image_of, pieces_length, form_length}
@@ -51,7 +51,7 @@ pub record PieceFacts : Type 0 where
       → plain_length bits (short_branch b asize t) ≡ plain_length bits (short_branch b asize 0)
   pub skip-length : (bits : Bits) (t : ℕ) → plain_length bits (skip bits t) ≡ plain_length bits (skip bits 0)
   -- the other condition is one too
-  pub inverted-small : (n : ℕ) → n < 16 → inverted n < 16
+  pub opposite_condition-small : (n : ℕ) → n < 16 → opposite_condition n < 16
 
 -- the forms of an instruction
 pub record FormFacts : Type 0 where

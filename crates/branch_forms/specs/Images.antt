@@ -12,13 +12,13 @@ use Rattle.x86_values.specs.declared.Instr.{Instr}
 use Rattle.x86_values.specs.Wrapping.{wrapped}
 use Rattle.branch_sizes.specs.declared.plan.Form.{Form}
 use Rattle.branch_sizes.specs.declared.plan.Form.TheVariants.{Itself, Short, Near as NearForm, Far, Bridge, FarBridge}
-use Rattle.moved_targets.specs.Targets.{aimed, plain_length}
+use Rattle.moved_targets.specs.Targets.{with_target, plain_length}
 use Rattle.branch_forms.specs.declared.branch.Action.{Action}
 use Rattle.branch_forms.specs.declared.branch.Action.TheVariants.{Jump, Condition, Count}
 use Rattle.branch_forms.specs.declared.branch.RelativeBranch.{RelativeBranch}
 use Rattle.branch_forms.specs.declared.image.Image.{Image}
 use Rattle.branch_forms.specs.declared.image.Image.TheVariants.{One, Two, Three}
-use Rattle.branch_forms.specs.Branches.{branch_of, short_code, near_code, far_code, inverted}
+use Rattle.branch_forms.specs.Branches.{branch_of, short_code, near_code, far_code, opposite_condition}
 
 -- the instructions of an image, in order
 abbrev pub instrs_of : Image → List Instr
@@ -84,13 +84,13 @@ bridge bits b asize place last =
 unfoldable pub far_image : Bits → RelativeBranch → ℕ → Action → ℕ → List Instr
 far_image bits b place (Condition n) slot =
     let last = through_slot (far_code Jump) slot in
-    let over = short_code (Condition (inverted n)) b.size in
+    let over = short_code (Condition (opposite_condition n)) b.size in
     branch_to over None (wrapped bits (place + plain_length bits (branch_to over None 0) + plain_length bits last)) ∷ last ∷ []
 far_image bits b place action slot = through_slot (far_code action) slot ∷ []
 
 -- the image of a relative branch in a form at a place, with its goal and the address of its slot
 unfoldable pub branch_image : Bits → Instr → RelativeBranch → Form → ℕ → ℕ → ℕ → List Instr
-branch_image bits i b Itself place goal slot = aimed goal i ∷ []
+branch_image bits i b Itself place goal slot = with_target goal i ∷ []
 branch_image bits i b Short place goal slot = short_branch b i.asize goal ∷ []
 branch_image bits i b NearForm place goal slot = branch_to (near_code b.action b.size) None goal ∷ []
 branch_image bits i b Far place goal slot = far_image bits b place b.action slot
@@ -99,7 +99,7 @@ branch_image bits i b FarBridge place goal slot = bridge bits b i.asize place (t
 
 -- the same of an instruction that may be no relative branch: then it is itself, aimed at its goal
 abbrev pub image_by : Bits → Instr → Option RelativeBranch → Form → ℕ → ℕ → ℕ → List Instr
-image_by bits i None form place goal slot = aimed goal i ∷ []
+image_by bits i None form place goal slot = with_target goal i ∷ []
 image_by bits i (Some b) form place goal slot = branch_image bits i b form place goal slot
 
 -- the image of a moved instruction in a form, at a place, aimed at a goal, or through the slot at an address

@@ -155,9 +155,9 @@ pub fn far_code(action: Action) -> u16
 }
 
 /// The other condition: the lowest bit of its number changes.
-#[tactic(auto, unfolding(crate::specs::Branches::inverted))]
-pub fn inverted(condition: u8) -> u8
-    ensures { result ≡ spec.inverted condition }
+#[tactic(auto, unfolding(crate::specs::Branches::opposite_condition))]
+pub fn opposite_condition(condition: u8) -> u8
+    ensures { result ≡ spec.opposite_condition condition }
 {
     condition ^ 1
 }

@@ -3,9 +3,11 @@
 ghost use Rattle.std.specs.Prelude.{◌≡◌, ◌<◌};
 ghost use Rattle.branch_forms.specs.Images as spec;
 
-use crate::branch::{Action, RelativeBranch, branch_of, far_code, inverted, near_code, short_code};
+use crate::branch::{
+    Action, RelativeBranch, branch_of, far_code, near_code, opposite_condition, short_code,
+};
 use branch_sizes::Form;
-use moved_targets::{aimed, plain_length};
+use moved_targets::{plain_length, with_target};
 use x86_values::{Bits, Code, DispSize, Instr, Mem, Operand, Register, Rep, wrap};
 
 /// The instructions that a moved instruction becomes, in order.
@@ -115,7 +117,10 @@ fn far_condition(bits: Bits, branch: RelativeBranch, place: u64, condition: u8, 
     ensures { spec.instrs_of result ≡ spec.far_image bits branch place (Action.Condition condition) slot }
 {
     let last = through_slot(far_code(Action::Jump), slot);
-    let code = short_code(Action::Condition(inverted(condition)), branch.size);
+    let code = short_code(
+        Action::Condition(opposite_condition(condition)),
+        branch.size,
+    );
     let onto = u128::from(place) + u128::from(plain_length(bits, &branch_to(code, None, 0)));
     let over = onto + u128::from(plain_length(bits, &last));
     Image::Two(branch_to(code, None, wrap(bits, over)), last)
@@ -147,7 +152,7 @@ fn branch_image(
 {
     let asize = instr.asize;
     match form {
-        Form::Itself => Image::One(aimed(instr, goal)),
+        Form::Itself => Image::One(with_target(instr, goal)),
         Form::Short => Image::One(short_branch(branch, asize, goal)),
         Form::Near => {
             let code = near_code(branch.action, branch.size);
@@ -170,7 +175,7 @@ pub fn image_of(bits: Bits, instr: &Instr, form: Form, place: u64, goal: u64, sl
     ensures { spec.instrs_of result ≡ spec.image_of bits instr.now form place goal slot }
 {
     match branch_of(instr) {
-        None => Image::One(aimed(instr, goal)),
+        None => Image::One(with_target(instr, goal)),
         Some(branch) => branch_image(bits, instr, branch, form, place, goal, slot),
     }
 }

@@ -32,7 +32,7 @@ impl<P> FailAt<P> {
         }
     }
 
-    /// The inner port.
+    /// The port that the calls which do not fail are handed on to.
     #[inline]
     pub fn inner(&self) -> &P
         ensures { result.now ≡ inner_of self.now }

@@ -29,7 +29,7 @@ use Rattle.instruction_parts.specs.Kinds.{method_of, file_of, fixed_number}
 use Rattle.instruction_parts.specs.Counting.{is_64}
 use Rattle.instruction_parts.specs.Sizes.{state_size, bit_r, bit_x, bit_b, is_vex_row, state_address_size}
 use Rattle.instruction_parts.specs.Bytes.{state_of, state_from}
-use Rattle.row_fit.specs.Fits.{fits, Fits, has_modrm, reads_by, is_gather, is_any_mode, reads_mode, extended, reg_field, rm_field, reg_number, rm_number, vvvv_number, index_number, same_bool, place_allows, place_fits, modrm_rule_fits, opcode_fits, opcode_and_modrm_fit, needs_sib, displacement_bytes, address_fits, kind_at, lengths_fit, immediate_bytes, register_fits, destination_fits, gather_fits, registers_fit, are_bytes, vex_in_range, modrm_in_range, sib_in_range, fields_in_range, vex_fits, is_map_one}
+use Rattle.row_fit.specs.Fits.{fits, Fits, has_modrm, reads_by, is_gather, is_any_mode, reads_mode, with_high_bit, reg_field, rm_field, reg_number, rm_number, vvvv_number, index_number, same_bool, place_allows, place_fits, modrm_rule_fits, opcode_fits, opcode_and_modrm_fit, needs_sib, displacement_bytes, address_fits, kind_at, lengths_fit, immediate_bytes, register_fits, destination_fits, gather_fits, registers_fit, are_bytes, vex_in_range, modrm_in_range, sib_in_range, fields_in_range, vex_fits, is_map_one}
 use Rattle.row_fit.specs.Sound.{Sound, sound, reads_reg, reads_rm, has_modrm_rule, kind_is_proper, vex_is_proper, legacy_is_proper, is_fixed_rule, size_says_w, is_size_of_vex, is_class_of_vex, is_no_l, is_no_w, is_byte_file, operands_are_proper, operands_are_apart, count_where, at_most_one}
 use Rattle.row_fit.proofs.SoundLaws.{sound_conditions}
 use Rattle.row_fit.proofs.FitLaws.{all_conditions, modrm_range, sib_range}
@@ -289,7 +289,7 @@ record Numbers (bits : Bits) (state : PrefixState) (m : Option ModRm) (sib : Opt
   rm : rm_number bits state m < 16
   index : index_number state sib < 16
   vvvv : vvvv_number bits state < 16
-  opcode : extended (bit_b bits state) (state.opcode % 8) < 16
+  opcode : with_high_bit (bit_b bits state) (state.opcode % 8) < 16
 
 vvvv_small : (bits : Bits) (state : PrefixState) → vex_in_range state.vex ≡ true → vvvv_number bits state < 16
 unfolding vvvv_number vex_in_range
@@ -326,7 +326,7 @@ record LowNumbers (bits : Bits) (state : PrefixState) (m : Option ModRm) (sib : 
   rm : rm_number bits state m < 8
   index : index_number state sib < 8
   vvvv : vvvv_number bits state < 8
-  opcode : extended (bit_b bits state) (state.opcode % 8) < 8
+  opcode : with_high_bit (bit_b bits state) (state.opcode % 8) < 8
 
 low_numbers : (bits : Bits) (row : Row) (state : PrefixState) (m : Option ModRm) (sib : Option Sib) → OperandFacts bits row state m sib → state.vex ≡ None → state.rex ≡ None → LowNumbers bits state m sib
 unfolding reg_number rm_number index_number vvvv_number bit_r bit_x bit_b

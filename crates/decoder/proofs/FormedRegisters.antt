@@ -16,8 +16,8 @@ use Rattle.instruction_parts.specs.declared.spelling.ModRm.{ModRm}
 use Rattle.instruction_parts.specs.declared.spelling.Sib.{Sib}
 use Rattle.instruction_parts.specs.declared.spelling.PrefixState.{PrefixState}
 use Rattle.instruction_parts.specs.Sizes.{state_size, bit_x, bit_b, bit_w, shared_bit}
-use Rattle.row_fit.specs.Fits.{extended, is_displacement_alone, index_number}
-use Rattle.row_meaning.specs.Meaning.{general, byte_register, vector, word_or_dword, size_by_w, native_size, register_of, base_16, index_16, memory_16, memory_alone, scale_of, sib_base, sib_index, memory_with_sib, memory_at_base, memory_wide, memory_of, memory_absolute}
+use Rattle.row_fit.specs.Fits.{with_high_bit, is_displacement_alone, index_number}
+use Rattle.row_meaning.specs.Meaning.{general_register, byte_register, vector, word_or_dword, size_by_w, native_size, register_of, base_16, index_16, memory_16, ip_or_absolute, scale_of, sib_base, sib_index, memory_with_sib, memory_at_base, memory_wide, memory_of, memory_absolute}
 use Rattle.plain_spelling.specs.Forms.{is_scale}
 use Rattle.opcode_rows.specs.Allowed.{is_named, is_named_if, has_numbers}
 
@@ -29,8 +29,8 @@ both a b ha hb = rw (ha, hb)
 
 -- ---- registers
 
-general_named : (size : Bits) (n : ℕ) → n < 16 → is_named (general size n) ≡ true
-unfolding is_named general
+general_named : (size : Bits) (n : ℕ) → n < 16 → is_named (general_register size n) ≡ true
+unfolding is_named general_register
 general_named B16 n h = lt_true n 16 h
 general_named B32 n h = lt_true n 16 h
 general_named B64 n h = lt_true n 16 h
@@ -79,11 +79,11 @@ register_named bits row state VectorFile n h = vector_named row.l n h.small
 
 -- ---- numbers
 
-pub extended_small : (b : Bool) (n : ℕ) → n < 8 → extended b n < 16
+pub extended_small : (b : Bool) (n : ℕ) → n < 8 → with_high_bit b n < 16
 extended_small true n h = omega arith
 extended_small false n h = omega arith
 
-pub extended_low : (b : Bool) (n : ℕ) → b ≡ false → n < 8 → extended b n < 8
+pub extended_low : (b : Bool) (n : ℕ) → b ≡ false → n < 8 → with_high_bit b n < 8
 extended_low true n e h = cc
 extended_low false n e h = omega arith
 
@@ -158,15 +158,15 @@ sib_base_named bits asize state m s h =
 sib_index_named : (asize : Bits) (state : PrefixState) (s : Sib) → s.index < 8 → is_named_if (sib_index asize state s) ≡ true
 unfolding sib_index is_named_if index_number
 sib_index_named asize state s h =
-    if_named_if (extended (bit_x state) s.index == 4) None _ refl (general_named asize _ (extended_small (bit_x state) s.index h))
+    if_named_if (with_high_bit (bit_x state) s.index == 4) None _ refl (general_named asize _ (extended_small (bit_x state) s.index h))
 
 pub with_sib_address : (bits asize : Bits) (state : PrefixState) (index : Option Register) (m : ModRm) (s : Sib) (disp : List ℕ) → SibRange s → is_named_if index ≡ true → IsAddress (memory_with_sib bits asize state index m s disp)
 unfolding memory_with_sib
 with_sib_address bits asize state index m s disp r named =
     record { scale = scale_of_is index s r.scale; base = sib_base_named bits asize state m s r.base; index = named }
 
-alone_address : (bits asize : Bits) (next : ℕ) (disp : List ℕ) → IsAddress (memory_alone bits asize next disp)
-unfolding memory_alone is_named_if is_named
+alone_address : (bits asize : Bits) (next : ℕ) (disp : List ℕ) → IsAddress (ip_or_absolute bits asize next disp)
+unfolding ip_or_absolute is_named_if is_named
 alone_address B16 asize next disp = record { scale = refl; base = refl; index = refl }
 alone_address B32 asize next disp = record { scale = refl; base = refl; index = refl }
 alone_address B64 B16 next disp = record { scale = refl; base = refl; index = refl }

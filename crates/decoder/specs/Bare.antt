@@ -17,7 +17,7 @@ use Rattle.instruction_parts.specs.Counting.{is_64}
 use Rattle.instruction_parts.specs.Kinds.{method_of}
 use Rattle.instruction_parts.specs.Sizes.{is_vex_row}
 use Rattle.row_fit.specs.Fits.{is_map_one, is_gather, place_of, takes_w_as_size}
-use Rattle.decoder.specs.declared.bare_rows.TheConstants.{BARE_ROWS}
+use Rattle.decoder.specs.declared.generated_bare_rows.TheConstants.{BARE_ROWS}
 
 -- a front has no LOCK and no VEX, and no REX outside 64-bit mode
 unfoldable pub is_bare_front : Bits → PrefixState → Bool

@@ -5,7 +5,7 @@ ghost use Rattle.row_types.specs.declared.Row.{Row};
 ghost use Rattle.opcode_rows.specs.Table.{table};
 ghost use Rattle.decoder.specs.Bare as spec;
 
-use crate::bare_rows::BARE_ROWS;
+use crate::generated_bare_rows::BARE_ROWS;
 use instruction_parts::PrefixState;
 use instruction_parts::counting::is_64;
 use opcode_rows::ROWS;

@@ -11,7 +11,7 @@ use std::marker::Brand;
 use std::sync::ledger::Blank;
 use x86_values::{Bits, Decoded};
 
-/// The same as `decode`, where the mode is a value.
+/// Reads the instruction at the front of some bytes at an address, in a mode that is a value, with the answers and errors of [`decode`](crate::decode).
 pub fn decode_in(bits: Bits, ip: u64, bytes: &[u8]) -> Result<Decoded, DecodeError>
     ensures reading { IsRead bits ip bytes.now (reading_of result) }
     ensures length { IfOk result (λ d. (0 < d.len) × (d.len ≤ 15) × (d.len ≤ length bytes.now)) }

@@ -1,12 +1,12 @@
-//! Reading instructions from bytes (Intel SDM volume 2, chapter 2). `laws` has that no bytes have two spellings.
+//! Reading instructions from bytes (Intel SDM volume 2, 2.1 to 2.3). `laws` has that no bytes have two spellings.
 #![tactic(auto)]
 
 mod bare;
-mod bare_rows;
 mod by_mode;
 mod cell;
 mod cursor;
 mod found;
+mod generated_bare_rows;
 mod items;
 mod reading;
 pub mod reading_laws;

@@ -46,7 +46,7 @@ pub fn decode<const BITS: u32>(ip: u64, bytes: &[u8]) -> Result<Decoded, DecodeE
     }
 }
 
-/// The same on a count of its own.
+/// Reads the instruction at the front of some bytes, in a mode that is a value, on a count of its own.
 // A ledger is picked only at a call without const parameters, so the mode is a value here.
 #[inline]
 pub fn decode_on<L: Ledger>(
@@ -70,7 +70,7 @@ pub fn decode_on<L: Ledger>(
     }
 }
 
-/// The same, where the instruction is written to a place.
+/// Reads the instruction at the front of some bytes on a count of its own, and writes it to a place. After an error nothing is said of the place.
 #[inline(always)]
 fn decode_on_into<L: Ledger>(
     blank: Blank,
@@ -96,7 +96,7 @@ fn decode_on_into<L: Ledger>(
     }
 }
 
-/// The same, where each look-up of a row or in a node is a step.
+/// Reads the instruction at the front of some bytes, and counts each look-up of a row or in a node as a step.
 ///
 /// An instruction takes 3 to 12 steps. An error takes at most 12, and one for each row that stands where the front says, if there is one.
 pub fn decode_counted<const BITS: u32, L: Ledger>(
@@ -119,7 +119,7 @@ pub fn decode_counted<const BITS: u32, L: Ledger>(
     }
 }
 
-/// The same, where the instruction is written to a place: as a value it would be copied at each call on the way.
+/// Reads and counts as [`decode_counted`], and writes the instruction to a place: as a value it would be copied at each call on the way.
 #[inline(never)]
 fn decode_into<const BITS: u32, L: Ledger>(
     ip: u64,
@@ -146,7 +146,7 @@ fn decode_into<const BITS: u32, L: Ledger>(
     }
 }
 
-/// The same of bytes whose front is known. Only where no instruction is found are the rows of the cell looked at, to tell the two errors apart.
+/// Reads the instruction of bytes whose front is known. Only where none is found are the rows of the cell looked at, to tell the two errors apart.
 #[inline(always)]
 fn read_known<const BITS: u32, L: Ledger>(
     ip: u64,

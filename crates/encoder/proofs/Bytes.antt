@@ -12,7 +12,7 @@ use Rattle.row_fit.proofs.SoundLaws.{sound_conditions}
 use Rattle.plain_spelling.specs.PlainFront.{operand_number, byte_front, plain_front_of}
 use Rattle.plain_spelling.specs.Forms.{operand_at}
 use Rattle.plain_spelling.specs.PlainTail.{address_operand, operand_displacement, plain_size, plain_modrm, plain_sib_of, plain_len, plain_next, plain_spelling, plain_tail}
-use Rattle.plain_spelling.specs.Expressible.{tail_failure}
+use Rattle.plain_spelling.specs.Expressible.{first_failed_condition}
 use Rattle.plain_spelling.specs.declared.parts.PlainParts.{PlainParts}
 use Rattle.plain_spelling.specs.Parts.{ArePartsOf}
 use Rattle.plain_spelling.specs.Writable.{writable}
@@ -35,7 +35,7 @@ pub record Suited (bits : Bits) (ip : ℕ) (row : Row) (i : Instr) : Type 0 wher
   pub is_writable : writable row ≡ true
   pub exists : exists_in bits row ≡ true
   pub four : length i.ops ≡ 4
-  pub suits : tail_failure bits ip row i ≡ None
+  pub suits : first_failed_condition bits ip row i ≡ None
 
 given : (bits : Bits) (ip : ℕ) (row : Row) (i : Instr) → Suited bits ip row i → Given bits ip row i
 given bits ip row i s = record {
@@ -118,14 +118,14 @@ written-bytes bits ip row i parts front w e =
     ∙ sym (bytes-parted bits ip row i)
 
 -- what a call knows that found no failure
-pub parts_written : (bits : Bits) (ip : ℕ) (row : Row) (i : Instr) (parts : PlainParts) → sound row ≡ true → writable row ≡ true → exists_in bits row ≡ true → length i.ops ≡ 4 → parts.ip ≡ ip → ArePartsOf bits row i parts → tail_failure bits parts.ip row i ≡ None → parts.len ≤ 15 → Written bits ip row i parts
+pub parts_written : (bits : Bits) (ip : ℕ) (row : Row) (i : Instr) (parts : PlainParts) → sound row ≡ true → writable row ≡ true → exists_in bits row ≡ true → length i.ops ≡ 4 → parts.ip ≡ ip → ArePartsOf bits row i parts → first_failed_condition bits parts.ip row i ≡ None → parts.len ≤ 15 → Written bits ip row i parts
 parts_written bits ip row i parts is_sound is_writable exists four same parts_are h short = record {
   suited = record {
     is_sound = is_sound;
     is_writable = is_writable;
     exists = exists;
     four = four;
-    suits = subst (λ (x : ℕ). tail_failure bits x row i ≡ None) same h;
+    suits = subst (λ (x : ℕ). first_failed_condition bits x row i ≡ None) same h;
   };
   parts_are = parts_are;
   at = same;

@@ -12,7 +12,7 @@ use Rattle.row_relation.specs.Spells.{SpellsUnbounded, ReadsAs}
 use Rattle.plain_spelling.specs.declared.NoSpelling.{NoSpelling}
 use Rattle.plain_spelling.specs.declared.NoSpelling.TheVariants as cause
 use Rattle.plain_spelling.specs.PlainTail.{plain_spelling, plain_len}
-use Rattle.plain_spelling.specs.Expressible.{failure, failure_of, tail_failure}
+use Rattle.plain_spelling.specs.Expressible.{failure, failure_of, first_failed_condition}
 use Rattle.plain_laws.specs.Plain.{IsPlainlySpelled}
 use Rattle.plain_laws.proofs.Exact.{plain_from}
 use Rattle.plain_laws.proofs.ReadBack.{plain_reads}
@@ -36,15 +36,15 @@ row_fails bits ip row i h = rw h refl
 
 -- ---- the other conditions
 
-pub tail_fails : (bits : Bits) (ip : ℕ) (row : Row) (i : Instr) (why : NoSpelling) → exists_in bits row ≡ true → tail_failure bits ip row i ≡ Some why → failure bits ip row i ≡ Some why
+pub tail_fails : (bits : Bits) (ip : ℕ) (row : Row) (i : Instr) (why : NoSpelling) → exists_in bits row ≡ true → first_failed_condition bits ip row i ≡ Some why → failure bits ip row i ≡ Some why
 unfolding failure
 tail_fails bits ip row i why there h = rw (there, h) refl
 
-pub length_fails : (bits : Bits) (ip : ℕ) (row : Row) (i : Instr) → exists_in bits row ≡ true → tail_failure bits ip row i ≡ None → 15 < plain_len bits row i → failure bits ip row i ≡ Some cause.Length
+pub length_fails : (bits : Bits) (ip : ℕ) (row : Row) (i : Instr) → exists_in bits row ≡ true → first_failed_condition bits ip row i ≡ None → 15 < plain_len bits row i → failure bits ip row i ≡ Some cause.Length
 unfolding failure
 length_fails bits ip row i there h long = rw (there, h, lt-leb (plain_len bits row i) 15 long) refl
 
-pub nothing_fails : (bits : Bits) (ip : ℕ) (row : Row) (i : Instr) → exists_in bits row ≡ true → tail_failure bits ip row i ≡ None → plain_len bits row i ≤ 15 → failure bits ip row i ≡ None
+pub nothing_fails : (bits : Bits) (ip : ℕ) (row : Row) (i : Instr) → exists_in bits row ≡ true → first_failed_condition bits ip row i ≡ None → plain_len bits row i ≤ 15 → failure bits ip row i ≡ None
 unfolding failure
 nothing_fails bits ip row i there h short = rw (there, h, le-leb (plain_len bits row i) 15 short) refl
 

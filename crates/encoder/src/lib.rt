@@ -1,4 +1,4 @@
-//! Instructions, written as bytes (Intel SDM volume 2, chapter 2).
+//! Instructions, written as bytes (Intel SDM volume 2, 2.1 to 2.3).
 #![tactic(auto)]
 
 ghost use Rattle.std.specs.Prelude.{◌≡◌, ℕ, ◌≤◌, ◌<◌, ◌++◌, List, length, [], IfOk, IsErr, IfSome, IsNone, IsTrue, slice_get, Some};
@@ -20,7 +20,7 @@ use arrayvec::ArrayVec;
 use instruction_parts::sizes::exists_in;
 use opcode_rows::{ROWS, row_of};
 pub use plain_spelling::NoSpelling;
-use plain_spelling::conditions::tail_failure;
+use plain_spelling::conditions::first_failed_condition;
 use plain_spelling::parts::{PlainParts, plain_parts};
 use prefixes::append_front;
 use row_relation::append_plain_tail;
@@ -70,7 +70,7 @@ fn write_parts(
 {
     // Four operands, as the proof has to know.
     let [_first, _second, _third, _fourth] = instr.ops;
-    match tail_failure(bits, row, instr, parts) {
+    match first_failed_condition(bits, row, instr, parts) {
         Some(why) => return Some(why),
         None => {}
     }
@@ -158,7 +158,7 @@ fn row_len(bits: Bits, ip: u64, row: &Row, instr: &Instr) -> Result<u8, NoSpelli
     // Four operands, as the proof has to know.
     let [_first, _second, _third, _fourth] = instr.ops;
     let parts = plain_parts(bits, ip, row, instr);
-    match tail_failure(bits, row, instr, &parts) {
+    match first_failed_condition(bits, row, instr, &parts) {
         Some(why) => Err(why),
         None if parts.len > 15 => Err(NoSpelling::Length),
         None => Ok(parts.len),

@@ -4,7 +4,7 @@ use Rattle.std.specs.Str.{IsUtf8}
 use Rattle.x86_values.specs.declared.Bits.{Bits}
 use Rattle.x86_values.specs.declared.Instr.{Instr}
 use Rattle.row_relation.specs.Spells.{Reading, Read, TooShort as ReadTooShort, Invalid as ReadInvalid}
-use Rattle.opcode_rows.specs.declared.spots.TheConstants.{ROWS}
+use Rattle.opcode_rows.specs.declared.generated_spots.TheConstants.{ROWS}
 use Rattle.opcode_rows.specs.Table.{name_of}
 use Rattle.opcode_rows.specs.ByName.{rows_named, rows_named_before}
 use Rattle.opcode_rows.specs.Allowed.{is_well_formed}

@@ -96,7 +96,7 @@ pub fn flow_graph<const BITS: u32>(
     flow_graph_in(alloc, mode_of::<BITS>(), base, bytes)
 }
 
-/// The same in a mode that is a value.
+/// The flow graph of some code in a mode that is a value: what control reaches from its first byte, with the refusal of [`flow_graph`].
 pub fn flow_graph_in(
     alloc: Global,
     bits: Bits,

@@ -4,8 +4,8 @@
 //! most one node of each of the eleven kinds of `Split`.
 #![tactic(auto)]
 
+mod generated_nodes;
 mod node;
-mod nodes;
 mod splits;
 mod walk;
 

@@ -66,7 +66,7 @@ impl<const N: usize> Node<N> {
         Node { entries }
     }
 
-    /// The entry at a field below `N`. It takes one step.
+    /// Where the walk goes on for a value of the field that the node splits by, which is below `N`, the number of its entries. It is one look-up.
     #[inline]
     pub fn next<L: Ledger>(&self, field: usize, steps: &mut Steps<L>) -> Next
         requires { field < N }

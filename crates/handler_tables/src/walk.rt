@@ -6,8 +6,10 @@ ghost use Rattle.opcode_rows.specs.Table.{table};
 ghost use Rattle.handler_tables.specs.Nodes.{nodes2, nodes3, nodes4, nodes8, nodes256, splits2, splits3, splits4, splits8};
 ghost use Rattle.handler_tables.specs.Splits.{width_of, field_at, root_of};
 
+use crate::generated_nodes::{
+    NODES2, NODES3, NODES4, NODES8, NODES256, SPLITS2, SPLITS3, SPLITS4, SPLITS8,
+};
 use crate::node::{Next, Node, Split};
-use crate::nodes::{NODES2, NODES3, NODES4, NODES8, NODES256, SPLITS2, SPLITS3, SPLITS4, SPLITS8};
 use crate::splits::{field_of, kind_number};
 use row_fields::Fields;
 use std::sync::ledger::Ledger;

@@ -31,8 +31,8 @@ abbrev pub bit : Bool → ℕ
 bit b = cond b 1 0
 
 -- a flag that is stored inverted
-abbrev pub inverted : Bool → ℕ
-inverted b = cond b 0 1
+abbrev pub inverted_bit : Bool → ℕ
+inverted_bit b = cond b 0 1
 
 -- the last byte of a VEX: a bit in front, vvvv inverted, L and pp (2.3.5, figure 2-9)
 unfoldable pub vex_last_byte : ℕ → Vex → ℕ
@@ -40,14 +40,14 @@ vex_last_byte front v = front * 128 + (15 - v.vvvv) * 8 + bit v.l * 4 + v.pp
 
 -- the second byte of a three-byte VEX: R, X and B inverted, and the map number (2.3.5, figure 2-9)
 unfoldable pub vex_map_byte : Vex → ℕ
-vex_map_byte v = inverted v.r * 128 + inverted v.x * 64 + inverted v.b * 32 + map_number v.map
+vex_map_byte v = inverted_bit v.r * 128 + inverted_bit v.x * 64 + inverted_bit v.b * 32 + map_number v.map
 
 -- the bytes of a VEX: C5 and one with R, or C4, the byte of the map and one with W (2.3.5)
 unfoldable pub vex_bytes : Vex → List ℕ
 vex_bytes v =
     elim v.three [
       | true ↦ 0xC4 ∷ vex_map_byte v ∷ vex_last_byte (bit v.w) v ∷ []
-      | false ↦ 0xC5 ∷ vex_last_byte (inverted v.r) v ∷ []
+      | false ↦ 0xC5 ∷ vex_last_byte (inverted_bit v.r) v ∷ []
     ]
 
 -- what stands between the prefixes and the opcode byte: the VEX, else the escape bytes of the map (2.1.2, 2.3.1)

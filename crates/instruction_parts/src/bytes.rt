@@ -64,7 +64,7 @@ pub fn state_into(
     }
 }
 
-/// The same where a REX is the only prefix, or there is none.
+/// The state of a front in which a REX is the only prefix, or there is none.
 #[inline(always)]
 fn state_of_rex(rex: Option<u8>, used: u8, vex: Option<Vex>, map: Map, opcode: u8) -> PrefixState
     ensures { result ≡ spec.state_of_rex rex used vex map opcode }
@@ -83,7 +83,7 @@ fn state_of_rex(rex: Option<u8>, used: u8, vex: Option<Vex>, map: Map, opcode: u
     }
 }
 
-/// The same behind any prefixes, written to a place.
+/// Writes the state of a front behind any prefixes to a place.
 #[inline(never)]
 #[tactic(auto, unfolding(crate::specs::Bytes::state_from))]
 fn state_behind(

@@ -1,5 +1,5 @@
 //! The parts of an instruction's bytes: what prefixes count for, what sizes follow from them, what each operand kind
-//! says, and the front of some bytes (Intel SDM volume 2, chapter 2 and appendix A).
+//! says, and the front of some bytes (Intel SDM volume 2, 2.1 to 2.3 and A.2).
 #![tactic(auto)]
 
 pub mod append;

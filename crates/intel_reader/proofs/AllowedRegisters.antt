@@ -17,7 +17,7 @@ use Rattle.instruction_parts.specs.declared.spelling.PrefixState.{PrefixState}
 use Rattle.instruction_parts.specs.Kinds.{file_of}
 use Rattle.instruction_parts.specs.Sizes.{state_size}
 use Rattle.row_fit.specs.Fits.{kind_at}
-use Rattle.row_meaning.specs.Meaning.{register_of, general, byte_register, word_or_dword}
+use Rattle.row_meaning.specs.Meaning.{register_of, general_register, byte_register, word_or_dword}
 use Rattle.plain_spelling.specs.Forms.{operand_at}
 use Rattle.plain_spelling.specs.PlainFront.{plain_front_of}
 use Rattle.plain_spelling.specs.PlainTail.{plain_size}
@@ -30,8 +30,8 @@ use Rattle.intel_reader.specs.Candidate.{is_near_at, operand_from, text_at, cand
 use Rattle.intel_reader.specs.Possible.{is_general, is_byte_register, is_xmm_register, in_file, text_in_file, files_allow}
 use Rattle.intel_reader.proofs.AllowedWords.{made_at}
 
-general_is : (size : Bits) (n : ℕ) → is_general size (general size n) ≡ true
-unfolding is_general general
+general_is : (size : Bits) (n : ℕ) → is_general size (general_register size n) ≡ true
+unfolding is_general general_register
 general_is B16 n = refl
 general_is B32 n = refl
 general_is B64 n = refl

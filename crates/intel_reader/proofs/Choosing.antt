@@ -10,7 +10,7 @@ use Rattle.x86_values.specs.declared.Instr.{Instr}
 use Rattle.x86_values.specs.Wrapping.{wrapped}
 use Rattle.row_types.specs.declared.Row.{Row}
 use Rattle.plain_laws.specs.Plain.{IsPlainlySpelled}
-use Rattle.opcode_rows.specs.declared.spots.TheConstants.{ROWS}
+use Rattle.opcode_rows.specs.declared.generated_spots.TheConstants.{ROWS}
 use Rattle.opcode_rows.specs.Table.{table, name_of}
 use Rattle.opcode_rows.specs.Allowed.{is_well_formed}
 use Rattle.text_parts.specs.declared.style.Style.TheVariants.{Intel}

@@ -13,7 +13,7 @@ use Rattle.x86_values.specs.declared.Instr.{Instr}
 use Rattle.row_types.specs.declared.Row.{Row}
 use Rattle.instruction_parts.specs.declared.spelling.Spelling.{Spelling}
 use Rattle.row_meaning.specs.Meaning.{meaning, instr_of}
-use Rattle.opcode_rows.specs.declared.spots.TheConstants.{ROWS}
+use Rattle.opcode_rows.specs.declared.generated_spots.TheConstants.{ROWS}
 use Rattle.opcode_rows.specs.Table.{table}
 use Rattle.opcode_rows.specs.Allowed.{is_formed, is_well_formed}
 use Rattle.opcode_rows.proofs.Formed.{well_formed-at}

@@ -109,7 +109,7 @@ fn with_candidate(
     }
 }
 
-/// The same with the candidates of all displacement sizes.
+/// The best of what was found before and the candidates of a row, at one address size, with all displacement sizes.
 fn with_sizes(
     best: Option<Found>,
     bits: Bits,
@@ -147,7 +147,7 @@ fn with_sizes(
     )
 }
 
-/// The same with the candidates of all address sizes.
+/// The best of what was found and the candidates of a row with all address sizes.
 fn with_row(
     best: Option<Found>,
     bits: Bits,
@@ -180,7 +180,7 @@ fn with_row(
     with_sizes(wide, bits, ip, text, row, code, words, Some(Bits::B64))
 }
 
-/// The same with the candidates of a code, where the words are those of each candidate of the text.
+/// The best of what was found and the candidates of a code, where the words are those of each candidate of the text.
 fn with_code(
     best: Option<Found>,
     bits: Bits,

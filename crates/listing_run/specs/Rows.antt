@@ -1,7 +1,7 @@
 -- The text of `rows`: a line for each row of the table.
 use Rattle.std.specs.Prelude.{ℕ, List}
 use Rattle.std.specs.List.{flat_map, range_with_len}
-use Rattle.opcode_rows.specs.declared.spots.TheConstants.{ROWS}
+use Rattle.opcode_rows.specs.declared.generated_spots.TheConstants.{ROWS}
 use Rattle.row_lines.specs.Lines.{row_line}
 
 -- the lines of the codes below a number, in their order

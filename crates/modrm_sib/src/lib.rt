@@ -70,7 +70,7 @@ pub const UNREAD: Decoded = Decoded {
     len: 0,
 };
 
-/// The same as `read_row`, where the instruction is written to a place. After an error nothing is said of what stands there.
+/// Reads the tail of a row as [`read_row`] does, and writes the instruction to a place. After an error nothing is said of what stands there.
 ///
 /// `known` says that the row is known to take the state with the ModRM that stands there, so that it is not asked again.
 #[inline(always)]

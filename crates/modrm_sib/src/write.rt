@@ -2,13 +2,13 @@
 
 ghost use Rattle.std.specs.Prelude.{◌≡◌, IsTrue, IfOk, IfErr, Some, None};
 ghost use Rattle.row_fit.specs.Sound.{sound};
-ghost use Rattle.plain_spelling.specs.Expressible.{tail_failure as failing};
+ghost use Rattle.plain_spelling.specs.Expressible.{first_failed_condition as failing};
 ghost use Rattle.plain_spelling.specs.Parts.{ArePartsOf};
 ghost use Rattle.plain_spelling.specs.PlainTail.{plain_tail as tail_of};
 
 use instruction_parts::Spelling;
 use plain_spelling::NoSpelling;
-use plain_spelling::conditions::tail_failure;
+use plain_spelling::conditions::first_failed_condition;
 use plain_spelling::parts::{PlainParts, plain_parts};
 use plain_spelling::tail::plain_tail;
 use row_types::Row;
@@ -27,7 +27,7 @@ pub fn write_tail(
     ensures ok { IfOk result (λ s. (failing bits parts.now.ip row.now instr.now ≡ None) × (s ≡ tail_of bits parts.now.ip row.now instr.now)) }
     ensures err { IfErr result (λ why. failing bits parts.now.ip row.now instr.now ≡ Some why) }
 {
-    match tail_failure(bits, row, instr, parts) {
+    match first_failed_condition(bits, row, instr, parts) {
         Some(why) => Err(why),
         None => Ok(plain_tail(bits, row, instr, parts)),
     }

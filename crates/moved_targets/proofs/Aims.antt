@@ -9,8 +9,8 @@ use Rattle.x86_values.specs.declared.Operand.TheVariants.{Absent, Reg, Mem as Me
 use Rattle.x86_values.specs.declared.Instr.{Instr}
 use Rattle.plain_spelling.specs.Forms.{operand_at}
 use Rattle.operand_info.specs.Operands.{near_value, ip_value, first_value}
-use Rattle.moved_targets.specs.Targets.{target_of, aimed_operand, aimed_base, aimed}
-use Rattle.moved_targets.proofs.Ignored.{aimed-memory, operand_at-aimed}
+use Rattle.moved_targets.specs.Targets.{target_of, aimed_operand, aimed_base, with_target}
+use Rattle.moved_targets.proofs.Ignored.{with_target-memory, operand_at-with_target}
 
 -- ---- the target is the other one
 
@@ -27,7 +27,7 @@ near_instead : (t : ℕ) (op : Operand) → near_value (aimed_operand t op) ≡ 
 unfolding near_value aimed_operand
 near_instead t Absent = refl
 near_instead t (Reg r) = refl
-near_instead t (Memory m) = ap near_value (aimed-memory t m)
+near_instead t (Memory m) = ap near_value (with_target-memory t m)
 near_instead t (Imm x) = refl
 near_instead t (Near x) = refl
 near_instead t (Far a b) = refl
@@ -52,20 +52,20 @@ ip_instead t (Imm x) = refl
 ip_instead t (Near x) = refl
 ip_instead t (Far a b) = refl
 
-first-instead : (value : Operand → Option ℕ) (t : ℕ) → ((op : Operand) → value (aimed_operand t op) ≡ instead t (value op)) → (i : Instr) → first_value value (aimed t i) ≡ instead t (first_value value i)
+first-instead : (value : Operand → Option ℕ) (t : ℕ) → ((op : Operand) → value (aimed_operand t op) ≡ instead t (value op)) → (i : Instr) → first_value value (with_target t i) ≡ instead t (first_value value i)
 first-instead value t h i =
-    let at = λ (n : ℕ). ap value (operand_at-aimed t i n) ∙ h (operand_at i n) in
+    let at = λ (n : ℕ). ap value (operand_at-with_target t i n) ∙ h (operand_at i n) in
     let v = λ (n : ℕ). value (operand_at i n) in
     rw (at 0, at 1, at 2, at 3, instead-or t (v 2) (v 3), instead-or t (v 1) (option_or (v 2) (v 3)), instead-or t (v 0) (option_or (v 1) (option_or (v 2) (v 3)))) refl
 
 -- **the target is the other one, where there is one**
-pub target-aimed : (t : ℕ) (i : Instr) → target_of (aimed t i) ≡ instead t (target_of i)
+pub target-with_target : (t : ℕ) (i : Instr) → target_of (with_target t i) ≡ instead t (target_of i)
 unfolding target_of
-target-aimed t i =
+target-with_target t i =
     rw (first-instead near_value t (near_instead t) i, first-instead ip_value t (ip_instead t) i) (instead-or t (first_value near_value i) (first_value ip_value i))
 
-pub aimed-target : (t old : ℕ) (i : Instr) → target_of i ≡ Some old → target_of (aimed t i) ≡ Some t
-aimed-target t old i h = target-aimed t i ∙ ap (instead t) h
+pub with_target-target : (t old : ℕ) (i : Instr) → target_of i ≡ Some old → target_of (with_target t i) ≡ Some t
+with_target-target t old i h = target-with_target t i ∙ ap (instead t) h
 
 -- ---- nothing is aimed without a target
 
@@ -113,9 +113,9 @@ four_same g (x ∷ y ∷ z ∷ w ∷ []) four a b c d = rw (a, b, c, d) refl
 four_same g (x ∷ y ∷ z ∷ w ∷ v ∷ more) four a b c d = absurd (omega arith)
 
 -- **what has no target stays as it is**
-pub untargeted-aimed : (t : ℕ) (i : Instr) → length i.ops ≡ 4 → target_of i ≡ None → aimed t i ≡ i
-unfolding target_of aimed
-untargeted-aimed t i four h =
+pub untargeted-with_target : (t : ℕ) (i : Instr) → length i.ops ≡ 4 → target_of i ≡ None → with_target t i ≡ i
+unfolding target_of with_target
+untargeted-with_target t i four h =
     let none = or_none (first_value near_value i) (first_value ip_value i) h in
     let near = no_value near_value i none.0 in
     let ip = no_value ip_value i none.1 in

@@ -21,9 +21,9 @@ use Rattle.plain_spelling.specs.Addresses.{shown_size, is_wide_shape, is_shape, 
 use Rattle.plain_spelling.specs.PlainFront.{asked, number_in_reg, number_in_index, number_in_vvvv}
 use Rattle.plain_spelling.specs.PlainTail.{plain_size}
 use Rattle.plain_spelling.specs.Expressible.{each_operand, kind_suits, is_of_kind, is_nameable, vector_in_reg, vector_in_index, vector_in_vvvv, passes, asked_vector, differ, gather_numbers_differ, gather_suits, register_suits, address_suits, immediate_suits_how, immediate_suits, lock_suits, repeat_suits, prefixes_suit, has_memory_operand, told_size, size_agrees, is_size_of, address_size_suits}
-use Rattle.moved_targets.specs.Targets.{aimed}
-use Rattle.moved_targets.proofs.Ignored.{IgnoresTarget, at-aimed}
-use Rattle.moved_targets.proofs.Unchanged.{reg-aimed, index-aimed, vvvv-aimed, asked_opcode-aimed, front-aimed}
+use Rattle.moved_targets.specs.Targets.{with_target}
+use Rattle.moved_targets.proofs.Ignored.{IgnoresTarget, at-with_target}
+use Rattle.moved_targets.proofs.Unchanged.{reg-with_target, index-with_target, vvvv-with_target, asked_opcode-with_target, front-with_target}
 
 -- what is the same of each operand is the same of all four
 pub same_each : (p q : ℕ → Bool) → ((n : ℕ) → p n ≡ q n) → each_operand p ≡ each_operand q
@@ -42,16 +42,16 @@ unfolding is_variant_of
 variant place method.RegisterOrMemory = allowed place
 variant place _ = record { memory = λ m disp. refl; near = λ x y. refl }
 
-pub kind_suits-aimed : (t : ℕ) (row : Row) (i : Instr) (n : ℕ) → kind_suits row (aimed t i) n ≡ kind_suits row i n
+pub kind_suits-with_target : (t : ℕ) (row : Row) (i : Instr) (n : ℕ) → kind_suits row (with_target t i) n ≡ kind_suits row i n
 unfolding kind_suits
-kind_suits-aimed t row i n =
-    at-aimed (is_variant_of row.place (method_of (kind_at row n))) (variant row.place (method_of (kind_at row n))) t i n
+kind_suits-with_target t row i n =
+    at-with_target (is_variant_of row.place (method_of (kind_at row n))) (variant row.place (method_of (kind_at row n))) t i n
 
 -- ---- the registers
 
-nameable : (bits : Bits) (t : ℕ) (row : Row) (i : Instr) (n : ℕ) (r : Register) → is_nameable bits row (aimed t i) n r ≡ is_nameable bits row i n r
+nameable : (bits : Bits) (t : ℕ) (row : Row) (i : Instr) (n : ℕ) (r : Register) → is_nameable bits row (with_target t i) n r ≡ is_nameable bits row i n r
 unfolding is_nameable is_of_kind
-nameable bits t row i n r = rw (front-aimed bits t row i) refl
+nameable bits t row i n r = rw (front-with_target bits t row i) refl
 
 vectors_in_reg : (how : Method) → IgnoresTarget (vector_in_reg how)
 unfolding vector_in_reg
@@ -69,25 +69,25 @@ vectors_in_vvvv method.Vvvv = record { memory = λ m disp. refl; near = λ x y. 
 vectors_in_vvvv _ = record { memory = λ m disp. refl; near = λ x y. refl }
 
 -- the number that is asked for a vector register, where the test and the number do not look at the target
-asked_vector-aimed : (p : Method → Operand → Bool) → ((how : Method) → IgnoresTarget (p how)) → (number : Method → Operand → ℕ) → (t : ℕ) (row : Row) (i : Instr) → asked number row (aimed t i) ≡ asked number row i → asked_vector p number row (aimed t i) ≡ asked_vector p number row i
-asked_vector-aimed p h number t row i e =
-    let at : (n : ℕ) → passes p row (aimed t i) n ≡ passes p row i n =
-    λ n. at-aimed (p (method_of (kind_at row n))) (h (method_of (kind_at row n))) t i n in
+asked_vector-with_target : (p : Method → Operand → Bool) → ((how : Method) → IgnoresTarget (p how)) → (number : Method → Operand → ℕ) → (t : ℕ) (row : Row) (i : Instr) → asked number row (with_target t i) ≡ asked number row i → asked_vector p number row (with_target t i) ≡ asked_vector p number row i
+asked_vector-with_target p h number t row i e =
+    let at : (n : ℕ) → passes p row (with_target t i) n ≡ passes p row i n =
+    λ n. at-with_target (p (method_of (kind_at row n))) (h (method_of (kind_at row n))) t i n in
     rw (at 0, at 1, at 2, at 3, e) refl
 
 -- of three numbers those that are there differ pairwise
 abbrev all_differ : Option ℕ → Option ℕ → Option ℕ → Bool
 all_differ a b c = differ a b && (differ a c && differ b c)
 
-numbers_differ : (t : ℕ) (row : Row) (i : Instr) → gather_numbers_differ row (aimed t i) ≡ gather_numbers_differ row i
+numbers_differ : (t : ℕ) (row : Row) (i : Instr) → gather_numbers_differ row (with_target t i) ≡ gather_numbers_differ row i
 unfolding gather_numbers_differ
 numbers_differ t row i =
     let index = asked_vector vector_in_index number_in_index row in
     let mask = asked_vector vector_in_vvvv number_in_vvvv row in
     let destination = asked_vector vector_in_reg number_in_reg row in
-    ap (λ (n : Option ℕ). all_differ n (index (aimed t i)) (mask (aimed t i))) (asked_vector-aimed vector_in_reg vectors_in_reg number_in_reg t row i (reg-aimed t row i))
-    ∙ ap (λ (n : Option ℕ). all_differ (destination i) n (mask (aimed t i))) (asked_vector-aimed vector_in_index vectors_in_index number_in_index t row i (index-aimed t row i))
-    ∙ ap (all_differ (destination i) (index i)) (asked_vector-aimed vector_in_vvvv vectors_in_vvvv number_in_vvvv t row i (vvvv-aimed t row i))
+    ap (λ (n : Option ℕ). all_differ n (index (with_target t i)) (mask (with_target t i))) (asked_vector-with_target vector_in_reg vectors_in_reg number_in_reg t row i (reg-with_target t row i))
+    ∙ ap (λ (n : Option ℕ). all_differ (destination i) n (mask (with_target t i))) (asked_vector-with_target vector_in_index vectors_in_index number_in_index t row i (index-with_target t row i))
+    ∙ ap (all_differ (destination i) (index i)) (asked_vector-with_target vector_in_vvvv vectors_in_vvvv number_in_vvvv t row i (vvvv-with_target t row i))
 
 -- what a register operand has to be
 abbrev named : (Register → Bool) → Operand → Bool
@@ -100,14 +100,14 @@ named_same : (p q : Register → Bool) → ((r : Register) → p r ≡ q r) → 
 named_same p q h (Reg r) = h r
 named_same p q h _ = refl
 
-pub register_suits-aimed : (bits : Bits) (t : ℕ) (row : Row) (i : Instr) (n : ℕ) → register_suits bits row (aimed t i) n ≡ register_suits bits row i n
+pub register_suits-with_target : (bits : Bits) (t : ℕ) (row : Row) (i : Instr) (n : ℕ) → register_suits bits row (with_target t i) n ≡ register_suits bits row i n
 unfolding register_suits
-register_suits-aimed bits t row i n =
+register_suits-with_target bits t row i n =
     let p = is_nameable bits row i n in
-    let q = is_nameable bits row (aimed t i) n in
-    let e : named q (operand_at (aimed t i) n) ≡ named p (operand_at i n) =
-    named_same q p (nameable bits t row i n) (operand_at (aimed t i) n) ∙ at-aimed (named p) (named_ignores p) t i n in
-    let g : gather_suits row (aimed t i) n ≡ gather_suits row i n = rw (numbers_differ t row i) refl in
+    let q = is_nameable bits row (with_target t i) n in
+    let e : named q (operand_at (with_target t i) n) ≡ named p (operand_at i n) =
+    named_same q p (nameable bits t row i n) (operand_at (with_target t i) n) ∙ at-with_target (named p) (named_ignores p) t i n in
+    let g : gather_suits row (with_target t i) n ≡ gather_suits row i n = rw (numbers_differ t row i) refl in
     rw (e, g) refl
 
 -- ---- the addresses
@@ -122,12 +122,12 @@ shape_same bits row method.Gather file m disp = refl
 shape_same bits row method.Offset file m disp = refl
 shape_same bits row _ file m disp = refl
 
-pub address_suits-aimed : (bits : Bits) (t : ℕ) (row : Row) (i : Instr) (n : ℕ) → address_suits bits row (aimed t i) n ≡ address_suits bits row i n
+pub address_suits-with_target : (bits : Bits) (t : ℕ) (row : Row) (i : Instr) (n : ℕ) → address_suits bits row (with_target t i) n ≡ address_suits bits row i n
 unfolding address_suits
-address_suits-aimed bits t row i n =
+address_suits-with_target bits t row i n =
     let how = method_of (kind_at row n) in
     let file = file_of (kind_at row n) in
-    at-aimed (addressed (shape_suits bits row how file)) (record { memory = λ m disp. shape_same bits row how file m disp; near = λ x y. refl }) t i n
+    at-with_target (addressed (shape_suits bits row how file)) (record { memory = λ m disp. shape_same bits row how file m disp; near = λ x y. refl }) t i n
 
 -- ---- the immediates
 
@@ -139,38 +139,38 @@ immediate size method.One n = record { memory = λ m disp. refl; near = λ x y. 
 immediate size method.Pointer n = record { memory = λ m disp. refl; near = λ x y. refl }
 immediate size _ n = record { memory = λ m disp. refl; near = λ x y. refl }
 
-pub immediate_suits-aimed : (bits : Bits) (t : ℕ) (row : Row) (i : Instr) (n : ℕ) → immediate_suits bits row (aimed t i) n ≡ immediate_suits bits row i n
+pub immediate_suits-with_target : (bits : Bits) (t : ℕ) (row : Row) (i : Instr) (n : ℕ) → immediate_suits bits row (with_target t i) n ≡ immediate_suits bits row i n
 unfolding immediate_suits
-immediate_suits-aimed bits t row i n =
+immediate_suits-with_target bits t row i n =
     let size = plain_size bits row in
     let how = method_of (kind_at row n) in
     let bytes = immediate_bytes size (kind_at row n) in
-    at-aimed (immediate_suits_how size how bytes) (immediate size how bytes) t i n
+    at-with_target (immediate_suits_how size how bytes) (immediate size how bytes) t i n
 
 -- ---- the prefixes
 
 memory_ignores : IgnoresTarget is_memory
 memory_ignores = record { memory = λ m disp. refl; near = λ x y. refl }
 
-is_memory-aimed : (t : ℕ) (i : Instr) (n : ℕ) → is_memory (operand_at (aimed t i) n) ≡ is_memory (operand_at i n)
-is_memory-aimed t i n = at-aimed is_memory memory_ignores t i n
+is_memory-with_target : (t : ℕ) (i : Instr) (n : ℕ) → is_memory (operand_at (with_target t i) n) ≡ is_memory (operand_at i n)
+is_memory-with_target t i n = at-with_target is_memory memory_ignores t i n
 
-lock-aimed : (t : ℕ) (row : Row) (i : Instr) → lock_suits row (aimed t i) ≡ lock_suits row i
-unfolding lock_suits aimed
-lock-aimed t row i = rw (is_memory-aimed t i 0) refl
+lock-with_target : (t : ℕ) (row : Row) (i : Instr) → lock_suits row (with_target t i) ≡ lock_suits row i
+unfolding lock_suits with_target
+lock-with_target t row i = rw (is_memory-with_target t i 0) refl
 
-repeat-aimed : (t : ℕ) (row : Row) (i : Instr) → repeat_suits row (aimed t i) ≡ repeat_suits row i
-unfolding repeat_suits aimed
-repeat-aimed t row i =
+repeat-with_target : (t : ℕ) (row : Row) (i : Instr) → repeat_suits row (with_target t i) ≡ repeat_suits row i
+unfolding repeat_suits with_target
+repeat-with_target t row i =
     ap (λ (opcode : ℕ). elim row.class [
       | AnyClass ↦ not (is_repeat_f3 i.rep && ((elim row.plus [ PlusRegister ↦ true | _ ↦ false ]) && is_nop_byte row opcode))
       | Nf3 ↦ not (is_repeat_f3 i.rep)
       | _ ↦ is_no_repeat i.rep
-    ]) (asked_opcode-aimed t row i)
+    ]) (asked_opcode-with_target t row i)
 
-pub prefixes_suit-aimed : (t : ℕ) (row : Row) (i : Instr) → prefixes_suit row (aimed t i) ≡ prefixes_suit row i
+pub prefixes_suit-with_target : (t : ℕ) (row : Row) (i : Instr) → prefixes_suit row (with_target t i) ≡ prefixes_suit row i
 unfolding prefixes_suit
-prefixes_suit-aimed t row i = rw (lock-aimed t row i, repeat-aimed t row i) refl
+prefixes_suit-with_target t row i = rw (lock-with_target t row i, repeat-with_target t row i) refl
 
 -- ---- the address size
 
@@ -178,17 +178,17 @@ agrees : (asize : Bits) → IgnoresTarget (size_agrees asize)
 unfolding size_agrees told_size shown_size
 agrees asize = record { memory = λ m disp. refl; near = λ x y. refl }
 
-agrees-aimed : (asize : Bits) (t : ℕ) (i : Instr) (n : ℕ) → size_agrees asize (operand_at (aimed t i) n) ≡ size_agrees asize (operand_at i n)
-agrees-aimed asize t i n = at-aimed (size_agrees asize) (agrees asize) t i n
+agrees-with_target : (asize : Bits) (t : ℕ) (i : Instr) (n : ℕ) → size_agrees asize (operand_at (with_target t i) n) ≡ size_agrees asize (operand_at i n)
+agrees-with_target asize t i n = at-with_target (size_agrees asize) (agrees asize) t i n
 
-is_size-aimed : (bits : Bits) (t : ℕ) (row : Row) (i : Instr) (asize : Bits) → is_size_of bits row (aimed t i) asize ≡ is_size_of bits row i asize
+is_size-with_target : (bits : Bits) (t : ℕ) (row : Row) (i : Instr) (asize : Bits) → is_size_of bits row (with_target t i) asize ≡ is_size_of bits row i asize
 unfolding is_size_of
-is_size-aimed bits t row i asize =
-    rw (agrees-aimed asize t i 0, agrees-aimed asize t i 1, agrees-aimed asize t i 2, agrees-aimed asize t i 3) refl
+is_size-with_target bits t row i asize =
+    rw (agrees-with_target asize t i 0, agrees-with_target asize t i 1, agrees-with_target asize t i 2, agrees-with_target asize t i 3) refl
 
-has_memory-aimed : (t : ℕ) (i : Instr) → has_memory_operand (aimed t i) ≡ has_memory_operand i
+has_memory-with_target : (t : ℕ) (i : Instr) → has_memory_operand (with_target t i) ≡ has_memory_operand i
 unfolding has_memory_operand
-has_memory-aimed t i = rw (is_memory-aimed t i 0, is_memory-aimed t i 1, is_memory-aimed t i 2, is_memory-aimed t i 3) refl
+has_memory-with_target t i = rw (is_memory-with_target t i 0, is_memory-with_target t i 1, is_memory-with_target t i 2, is_memory-with_target t i 3) refl
 
 -- a test of the address size that is said
 abbrev sized_by : (Bits → Bool) → Option Bits → Bool
@@ -199,7 +199,7 @@ sized : (p q : Bits → Bool) → ((asize : Bits) → p asize ≡ q asize) → (
 sized p q h None = refl
 sized p q h (Some asize) = h asize
 
-pub address_size_suits-aimed : (bits : Bits) (t : ℕ) (row : Row) (i : Instr) → address_size_suits bits row (aimed t i) ≡ address_size_suits bits row i
-unfolding address_size_suits aimed
-address_size_suits-aimed bits t row i =
-    rw (has_memory-aimed t i, sized (is_size_of bits row (aimed t i)) (is_size_of bits row i) (is_size-aimed bits t row i) i.asize) refl
+pub address_size_suits-with_target : (bits : Bits) (t : ℕ) (row : Row) (i : Instr) → address_size_suits bits row (with_target t i) ≡ address_size_suits bits row i
+unfolding address_size_suits with_target
+address_size_suits-with_target bits t row i =
+    rw (has_memory-with_target t i, sized (is_size_of bits row (with_target t i)) (is_size_of bits row i) (is_size-with_target bits t row i) i.asize) refl

@@ -19,33 +19,33 @@ use Rattle.operand_info.specs.Operands.{near_value, first_value}
 use Rattle.encoder.specs.Encoding.{encoding}
 use Rattle.encoder.proofs.Suited.{suits-encoded}
 use Rattle.branch_sizes.specs.Layout.{Reaches}
-use Rattle.moved_targets.specs.Targets.{operand_reach, target_reach, aimed, plain_length}
-use Rattle.moved_targets.proofs.Ignored.{operand_at-aimed}
-use Rattle.moved_targets.proofs.Unchanged.{len-aimed}
-use Rattle.moved_targets.proofs.Lengths.{plain_length-row, some_byte, spelled-needs, code-aimed}
+use Rattle.moved_targets.specs.Targets.{operand_reach, target_reach, with_target, plain_length}
+use Rattle.moved_targets.proofs.Ignored.{operand_at-with_target}
+use Rattle.moved_targets.proofs.Unchanged.{len-with_target}
+use Rattle.moved_targets.proofs.Lengths.{plain_length-row, some_byte, spelled-needs, code-with_target}
 use Rattle.moved_targets.proofs.Aims.{no_value}
-use Rattle.moved_targets.proofs.Conditions.{same_each, kind_suits-aimed, register_suits-aimed, address_suits-aimed, immediate_suits-aimed, prefixes_suit-aimed, address_size_suits-aimed}
+use Rattle.moved_targets.proofs.Conditions.{same_each, kind_suits-with_target, register_suits-with_target, address_suits-with_target, immediate_suits-with_target, prefixes_suit-with_target, address_size_suits-with_target}
 use Rattle.moved_targets.proofs.Reaches.{Reached, displacement_of_operand_suits, operand-offered, target_of_operand_suits, operand-reached}
 use Rattle.moved_targets.proofs.Shared.{all_reached}
 
 -- ---- one operand
 
-offered_there : (bits : Bits) (row : Row) (i : Instr) (len place t n : ℕ) → Reached (operand_reach (operand_at i n)) len place t → t < 2 ^ 64 → offered bits row i n ≡ true → offered bits row (aimed t i) n ≡ true
-unfolding offered aimed
+offered_there : (bits : Bits) (row : Row) (i : Instr) (len place t n : ℕ) → Reached (operand_reach (operand_at i n)) len place t → t < 2 ^ 64 → offered bits row i n ≡ true → offered bits row (with_target t i) n ≡ true
+unfolding offered with_target
 offered_there bits row i len place t n reach below h =
     let how = method_of (kind_at row n) in
-    ap (displacement_of_operand_suits bits i.asize how) (operand_at-aimed t i n) ∙ operand-offered bits i.asize how (operand_at i n) len place t reach below h
+    ap (displacement_of_operand_suits bits i.asize how) (operand_at-with_target t i n) ∙ operand-offered bits i.asize how (operand_at i n) len place t reach below h
 
 -- the place, the target and the length of the plain spelling
 record Aim (bits : Bits) (row : Row) (i : Instr) (place t : ℕ) : Type 0 where
   within : place + plain_len bits row i ≤ 2 ^ width bits
   below : t < 2 ^ 64
 
-next_is : (bits : Bits) (row : Row) (i : Instr) (ip t : ℕ) → plain_next bits ip row (aimed t i) ≡ wrapped bits (ip + plain_len bits row i)
+next_is : (bits : Bits) (row : Row) (i : Instr) (ip t : ℕ) → plain_next bits ip row (with_target t i) ≡ wrapped bits (ip + plain_len bits row i)
 unfolding plain_next
-next_is bits row i ip t = ap (λ (n : ℕ). wrapped bits (ip + n)) (len-aimed bits t row i)
+next_is bits row i ip t = ap (λ (n : ℕ). wrapped bits (ip + n)) (len-with_target bits t row i)
 
-targeted_there : (bits : Bits) (row : Row) (i : Instr) (place t n : ℕ) → Aim bits row i place t → near_value (operand_at i n) ≡ None → Reached (operand_reach (operand_at i n)) (plain_len bits row i) place t → address_suits bits row i n ≡ true → target_suits bits (wrapped bits place) row (aimed t i) n ≡ true
+targeted_there : (bits : Bits) (row : Row) (i : Instr) (place t n : ℕ) → Aim bits row i place t → near_value (operand_at i n) ≡ None → Reached (operand_reach (operand_at i n)) (plain_len bits row i) place t → address_suits bits row i n ≡ true → target_suits bits (wrapped bits place) row (with_target t i) n ≡ true
 unfolding target_suits address_suits
 targeted_there bits row i place t n a none reach shape =
     let how = method_of (kind_at row n) in
@@ -53,8 +53,8 @@ targeted_there bits row i place t n a none reach shape =
     let size = plain_size bits row in
     let count = immediate_bytes size (kind_at row n) in
     let len = plain_len bits row i in
-    ap (λ (next : ℕ). target_of_operand_suits size next count (operand_at (aimed t i) n)) (next_is bits row i (wrapped bits place) t)
-    ∙ ap (target_of_operand_suits size (wrapped bits (wrapped bits place + len)) count) (operand_at-aimed t i n)
+    ap (λ (next : ℕ). target_of_operand_suits size next count (operand_at (with_target t i) n)) (next_is bits row i (wrapped bits place) t)
+    ∙ ap (target_of_operand_suits size (wrapped bits (wrapped bits place + len)) count) (operand_at-with_target t i n)
     ∙ operand-reached bits size count row how file (operand_at i n) len place t none shape reach a.below (some_byte bits row i) a.within
 
 -- ---- all operands
@@ -81,7 +81,7 @@ to_each : (p : ℕ → Bool) → p 0 ≡ true → p 1 ≡ true → p 2 ≡ true 
 to_each p a b c d = rw (a, b, c, d) refl
 
 -- **the conditions hold there**
-pub suits-elsewhere : (bits : Bits) (old place t : ℕ) (row : Row) (s : Spelling) (i : Instr) → NeedsHold bits old row s i → first_value near_value i ≡ None → Reaches (target_reach i) (plain_len bits row i) place t → place + plain_len bits row i ≤ 2 ^ width bits → t < 2 ^ 64 → Suits bits (wrapped bits place) row (aimed t i)
+pub suits-elsewhere : (bits : Bits) (old place t : ℕ) (row : Row) (s : Spelling) (i : Instr) → NeedsHold bits old row s i → first_value near_value i ≡ None → Reaches (target_reach i) (plain_len bits row i) place t → place + plain_len bits row i ≤ 2 ^ width bits → t < 2 ^ 64 → Suits bits (wrapped bits place) row (with_target t i)
 suits-elsewhere bits old place t row s i n none reach within below =
     let len = plain_len bits row i in
     let r = all_reached bits row i len place t n.address_size reach in
@@ -91,32 +91,32 @@ suits-elsewhere bits old place t row s i n none reach within below =
     let a : Aim bits row i place t = record { within = within; below = below } in
     record {
       exists = n.exists;
-      kinds = same_each (kind_suits row (aimed t i)) (kind_suits row i) (kind_suits-aimed t row i) ∙ n.kinds;
-      registers = same_each (register_suits bits row (aimed t i)) (register_suits bits row i) (register_suits-aimed bits t row i) ∙ n.registers;
-      addresses = same_each (address_suits bits row (aimed t i)) (address_suits bits row i) (address_suits-aimed bits t row i) ∙ n.addresses;
-      displacements = to_each (offered bits row (aimed t i))
+      kinds = same_each (kind_suits row (with_target t i)) (kind_suits row i) (kind_suits-with_target t row i) ∙ n.kinds;
+      registers = same_each (register_suits bits row (with_target t i)) (register_suits bits row i) (register_suits-with_target bits t row i) ∙ n.registers;
+      addresses = same_each (address_suits bits row (with_target t i)) (address_suits bits row i) (address_suits-with_target bits t row i) ∙ n.addresses;
+      displacements = to_each (offered bits row (with_target t i))
           (offered_there bits row i len place t 0 r.first below disp.first)
           (offered_there bits row i len place t 1 r.second below disp.second)
           (offered_there bits row i len place t 2 r.third below disp.third)
           (offered_there bits row i len place t 3 r.fourth below disp.fourth);
-      immediates = same_each (immediate_suits bits row (aimed t i)) (immediate_suits bits row i) (immediate_suits-aimed bits t row i) ∙ n.immediates;
-      targets = to_each (target_suits bits (wrapped bits place) row (aimed t i))
+      immediates = same_each (immediate_suits bits row (with_target t i)) (immediate_suits bits row i) (immediate_suits-with_target bits t row i) ∙ n.immediates;
+      targets = to_each (target_suits bits (wrapped bits place) row (with_target t i))
           (targeted_there bits row i place t 0 a near.first r.first shape.first)
           (targeted_there bits row i place t 1 a near.second r.second shape.second)
           (targeted_there bits row i place t 2 a near.third r.third shape.third)
           (targeted_there bits row i place t 3 a near.fourth r.fourth shape.fourth);
-      prefixes = prefixes_suit-aimed t row i ∙ n.prefixes;
-      address_size = address_size_suits-aimed bits t row i ∙ n.address_size;
+      prefixes = prefixes_suit-with_target t row i ∙ n.prefixes;
+      address_size = address_size_suits-with_target bits t row i ∙ n.address_size;
     }
 
 -- ---- the encoding
 
 -- **what is spelled at some address and is no near branch has an encoding elsewhere, aimed at what it reaches from there**
-pub encoded-elsewhere : (bits : Bits) (old place t : ℕ) (bytes : List ℕ) (i : Instr) → Spells table bits old bytes i → first_value near_value i ≡ None → Reaches (target_reach i) (plain_length bits i) place t → place + plain_length bits i ≤ 2 ^ width bits → t < 2 ^ 64 → (plain : List ℕ) × (encoding bits place (aimed t i) ≡ Ok plain)
+pub encoded-elsewhere : (bits : Bits) (old place t : ℕ) (bytes : List ℕ) (i : Instr) → Spells table bits old bytes i → first_value near_value i ≡ None → Reaches (target_reach i) (plain_length bits i) place t → place + plain_length bits i ≤ 2 ^ width bits → t < 2 ^ 64 → (plain : List ℕ) × (encoding bits place (with_target t i) ≡ Ok plain)
 encoded-elsewhere bits old place t bytes i (short, (row, at, (s, e))) none reach within below =
     let n = spelled-needs bits old bytes i row s at e in
     let l = plain_length-row bits i row at in
     let suits = suits-elsewhere bits old place t row s i n none (rw l at reach) (rw l at within) below in
-    let there : plain_len bits row (aimed t i) ≤ 15 = omega (arith, len-aimed bits t row i, n.least, ap length e.bytes_are) in
-    let row_at : slice_get table (aimed t i).code.0 ≡ Some row = rw (code-aimed t i) at in
-    (bytes_of row (plain_spelling bits (wrapped bits place) row (aimed t i)), suits-encoded bits place row (aimed t i) row_at suits there)
+    let there : plain_len bits row (with_target t i) ≤ 15 = omega (arith, len-with_target bits t row i, n.least, ap length e.bytes_are) in
+    let row_at : slice_get table (with_target t i).code.0 ≡ Some row = rw (code-with_target t i) at in
+    (bytes_of row (plain_spelling bits (wrapped bits place) row (with_target t i)), suits-encoded bits place row (with_target t i) row_at suits there)

@@ -13,7 +13,7 @@ use Rattle.instruction_parts.specs.Kinds.{method_of}
 use Rattle.plain_spelling.specs.Forms.{operand_at}
 use Rattle.plain_spelling.specs.PlainFront.{over_operands, asks_low_byte, is_low_byte_of_rex}
 use Rattle.plain_spelling.specs.PlainTail.{operand_where}
-use Rattle.moved_targets.specs.Targets.{aimed_base, aimed_operand, aimed}
+use Rattle.moved_targets.specs.Targets.{aimed_base, aimed_operand, with_target}
 
 -- ---- one operand
 
@@ -30,9 +30,9 @@ by_base t m (Some Rip) = refl
 by_base t m (Some Eip) = refl
 by_base t m (Some _) = refl
 
-pub aimed-memory : (t : ℕ) (m : Mem) → aimed_operand t (Memory m) ≡ Memory (record m { disp = aimed_disp t m.base m.disp })
+pub with_target-memory : (t : ℕ) (m : Mem) → aimed_operand t (Memory m) ≡ Memory (record m { disp = aimed_disp t m.base m.disp })
 unfolding aimed_operand
-aimed-memory t m = by_base t m m.base
+with_target-memory t m = by_base t m m.base
 
 -- what looks neither at a displacement nor at a near target
 pub record IgnoresTarget {T : Type 0} (f : Operand → T) : Type 0 where
@@ -57,12 +57,12 @@ at_mapped t (op ∷ ops) zero = refl
 at_mapped t (op ∷ ops) (suc n) = at_mapped t ops n
 
 -- operand n of the aimed instruction is operand n, aimed
-pub operand_at-aimed : (t : ℕ) (i : Instr) (n : ℕ) → operand_at (aimed t i) n ≡ aimed_operand t (operand_at i n)
-unfolding aimed
-operand_at-aimed t i n = at_mapped t i.ops n
+pub operand_at-with_target : (t : ℕ) (i : Instr) (n : ℕ) → operand_at (with_target t i) n ≡ aimed_operand t (operand_at i n)
+unfolding with_target
+operand_at-with_target t i n = at_mapped t i.ops n
 
-pub at-aimed : {T : Type 0} (f : Operand → T) → IgnoresTarget f → (t : ℕ) (i : Instr) (n : ℕ) → f (operand_at (aimed t i) n) ≡ f (operand_at i n)
-at-aimed f h t i n = ap f (operand_at-aimed t i n) ∙ ignored f h t (operand_at i n)
+pub at-with_target : {T : Type 0} (f : Operand → T) → IgnoresTarget f → (t : ℕ) (i : Instr) (n : ℕ) → f (operand_at (with_target t i) n) ≡ f (operand_at i n)
+at-with_target f h t i n = ap f (operand_at-with_target t i n) ∙ ignored f h t (operand_at i n)
 
 pub over_operands-map : (f : Method → Operand → ℕ) → ((how : Method) → IgnoresTarget (f how)) → (t : ℕ) (kinds : List OpKind) (ops : List Operand) → over_operands f kinds (map (aimed_operand t) ops) ≡ over_operands f kinds ops
 over_operands-map f h t [] ops = refl

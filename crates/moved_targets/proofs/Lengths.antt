@@ -19,23 +19,23 @@ use Rattle.x86_values.specs.Wrapping.{wrapped}
 use Rattle.opcode_rows.specs.Table.{table}
 use Rattle.encoder.specs.Encoding.{encoding, encoded_by, plain_bytes}
 use Rattle.encoder.proofs.OverTable.{written_table}
-use Rattle.moved_targets.specs.Targets.{plain_length_by, plain_length, aimed}
-use Rattle.moved_targets.proofs.Unchanged.{len-aimed}
+use Rattle.moved_targets.specs.Targets.{plain_length_by, plain_length, with_target}
+use Rattle.moved_targets.proofs.Unchanged.{len-with_target}
 
 -- ---- wherever it is aimed
 
-by_row_aimed : (bits : Bits) (t : ℕ) (row : Option Row) (i : Instr) → plain_length_by bits row (aimed t i) ≡ plain_length_by bits row i
+by_row_aimed : (bits : Bits) (t : ℕ) (row : Option Row) (i : Instr) → plain_length_by bits row (with_target t i) ≡ plain_length_by bits row i
 by_row_aimed bits t None i = refl
-by_row_aimed bits t (Some row) i = len-aimed bits t row i
+by_row_aimed bits t (Some row) i = len-with_target bits t row i
 
-pub code-aimed : (t : ℕ) (i : Instr) → (aimed t i).code ≡ i.code
-unfolding aimed
-code-aimed t i = refl
+pub code-with_target : (t : ℕ) (i : Instr) → (with_target t i).code ≡ i.code
+unfolding with_target
+code-with_target t i = refl
 
 -- **the length does not depend on the target**
-pub aimed-length : (bits : Bits) (t : ℕ) (i : Instr) → plain_length bits (aimed t i) ≡ plain_length bits i
-unfolding plain_length aimed
-aimed-length bits t i = by_row_aimed bits t (slice_get table i.code.0) i
+pub with_target-length : (bits : Bits) (t : ℕ) (i : Instr) → plain_length bits (with_target t i) ≡ plain_length bits i
+unfolding plain_length with_target
+with_target-length bits t i = by_row_aimed bits t (slice_get table i.code.0) i
 
 -- ---- of an encoding
 

@@ -27,7 +27,7 @@ use Rattle.branch_sizes.specs.declared.plan.Reach.{Reach}
 use Rattle.branch_sizes.specs.declared.plan.Reach.TheVariants.{Always}
 use Rattle.branch_sizes.specs.Layout.{Reaches}
 use Rattle.moved_targets.specs.Targets.{base_reach, operand_reach, aimed_operand}
-use Rattle.moved_targets.proofs.Ignored.{aimed_disp, aimed-memory}
+use Rattle.moved_targets.proofs.Ignored.{aimed_disp, with_target-memory}
 use Rattle.moved_targets.proofs.Unchanged.{written_size-disp}
 use Rattle.moved_targets.proofs.Nearby.{reached}
 
@@ -87,7 +87,7 @@ operand-offered bits asize how (Memory m) len place t reach below h =
     let disp = aimed_disp t m.base m.disp in
     let k : displacement_of_operand_suits bits asize how (Memory (record m { disp = disp })) ≡ true =
     rw (written_size-disp bits asize m disp) (displacement_kept (written_size bits asize m) how m len place t reach below h) in
-    ap (displacement_of_operand_suits bits asize how) (aimed-memory t m) ∙ k
+    ap (displacement_of_operand_suits bits asize how) (with_target-memory t m) ∙ k
 operand-offered bits asize how (Imm x) len place t reach below h = h
 operand-offered bits asize how (Near x) len place t reach below h = h
 operand-offered bits asize how (Far x y) len place t reach below h = h
@@ -139,7 +139,7 @@ operand-reached bits size n row how file Absent len place t none shape reach bel
 operand-reached bits size n row how file (Reg r) len place t none shape reach below some within = refl
 operand-reached bits size n row how file (Memory m) len place t none shape reach below some within =
     let next = wrapped bits (wrapped bits place + len) in
-    ap (target_of_operand_suits size next n) (aimed-memory t m)
+    ap (target_of_operand_suits size next n) (with_target-memory t m)
     ∙ address_reached bits m len place t (λ e. mode_64 bits (by_method bits row how file m e shape)) reach below some within
 operand-reached bits size n row how file (Imm x) len place t none shape reach below some within = refl
 operand-reached bits size n row how file (Near x) len place t none shape reach below some within = cc

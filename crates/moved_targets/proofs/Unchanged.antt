@@ -18,7 +18,7 @@ use Rattle.row_fit.specs.Sound.{reads_rm}
 use Rattle.plain_spelling.specs.PlainFront.{number_in_reg, number_in_rm, number_in_index, number_in_vvvv, number_in_opcode, asked, asks_low_byte, asks_r, asks_x, asks_b, asked_rex, asked_vex, asked_opcode, asked_used, asked_repeat, plain_front_of}
 use Rattle.plain_spelling.specs.Addresses.{address_fields, alone_fields, wide_fields, plain_sib, written_size, shown_size, wide_needs_sib}
 use Rattle.plain_spelling.specs.PlainTail.{operand_where, rm_fields, fields_of, fixed_rm, modrm_with, plain_modrm, plain_sib_of, operand_displacement, address_operand, plain_len}
-use Rattle.moved_targets.specs.Targets.{aimed}
+use Rattle.moved_targets.specs.Targets.{with_target}
 use Rattle.moved_targets.proofs.Ignored.{IgnoresTarget, ignored, over_operands-map, operand_where-map, asks_low_byte-map}
 
 -- ---- the numbers of registers
@@ -52,72 +52,72 @@ unfolding number_in_opcode
 in_opcode method.OpcodeLow = record { memory = λ m disp. refl; near = λ x y. refl }
 in_opcode _ = record { memory = λ m disp. refl; near = λ x y. refl }
 
-asked-aimed : (f : Method → Operand → ℕ) → ((how : Method) → IgnoresTarget (f how)) → (t : ℕ) (row : Row) (i : Instr) → asked f row (aimed t i) ≡ asked f row i
-unfolding aimed
-asked-aimed f h t row i = over_operands-map f h t row.ops i.ops
+asked-with_target : (f : Method → Operand → ℕ) → ((how : Method) → IgnoresTarget (f how)) → (t : ℕ) (row : Row) (i : Instr) → asked f row (with_target t i) ≡ asked f row i
+unfolding with_target
+asked-with_target f h t row i = over_operands-map f h t row.ops i.ops
 
-pub reg-aimed : (t : ℕ) (row : Row) (i : Instr) → asked number_in_reg row (aimed t i) ≡ asked number_in_reg row i
-reg-aimed t row i = asked-aimed number_in_reg in_reg t row i
+pub reg-with_target : (t : ℕ) (row : Row) (i : Instr) → asked number_in_reg row (with_target t i) ≡ asked number_in_reg row i
+reg-with_target t row i = asked-with_target number_in_reg in_reg t row i
 
-pub rm-aimed : (t : ℕ) (row : Row) (i : Instr) → asked number_in_rm row (aimed t i) ≡ asked number_in_rm row i
-rm-aimed t row i = asked-aimed number_in_rm in_rm t row i
+pub rm-with_target : (t : ℕ) (row : Row) (i : Instr) → asked number_in_rm row (with_target t i) ≡ asked number_in_rm row i
+rm-with_target t row i = asked-with_target number_in_rm in_rm t row i
 
-pub index-aimed : (t : ℕ) (row : Row) (i : Instr) → asked number_in_index row (aimed t i) ≡ asked number_in_index row i
-index-aimed t row i = asked-aimed number_in_index in_index t row i
+pub index-with_target : (t : ℕ) (row : Row) (i : Instr) → asked number_in_index row (with_target t i) ≡ asked number_in_index row i
+index-with_target t row i = asked-with_target number_in_index in_index t row i
 
-pub vvvv-aimed : (t : ℕ) (row : Row) (i : Instr) → asked number_in_vvvv row (aimed t i) ≡ asked number_in_vvvv row i
-vvvv-aimed t row i = asked-aimed number_in_vvvv in_vvvv t row i
+pub vvvv-with_target : (t : ℕ) (row : Row) (i : Instr) → asked number_in_vvvv row (with_target t i) ≡ asked number_in_vvvv row i
+vvvv-with_target t row i = asked-with_target number_in_vvvv in_vvvv t row i
 
-pub opcode-aimed : (t : ℕ) (row : Row) (i : Instr) → asked number_in_opcode row (aimed t i) ≡ asked number_in_opcode row i
-opcode-aimed t row i = asked-aimed number_in_opcode in_opcode t row i
+pub opcode-with_target : (t : ℕ) (row : Row) (i : Instr) → asked number_in_opcode row (with_target t i) ≡ asked number_in_opcode row i
+opcode-with_target t row i = asked-with_target number_in_opcode in_opcode t row i
 
-low-aimed : (t : ℕ) (i : Instr) → asks_low_byte (aimed t i).ops ≡ asks_low_byte i.ops
-unfolding aimed
-low-aimed t i = asks_low_byte-map t i.ops
+low-with_target : (t : ℕ) (i : Instr) → asks_low_byte (with_target t i).ops ≡ asks_low_byte i.ops
+unfolding with_target
+low-with_target t i = asks_low_byte-map t i.ops
 
 -- ---- the front
 
-r-aimed : (t : ℕ) (row : Row) (i : Instr) → asks_r row (aimed t i) ≡ asks_r row i
+r-with_target : (t : ℕ) (row : Row) (i : Instr) → asks_r row (with_target t i) ≡ asks_r row i
 unfolding asks_r
-r-aimed t row i = rw (reg-aimed t row i) refl
+r-with_target t row i = rw (reg-with_target t row i) refl
 
-x-aimed : (t : ℕ) (row : Row) (i : Instr) → asks_x row (aimed t i) ≡ asks_x row i
+x-with_target : (t : ℕ) (row : Row) (i : Instr) → asks_x row (with_target t i) ≡ asks_x row i
 unfolding asks_x
-x-aimed t row i = rw (index-aimed t row i) refl
+x-with_target t row i = rw (index-with_target t row i) refl
 
-b-aimed : (t : ℕ) (row : Row) (i : Instr) → asks_b row (aimed t i) ≡ asks_b row i
+b-with_target : (t : ℕ) (row : Row) (i : Instr) → asks_b row (with_target t i) ≡ asks_b row i
 unfolding asks_b
-b-aimed t row i = rw (rm-aimed t row i) refl
+b-with_target t row i = rw (rm-with_target t row i) refl
 
-repeat-aimed : (t : ℕ) (row : Row) (i : Instr) → asked_repeat row (aimed t i) ≡ asked_repeat row i
-unfolding asked_repeat aimed
-repeat-aimed t row i = refl
+repeat-with_target : (t : ℕ) (row : Row) (i : Instr) → asked_repeat row (with_target t i) ≡ asked_repeat row i
+unfolding asked_repeat with_target
+repeat-with_target t row i = refl
 
-rex-aimed : (t : ℕ) (row : Row) (i : Instr) → asked_rex row (aimed t i) ≡ asked_rex row i
+rex-with_target : (t : ℕ) (row : Row) (i : Instr) → asked_rex row (with_target t i) ≡ asked_rex row i
 unfolding asked_rex
-rex-aimed t row i = rw (r-aimed t row i, x-aimed t row i, b-aimed t row i, low-aimed t i) refl
+rex-with_target t row i = rw (r-with_target t row i, x-with_target t row i, b-with_target t row i, low-with_target t i) refl
 
-vex-aimed : (t : ℕ) (row : Row) (i : Instr) → asked_vex row (aimed t i) ≡ asked_vex row i
+vex-with_target : (t : ℕ) (row : Row) (i : Instr) → asked_vex row (with_target t i) ≡ asked_vex row i
 unfolding asked_vex
-vex-aimed t row i = rw (r-aimed t row i, x-aimed t row i, b-aimed t row i, vvvv-aimed t row i) refl
+vex-with_target t row i = rw (r-with_target t row i, x-with_target t row i, b-with_target t row i, vvvv-with_target t row i) refl
 
-pub asked_opcode-aimed : (t : ℕ) (row : Row) (i : Instr) → asked_opcode row (aimed t i) ≡ asked_opcode row i
+pub asked_opcode-with_target : (t : ℕ) (row : Row) (i : Instr) → asked_opcode row (with_target t i) ≡ asked_opcode row i
 unfolding asked_opcode
-asked_opcode-aimed t row i = ap (λ (n : ℕ). elim row.plus [ PlusRegister ↦ row.opcode + n % 8 | _ ↦ row.opcode ]) (opcode-aimed t row i)
+asked_opcode-with_target t row i = ap (λ (n : ℕ). elim row.plus [ PlusRegister ↦ row.opcode + n % 8 | _ ↦ row.opcode ]) (opcode-with_target t row i)
 
-pub asize-aimed : (t : ℕ) (i : Instr) → (aimed t i).asize ≡ i.asize
-unfolding aimed
-asize-aimed t i = refl
+pub asize-with_target : (t : ℕ) (i : Instr) → (with_target t i).asize ≡ i.asize
+unfolding with_target
+asize-with_target t i = refl
 
-used-aimed : (bits : Bits) (t : ℕ) (row : Row) (i : Instr) → asked_used bits row (aimed t i) ≡ asked_used bits row i
-unfolding asked_used aimed
-used-aimed bits t row i = rw (repeat-aimed t row i, rex-aimed t row i, vex-aimed t row i) refl
+used-with_target : (bits : Bits) (t : ℕ) (row : Row) (i : Instr) → asked_used bits row (with_target t i) ≡ asked_used bits row i
+unfolding asked_used with_target
+used-with_target bits t row i = rw (repeat-with_target t row i, rex-with_target t row i, vex-with_target t row i) refl
 
 -- **the front does not depend on the target**
-pub front-aimed : (bits : Bits) (t : ℕ) (row : Row) (i : Instr) → plain_front_of bits row (aimed t i) ≡ plain_front_of bits row i
-unfolding plain_front_of aimed
-front-aimed bits t row i =
-    rw (used-aimed bits t row i, repeat-aimed t row i, rex-aimed t row i, vex-aimed t row i, asked_opcode-aimed t row i) refl
+pub front-with_target : (bits : Bits) (t : ℕ) (row : Row) (i : Instr) → plain_front_of bits row (with_target t i) ≡ plain_front_of bits row i
+unfolding plain_front_of with_target
+front-with_target bits t row i =
+    rw (used-with_target bits t row i, repeat-with_target t row i, rex-with_target t row i, vex-with_target t row i, asked_opcode-with_target t row i) refl
 
 -- ---- ModRM, SIB and the displacement's length
 
@@ -140,15 +140,15 @@ in_fields bits asize place = record {
   near = λ x y. refl;
 }
 
-fields-aimed : (bits : Bits) (t : ℕ) (row : Row) (i : Instr) → fields_of bits row (aimed t i) ≡ fields_of bits row i
-unfolding aimed
-fields-aimed bits t row i =
+fields-with_target : (bits : Bits) (t : ℕ) (row : Row) (i : Instr) → fields_of bits row (with_target t i) ≡ fields_of bits row i
+unfolding with_target
+fields-with_target bits t row i =
     ap (λ (op : Operand). rm_fields bits i.asize row.place op) (operand_where-map reads_rm t row.ops i.ops)
     ∙ ignored (rm_fields bits i.asize row.place) (in_fields bits i.asize row.place) t (operand_where reads_rm row.ops i.ops)
 
-fixed-aimed : (t : ℕ) (row : Row) (i : Instr) (b : ℕ) → fixed_rm row (aimed t i) b ≡ fixed_rm row i b
+fixed-with_target : (t : ℕ) (row : Row) (i : Instr) (b : ℕ) → fixed_rm row (with_target t i) b ≡ fixed_rm row i b
 unfolding fixed_rm
-fixed-aimed t row i b = ap (λ (n : ℕ). elim row.plus [ PlusStack ↦ n % 8 | _ ↦ b % 8 ]) (rm-aimed t row i)
+fixed-with_target t row i b = ap (λ (n : ℕ). elim row.plus [ PlusStack ↦ n % 8 | _ ↦ b % 8 ]) (rm-with_target t row i)
 
 -- the ModRM by the rule, the number in reg, the fields of the operand in r/m and rm of a fixed byte
 abbrev modrm_by : ModRmRule → ℕ → AddressFields → (ℕ → ℕ) → Option ModRm
@@ -170,29 +170,29 @@ modrm_is : (bits : Bits) (row : Row) (i : Instr) → plain_modrm bits row i ≡ 
 unfolding plain_modrm
 modrm_is bits row i = refl
 
-modrm-aimed : (bits : Bits) (t : ℕ) (row : Row) (i : Instr) → plain_modrm bits row (aimed t i) ≡ plain_modrm bits row i
-modrm-aimed bits t row i =
-    modrm_is bits row (aimed t i)
-    ∙ same_modrm row.modrm (asked number_in_reg row (aimed t i)) (asked number_in_reg row i) (fields_of bits row (aimed t i)) (fields_of bits row i) (fixed_rm row (aimed t i)) (fixed_rm row i)
-    (reg-aimed t row i) (fields-aimed bits t row i) (fixed-aimed t row i)
+modrm-with_target : (bits : Bits) (t : ℕ) (row : Row) (i : Instr) → plain_modrm bits row (with_target t i) ≡ plain_modrm bits row i
+modrm-with_target bits t row i =
+    modrm_is bits row (with_target t i)
+    ∙ same_modrm row.modrm (asked number_in_reg row (with_target t i)) (asked number_in_reg row i) (fields_of bits row (with_target t i)) (fields_of bits row i) (fixed_rm row (with_target t i)) (fixed_rm row i)
+    (reg-with_target t row i) (fields-with_target bits t row i) (fixed-with_target t row i)
     ∙ sym (modrm_is bits row i)
 
-sib-aimed : (bits : Bits) (t : ℕ) (row : Row) (i : Instr) → plain_sib_of bits row (aimed t i) ≡ plain_sib_of bits row i
+sib-with_target : (bits : Bits) (t : ℕ) (row : Row) (i : Instr) → plain_sib_of bits row (with_target t i) ≡ plain_sib_of bits row i
 unfolding plain_sib_of
-sib-aimed bits t row i =
-    ap (λ (fields : AddressFields). elim row.modrm [ NoModRm ↦ None | AnyModRm ↦ fields.sib | Digit d ↦ fields.sib | FixedByte b ↦ None ]) (fields-aimed bits t row i)
+sib-with_target bits t row i =
+    ap (λ (fields : AddressFields). elim row.modrm [ NoModRm ↦ None | AnyModRm ↦ fields.sib | Digit d ↦ fields.sib | FixedByte b ↦ None ]) (fields-with_target bits t row i)
 
 in_displacement : IgnoresTarget operand_displacement
 in_displacement = record { memory = λ m disp. refl; near = λ x y. refl }
 
-displacement-aimed : (t : ℕ) (row : Row) (i : Instr) → operand_displacement (address_operand row (aimed t i)) ≡ operand_displacement (address_operand row i)
-unfolding aimed
-displacement-aimed t row i =
+displacement-with_target : (t : ℕ) (row : Row) (i : Instr) → operand_displacement (address_operand row (with_target t i)) ≡ operand_displacement (address_operand row i)
+unfolding with_target
+displacement-with_target t row i =
     let p = λ (how : Method). reads_rm how || is_offset how in
     ap operand_displacement (operand_where-map p t row.ops i.ops) ∙ ignored operand_displacement in_displacement t (operand_where p row.ops i.ops)
 
 -- **the length does not depend on the target**
-pub len-aimed : (bits : Bits) (t : ℕ) (row : Row) (i : Instr) → plain_len bits row (aimed t i) ≡ plain_len bits row i
+pub len-with_target : (bits : Bits) (t : ℕ) (row : Row) (i : Instr) → plain_len bits row (with_target t i) ≡ plain_len bits row i
 unfolding plain_len
-len-aimed bits t row i =
-    rw (front-aimed bits t row i, modrm-aimed bits t row i, sib-aimed bits t row i, displacement-aimed t row i) refl
+len-with_target bits t row i =
+    rw (front-with_target bits t row i, modrm-with_target bits t row i, sib-with_target bits t row i, displacement-with_target t row i) refl

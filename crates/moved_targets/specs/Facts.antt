@@ -14,7 +14,7 @@ use Rattle.opcode_rows.specs.Table.{table}
 use Rattle.operand_info.specs.Operands.{near_value, first_value}
 use Rattle.encoder.specs.Encoding.{encoding}
 use Rattle.branch_sizes.specs.Layout.{Reaches}
-use Rattle.moved_targets.specs.Targets.{target_of, aimed, target_reach, plain_length}
+use Rattle.moved_targets.specs.Targets.{target_of, with_target, target_reach, plain_length}
 
 -- an instruction meets every condition of a row but the reach of its targets
 pub record SuitsElsewhere (bits : Bits) (row : Row) (i : Instr) : Type 0 where
@@ -44,9 +44,9 @@ pub record TargetFacts : Type 0 where
   pub some_byte : (bits : Bits) (row : Row) (i : Instr) → 1 ≤ plain_len bits row i
   -- it is that of the encoding, and does not depend on the target
   pub encoding-length : (bits : Bits) (ip : ℕ) (i : Instr) (bytes : List ℕ) → encoding bits ip i ≡ Ok bytes → length bytes ≡ plain_length bits i
-  pub aimed-length : (bits : Bits) (t : ℕ) (i : Instr) → plain_length bits (aimed t i) ≡ plain_length bits i
+  pub with_target-length : (bits : Bits) (t : ℕ) (i : Instr) → plain_length bits (with_target t i) ≡ plain_length bits i
   -- what has no target stays as it is
-  pub untargeted-aimed : (t : ℕ) (i : Instr) → length i.ops ≡ 4 → target_of i ≡ None → aimed t i ≡ i
+  pub untargeted-with_target : (t : ℕ) (i : Instr) → length i.ops ≡ 4 → target_of i ≡ None → with_target t i ≡ i
   -- what is spelled meets every condition but the reach of targets
   pub spelled-suits : (bits : Bits) (ip : ℕ) (bytes : List ℕ) (i : Instr) (row : Row) (s : Spelling) → slice_get table i.code.0 ≡ Some row
       → IsSpelledBy bits ip bytes i row s → SuitsElsewhere bits row i
@@ -55,4 +55,4 @@ pub record TargetFacts : Type 0 where
   -- it is encoded wherever its target reaches, where it is no near branch
   pub encoded-elsewhere : (bits : Bits) (old place t : ℕ) (bytes : List ℕ) (i : Instr) → Spells table bits old bytes i
       → first_value near_value i ≡ None → Reaches (target_reach i) (plain_length bits i) place t → place + plain_length bits i ≤ 2 ^ width bits
-      → t < 2 ^ 64 → (plain : List ℕ) × (encoding bits place (aimed t i) ≡ Ok plain)
+      → t < 2 ^ 64 → (plain : List ℕ) × (encoding bits place (with_target t i) ≡ Ok plain)

@@ -37,8 +37,8 @@ aimed_operand t (Memory m) = aimed_base t (Memory m) m.base
 aimed_operand t op = op
 
 -- the instruction, with another target where it has one
-unfoldable pub aimed : ℕ → Instr → Instr
-aimed t i = record i { ops = map (aimed_operand t) i.ops }
+unfoldable pub with_target : ℕ → Instr → Instr
+with_target t i = record i { ops = map (aimed_operand t) i.ops }
 
 -- ---- which targets an instruction other than a relative branch reaches
 

@@ -9,7 +9,7 @@ ghost use Rattle.opcode_rows.specs.Table.{table};
 ghost use Rattle.operand_info.specs.Operands.{near_value, first_value};
 ghost use Rattle.encoder.specs.Encoding.{encoding};
 ghost use Rattle.branch_sizes.specs.Layout.{Reaches};
-ghost use Rattle.moved_targets.specs.Targets.{target_of, aimed, target_reach, plain_length};
+ghost use Rattle.moved_targets.specs.Targets.{target_of, with_target, target_reach, plain_length};
 ghost use Rattle.moved_targets.specs.Facts.{DistanceFacts, TargetFacts};
 
 /// An encoding has the length of the plain spelling.
@@ -19,7 +19,7 @@ pub fn encodings_have_their_length()
 
 /// The length does not depend on the target.
 pub fn aim_keeps_the_length()
-    ensures { (bits : Bits) (t : ℕ) (i : Instr) → plain_length bits (aimed t i) ≡ plain_length bits i }
+    ensures { (bits : Bits) (t : ℕ) (i : Instr) → plain_length bits (with_target t i) ≡ plain_length bits i }
 {}
 
 /// What is spelled at some address has a plain length of 1 to 15 bytes.
@@ -34,18 +34,18 @@ pub fn spelled_is_encoded_elsewhere()
     ensures { (bits : Bits) (old place t : ℕ) (bytes : List ℕ) (i : Instr) → length i.ops ≡ 4 → Spells table bits old bytes i
         → first_value near_value i ≡ None → Reaches (target_reach i) (plain_length bits i) place t
         → place + plain_length bits i ≤ 2 ^ width bits → t < 2 ^ 64
-        → (plain : List ℕ) × (encoding bits place (aimed t i) ≡ Ok plain) }
+        → (plain : List ℕ) × (encoding bits place (with_target t i) ≡ Ok plain) }
 {}
 
 /// What has a target has the other one when it is aimed at that.
 pub fn aimed_has_its_target()
-    ensures { (t old : ℕ) (i : Instr) → length i.ops ≡ 4 → target_of i ≡ Some old → target_of (aimed t i) ≡ Some t }
+    ensures { (t old : ℕ) (i : Instr) → length i.ops ≡ 4 → target_of i ≡ Some old → target_of (with_target t i) ≡ Some t }
 {}
 
 /// What has no target stays as it is.
 #[inline]
 pub fn without_target_nothing_changes()
-    ensures { (t : ℕ) (i : Instr) → length i.ops ≡ 4 → target_of i ≡ None → aimed t i ≡ i }
+    ensures { (t : ℕ) (i : Instr) → length i.ops ≡ 4 → target_of i ≡ None → with_target t i ≡ i }
 {}
 
 /// All of these as one record, with what they rest on: what is spelled meets every condition but the reach of its targets.

@@ -38,9 +38,9 @@ fn aimed_operand(operand: Operand, target: u64) -> Operand
 }
 
 /// The instruction aimed at another address: each near target and each address at RIP or EIP is replaced, and all else stays.
-#[tactic(auto, unfolding(crate::specs::Targets::aimed))]
-pub fn aimed(instr: &Instr, target: u64) -> Instr
-    ensures { result ≡ spec.aimed target instr.now }
+#[tactic(auto, unfolding(crate::specs::Targets::with_target))]
+pub fn with_target(instr: &Instr, target: u64) -> Instr
+    ensures { result ≡ spec.with_target target instr.now }
 {
     let [first, second, third, fourth] = instr.ops;
     Instr {

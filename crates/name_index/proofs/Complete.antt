@@ -3,7 +3,7 @@ use Rattle.std.proofs.Common.{◌≡◌, ◌⊎◌, inl, inr, ℕ, zero, suc, �
 use Rattle.std.specs.Prelude.{unwrap_or}
 use Rattle.std.proofs.lemmas.Bool.{or_cases}
 use Rattle.instruction_parts.proofs.Tests.{and_left, and_right}
-use Rattle.opcode_rows.specs.declared.spots.TheConstants.{ROWS}
+use Rattle.opcode_rows.specs.declared.generated_spots.TheConstants.{ROWS}
 use Rattle.opcode_rows.specs.Table.{names, name_of}
 use Rattle.name_index.specs.Buckets.{bucket_from, bucket_of, order, starts}
 

@@ -1,6 +1,6 @@
 -- The buckets of names: a name's bytes are the digits of a number to the base 31, modulo the number of buckets.
 use Rattle.std.specs.Prelude.{ℕ, ◌+◌, ◌*◌, ◌%◌, List, [], ◌∷◌}
-use Rattle.name_index.specs.declared.buckets.TheConstants.{ORDER, STARTS}
+use Rattle.name_index.specs.declared.generated_buckets.TheConstants.{ORDER, STARTS}
 
 -- the bucket of a name, behind bytes of this bucket
 unfoldable pub bucket_from : ℕ → List ℕ → ℕ

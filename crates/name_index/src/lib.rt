@@ -5,9 +5,9 @@ ghost use Rattle.std.specs.Prelude.{◌≡◌, ℕ, ◌+◌, ◌<◌, ◌≤◌,
 ghost use Rattle.name_index.specs.Buckets.{bucket_of, order, starts};
 ghost use Rattle.opcode_rows.specs.Table.{name_of};
 
-mod buckets;
+mod generated_buckets;
 
-use buckets::{ORDER, STARTS};
+use generated_buckets::{ORDER, STARTS};
 use opcode_rows::ROWS;
 use x86_values::Code;
 

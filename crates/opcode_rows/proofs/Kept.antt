@@ -13,8 +13,8 @@ use Rattle.rows_x87.specs.Table.{table as x87_rows, flat_rows as x87_flat}
 use Rattle.rows_sse.specs.Table.{table as sse_rows, flat_rows as sse_flat}
 use Rattle.rows_vex.specs.Table.{table as vex_rows, flat_rows as vex_flat}
 use Rattle.opcode_rows.specs.Kept.{opcodes_are_kept}
-use Rattle.opcode_rows.specs.declared.spots.Part.{Part}
-use Rattle.opcode_rows.specs.declared.spots.Part.TheVariants as part
+use Rattle.opcode_rows.specs.declared.spot.Part.{Part}
+use Rattle.opcode_rows.specs.declared.spot.Part.TheVariants as part
 use Rattle.opcode_rows.specs.Table.{part_table, table}
 use Rattle.opcode_rows.proofs.JoinFacts.{all_rows, in_each_part}
 

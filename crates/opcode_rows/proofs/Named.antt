@@ -3,7 +3,7 @@ use Rattle.std.proofs.Common.{◌≡◌, ◌<◌, ℕ, zero, suc, ◌+◌, List,
 use Rattle.std.specs.Prelude.{option_map, unwrap_or}
 use Rattle.std.proofs.lemmas.Option.{slice_get-map, slice_get-get_or}
 use Rattle.std.proofs.lemmas.List.{length-map}
-use Rattle.opcode_rows.specs.declared.spots.TheConstants.{VERSION1_ROWS}
+use Rattle.opcode_rows.specs.declared.generated_spots.TheConstants.{VERSION1_ROWS}
 use Rattle.opcode_rows.specs.Table.{first_names, added_names, names, name_of}
 
 get-first : (xs ys : List (List ℕ)) (k : ℕ) → k < length xs → slice_get (xs ++ ys) k ≡ slice_get xs k

@@ -20,7 +20,7 @@ use Rattle.rows_integer.specs.Table.{table as integer_rows, flat_rows as integer
 use Rattle.rows_x87.specs.Table.{table as x87_rows, flat_rows as x87_flat}
 use Rattle.rows_sse.specs.Table.{table as sse_rows, flat_rows as sse_flat}
 use Rattle.rows_vex.specs.Table.{table as vex_rows, flat_rows as vex_flat}
-use Rattle.opcode_rows.specs.declared.spots.TheConstants.{VERSION1_ROWS}
+use Rattle.opcode_rows.specs.declared.generated_spots.TheConstants.{VERSION1_ROWS}
 use Rattle.opcode_rows.specs.Table.{spots, rows_in, table, names}
 use Rattle.opcode_rows.specs.Versions.{version1, version1_names, is_within, is_added_cell, kind_behind, is_added_state}
 use Rattle.opcode_rows.proofs.Standing.{fitting-stands}

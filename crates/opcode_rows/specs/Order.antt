@@ -2,7 +2,7 @@
 use Rattle.std.specs.Prelude.{◌≡◌, ℕ, ◌+◌, ◌*◌, Some, slice_get}
 use Rattle.row_types.specs.declared.Row.{Row}
 use Rattle.row_fields.specs.Holds.{is_vex, map_number}
-use Rattle.opcode_rows.specs.declared.spots.Part.{Part}
+use Rattle.opcode_rows.specs.declared.spot.Part.{Part}
 use Rattle.opcode_rows.specs.Table.{spots, table}
 
 -- the opcode bytes of all maps in one line: the four maps of the legacy rows, then the four behind a VEX, each with 256 opcode bytes

@@ -10,12 +10,12 @@ use Rattle.rows_integer.specs.Table.{table as integer_rows}
 use Rattle.rows_x87.specs.Table.{table as x87_rows}
 use Rattle.rows_sse.specs.Table.{table as sse_rows}
 use Rattle.rows_vex.specs.Table.{table as vex_rows}
-use Rattle.opcode_rows.specs.declared.spots.Part.{Part}
-use Rattle.opcode_rows.specs.declared.spots.Part.TheVariants as part
-use Rattle.opcode_rows.specs.declared.spots.Spot.{Spot}
-use Rattle.opcode_rows.specs.declared.spots.TheConstants.{SPOTS}
-use Rattle.opcode_rows.specs.declared.cells.TheConstants.{LEGACY_SPANS, VEX_SPANS}
-use Rattle.opcode_rows.specs.declared.names.TheConstants.{NAMES, ADDED_NAMES}
+use Rattle.opcode_rows.specs.declared.spot.Part.{Part}
+use Rattle.opcode_rows.specs.declared.spot.Part.TheVariants as part
+use Rattle.opcode_rows.specs.declared.spot.Spot.{Spot}
+use Rattle.opcode_rows.specs.declared.generated_spots.TheConstants.{SPOTS}
+use Rattle.opcode_rows.specs.declared.generated_cells.TheConstants.{LEGACY_SPANS, VEX_SPANS}
+use Rattle.opcode_rows.specs.declared.generated_names.TheConstants.{NAMES, ADDED_NAMES}
 
 -- the rows of a part
 abbrev pub part_table : Part → List Row

@@ -9,7 +9,7 @@ use Rattle.row_types.specs.declared.Map.TheVariants as map
 use Rattle.instruction_parts.specs.declared.spelling.Vex.{Vex}
 use Rattle.instruction_parts.specs.declared.spelling.PrefixState.{PrefixState}
 use Rattle.instruction_parts.specs.Front.{Front, Known, Open, Forbidden, front_of}
-use Rattle.opcode_rows.specs.declared.spots.TheConstants.{VERSION1_ROWS}
+use Rattle.opcode_rows.specs.declared.generated_spots.TheConstants.{VERSION1_ROWS}
 use Rattle.opcode_rows.specs.Table.{table, names}
 
 -- the rows of version 1: those with the codes below VERSION1_ROWS

@@ -3,7 +3,7 @@
 ghost use Rattle.std.specs.Prelude.{◌≡◌, ◌<◌};
 ghost use Rattle.opcode_rows.specs.Allowed as spec;
 
-use crate::spots::ROWS;
+use crate::generated_spots::ROWS;
 use instruction_parts::kinds::method_of_kind;
 use plain_spelling::forms::{is_scale, is_variant_of, operand_at};
 use row_fit::tail_fits::kind_at;
@@ -58,7 +58,7 @@ fn has_numbers(operand: Operand) -> bool
     }
 }
 
-/// The same of a register that may be absent.
+/// Whether a register that may be absent exists where it is there.
 #[tactic(auto, unfolding(crate::specs::Allowed::is_named_if))]
 fn is_named_if(register: Option<Register>) -> bool
     ensures { result ≡ spec.is_named_if register }

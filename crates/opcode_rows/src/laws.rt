@@ -18,8 +18,8 @@ ghost use Rattle.opcode_rows.specs.Order.{opcode_number, LiesAt, HasOneCode};
 ghost use Rattle.opcode_rows.specs.Kept.{opcodes_are_kept};
 ghost use Rattle.opcode_rows.specs.Words.{is_name, has_one_long_kind};
 ghost use Rattle.opcode_rows.specs.Versions.{version1, version1_names, is_added_cell, names_added_cell, AreOfOneVersion};
-ghost use Rattle.opcode_rows.specs.declared.spots.Part.{Part};
-ghost use Rattle.opcode_rows.specs.declared.spots.TheConstants.{ROWS, VERSION1_ROWS};
+ghost use Rattle.opcode_rows.specs.declared.spot.Part.{Part};
+ghost use Rattle.opcode_rows.specs.declared.generated_spots.TheConstants.{ROWS, VERSION1_ROWS};
 
 /// There are as many rows as `ROWS` says.
 pub fn rows_are_counted()

@@ -5,11 +5,12 @@
 #![tactic(auto)]
 
 mod by_name;
-mod cells;
 mod form;
+mod generated_cells;
+mod generated_names;
+mod generated_spots;
 pub mod laws;
-mod names;
-mod spots;
+mod spot;
 
 ghost use Rattle.std.specs.Prelude.{◌≡◌, ◌+◌, ◌<◌, ◌≤◌, ◌↔◌, length, map, slice_get, Some, IfSome, IsNone};
 ghost use Rattle.row_lists.specs.Cells.{map_index, span_of, IsRunOf};
@@ -17,13 +18,14 @@ ghost use Rattle.opcode_rows.specs.Table.{part_table, spots, table, name_of, cel
 ghost use Rattle.opcode_rows.specs.Table as spec;
 
 pub use by_name::code_of;
-use cells::{LEGACY_SPANS, VEX_SPANS};
 pub use form::well_formed;
-use names::{ADDED_NAMES, NAMES};
+use generated_cells::{LEGACY_SPANS, VEX_SPANS};
+use generated_names::{ADDED_NAMES, NAMES};
+pub use generated_spots::{ROWS, VERSION1_ROWS};
+use generated_spots::{ADDED_ROWS, SPOTS};
 use row_lists::{Span, span_in};
 use row_types::{Map, Row, RowKind};
-pub use spots::{ROWS, VERSION1_ROWS};
-use spots::{ADDED_ROWS, Part, SPOTS, Spot};
+use spot::{Part, Spot};
 use std::sync::ledger::Ledger;
 use step_count::Steps;
 use x86_values::Code;

@@ -7,7 +7,7 @@ use Rattle.x86_values.specs.declared.Operand.{Operand}
 use Rattle.x86_values.specs.declared.Operand.TheVariants.{Absent, Reg, Mem as Memory, Imm, Near, Far}
 use Rattle.x86_values.specs.declared.Instr.{Instr}
 use Rattle.row_types.specs.declared.Row.{Row}
-use Rattle.opcode_rows.specs.declared.spots.TheConstants.{ROWS}
+use Rattle.opcode_rows.specs.declared.generated_spots.TheConstants.{ROWS}
 use Rattle.opcode_rows.specs.Table.{table}
 use Rattle.opcode_rows.specs.Allowed.{is_formed_by, is_well_formed}
 use Rattle.opcode_rows.proofs.JoinFacts.{length-table}

@@ -4,7 +4,7 @@ ghost use Rattle.std.specs.Prelude.{◌≡◌, ◌<◌, slice_get, Some};
 ghost use Rattle.operand_info.specs.Lines.{columns};
 ghost use Rattle.operand_info.specs.ByCode as spec;
 
-use crate::table::COLUMNS;
+use crate::generated_columns::COLUMNS;
 use opcode_rows::ROWS;
 use x86_values::Code;
 
@@ -24,7 +24,7 @@ pub enum Flow {
     /// To a procedure that the instruction or the system names, and later to the next instruction: CALL to an offset or a far pointer, SYSCALL,
     /// SYSENTER.
     Call,
-    /// The same with a target in a register or in memory: the other CALLs.
+    /// To a procedure whose address stands in a register or in memory, and later to the next instruction: the other CALLs.
     IndirectCall,
     /// To the handler of an interrupt: INT, INT1, INT3, INTO.
     Interrupt,

@@ -5,7 +5,7 @@ ghost use Rattle.x86_values.specs.declared.Instr.{Instr};
 ghost use Rattle.row_types.specs.declared.Row.{Row};
 ghost use Rattle.instruction_parts.specs.Kinds.{method_of};
 ghost use Rattle.row_fit.specs.Fits.{kind_at};
-ghost use Rattle.opcode_rows.specs.declared.spots.TheConstants.{ROWS};
+ghost use Rattle.opcode_rows.specs.declared.generated_spots.TheConstants.{ROWS};
 ghost use Rattle.opcode_rows.specs.Table.{table};
 ghost use Rattle.opcode_rows.specs.Allowed.{is_well_formed};
 ghost use Rattle.operand_info.specs.declared.columns.Access.TheVariants.{Read};

@@ -3,9 +3,9 @@
 #![tactic(auto)]
 
 mod columns;
+mod generated_columns;
 pub mod laws;
 mod registers;
-mod table;
 mod targets;
 
 pub use columns::{Access, Flow, access_of, flow_of, memory_size};

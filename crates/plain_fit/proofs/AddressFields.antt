@@ -15,7 +15,7 @@ use Rattle.instruction_parts.specs.Counting.{is_16}
 use Rattle.instruction_parts.specs.Sizes.{bit_b, bit_x}
 use Rattle.instruction_parts.proofs.Tests.{and_left, and_right, not_true, equal_from}
 use Rattle.row_fit.specs.Fits.{is_displacement_alone, displacement_bytes, full_displacement, needs_sib, sib_in_range, index_number}
-use Rattle.row_meaning.specs.Meaning.{general, disp_size_of, base_16, index_16, memory_16, memory_alone, scale_of, sib_base, sib_index, memory_with_sib, memory_wide, memory_of, displacement, instruction_pointer, target_of}
+use Rattle.row_meaning.specs.Meaning.{general_register, disp_size_of, base_16, index_16, memory_16, ip_or_absolute, scale_of, sib_base, sib_index, memory_with_sib, memory_wide, memory_of, displacement, instruction_pointer, target_of}
 use Rattle.plain_spelling.specs.Forms.{is_scale}
 use Rattle.plain_spelling.specs.PlainFront.{register_number, number_or_zero}
 use Rattle.plain_spelling.specs.declared.addresses.AddressFields.{AddressFields}
@@ -39,7 +39,7 @@ pub record Mean (bits asize : Bits) (f : PrefixState) (m : Mem) (reg next : ℕ)
 -- ---- at RIP and EIP
 
 pub relative_means : (size : Bits) (f : PrefixState) (m : Mem) (reg next : ℕ) (d : List ℕ) → is_16 size ≡ false → Some (instruction_pointer size) ≡ m.base → None ≡ m.index → 1 ≡ m.scale → target_of size next d ≡ m.disp → displacement_count m.disp_size ≡ 4 → Mean B64 size f m reg next d (fields 0 5 None)
-unfolding memory_of memory_wide memory_alone needs_sib displacement_bytes is_displacement_alone sib_in_range disp_size_of
+unfolding memory_of memory_wide ip_or_absolute needs_sib displacement_bytes is_displacement_alone sib_in_range disp_size_of
 relative_means B16 f m reg next d short b i s t c = cc
 relative_means B32 f m reg next d short b i s t c =
     record { back = same_address _ _ _ _ _ _ _ _ _ _ b i s t (size_from_count m.disp_size 4 c); sib = refl; count = sym c; mode3 = omega arith; rm = omega arith; sib_range = refl }
@@ -49,7 +49,7 @@ relative_means B64 f m reg next d short b i s t c =
 -- ---- a displacement alone
 
 pub alone_means : (bits asize : Bits) (f : PrefixState) (scale disp : ℕ) (size : DispSize) (reg next : ℕ) (d : List ℕ) → 1 ≡ scale → displacement asize d ≡ disp → length d ≡ displacement_count size → displacement_count size ≡ full_displacement asize → bit_x f ≡ false → Mean bits asize f (address None None scale disp size) reg next d (alone_fields bits asize (address None None scale disp size))
-unfolding alone_fields memory_of memory_16 memory_wide memory_alone memory_with_sib sib_base sib_index index_number plain_sib index_bits base_bits needs_sib displacement_bytes is_displacement_alone sib_in_range disp_size_of
+unfolding alone_fields memory_of memory_16 memory_wide ip_or_absolute memory_with_sib sib_base sib_index index_number plain_sib index_bits base_bits needs_sib displacement_bytes is_displacement_alone sib_in_range disp_size_of
 alone_means bits B16 f scale disp size reg next d s t l c x =
     record { back = same_address _ _ _ _ _ _ _ _ _ _ refl refl s t (size_from_count size 2 c); sib = refl; count = sym c; mode3 = omega arith; rm = omega arith; sib_range = refl }
 alone_means B16 B32 f scale disp size reg next d s t l c x =
@@ -193,7 +193,7 @@ base_back bits asize f (Some r) index scale size reg wide h o b =
     let a = address_register bits asize r h in
     let few : register_number r < 16 = (let lt = a.number in let le = count_small bits in omega arith) in
     sib_base-some bits asize f _ _ (wide_offer asize r size reg 0 0 wide o).alone
-    ∙ ap (λ (x : ℕ). Some (general asize x)) (extended_number (bit_b bits f) (register_number r) few b) ∙ ap (λ (x : Register). Some x) a.is
+    ∙ ap (λ (x : ℕ). Some (general_register asize x)) (extended_number (bit_b bits f) (register_number r) few b) ∙ ap (λ (x : Register). Some x) a.is
 
 pub index_back : (bits asize : Bits) (f : PrefixState) (base index : Option Register) (scale : ℕ) → is_index bits asize index ≡ true → bit_x f ≡ nat_le 8 (number_or_zero index) → sib_index asize f (sib_for base index scale) ≡ index
 unfolding is_index index_bits
@@ -204,7 +204,7 @@ index_back bits asize f base (Some r) scale h x =
     let few : register_number r < 16 = (let lt = a.number in let le = count_small bits in omega arith) in
     let e = extended_number (bit_x f) (register_number r) few x in
     sib_index-some asize f (sib_for base (Some r) scale) (ap (λ (n : ℕ). n == 4) e ∙ other)
-    ∙ ap (λ (n : ℕ). Some (general asize n)) e ∙ ap (λ (x : Register). Some x) a.is
+    ∙ ap (λ (n : ℕ). Some (general_register asize n)) e ∙ ap (λ (x : Register). Some x) a.is
 
 scale_by : (n : ℕ) (a b c d : Bool) → (n == 1) ≡ a → (n == 2) ≡ b → (n == 4) ≡ c → (n == 8) ≡ d → (((a || b) || c) || d) ≡ true → 2 ^ scale_field n ≡ n
 unfolding scale_field
@@ -318,7 +318,7 @@ register_back bits asize f r scale disp size reg next d g =
     let a = address_register bits asize r g.base_is in
     let few : register_number r < 16 = (let lt = a.number in let le = count_small bits in omega arith) in
     wide-register bits asize f _ next d (wide_offer asize r size reg 0 0 g.wide g.offer).alone
-    ∙ same_address _ _ _ _ _ _ _ _ _ _ (ap (λ (x : ℕ). Some (general asize x)) (extended_number (bit_b bits f) (register_number r) few g.b) ∙ ap (λ (x : Register). Some x) a.is)
+    ∙ same_address _ _ _ _ _ _ _ _ _ _ (ap (λ (x : ℕ). Some (general_register asize x)) (extended_number (bit_b bits f) (register_number r) few g.b) ∙ ap (λ (x : Register). Some x) a.is)
     refl (sym (equal_from scale 1 g.scale_is)) g.value (size_from_count size (length d) (sym g.len))
 
 pub register_means : (bits asize : Bits) (f : PrefixState) (r : Register) (scale disp : ℕ) (size : DispSize) (reg next : ℕ) (d : List ℕ) → FlatGiven bits asize f (Some r) None scale disp size d → (register_number r % 8 == 4) ≡ false → Mean bits asize f (address (Some r) None scale disp size) reg next d (fields (mode_of_count (displacement_count size)) (register_number r % 8) None)

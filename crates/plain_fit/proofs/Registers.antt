@@ -38,7 +38,7 @@ use Rattle.instruction_parts.specs.declared.spelling.Sib.{Sib}
 use Rattle.instruction_parts.specs.Kinds.{method_of, file_of}
 use Rattle.instruction_parts.specs.Counting.{is_16}
 use Rattle.instruction_parts.specs.Sizes.{is_vex_row, bit_r, bit_b, state_address_size}
-use Rattle.row_fit.specs.Fits.{kind_at, reads_by, is_gather, is_map_one, is_repeat_f3, is_no_repeat, has_modrm, extended, reg_field, rm_field, reg_number, rm_number, index_number, vvvv_number, needs_sib, register_fits, destination_fits, gather_fits, nop_fits, is_nop_byte, is_control_number, registers_fit, is_vvvv}
+use Rattle.row_fit.specs.Fits.{kind_at, reads_by, is_gather, is_map_one, is_repeat_f3, is_no_repeat, has_modrm, with_high_bit, reg_field, rm_field, reg_number, rm_number, index_number, vvvv_number, needs_sib, register_fits, destination_fits, gather_fits, nop_fits, is_nop_byte, is_control_number, registers_fit, is_vvvv}
 use Rattle.row_fit.specs.Sound.{reads_reg, reads_rm, reads_opcode}
 use Rattle.row_meaning.specs.Meaning.{vector, register_of}
 use Rattle.instruction_parts.proofs.Tests.{either, and_left, and_right, not_true, or_right, equal_from}
@@ -63,7 +63,7 @@ use Rattle.plain_fit.proofs.Places.{or_true, all-from, reads-at, rule_of_reg, mo
 -- ---- numbers in the fields
 
 -- a number below 16 is its low three bits with the bit that adds 8
-pub extended_back : (x : ℕ) → x < 16 → extended (nat_le 8 x) (x % 8) ≡ x
+pub extended_back : (x : ℕ) → x < 16 → with_high_bit (nat_le 8 x) (x % 8) ≡ x
 extended_back x h = elim (either (nat_le 8 x)) [
   | inl large ↦ (let k = leb-true 8 x large in rw large (omega arith))
   | inr small ↦ (let k : x < 8 = grind (arith, small) in rw small (omega arith))
@@ -83,8 +83,8 @@ reg_of_any bits row i e = rw (modrm_any bits row i e) refl
 reg_number_asked : (bits : Bits) (ip : ℕ) (row : Row) (i : Instr) → Given bits ip row i → row.modrm ≡ AnyModRm → reg_number (plain_front_of bits row i) (plain_modrm bits row i) ≡ asked number_in_reg row i
 unfolding reg_number asks_r
 reg_number_asked bits ip row i g e =
-    ap (λ (b : Bool). extended b (reg_field (plain_modrm bits row i))) (says bits ip row i g).r
-    ∙ ap (λ (n : ℕ). extended (nat_le 8 (asked number_in_reg row i)) n) (reg_of_any bits row i e)
+    ap (λ (b : Bool). with_high_bit b (reg_field (plain_modrm bits row i))) (says bits ip row i g).r
+    ∙ ap (λ (n : ℕ). with_high_bit (nat_le 8 (asked number_in_reg row i)) n) (reg_of_any bits row i e)
     ∙ extended_back (asked number_in_reg row i) (below_16 bits (asked number_in_reg row i) (numbers_suit bits ip row i g).reg)
 
 -- **the number in ModRM.reg is that of the operand that is read from it**
@@ -100,10 +100,10 @@ rm_number-at bits ip row i n r g below reads e =
     let k = register_in_rm bits row i n r g.is_sound g.is_writable.rule g.four below reads e in
     let number : asked number_in_rm row i ≡ register_number r = asked_rm-at row i n g.is_sound g.four below (reads_b_of_rm (method_of (kind_at row n)) reads) ∙ ap base_or_register_number e in
     let small : register_number r < 16 = subst (λ (x : ℕ). x < 16) number (below_16 bits (asked number_in_rm row i) (numbers_suit bits ip row i g).rm) in
-    ap (λ (b : Bool). extended b (rm_field (plain_modrm bits row i))) (says bits ip row i g).b
-    ∙ ap (λ (m : Option ModRm). extended (nat_le 8 (asked number_in_rm row i)) (rm_field m)) k.is_plain
-    ∙ ap (λ (x : ℕ). extended (nat_le 8 (asked number_in_rm row i)) x) k.rm
-    ∙ ap (λ (x : ℕ). extended (nat_le 8 x) (register_number r % 8)) number
+    ap (λ (b : Bool). with_high_bit b (rm_field (plain_modrm bits row i))) (says bits ip row i g).b
+    ∙ ap (λ (m : Option ModRm). with_high_bit (nat_le 8 (asked number_in_rm row i)) (rm_field m)) k.is_plain
+    ∙ ap (λ (x : ℕ). with_high_bit (nat_le 8 (asked number_in_rm row i)) x) k.rm
+    ∙ ap (λ (x : ℕ). with_high_bit (nat_le 8 x) (register_number r % 8)) number
     ∙ extended_back (register_number r) small
 
 -- ---- the register of a kind
@@ -507,8 +507,8 @@ needs_four asize m a b c = and_from (not (is_16 asize)) _ a (and_from (nat_lt m.
 index_asked : (bits : Bits) (ip : ℕ) (row : Row) (i : Instr) (sib : Sib) → Given bits ip row i → sib.index ≡ asked number_in_index row i % 8 → index_number (plain_front_of bits row i) (Some sib) ≡ asked number_in_index row i
 unfolding index_number asks_x
 index_asked bits ip row i sib g e =
-    ap (λ (b : Bool). extended b sib.index) (says bits ip row i g).x
-    ∙ ap (λ (n : ℕ). extended (nat_le 8 (asked number_in_index row i)) n) e
+    ap (λ (b : Bool). with_high_bit b sib.index) (says bits ip row i g).x
+    ∙ ap (λ (n : ℕ). with_high_bit (nat_le 8 (asked number_in_index row i)) n) e
     ∙ extended_back (asked number_in_index row i) (below_16 bits (asked number_in_index row i) (numbers_suit bits ip row i g).index)
 
 gather_reads : (how : Method) → is_gather how ≡ true → reads_rm how ≡ true

@@ -20,7 +20,7 @@ use Rattle.instruction_parts.specs.declared.spelling.PrefixState.{PrefixState}
 use Rattle.instruction_parts.specs.Kinds.{method_of, file_of}
 use Rattle.instruction_parts.specs.Counting.{is_64}
 use Rattle.instruction_parts.specs.Sizes.{is_vex_row, is_lockable, bit_b}
-use Rattle.row_fit.specs.Fits.{kind_at, reads_by, has_modrm, extended, reg_number, rm_number, vvvv_number, is_memory_method, lock_fits, immediate_bytes, is_vvvv}
+use Rattle.row_fit.specs.Fits.{kind_at, reads_by, has_modrm, with_high_bit, reg_number, rm_number, vvvv_number, is_memory_method, lock_fits, immediate_bytes, is_vvvv}
 use Rattle.row_fit.specs.Sound.{Sound, reads_reg, reads_rm, reads_opcode, reads_last_byte, kind_is_proper, vex_is_proper, legacy_is_proper, is_no_w, is_no_l, opcode_is_proper, opcodes_of}
 use Rattle.row_meaning.specs.Meaning.{Tail, register_of, operand_by, last_byte_number, has_memory}
 use Rattle.instruction_parts.proofs.Tests.{either, and_left, and_right, not_true}
@@ -171,7 +171,7 @@ vex_of_vvvv row s h = elim (either (is_vex_row row)) [
     if_false false a b n h = h
 
 -- the register that the opcode byte names
-opcode_number : (bits : Bits) (ip : ℕ) (row : Row) (i : Instr) (n : ℕ) (r : Register) → Given bits ip row i → n < 4 → reads_opcode (method_of (kind_at row n)) ≡ true → operand_at i n ≡ Reg r → extended (bit_b bits (plain_front_of bits row i)) ((plain_front_of bits row i).opcode % 8) ≡ register_number r
+opcode_number : (bits : Bits) (ip : ℕ) (row : Row) (i : Instr) (n : ℕ) (r : Register) → Given bits ip row i → n < 4 → reads_opcode (method_of (kind_at row n)) ≡ true → operand_at i n ≡ Reg r → with_high_bit (bit_b bits (plain_front_of bits row i)) ((plain_front_of bits row i).opcode % 8) ≡ register_number r
 unfolding asks_b
 opcode_number bits ip row i n r g below reads e =
     let s = g.is_sound in
@@ -182,8 +182,8 @@ opcode_number bits ip row i n r g below reads e =
     let small = below_16 bits (register_number r) (nameable-at bits row i n r g.suits.registers below e).number in
     let byte : (plain_front_of bits row i).opcode ≡ row.opcode + asked number_in_opcode row i % 8 = opcode_of_front bits row i ∙ opcode_added row i adds in
     let low : (plain_front_of bits row i).opcode % 8 ≡ register_number r % 8 = ap (λ (x : ℕ). x % 8) byte ∙ low_of row.opcode (asked number_in_opcode row i) multiple ∙ ap (λ (x : ℕ). x % 8) opcode in
-    ap (λ (b : Bool). extended b ((plain_front_of bits row i).opcode % 8)) ((says bits ip row i g).b ∙ ap (λ (x : ℕ). nat_le 8 x) rm)
-    ∙ ap (λ (x : ℕ). extended (nat_le 8 (register_number r)) x) low ∙ extended_back (register_number r) small
+    ap (λ (b : Bool). with_high_bit b ((plain_front_of bits row i).opcode % 8)) ((says bits ip row i g).b ∙ ap (λ (x : ℕ). nat_le 8 x) rm)
+    ∙ ap (λ (x : ℕ). with_high_bit (nat_le 8 (register_number r)) x) low ∙ extended_back (register_number r) small
   where
     low_of : (base x : ℕ) → base % 8 ≡ 0 → (base + x % 8) % 8 ≡ x % 8
     low_of base x h = omega arith
@@ -209,7 +209,7 @@ record ReadBack (bits : Bits) (row : Row) (i : Instr) (n : ℕ) (r : Register) (
   reg : reads_reg how ≡ true → reg_number (plain_front_of bits row i) t.modrm ≡ register_number r
   rm : reads_rm how ≡ true → rm_number bits (plain_front_of bits row i) t.modrm ≡ register_number r
   mode : reads_rm how ≡ true → has_modrm (λ m. nat_lt m.mode3 3) t.modrm ≡ false
-  opcode : reads_opcode how ≡ true → extended (bit_b bits (plain_front_of bits row i)) ((plain_front_of bits row i).opcode % 8) ≡ register_number r
+  opcode : reads_opcode how ≡ true → with_high_bit (bit_b bits (plain_front_of bits row i)) ((plain_front_of bits row i).opcode % 8) ≡ register_number r
   vvvv : is_vvvv how ≡ true → vvvv_number bits (plain_front_of bits row i) ≡ register_number r
   last : how ≡ method.LastByte → last_byte_number bits imm ≡ register_number r
 

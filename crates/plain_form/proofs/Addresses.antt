@@ -19,8 +19,8 @@ use Rattle.instruction_parts.specs.declared.spelling.PrefixState.{PrefixState}
 use Rattle.instruction_parts.specs.Counting.{is_16, is_64}
 use Rattle.instruction_parts.specs.Sizes.{bit_b, bit_x}
 use Rattle.instruction_parts.proofs.Tests.{either, and_left, and_right, equal_from}
-use Rattle.row_fit.specs.Fits.{extended, is_displacement_alone, displacement_bytes, needs_sib, index_number}
-use Rattle.row_meaning.specs.Meaning.{general, vector, register_of, displacement, disp_size_of, index_16, memory_16, memory_alone, memory_with_sib, memory_wide, memory_of, sib_index}
+use Rattle.row_fit.specs.Fits.{with_high_bit, is_displacement_alone, displacement_bytes, needs_sib, index_number}
+use Rattle.row_meaning.specs.Meaning.{general_register, vector, register_of, displacement, disp_size_of, index_16, memory_16, ip_or_absolute, memory_with_sib, memory_wide, memory_of, sib_index}
 use Rattle.plain_spelling.specs.PlainFront.{register_number}
 use Rattle.plain_spelling.specs.declared.addresses.AddressFields.{AddressFields}
 use Rattle.plain_spelling.specs.Addresses.{form_of, displacement_count, mode_of_count, scale_field, base_bits, index_bits, plain_sib, wide_needs_sib, wide_fields, alone_fields, address_fields, or_zero, rm_of_short}
@@ -87,16 +87,16 @@ fields_index : (bits asize : Bits) (r : Register) (scale disp : ℕ) (size : Dis
 unfolding address_fields form_of wide_fields wide_needs_sib plain_sib index_bits base_bits
 fields_index bits asize r scale disp size = refl
 
-fields_both : (bits asize : Bits) (k : ℕ) (r : Register) (scale disp : ℕ) (size : DispSize) → is_16 asize ≡ false → address_fields bits asize (address (Some (general asize k)) (Some r) scale disp size)
+fields_both : (bits asize : Bits) (k : ℕ) (r : Register) (scale disp : ℕ) (size : DispSize) → is_16 asize ≡ false → address_fields bits asize (address (Some (general_register asize k)) (Some r) scale disp size)
     ≡ fields (mode_of_count (displacement_count size)) 4 (Some (sib_with (scale_field scale) (register_number r % 8) (k % 8)))
-unfolding general address_fields form_of wide_fields wide_needs_sib plain_sib index_bits base_bits register_number
+unfolding general_register address_fields form_of wide_fields wide_needs_sib plain_sib index_bits base_bits register_number
 fields_both bits B16 k r scale disp size w = impossible w
 fields_both bits B32 k r scale disp size w = refl
 fields_both bits B64 k r scale disp size w = refl
 
-fields_base : (bits asize : Bits) (k : ℕ) (scale disp : ℕ) (size : DispSize) → is_16 asize ≡ false → address_fields bits asize (address (Some (general asize k)) None scale disp size)
+fields_base : (bits asize : Bits) (k : ℕ) (scale disp : ℕ) (size : DispSize) → is_16 asize ≡ false → address_fields bits asize (address (Some (general_register asize k)) None scale disp size)
     ≡ fields (mode_of_count (displacement_count size)) (if k % 8 == 4 then 4 else k % 8) (if k % 8 == 4 then Some (sib_with 0 4 (k % 8)) else None)
-unfolding general address_fields form_of wide_fields wide_needs_sib plain_sib index_bits base_bits register_number
+unfolding general_register address_fields form_of wide_fields wide_needs_sib plain_sib index_bits base_bits register_number
 fields_base bits B16 k scale disp size w = impossible w
 fields_base bits B32 k scale disp size w = refl
 fields_base bits B64 k scale disp size w = refl
@@ -134,8 +134,8 @@ plain_16 bits st m d g = elim (either (is_displacement_alone B16 m None)) [
 
 -- ---- without a SIB
 
-pointer_fields : (bits asize : Bits) (next : ℕ) (d : List ℕ) → is_16 asize ≡ false → address_fields bits asize (memory_alone bits asize next d) ≡ fields 0 5 None
-unfolding memory_alone address_fields form_of alone_fields
+pointer_fields : (bits asize : Bits) (next : ℕ) (d : List ℕ) → is_16 asize ≡ false → address_fields bits asize (ip_or_absolute bits asize next d) ≡ fields 0 5 None
+unfolding ip_or_absolute address_fields form_of alone_fields
 pointer_fields bits B16 next d w = impossible w
 pointer_fields B16 B32 next d w = refl
 pointer_fields B32 B32 next d w = refl
@@ -163,7 +163,7 @@ plain_without bits asize st m next d w g = elim (either (m.mode3 == 0 && m.rm ==
   | inl alone ↦
       ap (λ (x : Mem). address_fields bits asize x) (wide-alone bits asize st m next d alone) ∙ pointer_fields bits asize next d w
       ∙ same_fields 0 m.mode3 5 m.rm None None (sym (equal_from m.mode3 0 (and_left (m.mode3 == 0) (m.rm == 5) alone))) (sym (equal_from m.rm 5 (and_right (m.mode3 == 0) (m.rm == 5) alone))) refl
-  | inr beside ↦ (let k = extended (bit_b bits st) m.rm in
+  | inr beside ↦ (let k = with_high_bit (bit_b bits st) m.rm in
       let low : k % 8 ≡ m.rm = extended_low (bit_b bits st) m.rm g.rm in
       let four : (k % 8 == 4) ≡ false = ap (λ (x : ℕ). x == 4) low ∙ rm_not_four asize m w g.mode3 g.sib_is in
       ap (λ (x : Mem). address_fields bits asize x) (wide-register bits asize st m next d beside) ∙ fields_base bits asize k 1 _ (disp_size_of (length d)) w
@@ -182,7 +182,7 @@ scale_back (suc (suc (suc (suc n)))) h = absurd (omega arith)
 
 -- the index names a register
 abbrev pub names_index : PrefixState → Sib → Bool
-names_index st s = not (extended (bit_x st) s.index == 4)
+names_index st s = not (with_high_bit (bit_x st) s.index == 4)
 
 -- the SIB is needed, where it names an index by this test
 abbrev pub sib_needed : Bits → ModRm → Sib → Bool → Bool
@@ -207,11 +207,11 @@ with_index : (bits asize : Bits) (m : ModRm) (s : Sib) (index : Bool) (mem : Mem
 with_index bits asize m s index mem h e = record { forth = λ a b. e; back = λ k. both_there bits m s index h }
 
 sum_is : (bits asize : Bits) (st : PrefixState) (m : ModRm) (s : Sib) (d : List ℕ) (r : Register) (j disp : ℕ) → is_16 asize ≡ false → Reading bits asize st m (Some s) d → (m.mode3 == 0 && s.base == 5) ≡ false → register_number r % 8 ≡ s.index
-    → address_fields bits asize (address (Some (general asize (extended (bit_b bits st) s.base))) (Some r) (2 ^ s.scale) disp (disp_size_of (length d))) ≡ fields m.mode3 m.rm (Some s)
+    → address_fields bits asize (address (Some (general_register asize (with_high_bit (bit_b bits st) s.base))) (Some r) (2 ^ s.scale) disp (disp_size_of (length d))) ≡ fields m.mode3 m.rm (Some s)
 sum_is bits asize st m s d r j disp w g beside index =
     let small = sib_small s g.sib_range in
     let four = rm_is_four asize m (sym g.sib_is) in
-    fields_both bits asize (extended (bit_b bits st) s.base) r (2 ^ s.scale) disp (disp_size_of (length d)) w
+    fields_both bits asize (with_high_bit (bit_b bits st) s.base) r (2 ^ s.scale) disp (disp_size_of (length d)) w
     ∙ same_fields _ m.mode3 4 m.rm _ (Some s) (mode_back bits asize st m (Some s) d g (alone_sib asize m s w four ∙ beside)) (sym four)
     (ap (λ (x : Sib). Some x) (same_sib _ s.scale _ s.index _ s.base (scale_back s.scale small.scale) index (extended_low (bit_b bits st) s.base small.base)))
 
@@ -229,7 +229,7 @@ or_left : (a b : Bool) → a ≡ false → (a || b) ≡ true → b ≡ true
 or_left true b h k = impossible h
 or_left false b h k = k
 
-index_four : (b : Bool) (n : ℕ) → extended b n ≡ 4 → n ≡ 4
+index_four : (b : Bool) (n : ℕ) → with_high_bit b n ≡ 4 → n ≡ 4
 index_four true n h = absurd (omega arith)
 index_four false n h = omega arith
 
@@ -248,7 +248,7 @@ back_neither bits m s true alone h e =
     or_true true = refl
     or_true false = refl
 
-neither_is : (bits asize : Bits) (st : PrefixState) (m : ModRm) (s : Sib) (d : List ℕ) (scale disp : ℕ) (size : DispSize) → is_16 asize ≡ false → Reading bits asize st m (Some s) d → (m.mode3 == 0 && s.base == 5) ≡ true → extended (bit_x st) s.index ≡ 4
+neither_is : (bits asize : Bits) (st : PrefixState) (m : ModRm) (s : Sib) (d : List ℕ) (scale disp : ℕ) (size : DispSize) → is_16 asize ≡ false → Reading bits asize st m (Some s) d → (m.mode3 == 0 && s.base == 5) ≡ true → with_high_bit (bit_x st) s.index ≡ 4
     → SibIs bits asize m s false (address None None scale disp size)
 neither_is bits asize st m s d scale disp size w g alone none =
     let four = rm_is_four asize m (sym g.sib_is) in
@@ -271,12 +271,12 @@ back_base bits m s true k e h =
     let scale : 0 ≡ s.scale = ap (λ (x : Sib). x.scale) z in
     (rw e refl, subst (λ (n : ℕ). (n == 0) ≡ true) scale refl)
 
-base_is : (bits asize : Bits) (st : PrefixState) (m : ModRm) (s : Sib) (d : List ℕ) (scale disp : ℕ) → is_16 asize ≡ false → Reading bits asize st m (Some s) d → (m.mode3 == 0 && s.base == 5) ≡ false → extended (bit_x st) s.index ≡ 4
-    → SibIs bits asize m s false (address (Some (general asize (extended (bit_b bits st) s.base))) None scale disp (disp_size_of (length d)))
+base_is : (bits asize : Bits) (st : PrefixState) (m : ModRm) (s : Sib) (d : List ℕ) (scale disp : ℕ) → is_16 asize ≡ false → Reading bits asize st m (Some s) d → (m.mode3 == 0 && s.base == 5) ≡ false → with_high_bit (bit_x st) s.index ≡ 4
+    → SibIs bits asize m s false (address (Some (general_register asize (with_high_bit (bit_b bits st) s.base))) None scale disp (disp_size_of (length d)))
 base_is bits asize st m s d scale disp w g beside none =
     let small = sib_small s g.sib_range in
     let four = rm_is_four asize m (sym g.sib_is) in
-    let k = extended (bit_b bits st) s.base in
+    let k = with_high_bit (bit_b bits st) s.base in
     let low : k % 8 ≡ s.base = extended_low (bit_b bits st) s.base small.base in
     let f = fields_base bits asize k scale disp (disp_size_of (length d)) w in
     let same : (k % 8 == 4) ≡ (s.base == 4) = ap (λ (n : ℕ). n == 4) low in
@@ -303,13 +303,13 @@ eq_test n k h = subst (λ (x : ℕ). (n == x) ≡ true) h (same n)
     same : (n : ℕ) → (n == n) ≡ true
     same n = eq-eqb n n refl
 
-index_low : (asize : Bits) (b : Bool) (n : ℕ) → n < 8 → register_number (general asize (extended b n)) % 8 ≡ n
-index_low asize b n h = ap (λ (x : ℕ). x % 8) (number_of_general asize (extended b n)) ∙ extended_low b n h
+index_low : (asize : Bits) (b : Bool) (n : ℕ) → n < 8 → register_number (general_register asize (with_high_bit b n)) % 8 ≡ n
+index_low asize b n h = ap (λ (x : ℕ). x % 8) (number_of_general asize (with_high_bit b n)) ∙ extended_low b n h
 
 pub sib_is : (bits asize : Bits) (st : PrefixState) (m : ModRm) (s : Sib) (d : List ℕ) → is_16 asize ≡ false → Reading bits asize st m (Some s) d → SibIs bits asize m s (names_index st s) (memory_with_sib bits asize st (sib_index asize st s) m s d)
 sib_is bits asize st m s d w g =
     let small = sib_small s g.sib_range in
-    let j = extended (bit_x st) s.index in
+    let j = with_high_bit (bit_x st) s.index in
     elim (either (m.mode3 == 0 && s.base == 5)) [
       | inl alone ↦
           (let base = sib_base-none bits asize st m s alone in
@@ -319,20 +319,20 @@ sib_is bits asize st m s d w g =
                 (same_sib_is bits asize m s false _ _ (with_parts bits asize st (sib_index asize st s) None None m s d base (sib_index-none asize st s (equal_from j 4 none)))
                 (neither_is bits asize st m s d 1 _ _ w g alone (equal_from j 4 none)))
             | inr other ↦
-                same_sib_is bits asize m s (names_index st s) _ _ (with_parts bits asize st (sib_index asize st s) None (Some (general asize j)) m s d base (sib_index-some asize st s other))
-                (with_index bits asize m s (names_index st s) _ (not_from_false (j == 4) other) (index_is bits asize st m s d (general asize j) _ _ w g alone (index_low asize (bit_x st) s.index small.index)))
+                same_sib_is bits asize m s (names_index st s) _ _ (with_parts bits asize st (sib_index asize st s) None (Some (general_register asize j)) m s d base (sib_index-some asize st s other))
+                (with_index bits asize m s (names_index st s) _ (not_from_false (j == 4) other) (index_is bits asize st m s d (general_register asize j) _ _ w g alone (index_low asize (bit_x st) s.index small.index)))
           ])
       | inr beside ↦
           (let base = sib_base-some bits asize st m s beside in
-          let k = extended (bit_b bits st) s.base in
+          let k = with_high_bit (bit_b bits st) s.base in
           elim (either (j == 4)) [
             | inl none ↦
                 subst (λ (b : Bool). SibIs bits asize m s b (memory_with_sib bits asize st (sib_index asize st s) m s d)) (sym (not_from_true (j == 4) none))
-                (same_sib_is bits asize m s false _ _ (with_parts bits asize st (sib_index asize st s) (Some (general asize k)) None m s d base (sib_index-none asize st s (equal_from j 4 none)))
+                (same_sib_is bits asize m s false _ _ (with_parts bits asize st (sib_index asize st s) (Some (general_register asize k)) None m s d base (sib_index-none asize st s (equal_from j 4 none)))
                 (base_is bits asize st m s d 1 _ w g beside (equal_from j 4 none)))
             | inr other ↦
-                same_sib_is bits asize m s (names_index st s) _ _ (with_parts bits asize st (sib_index asize st s) (Some (general asize k)) (Some (general asize j)) m s d base (sib_index-some asize st s other))
-                (with_index bits asize m s (names_index st s) _ (not_from_false (j == 4) other) (sum_is bits asize st m s d (general asize j) 0 _ w g beside (index_low asize (bit_x st) s.index small.index)))
+                same_sib_is bits asize m s (names_index st s) _ _ (with_parts bits asize st (sib_index asize st s) (Some (general_register asize k)) (Some (general_register asize j)) m s d base (sib_index-some asize st s other))
+                (with_index bits asize m s (names_index st s) _ (not_from_false (j == 4) other) (sum_is bits asize st m s d (general_register asize j) 0 _ w g beside (index_low asize (bit_x st) s.index small.index)))
           ])
     ]
 
@@ -356,7 +356,7 @@ pub gather_is : (bits asize : Bits) (row : Row) (st : PrefixState) (file : File)
 unfolding index_number
 gather_is bits asize row st file m s d w v g =
     let small = sib_small s g.sib_range in
-    let j = extended (bit_x st) s.index in
+    let j = with_high_bit (bit_x st) s.index in
     let r = register_of bits row st file j in
     let index : register_number r % 8 ≡ s.index = ap (λ (x : ℕ). x % 8) (file_number bits row st file j v) ∙ extended_low (bit_x st) s.index small.index in
     elim (either (m.mode3 == 0 && s.base == 5)) [
@@ -364,7 +364,7 @@ gather_is bits asize row st file m s d w v g =
           ap (λ (x : Mem). address_fields bits asize x) (with_parts bits asize st (Some r) None (Some r) m s d (sib_base-none bits asize st m s alone) refl)
           ∙ index_is bits asize st m s d r _ _ w g alone index
       | inr beside ↦
-          ap (λ (x : Mem). address_fields bits asize x) (with_parts bits asize st (Some r) (Some (general asize (extended (bit_b bits st) s.base))) (Some r) m s d (sib_base-some bits asize st m s beside) refl)
+          ap (λ (x : Mem). address_fields bits asize x) (with_parts bits asize st (Some r) (Some (general_register asize (with_high_bit (bit_b bits st) s.base))) (Some r) m s d (sib_base-some bits asize st m s beside) refl)
           ∙ sum_is bits asize st m s d r 0 _ w g beside index
     ]
 

@@ -45,7 +45,7 @@ use Rattle.plain_spelling.proofs.Asked.{asked_vvvv-at, asked_vvvv-none, four_kin
 use Rattle.plain_fit.proofs.Numbers.{kind_that_passes}
 use Rattle.plain_need.proofs.Given.{Given}
 use Rattle.plain_need.proofs.Asks.{differ}
-use Rattle.plain_need.proofs.Numbers.{number-general, number-vector}
+use Rattle.plain_need.proofs.Numbers.{number-general_register, number-vector}
 use Rattle.plain_need.proofs.States.{StateIs, state_is, state_vex, state_rex, state_opcode}
 use Rattle.plain_need.proofs.Front.{needs_rex_w, needs_rex, vex_proper, vex_says_w}
 use Rattle.plain_need.proofs.Used.{read_is, bits_of}
@@ -298,7 +298,7 @@ pp_by Nf3 v h = impossible (sym h)
 -- the register of a kind in vvvv has the number that names it
 vvvv_kept : (bits : Bits) (row : Row) (st : PrefixState) (kind : OpKind) (n : ℕ) → method_of kind ≡ method.Vvvv → register_number (register_of bits row st (file_of kind) n) ≡ n
 unfolding method_of file_of register_of register_number
-vvvv_kept bits row st By n h = number-general _ n
+vvvv_kept bits row st By n h = number-general_register _ n
 vvvv_kept bits row st Hx n h = number-vector row.l n
 vvvv_kept bits row st Ho n h = refl
 vvvv_kept bits row st kind n h = impossible cc

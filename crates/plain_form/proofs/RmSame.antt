@@ -25,7 +25,7 @@ use Rattle.instruction_parts.specs.Kinds.{method_of, file_of}
 use Rattle.instruction_parts.specs.Sizes.{bit_b, state_size}
 use Rattle.instruction_parts.specs.Bytes.{state_of}
 use Rattle.instruction_parts.proofs.Tests.{either, and_left, and_right, equal_from}
-use Rattle.row_fit.specs.Fits.{reads_by, reads_mode, is_any_mode, has_modrm, extended, rm_number, needs_sib, same_bool, address_fits, lengths_fit, displacement_bytes, place_allows, place_of, place_fits, opcode_and_modrm_fit, opcode_fits, modrm_rule_fits, modrm_in_range, kind_at}
+use Rattle.row_fit.specs.Fits.{reads_by, reads_mode, is_any_mode, has_modrm, with_high_bit, rm_number, needs_sib, same_bool, address_fits, lengths_fit, displacement_bytes, place_allows, place_of, place_fits, opcode_and_modrm_fit, opcode_fits, modrm_rule_fits, modrm_in_range, kind_at}
 use Rattle.row_fit.specs.Sound.{reads_rm}
 use Rattle.row_fit.proofs.FitLaws.{modrm_range}
 use Rattle.row_meaning.specs.Meaning.{Tail, tail_of, operand_by, own_immediate, memory_operand, register_of, gather_memory, with_modrm}
@@ -39,7 +39,7 @@ use Rattle.plain_fit.proofs.Numbers.{kind_that_passes}
 use Rattle.plain_fit.proofs.Registers.{variant-at}
 use Rattle.plain_need.proofs.Given.{Given}
 use Rattle.plain_need.proofs.Walking.{all_kinds}
-use Rattle.plain_need.proofs.Numbers.{number-general, number-vector, number-byte}
+use Rattle.plain_need.proofs.Numbers.{number-general_register, number-vector, number-byte}
 use Rattle.plain_need.proofs.Used.{read_is}
 use Rattle.plain_need.proofs.Variants.{read_at, reads_at, kinds_suit}
 use Rattle.plain_need.proofs.ReadShapes.{extended_low}
@@ -70,10 +70,10 @@ no_segment _ h = refl
 pub low_kept : (bits : Bits) (row : Row) (st : PrefixState) (f : File) (n : ℕ) → is_segment_file f ≡ false → register_number (register_of bits row st f n) % 8 ≡ n % 8
 unfolding register_of register_number
 low_kept bits row st file.Byte n h = ap (λ (x : ℕ). x % 8) (number-byte st.rex n)
-low_kept bits row st file.OperandSize n h = ap (λ (x : ℕ). x % 8) (number-general _ n)
-low_kept bits row st file.WordOrDword n h = ap (λ (x : ℕ). x % 8) (number-general _ n)
-low_kept bits row st file.ByW n h = ap (λ (x : ℕ). x % 8) (number-general _ n)
-low_kept bits row st file.Native n h = ap (λ (x : ℕ). x % 8) (number-general _ n)
+low_kept bits row st file.OperandSize n h = ap (λ (x : ℕ). x % 8) (number-general_register _ n)
+low_kept bits row st file.WordOrDword n h = ap (λ (x : ℕ). x % 8) (number-general_register _ n)
+low_kept bits row st file.ByW n h = ap (λ (x : ℕ). x % 8) (number-general_register _ n)
+low_kept bits row st file.Native n h = ap (λ (x : ℕ). x % 8) (number-general_register _ n)
 low_kept bits row st file.Vector n h = ap (λ (x : ℕ). x % 8) (number-vector row.l n)
 low_kept bits row st file.Stack n h = omega arith
 low_kept bits row st file.Mmx n h = omega arith
@@ -87,7 +87,7 @@ RegIs m how _ = Unit {0}
 
 rm_low : (bits : Bits) (row : Row) (st : PrefixState) (kind : OpKind) (m : ModRm) → reads_rm (method_of kind) ≡ true → m.rm < 8 → register_number (register_of bits row st (file_of kind) (rm_number bits st (Some m))) % 8 ≡ m.rm
 unfolding rm_number
-rm_low bits row st kind m h small = low_kept bits row st (file_of kind) (extended (bit_b bits st) m.rm) (no_segment kind h) ∙ extended_low (bit_b bits st) m.rm small
+rm_low bits row st kind m h small = low_kept bits row st (file_of kind) (with_high_bit (bit_b bits st) m.rm) (no_segment kind h) ∙ extended_low (bit_b bits st) m.rm small
 
 not_below : (n : ℕ) → nat_lt n 3 ≡ false → n < 4 → n ≡ 3
 not_below zero h k = impossible h

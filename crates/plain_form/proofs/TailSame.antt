@@ -26,7 +26,7 @@ use Rattle.instruction_parts.specs.Kinds.{method_of, file_of}
 use Rattle.instruction_parts.specs.Sizes.{bit_r, state_size}
 use Rattle.instruction_parts.specs.Bytes.{state_of, modrm_byte}
 use Rattle.instruction_parts.proofs.Tests.{either, and_left, and_right, equal_from}
-use Rattle.row_fit.specs.Fits.{reads_by, extended, reg_number, address_fits, is_fixed_byte, modrm_rule_fits, register_fits, registers_fit, kind_at}
+use Rattle.row_fit.specs.Fits.{reads_by, with_high_bit, reg_number, address_fits, is_fixed_byte, modrm_rule_fits, register_fits, registers_fit, kind_at}
 use Rattle.row_fit.specs.Sound.{reads_reg, reads_rm}
 use Rattle.row_meaning.specs.Meaning.{Tail, tail_of, operand_by, own_immediate, register_of, segment_numbered}
 use Rattle.plain_spelling.specs.Forms.{is_variant_of, is_register, operand_at}
@@ -78,11 +78,11 @@ reg_file Fs h k = impossible (sym h)
 reg_file Gs h k = impossible (sym h)
 reg_file _ h k = refl
 
-segment_low : (bits : Bits) (row : Row) (st : PrefixState) (b : Bool) (reg : ℕ) → reg < 6 → register_number (register_of bits row st (file_of Sw) (extended b reg)) % 8 ≡ reg
+segment_low : (bits : Bits) (row : Row) (st : PrefixState) (b : Bool) (reg : ℕ) → reg < 6 → register_number (register_of bits row st (file_of Sw) (with_high_bit b reg)) % 8 ≡ reg
 unfolding file_of register_of register_number
 segment_low bits row st b reg small =
-    let low : extended b reg % 8 ≡ reg = extended_low b reg (omega arith) in
-    let kept : segment_number (segment_numbered (extended b reg % 8)) ≡ reg = ap (λ (x : ℕ). segment_number (segment_numbered x)) low ∙ segment_kept reg small in
+    let low : with_high_bit b reg % 8 ≡ reg = extended_low b reg (omega arith) in
+    let kept : segment_number (segment_numbered (with_high_bit b reg % 8)) ≡ reg = ap (λ (x : ℕ). segment_number (segment_numbered x)) low ∙ segment_kept reg small in
     ap (λ (x : ℕ). x % 8) kept ∙ below
   where
     below : reg % 8 ≡ reg
@@ -91,7 +91,7 @@ segment_low bits row st b reg small =
 reg_low : (bits : Bits) (row : Row) (st : PrefixState) (kind : OpKind) (m : ModRm) → reads_reg (method_of kind) ≡ true → m.reg < 8 → register_fits bits st (Some m) kind ≡ true → register_number (register_of bits row st (file_of kind) (reg_number st (Some m))) % 8 ≡ m.reg
 unfolding reg_number register_fits
 reg_low bits row st Sw m h small f = segment_low bits row st (bit_r st) m.reg (ltb-true m.reg 6 f)
-reg_low bits row st kind m h small f = low_kept bits row st (file_of kind) (extended (bit_r st) m.reg) (reg_file kind h refl) ∙ extended_low (bit_r st) m.reg small
+reg_low bits row st kind m h small f = low_kept bits row st (file_of kind) (with_high_bit (bit_r st) m.reg) (reg_file kind h refl) ∙ extended_low (bit_r st) m.reg small
 
 reg_operand : (bits : Bits) (row : Row) (st : PrefixState) (t : Tail) (kind : OpKind) (how : Method) (imm : List ℕ) (m : ModRm) → method_of kind ≡ how → t.modrm ≡ Some m → reads_reg how ≡ true → m.reg < 8 → register_fits bits st (Some m) kind ≡ true → operand_number (operand_by bits row st t kind how imm) % 8 ≡ m.reg
 unfolding operand_by

@@ -17,7 +17,7 @@ use Rattle.instruction_parts.specs.Kinds.{file_of}
 use Rattle.instruction_parts.specs.Sizes.{size_bytes, state_address_size}
 use Rattle.instruction_parts.proofs.Tests.{either}
 use Rattle.row_fit.specs.Fits.{are_bytes, has_modrm, rm_number, is_displacement_alone, displacement_bytes, is_memory_method}
-use Rattle.row_meaning.specs.Meaning.{tail, operand_by, register_of, displacement, memory_16, memory_alone, memory_with_sib, memory_wide, memory_of, memory_absolute, memory_operand, gather_memory, with_modrm, target_of}
+use Rattle.row_meaning.specs.Meaning.{tail, operand_by, register_of, displacement, memory_16, ip_or_absolute, memory_with_sib, memory_wide, memory_of, memory_absolute, memory_operand, gather_memory, with_modrm, target_of}
 use Rattle.plain_spelling.specs.Forms.{is_memory}
 use Rattle.plain_spelling.proofs.AddressCases.{impossible, wide-alone, wide-register}
 use Rattle.plain_spelling.proofs.Asked.{reads_address}
@@ -67,8 +67,8 @@ disp_16 : (m : ModRm) (d : List ℕ) → (memory_16 m d).disp ≡ displacement B
 unfolding memory_16
 disp_16 m d = if_disp (is_displacement_alone B16 m None) _ _ (displacement B16 d) refl refl
 
-alone_same : (bits asize : Bits) (next : ℕ) (a b : List ℕ) → Pair asize a b → (memory_alone bits asize next a).disp ≡ (memory_alone bits asize next b).disp → a ≡ b
-unfolding memory_alone
+alone_same : (bits asize : Bits) (next : ℕ) (a b : List ℕ) → Pair asize a b → (ip_or_absolute bits asize next a).disp ≡ (ip_or_absolute bits asize next b).disp → a ≡ b
+unfolding ip_or_absolute
 alone_same B16 asize next a b p e = by_value asize a b p e
 alone_same B32 asize next a b p e = by_value asize a b p e
 alone_same B64 asize next a b p e = by_target asize next a b p e

@@ -16,14 +16,14 @@ use Rattle.instruction_parts.specs.declared.spelling.PrefixState.{PrefixState}
 use Rattle.instruction_parts.specs.Counting.{is_64, rex_bit}
 use Rattle.instruction_parts.specs.Sizes.{is_vex_row, has_caret, has_bang, operand_size, state_size, bit_w, rex_w}
 use Rattle.row_fit.specs.Fits.{size_fits}
-use Rattle.row_meaning.specs.Meaning.{general, byte_register, vector, word_or_dword, size_by_w, native_size, segment_numbered, register_of}
+use Rattle.row_meaning.specs.Meaning.{general_register, byte_register, vector, word_or_dword, size_by_w, native_size, segment_numbered, register_of}
 use Rattle.plain_spelling.specs.PlainFront.{register_number, asks_rex_w, asks_vex_w, asks_66, asked_rex, asked_vex, plain_front_of}
 use Rattle.plain_spelling.specs.PlainTail.{plain_size}
 use Rattle.plain_spelling.specs.Writable.{Writable, plain_w, says_size, says_w, file_is_told}
 use Rattle.plain_spelling.proofs.PlainFrontLaws.{plain_rex_w, plain_state_size}
 use Rattle.plain_spelling.proofs.Sizes.{plain_size_fits, size-told, word_or_dword-told}
 use Rattle.instruction_parts.proofs.Tests.{either, not_true}
-use Rattle.plain_need.proofs.Numbers.{number-general, number-vector, number-byte}
+use Rattle.plain_need.proofs.Numbers.{number-general_register, number-vector, number-byte}
 use Rattle.plain_need.proofs.States.{StateIs}
 use Rattle.plain_need.proofs.Front.{size_by}
 
@@ -138,11 +138,11 @@ pub same_file : (bits : Bits) (row : Row) (st : PrefixState) (i : Instr) (f : Fi
 unfolding register_of file_is_told
 same_file bits row st i file.Byte n x w told h = front_byte bits row i n ∙ h refl
 same_file bits row st i file.OperandSize n x w told h =
-    ap (λ (b : Bits). general b n) (plain_state_size bits row i ∙ sym (size-told bits row st x.size w.size told))
+    ap (λ (b : Bits). general_register b n) (plain_state_size bits row i ∙ sym (size-told bits row st x.size w.size told))
 same_file bits row st i file.WordOrDword n x w told h =
-    ap (λ (b : Bits). general b n) (ap word_or_dword (plain_state_size bits row i) ∙ sym (word_or_dword-told bits row st x.size w.size told))
+    ap (λ (b : Bits). general_register b n) (ap word_or_dword (plain_state_size bits row i) ∙ sym (word_or_dword-told bits row st x.size w.size told))
 same_file bits row st i file.ByW n x w told h =
-    ap (λ (b : Bool). general (size_by_w b) n) (plain_bit_w bits row i ∙ sym (w-told bits row st x w told))
+    ap (λ (b : Bool). general_register (size_by_w b) n) (plain_bit_w bits row i ∙ sym (w-told bits row st x w told))
 same_file bits row st i _ n x w told h = refl
 
 segment_back : (n : ℕ) → n < 8 → segment_numbered (segment_number (segment_numbered n) % 8) ≡ segment_numbered n
@@ -164,10 +164,10 @@ low_back n = omega arith
 pub number_back : (bits : Bits) (row : Row) (st p : PrefixState) (f : File) (n : ℕ) → register_of bits row p f (register_number (register_of bits row st f n)) ≡ register_of bits row p f n
 unfolding register_of register_number
 number_back bits row st p file.Byte n = ap (byte_register p.rex) (number-byte st.rex n)
-number_back bits row st p file.OperandSize n = ap (general (state_size bits row p)) (number-general (state_size bits row st) n)
-number_back bits row st p file.WordOrDword n = ap (general (word_or_dword (state_size bits row p))) (number-general (word_or_dword (state_size bits row st)) n)
-number_back bits row st p file.ByW n = ap (general (size_by_w (bit_w bits p))) (number-general (size_by_w (bit_w bits st)) n)
-number_back bits row st p file.Native n = ap (general (native_size bits)) (number-general (native_size bits) n)
+number_back bits row st p file.OperandSize n = ap (general_register (state_size bits row p)) (number-general_register (state_size bits row st) n)
+number_back bits row st p file.WordOrDword n = ap (general_register (word_or_dword (state_size bits row p))) (number-general_register (word_or_dword (state_size bits row st)) n)
+number_back bits row st p file.ByW n = ap (general_register (size_by_w (bit_w bits p))) (number-general_register (size_by_w (bit_w bits st)) n)
+number_back bits row st p file.Native n = ap (general_register (native_size bits)) (number-general_register (native_size bits) n)
 number_back bits row st p file.Segment n = ap Seg (segment_back (n % 8) (omega arith))
 number_back bits row st p file.Stack n = ap St (low_back n)
 number_back bits row st p file.Mmx n = ap Mm (low_back n)

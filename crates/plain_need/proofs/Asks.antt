@@ -27,7 +27,7 @@ use Rattle.instruction_parts.specs.Kinds.{method_of, file_of}
 use Rattle.instruction_parts.specs.Sizes.{is_vex_row, state_size, bit_r, bit_x, bit_b, bit_w}
 use Rattle.row_fit.specs.Fits.{kind_at, has_modrm, reads_by, is_offset, is_vvvv}
 use Rattle.row_fit.specs.Sound.{Sound, has_four_operands, plus_is_proper, operands_are_proper, operands_are_apart, at_most_one, reads_reg, reads_rm, reads_opcode, reads_last_byte, has_modrm_rule}
-use Rattle.row_meaning.specs.Meaning.{general, byte_register, vector, word_or_dword, size_by_w, native_size, register_of, memory_absolute, near_target, far_pointer, with_modrm, memory_operand, gather_memory, Tail, operand_by, operand_at, instr_of}
+use Rattle.row_meaning.specs.Meaning.{general_register, byte_register, vector, word_or_dword, size_by_w, native_size, register_of, memory_absolute, near_target, far_pointer, with_modrm, memory_operand, gather_memory, Tail, operand_by, operand_at, instr_of}
 use Rattle.plain_spelling.specs.PlainFront.{number_in_reg, number_in_rm, number_in_index, number_in_vvvv, number_in_opcode, asks_r, asks_x, asks_b, asks_low_byte, is_low_byte_of_rex}
 use Rattle.instruction_parts.proofs.Tests.{either, and_left, and_right, not_true, equal_from}
 use Rattle.plain_need.proofs.Walking.{Hold, hold_four, readers, Asks, asked_sole, low_byte_reason}
@@ -196,8 +196,8 @@ unfolding byte_register
 low_byte (Some rex) n h = refl
 low_byte None n h = let e = if_low n (nat_lt n 4) refl in cc
 
-general_high : (size : Bits) (n : ℕ) → is_low_byte_of_rex (Reg (general size n)) ≡ false
-unfolding is_low_byte_of_rex general
+general_high : (size : Bits) (n : ℕ) → is_low_byte_of_rex (Reg (general_register size n)) ≡ false
+unfolding is_low_byte_of_rex general_register
 general_high B16 n = refl
 general_high B32 n = refl
 general_high B64 n = refl

@@ -24,8 +24,8 @@ use Rattle.instruction_parts.specs.declared.spelling.PrefixState.{PrefixState}
 use Rattle.instruction_parts.specs.Kinds.{method_of, file_of, fixed_number}
 use Rattle.instruction_parts.specs.Counting.{is_64}
 use Rattle.instruction_parts.specs.Sizes.{is_vex_row, state_size, bit_r, bit_b, bit_w}
-use Rattle.row_fit.specs.Fits.{extended, kind_at, vvvv_number, is_vex_of_mode, vex_in_range, are_bytes}
-use Rattle.row_meaning.specs.Meaning.{general, byte_register, vector, word_or_dword, size_by_w, native_size, register_of, last_byte_number}
+use Rattle.row_fit.specs.Fits.{with_high_bit, kind_at, vvvv_number, is_vex_of_mode, vex_in_range, are_bytes}
+use Rattle.row_meaning.specs.Meaning.{general_register, byte_register, vector, word_or_dword, size_by_w, native_size, register_of, last_byte_number}
 use Rattle.plain_spelling.specs.Forms.{operand_at}
 use Rattle.x86_values.specs.Comparing.{same_register}
 use Rattle.plain_spelling.specs.PlainFront.{register_number, number_in_reg, number_in_rm, asked, asks_r, asks_x, asks_b, asks_rex_w, asks_low_byte, is_low_byte_of_rex, asked_rex, plain_front_of}
@@ -44,7 +44,7 @@ use Rattle.plain_need.proofs.Agreeing.{same_file, number_back}
 
 -- ---- numbers of the mode
 
-pub extended_count : (bits : Bits) (b : Bool) (n : ℕ) → n < 8 → (is_64 bits ≡ false → b ≡ false) → extended b n < register_count bits
+pub extended_count : (bits : Bits) (b : Bool) (n : ℕ) → n < 8 → (is_64 bits ≡ false → b ≡ false) → with_high_bit b n < register_count bits
 unfolding register_count
 extended_count B64 true n h k = omega arith
 extended_count B64 false n h k = omega arith
@@ -141,8 +141,8 @@ exists_byte B16 (Some rex) n h = let e = h refl in cc
 exists_byte B32 (Some rex) n h = let e = h refl in cc
 exists_byte bits None n h = byte_in_mode bits n (nat_lt n 4) refl
 
-exists_general : (bits size : Bits) (n : ℕ) → exists_in_mode bits (general size n) ≡ true
-unfolding exists_in_mode general
+exists_general : (bits size : Bits) (n : ℕ) → exists_in_mode bits (general_register size n) ≡ true
+unfolding exists_in_mode general_register
 exists_general bits B16 n = refl
 exists_general bits B32 n = refl
 exists_general bits B64 n = refl

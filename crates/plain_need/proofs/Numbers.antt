@@ -23,18 +23,18 @@ use Rattle.instruction_parts.specs.declared.spelling.Sib.{Sib}
 use Rattle.instruction_parts.specs.declared.spelling.PrefixState.{PrefixState}
 use Rattle.instruction_parts.specs.Kinds.{file_of}
 use Rattle.instruction_parts.specs.Sizes.{state_size, state_address_size, bit_r, bit_x, bit_b, bit_w}
-use Rattle.row_fit.specs.Fits.{extended, has_modrm, reg_field, rm_field, reg_number, rm_number, index_number, is_displacement_alone, modrm_in_range, sib_in_range}
-use Rattle.row_meaning.specs.Meaning.{general, byte_register, vector, word_or_dword, size_by_w, native_size, segment_numbered, register_of, base_16, index_16, memory_16, memory_alone, sib_base, sib_index, memory_with_sib, memory_at_base, memory_wide, memory_of, memory_absolute, with_modrm, memory_operand, gather_memory, near_target, far_pointer, Tail, operand_by}
+use Rattle.row_fit.specs.Fits.{with_high_bit, has_modrm, reg_field, rm_field, reg_number, rm_number, index_number, is_displacement_alone, modrm_in_range, sib_in_range}
+use Rattle.row_meaning.specs.Meaning.{general_register, byte_register, vector, word_or_dword, size_by_w, native_size, segment_numbered, register_of, base_16, index_16, memory_16, ip_or_absolute, sib_base, sib_index, memory_with_sib, memory_at_base, memory_wide, memory_of, memory_absolute, with_modrm, memory_operand, gather_memory, near_target, far_pointer, Tail, operand_by}
 use Rattle.plain_spelling.specs.PlainFront.{register_number, number_or_zero, base_or_register_number, operand_index_number, number_in_reg, number_in_rm, number_in_index}
 use Rattle.instruction_parts.proofs.Tests.{and_left, and_right}
 
 -- ---- registers
 
-pub number-general : (size : Bits) (n : ℕ) → register_number (general size n) ≡ n
-unfolding register_number general
-number-general B16 n = refl
-number-general B32 n = refl
-number-general B64 n = refl
+pub number-general_register : (size : Bits) (n : ℕ) → register_number (general_register size n) ≡ n
+unfolding register_number general_register
+number-general_register B16 n = refl
+number-general_register B32 n = refl
+number-general_register B64 n = refl
 
 pub number-vector : (l : LBit) (n : ℕ) → register_number (vector l n) ≡ n
 unfolding register_number vector
@@ -73,10 +73,10 @@ number-le bits row st file.Byte n = let e = number-byte st.rex n in omega arith
 number-le bits row st file.Word n = omega arith
 number-le bits row st file.Dword n = omega arith
 number-le bits row st file.Qword n = omega arith
-number-le bits row st file.OperandSize n = let e = number-general (state_size bits row st) n in omega arith
-number-le bits row st file.WordOrDword n = let e = number-general (word_or_dword (state_size bits row st)) n in omega arith
-number-le bits row st file.ByW n = let e = number-general (size_by_w (bit_w bits st)) n in omega arith
-number-le bits row st file.Native n = let e = number-general (native_size bits) n in omega arith
+number-le bits row st file.OperandSize n = let e = number-general_register (state_size bits row st) n in omega arith
+number-le bits row st file.WordOrDword n = let e = number-general_register (word_or_dword (state_size bits row st)) n in omega arith
+number-le bits row st file.ByW n = let e = number-general_register (size_by_w (bit_w bits st)) n in omega arith
+number-le bits row st file.Native n = let e = number-general_register (native_size bits) n in omega arith
 number-le bits row st file.Segment n = let e = segment_numbered-below (n % 8) (omega arith) in omega arith
 number-le bits row st file.Control n = omega arith
 number-le bits row st file.Debug n = omega arith
@@ -98,18 +98,18 @@ pub needs_le : (b : Bool) (n m : ℕ) → n ≤ m → m < 8 + 8 * (if b then 1 e
 needs_le true n m h k = λ e. refl
 needs_le false n m h k = needs_small false n (omega arith)
 
-pub extended_needs : (b : Bool) (n : ℕ) → n < 8 → extended b n < 8 + 8 * (if b then 1 else 0)
+pub extended_needs : (b : Bool) (n : ℕ) → n < 8 → with_high_bit b n < 8 + 8 * (if b then 1 else 0)
 extended_needs true n h = omega arith
 extended_needs false n h = omega arith
 
 -- a register with an extended number needs the bit
-pub register_needs : (bits : Bits) (row : Row) (st : PrefixState) (f : File) (b : Bool) (n : ℕ) → n < 8 → Needs b (register_number (register_of bits row st f (extended b n)))
+pub register_needs : (bits : Bits) (row : Row) (st : PrefixState) (f : File) (b : Bool) (n : ℕ) → n < 8 → Needs b (register_number (register_of bits row st f (with_high_bit b n)))
 register_needs bits row st f b n h =
-    needs_le b _ (extended b n) (number-le bits row st f (extended b n)) (extended_needs b n h)
+    needs_le b _ (with_high_bit b n) (number-le bits row st f (with_high_bit b n)) (extended_needs b n h)
 
-pub general_needs : (size : Bits) (b : Bool) (n : ℕ) → n < 8 → Needs b (register_number (general size (extended b n)))
+pub general_needs : (size : Bits) (b : Bool) (n : ℕ) → n < 8 → Needs b (register_number (general_register size (with_high_bit b n)))
 general_needs size b n h =
-    needs_le b _ (extended b n) (let e = number-general size (extended b n) in omega arith) (extended_needs b n h)
+    needs_le b _ (with_high_bit b n) (let e = number-general_register size (with_high_bit b n) in omega arith) (extended_needs b n h)
 
 -- ---- fields
 
@@ -179,15 +179,15 @@ sib_base-needs bits asize st m s h =
 sib_index-needs : (asize : Bits) (st : PrefixState) (s : Sib) → s.index < 8 → Needs (bit_x st) (number_or_zero (sib_index asize st s))
 unfolding sib_index index_number
 sib_index-needs asize st s h =
-    if_holds (λ (r : Option Register). Needs (bit_x st) (number_or_zero r)) (extended (bit_x st) s.index == 4) _ _
+    if_holds (λ (r : Option Register). Needs (bit_x st) (number_or_zero r)) (with_high_bit (bit_x st) s.index == 4) _ _
     (no_number (bit_x st)) (general_needs asize (bit_x st) s.index h)
 
 with_sib-needs : (bits asize : Bits) (st : PrefixState) (index : Option Register) (m : ModRm) (s : Sib) (disp : List ℕ) → s.base < 8 → Needs (bit_x st) (number_or_zero index) → AddressNeeds (bit_b bits st) (bit_x st) (memory_with_sib bits asize st index m s disp)
 unfolding memory_with_sib
 with_sib-needs bits asize st index m s disp h k = record { base = sib_base-needs bits asize st m s h; index = k }
 
-alone-needs : (b x : Bool) (bits asize : Bits) (next : ℕ) (disp : List ℕ) → AddressNeeds b x (memory_alone bits asize next disp)
-unfolding memory_alone register_number
+alone-needs : (b x : Bool) (bits asize : Bits) (next : ℕ) (disp : List ℕ) → AddressNeeds b x (ip_or_absolute bits asize next disp)
+unfolding ip_or_absolute register_number
 alone-needs b x B16 asize next disp = record { base = no_number b; index = no_number x }
 alone-needs b x B32 asize next disp = record { base = no_number b; index = no_number x }
 alone-needs b x B64 B16 next disp = record { base = no_number b; index = no_number x }
@@ -239,7 +239,7 @@ gather-needs bits row st f (Some m) (Some s) disp r =
     (gather_index bits row st f s (sib_index_small s r)) in
     record { base = a.base; index = a.index }
 
-register-needs : (bits : Bits) (row : Row) (st : PrefixState) (x : Bool) (f : File) (b : Bool) (n : ℕ) → n < 8 → OperandNeeds b x (Reg (register_of bits row st f (extended b n)))
+register-needs : (bits : Bits) (row : Row) (st : PrefixState) (x : Bool) (f : File) (b : Bool) (n : ℕ) → n < 8 → OperandNeeds b x (Reg (register_of bits row st f (with_high_bit b n)))
 register-needs bits row st x f b n h = record { base = register_needs bits row st f b n h; index = no_number x }
 
 -- what stands behind the opcode byte has fields in their ranges

@@ -15,8 +15,8 @@ use Rattle.instruction_parts.specs.declared.spelling.PrefixState.{PrefixState}
 use Rattle.instruction_parts.specs.Counting.{is_16}
 use Rattle.instruction_parts.specs.Sizes.{bit_b, bit_x, size_bytes}
 use Rattle.instruction_parts.proofs.Tests.{either}
-use Rattle.row_fit.specs.Fits.{are_bytes, extended, index_number}
-use Rattle.row_meaning.specs.Meaning.{general, vector, register_of, disp_size_of, memory_absolute, memory_with_sib, displacement}
+use Rattle.row_fit.specs.Fits.{are_bytes, with_high_bit, index_number}
+use Rattle.row_meaning.specs.Meaning.{general_register, vector, register_of, disp_size_of, memory_absolute, memory_with_sib, displacement}
 use Rattle.plain_spelling.specs.Forms.{is_scale}
 use Rattle.plain_spelling.specs.PlainFront.{register_number}
 use Rattle.plain_spelling.specs.Addresses.{form_of, general_size, pointer_size, register_count, is_address_register, is_wide_size, index_named, is_vector_index, is_gather_base, is_gather_shape, shown_size, displacement_count, wide_offers, is_displacement}
@@ -76,9 +76,9 @@ gather_none bits asize row file r scale d n plain index scaled g = record {
   count = g.count;
 }
 
-gather_some : (bits asize : Bits) (row : Row) (file : File) (k : ℕ) (r : Register) (scale : ℕ) (d : List ℕ) (n : ℕ) → is_16 asize ≡ false → nat_lt k (register_count bits) ≡ true → is_vector_index bits row file (Some r) ≡ true → is_scale scale ≡ true → Numbers bits asize (Some (general asize k)) d n
-    → IsGatherRead bits asize row file (address (Some (general asize k)) (Some r) scale (displacement asize d) (disp_size_of n)) n
-unfolding general is_gather_shape is_gather_base is_wide_size is_address_register register_number form_of is_displacement size_agrees told_size shown_size general_size pointer_size
+gather_some : (bits asize : Bits) (row : Row) (file : File) (k : ℕ) (r : Register) (scale : ℕ) (d : List ℕ) (n : ℕ) → is_16 asize ≡ false → nat_lt k (register_count bits) ≡ true → is_vector_index bits row file (Some r) ≡ true → is_scale scale ≡ true → Numbers bits asize (Some (general_register asize k)) d n
+    → IsGatherRead bits asize row file (address (Some (general_register asize k)) (Some r) scale (displacement asize d) (disp_size_of n)) n
+unfolding general_register is_gather_shape is_gather_base is_wide_size is_address_register register_number form_of is_displacement size_agrees told_size shown_size general_size pointer_size
 gather_some bits B16 row file k r scale d n wide small index scaled g = impossible wide
 gather_some bits B32 row file k r scale d n wide small index scaled g = record {
   shape = rw (g.has, small, index, scaled) refl;
@@ -106,7 +106,7 @@ pub gather_read : (bits asize : Bits) (row : Row) (st : PrefixState) (file : Fil
 unfolding index_number
 gather_read bits asize row st file m s d wide v g =
     let small = sib_small s g.sib_range in
-    let j = extended (bit_x st) s.index in
+    let j = with_high_bit (bit_x st) s.index in
     let r = index_named row file j in
     let given = ap (λ (x : Register). Some x) (read_vector bits row st file j v) in
     let index = vector_index bits row file j v (extended_count bits (bit_x st) s.index small.index g.x) in
@@ -117,8 +117,8 @@ gather_read bits asize row st file m s d wide v g =
           same_gather bits asize row file _ _ (length d) (with_parts bits asize st _ None (Some r) m s d (sib_base-none bits asize st m s alone) given)
           (gather_none bits asize row file r (2 ^ s.scale) d (length d) (named_vector row file j v).1 index scaled (no_base bits asize st m s d g f alone))
       | inr beside ↦
-          same_gather bits asize row file _ _ (length d) (with_parts bits asize st _ (Some (general asize (extended (bit_b bits st) s.base))) (Some r) m s d (sib_base-some bits asize st m s beside) given)
-          (gather_some bits asize row file (extended (bit_b bits st) s.base) r (2 ^ s.scale) d (length d) wide (extended_count bits (bit_b bits st) s.base small.base (bit_b-outside bits st)) index scaled
+          same_gather bits asize row file _ _ (length d) (with_parts bits asize st _ (Some (general_register asize (with_high_bit (bit_b bits st) s.base))) (Some r) m s d (sib_base-some bits asize st m s beside) given)
+          (gather_some bits asize row file (with_high_bit (bit_b bits st) s.base) r (2 ^ s.scale) d (length d) wide (extended_count bits (bit_b bits st) s.base small.base (bit_b-outside bits st)) index scaled
           (base_numbers bits asize st m (Some s) d s.base small.base g f beside))
     ]
 

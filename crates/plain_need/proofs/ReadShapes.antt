@@ -16,8 +16,8 @@ use Rattle.instruction_parts.specs.declared.spelling.PrefixState.{PrefixState}
 use Rattle.instruction_parts.specs.Counting.{is_16, is_64}
 use Rattle.instruction_parts.specs.Sizes.{bit_b, bit_x}
 use Rattle.instruction_parts.proofs.Tests.{either, and_left, and_right, equal_from}
-use Rattle.row_fit.specs.Fits.{are_bytes, extended, is_displacement_alone, displacement_bytes, needs_sib, sib_in_range}
-use Rattle.row_meaning.specs.Meaning.{general, disp_size_of, base_16, index_16, memory_16, memory_alone, scale_of, sib_base, sib_index, memory_with_sib, memory_wide, memory_of, displacement, target_of}
+use Rattle.row_fit.specs.Fits.{are_bytes, with_high_bit, is_displacement_alone, displacement_bytes, needs_sib, sib_in_range}
+use Rattle.row_meaning.specs.Meaning.{general_register, disp_size_of, base_16, index_16, memory_16, ip_or_absolute, scale_of, sib_base, sib_index, memory_with_sib, memory_wide, memory_of, displacement, target_of}
 use Rattle.plain_spelling.specs.Values.{is_extended_of}
 use Rattle.plain_spelling.specs.Forms.{is_scale}
 use Rattle.plain_spelling.specs.PlainFront.{register_number}
@@ -99,7 +99,7 @@ short_bytes (suc (suc (suc mode3))) reg rm sib h a = absurd (omega arith)
 -- a general register by a number that may be absent
 abbrev reg : Bits → Option ℕ → Option Register
 reg asize None = None
-reg asize (Some k) = Some (general asize k)
+reg asize (Some k) = Some (general_register asize k)
 
 abbrev IsIndexNumber : Bits → Option ℕ → ℕ → Type 0
 IsIndexNumber bits None scale = Unit {0}
@@ -114,20 +114,20 @@ pub record Numbers (bits asize : Bits) (base : Option Register) (d : List ℕ) (
   pub len : length d ≡ n
   pub bytes : are_bytes d ≡ true
 
-base_read : (bits asize : Bits) (k : ℕ) (d : List ℕ) (n : ℕ) → is_16 asize ≡ false → nat_lt k (register_count bits) ≡ true → Numbers bits asize (Some (general asize k)) d n → IsRead bits asize (address (Some (general asize k)) None 1 (displacement asize d) (disp_size_of n)) n
-unfolding general is_shape form_of is_wide_shape is_wide_size is_base is_index scale_suits is_address_register register_number form_offers is_displacement size_agrees told_size shown_size general_size pointer_size
+base_read : (bits asize : Bits) (k : ℕ) (d : List ℕ) (n : ℕ) → is_16 asize ≡ false → nat_lt k (register_count bits) ≡ true → Numbers bits asize (Some (general_register asize k)) d n → IsRead bits asize (address (Some (general_register asize k)) None 1 (displacement asize d) (disp_size_of n)) n
+unfolding general_register is_shape form_of is_wide_shape is_wide_size is_base is_index scale_suits is_address_register register_number form_offers is_displacement size_agrees told_size shown_size general_size pointer_size
 base_read bits B16 k d n wide hk g = impossible wide
 base_read bits B32 k d n wide hk g = record { shape = rw (g.has, hk) refl; offer = g.offer; value = rw g.count (value_of B32 d n g.len g.few g.bytes); size = refl; shown = refl; count = g.count }
 base_read bits B64 k d n wide hk g = record { shape = rw (g.has, hk) refl; offer = g.offer; value = rw g.count (value_of B64 d n g.len g.few g.bytes); size = refl; shown = refl; count = g.count }
 
-index_read : (bits asize : Bits) (j scale : ℕ) (d : List ℕ) (n : ℕ) → is_16 asize ≡ false → IsIndexNumber bits (Some j) scale → Numbers bits asize None d n → IsRead bits asize (address None (Some (general asize j)) scale (displacement asize d) (disp_size_of n)) n
-unfolding general is_shape form_of is_wide_shape is_wide_size is_base is_index scale_suits is_address_register register_number form_offers is_displacement size_agrees told_size shown_size general_size pointer_size
+index_read : (bits asize : Bits) (j scale : ℕ) (d : List ℕ) (n : ℕ) → is_16 asize ≡ false → IsIndexNumber bits (Some j) scale → Numbers bits asize None d n → IsRead bits asize (address None (Some (general_register asize j)) scale (displacement asize d) (disp_size_of n)) n
+unfolding general_register is_shape form_of is_wide_shape is_wide_size is_base is_index scale_suits is_address_register register_number form_offers is_displacement size_agrees told_size shown_size general_size pointer_size
 index_read bits B16 j scale d n wide hj g = impossible wide
 index_read bits B32 j scale d n wide hj g = record { shape = rw (g.has, hj.0, hj.1, hj.2) refl; offer = g.offer; value = rw g.count (value_of B32 d n g.len g.few g.bytes); size = refl; shown = refl; count = g.count }
 index_read bits B64 j scale d n wide hj g = record { shape = rw (g.has, hj.0, hj.1, hj.2) refl; offer = g.offer; value = rw g.count (value_of B64 d n g.len g.few g.bytes); size = refl; shown = refl; count = g.count }
 
-sum_read : (bits asize : Bits) (k j scale : ℕ) (d : List ℕ) (n : ℕ) → is_16 asize ≡ false → nat_lt k (register_count bits) ≡ true → IsIndexNumber bits (Some j) scale → Numbers bits asize (Some (general asize k)) d n → IsRead bits asize (address (Some (general asize k)) (Some (general asize j)) scale (displacement asize d) (disp_size_of n)) n
-unfolding general is_shape form_of is_wide_shape is_wide_size is_base is_index scale_suits is_address_register register_number form_offers is_displacement size_agrees told_size shown_size general_size pointer_size
+sum_read : (bits asize : Bits) (k j scale : ℕ) (d : List ℕ) (n : ℕ) → is_16 asize ≡ false → nat_lt k (register_count bits) ≡ true → IsIndexNumber bits (Some j) scale → Numbers bits asize (Some (general_register asize k)) d n → IsRead bits asize (address (Some (general_register asize k)) (Some (general_register asize j)) scale (displacement asize d) (disp_size_of n)) n
+unfolding general_register is_shape form_of is_wide_shape is_wide_size is_base is_index scale_suits is_address_register register_number form_offers is_displacement size_agrees told_size shown_size general_size pointer_size
 sum_read bits B16 k j scale d n wide hk hj g = impossible wide
 sum_read bits B32 k j scale d n wide hk hj g = record { shape = rw (g.has, hk, hj.0, hj.1, hj.2) refl; offer = g.offer; value = rw g.count (value_of B32 d n g.len g.few g.bytes); size = refl; shown = refl; count = g.count }
 sum_read bits B64 k j scale d n wide hk hj g = record { shape = rw (g.has, hk, hj.0, hj.1, hj.2) refl; offer = g.offer; value = rw g.count (value_of B64 d n g.len g.few g.bytes); size = refl; shown = refl; count = g.count }
@@ -139,8 +139,8 @@ alone_read bits B32 d wide l b = record { shape = refl; offer = refl; value = va
 alone_read bits B64 d wide l b = record { shape = refl; offer = refl; value = value_of B64 d 4 l (omega arith) b; size = refl; shown = refl; count = refl }
 
 -- at RIP and EIP, in 64-bit mode; elsewhere a displacement alone
-pointer_read : (bits asize : Bits) (next : ℕ) (d : List ℕ) → is_16 asize ≡ false → length d ≡ 4 → are_bytes d ≡ true → IsRead bits asize (memory_alone bits asize next d) 4
-unfolding memory_alone is_shape form_of form_offers is_displacement size_agrees told_size shown_size displacement_count general_size pointer_size
+pointer_read : (bits asize : Bits) (next : ℕ) (d : List ℕ) → is_16 asize ≡ false → length d ≡ 4 → are_bytes d ≡ true → IsRead bits asize (ip_or_absolute bits asize next d) 4
+unfolding ip_or_absolute is_shape form_of form_offers is_displacement size_agrees told_size shown_size displacement_count general_size pointer_size
 pointer_read B16 asize next d wide l b = alone_read B16 asize d wide l b
 pointer_read B32 asize next d wide l b = alone_read B32 asize d wide l b
 pointer_read B64 B16 next d wide l b = impossible wide
@@ -149,11 +149,11 @@ pointer_read B64 B64 next d wide l b = record { shape = refl; offer = refl; valu
 
 -- ---- numbers from fields
 
-pub extended_low : (b : Bool) (x : ℕ) → x < 8 → extended b x % 8 ≡ x
+pub extended_low : (b : Bool) (x : ℕ) → x < 8 → with_high_bit b x % 8 ≡ x
 extended_low true x h = omega arith
 extended_low false x h = omega arith
 
-pub extended_count : (bits : Bits) (b : Bool) (x : ℕ) → x < 8 → (is_64 bits ≡ false → b ≡ false) → nat_lt (extended b x) (register_count bits) ≡ true
+pub extended_count : (bits : Bits) (b : Bool) (x : ℕ) → x < 8 → (is_64 bits ≡ false → b ≡ false) → nat_lt (with_high_bit b x) (register_count bits) ≡ true
 unfolding register_count
 extended_count B64 true x h e = lt-ltb (8 + x) 16 (omega arith)
 extended_count B64 false x h e = lt-ltb (0 + x) 16 (omega arith)
@@ -301,10 +301,10 @@ bytes_of_sib bits asize st m s d wide g =
     (sib_bytes asize m.mode3 m.reg s wide g.mode3))
 
 -- the numbers of a base
-pub base_numbers : (bits asize : Bits) (st : PrefixState) (m : ModRm) (sib : Option Sib) (d : List ℕ) (low : ℕ) → low < 8 → Reading bits asize st m sib d → FlatBytes low m.mode3 (length d) → (m.mode3 == 0 && low == 5) ≡ false → Numbers bits asize (Some (general asize (extended (bit_b bits st) low))) d (length d)
+pub base_numbers : (bits asize : Bits) (st : PrefixState) (m : ModRm) (sib : Option Sib) (d : List ℕ) (low : ℕ) → low < 8 → Reading bits asize st m sib d → FlatBytes low m.mode3 (length d) → (m.mode3 == 0 && low == 5) ≡ false → Numbers bits asize (Some (general_register asize (with_high_bit (bit_b bits st) low))) d (length d)
 base_numbers bits asize st m sib d low small g f other = record {
   has = g.has;
-  offer = f.offer other (general asize (extended (bit_b bits st) low)) (ap (λ (k : ℕ). k % 8) (number_of_general asize (extended (bit_b bits st) low)) ∙ extended_low (bit_b bits st) low small);
+  offer = f.offer other (general_register asize (with_high_bit (bit_b bits st) low)) (ap (λ (k : ℕ). k % 8) (number_of_general asize (with_high_bit (bit_b bits st) low)) ∙ extended_low (bit_b bits st) low small);
   count = f.count;
   few = f.few;
   len = refl;
@@ -316,7 +316,7 @@ pub no_base : (bits asize : Bits) (st : PrefixState) (m : ModRm) (s : Sib) (d : 
 unfolding wide_offers
 no_base bits asize st m s d g f alone = record { has = g.has; offer = eq-eqb (length d) 4 (f.none alone); count = f.count; few = f.few; len = refl; bytes = g.bytes }
 
-index_number_is : (bits asize : Bits) (st : PrefixState) (m : ModRm) (s : Sib) (d : List ℕ) → Reading bits asize st m (Some s) d → (extended (bit_x st) s.index == 4) ≡ false → IsIndexNumber bits (Some (extended (bit_x st) s.index)) (2 ^ s.scale)
+index_number_is : (bits asize : Bits) (st : PrefixState) (m : ModRm) (s : Sib) (d : List ℕ) → Reading bits asize st m (Some s) d → (with_high_bit (bit_x st) s.index == 4) ≡ false → IsIndexNumber bits (Some (with_high_bit (bit_x st) s.index)) (2 ^ s.scale)
 index_number_is bits asize st m s d g other =
     let small = sib_small s g.sib_range in
     (extended_count bits (bit_x st) s.index small.index g.x, other, scale_power s.scale small.scale)
@@ -327,7 +327,7 @@ read_no_base bits asize st m s d wide g alone =
     let f = bytes_of_sib bits asize st m s d wide g in
     let base = sib_base-none bits asize st m s alone in
     let four = f.none alone in
-    elim (either (extended (bit_x st) s.index == 4)) [
+    elim (either (with_high_bit (bit_x st) s.index == 4)) [
       | inl none ↦
           same_read bits asize _ _ (length d)
           (with_parts bits asize st (sib_index asize st s) None None m s d base (sib_index-none asize st s (equal_from _ 4 none))
@@ -335,8 +335,8 @@ read_no_base bits asize st m s d wide g alone =
           (subst (λ (n : ℕ). IsRead bits asize (address None None 1 (displacement asize d) D32) n) (sym four) (alone_read bits asize d wide four g.bytes))
       | inr other ↦
           same_read bits asize _ _ (length d)
-          (with_parts bits asize st (sib_index asize st s) None (Some (general asize (extended (bit_x st) s.index))) m s d base (sib_index-some asize st s other))
-          (index_read bits asize (extended (bit_x st) s.index) (2 ^ s.scale) d (length d) wide (index_number_is bits asize st m s d g other) (no_base bits asize st m s d g f alone))
+          (with_parts bits asize st (sib_index asize st s) None (Some (general_register asize (with_high_bit (bit_x st) s.index))) m s d base (sib_index-some asize st s other))
+          (index_read bits asize (with_high_bit (bit_x st) s.index) (2 ^ s.scale) d (length d) wide (index_number_is bits asize st m s d g other) (no_base bits asize st m s d g f alone))
     ]
 
 read_at_base : (bits asize : Bits) (st : PrefixState) (m : ModRm) (s : Sib) (d : List ℕ) → is_16 asize ≡ false → Reading bits asize st m (Some s) d → (m.mode3 == 0 && s.base == 5) ≡ false → IsRead bits asize (memory_with_sib bits asize st (sib_index asize st s) m s d) (length d)
@@ -344,18 +344,18 @@ read_at_base bits asize st m s d wide g beside =
     let f = bytes_of_sib bits asize st m s d wide g in
     let small = (sib_small s g.sib_range).base in
     let base = sib_base-some bits asize st m s beside in
-    let k = extended (bit_b bits st) s.base in
+    let k = with_high_bit (bit_b bits st) s.base in
     let number = extended_count bits (bit_b bits st) s.base small (bit_b-outside bits st) in
     let given = base_numbers bits asize st m (Some s) d s.base small g f beside in
-    elim (either (extended (bit_x st) s.index == 4)) [
+    elim (either (with_high_bit (bit_x st) s.index == 4)) [
       | inl none ↦
           same_read bits asize _ _ (length d)
-          (with_parts bits asize st (sib_index asize st s) (Some (general asize k)) None m s d base (sib_index-none asize st s (equal_from _ 4 none)))
+          (with_parts bits asize st (sib_index asize st s) (Some (general_register asize k)) None m s d base (sib_index-none asize st s (equal_from _ 4 none)))
           (base_read bits asize k d (length d) wide number given)
       | inr other ↦
           same_read bits asize _ _ (length d)
-          (with_parts bits asize st (sib_index asize st s) (Some (general asize k)) (Some (general asize (extended (bit_x st) s.index))) m s d base (sib_index-some asize st s other))
-          (sum_read bits asize k (extended (bit_x st) s.index) (2 ^ s.scale) d (length d) wide number (index_number_is bits asize st m s d g other) given)
+          (with_parts bits asize st (sib_index asize st s) (Some (general_register asize k)) (Some (general_register asize (with_high_bit (bit_x st) s.index))) m s d base (sib_index-some asize st s other))
+          (sum_read bits asize k (with_high_bit (bit_x st) s.index) (2 ^ s.scale) d (length d) wide number (index_number_is bits asize st m s d g other) given)
     ]
 
 -- without a SIB
@@ -368,10 +368,10 @@ read_without bits asize st m next d wide g =
     elim (either (m.mode3 == 0 && m.rm == 5)) [
       | inl alone ↦
           same_read bits asize _ _ (length d) (wide-alone bits asize st m next d alone)
-          (subst (λ (n : ℕ). IsRead bits asize (memory_alone bits asize next d) n) (sym (f.none alone)) (pointer_read bits asize next d wide (f.none alone) g.bytes))
+          (subst (λ (n : ℕ). IsRead bits asize (ip_or_absolute bits asize next d) n) (sym (f.none alone)) (pointer_read bits asize next d wide (f.none alone) g.bytes))
       | inr beside ↦
           same_read bits asize _ _ (length d) (wide-register bits asize st m next d beside)
-          (base_read bits asize (extended (bit_b bits st) m.rm) d (length d) wide (extended_count bits (bit_b bits st) m.rm g.rm (bit_b-outside bits st)) (base_numbers bits asize st m None d m.rm g.rm g f beside))
+          (base_read bits asize (with_high_bit (bit_b bits st) m.rm) d (length d) wide (extended_count bits (bit_b bits st) m.rm g.rm (bit_b-outside bits st)) (base_numbers bits asize st m None d m.rm g.rm g f beside))
     ]
 
 read_wide : (bits asize : Bits) (st : PrefixState) (m : ModRm) (sib : Option Sib) (next : ℕ) (d : List ℕ) → is_16 asize ≡ false → Reading bits asize st m sib d → IsRead bits asize (memory_wide bits asize st m sib next d) (length d)

@@ -22,9 +22,9 @@ use Rattle.instruction_parts.specs.Kinds.{file_of}
 use Rattle.instruction_parts.specs.Counting.{is_16}
 use Rattle.instruction_parts.specs.Sizes.{bit_b, state_address_size}
 use Rattle.instruction_parts.proofs.Tests.{either}
-use Rattle.row_fit.specs.Fits.{extended, is_displacement_alone, needs_sib, has_modrm, is_memory_method, rm_number}
+use Rattle.row_fit.specs.Fits.{with_high_bit, is_displacement_alone, needs_sib, has_modrm, is_memory_method, rm_number}
 use Rattle.row_fit.specs.Sound.{reads_rm}
-use Rattle.row_meaning.specs.Meaning.{general, displacement, disp_size_of, index_16, memory_16, memory_alone, memory_wide, memory_of, Tail, operand_by, memory_operand, register_of}
+use Rattle.row_meaning.specs.Meaning.{general_register, displacement, disp_size_of, index_16, memory_16, ip_or_absolute, memory_wide, memory_of, Tail, operand_by, memory_operand, register_of}
 use Rattle.plain_spelling.specs.Forms.{is_memory}
 use Rattle.plain_spelling.specs.PlainFront.{register_number}
 use Rattle.plain_spelling.specs.Addresses.{form_of, base_bits, wide_needs_sib, wide_fields, alone_fields, address_fields, written_size}
@@ -57,8 +57,8 @@ no_sib_16 bits m d small = elim (either (is_displacement_alone B16 m None)) [
       (subst (λ (r : Register). NoSib bits B16 (address (Some r) (index_16 m.rm) 1 (displacement B16 d) (disp_size_of (length d)))) (sym k.base_is) (short_16 bits k.first _ _ _ _)))
 ]
 
-pointer_no_sib : (bits asize : Bits) (next : ℕ) (d : List ℕ) → is_16 asize ≡ false → NoSib bits asize (memory_alone bits asize next d)
-unfolding memory_alone address_fields form_of alone_fields
+pointer_no_sib : (bits asize : Bits) (next : ℕ) (d : List ℕ) → is_16 asize ≡ false → NoSib bits asize (ip_or_absolute bits asize next d)
+unfolding ip_or_absolute address_fields form_of alone_fields
 pointer_no_sib bits B16 next d wide = impossible wide
 pointer_no_sib B16 B32 next d wide = record { none = refl }
 pointer_no_sib B32 B32 next d wide = record { none = refl }
@@ -67,8 +67,8 @@ pointer_no_sib B16 B64 next d wide = record { none = refl }
 pointer_no_sib B32 B64 next d wide = record { none = refl }
 pointer_no_sib B64 B64 next d wide = record { none = refl }
 
-base_no_sib : (bits asize : Bits) (k : ℕ) (disp : ℕ) (size : DispSize) → is_16 asize ≡ false → (k % 8 == 4) ≡ false → NoSib bits asize (address (Some (general asize k)) None 1 disp size)
-unfolding general address_fields form_of wide_fields wide_needs_sib base_bits register_number
+base_no_sib : (bits asize : Bits) (k : ℕ) (disp : ℕ) (size : DispSize) → is_16 asize ≡ false → (k % 8 == 4) ≡ false → NoSib bits asize (address (Some (general_register asize k)) None 1 disp size)
+unfolding general_register address_fields form_of wide_fields wide_needs_sib base_bits register_number
 base_no_sib bits B16 k disp size wide h = impossible wide
 base_no_sib bits B32 k disp size wide h = record { none = rw h refl }
 base_no_sib bits B64 k disp size wide h = record { none = rw h refl }
@@ -84,7 +84,7 @@ no_sib_wide bits asize st m next d wide g = elim (either (m.mode3 == 0 && m.rm =
   | inl alone ↦ same_no_sib bits asize _ _ (wide-alone bits asize st m next d alone) (pointer_no_sib bits asize next d wide)
   | inr beside ↦
       same_no_sib bits asize _ _ (wide-register bits asize st m next d beside)
-      (base_no_sib bits asize (extended (bit_b bits st) m.rm) _ _ wide (ap (λ (k : ℕ). k == 4) (extended_low (bit_b bits st) m.rm g.rm) ∙ rm_not_four asize m wide g.mode3 g.sib_is))
+      (base_no_sib bits asize (with_high_bit (bit_b bits st) m.rm) _ _ wide (ap (λ (k : ℕ). k == 4) (extended_low (bit_b bits st) m.rm g.rm) ∙ rm_not_four asize m wide g.mode3 g.sib_is))
 ]
 
 -- **an address that is read without a SIB has plain fields without one**

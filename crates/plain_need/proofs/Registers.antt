@@ -21,7 +21,7 @@ use Rattle.instruction_parts.specs.declared.spelling.Sib.{Sib}
 use Rattle.instruction_parts.specs.declared.spelling.PrefixState.{PrefixState}
 use Rattle.instruction_parts.specs.Kinds.{method_of, file_of, fixed_number}
 use Rattle.instruction_parts.specs.Sizes.{is_vex_row, state_size, bit_r, bit_b}
-use Rattle.row_fit.specs.Fits.{kind_at, has_modrm, extended, reg_field, rm_field, reg_number, rm_number, vvvv_number, register_fits, destination_fits, is_control_number, is_nop_byte, nop_fits, opcode_fits, are_bytes, is_repeat_f3}
+use Rattle.row_fit.specs.Fits.{kind_at, has_modrm, with_high_bit, reg_field, rm_field, reg_number, rm_number, vvvv_number, register_fits, destination_fits, is_control_number, is_nop_byte, nop_fits, opcode_fits, are_bytes, is_repeat_f3}
 use Rattle.row_fit.specs.Sound.{has_four_operands, reads_opcode}
 use Rattle.row_meaning.specs.Meaning.{register_of, segment_numbered, last_byte_number, with_modrm, memory_operand, gather_memory, near_target, far_pointer, Tail, operand_by}
 use Rattle.plain_spelling.specs.Forms.{operand_at}
@@ -30,7 +30,7 @@ use Rattle.plain_spelling.specs.Addresses.{register_count}
 use Rattle.plain_spelling.specs.Expressible.{is_not_nop, kind_allows, is_nameable}
 use Rattle.instruction_parts.proofs.Tests.{either, and_left, and_right, not_true, equal_from}
 use Rattle.plain_need.proofs.Walking.{all_kinds}
-use Rattle.plain_need.proofs.Numbers.{InRange, reg_small, rm_small, number-general, number-byte}
+use Rattle.plain_need.proofs.Numbers.{InRange, reg_small, rm_small, number-general_register, number-byte}
 use Rattle.plain_need.proofs.Asks.{differ, Placed}
 use Rattle.plain_need.proofs.Variants.{TailIs, reads_at}
 use Rattle.plain_need.proofs.Naming.{Context, Register_is, nameable, extended_count, bit_r_mode, bit_b_mode, vvvv_count, last_count, fixed_count, fixed_at_most, asks_b_of_register, reg_byte, rm_byte}
@@ -47,7 +47,7 @@ segment_same (suc (suc (suc (suc zero)))) h = refl
 segment_same (suc (suc (suc (suc (suc zero))))) h = refl
 segment_same (suc (suc (suc (suc (suc (suc n)))))) h = absurd (omega arith)
 
-extended_low : (b : Bool) (n : ℕ) → n < 8 → extended b n % 8 ≡ n
+extended_low : (b : Bool) (n : ℕ) → n < 8 → with_high_bit b n % 8 ≡ n
 extended_low true n h = omega arith
 extended_low false n h = omega arith
 
@@ -90,7 +90,7 @@ allowed bits row st m n _ number small h w e = refl
 pub opcode_number : (bits : Bits) (row : Row) (st : PrefixState) (kind : OpKind) (n : ℕ) → method_of kind ≡ method.OpcodeLow → register_number (register_of bits row st (file_of kind) n) ≡ n
 unfolding method_of file_of register_of
 opcode_number bits row st Zb n e = number-byte st.rex n
-opcode_number bits row st Zv n e = number-general (state_size bits row st) n
+opcode_number bits row st Zv n e = number-general_register (state_size bits row st) n
 opcode_number bits row st _ n e = cc
 
 pub opcode_range : (row : Row) (o : ℕ) → row.plus ≡ PlusRegister → opcode_fits row o ≡ true → (row.opcode ≤ o) × (o < row.opcode + 8)
@@ -105,7 +105,7 @@ nop_b bits row st e h =
     let k : (bit_b bits st && not (is_repeat_f3 st.rep)) ≡ true = rw e at h in
     (and_left (bit_b bits st) _ k, not_true (is_repeat_f3 st.rep) (and_right (bit_b bits st) _ k))
 
-extended_none : (b : Bool) (n : ℕ) → extended b n ≡ 0 → (b ≡ false) × (n ≡ 0)
+extended_none : (b : Bool) (n : ℕ) → with_high_bit b n ≡ 0 → (b ≡ false) × (n ≡ 0)
 extended_none true n h = absurd (omega arith)
 extended_none false n h = (refl, omega arith)
 
@@ -114,10 +114,10 @@ same_opcode : (r o : ℕ) → r ≤ o → o < r + 8 → r % 8 ≡ 0 → o % 8 �
 same_opcode r o h k a b = omega arith
 
 -- a register in the opcode byte is not number 0 of the byte 90
-not_nop : (bits : Bits) (row : Row) (st : PrefixState) (t : Tail) (kind : OpKind) → TailIs bits row st t → Placed row → method_of kind ≡ method.OpcodeLow → row.plus ≡ PlusRegister → is_not_nop row method.OpcodeLow (register_of bits row st (file_of kind) (extended (bit_b bits st) (st.opcode % 8))) ≡ true
+not_nop : (bits : Bits) (row : Row) (st : PrefixState) (t : Tail) (kind : OpKind) → TailIs bits row st t → Placed row → method_of kind ≡ method.OpcodeLow → row.plus ≡ PlusRegister → is_not_nop row method.OpcodeLow (register_of bits row st (file_of kind) (with_high_bit (bit_b bits st) (st.opcode % 8))) ≡ true
 unfolding is_not_nop
 not_nop bits row st t kind tail p e plus =
-    let number = extended (bit_b bits st) (st.opcode % 8) in
+    let number = with_high_bit (bit_b bits st) (st.opcode % 8) in
     let r = register_of bits row st (file_of kind) number in
     elim (either (is_nop_byte row row.opcode && register_number r == 0)) [
       | inr k ↦ rw k
@@ -193,7 +193,7 @@ gather_named bits row row1 i n st f (Some m) (Some s) disp = refl
 rm_named : (bits : Bits) (row : Row) (st : PrefixState) (t : Tail) (i : Instr) (n : ℕ) (own : List ℕ) (how : Method) → Reading bits row st t i n own → method_of (kind_at row n) ≡ how → asks_b_of_register how ≡ true → (how ≡ method.Fixed → zero ≡ suc zero) → (how ≡ method.ModRmReg → zero ≡ suc zero) → ((r : Register) → is_not_nop row how r ≡ true) → operand_at i n ≡ Reg (register_of bits row st (file_of (kind_at row n)) (rm_number bits st t.modrm)) → NameableIf bits row i n (operand_at i n)
 unfolding rm_number
 rm_named bits row st t i n own how r e b no_fixed no_reg nop op =
-    named_by bits row st t i n own how (extended (bit_b bits st) (rm_field t.modrm)) r e op
+    named_by bits row st t i n own how (with_high_bit (bit_b bits st) (rm_field t.modrm)) r e op
     (extended_count bits (bit_b bits st) (rm_field t.modrm) (rm_small t.modrm r.range.modrm) (bit_b_mode bits st))
     (λ f l k none. rm_byte bits row st i n _ how r.context b e op f l none)
     (λ k. absurd (let z = no_fixed k in omega arith)) (λ k. absurd (let z = no_reg k in omega arith)) (nop _)
@@ -201,7 +201,7 @@ rm_named bits row st t i n own how r e b no_fixed no_reg nop op =
 pub by_method : (bits : Bits) (row : Row) (st : PrefixState) (t : Tail) (i : Instr) (n : ℕ) (own : List ℕ) (how : Method) → Reading bits row st t i n own → method_of (kind_at row n) ≡ how → operand_at i n ≡ operand_by bits row st t (kind_at row n) how own → NameableIf bits row i n (operand_at i n)
 unfolding operand_by is_not_nop reg_number near_target far_pointer
 by_method bits row st t i n own method.ModRmReg r e op =
-    named_by bits row st t i n own method.ModRmReg (extended (bit_r st) (reg_field t.modrm)) r e op
+    named_by bits row st t i n own method.ModRmReg (with_high_bit (bit_r st) (reg_field t.modrm)) r e op
     (extended_count bits (bit_r st) (reg_field t.modrm) (reg_small t.modrm r.range.modrm) (bit_r_mode bits row st r.context.state))
     (λ f l k none. reg_byte bits row st i n _ r.context k op f l none) (λ k. cc) (λ k. refl) refl
 by_method bits row st t i n own method.RegisterOrMemory r e op = elim (either (has_modrm (λ m. nat_lt m.mode3 3) t.modrm)) [
@@ -213,7 +213,7 @@ by_method bits row st t i n own method.AnyMode r e op = rm_named bits row st t i
 by_method bits row st t i n own method.MemoryOnly r e op = subst (NameableIf bits row i n) (sym op) (memory_named bits row i n st t.modrm t.sib t.disp t.next)
 by_method bits row st t i n own method.OpcodeLow r e op =
     let plus = r.places.adds (reads_at reads_opcode row n r.four r.context.within (ap reads_opcode e)) in
-    named_by bits row st t i n own method.OpcodeLow (extended (bit_b bits st) (st.opcode % 8)) r e op
+    named_by bits row st t i n own method.OpcodeLow (with_high_bit (bit_b bits st) (st.opcode % 8)) r e op
     (extended_count bits (bit_b bits st) (st.opcode % 8) (omega arith) (bit_b_mode bits st))
     (λ f l k none. rm_byte bits row st i n _ method.OpcodeLow r.context refl e op f l none) (λ k. cc) (λ k. cc)
     (not_nop bits row st t (kind_at row n) r.tail r.places e plus)

@@ -29,7 +29,7 @@ use Rattle.instruction_parts.specs.declared.spelling.PrefixState.{PrefixState}
 use Rattle.instruction_parts.specs.Kinds.{method_of, file_of}
 use Rattle.instruction_parts.specs.Sizes.{is_vex_row, is_lockable, state_size, state_address_size, bit_b}
 use Rattle.instruction_parts.specs.Bytes.{state_of}
-use Rattle.row_fit.specs.Fits.{kind_at, has_modrm, reads_by, is_gather, extended, reg_number, vvvv_number, index_number, needs_sib, gather_fits, is_nop_byte, is_memory_method, lock_fits, is_repeat_f3, is_no_repeat, legacy_class_fits, vex_class_fits, is_vvvv}
+use Rattle.row_fit.specs.Fits.{kind_at, has_modrm, reads_by, is_gather, with_high_bit, reg_number, vvvv_number, index_number, needs_sib, gather_fits, is_nop_byte, is_memory_method, lock_fits, is_repeat_f3, is_no_repeat, legacy_class_fits, vex_class_fits, is_vvvv}
 use Rattle.row_fit.specs.Sound.{Sound, has_four_operands, reads_reg, reads_rm, reads_opcode}
 use Rattle.row_meaning.specs.Meaning.{register_of, memory_with_sib, with_modrm, gather_memory, kept_repeat, Tail, tail_of, instr_of, operand_by, own_immediate}
 use Rattle.plain_spelling.specs.Forms.{is_variant_of, is_memory, operand_at}
@@ -318,19 +318,19 @@ lock_suited bits ip code row s i g =
 
 -- ---- the repeat prefix
 
-given_opcode : (bits : Bits) (row : Row) (st : PrefixState) (t : Tail) (kind : OpKind) (how : Method) (own : List ℕ) → method_of kind ≡ how → reads_opcode how ≡ true → number_in_opcode how (operand_by bits row st t kind how own) ≡ extended (bit_b bits st) (st.opcode % 8)
+given_opcode : (bits : Bits) (row : Row) (st : PrefixState) (t : Tail) (kind : OpKind) (how : Method) (own : List ℕ) → method_of kind ≡ how → reads_opcode how ≡ true → number_in_opcode how (operand_by bits row st t kind how own) ≡ with_high_bit (bit_b bits st) (st.opcode % 8)
 unfolding number_in_opcode operand_by
-given_opcode bits row st t kind method.OpcodeLow own e h = opcode_number bits row st kind (extended (bit_b bits st) (st.opcode % 8)) e
+given_opcode bits row st t kind method.OpcodeLow own e h = opcode_number bits row st kind (with_high_bit (bit_b bits st) (st.opcode % 8)) e
 given_opcode bits row st t kind _ own e h = cc
 
-asked_opcode_number : (bits : Bits) (code : Code) (row : Row) (st : PrefixState) (t : Tail) (imm : List ℕ) → Sound row → row.plus ≡ PlusRegister → asked number_in_opcode row (instr_of bits code row st t imm) ≡ extended (bit_b bits st) (st.opcode % 8)
+asked_opcode_number : (bits : Bits) (code : Code) (row : Row) (st : PrefixState) (t : Tail) (imm : List ℕ) → Sound row → row.plus ≡ PlusRegister → asked number_in_opcode row (instr_of bits code row st t imm) ≡ with_high_bit (bit_b bits st) (st.opcode % 8)
 asked_opcode_number bits code row st t imm sound plus =
-    let v = extended (bit_b bits st) (st.opcode % 8) in
+    let v = with_high_bit (bit_b bits st) (st.opcode % 8) in
     asked_is v reads_opcode number_in_opcode row.ops _ ((placed row sound.operands sound.plus).reads plus) (apart row sound.apart).opcode
     (each_read (Gives v reads_opcode number_in_opcode) bits code row st t imm sound.four_operands
     (λ kind own. (λ h. given_opcode bits row st t kind (method_of kind) own refl h, silent_opcode _ (method_of kind))))
 
-low_of_extended : (b : Bool) (n : ℕ) → extended b (n % 8) % 8 ≡ n % 8
+low_of_extended : (b : Bool) (n : ℕ) → with_high_bit b (n % 8) % 8 ≡ n % 8
 low_of_extended true n = omega arith
 low_of_extended false n = omega arith
 
@@ -346,7 +346,7 @@ pub same_opcode_byte : (bits : Bits) (ip : ℕ) (code : Code) (row : Row) (s : S
 same_opcode_byte bits ip code row s i g plus =
     let st = state_of bits row s in
     let t = tail_of bits ip row s in
-    let number : asked number_in_opcode row i ≡ extended (bit_b bits st) (st.opcode % 8) =
+    let number : asked number_in_opcode row i ≡ with_high_bit (bit_b bits st) (st.opcode % 8) =
     ap (λ (x : Instr). asked number_in_opcode row x) (sym (read_is bits ip code row s i g)) ∙ asked_opcode_number bits code row st t s.imm.items g.is_sound plus in
     let low : asked number_in_opcode row i % 8 ≡ st.opcode % 8 = ap (λ (n : ℕ). n % 8) number ∙ low_of_extended (bit_b bits st) st.opcode in
     let tail = tail_is bits ip row s g.is_sound g.fitting in

@@ -27,7 +27,7 @@ use Rattle.instruction_parts.specs.Sizes.{state_size, state_address_size}
 use Rattle.instruction_parts.specs.Bytes.{state_of, bytes_of}
 use Rattle.instruction_parts.proofs.Tests.{either, and_left, and_right, equal_from}
 use Rattle.row_fit.specs.Fits.{are_bytes, kind_at, immediate_bytes, immediates_bytes, has_modrm, reads_mode, same_bool, needs_sib, full_displacement, displacement_bytes, is_displacement_alone, address_fits, lengths_fit, rm_number}
-use Rattle.row_meaning.specs.Meaning.{Tail, tail_of, operand_by, own_immediate, near_target, far_pointer, with_modrm, register_of, target_of, base_16, memory_16, memory_alone, memory_with_sib, memory_at_base, memory_wide, memory_of, memory_absolute, memory_operand, gather_memory, sib_base, general}
+use Rattle.row_meaning.specs.Meaning.{Tail, tail_of, operand_by, own_immediate, near_target, far_pointer, with_modrm, register_of, target_of, base_16, memory_16, ip_or_absolute, memory_with_sib, memory_at_base, memory_wide, memory_of, memory_absolute, memory_operand, gather_memory, sib_base, general_register}
 use Rattle.row_meaning.specs.Meaning as meant
 use Rattle.plain_spelling.specs.Values.{is_extended_of, distance}
 use Rattle.plain_spelling.specs.Forms.{operand_at}
@@ -77,8 +77,8 @@ Reached next m = address_reaches next m ≡ true
 abbrev IsPlain : Register → Type 0
 IsPlain r = is_pointer (Some r) ≡ false
 
-general_plain : (size : Bits) (n : ℕ) → IsPlain (general size n)
-unfolding general
+general_plain : (size : Bits) (n : ℕ) → IsPlain (general_register size n)
+unfolding general_register
 general_plain B16 n = refl
 general_plain B32 n = refl
 general_plain B64 n = refl
@@ -119,8 +119,8 @@ four_bytes : (size : Bits) (next : ℕ) (disp : List ℕ) → length disp ≤ 4 
 four_bytes size next disp short below h =
     is_extended-more (length disp) 4 (width size) (distance size next (target_of size next disp)) short (distance-of-target size next disp (omega arith) below h)
 
-reached_alone : (bits asize : Bits) (next : ℕ) (disp : List ℕ) → is_16 asize ≡ false → length disp ≤ 4 → next < 2 ^ 64 → are_bytes disp ≡ true → Reached next (memory_alone bits asize next disp)
-unfolding memory_alone address_reaches form_of
+reached_alone : (bits asize : Bits) (next : ℕ) (disp : List ℕ) → is_16 asize ≡ false → length disp ≤ 4 → next < 2 ^ 64 → are_bytes disp ≡ true → Reached next (ip_or_absolute bits asize next disp)
+unfolding ip_or_absolute address_reaches form_of
 reached_alone B64 B64 next disp wide short below h = four_bytes B64 next disp short below h
 reached_alone B64 B32 next disp wide short below h = four_bytes B32 next disp short below h
 reached_alone B64 B16 next disp wide short below h = cc

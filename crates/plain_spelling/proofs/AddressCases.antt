@@ -14,8 +14,8 @@ use Rattle.instruction_parts.specs.declared.spelling.Sib.{Sib}
 use Rattle.instruction_parts.specs.declared.spelling.PrefixState.{PrefixState}
 use Rattle.instruction_parts.specs.Counting.{or_else}
 use Rattle.instruction_parts.specs.Sizes.{bit_b, bit_x}
-use Rattle.row_fit.specs.Fits.{extended, is_displacement_alone, index_number}
-use Rattle.row_meaning.specs.Meaning.{general, disp_size_of, base_16, index_16, memory_16, memory_alone, sib_base, sib_index, memory_at_base, memory_wide, displacement, instruction_pointer}
+use Rattle.row_fit.specs.Fits.{with_high_bit, is_displacement_alone, index_number}
+use Rattle.row_meaning.specs.Meaning.{general_register, disp_size_of, base_16, index_16, memory_16, ip_or_absolute, sib_base, sib_index, memory_at_base, memory_wide, displacement, instruction_pointer}
 use Rattle.plain_spelling.specs.PlainFront.{register_number}
 use Rattle.x86_values.specs.Comparing.{same_bits}
 use Rattle.plain_spelling.specs.declared.addresses.AddressForm.TheVariants.{Relative, Alone, Short}
@@ -72,11 +72,11 @@ pub memory_16-register : (m : ModRm) (disp : List ℕ) → is_displacement_alone
 unfolding memory_16
 memory_16-register m disp h = if_no (is_displacement_alone B16 m None) _ _ h
 
-pub wide-alone : (bits asize : Bits) (state : PrefixState) (m : ModRm) (next : ℕ) (disp : List ℕ) → (m.mode3 == 0 && m.rm == 5) ≡ true → memory_wide bits asize state m None next disp ≡ memory_alone bits asize next disp
+pub wide-alone : (bits asize : Bits) (state : PrefixState) (m : ModRm) (next : ℕ) (disp : List ℕ) → (m.mode3 == 0 && m.rm == 5) ≡ true → memory_wide bits asize state m None next disp ≡ ip_or_absolute bits asize next disp
 unfolding memory_wide
 wide-alone bits asize state m next disp h = if_yes (m.mode3 == 0 && m.rm == 5) _ _ h
 
-pub wide-register : (bits asize : Bits) (state : PrefixState) (m : ModRm) (next : ℕ) (disp : List ℕ) → (m.mode3 == 0 && m.rm == 5) ≡ false → memory_wide bits asize state m None next disp ≡ address (Some (general asize (extended (bit_b bits state) m.rm))) None 1 (displacement asize disp) (disp_size_of (length disp))
+pub wide-register : (bits asize : Bits) (state : PrefixState) (m : ModRm) (next : ℕ) (disp : List ℕ) → (m.mode3 == 0 && m.rm == 5) ≡ false → memory_wide bits asize state m None next disp ≡ address (Some (general_register asize (with_high_bit (bit_b bits state) m.rm))) None 1 (displacement asize disp) (disp_size_of (length disp))
 unfolding memory_wide memory_at_base
 wide-register bits asize state m next disp h = if_no (m.mode3 == 0 && m.rm == 5) _ _ h
 
@@ -84,37 +84,37 @@ pub sib_base-none : (bits asize : Bits) (state : PrefixState) (m : ModRm) (s : S
 unfolding sib_base
 sib_base-none bits asize state m s h = if_yes (m.mode3 == 0 && s.base == 5) _ _ h
 
-pub sib_base-some : (bits asize : Bits) (state : PrefixState) (m : ModRm) (s : Sib) → (m.mode3 == 0 && s.base == 5) ≡ false → sib_base bits asize state m s ≡ Some (general asize (extended (bit_b bits state) s.base))
+pub sib_base-some : (bits asize : Bits) (state : PrefixState) (m : ModRm) (s : Sib) → (m.mode3 == 0 && s.base == 5) ≡ false → sib_base bits asize state m s ≡ Some (general_register asize (with_high_bit (bit_b bits state) s.base))
 unfolding sib_base
 sib_base-some bits asize state m s h = if_no (m.mode3 == 0 && s.base == 5) _ _ h
 
-pub sib_index-none : (asize : Bits) (state : PrefixState) (s : Sib) → extended (bit_x state) s.index ≡ 4 → sib_index asize state s ≡ None
+pub sib_index-none : (asize : Bits) (state : PrefixState) (s : Sib) → with_high_bit (bit_x state) s.index ≡ 4 → sib_index asize state s ≡ None
 unfolding sib_index index_number
-sib_index-none asize state s h = if_yes (extended (bit_x state) s.index == 4) _ _ (eq-eqb _ 4 h)
+sib_index-none asize state s h = if_yes (with_high_bit (bit_x state) s.index == 4) _ _ (eq-eqb _ 4 h)
 
-pub sib_index-some : (asize : Bits) (state : PrefixState) (s : Sib) → (extended (bit_x state) s.index == 4) ≡ false → sib_index asize state s ≡ Some (general asize (extended (bit_x state) s.index))
+pub sib_index-some : (asize : Bits) (state : PrefixState) (s : Sib) → (with_high_bit (bit_x state) s.index == 4) ≡ false → sib_index asize state s ≡ Some (general_register asize (with_high_bit (bit_x state) s.index))
 unfolding sib_index index_number
-sib_index-some asize state s h = if_no (extended (bit_x state) s.index == 4) _ _ h
+sib_index-some asize state s h = if_no (with_high_bit (bit_x state) s.index == 4) _ _ h
 
 -- ---- registers of an address
 
 -- a register of a general size is the one of its number
-pub general-number : (r : Register) (size : Bits) → general_size r ≡ Some size → general size (register_number r) ≡ r
-unfolding general general_size register_number
-general-number (R16 n) B16 h = refl
-general-number (R32 n) B32 h = refl
-general-number (R64 n) B64 h = refl
-general-number r size h = cc
+pub general_register-number : (r : Register) (size : Bits) → general_size r ≡ Some size → general_register size (register_number r) ≡ r
+unfolding general_register general_size register_number
+general_register-number (R16 n) B16 h = refl
+general_register-number (R32 n) B32 h = refl
+general_register-number (R64 n) B64 h = refl
+general_register-number r size h = cc
 
-pub number_of_general : (size : Bits) (n : ℕ) → register_number (general size n) ≡ n
-unfolding general register_number
+pub number_of_general : (size : Bits) (n : ℕ) → register_number (general_register size n) ≡ n
+unfolding general_register register_number
 number_of_general B16 n = refl
 number_of_general B32 n = refl
 number_of_general B64 n = refl
 
 -- a register of an address has its size and a number of the mode
 pub record IsRegister (bits asize : Bits) (r : Register) : Type 0 where
-  pub is : general asize (register_number r) ≡ r
+  pub is : general_register asize (register_number r) ≡ r
   pub size : general_size r ≡ Some asize
   pub number : register_number r < register_count bits
 
@@ -128,7 +128,7 @@ address_register bits asize r h =
     let named : Bool = elim (general_size r) [ None ↦ false | Some size ↦ same_bits size asize ] in
     let size = size_from (general_size r) asize (and_left named (nat_lt (register_number r) (register_count bits)) h) in
     record {
-      is = general-number r asize size;
+      is = general_register-number r asize size;
       size = size;
       number = ltb-true (register_number r) (register_count bits) (and_right named (nat_lt (register_number r) (register_count bits)) h);
     }
@@ -140,7 +140,7 @@ count_small B32 = omega arith
 count_small B64 = omega arith
 
 -- a number is its low three bits and the bit that adds 8
-pub extended_number : (bit : Bool) (n : ℕ) → n < 16 → bit ≡ nat_le 8 n → extended bit (n % 8) ≡ n
+pub extended_number : (bit : Bool) (n : ℕ) → n < 16 → bit ≡ nat_le 8 n → with_high_bit bit (n % 8) ≡ n
 extended_number true n h e = let low : 8 ≤ n = leb-true 8 n (sym e) in omega arith
 extended_number false n h e = elim (either (nat_lt n 8)) [
   | inl yes1 ↦ (let low : n < 8 = ltb-true n 8 yes1 in omega arith)

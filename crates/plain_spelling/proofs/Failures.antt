@@ -7,7 +7,7 @@ use Rattle.row_types.specs.declared.Row.{Row}
 use Rattle.instruction_parts.specs.Counting.{or_else}
 use Rattle.plain_spelling.specs.declared.NoSpelling.{NoSpelling}
 use Rattle.plain_spelling.specs.declared.NoSpelling.TheVariants as cause
-use Rattle.plain_spelling.specs.Expressible.{row_exists, kind_suits, register_suits, address_suits, offered, immediate_suits, target_suits, prefixes_suit, address_size_suits, is_short, gather_suits, named, operand_suits, tail_suits, first_failing, caused_at, caused_unless, each_operand, tail_failure, failure, Suits}
+use Rattle.plain_spelling.specs.Expressible.{row_exists, kind_suits, register_suits, address_suits, offered, immediate_suits, target_suits, prefixes_suit, address_size_suits, is_short, gather_suits, named, operand_suits, tail_suits, first_failing, caused_at, caused_unless, each_operand, first_failed_condition, failure, Suits}
 
 neither : (a b : Option NoSpelling) → or_else a b ≡ None → (a ≡ None) × (b ≡ None)
 neither None b h = (refl, h)
@@ -36,8 +36,8 @@ at-none why p h = four-none (p 0) (p 1) (p 2) (p 3) (from-none why _ h)
     from-none why (Some n) h = cc
 
 -- where none of the conditions 2 to 9 fails, they hold
-pub tail-suits : (bits : Bits) (ip : ℕ) (row : Row) (i : Instr) → row_exists bits row ≡ true → tail_failure bits ip row i ≡ None → Suits bits ip row i
-unfolding tail_failure
+pub tail-suits : (bits : Bits) (ip : ℕ) (row : Row) (i : Instr) → row_exists bits row ≡ true → first_failed_condition bits ip row i ≡ None → Suits bits ip row i
+unfolding first_failed_condition
 tail-suits bits ip row i there h =
     let a = neither (caused_at cause.OperandKind (first_failing (kind_suits row i))) _ h in
     let b = neither (caused_at cause.Register (first_failing (register_suits bits row i))) _ a.1 in
@@ -59,8 +59,8 @@ tail-suits bits ip row i there h =
     }
 
 -- the registers suit then in every mode
-pub tail-registers : (bits : Bits) (ip : ℕ) (row : Row) (i : Instr) → tail_failure bits ip row i ≡ None → each_operand (register_suits bits row i) ≡ true
-unfolding tail_failure
+pub tail-registers : (bits : Bits) (ip : ℕ) (row : Row) (i : Instr) → first_failed_condition bits ip row i ≡ None → each_operand (register_suits bits row i) ≡ true
+unfolding first_failed_condition
 tail-registers bits ip row i h =
     let a = neither (caused_at cause.OperandKind (first_failing (kind_suits row i))) _ h in
     at-none cause.Register (register_suits bits row i) (neither (caused_at cause.Register (first_failing (register_suits bits row i))) _ a.1).0
@@ -70,7 +70,7 @@ pub failure-suits : (bits : Bits) (ip : ℕ) (row : Row) (i : Instr) → failure
 unfolding failure
 failure-suits bits ip row i h =
     let a = neither (caused_unless (row_exists bits row) cause.Row) _ h in
-    let b = neither (tail_failure bits ip row i) _ a.1 in
+    let b = neither (first_failed_condition bits ip row i) _ a.1 in
     (tail-suits bits ip row i (unless-none (row_exists bits row) cause.Row a.0) b.0, unless-none (is_short bits row i) cause.Length b.1)
 
 four-all : (a b c d : Bool) → (a && (b && (c && d))) ≡ true → first_of a b c d ≡ None
@@ -88,8 +88,8 @@ unless-all : (b : Bool) (why : NoSpelling) → b ≡ true → caused_unless b wh
 unless-all b why h = rw h refl
 
 -- and where they hold, none fails
-pub suits-tail : (bits : Bits) (ip : ℕ) (row : Row) (i : Instr) → Suits bits ip row i → tail_failure bits ip row i ≡ None
-unfolding tail_failure
+pub suits-tail : (bits : Bits) (ip : ℕ) (row : Row) (i : Instr) → Suits bits ip row i → first_failed_condition bits ip row i ≡ None
+unfolding first_failed_condition
 suits-tail bits ip row i s =
     rw (at-all cause.OperandKind (kind_suits row i) s.kinds)
     (rw (at-all cause.Register (register_suits bits row i) s.registers)
@@ -144,8 +144,8 @@ unfolding named register_suits
 register-from bits row i n a b = rw a (rw b refl)
 
 -- where each operand meets its conditions by itself, and the rules on the whole hold, none fails
-pub tail-none : (bits : Bits) (ip : ℕ) (row : Row) (i : Instr) → tail_suits bits ip row i ≡ true → tail_failure bits ip row i ≡ None
-unfolding tail_suits tail_failure
+pub tail-none : (bits : Bits) (ip : ℕ) (row : Row) (i : Instr) → tail_suits bits ip row i ≡ true → first_failed_condition bits ip row i ≡ None
+unfolding tail_suits first_failed_condition
 tail-none bits ip row i h =
     let p = four-split (each_operand (operand_suits bits ip row i)) (gather_suits row i 0) (prefixes_suit row i) (address_size_suits bits row i) h in
     let q = four-split (operand_suits bits ip row i 0) (operand_suits bits ip row i 1) (operand_suits bits ip row i 2) (operand_suits bits ip row i 3) p.0 in

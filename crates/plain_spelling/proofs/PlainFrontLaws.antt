@@ -16,7 +16,7 @@ use Rattle.instruction_parts.specs.Sizes.{is_vex_row, operand_size, state_size, 
 use Rattle.instruction_parts.proofs.Tests.{either, and_right}
 use Rattle.row_fit.specs.Sound.{sound, opcodes_are_bytes}
 use Rattle.row_fit.proofs.SoundLaws.{sound_conditions}
-use Rattle.row_meaning.specs.Meaning.{general, size_by_w, register_of}
+use Rattle.row_meaning.specs.Meaning.{general_register, size_by_w, register_of}
 use Rattle.plain_spelling.specs.PlainFront.{number_in_vvvv, asked, asks_r, asks_x, asks_b, asks_low_byte, asks_rex_w, asks_66, asks_67, asked_repeat, asked_rex, count_repeat, vex_with, asked_vex, asked_used, plain_front_of, byte_front}
 use Rattle.plain_spelling.specs.PlainTail.{plain_size}
 
@@ -63,7 +63,7 @@ w_with bits row i = elim (either (is_vex_row row)) [ inl e ↦ rw e refl | inr e
 -- and so are the registers that the kinds name
 pub byte_front-names : (bits : Bits) (row : Row) (i : Instr) (file : File) (n : ℕ) → register_of bits row (byte_front bits row i) file n ≡ register_of bits row (plain_front_of bits row i) file n
 unfolding byte_front plain_front_of register_of state_size
-byte_front-names bits row i ByWFile n = ap (λ w. general (size_by_w w) n) (w_with bits row i)
+byte_front-names bits row i ByWFile n = ap (λ w. general_register (size_by_w w) n) (w_with bits row i)
 byte_front-names bits row i _ n = refl
 
 -- ---- the operand size under the plain prefixes

@@ -1,4 +1,4 @@
--- When an instruction has a plain spelling: ten conditions, in the order in which an encoder names them (Intel SDM volume 2, chapter 2).
+-- When an instruction has a plain spelling: ten conditions, in the order in which an encoder names them (Intel SDM volume 2, 2.1 to 2.3).
 use Rattle.std.specs.Prelude.{◌≡◌, ℕ, ◌-◌, ◌*◌, ◌^◌, Bool, true, false, ◌&&◌, ◌||◌, not, ◌==◌, nat_le, nat_lt, if◌then◌else◌, Option, Some, None, is_none}
 use Rattle.x86_values.specs.declared.Bits.{Bits}
 use Rattle.x86_values.specs.declared.Register.{Register}
@@ -263,8 +263,8 @@ abbrev pub each_operand : (ℕ → Bool) → Bool
 each_operand p = p 0 && (p 1 && (p 2 && p 3))
 
 -- the first that fails of the conditions 2 to 9, which the tail of a spelling is written by
-unfoldable pub tail_failure : Bits → ℕ → Row → Instr → Option NoSpelling
-tail_failure bits ip row i =
+unfoldable pub first_failed_condition : Bits → ℕ → Row → Instr → Option NoSpelling
+first_failed_condition bits ip row i =
     or_else (caused_at cause.OperandKind (first_failing (kind_suits row i)))
     (or_else (caused_at cause.Register (first_failing (register_suits bits row i)))
     (or_else (caused_unless (each_operand (address_suits bits row i)) cause.Memory)
@@ -294,7 +294,7 @@ tail_suits bits ip row i =
 unfoldable pub failure : Bits → ℕ → Row → Instr → Option NoSpelling
 failure bits ip row i =
     or_else (caused_unless (row_exists bits row) cause.Row)
-    (or_else (tail_failure bits ip row i) (caused_unless (is_short bits row i) cause.Length))
+    (or_else (first_failed_condition bits ip row i) (caused_unless (is_short bits row i) cause.Length))
 
 -- the same of a row that may be absent
 abbrev pub failure_of : Bits → ℕ → Option Row → Instr → Option NoSpelling

@@ -30,7 +30,7 @@ use instruction_parts::sizes::{has_address_mark, is_lockable};
 use instruction_parts::spelling::PrefixState;
 use row_fit::fits::{is_no_repeat, is_repeat_f3, reads_gather};
 use row_fit::tail_fits::{is_control_number, is_nop_byte, kind_at};
-use row_meaning::meaning::{general, register_of};
+use row_meaning::meaning::{general_register, register_of};
 use row_types::{Class, OpKind, Plus, Row};
 use x86_values::{Bits, Instr, Mem, Operand, Register, same_bits, same_register};
 
@@ -75,7 +75,7 @@ fn naming_number(method: Method, kind: OpKind, register: Register) -> u8
 
 /// The register of a file with a number, by the operand size under the prefixes, which is known.
 #[inline(always)]
-#[tactic(auto, unfolding(row_meaning::specs::Meaning::register_of, row_meaning::specs::Meaning::general))]
+#[tactic(auto, unfolding(row_meaning::specs::Meaning::register_of, row_meaning::specs::Meaning::general_register))]
 fn register_at_size(
     bits: Bits,
     row: &Row,
@@ -88,7 +88,7 @@ fn register_at_size(
     ensures { result ≡ meaning.register_of bits row.now state.now file n }
 {
     match file {
-        File::OperandSize => general(size, n),
+        File::OperandSize => general_register(size, n),
         File::WordOrDword => match size {
             Bits::B16 => Register::R16(n),
             _ => Register::R32(n),
@@ -566,7 +566,7 @@ fn kind_failure(row: &Row, instr: &Instr) -> Option<NoSpelling>
     }
 }
 
-/// The same of condition 3.
+/// The cause where condition 3 fails: the first operand whose register cannot stand there, or operand 0 where two numbers of a gather are equal.
 #[tactic(auto, unfolding(crate::specs::Expressible::first_failing))]
 fn register_failure(
     bits: Bits,
@@ -591,7 +591,7 @@ fn register_failure(
     }
 }
 
-/// The same of condition 4, whose cause names no operand.
+/// The cause where condition 4 fails, for any operand: an address that ModRM and SIB cannot say. It names no operand.
 fn memory_failure(bits: Bits, row: &Row, instr: &Instr) -> Option<NoSpelling>
     ensures { result ≡ spec.caused_unless (spec.each_operand (spec.address_suits bits row.now instr.now)) cause.Memory }
 {
@@ -602,7 +602,7 @@ fn memory_failure(bits: Bits, row: &Row, instr: &Instr) -> Option<NoSpelling>
     caused_unless(all, NoSpelling::Memory)
 }
 
-/// The same of condition 5.
+/// The cause where condition 5 fails, for any operand: a displacement that its address does not have. It names no operand.
 fn displacement_failure(bits: Bits, row: &Row, instr: &Instr) -> Option<NoSpelling>
     ensures { result ≡ spec.caused_unless (spec.each_operand (spec.offered bits row.now instr.now)) cause.Displacement }
 {
@@ -613,7 +613,7 @@ fn displacement_failure(bits: Bits, row: &Row, instr: &Instr) -> Option<NoSpelli
     caused_unless(all, NoSpelling::Displacement)
 }
 
-/// The same of condition 6, with the operand.
+/// The cause where condition 6 fails: the first operand whose immediate its size does not hold.
 #[tactic(auto, unfolding(crate::specs::Expressible::first_failing))]
 fn immediate_failure(bits: Bits, row: &Row, instr: &Instr, size: Bits) -> Option<NoSpelling>
     requires { size ≡ tail.plain_size bits row.now }
@@ -631,7 +631,7 @@ fn immediate_failure(bits: Bits, row: &Row, instr: &Instr, size: Bits) -> Option
     }
 }
 
-/// The same of condition 7.
+/// The cause where condition 7 fails, for any operand: a near, RIP or EIP target out of reach. It names no operand.
 fn target_failure(bits: Bits, row: &Row, instr: &Instr, parts: &PlainParts) -> Option<NoSpelling>
     requires { ArePartsOf bits row.now instr.now parts.now }
     ensures { result ≡ spec.caused_unless (spec.each_operand (spec.target_suits bits parts.now.ip row.now instr.now)) cause.Target }
@@ -665,10 +665,10 @@ fn address_size_failure(bits: Bits, row: &Row, instr: &Instr) -> Option<NoSpelli
 /// The first that fails of the conditions 2 to 9, tested one after the other on all operands, None where all hold.
 #[cold]
 #[inline(never)]
-#[tactic(auto, unfolding(crate::specs::Expressible::tail_failure))]
+#[tactic(auto, unfolding(crate::specs::Expressible::first_failed_condition))]
 fn first_failure(bits: Bits, row: &Row, instr: &Instr, parts: &PlainParts) -> Option<NoSpelling>
     requires { ArePartsOf bits row.now instr.now parts.now }
-    ensures { result ≡ spec.tail_failure bits parts.now.ip row.now instr.now }
+    ensures { result ≡ spec.first_failed_condition bits parts.now.ip row.now instr.now }
 {
     match kind_failure(row, instr) {
         Some(why) => return Some(why),
@@ -792,9 +792,14 @@ fn tail_suits(bits: Bits, row: &Row, instr: &Instr, parts: &PlainParts) -> bool
 /// the address at which it is to stand.
 ///
 /// Mostly all hold, which one test of each operand shows; only else the conditions are tested in their order.
-pub fn tail_failure(bits: Bits, row: &Row, instr: &Instr, parts: &PlainParts) -> Option<NoSpelling>
+pub fn first_failed_condition(
+    bits: Bits,
+    row: &Row,
+    instr: &Instr,
+    parts: &PlainParts,
+) -> Option<NoSpelling>
     requires { ArePartsOf bits row.now instr.now parts.now }
-    ensures { result ≡ spec.tail_failure bits parts.now.ip row.now instr.now }
+    ensures { result ≡ spec.first_failed_condition bits parts.now.ip row.now instr.now }
 {
     if tail_suits(bits, row, instr, parts) {
         None

@@ -197,7 +197,7 @@ pub fn plain_front(bits: Bits, row: &Row, instr: &Instr) -> PrefixState
     )
 }
 
-/// The same by the numbers that the instruction asks, and by what the row asks of W of a REX and of 66.
+/// The front of the plain spelling by the numbers that the instruction asks, and by what the row asks of W of a REX and of 66.
 pub fn front_asked(
     bits: Bits,
     row: &Row,
@@ -218,7 +218,7 @@ pub fn front_asked(
     front_with(bits, row, instr, asked, w, size66, vex)
 }
 
-/// The same by its VEX too. A caller that knows the row as a legacy one gives None, which is nothing to copy.
+/// The front of the plain spelling by what is asked and by its VEX. A caller that knows the row as a legacy one gives None, which is nothing to copy.
 #[inline(always)]
 #[tactic(auto, unfolding(crate::specs::PlainFront::byte_front, crate::specs::PlainFront::plain_front_of, crate::specs::PlainFront::asked_used))]
 pub(crate) fn front_with(

@@ -1,4 +1,4 @@
-//! The plain spelling of an instruction, and why an instruction has none (Intel SDM volume 2, chapter 2).
+//! The plain spelling of an instruction, and why an instruction has none (Intel SDM volume 2, 2.1 to 2.3).
 #![tactic(auto)]
 
 pub mod addresses;

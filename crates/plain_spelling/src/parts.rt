@@ -67,7 +67,7 @@ fn immediate_len_16(kind: OpKind) -> u8
     }
 }
 
-/// The same at operand size 32.
+/// How many immediate bytes a kind of operand has at operand size 32.
 #[inline(always)]
 #[tactic(auto, unfolding(row_fit::specs::Fits::immediate_bytes, instruction_parts::specs::Kinds::immediate_width))]
 fn immediate_len_32(kind: OpKind) -> u8
@@ -83,7 +83,7 @@ fn immediate_len_32(kind: OpKind) -> u8
     }
 }
 
-/// The same at operand size 64.
+/// How many immediate bytes a kind of operand has at operand size 64.
 #[inline(always)]
 #[tactic(auto, unfolding(row_fit::specs::Fits::immediate_bytes, instruction_parts::specs::Kinds::immediate_width))]
 fn immediate_len_64(kind: OpKind) -> u8

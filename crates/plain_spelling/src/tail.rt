@@ -137,7 +137,7 @@ fn rm_fields(bits: Bits, asize: Option<Bits>, place: Place, operand: Operand) ->
     }
 }
 
-/// The same of operand n, which is read where it lies.
+/// The fields of ModRM, SIB and displacement that operand n asks for as r/m, which is read where it lies.
 #[inline(never)]
 fn rm_fields_at(bits: Bits, row: &Row, instr: &Instr, n: usize) -> AddressFields
     requires { n < 4 }
@@ -146,7 +146,7 @@ fn rm_fields_at(bits: Bits, row: &Row, instr: &Instr, n: usize) -> AddressFields
     rm_fields(bits, instr.asize, row.place, operand_at(instr, n))
 }
 
-/// The same of the operand that ModRM.rm names.
+/// The fields of ModRM, SIB and displacement that the operand of ModRM.rm asks for.
 #[inline(always)]
 fn fields_of(bits: Bits, row: &Row, instr: &Instr) -> AddressFields
     ensures { result ≡ spec.fields_of bits row.now instr.now }

@@ -42,7 +42,7 @@ fn run_len(bits: Bits, bytes: &[u8]) -> usize
     bytes.iter().take_while(|b| is_prefix(bits, **b)).count()
 }
 
-/// The same within the first 15 bytes.
+/// The length of the run of prefix bytes at the front, counted within the first 15 bytes.
 #[inline(always)]
 fn bounded_run_len(bits: Bits, bytes: &[u8]) -> usize
     ensures { result ≡ min 15 (length (front.prefix_run bits bytes.now)) }
@@ -382,7 +382,7 @@ pub fn read_front(bits: Bits, bytes: &[u8]) -> Result<PrefixState, PrefixError>
     }
 }
 
-/// The same, where the front is written to a place: as a value it is copied at each call that it comes through.
+/// Reads the front as [`read_front`] does, and writes it to a place: as a value it is copied at each call that it comes through.
 #[inline(always)]
 pub fn read_front_into(bits: Bits, bytes: &[u8], place: &mut PrefixState) -> Result<(), PrefixError>
     ensures { answer_in result place.new ≡ answer_of (front.front_of bits bytes.now) }

@@ -8,7 +8,7 @@ use Rattle.row_types.specs.declared.Map.TheVariants.{One, M0f, M0f38, M0f3a}
 use Rattle.instruction_parts.specs.declared.spelling.Vex.{Vex}
 use Rattle.instruction_parts.specs.declared.spelling.PrefixState.{PrefixState}
 use Rattle.instruction_parts.specs.Counting.{is_64, is_prefix, bit_of}
-use Rattle.instruction_parts.specs.Bytes.{map_number, bit, inverted, vex_last_byte, vex_map_byte, vex_bytes, lead_bytes, state_from}
+use Rattle.instruction_parts.specs.Bytes.{map_number, bit, inverted_bit, vex_last_byte, vex_map_byte, vex_bytes, lead_bytes, state_from}
 use Rattle.instruction_parts.specs.Front.{Front, Forbidden, Known, prefix_run, forbids_vex, top_two_set, map_numbered, short_vex, long_vex, opcode_front, short_vex_front, third_byte_front, long_vex_front, vex_front, vex_or_opcode_front, escape_front, is_vex_lead, lead_front, long_front}
 use Rattle.row_fit.specs.Fits.{are_bytes, is_map_one, is_opcode, is_vex_of_mode, vex_in_range}
 use Rattle.row_fit.specs.FrontParts.{Parted, LeadIsProper, OpcodeAlone, VexAhead, is_far_load}
@@ -121,9 +121,9 @@ bit_of_small zero h = refl
 bit_of_small (suc zero) h = refl
 bit_of_small (suc (suc m)) h = absurd (omega arith)
 
-inverted-not : (b : Bool) → inverted (not b) ≡ bit b
-inverted-not true = refl
-inverted-not false = refl
+inverted_bit-not : (b : Bool) → inverted_bit (not b) ≡ bit b
+inverted_bit-not true = refl
+inverted_bit-not false = refl
 
 -- a byte of its parts
 last_parts : (c t l : ℕ) → c < 256 → t ≡ c / 128 % 2 → l ≡ c / 4 % 2 → t * 128 + (15 - (15 - c / 8 % 16)) * 8 + l * 4 + c % 4 ≡ c
@@ -138,7 +138,7 @@ below_2 n = omega arith
 short_vex-bytes : (c : ℕ) → c < 256 → vex_bytes (short_vex c) ≡ 0xC5 ∷ c ∷ []
 unfolding vex_bytes short_vex vex_last_byte
 short_vex-bytes c h =
-    let t : inverted (not (bit_of 7 c)) ≡ c / 128 % 2 = inverted-not (bit_of 7 c) ∙ bit_of_small (c / 128 % 2) (below_2 (c / 128)) in
+    let t : inverted_bit (not (bit_of 7 c)) ≡ c / 128 % 2 = inverted_bit-not (bit_of 7 c) ∙ bit_of_small (c / 128 % 2) (below_2 (c / 128)) in
     let l : bit (bit_of 2 c) ≡ c / 4 % 2 = bit_of_small (c / 4 % 2) (below_2 (c / 4)) in
     ap (λ x. 0xC5 ∷ x ∷ []) (last_parts c _ _ h t l)
 
@@ -167,9 +167,9 @@ unfolding vex_bytes long_vex vex_last_byte vex_map_byte
 long_vex-bytes map b c hb hc hm =
     let t : bit (bit_of 7 c) ≡ c / 128 % 2 = bit_of_small (c / 128 % 2) (below_2 (c / 128)) in
     let l : bit (bit_of 2 c) ≡ c / 4 % 2 = bit_of_small (c / 4 % 2) (below_2 (c / 4)) in
-    let r : inverted (not (bit_of 7 b)) ≡ b / 128 % 2 = inverted-not (bit_of 7 b) ∙ bit_of_small (b / 128 % 2) (below_2 (b / 128)) in
-    let x : inverted (not (bit_of 6 b)) ≡ b / 64 % 2 = inverted-not (bit_of 6 b) ∙ bit_of_small (b / 64 % 2) (below_2 (b / 64)) in
-    let y : inverted (not (bit_of 5 b)) ≡ b / 32 % 2 = inverted-not (bit_of 5 b) ∙ bit_of_small (b / 32 % 2) (below_2 (b / 32)) in
+    let r : inverted_bit (not (bit_of 7 b)) ≡ b / 128 % 2 = inverted_bit-not (bit_of 7 b) ∙ bit_of_small (b / 128 % 2) (below_2 (b / 128)) in
+    let x : inverted_bit (not (bit_of 6 b)) ≡ b / 64 % 2 = inverted_bit-not (bit_of 6 b) ∙ bit_of_small (b / 64 % 2) (below_2 (b / 64)) in
+    let y : inverted_bit (not (bit_of 5 b)) ≡ b / 32 % 2 = inverted_bit-not (bit_of 5 b) ∙ bit_of_small (b / 32 % 2) (below_2 (b / 32)) in
     ap (λ n. 0xC4 ∷ n ∷ vex_last_byte (bit (bit_of 7 c)) (long_vex map b c) ∷ []) (map_parts b _ _ _ _ hb r x y hm)
     ∙ ap (λ n. 0xC4 ∷ b ∷ n ∷ []) (last_parts c _ _ hc t l)
 

@@ -11,7 +11,7 @@ use Rattle.instruction_parts.specs.declared.spelling.Vex.{Vex}
 use Rattle.instruction_parts.specs.declared.spelling.ModRm.{ModRm}
 use Rattle.instruction_parts.specs.declared.spelling.Spelling.{Spelling}
 use Rattle.instruction_parts.specs.Counting.{is_64, is_prefix, is_legacy_prefix, is_segment}
-use Rattle.instruction_parts.specs.Bytes.{escape_bytes, map_number, bit, inverted, vex_last_byte, vex_map_byte, vex_bytes, lead_bytes, modrm_byte, modrm_bytes, sib_bytes, tail_bytes, front_bytes, bytes_of, spelled_map, state_from, state_of}
+use Rattle.instruction_parts.specs.Bytes.{escape_bytes, map_number, bit, inverted_bit, vex_last_byte, vex_map_byte, vex_bytes, lead_bytes, modrm_byte, modrm_bytes, sib_bytes, tail_bytes, front_bytes, bytes_of, spelled_map, state_from, state_of}
 use Rattle.instruction_parts.specs.Front.{Known, prefix_run, forbids_vex, top_two_set, map_numbered, short_vex, long_vex, opcode_front, short_vex_front, third_byte_front, long_vex_front, vex_front, vex_or_opcode_front, escape_front, is_vex_lead, lead_front, long_front}
 use Rattle.instruction_parts.specs.Sizes.{is_vex_row}
 use Rattle.row_fit.specs.Fits.{prefixes_fit, tail_fits, state_fits, sib_in_range, are_bytes, fits, is_opcode, opcode_allows, opcode_is_kept, vex_fits, has_memory_mode, has_reg_zero, is_vex_of_mode, vex_in_range, modrm_in_range, fields_in_range, same_map, is_map_one}
@@ -78,7 +78,7 @@ last_byte-fields f true vvvv pp hf hv hp = (omega arith, omega arith, omega arit
 last_byte-fields f false vvvv pp hf hv hp = (omega arith, omega arith, omega arith, omega arith)
 
 -- a flag that is read back from the top bit of a byte, where it is stored inverted
-flag_back : (n : ℕ) (flag : Bool) → n % 2 ≡ inverted flag → not (n % 2 == 1) ≡ flag
+flag_back : (n : ℕ) (flag : Bool) → n % 2 ≡ inverted_bit flag → not (n % 2 == 1) ≡ flag
 flag_back n true h = rw h
 flag_back n false h = rw h
 
@@ -91,9 +91,9 @@ bit-below : (flag : Bool) → bit flag < 2
 bit-below true = omega arith
 bit-below false = omega arith
 
-inverted-below : (flag : Bool) → inverted flag < 2
-inverted-below true = omega arith
-inverted-below false = omega arith
+inverted_bit-below : (flag : Bool) → inverted_bit flag < 2
+inverted_bit-below true = omega arith
+inverted_bit-below false = omega arith
 
 mod-below : (n f : ℕ) → n ≡ f → f < 2 → n % 2 ≡ f
 mod-below n f e h = omega arith
@@ -106,16 +106,16 @@ same_fields : (r r' x x' b b' w w' l l' : Bool) (m m' : Map) (n n' p p' : ℕ) (
 same_fields r r' x x' b b' w w' l l' m m' n n' p p' t t' e1 e2 e3 e4 e5 e6 e7 e8 e9 = cc
 
 -- the two-byte VEX is read back
-pub short_vex-back : (v : Vex) → v.three ≡ false → v.x ≡ false → v.b ≡ false → v.w ≡ false → v.map ≡ M0f → v.vvvv < 16 → v.pp < 4 → short_vex (vex_last_byte (inverted v.r) v) ≡ v
+pub short_vex-back : (v : Vex) → v.three ≡ false → v.x ≡ false → v.b ≡ false → v.w ≡ false → v.map ≡ M0f → v.vvvv < 16 → v.pp < 4 → short_vex (vex_last_byte (inverted_bit v.r) v) ≡ v
 unfolding short_vex vex_last_byte
 short_vex-back v three x b w map hv hp =
-    let f = last_byte-fields (inverted v.r) v.l v.vvvv v.pp (inverted-below v.r) hv hp in
+    let f = last_byte-fields (inverted_bit v.r) v.l v.vvvv v.pp (inverted_bit-below v.r) hv hp in
     same_fields _ v.r _ v.x _ v.b _ v.w _ v.l _ v.map _ v.vvvv _ v.pp _ v.three
-    (sym three) (flag_back _ v.r (mod-below _ (inverted v.r) f.0 (inverted-below v.r)))
+    (sym three) (flag_back _ v.r (mod-below _ (inverted_bit v.r) f.0 (inverted_bit-below v.r)))
     (sym x) (sym b) (sym w) (bit_back _ v.l f.1) (sym map) f.2 f.3
 
 -- the fields in the second byte of a three-byte VEX
-pub map_byte-fields : (r x b : Bool) (m : ℕ) → m < 4 → (let n = inverted r * 128 + inverted x * 64 + inverted b * 32 + m in (n / 128 % 2 ≡ inverted r) × (n / 64 % 2 ≡ inverted x) × (n / 32 % 2 ≡ inverted b) × (n % 32 ≡ m))
+pub map_byte-fields : (r x b : Bool) (m : ℕ) → m < 4 → (let n = inverted_bit r * 128 + inverted_bit x * 64 + inverted_bit b * 32 + m in (n / 128 % 2 ≡ inverted_bit r) × (n / 64 % 2 ≡ inverted_bit x) × (n / 32 % 2 ≡ inverted_bit b) × (n % 32 ≡ m))
 map_byte-fields true true true m h = (omega arith, omega arith, omega arith, omega arith)
 map_byte-fields true true false m h = (omega arith, omega arith, omega arith, omega arith)
 map_byte-fields true false true m h = (omega arith, omega arith, omega arith, omega arith)
@@ -188,13 +188,13 @@ lead_front-vex B32 ps lead b more l (inl h) = cc
 lead_front-vex B32 ps lead b more l (inr h) = rw l (rw h)
 
 -- the top two bits of the byte behind C5
-top_of_short : (v : Vex) → v.r ≡ false → v.vvvv < 8 → v.pp < 4 → vex_last_byte (inverted v.r) v / 64 ≡ 3
+top_of_short : (v : Vex) → v.r ≡ false → v.vvvv < 8 → v.pp < 4 → vex_last_byte (inverted_bit v.r) v / 64 ≡ 3
 unfolding vex_last_byte
 top_of_short v r hv hp = rw r (let l = bit-below v.l in omega arith)
 
 top_of_long : (v : Vex) → v.r ≡ false → v.x ≡ false → vex_map_byte v / 64 ≡ 3
 unfolding vex_map_byte
-top_of_long v r x = rw r (rw x (let b = inverted-below v.b in let m = map_number-below v.map in omega arith))
+top_of_long v r x = rw r (rw x (let b = inverted_bit-below v.b in let m = map_number-below v.map in omega arith))
 
 top_set : (b : ℕ) → b / 64 ≡ 3 → top_two_set b ≡ true
 top_set b h = rw h
@@ -204,7 +204,7 @@ top_set b h = rw h
 lt_from : (a b : ℕ) → nat_lt a b ≡ true → a < b
 lt_from a b h = ltb-true a b h
 
-vex_bytes-short : (v : Vex) → v.three ≡ false → vex_bytes v ≡ 0xC5 ∷ vex_last_byte (inverted v.r) v ∷ []
+vex_bytes-short : (v : Vex) → v.three ≡ false → vex_bytes v ≡ 0xC5 ∷ vex_last_byte (inverted_bit v.r) v ∷ []
 unfolding vex_bytes
 vex_bytes-short v three = rw three
 
@@ -242,14 +242,14 @@ vex_range v h =
     }
 
 -- outside 64-bit mode the byte behind C5 begins with 11
-short_top : (bits : Bits) (v : Vex) → VexRange v → v.three ≡ false → is_vex_of_mode bits v ≡ true → (is_64 bits ≡ true) ⊎ (top_two_set (vex_last_byte (inverted v.r) v) ≡ true)
+short_top : (bits : Bits) (v : Vex) → VexRange v → v.three ≡ false → is_vex_of_mode bits v ≡ true → (is_64 bits ≡ true) ⊎ (top_two_set (vex_last_byte (inverted_bit v.r) v) ≡ true)
 unfolding is_vex_of_mode
 short_top bits v range three h = elim (either (is_64 bits)) [
   | inl is ↦ inl is
   | inr other ↦
       let rest = or_right (is_64 bits) (not v.r && (if v.three then not v.x else nat_lt v.vvvv 8)) other h in
       let low : nat_lt v.vvvv 8 ≡ true = rw three at (and_right (not v.r) (if v.three then not v.x else nat_lt v.vvvv 8) rest) in
-      inr (top_set (vex_last_byte (inverted v.r) v) (top_of_short v (not_true v.r (and_left (not v.r) (if v.three then not v.x else nat_lt v.vvvv 8) rest)) (lt_from v.vvvv 8 low) range.pp))
+      inr (top_set (vex_last_byte (inverted_bit v.r) v) (top_of_short v (not_true v.r (and_left (not v.r) (if v.three then not v.x else nat_lt v.vvvv 8) rest)) (lt_from v.vvvv 8 low) range.pp))
 ]
 
 -- the same of the byte behind C4
@@ -285,7 +285,7 @@ vex_law bits ps v o more all forbids mode in_range =
           (long_vex-back v three range.vvvv range.pp))
       | inr three ↦
           let t = range.two three in
-          let last = vex_last_byte (inverted v.r) v in
+          let last = vex_last_byte (inverted_bit v.r) v in
           rw (vex_bytes-short v three)
           (long_front-run bits ps 0xC5 (last ∷ (o ∷ more)) all (c5_is_no_prefix bits)
           ∙ lead_front-vex bits ps 0xC5 last (o ∷ more) refl (short_top bits v range three mode)
@@ -415,5 +415,5 @@ run_law bits row ps None o m tail all h =
     legacy_run bits ps row.map o m tail all (and_right (not (is_vex_row row)) (opcode_is_kept bits row.map o m) h)
 run_law bits row ps (Some v) o m tail all h = elim (either v.three) [
   | inl three ↦ rw (vex_bytes-long v three) (prefix_run-append bits ps 0xC4 (vex_map_byte v ∷ (vex_last_byte (bit v.w) v ∷ (o ∷ tail))) all (c4_is_no_prefix bits))
-  | inr three ↦ rw (vex_bytes-short v three) (prefix_run-append bits ps 0xC5 (vex_last_byte (inverted v.r) v ∷ (o ∷ tail)) all (c5_is_no_prefix bits))
+  | inr three ↦ rw (vex_bytes-short v three) (prefix_run-append bits ps 0xC5 (vex_last_byte (inverted_bit v.r) v ∷ (o ∷ tail)) all (c5_is_no_prefix bits))
 ]

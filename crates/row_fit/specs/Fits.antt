@@ -1,4 +1,4 @@
--- When a spelling fits a row: eleven conditions, each of them a test (Intel SDM volume 2, chapter 2).
+-- When a spelling fits a row: eleven conditions, each of them a test (Intel SDM volume 2, 2.1 to 2.3).
 use Rattle.std.specs.Prelude.{ℕ, ◌+◌, ◌*◌, ◌%◌, Bool, true, false, ◌&&◌, ◌||◌, not, ◌==◌, nat_le, nat_lt, if◌then◌else◌, List, length, Option, Some, None, is_some, is_none, IsTrue, slice_index_or}
 use Rattle.std.specs.List.{list_any, list_all}
 use Rattle.x86_values.specs.declared.Bits.{Bits}
@@ -115,8 +115,8 @@ abbrev pub has_reg_zero : Option ModRm → Bool
 has_reg_zero m = has_modrm (λ m. m.reg == 0) m
 
 -- a number with the bit that adds 8 to it
-abbrev pub extended : Bool → ℕ → ℕ
-extended b n = bit b * 8 + n
+abbrev pub with_high_bit : Bool → ℕ → ℕ
+with_high_bit b n = bit b * 8 + n
 
 -- the field reg of a ModRM, 0 without one
 abbrev pub reg_field : Option ModRm → ℕ
@@ -130,11 +130,11 @@ rm_field (Some m) = m.rm
 
 -- the number in ModRM.reg, to which R adds 8 (2.2.1.2)
 unfoldable pub reg_number : PrefixState → Option ModRm → ℕ
-reg_number state m = extended (bit_r state) (reg_field m)
+reg_number state m = with_high_bit (bit_r state) (reg_field m)
 
 -- the number in ModRM.rm, to which B adds 8 (2.2.1.2)
 unfoldable pub rm_number : Bits → PrefixState → Option ModRm → ℕ
-rm_number bits state m = extended (bit_b bits state) (rm_field m)
+rm_number bits state m = with_high_bit (bit_b bits state) (rm_field m)
 
 -- the number in vvvv, of which outside 64-bit mode the top bit is ignored (2.3.5.6)
 unfoldable pub vvvv_number : Bits → PrefixState → ℕ
@@ -143,7 +143,7 @@ vvvv_number bits state =
 
 -- the number in SIB.index, to which X adds 8; without a SIB the field is 0 (2.2.1.2)
 unfoldable pub index_number : PrefixState → Option Sib → ℕ
-index_number state sib = extended (bit_x state) (elim sib [ None ↦ 0 | Some s ↦ s.index ])
+index_number state sib = with_high_bit (bit_x state) (elim sib [ None ↦ 0 | Some s ↦ s.index ])
 
 -- ---- 1. the row exists in the mode
 

@@ -1,4 +1,4 @@
-//! When a spelling fits a row: eleven conditions, each of them a test (Intel SDM volume 2, chapter 2).
+//! When a spelling fits a row: eleven conditions, each of them a test (Intel SDM volume 2, 2.1 to 2.3).
 #![tactic(auto)]
 
 pub mod fits;

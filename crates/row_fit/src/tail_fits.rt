@@ -46,8 +46,8 @@ pub fn rm_field(m: Option<ModRm>) -> u8
 }
 
 /// A number with the bit that adds 8 to it.
-pub fn extended(b: bool, n: u8) -> u16
-    ensures { result ≡ spec.extended b n }
+pub fn with_high_bit(b: bool, n: u8) -> u16
+    ensures { result ≡ spec.with_high_bit b n }
 {
     if b { 8 + n as u16 } else { n as u16 }
 }
@@ -57,7 +57,7 @@ pub fn extended(b: bool, n: u8) -> u16
 pub fn reg_number(state: &PrefixState, m: Option<ModRm>) -> u16
     ensures { result ≡ spec.reg_number state.now m }
 {
-    extended(bit_r(state), reg_field(m))
+    with_high_bit(bit_r(state), reg_field(m))
 }
 
 /// The number in ModRM.rm with B.
@@ -65,7 +65,7 @@ pub fn reg_number(state: &PrefixState, m: Option<ModRm>) -> u16
 pub fn rm_number(bits: Bits, state: &PrefixState, m: Option<ModRm>) -> u16
     ensures { result ≡ spec.rm_number bits state.now m }
 {
-    extended(bit_b(bits, state), rm_field(m))
+    with_high_bit(bit_b(bits, state), rm_field(m))
 }
 
 /// The number in vvvv.
@@ -85,8 +85,8 @@ pub fn index_number(state: &PrefixState, sib: Option<Sib>) -> u16
     ensures { result ≡ spec.index_number state.now sib }
 {
     match sib {
-        None => extended(bit_x(state), 0),
-        Some(s) => extended(bit_x(state), s.index),
+        None => with_high_bit(bit_x(state), 0),
+        Some(s) => with_high_bit(bit_x(state), s.index),
     }
 }
 

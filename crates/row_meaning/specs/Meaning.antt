@@ -35,7 +35,7 @@ use Rattle.instruction_parts.specs.Kinds.{method_of, file_of, fixed_number}
 use Rattle.instruction_parts.specs.Counting.{is_64}
 use Rattle.instruction_parts.specs.Sizes.{state_size, state_address_size, bit_b, bit_w, has_address_mark}
 use Rattle.instruction_parts.specs.Bytes.{state_of, bytes_of}
-use Rattle.row_fit.specs.Fits.{extended, has_modrm, reg_number, rm_number, vvvv_number, index_number, is_displacement_alone, immediate_bytes, is_memory_method, kind_at}
+use Rattle.row_fit.specs.Fits.{with_high_bit, has_modrm, reg_number, rm_number, vvvv_number, index_number, is_displacement_alone, immediate_bytes, is_memory_method, kind_at}
 
 -- ---- numbers in bytes
 
@@ -59,10 +59,10 @@ segment_numbered n =
     if n == 0 then Es else (if n == 1 then Cs else (if n == 2 then Ss else (if n == 3 then Ds else (if n == 4 then Fs else Gs))))
 
 -- a general register of a size
-unfoldable pub general : Bits → ℕ → Register
-general B16 n = R16 n
-general B32 n = R32 n
-general B64 n = R64 n
+unfoldable pub general_register : Bits → ℕ → Register
+general_register B16 n = R16 n
+general_register B32 n = R32 n
+general_register B64 n = R64 n
 
 -- a byte register: without a counting REX the numbers 4 to 7 are AH, CH, DH and BH, with one SPL, BPL, SIL and DIL (2.2.1.2)
 unfoldable pub byte_register : Option ℕ → ℕ → Register
@@ -95,10 +95,10 @@ register_of bits row state ByteFile n = byte_register state.rex n
 register_of bits row state WordFile n = R16 n
 register_of bits row state DwordFile n = R32 n
 register_of bits row state QwordFile n = R64 n
-register_of bits row state OperandSizeFile n = general (state_size bits row state) n
-register_of bits row state WordOrDwordFile n = general (word_or_dword (state_size bits row state)) n
-register_of bits row state ByWFile n = general (size_by_w (bit_w bits state)) n
-register_of bits row state NativeFile n = general (native_size bits) n
+register_of bits row state OperandSizeFile n = general_register (state_size bits row state) n
+register_of bits row state WordOrDwordFile n = general_register (word_or_dword (state_size bits row state)) n
+register_of bits row state ByWFile n = general_register (size_by_w (bit_w bits state)) n
+register_of bits row state NativeFile n = general_register (native_size bits) n
 register_of bits row state SegmentFile n = Seg (segment_numbered (n % 8))
 register_of bits row state ControlFile n = Cr n
 register_of bits row state DebugFile n = Dr n
@@ -153,27 +153,27 @@ abbrev pub target_of : Bits → ℕ → List ℕ → ℕ
 target_of size next distance = wrapped size (next + sign_extended 64 distance)
 
 -- an address without base and index and without a SIB: RIP-relative in 64-bit mode, EIP-relative with 67 (2.2.1.6)
-unfoldable pub memory_alone : Bits → Bits → ℕ → List ℕ → Mem
-memory_alone B64 asize next disp = record {
+unfoldable pub ip_or_absolute : Bits → Bits → ℕ → List ℕ → Mem
+ip_or_absolute B64 asize next disp = record {
   base = Some (instruction_pointer asize);
   index = None;
   scale = 1;
   disp = target_of asize next disp;
   disp_size = D32;
 }
-memory_alone _ asize next disp =
+ip_or_absolute _ asize next disp =
     record { base = None; index = None; scale = 1; disp = displacement asize disp; disp_size = D32 }
 
 -- the base of an address with a SIB: base 5 with mod 0 is none, whatever B (2.1.5, table 2-3; 2.2.1.2, table 2-5)
 unfoldable pub sib_base : Bits → Bits → PrefixState → ModRm → Sib → Option Register
 sib_base bits asize state m s =
     if m.mode3 == 0 && s.base == 5 then None
-    else Some (general asize (extended (bit_b bits state) s.base))
+    else Some (general_register asize (with_high_bit (bit_b bits state) s.base))
 
 -- the index of an address with a SIB: number 4, with X 0, is none (2.1.5, table 2-3; 2.2.1.2, table 2-5)
 unfoldable pub sib_index : Bits → PrefixState → Sib → Option Register
 sib_index asize state s =
-    let n = index_number state (Some s) in if n == 4 then None else Some (general asize n)
+    let n = index_number state (Some s) in if n == 4 then None else Some (general_register asize n)
 
 -- the scale, which is 1 without an index
 abbrev pub scale_of : Option Register → Sib → ℕ
@@ -193,7 +193,7 @@ memory_with_sib bits asize state index m s disp = record {
 -- an address of a general register
 unfoldable pub memory_at_base : Bits → Bits → PrefixState → ModRm → List ℕ → Mem
 memory_at_base bits asize state m disp = record {
-  base = Some (general asize (extended (bit_b bits state) m.rm));
+  base = Some (general_register asize (with_high_bit (bit_b bits state) m.rm));
   index = None;
   scale = 1;
   disp = displacement asize disp;
@@ -205,7 +205,7 @@ unfoldable pub memory_wide : Bits → Bits → PrefixState → ModRm → Option 
 memory_wide bits asize state m (Some s) next disp =
     memory_with_sib bits asize state (sib_index asize state s) m s disp
 memory_wide bits asize state m None next disp =
-    if m.mode3 == 0 && m.rm == 5 then memory_alone bits asize next disp
+    if m.mode3 == 0 && m.rm == 5 then ip_or_absolute bits asize next disp
     else memory_at_base bits asize state m disp
 
 -- an address of any size
@@ -280,7 +280,7 @@ operand_by bits row state t kind AnyMode imm =
     Reg (register_of bits row state (file_of kind) (rm_number bits state t.modrm))
 operand_by bits row state t kind MemoryOnly imm = memory_operand bits state t.modrm t.sib t.disp t.next
 operand_by bits row state t kind OpcodeLow imm =
-    Reg (register_of bits row state (file_of kind) (extended (bit_b bits state) (state.opcode % 8)))
+    Reg (register_of bits row state (file_of kind) (with_high_bit (bit_b bits state) (state.opcode % 8)))
 operand_by bits row state t kind Vvvv imm =
     Reg (register_of bits row state (file_of kind) (vvvv_number bits state))
 operand_by bits row state t kind LastByte imm =

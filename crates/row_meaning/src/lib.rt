@@ -1,4 +1,4 @@
-//! What a fitting spelling means: the operands of an instruction (Intel SDM volume 2, chapter 2).
+//! What a fitting spelling means: the operands of an instruction (Intel SDM volume 2, 2.1 to 2.3).
 #![tactic(auto)]
 
 pub mod meaning;

@@ -9,7 +9,7 @@ use crate::numbers::sign_extended;
 use instruction_parts::kinds::File;
 use instruction_parts::sizes::{bit_w, state_size};
 use instruction_parts::spelling::{ModRm, PrefixState};
-use row_fit::tail_fits::{extended, is_displacement_alone};
+use row_fit::tail_fits::{is_displacement_alone, with_high_bit};
 use row_types::{LBit, Row};
 use x86_values::{Bits, DispSize, Mem, Register, Segment, wrap};
 
@@ -29,9 +29,9 @@ fn segment_numbered(n: u8) -> Segment
 }
 
 /// A general register of a size.
-#[tactic(auto, unfolding(crate::specs::Meaning::general))]
-pub fn general(size: Bits, n: u8) -> Register
-    ensures { result ≡ spec.general size n }
+#[tactic(auto, unfolding(crate::specs::Meaning::general_register))]
+pub fn general_register(size: Bits, n: u8) -> Register
+    ensures { result ≡ spec.general_register size n }
 {
     match size {
         Bits::B16 => Register::R16(n),
@@ -103,7 +103,7 @@ pub fn register_of(bits: Bits, row: &Row, state: &PrefixState, file: File, n: u8
     register_of_size(bits, state_size(bits, row, state), row, state, file, n)
 }
 
-/// The same, where the operand size is known.
+/// The register of a file with a number, where the operand size is known.
 #[inline(always)]
 #[tactic(auto, unfolding(crate::specs::Meaning::register_of))]
 pub fn register_of_size(
@@ -122,10 +122,10 @@ pub fn register_of_size(
         File::Word => Register::R16(n),
         File::Dword => Register::R32(n),
         File::Qword => Register::R64(n),
-        File::OperandSize => general(size, n),
-        File::WordOrDword => general(word_or_dword(size), n),
-        File::ByW => general(size_by_w(bit_w(bits, state)), n),
-        File::Native => general(native_size(bits), n),
+        File::OperandSize => general_register(size, n),
+        File::WordOrDword => general_register(word_or_dword(size), n),
+        File::ByW => general_register(size_by_w(bit_w(bits, state)), n),
+        File::Native => general_register(native_size(bits), n),
         File::Segment => Register::Seg(segment_numbered(n % 8)),
         File::Control => Register::Cr(n),
         File::Debug => Register::Dr(n),
@@ -218,10 +218,10 @@ pub fn target(size: Bits, next: u64, distance: &[u8]) -> u64
 }
 
 /// An address without base and index.
-#[tactic(auto, unfolding(crate::specs::Meaning::memory_alone))]
-pub fn memory_alone(bits: Bits, asize: Bits, next: u64, disp: &[u8]) -> Mem
+#[tactic(auto, unfolding(crate::specs::Meaning::ip_or_absolute))]
+pub fn ip_or_absolute(bits: Bits, asize: Bits, next: u64, disp: &[u8]) -> Mem
     requires { length disp.now ≤ 8 }
-    ensures { result ≡ spec.memory_alone bits asize next disp.now }
+    ensures { result ≡ spec.ip_or_absolute bits asize next disp.now }
 {
     match bits {
         Bits::B64 => Mem {

@@ -6,7 +6,7 @@ ghost use Rattle.x86_values.specs.Wrapping.{width};
 
 use x86_values::{Bits, wrap};
 
-/// The same of any bytes, one after the other.
+/// The number that any bytes hold, the least byte first.
 #[inline(never)]
 #[tactic(auto, unfolding(crate::specs::Meaning::little_endian))]
 fn any_number(bytes: &[u8]) -> u64

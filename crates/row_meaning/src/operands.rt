@@ -12,7 +12,8 @@ ghost use Rattle.row_fit.specs.Sound.{sound};
 ghost use Rattle.instruction_parts.specs.declared.kinds.Method.TheVariants.{Pointer as PointerMethod};
 
 use crate::meaning::{
-    disp_size_of, general, memory_16, memory_alone, register_of, register_of_size, target,
+    disp_size_of, general_register, ip_or_absolute, memory_16, register_of, register_of_size,
+    target,
 };
 use crate::numbers::{little_endian, sign_extended};
 use instruction_parts::bytes::{lead_len, state_of};
@@ -22,13 +23,13 @@ use instruction_parts::sizes::{bit_b, has_address_mark, state_address_size, stat
 use instruction_parts::spelling::{ModRm, PrefixState, Sib, Spelling};
 use row_fit::fits::mode_is_memory;
 use row_fit::tail_fits::{
-    extended, immediate_bytes, index_number, kind_at, reg_number, rm_number, vvvv_number,
+    immediate_bytes, index_number, kind_at, reg_number, rm_number, vvvv_number, with_high_bit,
 };
 use row_types::{Class, OpKind, Row};
 use x86_values::{Bits, Code, Instr, Mem, Operand, Register, Rep, wrap};
 
 /// A register number, which is small.
-fn small(n: u16) -> u8
+fn number_u8(n: u16) -> u8
     requires { n < 256 }
     ensures { result ≡ n }
 {
@@ -44,7 +45,7 @@ fn sib_base(bits: Bits, asize: Bits, state: &PrefixState, m: ModRm, s: Sib) -> O
     if m.mode3 == 0 && s.base == 5 {
         None
     } else {
-        Some(general(asize, small(extended(bit_b(bits, state), s.base))))
+        Some(general_register(asize, number_u8(with_high_bit(bit_b(bits, state), s.base))))
     }
 }
 
@@ -58,7 +59,7 @@ fn sib_index(asize: Bits, state: &PrefixState, s: Sib) -> Option<Register>
     if n == 4 {
         None
     } else {
-        Some(general(asize, small(n)))
+        Some(general_register(asize, number_u8(n)))
     }
 }
 
@@ -111,7 +112,7 @@ fn memory_at_base(bits: Bits, asize: Bits, state: &PrefixState, m: ModRm, disp: 
     ensures { result ≡ spec.memory_at_base bits asize state.now m disp.now }
 {
     Mem {
-        base: Some(general(asize, small(extended(bit_b(bits, state), m.rm)))),
+        base: Some(general_register(asize, number_u8(with_high_bit(bit_b(bits, state), m.rm)))),
         index: None,
         scale: 1,
         disp: sign_extended(asize, disp),
@@ -139,7 +140,7 @@ fn memory_wide(
         Some(s) => memory_with_sib(bits, asize, state, sib_index(asize, state, s), m, s, disp),
         None => {
             if m.mode3 == 0 && m.rm == 5 {
-                memory_alone(bits, asize, next, disp)
+                ip_or_absolute(bits, asize, next, disp)
             } else {
                 memory_at_base(bits, asize, state, m, disp)
             }
@@ -214,7 +215,13 @@ fn gather_memory(
     match sib {
         None => Operand::Absent,
         Some(s) => {
-            let index = register_of(bits, row, state, file, small(index_number(state, Some(s))));
+            let index = register_of(
+                bits,
+                row,
+                state,
+                file,
+                number_u8(index_number(state, Some(s))),
+            );
             let asize = state_address_size(bits, state);
             Operand::Mem(memory_with_sib(bits, asize, state, Some(index), m, s, disp))
         }
@@ -256,20 +263,20 @@ fn near_target(size: Bits, next: u64, imm: &[u8]) -> Operand
 
 /// The numbers that the fields ask for, each below 16.
 #[tactic(auto, unfolding(row_fit::specs::Fits::modrm_in_range, row_fit::specs::Fits::reg_number))]
-fn small_reg_number(state: &PrefixState, m: Option<ModRm>) -> u8
+fn reg_number_u8(state: &PrefixState, m: Option<ModRm>) -> u8
     requires { IsTrue (fits.modrm_in_range m) }
     ensures { result ≡ fits.reg_number state.now m }
 {
-    small(reg_number(state, m))
+    number_u8(reg_number(state, m))
 }
 
-/// The same of r/m.
+/// The number that r/m asks for, below 16.
 #[tactic(auto, unfolding(row_fit::specs::Fits::modrm_in_range, row_fit::specs::Fits::rm_number))]
-fn small_rm_number(bits: Bits, state: &PrefixState, m: Option<ModRm>) -> u8
+fn rm_number_u8(bits: Bits, state: &PrefixState, m: Option<ModRm>) -> u8
     requires { IsTrue (fits.modrm_in_range m) }
     ensures { result ≡ fits.rm_number bits state.now m }
 {
-    small(rm_number(bits, state, m))
+    number_u8(rm_number(bits, state, m))
 }
 
 /// A far pointer: the offset, then the selector of two bytes.
@@ -365,7 +372,7 @@ fn operand_into(
             false
         }
         Method::ModRmReg => {
-            let n = small_reg_number(state, behind.modrm);
+            let n = reg_number_u8(state, behind.modrm);
             register_into(bits, size, row, state, kind, n, place);
             false
         }
@@ -374,13 +381,13 @@ fn operand_into(
                 memory_into(bits, state, behind, place);
                 true
             } else {
-                let n = small_rm_number(bits, state, behind.modrm);
+                let n = rm_number_u8(bits, state, behind.modrm);
                 register_into(bits, size, row, state, kind, n, place);
                 false
             }
         }
         Method::RegisterOnly | Method::AnyMode => {
-            let n = small_rm_number(bits, state, behind.modrm);
+            let n = rm_number_u8(bits, state, behind.modrm);
             register_into(bits, size, row, state, kind, n, place);
             false
         }
@@ -389,7 +396,7 @@ fn operand_into(
             true
         }
         Method::OpcodeLow => {
-            let n = small(extended(bit_b(bits, state), state.opcode % 8));
+            let n = number_u8(with_high_bit(bit_b(bits, state), state.opcode % 8));
             register_into(bits, size, row, state, kind, n, place);
             false
         }
@@ -508,7 +515,7 @@ fn has_immediate(kind: OpKind) -> bool
     }
 }
 
-/// The same bytes, asked for only where the kind has some.
+/// The bytes of an operand's own immediate, asked for only where its kind has some.
 #[inline(always)]
 #[tactic(auto, unfolding(crate::specs::Meaning::own_immediate))]
 fn immediate_of<'a>(size: Bits, row: &Row, n: usize, kind: OpKind, imm: &'a [u8]) -> &'a [u8]

@@ -53,8 +53,8 @@ fn bit(b: bool) -> u8
 }
 
 /// A bit as it is stored in a VEX, inverted (2.3.5).
-fn inverted(b: bool) -> u8
-    ensures value { result ≡ spec.inverted b }
+fn inverted_bit(b: bool) -> u8
+    ensures value { result ≡ spec.inverted_bit b }
     ensures small { result < 2 }
 {
     if b { 0 } else { 1 }
@@ -77,9 +77,9 @@ fn vex_last_byte(front: u8, v: Vex) -> u8
 fn vex_map_byte(v: Vex) -> u8
     ensures { result ≡ spec.vex_map_byte v }
 {
-    let r = inverted(v.r);
-    let x = inverted(v.x);
-    let b = inverted(v.b);
+    let r = inverted_bit(v.r);
+    let x = inverted_bit(v.x);
+    let b = inverted_bit(v.b);
     let map = map_number(v.map);
     r * 128 + x * 64 + b * 32 + map
 }
@@ -95,7 +95,7 @@ fn append_vex(out: &mut ArrayVec<u8, 15>, v: Vex)
     if v.three {
         append_few(out, &[0xC4, vex_map_byte(v), vex_last_byte(bit(v.w), v)]);
     } else {
-        append_few(out, &[0xC5, vex_last_byte(inverted(v.r), v)]);
+        append_few(out, &[0xC5, vex_last_byte(inverted_bit(v.r), v)]);
     }
 }
 

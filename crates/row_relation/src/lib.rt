@@ -1,4 +1,4 @@
-//! Spellings of the rows of a table: their bytes, when they fit, and what they mean (Intel SDM volume 2, chapter 2).
+//! Spellings of the rows of a table: their bytes, when they fit, and what they mean (Intel SDM volume 2, 2.1 to 2.3).
 #![tactic(auto)]
 
 mod bytes;

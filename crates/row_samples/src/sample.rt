@@ -6,7 +6,7 @@ use row_types::{LBit, OpKind, Place, Row, Size};
 use x86_values::{Bits, Code, DispSize, Instr, Mem, Operand, Register, Rep, Segment};
 
 /// The general register of a size with a number.
-fn general(size: Bits, number: u8) -> Register {
+fn general_register(size: Bits, number: u8) -> Register {
     match size {
         Bits::B16 => Register::R16(number),
         Bits::B32 => Register::R32(number),
@@ -50,12 +50,12 @@ fn register(bits: Bits, row: &Row, file: File, number: u8) -> Register {
         File::Word => Register::R16(number),
         File::Dword => Register::R32(number),
         File::Qword => Register::R64(number),
-        File::OperandSize => general(row_size(row), number),
+        File::OperandSize => general_register(row_size(row), number),
         File::WordOrDword => match row.size {
             Size::O16 => Register::R16(number),
             _ => Register::R32(number),
         },
-        File::ByW => general(size_by_w(row), number),
+        File::ByW => general_register(size_by_w(row), number),
         File::Native => match bits {
             Bits::B64 => Register::R64(number),
             _ => Register::R32(number),
@@ -88,7 +88,7 @@ fn address_size(bits: Bits, row: &Row) -> Bits {
 /// The address in BX, EBX or RBX.
 fn at_base(asize: Bits, index: Option<Register>) -> Operand {
     Operand::Mem(Mem {
-        base: Some(general(asize, 3)),
+        base: Some(general_register(asize, 3)),
         index,
         scale: 1,
         disp: 0,

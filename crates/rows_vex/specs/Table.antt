@@ -4,7 +4,7 @@ use Rattle.row_types.specs.declared.Row.{Row}
 use Rattle.row_lists.specs.declared.FlatRow.{FlatRow}
 use Rattle.row_lists.specs.declared.Span.{Span}
 use Rattle.row_lists.specs.Flat.{rows_of}
-use Rattle.rows_vex.specs.declared.table.TheConstants.{FLAT_ROWS, SPANS}
+use Rattle.rows_vex.specs.declared.generated_table.TheConstants.{FLAT_ROWS, SPANS}
 
 -- the rows as they lie in the table of constants
 unfoldable pub flat_rows : List FlatRow

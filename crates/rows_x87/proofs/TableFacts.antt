@@ -5,7 +5,7 @@ use Rattle.row_fields.proofs.Cands.{coded, of_number, at_opcode, below}
 use Rattle.row_fields.proofs.Cells.{is_run}
 use Rattle.row_lists.specs.Cells.{span_of}
 use Rattle.row_lists.proofs.Runs.{run_at, line_runs, spans_fit}
-use Rattle.rows_x87.specs.declared.table.TheConstants.{ROWS}
+use Rattle.rows_x87.specs.declared.generated_table.TheConstants.{ROWS}
 use Rattle.rows_x87.specs.Table.{flat_rows, table, spans}
 
 pub length-table : length table ≡ ROWS

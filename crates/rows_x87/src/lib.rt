@@ -1,8 +1,8 @@
 //! The x87 rows of the opcode table, by index and by cell: the opcode bytes D8 to DF (Intel SDM volume 2, A.5.2).
 #![tactic(auto)]
 
+mod generated_table;
 pub mod laws;
-mod table;
 
 ghost use Rattle.std.specs.Prelude.{◌≡◌, length};
 ghost use Rattle.row_types.specs.declared.RowKind.TheVariants.{Legacy};
@@ -10,10 +10,10 @@ ghost use Rattle.row_lists.specs.Flat.{rows_of};
 ghost use Rattle.row_lists.specs.Spans.{AreSpansOf};
 ghost use Rattle.rows_x87.specs.Table.{table, spans};
 
+pub use generated_table::ROWS;
+use generated_table::{FLAT_ROWS, SPANS};
 use row_lists::RowList;
 use row_types::RowKind;
-pub use table::ROWS;
-use table::{FLAT_ROWS, SPANS};
 
 /// The rows as one list, by index and by cell.
 #[inline]

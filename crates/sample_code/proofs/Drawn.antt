@@ -168,9 +168,9 @@ one_number ip (suc (suc (suc (suc (suc (suc (suc zero))))))) x lt = one_number_7
 one_number ip (suc (suc (suc (suc (suc (suc (suc (suc d)))))))) x lt = absurd (omega arith)
 
 -- a number below 2 to the power of 16 in four bytes is no negative one
-extended : (x : ℕ) → x < 65536 → sign_extended 64 (low_bytes 4 x) ≡ x
+with_high_bit : (x : ℕ) → x < 65536 → sign_extended 64 (low_bytes 4 x) ≡ x
 unfolding sign_extended little_endian low_bytes
-extended x lt = small (x % 256 + 256 * (byte_1 x + 256 * (byte_2 x + 256 * (byte_3 x + 256 * 0)))) (omega arith)
+with_high_bit x lt = small (x % 256 + 256 * (byte_1 x + 256 * (byte_2 x + 256 * (byte_3 x + 256 * 0)))) (omega arith)
   where
     small : (v : ℕ) → v ≡ x → (if nat_lt (2 * v) (2 ^ 32) then v % 2 ^ 64 else (v + (2 ^ 64 - 2 ^ 32)) % 2 ^ 64) ≡ x
     small v e = rw (lt-ltb (2 * v) (2 ^ 32) (omega (arith, e))) (omega (arith, e))
@@ -187,7 +187,7 @@ one_wide_load ip x lt low =
     (fits-wide_load (x % 256) (byte_1 x) (byte_2 x) (byte_3 x) (byte x) (byte (x / 256)) (byte (x / 256 / 256)) (byte (x / 256 / 256 / 256)))
     (omega arith) (omega arith)
     (aim-wide_load ip (x % 256) (byte_1 x) (byte_2 x) (byte_3 x)
-    (low_target ip x (omega arith) (sign_extended 64 (low_bytes 4 x)) (extended x lt)))
+    (low_target ip x (omega arith) (sign_extended 64 (low_bytes 4 x)) (with_high_bit x lt)))
 
 -- **each instruction that is drawn is one**
 one_of : (ip kind r q : ℕ) → ip < 2 ^ 23 → kind < 8 → IsOne ip (kind_bytes kind r q)

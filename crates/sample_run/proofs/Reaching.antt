@@ -159,10 +159,10 @@ module _ (totals : TotalFacts) (lengths : LengthFacts) (first : FirstFacts) (pla
             reach.other-reached B64 items spans takes-all placed few layout least ends-inside k lt own (subst F (sym own) (subst R (sym is) h))
 
         -- **an item that is aimed low is reached**
-        pub aimed-reached : IsAimedLow (item_at items k).instr → IsReached B64 items (plan_for B64 (one_span items moved_base) items) layout k
-        aimed-reached (nowhere none target is) = by_operand Always none is tt
-        aimed-reached (near t e) = reach.reached-in_64 items (one_span items moved_base) takes-all placed few layout least ends-inside k t lt e
-        aimed-reached (by_rip t low none target is) =
+        pub with_target-reached : IsAimedLow (item_at items k).instr → IsReached B64 items (plan_for B64 (one_span items moved_base) items) layout k
+        with_target-reached (nowhere none target is) = by_operand Always none is tt
+        with_target-reached (near t e) = reach.reached-in_64 items (one_span items moved_base) takes-all placed few layout least ends-inside k t lt e
+        with_target-reached (by_rip t low none target is) =
             let spans = one_span items moved_base in
             let goal = goal-low t low target in
             let end = place-low k lt in

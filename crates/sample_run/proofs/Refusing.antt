@@ -28,7 +28,7 @@ use Rattle.move_layout.specs.Facts.{SlotFacts}
 use Rattle.block_encoder.specs.Facts.{SeatFacts, ReachFacts}
 use Rattle.sample_run.specs.Sample.{moved_base}
 use Rattle.sample_run.specs.Facts.{made_block}
-use Rattle.sample_run.proofs.Reaching.{ends-inside, aimed-reached}
+use Rattle.sample_run.proofs.Reaching.{ends-inside, with_target-reached}
 
 -- ---- made items
 
@@ -113,7 +113,7 @@ module _ (totals : TotalFacts) (lengths : LengthFacts) (first : FirstFacts) (pla
       some_none _ end h.passes (ends-inside totals lengths first plans slots seats reach (placed_in code_base made.items) few_items well_placed h.layout)
   unrefused (error.TooFar at target) no_memory in_order h =
       let far = h.first in
-      far.unreached (aimed-reached totals lengths first plans slots seats reach (placed_in code_base made.items) few_items well_placed h.layout at far.within h.least
+      far.unreached (with_target-reached totals lengths first plans slots seats reach (placed_in code_base made.items) few_items well_placed h.layout at far.within h.least
       (aimed_at made.items made.made at (omega (arith, far.within, count_is))))
 
   code_unrefused : (why : MoveError) → (why ≡ error.Memory → ⊥) → ((at : ℕ) → why ≡ error.OldOrder at → ⊥) → RefusesCode B64 made_block (code_of n) why → ⊥

@@ -60,7 +60,7 @@ fn access_word(operand: Operand, access: Access) -> &'static [u8]
     }
 }
 
-/// The same of operand `n`.
+/// The access of operand `n` as a word, nothing where there is none.
 #[tactic(auto, unfolding(crate::specs::Info::operand_word))]
 fn operand_word(instr: &Instr, n: usize) -> &'static [u8]
     requires code { instr.now.code.0 < ROWS }

@@ -17,9 +17,9 @@ use Rattle.rows_integer.specs.Table.{table as integer_rows, flat_rows as integer
 use Rattle.rows_x87.specs.Table.{table as x87_rows, flat_rows as x87_flat}
 use Rattle.rows_sse.specs.Table.{table as sse_rows, flat_rows as sse_flat}
 use Rattle.rows_vex.specs.Table.{table as vex_rows, flat_rows as vex_flat}
-use Rattle.opcode_rows.specs.declared.spots.Part.{Part}
-use Rattle.opcode_rows.specs.declared.spots.Part.TheVariants as part
-use Rattle.opcode_rows.specs.declared.spots.TheConstants.{ROWS}
+use Rattle.opcode_rows.specs.declared.spot.Part.{Part}
+use Rattle.opcode_rows.specs.declared.spot.Part.TheVariants as part
+use Rattle.opcode_rows.specs.declared.generated_spots.TheConstants.{ROWS}
 use Rattle.opcode_rows.specs.Table.{part_table, table}
 use Rattle.plain_spelling.specs.Forms.{is_variant_of, operand_at}
 use Rattle.opcode_rows.specs.Allowed.{has_numbers, operand_is_formed, is_formed, is_formed_by, is_well_formed}

@@ -15,5 +15,5 @@ returns c = record {
   branch_to-length = lengths.branch_to-length;
   short-length = lengths.short-length;
   skip-length = lengths.skip-length;
-  inverted-small = pieces.inverted-small;
+  opposite_condition-small = pieces.opposite_condition-small;
 }

@@ -1,5 +1,5 @@
 use Rattle.std.proofs.Common.{◌<◌, arith}
-use Rattle.opcode_rows.specs.declared.spots.TheConstants.{ROWS}
+use Rattle.opcode_rows.specs.declared.generated_spots.TheConstants.{ROWS}
 use Rattle.intel_reader.proofs.Choosing.{index_below, code_below, code_at_index}
 use Rattle.intel_reader.proofs.choice.with_index.Goals as goal
 

@@ -1,5 +1,5 @@
 use Rattle.std.proofs.Common.{◌<◌, arith}
-use Rattle.opcode_rows.specs.declared.spots.TheConstants.{ROWS}
+use Rattle.opcode_rows.specs.declared.generated_spots.TheConstants.{ROWS}
 use Rattle.intel_reader.proofs.Choosing.{code_below, index_led}
 use Rattle.intel_reader.proofs.Leading.{goes_on}
 use Rattle.intel_reader.proofs.choice.with_name.Goals as goal

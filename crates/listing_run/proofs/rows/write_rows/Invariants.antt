@@ -1,5 +1,5 @@
 use Rattle.std.proofs.Common.{◌≤◌, ◌-◌}
-use Rattle.opcode_rows.specs.declared.spots.TheConstants.{ROWS}
+use Rattle.opcode_rows.specs.declared.generated_spots.TheConstants.{ROWS}
 use Rattle.listing_run.specs.Rows.{lines_below}
 use Rattle.run_parts.specs.Writing.{Held}
 use Rattle.listing_run.proofs.rows.write_rows.Given as goal

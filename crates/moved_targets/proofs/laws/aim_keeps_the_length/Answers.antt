@@ -1,5 +1,5 @@
-use Rattle.moved_targets.proofs.Lengths.{aimed-length}
+use Rattle.moved_targets.proofs.Lengths.{with_target-length}
 use Rattle.moved_targets.proofs.laws.aim_keeps_the_length.Goals as goal
 
 pub returns : goal.returns
-returns c = λ bits t i. aimed-length bits t i
+returns c = λ bits t i. with_target-length bits t i

@@ -1,0 +1,95 @@
+#!/usr/bin/env bash
+# Counts the machine instructions of each thing that the library and the program do, by valgrind: a line for each, which
+# other work on the machine does not change. bench/README.md says what the lines are.
+#
+#     bench/counts.sh FILE [BITS]
+#
+# FILE is raw code. Its first 500,000 bytes are taken (COUNTED=n for another number). Builds stand in $BENCH_FOLDER, else in
+# a folder of $TMPDIR; they are made anew where they are not there.
+set -euo pipefail
+
+if [ $# -lt 1 ] || [ $# -gt 2 ]; then
+    echo "usage: $0 FILE [BITS]" >&2
+    exit 1
+fi
+command -v valgrind >/dev/null || { echo "$0: valgrind is not there" >&2; exit 1; }
+file=$(realpath "$1")
+bits=${2:-64}
+top=$(realpath "$(dirname "$0")/..")
+folder=${BENCH_FOLDER:-${TMPDIR:-/tmp}/feddurzai-bench}
+mkdir -p "$folder"
+part=$folder/counted.bin
+head -c "${COUNTED:-500000}" "$file" >"$part"
+
+# Builds a program of the repository by LLVM: CRATE ARGUMENT..
+build() {
+    local crate=$1
+    shift
+    [ -x "$folder/$crate" ] && return
+    (cd "$top/crates/$crate" && rt run -- "$@" </dev/null >/dev/null)
+    cp "$top/crates/$crate/out/$crate" "$folder/$crate"
+}
+
+# The machine instructions of a command, whose output goes nowhere: COMMAND ARGUMENT..
+count() {
+    valgrind --tool=cachegrind --cache-sim=no --cachegrind-out-file=/dev/null "$@" 2>&1 >/dev/null | sed -n 's/.*I *refs: *//p' | tr -d ,
+}
+
+# A line of the table: NAME INSTRUCTIONS ITEMS
+line() {
+    awk -v name="$1" -v all="$2" -v items="$3" 'BEGIN { printf "%-28s %9.0f\n", name, all / items }'
+}
+
+# What a second pass of a measurement adds: COMMAND ARGUMENT.., with the number of passes as the last argument
+second_pass() {
+    echo $(($(count "$@" 2 <"$part") - $(count "$@" 1 <"$part")))
+}
+
+# What a command of the program takes for its input, without its start: ARGUMENT.. on standard input, which is a file
+whole() {
+    local input=$1
+    shift
+    head -c 1 "$input" >"$folder/least.bin"
+    echo $(($(count "$folder/listing_program" "$@" <"$input") - $(count "$folder/listing_program" "$@" <"$folder/least.bin" || true)))
+}
+
+build decode_speed count "$bits"
+build listing_program --version
+list=$folder/counted.list
+"$folder/listing_program" list "$bits" 0 intel <"$part" >"$list"
+lines=$(wc -l <"$list")
+
+read=$(second_pass "$folder/decode_speed" read "$bits")
+line "decode" "$read" "$lines"
+line "Intel text, on top" $(($(second_pass "$folder/decode_speed" print "$bits") - read)) "$lines"
+line "encode, on top of decode" $(($(second_pass "$folder/decode_speed" encode "$bits") - read)) "$lines"
+line "a line of list intel" "$(whole "$part" list "$bits" 0 intel)" "$lines"
+line "a line of list att" "$(whole "$part" list "$bits" 0 att)" "$lines"
+
+# info, recode and move end at bad code, so they go over what stands in front of the first single byte
+bad=$(awk '$3 == "db" { print $1; exit }' "$list")
+code=$folder/counted-code.bin
+if [ -n "$bad" ]; then head -c $((16#$bad)) "$part" >"$code"; else cp "$part" "$code"; fi
+line "a line of info" "$(whole "$code" info "$bits" 0)" "$("$folder/listing_program" info "$bits" 0 <"$code" | wc -l)"
+line "a line of recode" "$(whole "$code" recode "$bits" 0 "$bits" 0)" "$("$folder/listing_program" recode "$bits" 0 "$bits" 0 <"$code" | wc -l)"
+
+# each text stands at the address at which it was listed, as the encodings are not shortened: the first run of them
+texts=$folder/counted.txt
+head -n "${ASM_LINES:-20000}" "$list" | cut -c49- >"$texts"
+line "a line of asm" "$(whole "$texts" asm "$bits" 0)" "$(wc -l <"$texts")"
+
+moved=$folder/counted-moved.bin
+end=$(awk 'NR == 65536 { print $1; exit } $3 == "db" { print $1; exit }' "$list")
+if [ -n "$end" ]; then head -c $((16#$end)) "$part" >"$moved"; else cp "$part" "$moved"; fi
+line "an instruction of move" "$(whole "$moved" move "$bits" 0 10000000)" "$("$folder/listing_program" map "$bits" 0 10000000 <"$moved" | wc -l)"
+
+# the library for C, where it was built: capi/build.sh FOLDER/capi
+if [ ! -f "$folder/capi/libfeddurzai.a" ]; then "$top/capi/build.sh" "$folder/capi" >&2; fi
+for work in decode text encode; do
+    flags=()
+    case $work in text) flags=(-DWITH_TEXT) ;; encode) flags=(-DWITH_ENCODE) ;; esac
+    cc -O2 -o "$folder/c_$work" "$top/bench/peers/feddurzai.c" -I"$top/capi" "${flags[@]}" "$folder/capi/libfeddurzai.a"
+    one=$(count "$folder/c_$work" "$part" "$bits" 1)
+    two=$(count "$folder/c_$work" "$part" "$bits" 2)
+    line "C: $(case $work in decode) echo feddurzai_decode ;; *) echo "decode and $work" ;; esac)" $((two - one)) "$lines"
+done
