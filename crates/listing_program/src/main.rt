@@ -8,21 +8,6 @@ use listing_run::{Status, run, status_number};
 use std::alloc::AllocError;
 use std::process::ExitCode;
 
-#[cfg(test)]
-mod asm_tests;
-#[cfg(test)]
-mod flow_tests;
-#[cfg(test)]
-mod hostile_tests;
-#[cfg(test)]
-mod moving_tests;
-#[cfg(test)]
-mod sample_tests;
-#[cfg(test)]
-mod slots_tests;
-#[cfg(test)]
-mod tests;
-
 /// Carries out the words of the command line on the standard streams.
 fn carry_out(rt: &HostRuntime) -> Result<Status, AllocError> {
     let alloc = rt.alloc();

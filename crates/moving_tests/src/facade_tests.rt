@@ -1,17 +1,20 @@
-use crate::decoding::decode_in;
-use crate::encoding::{NoSpelling, encode, encoded_len};
-use crate::flow::flow_graph_in;
-use crate::format::Intel;
-use crate::info::{Flow, flow_of};
-use crate::moving::move_block;
-use crate::region::{NotTaken, Region};
-use crate::rows::code_of;
-use crate::slots::StepSlots;
-use crate::streams::{MemSink, MemSource, info_stream};
-use crate::values::Bits;
+//! The library as one crate.
+
+use crate::items::all_placed;
+use feddurzai::decoding::decode_in;
+use feddurzai::encoding::{NoSpelling, encode, encoded_len};
+use feddurzai::flow::flow_graph_in;
+use feddurzai::format::Intel;
+use feddurzai::info::{Flow, flow_of};
+use feddurzai::moving::move_block;
+use feddurzai::region::{NotTaken, Region};
+use feddurzai::rows::code_of;
+use feddurzai::slots::StepSlots;
+use feddurzai::streams::{MemSink, MemSource, info_stream};
+use feddurzai::values::Bits;
 use std::test::Fail;
 
-// `jne` over 16 bytes: each module is called once, and what it says is the manual's.
+// `jne` over 16 bytes, moved beyond the reach of 32 bits: each module is called once, and what it says is the manual's.
 #[test]
 #[tactic(auto, using(operand_info::proofs::Uses::code_in_table))]
 fn each_module_has_its_call(rt: HostRuntime) -> Result<(), Fail> {
@@ -28,8 +31,10 @@ fn each_module_has_its_call(rt: HostRuntime) -> Result<(), Fail> {
     assert_eq!(rt; encoded.as_slice(), bytes.as_slice());
     let far = encoded_len(Bits::B64, 0x2000, &read.instr);
     assert_eq!(rt; far, Err(NoSpelling::Target));
-    let moved = move_block(rt.alloc(), Bits::B64, &[], 0x2000)?;
-    assert!(rt; moved.bytes().is_empty());
+    let items = all_placed(rt.alloc(), &[(0x1000, "7510")])?;
+    let moved = move_block(rt.alloc(), Bits::B64, &items, 0x7fff_0000_0000)?;
+    let image = hex::decode(rt.alloc(), "7406ff25000000001210000000000000")?;
+    assert_eq!(rt; moved.bytes(), image.as_slice());
     let graph = flow_graph_in(rt.alloc(), Bits::B64, 0x1000, &bytes)?;
     assert_eq!(rt; graph.starts(), [0].as_slice());
     let mut source = MemSource::new(&bytes);

@@ -1,51 +1,29 @@
-ghost use Rattle.std.specs.Prelude.{◌≡◌, ◌≤◌, None, IfOk, IfSome, length};
+//! The order of items, where they end, and where their targets go.
+
+ghost use Rattle.std.specs.Prelude.{◌≡◌, ◌≤◌, None, IfSome, length};
 ghost use Rattle.x86_values.specs.declared.Bits.{Bits};
 ghost use Rattle.move_goals.specs.Items as spec;
-ghost use Rattle.move_goals.specs.Items.{AreSpansOf, ArePlaced, IsPlaced};
+ghost use Rattle.move_goals.specs.Items.{AreSpansOf, ArePlaced};
 
-use crate::{Placed, first_disorder, first_old_pass, plan_for};
+use crate::items::all_placed;
 use branch_sizes::{BlockSpan, Goal};
-use encoder::encode;
-use plain_spelling::NoSpelling;
+use move_goals::{Placed, first_disorder, first_old_pass, plan_for};
 use std::alloc::{AllocError, Global};
 use std::test::Fail;
 use x86_values::{Bits, Code, Instr, Operand, Rep};
 
-/// A short JMP of 64-bit mode at an address, in two bytes.
-fn jump(ip: u64, target: u64) -> Placed
-    ensures ip { result.ip ≡ ip }
-    ensures len { result.len ≡ 2 }
-{
+/// Two bytes at an address, a short JMP of 64-bit mode to itself.
+fn jump(ip: u64) -> Placed {
     let none = Operand::Absent;
     let instr = Instr {
         code: Code(631),
-        ops: [Operand::Near(target), none, none, none],
+        ops: [Operand::Near(ip), none, none, none],
         lock: false,
         rep: Rep::None,
         seg: None,
         asize: None,
     };
     Placed { ip, len: 2, instr }
-}
-
-/// The same, if some bytes spell it there.
-fn spelled_jump(ip: u64, target: u64) -> Result<Placed, NoSpelling>
-    ensures { IfOk result (λ item. IsPlaced Bits.B64 item) }
-{
-    let item = jump(ip, target);
-    let _bytes = encode(Bits::B64, ip, &item.instr)?;
-    Ok(item)
-}
-
-/// Jumps from addresses to targets.
-fn jumps(alloc: Global, all: &[(u64, u64)]) -> Result<Vec<Placed>, Fail>
-    ensures { IfOk result (λ items. ArePlaced Bits.B64 items.items) }
-{
-    let mut items = Vec::with_capacity(alloc, all.len())?;
-    'jumps: for (ip, target) in all {
-        items.push(spelled_jump(*ip, *target)?)?;
-    }
-    Ok(items)
 }
 
 /// Three blocks that take all items, the second one at an address of its own.
@@ -84,7 +62,7 @@ fn goals_of(alloc: Global, items: &[Placed], spans: &[BlockSpan]) -> Result<Vec<
 }
 
 #[test]
-fn first_items_out_of_order(rt: HostRuntime) -> Result<(), Fail> {
+fn the_first_item_out_of_order_is_found(rt: HostRuntime) -> Result<(), Fail> {
     for (starts, counts, first) in [
         ([0x10, 0x12, 0x14, 0x16], [4, 0, 0], None),
         ([0x10, 0x13, 0x15, 0x18], [4, 0, 0], Some(1)),
@@ -94,7 +72,7 @@ fn first_items_out_of_order(rt: HostRuntime) -> Result<(), Fail> {
         ([0xFFFF_FFFF_FFFF_FFFE, 0, 2, 4], [4, 0, 0], Some(1)),
         ([0xFFFF_FFFF_FFFF_FFFE, 0, 2, 4], [1, 3, 0], None),
     ] {
-        let items = starts.map(|ip| jump(ip, ip));
+        let items = starts.map(|ip| jump(ip));
         let Some(spans) = spans_of(&items, counts, 0x5800) else {
             return Err(Fail::new("the blocks take other items"));
         };
@@ -104,7 +82,7 @@ fn first_items_out_of_order(rt: HostRuntime) -> Result<(), Fail> {
 }
 
 #[test]
-fn first_ends_behind_all_addresses(rt: HostRuntime) -> Result<(), Fail> {
+fn the_first_end_behind_all_addresses_is_found(rt: HostRuntime) -> Result<(), Fail> {
     for (bits, starts, counts, second, first) in [
         (Bits::B16, [0xFFFE, 0xFFFE], [1, 0, 1], 0x1_0000, None),
         (Bits::B16, [0, 0xFFFF], [1, 0, 1], 0, Some(0x1_0001)),
@@ -127,7 +105,7 @@ fn first_ends_behind_all_addresses(rt: HostRuntime) -> Result<(), Fail> {
             Some((1 << 64) + 1),
         ),
     ] {
-        let items = starts.map(|ip| jump(ip, ip));
+        let items = starts.map(|ip| jump(ip));
         let Some(spans) = spans_of(&items, counts, second) else {
             return Err(Fail::new("the blocks take other items"));
         };
@@ -136,55 +114,39 @@ fn first_ends_behind_all_addresses(rt: HostRuntime) -> Result<(), Fail> {
     Ok(())
 }
 
-// A target in the own block, in two other ones, in the middle of an item, and where nothing began.
+// JMP to a target in the own block, in two other ones, in the middle of an item, and where nothing began.
 #[test]
-fn goals_of_targets(rt: HostRuntime) -> Result<(), Fail> {
-    let own = [(0x10, 0x12), (0x12, 0x10), (0x10, 0x12), (0x12, 0x10)];
-    let others = [(0x10, 0x20), (0x20, 0x22), (0x20, 0x10), (0x22, 0x20)];
-    let outside = [(0x10, 0x11), (0x12, 0x14), (0x20, 0x13), (0x22, 0x22)];
+fn targets_have_their_goals(rt: HostRuntime) -> Result<(), Fail> {
+    let own = [
+        (0x10, "eb00"),
+        (0x12, "ebfc"),
+        (0x10, "eb00"),
+        (0x12, "ebfc"),
+    ];
+    let others = [
+        (0x10, "eb0e"),
+        (0x20, "eb00"),
+        (0x20, "ebee"),
+        (0x22, "ebfc"),
+    ];
+    let outside = [
+        (0x10, "ebff"),
+        (0x12, "eb00"),
+        (0x20, "ebf1"),
+        (0x22, "ebfe"),
+    ];
+    let (item, stays) = (|k| Goal::Inside(k), |target| Goal::Outside(target));
     for (all, counts, goals) in [
-        (
-            own,
-            [2, 2, 0],
-            [
-                Goal::Inside(1),
-                Goal::Inside(0),
-                Goal::Inside(3),
-                Goal::Inside(2),
-            ],
-        ),
-        (
-            own,
-            [2, 0, 2],
-            [
-                Goal::Inside(1),
-                Goal::Inside(0),
-                Goal::Inside(3),
-                Goal::Inside(2),
-            ],
-        ),
-        (
-            others,
-            [1, 1, 2],
-            [
-                Goal::Inside(1),
-                Goal::Inside(3),
-                Goal::Inside(0),
-                Goal::Inside(2),
-            ],
-        ),
+        (own, [2, 2, 0], [item(1), item(0), item(3), item(2)]),
+        (own, [2, 0, 2], [item(1), item(0), item(3), item(2)]),
+        (others, [1, 1, 2], [item(1), item(3), item(0), item(2)]),
         (
             outside,
             [2, 0, 2],
-            [
-                Goal::Outside(0x11),
-                Goal::Outside(0x14),
-                Goal::Outside(0x13),
-                Goal::Inside(3),
-            ],
+            [stays(0x11), stays(0x14), stays(0x13), item(3)],
         ),
     ] {
-        let items = jumps(rt.alloc(), &all)?;
+        let items = all_placed(rt.alloc(), &all)?;
         let Some(spans) = spans_of(&items, counts, 0x5800) else {
             return Err(Fail::new("the blocks take other items"));
         };

@@ -1,94 +1,82 @@
-use crate::{flow_graph, flow_graph_in};
+//! What control reaches in pieces of code, and their basic blocks.
+
 use decoder::DecodeError;
+use flow_graph::{FlowGraph, flow_graph, flow_graph_in};
 use operand_info::Flow;
+use std::alloc::Global;
 use std::test::Fail;
 use x86_values::Bits;
 
-type Case = (&'static [u8], &'static [u32], &'static [u32]);
+/// What control reaches in the bytes that are given in hexadecimal.
+fn graph_of(alloc: Global, bits: Bits, base: u64, digits: &str) -> Result<FlowGraph, Fail> {
+    let bytes = hex::decode(alloc, digits)?;
+    if bytes.len() > 16 {
+        return Err(Fail::new("there are more than 16 bytes"));
+    }
+    Ok(match bits {
+        Bits::B16 => flow_graph::<16>(alloc, base, &bytes)?,
+        Bits::B32 => flow_graph::<32>(alloc, base, &bytes)?,
+        Bits::B64 => flow_graph::<64>(alloc, base, &bytes)?,
+    })
+}
 
 #[test]
-fn straight_code_and_its_ends(rt: HostRuntime) -> Result<(), Fail> {
-    let cases: [Case; 13] = [
-        (&[], &[], &[]),
-        (&[0x90, 0x90, 0xC3], &[0, 1, 2], &[0, 0, 0]),
+fn code_has_its_reached_offsets_and_leaders(rt: HostRuntime) -> Result<(), Fail> {
+    let cases: [(&str, &[u32], &[u32]); 27] = [
+        ("", &[], &[]),
+        ("9090c3", &[0, 1, 2], &[0, 0, 0]),
         // behind the last byte
-        (&[0x90], &[0], &[0]),
+        ("90", &[0], &[0]),
         // invalid, and too short
-        (&[0x06, 0xC3], &[0], &[0]),
-        (&[0x90, 0xE8], &[0, 1], &[0, 0]),
+        ("06c3", &[0], &[0]),
+        ("90e8", &[0, 1], &[0, 0]),
         // ud2, jmp rax
-        (&[0x0F, 0x0B, 0xC3], &[0], &[0]),
-        (&[0xFF, 0xE0, 0xC3], &[0], &[0]),
+        ("0f0bc3", &[0], &[0]),
+        ("ffe0c3", &[0], &[0]),
         // int3, syscall, call rax
-        (&[0xCC, 0xC3], &[0, 1], &[0, 0]),
-        (&[0x0F, 0x05, 0xC3], &[0, 2], &[0, 0]),
-        (&[0xFF, 0xD0, 0xC3], &[0, 2], &[0, 0]),
+        ("ccc3", &[0, 1], &[0, 0]),
+        ("0f05c3", &[0, 2], &[0, 0]),
+        ("ffd0c3", &[0, 2], &[0, 0]),
         // a jump behind the bytes, and a call as the last instruction, behind them and back
-        (&[0xEB, 0x01, 0xC3], &[0], &[0]),
-        (&[0xE8, 0x00, 0x00, 0x00, 0x00], &[0], &[0]),
-        (&[0xE8, 0xFB, 0xFF, 0xFF, 0xFF], &[0], &[0]),
-    ];
-    for (bytes, starts, leaders) in cases {
-        assert!(rt; bytes.len() <= 16);
-        let graph = flow_graph::<64>(rt.alloc(), 0, bytes)?;
-        assert_eq!(rt; graph.starts(), starts, "the starts of {bytes:?}");
-        assert_eq!(rt; graph.leaders(), leaders, "the leaders of {bytes:?}");
-    }
-    Ok(())
-}
-
-#[test]
-fn branches(rt: HostRuntime) -> Result<(), Fail> {
-    let cases: [Case; 14] = [
-        (&[0x74, 0x01, 0x0F, 0xC3], &[0, 2, 3], &[0, 2, 3]),
-        (&[0xEB, 0x01, 0xCC, 0xC3], &[0, 3], &[0, 3]),
-        (
-            &[0xE8, 0x01, 0x00, 0x00, 0x00, 0xC3, 0xC3],
-            &[0, 5, 6],
-            &[0, 5, 6],
-        ),
+        ("eb01c3", &[0], &[0]),
+        ("e800000000", &[0], &[0]),
+        ("e8fbffffff", &[0], &[0]),
+        // a conditional jump, a jump and a call
+        ("74010fc3", &[0, 2, 3], &[0, 2, 3]),
+        ("eb01ccc3", &[0, 3], &[0, 3]),
+        ("e801000000c3c3", &[0, 5, 6], &[0, 5, 6]),
         // the target is the end: one successor
-        (&[0x74, 0x00, 0xC3], &[0, 2], &[0, 0]),
-        (&[0xEB, 0x00, 0xC3], &[0, 2], &[0, 0]),
+        ("7400c3", &[0, 2], &[0, 0]),
+        ("eb00c3", &[0, 2], &[0, 0]),
         // into the middle of the jump: inc eax
-        (&[0xEB, 0xFF, 0xC0, 0xC3], &[0, 1, 3], &[0, 1, 1]),
+        ("ebffc0c3", &[0, 1, 3], &[0, 1, 1]),
         // back to the first byte
-        (&[0x90, 0xEB, 0xFD], &[0, 1], &[0, 0]),
-        (&[0x90, 0x74, 0xFD, 0xC3], &[0, 1, 3], &[0, 0, 3]),
+        ("90ebfd", &[0, 1], &[0, 0]),
+        ("9074fdc3", &[0, 1, 3], &[0, 0, 3]),
         // to itself
-        (&[0xEB, 0xFE], &[0], &[0]),
-        (&[0x90, 0xEB, 0xFE], &[0, 1], &[0, 1]),
-        (&[0x74, 0xFE, 0xC3], &[0, 2], &[0, 2]),
+        ("ebfe", &[0], &[0]),
+        ("90ebfe", &[0, 1], &[0, 1]),
+        ("74fec3", &[0, 2], &[0, 2]),
         // a join: from a branch and from the instruction before it, which goes on or jumps
-        (
-            &[0x74, 0x01, 0x90, 0x90, 0xC3],
-            &[0, 2, 3, 4],
-            &[0, 2, 3, 3],
-        ),
-        (&[0x74, 0x02, 0xEB, 0x00, 0xC3], &[0, 2, 4], &[0, 2, 4]),
+        ("74019090c3", &[0, 2, 3, 4], &[0, 2, 3, 3]),
+        ("7402eb00c3", &[0, 2, 4], &[0, 2, 4]),
         // a join by a jump back, behind two that go on
-        (
-            &[0x90, 0x90, 0x90, 0xEB, 0xFC],
-            &[0, 1, 2, 3],
-            &[0, 1, 1, 1],
-        ),
+        ("909090ebfc", &[0, 1, 2, 3], &[0, 1, 1, 1]),
     ];
-    for (bytes, starts, leaders) in cases {
-        assert!(rt; bytes.len() <= 16);
-        let graph = flow_graph::<64>(rt.alloc(), 0x40_1000, bytes)?;
-        assert_eq!(rt; graph.starts(), starts, "the starts of {bytes:?}");
-        assert_eq!(rt; graph.leaders(), leaders, "the leaders of {bytes:?}");
+    for (digits, starts, leaders) in cases {
+        let graph = graph_of(rt.alloc(), Bits::B64, 0x40_1000, digits)?;
+        assert_eq!(rt; graph.starts(), starts, "the starts of {digits}");
+        assert_eq!(rt; graph.leaders(), leaders, "the leaders of {digits}");
     }
     Ok(())
 }
 
-/// What is told of each reached offset.
 #[test]
-fn flows(rt: HostRuntime) -> Result<(), Fail> {
-    let cases: [(&'static [u8], &'static [Result<Flow, DecodeError>]); 5] = [
-        (&[], &[]),
+fn each_reached_offset_has_its_flow(rt: HostRuntime) -> Result<(), Fail> {
+    let cases: [(&str, &[Result<Flow, DecodeError>]); 5] = [
+        ("", &[]),
         (
-            &[0x74, 0x01, 0x0F, 0xC3],
+            "74010fc3",
             &[
                 Ok(Flow::ConditionalBranch),
                 Err(DecodeError::TooShort),
@@ -96,12 +84,12 @@ fn flows(rt: HostRuntime) -> Result<(), Fail> {
             ],
         ),
         (
-            &[0xEB, 0x01, 0x06, 0x06],
+            "eb010606",
             &[Ok(Flow::UnconditionalBranch), Err(DecodeError::Invalid)],
         ),
         // call rax, int3, and a jump back to the first byte
         (
-            &[0xFF, 0xD0, 0xCC, 0xEB, 0xFB],
+            "ffd0ccebfb",
             &[
                 Ok(Flow::IndirectCall),
                 Ok(Flow::Interrupt),
@@ -109,20 +97,19 @@ fn flows(rt: HostRuntime) -> Result<(), Fail> {
             ],
         ),
         (
-            &[0xE8, 0x01, 0x00, 0x00, 0x00, 0x90, 0x0F, 0x0B],
+            "e801000000900f0b",
             &[Ok(Flow::Call), Ok(Flow::Next), Ok(Flow::Exception)],
         ),
     ];
-    for (bytes, flows) in cases {
-        assert!(rt; bytes.len() <= 16);
-        let graph = flow_graph::<64>(rt.alloc(), 0, bytes)?;
-        assert_eq!(rt; graph.flows(), flows, "the flows of {bytes:?}");
+    for (digits, flows) in cases {
+        let graph = graph_of(rt.alloc(), Bits::B64, 0, digits)?;
+        assert_eq!(rt; graph.flows(), flows, "the flows of {digits}");
     }
     Ok(())
 }
 
 #[test]
-fn targets_around_the_address_space(rt: HostRuntime) -> Result<(), Fail> {
+fn targets_go_around_the_address_space(rt: HostRuntime) -> Result<(), Fail> {
     let forth = [0xEB, 0x01, 0xCC, 0xC3];
     let back = [0x90, 0x90, 0xEB, 0xFC];
     for (bits, base) in [
@@ -141,29 +128,28 @@ fn targets_around_the_address_space(rt: HostRuntime) -> Result<(), Fail> {
     Ok(())
 }
 
-/// `inc eax` and `ret`, or `ret` with a REX prefix; a call to its end, of three bytes or of five.
+// `inc eax` and `ret`, or `ret` with a REX prefix; a call to its end, of three bytes or of five.
 #[test]
-fn code_of_each_mode(rt: HostRuntime) -> Result<(), Fail> {
-    let bytes = [0x40, 0xC3];
-    let two = [0u32, 1];
-    assert_eq!(rt;
-        flow_graph::<16>(rt.alloc(), 0, &bytes)?.starts(),
-        two.as_slice()
-    );
-    assert_eq!(rt;
-        flow_graph::<32>(rt.alloc(), 0, &bytes)?.starts(),
-        two.as_slice()
-    );
-    assert_eq!(rt;
-        flow_graph::<64>(rt.alloc(), 0, &bytes)?.starts(),
-        [0u32].as_slice()
-    );
-    let call = [0xE8, 0x00, 0x00, 0x00, 0x00, 0xC3];
-    let graph = flow_graph::<16>(rt.alloc(), 0x100, &call)?;
-    assert_eq!(rt; graph.starts(), [0u32, 3, 5].as_slice());
-    assert_eq!(rt; graph.leaders(), [0u32, 0, 0].as_slice());
-    let graph = flow_graph::<32>(rt.alloc(), 0x100, &call)?;
-    assert_eq!(rt; graph.starts(), [0u32, 5].as_slice());
-    assert_eq!(rt; graph.leaders(), [0u32, 0].as_slice());
+fn each_mode_reads_its_own_code(rt: HostRuntime) -> Result<(), Fail> {
+    let cases: [(Bits, &str, &[u32], &[u32]); 5] = [
+        (Bits::B16, "40c3", &[0, 1], &[0, 0]),
+        (Bits::B32, "40c3", &[0, 1], &[0, 0]),
+        (Bits::B64, "40c3", &[0], &[0]),
+        (Bits::B16, "e800000000c3", &[0, 3, 5], &[0, 0, 0]),
+        (Bits::B32, "e800000000c3", &[0, 5], &[0, 0]),
+    ];
+    for (bits, digits, starts, leaders) in cases {
+        let graph = graph_of(rt.alloc(), bits, 0x100, digits)?;
+        assert_eq!(rt;
+            graph.starts(),
+            starts,
+            "the starts of {digits} in {bits:?}"
+        );
+        assert_eq!(rt;
+            graph.leaders(),
+            leaders,
+            "the leaders of {digits} in {bits:?}"
+        );
+    }
     Ok(())
 }

@@ -1,10 +1,12 @@
+//! Places, slots and ends of worked layouts.
+
 ghost use Rattle.std.specs.Prelude.{◌≡◌, ◌<◌, ◌≤◌, ◌∷◌, [], IsTrue, IfOk, length};
 ghost use Rattle.std.specs.List.{list_all};
 ghost use Rattle.branch_sizes.specs.Plan.{is_fit_branch};
 
-use crate::{BlockEnd, Layout, Seat, lay_out};
 use arrayvec::ArrayVec;
 use branch_sizes::{BlockSpan, Branch, Choice, Form, Goal, Plan, Reach};
+use move_layout::{BlockEnd, Layout, Seat, lay_out};
 use std::alloc::{AllocError, Global};
 use std::test::Fail;
 
@@ -38,7 +40,7 @@ fn seat(form: Form, len: u8, place: u128, goal: u128, slot: u128) -> Seat {
 
 /// A far item and a second one from 0x1003 on.
 #[test]
-fn two_items(rt: HostRuntime) -> Result<(), Fail> {
+fn two_items_have_their_seats(rt: HostRuntime) -> Result<(), Fail> {
     let goal = 0x9000;
     for (form, to, second, slots, end) in [
         (Form::Far, Goal::Outside(0x9000), 0x9000, 1, 0x1018),
@@ -77,7 +79,7 @@ fn two_items(rt: HostRuntime) -> Result<(), Fail> {
 
 /// Blocks without items, without slots, and with a slot each for the same goal.
 #[test]
-fn blocks(rt: HostRuntime) -> Result<(), Fail> {
+fn blocks_have_their_ends(rt: HostRuntime) -> Result<(), Fail> {
     let spans = vec![in rt.alloc();
         BlockSpan {
             count: 0,
@@ -126,7 +128,7 @@ fn blocks(rt: HostRuntime) -> Result<(), Fail> {
 }
 
 #[test]
-fn no_item(rt: HostRuntime) -> Result<(), Fail> {
+fn no_item_ends_where_it_begins(rt: HostRuntime) -> Result<(), Fail> {
     let laid = lay_out(rt.alloc(), &Plan::new(0x1003, Vec::new(rt.alloc())))?;
     assert_eq!(rt; laid.seats.len(), 0);
     let end = BlockEnd {
@@ -153,7 +155,7 @@ fn far_items(alloc: Global, count: u32) -> Result<Vec<Branch>, AllocError>
 }
 
 #[test]
-fn many_goals(rt: HostRuntime) -> Result<(), Fail> {
+fn each_goal_has_its_slot(rt: HostRuntime) -> Result<(), Fail> {
     let items = far_items(rt.alloc(), 65536)?;
     let laid = lay_out(rt.alloc(), &Plan::new(0, items))?;
     assert_eq!(rt; laid.slots.len(), 65536);

@@ -10,6 +10,8 @@ mod goal_tests;
 #[cfg(test)]
 mod graph_tests;
 #[cfg(test)]
+mod items;
+#[cfg(test)]
 mod layout_tests;
 #[cfg(test)]
 mod port_tests;

@@ -1,7 +1,12 @@
+//! Sources and sinks, and the calls at which they fail.
+
 ghost use Rattle.std.specs.Prelude.{◌≡◌, IfOk};
 
-use super::*;
 use arrayvec::ArrayVec;
+use byte_ports::{
+    CountSink, FailAt, Failed, MemSink, MemSource, ReaderSource, Sink, SlowSource, Source,
+    WriterSink,
+};
 use std::io;
 use std::io::{Read, Write};
 use std::test::Fail;
@@ -102,16 +107,8 @@ impl Read for Faulty {
 fn a_reader_is_a_source(rt: HostRuntime) {
     let mut source = ReaderSource::new(Faulty { calls: 0 });
     let mut into = [0; 3];
-    assert_eq!(rt; source.faults, 0);
-    for (answer, faults) in [
-        (Ok(1), 0),
-        (Err(Failed), 1),
-        (Ok(1), 1),
-        (Err(Failed), 2),
-        (Ok(1), 2),
-    ] {
+    for answer in [Ok(1), Err(Failed), Ok(1), Err(Failed), Ok(1)] {
         assert_eq!(rt; source.pull(&mut into), answer);
-        assert_eq!(rt; source.faults, faults);
     }
     assert_eq!(rt; into[0], 9);
 }
@@ -131,16 +128,8 @@ impl Write for Faulty {
 #[test]
 fn a_writer_is_a_sink(rt: HostRuntime) {
     let mut sink = WriterSink::new(Faulty { calls: 0 });
-    assert_eq!(rt; sink.faults, 0);
-    for (answer, faults) in [
-        (Ok(2), 0),
-        (Err(Failed), 1),
-        (Err(Failed), 2),
-        (Err(Failed), 3),
-    ] {
+    for answer in [Ok(2), Err(Failed), Err(Failed), Err(Failed)] {
         assert_eq!(rt; sink.put(&[1, 2, 3]), answer);
-        assert_eq!(rt; sink.faults, faults);
     }
     assert_eq!(rt; sink.put(&[]), Ok(0));
-    assert_eq!(rt; sink.faults, 3);
 }

@@ -3,7 +3,7 @@
 ghost use Rattle.std.specs.Prelude.{◌≡◌, IfOk};
 ghost use Rattle.code_region.specs.Opening.{opened};
 
-use crate::{Command, NotTaken, OpenError, PlaceError, Region, Reply, replay};
+use code_region::{Command, NotTaken, OpenError, PlaceError, Region, Reply, replay};
 use std::test::Fail;
 
 fn region_of(rt: &HostRuntime, base: u64, size: u64, max_blocks: u64) -> Result<Region, OpenError>
@@ -13,7 +13,7 @@ fn region_of(rt: &HostRuntime, base: u64, size: u64, max_blocks: u64) -> Result<
 }
 
 #[test]
-fn opens_within_its_limits(rt: HostRuntime) {
+fn a_region_opens_within_its_limits(rt: HostRuntime) {
     let last = 0xFFFF_FFFF_FFFF_FFF0;
     let cases = [
         (0x40_0000, 64, 8, None),
@@ -50,7 +50,7 @@ fn opens_within_its_limits(rt: HostRuntime) {
 }
 
 #[test]
-fn uses_a_released_place_again(rt: HostRuntime) -> Result<(), Fail> {
+fn a_released_place_is_used_again(rt: HostRuntime) -> Result<(), Fail> {
     let mut region = region_of(&rt, 0x40_0000, 64, 8)?;
     for want in [0x40_0000, 0x40_0010, 0x40_0020, 0x40_0030] {
         assert_eq!(rt; region.place(16), Ok(want));
@@ -98,7 +98,7 @@ fn bytes_outside_content_are_int3(rt: HostRuntime) -> Result<(), Fail> {
 }
 
 #[test]
-fn replays_commands(rt: HostRuntime) -> Result<(), Fail> {
+fn commands_are_replayed_on_a_region(rt: HostRuntime) -> Result<(), Fail> {
     let steps = [
         (Command::Place { len: 16 }, Reply::Placed { place: 0 }),
         (Command::Place { len: 16 }, Reply::Placed { place: 0x10 }),

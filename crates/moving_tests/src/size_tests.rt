@@ -1,10 +1,11 @@
+//! The least layout of worked plans, long chains among them, and sums of lengths.
+
 ghost use Rattle.std.specs.Prelude.{◌≡◌, ◌<◌, ◌≤◌, ◌∷◌, [], IsTrue, IfOk, length};
 ghost use Rattle.std.specs.List.{list_all};
 ghost use Rattle.branch_sizes.specs.Plan.{is_fit_branch};
 
-use crate::layout::{chosen_forms, least_choices_by_passes};
-use crate::{BlockSpan, Branch, Choice, Form, Goal, Plan, Reach, Sums, least_layout};
 use arrayvec::ArrayVec;
+use branch_sizes::{BlockSpan, Branch, Choice, Form, Goal, Plan, Reach, Sums, least_layout};
 use std::alloc::{AllocError, Global};
 use std::test::Fail;
 
@@ -48,7 +49,7 @@ fn plain(len: u8) -> Branch
 }
 
 #[test]
-fn sums_before_and_after_growth(rt: HostRuntime) -> Result<(), Fail> {
+fn sums_follow_growth(rt: HostRuntime) -> Result<(), Fail> {
     let mut sums = Sums::make(rt.alloc(), &[2, 5, 1])?;
     assert_eq!(rt; sums.before(0), 0);
     assert_eq!(rt; sums.before(2), 7);
@@ -60,7 +61,7 @@ fn sums_before_and_after_growth(rt: HostRuntime) -> Result<(), Fail> {
 
 /// A branch in the second block grows and moves the goal of one in the first out of reach.
 #[test]
-fn growth_in_another_block(rt: HostRuntime) -> Result<(), Fail> {
+fn a_branch_grows_for_another_block(rt: HostRuntime) -> Result<(), Fail> {
     let spans = vec![in rt.alloc();
         BlockSpan {
             count: 1,
@@ -145,7 +146,7 @@ fn count_of(forms: &[Form], form: Form) -> usize {
 }
 
 #[test]
-fn chains_and_targets_that_move_too(rt: HostRuntime) -> Result<(), Fail> {
+fn long_plans_have_their_least_layout(rt: HostRuntime) -> Result<(), Fail> {
     let mut forms = Vec::new(rt.alloc());
     for (shape, count, base, near, short) in [
         (Shape::Chain, 65536, 0, 65473, 0),
@@ -163,19 +164,7 @@ fn chains_and_targets_that_move_too(rt: HostRuntime) -> Result<(), Fail> {
 }
 
 #[test]
-fn passes_give_the_same(rt: HostRuntime) -> Result<(), Fail> {
-    let items = items_of(rt.alloc(), Shape::Chain, 1024)?;
-    let plan = Plan::new(0, items);
-    let mut forms = Vec::new(rt.alloc());
-    least_layout(rt.alloc(), &plan, &mut forms)?;
-    let choices = least_choices_by_passes(rt.alloc(), plan.spans(), plan.items())?;
-    let by_passes = chosen_forms(rt.alloc(), plan.items(), &choices)?;
-    assert_eq!(rt; forms.as_slice(), by_passes.as_slice());
-    Ok(())
-}
-
-#[test]
-fn no_item_and_one_branch(rt: HostRuntime) -> Result<(), Fail> {
+fn no_item_and_one_branch_have_their_forms(rt: HostRuntime) -> Result<(), Fail> {
     let mut forms = vec![in rt.alloc(); Form::Far]?;
     let empty = Plan::new(0, Vec::new(rt.alloc()));
     least_layout(rt.alloc(), &empty, &mut forms)?;

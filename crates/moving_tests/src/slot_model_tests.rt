@@ -4,10 +4,11 @@ ghost use Rattle.std.specs.Prelude.{◌≡◌, IfOk};
 ghost use Rattle.x86_values.specs.declared.Bits.{Bits};
 ghost use Rattle.move_goals.specs.Items.{IsPlaced};
 
-use crate::tests::{finish, load, nop, placed, slots_of, step};
-use crate::{NotTaken, Placed, StepError};
+use crate::items::placed_at;
+use crate::slot_tests::{finish, slots_of, step};
 use std::alloc::{AllocError, Global};
 use std::test::Fail;
+use step_slots::{NotTaken, Placed, StepError};
 
 /// The range: 24 units of 16 bytes.
 const BASE: u64 = 0x2000;
@@ -138,15 +139,16 @@ fn item_of(ip: u64, reads: bool) -> Result<Placed, Fail>
     ensures { IfOk result (λ item. IsPlaced Bits.B64 item) }
 {
     if reads {
-        placed(ip, 7, load(READ))
+        let [a, b, c, d] = distance(ip.wrapping_add(7), READ);
+        placed_at(ip, &[0x48, 0x8B, 0x05, a, b, c, d])
     } else {
-        placed(ip, 1, nop())
+        placed_at(ip, &[0x90])
     }
 }
 
 // The numbers are those of a linear congruential generator.
 #[test]
-fn many_commands(rt: HostRuntime) -> Result<(), Fail> {
+fn slots_follow_a_plain_list(rt: HostRuntime) -> Result<(), Fail> {
     let mut slots = slots_of(rt.alloc(), BASE, SIZE, MOST)?;
     let mut live: Vec<Live> = Vec::new(rt.alloc());
     let mut x: u64 = 1;

@@ -4,61 +4,13 @@ ghost use Rattle.std.specs.Prelude.{◌≡◌, IfOk};
 ghost use Rattle.x86_values.specs.declared.Bits.{Bits};
 ghost use Rattle.move_goals.specs.Items.{IsPlaced};
 
-use crate::{NotTaken, OpenError, Placed, StepCommand, StepError, StepReply, StepSlots, replay};
-use encoder::encode;
+use crate::items::placed_bytes;
 use std::alloc::Global;
 use std::test::Fail;
-use x86_values::{Bits, Code, DispSize, Instr, Mem, Operand, Register, Rep};
-
-/// An instruction with two operands.
-fn instr(code: u16, asize: Option<Bits>, first: Operand, second: Operand) -> Instr {
-    Instr {
-        code: Code(code),
-        ops: [first, second, Operand::Absent, Operand::Absent],
-        lock: false,
-        rep: Rep::None,
-        seg: None,
-        asize,
-    }
-}
-
-/// NOP.
-pub(crate) fn nop() -> Instr {
-    instr(290, None, Operand::Absent, Operand::Absent)
-}
-
-/// A short JMP of 64-bit mode.
-fn jump(target: u64) -> Instr {
-    instr(631, None, Operand::Near(target), Operand::Absent)
-}
-
-/// MOV to RAX of 8 bytes at an address relative to RIP.
-pub(crate) fn load(address: u64) -> Instr {
-    let source = Mem {
-        base: Some(Register::Rip),
-        index: None,
-        scale: 1,
-        disp_size: DispSize::D32,
-        disp: address,
-    };
-    instr(
-        279,
-        Some(Bits::B64),
-        Operand::Reg(Register::R64(0)),
-        Operand::Mem(source),
-    )
-}
-
-/// An instruction of 64-bit mode at an address, if some bytes spell it there.
-pub(crate) fn placed(ip: u64, len: u8, instr: Instr) -> Result<Placed, Fail>
-    ensures { IfOk result (λ item. IsPlaced Bits.B64 item) }
-{
-    if len < 1 || len > 15 {
-        return Err(Fail::new("an instruction has 1 to 15 bytes"));
-    }
-    let _bytes = encode(Bits::B64, ip, &instr)?;
-    Ok(Placed { ip, len, instr })
-}
+use step_slots::{
+    NotTaken, OpenError, Placed, StepCommand, StepError, StepReply, StepSlots, replay,
+};
+use x86_values::Bits;
 
 /// Slots of 64-bit mode.
 pub(crate) fn slots_of(
@@ -89,13 +41,12 @@ pub(crate) fn finish(slots: &mut StepSlots, place: u64) -> Result<(), NotTaken>
 
 // Bytes by the manual's notation of NOP and JMP.
 #[test]
-fn two_slots(rt: HostRuntime) -> Result<(), Fail> {
-    let item = placed(0x1000, 1, nop())?;
-    let image = [
-        0x90, 0xE9, 0xFB, 0xEF, 0xFF, 0xFF, 0xCC, 0xCC, 0xCC, 0xCC, 0xCC, 0xCC, 0xCC, 0xCC, 0xCC,
-        0xCC, 0x90, 0xE9, 0xEB, 0xEF, 0xFF, 0xFF, 0xCC, 0xCC, 0xCC, 0xCC, 0xCC, 0xCC, 0xCC, 0xCC,
-        0xCC, 0xCC,
-    ];
+fn two_slots_have_their_bytes(rt: HostRuntime) -> Result<(), Fail> {
+    let item = placed_bytes(rt.alloc(), 0x1000, "90")?;
+    let image = hex::decode(
+        rt.alloc(),
+        "90e9fbefffffcccccccccccccccccccc90e9ebefffffcccccccccccccccccccc",
+    )?;
     let mut slots = slots_of(rt.alloc(), 0x2000, 32, 2)?;
     assert_eq!(rt; step(&mut slots, rt.alloc(), item), Ok(0x2000));
     assert_eq!(rt; step(&mut slots, rt.alloc(), item), Ok(0x2010));
@@ -115,56 +66,38 @@ fn two_slots(rt: HostRuntime) -> Result<(), Fail> {
 
 // A JMP to itself goes to where it stood; a jump out of reach of 32 bits goes through a slot of 8 bytes.
 #[test]
-fn one_step(rt: HostRuntime) -> Result<(), Fail> {
-    let here = (0x1000, 2, jump(0x1000));
-    let read = (0x1000, 7, load(0x1007));
+fn a_step_has_its_bytes_or_its_refusal(rt: HostRuntime) -> Result<(), Fail> {
     let full = Err(StepError::Full {
         len: 32,
         largest: 16,
     });
-    let cases = [
+    let far = Err(StepError::TooFar { target: 0x1007 });
+    let load = "488b0500000000";
+    for (digits, base, size, want, bytes) in [
+        ("ebfe", 0x2000, 32, Ok(0x2000), "e9fbefffffe9f8efffff"),
         (
-            here,
-            0x2000,
-            32,
-            Ok(0x2000),
-            &[0xE9, 0xFB, 0xEF, 0xFF, 0xFF, 0xE9, 0xF8, 0xEF, 0xFF, 0xFF][..],
-        ),
-        (
-            here,
+            "ebfe",
             0x7FFF_0000_0000,
             32,
             Ok(0x7FFF_0000_0000),
-            &[
-                0xFF, 0x25, 0x0A, 0, 0, 0, 0xFF, 0x25, 0x0C, 0, 0, 0, 0xCC, 0xCC, 0xCC, 0xCC, 0,
-                0x10, 0, 0, 0, 0, 0, 0, 2, 0x10, 0, 0, 0, 0, 0, 0,
-            ][..],
+            "ff250a000000ff250c000000cccccccc00100000000000000210000000000000",
         ),
-        (here, 0x2000, 16, full, &[][..]),
-        (read, 0x8000_1010, 16, full, &[][..]),
-        (
-            read,
-            0x8000_1010,
-            32,
-            Err(StepError::TooFar { target: 0x1007 }),
-            &[][..],
-        ),
-    ];
-    for (given, base, size, want, bytes) in cases {
-        let (ip, len, instr) = given;
-        let item = placed(ip, len, instr)?;
+        ("ebfe", 0x2000, 16, full, ""),
+        (load, 0x8000_1010, 16, full, ""),
+        (load, 0x8000_1010, 32, far, ""),
+    ] {
+        let item = placed_bytes(rt.alloc(), 0x1000, digits)?;
         let mut slots = slots_of(rt.alloc(), base, size, 1)?;
         assert_eq!(rt; step(&mut slots, rt.alloc(), item), want);
-        for (k, byte) in slots.image().iter().enumerate() {
-            let want = bytes.get(k).copied().unwrap_or(0xCC);
-            assert_eq!(rt; *byte, want, "{base:#x} at {k}");
-        }
+        let mut image = hex::decode(rt.alloc(), bytes)?;
+        image.resize(size as usize, 0xCC)?;
+        assert_eq!(rt; slots.image(), image.as_slice(), "{digits} at {base:#x}");
     }
     Ok(())
 }
 
 #[test]
-fn make_refuses(rt: HostRuntime) {
+fn a_range_is_opened_or_refused(rt: HostRuntime) {
     let cases = [
         (
             Bits::B64,
@@ -204,8 +137,8 @@ fn make_refuses(rt: HostRuntime) {
 }
 
 #[test]
-fn replays_commands(rt: HostRuntime) -> Result<(), Fail> {
-    let item = placed(0x1000, 1, nop())?;
+fn commands_are_replayed_on_slots(rt: HostRuntime) -> Result<(), Fail> {
+    let item = placed_bytes(rt.alloc(), 0x1000, "90")?;
     let commands = [
         StepCommand::Step { item },
         StepCommand::Step { item },

@@ -1,125 +1,96 @@
-use crate::{DecodeError, Decoder, decode};
-use opcode_rows::{ROWS, name};
-use x86_values::{Decoded, Operand, Register};
+//! What stands at the front of bytes: the instruction that a disassembler shows, or why there is none.
 
-/// The name of an instruction and its length in bytes, or the error.
-fn shown(answer: Result<Decoded, DecodeError>) -> Result<(&'static str, u8), DecodeError> {
-    match answer {
-        Ok(decoded) => {
-            if decoded.instr.code.0 < ROWS {
-                Ok((name(decoded.instr.code), decoded.len))
-            } else {
-                Ok(("", decoded.len))
-            }
-        }
+use crate::read_bytes::{read, read_at};
+use decoder::DecodeError::{Invalid, TooShort};
+use decoder::{DecodeError, Decoder, decode_in};
+use intel_text::print;
+use std::str::from_utf8;
+use std::test::Fail;
+use x86_values::Bits::{B16, B32, B64};
+use x86_values::Decoded;
+
+#[test]
+fn instructions_are_read(rt: HostRuntime) -> Result<(), Fail> {
+    for (bits, ip, digits, text) in [
+        (B64, 0, "666666666666666666666666666690", "nop"),
+        (B64, 0, "6666666666666666666666666690", "nop"),
+        (B64, 0, "486690", "nop"),
+        (B64, 0, "f00100", "lock add dword [rax], eax"),
+        (B64, 0, "0100", "add dword [rax], eax"),
+        (B64, 0, "c5f877", "vzeroupper"),
+        (B64, 0, "f2f390", "pause"),
+        (B64, 0, "f3f290", "repne nop"),
+        (B64, 0, "e8f60f0000", "call 0xffb"),
+        (B64, 0, "88e0", "mov al, ah"),
+        (B64, 0, "4088e0", "mov al, spl"),
+        (B32, 0, "c500", "lds eax, [eax]"),
+        (B16, 0, "c500", "lds ax, [bx+si]"),
+        (B16, 0, "40", "inc ax"),
+        // targets wrap in the mode
+        (B64, 0x1000, "eb02", "jmp 0x1004"),
+        (B64, 0xFFFF_FFFF_FFFF_FFFE, "eb02", "jmp 0x2"),
+        (B16, 0x1_FFFE, "eb02", "jmp 0x2"),
+        (B32, 0x5_0000_1000, "eb02", "jmp 0x1004"),
+    ] {
+        let decoded = read(rt.alloc(), bits, ip, digits)?;
+        let shown = print(bits, &decoded.instr);
+        assert_eq!(rt; from_utf8(shown.as_slice())?, text, "{digits}");
+    }
+    Ok(())
+}
+
+#[test]
+fn ended_bytes_are_told_from_invalid_ones(rt: HostRuntime) -> Result<(), Fail> {
+    for (bits, digits, error) in [
+        (B64, "666666666666666666666666666666", Invalid),
+        (B64, "6666666666666666666666666666", TooShort),
+        (B64, "66", TooShort),
+        (B64, "", TooShort),
+        (B64, "0f", TooShort),
+        (B64, "0f04", Invalid),
+        (B64, "f001c0", Invalid),
+        (B64, "f088", Invalid),
+        (B64, "f001", TooShort),
+        (B64, "62", Invalid),
+        (B64, "66c5f877", Invalid),
+        (B64, "66c5", Invalid),
+        (B32, "66c5", TooShort),
+        (B64, "c4e1", TooShort),
+        (B64, "c500", TooShort),
+        (B64, "40", TooShort),
+        (B64, "e8f60f00", TooShort),
+    ] {
+        let bytes = hex::decode(rt.alloc(), digits)?;
+        assert_eq!(rt; read_at(bits, 0, &bytes).err(), Some(error), "{digits}");
+        assert_eq!(rt; decode_in(bits, 0, &bytes).err(), Some(error), "{digits}");
+    }
+    Ok(())
+}
+
+/// The number of bytes that were read.
+fn len_of(read: Result<Decoded, DecodeError>) -> Result<u8, DecodeError> {
+    match read {
+        Ok(decoded) => Ok(decoded.len),
         Err(error) => Err(error),
     }
 }
 
-fn operands(answer: Result<Decoded, DecodeError>) -> [Operand; 4] {
-    match answer {
-        Ok(decoded) => decoded.instr.ops,
-        Err(_) => [Operand::Absent; 4],
-    }
-}
-
-fn has_lock(answer: Result<Decoded, DecodeError>) -> bool {
-    match answer {
-        Ok(decoded) => decoded.instr.lock,
-        Err(_) => false,
-    }
-}
-
-const INVALID: Result<(&'static str, u8), DecodeError> = Err(DecodeError::Invalid);
-
-const TOO_SHORT: Result<(&'static str, u8), DecodeError> = Err(DecodeError::TooShort);
-
 #[test]
-fn bytes_of_64_bit_mode(rt: HostRuntime) {
-    let prefixes = [0x66; 15];
-    let nop = [
-        0x66, 0x66, 0x66, 0x66, 0x66, 0x66, 0x66, 0x66, 0x66, 0x66, 0x66, 0x66, 0x66, 0x66, 0x90,
-    ];
-    let cases = [
-        (&prefixes[..], INVALID),
-        (&prefixes[1..], TOO_SHORT),
-        (&prefixes[14..], TOO_SHORT),
-        (&nop[..], Ok(("nop", 15))),
-        (&nop[1..], Ok(("nop", 14))),
-        (&[][..], TOO_SHORT),
-        (&[0x0F][..], TOO_SHORT),
-        (&[0x0F, 0x04][..], INVALID),
-        (&[0x48, 0x66, 0x90][..], Ok(("nop", 3))),
-        (&[0xF0, 0x01, 0x00][..], Ok(("add", 3))),
-        (&[0xF0, 0x01, 0xC0][..], INVALID),
-        (&[0xF0, 0x88][..], INVALID),
-        (&[0xF0, 0x01][..], TOO_SHORT),
-        (&[0x62][..], INVALID),
-        (&[0x66, 0xC5, 0xF8, 0x77][..], INVALID),
-        (&[0xC5, 0xF8, 0x77][..], Ok(("vzeroupper", 3))),
-        (&[0xC4, 0xE1][..], TOO_SHORT),
-        (&[0xF2, 0xF3, 0x90][..], Ok(("pause", 3))),
-        (&[0xF3, 0xF2, 0x90][..], Ok(("nop", 3))),
-        (&[0xE8, 0xF6, 0x0F, 0x00][..], TOO_SHORT),
-        (&[0xE8, 0xF6, 0x0F, 0x00, 0x00][..], Ok(("call", 5))),
-    ];
-    for (bytes, want) in cases {
-        assert!(rt; shown(decode::<64>(0, bytes)) == want, "at {bytes:?}");
-    }
-}
-
-#[test]
-fn bytes_of_each_mode(rt: HostRuntime) {
-    let les = &[0xC5, 0x00][..];
-    assert!(rt; shown(decode::<32>(0, les)) == Ok(("lds", 2)));
-    assert!(rt; shown(decode::<16>(0, les)) == Ok(("lds", 2)));
-    assert!(rt; shown(decode::<64>(0, les)) == TOO_SHORT);
-    let open = &[0x66, 0xC5][..];
-    assert!(rt; shown(decode::<32>(0, open)) == TOO_SHORT);
-    assert!(rt; shown(decode::<64>(0, open)) == INVALID);
-    let inc = &[0x40][..];
-    assert!(rt; shown(decode::<16>(0, inc)) == Ok(("inc", 1)));
-    assert!(rt; shown(decode::<64>(0, inc)) == TOO_SHORT);
-}
-
-#[test]
-fn registers_and_lock(rt: HostRuntime) {
-    let without_rex = operands(decode::<64>(0, &[0x88, 0xE0]));
-    let with_rex = operands(decode::<64>(0, &[0x40, 0x88, 0xE0]));
-    assert!(rt; without_rex[0] == Operand::Reg(Register::Low8(0)));
-    assert!(rt; without_rex[1] == Operand::Reg(Register::High8(0)));
-    assert!(rt; with_rex[0] == Operand::Reg(Register::Low8(0)));
-    assert!(rt; with_rex[1] == Operand::Reg(Register::Low8(4)));
-    assert!(rt; has_lock(decode::<64>(0, &[0xF0, 0x01, 0x00])));
-    assert!(rt; !has_lock(decode::<64>(0, &[0x01, 0x00])));
-}
-
-#[test]
-fn targets_wrap(rt: HostRuntime) {
-    let jump = &[0xEB, 0x02][..];
-    assert!(rt; operands(decode::<64>(0x1000, jump))[0] == Operand::Near(0x1004));
-    assert!(rt; operands(decode::<64>(0xFFFF_FFFF_FFFF_FFFE, jump))[0] == Operand::Near(2));
-    assert!(rt; operands(decode::<16>(0x1_FFFE, jump))[0] == Operand::Near(2));
-    assert!(rt; operands(decode::<32>(0x5_0000_1000, jump))[0] == Operand::Near(0x1004));
-}
-
-#[test]
-fn positions(rt: HostRuntime) {
+fn a_decoder_stays_where_nothing_is_read(rt: HostRuntime) {
     // push rbp; mov rbp, rsp; a byte that is invalid; jmp +0; the first byte of a call
     let bytes = [0x55, 0x48, 0x89, 0xE5, 0x06, 0xEB, 0x00, 0xE8];
     let mut decoder = Decoder::<64>::new(&bytes, 0x40_1000);
-    assert!(rt; shown(decoder.decode()) == Ok(("push", 1)));
-    assert!(rt; shown(decoder.decode()) == Ok(("mov", 3)));
-    assert_eq!(rt; decoder.position(), 4);
-    assert!(rt; shown(decoder.decode()) == INVALID);
-    assert_eq!(rt; decoder.position(), 4);
+    for (len, position) in [(Ok(1), 1), (Ok(3), 4), (Err(Invalid), 4), (Err(Invalid), 4)] {
+        assert_eq!(rt; len_of(decoder.decode()), len);
+        assert_eq!(rt; decoder.position(), position);
+    }
     decoder.skip(1);
-    assert!(rt; operands(decoder.decode())[0] == Operand::Near(0x40_1007));
-    assert_eq!(rt; decoder.position(), 7);
-    assert!(rt; shown(decoder.decode()) == TOO_SHORT);
-    assert_eq!(rt; decoder.position(), 7);
+    for (len, position) in [(Ok(2), 7), (Err(TooShort), 7)] {
+        assert_eq!(rt; len_of(decoder.decode()), len);
+        assert_eq!(rt; decoder.position(), position);
+    }
     decoder.set_position(8);
-    assert!(rt; shown(decoder.decode()) == TOO_SHORT);
+    assert_eq!(rt; len_of(decoder.decode()), Err(TooShort));
     decoder.set_position(0);
-    assert!(rt; shown(decoder.decode()) == Ok(("push", 1)));
+    assert_eq!(rt; len_of(decoder.decode()), Ok(1));
 }

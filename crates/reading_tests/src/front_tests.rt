@@ -1,44 +1,56 @@
+//! Prefixes, escape bytes and VEX, read and written (Intel SDM volume 2, 2.1.1, 2.2.1 and 2.3.5).
+
 ghost use Rattle.std.specs.Prelude.{◌≡◌};
 
-use crate::{PrefixError, read_prefixes, write_prefixes};
 use instruction_parts::{PrefixState, Vex};
+use prefixes::{PrefixError, read_prefixes, write_prefixes};
 use row_types::{
     Class, LBit, Map, Marks, ModRmRule, ModeMask, OpKind, Place, Plus, Row, RowKind, Size, WBit,
 };
+use std::test::Fail;
 use x86_values::{Bits, Rep, Segment};
 
-// the number of bytes before the opcode byte, and the opcode byte; or the refusal
-fn shown(answer: Result<PrefixState, PrefixError>) -> Result<(u8, u8), PrefixError> {
-    match answer {
+/// The number of bytes before the opcode byte, and the opcode byte; or the refusal.
+fn front(bits: Bits, bytes: &[u8]) -> Result<(u8, u8), PrefixError> {
+    let read = match bits {
+        Bits::B16 => read_prefixes::<16>(bytes),
+        Bits::B32 => read_prefixes::<32>(bytes),
+        Bits::B64 => read_prefixes::<64>(bytes),
+    };
+    match read {
         Ok(state) => Ok((state.used, state.opcode)),
-        Err(e) => Err(e),
+        Err(error) => Err(error),
     }
 }
 
 #[test]
-fn fronts_in_64_bit_mode(rt: HostRuntime) {
+fn fronts_are_read(rt: HostRuntime) -> Result<(), Fail> {
     let ended = Err(PrefixError::Ended);
     let forbidden = Err(PrefixError::Forbidden);
-    assert!(rt; shown(read_prefixes::<64>(&[0x48, 0x66, 0x90])) == Ok((2, 0x90)));
-    assert!(rt; shown(read_prefixes::<64>(&[0xC5, 0xF8, 0x77])) == Ok((2, 0x77)));
-    assert!(rt; shown(read_prefixes::<64>(&[0x66, 0xC5, 0xF8, 0x77])) == forbidden);
-    assert!(rt; shown(read_prefixes::<64>(&[0xC4, 0xE0])) == forbidden);
-    assert!(rt; shown(read_prefixes::<64>(&[0x62])) == forbidden);
-    assert!(rt; shown(read_prefixes::<64>(&[0x0F, 0x0F])) == forbidden);
-    assert!(rt; shown(read_prefixes::<64>(&[])) == ended);
-    assert!(rt; shown(read_prefixes::<64>(&[0x0F])) == ended);
-    assert!(rt; shown(read_prefixes::<64>(&[0x66; 14])) == ended);
-    assert!(rt; shown(read_prefixes::<64>(&[0x66; 15])) == forbidden);
+    for (bits, digits, want) in [
+        (Bits::B64, "486690", Ok((2, 0x90))),
+        (Bits::B64, "c5f877", Ok((2, 0x77))),
+        (Bits::B64, "66c5f877", forbidden),
+        (Bits::B64, "c4e0", forbidden),
+        (Bits::B64, "62", forbidden),
+        (Bits::B64, "0f0f", forbidden),
+        (Bits::B64, "", ended),
+        (Bits::B64, "0f", ended),
+        (Bits::B64, "6666666666666666666666666666", ended),
+        (Bits::B64, "666666666666666666666666666666", forbidden),
+        // LDS, or a VEX
+        (Bits::B32, "c500", Ok((0, 0xC5))),
+        (Bits::B32, "c5f877", Ok((2, 0x77))),
+        (Bits::B32, "66c4", ended),
+        (Bits::B16, "c500", Ok((0, 0xC5))),
+    ] {
+        let bytes = hex::decode(rt.alloc(), digits)?;
+        assert_eq!(rt; front(bits, &bytes), want, "{digits} in {bits:?}");
+    }
+    Ok(())
 }
 
-#[test]
-fn lds_and_vex_in_32_bit_mode(rt: HostRuntime) {
-    assert!(rt; shown(read_prefixes::<32>(&[0xC5, 0x00])) == Ok((0, 0xC5)));
-    assert!(rt; shown(read_prefixes::<32>(&[0xC5, 0xF8, 0x77])) == Ok((2, 0x77)));
-    assert!(rt; shown(read_prefixes::<32>(&[0x66, 0xC4])) == Err(PrefixError::Ended));
-}
-
-// np o64 0f b1 /r cmpxchg, as far as its front
+/// `np o64 0f b1 /r cmpxchg`, as far as its front.
 fn compare_and_exchange() -> Row {
     Row {
         kind: RowKind::Legacy,
@@ -57,6 +69,7 @@ fn compare_and_exchange() -> Row {
     }
 }
 
+/// FS, 67, LOCK and REX.W in front of it, and perhaps a VEX.
 fn front_of_it(vex: Option<Vex>) -> PrefixState
     ensures { result.vex ≡ vex }
 {
@@ -76,10 +89,10 @@ fn front_of_it(vex: Option<Vex>) -> PrefixState
 
 #[test]
 #[tactic(auto, unfolding(row_fit::specs::Fits::vex_in_range))]
-fn fronts_written(rt: HostRuntime) {
+fn fronts_are_written(rt: HostRuntime) {
     let row = compare_and_exchange();
     let written = write_prefixes(Bits::B64, &row, &front_of_it(None));
-    assert!(rt; written.as_slice() == [0x64, 0x67, 0xF0, 0x48, 0x0F].as_slice());
+    assert_eq!(rt; written.as_slice(), b"\x64\x67\xF0\x48\x0F".as_slice());
     let vex = Vex {
         three: true,
         r: false,
@@ -92,5 +105,8 @@ fn fronts_written(rt: HostRuntime) {
         pp: 1,
     };
     let written = write_prefixes(Bits::B64, &row, &front_of_it(Some(vex)));
-    assert!(rt; written.as_slice() == [0x64, 0x67, 0xF0, 0x48, 0xC4, 0xC2, 0xAD].as_slice());
+    assert_eq!(rt;
+        written.as_slice(),
+        b"\x64\x67\xF0\x48\xC4\xC2\xAD".as_slice()
+    );
 }

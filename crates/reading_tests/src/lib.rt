@@ -2,8 +2,6 @@
 #![tactic(auto)]
 
 #[cfg(test)]
-mod count_tests;
-#[cfg(test)]
 mod decoding_tests;
 #[cfg(test)]
 mod encoding_tests;
@@ -12,9 +10,9 @@ mod front_tests;
 #[cfg(test)]
 mod info_tests;
 #[cfg(test)]
-mod line_tests;
-#[cfg(test)]
 mod notation_tests;
+#[cfg(test)]
+mod read_bytes;
 #[cfg(test)]
 mod row_tests;
 #[cfg(test)]
@@ -24,7 +22,7 @@ mod table_tests;
 #[cfg(test)]
 mod tail_tests;
 #[cfg(test)]
-mod text_reading_tests;
+mod text_tests;
 #[cfg(test)]
 mod value_tests;
 #[cfg(test)]

@@ -1,6 +1,6 @@
 //! Notations as the manual prints them, read and written.
 
-use crate::{
+use row_notation::{
     Class, ImmWord, LBit, Map, Marks, ModRmRule, ModeMask, OpKind, Place, Plus, PlusWord, Row,
     RowKind, RowShape, Size, SizeWord, WBit, read_notation, write_notation,
 };
@@ -24,7 +24,7 @@ fn bare(kind: RowKind, map: Map, class: Class, opcode: u8) -> RowShape {
 }
 
 #[test]
-fn texts_are_read(rt: HostRuntime) {
+fn notations_are_read(rt: HostRuntime) {
     let push = RowShape {
         size_word: SizeWord::O64,
         plus_word: PlusWord::Ro,
@@ -81,8 +81,8 @@ fn faults_are_told_by_their_place(rt: HostRuntime) {
 }
 
 #[test]
-#[tactic(auto, unfolding(crate::specs::Shape::is_proper, crate::specs::Shape::shape, crate::specs::Shape::size_word, crate::specs::Shape::plus_word, crate::specs::Shape::imm_word, crate::specs::Shape::imm_word_of, crate::specs::Shape::is_legacy_proper, crate::specs::Shape::is_opcode_of_map, crate::specs::Shape::is_rule_in_range, crate::specs::Shape::is_stack_proper))]
-fn a_row_is_written(rt: HostRuntime) {
+#[tactic(auto, unfolding(row_notation::specs::Shape::is_proper, row_notation::specs::Shape::shape, row_notation::specs::Shape::size_word, row_notation::specs::Shape::plus_word, row_notation::specs::Shape::imm_word, row_notation::specs::Shape::imm_word_of, row_notation::specs::Shape::is_legacy_proper, row_notation::specs::Shape::is_opcode_of_map, row_notation::specs::Shape::is_rule_in_range, row_notation::specs::Shape::is_stack_proper))]
+fn a_notation_is_written(rt: HostRuntime) {
     let enter = Row {
         kind: RowKind::Legacy,
         map: Map::One,

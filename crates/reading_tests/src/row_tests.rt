@@ -1,18 +1,20 @@
+//! A row over any table: its bytes and what they mean (Intel SDM volume 2, ADD).
+
 ghost use Rattle.std.specs.Prelude.{◌≡◌, ◌≤◌, false, length, IsTrue, is_some};
 ghost use Rattle.instruction_parts.specs.Bytes.{bytes_of};
 ghost use Rattle.instruction_parts.specs.Sizes.{is_vex_row};
 ghost use Rattle.row_fit.specs.Fits.{fields_in_range};
 ghost use Rattle.row_fit.specs.Sound.{sound};
 
-use crate::{ModRm, Spelling, row_fits, row_meaning, row_memory_size, spelling_bytes};
 use arrayvec::ArrayVec;
+use row_relation::{ModRm, Spelling, row_fits, row_meaning, row_memory_size, spelling_bytes};
 use row_types::{
     Class, LBit, Map, Marks, ModRmRule, ModeMask, OpKind, Place, Plus, Row, RowKind, Size, WBit,
 };
 use x86_values::{Bits, Code, Operand, Register};
 
-// o32 01 /r add
-#[tactic(auto, unfolding(crate::specs::EveryRule::every_rule))]
+/// `o32 01 /r add`.
+#[tactic(auto, unfolding(row_relation::specs::EveryRule::every_rule))]
 fn add() -> Row
     ensures sound { IsTrue (sound result) }
     ensures legacy { is_vex_row result ≡ false }
@@ -34,8 +36,8 @@ fn add() -> Row
     }
 }
 
-// it with two registers
-#[tactic(auto, unfolding(crate::specs::EveryRule::every_rule))]
+/// Its bytes with two registers: `add ecx, eax`.
+#[tactic(auto, unfolding(row_relation::specs::EveryRule::every_rule))]
 fn of_registers(row: &Row) -> Spelling
     requires { IsTrue (sound row.now) }
     ensures short { length (bytes_of row.now result) ≤ 15 }
@@ -58,7 +60,7 @@ fn of_registers(row: &Row) -> Spelling
 }
 
 #[test]
-fn add_of_two_registers(rt: HostRuntime) {
+fn add_of_two_registers_has_its_bytes_and_meaning(rt: HostRuntime) {
     let row = add();
     let s = of_registers(&row);
     assert!(rt; row_fits(Bits::B64, &row, &s));

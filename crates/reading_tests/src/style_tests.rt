@@ -1,141 +1,70 @@
-use opcode_rows::{code_of, well_formed};
-use x86_values::{Bits, Code, DispSize, Instr, Mem, Operand, Register, Rep, Segment};
+//! Texts that assemblers of each style write of the same instruction.
 
-/// The code of the `n`-th row of a name, or a code past the table.
-fn code(name: &str, n: usize) -> Code {
-    code_of(name, n).unwrap_or(Code(u16::MAX))
-}
+use crate::read_bytes::read;
+use std::str::from_utf8;
+use std::test::Fail;
+use x86_values::Bits;
 
-fn plain(code: Code, first: Operand, second: Operand) -> Instr {
-    Instr {
-        code,
-        ops: [first, second, Operand::Absent, Operand::Absent],
-        lock: false,
-        rep: Rep::None,
-        seg: None,
-        asize: None,
-    }
-}
-
-fn memory(base: Option<Register>, disp: u64, disp_size: DispSize) -> Operand {
-    Operand::Mem(Mem {
-        base,
-        index: None,
-        scale: 1,
-        disp,
-        disp_size,
-    })
-}
-
-/// A general register of 64 bits.
-fn r64(n: u8) -> Operand {
-    Operand::Reg(Register::R64(n))
-}
-
-/// EAX.
-fn eax() -> Operand {
-    Operand::Reg(Register::R32(0))
-}
-
-/// The first row of a name with XMM0, XMM1 and memory at RAX.
-fn product(name: &str) -> Instr {
-    let mut instr = plain(
-        code(name, 0),
-        Operand::Reg(Register::Xmm(0)),
-        Operand::Reg(Register::Xmm(1)),
-    );
-    instr.ops[2] = memory(Some(Register::R64(0)), 0, DispSize::D0);
-    instr
-}
-
-/// `gs add eax, 0xffffffff` with LOCK and a memory operand in place of EAX.
-fn locked() -> Instr {
-    let mut instr = plain(
-        code("add", 18),
-        memory(Some(Register::Rip), 0x1007, DispSize::D32),
-        Operand::Imm(0xffff_ffff),
-    );
-    instr.lock = true;
-    instr.seg = Some(Segment::Gs);
-    instr
-}
-
-// Texts that assemblers of each style write of the same instruction.
 #[test]
-fn three_styles(rt: HostRuntime) {
-    let rsp = Some(Register::R64(4));
-    let rax = Some(Register::R64(0));
-    let far = Operand::Far {
-        selector: 8,
-        offset: 0x10,
-    };
-    let cases = [
+fn each_style_has_its_text(rt: HostRuntime) -> Result<(), Fail> {
+    for (bits, digits, intel, masm, att) in [
         (
             Bits::B64,
-            plain(code("mov", 3), memory(rsp, 0x10, DispSize::D8), r64(3)),
-            b"mov qword [rsp+0x10], rbx".as_slice(),
-            b"mov qword ptr [rsp+10h], rbx".as_slice(),
-            b"movq %rbx, 0x10(%rsp)".as_slice(),
+            "48895c2410",
+            "mov qword [rsp+0x10], rbx",
+            "mov qword ptr [rsp+10h], rbx",
+            "movq %rbx, 0x10(%rsp)",
         ),
         (
             Bits::B64,
-            plain(
-                code("call", 5),
-                memory(rax, 0, DispSize::D0),
-                Operand::Absent,
-            ),
-            b"call qword [rax]".as_slice(),
-            b"call qword ptr [rax]".as_slice(),
-            b"callq *(%rax)".as_slice(),
+            "ff10",
+            "call qword [rax]",
+            "call qword ptr [rax]",
+            "callq *(%rax)",
         ),
         (
             Bits::B32,
-            plain(code("callf", 1), far, Operand::Absent),
-            b"callf 0x8:0x10".as_slice(),
-            b"callf 8h:10h".as_slice(),
-            b"callf $0x8, $0x10".as_slice(),
+            "9a100000000800",
+            "callf 0x8:0x10",
+            "callf 8h:10h",
+            "callf $0x8, $0x10",
         ),
         (
             Bits::B64,
-            locked(),
-            b"lock add dword gs:[rel 0x1007], 0xffffffff".as_slice(),
-            b"lock add dword ptr gs:[1007h], 0ffffffffh".as_slice(),
-            b"lock addl $0xffffffff, %gs:0x1007(%rip)".as_slice(),
+            "f0658305fe0f0000ff",
+            "lock add dword gs:[rel 0x1007], 0xffffffff",
+            "lock add dword ptr gs:[1007h], 0ffffffffh",
+            "lock addl $0xffffffff, %gs:0x1007(%rip)",
         ),
         (
             Bits::B64,
-            plain(
-                code("fsub", 0),
-                memory(rax, 0, DispSize::D0),
-                Operand::Absent,
-            ),
-            b"fsub dword [rax]".as_slice(),
-            b"fsub dword ptr [rax]".as_slice(),
-            b"fsubs (%rax)".as_slice(),
+            "d820",
+            "fsub dword [rax]",
+            "fsub dword ptr [rax]",
+            "fsubs (%rax)",
         ),
         (
             Bits::B64,
-            plain(
-                code("movzx", 1),
-                eax(),
-                memory(Some(Register::R64(7)), 0xffff_ffff_ffff_fff8, DispSize::D8),
-            ),
-            b"movzx eax, byte [rdi-0x8]".as_slice(),
-            b"movzx eax, byte ptr [rdi-8h]".as_slice(),
-            b"movzbl -0x8(%rdi), %eax".as_slice(),
+            "0fb647f8",
+            "movzx eax, byte [rdi-0x8]",
+            "movzx eax, byte ptr [rdi-8h]",
+            "movzbl -0x8(%rdi), %eax",
         ),
         (
             Bits::B64,
-            product("vfmadd132ps"),
-            b"vfmadd132ps xmm0, xmm1, xmmword [rax]".as_slice(),
-            b"vfmadd132ps xmm0, xmm1, xmmword ptr [rax]".as_slice(),
-            b"vfmadd132ps (%rax), %xmm1, %xmm0".as_slice(),
+            "c4e2719800",
+            "vfmadd132ps xmm0, xmm1, xmmword [rax]",
+            "vfmadd132ps xmm0, xmm1, xmmword ptr [rax]",
+            "vfmadd132ps (%rax), %xmm1, %xmm0",
         ),
-    ];
-    for (bits, instr, intel, masm, att) in cases {
-        assert!(rt; well_formed(&instr));
-        assert_eq!(rt; intel_text::print(bits, &instr).as_slice(), intel);
-        assert_eq!(rt; masm_text::print(bits, &instr).as_slice(), masm);
-        assert_eq!(rt; att_text::print(bits, &instr).as_slice(), att);
+    ] {
+        let instr = read(rt.alloc(), bits, 0, digits)?.instr;
+        let shown = intel_text::print(bits, &instr);
+        assert_eq!(rt; from_utf8(shown.as_slice())?, intel);
+        let shown = masm_text::print(bits, &instr);
+        assert_eq!(rt; from_utf8(shown.as_slice())?, masm);
+        let shown = att_text::print(bits, &instr);
+        assert_eq!(rt; from_utf8(shown.as_slice())?, att);
     }
+    Ok(())
 }

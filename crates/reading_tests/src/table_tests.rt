@@ -1,9 +1,14 @@
+//! The table by opcode byte, name and code, as the manual's opcode maps have it.
+
 ghost use Rattle.std.specs.Prelude.{◌≡◌, ◌<◌};
 
-use crate::{ROWS, VERSION1_ROWS, cell_len, code_of, first_of, name, row, well_formed};
+use opcode_rows::{ROWS, VERSION1_ROWS, cell_len, code_of, first_of, name, row, well_formed};
+use row_lines::row_line;
 use row_types::{Map, Row, RowKind, Size};
 use std::marker::Brand;
+use std::str::from_utf8;
 use std::sync::ledger::{Blank, Ledger};
+use std::test::Fail;
 use step_count::Steps;
 use x86_values::{Code, DispSize, Instr, Mem, Operand, Register, Rep};
 
@@ -23,7 +28,7 @@ fn nth_name(kind: RowKind, map: Map, opcode: u8, n: u16) -> &'static str {
 
 // The instructions of some opcode bytes, by the manual's opcode maps.
 #[test]
-fn names_of_cells(rt: HostRuntime) {
+fn cells_have_their_names(rt: HostRuntime) {
     let cases = [
         (RowKind::Legacy, Map::One, 0x00, 0, "add"),
         (RowKind::Legacy, Map::One, 0x0f, 0, ""),
@@ -62,7 +67,7 @@ fn names_of_cells(rt: HostRuntime) {
 
 // Codes count the rows in the order of the opcode maps, and RORX is the last entry of the last map; FMA, F16C, AES and PCLMULQDQ follow.
 #[test]
-fn rows_of_names(rt: HostRuntime) {
+fn names_have_their_rows(rt: HostRuntime) {
     for (name, n, want) in [
         ("add", 0, Some(0)),
         ("add", 3, Some(3)),
@@ -91,26 +96,28 @@ fn row_of_code<L: Ledger>(blank: Blank, code: Code) -> Row
     row(code, &mut steps)
 }
 
-// The first five codes are ADD of 00, of 01 at its three sizes, and of 02.
+// The first five codes are ADD of 00, of 01 at its three sizes, and of 02, as the manual's notation has them.
 #[test]
-fn first_rows(rt: HostRuntime) {
-    let cases = [
-        (0, 0x00, Size::None),
-        (1, 0x01, Size::O16),
-        (2, 0x01, Size::O32),
-        (3, 0x01, Size::O64),
-        (4, 0x02, Size::None),
-    ];
-    for (code, opcode, size) in cases {
-        if code < ROWS {
-            let row = row_of_code::<Brand>(Blank::new(1), Code(code));
-            assert_eq!(rt; row.opcode, opcode);
-            assert_eq!(rt; row.size, size);
+fn codes_have_their_rows(rt: HostRuntime) -> Result<(), Fail> {
+    for (code, opcode, size, line) in [
+        (0, 0x00, Size::None, "0 00 /r add\n"),
+        (1, 0x01, Size::O16, "1 o16 01 /r add\n"),
+        (2, 0x01, Size::O32, "2 o32 01 /r add\n"),
+        (3, 0x01, Size::O64, "3 REX.W + 01 /r add\n"),
+        (4, 0x02, Size::None, "4 02 /r add\n"),
+    ] {
+        if code >= ROWS {
+            return Err(Fail::new("the table has no such code"));
         }
+        let row = row_of_code::<Brand>(Blank::new(1), Code(code));
+        assert_eq!(rt; (row.opcode, row.size), (opcode, size), "{line}");
+        let shown = row_line(Code(code));
+        assert_eq!(rt; from_utf8(shown.as_slice())?, line);
     }
+    Ok(())
 }
 
-/// An instruction with two operands and no prefix.
+/// An instruction without a prefix.
 fn instr(code: u16, first: Operand, second: Operand, third: Operand) -> Instr {
     Instr {
         code: Code(code),
@@ -135,7 +142,7 @@ fn memory(base: Register, scale: u8) -> Operand {
 
 // ADD of a byte register or memory and a byte register: which operands it takes.
 #[test]
-fn operands_of_add(rt: HostRuntime) {
+fn add_takes_its_operands(rt: HostRuntime) {
     let ah = Operand::Reg(Register::High8(0));
     let none = Operand::Absent;
     let cases = [

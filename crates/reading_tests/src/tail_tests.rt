@@ -4,13 +4,21 @@ ghost use Rattle.std.specs.Prelude.{IsTrue};
 ghost use Rattle.prefixes.specs.Answer.{is_mode};
 ghost use Rattle.row_fit.specs.Sound.{sound};
 
-use crate::{TailError, read_operands};
+use Sample::{
+    Add16, Add32, Add64, AddImmediate, AddStack, Bound, Call, Gather, LoadFar, MoveByte,
+    MoveFromAddress, MoveFromDebug, Pop,
+};
+use intel_text::print;
+use modrm_sib::{TailError, read_operands};
+use opcode_rows::{code_of, well_formed};
 use prefixes::read_prefixes;
 use row_types::{
     Class, LBit, Map, Marks, ModRmRule, ModeMask, OpKind, Place, Plus, Row, RowKind, Size, WBit,
 };
+use std::str::from_utf8;
 use std::test::Fail;
-use x86_values::{Bits, Code, Decoded, DispSize, Mem, Operand, Register};
+use x86_values::Bits::{B16, B32, B64};
+use x86_values::{Bits, Code, Decoded, DispSize, Instr};
 
 /// Rows that tell much, by what they stand for.
 #[derive(Clone, Copy, PartialEq, Eq, Debug)]
@@ -153,19 +161,37 @@ fn row_of(sample: Sample) -> Row
     }
 }
 
+/// The code of the row in the table that a sample is.
+fn code_of_row(sample: Sample) -> Code {
+    let (name, n) = match sample {
+        Sample::Add16 => ("add", 1),
+        Sample::Add32 => ("add", 2),
+        Sample::Add64 => ("add", 3),
+        Sample::MoveByte => ("mov", 0),
+        Sample::MoveFromDebug => ("mov", 29),
+        Sample::LoadFar => ("les", 1),
+        Sample::Bound => ("bound", 1),
+        Sample::Pop => ("pop", 10),
+        Sample::Call => ("call", 2),
+        Sample::MoveFromAddress => ("mov", 12),
+        Sample::AddImmediate => ("add", 15),
+        Sample::AddStack => ("fadd", 1),
+        Sample::Gather => ("vgatherdps", 0),
+    };
+    code_of(name, n).unwrap_or(Code(u16::MAX))
+}
+
 /// The answer behind the front of the bytes at the address 1000, if they have one.
-fn answer<const BITS: u32>(sample: Sample, bytes: &[u8]) -> Option<Result<Decoded, TailError>>
+fn answer<const BITS: u32>(sample: Sample, bytes: &[u8]) -> Result<Result<Decoded, TailError>, Fail>
     requires { IsTrue (is_mode BITS) }
 {
     let row = row_of(sample);
-    match read_prefixes::<BITS>(bytes) {
-        Ok(state) => Some(read_operands::<BITS>(0x1000, &state, Code(7), &row, bytes)),
-        Err(_) => None,
-    }
+    let state = read_prefixes::<BITS>(bytes)?;
+    Ok(read_operands::<BITS>(0x1000, &state, code_of_row(sample), &row, bytes))
 }
 
 /// The same in a mode that is given as a value.
-fn answer_in(bits: Bits, sample: Sample, bytes: &[u8]) -> Option<Result<Decoded, TailError>> {
+fn answer_in(bits: Bits, sample: Sample, bytes: &[u8]) -> Result<Result<Decoded, TailError>, Fail> {
     match bits {
         Bits::B16 => answer::<16>(sample, bytes),
         Bits::B32 => answer::<32>(sample, bytes),
@@ -173,299 +199,129 @@ fn answer_in(bits: Bits, sample: Sample, bytes: &[u8]) -> Option<Result<Decoded,
     }
 }
 
-/// What bytes of a row are to give: a length and the first two operands.
-#[derive(Clone, Copy)]
-struct Case<'a> {
-    bits: Bits,
-    sample: Sample,
-    bytes: &'a [u8],
-    len: u8,
-    first: Operand,
-    second: Operand,
+/// How many bits of a displacement an instruction writes, 0 where it has no memory operand.
+fn disp_bits(instr: &Instr) -> u8 {
+    match instr.memory_operand() {
+        Some(memory) => match memory.disp_size {
+            DispSize::D0 => 0,
+            DispSize::D8 => 8,
+            DispSize::D16 => 16,
+            DispSize::D32 => 32,
+            DispSize::D64 => 64,
+        },
+        None => 0,
+    }
 }
 
-/// Memory of its parts.
-fn memory(
-    base: Option<Register>,
-    index: Option<Register>,
-    scale: u8,
-    disp: u64,
-    disp_size: DispSize,
-) -> Operand {
-    Operand::Mem(Mem {
-        base,
-        index,
-        scale,
-        disp,
-        disp_size,
-    })
-}
-
+// Each of the bytes is read; the size of the displacement is that of the address.
 #[test]
-fn reads_operands_and_lengths(rt: HostRuntime) -> Result<(), Fail> {
-    let bx = Some(Register::R16(3));
-    let si = Some(Register::R16(6));
-    let ax = Operand::Reg(Register::R16(0));
-    let eax = Operand::Reg(Register::R32(0));
-    let rax = Operand::Reg(Register::R64(0));
-    let at_eax = memory(Some(Register::R32(0)), None, 1, 0, DispSize::D0);
-    let cases = [
-        // add [bx+si], ax
-        Case {
-            bits: Bits::B16,
-            sample: Sample::Add16,
-            bytes: &[0x01, 0x00],
-            len: 2,
-            first: memory(bx, si, 1, 0, DispSize::D0),
-            second: ax,
-        },
-        // add [bx+si-1], ax
-        Case {
-            bits: Bits::B16,
-            sample: Sample::Add16,
-            bytes: &[0x01, 0x40, 0xFF],
-            len: 3,
-            first: memory(bx, si, 1, 0xFFFF, DispSize::D8),
-            second: ax,
-        },
-        // add [0x1234], ax
-        Case {
-            bits: Bits::B16,
-            sample: Sample::Add16,
-            bytes: &[0x01, 0x06, 0x34, 0x12],
-            len: 4,
-            first: memory(None, None, 1, 0x1234, DispSize::D16),
-            second: ax,
-        },
-        // add [eax], ax
-        Case {
-            bits: Bits::B16,
-            sample: Sample::Add16,
-            bytes: &[0x67, 0x01, 0x00],
-            len: 3,
-            first: at_eax,
-            second: ax,
-        },
-        // add [bx+si], eax; 16-bit addressing has no SIB
-        Case {
-            bits: Bits::B32,
-            sample: Sample::Add32,
-            bytes: &[0x67, 0x01, 0x00],
-            len: 3,
-            first: memory(bx, si, 1, 0, DispSize::D0),
-            second: eax,
-        },
-        // add [rsp-0x10], ecx
-        Case {
-            bits: Bits::B64,
-            sample: Sample::Add32,
-            bytes: &[0x01, 0x4C, 0x24, 0xF0],
-            len: 4,
-            first: memory(
-                Some(Register::R64(4)),
-                None,
-                1,
-                0xFFFF_FFFF_FFFF_FFF0,
-                DispSize::D8,
-            ),
-            second: Operand::Reg(Register::R32(1)),
-        },
-        // add [rbx+r14*4-0x10], r9
-        Case {
-            bits: Bits::B64,
-            sample: Sample::Add64,
-            bytes: &[0x4E, 0x01, 0x8C, 0xB3, 0xF0, 0xFF, 0xFF, 0xFF],
-            len: 8,
-            first: memory(
-                Some(Register::R64(3)),
-                Some(Register::R64(14)),
-                4,
-                0xFFFF_FFFF_FFFF_FFF0,
-                DispSize::D32,
-            ),
-            second: Operand::Reg(Register::R64(9)),
-        },
-        // add [rip+0x10], eax
-        Case {
-            bits: Bits::B64,
-            sample: Sample::Add32,
-            bytes: &[0x01, 0x05, 0x10, 0x00, 0x00, 0x00],
-            len: 6,
-            first: memory(Some(Register::Rip), None, 1, 0x1016, DispSize::D32),
-            second: eax,
-        },
-        // add [eip+0x10], eax
-        Case {
-            bits: Bits::B64,
-            sample: Sample::Add32,
-            bytes: &[0x67, 0x01, 0x05, 0x10, 0x00, 0x00, 0x00],
-            len: 7,
-            first: memory(Some(Register::Eip), None, 1, 0x1017, DispSize::D32),
-            second: eax,
-        },
-        // les eax, [eax]
-        Case {
-            bits: Bits::B32,
-            sample: Sample::LoadFar,
-            bytes: &[0xC4, 0x00],
-            len: 2,
-            first: eax,
-            second: at_eax,
-        },
-        // pop dword [eax]
-        Case {
-            bits: Bits::B32,
-            sample: Sample::Pop,
-            bytes: &[0x8F, 0x00],
-            len: 2,
-            first: at_eax,
-            second: Operand::Absent,
-        },
-        // call 0x1ffb
-        Case {
-            bits: Bits::B64,
-            sample: Sample::Call,
-            bytes: &[0xE8, 0xF6, 0x0F, 0x00, 0x00],
-            len: 5,
-            first: Operand::Near(0x1FFB),
-            second: Operand::Absent,
-        },
-        // add rax, -1
-        Case {
-            bits: Bits::B64,
-            sample: Sample::AddImmediate,
-            bytes: &[0x48, 0x81, 0xC0, 0xFF, 0xFF, 0xFF, 0xFF],
-            len: 7,
-            first: rax,
-            second: Operand::Imm(0xFFFF_FFFF_FFFF_FFFF),
-        },
-        // mov al, [0x1122334455667788]
-        Case {
-            bits: Bits::B64,
-            sample: Sample::MoveFromAddress,
-            bytes: &[0xA0, 0x88, 0x77, 0x66, 0x55, 0x44, 0x33, 0x22, 0x11],
-            len: 9,
-            first: Operand::Reg(Register::Low8(0)),
-            second: memory(None, None, 1, 0x1122_3344_5566_7788, DispSize::D64),
-        },
-        // fadd st0, st1
-        Case {
-            bits: Bits::B64,
-            sample: Sample::AddStack,
-            bytes: &[0xD8, 0xC1],
-            len: 2,
-            first: Operand::Reg(Register::St(0)),
-            second: Operand::Reg(Register::St(1)),
-        },
-        // vgatherdps xmm0, [rax+xmm1*1], xmm2
-        Case {
-            bits: Bits::B64,
-            sample: Sample::Gather,
-            bytes: &[0xC4, 0xE2, 0x69, 0x92, 0x04, 0x08],
-            len: 6,
-            first: Operand::Reg(Register::Xmm(0)),
-            second: memory(
-                Some(Register::R64(0)),
-                Some(Register::Xmm(1)),
-                1,
-                0,
-                DispSize::D0,
-            ),
-        },
-    ];
-    for case in cases {
-        let read = answer_in(case.bits, case.sample, case.bytes).ok_or("no front")?;
-        let d = read?;
-        let [first, second, _, _] = d.instr.ops;
+fn operands_and_lengths_are_read(rt: HostRuntime) -> Result<(), Fail> {
+    for (bits, sample, digits, size, text) in [
+        (B16, Add16, "0100", 0, "add word [bx+si], ax"),
+        (B16, Add16, "0140ff", 8, "add word [bx+si-0x1], ax"),
+        (B16, Add16, "01063412", 16, "add word [0x1234], ax"),
+        (B16, Add16, "670100", 0, "add word [eax], ax"),
+        // 16-bit addressing has no SIB
+        (B32, Add32, "670100", 0, "add dword [bx+si], eax"),
+        (B64, Add32, "014c24f0", 8, "add dword [rsp-0x10], ecx"),
+        (
+            B64,
+            Add64,
+            "4e018cb3f0ffffff",
+            32,
+            "add qword [rbx+r14*4-0x10], r9",
+        ),
+        (
+            B64,
+            Add32,
+            "010510000000",
+            32,
+            "add dword [rel 0x1016], eax",
+        ),
+        (
+            B64,
+            Add32,
+            "67010510000000",
+            32,
+            "add dword [rel32 0x1017], eax",
+        ),
+        (B32, LoadFar, "c400", 0, "les eax, [eax]"),
+        (B32, Pop, "8f00", 0, "pop dword [eax]"),
+        (B64, Call, "e8f60f0000", 0, "call 0x1ffb"),
+        (
+            B64,
+            AddImmediate,
+            "4881c0ffffffff",
+            0,
+            "add rax, 0xffffffffffffffff",
+        ),
+        (
+            B64,
+            MoveFromAddress,
+            "a08877665544332211",
+            64,
+            "mov al, byte [0x1122334455667788]",
+        ),
+        (B64, AddStack, "d8c1", 0, "fadd st0, st1"),
+        (
+            B64,
+            Gather,
+            "c4e269920408",
+            0,
+            "vgatherdps xmm0, dword [rax+xmm1*1], xmm2",
+        ),
+    ] {
+        let bytes = hex::decode(rt.alloc(), digits)?;
+        let d = answer_in(bits, sample, &bytes)??;
+        assert!(rt; well_formed(&d.instr), "{digits} in {bits:?}");
+        let shown = print(bits, &d.instr);
+        assert_eq!(rt; from_utf8(shown.as_slice())?, text, "{digits} in {bits:?}");
         assert_eq!(rt;
-            d.len,
-            case.len,
-            "the length of {:?} in {:?}",
-            case.bytes, case.bits
-        );
-        assert_eq!(rt;
-            first,
-            case.first,
-            "first of {:?} in {:?}",
-            case.bytes, case.bits
-        );
-        assert_eq!(rt;
-            second,
-            case.second,
-            "second of {:?} in {:?}",
-            case.bytes, case.bits
+            (usize::from(d.len), disp_bits(&d.instr)),
+            (bytes.len(), size),
+            "{digits} in {bits:?}"
         );
     }
     Ok(())
 }
 
 #[test]
-fn tells_ended_from_forbidden(rt: HostRuntime) -> Result<(), Fail> {
+fn ended_is_told_from_forbidden(rt: HostRuntime) -> Result<(), Fail> {
     let ended = TailError::Ended;
     let forbidden = TailError::Forbidden;
-    let cases: [(Bits, Sample, &[u8], TailError); 21] = [
+    for (bits, sample, digits, want) in [
         // ModRM, SIB, displacement or immediate is missing
-        (Bits::B64, Sample::Add32, &[0x01], ended),
-        (Bits::B64, Sample::Add32, &[0x01, 0x04], ended),
-        (Bits::B64, Sample::Add32, &[0x01, 0x40], ended),
-        (
-            Bits::B64,
-            Sample::Add32,
-            &[0x01, 0x05, 0x00, 0x00, 0x00],
-            ended,
-        ),
-        (Bits::B64, Sample::Call, &[0xE8, 0x00, 0x00, 0x00], ended),
+        (B64, Add32, "01", ended),
+        (B64, Add32, "0104", ended),
+        (B64, Add32, "0140", ended),
+        (B64, Add32, "0105000000", ended),
+        (B64, Call, "e8000000", ended),
         // LOCK may still meet memory, but never a register, and not on a row that is not lockable
-        (Bits::B64, Sample::Add32, &[0xF0, 0x01], ended),
-        (Bits::B64, Sample::Add32, &[0xF0, 0x01, 0xC0], forbidden),
-        (Bits::B64, Sample::MoveByte, &[0xF0, 0x88], forbidden),
+        (B64, Add32, "f001", ended),
+        (B64, Add32, "f001c0", forbidden),
+        (B64, MoveByte, "f088", forbidden),
         // a debug register has no REX.R
-        (Bits::B64, Sample::MoveFromDebug, &[0x0F, 0x21], ended),
-        (
-            Bits::B64,
-            Sample::MoveFromDebug,
-            &[0x44, 0x0F, 0x21],
-            forbidden,
-        ),
+        (B64, MoveFromDebug, "0f21", ended),
+        (B64, MoveFromDebug, "440f21", forbidden),
         // another operand size, or a mode in which the row is not
-        (Bits::B64, Sample::Add32, &[0x66, 0x01], forbidden),
-        (Bits::B32, Sample::Add64, &[0x01], forbidden),
+        (B64, Add32, "6601", forbidden),
+        (B32, Add64, "01", forbidden),
         // 62 and 8F that begin something else
-        (Bits::B32, Sample::Bound, &[0x62], ended),
-        (Bits::B32, Sample::Bound, &[0x62, 0xC0], forbidden),
-        (Bits::B32, Sample::Pop, &[0x8F], ended),
-        (Bits::B32, Sample::Pop, &[0x8F, 0x08], forbidden),
+        (B32, Bound, "62", ended),
+        (B32, Bound, "62c0", forbidden),
+        (B32, Pop, "8f", ended),
+        (B32, Pop, "8f08", forbidden),
         // a fixed ModRM byte
-        (Bits::B64, Sample::AddStack, &[0xD8, 0xC8], forbidden),
+        (B64, AddStack, "d8c8", forbidden),
         // a gather needs a SIB, which 16-bit addressing has not, and three registers that differ
-        (
-            Bits::B64,
-            Sample::Gather,
-            &[0xC4, 0xE2, 0x69, 0x92, 0x04],
-            ended,
-        ),
-        (
-            Bits::B64,
-            Sample::Gather,
-            &[0xC4, 0xE2, 0x69, 0x92, 0x00],
-            forbidden,
-        ),
-        (
-            Bits::B32,
-            Sample::Gather,
-            &[0x67, 0xC4, 0xE2, 0x69, 0x92],
-            forbidden,
-        ),
-        (
-            Bits::B64,
-            Sample::Gather,
-            &[0xC4, 0xE2, 0x69, 0x92, 0x14],
-            forbidden,
-        ),
-    ];
-    for (bits, sample, bytes, want) in cases {
-        let read = answer_in(bits, sample, bytes).ok_or("no front")?;
-        assert_eq!(rt; read.err(), Some(want), "{bytes:?} in {bits:?}");
+        (B64, Gather, "c4e2699204", ended),
+        (B64, Gather, "c4e2699200", forbidden),
+        (B32, Gather, "67c4e26992", forbidden),
+        (B64, Gather, "c4e2699214", forbidden),
+    ] {
+        let bytes = hex::decode(rt.alloc(), digits)?;
+        let read = answer_in(bits, sample, &bytes)?;
+        assert_eq!(rt; read.err(), Some(want), "{digits} in {bits:?}");
     }
     Ok(())
 }

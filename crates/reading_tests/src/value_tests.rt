@@ -1,16 +1,18 @@
-use crate::{
+//! Registers, modes and operands as the manual's tables have them.
+
+use x86_values::{
     Bits, Code, DispSize, Instr, Mem, Operand, Register, Rep, mode_of, same, same_bits,
     same_register, wrap,
 };
 
-// mov of a register and the memory at rsp plus 16, at some place of the table
+/// `mov` of a register and the memory at RSP plus 16, at some place of the table.
 fn load(register: Register) -> Instr {
     Instr {
         code: Code(7),
         ops: [
             Operand::Reg(register),
             Operand::Mem(Mem {
-                base: Some(Register::R64(4)),
+                base: Some(Register::RSP),
                 index: None,
                 scale: 1,
                 disp: 16,
@@ -27,35 +29,36 @@ fn load(register: Register) -> Instr {
 }
 
 #[test]
-fn registers_tell_instructions_apart(rt: HostRuntime) {
-    let rbx = load(Register::R64(3));
-    let ebx = load(Register::R32(3));
-    assert!(rt; same(&rbx, &rbx));
-    assert!(rt; !same(&rbx, &ebx));
-}
-
-#[test]
-fn registers_and_sizes_are_compared(rt: HostRuntime) {
-    assert!(rt; same_register(Register::RBX, Register::RBX));
-    assert!(rt; !same_register(Register::RBX, Register::EBX));
-    assert!(rt; same_bits(Bits::B32, Bits::B32));
-    assert!(rt; !same_bits(Bits::B32, Bits::B64));
+fn equal_values_alone_are_the_same(rt: HostRuntime) {
+    let (rbx, ebx) = (Register::RBX, Register::EBX);
+    for (other, want) in [(rbx, true), (ebx, false)] {
+        assert_eq!(rt; same(&load(rbx), &load(other)), want);
+        assert_eq!(rt; same_register(rbx, other), want);
+    }
+    for (other, want) in [(Bits::B32, true), (Bits::B64, false)] {
+        assert_eq!(rt; same_bits(Bits::B32, other), want);
+    }
+    let instr = load(rbx);
+    assert_eq!(rt; instr.op_count(), 2);
+    assert_eq!(rt; instr.memory_operand(), instr.ops[1].memory());
+    assert!(rt; instr.ops[1].is_memory() && instr.ops[3].is_absent());
 }
 
 #[test]
 fn addresses_wrap_in_each_mode(rt: HostRuntime) {
     for (bits, x, want) in [
-        (Bits::B16, 0x1_0002, 2),
-        (Bits::B32, 0xFFFF_FFFF, 0xFFFF_FFFF),
-        (Bits::B32, 0x1_0000_0005, 5),
-        (Bits::B64, 0x1_0000_0000_0000_0009, 9),
+        (mode_of::<16>(), 0x1_0002, 2),
+        (mode_of::<32>(), 0xFFFF_FFFF, 0xFFFF_FFFF),
+        (mode_of::<32>(), 0x1_0000_0005, 5),
+        (mode_of::<64>(), 0x1_0000_0000_0000_0009, 9),
     ] {
-        assert!(rt; wrap(bits, x) == want);
+        assert_eq!(rt; wrap(bits, x), want, "{x:#x} in {bits:?}");
     }
 }
 
+// AH to BH are four registers, R15 is the last general one, and there is no ST(8).
 #[test]
-fn register_constants_have_the_numbers_and_bytes_of_their_names(rt: HostRuntime) {
+fn registers_have_the_numbers_and_bytes_of_their_names(rt: HostRuntime) {
     for (register, number, bytes) in [
         (Register::BL, 3, 1),
         (Register::SPL, 4, 1),
@@ -76,37 +79,11 @@ fn register_constants_have_the_numbers_and_bytes_of_their_names(rt: HostRuntime)
         (Register::YMM12, 12, 32),
         (Register::Rip, 0, 8),
     ] {
-        assert_eq!(rt; register.number(), number);
-        assert_eq!(rt; register.size(), bytes);
+        assert_eq!(rt; register.number(), number, "{register:?}");
+        assert_eq!(rt; register.size(), bytes, "{register:?}");
+        assert!(rt; register.is_named(), "{register:?}");
     }
-}
-
-#[test]
-fn operands_are_counted_and_the_address_is_found(rt: HostRuntime) {
-    let instr = load(Register::RBX);
-    assert_eq!(rt; instr.op_count(), 2);
-    assert_eq!(rt; instr.memory_operand(), instr.ops[1].memory());
-    assert!(rt; instr.ops[1].is_memory() && instr.ops[3].is_absent());
-}
-
-// AH to BH are four registers, R15 is the last general one, and there is no ST(8)
-#[test]
-fn registers_exist_below_the_size_of_their_class(rt: HostRuntime) {
-    for (register, want) in [
-        (Register::BH, true),
-        (Register::High8(4), false),
-        (Register::R15, true),
-        (Register::R64(16), false),
-        (Register::St(8), false),
-        (Register::Rip, true),
-    ] {
-        assert!(rt; register.is_named() == want);
+    for register in [Register::High8(4), Register::R64(16), Register::St(8)] {
+        assert!(rt; !register.is_named(), "{register:?}");
     }
-}
-
-#[test]
-fn modes_have_their_bits(rt: HostRuntime) {
-    assert!(rt; mode_of::<16>() == Bits::B16);
-    assert!(rt; mode_of::<32>() == Bits::B32);
-    assert!(rt; mode_of::<64>() == Bits::B64);
 }

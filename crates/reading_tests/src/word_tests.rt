@@ -1,7 +1,7 @@
 //! Texts as the manual's assembler syntax has them, and what they say.
 
-use crate::reading::read_words;
-use crate::words::{
+use intel_words::reading::read_words;
+use intel_words::words::{
     AddressText, Inside, IntelWords, NamedWords, OperandText, SignedText, SizeName, SumText,
 };
 use std::test::Fail;
@@ -39,6 +39,16 @@ fn address(size: SizeName, seg: Option<Segment>, inside: Inside) -> OperandText 
     OperandText::Mem(AddressText { size, seg, inside })
 }
 
+/// An address relative to RIP or EIP.
+fn rel(eip: bool, target: u64) -> Inside {
+    Inside::Rel { eip, target }
+}
+
+/// A register.
+fn reg(register: Register) -> OperandText {
+    OperandText::Reg(register)
+}
+
 const NONE: OperandText = OperandText::Absent;
 
 #[test]
@@ -51,8 +61,24 @@ fn operands_are_read(rt: HostRuntime) {
         negative: false,
         magnitude: 16,
     });
-    let reg = |r: Register| OperandText::Reg(r);
-    let cases = [
+    let far = OperandText::Far {
+        selector: 8,
+        offset: 16,
+    };
+    let of_fs = sum(Some(Register::RAX), Some(Register::RBX), Some(4), minus_8);
+    let at_fs = address(SizeName::Dword, Some(Segment::Fs), of_fs);
+    let at_rip = address(SizeName::None, None, rel(false, 0x1007));
+    let at_eip = address(SizeName::Word, None, rel(true, 0x1007));
+    let lone = Inside::Lone(0xFFFF_FFFF_0000_0000);
+    let at_lone = address(SizeName::Byte, None, lone);
+    let of_bx = sum(Some(Register::BX), Some(Register::SI), None, plus_16);
+    let at_bx = address(SizeName::Byte, None, of_bx);
+    let of_ymm = sum(None, Some(Register::YMM2), Some(8), None);
+    let at_ymm = address(SizeName::Dword, None, of_ymm);
+    let of_esp = sum(Some(Register::ESP), None, None, None);
+    let at_esp = address(SizeName::Far32, None, of_esp);
+    let (five, thirty_two) = (OperandText::Number(5), OperandText::Number(0x20));
+    for (text, name, ops) in [
         ("nop", "nop", [NONE, NONE, NONE, NONE]),
         ("push rbp", "push", [reg(Register::RBP), NONE, NONE, NONE]),
         (
@@ -63,121 +89,40 @@ fn operands_are_read(rt: HostRuntime) {
         (
             "sub rsp, 0x20",
             "sub",
-            [reg(Register::RSP), OperandText::Number(0x20), NONE, NONE],
+            [reg(Register::RSP), thirty_two, NONE, NONE],
         ),
-        (
-            "callf 0x8:0x10",
-            "callf",
-            [
-                OperandText::Far {
-                    selector: 8,
-                    offset: 16,
-                },
-                NONE,
-                NONE,
-                NONE,
-            ],
-        ),
+        ("callf 0x8:0x10", "callf", [far, NONE, NONE, NONE]),
         (
             "mov eax, dword fs:[rax+rbx*4-0x8]",
             "mov",
-            [
-                reg(Register::EAX),
-                address(
-                    SizeName::Dword,
-                    Some(Segment::Fs),
-                    sum(Some(Register::RAX), Some(Register::RBX), Some(4), minus_8),
-                ),
-                NONE,
-                NONE,
-            ],
+            [reg(Register::EAX), at_fs, NONE, NONE],
         ),
         (
             "lea rcx, [rel 0x1007]",
             "lea",
-            [
-                reg(Register::RCX),
-                address(
-                    SizeName::None,
-                    None,
-                    Inside::Rel {
-                        eip: false,
-                        target: 0x1007,
-                    },
-                ),
-                NONE,
-                NONE,
-            ],
+            [reg(Register::RCX), at_rip, NONE, NONE],
         ),
         (
             "mov word [rel32 0x1007], 0x5",
             "mov",
-            [
-                address(
-                    SizeName::Word,
-                    None,
-                    Inside::Rel {
-                        eip: true,
-                        target: 0x1007,
-                    },
-                ),
-                OperandText::Number(5),
-                NONE,
-                NONE,
-            ],
+            [at_eip, five, NONE, NONE],
         ),
         (
             "mov al, byte [0xffffffff00000000]",
             "mov",
-            [
-                reg(Register::AL),
-                address(SizeName::Byte, None, Inside::Lone(0xFFFF_FFFF_0000_0000)),
-                NONE,
-                NONE,
-            ],
+            [reg(Register::AL), at_lone, NONE, NONE],
         ),
         (
             "mov byte [bx+si+0x10], dil",
             "mov",
-            [
-                address(
-                    SizeName::Byte,
-                    None,
-                    sum(Some(Register::BX), Some(Register::SI), None, plus_16),
-                ),
-                reg(Register::DIL),
-                NONE,
-                NONE,
-            ],
+            [at_bx, reg(Register::DIL), NONE, NONE],
         ),
         (
             "vgatherdps ymm1, dword [ymm2*8], ymm3",
             "vgatherdps",
-            [
-                reg(Register::YMM1),
-                address(
-                    SizeName::Dword,
-                    None,
-                    sum(None, Some(Register::YMM2), Some(8), None),
-                ),
-                reg(Register::YMM3),
-                NONE,
-            ],
+            [reg(Register::YMM1), at_ymm, reg(Register::YMM3), NONE],
         ),
-        (
-            "jmpf far32 [esp]",
-            "jmpf",
-            [
-                address(
-                    SizeName::Far32,
-                    None,
-                    sum(Some(Register::ESP), None, None, None),
-                ),
-                NONE,
-                NONE,
-                NONE,
-            ],
-        ),
+        ("jmpf far32 [esp]", "jmpf", [at_esp, NONE, NONE, NONE]),
         (
             "vblendvps xmm0, xmm15, xmm2, xmm10",
             "vblendvps",
@@ -188,13 +133,12 @@ fn operands_are_read(rt: HostRuntime) {
                 reg(Register::XMM10),
             ],
         ),
-    ];
-    for (text, name, ops) in cases {
+    ] {
         let want = NamedWords {
             name: name.as_bytes(),
             words: plain(ops),
         };
-        assert!(rt; read_words(text.as_bytes()) == Some(want), "{}", text);
+        assert_eq!(rt; read_words(text.as_bytes()), Some(want), "{text}");
     }
 }
 
@@ -235,7 +179,7 @@ fn prefix_words_are_read(rt: HostRuntime) {
             name: b"scasb",
             words,
         };
-        assert!(rt; read_words(text.as_bytes()) == Some(want), "{}", text);
+        assert_eq!(rt; read_words(text.as_bytes()), Some(want), "{text}");
     }
 }
 
@@ -258,6 +202,6 @@ fn other_texts_are_refused(rt: HostRuntime) {
         "mov eax, hs:[eax]",
         "mov  eax, ecx",
     ] {
-        assert!(rt; read_words(text.as_bytes()).is_none(), "{}", text);
+        assert_eq!(rt; read_words(text.as_bytes()), None, "{text}");
     }
 }

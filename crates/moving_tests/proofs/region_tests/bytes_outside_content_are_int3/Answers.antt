@@ -3,7 +3,7 @@ use Rattle.code_region.specs.State.{RegionState, rounded, gaps_of, live_block}
 use Rattle.code_region.specs.Opening.{opened}
 use Rattle.code_region.specs.Placing.{place_answer, placed}
 use Rattle.code_region.specs.Filling.{can_fill}
-use Rattle.code_region.proofs.tests.bytes_outside_content_are_int3.Goals as goal
+use Rattle.moving_tests.proofs.region_tests.bytes_outside_content_are_int3.Goals as goal
 
 -- the region after one refusal and two places has a live block at 16
 two_live : IsTrue (can_fill (placed (placed (placed (opened 0 64 2) 0) 1) 1) 16 1)

@@ -1,7 +1,0 @@
-use Rattle.std.proofs.Common.{◌<◌, ℕ, length}
-use Rattle.x86_values.specs.declared.Bits.TheVariants.{B64}
-use Rattle.move_goals.specs.Items.{IsPlaced, item_at}
-use Rattle.move_goals.proofs.tests.jumps.Given as goal
-
-abbrev pub invariant-jumps : goal.invariant-jumps
-invariant-jumps l = (k : ℕ) → k < length l.items.items → IsPlaced B64 (item_at l.items.items k)

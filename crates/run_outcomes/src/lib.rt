@@ -1,0 +1,110 @@
+//! Runs of the program's commands between ports in memory, for tests: what a run writes and answers, also where a port fails.
+#![tactic(auto)]
+
+use arrayvec::ArrayVec;
+use byte_ports::{FailAt, MakeError, MemSink, MemSource, SlowSource, Source};
+use listing_run::{run, status_number};
+use std::alloc::{AllocError, Global};
+use std::str::{Utf8Error, from_utf8};
+
+/// How the ports of a run behave. Calls are counted from 1 on; a port whose call is 0 never fails.
+#[derive(Clone, Copy, PartialEq, Eq, Debug)]
+pub struct Ports {
+    /// The call at which the source fails.
+    pub pull: u64,
+    /// The call at which the output fails.
+    pub put: u64,
+    /// The call at which the error output fails.
+    pub say: u64,
+    /// How many bytes the output takes before it fails.
+    pub room: usize,
+    /// Whether the source gives one byte a call.
+    pub is_slow: bool,
+}
+
+/// Ports that never fail, with room for 4 MiB.
+pub const WHOLE: Ports = Ports {
+    pull: 0,
+    put: 0,
+    say: 0,
+    room: 4_194_304,
+    is_slow: false,
+};
+
+/// What a run answered and wrote.
+#[derive(Drop)]
+pub struct Outcome {
+    /// The number of its status.
+    pub number: u8,
+    /// What its output took.
+    pub out: Vec<u8>,
+    /// What its error output took.
+    pub err: Vec<u8>,
+}
+
+impl Outcome {
+    /// The number of the status and what both outputs took, as text.
+    pub fn told(&self) -> Result<(u8, &str, &str), Utf8Error> {
+        Ok((self.number, from_utf8(&self.out)?, from_utf8(&self.err)?))
+    }
+}
+
+/// The words of a command, which are parted by single spaces; of an empty one there are none.
+fn words_of(alloc: Global, command: &str) -> Result<Vec<&str>, AllocError> {
+    let mut words = Vec::new(alloc);
+    if !command.is_empty() {
+        for word in command.split(' ') {
+            words.push(word)?;
+        }
+    }
+    Ok(words)
+}
+
+/// The calls at which a port fails: this one.
+fn at(call: u64) -> ArrayVec<u64, 8> {
+    let mut calls = ArrayVec::new();
+    calls.push(call);
+    calls
+}
+
+/// What a command gives where its input comes from a source.
+fn outcome_of<S: Source + Drop>(
+    alloc: Global,
+    command: &str,
+    source: S,
+    ports: &Ports,
+) -> Result<Outcome, MakeError> {
+    let words = words_of(alloc, command).map_err(|_| MakeError::Memory)?;
+    let mut source = FailAt::new(source, at(ports.pull));
+    let mut out = FailAt::new(MemSink::new(alloc, ports.room)?, at(ports.put));
+    let mut err = FailAt::new(MemSink::new(alloc, 80)?, at(ports.say));
+    let status = run(alloc, &words, &mut source, &mut out, &mut err);
+    let number = status_number(&status);
+    let out = out.inner().bytes().to_vec(alloc);
+    let err = err.inner().bytes().to_vec(alloc);
+    Ok(Outcome {
+        number,
+        out: out.map_err(|_| MakeError::Memory)?,
+        err: err.map_err(|_| MakeError::Memory)?,
+    })
+}
+
+/// What a command, whose words are parted by single spaces, gives for an input between such ports. The only refusal is want of memory.
+pub fn outcome_between(
+    alloc: Global,
+    command: &str,
+    input: &[u8],
+    ports: &Ports,
+) -> Result<Outcome, MakeError> {
+    let source = MemSource::new(input);
+    if ports.is_slow {
+        outcome_of(alloc, command, SlowSource::new(source), ports)
+    } else {
+        outcome_of(alloc, command, source, ports)
+    }
+}
+
+/// What a command, whose words are parted by single spaces, gives for an input. The only refusal is want of memory.
+pub fn outcome(alloc: Global, command: &str, input: &[u8]) -> Result<Outcome, MakeError> {
+    outcome_between(alloc, command, input, &WHOLE)
+}

@@ -1,0 +1,266 @@
+//! Lines of listings, of what instructions do and of their bytes in another mode, by the manual's notation and as other disassemblers write them.
+
+use run_outcomes::outcome;
+use std::alloc::{AllocError, Global};
+use std::str::from_utf8;
+use std::test::Fail;
+
+/// The texts of a listing's lines, behind the addresses and the 30 places of the bytes.
+fn texts_of(alloc: Global, bits: &str, listing: &str) -> Result<String, AllocError> {
+    let column = match bits {
+        "16" => 36,
+        "32" => 40,
+        _ => 48,
+    };
+    let mut texts = String::new(alloc);
+    for line in listing.lines() {
+        texts.push_str(line.get(column..).unwrap_or("no text"))?;
+        texts.push_str("\n")?;
+    }
+    Ok(texts)
+}
+
+#[test]
+fn listings_have_their_texts(rt: HostRuntime) -> Result<(), Fail> {
+    for (command, digits, texts) in [
+        ("list 64 0 intel", "66", "db 0x66\n"),
+        ("list 64 0 intel", "6690", "nop\n"),
+        ("list 64 0 intel", "486690", "nop\n"),
+        ("list 64 0 intel", "88e0", "mov al, ah\n"),
+        ("list 64 0 intel", "4088e0", "mov al, spl\n"),
+        ("list 32 0 intel", "c500", "lds eax, [eax]\n"),
+        ("list 64 0 intel", "f00100", "lock add dword [rax], eax\n"),
+        ("list 64 0 intel", "f001c0", "db 0xf0\nadd eax, eax\n"),
+        ("list 64 0 intel", "f088", "db 0xf0\ndb 0x88\n"),
+        ("list 64 0 intel", "0f", "db 0xf\n"),
+        ("list 16 0 intel", "8b00", "mov ax, word [bx+si]\n"),
+        ("list 16 0 intel", "678b00", "mov ax, word [eax]\n"),
+        ("list 32 0 intel", "678b00", "mov eax, dword [bx+si]\n"),
+        ("list 64 0 intel", "642e8b00", "mov eax, dword fs:[rax]\n"),
+        ("list 64 0 intel", "f2f390", "pause\n"),
+        ("list 64 0 intel", "f3f290", "repne nop\n"),
+        ("list 64 0 intel", "74fe4989c0", "je 0x0\nmov r8, rax\n"),
+        (
+            "list 64 1000 intel",
+            "488b0500000000",
+            "mov rax, qword [rel 0x1007]\n",
+        ),
+        (
+            "list 64 1000 att",
+            "488b0500000000",
+            "movq 0x1007(%rip), %rax\n",
+        ),
+        (
+            "list 64 1000 masm",
+            "488b0500000000",
+            "mov rax, qword ptr [1007h]\n",
+        ),
+        ("list 64 0 intel", "0fb607", "movzx eax, byte [rdi]\n"),
+        ("list 64 0 att", "0fb607", "movzbl (%rdi), %eax\n"),
+        ("list 64 0 masm", "0fb607", "movzx eax, byte ptr [rdi]\n"),
+        ("list 64 0 intel", "ff10", "call qword [rax]\n"),
+        ("list 64 0 att", "ff10", "callq *(%rax)\n"),
+        ("list 64 0 masm", "ff10", "call qword ptr [rax]\n"),
+        ("list 64 0 intel", "d820", "fsub dword [rax]\n"),
+        ("list 64 0 att", "d820", "fsubs (%rax)\n"),
+        ("list 64 0 masm", "d820", "fsub dword ptr [rax]\n"),
+        ("list 32 0 intel", "9a100000000800", "callf 0x8:0x10\n"),
+        ("list 32 0 att", "9a100000000800", "callf $0x8, $0x10\n"),
+        ("list 32 0 masm", "9a100000000800", "callf 8h:10h\n"),
+        ("list 32 0 intel", "83c0ff", "add eax, 0xffffffff\n"),
+        ("list 32 0 att", "83c0ff", "add $0xffffffff, %eax\n"),
+        ("list 32 0 masm", "83c0ff", "add eax, 0ffffffffh\n"),
+        (
+            "list 64 0 intel",
+            "48895c2410",
+            "mov qword [rsp+0x10], rbx\n",
+        ),
+        ("list 64 0 att", "48895c2410", "movq %rbx, 0x10(%rsp)\n"),
+        (
+            "list 64 0 masm",
+            "48895c2410",
+            "mov qword ptr [rsp+10h], rbx\n",
+        ),
+        ("list 16 0 intel", "0f", "db 0xf\n"),
+        ("list 16 0 att", "0f", ".byte 0xf\n"),
+        ("list 16 0 masm", "0f", "db 0fh\n"),
+        ("list 64 0 intel", "66", "db 0x66\n"),
+        ("list 64 0 att", "66", ".byte 0x66\n"),
+        ("list 64 0 masm", "66", "db 66h\n"),
+        // an instruction has at most fifteen bytes
+        (
+            "list 64 0 intel",
+            "666666666666666666666666666666",
+            "db 0x66\ndb 0x66\ndb 0x66\ndb 0x66\ndb 0x66\ndb 0x66\ndb 0x66\ndb 0x66\ndb 0x66\ndb 0x66\ndb 0x66\ndb 0x66\ndb 0x66\ndb 0x66\ndb 0x66\n",
+        ),
+        ("list 64 0 intel", "666666666666666666666666666690", "nop\n"),
+        (
+            "list 64 0 intel",
+            "66666666666666666666666666666690",
+            "db 0x66\nnop\n",
+        ),
+    ] {
+        let input = hex::decode(rt.alloc(), digits)?;
+        let ran = outcome(rt.alloc(), command, &input)?;
+        let (number, out, err) = ran.told()?;
+        let bits = command.split(' ').nth(1).unwrap_or("no mode");
+        let found = texts_of(rt.alloc(), bits, out)?;
+        assert_eq!(rt;
+            (number, found.as_str(), err),
+            (0, texts, ""),
+            "{command} {digits}"
+        );
+    }
+    Ok(())
+}
+
+#[test]
+fn streams_have_their_lines(rt: HostRuntime) -> Result<(), Fail> {
+    for (command, digits, lines) in [
+        (
+            "list 64 7ffac46acda4 intel",
+            "48895c2410",
+            "00007ffac46acda4 48895c2410                     mov qword [rsp+0x10], rbx\n",
+        ),
+        (
+            "list 16 ffff intel",
+            "9090",
+            "ffff 90                             nop\n0000 90                             nop\n",
+        ),
+        ("list 64 0 intel", "", ""),
+        (
+            "info 64 401000",
+            "554889e54883ec20e8f60f0000c9c3",
+            "0000000000401000 Next r\n0000000000401001 Next w r\n0000000000401004 Next rw r\n0000000000401008 Call r -> 0x402003\n000000000040100d Next\n000000000040100e Return\n",
+        ),
+        (
+            "info 16 FFFE",
+            "ebfe90",
+            "fffe UnconditionalBranch r -> 0xfffe\n0000 Next\n",
+        ),
+        (
+            "info 64 0",
+            "488b0501000000",
+            "0000000000000000 Next w r m8 @ 0x8\n",
+        ),
+        (
+            "info 64 0",
+            "678b05f8ffffff",
+            "0000000000000000 Next w r m4 @ 0xffffffff\n",
+        ),
+        ("info 64 0", "488d040b", "0000000000000000 Next w n\n"),
+        (
+            "info 64 0",
+            "e2fe",
+            "0000000000000000 ConditionalBranch r -> 0x0\n",
+        ),
+        ("info 64 0", "01048b", "0000000000000000 Next rw r m4\n"),
+        ("info 64 0", "ff10", "0000000000000000 IndirectCall r m8\n"),
+        (
+            "info 64 0",
+            "ff2500000000",
+            "0000000000000000 IndirectBranch r m8 @ 0x6\n",
+        ),
+        ("info 64 0", "c5fc1000", "0000000000000000 Next w r m32\n"),
+        (
+            "info 64 0",
+            "cc0f0b0f05",
+            "0000000000000000 Interrupt\n0000000000000001 Exception\n0000000000000003 Call\n",
+        ),
+        ("info 64 0", "0fae00", "0000000000000000 Next w\n"),
+        ("info 32 0", "9a100000000800", "00000000 Call r\n"),
+        ("info 16 0", "8b00", "0000 Next w r m2\n"),
+        ("info 64 0", "", ""),
+        ("recode 64 0 32 0", "4088e0", "0000000000000000 ! 3 1\n"),
+        ("recode 64 0 32 0", "8b00", "0000000000000000 ! 4\n"),
+        ("recode 32 0 64 0", "40", "00000000 ! 1\n"),
+        ("recode 64 0 64 0", "66eb7f", "0000000000000000 ! 7\n"),
+        (
+            "recode 64 0 64 0",
+            "c4e17858c1",
+            "0000000000000000 c5f858c1\n",
+        ),
+        ("recode 64 0 64 0", "486690", "0000000000000000 90\n"),
+        (
+            "recode 64 1000 16 0",
+            "01c04801c0",
+            "0000000000001000 6601c0\n0000000000001002 ! 1\n",
+        ),
+        (
+            "recode 32 0 16 0",
+            "f0f22e8184984433221178563412",
+            "00000000 ! 10\n",
+        ),
+        ("recode 64 0 64 0", "", ""),
+        (
+            "--version",
+            "90",
+            "feddurzai 0.2.0\ninteger, x87, MMX, SSE to SSE4.2, AVX, AVX2, BMI, FMA, F16C, AES, PCLMULQDQ\n",
+        ),
+    ] {
+        let input = hex::decode(rt.alloc(), digits)?;
+        let ran = outcome(rt.alloc(), command, &input)?;
+        assert_eq!(rt; ran.told()?, (0, lines, ""), "{command} {digits}");
+    }
+    Ok(())
+}
+
+#[test]
+fn bad_code_ends_a_stream(rt: HostRuntime) -> Result<(), Fail> {
+    let next = "0000000000000000 Next\n";
+    for (command, digits, lines, told) in [
+        ("info 64 0", "900f04", next, "bad code at 1: invalid\n"),
+        ("info 64 0", "900f", next, "bad code at 1: too short\n"),
+        ("info 64 0", "480f0490", "", "bad code at 0: invalid\n"),
+        (
+            "recode 64 0 64 0",
+            "900f04",
+            "0000000000000000 90\n",
+            "bad code at 1: invalid\n",
+        ),
+    ] {
+        let input = hex::decode(rt.alloc(), digits)?;
+        let ran = outcome(rt.alloc(), command, &input)?;
+        assert_eq!(rt; ran.told()?, (2, lines, told), "{command} {digits}");
+    }
+    Ok(())
+}
+
+// 2,000 lines of 22 bytes stand before the code that is bad; prefixes without an instruction behind them have a line of 56 bytes each, or end a stream.
+#[test]
+fn long_inputs_have_their_lines(rt: HostRuntime) -> Result<(), Fail> {
+    for (command, byte, count, number, len) in [
+        ("info 64 0", 0x90, 2000, 2, 44_000),
+        ("list 64 0 intel", 0x66, 65_536, 0, 3_670_016),
+        ("info 64 0", 0x66, 65_536, 2, 0),
+        ("recode 64 0 32 0", 0x66, 65_536, 2, 0),
+    ] {
+        let mut input = vec![in rt.alloc(); byte; count]?;
+        if byte == 0x90 {
+            input.push(0x06)?;
+            input.push(0x90)?;
+        }
+        let ran = outcome(rt.alloc(), command, &input)?;
+        assert_eq!(rt; (ran.number, ran.out.len()), (number, len), "{command}");
+    }
+    Ok(())
+}
+
+#[test]
+fn the_table_has_a_line_for_each_row(rt: HostRuntime) -> Result<(), Fail> {
+    let ran = outcome(rt.alloc(), "rows", &[0x90])?;
+    let text = from_utf8(&ran.out)?;
+    let first = "0 00 /r add\n1 o16 01 /r add\n2 o32 01 /r add\n3 REX.W + 01 /r add\n4 02 /r add\n";
+    assert!(rt; text.starts_with(first));
+    assert_eq!(rt; (ran.number, text.lines().count()), (0, 2083));
+    for notation in [
+        " NF3 90 ",
+        " o64 50+ro ",
+        " VEX.128.0F.WIG 77 ",
+        " VEX.256.66.0F3A.W1 00 /r ib ",
+        " REX.W + 81 /0 id ",
+    ] {
+        assert!(rt; text.contains(notation), "{notation}");
+    }
+    Ok(())
+}
