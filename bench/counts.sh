@@ -81,7 +81,7 @@ line "a line of asm" "$(whole "$texts" asm "$bits" 0)" "$(wc -l <"$texts")"
 moved=$folder/counted-moved.bin
 end=$(awk 'NR == 65536 { print $1; exit } $3 == "db" { print $1; exit }' "$list")
 if [ -n "$end" ]; then head -c $((16#$end)) "$part" >"$moved"; else cp "$part" "$moved"; fi
-line "an instruction of move" "$(whole "$moved" move "$bits" 0 10000000)" "$("$folder/listing_program" map "$bits" 0 10000000 <"$moved" | wc -l)"
+line "an instruction of move" "$(whole "$moved" move "$bits" 400000 10000000)" "$("$folder/listing_program" map "$bits" 400000 10000000 <"$moved" | wc -l)"
 
 # the library for C, where it was built: capi/build.sh FOLDER/capi
 if [ ! -f "$folder/capi/libfeddurzai.a" ]; then "$top/capi/build.sh" "$folder/capi" >&2; fi
