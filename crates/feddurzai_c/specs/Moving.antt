@@ -98,13 +98,13 @@ IsReadRefusal bits old bytes Memory = Unit {0}
 IsReadRefusal bits old bytes _ = ⊥
 
 -- the address behind the old code; no bytes are an empty block, whose old end is its new base
-abbrev pub old_end : ℕ → List ℕ → ℕ → ℕ
-old_end old bytes new = if length bytes == 0 then new else (old + length bytes)
+abbrev pub code_end : ℕ → List ℕ → ℕ → ℕ
+code_end old bytes new = if length bytes == 0 then new else (old + length bytes)
 
 -- the code is short, and ends inside the address space of the mode
 pub record IsTaken (bits : Bits) (old : ℕ) (bytes : List ℕ) (new : ℕ) : Type 0 where
   pub short : length bytes ≤ 1048576
-  pub inside : passes bits (old_end old bytes new) ≡ false
+  pub inside : passes bits (code_end old bytes new) ≡ false
 
 -- its instructions are read and moved, or their moving is refused
 pub record IsMovedAs (bits : Bits) (old : ℕ) (bytes : List ℕ) (new : ℕ) (answer : Result MovedCode MoveRefusal) : Type 0 where
@@ -116,7 +116,7 @@ pub record IsMovedAs (bits : Bits) (old : ℕ) (bytes : List ℕ) (new : ℕ) (a
 -- the code ends past the address space
 pub record IsOldPass (bits : Bits) (old : ℕ) (bytes : List ℕ) (new end : ℕ) : Type 0 where
   pub short : length bytes ≤ 1048576
-  pub end_is : end ≡ old_end old bytes new
+  pub end_is : end ≡ code_end old bytes new
   pub passes_space : passes bits end ≡ true
 
 -- the moved code, or why it is not moved
