@@ -9,7 +9,7 @@ use Rattle.block_encoder.specs.ByPlan.{IsMovedBy}
 use Rattle.moving_run.proofs.laws.moved_blocks_are_read_back.Goals as goal
 
 -- moved blocks are moved by the plan of their goals
-by_plan : (bits : Bits) (items : List Placed) (spans : List BlockSpan) (m : MovedLists) → IsMoved bits items spans m → IsMovedBy bits items (plan_for bits spans items) m
+abbrev by_plan : (bits : Bits) (items : List Placed) (spans : List BlockSpan) (m : MovedLists) → IsMoved bits items spans m → IsMovedBy bits items (plan_for bits spans items) m
 by_plan bits items spans m moved =
     record { layout = moved.layout; least = moved.least; ends = moved.ends; reached = moved.reached; lists = moved.lists }
 
