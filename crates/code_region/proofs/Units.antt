@@ -1,6 +1,5 @@
 -- Live blocks stand and are long in units of 16 bytes.
-use Rattle.std.proofs.Common.{◌≡◌, ℕ, zero, suc, ◌+◌, ◌-◌, ◌*◌, ◌/◌, ◌%◌, ◌^◌, ◌≤◌, ◌<◌, List, [], ◌∷◌, length, get_or, map, filter, replicate, arith, sym, subst, ap, ◌∙◌, refl, Bool, true, false, Option, Some, None, Result, Ok, Err, cond, nat_eq, nat_le, nat_lt, not, inl, inr}
-use Rattle.std.proofs.lemmas.Bool.{cases_Bool}
+use Rattle.std.proofs.Common.{◌≡◌, ℕ, zero, suc, ◌+◌, ◌-◌, ◌*◌, ◌/◌, ◌%◌, ◌^◌, ◌≤◌, ◌<◌, List, [], ◌∷◌, length, get_or, map, filter, replicate, arith, sym, subst, refl, Bool, true, false, Some, None, Result, Ok, Err, cond, nat_eq, nat_le, nat_lt}
 use Rattle.std.specs.Prelude.{if◌then◌else◌}
 use Rattle.code_region.specs.declared.gaps.Span.{Span}
 use Rattle.code_region.specs.declared.commands.Command.{Command}

@@ -1,5 +1,5 @@
 -- One block more in a region: where it stands, and what it holds once it is filled.
-use Rattle.std.proofs.Common.{◌≡◌, ℕ, ◌+◌, ◌≤◌, ◌<◌, inl, inr, Bool, true, false, List, [], ◌∷◌, length, map, filter, find, not, arith, ap, refl, subst, sym, ◌∙◌, nat_lt, nat_eq, cond, Option, Some, None, Result, Ok, Err}
+use Rattle.std.proofs.Common.{◌≡◌, ℕ, ◌≤◌, ◌<◌, inl, inr, List, [], ◌∷◌, length, map, find, arith, ap, refl, subst, sym, ◌∙◌, nat_lt, nat_eq, Option, Some, None, Result, Ok, Err}
 use Rattle.std.specs.Prelude.{IsTrue, if◌then◌else◌}
 use Rattle.std.proofs.lemmas.Bool.{cases_Bool, eqb-true, eqb-false, eq-eqb, ne_eqb, le-leb}
 use Rattle.code_region.specs.declared.gaps.Span.{Span}
@@ -11,7 +11,7 @@ use Rattle.code_region.specs.Gaps.{first_gap, longest}
 use Rattle.code_region.specs.Placing.{front_of, place_answer, with_block, unfilled, placed_as, placed}
 use Rattle.code_region.specs.Releasing.{release_of, release_answer}
 use Rattle.code_region.specs.Filling.{with_content, holds, can_fill, filled}
-use Rattle.code_region.specs.Keeping.{AreLaid, IsSound}
+use Rattle.code_region.specs.Keeping.{IsSound}
 use Rattle.step_slots.specs.LawsBelow.{LawsBelow}
 
 -- no live block starts at an address
