@@ -1,17 +1,43 @@
 #!/usr/bin/env python3
-"""Runs the commands that take memory under limits on their address space, and checks that each run gives the right answer or says that memory lacks.
+"""Runs the commands that take memory where some of it is refused, and checks that each run gives the right answer or says that memory lacks.
 
     tools/hostile/refused_memory.py PROGRAM [STEP]
 
-PROGRAM is the built listing program. The code is two thousand branches and calls that grow, moved out of reach. The limit falls by STEP bytes (4096
-unless said otherwise) from what the command needs to what the program needs to start, so that another request for memory is refused each time. A run
-passes where it ends with status 0 and the whole output, or with status 5, its line, and nothing written. Runs in which the system could not start the
-program at all are counted apart. Nothing rests on this script.
+PROGRAM is the built listing program. First, `move` and `map` of two far jumps, whose block ends in two slots of eight bytes: one request for memory is
+refused in each run, the first, the second, and so on to the last (by a library in front of the C library's, which `cc` makes). Then two thousand branches
+and calls that grow, moved out of reach, under limits on the address space: the limit falls by STEP bytes (4096 unless said otherwise) from what the command
+needs to what the program needs to start, so that another request is refused each time. A run passes where it ends with status 0 and the whole output, or
+with status 5, its line, and nothing written. Runs in which the system could not start the program at all are counted apart. Nothing rests on this script.
 """
 import os
 import resource
 import subprocess
 import sys
+import tempfile
+
+# two jumps that go through slots: those of the tests of `move` and `map`
+SLOTS = bytes.fromhex("e905000000e900000000")
+SLOT_COMMANDS = [["move", "64", "1000", "7fff00000000"], ["map", "64", "1000", "7fff00000000"]]
+
+# refuses the request whose number REFUSED says, counted from 1, and says so by a byte on the descriptor REFUSED_FD
+REFUSING = r"""
+#include <stddef.h>
+#include <stdlib.h>
+#include <unistd.h>
+extern void *__libc_malloc(size_t), *__libc_calloc(size_t, size_t), *__libc_realloc(void *, size_t), *__libc_memalign(size_t, size_t);
+static long asked, wanted = -1;
+static int refused(void) {
+    if (wanted < 0) { const char *n = getenv("REFUSED"); wanted = n ? atol(n) : 0; }
+    if (++asked != wanted) return 0;
+    const char *fd = getenv("REFUSED_FD");
+    return fd ? (int)write(atoi(fd), "r", 1) : 1;
+}
+void *malloc(size_t n) { return refused() ? NULL : __libc_malloc(n); }
+void *calloc(size_t n, size_t m) { return refused() ? NULL : __libc_calloc(n, m); }
+void *realloc(void *p, size_t n) { return refused() ? NULL : __libc_realloc(p, n); }
+void *aligned_alloc(size_t a, size_t n) { return refused() ? NULL : __libc_memalign(a, n); }
+int posix_memalign(void **p, size_t a, size_t n) { return (refused() || !(*p = __libc_memalign(a, n))) ? 12 : 0; }
+"""
 
 CODE = b"".join(bytes([0xEB, k % 128]) + bytes([0xE8, k % 256, 0, 0, 0]) + b"\x75\x80" for k in range(700)) + b"\x90" * 200
 COMMANDS = [["move", "64", "1000", "7fff00000000"], ["map", "64", "1000", "7fff00000000"], ["move", "64", "1000", "100000"],
@@ -38,13 +64,58 @@ def least_start(program):
     return high
 
 
+def run_refused(program, words, library, number):
+    """One run in which the request of this number is refused: whether there was one, and what the run gave."""
+    said, saying = os.pipe()
+    env = dict(os.environ, LD_PRELOAD=library, REFUSED=str(number), REFUSED_FD=str(saying))
+    done = subprocess.run([program, *words], input=SLOTS, capture_output=True, env=env, pass_fds=[saying])
+    os.close(saying)
+    with os.fdopen(said, "rb") as told:
+        return bool(told.read()), (done.returncode, done.stdout, done.stderr)
+
+
+def refuse_each(program, words, library):
+    """How many runs failed of those in which each request in turn is refused."""
+    plain = subprocess.run([program, *words], input=SLOTS, capture_output=True)
+    wanted = (plain.returncode, plain.stdout, plain.stderr)
+    counts = {"right": 0, "out of memory": 0}
+    failed, number = 0, 1
+    while True:
+        was_refused, got = run_refused(program, words, library, number)
+        if not was_refused:
+            break
+        if got == wanted:
+            counts["right"] += 1
+        elif got == (5, b"", b"out of memory\n"):
+            counts["out of memory"] += 1
+        else:
+            failed += 1
+            print("FAILED", " ".join(words), "without request", number, "status", got[0], got[2])
+        number += 1
+    if got != wanted or number == 1:
+        failed += 1
+        print("FAILED", " ".join(words), "asks for no memory, or answers otherwise with all of it: status", got[0], got[2])
+    print(" ".join(words), "with slots, one request refused:", ", ".join("%d %s" % (n, what) for what, n in counts.items()))
+    return failed
+
+
+def refuse_requests(program):
+    """The runs with one refused request, over a library that is made for them."""
+    with tempfile.TemporaryDirectory() as folder:
+        source, library = os.path.join(folder, "refusing.c"), os.path.join(folder, "refusing.so")
+        with open(source, "w") as file:
+            file.write(REFUSING)
+        subprocess.run([os.environ.get("CC", "cc"), "-O1", "-shared", "-fPIC", "-fno-builtin", "-o", library, source], check=True)
+        return sum(refuse_each(program, words, library) for words in SLOT_COMMANDS)
+
+
 def main():
     if len(sys.argv) < 2 or sys.argv[1] in ("-h", "--help"):
         sys.exit(__doc__)
     program = os.path.abspath(sys.argv[1])
     step = int(sys.argv[2]) if len(sys.argv) > 2 else 4096
     start = least_start(program)
-    failed = 0
+    failed = refuse_requests(program)
     for words in COMMANDS:
         wanted = run(program, words)
         if wanted[0] == 1:

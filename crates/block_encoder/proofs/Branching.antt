@@ -97,7 +97,7 @@ among_reached p layout k c None (Some j) t h = inside_reached p layout k c j (bl
 among_reached p layout k c None None t h = h.0
 
 -- what a branch reaches is what its form reaches
-branch_reach : (i : Instr) (form : Form) (reach : Reach) (len at g : ℕ) → is_own form ≡ false → Reaches reach len at g → Reaches (seat_reach i form reach) len at g
+pub branch_reach : (i : Instr) (form : Form) (reach : Reach) (len at g : ℕ) → is_own form ≡ false → Reaches reach len at g → Reaches (seat_reach i form reach) len at g
 branch_reach i Itself reach len at g h r = cc
 branch_reach i Short reach len at g h r = r
 branch_reach i NearForm reach len at g h r = r

@@ -86,13 +86,13 @@ module _ (laws : LawsBelow) where
   -- **a branch on a counter in 64-bit mode has an address size of the mode**
   pub counter-fits : (ip : ℕ) (bytes : List ℕ) (i : Instr) (b : RelativeBranch) → Spells table B64 ip bytes i → branch_of i ≡ Some b → CountFits b.action i.asize
   counter-fits ip bytes i b (short, (row, at, (s, e))) h =
-      let need = laws.targets.spelled-suits B64 ip bytes i row s at e in
+      let need = laws.spelled.spelled-suits B64 ip bytes i row s at e in
       count_fits row i b b.action refl (laws.forms.branch-in-row i row b at h) (laws.rows counts_marked each-marked i.code.0 row at) need.address_size
 
   -- its operand size is that of the mode, and its condition or counter is one
   pub mode-fits : (ip : ℕ) (bytes : List ℕ) (i : Instr) (b : RelativeBranch) → Spells table B64 ip bytes i → branch_of i ≡ Some b → (b.size ≡ B64) × (in_range b.action b.is_short ≡ true)
   mode-fits ip bytes i b (short, (row, at, (s, e))) h =
-      let need = laws.targets.spelled-suits B64 ip bytes i row s at e in
+      let need = laws.spelled.spelled-suits B64 ip bytes i row s at e in
       (pair_64 b.size (laws.forms.branch-pair B64 i row b at h need.exists), laws.forms.branch-range i row b at h)
     where
       pair_64 : (size : Bits) → is_pair B64 size ≡ true → size ≡ B64

@@ -11,6 +11,7 @@ use Rattle.operand_info.specs.Operands.{near_value, ip_value, first_value}
 use Rattle.branch_sizes.specs.declared.plan.BlockSpan.{BlockSpan}
 use Rattle.branch_sizes.specs.declared.plan.Form.{Form}
 use Rattle.branch_sizes.specs.declared.plan.Form.TheVariants.{Itself, Short, Near as NearForm, Far, Bridge, FarBridge}
+use Rattle.branch_sizes.specs.declared.plan.Goal.{Goal}
 use Rattle.branch_sizes.specs.Plan.{BlockPlan}
 use Rattle.branch_sizes.specs.Layout.{IsLayout, block_number, chosen, place}
 use Rattle.moved_targets.specs.Targets.{target_of, with_target, plain_length}
@@ -21,9 +22,8 @@ use Rattle.branch_forms.specs.Branches.{branch_of, short_code, near_code, far_co
 use Rattle.branch_forms.specs.Images.{branch_to, through_slot, counter_size, short_branch, skip, bridge_jump, bridge_inner, bridge, far_image, branch_image, image_by, image_of, pieces_length}
 use Rattle.move_goals.specs.declared.items.Placed.{Placed}
 use Rattle.move_goals.specs.Items.{ArePlaced, no_instr, item_at}
-use Rattle.move_goals.specs.Plan.{plan_with, plan_for}
+use Rattle.move_goals.specs.Plan.{plan_with}
 use Rattle.move_layout.specs.Laid.{is_far, is_far_at, goal_address, slot_address, seat_at}
-use Rattle.move_goals.specs.Goals.{goal_at}
 use Rattle.block_encoder.specs.Bytes.{image_at}
 use Rattle.block_encoder.specs.Aims.{last_instr}
 use Rattle.block_encoder.specs.LawsBelow.{LawsBelow}
@@ -181,77 +181,82 @@ module _ (laws : LawsBelow) where
 
   -- ---- moved items
 
-  module _ (bits : Bits) (items : List Placed) (spans : List BlockSpan) (layout : List ℕ) (k : ℕ) where
+  module _ (bits : Bits) (items : List Placed) (spans : List BlockSpan) (goals : ℕ → Goal) (layout : List ℕ) (k : ℕ) where
     -- the image, by the parts of the seat
-    image-is : image_at bits items (plan_for bits spans items) layout k
-        ≡ image_of bits (item_at items k).instr (chosen (plan_for bits spans items) layout k).form (place (plan_for bits spans items) layout k)
-        (goal_address (plan_for bits spans items) layout k) (seat_at (plan_for bits spans items) layout k).slot
+    image-is : image_at bits items (plan_with bits spans items goals) layout k
+        ≡ image_of bits (item_at items k).instr (chosen (plan_with bits spans items goals) layout k).form (place (plan_with bits spans items goals) layout k)
+        (goal_address (plan_with bits spans items goals) layout k) (seat_at (plan_with bits spans items goals) layout k).slot
     unfolding seat_at
     image-is = refl
 
     -- **each instruction of an image but the last goes over the next one**
-    pub goes-over : (n : ℕ) → n + 1 < length (image_at bits items (plan_for bits spans items) layout k)
-        → first_value near_value (get_or (image_at bits items (plan_for bits spans items) layout k) n no_instr)
-        ≡ Some (wrapped bits (place (plan_for bits spans items) layout k + pieces_length bits (take (n + 2) (image_at bits items (plan_for bits spans items) layout k))))
+    pub goes-over : (n : ℕ) → n + 1 < length (image_at bits items (plan_with bits spans items goals) layout k)
+        → first_value near_value (get_or (image_at bits items (plan_with bits spans items goals) layout k) n no_instr)
+        ≡ Some (wrapped bits (place (plan_with bits spans items goals) layout k + pieces_length bits (take (n + 2) (image_at bits items (plan_with bits spans items goals) layout k))))
     unfolding seat_at
     goes-over n lt =
-        image-over bits (item_at items k).instr (chosen (plan_for bits spans items) layout k).form (place (plan_for bits spans items) layout k)
-        (goal_address (plan_for bits spans items) layout k) (seat_at (plan_for bits spans items) layout k).slot n lt
+        image-over bits (item_at items k).instr (chosen (plan_with bits spans items goals) layout k).form (place (plan_with bits spans items goals) layout k)
+        (goal_address (plan_with bits spans items goals) layout k) (seat_at (plan_with bits spans items goals) layout k).slot n lt
 
     -- **what has no near target is aimed at the goal**
     pub goes-address : first_value near_value (item_at items k).instr ≡ None
-        → image_at bits items (plan_for bits spans items) layout k ≡ with_target (goal_address (plan_for bits spans items) layout k) (item_at items k).instr ∷ []
+        → image_at bits items (plan_with bits spans items goals) layout k ≡ with_target (goal_address (plan_with bits spans items goals) layout k) (item_at items k).instr ∷ []
     goes-address none =
         image-is
-        ∙ image-address bits (item_at items k).instr (chosen (plan_for bits spans items) layout k).form (place (plan_for bits spans items) layout k)
-        (goal_address (plan_for bits spans items) layout k) (seat_at (plan_for bits spans items) layout k).slot none
+        ∙ image-address bits (item_at items k).instr (chosen (plan_with bits spans items goals) layout k).form (place (plan_with bits spans items goals) layout k)
+        (goal_address (plan_with bits spans items goals) layout k) (seat_at (plan_with bits spans items goals) layout k).slot none
 
     module _ (placed : ArePlaced bits items) (lt : k < length items) where
       -- **what has no target stays as it is**
-      pub goes-nowhere : target_of (item_at items k).instr ≡ None → image_at bits items (plan_for bits spans items) layout k ≡ (item_at items k).instr ∷ []
+      pub goes-nowhere : target_of (item_at items k).instr ≡ None → image_at bits items (plan_with bits spans items goals) layout k ≡ (item_at items k).instr ∷ []
       goes-nowhere none =
           let i = placed k lt in
           let four = spelled-four bits (wrapped bits (item_at items k).ip) i.bytes (item_at items k).instr i.spelled in
           image-is
-          ∙ untargeted-image bits (item_at items k).instr (chosen (plan_for bits spans items) layout k).form (place (plan_for bits spans items) layout k)
-          (goal_address (plan_for bits spans items) layout k) (seat_at (plan_for bits spans items) layout k).slot
-          (laws.targets.untargeted-with_target (goal_address (plan_for bits spans items) layout k) (item_at items k).instr four none) none
+          ∙ untargeted-image bits (item_at items k).instr (chosen (plan_with bits spans items goals) layout k).form (place (plan_with bits spans items goals) layout k)
+          (goal_address (plan_with bits spans items goals) layout k) (seat_at (plan_with bits spans items goals) layout k).slot
+          (laws.targets.untargeted-with_target (goal_address (plan_with bits spans items goals) layout k) (item_at items k).instr four none) none
 
       -- the image of a branch
       image-branch : (t : ℕ) → first_value near_value (item_at items k).instr ≡ Some t
-          → (b : RelativeBranch) × (branch_of (item_at items k).instr ≡ Some b) × (image_at bits items (plan_for bits spans items) layout k
-          ≡ branch_image bits (item_at items k).instr b (chosen (plan_for bits spans items) layout k).form (place (plan_for bits spans items) layout k)
-          (goal_address (plan_for bits spans items) layout k) (seat_at (plan_for bits spans items) layout k).slot)
+          → (b : RelativeBranch) × (branch_of (item_at items k).instr ≡ Some b) × (image_at bits items (plan_with bits spans items goals) layout k
+          ≡ branch_image bits (item_at items k).instr b (chosen (plan_with bits spans items goals) layout k).form (place (plan_with bits spans items goals) layout k)
+          (goal_address (plan_with bits spans items goals) layout k) (seat_at (plan_with bits spans items goals) layout k).slot)
       unfolding image_of
       image-branch t some =
           let i = placed k lt in
           let b = branched bits (wrapped bits (item_at items k).ip) i.bytes (item_at items k).instr t i.spelled some in (
             b.0,
             b.1,
-            image-is ∙ ap (λ (o : Option RelativeBranch). image_by bits (item_at items k).instr o (chosen (plan_for bits spans items) layout k).form (place (plan_for bits spans items) layout k)
-                (goal_address (plan_for bits spans items) layout k) (seat_at (plan_for bits spans items) layout k).slot) b.1,
+            image-is ∙ ap (λ (o : Option RelativeBranch). image_by bits (item_at items k).instr o (chosen (plan_with bits spans items goals) layout k).form (place (plan_with bits spans items goals) layout k)
+                (goal_address (plan_with bits spans items goals) layout k) (seat_at (plan_with bits spans items goals) layout k).slot) b.1,
           )
 
       -- **a branch goes to its goal**
-      pub goes-near : IsLayout (plan_for bits spans items) layout → (t : ℕ) → first_value near_value (item_at items k).instr ≡ Some t
-          → is_far_at (plan_for bits spans items) layout k ≡ false
-          → first_value near_value (last_instr (image_at bits items (plan_for bits spans items) layout k)) ≡ Some (goal_address (plan_for bits spans items) layout k)
+      pub goes-near : IsLayout (plan_with bits spans items goals) layout → (t : ℕ) → first_value near_value (item_at items k).instr ≡ Some t
+          → is_far_at (plan_with bits spans items goals) layout k ≡ false
+          → first_value near_value (last_instr (image_at bits items (plan_with bits spans items goals) layout k)) ≡ Some (goal_address (plan_with bits spans items goals) layout k)
       goes-near l t some far =
           let b = image-branch t some in
-          let moved = seat-own bits spans items (goal_at spans items) layout l k lt b.0 b.1 in
+          let moved = seat-own bits spans items goals layout l k lt b.0 b.1 in
           ap (λ (is : List Instr). first_value near_value (last_instr is)) b.2
-          ∙ branch-near bits (item_at items k).instr b.0 (chosen (plan_for bits spans items) layout k).form (place (plan_for bits spans items) layout k)
-          (goal_address (plan_for bits spans items) layout k) (seat_at (plan_for bits spans items) layout k).slot moved far
+          ∙ branch-near bits (item_at items k).instr b.0 (chosen (plan_with bits spans items goals) layout k).form (place (plan_with bits spans items goals) layout k)
+          (goal_address (plan_with bits spans items goals) layout k) (seat_at (plan_with bits spans items goals) layout k).slot moved far
 
-      -- **or through the slot of its goal**
-      pub goes-far : (t : ℕ) → first_value near_value (item_at items k).instr ≡ Some t
-          → is_far_at (plan_for bits spans items) layout k ≡ true
-          → first_value ip_value (last_instr (image_at bits items (plan_for bits spans items) layout k))
-          ≡ Some (slot_address (plan_for bits spans items) layout (block_number spans k) (goal_address (plan_for bits spans items) layout k))
-      unfolding plan_with
-      goes-far t some far =
+      -- **or through its slot**
+      pub goes-slot : (t : ℕ) → first_value near_value (item_at items k).instr ≡ Some t
+          → is_far_at (plan_with bits spans items goals) layout k ≡ true
+          → first_value ip_value (last_instr (image_at bits items (plan_with bits spans items goals) layout k)) ≡ Some (seat_at (plan_with bits spans items goals) layout k).slot
+      goes-slot t some far =
           let b = image-branch t some in
           ap (λ (is : List Instr). first_value ip_value (last_instr is)) b.2
-          ∙ (branch-far bits (item_at items k).instr b.0 (chosen (plan_for bits spans items) layout k).form (place (plan_for bits spans items) layout k)
-          (goal_address (plan_for bits spans items) layout k) (seat_at (plan_for bits spans items) layout k).slot far
-          ∙ ap Some (slot-is (plan_for bits spans items) layout k far))
+          ∙ branch-far bits (item_at items k).instr b.0 (chosen (plan_with bits spans items goals) layout k).form (place (plan_with bits spans items goals) layout k)
+          (goal_address (plan_with bits spans items goals) layout k) (seat_at (plan_with bits spans items goals) layout k).slot far
+
+      -- **which is that of its goal**
+      pub goes-far : (t : ℕ) → first_value near_value (item_at items k).instr ≡ Some t
+          → is_far_at (plan_with bits spans items goals) layout k ≡ true
+          → first_value ip_value (last_instr (image_at bits items (plan_with bits spans items goals) layout k))
+          ≡ Some (slot_address (plan_with bits spans items goals) layout (block_number spans k) (goal_address (plan_with bits spans items goals) layout k))
+      unfolding plan_with
+      goes-far t some far = goes-slot t some far ∙ ap Some (slot-is (plan_with bits spans items goals) layout k far)

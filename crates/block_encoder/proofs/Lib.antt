@@ -17,3 +17,4 @@ pub mod Formed
 pub mod Counting
 pub mod Branching
 pub mod LastForms
+pub mod ReadThere

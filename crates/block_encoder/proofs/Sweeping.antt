@@ -47,14 +47,14 @@ in_front-some bytes None all h = cc
 in_front-some bytes (Some rest) all h = (rest, refl, cc)
 
 -- the spelling of the first of some instructions, and those of the others behind it
-record Parted (bits : Bits) (at : ℕ) (i : Instr) (is : List Instr) (all : List ℕ) : Type 0 where
-  bytes : List ℕ
-  rest : List ℕ
-  first : encoding bits at i ≡ Ok bytes
-  others : bytes_from bits (at + length bytes) is ≡ Some rest
-  all_are : all ≡ bytes ++ rest
+pub record Parted (bits : Bits) (at : ℕ) (i : Instr) (is : List Instr) (all : List ℕ) : Type 0 where
+  pub bytes : List ℕ
+  pub rest : List ℕ
+  pub first : encoding bits at i ≡ Ok bytes
+  pub others : bytes_from bits (at + length bytes) is ≡ Some rest
+  pub all_are : all ≡ bytes ++ rest
 
-parted : (bits : Bits) (at : ℕ) (i : Instr) (is : List Instr) (all : List ℕ) → bytes_from bits at (i ∷ is) ≡ Some all → Parted bits at i is all
+pub parted : (bits : Bits) (at : ℕ) (i : Instr) (is : List Instr) (all : List ℕ) → bytes_from bits at (i ∷ is) ≡ Some all → Parted bits at i is all
 unfolding bytes_from
 parted bits at i is all h = by_encoding (encoding bits at i) refl h
   where
@@ -65,7 +65,7 @@ parted bits at i is all h = by_encoding (encoding bits at i) refl h
         record { bytes = bytes; rest = k.0; first = e; others = k.1; all_are = k.2 }
 
 -- a spelling in front of others
-cons-spelled : (bits : Bits) (at : ℕ) (i : Instr) (is : List Instr) (bytes rest : List ℕ) → encoding bits at i ≡ Ok bytes → bytes_from bits (at + length bytes) is ≡ Some rest → bytes_from bits at (i ∷ is) ≡ Some (bytes ++ rest)
+pub cons-spelled : (bits : Bits) (at : ℕ) (i : Instr) (is : List Instr) (bytes rest : List ℕ) → encoding bits at i ≡ Ok bytes → bytes_from bits (at + length bytes) is ≡ Some rest → bytes_from bits at (i ∷ is) ≡ Some (bytes ++ rest)
 unfolding bytes_from
 cons-spelled bits at i is bytes rest first others =
     ap (λ (r : Result (List ℕ) NoSpelling). elim r as (λ (x : Result (List ℕ) NoSpelling). Option (List ℕ)) [ Ok b ↦ in_front b (bytes_from bits (at + length b) is) | Err why ↦ None ]) first

@@ -26,7 +26,7 @@ use Rattle.move_goals.specs.Plan.{branch_with, plan_with, plan_for, plan_outside
 use Rattle.move_layout.specs.Laid.{goal_value, goal_address, is_far_at, new_end, slot_address, seat_at}
 use Rattle.block_encoder.specs.Bytes.{image_at, block_bytes}
 use Rattle.block_encoder.specs.Aims.{last_instr, StandsAtPlace, HasSlot}
-use Rattle.block_encoder.specs.Moved.{MovedLists, IsMoved, IsReached, seat_reach, first_new_pass}
+use Rattle.block_encoder.specs.Moved.{MovedLists, IsReached, seat_reach, first_new_pass}
 use Rattle.block_encoder.specs.ByPlan.{IsMovedBy}
 use Rattle.block_encoder.specs.Read.{IsReadAsImages}
 use Rattle.block_encoder.specs.Last.{last_layout, last_len}
@@ -53,41 +53,42 @@ pub record SeatFacts : Type 0 where
       → IsLayout (plan_with bits spans items goals) layout → (k : ℕ) → k < length items
       → (seat_at (plan_with bits spans items goals) layout k).len ≡ image_length (plan_with bits spans items goals) layout k
 
--- where the images and slots of moved blocks stand, what is read of them, and where the images go
+-- of blocks that are moved by any plan of them: where the images and slots stand, what is read of them, and where the images go
 pub record MovedFacts : Type 0 where
-  pub read : (bits : Bits) (items : List Placed) (spans : List BlockSpan) → AreSpansOf items spans → ArePlaced bits items
-      → (m : MovedLists) (moved : IsMoved bits items spans m) (b : ℕ) → b < length spans
-      → IsReadAsImages bits items (plan_for bits spans items) moved.layout b
-  pub places : (bits : Bits) (items : List Placed) (spans : List BlockSpan) → AreSpansOf items spans
-      → (m : MovedLists) (moved : IsMoved bits items spans m) (k : ℕ) → k < length items
-      → StandsAtPlace bits items (plan_for bits spans items) moved.layout (block_number spans k) k
-  pub ends : (bits : Bits) (items : List Placed) (spans : List BlockSpan) → AreSpansOf items spans
-      → (m : MovedLists) (moved : IsMoved bits items spans m) (b : ℕ) → b < length spans
-      → (span_at spans b).new_base + length (block_bytes bits items (plan_for bits spans items) moved.layout b)
-      ≡ new_end (plan_for bits spans items) moved.layout b
-  pub slots : (bits : Bits) (items : List Placed) (spans : List BlockSpan) → AreSpansOf items spans
-      → (m : MovedLists) (moved : IsMoved bits items spans m) (k : ℕ) → k < length items → is_far_at (plan_for bits spans items) moved.layout k ≡ true
-      → HasSlot bits items (plan_for bits spans items) moved.layout (block_number spans k) (goal_address (plan_for bits spans items) moved.layout k)
-  pub stays : (bits : Bits) (items : List Placed) (spans : List BlockSpan) → ArePlaced bits items → (layout : List ℕ) (k : ℕ) → k < length items
-      → target_of (item_at items k).instr ≡ None
-      → image_at bits items (plan_for bits spans items) layout k ≡ (item_at items k).instr ∷ []
-  pub address : (bits : Bits) (items : List Placed) (spans : List BlockSpan) → ArePlaced bits items → (layout : List ℕ) (k : ℕ) → k < length items
-      → first_value near_value (item_at items k).instr ≡ None
-      → image_at bits items (plan_for bits spans items) layout k ≡ with_target (goal_address (plan_for bits spans items) layout k) (item_at items k).instr ∷ []
-  pub near : (bits : Bits) (items : List Placed) (spans : List BlockSpan) → ArePlaced bits items
-      → (layout : List ℕ) → IsLayout (plan_for bits spans items) layout → (k t : ℕ) → k < length items
-      → first_value near_value (item_at items k).instr ≡ Some t → is_far_at (plan_for bits spans items) layout k ≡ false
-      → first_value near_value (last_instr (image_at bits items (plan_for bits spans items) layout k))
-      ≡ Some (goal_address (plan_for bits spans items) layout k)
-  pub far : (bits : Bits) (items : List Placed) (spans : List BlockSpan) → ArePlaced bits items → (layout : List ℕ) (k t : ℕ) → k < length items
-      → first_value near_value (item_at items k).instr ≡ Some t → is_far_at (plan_for bits spans items) layout k ≡ true
-      → first_value ip_value (last_instr (image_at bits items (plan_for bits spans items) layout k))
-      ≡ Some (slot_address (plan_for bits spans items) layout (block_number spans k) (goal_address (plan_for bits spans items) layout k))
-  pub over : (bits : Bits) (items : List Placed) (spans : List BlockSpan) (layout : List ℕ) (k n : ℕ)
-      → n + 1 < length (image_at bits items (plan_for bits spans items) layout k)
-      → first_value near_value (slice_index_or (image_at bits items (plan_for bits spans items) layout k) n no_instr)
-      ≡ Some (wrapped bits (place (plan_for bits spans items) layout k
-      + pieces_length bits (take (n + 2) (image_at bits items (plan_for bits spans items) layout k))))
+  pub read : (bits : Bits) (items : List Placed) (spans : List BlockSpan) (goals : ℕ → Goal) → AreSpansOf items spans → ArePlaced bits items
+      → (m : MovedLists) (moved : IsMovedBy bits items (plan_with bits spans items goals) m) (b : ℕ) → b < length spans
+      → IsReadAsImages bits items (plan_with bits spans items goals) moved.layout b
+  pub places : (bits : Bits) (items : List Placed) (spans : List BlockSpan) (goals : ℕ → Goal) → AreSpansOf items spans
+      → (m : MovedLists) (moved : IsMovedBy bits items (plan_with bits spans items goals) m) (k : ℕ) → k < length items
+      → StandsAtPlace bits items (plan_with bits spans items goals) moved.layout (block_number spans k) k
+  pub ends : (bits : Bits) (items : List Placed) (spans : List BlockSpan) (goals : ℕ → Goal) → AreSpansOf items spans
+      → (m : MovedLists) (moved : IsMovedBy bits items (plan_with bits spans items goals) m) (b : ℕ) → b < length spans
+      → (span_at spans b).new_base + length (block_bytes bits items (plan_with bits spans items goals) moved.layout b)
+      ≡ new_end (plan_with bits spans items goals) moved.layout b
+  pub slots : (bits : Bits) (items : List Placed) (spans : List BlockSpan) (goals : ℕ → Goal) → AreSpansOf items spans
+      → (m : MovedLists) (moved : IsMovedBy bits items (plan_with bits spans items goals) m) (k : ℕ) → k < length items
+      → is_far_at (plan_with bits spans items goals) moved.layout k ≡ true
+      → HasSlot bits items (plan_with bits spans items goals) moved.layout (block_number spans k) (goal_address (plan_with bits spans items goals) moved.layout k)
+  pub stays : (bits : Bits) (items : List Placed) (spans : List BlockSpan) (goals : ℕ → Goal) → ArePlaced bits items → (layout : List ℕ) (k : ℕ)
+      → k < length items → target_of (item_at items k).instr ≡ None
+      → image_at bits items (plan_with bits spans items goals) layout k ≡ (item_at items k).instr ∷ []
+  pub address : (bits : Bits) (items : List Placed) (spans : List BlockSpan) (goals : ℕ → Goal) → ArePlaced bits items → (layout : List ℕ) (k : ℕ)
+      → k < length items → first_value near_value (item_at items k).instr ≡ None
+      → image_at bits items (plan_with bits spans items goals) layout k ≡ with_target (goal_address (plan_with bits spans items goals) layout k) (item_at items k).instr ∷ []
+  pub near : (bits : Bits) (items : List Placed) (spans : List BlockSpan) (goals : ℕ → Goal) → ArePlaced bits items
+      → (layout : List ℕ) → IsLayout (plan_with bits spans items goals) layout → (k t : ℕ) → k < length items
+      → first_value near_value (item_at items k).instr ≡ Some t → is_far_at (plan_with bits spans items goals) layout k ≡ false
+      → first_value near_value (last_instr (image_at bits items (plan_with bits spans items goals) layout k))
+      ≡ Some (goal_address (plan_with bits spans items goals) layout k)
+  pub far : (bits : Bits) (items : List Placed) (spans : List BlockSpan) (goals : ℕ → Goal) → ArePlaced bits items → (layout : List ℕ) (k t : ℕ)
+      → k < length items → first_value near_value (item_at items k).instr ≡ Some t → is_far_at (plan_with bits spans items goals) layout k ≡ true
+      → first_value ip_value (last_instr (image_at bits items (plan_with bits spans items goals) layout k))
+      ≡ Some (slot_address (plan_with bits spans items goals) layout (block_number spans k) (goal_address (plan_with bits spans items goals) layout k))
+  pub over : (bits : Bits) (items : List Placed) (spans : List BlockSpan) (goals : ℕ → Goal) (layout : List ℕ) (k n : ℕ)
+      → n + 1 < length (image_at bits items (plan_with bits spans items goals) layout k)
+      → first_value near_value (slice_index_or (image_at bits items (plan_with bits spans items goals) layout k) n no_instr)
+      ≡ Some (wrapped bits (place (plan_with bits spans items goals) layout k
+      + pieces_length bits (take (n + 2) (image_at bits items (plan_with bits spans items goals) layout k))))
 
 -- which items reach their goals in the least layout
 pub record ReachFacts : Type 0 where

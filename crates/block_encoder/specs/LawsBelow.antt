@@ -4,19 +4,20 @@ use Rattle.std.specs.List.{list_all}
 use Rattle.row_types.specs.declared.Row.{Row}
 use Rattle.opcode_rows.specs.declared.spot.Part.{Part}
 use Rattle.opcode_rows.specs.Table.{part_table, table}
-use Rattle.encoder.specs.Facts.{EncodingFacts}
+use Rattle.encoder.specs.Facts.{EncodingFacts, SpelledFacts}
 use Rattle.branch_sizes.specs.Facts.{BlockFacts, LengthFacts, TotalFacts}
 use Rattle.moved_targets.specs.Facts.{DistanceFacts, TargetFacts}
 use Rattle.branch_forms.specs.Facts.{CodeFacts, PieceFacts, FormFacts}
 use Rattle.move_goals.specs.Facts.{FirstFacts, PlanFacts}
 use Rattle.move_layout.specs.Facts.{EndFacts, SlotFacts}
 
--- the table, encodings, layouts, targets, forms and goals
+-- the table, encodings, what is spelled, layouts, targets, forms and goals
 pub record LawsBelow : Type 0 where
   -- what holds of each row of each part holds of each row of the table
   pub rows : (test : Row → Bool) → ((part : Part) → IsTrue (list_all test (part_table part)))
       → (code : ℕ) (row : Row) → slice_get table code ≡ Some row → IsTrue (test row)
   pub encodings : EncodingFacts
+  pub spelled : SpelledFacts
   pub blocks : BlockFacts
   pub lengths : LengthFacts
   pub totals : TotalFacts

@@ -1,15 +1,22 @@
--- What is read of moved blocks: the instructions of the images, in order.
-use Rattle.std.specs.Prelude.{ℕ, ◌+◌, List, [], ◌∷◌, length, Ok, Err}
+-- What is read of moved blocks: the instructions of the images, in order; and when the image of a branch, read at its place, goes to its goal.
+use Rattle.std.specs.Prelude.{◌≡◌, ℕ, ◌+◌, true, false, List, [], ◌∷◌, length, drop, Some, Ok, Err}
 use Rattle.std.specs.List.{flat_map, range_with_len}
 use Rattle.x86_values.specs.declared.Bits.{Bits}
 use Rattle.x86_values.specs.declared.Instr.{Instr}
-use Rattle.row_relation.specs.Spells.{Read}
+use Rattle.x86_values.specs.Wrapping.{wrapped}
+use Rattle.row_relation.specs.Spells.{Read, ReadsAs}
+use Rattle.opcode_rows.specs.Table.{table}
 use Rattle.opcode_rows.specs.Sweep.{Item, IsSweep}
+use Rattle.operand_info.specs.Operands.{near_value, ip_value, first_value}
 use Rattle.encoder.specs.Encoding.{encoding}
 use Rattle.branch_sizes.specs.Plan.{BlockPlan}
 use Rattle.branch_sizes.specs.Layout.{first_of_block, span_at}
+use Rattle.moved_targets.specs.Targets.{plain_length}
 use Rattle.move_goals.specs.declared.items.Placed.{Placed}
-use Rattle.block_encoder.specs.Bytes.{image_at, block_images}
+use Rattle.move_layout.specs.declared.layout.Seat.{Seat}
+use Rattle.move_layout.specs.Laid.{is_far}
+use Rattle.block_encoder.specs.Bytes.{image_at, block_images, seated_image}
+use Rattle.block_encoder.specs.Aims.{last_instr}
 
 -- an instruction at an offset with its bytes, as an item of a sweep
 abbrev pub read_item : ℕ → List ℕ → Instr → Item
@@ -34,3 +41,18 @@ abbrev pub IsReadAsImages : Bits → List Placed → BlockPlan → List ℕ → 
 IsReadAsImages bits items p layout b =
     IsSweep bits (span_at p.spans b).new_base (block_images bits items p layout b)
     (read_items bits (span_at p.spans b).new_base 0 (image_instrs bits items p layout b))
+
+-- some bytes are read at an address as these instructions one behind another, each as long as its plain spelling, and there are no more bytes
+abbrev pub AreRead : Bits → ℕ → List ℕ → List Instr → Type 0
+AreRead bits at bytes [] = bytes ≡ []
+AreRead bits at bytes (i ∷ is) =
+    ReadsAs table bits (wrapped bits at) bytes i (plain_length bits i)
+    × AreRead bits (at + plain_length bits i) (drop (plain_length bits i) bytes) is
+
+-- reading the image of a relative branch at its place gives the goal: some bytes are read there as its instructions, of which the last one goes to the
+-- goal, or of a far form through the slot
+pub record IsReadToGoal (bits : Bits) (i : Instr) (seat : Seat) : Type 0 where
+  pub bytes : List ℕ
+  pub read : AreRead bits seat.place bytes (seated_image bits i seat)
+  pub near : is_far seat.form ≡ false → first_value near_value (last_instr (seated_image bits i seat)) ≡ Some seat.goal
+  pub far : is_far seat.form ≡ true → first_value ip_value (last_instr (seated_image bits i seat)) ≡ Some seat.slot

@@ -15,8 +15,10 @@ use x86_values::Bits;
 /// Moves blocks of code to new addresses.
 ///
 /// `items` are the instructions of all blocks in order; the first span has the first of them, and so on. Each was read, or could have been written, at
-/// its old address. A target goes with the instruction of the same block that began there, else with the first one of another block, else it stays; the
-/// forms of branches are those of the least layout, in which no branch is longer than in any other that reaches all its goals.
+/// its old address. A target goes with the instruction of the same block that began there, else with the first one of another block, else it stays. The
+/// forms of branches are those of the least closed layout: no branch has a later form than in any closed layout (docs/closed-layouts.md). A layout that is
+/// not closed may have a shorter branch and reach all goals too. New ranges may overlap each other and old ones. An empty block ends at its new base, in
+/// the old code and in the new.
 ///
 /// `TooMany`: there are more than 65,536 items. `OldOrder`: an item that is not the first of its block does not begin where the one before it ended.
 /// `Wraps`: an old end, else a new end, passes the address space of the mode, the first that does. `TooFar`: an item does not reach its goal, the

@@ -1,32 +1,35 @@
 //! What holds of moved blocks, as the contracts of functions that do nothing.
 
-ghost use Rattle.std.specs.Prelude.{◌≡◌, ◌<◌, ◌≤◌, ◌+◌, ℕ, true, false, List, [], ◌∷◌, None, Some, length, take, slice_index_or};
+ghost use Rattle.std.specs.Prelude.{◌≡◌, ◌↔◌, ◌<◌, ◌≤◌, ◌+◌, ℕ, true, false, List, [], ◌∷◌, None, Some, length, take, slice_index_or};
 ghost use Rattle.x86_values.specs.declared.Bits.{Bits};
 ghost use Rattle.x86_values.specs.declared.Bits.TheVariants.{B64};
 ghost use Rattle.x86_values.specs.Wrapping.{wrapped};
 ghost use Rattle.operand_info.specs.Operands.{near_value, ip_value, first_value};
 ghost use Rattle.branch_sizes.specs.declared.plan.BlockSpan.{BlockSpan};
 ghost use Rattle.branch_sizes.specs.declared.plan.Form.TheVariants.{Itself};
+ghost use Rattle.branch_sizes.specs.declared.plan.Goal.{Goal};
 ghost use Rattle.branch_sizes.specs.Layout.{IsLayout, IsLeast, Reaches, block_number, span_at, place};
 ghost use Rattle.moved_targets.specs.Targets.{target_of, with_target};
 ghost use Rattle.branch_forms.specs.Images.{pieces_length};
 ghost use Rattle.move_goals.specs.declared.items.Placed.{Placed};
 ghost use Rattle.move_goals.specs.Items.{AreSpansOf, ArePlaced, item_at, no_instr};
-ghost use Rattle.move_goals.specs.Plan.{plan_for};
+ghost use Rattle.move_goals.specs.Plan.{plan_for, plan_with};
 ghost use Rattle.move_layout.specs.Laid.{goal_address, is_far_at, new_end, slot_address, seat_at};
 ghost use Rattle.block_encoder.specs.Bytes.{image_at, block_bytes};
 ghost use Rattle.block_encoder.specs.Aims.{last_instr, StandsAtPlace, HasSlot};
-ghost use Rattle.block_encoder.specs.Moved.{seat_reach, IsReached, IsMoved, first_new_pass, MovedLists};
-ghost use Rattle.block_encoder.specs.Read.{IsReadAsImages};
+ghost use Rattle.block_encoder.specs.Moved.{seat_reach, IsReached, first_new_pass, MovedLists};
+ghost use Rattle.block_encoder.specs.ByPlan.{IsMovedBy};
+ghost use Rattle.block_encoder.specs.Read.{IsReadAsImages, IsReadToGoal};
 ghost use Rattle.block_encoder.specs.Facts.{SeatFacts, MovedFacts, ReachFacts, LastFacts};
 
 use crate::laws_below::laws_below;
 
-/// Moved code is read as it was written: of moved blocks the sweep of each, from its new base to its gap, gives the instructions of the images in order.
+/// Moved code is read as it was written: of blocks that are moved by any plan of them the sweep of each, from its new base to its gap, gives the
+/// instructions of the images in order.
 pub fn moved_code_is_read_as_images()
-    ensures { (bits : Bits) (items : List Placed) (spans : List BlockSpan) → AreSpansOf items spans → ArePlaced bits items
-        → (m : MovedLists) (moved : IsMoved bits items spans m) (b : ℕ) → b < length spans
-        → IsReadAsImages bits items (plan_for bits spans items) moved.layout b }
+    ensures { (bits : Bits) (items : List Placed) (spans : List BlockSpan) (goals : ℕ → Goal) → AreSpansOf items spans → ArePlaced bits items
+        → (m : MovedLists) (moved : IsMovedBy bits items (plan_with bits spans items goals) m) (b : ℕ) → b < length spans
+        → IsReadAsImages bits items (plan_with bits spans items goals) moved.layout b }
 {
     laws_below();
 }
@@ -43,51 +46,51 @@ pub fn only_targets_are_too_far()
     laws_below();
 }
 
-/// Where an image goes. What has no target stays as it is; what is aimed at RIP or EIP is aimed at the goal instead; of a branch the last instruction
+/// Where an image goes, by any plan. What has no target stays as it is; what is aimed at RIP or EIP is aimed at the goal instead; of a branch the last instruction
 /// goes to the goal, or through the slot that has it, and each instruction before the last one goes over the next.
 pub fn images_go_to_their_goals()
-    ensures stays { (bits : Bits) (items : List Placed) (spans : List BlockSpan) → ArePlaced bits items → (layout : List ℕ) (k : ℕ) → k < length items
+    ensures stays { (bits : Bits) (items : List Placed) (spans : List BlockSpan) (goals : ℕ → Goal) → ArePlaced bits items → (layout : List ℕ) (k : ℕ) → k < length items
         → target_of (item_at items k).instr ≡ None
-        → image_at bits items (plan_for bits spans items) layout k ≡ (item_at items k).instr ∷ [] }
-    ensures address { (bits : Bits) (items : List Placed) (spans : List BlockSpan) → ArePlaced bits items → (layout : List ℕ) (k : ℕ) → k < length items
+        → image_at bits items (plan_with bits spans items goals) layout k ≡ (item_at items k).instr ∷ [] }
+    ensures address { (bits : Bits) (items : List Placed) (spans : List BlockSpan) (goals : ℕ → Goal) → ArePlaced bits items → (layout : List ℕ) (k : ℕ) → k < length items
         → first_value near_value (item_at items k).instr ≡ None
-        → image_at bits items (plan_for bits spans items) layout k ≡ with_target (goal_address (plan_for bits spans items) layout k) (item_at items k).instr ∷ [] }
-    ensures near { (bits : Bits) (items : List Placed) (spans : List BlockSpan) → ArePlaced bits items
-        → (layout : List ℕ) → IsLayout (plan_for bits spans items) layout → (k t : ℕ) → k < length items
-        → first_value near_value (item_at items k).instr ≡ Some t → is_far_at (plan_for bits spans items) layout k ≡ false
-        → first_value near_value (last_instr (image_at bits items (plan_for bits spans items) layout k))
-        ≡ Some (goal_address (plan_for bits spans items) layout k) }
-    ensures far { (bits : Bits) (items : List Placed) (spans : List BlockSpan) → ArePlaced bits items → (layout : List ℕ) (k t : ℕ) → k < length items
-        → first_value near_value (item_at items k).instr ≡ Some t → is_far_at (plan_for bits spans items) layout k ≡ true
-        → first_value ip_value (last_instr (image_at bits items (plan_for bits spans items) layout k))
-        ≡ Some (slot_address (plan_for bits spans items) layout (block_number spans k) (goal_address (plan_for bits spans items) layout k)) }
-    ensures over { (bits : Bits) (items : List Placed) (spans : List BlockSpan) (layout : List ℕ) (k n : ℕ)
-        → n + 1 < length (image_at bits items (plan_for bits spans items) layout k)
-        → first_value near_value (slice_index_or (image_at bits items (plan_for bits spans items) layout k) n no_instr)
-        ≡ Some (wrapped bits (place (plan_for bits spans items) layout k
-        + pieces_length bits (take (n + 2) (image_at bits items (plan_for bits spans items) layout k)))) }
+        → image_at bits items (plan_with bits spans items goals) layout k ≡ with_target (goal_address (plan_with bits spans items goals) layout k) (item_at items k).instr ∷ [] }
+    ensures near { (bits : Bits) (items : List Placed) (spans : List BlockSpan) (goals : ℕ → Goal) → ArePlaced bits items
+        → (layout : List ℕ) → IsLayout (plan_with bits spans items goals) layout → (k t : ℕ) → k < length items
+        → first_value near_value (item_at items k).instr ≡ Some t → is_far_at (plan_with bits spans items goals) layout k ≡ false
+        → first_value near_value (last_instr (image_at bits items (plan_with bits spans items goals) layout k))
+        ≡ Some (goal_address (plan_with bits spans items goals) layout k) }
+    ensures far { (bits : Bits) (items : List Placed) (spans : List BlockSpan) (goals : ℕ → Goal) → ArePlaced bits items → (layout : List ℕ) (k t : ℕ) → k < length items
+        → first_value near_value (item_at items k).instr ≡ Some t → is_far_at (plan_with bits spans items goals) layout k ≡ true
+        → first_value ip_value (last_instr (image_at bits items (plan_with bits spans items goals) layout k))
+        ≡ Some (slot_address (plan_with bits spans items goals) layout (block_number spans k) (goal_address (plan_with bits spans items goals) layout k)) }
+    ensures over { (bits : Bits) (items : List Placed) (spans : List BlockSpan) (goals : ℕ → Goal) (layout : List ℕ) (k n : ℕ)
+        → n + 1 < length (image_at bits items (plan_with bits spans items goals) layout k)
+        → first_value near_value (slice_index_or (image_at bits items (plan_with bits spans items goals) layout k) n no_instr)
+        ≡ Some (wrapped bits (place (plan_with bits spans items goals) layout k
+        + pieces_length bits (take (n + 2) (image_at bits items (plan_with bits spans items goals) layout k)))) }
 {
     laws_below();
 }
 
-/// Each image stands at its place in its block, and a block ends at its new end.
+/// Of blocks that are moved by any plan of them, each image stands at its place in its block, and a block ends at its new end.
 pub fn images_stand_at_their_places()
-    ensures place { (bits : Bits) (items : List Placed) (spans : List BlockSpan) → AreSpansOf items spans
-        → (m : MovedLists) (moved : IsMoved bits items spans m) (k : ℕ) → k < length items
-        → StandsAtPlace bits items (plan_for bits spans items) moved.layout (block_number spans k) k }
-    ensures end { (bits : Bits) (items : List Placed) (spans : List BlockSpan) → AreSpansOf items spans
-        → (m : MovedLists) (moved : IsMoved bits items spans m) (b : ℕ) → b < length spans
-        → (span_at spans b).new_base + length (block_bytes bits items (plan_for bits spans items) moved.layout b)
-        ≡ new_end (plan_for bits spans items) moved.layout b }
+    ensures place { (bits : Bits) (items : List Placed) (spans : List BlockSpan) (goals : ℕ → Goal) → AreSpansOf items spans
+        → (m : MovedLists) (moved : IsMovedBy bits items (plan_with bits spans items goals) m) (k : ℕ) → k < length items
+        → StandsAtPlace bits items (plan_with bits spans items goals) moved.layout (block_number spans k) k }
+    ensures end { (bits : Bits) (items : List Placed) (spans : List BlockSpan) (goals : ℕ → Goal) → AreSpansOf items spans
+        → (m : MovedLists) (moved : IsMovedBy bits items (plan_with bits spans items goals) m) (b : ℕ) → b < length spans
+        → (span_at spans b).new_base + length (block_bytes bits items (plan_with bits spans items goals) moved.layout b)
+        ≡ new_end (plan_with bits spans items goals) moved.layout b }
 {
     laws_below();
 }
 
-/// The slot that a branch of a far form goes through has its goal.
+/// Of blocks that are moved by any plan of them, the slot that a branch of a far form goes through has its goal.
 pub fn slots_have_their_goals()
-    ensures { (bits : Bits) (items : List Placed) (spans : List BlockSpan) → AreSpansOf items spans
-        → (m : MovedLists) (moved : IsMoved bits items spans m) (k : ℕ) → k < length items → is_far_at (plan_for bits spans items) moved.layout k ≡ true
-        → HasSlot bits items (plan_for bits spans items) moved.layout (block_number spans k) (goal_address (plan_for bits spans items) moved.layout k) }
+    ensures { (bits : Bits) (items : List Placed) (spans : List BlockSpan) (goals : ℕ → Goal) → AreSpansOf items spans
+        → (m : MovedLists) (moved : IsMovedBy bits items (plan_with bits spans items goals) m) (k : ℕ) → k < length items → is_far_at (plan_with bits spans items goals) moved.layout k ≡ true
+        → HasSlot bits items (plan_with bits spans items goals) moved.layout (block_number spans k) (goal_address (plan_with bits spans items goals) moved.layout k) }
 {
     laws_below();
 }
@@ -98,6 +101,19 @@ pub fn branches_reach_in_64_bit_mode()
         → (layout : List ℕ) → IsLeast (plan_for B64 spans items) layout → first_new_pass B64 (plan_for B64 spans items) layout ≡ None
         → (k t : ℕ) → k < length items → first_value near_value (item_at items k).instr ≡ Some t
         → IsReached B64 items (plan_for B64 spans items) layout k }
+{
+    laws_below();
+}
+
+/// In every mode, by any plan, a relative branch whose form reaches its goal from its place is reached exactly where reading its image there gives the
+/// goal: where some bytes are read there as the instructions of its image, of which the last goes to the goal, or through its slot. Outside 64-bit mode
+/// that can fail: where the goal lies at or above 2 to the operand size, or where a 32-bit branch of 16-bit code ends at 2 to the 16 and so counts from 0.
+pub fn branches_are_reached_where_they_are_read()
+    ensures { (bits : Bits) (items : List Placed) (spans : List BlockSpan) (goals : ℕ → Goal) → ArePlaced bits items
+        → (layout : List ℕ) → IsLayout (plan_with bits spans items goals) layout → (k t : ℕ) → k < length items
+        → first_value near_value (item_at items k).instr ≡ Some t → let seat = seat_at (plan_with bits spans items goals) layout k in
+        Reaches seat.reach seat.len seat.place seat.goal
+        → (IsReached bits items (plan_with bits spans items goals) layout k ↔ IsReadToGoal bits (item_at items k).instr seat) }
 {
     laws_below();
 }

@@ -9,6 +9,7 @@ pub(crate) fn laws_below()
 {
     opcode_rows::laws::rows_are_of_the_parts();
     encoder::laws::encodings_are_plain();
+    encoder::laws::spelled_meets_conditions();
     branch_sizes::laws::blocks_have_all_items();
     branch_sizes::laws::images_are_short();
     branch_sizes::laws::totals_rise();

@@ -2,7 +2,7 @@
 use Rattle.std.proofs.Common.{◌≡◌, ℕ, ◌+◌, ◌<◌, ◌≤◌, Bool, true, false, ◌&&◌, List, [], ◌∷◌, map, length, refl, slice_get, arith}
 use Rattle.std.specs.Prelude.{Option, Some, None, nat_lt, nat_le, IsTrue}
 use Rattle.std.specs.List.{list_all}
-use Rattle.std.proofs.lemmas.Bool.{le-leb, leb-true, ltb-true}
+use Rattle.std.proofs.lemmas.Bool.{and_parts, le-leb, leb-true, ltb-true}
 use Rattle.x86_values.specs.declared.Bits.{Bits}
 use Rattle.x86_values.specs.declared.Bits.TheVariants.{B16, B32, B64}
 use Rattle.x86_values.specs.declared.Instr.{Instr}
@@ -11,17 +11,16 @@ use Rattle.instruction_parts.specs.Sizes.{exists_in}
 use Rattle.row_types.specs.declared.Row.{Row}
 use Rattle.row_relation.specs.Spells.{Spells}
 use Rattle.opcode_rows.specs.Table.{table}
-use Rattle.row_fields.proofs.Cands.{and-left, and-right}
 use Rattle.branch_sizes.specs.declared.plan.Choice.{Choice}
 use Rattle.branch_sizes.specs.declared.plan.Form.{Form}
 use Rattle.branch_sizes.specs.declared.plan.Form.TheVariants.{Itself, Short, Near as NearForm, Far, Bridge, FarBridge}
 use Rattle.branch_sizes.specs.declared.plan.Reach.TheVariants.{Always}
 use Rattle.branch_sizes.specs.Plan.{lengths_rise_from, is_fit_reach, forms_differ}
 use Rattle.moved_targets.specs.Targets.{plain_length}
-use Rattle.moved_targets.proofs.Lengths.{spelled-needs, spelled-length}
 use Rattle.branch_forms.specs.declared.branch.Action.{Action}
 use Rattle.branch_forms.specs.declared.branch.Action.TheVariants.{Jump, Call, Condition, Count}
 use Rattle.branch_forms.specs.declared.branch.RelativeBranch.{RelativeBranch}
+use Rattle.branch_forms.specs.LawsBelow.{LawsBelow}
 use Rattle.branch_forms.specs.Branches.{branch_of, is_pair, in_range, far_code, opposite_condition}
 use Rattle.branch_forms.specs.Images.{counter_size, short_branch, skip, bridge_jump, bridge_inner, through_slot, form_length}
 use Rattle.branch_forms.specs.Lengths.{size_byte, address_byte, offset_bytes}
@@ -186,133 +185,134 @@ count-far : (bits size : Bits) (i : Instr) (s : Bool) (n : ℕ) → n < 4 → is
 unfolding form_size
 count-far bits size i s n lt pair h = omega (arith, count-inner bits size i.asize s n lt pair, slot_jump-in bits h)
 
--- ---- the choices of a branch
-
--- two forms in every mode and one more in 64-bit mode
-rise-two : (bits : Bits) (i : Instr) (b : RelativeBranch) (first second last : Form) → branch_of i ≡ Some b
-    → 1 ≤ form_size bits i b first → form_size bits i b first ≤ form_size bits i b second → form_size bits i b second ≤ 15
-    → (is_64 bits ≡ true → (form_size bits i b second ≤ form_size bits i b last) × (form_size bits i b last ≤ 15))
-    → IsTrue (lengths_rise_from 1 (map (branch_choice bits i b) (first ∷ second ∷ in_64 bits last)))
-rise-two B16 i b first second last e low next high more =
-    rises-two (branch_choice B16 i b first) (branch_choice B16 i b second)
-    (omega (arith, branch-length B16 i b first e)) (omega (arith, branch-length B16 i b first e, branch-length B16 i b second e))
-    (omega (arith, branch-length B16 i b second e))
-rise-two B32 i b first second last e low next high more =
-    rises-two (branch_choice B32 i b first) (branch_choice B32 i b second)
-    (omega (arith, branch-length B32 i b first e)) (omega (arith, branch-length B32 i b first e, branch-length B32 i b second e))
-    (omega (arith, branch-length B32 i b second e))
-rise-two B64 i b first second last e low next high more =
-    rises-three (branch_choice B64 i b first) (branch_choice B64 i b second) (branch_choice B64 i b last)
-    (omega (arith, branch-length B64 i b first e)) (omega (arith, branch-length B64 i b first e, branch-length B64 i b second e))
-    (omega (arith, branch-length B64 i b second e, branch-length B64 i b last e, (more refl).0))
-    (omega (arith, branch-length B64 i b last e, (more refl).1))
-
--- one form in every mode and one more in 64-bit mode
-rise-one : (bits : Bits) (i : Instr) (b : RelativeBranch) (first last : Form) → branch_of i ≡ Some b
-    → 1 ≤ form_size bits i b first → form_size bits i b first ≤ 15
-    → (is_64 bits ≡ true → (form_size bits i b first ≤ form_size bits i b last) × (form_size bits i b last ≤ 15))
-    → IsTrue (lengths_rise_from 1 (map (branch_choice bits i b) (first ∷ in_64 bits last)))
-rise-one B16 i b first last e low high more =
-    rises-one (branch_choice B16 i b first) (omega (arith, branch-length B16 i b first e)) (omega (arith, branch-length B16 i b first e))
-rise-one B32 i b first last e low high more =
-    rises-one (branch_choice B32 i b first) (omega (arith, branch-length B32 i b first e)) (omega (arith, branch-length B32 i b first e))
-rise-one B64 i b first last e low high more =
-    rises-two (branch_choice B64 i b first) (branch_choice B64 i b last)
-    (omega (arith, branch-length B64 i b first e)) (omega (arith, branch-length B64 i b first e, branch-length B64 i b last e, (more refl).0))
-    (omega (arith, branch-length B64 i b last e, (more refl).1))
-
-branch-rise : (bits size : Bits) (i : Instr) (action : Action) (s : Bool) → branch_of i ≡ Some (branch_with action s size)
-    → is_pair bits size ≡ true → in_range action s ≡ true → IsTrue (lengths_rise_from 1 (branch_choices bits i action s size))
-unfolding branch_forms
-branch-rise bits size i Jump true e pair range =
-    let short = jump-short bits size i true pair in
-    let near = jump-near bits size i true pair in
-    let sb = size_byte-small bits size in
-    let ob = offset_bytes-small bits size in
-    rise-two bits i (branch_with Jump true size) Short NearForm Far e (omega (arith, short)) (omega (arith, short, near, ob.0)) (omega (arith, near, sb, ob.1))
-    (λ h. (omega (arith, near, sb, ob.1, jump-far bits size i true h), omega (arith, jump-far bits size i true h)))
-branch-rise bits size i Jump false e pair range =
-    let near = jump-near bits size i false pair in
-    let sb = size_byte-small bits size in
-    let ob = offset_bytes-small bits size in
-    rise-one bits i (branch_with Jump false size) NearForm Far e (omega (arith, near)) (omega (arith, near, sb, ob.1))
-    (λ h. (omega (arith, near, sb, ob.1, jump-far bits size i false h), omega (arith, jump-far bits size i false h)))
-branch-rise bits size i Call true e pair range = cc
-branch-rise bits size i Call false e pair range =
-    let near = call-near bits size i false pair in
-    let sb = size_byte-small bits size in
-    let ob = offset_bytes-small bits size in
-    rise-one bits i (branch_with Call false size) NearForm Far e (omega (arith, near)) (omega (arith, near, sb, ob.1))
-    (λ h. (omega (arith, near, sb, ob.1, call-far bits size i false h), omega (arith, call-far bits size i false h)))
-branch-rise bits size i (Condition n) true e pair range =
-    let lt = ltb-true n 16 range in
-    let short = condition-short bits size i true n lt pair in
-    let near = condition-near bits size i true n lt pair in
-    let sb = size_byte-small bits size in
-    let ob = offset_bytes-small bits size in
-    rise-two bits i (branch_with (Condition n) true size) Short NearForm Far e (omega (arith, short)) (omega (arith, short, near, ob.0)) (omega (arith, near, sb, ob.1))
-    (λ h. (omega (arith, near, sb, ob.1, condition-far bits size i true n lt pair h), omega (arith, sb, condition-far bits size i true n lt pair h)))
-branch-rise bits size i (Condition n) false e pair range =
-    let lt = ltb-true n 16 range in
-    let near = condition-near bits size i false n lt pair in
-    let sb = size_byte-small bits size in
-    let ob = offset_bytes-small bits size in
-    rise-one bits i (branch_with (Condition n) false size) NearForm Far e (omega (arith, near)) (omega (arith, near, sb, ob.1))
-    (λ h. (omega (arith, near, sb, ob.1, condition-far bits size i false n lt pair h), omega (arith, sb, condition-far bits size i false n lt pair h)))
-branch-rise bits size i (Count n) true e pair range =
-    let lt = ltb-true n 4 range in
-    let short = count-short bits size i true n lt pair in
-    let bridged = count-bridge bits size i true n lt pair in
-    let sb = size_byte-small bits size in
-    let cb = address_byte-small bits i.asize in
-    let ob = offset_bytes-small bits size in
-    rise-two bits i (branch_with (Count n) true size) Short Bridge FarBridge e
-    (omega (arith, short)) (omega (arith, short, bridged)) (omega (arith, bridged, sb, cb, ob.1))
-    (λ h. (omega (arith, bridged, sb, ob.1, count-far bits size i true n lt pair h), omega (arith, sb, cb, count-far bits size i true n lt pair h)))
-branch-rise bits size i (Count n) false e pair range = cc
-
--- ---- the choices of what is spelled
-
 -- what the choices of an item of a plan are
 abbrev pub AreFit : List Choice → Type 0
 AreFit cs =
     (0 < length cs) × (length cs ≤ 3) × IsTrue (lengths_rise_from 1 cs) × IsTrue (list_all (λ c. is_fit_reach c.reach) cs) × IsTrue (forms_differ cs)
 
-are-fit : (cs : List Choice) → has_shape cs ≡ true → IsTrue (lengths_rise_from 1 cs) → AreFit cs
-unfolding has_shape
-are-fit cs h rise =
-    let reached = list_all (λ c. is_fit_reach c.reach) cs in
-    let few = nat_le (length cs) 3 && (reached && forms_differ cs) in
-    let tail = and-right (nat_lt 0 (length cs)) few h in
-    let rest = and-right (nat_le (length cs) 3) (reached && forms_differ cs) tail in (
-      ltb-true 0 (length cs) (and-left (nat_lt 0 (length cs)) few h),
-      leb-true (length cs) 3 (and-left (nat_le (length cs) 3) (reached && forms_differ cs) tail),
-      rise,
-      and-left reached (forms_differ cs) rest,
-      and-right reached (forms_differ cs) rest,
-    )
+module _ (laws : LawsBelow) where
+  -- ---- the choices of a branch
 
-own-shape : (bits : Bits) (i : Instr) → has_shape (choices_by bits i None) ≡ true
-unfolding has_shape
-own-shape bits i = refl
+  -- two forms in every mode and one more in 64-bit mode
+  rise-two : (bits : Bits) (i : Instr) (b : RelativeBranch) (first second last : Form) → branch_of i ≡ Some b
+      → 1 ≤ form_size bits i b first → form_size bits i b first ≤ form_size bits i b second → form_size bits i b second ≤ 15
+      → (is_64 bits ≡ true → (form_size bits i b second ≤ form_size bits i b last) × (form_size bits i b last ≤ 15))
+      → IsTrue (lengths_rise_from 1 (map (branch_choice bits i b) (first ∷ second ∷ in_64 bits last)))
+  rise-two B16 i b first second last e low next high more =
+      rises-two (branch_choice B16 i b first) (branch_choice B16 i b second)
+      (omega (arith, branch-length laws B16 i b first e)) (omega (arith, branch-length laws B16 i b first e, branch-length laws B16 i b second e))
+      (omega (arith, branch-length laws B16 i b second e))
+  rise-two B32 i b first second last e low next high more =
+      rises-two (branch_choice B32 i b first) (branch_choice B32 i b second)
+      (omega (arith, branch-length laws B32 i b first e)) (omega (arith, branch-length laws B32 i b first e, branch-length laws B32 i b second e))
+      (omega (arith, branch-length laws B32 i b second e))
+  rise-two B64 i b first second last e low next high more =
+      rises-three (branch_choice B64 i b first) (branch_choice B64 i b second) (branch_choice B64 i b last)
+      (omega (arith, branch-length laws B64 i b first e)) (omega (arith, branch-length laws B64 i b first e, branch-length laws B64 i b second e))
+      (omega (arith, branch-length laws B64 i b second e, branch-length laws B64 i b last e, (more refl).0))
+      (omega (arith, branch-length laws B64 i b last e, (more refl).1))
 
-branch-fit : (bits : Bits) (i : Instr) (b : RelativeBranch) → branch_of i ≡ Some b → is_pair bits b.size ≡ true → in_range b.action b.is_short ≡ true → AreFit (choices_by bits i (Some b))
-branch-fit bits i b e pair range =
-    are-fit (choices_by bits i (Some b)) (branch-shape i b.action b.is_short bits b.size pair) (branch-rise bits b.size i b.action b.is_short e pair range)
+  -- one form in every mode and one more in 64-bit mode
+  rise-one : (bits : Bits) (i : Instr) (b : RelativeBranch) (first last : Form) → branch_of i ≡ Some b
+      → 1 ≤ form_size bits i b first → form_size bits i b first ≤ 15
+      → (is_64 bits ≡ true → (form_size bits i b first ≤ form_size bits i b last) × (form_size bits i b last ≤ 15))
+      → IsTrue (lengths_rise_from 1 (map (branch_choice bits i b) (first ∷ in_64 bits last)))
+  rise-one B16 i b first last e low high more =
+      rises-one (branch_choice B16 i b first) (omega (arith, branch-length laws B16 i b first e)) (omega (arith, branch-length laws B16 i b first e))
+  rise-one B32 i b first last e low high more =
+      rises-one (branch_choice B32 i b first) (omega (arith, branch-length laws B32 i b first e)) (omega (arith, branch-length laws B32 i b first e))
+  rise-one B64 i b first last e low high more =
+      rises-two (branch_choice B64 i b first) (branch_choice B64 i b last)
+      (omega (arith, branch-length laws B64 i b first e)) (omega (arith, branch-length laws B64 i b first e, branch-length laws B64 i b last e, (more refl).0))
+      (omega (arith, branch-length laws B64 i b last e, (more refl).1))
 
--- by whether the instruction is a branch
-by-branch : (bits : Bits) (i : Instr) (row : Row) (o : Option RelativeBranch) → branch_of i ≡ o → slice_get table i.code.0 ≡ Some row → exists_in bits row ≡ true
-    → 1 ≤ plain_length bits i → plain_length bits i ≤ 15 → AreFit (choices_by bits i o)
-by-branch bits i row None e at stands low high =
-    let long = other-length bits i Itself e in
-    are-fit (choices_by bits i None) (own-shape bits i) (rises-one (own_choice bits i) (omega (arith, long)) (omega (arith, long)))
-by-branch bits i row (Some b) e at stands low high =
-    branch-fit bits i b e (branch-pair bits i row b at e stands) (branch-range i row b at e)
+  branch-rise : (bits size : Bits) (i : Instr) (action : Action) (s : Bool) → branch_of i ≡ Some (branch_with action s size)
+      → is_pair bits size ≡ true → in_range action s ≡ true → IsTrue (lengths_rise_from 1 (branch_choices bits i action s size))
+  unfolding branch_forms
+  branch-rise bits size i Jump true e pair range =
+      let short = jump-short bits size i true pair in
+      let near = jump-near bits size i true pair in
+      let sb = size_byte-small bits size in
+      let ob = offset_bytes-small bits size in
+      rise-two bits i (branch_with Jump true size) Short NearForm Far e (omega (arith, short)) (omega (arith, short, near, ob.0)) (omega (arith, near, sb, ob.1))
+      (λ h. (omega (arith, near, sb, ob.1, jump-far bits size i true h), omega (arith, jump-far bits size i true h)))
+  branch-rise bits size i Jump false e pair range =
+      let near = jump-near bits size i false pair in
+      let sb = size_byte-small bits size in
+      let ob = offset_bytes-small bits size in
+      rise-one bits i (branch_with Jump false size) NearForm Far e (omega (arith, near)) (omega (arith, near, sb, ob.1))
+      (λ h. (omega (arith, near, sb, ob.1, jump-far bits size i false h), omega (arith, jump-far bits size i false h)))
+  branch-rise bits size i Call true e pair range = cc
+  branch-rise bits size i Call false e pair range =
+      let near = call-near bits size i false pair in
+      let sb = size_byte-small bits size in
+      let ob = offset_bytes-small bits size in
+      rise-one bits i (branch_with Call false size) NearForm Far e (omega (arith, near)) (omega (arith, near, sb, ob.1))
+      (λ h. (omega (arith, near, sb, ob.1, call-far bits size i false h), omega (arith, call-far bits size i false h)))
+  branch-rise bits size i (Condition n) true e pair range =
+      let lt = ltb-true n 16 range in
+      let short = condition-short bits size i true n lt pair in
+      let near = condition-near bits size i true n lt pair in
+      let sb = size_byte-small bits size in
+      let ob = offset_bytes-small bits size in
+      rise-two bits i (branch_with (Condition n) true size) Short NearForm Far e (omega (arith, short)) (omega (arith, short, near, ob.0)) (omega (arith, near, sb, ob.1))
+      (λ h. (omega (arith, near, sb, ob.1, condition-far bits size i true n lt pair h), omega (arith, sb, condition-far bits size i true n lt pair h)))
+  branch-rise bits size i (Condition n) false e pair range =
+      let lt = ltb-true n 16 range in
+      let near = condition-near bits size i false n lt pair in
+      let sb = size_byte-small bits size in
+      let ob = offset_bytes-small bits size in
+      rise-one bits i (branch_with (Condition n) false size) NearForm Far e (omega (arith, near)) (omega (arith, near, sb, ob.1))
+      (λ h. (omega (arith, near, sb, ob.1, condition-far bits size i false n lt pair h), omega (arith, sb, condition-far bits size i false n lt pair h)))
+  branch-rise bits size i (Count n) true e pair range =
+      let lt = ltb-true n 4 range in
+      let short = count-short bits size i true n lt pair in
+      let bridged = count-bridge bits size i true n lt pair in
+      let sb = size_byte-small bits size in
+      let cb = address_byte-small bits i.asize in
+      let ob = offset_bytes-small bits size in
+      rise-two bits i (branch_with (Count n) true size) Short Bridge FarBridge e
+      (omega (arith, short)) (omega (arith, short, bridged)) (omega (arith, bridged, sb, cb, ob.1))
+      (λ h. (omega (arith, bridged, sb, ob.1, count-far bits size i true n lt pair h), omega (arith, sb, cb, count-far bits size i true n lt pair h)))
+  branch-rise bits size i (Count n) false e pair range = cc
 
--- **the choices of what is spelled are fit**
-pub spelled-fit : (bits : Bits) (ip : ℕ) (bytes : List ℕ) (i : Instr) → Spells table bits ip bytes i → AreFit (choices_of bits i)
-unfolding choices_of
-spelled-fit bits ip bytes i (short, (row, at, (s, e))) =
-    let long = spelled-length bits ip bytes i (short, (row, at, (s, e))) in
-    let need = spelled-needs bits ip bytes i row s at e in
-    by-branch bits i row (branch_of i) refl at need.exists long.0 long.1
+  -- ---- the choices of what is spelled
+
+  are-fit : (cs : List Choice) → has_shape cs ≡ true → IsTrue (lengths_rise_from 1 cs) → AreFit cs
+  unfolding has_shape
+  are-fit cs h rise =
+      let reached = list_all (λ c. is_fit_reach c.reach) cs in
+      let few = nat_le (length cs) 3 && (reached && forms_differ cs) in
+      let tail = (and_parts (nat_lt 0 (length cs)) few h).1 in
+      let rest = (and_parts (nat_le (length cs) 3) (reached && forms_differ cs) tail).1 in (
+        ltb-true 0 (length cs) (and_parts (nat_lt 0 (length cs)) few h).0,
+        leb-true (length cs) 3 (and_parts (nat_le (length cs) 3) (reached && forms_differ cs) tail).0,
+        rise,
+        (and_parts reached (forms_differ cs) rest).0,
+        (and_parts reached (forms_differ cs) rest).1,
+      )
+
+  own-shape : (bits : Bits) (i : Instr) → has_shape (choices_by bits i None) ≡ true
+  unfolding has_shape
+  own-shape bits i = refl
+
+  branch-fit : (bits : Bits) (i : Instr) (b : RelativeBranch) → branch_of i ≡ Some b → is_pair bits b.size ≡ true → in_range b.action b.is_short ≡ true → AreFit (choices_by bits i (Some b))
+  branch-fit bits i b e pair range =
+      are-fit (choices_by bits i (Some b)) (branch-shape i b.action b.is_short bits b.size pair) (branch-rise bits b.size i b.action b.is_short e pair range)
+
+  -- by whether the instruction is a branch
+  by-branch : (bits : Bits) (i : Instr) (row : Row) (o : Option RelativeBranch) → branch_of i ≡ o → slice_get table i.code.0 ≡ Some row → exists_in bits row ≡ true
+      → 1 ≤ plain_length bits i → plain_length bits i ≤ 15 → AreFit (choices_by bits i o)
+  by-branch bits i row None e at stands low high =
+      let long = other-length laws bits i Itself e in
+      are-fit (choices_by bits i None) (own-shape bits i) (rises-one (own_choice bits i) (omega (arith, long)) (omega (arith, long)))
+  by-branch bits i row (Some b) e at stands low high =
+      branch-fit bits i b e (branch-pair laws bits i row b at e stands) (branch-range laws i row b at e)
+
+  -- **the choices of what is spelled are fit**
+  pub spelled-fit : (bits : Bits) (ip : ℕ) (bytes : List ℕ) (i : Instr) → Spells table bits ip bytes i → AreFit (choices_of bits i)
+  unfolding choices_of
+  spelled-fit bits ip bytes i (short, (row, at, (s, e))) =
+      let long = laws.targets.spelled-length bits ip bytes i (short, (row, at, (s, e))) in
+      let need = laws.spelled.spelled-suits bits ip bytes i row s at e in
+      by-branch bits i row (branch_of i) refl at need.exists long.0 long.1

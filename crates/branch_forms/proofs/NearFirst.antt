@@ -1,6 +1,8 @@
 -- A near target stands as the first operand alone, on the rows of relative branches.
 use Rattle.std.proofs.Common.{◌≡◌, ℕ, ◌⊎◌, inl, inr, Bool, true, false, ◌&&◌, not, List, Option, Some, None, refl, sym, ◌∙◌, slice_get}
+use Rattle.std.specs.List.{list_all}
 use Rattle.std.specs.Option.{option_or}
+use Rattle.std.proofs.lemmas.Bool.{and_parts}
 use Rattle.x86_values.specs.declared.Bits.{Bits}
 use Rattle.x86_values.specs.declared.Operand.{Operand}
 use Rattle.x86_values.specs.declared.Operand.TheVariants.{Near}
@@ -13,7 +15,6 @@ use Rattle.row_types.specs.declared.OpKind.TheVariants.{Jb, Jz}
 use Rattle.instruction_parts.specs.declared.kinds.Method.{Method}
 use Rattle.instruction_parts.specs.declared.kinds.Method.TheVariants as method
 use Rattle.instruction_parts.specs.Kinds.{method_of}
-use Rattle.instruction_parts.proofs.Tests.{and_left, and_right}
 use Rattle.row_fit.specs.Fits.{kind_at}
 use Rattle.row_relation.specs.Spells.{Spells}
 use Rattle.plain_spelling.specs.Forms.{operand_at, is_variant_of, is_allowed_in}
@@ -25,10 +26,9 @@ use Rattle.rows_vex.specs.Table.{table as vex_rows, flat_rows as vex_flat}
 use Rattle.opcode_rows.specs.declared.spot.Part.{Part}
 use Rattle.opcode_rows.specs.declared.spot.Part.TheVariants as part
 use Rattle.opcode_rows.specs.Table.{part_table, table}
-use Rattle.opcode_rows.proofs.JoinFacts.{all_rows, in_each_part}
 use Rattle.operand_info.specs.Operands.{near_value, first_value}
-use Rattle.moved_targets.proofs.Lengths.{spelled-needs}
 use Rattle.branch_forms.specs.declared.branch.RelativeBranch.{RelativeBranch}
+use Rattle.branch_forms.specs.LawsBelow.{LawsBelow}
 use Rattle.branch_forms.specs.Branches.{size_of, short_action, near_action, branch_in, branch_of}
 
 -- ---- the table
@@ -46,30 +46,30 @@ is_offset_at row n = is_offset_method (method_of (kind_at row n))
 unfoldable offset_first : Row → Bool
 offset_first row = not (is_offset_at row 1) && (not (is_offset_at row 2) && not (is_offset_at row 3))
 
-integer-first : all_rows offset_first integer_rows ≡ true
-unfolding all_rows offset_first method_of integer_rows integer_flat
+integer-first : list_all offset_first integer_rows ≡ true
+unfolding offset_first method_of integer_rows integer_flat
 integer-first = refl
 
-x87-first : all_rows offset_first x87_rows ≡ true
-unfolding all_rows offset_first method_of x87_rows x87_flat
+x87-first : list_all offset_first x87_rows ≡ true
+unfolding offset_first method_of x87_rows x87_flat
 x87-first = refl
 
-sse-first : all_rows offset_first sse_rows ≡ true
-unfolding all_rows offset_first method_of sse_rows sse_flat
+sse-first : list_all offset_first sse_rows ≡ true
+unfolding offset_first method_of sse_rows sse_flat
 sse-first = refl
 
-vex-first : all_rows offset_first vex_rows ≡ true
-unfolding all_rows offset_first method_of vex_rows vex_flat
+vex-first : list_all offset_first vex_rows ≡ true
+unfolding offset_first method_of vex_rows vex_flat
 vex-first = refl
 
-each-first : (p : Part) → all_rows offset_first (part_table p) ≡ true
+each-first : (p : Part) → list_all offset_first (part_table p) ≡ true
 each-first part.Integer = integer-first
 each-first part.X87 = x87-first
 each-first part.Sse = sse-first
 each-first part.Vex = vex-first
 
-first-row : (code : ℕ) (row : Row) → slice_get table code ≡ Some row → offset_first row ≡ true
-first-row code row at = in_each_part offset_first each-first code row at
+first-row : LawsBelow → (code : ℕ) (row : Row) → slice_get table code ≡ Some row → offset_first row ≡ true
+first-row laws code row at = laws.rows offset_first each-first code row at
 
 -- ---- operands
 
@@ -121,20 +121,20 @@ unfolding offset_first
 row-no_near row i kinds first none =
     let k = λ (n : ℕ). kind_suits row i n in
     let o = λ (n : ℕ). not (is_offset_at row n) in
-    let k1 = and_right (k 0) (k 1 && (k 2 && k 3)) kinds in
-    let k2 = and_right (k 1) (k 2 && k 3) k1 in
-    let o1 = and_right (o 1) (o 2 && o 3) first in
+    let k1 = (and_parts (k 0) (k 1 && (k 2 && k 3)) kinds).1 in
+    let k2 = (and_parts (k 1) (k 2 && k 3) k1).1 in
+    let o1 = (and_parts (o 1) (o 2 && o 3) first).1 in
     none_of_four (near_value (operand_at i 0)) (near_value (operand_at i 1)) (near_value (operand_at i 2)) (near_value (operand_at i 3))
-    (no_near-at row i 0 (and_left (k 0) (k 1 && (k 2 && k 3)) kinds) (no_offset row none))
-    (no_near-at row i 1 (and_left (k 1) (k 2 && k 3) k1) (not_true (is_offset_at row 1) (and_left (o 1) (o 2 && o 3) first)))
-    (no_near-at row i 2 (and_left (k 2) (k 3) k2) (not_true (is_offset_at row 2) (and_left (o 2) (o 3) o1)))
-    (no_near-at row i 3 (and_right (k 2) (k 3) k2) (not_true (is_offset_at row 3) (and_right (o 2) (o 3) o1)))
+    (no_near-at row i 0 (and_parts (k 0) (k 1 && (k 2 && k 3)) kinds).0 (no_offset row none))
+    (no_near-at row i 1 (and_parts (k 1) (k 2 && k 3) k1).0 (not_true (is_offset_at row 1) (and_parts (o 1) (o 2 && o 3) first).0))
+    (no_near-at row i 2 (and_parts (k 2) (k 3) k2).0 (not_true (is_offset_at row 2) (and_parts (o 2) (o 3) o1).0))
+    (no_near-at row i 3 (and_parts (k 2) (k 3) k2).1 (not_true (is_offset_at row 3) (and_parts (o 2) (o 3) o1).1))
 
 -- **what is spelled and is no relative branch has no near target**
-pub no_branch-no_near : (bits : Bits) (ip : ℕ) (bytes : List ℕ) (i : Instr) → Spells table bits ip bytes i → branch_of i ≡ None → first_value near_value i ≡ None
-no_branch-no_near bits ip bytes i (short, (row, at, (s, e))) h =
-    let need = spelled-needs bits ip bytes i row s at e in
+pub no_branch-no_near : (laws : LawsBelow) (bits : Bits) (ip : ℕ) (bytes : List ℕ) (i : Instr) → Spells table bits ip bytes i → branch_of i ≡ None → first_value near_value i ≡ None
+no_branch-no_near laws bits ip bytes i (short, (row, at, (s, e))) h =
+    let need = laws.spelled.spelled-suits bits ip bytes i row s at e in
     elim (by_branch i row (first_value near_value i) refl at h) [
       | inl none ↦ none
-      | inr none ↦ row-no_near row i need.kinds (first-row i.code.0 row at) none
+      | inr none ↦ row-no_near row i need.kinds (first-row laws i.code.0 row at) none
     ]

@@ -1,10 +1,9 @@
 -- The code of a branch is that of its action and size.
 use Rattle.std.proofs.Common.{◌≡◌, ℕ, zero, suc, ◌+◌, Bool, true, ◌&&◌, ◌==◌, List, [], ◌∷◌, refl, ap, sym, ◌∙◌, slice_get, arith}
 use Rattle.std.specs.Prelude.{Option, Some, None}
-use Rattle.std.proofs.lemmas.Bool.{eqb-true}
+use Rattle.std.proofs.lemmas.Bool.{and_parts, eqb-true}
 use Rattle.x86_values.specs.declared.Instr.{Instr}
 use Rattle.row_types.specs.declared.Row.{Row}
-use Rattle.row_fields.proofs.Cands.{and-left, and-right}
 use Rattle.rows_integer.specs.Table.{table as integer_rows, flat_rows as integer_flat}
 use Rattle.rows_x87.specs.Table.{table as x87_rows, flat_rows as x87_flat}
 use Rattle.rows_sse.specs.Table.{table as sse_rows, flat_rows as sse_flat}
@@ -36,11 +35,11 @@ own-at first (x ∷ rows) zero row h at =
     let here : first + 0 ≡ first = omega arith in
     ap (λ n. is_own n (branch_in row)) here
     ∙ ap (λ r. is_own first (branch_in r)) (sym same)
-    ∙ and-left (is_own first (branch_in x)) (all_own (suc first) rows) h
+    ∙ (and_parts (is_own first (branch_in x)) (all_own (suc first) rows) h).0
 own-at first (x ∷ rows) (suc k) row h at =
     let there : first + suc k ≡ suc first + k = omega arith in
     ap (λ n. is_own n (branch_in row)) there
-    ∙ own-at (suc first) rows k row (and-right (is_own first (branch_in x)) (all_own (suc first) rows) h) at
+    ∙ own-at (suc first) rows k row (and_parts (is_own first (branch_in x)) (all_own (suc first) rows) h).1 at
 
 own-code : (code : ℕ) (row : Row) (b : RelativeBranch) → slice_get table code ≡ Some row → branch_in row ≡ Some b → own_code b ≡ code
 own-code code row b at is =

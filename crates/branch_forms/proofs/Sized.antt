@@ -1,8 +1,7 @@
 -- How many bytes the forms of a relative branch have.
 use Rattle.std.proofs.Common.{◌≡◌, ℕ, ◌+◌, Bool, true, refl, sym, ap, ◌∙◌, arith}
 use Rattle.std.specs.Prelude.{Option, Some, None}
-use Rattle.std.proofs.lemmas.Bool.{ltb-true}
-use Rattle.row_fields.proofs.Cands.{and-right}
+use Rattle.std.proofs.lemmas.Bool.{and_parts, ltb-true}
 use Rattle.x86_values.specs.declared.Bits.{Bits}
 use Rattle.x86_values.specs.declared.Bits.TheVariants.{B16, B32, B64}
 use Rattle.x86_values.specs.declared.Instr.{Instr}
@@ -14,14 +13,15 @@ use Rattle.branch_forms.specs.declared.branch.Action.TheVariants.{Jump, Call, Co
 use Rattle.branch_forms.specs.declared.branch.RelativeBranch.{RelativeBranch}
 use Rattle.branch_forms.specs.Branches.{branch_of, in_range, short_code, near_code, far_code, opposite_condition}
 use Rattle.branch_forms.specs.Images.{branch_to, through_slot, counter_size, short_branch, skip, bridge_jump, bridge_inner, form_length}
+use Rattle.branch_forms.specs.LawsBelow.{LawsBelow}
 use Rattle.branch_forms.specs.Lengths.{near_bytes, short_bytes, slot_bytes}
 use Rattle.branch_forms.proofs.Lengths.{far_size, form_size, branch-length}
 use Rattle.branch_forms.proofs.Offsets.{row-of-branch, branch-range}
 use Rattle.branch_forms.proofs.Pieces.{short_jump-length, short_condition-length, short_count-length, near_jump-length, near_call-length, near_condition-length, slot_call-length, slot_jump-length, opposite_condition-small}
 
 -- a branch has one of the conditions and counters
-pub is-in-range : (i : Instr) (b : RelativeBranch) → branch_of i ≡ Some b → in_range b.action b.is_short ≡ true
-is-in-range i b h = let r = row-of-branch i b h in branch-range i r.0 b r.1 h
+pub is-in-range : LawsBelow → (i : Instr) (b : RelativeBranch) → branch_of i ≡ Some b → in_range b.action b.is_short ≡ true
+is-in-range laws i b h = let r = row-of-branch i b h in branch-range laws i r.0 b r.1 h
 
 -- ---- the codes that stand for others
 
@@ -45,7 +45,7 @@ unfolding short_branch counter_size
 short_branch-size bits asize Jump s size range = omega (arith, short_jump-length bits size 0)
 short_branch-size bits asize Call s size range = call-short bits size
 short_branch-size bits asize (Condition n) s size range = omega (arith, short_condition-length bits size n (ltb-true n 16 range) 0)
-short_branch-size bits asize (Count n) s size range = short_count-length bits size n (ltb-true n 4 (and-right s _ range)) asize 0
+short_branch-size bits asize (Count n) s size range = short_count-length bits size n (ltb-true n 4 (and_parts s _ range).1) asize 0
 
 skip-size : (bits : Bits) → plain_length bits (skip bits 0) ≡ 2
 unfolding skip
@@ -119,6 +119,6 @@ pub short-told : (bits : Bits) (i : Instr) (b : RelativeBranch) (asize : Option 
 short-told bits i b asize n e is = is ∙ ap (λ x. short_bytes bits b.action b.size x) e
 
 -- a length that is that of a form
-pub sized : (bits : Bits) (i : Instr) (b : RelativeBranch) (form given : Form) (n : ℕ) → branch_of i ≡ Some b → form ≡ given → n ≡ form_size bits i b given
+pub sized : LawsBelow → (bits : Bits) (i : Instr) (b : RelativeBranch) (form given : Form) (n : ℕ) → branch_of i ≡ Some b → form ≡ given → n ≡ form_size bits i b given
     → n ≡ form_length bits i form
-sized bits i b form given n h e s = s ∙ (ap (λ f. form_size bits i b f) (sym e) ∙ sym (branch-length bits i b form h))
+sized laws bits i b form given n h e s = s ∙ (ap (λ f. form_size bits i b f) (sym e) ∙ sym (branch-length laws bits i b form h))

@@ -1,3 +1,4 @@
+pub mod LawsBelow
 pub mod Branches
 pub mod Rows
 pub mod Images

@@ -95,6 +95,7 @@ fn branch_in(row: &Row) -> Option<RelativeBranch>
 pub fn branch_of(instr: &Instr) -> Option<RelativeBranch>
     ensures { result ≡ spec.branch_of instr.now }
 {
+    opcode_rows::laws::rows_are_counted();
     if instr.code.0 >= ROWS {
         return None;
     }

@@ -8,6 +8,7 @@ ghost use Rattle.branch_forms.specs.Choices as spec;
 use crate::branch::{Action, RelativeBranch, branch_of};
 use crate::form_lengths::branch_length;
 use crate::image::bridge_inner;
+use crate::laws_below::laws_below;
 use arrayvec::ArrayVec;
 use branch_sizes::{Choice, Form, Reach};
 use moved_targets::plain_length;
@@ -127,6 +128,7 @@ fn own_choice(bits: Bits, instr: &Instr) -> ArrayVec<Choice, 3>
     requires { branch_of instr.now ≡ None }
     ensures { result.items ≡ spec.choices_by bits instr.now None }
 {
+    laws_below();
     let mut choices = ArrayVec::new();
     choices.push(Choice {
         form: Form::Itself,

@@ -7,6 +7,7 @@ ghost use Rattle.branch_forms.specs.Lengths as spec;
 
 use crate::branch::{Action, RelativeBranch};
 use crate::image::counter_size;
+use crate::laws_below::laws_below;
 use branch_sizes::Form;
 use moved_targets::plain_length;
 use x86_values::{Bits, Instr};
@@ -82,6 +83,7 @@ pub(crate) fn branch_length(bits: Bits, instr: &Instr, branch: RelativeBranch, f
     requires { branches.branch_of instr.now ≡ Some branch }
     ensures { result ≡ images.form_length bits instr.now form }
 {
+    laws_below();
     let asize = counter_size(branch.action, instr.asize);
     let short = short_bytes(bits, branch.action, branch.size, asize);
     match form {

@@ -20,18 +20,24 @@ ghost use Rattle.branch_forms.specs.Images.{image_of, pieces_length, form_length
 ghost use Rattle.branch_forms.specs.Choices.{choices_of};
 ghost use Rattle.branch_forms.specs.Facts.{CodeFacts, PieceFacts, FormFacts};
 
+use crate::laws_below::laws_below;
+
 /// The choices of an instruction that is spelled at some address are one to three, of forms that differ, with lengths of 1 to 15 that do not fall.
 pub fn choices_are_fit()
     ensures { (bits : Bits) (ip : ℕ) (bytes : List ℕ) (i : Instr) → length i.ops ≡ 4 → Spells table bits ip bytes i
         → (0 < length (choices_of bits i)) × (length (choices_of bits i) ≤ 3)
         × IsTrue (lengths_rise_from 1 (choices_of bits i)) × IsTrue (list_all (λ c. is_fit_reach c.reach) (choices_of bits i))
         × IsTrue (forms_differ (choices_of bits i)) }
-{}
+{
+    laws_below();
+}
 
 /// The length of an image rests neither on its place nor on its goal.
 pub fn images_have_their_length()
     ensures { (bits : Bits) (i : Instr) (form : Form) (place goal slot : ℕ) → pieces_length bits (image_of bits i form place goal slot) ≡ form_length bits i form }
-{}
+{
+    laws_below();
+}
 
 /// The codes of JMP, CALL, Jcc and the branches on a counter are those of their rows: EB, 70 to 7F and E0 to E3 with an offset of 8 bits, E9, E8 and
 /// 0F 80 to 0F 8F with one of the operand size, and FF /4 and FF /2 through memory in 64-bit mode.
@@ -61,10 +67,14 @@ pub fn codes_have_their_rows()
 #[inline]
 pub fn pieces_have_their_lengths()
     ensures { PieceFacts }
-{}
+{
+    laws_below();
+}
 
 /// The forms of an instruction are those of an item of a plan, with lengths that rest neither on the place nor on the goal.
 #[inline]
 pub fn forms_are_fit()
     ensures { FormFacts }
-{}
+{
+    laws_below();
+}

@@ -7,6 +7,7 @@ mod choices;
 mod form_lengths;
 mod image;
 pub mod laws;
+mod laws_below;
 
 pub use branch::{Action, RelativeBranch, branch_of};
 pub use choices::choices_of;

@@ -58,6 +58,7 @@ fit_branch count b h =
       rises = v.0;
       reach = x.0;
       goal = (and_parts _ _ x.1).0;
+      differ = (and_parts _ _ x.1).1;
     }
 
 pub fit_item : (p : BlockPlan) → IsWellFormed p → (k : ℕ) → k < length p.items → IsFit (length p.items) (item_at p k)

@@ -1,11 +1,12 @@
--- What holds of the blocks of some items, of the lengths of their images, and of sums of these.
+-- What holds of the blocks of some items, of the lengths of their images, of sums of these, and of the list of their forms.
 use Rattle.std.specs.Prelude.{◌≡◌, ℕ, suc, ◌+◌, ◌*◌, ◌<◌, ◌≤◌, true, List, length, sum_by, get_or}
 use Rattle.std.specs.List.{list_all}
 use Rattle.branch_sizes.specs.declared.plan.BlockSpan.{BlockSpan}
 use Rattle.branch_sizes.specs.declared.plan.Branch.{Branch}
 use Rattle.branch_sizes.specs.declared.plan.Choice.{Choice}
-use Rattle.branch_sizes.specs.Plan.{BlockPlan, IsWellFormed, item_at, no_choice, lengths_rise_from, is_fit_reach, is_fit_goal}
-use Rattle.branch_sizes.specs.Layout.{IsLayout, AtMost, total, block_number, first_of_block, span_at, image_length}
+use Rattle.branch_sizes.specs.declared.plan.Form.TheVariants.{Itself}
+use Rattle.branch_sizes.specs.Plan.{BlockPlan, IsWellFormed, item_at, no_choice, no_branch, lengths_rise_from, is_fit_reach, is_fit_goal, forms_differ}
+use Rattle.branch_sizes.specs.Layout.{IsLayout, AtMost, total, block_number, first_of_block, span_at, image_length, forms_of}
 
 -- an item of a plan of so many
 pub record IsFit (count : ℕ) (b : Branch) : Type 0 where
@@ -14,6 +15,7 @@ pub record IsFit (count : ℕ) (b : Branch) : Type 0 where
   pub rises : lengths_rise_from 1 b.choices.items ≡ true
   pub reach : list_all (λ c. is_fit_reach c.reach) b.choices.items ≡ true
   pub goal : is_fit_goal count (length b.choices.items) b.goal ≡ true
+  pub differ : forms_differ b.choices.items ≡ true
 
 -- where the items of a block stand among all items
 pub record BlockFacts : Type 0 where
@@ -50,3 +52,11 @@ pub record TotalFacts : Type 0 where
   pub total_small : (f : ℕ → ℕ) (m : ℕ) → ((k : ℕ) → f k ≤ m) → (n : ℕ) → total f n ≤ n * m
   -- the same, taken from the front
   pub total-front : (f : ℕ → ℕ) (n : ℕ) → total f (suc n) ≡ f 0 + total (λ i. f (suc i)) n
+
+-- the forms of a layout, item by item
+pub record ChosenFacts : Type 0 where
+  -- there are as many as items
+  pub length-forms_of : (items : List Branch) (layout : List ℕ) → length layout ≡ length items → length (forms_of items layout) ≡ length items
+  -- and each is that of the item's choice
+  pub get_or-forms_of : (items : List Branch) (layout : List ℕ) (k : ℕ) → length layout ≡ length items → k < length items
+      → get_or (forms_of items layout) k Itself ≡ (get_or (get_or items k no_branch).choices.items (get_or layout k 0) no_choice).form

@@ -3,7 +3,7 @@
 ghost use Rattle.std.specs.Prelude.{◌≡◌, List, ℕ};
 ghost use Rattle.branch_sizes.specs.Plan.{BlockPlan, IsWellFormed};
 ghost use Rattle.branch_sizes.specs.Layout.{IsClosed, IsLeast, lesser};
-ghost use Rattle.branch_sizes.specs.Facts.{BlockFacts, LengthFacts, TotalFacts};
+ghost use Rattle.branch_sizes.specs.Facts.{BlockFacts, ChosenFacts, LengthFacts, TotalFacts};
 
 /// Where two layouts are closed, the lesser of them at each item is closed.
 pub fn least_of_two_is_closed()
@@ -37,4 +37,10 @@ pub fn images_are_short()
 #[inline]
 pub fn totals_rise()
     ensures { TotalFacts }
+{}
+
+/// The forms of a layout are those of the choices of its items, in order.
+#[inline]
+pub fn forms_are_chosen()
+    ensures { ChosenFacts }
 {}

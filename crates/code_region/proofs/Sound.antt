@@ -206,3 +206,68 @@ run-sound state (command ∷ commands) sound = run-sound (after state command) c
 -- a region that begins is sound
 pub opened-sound : (base size max_blocks : ℕ) → IsSound (opened base size max_blocks)
 opened-sound base size max_blocks = omega arith
+
+-- ---- by the calls
+
+pub place-sound : (state : RegionState) (len : ℕ) → IsSound state → IsSound (placed state len)
+unfolding placed
+place-sound state len sound = placed-sound state len (place_answer state len) sound refl
+
+pub released-sound : (state : RegionState) (place : ℕ) → IsSound state → IsSound (released state place)
+unfolding released
+released-sound state place sound = filter-laid _ state.base (state.base + state.size) state.live sound
+
+pub filled-sound : (state : RegionState) (place : ℕ) (bytes : List ℕ) → IsSound state → IsTrue (can_fill state place (length bytes)) → IsSound (filled state place bytes)
+unfolding filled can_fill live_block
+filled-sound state place bytes sound fits = fill-laid place state.base (state.base + state.size) bytes state.live sound fits
+
+-- ---- a place that is handed out
+
+shorter : (p : LiveBlock → Bool) (live : List LiveBlock) → length (filter p live) ≤ length live
+shorter p [] = omega arith
+shorter p (block ∷ live) =
+    let rest = shorter p live in
+    elim (p block) as (λ t. length (cond t (block ∷ filter p live) (filter p live)) ≤ length (block ∷ live)) [
+      | true ↦ omega (arith, rest)
+      | false ↦ omega (arith, rest)
+    ]
+
+fresh-find : (place : ℕ) (live : List LiveBlock) → filter (λ b. not (nat_eq b.place place)) live ≡ live → find (λ b. nat_eq b.place place) live ≡ None
+fresh-find place [] e = refl
+fresh-find place (block ∷ live) e =
+    elim (cases_Bool (nat_eq block.place place)) [
+      | inl same ↦ (
+          let f : filter (λ b. not (nat_eq b.place place)) live ≡ block ∷ live = rw same at e in
+          absurd (omega (arith, ap length f, shorter (λ b. not (nat_eq b.place place)) live)))
+      | inr differs ↦ (
+          let f : block ∷ filter (λ b. not (nat_eq b.place place)) live ≡ block ∷ live = rw differs at e in
+          let g : filter (λ b. not (nat_eq b.place place)) live ≡ live = cc in
+          rw differs (fresh-find place live g))
+    ]
+
+-- **no live block starts there**
+pub place-free : (state : RegionState) (len place : ℕ) → IsSound state → place_answer state len ≡ Ok place → live_block state place ≡ None
+unfolding live_block
+place-free state len place sound e =
+    let fits = answer-fits state len place sound e in
+    let P : ℕ → Type 0 = λ p. filter (λ b. not (nat_eq b.place p)) state.live ≡ state.live in
+    fresh-find place state.live (subst P fits.2 fits.1.fresh)
+
+put-inside : (from limit : ℕ) (block : LiveBlock) (live : List LiveBlock) → AreLaid from limit (with_block block live) → block.place + block.len ≤ limit
+put-inside from limit block [] laid = laid.3
+put-inside from limit block (other ∷ live) laid =
+    elim (cases_Bool (nat_lt block.place other.place)) [
+      | inl before ↦ (
+          let l : AreLaid from limit (block ∷ other ∷ live) = rw before at laid in
+          AreLaid-le (block.place + block.len) limit (other ∷ live) l.3)
+      | inr behind ↦ (
+          let l : AreLaid from limit (other ∷ with_block block live) = rw behind at laid in
+          put-inside (other.place + other.len) limit block live l.3)
+    ]
+
+-- **the new block ends inside the region**
+pub place-inside : (state : RegionState) (len place : ℕ) → IsSound state → place_answer state len ≡ Ok place → place + rounded len ≤ state.base + state.size
+place-inside state len place sound e =
+    let fits = answer-fits state len place sound e in
+    let P : ℕ → Type 0 = λ p. AreLaid state.base (state.base + state.size) (with_block (unfilled p (rounded len)) state.live) in
+    put-inside state.base (state.base + state.size) (unfilled place (rounded len)) state.live (subst P fits.2 fits.1.laid)

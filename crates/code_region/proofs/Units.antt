@@ -1,6 +1,5 @@
 -- Live blocks stand and are long in units of 16 bytes.
-use Rattle.std.proofs.Common.{◌≡◌, ℕ, zero, suc, ◌+◌, ◌-◌, ◌*◌, ◌/◌, ◌%◌, ◌^◌, ◌≤◌, ◌<◌, List, [], ◌∷◌, length, get_or, map, filter, replicate, arith, sym, subst, ap, ◌∙◌, refl, Bool, true, false, Option, Some, None, Result, Ok, Err, cond, nat_eq, nat_le, nat_lt, not, inl, inr}
-use Rattle.std.proofs.lemmas.Bool.{cases_Bool}
+use Rattle.std.proofs.Common.{◌≡◌, ℕ, zero, suc, ◌+◌, ◌-◌, ◌*◌, ◌/◌, ◌%◌, ◌^◌, ◌≤◌, ◌<◌, List, [], ◌∷◌, length, get_or, map, filter, replicate, arith, sym, subst, refl, Bool, true, false, Some, None, Result, Ok, Err, cond, nat_eq, nat_le, nat_lt}
 use Rattle.std.specs.Prelude.{if◌then◌else◌}
 use Rattle.code_region.specs.declared.gaps.Span.{Span}
 use Rattle.code_region.specs.declared.commands.Command.{Command}
@@ -15,7 +14,7 @@ use Rattle.code_region.specs.Filling.{with_content, can_fill, filled}
 use Rattle.code_region.specs.Running.{filled_if, after, run}
 use Rattle.code_region.specs.Keeping.{AreLaid, IsSound}
 use Rattle.code_region.specs.Laws.{AreInUnits}
-use Rattle.code_region.proofs.Sound.{answer-finds, after-sound, opened-sound}
+use Rattle.code_region.proofs.Sound.{answer-finds, after-sound}
 
 -- a block in units behind a base
 abbrev pub IsUnits : ℕ → LiveBlock → Type 0
@@ -25,7 +24,7 @@ abbrev pub AreUnits : ℕ → List LiveBlock → Type 0
 AreUnits base [] = Unit {0}
 AreUnits base (block ∷ live) = IsUnits base block × AreUnits base live
 
-pub units-all : (base : ℕ) (live : List LiveBlock) (k : ℕ) (d : LiveBlock) → AreUnits base live → k < length live → IsUnits base (get_or live k d)
+units-all : (base : ℕ) (live : List LiveBlock) (k : ℕ) (d : LiveBlock) → AreUnits base live → k < length live → IsUnits base (get_or live k d)
 units-all base [] k d u h = absurd (omega arith)
 units-all base (block ∷ live) zero d u h = u.0
 units-all base (block ∷ live) (suc k) d u h = units-all base live k d u.1 (omega arith)
@@ -66,8 +65,8 @@ gap-units base from limit len (block ∷ live) gap le at laid u e =
           gap-units base (block.place + block.len) limit len live gap (omega (arith, p)) (omega (arith, p, u.0.0, u.0.1)) laid.3 u.1 h
     ] e
 
--- **a place stands in units behind the base**
-pub place-units : (state : RegionState) (len place : ℕ) → IsSound state → AreUnits state.base state.live → place_answer state len ≡ Ok place
+-- a place stands in units behind the base
+place-units : (state : RegionState) (len place : ℕ) → IsSound state → AreUnits state.base state.live → place_answer state len ≡ Ok place
     → (state.base ≤ place) × ((place - state.base) % 16 ≡ 0)
 unfolding gaps_of
 place-units state len place sound u e =
@@ -85,13 +84,13 @@ with_block-units base block (other ∷ live) b u =
     ]
 
 -- each command keeps the units
-pub placed-units : (state : RegionState) (len : ℕ) (answer : Result ℕ PlaceError) → IsSound state → AreUnits state.base state.live → place_answer state len ≡ answer
+placed-units : (state : RegionState) (len : ℕ) (answer : Result ℕ PlaceError) → IsSound state → AreUnits state.base state.live → place_answer state len ≡ answer
     → AreUnits state.base (placed_as answer state len).live
 placed-units state len (Ok place) sound u e =
     with_block-units state.base (unfilled place (rounded len)) state.live ((place-units state len place sound u e).1, rounded-units len) u
 placed-units state len (Err why) sound u e = u
 
-pub filter-units : (base : ℕ) (p : LiveBlock → Bool) (live : List LiveBlock) → AreUnits base live → AreUnits base (filter p live)
+filter-units : (base : ℕ) (p : LiveBlock → Bool) (live : List LiveBlock) → AreUnits base live → AreUnits base (filter p live)
 filter-units base p [] u = tt
 filter-units base p (block ∷ live) u =
     elim (p block) as (λ t. AreUnits base (cond t (block ∷ filter p live) (filter p live))) [
@@ -99,7 +98,7 @@ filter-units base p (block ∷ live) u =
       | false ↦ filter-units base p live u.1
     ]
 
-pub fill-units : (base place : ℕ) (bytes : List ℕ) (live : List LiveBlock) → AreUnits base live
+fill-units : (base place : ℕ) (bytes : List ℕ) (live : List LiveBlock) → AreUnits base live
     → AreUnits base (map (λ block. if nat_eq block.place place then with_content bytes block else block) live)
 fill-units base place bytes [] u = tt
 fill-units base place bytes (block ∷ live) u = (by_test (nat_eq block.place place), fill-units base place bytes live u.1)
@@ -140,9 +139,38 @@ run-units state (command ∷ commands) sound u =
     run-units (after state command) commands (after-sound state command sound)
     (subst (λ (b : ℕ). AreUnits b (after state command).live) (sym (after-base state command)) (after-units state command sound u))
 
--- **after any list of commands the blocks stand in units**
-pub run-in_units : (base size max_blocks : ℕ) (commands : List Command) → AreInUnits (run (opened base size max_blocks) commands)
-run-in_units base size max_blocks commands =
-    let state = run (opened base size max_blocks) commands in
-    let u = run-units (opened base size max_blocks) commands (opened-sound base size max_blocks) tt in
-    λ k d h. units-all state.base state.live k d u h
+-- ---- by the calls
+
+all-units : (base : ℕ) (live : List LiveBlock) → ((k : ℕ) (d : LiveBlock) → k < length live → IsUnits base (get_or live k d)) → AreUnits base live
+all-units base [] h = tt
+all-units base (block ∷ live) h = (h 0 block (omega arith), all-units base live (λ k d lt. h (suc k) d (omega arith)))
+
+in_units : (base : ℕ) (state : RegionState) → state.base ≡ base → AreUnits base state.live → AreInUnits state
+in_units base state e u = λ k d h. units-all state.base state.live k d (subst (λ (b : ℕ). AreUnits b state.live) (sym e) u) h
+
+pub opened-in_units : (base size max_blocks : ℕ) → AreInUnits (opened base size max_blocks)
+opened-in_units base size max_blocks = in_units base (opened base size max_blocks) refl tt
+
+pub placed-in_units : (state : RegionState) (len : ℕ) → IsSound state → AreInUnits state → AreInUnits (placed state len)
+unfolding placed
+placed-in_units state len sound u =
+    in_units state.base (placed state len) (placed-base state len (place_answer state len))
+    (placed-units state len (place_answer state len) sound (all-units state.base state.live u) refl)
+
+pub released-in_units : (state : RegionState) (place : ℕ) → AreInUnits state → AreInUnits (released state place)
+unfolding released
+released-in_units state place u = in_units state.base (released state place) refl (filter-units state.base _ state.live (all-units state.base state.live u))
+
+pub filled-in_units : (state : RegionState) (place : ℕ) (bytes : List ℕ) → AreInUnits state → AreInUnits (filled state place bytes)
+unfolding filled
+filled-in_units state place bytes u = in_units state.base (filled state place bytes) refl (fill-units state.base place bytes state.live (all-units state.base state.live u))
+
+-- **blocks that stand in units do so after any list of commands**
+pub run-in_units : (state : RegionState) (commands : List Command) → IsSound state → AreInUnits state → AreInUnits (run state commands)
+run-in_units state commands sound u =
+    in_units (run state commands).base (run state commands) refl (run-units state commands sound (all-units state.base state.live u))
+
+-- **a place stands in units behind the base, where the live blocks do**
+pub place-in_units : (state : RegionState) (len place : ℕ) → IsSound state → AreInUnits state → place_answer state len ≡ Ok place
+    → (state.base ≤ place) × ((place - state.base) % 16 ≡ 0)
+place-in_units state len place sound u e = place-units state len place sound (all-units state.base state.live u) e

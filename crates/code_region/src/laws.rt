@@ -1,43 +1,73 @@
-//! Laws of a region, over every list of commands.
+//! Laws of a region: what holds of every sound one, and that regions stay sound.
 
-ghost use Rattle.std.specs.Prelude.{◌≡◌, ℕ, List, Ok};
+ghost use Rattle.std.specs.Prelude.{◌≡◌, ℕ, List, length, Ok, IsTrue};
 ghost use Rattle.code_region.specs.declared.commands.Command.{Command};
 ghost use Rattle.code_region.specs.Opening.{opened};
-ghost use Rattle.code_region.specs.Placing.{place_answer};
+ghost use Rattle.code_region.specs.Placing.{place_answer, placed};
+ghost use Rattle.code_region.specs.Releasing.{released};
+ghost use Rattle.code_region.specs.Filling.{can_fill, filled};
 ghost use Rattle.code_region.specs.Running.{run};
-ghost use Rattle.code_region.specs.State.{image_of};
-ghost use Rattle.code_region.specs.Facts.{PlaceFacts};
+ghost use Rattle.code_region.specs.State.{RegionState, image_of};
+ghost use Rattle.code_region.specs.Keeping.{IsSound};
+ghost use Rattle.code_region.specs.Facts.{PlaceFacts, RegionFacts};
 ghost use Rattle.code_region.specs.Laws.{AreInside, AreDisjoint, AreInUnits, HoldsContents, Restores};
 
-/// After any list of commands each live block is inside the region.
+/// A region is sound as it begins, and stays so with each request for a place, each release and each fill, whatever the bytes: so also after any list
+/// of commands.
+pub fn regions_stay_sound()
+    ensures opened { (base size max_blocks : ℕ) → IsSound (opened base size max_blocks) }
+    ensures placed { (state : RegionState) (len : ℕ) → IsSound state → IsSound (placed state len) }
+    ensures released { (state : RegionState) (place : ℕ) → IsSound state → IsSound (released state place) }
+    ensures filled { (state : RegionState) (place : ℕ) (bytes : List ℕ) → IsSound state → IsTrue (can_fill state place (length bytes)) → IsSound (filled state place bytes) }
+    ensures run { (state : RegionState) (commands : List Command) → IsSound state → IsSound (run state commands) }
+{}
+
+/// In a sound region each live block is inside the region.
 pub fn live_blocks_stay_inside()
-    ensures { (base size max_blocks : ℕ) (commands : List Command) → AreInside (run (opened base size max_blocks) commands) }
+    ensures { (state : RegionState) → IsSound state → AreInside state }
 {}
 
-/// After any list of commands no live block stands over another.
+/// In a sound region no live block stands over another.
 pub fn live_blocks_stay_disjoint()
-    ensures { (base size max_blocks : ℕ) (commands : List Command) → AreDisjoint (run (opened base size max_blocks) commands) }
+    ensures { (state : RegionState) → IsSound state → AreDisjoint state }
 {}
 
-/// After any list of commands each live block stands a multiple of 16 bytes behind the base, and takes a multiple of 16 bytes.
+/// Each live block stands a multiple of 16 bytes behind the base, and takes a multiple of 16 bytes: this holds of a region as it begins, and stays so with
+/// each request for a place, each release, each fill and each list of commands.
 pub fn live_blocks_stay_in_units()
-    ensures { (base size max_blocks : ℕ) (commands : List Command) → AreInUnits (run (opened base size max_blocks) commands) }
+    ensures opened { (base size max_blocks : ℕ) → AreInUnits (opened base size max_blocks) }
+    ensures placed { (state : RegionState) (len : ℕ) → IsSound state → AreInUnits state → AreInUnits (placed state len) }
+    ensures released { (state : RegionState) (place : ℕ) → AreInUnits state → AreInUnits (released state place) }
+    ensures filled { (state : RegionState) (place : ℕ) (bytes : List ℕ) → AreInUnits state → AreInUnits (filled state place bytes) }
+    ensures run { (state : RegionState) (commands : List Command) → IsSound state → AreInUnits state → AreInUnits (run state commands) }
 {}
 
-/// After any list of commands the image has the content of each live block at its place, and INT3 elsewhere.
+/// The image of a sound region has the content of each live block at its place, and INT3 elsewhere.
 pub fn image_holds_contents()
-    ensures { (base size max_blocks : ℕ) (commands : List Command) → let state = run (opened base size max_blocks) commands in HoldsContents state (image_of state) }
+    ensures { (state : RegionState) → IsSound state → HoldsContents state (image_of state) }
 {}
 
-/// After any list of commands, a place that is handed out and released at once leaves blocks and bytes as they were,
+/// In a sound region, a place that is handed out and released at once leaves blocks and bytes as they were,
 /// and the same request is answered with the same place again.
 pub fn release_restores()
-    ensures { (base size max_blocks : ℕ) (commands : List Command) (len place : ℕ)
-        → place_answer (run (opened base size max_blocks) commands) len ≡ Ok place
-        → Restores (run (opened base size max_blocks) commands) len place }
+    ensures { (state : RegionState) (len place : ℕ) → IsSound state → place_answer state len ≡ Ok place → Restores state len place }
 {}
 
-/// A place is handed out only where a gap is long enough.
+/// A place is handed out only where a gap is long enough: no live block starts there, and the new one ends inside the region and stands in units of 16
+/// bytes, as the live blocks do.
+#[inline]
 pub fn places_are_gaps()
     ensures { PlaceFacts }
 {}
+
+/// The laws of sound regions as one record.
+#[inline]
+pub fn sound_regions_keep_their_laws()
+    ensures { RegionFacts }
+{
+    regions_stay_sound();
+    live_blocks_stay_inside();
+    live_blocks_stay_disjoint();
+    image_holds_contents();
+    release_restores();
+}

@@ -2,3 +2,4 @@ pub mod Bytes
 pub mod OverTable
 pub mod Causes
 pub mod Suited
+pub mod Spelled

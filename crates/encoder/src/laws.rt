@@ -7,7 +7,7 @@ ghost use Rattle.row_relation.specs.Spells.{Spells, SpellsUnbounded};
 ghost use Rattle.plain_spelling.specs.Expressible.{failure_of};
 ghost use Rattle.plain_laws.specs.Plain.{IsPlainlySpelled, has_target};
 ghost use Rattle.opcode_rows.specs.Table.{table};
-ghost use Rattle.encoder.specs.Facts.{EncodingFacts};
+ghost use Rattle.encoder.specs.Facts.{EncodingFacts, SpelledFacts};
 
 /// The ten conditions hold exactly where a plain spelling of at most 15 bytes exists.
 pub fn ten_conditions_are_exact()
@@ -37,4 +37,11 @@ pub fn without_target_spelled_is_plain()
 #[inline]
 pub fn encodings_are_plain()
     ensures { EncodingFacts }
+{}
+
+/// What is spelled meets every condition but the reach of its targets, and its plain spelling is not longer; what as many bytes spell has that as its
+/// encoding, which is as long.
+#[inline]
+pub fn spelled_meets_conditions()
+    ensures { SpelledFacts }
 {}

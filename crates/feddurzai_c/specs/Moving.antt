@@ -1,5 +1,5 @@
 -- What moving some code answers, and what it leaves in the rooms.
-use Rattle.std.specs.Prelude.{◌≡◌, ◌⊎◌, ℕ, ◌+◌, ◌%◌, ◌^◌, ◌<◌, ◌≤◌, nat_le, true, false, ◌&&◌, ℤ, pos, List, [], ◌∷◌, ◌++◌, length, drop, map, slice_index_or, Option, Some, None, Result, Ok, Err, if◌then◌else◌}
+use Rattle.std.specs.Prelude.{◌≡◌, ◌⊎◌, ℕ, ◌+◌, ◌%◌, ◌^◌, ◌<◌, ◌≤◌, nat_le, ◌==◌, true, false, ◌&&◌, ℤ, pos, List, [], ◌∷◌, ◌++◌, length, drop, map, slice_index_or, Option, Some, None, Result, Ok, Err, if◌then◌else◌}
 use Rattle.std.specs.List.{range_with_len}
 use Rattle.x86_values.specs.declared.Bits.{Bits}
 use Rattle.x86_values.specs.declared.Decoded.{Decoded}
@@ -97,32 +97,36 @@ IsReadRefusal bits old bytes (BadCode at e) = StopsAt bits old bytes at e
 IsReadRefusal bits old bytes Memory = Unit {0}
 IsReadRefusal bits old bytes _ = ⊥
 
+-- the address behind the old code; no bytes are an empty block, whose old end is its new base
+abbrev pub code_end : ℕ → List ℕ → ℕ → ℕ
+code_end old bytes new = if length bytes == 0 then new else (old + length bytes)
+
 -- the code is short, and ends inside the address space of the mode
-pub record IsTaken (bits : Bits) (old : ℕ) (bytes : List ℕ) : Type 0 where
+pub record IsTaken (bits : Bits) (old : ℕ) (bytes : List ℕ) (new : ℕ) : Type 0 where
   pub short : length bytes ≤ 1048576
-  pub inside : passes bits (old + length bytes) ≡ false
+  pub inside : passes bits (code_end old bytes new) ≡ false
 
 -- its instructions are read and moved, or their moving is refused
 pub record IsMovedAs (bits : Bits) (old : ℕ) (bytes : List ℕ) (new : ℕ) (answer : Result MovedCode MoveRefusal) : Type 0 where
-  pub taken : IsTaken bits old bytes
+  pub taken : IsTaken bits old bytes new
   pub items : List Placed
   pub read : AreItemsOf bits old bytes items
   pub is : IsItemsAnswer bits items new answer
 
 -- the code ends past the address space
-pub record IsOldPass (bits : Bits) (old : ℕ) (bytes : List ℕ) (end : ℕ) : Type 0 where
+pub record IsOldPass (bits : Bits) (old : ℕ) (bytes : List ℕ) (new end : ℕ) : Type 0 where
   pub short : length bytes ≤ 1048576
-  pub end_is : end ≡ old + length bytes
+  pub end_is : end ≡ code_end old bytes new
   pub passes_space : passes bits end ≡ true
 
 -- the moved code, or why it is not moved
 abbrev pub IsMoveAnswerIn : Bits → ℕ → List ℕ → ℕ → Result MovedCode MoveRefusal → Type 0
 IsMoveAnswerIn bits old bytes new (Ok m) = IsMovedAs bits old bytes new (Ok m)
 IsMoveAnswerIn bits old bytes new (Err TooLarge) = 1048576 < length bytes
-IsMoveAnswerIn bits old bytes new (Err (BadCode at e)) = IsTaken bits old bytes × StopsAt bits old bytes at e
-IsMoveAnswerIn bits old bytes new (Err Memory) = IsTaken bits old bytes
+IsMoveAnswerIn bits old bytes new (Err (BadCode at e)) = IsTaken bits old bytes new × StopsAt bits old bytes at e
+IsMoveAnswerIn bits old bytes new (Err Memory) = IsTaken bits old bytes new
 IsMoveAnswerIn bits old bytes new (Err (TooMany count)) = IsMovedAs bits old bytes new (Err (TooMany count))
-IsMoveAnswerIn bits old bytes new (Err (Wraps end)) = IsOldPass bits old bytes end ⊎ IsMovedAs bits old bytes new (Err (Wraps end))
+IsMoveAnswerIn bits old bytes new (Err (Wraps end)) = IsOldPass bits old bytes new end ⊎ IsMovedAs bits old bytes new (Err (Wraps end))
 IsMoveAnswerIn bits old bytes new (Err (TooFar at target)) = IsMovedAs bits old bytes new (Err (TooFar at target))
 IsMoveAnswerIn bits old bytes new (Err Mode) = ⊥
 IsMoveAnswerIn bits old bytes new (Err Room) = ⊥

@@ -4,6 +4,7 @@ use Rattle.std.proofs.lemmas.Bool.{not-false, eqb-true, or_cases, false≢true}
 use Rattle.std.specs.Prelude.{◌==◌}
 use Rattle.x86_values.specs.declared.Bits.{Bits}
 use Rattle.branch_sizes.specs.declared.plan.BlockSpan.{BlockSpan}
+use Rattle.branch_sizes.specs.Facts.{BlockFacts}
 use Rattle.branch_sizes.specs.Layout.{span_at, first_of_block}
 use Rattle.moved_targets.specs.Targets.{target_of}
 use Rattle.move_goals.specs.declared.items.Placed.{Placed}
@@ -24,7 +25,7 @@ among : (own other all : Option ℕ) (t : ℕ) → (own ≡ None → other ≡ a
 among (Some j) other all t h = refl
 among None other all t h = ap (λ o. goal_among None o t) (sym (h refl))
 
-module _ (items : List Placed) (spans : List BlockSpan) (s : AreSpansOf items spans) (b start : ℕ) (bl : b < length spans)
+module _ (blocks : BlockFacts) (items : List Placed) (spans : List BlockSpan) (s : AreSpansOf items spans) (b start : ℕ) (bl : b < length spans)
     (e : start ≡ first_of_block spans b) where
   -- ---- the order
 
@@ -33,11 +34,11 @@ module _ (items : List Placed) (spans : List BlockSpan) (s : AreSpansOf items sp
     follows : (i j : ℕ) → j ≡ i + 1 → start ≤ i → j < start + (span_at spans b).count → (item_at items j).ip ≡ old_end (item_at items i)
     unfolding first_disorder
     follows i j next from below =
-        let len : j < length items = omega (arith, end_below items spans s b start bl e) in
+        let len : j < length items = omega (arith, end_below blocks items spans s b start bl e) in
         let before : j - 1 ≡ i = omega arith in
         let in_order : is_in_order spans items j ≡ true =
         not-false (is_in_order spans items j) (none_below (λ n. not (is_in_order spans items n)) (length items) order j len) in
-        let begins : begins_block spans j ≡ false = begins_not items spans s b start bl e j (omega arith) below in
+        let begins : begins_block spans j ≡ false = begins_not blocks items spans s b start bl e j (omega arith) below in
         subst (λ n. (item_at items j).ip ≡ old_end (item_at items n)) before
         (elim (or_cases (begins_block spans j) ((item_at items j).ip == old_end (item_at items (j - 1))) in_order) [
           | inl first ↦ absurd (false≢true (sym begins ∙ first))
@@ -45,7 +46,7 @@ module _ (items : List Placed) (spans : List BlockSpan) (s : AreSpansOf items sp
         ])
 
     some_bytes : (i : ℕ) → i < start + (span_at spans b).count → 1 ≤ (item_at items i).len
-    some_bytes i below = (placed i (omega (arith, below, end_below items spans s b start bl e))).some
+    some_bytes i below = (placed i (omega (arith, below, end_below blocks items spans s b start bl e))).some
 
     -- the addresses ascend
     later : (i d j : ℕ) → j ≡ i + suc d → start ≤ i → j < start + (span_at spans b).count → (item_at items i).ip < (item_at items j).ip
@@ -69,13 +70,13 @@ module _ (items : List Placed) (spans : List BlockSpan) (s : AreSpansOf items sp
     own_is =
         first_below_congr (λ j. is_in_block_of spans k j && begins_at items t j)
         (λ j. is_between start (start + (span_at spans b).count) j && begins_at items t j) (length items)
-        (λ j lt. ap (λ x. x && begins_at items t j) (same_block items spans s b start bl e k from below j lt))
+        (λ j lt. ap (λ x. x && begins_at items t j) (same_block blocks items spans s b start bl e k from below j lt))
 
     other_is : first_between items start (start + (span_at spans b).count) t ≡ None → other_item spans items k t ≡ first_below (begins_at items t) (length items)
     unfolding other_item
     other_is none =
         first_below_congr (λ j. not (is_in_block_of spans k j) && begins_at items t j) (begins_at items t) (length items)
-        (λ j lt. ap (λ x. not x && begins_at items t j) (same_block items spans s b start bl e k from below j lt)
+        (λ j lt. ap (λ x. not x && begins_at items t j) (same_block blocks items spans s b start bl e k from below j lt)
         ∙ outside_only (is_between start (start + (span_at spans b).count) j) (begins_at items t j)
         (none_below (λ i. is_between start (start + (span_at spans b).count) i && begins_at items t i) (length items) none j lt))
 

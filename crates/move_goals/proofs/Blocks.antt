@@ -4,21 +4,21 @@ use Rattle.std.proofs.lemmas.Bool.{cases_lt, eq-eqb, ne_eqb, lt-ltb, le-ltb, lt-
 use Rattle.std.specs.Prelude.{◌==◌, if◌then◌else◌, nat_le, nat_lt}
 use Rattle.branch_sizes.specs.declared.plan.BlockSpan.{BlockSpan}
 use Rattle.branch_sizes.specs.Layout.{block_number, span_at, first_of_block}
-use Rattle.branch_sizes.proofs.Totals.{total_rises, first_of_end, first_le, block_at, within_block}
+use Rattle.branch_sizes.specs.Facts.{BlockFacts}
 use Rattle.move_goals.specs.declared.items.Placed.{Placed}
 use Rattle.move_goals.specs.Items.{AreSpansOf, item_at, old_end, begins_block, is_in_order, block_old_end}
 use Rattle.move_goals.specs.Goals.{is_in_block_of}
 use Rattle.move_goals.specs.Starts.{is_between}
 
-module _ (items : List Placed) (spans : List BlockSpan) (s : AreSpansOf items spans) where
+module _ (blocks : BlockFacts) (items : List Placed) (spans : List BlockSpan) (s : AreSpansOf items spans) where
   -- behind the last block all items have passed
   pub end_is : (b : ℕ) → b ≡ length spans → first_of_block spans b ≡ length items
-  end_is b e = omega (arith, ap (first_of_block spans) e, first_of_end spans, s.counts)
+  end_is b e = omega (arith, ap (first_of_block spans) e, blocks.first_of_end spans, s.counts)
 
   module _ (b start : ℕ) (bl : b < length spans) (e : start ≡ first_of_block spans b) where
     -- a block ends at or before the end of all items
     pub end_below : start + (span_at spans b).count ≤ length items
-    end_below = omega (arith, e, total_rises (λ n. (span_at spans n).count) (suc b) (length spans) bl, first_of_end spans, s.counts)
+    end_below = omega (arith, e, blocks.first_below spans b bl, s.counts)
 
     -- where a block has not all items there is another one
     pub other_block : start + (span_at spans b).count - start < length items → 1 < length spans
@@ -32,7 +32,7 @@ module _ (items : List Placed) (spans : List BlockSpan) (s : AreSpansOf items sp
 
     -- where its items have their first item
     first_is : (k : ℕ) → start ≤ k → k < start + (span_at spans b).count → first_of_block spans (block_number spans k) ≡ start
-    first_is k le lt = ap (first_of_block spans) (block_at spans b k bl (omega (arith, e)) (omega (arith, e))) ∙ sym e
+    first_is k le lt = ap (first_of_block spans) (blocks.block_at spans b k bl (omega (arith, e)) (omega (arith, e))) ∙ sym e
 
     -- the first item of a block is in order
     pub first_ordered : ((j : ℕ) → j < start → is_in_order spans items j ≡ true)
@@ -65,19 +65,19 @@ module _ (items : List Placed) (spans : List BlockSpan) (s : AreSpansOf items sp
 
     module _ (k : ℕ) (from : start ≤ k) (below : k < start + (span_at spans b).count) where
       number_is : block_number spans k ≡ b
-      number_is = block_at spans b k bl (omega (arith, e)) (omega (arith, e))
+      number_is = blocks.block_at spans b k bl (omega (arith, e)) (omega (arith, e))
 
       -- an item of no other block stands between the first item of the block and its end
       not_outside : (j : ℕ) → j < length items → (j < start) ⊎ (start + (span_at spans b).count ≤ j) → block_number spans j ≡ block_number spans k → ⊥
       not_outside j lt outside same =
           let at : block_number spans j ≡ b = same ∙ number_is in
-          let low : start ≤ j = omega (arith, e, ap (first_of_block spans) at, first_le spans j) in
+          let low : start ≤ j = omega (arith, e, ap (first_of_block spans) at, blocks.first_le spans j) in
           let high : j < start + (span_at spans b).count = omega (
             arith,
             e,
             ap (first_of_block spans) at,
             ap (λ n. (span_at spans n).count) at,
-            within_block spans j (omega (arith, lt, s.counts)),
+            blocks.within_block spans j (omega (arith, lt, s.counts)),
           ) in
           elim outside [ inl l ↦ omega arith | inr g ↦ omega arith ]
 
@@ -90,7 +90,7 @@ module _ (items : List Placed) (spans : List BlockSpan) (s : AreSpansOf items sp
                 ∙ sym (and_left (nat_le start j) (nat_lt j (start + (span_at spans b).count)) (lt-leb start j l))
             | inr ge ↦ elim (cases_lt j (start + (span_at spans b).count)) [
               | inl l ↦
-                  eq-eqb (block_number spans j) (block_number spans k) (block_at spans b j bl (omega (arith, e)) (omega (arith, e)) ∙ sym number_is)
+                  eq-eqb (block_number spans j) (block_number spans k) (blocks.block_at spans b j bl (omega (arith, e)) (omega (arith, e)) ∙ sym number_is)
                   ∙ sym (and_from (nat_le start j) (nat_lt j (start + (span_at spans b).count)) (le-leb start j ge) (lt-ltb j (start + (span_at spans b).count) l))
               | inr g ↦
                   ne_eqb (block_number spans j) (block_number spans k) (not_outside j lt (inr g))

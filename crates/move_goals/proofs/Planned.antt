@@ -14,12 +14,13 @@ use Rattle.branch_sizes.specs.declared.plan.BlockSpan.{BlockSpan}
 use Rattle.branch_sizes.specs.declared.plan.Branch.{Branch}
 use Rattle.branch_sizes.specs.declared.plan.Choice.{Choice}
 use Rattle.branch_sizes.specs.declared.plan.Goal.{Goal}
+use Rattle.branch_sizes.specs.Facts.{BlockFacts}
 use Rattle.branch_sizes.specs.Layout.{span_at, first_of_block}
 use Rattle.branch_sizes.specs.Plan.{is_fit_goal, is_fit_branch, IsWellFormed}
 use Rattle.moved_targets.specs.Targets.{target_of}
 use Rattle.branch_forms.specs.Branches.{branch_of, branch_by}
 use Rattle.branch_forms.specs.Choices.{choices_of, choices_by}
-use Rattle.branch_forms.proofs.Fit.{spelled-fit}
+use Rattle.branch_forms.specs.Facts.{FormFacts}
 use Rattle.move_goals.specs.declared.items.Placed.{Placed}
 use Rattle.move_goals.specs.Items.{AreSpansOf, ArePlaced, item_at, one_span}
 use Rattle.move_goals.specs.Goals.{own_item, other_item, goal_among, goal_of_target, goal_of, goal_at}
@@ -79,14 +80,14 @@ goal_fits bits spans items k i (Some t) is = target_below spans items k t (lengt
 
 -- ---- the items
 
-module _ (bits : Bits) (spans : List BlockSpan) (items : List Placed) (placed : ArePlaced bits items) (goals : ℕ → Goal)
+module _ (forms : FormFacts) (bits : Bits) (spans : List BlockSpan) (items : List Placed) (placed : ArePlaced bits items) (goals : ℕ → Goal)
     (fit : (k : ℕ) → is_fit_goal (length items) (length (choices_of bits (item_at items k).instr)) (goals k) ≡ true) where
   fit_item : (k : ℕ) → k < length items → is_fit_branch (length items) (branch_with bits items goals k) ≡ true
   fit_item k lt =
       let p = placed k lt in
       let i = (item_at items k).instr in
       let cs = choices_of bits i in
-      let h = spelled-fit bits (wrapped bits (item_at items k).ip) p.bytes i p.spelled in
+      let h = forms.spelled-fit bits (wrapped bits (item_at items k).ip) p.bytes i p.spelled in
       and_from _ _ (and_from _ _ (lt-ltb 0 (length cs) h.0) (le-leb (length cs) 3 h.1))
       (and_from _ _ h.2 (and_from _ _ h.3 (and_from _ _ (fit k) h.4)))
 
@@ -104,10 +105,10 @@ module _ (bits : Bits) (spans : List BlockSpan) (items : List Placed) (placed : 
             (all_of_range (is_fit_branch (length items)) (branch_with bits items goals) 0 (length items) (λ k le lt. fit_item k (omega (arith, lt))));
       }
 
-pub well_formed : (bits : Bits) (spans : List BlockSpan) (items : List Placed) → ArePlaced bits items → length items ≤ 65536 → AreSpansOf items spans
+pub well_formed : (forms : FormFacts) (bits : Bits) (spans : List BlockSpan) (items : List Placed) → ArePlaced bits items → length items ≤ 65536 → AreSpansOf items spans
     → IsWellFormed (plan_for bits spans items)
-well_formed bits spans items placed few s =
-    well_formed_with bits spans items placed (goal_at spans items)
+well_formed forms bits spans items placed few s =
+    well_formed_with forms bits spans items placed (goal_at spans items)
     (λ k. goal_fits bits spans items k (item_at items k).instr (target_of (item_at items k).instr) refl) few s
 
 -- ---- targets that stay
@@ -120,18 +121,18 @@ kept_fits bits count i (Some t) is = refl
 pub one_span-of : (items : List Placed) (new_base : ℕ) → AreSpansOf items (one_span items new_base)
 one_span-of items new_base = record { few = omega arith; counts = zero-add (length items) }
 
-pub outside-fit : (bits : Bits) (items : List Placed) (new_base : ℕ) → ArePlaced bits items → length items ≤ 65536
+pub outside-fit : (forms : FormFacts) (bits : Bits) (items : List Placed) (new_base : ℕ) → ArePlaced bits items → length items ≤ 65536
     → IsWellFormed (plan_outside bits items new_base)
-outside-fit bits items new_base placed few =
-    well_formed_with bits (one_span items new_base) items placed (kept_goals items)
+outside-fit forms bits items new_base placed few =
+    well_formed_with forms bits (one_span items new_base) items placed (kept_goals items)
     (λ k. kept_fits bits (length items) (item_at items k).instr (target_of (item_at items k).instr) refl) few (one_span-of items new_base)
 
 -- the item of a plan, found from the items of its block
-pub planned_item : (bits : Bits) (items : List Placed) (spans : List BlockSpan) → AreSpansOf items spans → (b start : ℕ) → b < length spans
+pub planned_item : (blocks : BlockFacts) (bits : Bits) (items : List Placed) (spans : List BlockSpan) → AreSpansOf items spans → (b start : ℕ) → b < length spans
     → start ≡ first_of_block spans b → (k : ℕ) → start ≤ k → k < start + (span_at spans b).count
     → branch_between bits items start (start + (span_at spans b).count) k ≡ branch_at bits spans items k
-planned_item bits items spans s b start bl e k from below =
-    ap (λ g. the_branch (choices_of bits (item_at items k).instr) g) (goal_at_is items spans s b start bl e k from below)
+planned_item blocks bits items spans s b start bl e k from below =
+    ap (λ g. the_branch (choices_of bits (item_at items k).instr) g) (goal_at_is blocks items spans s b start bl e k from below)
   where
     the_branch : List Choice → Goal → Branch
     the_branch cs g = record { choices = record { items = cs }; goal = g }

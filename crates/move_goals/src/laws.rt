@@ -12,4 +12,6 @@ pub fn first_numbers_pass()
 #[inline]
 pub fn plans_are_well_formed()
     ensures { PlanFacts }
-{}
+{
+    branch_forms::laws::forms_are_fit();
+}

@@ -28,6 +28,7 @@ pub fn first_disorder(items: &[Placed], spans: &[BlockSpan]) -> Option<usize>
     requires { spec.AreSpansOf items.now spans.now }
     ensures { result ≡ spec.first_disorder spans.now items.now }
 {
+    branch_sizes::laws::blocks_have_all_items();
     let mut start: usize = 0;
     for span in spans {
         let end = start + span.count as usize;
@@ -69,6 +70,7 @@ pub fn first_old_pass(bits: Bits, items: &[Placed], spans: &[BlockSpan]) -> Opti
     requires { spec.AreSpansOf items.now spans.now }
     ensures { result ≡ spec.first_old_pass bits spans.now items.now }
 {
+    branch_sizes::laws::blocks_have_all_items();
     let mut start: usize = 0;
     for span in spans {
         let end = block_old_end(items, span, start);

@@ -45,6 +45,7 @@ pub fn plan_outside(
     requires placed { ArePlaced bits items.now }
     ensures { IfOk result (λ plan. plan ≡ spec.plan_outside bits items.now new_base) }
 {
+    branch_forms::laws::forms_are_fit();
     let mut branches = Vec::with_capacity(alloc, items.len())?;
     'items: for k in 0..items.len() {
         branches.push(kept_branch(bits, items, k))?;

@@ -50,6 +50,7 @@ fn branches_of(
     requires order { old.first_disorder spans.now items.now ≡ None }
     ensures { IfOk result (λ branches. branches.items ≡ (spec.plan_for bits spans.now items.now).items) }
 {
+    branch_sizes::laws::blocks_have_all_items();
     let starts = starts_of(alloc, items, spans)?;
     let mut branches = Vec::with_capacity(alloc, items.len())?;
     let mut from: usize = 0;
@@ -78,6 +79,7 @@ pub fn plan_for(
     requires order { old.first_disorder spans.now items.now ≡ None }
     ensures { IfOk result (λ plan. plan ≡ spec.plan_for bits spans.now items.now) }
 {
+    branch_forms::laws::forms_are_fit();
     let branches = branches_of(alloc, bits, items, spans)?;
     Ok(Plan::of_blocks(Vec::from_slice(alloc, spans)?, branches))
 }

@@ -6,7 +6,8 @@ use Rattle.std.proofs.lemmas.List.{append-nil}
 use Rattle.std.proofs.lemmas.Grind.{flat_map-append}
 use Rattle.std.specs.List.{flat_map, range_with_len}
 use Rattle.std.specs.Prelude.{◌==◌}
-use Rattle.branch_sizes.specs.Plan.{BlockPlan, IsWellFormed}
+use Rattle.branch_sizes.specs.Plan.{BlockPlan}
+use Rattle.branch_sizes.specs.Facts.{BlockFacts}
 use Rattle.branch_sizes.specs.Layout.{block_number, first_of_block, span_at, chosen, place}
 use Rattle.move_layout.specs.declared.layout.Seat.{Seat}
 use Rattle.move_layout.specs.declared.layout.BlockEnd.{BlockEnd}
@@ -14,7 +15,6 @@ use Rattle.move_layout.specs.Laid.{is_far_at, goal_address, far_goals, with_goal
 use Rattle.move_layout.specs.Slots.{place_among, seat_over}
 use Rattle.move_layout.specs.Tables.{AreSeats, AreEnds}
 use Rattle.move_layout.proofs.Slotting.{stays_with, is_there, length-with_goal}
-use Rattle.move_layout.proofs.Standing.{block-is}
 
 pub push_seat : (p : BlockPlan) (layout : List ℕ) (n : ℕ) (seats more : List Seat) (s : Seat) → AreSeats p layout n seats
     → more ≡ seats ++ s ∷ [] → s ≡ seat_at p layout n → AreSeats p layout (n + 1) more
@@ -101,11 +101,11 @@ cond_same true x y z h = h refl
 cond_same false x y z h = refl
 
 -- item k, which is item i of block b, with the slots of the items up to it
-pub seat_is : (p : BlockPlan) → IsWellFormed p → (layout : List ℕ) (b i k start : ℕ) (goals : List ℕ) → b < length p.spans
+pub seat_is : (blocks : BlockFacts) (p : BlockPlan) (layout : List ℕ) (b i k start : ℕ) (goals : List ℕ) → b < length p.spans
     → i < (span_at p.spans b).count → k ≡ first_of_block p.spans b + i → start ≡ slots_start p layout b
     → goals ≡ far_goals p layout (first_of_block p.spans b) (i + 1) → seat_over p layout k start goals ≡ seat_at p layout k
 unfolding seat_at slot_address slots_of
-seat_is p w layout b i k start goals bl il e s g =
+seat_is blocks p layout b i k start goals bl il e s g =
     ap (λ x. record {
       form = (chosen p layout k).form;
       len = (chosen p layout k).len;
@@ -119,7 +119,7 @@ seat_is p w layout b i k start goals bl il e s g =
     (λ far.
     let number = far_number p layout (first_of_block p.spans b) i (span_at p.spans b).count k e il far in
     let here : slot_address p layout b (goal_address p layout k) ≡ slot_address p layout (block_number p.spans k) (goal_address p layout k) =
-    ap (λ n. slot_address p layout n (goal_address p layout k)) (sym (block-is p w layout b i k bl il e)) in
+    ap (λ n. slot_address p layout n (goal_address p layout k)) (sym (blocks.block_at p.spans b k bl (omega (arith, e)) (omega (arith, e)))) in
     let listed = ap (λ xs. place_among xs (goal_address p layout k)) g in
     (omega (arith, s, number, listed) ∙ here)))
 

@@ -3,15 +3,19 @@ use Rattle.std.proofs.Common.{◌≡◌, ℕ, zero, suc, ◌<◌, List, [], ◌�
 use Rattle.std.proofs.lemmas.Bool.{and_parts}
 use Rattle.std.proofs.lemmas.List.{get_or_read}
 use Rattle.std.specs.List.{list_all}
-use Rattle.std.specs.Prelude.{nat_lt, nat_le, ◌&&◌}
 use Rattle.branch_sizes.specs.declared.plan.Branch.{Branch}
 use Rattle.branch_sizes.specs.declared.plan.Choice.{Choice}
 use Rattle.branch_sizes.specs.declared.plan.Form.{Form}
 use Rattle.branch_sizes.specs.declared.plan.Form.TheVariants.{Itself, Short, Near, Far, Bridge, FarBridge}
-use Rattle.branch_sizes.specs.Plan.{BlockPlan, item_at, no_choice, no_branch, is_same_form, forms_differ, lengths_rise_from, is_fit_reach, is_fit_goal, is_fit_branch, IsWellFormed}
+use Rattle.branch_sizes.specs.Plan.{BlockPlan, item_at, no_choice, no_branch, is_same_form, forms_differ, IsWellFormed}
+use Rattle.branch_sizes.specs.Facts.{ChosenFacts, LengthFacts}
 use Rattle.branch_sizes.specs.Layout.{IsLayout, forms_of}
-use Rattle.branch_sizes.proofs.Forms.{length-forms_of, get_or-forms_of}
-use Rattle.branch_sizes.proofs.Rising.{passes_at}
+
+-- a test that all elements pass holds of each
+passes_at : {X : Type 0} (test : X → Bool) (xs : List X) (k : ℕ) (d : X) → list_all test xs ≡ true → k < length xs → test (get_or xs k d) ≡ true
+passes_at test [] k d h lt = absurd (omega arith)
+passes_at test (x ∷ xs) zero d h lt = (and_parts (test x) (list_all test xs) h).0
+passes_at test (x ∷ xs) (suc k) d h lt = passes_at test xs k d (and_parts (test x) (list_all test xs) h).1 (omega arith)
 
 same_form_self : (f : Form) → is_same_form f f ≡ true
 same_form_self Itself = refl
@@ -42,20 +46,10 @@ one_choice (c ∷ cs) (suc f) zero h fl gl e = absurd (first_differs c cs f h (o
 one_choice (c ∷ cs) (suc f) (suc g) h fl gl e =
     ap suc (one_choice cs f g (and_parts (list_all (λ d. not (is_same_form c.form d.form)) cs) (forms_differ cs) h).1 (omega arith) (omega arith) e)
 
-item_differs : (count : ℕ) (b : Branch) → is_fit_branch count b ≡ true → forms_differ b.choices.items ≡ true
-item_differs count b h =
-    let cs : List Choice = b.choices.items in
-    let reaches : Bool = list_all (λ c. is_fit_reach c.reach) cs in
-    let goal : Bool = is_fit_goal count (length cs) b.goal in
-    let u = and_parts (nat_lt 0 (length cs) && nat_le (length cs) 3) (lengths_rise_from 1 cs && (reaches && (goal && forms_differ cs))) h in
-    let v = and_parts (lengths_rise_from 1 cs) (reaches && (goal && forms_differ cs)) u.1 in
-    let x = and_parts reaches (goal && forms_differ cs) v.1 in
-    (and_parts goal (forms_differ cs) x.1).1
-
-module _ (p : BlockPlan) (w : IsWellFormed p) (best : List ℕ) (l : IsLayout p best) (forms : List Form)
+module _ (lengths : LengthFacts) (chosen : ChosenFacts) (p : BlockPlan) (w : IsWellFormed p) (best : List ℕ) (l : IsLayout p best) (forms : List Form)
     (e : forms ≡ forms_of p.items best) where
   pub forms_len : length forms ≡ length p.items
-  forms_len = ap length e ∙ length-forms_of p.items best l.len
+  forms_len = ap length e ∙ chosen.length-forms_of p.items best l.len
 
   module _ (k : ℕ) (lt : k < length p.items) (x : Branch) (is : x ≡ get_or p.items k x) where
     at_item : x ≡ item_at p k
@@ -64,12 +58,12 @@ module _ (p : BlockPlan) (w : IsWellFormed p) (best : List ℕ) (l : IsLayout p 
     pub differs_here : forms_differ x.choices.items ≡ true
     differs_here =
         subst (λ (b : Branch). forms_differ b.choices.items ≡ true) (sym at_item)
-        (item_differs (length p.items) (item_at p k) (passes_at (is_fit_branch (length p.items)) p.items k no_branch w.fit lt))
+        (lengths.fit_item p w k lt).differ
 
     pub below_here : get_or best k 0 < length x.choices.items
     below_here = subst (λ (b : Branch). get_or best k 0 < length b.choices.items) (sym at_item) (l.valid k lt)
 
     pub form_here : get_or forms k Itself ≡ (get_or x.choices.items (get_or best k 0) no_choice).form
     form_here =
-        (ap (λ fs. get_or fs k Itself) e ∙ get_or-forms_of p.items best k l.len lt)
+        (ap (λ fs. get_or fs k Itself) e ∙ chosen.get_or-forms_of p.items best k l.len lt)
         ∙ ap (λ (b : Branch). (get_or b.choices.items (get_or best k 0) no_choice).form) (sym at_item)

@@ -1,12 +1,11 @@
 -- Where the images of a block stand: one behind the other, from the new base to the end of the images.
 use Rattle.std.proofs.Common.{◌≡◌, ℕ, ◌+◌, ◌-◌, ◌<◌, ◌≤◌, List, length, arith, add-one, refl, ap}
 use Rattle.branch_sizes.specs.Plan.{BlockPlan, IsWellFormed}
+use Rattle.branch_sizes.specs.Facts.{BlockFacts, TotalFacts}
 use Rattle.branch_sizes.specs.Layout.{total, block_number, first_of_block, span_at, image_length, place}
-use Rattle.branch_sizes.proofs.Totals.{total_rises}
-use Rattle.branch_sizes.proofs.Filling.{index_below, block_is, place_is}
 use Rattle.move_layout.specs.Laid.{images_end}
 
-module _ (p : BlockPlan) (w : IsWellFormed p) (layout : List ℕ) (b : ℕ) where
+module _ (blocks : BlockFacts) (totals : TotalFacts) (p : BlockPlan) (w : IsWellFormed p) (layout : List ℕ) (b : ℕ) where
   -- the images end at their base where there are none
   pub images-none : (span_at p.spans b).count ≡ 0 → images_end p layout b ≡ (span_at p.spans b).new_base
   unfolding images_end
@@ -17,17 +16,18 @@ module _ (p : BlockPlan) (w : IsWellFormed p) (layout : List ℕ) (b : ℕ) wher
   -- item k, which is item i of block b
   module _ (i k : ℕ) (bl : b < length p.spans) (il : i < (span_at p.spans b).count) (e : k ≡ first_of_block p.spans b + i) where
     pub item-below : k < length p.items
-    item-below = index_below p.spans p.items w layout b i k bl il e
+    item-below = omega (arith, e, blocks.item_below p.spans b i bl il, w.counts)
 
     pub block-is : block_number p.spans k ≡ b
-    block-is = block_is p.spans p.items w layout b i k bl il e
+    block-is = blocks.block_at p.spans b k bl (omega (arith, e)) (omega (arith, e))
 
     pub place-is : place p layout k ≡ (span_at p.spans b).new_base
         + (total (image_length p layout) k - total (image_length p layout) (first_of_block p.spans b))
-    place-is = place_is p.spans p.items w layout b i k bl il e
+    place-is = ap (λ n. (span_at p.spans n).new_base
+        + (total (image_length p layout) k - total (image_length p layout) (first_of_block p.spans n))) block-is
 
     first_rises : total (image_length p layout) (first_of_block p.spans b) ≤ total (image_length p layout) k
-    first_rises = total_rises (image_length p layout) (first_of_block p.spans b) k (omega arith)
+    first_rises = totals.total_rises (image_length p layout) (first_of_block p.spans b) k (omega arith)
 
     behind : total (image_length p layout) (k + 1) ≡ total (image_length p layout) k + image_length p layout k
     behind = rw add-one refl
@@ -36,7 +36,7 @@ module _ (p : BlockPlan) (w : IsWellFormed p) (layout : List ℕ) (b : ℕ) wher
     pub place-within : place p layout k + image_length p layout k ≤ images_end p layout b
     unfolding images_end
     place-within =
-        let up = total_rises (image_length p layout) (k + 1) (first_of_block p.spans b + (span_at p.spans b).count) (omega arith) in
+        let up = totals.total_rises (image_length p layout) (k + 1) (first_of_block p.spans b + (span_at p.spans b).count) (omega arith) in
         omega (arith, place-is, first_rises, behind, up)
 
     -- the last one ends there

@@ -30,6 +30,8 @@ fn choice_numbers(
     requires forms { AreLeastForms (plan_of spans.now items.now) forms.now }
     ensures { IfOk result (λ layout. IsLeast (plan_of spans.now items.now) layout.items) }
 {
+    branch_sizes::laws::images_are_short();
+    branch_sizes::laws::forms_are_chosen();
     let mut layout = Vec::with_capacity(alloc, items.len())?;
     'forms: for k in 0..forms.len() {
         layout.push(choice_number(&items[k], forms[k]))?;

@@ -6,7 +6,10 @@ ghost use Rattle.move_layout.specs.Facts.{EndFacts, SlotFacts};
 #[inline]
 pub fn blocks_end_behind_their_slots()
     ensures { EndFacts }
-{}
+{
+    branch_sizes::laws::blocks_have_all_items();
+    branch_sizes::laws::totals_rise();
+}
 
 /// Each far form has a slot of its block with its goal, and there are no more slots than items.
 #[inline]

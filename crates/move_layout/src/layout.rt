@@ -98,6 +98,8 @@ fn lay_block(
     ensures slots { OnOk result (slots.new.items ≡ slots.old.items ++ spec.slots_of (plan_in tables.now) tables.now.layout.now b) }
     ensures end { IfOk result (λ end. end ≡ spec.end_at (plan_in tables.now) tables.now.layout.now b) }
 {
+    branch_sizes::laws::blocks_have_all_items();
+    branch_sizes::laws::totals_rise();
     let images = images_end_of(tables, b, seats.len());
     let start = next_multiple_of_8(images);
     let mut goals = Vec::new(alloc);
@@ -119,6 +121,7 @@ fn lay_block(
 fn lay_blocks(alloc: Global, tables: &Tables) -> Result<Layout, AllocError>
     ensures { IfOk result (λ laid. spec.IsLaid (plan_in tables.now) tables.now.layout.now laid) }
 {
+    branch_sizes::laws::blocks_have_all_items();
     let mut seats = Vec::with_capacity(alloc, tables.items.len())?;
     let mut ends = Vec::with_capacity(alloc, tables.spans.len())?;
     let mut slots = Vec::new(alloc);

@@ -35,6 +35,8 @@ pub(crate) fn images_end_of(tables: &Tables, b: usize, first: usize) -> u128
     ensures value { result ≡ images_end (plan_in tables.now) tables.now.layout.now b }
     ensures small { result < 2 ^ 67 }
 {
+    branch_sizes::laws::blocks_have_all_items();
+    branch_sizes::laws::totals_rise();
     let span = tables.spans[b];
     if span.count == 0 {
         return u128::from(span.new_base);

@@ -2,7 +2,7 @@
 use Rattle.std.proofs.Common.{◌≡◌, ◌⊎◌, inl, inr, ℕ, ◌+◌, ◌^◌, ◌<◌, Bool, true, false, ◌&&◌, Option, Some, None, List, ap, ◌∙◌, arith}
 use Rattle.std.specs.Prelude.{if◌then◌else◌, nat_lt}
 use Rattle.std.specs.Option.{option_or}
-use Rattle.std.proofs.lemmas.Bool.{ltb-true}
+use Rattle.std.proofs.lemmas.Bool.{and_parts, ltb-true}
 use Rattle.x86_values.specs.declared.Bits.{Bits}
 use Rattle.x86_values.specs.declared.Bits.TheVariants.{B16, B32, B64}
 use Rattle.x86_values.specs.declared.Code.{Code}
@@ -26,7 +26,6 @@ use Rattle.instruction_parts.specs.declared.spelling.Spelling.{Spelling}
 use Rattle.instruction_parts.specs.Kinds.{method_of, file_of}
 use Rattle.instruction_parts.specs.Sizes.{state_size}
 use Rattle.instruction_parts.specs.Bytes.{state_of}
-use Rattle.instruction_parts.proofs.Tests.{and_left, and_right}
 use Rattle.row_fit.specs.Fits.{kind_at, has_modrm, rm_number}
 use Rattle.row_meaning.specs.Meaning.{sign_extended, Tail, tail_of, meaning, instr_of, operand_by, own_immediate, register_of, with_modrm, near_target, far_pointer, memory_operand, gather_memory}
 use Rattle.row_meaning.specs.Meaning as meant
@@ -36,8 +35,8 @@ use Rattle.plain_spelling.specs.Addresses.{form_of, written_size, offers, displa
 use Rattle.plain_spelling.specs.Expressible.{offered}
 use Rattle.opcode_rows.specs.Table.{table}
 use Rattle.operand_info.specs.Operands.{near_value, ip_value, first_value}
+use Rattle.encoder.specs.Facts.{SpelledFacts}
 use Rattle.moved_targets.specs.Targets.{target_of}
-use Rattle.moved_targets.proofs.Lengths.{spelled-needs}
 use Rattle.moved_targets.proofs.Aims.{value_at}
 use Rattle.moved_targets.proofs.Reaches.{displaced_by, displacement_of_operand_suits}
 
@@ -58,7 +57,7 @@ memory-below : (asize : Bits) (how : Method) (m : Mem) (x : ℕ) → displacemen
 unfolding displacement_suits is_displacement
 memory-below asize how m x h e =
     displaced-below asize m.base m.index m.disp_size m.disp x
-    (and_right (offers asize how m (displacement_count m.disp_size)) (displaced_by asize (form_of m.base m.index) m.disp_size m.disp) h) e
+    (and_parts (offers asize how m (displacement_count m.disp_size)) (displaced_by asize (form_of m.base m.index) m.disp_size m.disp) h).1 e
 
 operand-below : (bits : Bits) (asize : Option Bits) (how : Method) (op : Operand) (x : ℕ) → displacement_of_operand_suits bits asize how op ≡ true → ip_value op ≡ Some x → x < 2 ^ 64
 unfolding ip_value
@@ -73,15 +72,15 @@ each-below : (bits : Bits) (row : Row) (i : Instr) (x : ℕ) → (offered bits r
 each-below bits row i x h e =
     let o = λ (n : ℕ). offered bits row i n in
     let v = λ (n : ℕ). ip_value (operand_at i n) in
-    let h1 = and_right (o 0) (o 1 && (o 2 && o 3)) h in
-    let h2 = and_right (o 1) (o 2 && o 3) h1 in
+    let h1 = (and_parts (o 0) (o 1 && (o 2 && o 3)) h).1 in
+    let h2 = (and_parts (o 1) (o 2 && o 3) h1).1 in
     elim (or_some (v 0) (option_or (v 1) (option_or (v 2) (v 3))) x e) [
-      | inl e0 ↦ offered-below bits row i 0 x (and_left (o 0) (o 1 && (o 2 && o 3)) h) e0
+      | inl e0 ↦ offered-below bits row i 0 x (and_parts (o 0) (o 1 && (o 2 && o 3)) h).0 e0
       | inr e1 ↦ elim (or_some (v 1) (option_or (v 2) (v 3)) x e1) [
-        | inl f1 ↦ offered-below bits row i 1 x (and_left (o 1) (o 2 && o 3) h1) f1
+        | inl f1 ↦ offered-below bits row i 1 x (and_parts (o 1) (o 2 && o 3) h1).0 f1
         | inr e2 ↦ elim (or_some (v 2) (v 3) x e2) [
-          | inl f2 ↦ offered-below bits row i 2 x (and_left (o 2) (o 3) h2) f2
-          | inr e3 ↦ offered-below bits row i 3 x (and_right (o 2) (o 3) h2) e3
+          | inl f2 ↦ offered-below bits row i 2 x (and_parts (o 2) (o 3) h2).0 f2
+          | inr e3 ↦ offered-below bits row i 3 x (and_parts (o 2) (o 3) h2).1 e3
         ]
       ]
     ]
@@ -159,10 +158,10 @@ near-below bits ip bytes i t (short, (row, at, (s, e))) h =
 -- ---- targets
 
 -- **a target of what is spelled is below 2 to the power of 64**
-pub target-below : (bits : Bits) (ip : ℕ) (bytes : List ℕ) (i : Instr) (t : ℕ) → Spells table bits ip bytes i → target_of i ≡ Some t → t < 2 ^ 64
+pub target-below : (spelled : SpelledFacts) (bits : Bits) (ip : ℕ) (bytes : List ℕ) (i : Instr) (t : ℕ) → Spells table bits ip bytes i → target_of i ≡ Some t → t < 2 ^ 64
 unfolding target_of
-target-below bits ip bytes i t (short, (row, at, (s, e))) h =
+target-below spelled bits ip bytes i t (short, (row, at, (s, e))) h =
     elim (or_some (first_value near_value i) (first_value ip_value i) t h) [
       | inl near ↦ near-below bits ip bytes i t (short, (row, at, (s, e))) near
-      | inr by_ip ↦ each-below bits row i t (spelled-needs bits ip bytes i row s at e).displacements by_ip
+      | inr by_ip ↦ each-below bits row i t (spelled.spelled-suits bits ip bytes i row s at e).displacements by_ip
     ]

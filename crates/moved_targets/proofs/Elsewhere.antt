@@ -1,28 +1,26 @@
 -- What is spelled at some address and is no near branch has a plain spelling elsewhere.
-use Rattle.std.proofs.Common.{◌≡◌, ◌+◌, ◌≤◌, ◌<◌, ◌^◌, ℕ, Bool, true, ◌&&◌, List, Some, None, Ok, length, slice_get, refl, ap, ◌∙◌, arith}
+use Rattle.std.proofs.Common.{◌≡◌, ◌+◌, ◌≤◌, ◌<◌, ◌^◌, ℕ, Bool, true, ◌&&◌, List, Some, None, Ok, slice_get, refl, ap, ◌∙◌, arith}
+use Rattle.std.proofs.lemmas.Bool.{and_parts}
 use Rattle.x86_values.specs.declared.Bits.{Bits}
 use Rattle.x86_values.specs.declared.Instr.{Instr}
 use Rattle.x86_values.specs.Wrapping.{width, wrapped}
 use Rattle.row_types.specs.declared.Row.{Row}
-use Rattle.instruction_parts.specs.declared.spelling.Spelling.{Spelling}
 use Rattle.instruction_parts.specs.Kinds.{method_of, file_of}
 use Rattle.instruction_parts.specs.Bytes.{bytes_of}
-use Rattle.instruction_parts.proofs.Tests.{and_left, and_right}
 use Rattle.row_fit.specs.Fits.{kind_at, immediate_bytes}
 use Rattle.row_relation.specs.Spells.{Spells}
 use Rattle.plain_spelling.specs.Forms.{operand_at}
 use Rattle.plain_spelling.specs.PlainTail.{plain_spelling, plain_size, plain_len, plain_next}
 use Rattle.plain_spelling.specs.Expressible.{Suits, each_operand, kind_suits, register_suits, address_suits, offered, immediate_suits, target_suits}
-use Rattle.plain_need.proofs.Whole.{NeedsHold}
 use Rattle.opcode_rows.specs.Table.{table}
 use Rattle.operand_info.specs.Operands.{near_value, first_value}
 use Rattle.encoder.specs.Encoding.{encoding}
-use Rattle.encoder.proofs.Suited.{suits-encoded}
+use Rattle.encoder.specs.Facts.{EncodingFacts, SpelledFacts, SuitsElsewhere}
 use Rattle.branch_sizes.specs.Layout.{Reaches}
 use Rattle.moved_targets.specs.Targets.{operand_reach, target_reach, with_target, plain_length}
 use Rattle.moved_targets.proofs.Ignored.{operand_at-with_target}
 use Rattle.moved_targets.proofs.Unchanged.{len-with_target}
-use Rattle.moved_targets.proofs.Lengths.{plain_length-row, some_byte, spelled-needs, code-with_target}
+use Rattle.moved_targets.proofs.Lengths.{plain_length-row, some_byte, code-with_target}
 use Rattle.moved_targets.proofs.Aims.{no_value}
 use Rattle.moved_targets.proofs.Conditions.{same_each, kind_suits-with_target, register_suits-with_target, address_suits-with_target, immediate_suits-with_target, prefixes_suit-with_target, address_size_suits-with_target}
 use Rattle.moved_targets.proofs.Reaches.{Reached, displacement_of_operand_suits, operand-offered, target_of_operand_suits, operand-reached}
@@ -68,21 +66,21 @@ record Each (p : ℕ → Bool) : Type 0 where
 
 each_of : (p : ℕ → Bool) → each_operand p ≡ true → Each p
 each_of p h =
-    let b = and_right (p 0) (p 1 && (p 2 && p 3)) h in
-    let c = and_right (p 1) (p 2 && p 3) b in
+    let b = (and_parts (p 0) (p 1 && (p 2 && p 3)) h).1 in
+    let c = (and_parts (p 1) (p 2 && p 3) b).1 in
     record {
-      first = and_left (p 0) (p 1 && (p 2 && p 3)) h;
-      second = and_left (p 1) (p 2 && p 3) b;
-      third = and_left (p 2) (p 3) c;
-      fourth = and_right (p 2) (p 3) c;
+      first = (and_parts (p 0) (p 1 && (p 2 && p 3)) h).0;
+      second = (and_parts (p 1) (p 2 && p 3) b).0;
+      third = (and_parts (p 2) (p 3) c).0;
+      fourth = (and_parts (p 2) (p 3) c).1;
     }
 
 to_each : (p : ℕ → Bool) → p 0 ≡ true → p 1 ≡ true → p 2 ≡ true → p 3 ≡ true → each_operand p ≡ true
 to_each p a b c d = rw (a, b, c, d) refl
 
 -- **the conditions hold there**
-pub suits-elsewhere : (bits : Bits) (old place t : ℕ) (row : Row) (s : Spelling) (i : Instr) → NeedsHold bits old row s i → first_value near_value i ≡ None → Reaches (target_reach i) (plain_len bits row i) place t → place + plain_len bits row i ≤ 2 ^ width bits → t < 2 ^ 64 → Suits bits (wrapped bits place) row (with_target t i)
-suits-elsewhere bits old place t row s i n none reach within below =
+pub suits-elsewhere : (bits : Bits) (place t : ℕ) (row : Row) (i : Instr) → SuitsElsewhere bits row i → first_value near_value i ≡ None → Reaches (target_reach i) (plain_len bits row i) place t → place + plain_len bits row i ≤ 2 ^ width bits → t < 2 ^ 64 → Suits bits (wrapped bits place) row (with_target t i)
+suits-elsewhere bits place t row i n none reach within below =
     let len = plain_len bits row i in
     let r = all_reached bits row i len place t n.address_size reach in
     let near = no_value near_value i none in
@@ -112,11 +110,11 @@ suits-elsewhere bits old place t row s i n none reach within below =
 -- ---- the encoding
 
 -- **what is spelled at some address and is no near branch has an encoding elsewhere, aimed at what it reaches from there**
-pub encoded-elsewhere : (bits : Bits) (old place t : ℕ) (bytes : List ℕ) (i : Instr) → Spells table bits old bytes i → first_value near_value i ≡ None → Reaches (target_reach i) (plain_length bits i) place t → place + plain_length bits i ≤ 2 ^ width bits → t < 2 ^ 64 → (plain : List ℕ) × (encoding bits place (with_target t i) ≡ Ok plain)
-encoded-elsewhere bits old place t bytes i (short, (row, at, (s, e))) none reach within below =
-    let n = spelled-needs bits old bytes i row s at e in
+pub encoded-elsewhere : (encodings : EncodingFacts) (spelled : SpelledFacts) (bits : Bits) (old place t : ℕ) (bytes : List ℕ) (i : Instr) → Spells table bits old bytes i → first_value near_value i ≡ None → Reaches (target_reach i) (plain_length bits i) place t → place + plain_length bits i ≤ 2 ^ width bits → t < 2 ^ 64 → (plain : List ℕ) × (encoding bits place (with_target t i) ≡ Ok plain)
+encoded-elsewhere encodings spelled bits old place t bytes i (short, (row, at, (s, e))) none reach within below =
+    let n = spelled.spelled-suits bits old bytes i row s at e in
     let l = plain_length-row bits i row at in
-    let suits = suits-elsewhere bits old place t row s i n none (rw l at reach) (rw l at within) below in
-    let there : plain_len bits row (with_target t i) ≤ 15 = omega (arith, len-with_target bits t row i, n.least, ap length e.bytes_are) in
+    let suits = suits-elsewhere bits place t row i n none (rw l at reach) (rw l at within) below in
+    let there : plain_len bits row (with_target t i) ≤ 15 = omega (arith, len-with_target bits t row i, spelled.spelled-least bits old bytes i row s at e, short) in
     let row_at : slice_get table (with_target t i).code.0 ≡ Some row = rw (code-with_target t i) at in
-    (bytes_of row (plain_spelling bits (wrapped bits place) row (with_target t i)), suits-encoded bits place row (with_target t i) row_at suits there)
+    (bytes_of row (plain_spelling bits (wrapped bits place) row (with_target t i)), encodings.suits-encoded bits place row (with_target t i) row_at suits there)

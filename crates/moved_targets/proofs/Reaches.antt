@@ -1,6 +1,6 @@
 -- An operand at RIP or EIP that is aimed at what it reaches meets the conditions on its displacement and its target.
 use Rattle.std.proofs.Common.{◌≡◌, ℕ, ◌+◌, ◌-◌, ◌%◌, ◌^◌, ◌≤◌, ◌<◌, Bool, true, ◌&&◌, ◌==◌, nat_lt, Option, Some, None, is_none, refl, ap, ◌∙◌, arith}
-use Rattle.std.proofs.lemmas.Bool.{lt-ltb}
+use Rattle.std.proofs.lemmas.Bool.{and_parts, lt-ltb}
 use Rattle.std.specs.Prelude.{unwrap_or}
 use Rattle.x86_values.specs.declared.Bits.{Bits}
 use Rattle.x86_values.specs.declared.Bits.TheVariants.{B16, B32, B64}
@@ -16,7 +16,6 @@ use Rattle.instruction_parts.specs.declared.kinds.Method.{Method}
 use Rattle.instruction_parts.specs.declared.kinds.Method.TheVariants as method
 use Rattle.instruction_parts.specs.declared.kinds.File.{File}
 use Rattle.instruction_parts.specs.Counting.{is_64}
-use Rattle.instruction_parts.proofs.Tests.{and_left, and_right}
 use Rattle.plain_spelling.specs.declared.addresses.AddressForm.{AddressForm}
 use Rattle.plain_spelling.specs.declared.addresses.AddressForm.TheVariants.{Relative}
 use Rattle.plain_spelling.specs.Values.{is_extended_of, distance}
@@ -70,8 +69,8 @@ displacement_kept : (asize : Bits) (how : Method) (m : Mem) (len place t : ℕ) 
 unfolding displacement_suits is_displacement
 displacement_kept asize how m len place t reach below h =
     let n = displacement_count m.disp_size in
-    let a = and_left (offers asize how m n) (displaced_by asize (form_of m.base m.index) m.disp_size m.disp) h in
-    let b = and_right (offers asize how m n) (displaced_by asize (form_of m.base m.index) m.disp_size m.disp) h in
+    let a = (and_parts (offers asize how m n) (displaced_by asize (form_of m.base m.index) m.disp_size m.disp) h).0 in
+    let b = (and_parts (offers asize how m n) (displaced_by asize (form_of m.base m.index) m.disp_size m.disp) h).1 in
     rw (offers_same asize how m (aimed_disp t m.base m.disp) n, a, displaced asize m.base m.index m.disp_size m.disp len place t reach below b) refl
 
 -- the test of the displacement of an operand
@@ -99,7 +98,7 @@ by_method : (bits : Bits) (row : Row) (how : Method) (file : File) (m : Mem) →
 unfolding shape_suits is_gather_shape is_gather_base general_size is_shape form_of
 by_method bits row method.Gather file m e h = let k = rw e at h in cc
 by_method bits row method.Offset file m e h = let k = rw e at h in cc
-by_method bits row _ file m e h = let k = rw e at h in and_left (is_64 bits) (is_none m.index && m.scale == 1) k
+by_method bits row _ file m e h = let k = rw e at h in (and_parts (is_64 bits) (is_none m.index && m.scale == 1) k).0
 
 -- the test of an address by its parts
 abbrev reached_by : ℕ → AddressForm → ℕ → Bool

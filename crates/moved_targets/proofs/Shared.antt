@@ -2,6 +2,7 @@
 use Rattle.std.proofs.Common.{◌≡◌, ℕ, Bool, true, false, ◌&&◌, ◌||◌, not, Option, Some, None, is_none, refl, ◌⊎◌, inl, inr}
 use Rattle.std.specs.Prelude.{if◌then◌else◌}
 use Rattle.std.specs.Option.{option_or}
+use Rattle.std.proofs.lemmas.Bool.{and_parts}
 use Rattle.x86_values.specs.declared.Bits.{Bits}
 use Rattle.x86_values.specs.declared.Bits.TheVariants.{B16, B32, B64}
 use Rattle.x86_values.specs.declared.Register.{Register}
@@ -13,7 +14,6 @@ use Rattle.x86_values.specs.declared.Instr.{Instr}
 use Rattle.row_types.specs.declared.Row.{Row}
 use Rattle.instruction_parts.specs.Sizes.{has_address_mark}
 use Rattle.instruction_parts.specs.Counting.{is_16}
-use Rattle.instruction_parts.proofs.Tests.{and_left, and_right}
 use Rattle.row_fit.specs.Fits.{reads_by, is_gather}
 use Rattle.plain_spelling.specs.Forms.{is_memory, operand_at}
 use Rattle.plain_spelling.specs.Addresses.{has_address_size, pointer_size}
@@ -39,15 +39,15 @@ unfolding is_size_of
 agree_said bits row i asize h =
     let p = λ (n : ℕ). size_agrees asize (operand_at i n) in
     let gather = not (is_16 asize && reads_by is_gather row) in
-    let a = and_left (p 0 && (p 1 && (p 2 && p 3))) gather (and_right (has_address_size bits asize) ((p 0 && (p 1 && (p 2 && p 3))) && gather) h) in
-    let b = and_right (p 0) (p 1 && (p 2 && p 3)) a in
-    let c = and_right (p 1) (p 2 && p 3) b in
+    let a = (and_parts (p 0 && (p 1 && (p 2 && p 3))) gather (and_parts (has_address_size bits asize) ((p 0 && (p 1 && (p 2 && p 3))) && gather) h).1).0 in
+    let b = (and_parts (p 0) (p 1 && (p 2 && p 3)) a).1 in
+    let c = (and_parts (p 1) (p 2 && p 3) b).1 in
     record {
       asize = asize;
-      first = and_left (p 0) (p 1 && (p 2 && p 3)) a;
-      second = and_left (p 1) (p 2 && p 3) b;
-      third = and_left (p 2) (p 3) c;
-      fourth = and_right (p 2) (p 3) c;
+      first = (and_parts (p 0) (p 1 && (p 2 && p 3)) a).0;
+      second = (and_parts (p 1) (p 2 && p 3) b).0;
+      third = (and_parts (p 2) (p 3) c).0;
+      fourth = (and_parts (p 2) (p 3) c).1;
     }
 
 no_memory : (op : Operand) → is_memory op ≡ false → size_agrees B64 op ≡ true

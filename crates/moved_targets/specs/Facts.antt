@@ -5,27 +5,14 @@ use Rattle.x86_values.specs.declared.Bits.TheVariants.{B64}
 use Rattle.x86_values.specs.declared.Instr.{Instr}
 use Rattle.x86_values.specs.Wrapping.{width, wrapped}
 use Rattle.row_types.specs.declared.Row.{Row}
-use Rattle.instruction_parts.specs.declared.spelling.Spelling.{Spelling}
-use Rattle.row_relation.specs.Spells.{Spells, IsSpelledBy}
+use Rattle.row_relation.specs.Spells.{Spells}
 use Rattle.plain_spelling.specs.Values.{is_extended_of, distance}
 use Rattle.plain_spelling.specs.PlainTail.{plain_len}
-use Rattle.plain_spelling.specs.Expressible.{each_operand, row_exists, kind_suits, register_suits, address_suits, offered, immediate_suits, prefixes_suit, address_size_suits}
 use Rattle.opcode_rows.specs.Table.{table}
 use Rattle.operand_info.specs.Operands.{near_value, first_value}
 use Rattle.encoder.specs.Encoding.{encoding}
 use Rattle.branch_sizes.specs.Layout.{Reaches}
 use Rattle.moved_targets.specs.Targets.{target_of, with_target, target_reach, plain_length}
-
--- an instruction meets every condition of a row but the reach of its targets
-pub record SuitsElsewhere (bits : Bits) (row : Row) (i : Instr) : Type 0 where
-  pub exists : row_exists bits row ≡ true
-  pub kinds : each_operand (kind_suits row i) ≡ true
-  pub registers : each_operand (register_suits bits row i) ≡ true
-  pub addresses : each_operand (address_suits bits row i) ≡ true
-  pub displacements : each_operand (offered bits row i) ≡ true
-  pub immediates : each_operand (immediate_suits bits row i) ≡ true
-  pub prefixes : prefixes_suit row i ≡ true
-  pub address_size : address_size_suits bits row i ≡ true
 
 -- which addresses an offset holds in 64-bit mode
 pub record DistanceFacts : Type 0 where
@@ -47,10 +34,10 @@ pub record TargetFacts : Type 0 where
   pub with_target-length : (bits : Bits) (t : ℕ) (i : Instr) → plain_length bits (with_target t i) ≡ plain_length bits i
   -- what has no target stays as it is
   pub untargeted-with_target : (t : ℕ) (i : Instr) → length i.ops ≡ 4 → target_of i ≡ None → with_target t i ≡ i
-  -- what is spelled meets every condition but the reach of targets
-  pub spelled-suits : (bits : Bits) (ip : ℕ) (bytes : List ℕ) (i : Instr) (row : Row) (s : Spelling) → slice_get table i.code.0 ≡ Some row
-      → IsSpelledBy bits ip bytes i row s → SuitsElsewhere bits row i
-  -- and has a target below 2 to the power of 64, if it has one
+  -- what is spelled has a plain length of 1 to 15 bytes
+  pub spelled-length : (bits : Bits) (ip : ℕ) (bytes : List ℕ) (i : Instr) → Spells table bits ip bytes i
+      → (1 ≤ plain_length bits i) × (plain_length bits i ≤ 15)
+  -- and a target below 2 to the power of 64, if it has one
   pub target-below : (bits : Bits) (ip : ℕ) (bytes : List ℕ) (i : Instr) (t : ℕ) → Spells table bits ip bytes i → target_of i ≡ Some t → t < 2 ^ 64
   -- it is encoded wherever its target reaches, where it is no near branch
   pub encoded-elsewhere : (bits : Bits) (old place t : ℕ) (bytes : List ℕ) (i : Instr) → Spells table bits old bytes i

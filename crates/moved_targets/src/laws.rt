@@ -15,7 +15,9 @@ ghost use Rattle.moved_targets.specs.Facts.{DistanceFacts, TargetFacts};
 /// An encoding has the length of the plain spelling.
 pub fn encodings_have_their_length()
     ensures { (bits : Bits) (ip : ℕ) (i : Instr) (bytes : List ℕ) → length i.ops ≡ 4 → encoding bits ip i ≡ Ok bytes → length bytes ≡ plain_length bits i }
-{}
+{
+    encoder::laws::spelled_meets_conditions();
+}
 
 /// The length does not depend on the target.
 pub fn aim_keeps_the_length()
@@ -26,7 +28,9 @@ pub fn aim_keeps_the_length()
 pub fn spelled_is_short()
     ensures { (bits : Bits) (ip : ℕ) (bytes : List ℕ) (i : Instr) → length i.ops ≡ 4 → Spells table bits ip bytes i
         → (1 ≤ plain_length bits i) × (plain_length bits i ≤ 15) }
-{}
+{
+    encoder::laws::spelled_meets_conditions();
+}
 
 /// What is spelled at some address and is no near branch has a plain spelling at any other place from which its operand at RIP or EIP, if it has one,
 /// reaches its new target.
@@ -35,7 +39,10 @@ pub fn spelled_is_encoded_elsewhere()
         → first_value near_value i ≡ None → Reaches (target_reach i) (plain_length bits i) place t
         → place + plain_length bits i ≤ 2 ^ width bits → t < 2 ^ 64
         → (plain : List ℕ) × (encoding bits place (with_target t i) ≡ Ok plain) }
-{}
+{
+    encoder::laws::encodings_are_plain();
+    encoder::laws::spelled_meets_conditions();
+}
 
 /// What has a target has the other one when it is aimed at that.
 pub fn aimed_has_its_target()
@@ -48,11 +55,14 @@ pub fn without_target_nothing_changes()
     ensures { (t : ℕ) (i : Instr) → length i.ops ≡ 4 → target_of i ≡ None → with_target t i ≡ i }
 {}
 
-/// All of these as one record, with what they rest on: what is spelled meets every condition but the reach of its targets.
+/// All of these as one record.
 #[inline]
 pub fn spellings_are_moved()
     ensures { TargetFacts }
-{}
+{
+    encoder::laws::encodings_are_plain();
+    encoder::laws::spelled_meets_conditions();
+}
 
 /// An offset holds each address at a signed distance of its size from the end of an instruction.
 #[inline]

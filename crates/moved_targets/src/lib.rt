@@ -89,6 +89,8 @@ pub fn plain_length(bits: Bits, instr: &Instr) -> u8
     ensures small { result < 64 }
 {
     let [_first, _second, _third, _fourth] = instr.ops;
+    opcode_rows::laws::rows_are_counted();
+    opcode_rows::laws::rows_are_sound();
     if instr.code.0 >= ROWS {
         return 0;
     }

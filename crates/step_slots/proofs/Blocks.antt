@@ -13,16 +13,13 @@ use Rattle.code_region.specs.Releasing.{release_answer, released}
 use Rattle.code_region.specs.Filling.{with_content, filled}
 use Rattle.code_region.specs.Keeping.{AreLaid, IsSound}
 use Rattle.code_region.specs.Laws.{AreInUnits, HoldsContents}
-use Rattle.code_region.proofs.Sound.{filter-laid, opened-sound}
-use Rattle.code_region.proofs.Lawful.{laid-inside, sound-disjoint}
-use Rattle.code_region.proofs.Holding.{sound-holds}
-use Rattle.code_region.proofs.Units.{AreUnits, units-all, rounded-units, place-units}
 use Rattle.step_slots.specs.declared.slots.StepSlot.{StepSlot}
 use Rattle.step_slots.specs.Block.{IsStepBlock, reserved}
 use Rattle.step_slots.specs.State.{SlotState, with_slot}
 use Rattle.step_slots.specs.Stepping.{slots_refusal, without_slot, finished}
 use Rattle.step_slots.specs.Holding.{AreApart, HoldsSlots}
 use Rattle.step_slots.specs.Keeping.{IsBlockOf, AreBlocksOf, AreKept, AreAscending, StandsAt, no_slot}
+use Rattle.step_slots.specs.LawsBelow.{LawsBelow}
 use Rattle.step_slots.proofs.Region.{NoneAt, placed-none, placed-room, filled-is, filled-sound, release-found, release-none}
 
 module _ (bits : Bits) (base : ℕ) where
@@ -39,15 +36,6 @@ module _ (bits : Bits) (base : ℕ) where
   blocks-at (slot ∷ slots) [] k s b a lt = absurd a
   blocks-at (slot ∷ slots) (block ∷ live) zero s b a lt = a.0
   blocks-at (slot ∷ slots) (block ∷ live) (suc k) s b a lt = blocks-at slots live k s b a.1 (omega arith)
-
-  pub blocks-units : (slots : List StepSlot) (live : List LiveBlock) → AreBlocksOf bits base slots live → AreUnits base live
-  blocks-units [] [] a = tt
-  blocks-units [] (block ∷ live) a = absurd a
-  blocks-units (slot ∷ slots) [] a = absurd a
-  blocks-units (slot ∷ slots) (block ∷ live) a =
-      let u = rounded-units (reserved bits base slot.item) in
-      let len = a.0.len in
-      ((a.0.units, subst (λ (n : ℕ). n % 16 ≡ 0) (sym len) u), blocks-units slots live a.1)
 
   -- the slots ascend as the blocks do
   pub blocks-ascend : (from limit : ℕ) (slots : List StepSlot) (live : List LiveBlock) → AreBlocksOf bits base slots live → AreLaid from limit live → AreAscending from slots
@@ -128,9 +116,12 @@ module _ (bits : Bits) (base : ℕ) where
 
 -- ---- what is kept
 
-module _ (bits : Bits) (region : RegionState) (slots : List StepSlot) (room : ℕ) (kept : AreKept bits region slots room) where
+module _ (laws : LawsBelow) (bits : Bits) (region : RegionState) (slots : List StepSlot) (room : ℕ) (kept : AreKept bits region slots room) where
   pub kept-units : AreInUnits region
-  kept-units = λ k d h. units-all region.base region.live k d (blocks-units bits region.base slots region.live kept.blocks) h
+  kept-units = λ k d h.
+      let count = blocks-count bits region.base slots region.live kept.blocks in
+      let is = blocks-at bits region.base slots region.live k no_slot d kept.blocks (omega (arith, count, h)) in
+      (is.units, subst (λ (n : ℕ). n % 16 ≡ 0) (sym is.len) (laws.places.rounded-units (reserved bits region.base (get_or slots k no_slot).item)))
 
   pub kept-ascend : AreAscending 0 slots
   kept-ascend = lower region.base slots (blocks-ascend bits region.base region.base (region.base + region.size) slots region.live kept.blocks kept.sound)
@@ -144,7 +135,7 @@ module _ (bits : Bits) (region : RegionState) (slots : List StepSlot) (room : �
       (fits : length bytes ≤ rounded (reserved bits region.base item)) (is : IsStepBlock bits item place bytes) where
     pub step-room : length slots < room
     step-room =
-        let many = placed-room region (reserved bits region.base item) place kept.sound e in
+        let many = placed-room laws region (reserved bits region.base item) place kept.sound e in
         let count = blocks-count bits region.base slots region.live kept.blocks in
         below (length region.live) region.max_blocks many (omega (arith, count, kept.few)) (omega (arith, count)) kept.roomy
       where
@@ -159,19 +150,19 @@ module _ (bits : Bits) (region : RegionState) (slots : List StepSlot) (room : �
     step-kept more roomy =
         let len = reserved bits region.base item in
         let block = with_content bytes (unfilled place (rounded len)) in
-        let unit = place-units region len place kept.sound (blocks-units bits region.base slots region.live kept.blocks) e in
+        let unit = laws.places.place-units region len place kept.sound kept-units e in
         let now : RegionState = record region { live = with_block block region.live } in
-        let same : filled (placed region len) place bytes ≡ now = filled-is region len place kept.sound e bytes fits in
-        let many = placed-room region len place kept.sound e in
+        let same : filled (placed region len) place bytes ≡ now = filled-is laws region len place kept.sound e bytes fits in
+        let many = placed-room laws region len place kept.sound e in
         let count = blocks-count bits region.base slots region.live kept.blocks in
-        let sound_now : IsSound now = subst IsSound same (filled-sound region len place kept.sound e bytes fits) in
+        let sound_now : IsSound now = subst IsSound same (filled-sound laws region len place kept.sound e bytes fits) in
         let this : IsBlockOf bits region.base (record { place = place; item = item }) block =
         record { place = refl; len = refl; units = unit.1; bytes = bytes; is_block = is; content = refl } in
         subst (λ (r : RegionState). AreKept bits r (with_slot (record { place = place; item = item }) slots) more) (sym same)
         (record {
           inside = kept.inside;
           sound = sound_now;
-          blocks = blocks-with bits region.base (record { place = place; item = item }) block slots region.live this (placed-none region len place kept.sound e) kept.blocks;
+          blocks = blocks-with bits region.base (record { place = place; item = item }) block slots region.live this (placed-none laws region len place kept.sound e) kept.blocks;
           few = fewer (length region.live) region.max_blocks many (omega (arith, count, kept.few)) (longer (record { place = place; item = item }) slots) (omega (arith, count));
           roomy = omega (arith, kept.roomy, roomy);
         })
@@ -197,7 +188,7 @@ module _ (bits : Bits) (region : RegionState) (slots : List StepSlot) (room : �
   unfolding released
   finish-kept place = record {
     inside = kept.inside;
-    sound = filter-laid _ region.base (region.base + region.size) region.live kept.sound;
+    sound = laws.regions.released-sound region place kept.sound;
     blocks = blocks-without bits region.base place slots region.live kept.blocks;
     few = omega (arith, kept.few, no_longer slots);
     roomy = kept.roomy;
@@ -243,13 +234,13 @@ module _ (bits : Bits) (region : RegionState) (slots : List StepSlot) (room : �
     inside = λ k d lt.
         let count = blocks-count bits region.base slots region.live kept.blocks in
         let is = blocks-at bits region.base slots region.live k d no_block kept.blocks lt in
-        let within = laid-inside region.base (region.base + region.size) region.live k no_block kept.sound (omega (arith, count, lt)) in
+        let within = laws.regions.inside region kept.sound k no_block (omega (arith, count, lt)) in
         (omega (arith, within.0, is.place), omega (arith, within.1, is.place, is.len));
     apart = λ i j d less lt.
         let count = blocks-count bits region.base slots region.live kept.blocks in
         let one = blocks-at bits region.base slots region.live i d no_block kept.blocks (omega (arith, less, lt)) in
         let two = blocks-at bits region.base slots region.live j d no_block kept.blocks lt in
-        let order = sound-disjoint region kept.sound i j no_block less (omega (arith, count, lt)) in
+        let order = laws.regions.disjoint region kept.sound i j no_block less (omega (arith, count, lt)) in
         omega (arith, order, one.place, one.len, two.place);
   }
     where
@@ -285,7 +276,7 @@ module _ (bits : Bits) (region : RegionState) (slots : List StepSlot) (room : �
       no_block = record { place = 0; len = 0; content = [] }
 
       holds : HoldsContents region (image_of region)
-      holds = sound-holds region kept.sound
+      holds = laws.regions.contents region kept.sound
 
   pub kept-seen : (now : SlotState) → record { bits = bits; region = region; slots = slots } ≡ now → AreApart now
   kept-seen now e = subst AreApart e kept-apart
@@ -309,13 +300,13 @@ inside-made bits base size max none =
       ]
     ]
 
-pub kept-made : (bits : Bits) (base size max : ℕ) → slots_refusal bits base size max ≡ None → (region : RegionState) → region ≡ opened base size max
+pub kept-made : (laws : LawsBelow) (bits : Bits) (base size max : ℕ) → slots_refusal bits base size max ≡ None → (region : RegionState) → region ≡ opened base size max
     → (slots : List StepSlot) → slots ≡ [] → (room : ℕ) → max ≤ room → AreKept bits region slots room
-kept-made bits base size max none region is slots no_slots room roomy =
+kept-made laws bits base size max none region is slots no_slots room roomy =
     subst (λ (r : RegionState). AreKept bits r slots room) (sym is)
     (subst (λ (xs : List StepSlot). AreKept bits (opened base size max) xs room) (sym no_slots) (record {
       inside = inside-made bits base size max none;
-      sound = opened-sound base size max;
+      sound = laws.regions.opened-sound base size max;
       blocks = tt;
       few = omega arith;
       roomy = roomy;

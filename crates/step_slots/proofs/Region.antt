@@ -1,5 +1,5 @@
 -- One block more in a region: where it stands, and what it holds once it is filled.
-use Rattle.std.proofs.Common.{◌≡◌, ℕ, ◌+◌, ◌≤◌, ◌<◌, inl, inr, Bool, true, false, List, [], ◌∷◌, length, map, filter, find, not, arith, ap, refl, subst, sym, ◌∙◌, nat_lt, nat_eq, cond, Option, Some, None, Result, Ok, Err}
+use Rattle.std.proofs.Common.{◌≡◌, ℕ, ◌≤◌, ◌<◌, inl, inr, List, [], ◌∷◌, length, map, find, arith, ap, refl, subst, sym, ◌∙◌, nat_lt, nat_eq, Option, Some, None, Result, Ok, Err}
 use Rattle.std.specs.Prelude.{IsTrue, if◌then◌else◌}
 use Rattle.std.proofs.lemmas.Bool.{cases_Bool, eqb-true, eqb-false, eq-eqb, ne_eqb, le-leb}
 use Rattle.code_region.specs.declared.gaps.Span.{Span}
@@ -11,34 +11,20 @@ use Rattle.code_region.specs.Gaps.{first_gap, longest}
 use Rattle.code_region.specs.Placing.{front_of, place_answer, with_block, unfilled, placed_as, placed}
 use Rattle.code_region.specs.Releasing.{release_of, release_answer}
 use Rattle.code_region.specs.Filling.{with_content, holds, can_fill, filled}
-use Rattle.code_region.specs.Keeping.{AreLaid, IsSound}
-use Rattle.code_region.proofs.Sound.{AreLaid-le, answer-fits, placed-sound, fill-laid}
+use Rattle.code_region.specs.Keeping.{IsSound}
+use Rattle.step_slots.specs.LawsBelow.{LawsBelow}
 
 -- no live block starts at an address
 abbrev pub NoneAt : ℕ → List LiveBlock → Type 0
 NoneAt place [] = Unit {0}
 NoneAt place (block ∷ live) = (block.place ≡ place → ⊥) × NoneAt place live
 
-shorter : (p : LiveBlock → Bool) (live : List LiveBlock) → length (filter p live) ≤ length live
-shorter p [] = omega arith
-shorter p (block ∷ live) =
-    let rest = shorter p live in
-    elim (p block) as (λ t. length (cond t (block ∷ filter p live) (filter p live)) ≤ length (block ∷ live)) [
-      | true ↦ omega (arith, rest)
-      | false ↦ omega (arith, rest)
-    ]
-
-fresh-none : (place : ℕ) (live : List LiveBlock) → filter (λ b. not (nat_eq b.place place)) live ≡ live → NoneAt place live
-fresh-none place [] e = tt
-fresh-none place (block ∷ live) e =
+none-at : (place : ℕ) (live : List LiveBlock) → find (λ b. nat_eq b.place place) live ≡ None → NoneAt place live
+none-at place [] e = tt
+none-at place (block ∷ live) e =
     elim (cases_Bool (nat_eq block.place place)) [
-      | inl same ↦ (
-          let f : filter (λ b. not (nat_eq b.place place)) live ≡ block ∷ live = rw same at e in
-          absurd (omega (arith, ap length f, shorter (λ b. not (nat_eq b.place place)) live)))
-      | inr differs ↦ (
-          let f : block ∷ filter (λ b. not (nat_eq b.place place)) live ≡ block ∷ live = rw differs at e in
-          let g : filter (λ b. not (nat_eq b.place place)) live ≡ live = cc in
-          (eqb-false block.place place differs, fresh-none place live g))
+      | inl same ↦ (let f = rw same at e in absurd cc)
+      | inr differs ↦ (eqb-false block.place place differs, none-at place live (rw differs at e))
     ]
 
 -- the block that was put in
@@ -67,32 +53,12 @@ fill-put block place bytes (other ∷ live) e none =
       | inr behind ↦ rw (behind, ne_eqb other.place place none.0) (ap (λ bs. other ∷ bs) (fill-put block place bytes live e none.1))
     ]
 
-put-inside : (from limit : ℕ) (block : LiveBlock) (live : List LiveBlock) → AreLaid from limit (with_block block live) → block.place + block.len ≤ limit
-put-inside from limit block [] laid = laid.3
-put-inside from limit block (other ∷ live) laid =
-    elim (cases_Bool (nat_lt block.place other.place)) [
-      | inl before ↦ (
-          let l : AreLaid from limit (block ∷ other ∷ live) = rw before at laid in
-          AreLaid-le (block.place + block.len) limit (other ∷ live) l.3)
-      | inr behind ↦ (
-          let l : AreLaid from limit (other ∷ with_block block live) = rw behind at laid in
-          put-inside (other.place + other.len) limit block live l.3)
-    ]
-
 -- ---- a place that is handed out
 
-module _ (state : RegionState) (len place : ℕ) (sound : IsSound state) (e : place_answer state len ≡ Ok place) where
+module _ (laws : LawsBelow) (state : RegionState) (len place : ℕ) (sound : IsSound state) (e : place_answer state len ≡ Ok place) where
   pub placed-none : NoneAt place state.live
-  placed-none =
-      let fits = answer-fits state len place sound e in
-      let P : ℕ → Type 0 = λ p. filter (λ b. not (nat_eq b.place p)) state.live ≡ state.live in
-      fresh-none place state.live (subst P fits.2 fits.1.fresh)
-
-  pub placed-inside : place + rounded len ≤ state.base + state.size
-  placed-inside =
-      let fits = answer-fits state len place sound e in
-      let P : ℕ → Type 0 = λ p. AreLaid state.base (state.base + state.size) (with_block (unfilled p (rounded len)) state.live) in
-      put-inside state.base (state.base + state.size) (unfilled place (rounded len)) state.live (subst P fits.2 fits.1.laid)
+  unfolding live_block
+  placed-none = none-at place state.live (laws.places.place-free state len place sound e)
 
   placed-is : placed state len ≡ record state { live = with_block (unfilled place (rounded len)) state.live }
   unfolding placed
@@ -117,11 +83,7 @@ module _ (state : RegionState) (len place : ℕ) (sound : IsSound state) (e : pl
         ∙ ap with_live (fill-put (unfilled place (rounded len)) place bytes state.live refl placed-none)
 
     pub filled-sound : IsSound (filled (placed state len) place bytes)
-    unfolding filled placed can_fill live_block
-    filled-sound =
-        let s = placed state len in
-        let ok : IsTrue (holds (find (λ b. nat_eq b.place place) s.live) (length bytes)) = placed-can_fill (length bytes) fits in
-        fill-laid place s.base (s.base + s.size) bytes s.live (placed-sound state len (place_answer state len) sound refl) ok
+    filled-sound = laws.regions.filled-sound (placed state len) place bytes (laws.regions.placed-sound state len sound) (placed-can_fill (length bytes) fits)
 
   -- it is handed out where there is room
   pub placed-room : (length state.live ≡ state.max_blocks → ⊥)

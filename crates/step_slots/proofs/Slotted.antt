@@ -22,13 +22,13 @@ module _ (laws : LawsBelow) where
     stepped-fits : length stepped.1.0 ≤ rounded (reserved bits region.base item)
     stepped-fits =
         let block = stepped.1.1.0 in
-        let le = block-fits laws bits item spelled region kept.inside kept.sound (kept-units bits region slots room kept) place stepped.0 block.0 block.1.0 in
+        let le = block-fits laws bits item spelled region kept.inside kept.sound (kept-units laws bits region slots room kept) place stepped.0 block.0 block.1.0 in
         let same = ap length block.1.1 in
         omega (arith, le, same)
 
     -- there is room for the slot
     pub stepped-room : length slots < room
-    stepped-room = step-room bits region slots room kept item place stepped.0 stepped.1.0 stepped-fits stepped.1.1.0
+    stepped-room = step-room laws bits region slots room kept item place stepped.0 stepped.1.0 stepped-fits stepped.1.1.0
 
     -- **a slot more is kept**
     pub stepped-made : (more : ℕ) → room ≤ more → (made : List StepSlot) → made ≡ with_slot (record { place = place; item = item }) slots
@@ -36,9 +36,9 @@ module _ (laws : LawsBelow) where
     stepped-made more roomy made same base at =
         let len = reserved bits region.base item in
         let is : new ≡ filled (placed region len) place stepped.1.0 = stepped.1.1.1 in
-        let now = filled-is region len place kept.sound stepped.0 stepped.1.0 stepped-fits in (
+        let now = filled-is laws region len place kept.sound stepped.0 stepped.1.0 stepped-fits in (
           at ∙ sym (ap (λ (r : RegionState). r.base) (is ∙ now)),
           subst (λ (r : RegionState). AreKept bits r made more) (sym is)
               (subst (λ (xs : List StepSlot). AreKept bits (filled (placed region len) place stepped.1.0) xs more) (sym same)
-              (step-kept bits region slots room kept item place stepped.0 stepped.1.0 stepped-fits stepped.1.1.0 more roomy)),
+              (step-kept laws bits region slots room kept item place stepped.0 stepped.1.0 stepped-fits stepped.1.1.0 more roomy)),
         )

@@ -18,7 +18,6 @@ use Rattle.code_region.specs.Releasing.{released}
 use Rattle.code_region.specs.Filling.{filled, can_fill}
 use Rattle.code_region.specs.Keeping.{IsSound}
 use Rattle.code_region.specs.Laws.{AreInUnits}
-use Rattle.code_region.proofs.Lawful.{sound-restores}
 use Rattle.step_slots.specs.Block.{step_items, reserved}
 use Rattle.step_slots.specs.Stepping.{IsBlockStepped, IsOfLength, IsOfReach, place_refusal_of, move_refusal_of}
 use Rattle.step_slots.specs.LawsBelow.{LawsBelow}
@@ -84,12 +83,12 @@ module _ (laws : LawsBelow) where
           let fits = moved-fits m h in
           let long = ap length same in
           subst (λ (r : RegionState). IsTrue (can_fill r place (length bytes))) (sym is)
-          (placed-can_fill region (reserved bits region.base item) place sound e (length bytes) (omega (arith, fits, long)))
+          (placed-can_fill laws region (reserved bits region.base item) place sound e (length bytes) (omega (arith, fits, long)))
 
       -- a place that is given back leaves the region as it was
       pub given-back : (now : RegionState) → now ≡ placed region (reserved bits region.base item) → (new : RegionState) → new ≡ released now place → new ≡ region
       given-back now is new same =
-          same ∙ (ap (λ (r : RegionState). released r place) is ∙ (sound-restores region (reserved bits region.base item) place sound e).blocks)
+          same ∙ (ap (λ (r : RegionState). released r place) is ∙ (laws.regions.restores region (reserved bits region.base item) place sound e).blocks)
 
       pub moved-steps : (m : MovedLists) → IsOutsideAnswer bits (step_items bits item) place (Ok m) → (new : RegionState)
           → new ≡ filled (placed region (reserved bits region.base item)) place m.bytes → IsBlockStepped bits region item (Ok place) new

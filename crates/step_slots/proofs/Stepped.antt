@@ -1,5 +1,5 @@
 -- What is known of the block of a step once there is a place for it.
-use Rattle.std.proofs.Common.{◌≡◌, ℕ, zero, suc, ◌+◌, ◌-◌, ◌^◌, ◌≤◌, ◌<◌, List, [], ◌∷◌, length, get_or, ◌/◌, ◌*◌, arith, ap, refl, subst, Option, Some, None, Ok, Bool}
+use Rattle.std.proofs.Common.{◌≡◌, ℕ, zero, suc, ◌+◌, ◌-◌, ◌^◌, ◌≤◌, ◌<◌, List, length, ◌/◌, ◌*◌, arith, ap, refl, subst, Option, Some, None, Ok, Bool}
 use Rattle.std.specs.Prelude.{if◌then◌else◌}
 use Rattle.std.proofs.lemmas.Bool.{le-leb, le-ltb}
 use Rattle.x86_values.specs.declared.Bits.{Bits}
@@ -12,15 +12,13 @@ use Rattle.move_layout.specs.Laid.{new_end}
 use Rattle.block_encoder.specs.Moved.{MovedLists}
 use Rattle.block_encoder.specs.ByPlan.{IsMovedBy, IsPassBy, IsTooFarBy}
 use Rattle.block_encoder.specs.Last.{last_layout, last_len}
-use Rattle.code_region.specs.State.{LiveBlock, RegionState, rounded}
+use Rattle.code_region.specs.State.{RegionState, rounded}
 use Rattle.code_region.specs.Placing.{place_answer}
 use Rattle.code_region.specs.Keeping.{IsSound}
 use Rattle.code_region.specs.Laws.{AreInUnits}
-use Rattle.code_region.proofs.Units.{IsUnits, AreUnits, place-units}
 use Rattle.step_slots.specs.Block.{back_address, step_items, step_plan, IsOutOfReach, reserved}
 use Rattle.step_slots.specs.LawsBelow.{LawsBelow}
 use Rattle.step_slots.proofs.JumpBack.{jump-placed, jump-length, jump-reached}
-use Rattle.step_slots.proofs.Region.{placed-inside}
 
 back-below : (bits : Bits) (item : Placed) → back_address bits item < 2 ^ width bits
 back-below B16 item = omega arith
@@ -36,10 +34,6 @@ rounded-above n le = rw (le-leb n (2 ^ 64 - 16) (omega (arith, le))) (omega arit
 pub rounded-is : (n m : ℕ) → n ≤ 53 → m ≡ (n + 15) / 16 * 16 → m ≡ rounded n
 unfolding rounded
 rounded-is n m le e = rw (le-leb n (2 ^ 64 - 16) (omega (arith, le))) e
-
-all-units : (base : ℕ) (live : List LiveBlock) → ((k : ℕ) (d : LiveBlock) → k < length live → IsUnits base (get_or live k d)) → AreUnits base live
-all-units base [] h = tt
-all-units base (block ∷ live) h = (h 0 block (omega arith), all-units base live (λ k d lt. h (suc k) d (omega arith)))
 
 -- ---- at a place
 
@@ -74,7 +68,7 @@ module _ (laws : LawsBelow) where
       (sound : IsSound region) (units : AreInUnits region) (place : ℕ) (e : place_answer region (reserved bits region.base item) ≡ Ok place) where
     same-len : last_len bits (step_items bits item) place ≡ reserved bits region.base item
     same-len =
-        let u = place-units region (reserved bits region.base item) place sound (all-units region.base region.live units) e in
+        let u = laws.places.place-units region (reserved bits region.base item) place sound units e in
         laws.last.last-moves bits (step_items bits item) region.base place u.0 u.1
 
     -- **the block fits the place**
@@ -93,7 +87,7 @@ module _ (laws : LawsBelow) where
         let p = step_plan bits item place in
         let low = laws.last.end-below bits (step_items bits item) place (step-placed bits item placed) (omega arith) pass.layout pass.least in
         let at = end-is bits (step_items bits item) place in
-        let room = placed-inside region (reserved bits region.base item) place sound e in
+        let room = laws.places.place-inside region (reserved bits region.base item) place sound e in
         let above = rounded-above (reserved bits region.base item) (reserved-short bits item placed region.base) in
         let ends : new_end p pass.layout 0 ≤ 2 ^ width bits = omega (arith, low, at, same-len, room, above, inside) in
         let count : length p.spans ≡ 1 = ap length (one_block bits (step_items bits item) place) in

@@ -4,8 +4,9 @@ use Rattle.moved_targets.specs.Facts.{TargetFacts}
 use Rattle.branch_forms.specs.Facts.{CodeFacts, PieceFacts}
 use Rattle.move_goals.specs.Facts.{PlanFacts}
 use Rattle.block_encoder.specs.Facts.{SeatFacts, ReachFacts, LastFacts}
+use Rattle.code_region.specs.Facts.{PlaceFacts, RegionFacts}
 
--- encodings, targets, the jump back, plans, seats, reach and last forms
+-- encodings, targets, the jump back, plans, seats, reach, last forms, regions and places in them
 pub record LawsBelow : Type 0 where
   pub encodings : EncodingFacts
   pub targets : TargetFacts
@@ -15,3 +16,5 @@ pub record LawsBelow : Type 0 where
   pub seats : SeatFacts
   pub reach : ReachFacts
   pub last : LastFacts
+  pub regions : RegionFacts
+  pub places : PlaceFacts

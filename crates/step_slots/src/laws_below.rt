@@ -15,4 +15,6 @@ pub(crate) fn laws_below()
     block_encoder::laws::plans_seat_their_items();
     block_encoder::laws::items_reach_their_goals();
     block_encoder::laws::last_forms_bound_the_length();
+    code_region::laws::sound_regions_keep_their_laws();
+    code_region::laws::places_are_gaps();
 }

@@ -93,6 +93,7 @@ impl StepSlots {
         ensures cause { IfErr result (λ error. (slots_refusal bits base size max_blocks ≡ Some error) ⊎ (error ≡ OpenError.Memory)) }
         ensures ok { IfOk result (λ slots. slots ≡ no_slots bits base size max_blocks) }
     {
+        laws_below();
         if let Some(refusal) = refusal_of(bits, base, size, max_blocks) {
             return Err(refusal);
         }
@@ -133,6 +134,7 @@ impl StepSlots {
         ensures state { self.new ≡ finished self.old place }
         ensures refused { OnErr result (self.new ≡ self.old) }
     {
+        laws_below();
         self.region.release(place)?;
         remove_slot(&mut self.live, place);
         Ok(())
@@ -143,6 +145,7 @@ impl StepSlots {
         ensures slots { result.now ≡ self.now.slots }
         ensures apart { AreApart self.now }
     {
+        laws_below();
         &self.live
     }
 
@@ -151,6 +154,7 @@ impl StepSlots {
         ensures value { result.now ≡ image_of self.now.region }
         ensures slots { HoldsSlots self.now result.now }
     {
+        laws_below();
         self.region.image()
     }
 }

@@ -3,8 +3,6 @@ use Rattle.std.proofs.lemmas.Option.{slice_get_past}
 use Rattle.x86_values.specs.declared.Bits.{Bits}
 use Rattle.x86_values.specs.declared.Instr.{Instr}
 use Rattle.opcode_rows.specs.Table.{table}
-use Rattle.opcode_rows.proofs.JoinFacts.{length-table}
-use Rattle.opcode_rows.proofs.Sound.{sound-row}
 use Rattle.moved_targets.specs.Targets.{plain_length}
 use Rattle.moved_targets.proofs.plain_length.Goals as goal
 
@@ -14,7 +12,7 @@ without_row bits i at = rw at refl
 
 pub returns-then-instr-ge-ROWS-clause-value : goal.returns-then-instr-ge-ROWS-clause-value
 returns-then-instr-ge-ROWS-clause-value c =
-    without_row c.args.bits c.args.instr.now (slice_get_past table c.args.instr.now.code.0 (omega (arith, length-table, c.if-instr-ge-ROWS.true)))
+    without_row c.args.bits c.args.instr.now (slice_get_past table c.args.instr.now.code.0 (omega (arith, c.rows_are_counted.ensures, c.if-instr-ge-ROWS.true)))
 
 pub plain_parts-requires : goal.plain_parts-requires
-plain_parts-requires c = sound-row c.args.instr.now.code.0 c.row_of.result c.row_of.ensures
+plain_parts-requires c = c.rows_are_sound.ensures c.args.instr.now.code.0 c.row_of.result c.row_of.ensures

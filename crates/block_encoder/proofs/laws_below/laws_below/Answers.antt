@@ -4,6 +4,7 @@ pub returns : goal.returns
 returns c = record {
   rows = c.rows_are_of_the_parts.ensures;
   encodings = c.encodings_are_plain.ensures;
+  spelled = c.spelled_meets_conditions.ensures;
   blocks = c.blocks_have_all_items.ensures;
   lengths = c.images_are_short.ensures;
   totals = c.totals_rise.ensures;

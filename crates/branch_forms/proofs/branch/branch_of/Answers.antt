@@ -2,7 +2,6 @@ use Rattle.std.proofs.Common.{◌≡◌, ◌∙◌, ap, sym, arith, refl, Bool, 
 use Rattle.std.specs.Prelude.{Option, None, is_some}
 use Rattle.std.proofs.lemmas.Option.{slice_get_past}
 use Rattle.opcode_rows.specs.Table.{table}
-use Rattle.opcode_rows.proofs.JoinFacts.{length-table}
 use Rattle.operand_info.specs.Operands.{near_value, first_value}
 use Rattle.branch_forms.specs.declared.branch.RelativeBranch.{RelativeBranch}
 use Rattle.branch_forms.specs.Branches.{branch_of, branch_by}
@@ -17,5 +16,5 @@ unfolding branch_of
 returns-then-instr-ge-ROWS c =
     let i = c.args.instr.now in
     let has = is_some (first_value near_value i) in
-    sym (ap (λ row. if has then branch_by row else None) (slice_get_past table i.code.0 (omega (arith, length-table, c.if-instr-ge-ROWS.true)))
+    sym (ap (λ row. if has then branch_by row else None) (slice_get_past table i.code.0 (omega (arith, c.rows_are_counted.ensures, c.if-instr-ge-ROWS.true)))
     ∙ either-same has None)

@@ -7,5 +7,5 @@ use Rattle.branch_forms.proofs.choices.own_choice.Goals as goal
 pub returns : goal.returns
 returns c =
     let long : c.plain_length.result ≡ form_length c.args.bits c.args.instr.now Itself =
-    c.plain_length.ensures.value ∙ sym (other-length c.args.bits c.args.instr.now Itself c.requires) in
+    c.plain_length.ensures.value ∙ sym (other-length c.laws_below.ensures c.args.bits c.args.instr.now Itself c.requires) in
     rw (← long) (search rules)

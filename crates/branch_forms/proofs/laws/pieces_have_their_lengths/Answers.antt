@@ -12,8 +12,8 @@ returns c = record {
   near_condition-length = pieces.near_condition-length;
   slot_call-length = pieces.slot_call-length;
   slot_jump-length = pieces.slot_jump-length;
-  branch_to-length = lengths.branch_to-length;
-  short-length = lengths.short-length;
-  skip-length = lengths.skip-length;
+  branch_to-length = lengths.branch_to-length c.laws_below.ensures;
+  short-length = lengths.short-length c.laws_below.ensures;
+  skip-length = lengths.skip-length c.laws_below.ensures;
   opposite_condition-small = pieces.opposite_condition-small;
 }

@@ -3,7 +3,7 @@ use Rattle.move_goals.proofs.laws.plans_are_well_formed.Goals as goal
 
 pub returns : goal.returns
 returns c = record {
-  well_formed = planned.well_formed;
+  well_formed = planned.well_formed c.forms_are_fit.ensures;
   one_span-of = planned.one_span-of;
-  outside-fit = planned.outside-fit;
+  outside-fit = planned.outside-fit c.forms_are_fit.ensures;
 }

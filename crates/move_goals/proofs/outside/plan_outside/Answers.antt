@@ -29,7 +29,7 @@ new-requires-clause-fit c =
     let f = branch_with c.args.bits c.args.items.now (kept_goals c.args.items.now) in
     let all : c.items.k ≡ length c.args.items.now = omega (arith, c.items-test.false, c.items.auto.k-end) in
     let are : c.items.branches.items ≡ map f (range_with_len 0 (length c.args.items.now)) = c.items.invariant ∙ ap (λ n. map f (range_with_len 0 n)) all in
-    let fit = (outside-fit c.args.bits c.args.items.now c.args.new_base c.requires.placed c.requires.few).fit in
+    let fit = (outside-fit c.forms_are_fit.ensures c.args.bits c.args.items.now c.args.new_base c.requires.placed c.requires.few).fit in
     subst (λ (bs : List Branch). IsTrue (list_all (is_fit_branch (length bs)) bs)) (sym are) fit
 
 pub returns : goal.returns

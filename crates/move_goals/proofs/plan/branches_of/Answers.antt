@@ -8,27 +8,27 @@ use Rattle.move_goals.proofs.plan.branches_of.Goals as goal
 
 pub overflow_add-to : goal.overflow_add-to
 overflow_add-to c =
-    omega (arith, end_below c.args.items.now c.args.spans.now c.requires.spans c.loop-span.span-index c.loop-span.from c.loop-span-test.true c.loop-span.invariant.from_is)
+    omega (arith, end_below c.blocks_have_all_items.ensures c.args.items.now c.args.spans.now c.requires.spans c.loop-span.span-index c.loop-span.from c.loop-span-test.true c.loop-span.invariant.from_is)
 
 pub branch_between-requires-clause-starts : goal.branch_between-requires-clause-starts
 branch_between-requires-clause-starts c = λ less.
     let to_is = c.items.invariant.to_is in
     c.in_ok-starts.ensures
-    (other_block c.args.items.now c.args.spans.now c.requires.spans c.loop-span.span-index c.loop-span.from c.loop-span-test.true c.loop-span.invariant.from_is
+    (other_block c.blocks_have_all_items.ensures c.args.items.now c.args.spans.now c.requires.spans c.loop-span.span-index c.loop-span.from c.loop-span-test.true c.loop-span.invariant.from_is
     (omega (arith, less)))
 
 pub branch_between-requires-clause-end : goal.branch_between-requires-clause-end
 branch_between-requires-clause-end c =
-    end_below c.args.items.now c.args.spans.now c.requires.spans c.loop-span.span-index c.loop-span.from c.loop-span-test.true c.loop-span.invariant.from_is
+    end_below c.blocks_have_all_items.ensures c.args.items.now c.args.spans.now c.requires.spans c.loop-span.span-index c.loop-span.from c.loop-span-test.true c.loop-span.invariant.from_is
 
 pub branch_between-requires-clause-ascend : goal.branch_between-requires-clause-ascend
 branch_between-requires-clause-ascend c =
-    ascend c.args.items.now c.args.spans.now c.requires.spans c.loop-span.span-index c.loop-span.from c.loop-span-test.true c.loop-span.invariant.from_is
+    ascend c.blocks_have_all_items.ensures c.args.items.now c.args.spans.now c.requires.spans c.loop-span.span-index c.loop-span.from c.loop-span-test.true c.loop-span.invariant.from_is
     c.args.bits c.requires.placed c.requires.order
 
 pub branch_between-requires-clause-item : goal.branch_between-requires-clause-item
 branch_between-requires-clause-item c =
-    omega (arith, c.items-test.true, end_below c.args.items.now c.args.spans.now c.requires.spans c.loop-span.span-index c.loop-span.from c.loop-span-test.true c.loop-span.invariant.from_is)
+    omega (arith, c.items-test.true, end_below c.blocks_have_all_items.ensures c.args.items.now c.args.spans.now c.requires.spans c.loop-span.span-index c.loop-span.from c.loop-span-test.true c.loop-span.invariant.from_is)
 
 pub items-preserved : goal.items-preserved
 items-preserved c = record {
@@ -37,7 +37,7 @@ items-preserved c = record {
   planned = one_more (branch_at c.args.bits c.args.spans.now c.args.items.now) c.items.branches.items c.push.new.self.items c.items.k
       c.branch_between.result c.items.invariant.planned c.in_ok-push.ensures.items
       (c.branch_between.ensures
-      ∙ planned_item c.args.bits c.args.items.now c.args.spans.now c.requires.spans c.loop-span.span-index c.loop-span.from c.loop-span-test.true
+      ∙ planned_item c.blocks_have_all_items.ensures c.args.bits c.args.items.now c.args.spans.now c.requires.spans c.loop-span.span-index c.loop-span.from c.loop-span-test.true
       c.loop-span.invariant.from_is c.items.k c.items.auto.k c.items-test.true);
 }
 
@@ -45,5 +45,5 @@ pub returns : goal.returns
 unfolding plan_with
 returns c =
     let all : c.loop-span.from ≡ length c.args.items.now =
-    c.loop-span.invariant.from_is ∙ end_is c.args.items.now c.args.spans.now c.requires.spans c.loop-span.span-index (omega arith) in
+    c.loop-span.invariant.from_is ∙ end_is c.blocks_have_all_items.ensures c.args.items.now c.args.spans.now c.requires.spans c.loop-span.span-index (omega arith) in
     c.loop-span.invariant.planned ∙ ap (λ n. map (branch_at c.args.bits c.args.spans.now c.args.items.now) (range_with_len 0 n)) all

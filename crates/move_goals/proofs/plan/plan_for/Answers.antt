@@ -11,7 +11,7 @@ of_blocks-requires c =
     let branches = c.in_ok-branches.ensures in
     subst (λ xs. IsWellFormed (plan_of xs c.in_ok-branches.branches.items)) (sym spans)
     (subst (λ ys. IsWellFormed (plan_of c.args.spans.now ys)) (sym branches)
-    (well_formed c.args.bits c.args.spans.now c.args.items.now c.requires.placed c.requires.few c.requires.spans))
+    (well_formed c.forms_are_fit.ensures c.args.bits c.args.spans.now c.args.items.now c.requires.placed c.requires.few c.requires.spans))
 
 pub returns : goal.returns
 unfolding plan_with

@@ -4,7 +4,7 @@ use Rattle.move_layout.proofs.laws.blocks_end_behind_their_slots.Goals as goal
 
 pub returns : goal.returns
 returns c = record {
-  place-within = standing.place-within;
+  place-within = standing.place-within c.blocks_have_all_items.ensures c.totals_rise.ensures;
   images-le-slots = laid.images-le-slots;
   slots-aligned = laid.slots-aligned;
   images-le-end = laid.images-le-end;

@@ -8,7 +8,7 @@ use Rattle.move_layout.proofs.layout.lay_block.Goals as goal
 
 pub seat_of-requires-clause-item : goal.seat_of-requires-clause-item
 seat_of-requires-clause-item c =
-    item-below (plan_in c.args.tables.now) c.args.tables.now.plan c.args.tables.now.layout.now c.args.b c.items.counter c.len-in-items.result
+    item-below c.blocks_have_all_items.ensures c.totals_rise.ensures (plan_in c.args.tables.now) c.args.tables.now.plan c.args.tables.now.layout.now c.args.b c.items.counter c.len-in-items.result
     c.requires.block c.items-test.true (omega (arith, c.len-in-items.ensures, c.items.invariant.seats.len))
 
 pub items-preserved : goal.items-preserved
@@ -25,7 +25,7 @@ items-preserved c =
     ∙ sym (far_more p t.layout.now first c.items.counter c.len-in-items.result at)) in
     let seat : c.in_ok-seat.seat ≡ seat_at p t.layout.now (first + c.items.counter) =
     (c.in_ok-seat.ensures.seat
-    ∙ seat_is p t.plan t.layout.now c.args.b c.items.counter c.len-in-items.result c.next_multiple_of_8-start.result c.seat_of.new.goals.items
+    ∙ seat_is c.blocks_have_all_items.ensures p t.layout.now c.args.b c.items.counter c.len-in-items.result c.next_multiple_of_8-start.result c.seat_of.new.goals.items
     c.requires.block c.items-test.true at start goals)
     ∙ ap (seat_at p t.layout.now) at in
     let one : first + c.items.counter + 1 ≡ first + (c.items.counter + 1) = omega arith in

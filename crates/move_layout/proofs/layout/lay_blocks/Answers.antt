@@ -1,6 +1,5 @@
 use Rattle.std.proofs.Common.{◌≡◌, ◌++◌, length, arith, sym, ap, ◌∙◌}
 use Rattle.branch_sizes.specs.Layout.{first_of_block}
-use Rattle.branch_sizes.proofs.Totals.{first_of_end}
 use Rattle.move_layout.specs.Laid.{slots_of, all_slots}
 use Rattle.move_layout.specs.Tables.{plan_in}
 use Rattle.move_layout.proofs.Blocks.{push_end, slots_more}
@@ -24,7 +23,7 @@ returns c =
     let p = plan_in t in
     let all : c.spans.b ≡ length t.spans.now = omega (arith, c.spans-test.false, c.spans.auto.b-end) in
     let items : first_of_block t.spans.now c.spans.b ≡ length t.items.now =
-    omega (arith, ap (first_of_block t.spans.now) all, first_of_end t.spans.now, t.plan.counts) in
+    omega (arith, ap (first_of_block t.spans.now) all, c.blocks_have_all_items.ensures.first_of_end t.spans.now, t.plan.counts) in
     record {
       seat_count = omega (arith, c.spans.invariant.seats.len, items);
       seats = λ k lt. c.spans.invariant.seats.each k (omega (arith, items, lt));

@@ -8,20 +8,10 @@ pub returns : goal.returns
 returns c = record {
   plain_length-row = lengths.plain_length-row;
   some_byte = lengths.some_byte;
-  encoding-length = lengths.encoding-length;
+  encoding-length = lengths.encoding-length c.spelled_meets_conditions.ensures;
   with_target-length = lengths.with_target-length;
   untargeted-with_target = aims.untargeted-with_target;
-  spelled-suits = λ bits ip bytes i row s at e.
-      let n = lengths.spelled-needs bits ip bytes i row s at e in record {
-        exists = n.exists;
-        kinds = n.kinds;
-        registers = n.registers;
-        addresses = n.addresses;
-        displacements = n.displacements;
-        immediates = n.immediates;
-        prefixes = n.prefixes;
-        address_size = n.address_size;
-      };
-  target-below = targets.target-below;
-  encoded-elsewhere = elsewhere.encoded-elsewhere;
+  spelled-length = lengths.spelled-length c.spelled_meets_conditions.ensures;
+  target-below = targets.target-below c.spelled_meets_conditions.ensures;
+  encoded-elsewhere = elsewhere.encoded-elsewhere c.encodings_are_plain.ensures c.spelled_meets_conditions.ensures;
 }

@@ -10,4 +10,6 @@ returns c = record {
   seats = c.plans_seat_their_items.ensures;
   reach = c.items_reach_their_goals.ensures;
   last = c.last_forms_bound_the_length.ensures;
+  regions = c.sound_regions_keep_their_laws.ensures;
+  places = c.places_are_gaps.ensures;
 }

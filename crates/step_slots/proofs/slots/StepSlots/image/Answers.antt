@@ -4,4 +4,4 @@ use Rattle.step_slots.proofs.slots.StepSlots.image.Goals as goal
 pub returns-clause-slots : goal.returns-clause-slots
 returns-clause-slots c =
     let f = c.self.inside in
-    kept-image f.bits f.region f.live.items _ c.self.invariant.1 c.args.self.now c.self.view_is c.image.result.now c.image.ensures
+    kept-image c.laws_below.ensures f.bits f.region f.live.items _ c.self.invariant.1 c.args.self.now c.self.view_is c.image.result.now c.image.ensures

@@ -10,12 +10,12 @@ use Rattle.step_slots.proofs.slots.StepSlots.step.Goals as goal
 pub step_block-requires-clause-units : goal.step_block-requires-clause-units
 step_block-requires-clause-units c =
     let f = c.self.inside in
-    kept-units f.bits f.region f.live.items _ c.self.invariant.1
+    kept-units c.laws_below.ensures f.bits f.region f.live.items _ c.self.invariant.1
 
 pub insert_slot-requires-clause-ascend : goal.insert_slot-requires-clause-ascend
 insert_slot-requires-clause-ascend c =
     let f = c.self.inside in
-    kept-ascend f.bits f.region f.live.items _ c.self.invariant.1
+    kept-ascend c.laws_below.ensures f.bits f.region f.live.items _ c.self.invariant.1
 
 pub insert_slot-requires-clause-room : goal.insert_slot-requires-clause-room
 insert_slot-requires-clause-room c =
