@@ -1,5 +1,5 @@
 -- What moving some code answers, and what it leaves in the rooms.
-use Rattle.std.specs.Prelude.{◌≡◌, ◌⊎◌, ℕ, ◌+◌, ◌%◌, ◌^◌, ◌<◌, ◌≤◌, nat_le, true, false, ◌&&◌, ℤ, pos, List, [], ◌∷◌, ◌++◌, length, drop, map, slice_index_or, Option, Some, None, Result, Ok, Err, if◌then◌else◌}
+use Rattle.std.specs.Prelude.{◌≡◌, ◌⊎◌, ℕ, ◌+◌, ◌-◌, ◌*◌, ◌%◌, ◌==◌, ◌^◌, ◌<◌, ◌≤◌, nat_le, true, false, ◌&&◌, ℤ, pos, List, [], ◌∷◌, ◌++◌, length, drop, map, slice_index_or, Option, Some, None, Result, Ok, Err, if◌then◌else◌}
 use Rattle.std.specs.List.{range_with_len}
 use Rattle.x86_values.specs.declared.Bits.{Bits}
 use Rattle.x86_values.specs.declared.Decoded.{Decoded}
@@ -13,7 +13,8 @@ use Rattle.branch_sizes.specs.declared.plan.Form.TheVariants.{Itself, Short, Nea
 use Rattle.move_goals.specs.declared.items.Placed.{Placed}
 use Rattle.move_goals.specs.Items.{item_at, one_span, passes}
 use Rattle.block_encoder.specs.declared.error.MoveError.TheVariants as error
-use Rattle.block_encoder.specs.Moved.{IsMoved, IsRefused}
+use Rattle.branch_forms.specs.Images.{form_length}
+use Rattle.block_encoder.specs.Moved.{MovedLists, IsMoved, IsRefused}
 use Rattle.feddurzai_c.specs.declared.refusal.Refusal.{Refusal}
 use Rattle.feddurzai_c.specs.declared.refusal.Refusal.TheVariants as why
 use Rattle.feddurzai_c.specs.declared.flat.FlatMoved.{FlatMoved}
@@ -72,12 +73,26 @@ entry_at items starts forms k = record {
 unfoldable pub entries : List Placed → List ℕ → List Form → ℕ → List FlatMoved
 entries items starts forms n = map (entry_at items starts forms) (range_with_len 0 n)
 
+-- ---- the end
+
+-- how many bytes of moved instructions stand before the gap and the slots: those up to the end of the image of the last one
+unfoldable pub code_len : Bits → List Placed → ℕ → List ℕ → List Form → ℕ
+code_len bits items new starts forms =
+    let last = length items - 1 in
+    if length items == 0 then 0
+    else (slice_index_or starts last 0 - new + form_length bits (item_at items last).instr (slice_index_or forms last Itself)) % 2 ^ 64
+
+-- the offset of the first slot, of 8 bytes each, behind which nothing stands: all bytes where there is none
+abbrev pub slots_offset : MovedLists → ℕ
+slots_offset m = length m.bytes - 8 * length m.slots
+
 -- ---- the answer
 
 -- instructions moved as one block: the moved bytes, and an entry for each of them
 pub record AreMoved (bits : Bits) (items : List Placed) (new : ℕ) (m : MovedCode) : Type 0 where
   pub moved : IsMoved bits items (one_span items new) m.moved
   pub entries_are : m.entries.items ≡ entries items m.moved.starts m.moved.forms (length items)
+  pub end : m.code_len ≡ code_len bits items new m.moved.starts m.moved.forms
 
 -- the same, or why they are not moved
 abbrev pub IsItemsAnswer : Bits → List Placed → ℕ → Result MovedCode MoveRefusal → Type 0
@@ -166,17 +181,26 @@ abbrev pub entries_left : List FlatMoved → Result MovedCode MoveRefusal → Li
 entries_left old (Ok m) = m.entries.items ++ drop (length m.entries.items) old
 entries_left old (Err e) = old
 
+-- no numbers
+abbrev pub nothing_moved : FlatMove
+nothing_moved = record { bytes = 0; count = 0; at = 0; address = 0; code_bytes = 0; slots_at = 0 }
+
 -- the numbers of a refusal: those of its instruction or offset, of its address modulo 2 ^ 64, and of too many instructions
 abbrev pub refusal_report : MoveRefusal → FlatMove
-refusal_report (BadCode at e) = record { bytes = 0; count = 0; at = at; address = 0 }
-refusal_report (TooMany count) = record { bytes = 0; count = count; at = 0; address = 0 }
-refusal_report (Wraps end) = record { bytes = 0; count = 0; at = 0; address = end % 2 ^ 64 }
-refusal_report (TooFar at target) = record { bytes = 0; count = 0; at = at; address = target }
-refusal_report _ = record { bytes = 0; count = 0; at = 0; address = 0 }
+refusal_report (BadCode at e) = record nothing_moved { at = at }
+refusal_report (TooMany count) = record nothing_moved { count = count }
+refusal_report (Wraps end) = record nothing_moved { address = end % 2 ^ 64 }
+refusal_report (TooFar at target) = record nothing_moved { at = at; address = target }
+refusal_report _ = nothing_moved
 
--- how many bytes and entries there are, also where a room does not hold them; or the numbers of the refusal
+-- how many bytes and entries there are, and where the code ends and the slots begin, also where a room does not hold them; or the numbers of the refusal
 abbrev pub report_of : Result MovedCode MoveRefusal → FlatMove
-report_of (Ok m) = record { bytes = length m.moved.bytes; count = length m.entries.items; at = 0; address = 0 }
+report_of (Ok m) = record nothing_moved {
+  bytes = length m.moved.bytes;
+  count = length m.entries.items;
+  code_bytes = m.code_len;
+  slots_at = slots_offset m.moved;
+}
 report_of (Err e) = refusal_report e
 
 -- what the call says and leaves

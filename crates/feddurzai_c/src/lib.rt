@@ -6,6 +6,7 @@
 //! null where the length is 0.
 #![tactic(auto)]
 
+mod code_len;
 mod decoding;
 mod encoding;
 mod flat;
@@ -13,6 +14,8 @@ mod flatten;
 mod flow;
 mod info;
 pub mod laws;
+mod line;
+mod many;
 mod moved;
 mod moving;
 mod numbers;

@@ -5,6 +5,7 @@ ghost use Rattle.move_goals.specs.Items.{ArePlaced, first_disorder, one_span};
 ghost use Rattle.feddurzai_c.specs.Moving as spec;
 ghost use Rattle.feddurzai_c.specs.Numbers.{bits_numbered};
 
+use crate::code_len::code_len;
 use crate::flat::FlatMoved;
 use crate::numbers::bits_numbered;
 use block_encoder::{Form, MoveError, Moved, Placed, move_block};
@@ -20,6 +21,7 @@ const MOST: usize = 1_048_576;
 #[derive(Drop)]
 pub(crate) struct MovedCode {
     pub(crate) moved: Moved,
+    pub(crate) code_len: u64,
     pub(crate) entries: Vec<FlatMoved>,
 }
 
@@ -144,7 +146,14 @@ fn move_items(
 {
     match move_block(alloc, bits, items, new) {
         Ok(moved) => match entries_of(alloc, items, moved.starts(), moved.forms()) {
-            Ok(entries) => Ok(MovedCode { moved, entries }),
+            Ok(entries) => {
+                let code_len = code_len(bits, items, new, moved.starts(), moved.forms());
+                Ok(MovedCode {
+                    moved,
+                    code_len,
+                    entries,
+                })
+            }
             Err(_) => Err(MoveRefusal::Memory),
         },
         Err(MoveError::Memory) => Err(MoveRefusal::Memory),

@@ -7,6 +7,7 @@ use crate::flat::{FlatMove, FlatMoved};
 use crate::moved::{MoveRefusal, MovedCode, moved_code};
 use crate::refusal::{Refusal, refused};
 use crate::room::write_front;
+use block_encoder::Moved;
 use decoder::DecodeError;
 use std::alloc::Global;
 
@@ -35,6 +36,8 @@ const NOTHING: FlatMove = FlatMove {
     count: 0,
     at: 0,
     address: 0,
+    code_bytes: 0,
+    slots_at: 0,
 };
 
 /// The numbers of a refusal.
@@ -57,6 +60,14 @@ fn refusal_report(why: MoveRefusal) -> FlatMove
     }
 }
 
+/// The offset of the first slot, and how many bytes there are where there is none.
+fn slots_offset(moved: &Moved) -> u64
+    ensures { result ≡ spec.slots_offset moved.now }
+{
+    let slots = moved.slots().len() as u64;
+    (moved.bytes().len() as u64).saturating_sub(8 * slots)
+}
+
 /// The numbers of an answer.
 fn report_of(answer: &Result<MovedCode, MoveRefusal>) -> FlatMove
     ensures { result ≡ spec.report_of answer.now }
@@ -65,6 +76,8 @@ fn report_of(answer: &Result<MovedCode, MoveRefusal>) -> FlatMove
         Ok(m) => FlatMove {
             bytes: m.moved.bytes().len() as u64,
             count: m.entries.len() as u64,
+            code_bytes: m.code_len,
+            slots_at: slots_offset(&m.moved),
             ..NOTHING
         },
         Err(why) => refusal_report(*why),
@@ -104,7 +117,7 @@ fn put_moved(answer: &Result<MovedCode, MoveRefusal>, out: &mut [u8], map: &mut 
 /// where that is moved too. It says 0.
 ///
 /// The moved bytes go to `out`, with the slots that far branches go through behind them; `map` gets an entry for each instruction. `report` gets how
-/// many bytes and instructions there are, also where a room is too small for them; or the numbers of the refusal: of `Invalid` and `TooShort` the
+/// many bytes and instructions there are, how many bytes the code has before the slots and where those begin, also where a room is too small; or the numbers of the refusal: of `Invalid` and `TooShort` the
 /// offset, of `TooMany` (above 65,536) how many, of `Wraps` the old or the new end modulo 2 to the 64, of `TooFar` the number of the instruction, from
 /// 0, and its target. The other refusals are `Mode`, `TooLarge` above 1,048,576 bytes, `Memory` and `Room`. Rooms are unchanged behind what is written
 /// and after a refusal. It takes memory of the C library, and gives it back.
