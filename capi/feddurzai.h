@@ -34,7 +34,7 @@ extern "C" {
 /* ---- versions ---------------------------------------------------------------------------------------------- */
 
 /* The number of this interface. It rises when a struct, a number or a function changes. */
-#define FEDDURZAI_INTERFACE 1
+#define FEDDURZAI_INTERFACE 2
 
 /* The interface of the library that is linked: to be compared with FEDDURZAI_INTERFACE. */
 uint32_t feddurzai_interface(void);
@@ -70,9 +70,15 @@ enum {
 };
 
 /*
- * Why feddurzai_encode finds no encoding: the first of ten conditions that fails, and the operand that fails it
- * (0 to 3; two equal vector registers of a gather count with operand 0, and so does a condition about no operand).
+ * Why feddurzai_encode finds no encoding: the first of ten conditions that fails, and the operand that fails it, 0 to
+ * 3. The causes _KIND to _TARGET have an operand: of an address and its displacement it is the memory operand, of a
+ * target the near target or the memory operand at RIP or EIP (an instruction has no two of these); two equal vector
+ * registers of a gather count with operand 0. The other causes are of the whole instruction, and have 0 there.
  * `said` is a number below zero.
+ *
+ * Some instructions that feddurzai_decode reads have no encoding where they stand: the shortest spelling may no longer
+ * reach. 2e 2e 74 7f is a short branch behind padding; without the padding it is 2 bytes, and its target 129 bytes behind
+ * them, out of its reach (_TARGET). Such bytes are kept as they were read.
  */
 #define FEDDURZAI_CAUSE(said) ((-(said)) >> 8)      /* 0 for any other refusal */
 #define FEDDURZAI_CAUSE_OPERAND(said) ((-(said)) & 255)
@@ -156,8 +162,12 @@ typedef struct feddurzai_operand {
 } feddurzai_operand;
 
 /*
- * An instruction. What feddurzai_decode fills is read back as the same instruction by every other function. To make
- * one, set all bytes to 0, then code (feddurzai_code_of) and operands.
+ * An instruction. What feddurzai_decode fills is read back as the same instruction by every other function.
+ *
+ * To make one, set all bytes to 0, then code (feddurzai_code_of) and operands. A memory operand needs more than its
+ * kind, base and index: `scale` 1 (also without an index), `disp_bits` where there is a displacement (8, or the 16 or 32
+ * of the address size; 0 says that none is written), and the instruction's `asize`: 64 in 64-bit mode, else the size of
+ * the base and index. With the base RIP, `value` is the address of the operand and disp_bits 32.
  */
 typedef struct feddurzai_instr {
     feddurzai_operand ops[4];
@@ -175,6 +185,25 @@ typedef struct feddurzai_instr {
  */
 int32_t feddurzai_decode(uint32_t bits, uint64_t ip, const uint8_t *bytes, size_t len, feddurzai_instr *instr);
 
+/* The codes of an item of feddurzai_decode_many at which no instruction stands. */
+enum {
+    FEDDURZAI_CODE_TOO_SHORT = 0xFFFE,  /* the bytes end before an instruction does */
+    FEDDURZAI_CODE_INVALID = 0xFFFF     /* the bytes there begin with no instruction */
+};
+
+/*
+ * Reads many instructions: goes through `len` bytes, the first at address `ip`, and fills one struct after another, until
+ * the bytes end or `room` structs are filled (67108864 at most in one call). *count gets how many are. Each has its
+ * length in `len`; the next begins behind it. Where no instruction stands the item is a single byte: `len` 1, one of the
+ * two codes above, and all else 0, which is no instruction for any other function. A caller that has more bytes to come
+ * stops at the first FEDDURZAI_CODE_TOO_SHORT, and begins there again when they are there.
+ *
+ * Returns how many bytes the items take: the next call begins behind these. Or FEDDURZAI_BAD_MODE; then *count is
+ * unchanged.
+ */
+int32_t feddurzai_decode_many(uint32_t bits, uint64_t ip, const uint8_t *bytes, size_t len, feddurzai_instr *instrs,
+    size_t room, size_t *count);
+
 /* A style of text. */
 enum {
     FEDDURZAI_INTEL = 0,    /* mov qword [rsp+0x10], rbx */
@@ -187,6 +216,22 @@ enum {
  * Returns the length of the text without the 0, or FEDDURZAI_BAD_MODE, _BAD_SYNTAX, _BAD_INSTR, _BAD_FORM, _NO_ROOM.
  */
 int32_t feddurzai_text(uint32_t bits, uint32_t syntax, const feddurzai_instr *instr, char *out, size_t room);
+
+/*
+ * Reads the instruction at the front of `len` bytes at address `ip`, and writes its text and a 0 behind it: what
+ * feddurzai_decode and feddurzai_text do, faster, since no struct is read back. `instr` gets the instruction, and may be
+ * NULL where it is not wanted. A room of FEDDURZAI_MAX_TEXT is always enough.
+ *
+ * Returns the length of the instruction, 1 to 15, or FEDDURZAI_BAD_MODE, _BAD_SYNTAX, _INVALID, _TOO_SHORT, _NO_ROOM; then
+ * *instr is unchanged too.
+ *
+ * The library's own functions of these names (dlsym, another language) are two: feddurzai_line, which wants a struct, and
+ * feddurzai_line_text, which takes none.
+ */
+int32_t feddurzai_line(uint32_t bits, uint32_t syntax, uint64_t ip, const uint8_t *bytes, size_t len,
+    feddurzai_instr *instr, char *text, size_t room);
+int32_t feddurzai_line_text(uint32_t bits, uint32_t syntax, uint64_t ip, const uint8_t *bytes, size_t len, char *text,
+    size_t room);
 
 /*
  * Writes the shortest bytes that are read as the instruction at address `ip`. A room of FEDDURZAI_MAX_LEN is always
@@ -279,6 +324,8 @@ typedef struct feddurzai_move_report {
     uint64_t count;     /* how many instructions */
     uint64_t at;        /* _INVALID, _TOO_SHORT: the offset of the byte; _TOO_FAR: the number of the instruction, from 0 */
     uint64_t address;   /* _TOO_FAR: its target; _WRAPS: the end of the code, modulo 2 to the power of 64 */
+    uint64_t code_bytes;    /* how many bytes the code has without its slots: control goes on behind it there */
+    uint64_t slots_at;      /* the offset of the first slot; `bytes` where there is none */
 } feddurzai_move_report;
 
 /*
@@ -286,6 +333,15 @@ typedef struct feddurzai_move_report {
  * EIP still reaches what it reached, or follows it where that is moved too, in the least layout. Writes the moved bytes
  * to `out`, and to `map` an entry for each instruction. The report says how many of both there are, also where a room
  * is too small: so a first call with no rooms tells how much is needed.
+ *
+ * Control leaves the last instruction of the moved code at out + report->code_bytes. A jump back goes there, before the
+ * slots: behind them (out + report->bytes) it is never reached. There is place for it where there are no slots, that is
+ * where code_bytes == bytes, as it is within 2 gigabytes; else choose a nearer address.
+ *
+ * A target that is the start of an instruction of the code follows it, also where that is the very first: a branch back
+ * to the start of what is moved goes to the moved start. So a recursive call of a function whose start is moved goes past
+ * what is written there, and a loop of one instruction stays a loop at the new address. And a jump to the end of the
+ * code that is appended to the code aims at itself. feddurzai_move_outside keeps every target instead.
  *
  * Returns 0, or FEDDURZAI_BAD_MODE, _TOO_LARGE, _WRAPS (the old end), _INVALID or _TOO_SHORT, _TOO_MANY (the report's
  * count says how many), _WRAPS (the new end), _TOO_FAR, _NO_ROOM; _NO_MEMORY may stand in place of what comes behind
@@ -298,7 +354,8 @@ int32_t feddurzai_move(uint32_t bits, uint64_t old_ip, const uint8_t *bytes, siz
 /*
  * Follows control from the first byte of `len` bytes of code, which has the address `base`. Writes the offsets of the
  * instructions that it reaches to `starts`, in ascending order, and beside each the offset at which its basic block
- * begins to `leaders`. There are never more than bytes.
+ * begins to `leaders`. There are never more than bytes. It goes into calls, as into jumps, where their target is among
+ * the bytes, and on behind them; a call that does not come back is none to it.
  *
  * Returns how many, or FEDDURZAI_BAD_MODE, _TOO_LARGE, _NO_MEMORY, _NO_ROOM (either room is too small).
  */
@@ -325,6 +382,33 @@ static inline int32_t feddurzai_checked_decode(uint32_t bits, uint64_t ip, const
     if (feddurzai_is_null(bytes, len) || instr == NULL)
         return FEDDURZAI_NULL;
     return feddurzai_decode(bits, ip, bytes, len, instr);
+}
+
+static inline int32_t feddurzai_checked_decode_many(uint32_t bits, uint64_t ip, const uint8_t *bytes, size_t len,
+    feddurzai_instr *instrs, size_t room, size_t *count)
+{
+    if (feddurzai_is_null(bytes, len) || feddurzai_is_null(instrs, room) || count == NULL)
+        return FEDDURZAI_NULL;
+    return feddurzai_decode_many(bits, ip, bytes, len, instrs, room, count);
+}
+
+/* here NULL for the struct stands for none */
+static inline int32_t feddurzai_checked_line(uint32_t bits, uint32_t syntax, uint64_t ip, const uint8_t *bytes, size_t len,
+    feddurzai_instr *instr, char *text, size_t room)
+{
+    if (feddurzai_is_null(bytes, len) || feddurzai_is_null(text, room))
+        return FEDDURZAI_NULL;
+    if (instr == NULL)
+        return feddurzai_line_text(bits, syntax, ip, bytes, len, text, room);
+    return feddurzai_line(bits, syntax, ip, bytes, len, instr, text, room);
+}
+
+static inline int32_t feddurzai_checked_line_text(uint32_t bits, uint32_t syntax, uint64_t ip, const uint8_t *bytes,
+    size_t len, char *text, size_t room)
+{
+    if (feddurzai_is_null(bytes, len) || feddurzai_is_null(text, room))
+        return FEDDURZAI_NULL;
+    return feddurzai_line_text(bits, syntax, ip, bytes, len, text, room);
 }
 
 static inline int32_t feddurzai_checked_text(uint32_t bits, uint32_t syntax, const feddurzai_instr *instr, char *out,
@@ -390,6 +474,9 @@ static inline int32_t feddurzai_checked_flow(uint32_t bits, uint64_t base, const
 }
 
 #define feddurzai_decode feddurzai_checked_decode
+#define feddurzai_decode_many feddurzai_checked_decode_many
+#define feddurzai_line feddurzai_checked_line
+#define feddurzai_line_text feddurzai_checked_line_text
 #define feddurzai_text feddurzai_checked_text
 #define feddurzai_encode feddurzai_checked_encode
 #define feddurzai_info feddurzai_checked_info

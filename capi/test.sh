@@ -20,7 +20,7 @@ say() { printf '%s\n' "$*"; }
 die() { say "test.sh: $*" >&2; exit 1; }
 
 # ---- the header by itself
-printf '#include "feddurzai.h"\nint main(void) { return FEDDURZAI_INTERFACE != 1; }\n' >"$work/header.c"
+printf '#include "feddurzai.h"\nint main(void) { return FEDDURZAI_INTERFACE != 2; }\n' >"$work/header.c"
 gcc -std=c99 $warn -I"$here" -c "$work/header.c" -o "$work/header.o"
 say "header: C99, no warning"
 if command -v g++ >/dev/null; then

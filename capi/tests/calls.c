@@ -52,7 +52,12 @@ static void check_layout(void)
     CHECK(offsetof(feddurzai_moved, new_ip), 8);
     CHECK(offsetof(feddurzai_moved, len), 16);
     CHECK(offsetof(feddurzai_moved, form), 17);
-    CHECK(sizeof(feddurzai_move_report), 32);
+    CHECK(sizeof(feddurzai_move_report), 48);
+    CHECK(offsetof(feddurzai_move_report, count), 8);
+    CHECK(offsetof(feddurzai_move_report, at), 16);
+    CHECK(offsetof(feddurzai_move_report, address), 24);
+    CHECK(offsetof(feddurzai_move_report, code_bytes), 32);
+    CHECK(offsetof(feddurzai_move_report, slots_at), 40);
 }
 
 /* what the crate puts into each field stands where the header says */
@@ -121,6 +126,166 @@ static void check_fields(void)
     CHECK(about->ip_address, 0x1017);
     free(i);
     free(about);
+}
+
+/* the size of the memory operand: of instructions with one, and 0 of those without, whatever their row says of memory */
+static void check_memory_sizes(void)
+{
+    static const struct { uint8_t bytes[8]; size_t len; int size; } cases[] = {
+        {{0x31, 0xc0}, 2, 0},                                   /* xor eax, eax */
+        {{0x31, 0x00}, 2, 4},                                   /* xor dword [rax], eax */
+        {{0xf7, 0xe1}, 2, 0},                                   /* mul ecx */
+        {{0xf7, 0x21}, 2, 4},                                   /* mul dword [rcx] */
+        {{0x48, 0xf7, 0xf1}, 3, 0},                             /* div rcx */
+        {{0xff, 0xd0}, 2, 0},                                   /* call rax */
+        {{0xff, 0x10}, 2, 8},                                   /* call qword [rax] */
+        {{0x86, 0xc4}, 2, 0},                                   /* xchg ah, al */
+        {{0x86, 0x20}, 2, 1},                                   /* xchg byte [rax], ah */
+        {{0x48, 0x8d, 0x00}, 3, 0},                             /* lea rax, [rax]: an address alone */
+        {{0xa4}, 1, 0},                                         /* movsb: no operand */
+        {{0xc5, 0xfc, 0x10, 0x00}, 4, 32},                      /* vmovups ymm0, [rax] */
+        {{0xc5, 0xfc, 0x10, 0xc0}, 4, 0},                       /* vmovups ymm0, ymm0 */
+    };
+    size_t k;
+    for (k = 0; k < sizeof cases / sizeof *cases; k++) {
+        feddurzai_instr *i = instr_of(cases[k].bytes, cases[k].len, 64, 0);
+        feddurzai_about about;
+        CHECK(feddurzai_info(i, &about), 0);
+        CHECK(about.memory_size, cases[k].size);
+        free(i);
+    }
+}
+
+/* the operand that fails the condition: an address, its displacement and a target by the place where they stand */
+static void check_cause_operands(void)
+{
+    static const uint8_t load[] = {0x48, 0x8b, 0x44, 0x8b, 0x10};       /* mov rax, [rbx+rcx*4+0x10] */
+    static const uint8_t store[] = {0x48, 0x89, 0x44, 0x8b, 0x10};      /* mov [rbx+rcx*4+0x10], rax */
+    static const uint8_t rip[] = {0x48, 0x8b, 0x05, 0x10, 0, 0, 0};     /* mov rax, [rip+0x10] */
+    static const uint8_t shuffle[] = {0xc5, 0xf9, 0x70, 0x00, 0x1b};    /* vpshufd xmm0, [rax], 0x1b */
+    static const uint8_t padded[] = {0x2e, 0x2e, 0x74, 0x7f};           /* je behind padding: 2 bytes no longer reach */
+    uint8_t bytes[FEDDURZAI_MAX_LEN];
+    int memory;
+    for (memory = 0; memory < 2; memory++) {
+        feddurzai_instr *i = instr_of(memory == 1 ? load : store, 5, 64, 0);
+        int n;
+        i->ops[memory].index_number = FEDDURZAI_SP;                     /* RSP is no index */
+        n = feddurzai_encode(64, 0, i, bytes, sizeof bytes);
+        CHECK(FEDDURZAI_CAUSE(n), FEDDURZAI_CAUSE_MEMORY);
+        CHECK(FEDDURZAI_CAUSE_OPERAND(n), memory);
+        i->ops[memory].index_number = FEDDURZAI_CX;
+        i->ops[memory].value = 0x100;                                   /* not in 8 bits */
+        n = feddurzai_encode(64, 0, i, bytes, sizeof bytes);
+        CHECK(FEDDURZAI_CAUSE(n), FEDDURZAI_CAUSE_DISPLACEMENT);
+        CHECK(FEDDURZAI_CAUSE_OPERAND(n), memory);
+        free(i);
+    }
+    {
+        feddurzai_instr *i = instr_of(rip, sizeof rip, 64, 0x1000);
+        int n = feddurzai_encode(64, 0x7fff00000000, i, bytes, sizeof bytes);
+        CHECK(FEDDURZAI_CAUSE(n), FEDDURZAI_CAUSE_TARGET);
+        CHECK(FEDDURZAI_CAUSE_OPERAND(n), 1);
+        i->asize = 16;                                                  /* of the whole instruction */
+        n = feddurzai_encode(64, 0x1000, i, bytes, sizeof bytes);
+        CHECK(FEDDURZAI_CAUSE(n), FEDDURZAI_CAUSE_ADDRESS_SIZE);
+        CHECK(FEDDURZAI_CAUSE_OPERAND(n), 0);
+        free(i);
+        i = instr_of(shuffle, sizeof shuffle, 64, 0);
+        i->ops[2].value = 256;
+        n = feddurzai_encode(64, 0, i, bytes, sizeof bytes);
+        CHECK(FEDDURZAI_CAUSE(n), FEDDURZAI_CAUSE_IMMEDIATE);
+        CHECK(FEDDURZAI_CAUSE_OPERAND(n), 2);
+        free(i);
+        i = instr_of(padded, sizeof padded, 64, 0);
+        n = feddurzai_encode(64, 0, i, bytes, sizeof bytes);
+        CHECK(FEDDURZAI_CAUSE(n), FEDDURZAI_CAUSE_TARGET);
+        CHECK(FEDDURZAI_CAUSE_OPERAND(n), 0);
+        free(i);
+    }
+}
+
+/* an instruction read and shown in one call, with a struct and without */
+static void check_lines(void)
+{
+    static const uint8_t mov[] = {0x48, 0x89, 0x5c, 0x24, 0x10, 0x90};
+    static const uint8_t bad[] = {0x06};
+    feddurzai_instr *i = malloc(sizeof *i);
+    feddurzai_instr *read = instr_of(mov, 5, 64, 0);
+    char *text = malloc(26);
+    int with;
+    for (with = 0; with < 2; with++) {
+        feddurzai_instr *into = with ? i : NULL;
+        memset(i, 0xaa, sizeof *i);
+        memset(text, 0xaa, 26);
+        CHECK(feddurzai_line(17, 9, 0, bad, 1, into, NULL, 0), FEDDURZAI_BAD_MODE);
+        CHECK(feddurzai_line(64, 9, 0, bad, 1, into, NULL, 0), FEDDURZAI_BAD_SYNTAX);
+        CHECK(feddurzai_line(64, FEDDURZAI_INTEL, 0, bad, 1, into, NULL, 0), FEDDURZAI_INVALID);
+        CHECK(feddurzai_line(64, FEDDURZAI_INTEL, 0, mov, 4, into, NULL, 0), FEDDURZAI_TOO_SHORT);
+        CHECK(feddurzai_line(64, FEDDURZAI_INTEL, 0, NULL, 0, into, NULL, 0), FEDDURZAI_TOO_SHORT);
+        CHECK(feddurzai_line(64, FEDDURZAI_INTEL, 0, mov, 6, into, NULL, 0), FEDDURZAI_NO_ROOM);
+        CHECK(feddurzai_line(64, FEDDURZAI_INTEL, 0, mov, 6, into, text, 25), FEDDURZAI_NO_ROOM);
+        CHECK(is_untouched(i, sizeof *i), 1);
+        CHECK(is_untouched(text, 26), 1);
+        CHECK(feddurzai_line(64, FEDDURZAI_INTEL, 0, mov, 6, into, text, 26), 5);
+        CHECK(strcmp(text, "mov qword [rsp+0x10], rbx"), 0);
+        CHECK(feddurzai_line(64, FEDDURZAI_ATT, 0, mov, 6, into, text, 26), 5);
+        CHECK(strcmp(text, "movq %rbx, 0x10(%rsp)"), 0);
+        CHECK(with ? memcmp(i, read, offsetof(feddurzai_instr, asize) + 1) == 0 : is_untouched(i, sizeof *i), 1);
+    }
+    CHECK(feddurzai_line_text(64, FEDDURZAI_MASM, 0, mov + 5, 1, text, 4), 1);
+    CHECK(strcmp(text, "nop"), 0);
+    free(i);
+    free(read);
+    free(text);
+}
+
+/* many instructions in one call: what feddurzai_decode reads one by one, single bytes where none stands, and the room's end */
+static void check_many(void)
+{
+    /* nop; no instruction; mov qword [rsp+0x10], rbx; ret; and the first two bytes of a mov */
+    static const uint8_t code[] = {0x90, 0x06, 0x48, 0x89, 0x5c, 0x24, 0x10, 0xc3, 0x48, 0x8b};
+    static const int lens[] = {1, 1, 5, 1, 1, 1};
+    static const int taken[] = {0, 1, 2, 7, 8, 9, 10, 10};
+    size_t room, k;
+    for (room = 0; room <= 7; room++) {
+        feddurzai_instr *many = malloc(room * sizeof *many + 1);
+        size_t count = 99, want = room < 6 ? room : 6, at = 0;
+        memset(many, 0xaa, room * sizeof *many + 1);
+        CHECK(feddurzai_decode_many(64, 0x1000, code, sizeof code, many, room, &count), taken[room]);
+        CHECK(count, want);
+        for (k = 0; k < want; k++) {
+            feddurzai_instr one;
+            int32_t said = feddurzai_decode(64, 0x1000 + at, code + at, sizeof code - at, &one);
+            CHECK(many[k].len, lens[k]);
+            if (said < 0) {
+                CHECK(many[k].code, said == FEDDURZAI_INVALID ? FEDDURZAI_CODE_INVALID : FEDDURZAI_CODE_TOO_SHORT);
+                CHECK(many[k].ops[0].kind | many[k].ops[3].kind | many[k].lock | many[k].rep | many[k].segment | many[k].asize, 0);
+            } else {
+                CHECK(memcmp(&many[k], &one, offsetof(feddurzai_instr, asize) + 1), 0);
+            }
+            at += many[k].len;
+        }
+        CHECK(is_untouched(many + want, (room - want) * sizeof *many + 1), 1);
+        free(many);
+    }
+    {
+        /* the address of the second wraps: its target is the first */
+        static const uint8_t wraps[] = {0x90, 0xeb, 0xfd};
+        feddurzai_instr two[2];
+        size_t count = 99;
+        CHECK(feddurzai_decode_many(64, UINT64_MAX, wraps, 3, two, 2, &count), 3);
+        CHECK(count, 2);
+        CHECK(two[1].ops[0].value == UINT64_MAX, 1);
+        count = 99;
+        memset(two, 0xaa, sizeof two);
+        CHECK(feddurzai_decode_many(17, 0, wraps, 3, two, 2, &count), FEDDURZAI_BAD_MODE);
+        CHECK(count, 99);
+        CHECK(is_untouched(two, sizeof two), 1);
+        CHECK(feddurzai_decode_many(64, 0, NULL, 0, two, 2, &count), 0);
+        CHECK(count, 0);
+        CHECK(feddurzai_decode_many(64, 0, wraps, 3, NULL, 0, &count), 0);
+        CHECK(count, 0);
+    }
 }
 
 static void check_refusals(void)
@@ -269,6 +434,8 @@ static void check_code(void)
     CHECK(feddurzai_move(64, 0x1000, code, 4, 0x2000, NULL, 0, NULL, 0, report), FEDDURZAI_NO_ROOM);
     CHECK(report->bytes, 4);
     CHECK(report->count, 3);
+    CHECK(report->code_bytes, 4);
+    CHECK(report->slots_at, 4);
     CHECK(feddurzai_move(64, 0x1000, code, 4, 0x2000, out, 3, map, 3, report), FEDDURZAI_NO_ROOM);
     CHECK(feddurzai_move(64, 0x1000, code, 4, 0x2000, out, 16, map, 2, report), FEDDURZAI_NO_ROOM);
     CHECK(is_untouched(out, 16), 1);
@@ -297,9 +464,22 @@ static void check_code(void)
         CHECK(feddurzai_move(64, 0x1000, rip, 7, 0x7fff00000000, out, 16, map, 3, report), FEDDURZAI_TOO_FAR);
         CHECK(report->at, 0);
         CHECK(report->address, 0x1017);
+        CHECK(report->code_bytes | report->slots_at, 0);
     }
     CHECK(feddurzai_move(64, 0x1000, loop, 2, 0x2000, out, 16, map, 3, report), 0);
     CHECK(map[0].form, FEDDURZAI_BRIDGE);
+    CHECK(report->code_bytes, report->bytes);
+    CHECK(report->slots_at, report->bytes);
+    /* a call and a return far away: 7 bytes, a gap of 1, and the slot */
+    {
+        static const uint8_t far_call[] = {0xe8, 0x00, 0x01, 0x00, 0x00, 0xc3};
+        CHECK(feddurzai_move(64, 0x1000, far_call, 6, 0x7fff00000000, out, 16, map, 3, report), 0);
+        CHECK(report->bytes, 16);
+        CHECK(report->code_bytes, 7);
+        CHECK(report->slots_at, 8);
+        CHECK(out[6], 0xc3);
+        CHECK(out[8] | out[9] << 8, 0x1105);
+    }
     CHECK(feddurzai_move(64, 0, large, FEDDURZAI_MAX_CODE + 1, 0, out, 16, map, 3, report), FEDDURZAI_TOO_LARGE);
     memset(large, 0x90, FEDDURZAI_MAX_CODE);
     CHECK(feddurzai_move(64, 0, large, FEDDURZAI_MAX_MOVED + 1, 0, out, 16, map, 3, report), FEDDURZAI_TOO_MANY);
@@ -333,6 +513,10 @@ int main(void)
     CHECK(feddurzai_version() >> 24, 0);
     check_layout();
     check_fields();
+    check_memory_sizes();
+    check_cause_operands();
+    check_lines();
+    check_many();
     check_refusals();
     check_code();
     printf("%d calls and fields, %d wrong\n", tests, failures);

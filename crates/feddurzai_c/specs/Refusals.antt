@@ -3,7 +3,7 @@ use Rattle.std.specs.Prelude.{ℕ, ◌+◌, ℤ, pos, neg_ℤ}
 use Rattle.plain_spelling.specs.declared.NoSpelling.{NoSpelling}
 use Rattle.plain_spelling.specs.declared.NoSpelling.TheVariants as cause
 use Rattle.feddurzai_c.specs.declared.refusal.Refusal.{Refusal}
-use Rattle.feddurzai_c.specs.declared.refusal.Refusal.TheVariants.{Mode, Syntax, Code, Instr, Form, Room, Invalid, TooShort, Name, Memory, TooLarge, TooMany, Wraps, TooFar, Spelling}
+use Rattle.feddurzai_c.specs.declared.refusal.Refusal.TheVariants.{Mode, Syntax, Code, Instr, Form, Room, Invalid, TooShort, Name, Memory, TooLarge, TooMany, Wraps, TooFar, Text, Register, Jump, Spelling}
 
 -- 256 times the number of a condition, 1 to 10
 abbrev pub condition_number : NoSpelling → ℕ
@@ -18,7 +18,7 @@ condition_number cause.Prefix = 2048
 condition_number cause.AddressSize = 2304
 condition_number cause.Length = 2560
 
--- the number of a refusal; of an encoding that fails with the operand that fails the condition
+-- the number of a refusal, 15 of which is a header's for C; of an encoding that fails with the operand that fails the condition
 abbrev pub refusal_number : Refusal → ℕ
 refusal_number Mode = 1
 refusal_number Syntax = 2
@@ -34,6 +34,9 @@ refusal_number TooLarge = 11
 refusal_number TooMany = 12
 refusal_number Wraps = 13
 refusal_number TooFar = 14
+refusal_number Text = 16
+refusal_number Register = 17
+refusal_number Jump = 18
 refusal_number (Spelling why operand) = condition_number why + operand
 
 -- a refusal is told by its number below zero

@@ -12,7 +12,7 @@ use crate::refusal::{Refusal, refused};
 use crate::room::put_bytes;
 use crate::unflatten::instr_back;
 use arrayvec::ArrayVec;
-use encoder::{NoSpelling, encode};
+use encoder::{NoSpelling, encode, encoded_len};
 use x86_values::{Instr, Operand};
 
 /// The place of the first operand that passes a test, 0 where none does.
@@ -94,5 +94,23 @@ pub extern "C" fn feddurzai_encode(bits: u32, ip: u64, instr: &FlatInstr, out: &
     match bytes_of(bits, ip, instr) {
         Ok(bytes) => put_bytes(out, &bytes),
         Err(why) => refused(why),
+    }
+}
+
+/// How many bytes the plain (shortest) spelling of an instruction at an address has: 1 to 15. The refusals are those of `feddurzai_encode`, but for `Room`.
+#[tactic(auto, unfolding(crate::specs::Answers::encoding_of))]
+#[unsafe(no_mangle)]
+pub extern "C" fn feddurzai_encoded_len(bits: u32, ip: u64, instr: &FlatInstr) -> i32
+    ensures { result ≡ spec.said (spec.encode_answer bits ip instr.now) }
+{
+    let Some(bits) = bits_numbered(bits) else {
+        return refused(Refusal::Mode);
+    };
+    let Some(instr) = instr_back(instr) else {
+        return refused(Refusal::Instr);
+    };
+    match encoded_len(bits, ip, &instr) {
+        Ok(len) => i32::from(len),
+        Err(why) => refused(no_spelling(&instr, why)),
     }
 }

@@ -6,6 +6,7 @@
 //! null where the length is 0.
 #![tactic(auto)]
 
+mod assembling;
 mod code_len;
 mod decoding;
 mod encoding;
@@ -13,11 +14,13 @@ mod flat;
 mod flatten;
 mod flow;
 mod info;
+mod jump;
 pub mod laws;
 mod line;
 mod many;
 mod moved;
 mod moving;
+mod names;
 mod numbers;
 mod refusal;
 mod room;

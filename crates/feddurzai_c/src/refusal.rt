@@ -36,6 +36,12 @@ pub(crate) enum Refusal {
     Wraps,
     /// An instruction does not reach its target from its new place.
     TooFar,
+    /// No instruction that has a plain spelling there has this text.
+    Text,
+    /// No register has this class and number, and no prefix names such a segment.
+    Register,
+    /// A jump has no such form.
+    Jump,
     /// The instruction has no plain spelling there: the condition that fails, and the operand that fails it, 0 for a condition of the whole instruction.
     Spelling { why: NoSpelling, operand: u8 },
 }
@@ -78,6 +84,9 @@ fn refusal_number(why: Refusal) -> u16
         Refusal::TooMany => 12,
         Refusal::Wraps => 13,
         Refusal::TooFar => 14,
+        Refusal::Text => 16,
+        Refusal::Register => 17,
+        Refusal::Jump => 18,
         Refusal::Spelling { why, operand } => condition_number(why) + u16::from(operand),
     }
 }
