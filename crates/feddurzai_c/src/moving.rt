@@ -4,7 +4,7 @@ ghost use Rattle.std.specs.Prelude.{◌≡◌, ◌≤◌, ◌++◌, length, drop
 ghost use Rattle.feddurzai_c.specs.Moving as spec;
 
 use crate::flat::{FlatMove, FlatMoved};
-use crate::moved::{MoveRefusal, MovedCode, moved_code};
+use crate::moved::{MoveRefusal, MovedCode, Targets, moved_code};
 use crate::refusal::{Refusal, refused};
 use crate::room::write_front;
 use block_encoder::Moved;
@@ -113,6 +113,25 @@ fn put_moved(answer: &Result<MovedCode, MoveRefusal>, out: &mut [u8], map: &mut 
     }
 }
 
+/// Moves code, and leaves the moved bytes, the map and the report.
+fn move_by(
+    alloc: Global,
+    targets: Targets,
+    bits: u32,
+    old: u64,
+    bytes: &[u8],
+    new: u64,
+    out: &mut [u8],
+    map: &mut [FlatMoved],
+    report: &mut FlatMove,
+) -> i32
+    ensures { spec.IsMove targets bits old bytes.now new out.old out.new map.old map.new report.new result }
+{
+    let answer = moved_code(alloc, targets, bits, old, bytes, new);
+    *report = report_of(&answer);
+    put_moved(&answer, out, map)
+}
+
 /// Moves code from the address `old` to the address `new`: every branch and every operand at RIP or EIP still reaches what it reached, or follows it
 /// where that is moved too. It says 0.
 ///
@@ -132,9 +151,48 @@ pub extern "C" fn feddurzai_move(
     map: &mut [FlatMoved],
     report: &mut FlatMove,
 ) -> i32
-    ensures { spec.IsMove bits old bytes.now new out.old out.new map.old map.new report.new result }
+    ensures { spec.IsMove Targets.Follow bits old bytes.now new out.old out.new map.old map.new report.new result }
 {
-    let answer = moved_code(alloc, bits, old, bytes, new);
-    *report = report_of(&answer);
-    put_moved(&answer, out, map)
+    move_by(
+        alloc,
+        Targets::Follow,
+        bits,
+        old,
+        bytes,
+        new,
+        out,
+        map,
+        report,
+    )
+}
+
+/// Moves code from the address `old` to the address `new` and keeps every target: a branch and an operand at RIP or EIP reach what they reached, also where
+/// that is one of the moved instructions. Answer, report and refusals are those of `feddurzai_move`.
+///
+/// So an instruction moved by itself does there what it did at its old place, also where it branches to itself, and a jump to the old end that is put
+/// behind some code is a jump back.
+#[unsafe(no_mangle)]
+pub extern "C" fn feddurzai_move_outside(
+    alloc: Global,
+    bits: u32,
+    old: u64,
+    bytes: &[u8],
+    new: u64,
+    out: &mut [u8],
+    map: &mut [FlatMoved],
+    report: &mut FlatMove,
+) -> i32
+    ensures { spec.IsMove Targets.Stay bits old bytes.now new out.old out.new map.old map.new report.new result }
+{
+    move_by(
+        alloc,
+        Targets::Stay,
+        bits,
+        old,
+        bytes,
+        new,
+        out,
+        map,
+        report,
+    )
 }
