@@ -288,6 +288,180 @@ static void check_many(void)
     }
 }
 
+/* Intel texts: bytes and structs of them, with each refusal */
+static void check_texts(void)
+{
+    static const struct { uint32_t bits; uint64_t ip; const char *text; uint8_t bytes[8]; int len; } cases[] = {
+        {64, 0, "mov qword [rsp+0x10], rbx", {0x48, 0x89, 0x5c, 0x24, 0x10}, 5},
+        {64, 0x401000, "jmp 0x401000", {0xeb, 0xfe}, 2},
+        {64, 0x401000, "call 0x402003", {0xe8, 0xfe, 0x0f, 0, 0}, 5},
+        {32, 0, "inc eax", {0x40}, 1},
+        {16, 0, "mov ax, 0x1234", {0xb8, 0x34, 0x12}, 3},
+        {64, 0, "xchg eax, eax", {0x87, 0xc0}, 2},
+        {64, 0, "inc eax ", {0}, FEDDURZAI_NO_TEXT},
+        {64, 0, "", {0}, FEDDURZAI_NO_TEXT},
+        {64, 0, "movq %rax, %rbx", {0}, FEDDURZAI_NO_TEXT},
+        {17, 0, "nop", {0}, FEDDURZAI_BAD_MODE},
+    };
+    size_t k;
+    for (k = 0; k < sizeof cases / sizeof *cases; k++) {
+        size_t len = strlen(cases[k].text), room = cases[k].len < 0 ? 3 : (size_t)cases[k].len;
+        char *text = malloc(len + 1);
+        uint8_t *out = malloc(room);
+        feddurzai_instr *i = malloc(sizeof *i), *read = malloc(sizeof *read);
+        memcpy(text, cases[k].text, len);
+        memset(out, 0xaa, room);
+        memset(i, 0xaa, sizeof *i);
+        CHECK(feddurzai_assemble(cases[k].bits, cases[k].ip, text, len, out, room), cases[k].len);
+        CHECK(feddurzai_read_intel(cases[k].bits, cases[k].ip, text, len, i), cases[k].len);
+        if (cases[k].len < 0) {
+            CHECK(is_untouched(out, room) && is_untouched(i, sizeof *i), 1);
+        } else {
+            CHECK(memcmp(out, cases[k].bytes, room), 0);
+            CHECK(feddurzai_decode(cases[k].bits, cases[k].ip, out, room, read), cases[k].len);
+            CHECK(memcmp(i, read, offsetof(feddurzai_instr, asize) + 1), 0);
+            CHECK(feddurzai_encoded_len(cases[k].bits, cases[k].ip, i), cases[k].len);
+            memset(out, 0xaa, room);
+            CHECK(feddurzai_assemble(cases[k].bits, cases[k].ip, text, len, out, room - 1), FEDDURZAI_NO_ROOM);
+            CHECK(is_untouched(out, room), 1);
+        }
+        free(text);
+        free(out);
+        free(i);
+        free(read);
+    }
+}
+
+/* the names of registers, and numbers that no register has */
+static void check_register_names(void)
+{
+    static const struct { uint32_t syntax; uint8_t class_, number; const char *text; } cases[] = {
+        {FEDDURZAI_INTEL, FEDDURZAI_LOW8, 4, "spl"}, {FEDDURZAI_INTEL, FEDDURZAI_LOW8, 15, "r15b"},
+        {FEDDURZAI_INTEL, FEDDURZAI_HIGH8, 0, "ah"}, {FEDDURZAI_INTEL, FEDDURZAI_R16, 5, "bp"},
+        {FEDDURZAI_INTEL, FEDDURZAI_R32, 12, "r12d"}, {FEDDURZAI_ATT, FEDDURZAI_R64, 0, "%rax"},
+        {FEDDURZAI_MASM, FEDDURZAI_SEG, 4, "fs"}, {FEDDURZAI_INTEL, FEDDURZAI_CR, 8, "cr8"},
+        {FEDDURZAI_INTEL, FEDDURZAI_DR, 7, "dr7"}, {FEDDURZAI_INTEL, FEDDURZAI_ST, 3, "st3"},
+        {FEDDURZAI_ATT, FEDDURZAI_ST, 3, "%st(3)"}, {FEDDURZAI_INTEL, FEDDURZAI_MM, 7, "mm7"},
+        {FEDDURZAI_ATT, FEDDURZAI_XMM, 15, "%xmm15"}, {FEDDURZAI_INTEL, FEDDURZAI_YMM, 9, "ymm9"},
+        {FEDDURZAI_INTEL, FEDDURZAI_EIP, 0, "eip"}, {FEDDURZAI_ATT, FEDDURZAI_RIP, 0, "%rip"},
+    };
+    static const uint8_t counts[] = {0, 16, 4, 16, 16, 16, 6, 16, 8, 8, 8, 16, 16, 1, 1, 0, 0};
+    static const char *const segments[] = {NULL, "es", "cs", "ss", "ds", "fs", "gs"};
+    char text[8];
+    size_t k;
+    int class_, number;
+    for (k = 0; k < sizeof cases / sizeof *cases; k++) {
+        size_t len = strlen(cases[k].text);
+        memset(text, 0xaa, sizeof text);
+        CHECK(feddurzai_register_text(cases[k].syntax, cases[k].class_, cases[k].number, text, len), FEDDURZAI_NO_ROOM);
+        CHECK(is_untouched(text, sizeof text), 1);
+        CHECK(feddurzai_register_text(cases[k].syntax, cases[k].class_, cases[k].number, text, len + 1), (int)len);
+        CHECK(strcmp(text, cases[k].text), 0);
+        CHECK(is_untouched(text + len + 1, sizeof text - len - 1), 1);
+    }
+    for (class_ = 0; class_ < 17; class_++)
+        for (number = 0; number < 256; number++) {
+            int32_t said = feddurzai_register_text(FEDDURZAI_ATT, (uint8_t)class_, (uint8_t)number, text, 7);
+            CHECK(number < counts[class_] ? said > 0 : said == FEDDURZAI_NO_REGISTER, 1);
+        }
+    CHECK(feddurzai_register_text(3, 0, 0, NULL, 0), FEDDURZAI_BAD_SYNTAX);
+    CHECK(feddurzai_register_text(0, 0, 0, NULL, 0), FEDDURZAI_NO_REGISTER);
+    for (number = 0; number < 256; number++) {
+        int32_t said = feddurzai_segment_text(FEDDURZAI_INTEL, (uint8_t)number, text, sizeof text);
+        CHECK(said, number >= 1 && number <= 6 ? 2 : FEDDURZAI_NO_REGISTER);
+        if (said > 0)
+            CHECK(strcmp(text, segments[number]), 0);
+    }
+    CHECK(feddurzai_segment_text(FEDDURZAI_ATT, FEDDURZAI_GS, text, 4), 3);
+    CHECK(strcmp(text, "%gs"), 0);
+    CHECK(feddurzai_segment_text(9, 0, text, 4), FEDDURZAI_BAD_SYNTAX);
+    CHECK(feddurzai_segment_text(FEDDURZAI_ATT, FEDDURZAI_GS, text, 3), FEDDURZAI_NO_ROOM);
+}
+
+/* each form at an address, as the manual spells it, and the reach of the first three */
+static void check_jumps(void)
+{
+    static const struct { uint32_t bits, form; uint64_t at, target; uint8_t bytes[16]; int len; } cases[] = {
+        {64, FEDDURZAI_JUMP_SHORT, 0x1000, 0x1081, {0xeb, 0x7f}, 2},
+        {64, FEDDURZAI_JUMP_SHORT, 0x1000, 0x0f82, {0xeb, 0x80}, 2},
+        {64, FEDDURZAI_JUMP_SHORT, 0x1000, 0x1082, {0}, -256 * FEDDURZAI_CAUSE_TARGET},
+        {64, FEDDURZAI_JUMP_NEAR, 0x1000, 0x1081, {0xe9, 0x7c, 0, 0, 0}, 5},
+        {64, FEDDURZAI_JUMP_NEAR, 0x1000, 0x80001004, {0xe9, 0xff, 0xff, 0xff, 0x7f}, 5},
+        {64, FEDDURZAI_JUMP_NEAR, 0x1000, 0x80001005, {0}, -256 * FEDDURZAI_CAUSE_TARGET},
+        {64, FEDDURZAI_JUMP_FAR, 0x1000, 0x123456789abcdef0, {0xff, 0x25, 0, 0, 0, 0, 0xf0, 0xde, 0xbc, 0x9a, 0x78, 0x56, 0x34, 0x12}, 14},
+        {64, FEDDURZAI_CALL_NEAR, 0x1000, 0x1000, {0xe8, 0xfb, 0xff, 0xff, 0xff}, 5},
+        {64, FEDDURZAI_CALL_FAR, UINT64_MAX, 0x123456789abcdef0,
+            {0xff, 0x15, 2, 0, 0, 0, 0xeb, 0x08, 0xf0, 0xde, 0xbc, 0x9a, 0x78, 0x56, 0x34, 0x12}, 16},
+        {32, FEDDURZAI_JUMP_NEAR, 0xfffffff0, 0x10, {0xe9, 0x1b, 0, 0, 0}, 5},
+        {32, FEDDURZAI_JUMP_NEAR, 0, 0x100000000, {0}, -256 * FEDDURZAI_CAUSE_TARGET},
+        {16, FEDDURZAI_JUMP_NEAR, 0x100, 0x200, {0xe9, 0xfd, 0x00}, 3},
+        {16, FEDDURZAI_CALL_NEAR, 0x100, 0x200, {0xe8, 0xfd, 0x00}, 3},
+        {32, FEDDURZAI_JUMP_FAR, 0, 0, {0}, -256 * FEDDURZAI_CAUSE_ROW},
+        {16, FEDDURZAI_CALL_FAR, 0, 0, {0}, -256 * FEDDURZAI_CAUSE_ROW},
+        {64, 0, 0, 0, {0}, FEDDURZAI_BAD_JUMP},
+        {64, 6, 0, 0, {0}, FEDDURZAI_BAD_JUMP},
+        {17, 6, 0, 0, {0}, FEDDURZAI_BAD_MODE},
+    };
+    size_t k;
+    for (k = 0; k < sizeof cases / sizeof *cases; k++) {
+        size_t room = cases[k].len < 0 ? FEDDURZAI_MAX_JUMP : (size_t)cases[k].len;
+        uint8_t *out = malloc(room);
+        memset(out, 0xaa, room);
+        CHECK(feddurzai_jump(cases[k].bits, cases[k].at, cases[k].target, cases[k].form, out, room), cases[k].len);
+        CHECK(cases[k].len < 0 ? is_untouched(out, room) : memcmp(out, cases[k].bytes, room) == 0, 1);
+        if (cases[k].len > 0)
+            CHECK(feddurzai_jump(cases[k].bits, cases[k].at, cases[k].target, cases[k].form, out, room - 1), FEDDURZAI_NO_ROOM);
+        free(out);
+    }
+}
+
+/* targets that are among the moved instructions: they follow, or are kept */
+static void check_kept_targets(void)
+{
+    static const uint8_t loop[] = {0xeb, 0xfe};                     /* jmp to itself */
+    static const uint8_t back[] = {0x31, 0xc0, 0xeb, 0xfe};         /* xor eax, eax; and jmp 0x1002, the old end */
+    static const uint8_t cut[] = {0x31};
+    uint8_t *out = malloc(8);
+    feddurzai_moved map[2];
+    feddurzai_move_report report;
+    CHECK(feddurzai_move(64, 0x1000, loop, 2, 0x2000, out, 8, map, 2, &report), 0);
+    CHECK(memcmp(out, loop, 2), 0);
+    CHECK(feddurzai_move_outside(64, 0x1000, loop, 2, 0x1040, out, 8, map, 2, &report), 0);
+    CHECK(out[0] << 8 | out[1], 0xebbe);
+    CHECK(report.bytes == 2 && report.count == 1 && report.code_bytes == 2 && report.slots_at == 2, 1);
+    CHECK(map[0].old_ip == 0x1000 && map[0].new_ip == 0x1040 && map[0].len == 2 && map[0].form == FEDDURZAI_SHORT, 1);
+    CHECK(feddurzai_move_outside(64, 0x1000, back, 4, 0x2000, out, 8, map, 2, &report), 0);
+    CHECK(report.bytes, 7);
+    CHECK(memcmp(out, "\x31\xc0\xe9\xfb\xef\xff\xff", 7), 0);
+    CHECK(map[1].form, FEDDURZAI_NEAR_FORM);
+    memset(out, 0xaa, 8);
+    CHECK(feddurzai_move_outside(64, 0x1000, back, 4, 0x2000, out, 6, map, 2, &report), FEDDURZAI_NO_ROOM);
+    CHECK(feddurzai_move_outside(64, 0x1000, back, 4, 0x2000, out, 7, map, 1, &report), FEDDURZAI_NO_ROOM);
+    CHECK(report.bytes == 7 && report.count == 2, 1);
+    CHECK(feddurzai_move_outside(17, 0x1000, back, 4, 0x2000, out, 7, map, 2, &report), FEDDURZAI_BAD_MODE);
+    CHECK(feddurzai_move_outside(64, 0x1000, cut, 1, 0x2000, out, 7, map, 2, &report), FEDDURZAI_TOO_SHORT);
+    CHECK(feddurzai_move_outside(16, 0xffff, back, 4, 0x2000, out, 7, map, 2, &report), FEDDURZAI_WRAPS);
+    CHECK(report.address, 0x10003);
+    CHECK(feddurzai_move_outside(16, 0x1000, back, 4, 0xfffe, out, 7, map, 2, &report), FEDDURZAI_WRAPS);
+    CHECK(is_untouched(out, 8), 1);
+    free(out);
+}
+
+/* each constant is the code of the row that its name says, by the library's own search and notation */
+static void check_codes(void)
+{
+    static const struct { int code; const char *name; size_t n; const char *notation; } codes[] = {
+#include "codes.h"
+    };
+    char notation[65];
+    size_t k;
+    for (k = 0; k < sizeof codes / sizeof *codes; k++) {
+        CHECK(feddurzai_code_of(codes[k].name, strlen(codes[k].name), codes[k].n), codes[k].code);
+        CHECK(feddurzai_notation((uint32_t)codes[k].code, notation, sizeof notation) > 0, 1);
+        CHECK(strcmp(notation, codes[k].notation), 0);
+    }
+}
+
 static void check_refusals(void)
 {
     static const uint8_t nop[] = {0x90};
@@ -310,6 +484,7 @@ static void check_refusals(void)
     CHECK(is_untouched(i, sizeof *i), 1);
     CHECK(feddurzai_text(64, 0, i, text, sizeof text), FEDDURZAI_BAD_INSTR);
     CHECK(feddurzai_encode(64, 0, i, bytes, sizeof bytes), FEDDURZAI_BAD_INSTR);
+    CHECK(feddurzai_encoded_len(64, 0, i), FEDDURZAI_BAD_INSTR);
     memset(about, 0xaa, sizeof *about);
     CHECK(feddurzai_info(i, about), FEDDURZAI_BAD_INSTR);
     CHECK(is_untouched(about, sizeof *about), 1);
@@ -405,6 +580,8 @@ static void check_refusals(void)
         n = feddurzai_encode((uint32_t)(rand() % 5 * 16), (uint64_t)rand(), i, bytes, sizeof bytes);
         if (n > 15)
             CHECK(n, 15);
+        if (n >= 0 || FEDDURZAI_CAUSE(n) != 0)
+            CHECK(n > 0 ? n : FEDDURZAI_CAUSE_OPERAND(n) <= 3, n > 0 ? n : 1);
         n = feddurzai_info(i, about);
         if (n > 0)
             CHECK(n, 0);
@@ -517,6 +694,11 @@ int main(void)
     check_cause_operands();
     check_lines();
     check_many();
+    check_texts();
+    check_register_names();
+    check_jumps();
+    check_kept_targets();
+    check_codes();
     check_refusals();
     check_code();
     printf("%d calls and fields, %d wrong\n", tests, failures);

@@ -79,6 +79,18 @@ static void check_nulls(void)
     CHECK(feddurzai_encode(64, 0, NULL, NULL, 0), FEDDURZAI_NULL);
     CHECK(feddurzai_encode(64, 0, NULL, NULL, sizeof out), FEDDURZAI_NULL);
 
+    CHECK(feddurzai_encoded_len(64, 0, NULL), FEDDURZAI_NULL);
+
+    CHECK(feddurzai_assemble(64, 0, NULL, 3, out, sizeof out), FEDDURZAI_NULL);
+    CHECK(feddurzai_assemble(64, 0, "nop", 3, NULL, sizeof out), FEDDURZAI_NULL);
+    CHECK(feddurzai_read_intel(64, 0, NULL, 3, &unread), FEDDURZAI_NULL);
+    CHECK(feddurzai_read_intel(64, 0, "nop", 3, NULL), FEDDURZAI_NULL);
+    CHECK(feddurzai_read_intel(64, 0, NULL, 0, NULL), FEDDURZAI_NULL);
+
+    CHECK(feddurzai_jump(64, 0, 0, FEDDURZAI_JUMP_NEAR, NULL, sizeof out), FEDDURZAI_NULL);
+    CHECK(feddurzai_register_text(0, FEDDURZAI_R64, 0, NULL, sizeof text), FEDDURZAI_NULL);
+    CHECK(feddurzai_segment_text(0, FEDDURZAI_FS, NULL, sizeof text), FEDDURZAI_NULL);
+
     CHECK(feddurzai_info(NULL, &about), FEDDURZAI_NULL);
     CHECK(feddurzai_info(&instr, NULL), FEDDURZAI_NULL);
     CHECK(feddurzai_info(NULL, NULL), FEDDURZAI_NULL);
@@ -94,6 +106,11 @@ static void check_nulls(void)
     CHECK(feddurzai_move(64, 0x1000, NULL, 0, 0x2000, NULL, 0, NULL, 0, NULL), FEDDURZAI_NULL);
     CHECK(feddurzai_move(64, 0x1000, NULL, 4, 0x2000, NULL, sizeof out, NULL, 3, NULL), FEDDURZAI_NULL);
 
+    CHECK(feddurzai_move_outside(64, 0x1000, NULL, 4, 0x2000, out, sizeof out, map, 3, &report), FEDDURZAI_NULL);
+    CHECK(feddurzai_move_outside(64, 0x1000, code, 4, 0x2000, NULL, sizeof out, map, 3, &report), FEDDURZAI_NULL);
+    CHECK(feddurzai_move_outside(64, 0x1000, code, 4, 0x2000, out, sizeof out, NULL, 3, &report), FEDDURZAI_NULL);
+    CHECK(feddurzai_move_outside(64, 0x1000, code, 4, 0x2000, out, sizeof out, map, 3, NULL), FEDDURZAI_NULL);
+
     CHECK(feddurzai_flow(64, 0, NULL, 4, starts, 3, leaders, 3), FEDDURZAI_NULL);
     CHECK(feddurzai_flow(64, 0, code, 4, NULL, 3, leaders, 3), FEDDURZAI_NULL);
     CHECK(feddurzai_flow(64, 0, code, 4, starts, 3, NULL, 3), FEDDURZAI_NULL);
@@ -105,6 +122,9 @@ static void check_nulls(void)
     CHECK(feddurzai_line(17, 9, 0, NULL, 4, NULL, text, sizeof text), FEDDURZAI_NULL);
     CHECK(feddurzai_text(17, 9, NULL, text, sizeof text), FEDDURZAI_NULL);
     CHECK(feddurzai_encode(17, 0, NULL, out, sizeof out), FEDDURZAI_NULL);
+    CHECK(feddurzai_encoded_len(17, 0, NULL), FEDDURZAI_NULL);
+    CHECK(feddurzai_assemble(17, 0, NULL, 1, out, sizeof out), FEDDURZAI_NULL);
+    CHECK(feddurzai_jump(17, 0, 0, 0, NULL, 1), FEDDURZAI_NULL);
     CHECK(feddurzai_info(&unread, NULL), FEDDURZAI_NULL);
     CHECK(feddurzai_name(FEDDURZAI_CODES, NULL, 1), FEDDURZAI_NULL);
     CHECK(feddurzai_move(17, 0, code, 4, 0, out, sizeof out, map, 3, NULL), FEDDURZAI_NULL);
@@ -130,6 +150,12 @@ static void check_empty(void)
     CHECK(feddurzai_line_text(64, FEDDURZAI_INTEL, 0, mov, 5, NULL, 0), FEDDURZAI_NO_ROOM);
     CHECK(feddurzai_text(64, FEDDURZAI_INTEL, &instr, NULL, 0), FEDDURZAI_NO_ROOM);
     CHECK(feddurzai_encode(64, 0, &instr, NULL, 0), FEDDURZAI_NO_ROOM);
+    CHECK(feddurzai_assemble(64, 0, NULL, 0, NULL, 0), FEDDURZAI_NO_TEXT);
+    CHECK(feddurzai_assemble(64, 0, "nop", 3, NULL, 0), FEDDURZAI_NO_ROOM);
+    CHECK(feddurzai_read_intel(64, 0, NULL, 0, &unread), FEDDURZAI_NO_TEXT);
+    CHECK(feddurzai_jump(64, 0, 0, FEDDURZAI_JUMP_NEAR, NULL, 0), FEDDURZAI_NO_ROOM);
+    CHECK(feddurzai_register_text(0, FEDDURZAI_R64, 0, NULL, 0), FEDDURZAI_NO_ROOM);
+    CHECK(feddurzai_segment_text(0, FEDDURZAI_FS, NULL, 0), FEDDURZAI_NO_ROOM);
     CHECK(feddurzai_name(0, NULL, 0), FEDDURZAI_NO_ROOM);
     CHECK(feddurzai_notation(0, NULL, 0), FEDDURZAI_NO_ROOM);
     CHECK(feddurzai_code_of(NULL, 0, 0), FEDDURZAI_NO_NAME);
@@ -163,6 +189,12 @@ static void check_zeros(void)
     CHECK(feddurzai_line_text(0, 0, 0, NULL, 0, NULL, 0), FEDDURZAI_BAD_MODE);
     CHECK(feddurzai_text(0, 0, &zeros, NULL, 0), FEDDURZAI_BAD_MODE);
     CHECK(feddurzai_encode(0, 0, &zeros, NULL, 0), FEDDURZAI_BAD_MODE);
+    CHECK(feddurzai_encoded_len(0, 0, &zeros), FEDDURZAI_BAD_MODE);
+    CHECK(feddurzai_assemble(0, 0, NULL, 0, NULL, 0), FEDDURZAI_BAD_MODE);
+    CHECK(feddurzai_read_intel(0, 0, NULL, 0, &unread), FEDDURZAI_BAD_MODE);
+    CHECK(feddurzai_jump(0, 0, 0, 0, NULL, 0), FEDDURZAI_BAD_MODE);
+    CHECK(feddurzai_register_text(0, 0, 0, NULL, 0), FEDDURZAI_NO_REGISTER);
+    CHECK(feddurzai_segment_text(0, 0, NULL, 0), FEDDURZAI_NO_REGISTER);
     CHECK(feddurzai_flow(0, 0, NULL, 0, NULL, 0, NULL, 0), FEDDURZAI_BAD_MODE);
     CHECK(feddurzai_name(0, NULL, 0), FEDDURZAI_NO_ROOM);
     CHECK(feddurzai_notation(0, NULL, 0), FEDDURZAI_NO_ROOM);
@@ -185,7 +217,7 @@ static uint8_t *room_of(size_t room)
     return bytes;
 }
 
-enum writer { TEXT, LINE, LINE_TEXT, ENCODE, NAME, NOTATION };
+enum writer { TEXT, LINE, LINE_TEXT, ENCODE, ASSEMBLE, JUMP, REGISTER_TEXT, SEGMENT_TEXT, NAME, NOTATION };
 
 static int32_t written(enum writer writer, uint8_t *bytes, size_t room)
 {
@@ -198,6 +230,14 @@ static int32_t written(enum writer writer, uint8_t *bytes, size_t room)
         return feddurzai_line(64, FEDDURZAI_INTEL, 0, mov, sizeof mov, NULL, (char *)bytes, room);
     case ENCODE:
         return feddurzai_encode(64, 0, &instr, bytes, room);
+    case ASSEMBLE:
+        return feddurzai_assemble(64, 0, mov_text, sizeof mov_text - 1, bytes, room);
+    case JUMP:
+        return feddurzai_jump(64, 0x1000, 0x1081, FEDDURZAI_JUMP_SHORT, bytes, room);
+    case REGISTER_TEXT:
+        return feddurzai_register_text(FEDDURZAI_ATT, FEDDURZAI_R64, 0, (char *)bytes, room);
+    case SEGMENT_TEXT:
+        return feddurzai_segment_text(FEDDURZAI_INTEL, FEDDURZAI_FS, (char *)bytes, room);
     case NAME:
         return feddurzai_name(instr.code, (char *)bytes, room);
     default:
@@ -263,6 +303,10 @@ int main(void)
     check_rooms_of(LINE, mov_text, sizeof mov_text, sizeof mov);
     check_rooms_of(LINE_TEXT, mov_text, sizeof mov_text, sizeof mov);
     check_rooms_of(ENCODE, mov, sizeof mov, sizeof mov);
+    check_rooms_of(ASSEMBLE, mov, sizeof mov, sizeof mov);
+    check_rooms_of(JUMP, "\xeb\x7f", 2, 2);
+    check_rooms_of(REGISTER_TEXT, "%rax", 5, 4);
+    check_rooms_of(SEGMENT_TEXT, "fs", 3, 2);
     check_rooms_of(NAME, "mov", 4, 3);
     check_rooms_of(NOTATION, "REX.W + 89 /r", 14, 13);
     check_pairs_of_rooms();
