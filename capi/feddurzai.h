@@ -79,9 +79,9 @@ enum {
  * registers of a gather count with operand 0. The other causes are of the whole instruction, and have 0 there.
  * `said` is a number below zero.
  *
- * Some instructions that feddurzai_decode reads have no encoding where they stand: the shortest spelling may no longer
- * reach. 2e 2e 74 7f is a short branch behind padding; without the padding it is 2 bytes, and its target 129 bytes behind
- * them, out of its reach (_TARGET). Such bytes are kept as they were read.
+ * Some instructions that feddurzai_decode reads have no encoding where they stand, since the shortest spelling no longer
+ * reaches: 2e 2e 74 7f is a short branch with a prefix twice; with one of them it is 3 bytes, and its target 128 bytes
+ * behind these, which 8 bits do not hold (_TARGET). Such bytes are kept as they were read.
  */
 #define FEDDURZAI_CAUSE(said) ((-(said)) >> 8)      /* 0 for any other refusal */
 #define FEDDURZAI_CAUSE_OPERAND(said) ((-(said)) & 255)
