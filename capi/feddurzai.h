@@ -587,7 +587,7 @@ typedef struct feddurzai_move_report {
  * Returns 0, or FEDDURZAI_BAD_MODE, _TOO_LARGE, _WRAPS (the old end), _INVALID or _TOO_SHORT, _TOO_MANY (the report's
  * count says how many), _WRAPS (the new end), _TOO_FAR, _NO_ROOM; _NO_MEMORY may stand in place of what comes behind
  * the first _WRAPS. The bytes may be moved only where nothing jumps into the middle of an instruction; a target that
- * is no start of an instruction of the code stays where it was.
+ * is no start of an instruction of the code stays where it was. No bytes are moved to no bytes: both ends are `new_ip`.
  */
 int32_t feddurzai_move(uint32_t bits, uint64_t old_ip, const uint8_t *bytes, size_t len, uint64_t new_ip, uint8_t *out,
     size_t room, feddurzai_moved *map, size_t map_room, feddurzai_move_report *report);

@@ -608,6 +608,9 @@ static void check_code(void)
     CHECK(feddurzai_move(64, 0x1000, NULL, 0, 0x2000, NULL, 0, NULL, 0, report), 0);
     CHECK(report->bytes, 0);
     CHECK(report->count, 0);
+    CHECK(feddurzai_move(16, 0x20000, NULL, 0, 0x2000, NULL, 0, NULL, 0, report), 0);
+    CHECK(feddurzai_move(16, 0x1000, NULL, 0, 0x20000, NULL, 0, NULL, 0, report), FEDDURZAI_WRAPS);
+    CHECK(report->address, 0x20000);
     CHECK(feddurzai_move(64, 0x1000, code, 4, 0x2000, NULL, 0, NULL, 0, report), FEDDURZAI_NO_ROOM);
     CHECK(report->bytes, 4);
     CHECK(report->count, 3);

@@ -4,3 +4,4 @@ pub mod FewReached
 pub mod ItemsInOrder
 pub mod MovedEntries
 pub mod ItemStructs
+pub mod CodeEnds

@@ -121,32 +121,36 @@ IsReadRefusal bits old bytes (BadCode at e) = StopsAt bits old bytes at e
 IsReadRefusal bits old bytes Memory = Unit {0}
 IsReadRefusal bits old bytes _ = ⊥
 
+-- the address behind the old code; no bytes are an empty block, whose old end is its new base
+abbrev pub code_end : ℕ → List ℕ → ℕ → ℕ
+code_end old bytes new = if length bytes == 0 then new else (old + length bytes)
+
 -- the code is short, and ends inside the address space of the mode
-pub record IsTaken (bits : Bits) (old : ℕ) (bytes : List ℕ) : Type 0 where
+pub record IsTaken (bits : Bits) (old : ℕ) (bytes : List ℕ) (new : ℕ) : Type 0 where
   pub short : length bytes ≤ 1048576
-  pub inside : passes bits (old + length bytes) ≡ false
+  pub inside : passes bits (code_end old bytes new) ≡ false
 
 -- its instructions are read and moved, or their moving is refused
 pub record IsMovedAs (targets : Targets) (bits : Bits) (old : ℕ) (bytes : List ℕ) (new : ℕ) (answer : Result MovedCode MoveRefusal) : Type 0 where
-  pub taken : IsTaken bits old bytes
+  pub taken : IsTaken bits old bytes new
   pub items : List Placed
   pub read : AreItemsOf bits old bytes items
   pub is : IsItemsAnswer targets bits items new answer
 
 -- the code ends past the address space
-pub record IsOldPass (bits : Bits) (old : ℕ) (bytes : List ℕ) (end : ℕ) : Type 0 where
+pub record IsOldPass (bits : Bits) (old : ℕ) (bytes : List ℕ) (new end : ℕ) : Type 0 where
   pub short : length bytes ≤ 1048576
-  pub end_is : end ≡ old + length bytes
+  pub end_is : end ≡ code_end old bytes new
   pub passes_space : passes bits end ≡ true
 
 -- the moved code, or why it is not moved
 abbrev pub IsMoveAnswerIn : Targets → Bits → ℕ → List ℕ → ℕ → Result MovedCode MoveRefusal → Type 0
 IsMoveAnswerIn targets bits old bytes new (Ok m) = IsMovedAs targets bits old bytes new (Ok m)
 IsMoveAnswerIn targets bits old bytes new (Err TooLarge) = 1048576 < length bytes
-IsMoveAnswerIn targets bits old bytes new (Err (BadCode at e)) = IsTaken bits old bytes × StopsAt bits old bytes at e
-IsMoveAnswerIn targets bits old bytes new (Err Memory) = IsTaken bits old bytes
+IsMoveAnswerIn targets bits old bytes new (Err (BadCode at e)) = IsTaken bits old bytes new × StopsAt bits old bytes at e
+IsMoveAnswerIn targets bits old bytes new (Err Memory) = IsTaken bits old bytes new
 IsMoveAnswerIn targets bits old bytes new (Err (TooMany count)) = IsMovedAs targets bits old bytes new (Err (TooMany count))
-IsMoveAnswerIn targets bits old bytes new (Err (Wraps end)) = IsOldPass bits old bytes end ⊎ IsMovedAs targets bits old bytes new (Err (Wraps end))
+IsMoveAnswerIn targets bits old bytes new (Err (Wraps end)) = IsOldPass bits old bytes new end ⊎ IsMovedAs targets bits old bytes new (Err (Wraps end))
 IsMoveAnswerIn targets bits old bytes new (Err (TooFar at target)) = IsMovedAs targets bits old bytes new (Err (TooFar at target))
 IsMoveAnswerIn targets bits old bytes new (Err Mode) = ⊥
 IsMoveAnswerIn targets bits old bytes new (Err Room) = ⊥

@@ -191,6 +191,16 @@ fn move_items(
     }
 }
 
+/// The address behind the old code. No bytes are an empty block, whose old end is its new base.
+fn code_end(old: u64, bytes: &[u8], new: u64) -> u128
+    ensures { result ≡ spec.code_end old bytes.now new }
+{
+    if bytes.is_empty() {
+        return u128::from(new);
+    }
+    u128::from(old) + bytes.len() as u128
+}
+
 /// Reads some code and moves it, in a mode.
 fn move_in(
     alloc: Global,
@@ -205,7 +215,7 @@ fn move_in(
     if bytes.len() > MOST {
         return Err(MoveRefusal::TooLarge);
     }
-    let end = u128::from(old) + bytes.len() as u128;
+    let end = code_end(old, bytes, new);
     if passes(bits, end) {
         return Err(MoveRefusal::Wraps { end });
     }

@@ -139,7 +139,7 @@ fn move_by(
 /// many bytes and instructions there are, how many bytes the code has before the slots and where those begin, also where a room is too small; or the numbers of the refusal: of `Invalid` and `TooShort` the
 /// offset, of `TooMany` (above 65,536) how many, of `Wraps` the old or the new end modulo 2 to the 64, of `TooFar` the number of the instruction, from
 /// 0, and its target. The other refusals are `Mode`, `TooLarge` above 1,048,576 bytes, `Memory` and `Room`. Rooms are unchanged behind what is written
-/// and after a refusal. It takes memory of the C library, and gives it back.
+/// and after a refusal. Of no bytes both ends are the new address. It takes memory of the C library, and gives it back.
 #[unsafe(no_mangle)]
 pub extern "C" fn feddurzai_move(
     alloc: Global,

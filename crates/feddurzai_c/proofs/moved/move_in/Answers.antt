@@ -1,5 +1,13 @@
+use Rattle.std.proofs.Common.{arith, ap, sym, ◌∙◌}
+use Rattle.move_goals.specs.Items.{passes}
+use Rattle.feddurzai_c.proofs.CodeEnds.{ends-inside}
 use Rattle.feddurzai_c.proofs.ItemsInOrder.{are_placed, no_disorder}
 use Rattle.feddurzai_c.proofs.moved.move_in.Goals as goal
+
+pub read_items-requires : goal.read_items-requires
+read_items-requires c =
+    ends-inside c.args.bits c.args.old c.args.bytes.now c.args.new (omega arith)
+    (sym (ap (passes c.args.bits) c.code_end-end.ensures) ∙ (sym c.passes.ensures ∙ c.if-passes.false))
 
 pub move_items-requires-clause-placed : goal.move_items-requires-clause-placed
 move_items-requires-clause-placed c =
