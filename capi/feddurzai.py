@@ -15,7 +15,7 @@ No function keeps any state: they may be called from several threads.
 import ctypes
 import os
 
-INTERFACE = 1
+INTERFACE = 2
 INTEL, ATT, MASM = 0, 1, 2
 NONE, REGISTER, MEMORY, IMMEDIATE, NEAR, FAR = range(6)
 (NO_REG, LOW8, HIGH8, R16, R32, R64, SEG, CR, DR, ST, MM, XMM, YMM, EIP, RIP) = range(15)
@@ -100,7 +100,7 @@ class Moved(ctypes.Structure):
 class MoveReport(ctypes.Structure):
     """feddurzai_move_report."""
 
-    _fields_ = [(name, ctypes.c_uint64) for name in ("bytes", "count", "at", "address")]
+    _fields_ = [(name, ctypes.c_uint64) for name in ("bytes", "count", "at", "address", "code_bytes", "slots_at")]
 
 
 def _load():

@@ -20,7 +20,7 @@ say() { printf '%s\n' "$*"; }
 die() { say "test.sh: $*" >&2; exit 1; }
 
 # ---- the header by itself
-printf '#include "feddurzai.h"\nint main(void) { return FEDDURZAI_INTERFACE != 1; }\n' >"$work/header.c"
+printf '#include "feddurzai.h"\nint main(void) { return FEDDURZAI_INTERFACE != 2; }\n' >"$work/header.c"
 gcc -std=c99 $warn -I"$here" -c "$work/header.c" -o "$work/header.o"
 say "header: C99, no warning"
 if command -v g++ >/dev/null; then
@@ -51,6 +51,8 @@ for style in intel att masm; do
     "$program" list 64 401000 $style <"$file" >"$work/program.$style"
 done
 say "program: $(wc -l <"$work/program.intel") lines in each of three styles"
+"$program" rows | "$here/codes.py" --check || die "the codes in the header"
+say "header: the codes of common instructions are those of the program's rows"
 
 # tries_nulls COMPILER STANDARD: every function with NULL, zeros and small rooms, under the sanitizers
 tries_nulls() {

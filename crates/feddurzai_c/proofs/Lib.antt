@@ -3,4 +3,5 @@ pub mod FewUses
 pub mod FewReached
 pub mod ItemsInOrder
 pub mod MovedEntries
+pub mod ItemStructs
 pub mod CodeEnds
