@@ -110,7 +110,7 @@ tries_gdb() {
         return
     fi
     gdb_script=$1
-    for debug in -g -g0; do
+    for debug in -g0 -g; do
         makes_debugged $debug
         in_gdb 'call 0x[0-9a-f]+ <called>' 'feddurzai-list main'
         # the function at $pc, to its last instruction

@@ -5,7 +5,6 @@
 
 import ctypes
 import doctest
-import importlib
 import inspect
 import pickle
 import pydoc
@@ -145,7 +144,7 @@ def moved_and_followed():
     check(f.move(64, 0, b"", 0x1000)[:2], (b"", []))
     check(f.flow(64, 0, code("740190c3")), [(0, 0), (2, 2), (3, 3)])
     check(f.flow(64, 0, b""), [])
-    check(str(f.move(64, 0x1000, code("eb00"), 0x2000).places[0]), "Moved(old_ip=4096, new_ip=8192, len=2, form=<Form.SHORT: 1>)")
+    check(str(f.move(64, 0x1000, code("ebfe"), 0x2000).places[0]), "Moved(old_ip=4096, new_ip=8192, len=2, form=<Form.SHORT: 1>)")
 
 
 def refusals_say_why():
@@ -262,28 +261,30 @@ def registers_have_names():
     check(f.register("rax").name(f.Style.ATT), "%rax")
     # 16 of each size of general registers and 4 high bytes, 6 segment, 16 control, 8 debug, 8 x87 and 8 MMX registers, 32 vector registers, EIP and RIP
     check(len(f.registers()), 4 * 16 + 4 + 6 + 16 + 8 + 8 + 8 + 32 + 2)
-    refused(f.Reason.BAD_INSTR, f.Register(f.RegClass.SEG, 6).name)
+    refused(f.Reason.NO_REGISTER, f.Register(f.RegClass.SEG, 6).name)
+    refused(f.Reason.NO_REGISTER, f.segment_text, 0)
 
 
 def documents_are_true():
-    """Each example in a docstring; and what help() shows."""
+    """The examples in docstrings: each public function, class, method and property has one. And what help() shows."""
     global tried
-    names = {**{name: getattr(f, name) for name in f.__all__}, "feddurzai": f}
-    failed = 0
-    for name in ("", "._calls", "._items", "._numbers", "._operands", "._refusal", "._told"):
-        module = importlib.import_module("feddurzai" + name)
-        for test in doctest.DocTestFinder(exclude_empty=True).find(module, globs=names):
-            # what is public stands in the package, whichever file has it
-            result = doctest.DocTestRunner().run(test)
-            failed, tried = failed + result.failed, tried + result.attempted
-    for name in f.__all__:
-        it = getattr(f, name)
-        if inspect.isclass(it) or inspect.isfunction(it):
-            test = doctest.DocTestFinder(recurse=True).find(it, name, globs=names)
-            check((name, any(each.examples for each in test)), (name, True))
-    check(failed, 0)
+    names = {name: getattr(f, name) for name in f.__all__}
+    runner = doctest.DocTestRunner()
+    for name in ("__doc__", *f.__all__):
+        it = f if name == "__doc__" else names[name]
+        if not (it is f or inspect.isclass(it) or inspect.isfunction(it)):
+            continue
+        # what an enumeration or a named tuple has of its own class is no document of this package
+        tests = doctest.DocTestFinder(recurse=it is not f).find(it, name, module=False, globs=names)
+        own = [test for test in tests if not test.name.split(".")[-1].startswith("_") and (test.docstring or "").strip()]
+        for test in own:
+            if test.name == name or type(it) is type:
+                check((test.name, bool(test.examples)), (test.name, True))
+            tried += len(test.examples)
+            runner.run(test)
+    check(runner.failures, 0)
     help_text = pydoc.render_doc(f, renderer=pydoc.plaintext)
-    check([word for word in ("ctypes", "Structure", "_native", "c_u") if word in help_text], [])
+    check([word for word in ("ctypes", "Structure", "c_uint", "ForwardRef") if word in help_text], [])
     check([name for name in f.__all__ if name not in help_text], [])
     check(sum(f.version()) > 0, True)
 

@@ -1,7 +1,5 @@
 """The calls: code is read, told, made, moved and followed."""
 
-from __future__ import annotations
-
 import struct
 from ctypes import byref, c_char_p, c_size_t, c_uint32, c_void_p, cast
 from typing import Callable, Iterator, List, NamedTuple, Optional, Tuple, Union
@@ -123,8 +121,8 @@ def text(bits: int, instr: Instr, syntax: int = Style.INTEL) -> str:
 def encode(bits: int, ip: int, instr: Instr) -> bytes:
     """The shortest bytes that are read as an instruction at the address `ip`.
 
-    Refused: BAD_MODE, BAD_INSTR, NO_ENCODING with its cause and operand. Some instructions that were read have none: of a branch that
-    was written longer than it needs to be the shortest form may no longer reach.
+    Refused: BAD_MODE, BAD_INSTR, NO_ENCODING with its cause and operand. Some instructions that were read have none: of a branch with
+    needless prefixes the shortest form may no longer reach.
 
     >>> encode(64, 0, Instr(code_of("mov", 3), Memory(register("rsp"), displacement=16), register("rbx"))).hex()
     '48895c2410'
@@ -135,8 +133,8 @@ def encode(bits: int, ip: int, instr: Instr) -> bytes:
 def encoded_len(bits: int, ip: int, instr: Instr) -> int:
     """How many bytes `encode` gives; refused as that is.
 
-    >>> encoded_len(64, 0x1000, decode(64, 0x1000, bytes.fromhex("e900000000")))
-    2
+    >>> encoded_len(64, 0x1000, decode(64, 0x1000, bytes.fromhex("c4e17877")))
+    3
     """
     bits, ip = _checks.number("bits", bits, _checks.U32), _checks.number("ip", ip)
     return taken(_native.encoded_len(bits, ip, _struct_of(instr)))
@@ -153,7 +151,8 @@ def assemble(bits: int, ip: int, text: str) -> bytes:
     letters = _checks.word("text", text).encode("utf-8", "replace")
     bits, ip = _checks.number("bits", bits, _checks.U32), _checks.number("ip", ip)
     room = _BytesRoom()
-    return room.raw[: taken(_native.assemble(bits, ip, letters, len(letters), room, _native.MAX_LEN))]
+    length = taken(_native.assemble(bits, ip, letters, len(letters), room, _native.MAX_LEN))
+    return room.raw[:length]
 
 
 def read_intel(bits: int, ip: int, text: str) -> Instr:
@@ -178,8 +177,9 @@ def jump(bits: int, at: int, target: int, form: int = Jump.NEAR) -> bytes:
     'ff250000000000000000ff7f0000'
     """
     bits, at, target = _checks.number("bits", bits, _checks.U32), _checks.number("at", at), _checks.number("target", target)
-    room = _JumpRoom()
-    return room.raw[: taken(_native.jump(bits, at, target, _checks.number("form", form, _checks.U32), room, _native.MAX_JUMP))]
+    form, room = _checks.number("form", form, _checks.U32), _JumpRoom()
+    length = taken(_native.jump(bits, at, target, form, room, _native.MAX_JUMP))
+    return room.raw[:length]
 
 
 def info(instr: Instr) -> About:
@@ -220,8 +220,8 @@ def notation(code: int) -> str:
 def code_of(name: str, n: int = 0) -> Optional[int]:
     """The code of the n-th row of a name, from 0; None where it has no more than n.
 
-    >>> [notation(code) for code in (code_of("inc", 0), code_of("inc", 1))], code_of("mow")
-    (['FE /0', '66 + FF /0'], None)
+    >>> [notation(code) for code in (code_of("lea", 0), code_of("lea", 2))], code_of("mow")
+    (['o16 8D /r', 'REX.W + 8D /r'], None)
     """
     letters = _checks.word("name", name).encode("utf-8", "replace")
     number = _native.code_of(letters, len(letters), _checks.number("n", n))
@@ -232,7 +232,7 @@ def codes_of(name: str) -> List[int]:
     """The codes of all rows of a name.
 
     >>> [notation(code) for code in codes_of("leave")]
-    ['C9']
+    ['o16 C9', 'o32 C9', 'o64 C9']
     """
     found: List[int] = []
     while (code := code_of(name, len(found))) is not None:

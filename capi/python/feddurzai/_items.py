@@ -44,7 +44,11 @@ class Item:
 
     @property
     def len(self) -> int:
-        """How many bytes it takes."""
+        """How many bytes it takes.
+
+        >>> decode(64, 0, bytes.fromhex("90")).len
+        1
+        """
         return len(self.bytes)
 
     def __len__(self) -> int:
@@ -79,7 +83,7 @@ class Item:
 class BadByte(Item):
     """A byte with which no instruction begins, whatever would stand behind the bytes.
 
-    >>> next(iterate(64, 0x1000, b"\\x06"))
+    >>> next(iterate(64, 0x1000, bytes.fromhex("06")))
     <BadByte 0x1000: 06>
     """
 
@@ -89,7 +93,7 @@ class BadByte(Item):
     def text(self, syntax: int = Style.INTEL) -> str:
         """A word in brackets.
 
-        >>> BadByte(0, b"\\x06").text()
+        >>> BadByte(0, bytes.fromhex("06")).text()
         '(bad)'
         """
         return "(bad)"
@@ -108,7 +112,7 @@ class Rest(Item):
     def text(self, syntax: int = Style.INTEL) -> str:
         """Words in brackets.
 
-        >>> Rest(0, b"\\x48").text()
+        >>> Rest(0, bytes.fromhex("48")).text()
         '(the bytes end here)'
         """
         return "(the bytes end here)"
@@ -128,10 +132,9 @@ class Instr(Item):
     <Instr 0x1000: 48895c2410 mov qword [rsp+0x10], rbx>
     >>> mov == decode(64, 0, mov.bytes), mov.len, mov.name, str(mov.ops[1])
     (True, 5, 'mov', 'rbx')
-    >>> made = Instr(code_of("inc", 3), register("r8"))
-    >>> made
-    Instr(485, Register(reg_class=<RegClass.R64: 5>, number=8))
-    >>> made.encode(64, 0).hex()
+    >>> notation(code_of("inc", 5))
+    'REX.W + FF /0'
+    >>> Instr(code_of("inc", 5), register("r8")).encode(64, 0).hex()
     '49ffc0'
     """
 
@@ -173,14 +176,18 @@ class Instr(Item):
 
     @property
     def code(self) -> int:
-        """The row of the table, as `code_of` names it."""
+        """The row of the table.
+
+        >>> decode(64, 0, bytes.fromhex("c3")).code in codes_of("ret")
+        True
+        """
         return int.from_bytes(self._struct[CODE_AT:LEN_AT], sys.byteorder)
 
     @property
     def name(self) -> str:
         """The name of its row, a mnemonic in lower case; its text may have another by the operand size.
 
-        >>> decode(64, 0, b"\\x90").name
+        >>> decode(64, 0, bytes.fromhex("90")).name
         'nop'
         """
         return name_of(self.code)
@@ -203,22 +210,38 @@ class Instr(Item):
 
     @property
     def lock(self) -> bool:
-        """Whether it has LOCK."""
+        """Whether it has LOCK.
+
+        >>> decode(64, 0, bytes.fromhex("f0480fb111")).lock
+        True
+        """
         return bool(self._struct[LOCK_AT])
 
     @property
     def rep(self) -> Repeat:
-        """Its repeat prefix."""
+        """Its repeat prefix.
+
+        >>> decode(64, 0, bytes.fromhex("f3a4")).rep.name
+        'REP'
+        """
         return Repeat(self._struct[REP_AT])
 
     @property
     def segment(self) -> Segment:
-        """Its segment prefix."""
+        """Its segment prefix.
+
+        >>> decode(64, 0, bytes.fromhex("64488b00")).segment.name
+        'FS'
+        """
         return Segment(self._struct[SEGMENT_AT])
 
     @property
     def asize(self) -> int:
-        """Its address size, 0 where it uses none."""
+        """Its address size, 0 where it uses none.
+
+        >>> decode(64, 0, bytes.fromhex("67488b00")).asize, decode(64, 0, bytes.fromhex("90")).asize
+        (32, 0)
+        """
         return self._struct[ASIZE_AT]
 
     def replace(self, **changes: Any) -> Instr:
@@ -239,7 +262,7 @@ class Instr(Item):
         """Its text in a style. One that was made needs the mode. Refused: BAD_MODE, BAD_SYNTAX, BAD_INSTR, BAD_FORM.
 
         >>> decode(64, 0, bytes.fromhex("83c005")).text(Style.ATT)
-        'addl $5, %eax'
+        'add $0x5, %eax'
         """
         bits = self.bits if bits is None else bits
         if bits is None:
@@ -249,8 +272,8 @@ class Instr(Item):
     def encode(self, bits: int, ip: int) -> Bytes:
         """The shortest bytes that are read as this instruction at the address `ip`: see the function `encode`.
 
-        >>> decode(64, 0x1000, bytes.fromhex("e900000000")).encode(64, 0x1000).hex()
-        'eb03'
+        >>> decode(64, 0x1000, bytes.fromhex("c4e17877")).encode(64, 0x1000).hex()
+        'c5f877'
         """
         return encode_of(bits, ip, self._struct)
 

@@ -1,9 +1,21 @@
 """The numbers of feddurzai.h as enumerations."""
 
-from enum import IntEnum
+from enum import EnumMeta, IntEnum
+from typing import List
 
 
-class Style(IntEnum):
+class _Listed(EnumMeta):
+    """Enumerations of which help() shows the members, and not all that a whole number can do."""
+
+    def __dir__(cls) -> List[str]:
+        return ["__class__", "__doc__", "__members__", "__module__", *cls.__members__]
+
+
+class _Number(IntEnum, metaclass=_Listed):
+    """A number of feddurzai.h."""
+
+
+class Style(_Number):
     """How a text is written.
 
     >>> mov = decode(64, 0, bytes.fromhex("48895c2410"))
@@ -16,7 +28,7 @@ class Style(IntEnum):
     MASM = 2
 
 
-class Flow(IntEnum):
+class Flow(_Number):
     """Where control goes behind an instruction.
 
     >>> decode(64, 0, bytes.fromhex("7410")).info().flow
@@ -34,7 +46,7 @@ class Flow(IntEnum):
     EXCEPTION = 8
 
 
-class Access(IntEnum):
+class Access(_Number):
     """What is done to the whole of an operand or register; a write of a part is a read and a write.
 
     >>> decode(64, 0, bytes.fromhex("4889c3")).info().access
@@ -47,7 +59,7 @@ class Access(IntEnum):
     READ_WRITE = 3
 
 
-class OperandKind(IntEnum):
+class OperandKind(_Number):
     """What an operand is: the `kind` of each of `Register`, `Memory`, `Immediate`, `Near` and `Far`.
 
     >>> [op.kind.name for op in decode(64, 0, bytes.fromhex("83c005")).ops]
@@ -62,7 +74,7 @@ class OperandKind(IntEnum):
     FAR = 5
 
 
-class RegClass(IntEnum):
+class RegClass(_Number):
     """The class of a register; feddurzai.h says which numbers each has.
 
     >>> decode(64, 0, bytes.fromhex("4889c3")).ops[0].reg_class
@@ -86,7 +98,7 @@ class RegClass(IntEnum):
     RIP = 14
 
 
-class Segment(IntEnum):
+class Segment(_Number):
     """A segment prefix.
 
     >>> decode(64, 0, bytes.fromhex("64488b0425 28000000")).segment
@@ -102,7 +114,7 @@ class Segment(IntEnum):
     GS = 6
 
 
-class Repeat(IntEnum):
+class Repeat(_Number):
     """A repeat prefix.
 
     >>> decode(64, 0, bytes.fromhex("f3a4")).rep
@@ -114,7 +126,7 @@ class Repeat(IntEnum):
     REP = 0xF3
 
 
-class ItemKind(IntEnum):
+class ItemKind(_Number):
     """What an item of `iterate` is.
 
     >>> [item.kind.name for item in iterate(64, 0, bytes.fromhex("90 06 48"))]
@@ -126,7 +138,7 @@ class ItemKind(IntEnum):
     TOO_SHORT = 2
 
 
-class Form(IntEnum):
+class Form(_Number):
     """How the image of a moved instruction is made.
 
     >>> move(64, 0x1000, bytes.fromhex("7410"), 0x7fff00000000).places[0].form
@@ -141,7 +153,7 @@ class Form(IntEnum):
     FAR_BRIDGE = 5
 
 
-class Jump(IntEnum):
+class Jump(_Number):
     """A form of a jump or a call, for `jump`. Those of FAR hold the address in 8 bytes behind the code, in 64-bit mode.
 
     >>> [jump(64, 0x1000, 0x1010, form).hex() for form in (Jump.SHORT, Jump.NEAR)]
@@ -155,7 +167,7 @@ class Jump(IntEnum):
     FAR_CALL = 5
 
 
-class Reason(IntEnum):
+class Reason(_Number):
     """Why a call is refused: the numbers of the library.
 
     >>> try:
@@ -186,11 +198,11 @@ class Reason(IntEnum):
     NO_ENCODING = -256
 
 
-class Cause(IntEnum):
+class Cause(_Number):
     """Why `encode` finds no encoding: the first of ten conditions that fails.
 
     >>> try:
-    ...     Instr(code_of("inc", 1), Immediate(1)).encode(64, 0)
+    ...     Instr(code_of("inc", 5), Immediate(1)).encode(64, 0)
     ... except Refusal as refusal:
     ...     refusal.cause
     <Cause.KIND: 2>

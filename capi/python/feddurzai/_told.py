@@ -1,7 +1,5 @@
 """What an instruction is told to be: its text, its bytes, what it does."""
 
-from __future__ import annotations
-
 import struct
 from functools import lru_cache
 from typing import NamedTuple, Optional, Tuple
@@ -71,7 +69,8 @@ def encode_of(bits: int, ip: int, instr: bytes) -> bytes:
     """The bytes of the instruction of a struct."""
     room = _BytesRoom()
     bits, ip = _checks.number("bits", bits, _checks.U32), _checks.number("ip", ip)
-    return room.raw[: taken(_native.encode(bits, ip, instr, room, _native.MAX_LEN))]
+    length = taken(_native.encode(bits, ip, instr, room, _native.MAX_LEN))
+    return room.raw[:length]
 
 
 def info_of(instr: bytes) -> About:
