@@ -15,8 +15,8 @@
  * called in place of the library's, see to that. A caller without them (dlsym, another language) has to keep NULL out.
  *
  * Threads: no function keeps any state, so all may be called from any number of threads at once, and none takes a lock.
- * All but feddurzai_move and feddurzai_flow take no memory, and may be called from a signal handler and from a hook of
- * malloc; those two call malloc, realloc and free, and give back all that they took.
+ * All but feddurzai_move, feddurzai_move_outside and feddurzai_flow take no memory, and may be called from a signal
+ * handler and from a hook of malloc; those three call malloc, realloc and free, and give back all that they took.
  * Nothing is owned by the library: every result is in memory of the caller's.
  *
  * C99 and C++. All numbers are in the byte order of the machine. Lengths and sizes are in bytes.
@@ -34,7 +34,7 @@ extern "C" {
 /* ---- versions ---------------------------------------------------------------------------------------------- */
 
 /* The number of this interface. It rises when a struct, a number or a function changes. */
-#define FEDDURZAI_INTERFACE 1
+#define FEDDURZAI_INTERFACE 2
 
 /* The interface of the library that is linked: to be compared with FEDDURZAI_INTERFACE. */
 uint32_t feddurzai_interface(void);
@@ -46,7 +46,7 @@ uint32_t feddurzai_version(void);
 
 /*
  * A function that returns an int32_t says 0 or more where it did what it was asked, and else one of these. After a
- * refusal nothing was written (feddurzai_move alone writes its report always, but for FEDDURZAI_NULL). Where several
+ * refusal nothing was written (feddurzai_move and feddurzai_move_outside alone write their report always, but for FEDDURZAI_NULL). Where several
  * stand together, the first in the list of the function is told; before all of them FEDDURZAI_NULL, which every
  * function that takes a pointer may return, and no list repeats.
  */
@@ -65,14 +65,23 @@ enum {
     FEDDURZAI_TOO_MANY = -12,       /* there are more than FEDDURZAI_MAX_MOVED instructions */
     FEDDURZAI_WRAPS = -13,          /* the old or the new code passes the address space of the mode */
     FEDDURZAI_TOO_FAR = -14,        /* an instruction cannot reach its target from its new place */
-    FEDDURZAI_NULL = -15            /* NULL for a struct, or with a length above 0; it is this header that says so */
+    FEDDURZAI_NULL = -15,           /* NULL for a struct, or with a length above 0; it is this header that says so */
+    FEDDURZAI_NO_TEXT = -16,        /* no instruction that has an encoding there has this text */
+    FEDDURZAI_NO_REGISTER = -17,    /* no register has this class and number; no prefix names such a segment */
+    FEDDURZAI_BAD_JUMP = -18        /* the form is not one of FEDDURZAI_JUMP_SHORT .. FEDDURZAI_CALL_FAR */
     /* at and below -256: the instruction has no encoding, see FEDDURZAI_CAUSE */
 };
 
 /*
- * Why feddurzai_encode finds no encoding: the first of ten conditions that fails, and the operand that fails it
- * (0 to 3; two equal vector registers of a gather count with operand 0, and so does a condition about no operand).
+ * Why feddurzai_encode finds no encoding: the first of ten conditions that fails, and the operand that fails it, 0 to
+ * 3. The causes _KIND to _TARGET have an operand: of an address and its displacement it is the memory operand, of a
+ * target the near target or the memory operand at RIP or EIP (an instruction has no two of these); two equal vector
+ * registers of a gather count with operand 0. The other causes are of the whole instruction, and have 0 there.
  * `said` is a number below zero.
+ *
+ * Some instructions that feddurzai_decode reads have no encoding where they stand: the shortest spelling may no longer
+ * reach. 2e 2e 74 7f is a short branch behind padding; without the padding it is 2 bytes, and its target 129 bytes behind
+ * them, out of its reach (_TARGET). Such bytes are kept as they were read.
  */
 #define FEDDURZAI_CAUSE(said) ((-(said)) >> 8)      /* 0 for any other refusal */
 #define FEDDURZAI_CAUSE_OPERAND(said) ((-(said)) & 255)
@@ -156,8 +165,12 @@ typedef struct feddurzai_operand {
 } feddurzai_operand;
 
 /*
- * An instruction. What feddurzai_decode fills is read back as the same instruction by every other function. To make
- * one, set all bytes to 0, then code (feddurzai_code_of) and operands.
+ * An instruction. What feddurzai_decode fills is read back as the same instruction by every other function.
+ *
+ * To make one, set all bytes to 0, then code (feddurzai_code_of) and operands. A memory operand needs more than its
+ * kind, base and index: `scale` 1 (also without an index), `disp_bits` where there is a displacement (8, or the 16 or 32
+ * of the address size; 0 says that none is written), and the instruction's `asize`: 64 in 64-bit mode, else the size of
+ * the base and index. With the base RIP, `value` is the address of the operand and disp_bits 32.
  */
 typedef struct feddurzai_instr {
     feddurzai_operand ops[4];
@@ -175,6 +188,25 @@ typedef struct feddurzai_instr {
  */
 int32_t feddurzai_decode(uint32_t bits, uint64_t ip, const uint8_t *bytes, size_t len, feddurzai_instr *instr);
 
+/* The codes of an item of feddurzai_decode_many at which no instruction stands: no row has them. */
+enum {
+    FEDDURZAI_CODE_TOO_SHORT = 0xFFFE,  /* the bytes end before an instruction does */
+    FEDDURZAI_CODE_INVALID = 0xFFFF     /* the bytes there begin with no instruction */
+};
+
+/*
+ * Reads many instructions: goes through `len` bytes, the first at address `ip`, and fills one struct after another, until
+ * the bytes end or `room` structs are filled (67108864 at most in one call). *count gets how many are. Each has its
+ * length in `len`; the next begins behind it. Where no instruction stands the item is a single byte: `len` 1, one of the
+ * two codes above, and all else 0, which is no instruction for any other function. A caller that has more bytes to come
+ * stops at the first FEDDURZAI_CODE_TOO_SHORT, and begins there again when they are there.
+ *
+ * Returns how many bytes the items take: the next call begins behind these. Or FEDDURZAI_BAD_MODE; then *count is
+ * unchanged.
+ */
+int32_t feddurzai_decode_many(uint32_t bits, uint64_t ip, const uint8_t *bytes, size_t len, feddurzai_instr *instrs,
+    size_t room, size_t *count);
+
 /* A style of text. */
 enum {
     FEDDURZAI_INTEL = 0,    /* mov qword [rsp+0x10], rbx */
@@ -189,10 +221,74 @@ enum {
 int32_t feddurzai_text(uint32_t bits, uint32_t syntax, const feddurzai_instr *instr, char *out, size_t room);
 
 /*
+ * Reads the instruction at the front of `len` bytes at address `ip`, and writes its text and a 0 behind it: what
+ * feddurzai_decode and feddurzai_text do, faster, since no struct is read back. `instr` gets the instruction, and may be
+ * NULL where it is not wanted. A room of FEDDURZAI_MAX_TEXT is always enough.
+ *
+ * Returns the length of the instruction, 1 to 15, or FEDDURZAI_BAD_MODE, _BAD_SYNTAX, _INVALID, _TOO_SHORT, _NO_ROOM; then
+ * *instr is unchanged too.
+ *
+ * The library's own functions of these names (dlsym, another language) are two: feddurzai_line, which wants a struct, and
+ * feddurzai_line_text, which takes none.
+ */
+int32_t feddurzai_line(uint32_t bits, uint32_t syntax, uint64_t ip, const uint8_t *bytes, size_t len,
+    feddurzai_instr *instr, char *text, size_t room);
+int32_t feddurzai_line_text(uint32_t bits, uint32_t syntax, uint64_t ip, const uint8_t *bytes, size_t len, char *text,
+    size_t room);
+
+/*
  * Writes the shortest bytes that are read as the instruction at address `ip`. A room of FEDDURZAI_MAX_LEN is always
  * enough. Returns how many bytes, or FEDDURZAI_BAD_MODE, _BAD_INSTR, a cause (FEDDURZAI_CAUSE), _NO_ROOM.
  */
 int32_t feddurzai_encode(uint32_t bits, uint64_t ip, const feddurzai_instr *instr, uint8_t *out, size_t room);
+
+/*
+ * How many bytes feddurzai_encode would write: 1 to 15, or FEDDURZAI_BAD_MODE, _BAD_INSTR, a cause (FEDDURZAI_CAUSE).
+ */
+int32_t feddurzai_encoded_len(uint32_t bits, uint64_t ip, const feddurzai_instr *instr);
+
+/*
+ * Writes the bytes that an Intel text of `len` bytes stands for at address `ip`. The text is as feddurzai_text writes it
+ * in FEDDURZAI_INTEL, with its very spaces and without a 0 at its end: `mov qword [rsp+0x10], rbx`, `jmp 0x401000`. It is
+ * the shortest encoding that feddurzai_text shows so. A room of FEDDURZAI_MAX_LEN is always enough.
+ *
+ * Returns how many bytes, or FEDDURZAI_BAD_MODE, _NO_TEXT, _NO_ROOM.
+ */
+int32_t feddurzai_assemble(uint32_t bits, uint64_t ip, const char *text, size_t len, uint8_t *out, size_t room);
+
+/*
+ * Reads such a text into a struct: the instruction whose bytes feddurzai_assemble writes, with their number in `len`.
+ * Returns that number, 1 to 15, or FEDDURZAI_BAD_MODE, _NO_TEXT; then *instr is unchanged.
+ */
+int32_t feddurzai_read_intel(uint32_t bits, uint64_t ip, const char *text, size_t len, feddurzai_instr *instr);
+
+/* The forms of feddurzai_jump. */
+enum {
+    FEDDURZAI_JUMP_SHORT = 1,   /* jmp, 2 bytes: the target is at most 127 bytes behind them or 128 before */
+    FEDDURZAI_JUMP_NEAR = 2,    /* jmp, 5 bytes (3 in 16-bit code): at most 2 gigabytes away */
+    FEDDURZAI_JUMP_FAR = 3,     /* 64-bit code, 14 bytes: jmp [rip], and the target in 8 bytes behind it */
+    FEDDURZAI_CALL_NEAR = 4,    /* call, 5 bytes (3 in 16-bit code) */
+    FEDDURZAI_CALL_FAR = 5      /* 64-bit code, 16 bytes: call [rip+2], a jump over the 8 bytes of the target, and these */
+};
+#define FEDDURZAI_MAX_JUMP 16   /* bytes of a jump or a call, at most */
+
+/*
+ * Writes a jump to `target` or a call of it, of one of these forms, for the address `at`. No register is changed.
+ * A room of FEDDURZAI_MAX_JUMP is always enough.
+ *
+ * Returns how many bytes, or FEDDURZAI_BAD_MODE, _BAD_JUMP, a cause (FEDDURZAI_CAUSE_TARGET where the target is out of reach or
+ * no address of the mode, FEDDURZAI_CAUSE_ROW of a far form outside 64-bit code), _NO_ROOM.
+ */
+int32_t feddurzai_jump(uint32_t bits, uint64_t at, uint64_t target, uint32_t form, uint8_t *out, size_t room);
+
+/*
+ * Writes the text of the register of a class and a number in it, and a 0 behind it: `rax`, in AT&T style `%rax`. A room
+ * of 7 is always enough. Returns the length of the text, or FEDDURZAI_BAD_SYNTAX, _NO_REGISTER, _NO_ROOM.
+ */
+int32_t feddurzai_register_text(uint32_t syntax, uint8_t reg_class, uint8_t reg_number, char *out, size_t room);
+
+/* The same of the segment register that a prefix names, FEDDURZAI_ES .. FEDDURZAI_GS: `fs`, in AT&T style `%fs`. */
+int32_t feddurzai_segment_text(uint32_t syntax, uint8_t segment, char *out, size_t room);
 
 /* ---- what an instruction does ------------------------------------------------------------------------------ */
 
@@ -250,6 +346,196 @@ int32_t feddurzai_notation(uint32_t code, char *out, size_t room);
  */
 int32_t feddurzai_code_of(const char *name, size_t len, size_t n);
 
+/*
+ * The codes of common instructions, for a struct's `code`. feddurzai_code_of finds all others; it looks through the table,
+ * so a program asks it once. RM is a register or memory, REL an offset, IMM an immediate, and the number its bits. JMP,
+ * CALL, Jcc, RET, PUSH, POP and LEAVE are those of 64-bit code, but where _O32, R32 or RM32 says that they are of 32-bit
+ * code; NOP_RM32 and what has two operands are of both, with a 64 of 64-bit code alone.
+ */
+/* begin of the codes that codes.py writes */
+enum {
+    FEDDURZAI_CODE_JMP_REL8 = 631,          /* o64 EB cb */
+    FEDDURZAI_CODE_JMP_REL32 = 626,         /* o64 E9 cd */
+    FEDDURZAI_CODE_JMP_REL8_O32 = 630,      /* o32 EB cb */
+    FEDDURZAI_CODE_JMP_REL32_O32 = 625,     /* o32 E9 cd */
+    FEDDURZAI_CODE_JMP_RM64 = 691,          /* o64 FF /4 */
+    FEDDURZAI_CODE_JMP_RM32 = 690,          /* o32 FF /4 */
+    FEDDURZAI_CODE_CALL_REL32 = 623,        /* o64 E8 cd */
+    FEDDURZAI_CODE_CALL_REL32_O32 = 622,    /* o32 E8 cd */
+    FEDDURZAI_CODE_CALL_RM64 = 685,         /* o64 FF /2 */
+    FEDDURZAI_CODE_CALL_RM32 = 684,         /* o32 FF /2 */
+    FEDDURZAI_CODE_JO_REL8 = 154,           /* o64 70 cb */
+    FEDDURZAI_CODE_JO_REL32 = 994,          /* o64 0F 80 cd */
+    FEDDURZAI_CODE_JO_REL8_O32 = 153,       /* o32 70 cb */
+    FEDDURZAI_CODE_JO_REL32_O32 = 993,      /* o32 0F 80 cd */
+    FEDDURZAI_CODE_JNO_REL8 = 157,          /* o64 71 cb */
+    FEDDURZAI_CODE_JNO_REL32 = 997,         /* o64 0F 81 cd */
+    FEDDURZAI_CODE_JNO_REL8_O32 = 156,      /* o32 71 cb */
+    FEDDURZAI_CODE_JNO_REL32_O32 = 996,     /* o32 0F 81 cd */
+    FEDDURZAI_CODE_JB_REL8 = 160,           /* o64 72 cb */
+    FEDDURZAI_CODE_JB_REL32 = 1000,         /* o64 0F 82 cd */
+    FEDDURZAI_CODE_JB_REL8_O32 = 159,       /* o32 72 cb */
+    FEDDURZAI_CODE_JB_REL32_O32 = 999,      /* o32 0F 82 cd */
+    FEDDURZAI_CODE_JAE_REL8 = 163,          /* o64 73 cb */
+    FEDDURZAI_CODE_JAE_REL32 = 1003,        /* o64 0F 83 cd */
+    FEDDURZAI_CODE_JAE_REL8_O32 = 162,      /* o32 73 cb */
+    FEDDURZAI_CODE_JAE_REL32_O32 = 1002,    /* o32 0F 83 cd */
+    FEDDURZAI_CODE_JE_REL8 = 166,           /* o64 74 cb */
+    FEDDURZAI_CODE_JE_REL32 = 1006,         /* o64 0F 84 cd */
+    FEDDURZAI_CODE_JE_REL8_O32 = 165,       /* o32 74 cb */
+    FEDDURZAI_CODE_JE_REL32_O32 = 1005,     /* o32 0F 84 cd */
+    FEDDURZAI_CODE_JNE_REL8 = 169,          /* o64 75 cb */
+    FEDDURZAI_CODE_JNE_REL32 = 1009,        /* o64 0F 85 cd */
+    FEDDURZAI_CODE_JNE_REL8_O32 = 168,      /* o32 75 cb */
+    FEDDURZAI_CODE_JNE_REL32_O32 = 1008,    /* o32 0F 85 cd */
+    FEDDURZAI_CODE_JBE_REL8 = 172,          /* o64 76 cb */
+    FEDDURZAI_CODE_JBE_REL32 = 1012,        /* o64 0F 86 cd */
+    FEDDURZAI_CODE_JBE_REL8_O32 = 171,      /* o32 76 cb */
+    FEDDURZAI_CODE_JBE_REL32_O32 = 1011,    /* o32 0F 86 cd */
+    FEDDURZAI_CODE_JA_REL8 = 175,           /* o64 77 cb */
+    FEDDURZAI_CODE_JA_REL32 = 1015,         /* o64 0F 87 cd */
+    FEDDURZAI_CODE_JA_REL8_O32 = 174,       /* o32 77 cb */
+    FEDDURZAI_CODE_JA_REL32_O32 = 1014,     /* o32 0F 87 cd */
+    FEDDURZAI_CODE_JS_REL8 = 178,           /* o64 78 cb */
+    FEDDURZAI_CODE_JS_REL32 = 1018,         /* o64 0F 88 cd */
+    FEDDURZAI_CODE_JS_REL8_O32 = 177,       /* o32 78 cb */
+    FEDDURZAI_CODE_JS_REL32_O32 = 1017,     /* o32 0F 88 cd */
+    FEDDURZAI_CODE_JNS_REL8 = 181,          /* o64 79 cb */
+    FEDDURZAI_CODE_JNS_REL32 = 1021,        /* o64 0F 89 cd */
+    FEDDURZAI_CODE_JNS_REL8_O32 = 180,      /* o32 79 cb */
+    FEDDURZAI_CODE_JNS_REL32_O32 = 1020,    /* o32 0F 89 cd */
+    FEDDURZAI_CODE_JP_REL8 = 184,           /* o64 7A cb */
+    FEDDURZAI_CODE_JP_REL32 = 1024,         /* o64 0F 8A cd */
+    FEDDURZAI_CODE_JP_REL8_O32 = 183,       /* o32 7A cb */
+    FEDDURZAI_CODE_JP_REL32_O32 = 1023,     /* o32 0F 8A cd */
+    FEDDURZAI_CODE_JNP_REL8 = 187,          /* o64 7B cb */
+    FEDDURZAI_CODE_JNP_REL32 = 1027,        /* o64 0F 8B cd */
+    FEDDURZAI_CODE_JNP_REL8_O32 = 186,      /* o32 7B cb */
+    FEDDURZAI_CODE_JNP_REL32_O32 = 1026,    /* o32 0F 8B cd */
+    FEDDURZAI_CODE_JL_REL8 = 190,           /* o64 7C cb */
+    FEDDURZAI_CODE_JL_REL32 = 1030,         /* o64 0F 8C cd */
+    FEDDURZAI_CODE_JL_REL8_O32 = 189,       /* o32 7C cb */
+    FEDDURZAI_CODE_JL_REL32_O32 = 1029,     /* o32 0F 8C cd */
+    FEDDURZAI_CODE_JGE_REL8 = 193,          /* o64 7D cb */
+    FEDDURZAI_CODE_JGE_REL32 = 1033,        /* o64 0F 8D cd */
+    FEDDURZAI_CODE_JGE_REL8_O32 = 192,      /* o32 7D cb */
+    FEDDURZAI_CODE_JGE_REL32_O32 = 1032,    /* o32 0F 8D cd */
+    FEDDURZAI_CODE_JLE_REL8 = 196,          /* o64 7E cb */
+    FEDDURZAI_CODE_JLE_REL32 = 1036,        /* o64 0F 8E cd */
+    FEDDURZAI_CODE_JLE_REL8_O32 = 195,      /* o32 7E cb */
+    FEDDURZAI_CODE_JLE_REL32_O32 = 1035,    /* o32 0F 8E cd */
+    FEDDURZAI_CODE_JG_REL8 = 199,           /* o64 7F cb */
+    FEDDURZAI_CODE_JG_REL32 = 1039,         /* o64 0F 8F cd */
+    FEDDURZAI_CODE_JG_REL8_O32 = 198,       /* o32 7F cb */
+    FEDDURZAI_CODE_JG_REL32_O32 = 1038,     /* o32 0F 8F cd */
+    FEDDURZAI_CODE_RET = 381,               /* o64 C3 */
+    FEDDURZAI_CODE_RET_O32 = 380,           /* o32 C3 */
+    FEDDURZAI_CODE_RET_IMM16 = 378,         /* o64 C2 iw */
+    FEDDURZAI_CODE_PUSH_R64 = 120,          /* o64 50+ro */
+    FEDDURZAI_CODE_PUSH_R32 = 119,          /* o32 50+rd */
+    FEDDURZAI_CODE_PUSH_IMM8 = 142,         /* o64 6A ib */
+    FEDDURZAI_CODE_PUSH_IMM32 = 136,        /* o64 68 id */
+    FEDDURZAI_CODE_PUSH_RM64 = 697,         /* o64 FF /6 */
+    FEDDURZAI_CODE_POP_R64 = 123,           /* o64 58+ro */
+    FEDDURZAI_CODE_POP_R32 = 122,           /* o32 58+rd */
+    FEDDURZAI_CODE_POP_RM64 = 289,          /* o64 8F /0 */
+    FEDDURZAI_CODE_PUSHFQ = 306,            /* o64 9C */
+    FEDDURZAI_CODE_POPFQ = 309,             /* o64 9D */
+    FEDDURZAI_CODE_NOP = 290,               /* NF3 90 */
+    FEDDURZAI_CODE_INT3 = 402,              /* CC */
+    FEDDURZAI_CODE_UD2 = 744,               /* 0F 0B */
+    FEDDURZAI_CODE_SYSCALL = 738,           /* 0F 05 */
+    FEDDURZAI_CODE_HLT = 639,               /* F4 */
+    FEDDURZAI_CODE_LEAVE = 395,             /* o64 C9 */
+    FEDDURZAI_CODE_ENDBR64 = 777,           /* F3 0F 1E FA */
+    FEDDURZAI_CODE_NOP_RM32 = 780,          /* o32 0F 1F /0 */
+    FEDDURZAI_CODE_MOV_RM64_R64 = 275,      /* REX.W + 89 /r */
+    FEDDURZAI_CODE_MOV_R64_RM64 = 279,      /* REX.W + 8B /r */
+    FEDDURZAI_CODE_MOV_R64_IMM64 = 347,     /* REX.W + B8+ro io */
+    FEDDURZAI_CODE_MOV_RM64_IMM32 = 389,    /* REX.W + C7 /0 id */
+    FEDDURZAI_CODE_LEA_R64 = 285,           /* REX.W + 8D /r */
+    FEDDURZAI_CODE_XCHG_RM64_R64 = 271,     /* REX.W + 87 /r */
+    FEDDURZAI_CODE_TEST_RM64_R64 = 267,     /* REX.W + 85 /r */
+    FEDDURZAI_CODE_TEST_RM64_IMM32 = 650,   /* REX.W + F7 /0 id */
+    FEDDURZAI_CODE_ADD_RM64_R64 = 3,        /* REX.W + 01 /r */
+    FEDDURZAI_CODE_ADD_R64_RM64 = 7,        /* REX.W + 03 /r */
+    FEDDURZAI_CODE_ADD_RM64_IMM8 = 242,     /* REX.W + 83 /0 ib */
+    FEDDURZAI_CODE_ADD_RM64_IMM32 = 210,    /* REX.W + 81 /0 id */
+    FEDDURZAI_CODE_OR_RM64_R64 = 19,        /* REX.W + 09 /r */
+    FEDDURZAI_CODE_OR_R64_RM64 = 23,        /* REX.W + 0B /r */
+    FEDDURZAI_CODE_OR_RM64_IMM8 = 245,      /* REX.W + 83 /1 ib */
+    FEDDURZAI_CODE_OR_RM64_IMM32 = 213,     /* REX.W + 81 /1 id */
+    FEDDURZAI_CODE_ADC_RM64_R64 = 33,       /* REX.W + 11 /r */
+    FEDDURZAI_CODE_ADC_R64_RM64 = 37,       /* REX.W + 13 /r */
+    FEDDURZAI_CODE_ADC_RM64_IMM8 = 248,     /* REX.W + 83 /2 ib */
+    FEDDURZAI_CODE_ADC_RM64_IMM32 = 216,    /* REX.W + 81 /2 id */
+    FEDDURZAI_CODE_SBB_RM64_R64 = 49,       /* REX.W + 19 /r */
+    FEDDURZAI_CODE_SBB_R64_RM64 = 53,       /* REX.W + 1B /r */
+    FEDDURZAI_CODE_SBB_RM64_IMM8 = 251,     /* REX.W + 83 /3 ib */
+    FEDDURZAI_CODE_SBB_RM64_IMM32 = 219,    /* REX.W + 81 /3 id */
+    FEDDURZAI_CODE_AND_RM64_R64 = 65,       /* REX.W + 21 /r */
+    FEDDURZAI_CODE_AND_R64_RM64 = 69,       /* REX.W + 23 /r */
+    FEDDURZAI_CODE_AND_RM64_IMM8 = 254,     /* REX.W + 83 /4 ib */
+    FEDDURZAI_CODE_AND_RM64_IMM32 = 222,    /* REX.W + 81 /4 id */
+    FEDDURZAI_CODE_SUB_RM64_R64 = 78,       /* REX.W + 29 /r */
+    FEDDURZAI_CODE_SUB_R64_RM64 = 82,       /* REX.W + 2B /r */
+    FEDDURZAI_CODE_SUB_RM64_IMM8 = 257,     /* REX.W + 83 /5 ib */
+    FEDDURZAI_CODE_SUB_RM64_IMM32 = 225,    /* REX.W + 81 /5 id */
+    FEDDURZAI_CODE_XOR_RM64_R64 = 91,       /* REX.W + 31 /r */
+    FEDDURZAI_CODE_XOR_R64_RM64 = 95,       /* REX.W + 33 /r */
+    FEDDURZAI_CODE_XOR_RM64_IMM8 = 260,     /* REX.W + 83 /6 ib */
+    FEDDURZAI_CODE_XOR_RM64_IMM32 = 228,    /* REX.W + 81 /6 id */
+    FEDDURZAI_CODE_CMP_RM64_R64 = 104,      /* REX.W + 39 /r */
+    FEDDURZAI_CODE_CMP_R64_RM64 = 108,      /* REX.W + 3B /r */
+    FEDDURZAI_CODE_CMP_RM64_IMM8 = 263,     /* REX.W + 83 /7 ib */
+    FEDDURZAI_CODE_CMP_RM64_IMM32 = 231,    /* REX.W + 81 /7 id */
+    FEDDURZAI_CODE_MOV_RM32_R32 = 274,      /* o32 89 /r */
+    FEDDURZAI_CODE_MOV_R32_RM32 = 278,      /* o32 8B /r */
+    FEDDURZAI_CODE_MOV_R32_IMM32 = 346,     /* o32 B8+rd id */
+    FEDDURZAI_CODE_MOV_RM32_IMM32 = 388,    /* o32 C7 /0 id */
+    FEDDURZAI_CODE_LEA_R32 = 284,           /* o32 8D /r */
+    FEDDURZAI_CODE_XCHG_RM32_R32 = 270,     /* o32 87 /r */
+    FEDDURZAI_CODE_TEST_RM32_R32 = 266,     /* o32 85 /r */
+    FEDDURZAI_CODE_TEST_RM32_IMM32 = 649,   /* o32 F7 /0 id */
+    FEDDURZAI_CODE_ADD_RM32_R32 = 2,        /* o32 01 /r */
+    FEDDURZAI_CODE_ADD_R32_RM32 = 6,        /* o32 03 /r */
+    FEDDURZAI_CODE_ADD_RM32_IMM8 = 241,     /* o32 83 /0 ib */
+    FEDDURZAI_CODE_ADD_RM32_IMM32 = 209,    /* o32 81 /0 id */
+    FEDDURZAI_CODE_OR_RM32_R32 = 18,        /* o32 09 /r */
+    FEDDURZAI_CODE_OR_R32_RM32 = 22,        /* o32 0B /r */
+    FEDDURZAI_CODE_OR_RM32_IMM8 = 244,      /* o32 83 /1 ib */
+    FEDDURZAI_CODE_OR_RM32_IMM32 = 212,     /* o32 81 /1 id */
+    FEDDURZAI_CODE_ADC_RM32_R32 = 32,       /* o32 11 /r */
+    FEDDURZAI_CODE_ADC_R32_RM32 = 36,       /* o32 13 /r */
+    FEDDURZAI_CODE_ADC_RM32_IMM8 = 247,     /* o32 83 /2 ib */
+    FEDDURZAI_CODE_ADC_RM32_IMM32 = 215,    /* o32 81 /2 id */
+    FEDDURZAI_CODE_SBB_RM32_R32 = 48,       /* o32 19 /r */
+    FEDDURZAI_CODE_SBB_R32_RM32 = 52,       /* o32 1B /r */
+    FEDDURZAI_CODE_SBB_RM32_IMM8 = 250,     /* o32 83 /3 ib */
+    FEDDURZAI_CODE_SBB_RM32_IMM32 = 218,    /* o32 81 /3 id */
+    FEDDURZAI_CODE_AND_RM32_R32 = 64,       /* o32 21 /r */
+    FEDDURZAI_CODE_AND_R32_RM32 = 68,       /* o32 23 /r */
+    FEDDURZAI_CODE_AND_RM32_IMM8 = 253,     /* o32 83 /4 ib */
+    FEDDURZAI_CODE_AND_RM32_IMM32 = 221,    /* o32 81 /4 id */
+    FEDDURZAI_CODE_SUB_RM32_R32 = 77,       /* o32 29 /r */
+    FEDDURZAI_CODE_SUB_R32_RM32 = 81,       /* o32 2B /r */
+    FEDDURZAI_CODE_SUB_RM32_IMM8 = 256,     /* o32 83 /5 ib */
+    FEDDURZAI_CODE_SUB_RM32_IMM32 = 224,    /* o32 81 /5 id */
+    FEDDURZAI_CODE_XOR_RM32_R32 = 90,       /* o32 31 /r */
+    FEDDURZAI_CODE_XOR_R32_RM32 = 94,       /* o32 33 /r */
+    FEDDURZAI_CODE_XOR_RM32_IMM8 = 259,     /* o32 83 /6 ib */
+    FEDDURZAI_CODE_XOR_RM32_IMM32 = 227,    /* o32 81 /6 id */
+    FEDDURZAI_CODE_CMP_RM32_R32 = 103,      /* o32 39 /r */
+    FEDDURZAI_CODE_CMP_R32_RM32 = 107,      /* o32 3B /r */
+    FEDDURZAI_CODE_CMP_RM32_IMM8 = 262,     /* o32 83 /7 ib */
+    FEDDURZAI_CODE_CMP_RM32_IMM32 = 230,    /* o32 81 /7 id */
+    FEDDURZAI_CODE_MOV_RM8_R8 = 272,        /* 88 /r */
+    FEDDURZAI_CODE_MOV_R8_RM8 = 276,        /* 8A /r */
+    FEDDURZAI_CODE_MOV_R8_IMM8 = 344,       /* B0+rb ib */
+    FEDDURZAI_CODE_MOV_RM8_IMM8 = 386       /* C6 /0 ib */
+};
+/* end of the codes that codes.py writes */
+
 /* ---- code -------------------------------------------------------------------------------------------------- */
 
 #define FEDDURZAI_MAX_CODE 1048576u     /* bytes of code that are moved or followed together, at most */
@@ -279,6 +565,8 @@ typedef struct feddurzai_move_report {
     uint64_t count;     /* how many instructions */
     uint64_t at;        /* _INVALID, _TOO_SHORT: the offset of the byte; _TOO_FAR: the number of the instruction, from 0 */
     uint64_t address;   /* _TOO_FAR: its target; _WRAPS: the end of the code, modulo 2 to the power of 64 */
+    uint64_t code_bytes;    /* how many bytes the code has without its slots: control goes on behind it there */
+    uint64_t slots_at;      /* the offset of the first slot; `bytes` where there is none */
 } feddurzai_move_report;
 
 /*
@@ -286,6 +574,15 @@ typedef struct feddurzai_move_report {
  * EIP still reaches what it reached, or follows it where that is moved too, in the least layout. Writes the moved bytes
  * to `out`, and to `map` an entry for each instruction. The report says how many of both there are, also where a room
  * is too small: so a first call with no rooms tells how much is needed.
+ *
+ * Control leaves the last instruction of the moved code at out + report->code_bytes. A jump back goes there, before the
+ * slots: behind them (out + report->bytes) it is never reached. There is place for it where there are no slots, that is
+ * where code_bytes == bytes, as it is within 2 gigabytes; else choose a nearer address.
+ *
+ * A target that is the start of an instruction of the code follows it, also where that is the very first: a branch back
+ * to the start of what is moved goes to the moved start. So a recursive call of a function whose start is moved goes past
+ * what is written there, and a loop of one instruction stays a loop at the new address. And a jump to the end of the
+ * code that is appended to the code aims at itself. feddurzai_move_outside keeps every target instead.
  *
  * Returns 0, or FEDDURZAI_BAD_MODE, _TOO_LARGE, _WRAPS (the old end), _INVALID or _TOO_SHORT, _TOO_MANY (the report's
  * count says how many), _WRAPS (the new end), _TOO_FAR, _NO_ROOM; _NO_MEMORY may stand in place of what comes behind
@@ -296,9 +593,19 @@ int32_t feddurzai_move(uint32_t bits, uint64_t old_ip, const uint8_t *bytes, siz
     size_t room, feddurzai_moved *map, size_t map_room, feddurzai_move_report *report);
 
 /*
+ * Moves code as feddurzai_move does, with its answer, report and refusals, and keeps every target: what a branch or an
+ * operand at RIP or EIP reached it still reaches, also where that is among the moved instructions. So an instruction that
+ * is moved by itself does there what it did, as single stepping elsewhere needs; and a jump to the old end that is put
+ * behind some code is a jump back.
+ */
+int32_t feddurzai_move_outside(uint32_t bits, uint64_t old_ip, const uint8_t *bytes, size_t len, uint64_t new_ip,
+    uint8_t *out, size_t room, feddurzai_moved *map, size_t map_room, feddurzai_move_report *report);
+
+/*
  * Follows control from the first byte of `len` bytes of code, which has the address `base`. Writes the offsets of the
  * instructions that it reaches to `starts`, in ascending order, and beside each the offset at which its basic block
- * begins to `leaders`. There are never more than bytes.
+ * begins to `leaders`. There are never more than bytes. It goes into calls, as into jumps, where their target is among
+ * the bytes, and on behind them; a call that does not come back is none to it.
  *
  * Returns how many, or FEDDURZAI_BAD_MODE, _TOO_LARGE, _NO_MEMORY, _NO_ROOM (either room is too small).
  */
@@ -327,6 +634,33 @@ static inline int32_t feddurzai_checked_decode(uint32_t bits, uint64_t ip, const
     return feddurzai_decode(bits, ip, bytes, len, instr);
 }
 
+static inline int32_t feddurzai_checked_decode_many(uint32_t bits, uint64_t ip, const uint8_t *bytes, size_t len,
+    feddurzai_instr *instrs, size_t room, size_t *count)
+{
+    if (feddurzai_is_null(bytes, len) || feddurzai_is_null(instrs, room) || count == NULL)
+        return FEDDURZAI_NULL;
+    return feddurzai_decode_many(bits, ip, bytes, len, instrs, room, count);
+}
+
+/* here NULL for the struct stands for none */
+static inline int32_t feddurzai_checked_line(uint32_t bits, uint32_t syntax, uint64_t ip, const uint8_t *bytes, size_t len,
+    feddurzai_instr *instr, char *text, size_t room)
+{
+    if (feddurzai_is_null(bytes, len) || feddurzai_is_null(text, room))
+        return FEDDURZAI_NULL;
+    if (instr == NULL)
+        return feddurzai_line_text(bits, syntax, ip, bytes, len, text, room);
+    return feddurzai_line(bits, syntax, ip, bytes, len, instr, text, room);
+}
+
+static inline int32_t feddurzai_checked_line_text(uint32_t bits, uint32_t syntax, uint64_t ip, const uint8_t *bytes,
+    size_t len, char *text, size_t room)
+{
+    if (feddurzai_is_null(bytes, len) || feddurzai_is_null(text, room))
+        return FEDDURZAI_NULL;
+    return feddurzai_line_text(bits, syntax, ip, bytes, len, text, room);
+}
+
 static inline int32_t feddurzai_checked_text(uint32_t bits, uint32_t syntax, const feddurzai_instr *instr, char *out,
     size_t room)
 {
@@ -341,6 +675,52 @@ static inline int32_t feddurzai_checked_encode(uint32_t bits, uint64_t ip, const
     if (instr == NULL || feddurzai_is_null(out, room))
         return FEDDURZAI_NULL;
     return feddurzai_encode(bits, ip, instr, out, room);
+}
+
+static inline int32_t feddurzai_checked_encoded_len(uint32_t bits, uint64_t ip, const feddurzai_instr *instr)
+{
+    if (instr == NULL)
+        return FEDDURZAI_NULL;
+    return feddurzai_encoded_len(bits, ip, instr);
+}
+
+static inline int32_t feddurzai_checked_assemble(uint32_t bits, uint64_t ip, const char *text, size_t len, uint8_t *out,
+    size_t room)
+{
+    if (feddurzai_is_null(text, len) || feddurzai_is_null(out, room))
+        return FEDDURZAI_NULL;
+    return feddurzai_assemble(bits, ip, text, len, out, room);
+}
+
+static inline int32_t feddurzai_checked_read_intel(uint32_t bits, uint64_t ip, const char *text, size_t len,
+    feddurzai_instr *instr)
+{
+    if (feddurzai_is_null(text, len) || instr == NULL)
+        return FEDDURZAI_NULL;
+    return feddurzai_read_intel(bits, ip, text, len, instr);
+}
+
+static inline int32_t feddurzai_checked_jump(uint32_t bits, uint64_t at, uint64_t target, uint32_t form, uint8_t *out,
+    size_t room)
+{
+    if (feddurzai_is_null(out, room))
+        return FEDDURZAI_NULL;
+    return feddurzai_jump(bits, at, target, form, out, room);
+}
+
+static inline int32_t feddurzai_checked_register_text(uint32_t syntax, uint8_t reg_class, uint8_t reg_number, char *out,
+    size_t room)
+{
+    if (feddurzai_is_null(out, room))
+        return FEDDURZAI_NULL;
+    return feddurzai_register_text(syntax, reg_class, reg_number, out, room);
+}
+
+static inline int32_t feddurzai_checked_segment_text(uint32_t syntax, uint8_t segment, char *out, size_t room)
+{
+    if (feddurzai_is_null(out, room))
+        return FEDDURZAI_NULL;
+    return feddurzai_segment_text(syntax, segment, out, room);
 }
 
 static inline int32_t feddurzai_checked_info(const feddurzai_instr *instr, feddurzai_about *about)
@@ -381,6 +761,16 @@ static inline int32_t feddurzai_checked_move(uint32_t bits, uint64_t old_ip, con
     return feddurzai_move(bits, old_ip, bytes, len, new_ip, out, room, map, map_room, report);
 }
 
+static inline int32_t feddurzai_checked_move_outside(uint32_t bits, uint64_t old_ip, const uint8_t *bytes, size_t len,
+    uint64_t new_ip, uint8_t *out, size_t room, feddurzai_moved *map, size_t map_room, feddurzai_move_report *report)
+{
+    if (feddurzai_is_null(bytes, len) || feddurzai_is_null(out, room) || feddurzai_is_null(map, map_room))
+        return FEDDURZAI_NULL;
+    if (report == NULL)
+        return FEDDURZAI_NULL;
+    return feddurzai_move_outside(bits, old_ip, bytes, len, new_ip, out, room, map, map_room, report);
+}
+
 static inline int32_t feddurzai_checked_flow(uint32_t bits, uint64_t base, const uint8_t *bytes, size_t len,
     uint32_t *starts, size_t room, uint32_t *leaders, size_t leaders_room)
 {
@@ -390,13 +780,23 @@ static inline int32_t feddurzai_checked_flow(uint32_t bits, uint64_t base, const
 }
 
 #define feddurzai_decode feddurzai_checked_decode
+#define feddurzai_decode_many feddurzai_checked_decode_many
+#define feddurzai_line feddurzai_checked_line
+#define feddurzai_line_text feddurzai_checked_line_text
 #define feddurzai_text feddurzai_checked_text
 #define feddurzai_encode feddurzai_checked_encode
+#define feddurzai_encoded_len feddurzai_checked_encoded_len
+#define feddurzai_assemble feddurzai_checked_assemble
+#define feddurzai_read_intel feddurzai_checked_read_intel
+#define feddurzai_jump feddurzai_checked_jump
+#define feddurzai_register_text feddurzai_checked_register_text
+#define feddurzai_segment_text feddurzai_checked_segment_text
 #define feddurzai_info feddurzai_checked_info
 #define feddurzai_name feddurzai_checked_name
 #define feddurzai_notation feddurzai_checked_notation
 #define feddurzai_code_of feddurzai_checked_code_of
 #define feddurzai_move feddurzai_checked_move
+#define feddurzai_move_outside feddurzai_checked_move_outside
 #define feddurzai_flow feddurzai_checked_flow
 
 #ifdef __cplusplus

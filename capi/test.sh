@@ -58,6 +58,8 @@ for style in intel att masm; do
 done
 "$program" list 64 401000 intel <"$front" >"$work/front.intel"
 say "program: $(wc -l <"$work/program.intel") lines in each of three styles"
+"$program" rows | "$here/codes.py" --check || die "the codes in the header"
+say "header: the codes of common instructions are those of the program's rows"
 
 # tries_nulls COMPILER STANDARD: every function with NULL, zeros and small rooms, under the sanitizers
 tries_nulls() {

@@ -52,7 +52,12 @@ static void check_layout(void)
     CHECK(offsetof(feddurzai_moved, new_ip), 8);
     CHECK(offsetof(feddurzai_moved, len), 16);
     CHECK(offsetof(feddurzai_moved, form), 17);
-    CHECK(sizeof(feddurzai_move_report), 32);
+    CHECK(sizeof(feddurzai_move_report), 48);
+    CHECK(offsetof(feddurzai_move_report, count), 8);
+    CHECK(offsetof(feddurzai_move_report, at), 16);
+    CHECK(offsetof(feddurzai_move_report, address), 24);
+    CHECK(offsetof(feddurzai_move_report, code_bytes), 32);
+    CHECK(offsetof(feddurzai_move_report, slots_at), 40);
 }
 
 /* what the crate puts into each field stands where the header says */
@@ -123,6 +128,340 @@ static void check_fields(void)
     free(about);
 }
 
+/* the size of the memory operand: of instructions with one, and 0 of those without, whatever their row says of memory */
+static void check_memory_sizes(void)
+{
+    static const struct { uint8_t bytes[8]; size_t len; int size; } cases[] = {
+        {{0x31, 0xc0}, 2, 0},                                   /* xor eax, eax */
+        {{0x31, 0x00}, 2, 4},                                   /* xor dword [rax], eax */
+        {{0xf7, 0xe1}, 2, 0},                                   /* mul ecx */
+        {{0xf7, 0x21}, 2, 4},                                   /* mul dword [rcx] */
+        {{0x48, 0xf7, 0xf1}, 3, 0},                             /* div rcx */
+        {{0xff, 0xd0}, 2, 0},                                   /* call rax */
+        {{0xff, 0x10}, 2, 8},                                   /* call qword [rax] */
+        {{0x86, 0xc4}, 2, 0},                                   /* xchg ah, al */
+        {{0x86, 0x20}, 2, 1},                                   /* xchg byte [rax], ah */
+        {{0x48, 0x8d, 0x00}, 3, 0},                             /* lea rax, [rax]: an address alone */
+        {{0xa4}, 1, 0},                                         /* movsb: no operand */
+        {{0xc5, 0xfc, 0x10, 0x00}, 4, 32},                      /* vmovups ymm0, [rax] */
+        {{0xc5, 0xfc, 0x10, 0xc0}, 4, 0},                       /* vmovups ymm0, ymm0 */
+    };
+    size_t k;
+    for (k = 0; k < sizeof cases / sizeof *cases; k++) {
+        feddurzai_instr *i = instr_of(cases[k].bytes, cases[k].len, 64, 0);
+        feddurzai_about about;
+        CHECK(feddurzai_info(i, &about), 0);
+        CHECK(about.memory_size, cases[k].size);
+        free(i);
+    }
+}
+
+/* the operand that fails the condition: an address, its displacement and a target by the place where they stand */
+static void check_cause_operands(void)
+{
+    static const uint8_t load[] = {0x48, 0x8b, 0x44, 0x8b, 0x10};       /* mov rax, [rbx+rcx*4+0x10] */
+    static const uint8_t store[] = {0x48, 0x89, 0x44, 0x8b, 0x10};      /* mov [rbx+rcx*4+0x10], rax */
+    static const uint8_t rip[] = {0x48, 0x8b, 0x05, 0x10, 0, 0, 0};     /* mov rax, [rip+0x10] */
+    static const uint8_t shuffle[] = {0xc5, 0xf9, 0x70, 0x00, 0x1b};    /* vpshufd xmm0, [rax], 0x1b */
+    static const uint8_t padded[] = {0x2e, 0x2e, 0x74, 0x7f};           /* je behind padding: 2 bytes no longer reach */
+    uint8_t bytes[FEDDURZAI_MAX_LEN];
+    int memory;
+    for (memory = 0; memory < 2; memory++) {
+        feddurzai_instr *i = instr_of(memory == 1 ? load : store, 5, 64, 0);
+        int n;
+        i->ops[memory].index_number = FEDDURZAI_SP;                     /* RSP is no index */
+        n = feddurzai_encode(64, 0, i, bytes, sizeof bytes);
+        CHECK(FEDDURZAI_CAUSE(n), FEDDURZAI_CAUSE_MEMORY);
+        CHECK(FEDDURZAI_CAUSE_OPERAND(n), memory);
+        i->ops[memory].index_number = FEDDURZAI_CX;
+        i->ops[memory].value = 0x100;                                   /* not in 8 bits */
+        n = feddurzai_encode(64, 0, i, bytes, sizeof bytes);
+        CHECK(FEDDURZAI_CAUSE(n), FEDDURZAI_CAUSE_DISPLACEMENT);
+        CHECK(FEDDURZAI_CAUSE_OPERAND(n), memory);
+        free(i);
+    }
+    {
+        feddurzai_instr *i = instr_of(rip, sizeof rip, 64, 0x1000);
+        int n = feddurzai_encode(64, 0x7fff00000000, i, bytes, sizeof bytes);
+        CHECK(FEDDURZAI_CAUSE(n), FEDDURZAI_CAUSE_TARGET);
+        CHECK(FEDDURZAI_CAUSE_OPERAND(n), 1);
+        i->asize = 16;                                                  /* of the whole instruction */
+        n = feddurzai_encode(64, 0x1000, i, bytes, sizeof bytes);
+        CHECK(FEDDURZAI_CAUSE(n), FEDDURZAI_CAUSE_ADDRESS_SIZE);
+        CHECK(FEDDURZAI_CAUSE_OPERAND(n), 0);
+        free(i);
+        i = instr_of(shuffle, sizeof shuffle, 64, 0);
+        i->ops[2].value = 256;
+        n = feddurzai_encode(64, 0, i, bytes, sizeof bytes);
+        CHECK(FEDDURZAI_CAUSE(n), FEDDURZAI_CAUSE_IMMEDIATE);
+        CHECK(FEDDURZAI_CAUSE_OPERAND(n), 2);
+        free(i);
+        i = instr_of(padded, sizeof padded, 64, 0);
+        n = feddurzai_encode(64, 0, i, bytes, sizeof bytes);
+        CHECK(FEDDURZAI_CAUSE(n), FEDDURZAI_CAUSE_TARGET);
+        CHECK(FEDDURZAI_CAUSE_OPERAND(n), 0);
+        free(i);
+    }
+}
+
+/* an instruction read and shown in one call, with a struct and without */
+static void check_lines(void)
+{
+    static const uint8_t mov[] = {0x48, 0x89, 0x5c, 0x24, 0x10, 0x90};
+    static const uint8_t bad[] = {0x06};
+    feddurzai_instr *i = malloc(sizeof *i);
+    feddurzai_instr *read = instr_of(mov, 5, 64, 0);
+    char *text = malloc(26);
+    int with;
+    for (with = 0; with < 2; with++) {
+        feddurzai_instr *into = with ? i : NULL;
+        memset(i, 0xaa, sizeof *i);
+        memset(text, 0xaa, 26);
+        CHECK(feddurzai_line(17, 9, 0, bad, 1, into, NULL, 0), FEDDURZAI_BAD_MODE);
+        CHECK(feddurzai_line(64, 9, 0, bad, 1, into, NULL, 0), FEDDURZAI_BAD_SYNTAX);
+        CHECK(feddurzai_line(64, FEDDURZAI_INTEL, 0, bad, 1, into, NULL, 0), FEDDURZAI_INVALID);
+        CHECK(feddurzai_line(64, FEDDURZAI_INTEL, 0, mov, 4, into, NULL, 0), FEDDURZAI_TOO_SHORT);
+        CHECK(feddurzai_line(64, FEDDURZAI_INTEL, 0, NULL, 0, into, NULL, 0), FEDDURZAI_TOO_SHORT);
+        CHECK(feddurzai_line(64, FEDDURZAI_INTEL, 0, mov, 6, into, NULL, 0), FEDDURZAI_NO_ROOM);
+        CHECK(feddurzai_line(64, FEDDURZAI_INTEL, 0, mov, 6, into, text, 25), FEDDURZAI_NO_ROOM);
+        CHECK(is_untouched(i, sizeof *i), 1);
+        CHECK(is_untouched(text, 26), 1);
+        CHECK(feddurzai_line(64, FEDDURZAI_INTEL, 0, mov, 6, into, text, 26), 5);
+        CHECK(strcmp(text, "mov qword [rsp+0x10], rbx"), 0);
+        CHECK(feddurzai_line(64, FEDDURZAI_ATT, 0, mov, 6, into, text, 26), 5);
+        CHECK(strcmp(text, "movq %rbx, 0x10(%rsp)"), 0);
+        CHECK(with ? memcmp(i, read, offsetof(feddurzai_instr, asize) + 1) == 0 : is_untouched(i, sizeof *i), 1);
+    }
+    CHECK(feddurzai_line_text(64, FEDDURZAI_MASM, 0, mov + 5, 1, text, 4), 1);
+    CHECK(strcmp(text, "nop"), 0);
+    free(i);
+    free(read);
+    free(text);
+}
+
+/* many instructions in one call: what feddurzai_decode reads one by one, single bytes where none stands, and the room's end */
+static void check_many(void)
+{
+    /* nop; no instruction; mov qword [rsp+0x10], rbx; ret; and the first two bytes of a mov */
+    static const uint8_t code[] = {0x90, 0x06, 0x48, 0x89, 0x5c, 0x24, 0x10, 0xc3, 0x48, 0x8b};
+    static const int lens[] = {1, 1, 5, 1, 1, 1};
+    static const int taken[] = {0, 1, 2, 7, 8, 9, 10, 10};
+    size_t room, k;
+    for (room = 0; room <= 7; room++) {
+        feddurzai_instr *many = malloc(room * sizeof *many + 1);
+        size_t count = 99, want = room < 6 ? room : 6, at = 0;
+        memset(many, 0xaa, room * sizeof *many + 1);
+        CHECK(feddurzai_decode_many(64, 0x1000, code, sizeof code, many, room, &count), taken[room]);
+        CHECK(count, want);
+        for (k = 0; k < want; k++) {
+            feddurzai_instr one;
+            int32_t said = feddurzai_decode(64, 0x1000 + at, code + at, sizeof code - at, &one);
+            CHECK(many[k].len, lens[k]);
+            if (said < 0) {
+                CHECK(many[k].code, said == FEDDURZAI_INVALID ? FEDDURZAI_CODE_INVALID : FEDDURZAI_CODE_TOO_SHORT);
+                CHECK(many[k].ops[0].kind | many[k].ops[3].kind | many[k].lock | many[k].rep | many[k].segment | many[k].asize, 0);
+            } else {
+                CHECK(memcmp(&many[k], &one, offsetof(feddurzai_instr, asize) + 1), 0);
+            }
+            at += many[k].len;
+        }
+        CHECK(is_untouched(many + want, (room - want) * sizeof *many + 1), 1);
+        free(many);
+    }
+    {
+        /* the address of the second wraps: its target is the first */
+        static const uint8_t wraps[] = {0x90, 0xeb, 0xfd};
+        feddurzai_instr two[2];
+        size_t count = 99;
+        CHECK(feddurzai_decode_many(64, UINT64_MAX, wraps, 3, two, 2, &count), 3);
+        CHECK(count, 2);
+        CHECK(two[1].ops[0].value == UINT64_MAX, 1);
+        count = 99;
+        memset(two, 0xaa, sizeof two);
+        CHECK(feddurzai_decode_many(17, 0, wraps, 3, two, 2, &count), FEDDURZAI_BAD_MODE);
+        CHECK(count, 99);
+        CHECK(is_untouched(two, sizeof two), 1);
+        CHECK(feddurzai_decode_many(64, 0, NULL, 0, two, 2, &count), 0);
+        CHECK(count, 0);
+        CHECK(feddurzai_decode_many(64, 0, wraps, 3, NULL, 0, &count), 0);
+        CHECK(count, 0);
+    }
+}
+
+/* Intel texts: bytes and structs of them, with each refusal */
+static void check_texts(void)
+{
+    static const struct { uint32_t bits; uint64_t ip; const char *text; uint8_t bytes[8]; int len; } cases[] = {
+        {64, 0, "mov qword [rsp+0x10], rbx", {0x48, 0x89, 0x5c, 0x24, 0x10}, 5},
+        {64, 0x401000, "jmp 0x401000", {0xeb, 0xfe}, 2},
+        {64, 0x401000, "call 0x402003", {0xe8, 0xfe, 0x0f, 0, 0}, 5},
+        {32, 0, "inc eax", {0x40}, 1},
+        {16, 0, "mov ax, 0x1234", {0xb8, 0x34, 0x12}, 3},
+        {64, 0, "xchg eax, eax", {0x87, 0xc0}, 2},
+        {64, 0, "inc eax ", {0}, FEDDURZAI_NO_TEXT},
+        {64, 0, "", {0}, FEDDURZAI_NO_TEXT},
+        {64, 0, "movq %rax, %rbx", {0}, FEDDURZAI_NO_TEXT},
+        {17, 0, "nop", {0}, FEDDURZAI_BAD_MODE},
+    };
+    size_t k;
+    for (k = 0; k < sizeof cases / sizeof *cases; k++) {
+        size_t len = strlen(cases[k].text), room = cases[k].len < 0 ? 3 : (size_t)cases[k].len;
+        char *text = malloc(len + 1);
+        uint8_t *out = malloc(room);
+        feddurzai_instr *i = malloc(sizeof *i), *read = malloc(sizeof *read);
+        memcpy(text, cases[k].text, len);
+        memset(out, 0xaa, room);
+        memset(i, 0xaa, sizeof *i);
+        CHECK(feddurzai_assemble(cases[k].bits, cases[k].ip, text, len, out, room), cases[k].len);
+        CHECK(feddurzai_read_intel(cases[k].bits, cases[k].ip, text, len, i), cases[k].len);
+        if (cases[k].len < 0) {
+            CHECK(is_untouched(out, room) && is_untouched(i, sizeof *i), 1);
+        } else {
+            CHECK(memcmp(out, cases[k].bytes, room), 0);
+            CHECK(feddurzai_decode(cases[k].bits, cases[k].ip, out, room, read), cases[k].len);
+            CHECK(memcmp(i, read, offsetof(feddurzai_instr, asize) + 1), 0);
+            CHECK(feddurzai_encoded_len(cases[k].bits, cases[k].ip, i), cases[k].len);
+            memset(out, 0xaa, room);
+            CHECK(feddurzai_assemble(cases[k].bits, cases[k].ip, text, len, out, room - 1), FEDDURZAI_NO_ROOM);
+            CHECK(is_untouched(out, room), 1);
+        }
+        free(text);
+        free(out);
+        free(i);
+        free(read);
+    }
+}
+
+/* the names of registers, and numbers that no register has */
+static void check_register_names(void)
+{
+    static const struct { uint32_t syntax; uint8_t class_, number; const char *text; } cases[] = {
+        {FEDDURZAI_INTEL, FEDDURZAI_LOW8, 4, "spl"}, {FEDDURZAI_INTEL, FEDDURZAI_LOW8, 15, "r15b"},
+        {FEDDURZAI_INTEL, FEDDURZAI_HIGH8, 0, "ah"}, {FEDDURZAI_INTEL, FEDDURZAI_R16, 5, "bp"},
+        {FEDDURZAI_INTEL, FEDDURZAI_R32, 12, "r12d"}, {FEDDURZAI_ATT, FEDDURZAI_R64, 0, "%rax"},
+        {FEDDURZAI_MASM, FEDDURZAI_SEG, 4, "fs"}, {FEDDURZAI_INTEL, FEDDURZAI_CR, 8, "cr8"},
+        {FEDDURZAI_INTEL, FEDDURZAI_DR, 7, "dr7"}, {FEDDURZAI_INTEL, FEDDURZAI_ST, 3, "st3"},
+        {FEDDURZAI_ATT, FEDDURZAI_ST, 3, "%st(3)"}, {FEDDURZAI_INTEL, FEDDURZAI_MM, 7, "mm7"},
+        {FEDDURZAI_ATT, FEDDURZAI_XMM, 15, "%xmm15"}, {FEDDURZAI_INTEL, FEDDURZAI_YMM, 9, "ymm9"},
+        {FEDDURZAI_INTEL, FEDDURZAI_EIP, 0, "eip"}, {FEDDURZAI_ATT, FEDDURZAI_RIP, 0, "%rip"},
+    };
+    static const uint8_t counts[] = {0, 16, 4, 16, 16, 16, 6, 16, 8, 8, 8, 16, 16, 1, 1, 0, 0};
+    static const char *const segments[] = {NULL, "es", "cs", "ss", "ds", "fs", "gs"};
+    char text[8];
+    size_t k;
+    int class_, number;
+    for (k = 0; k < sizeof cases / sizeof *cases; k++) {
+        size_t len = strlen(cases[k].text);
+        memset(text, 0xaa, sizeof text);
+        CHECK(feddurzai_register_text(cases[k].syntax, cases[k].class_, cases[k].number, text, len), FEDDURZAI_NO_ROOM);
+        CHECK(is_untouched(text, sizeof text), 1);
+        CHECK(feddurzai_register_text(cases[k].syntax, cases[k].class_, cases[k].number, text, len + 1), (int)len);
+        CHECK(strcmp(text, cases[k].text), 0);
+        CHECK(is_untouched(text + len + 1, sizeof text - len - 1), 1);
+    }
+    for (class_ = 0; class_ < 17; class_++)
+        for (number = 0; number < 256; number++) {
+            int32_t said = feddurzai_register_text(FEDDURZAI_ATT, (uint8_t)class_, (uint8_t)number, text, 7);
+            CHECK(number < counts[class_] ? said > 0 : said == FEDDURZAI_NO_REGISTER, 1);
+        }
+    CHECK(feddurzai_register_text(3, 0, 0, NULL, 0), FEDDURZAI_BAD_SYNTAX);
+    CHECK(feddurzai_register_text(0, 0, 0, NULL, 0), FEDDURZAI_NO_REGISTER);
+    for (number = 0; number < 256; number++) {
+        int32_t said = feddurzai_segment_text(FEDDURZAI_INTEL, (uint8_t)number, text, sizeof text);
+        CHECK(said, number >= 1 && number <= 6 ? 2 : FEDDURZAI_NO_REGISTER);
+        if (said > 0)
+            CHECK(strcmp(text, segments[number]), 0);
+    }
+    CHECK(feddurzai_segment_text(FEDDURZAI_ATT, FEDDURZAI_GS, text, 4), 3);
+    CHECK(strcmp(text, "%gs"), 0);
+    CHECK(feddurzai_segment_text(9, 0, text, 4), FEDDURZAI_BAD_SYNTAX);
+    CHECK(feddurzai_segment_text(FEDDURZAI_ATT, FEDDURZAI_GS, text, 3), FEDDURZAI_NO_ROOM);
+}
+
+/* each form at an address, as the manual spells it, and the reach of the first three */
+static void check_jumps(void)
+{
+    static const struct { uint32_t bits, form; uint64_t at, target; uint8_t bytes[16]; int len; } cases[] = {
+        {64, FEDDURZAI_JUMP_SHORT, 0x1000, 0x1081, {0xeb, 0x7f}, 2},
+        {64, FEDDURZAI_JUMP_SHORT, 0x1000, 0x0f82, {0xeb, 0x80}, 2},
+        {64, FEDDURZAI_JUMP_SHORT, 0x1000, 0x1082, {0}, -256 * FEDDURZAI_CAUSE_TARGET},
+        {64, FEDDURZAI_JUMP_NEAR, 0x1000, 0x1081, {0xe9, 0x7c, 0, 0, 0}, 5},
+        {64, FEDDURZAI_JUMP_NEAR, 0x1000, 0x80001004, {0xe9, 0xff, 0xff, 0xff, 0x7f}, 5},
+        {64, FEDDURZAI_JUMP_NEAR, 0x1000, 0x80001005, {0}, -256 * FEDDURZAI_CAUSE_TARGET},
+        {64, FEDDURZAI_JUMP_FAR, 0x1000, 0x123456789abcdef0, {0xff, 0x25, 0, 0, 0, 0, 0xf0, 0xde, 0xbc, 0x9a, 0x78, 0x56, 0x34, 0x12}, 14},
+        {64, FEDDURZAI_CALL_NEAR, 0x1000, 0x1000, {0xe8, 0xfb, 0xff, 0xff, 0xff}, 5},
+        {64, FEDDURZAI_CALL_FAR, UINT64_MAX, 0x123456789abcdef0,
+            {0xff, 0x15, 2, 0, 0, 0, 0xeb, 0x08, 0xf0, 0xde, 0xbc, 0x9a, 0x78, 0x56, 0x34, 0x12}, 16},
+        {32, FEDDURZAI_JUMP_NEAR, 0xfffffff0, 0x10, {0xe9, 0x1b, 0, 0, 0}, 5},
+        {32, FEDDURZAI_JUMP_NEAR, 0, 0x100000000, {0}, -256 * FEDDURZAI_CAUSE_TARGET},
+        {16, FEDDURZAI_JUMP_NEAR, 0x100, 0x200, {0xe9, 0xfd, 0x00}, 3},
+        {16, FEDDURZAI_CALL_NEAR, 0x100, 0x200, {0xe8, 0xfd, 0x00}, 3},
+        {32, FEDDURZAI_JUMP_FAR, 0, 0, {0}, -256 * FEDDURZAI_CAUSE_ROW},
+        {16, FEDDURZAI_CALL_FAR, 0, 0, {0}, -256 * FEDDURZAI_CAUSE_ROW},
+        {64, 0, 0, 0, {0}, FEDDURZAI_BAD_JUMP},
+        {64, 6, 0, 0, {0}, FEDDURZAI_BAD_JUMP},
+        {17, 6, 0, 0, {0}, FEDDURZAI_BAD_MODE},
+    };
+    size_t k;
+    for (k = 0; k < sizeof cases / sizeof *cases; k++) {
+        size_t room = cases[k].len < 0 ? FEDDURZAI_MAX_JUMP : (size_t)cases[k].len;
+        uint8_t *out = malloc(room);
+        memset(out, 0xaa, room);
+        CHECK(feddurzai_jump(cases[k].bits, cases[k].at, cases[k].target, cases[k].form, out, room), cases[k].len);
+        CHECK(cases[k].len < 0 ? is_untouched(out, room) : memcmp(out, cases[k].bytes, room) == 0, 1);
+        if (cases[k].len > 0)
+            CHECK(feddurzai_jump(cases[k].bits, cases[k].at, cases[k].target, cases[k].form, out, room - 1), FEDDURZAI_NO_ROOM);
+        free(out);
+    }
+}
+
+/* targets that are among the moved instructions: they follow, or are kept */
+static void check_kept_targets(void)
+{
+    static const uint8_t loop[] = {0xeb, 0xfe};                     /* jmp to itself */
+    static const uint8_t back[] = {0x31, 0xc0, 0xeb, 0xfe};         /* xor eax, eax; and jmp 0x1002, the old end */
+    static const uint8_t cut[] = {0x31};
+    uint8_t *out = malloc(8);
+    feddurzai_moved map[2];
+    feddurzai_move_report report;
+    CHECK(feddurzai_move(64, 0x1000, loop, 2, 0x2000, out, 8, map, 2, &report), 0);
+    CHECK(memcmp(out, loop, 2), 0);
+    CHECK(feddurzai_move_outside(64, 0x1000, loop, 2, 0x1040, out, 8, map, 2, &report), 0);
+    CHECK(out[0] << 8 | out[1], 0xebbe);
+    CHECK(report.bytes == 2 && report.count == 1 && report.code_bytes == 2 && report.slots_at == 2, 1);
+    CHECK(map[0].old_ip == 0x1000 && map[0].new_ip == 0x1040 && map[0].len == 2 && map[0].form == FEDDURZAI_SHORT, 1);
+    CHECK(feddurzai_move_outside(64, 0x1000, back, 4, 0x2000, out, 8, map, 2, &report), 0);
+    CHECK(report.bytes, 7);
+    CHECK(memcmp(out, "\x31\xc0\xe9\xfb\xef\xff\xff", 7), 0);
+    CHECK(map[1].form, FEDDURZAI_NEAR_FORM);
+    memset(out, 0xaa, 8);
+    CHECK(feddurzai_move_outside(64, 0x1000, back, 4, 0x2000, out, 6, map, 2, &report), FEDDURZAI_NO_ROOM);
+    CHECK(feddurzai_move_outside(64, 0x1000, back, 4, 0x2000, out, 7, map, 1, &report), FEDDURZAI_NO_ROOM);
+    CHECK(report.bytes == 7 && report.count == 2, 1);
+    CHECK(feddurzai_move_outside(17, 0x1000, back, 4, 0x2000, out, 7, map, 2, &report), FEDDURZAI_BAD_MODE);
+    CHECK(feddurzai_move_outside(64, 0x1000, cut, 1, 0x2000, out, 7, map, 2, &report), FEDDURZAI_TOO_SHORT);
+    CHECK(feddurzai_move_outside(16, 0xffff, back, 4, 0x2000, out, 7, map, 2, &report), FEDDURZAI_WRAPS);
+    CHECK(report.address, 0x10003);
+    CHECK(feddurzai_move_outside(16, 0x1000, back, 4, 0xfffe, out, 7, map, 2, &report), FEDDURZAI_WRAPS);
+    CHECK(is_untouched(out, 8), 1);
+    free(out);
+}
+
+/* each constant is the code of the row that its name says, by the library's own search and notation */
+static void check_codes(void)
+{
+    static const struct { int code; const char *name; size_t n; const char *notation; } codes[] = {
+#include "codes.h"
+    };
+    char notation[65];
+    size_t k;
+    for (k = 0; k < sizeof codes / sizeof *codes; k++) {
+        CHECK(feddurzai_code_of(codes[k].name, strlen(codes[k].name), codes[k].n), codes[k].code);
+        CHECK(feddurzai_notation((uint32_t)codes[k].code, notation, sizeof notation) > 0, 1);
+        CHECK(strcmp(notation, codes[k].notation), 0);
+    }
+}
+
 static void check_refusals(void)
 {
     static const uint8_t nop[] = {0x90};
@@ -145,6 +484,7 @@ static void check_refusals(void)
     CHECK(is_untouched(i, sizeof *i), 1);
     CHECK(feddurzai_text(64, 0, i, text, sizeof text), FEDDURZAI_BAD_INSTR);
     CHECK(feddurzai_encode(64, 0, i, bytes, sizeof bytes), FEDDURZAI_BAD_INSTR);
+    CHECK(feddurzai_encoded_len(64, 0, i), FEDDURZAI_BAD_INSTR);
     memset(about, 0xaa, sizeof *about);
     CHECK(feddurzai_info(i, about), FEDDURZAI_BAD_INSTR);
     CHECK(is_untouched(about, sizeof *about), 1);
@@ -240,6 +580,8 @@ static void check_refusals(void)
         n = feddurzai_encode((uint32_t)(rand() % 5 * 16), (uint64_t)rand(), i, bytes, sizeof bytes);
         if (n > 15)
             CHECK(n, 15);
+        if (n >= 0 || FEDDURZAI_CAUSE(n) != 0)
+            CHECK(n > 0 ? n : FEDDURZAI_CAUSE_OPERAND(n) <= 3, n > 0 ? n : 1);
         n = feddurzai_info(i, about);
         if (n > 0)
             CHECK(n, 0);
@@ -269,6 +611,8 @@ static void check_code(void)
     CHECK(feddurzai_move(64, 0x1000, code, 4, 0x2000, NULL, 0, NULL, 0, report), FEDDURZAI_NO_ROOM);
     CHECK(report->bytes, 4);
     CHECK(report->count, 3);
+    CHECK(report->code_bytes, 4);
+    CHECK(report->slots_at, 4);
     CHECK(feddurzai_move(64, 0x1000, code, 4, 0x2000, out, 3, map, 3, report), FEDDURZAI_NO_ROOM);
     CHECK(feddurzai_move(64, 0x1000, code, 4, 0x2000, out, 16, map, 2, report), FEDDURZAI_NO_ROOM);
     CHECK(is_untouched(out, 16), 1);
@@ -297,9 +641,22 @@ static void check_code(void)
         CHECK(feddurzai_move(64, 0x1000, rip, 7, 0x7fff00000000, out, 16, map, 3, report), FEDDURZAI_TOO_FAR);
         CHECK(report->at, 0);
         CHECK(report->address, 0x1017);
+        CHECK(report->code_bytes | report->slots_at, 0);
     }
     CHECK(feddurzai_move(64, 0x1000, loop, 2, 0x2000, out, 16, map, 3, report), 0);
     CHECK(map[0].form, FEDDURZAI_BRIDGE);
+    CHECK(report->code_bytes, report->bytes);
+    CHECK(report->slots_at, report->bytes);
+    /* a call and a return far away: 7 bytes, a gap of 1, and the slot */
+    {
+        static const uint8_t far_call[] = {0xe8, 0x00, 0x01, 0x00, 0x00, 0xc3};
+        CHECK(feddurzai_move(64, 0x1000, far_call, 6, 0x7fff00000000, out, 16, map, 3, report), 0);
+        CHECK(report->bytes, 16);
+        CHECK(report->code_bytes, 7);
+        CHECK(report->slots_at, 8);
+        CHECK(out[6], 0xc3);
+        CHECK(out[8] | out[9] << 8, 0x1105);
+    }
     CHECK(feddurzai_move(64, 0, large, FEDDURZAI_MAX_CODE + 1, 0, out, 16, map, 3, report), FEDDURZAI_TOO_LARGE);
     memset(large, 0x90, FEDDURZAI_MAX_CODE);
     CHECK(feddurzai_move(64, 0, large, FEDDURZAI_MAX_MOVED + 1, 0, out, 16, map, 3, report), FEDDURZAI_TOO_MANY);
@@ -333,6 +690,15 @@ int main(void)
     CHECK(feddurzai_version() >> 24, 0);
     check_layout();
     check_fields();
+    check_memory_sizes();
+    check_cause_operands();
+    check_lines();
+    check_many();
+    check_texts();
+    check_register_names();
+    check_jumps();
+    check_kept_targets();
+    check_codes();
     check_refusals();
     check_code();
     printf("%d calls and fields, %d wrong\n", tests, failures);

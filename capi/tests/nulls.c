@@ -23,6 +23,7 @@ static feddurzai_about about;
 static feddurzai_move_report report;
 static feddurzai_moved map[3];
 static uint32_t starts[3], leaders[3];
+static size_t count;
 static uint8_t out[SPARE];
 static char text[FEDDURZAI_MAX_TEXT];
 
@@ -34,6 +35,7 @@ static void fill(void)
     memset(map, 0xaa, sizeof map);
     memset(starts, 0xaa, sizeof starts);
     memset(leaders, 0xaa, sizeof leaders);
+    memset(&count, 0xaa, sizeof count);
     memset(out, 0xaa, sizeof out);
     memset(text, 0xaa, sizeof text);
 }
@@ -42,7 +44,7 @@ static int nothing_was_written(void)
 {
     return is_untouched(&unread, sizeof unread) && is_untouched(&about, sizeof about) && is_untouched(&report, sizeof report)
         && is_untouched(map, sizeof map) && is_untouched(starts, sizeof starts) && is_untouched(leaders, sizeof leaders)
-        && is_untouched(out, sizeof out) && is_untouched(text, sizeof text);
+        && is_untouched(&count, sizeof count) && is_untouched(out, sizeof out) && is_untouched(text, sizeof text);
 }
 
 /* NULL where there is something to point to */
@@ -55,6 +57,18 @@ static void check_nulls(void)
     CHECK(feddurzai_decode(64, 0, NULL, 0, NULL), FEDDURZAI_NULL);
     CHECK(feddurzai_decode(64, 0, NULL, 4, NULL), FEDDURZAI_NULL);
 
+    CHECK(feddurzai_decode_many(64, 0, NULL, 4, &unread, 1, &count), FEDDURZAI_NULL);
+    CHECK(feddurzai_decode_many(64, 0, code, 4, NULL, 1, &count), FEDDURZAI_NULL);
+    CHECK(feddurzai_decode_many(64, 0, code, 4, &unread, 1, NULL), FEDDURZAI_NULL);
+    CHECK(feddurzai_decode_many(64, 0, NULL, 0, NULL, 0, NULL), FEDDURZAI_NULL);
+
+    CHECK(feddurzai_line(64, FEDDURZAI_INTEL, 0, NULL, 4, &unread, text, sizeof text), FEDDURZAI_NULL);
+    CHECK(feddurzai_line(64, FEDDURZAI_INTEL, 0, NULL, 4, NULL, text, sizeof text), FEDDURZAI_NULL);
+    CHECK(feddurzai_line(64, FEDDURZAI_INTEL, 0, code, 4, &unread, NULL, sizeof text), FEDDURZAI_NULL);
+    CHECK(feddurzai_line(64, FEDDURZAI_INTEL, 0, code, 4, NULL, NULL, sizeof text), FEDDURZAI_NULL);
+    CHECK(feddurzai_line_text(64, FEDDURZAI_INTEL, 0, NULL, 4, text, sizeof text), FEDDURZAI_NULL);
+    CHECK(feddurzai_line_text(64, FEDDURZAI_INTEL, 0, code, 4, NULL, sizeof text), FEDDURZAI_NULL);
+
     CHECK(feddurzai_text(64, FEDDURZAI_INTEL, NULL, text, sizeof text), FEDDURZAI_NULL);
     CHECK(feddurzai_text(64, FEDDURZAI_INTEL, &instr, NULL, sizeof text), FEDDURZAI_NULL);
     CHECK(feddurzai_text(64, FEDDURZAI_INTEL, NULL, NULL, 0), FEDDURZAI_NULL);
@@ -64,6 +78,18 @@ static void check_nulls(void)
     CHECK(feddurzai_encode(64, 0, &instr, NULL, sizeof out), FEDDURZAI_NULL);
     CHECK(feddurzai_encode(64, 0, NULL, NULL, 0), FEDDURZAI_NULL);
     CHECK(feddurzai_encode(64, 0, NULL, NULL, sizeof out), FEDDURZAI_NULL);
+
+    CHECK(feddurzai_encoded_len(64, 0, NULL), FEDDURZAI_NULL);
+
+    CHECK(feddurzai_assemble(64, 0, NULL, 3, out, sizeof out), FEDDURZAI_NULL);
+    CHECK(feddurzai_assemble(64, 0, "nop", 3, NULL, sizeof out), FEDDURZAI_NULL);
+    CHECK(feddurzai_read_intel(64, 0, NULL, 3, &unread), FEDDURZAI_NULL);
+    CHECK(feddurzai_read_intel(64, 0, "nop", 3, NULL), FEDDURZAI_NULL);
+    CHECK(feddurzai_read_intel(64, 0, NULL, 0, NULL), FEDDURZAI_NULL);
+
+    CHECK(feddurzai_jump(64, 0, 0, FEDDURZAI_JUMP_NEAR, NULL, sizeof out), FEDDURZAI_NULL);
+    CHECK(feddurzai_register_text(0, FEDDURZAI_R64, 0, NULL, sizeof text), FEDDURZAI_NULL);
+    CHECK(feddurzai_segment_text(0, FEDDURZAI_FS, NULL, sizeof text), FEDDURZAI_NULL);
 
     CHECK(feddurzai_info(NULL, &about), FEDDURZAI_NULL);
     CHECK(feddurzai_info(&instr, NULL), FEDDURZAI_NULL);
@@ -80,6 +106,11 @@ static void check_nulls(void)
     CHECK(feddurzai_move(64, 0x1000, NULL, 0, 0x2000, NULL, 0, NULL, 0, NULL), FEDDURZAI_NULL);
     CHECK(feddurzai_move(64, 0x1000, NULL, 4, 0x2000, NULL, sizeof out, NULL, 3, NULL), FEDDURZAI_NULL);
 
+    CHECK(feddurzai_move_outside(64, 0x1000, NULL, 4, 0x2000, out, sizeof out, map, 3, &report), FEDDURZAI_NULL);
+    CHECK(feddurzai_move_outside(64, 0x1000, code, 4, 0x2000, NULL, sizeof out, map, 3, &report), FEDDURZAI_NULL);
+    CHECK(feddurzai_move_outside(64, 0x1000, code, 4, 0x2000, out, sizeof out, NULL, 3, &report), FEDDURZAI_NULL);
+    CHECK(feddurzai_move_outside(64, 0x1000, code, 4, 0x2000, out, sizeof out, map, 3, NULL), FEDDURZAI_NULL);
+
     CHECK(feddurzai_flow(64, 0, NULL, 4, starts, 3, leaders, 3), FEDDURZAI_NULL);
     CHECK(feddurzai_flow(64, 0, code, 4, NULL, 3, leaders, 3), FEDDURZAI_NULL);
     CHECK(feddurzai_flow(64, 0, code, 4, starts, 3, NULL, 3), FEDDURZAI_NULL);
@@ -87,8 +118,13 @@ static void check_nulls(void)
 
     /* before every other refusal, and no cause of the encoder's */
     CHECK(feddurzai_decode(17, 0, code, 4, NULL), FEDDURZAI_NULL);
+    CHECK(feddurzai_decode_many(17, 0, code, 4, NULL, 1, &count), FEDDURZAI_NULL);
+    CHECK(feddurzai_line(17, 9, 0, NULL, 4, NULL, text, sizeof text), FEDDURZAI_NULL);
     CHECK(feddurzai_text(17, 9, NULL, text, sizeof text), FEDDURZAI_NULL);
     CHECK(feddurzai_encode(17, 0, NULL, out, sizeof out), FEDDURZAI_NULL);
+    CHECK(feddurzai_encoded_len(17, 0, NULL), FEDDURZAI_NULL);
+    CHECK(feddurzai_assemble(17, 0, NULL, 1, out, sizeof out), FEDDURZAI_NULL);
+    CHECK(feddurzai_jump(17, 0, 0, 0, NULL, 1), FEDDURZAI_NULL);
     CHECK(feddurzai_info(&unread, NULL), FEDDURZAI_NULL);
     CHECK(feddurzai_name(FEDDURZAI_CODES, NULL, 1), FEDDURZAI_NULL);
     CHECK(feddurzai_move(17, 0, code, 4, 0, out, sizeof out, map, 3, NULL), FEDDURZAI_NULL);
@@ -109,8 +145,17 @@ static void check_empty(void)
 {
     fill();
     CHECK(feddurzai_decode(64, 0, NULL, 0, &unread), FEDDURZAI_TOO_SHORT);
+    CHECK(feddurzai_line(64, FEDDURZAI_INTEL, 0, NULL, 0, &unread, NULL, 0), FEDDURZAI_TOO_SHORT);
+    CHECK(feddurzai_line(64, FEDDURZAI_INTEL, 0, mov, 5, NULL, NULL, 0), FEDDURZAI_NO_ROOM);
+    CHECK(feddurzai_line_text(64, FEDDURZAI_INTEL, 0, mov, 5, NULL, 0), FEDDURZAI_NO_ROOM);
     CHECK(feddurzai_text(64, FEDDURZAI_INTEL, &instr, NULL, 0), FEDDURZAI_NO_ROOM);
     CHECK(feddurzai_encode(64, 0, &instr, NULL, 0), FEDDURZAI_NO_ROOM);
+    CHECK(feddurzai_assemble(64, 0, NULL, 0, NULL, 0), FEDDURZAI_NO_TEXT);
+    CHECK(feddurzai_assemble(64, 0, "nop", 3, NULL, 0), FEDDURZAI_NO_ROOM);
+    CHECK(feddurzai_read_intel(64, 0, NULL, 0, &unread), FEDDURZAI_NO_TEXT);
+    CHECK(feddurzai_jump(64, 0, 0, FEDDURZAI_JUMP_NEAR, NULL, 0), FEDDURZAI_NO_ROOM);
+    CHECK(feddurzai_register_text(0, FEDDURZAI_R64, 0, NULL, 0), FEDDURZAI_NO_ROOM);
+    CHECK(feddurzai_segment_text(0, FEDDURZAI_FS, NULL, 0), FEDDURZAI_NO_ROOM);
     CHECK(feddurzai_name(0, NULL, 0), FEDDURZAI_NO_ROOM);
     CHECK(feddurzai_notation(0, NULL, 0), FEDDURZAI_NO_ROOM);
     CHECK(feddurzai_code_of(NULL, 0, 0), FEDDURZAI_NO_NAME);
@@ -124,8 +169,10 @@ static void check_empty(void)
     CHECK(feddurzai_move(64, 0x1000, code, 4, 0x2000, out, sizeof out, NULL, 0, &report), FEDDURZAI_NO_ROOM);
     CHECK(feddurzai_move(64, 0x1000, code, 4, 0x2000, NULL, 0, NULL, 0, &report), FEDDURZAI_NO_ROOM);
     CHECK(report.bytes == 4 && report.count == 3 && report.at == 0 && report.address == 0, 1);
+    CHECK(report.code_bytes == 4 && report.slots_at == 4, 1);
     CHECK(feddurzai_move(64, 0x1000, NULL, 0, 0x2000, NULL, 0, NULL, 0, &report), 0);
     CHECK(report.bytes == 0 && report.count == 0 && report.at == 0 && report.address == 0, 1);
+    CHECK(report.code_bytes == 0 && report.slots_at == 0, 1);
     memset(&report, 0xaa, sizeof report);
     CHECK(nothing_was_written(), 1);
 }
@@ -137,8 +184,17 @@ static void check_zeros(void)
     memset(&zeros, 0, sizeof zeros);
     fill();
     CHECK(feddurzai_decode(0, 0, NULL, 0, &unread), FEDDURZAI_BAD_MODE);
+    CHECK(feddurzai_decode_many(0, 0, NULL, 0, NULL, 0, &count), FEDDURZAI_BAD_MODE);
+    CHECK(feddurzai_line(0, 0, 0, NULL, 0, NULL, NULL, 0), FEDDURZAI_BAD_MODE);
+    CHECK(feddurzai_line_text(0, 0, 0, NULL, 0, NULL, 0), FEDDURZAI_BAD_MODE);
     CHECK(feddurzai_text(0, 0, &zeros, NULL, 0), FEDDURZAI_BAD_MODE);
     CHECK(feddurzai_encode(0, 0, &zeros, NULL, 0), FEDDURZAI_BAD_MODE);
+    CHECK(feddurzai_encoded_len(0, 0, &zeros), FEDDURZAI_BAD_MODE);
+    CHECK(feddurzai_assemble(0, 0, NULL, 0, NULL, 0), FEDDURZAI_BAD_MODE);
+    CHECK(feddurzai_read_intel(0, 0, NULL, 0, &unread), FEDDURZAI_BAD_MODE);
+    CHECK(feddurzai_jump(0, 0, 0, 0, NULL, 0), FEDDURZAI_BAD_MODE);
+    CHECK(feddurzai_register_text(0, 0, 0, NULL, 0), FEDDURZAI_NO_REGISTER);
+    CHECK(feddurzai_segment_text(0, 0, NULL, 0), FEDDURZAI_NO_REGISTER);
     CHECK(feddurzai_flow(0, 0, NULL, 0, NULL, 0, NULL, 0), FEDDURZAI_BAD_MODE);
     CHECK(feddurzai_name(0, NULL, 0), FEDDURZAI_NO_ROOM);
     CHECK(feddurzai_notation(0, NULL, 0), FEDDURZAI_NO_ROOM);
@@ -150,6 +206,7 @@ static void check_zeros(void)
     CHECK(nothing_was_written(), 1);
     CHECK(feddurzai_move(0, 0, NULL, 0, 0, NULL, 0, NULL, 0, &report), FEDDURZAI_BAD_MODE);
     CHECK(report.bytes == 0 && report.count == 0 && report.at == 0 && report.address == 0, 1);
+    CHECK(report.code_bytes == 0 && report.slots_at == 0, 1);
 }
 
 /* a room of `room` bytes, with spare ones behind that no call may write; all are 0xaa */
@@ -160,15 +217,27 @@ static uint8_t *room_of(size_t room)
     return bytes;
 }
 
-enum writer { TEXT, ENCODE, NAME, NOTATION };
+enum writer { TEXT, LINE, LINE_TEXT, ENCODE, ASSEMBLE, JUMP, REGISTER_TEXT, SEGMENT_TEXT, NAME, NOTATION };
 
 static int32_t written(enum writer writer, uint8_t *bytes, size_t room)
 {
     switch (writer) {
     case TEXT:
         return feddurzai_text(64, FEDDURZAI_INTEL, &instr, (char *)bytes, room);
+    case LINE:
+        return feddurzai_line(64, FEDDURZAI_INTEL, 0, mov, sizeof mov, &unread, (char *)bytes, room);
+    case LINE_TEXT:
+        return feddurzai_line(64, FEDDURZAI_INTEL, 0, mov, sizeof mov, NULL, (char *)bytes, room);
     case ENCODE:
         return feddurzai_encode(64, 0, &instr, bytes, room);
+    case ASSEMBLE:
+        return feddurzai_assemble(64, 0, mov_text, sizeof mov_text - 1, bytes, room);
+    case JUMP:
+        return feddurzai_jump(64, 0x1000, 0x1081, FEDDURZAI_JUMP_SHORT, bytes, room);
+    case REGISTER_TEXT:
+        return feddurzai_register_text(FEDDURZAI_ATT, FEDDURZAI_R64, 0, (char *)bytes, room);
+    case SEGMENT_TEXT:
+        return feddurzai_segment_text(FEDDURZAI_INTEL, FEDDURZAI_FS, (char *)bytes, room);
     case NAME:
         return feddurzai_name(instr.code, (char *)bytes, room);
     default:
@@ -231,7 +300,13 @@ int main(void)
     check_empty();
     check_zeros();
     check_rooms_of(TEXT, mov_text, sizeof mov_text, sizeof mov_text - 1);
+    check_rooms_of(LINE, mov_text, sizeof mov_text, sizeof mov);
+    check_rooms_of(LINE_TEXT, mov_text, sizeof mov_text, sizeof mov);
     check_rooms_of(ENCODE, mov, sizeof mov, sizeof mov);
+    check_rooms_of(ASSEMBLE, mov, sizeof mov, sizeof mov);
+    check_rooms_of(JUMP, "\xeb\x7f", 2, 2);
+    check_rooms_of(REGISTER_TEXT, "%rax", 5, 4);
+    check_rooms_of(SEGMENT_TEXT, "fs", 3, 2);
     check_rooms_of(NAME, "mov", 4, 3);
     check_rooms_of(NOTATION, "REX.W + 89 /r", 14, 13);
     check_pairs_of_rooms();

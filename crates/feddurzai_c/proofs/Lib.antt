@@ -3,3 +3,4 @@ pub mod FewUses
 pub mod FewReached
 pub mod ItemsInOrder
 pub mod MovedEntries
+pub mod ItemStructs

@@ -1,7 +1,8 @@
 -- What the calls of the C interface answer, and what they leave.
-use Rattle.std.specs.Prelude.{◌≡◌, ◌⊎◌, ℕ, ◌+◌, ◌<◌, ◌≤◌, nat_lt, nat_le, ℤ, pos, List, ◌∷◌, ◌++◌, length, drop, Option, Some, None, Result, Ok, Err, if◌then◌else◌}
+use Rattle.std.specs.Prelude.{◌≡◌, ◌⊎◌, ℕ, ◌+◌, ◌<◌, ◌≤◌, nat_lt, nat_le, ℤ, pos, Bool, ◌||◌, List, ◌∷◌, ◌++◌, length, drop, position, Option, Some, None, unwrap_or, Result, Ok, Err, if◌then◌else◌}
 use Rattle.std.specs.Str.{IsUtf8}
 use Rattle.x86_values.specs.declared.Bits.{Bits}
+use Rattle.x86_values.specs.declared.Operand.{Operand}
 use Rattle.x86_values.specs.declared.Instr.{Instr}
 use Rattle.row_relation.specs.Spells.{Reading, Read, TooShort as ReadTooShort, Invalid as ReadInvalid}
 use Rattle.opcode_rows.specs.declared.spots.TheConstants.{ROWS}
@@ -10,6 +11,8 @@ use Rattle.opcode_rows.specs.ByName.{rows_named, rows_named_before}
 use Rattle.opcode_rows.specs.Allowed.{is_well_formed}
 use Rattle.opcode_rows.specs.Reading.{IsRead}
 use Rattle.plain_spelling.specs.declared.NoSpelling.{NoSpelling}
+use Rattle.plain_spelling.specs.declared.NoSpelling.TheVariants as cause
+use Rattle.plain_spelling.specs.Forms.{is_memory, is_near}
 use Rattle.encoder.specs.Encoding.{encoding}
 use Rattle.intel_text.specs.Text.{text as intel_text}
 use Rattle.att_text.specs.Text.{text as att_text}
@@ -106,16 +109,39 @@ text_answer bits syntax f = text_of (bits_numbered bits) (style_numbered syntax)
 
 -- ---- encoding
 
--- the bytes, or the condition that fails
-abbrev pub encoding_told : Result (List ℕ) NoSpelling → Result (List ℕ) Refusal
-encoding_told (Ok bytes) = Ok bytes
-encoding_told (Err why) = Err (Spelling why)
+-- the first operand that passes a test, 0 where none does
+abbrev pub first_operand : (Operand → Bool) → Instr → ℕ
+first_operand test i = unwrap_or (position test i.ops) 0
+
+-- an operand that a target may be of: an address, which may be one at RIP or EIP, or a near target
+abbrev pub may_have_target : Operand → Bool
+may_have_target op = is_memory op || is_near op
+
+-- The operand that fails a condition, 0 where the condition is of the whole instruction: the one that the cause names; of an address and of its
+-- displacement the memory operand; of a target the memory operand or the near target. An instruction has no two of these.
+abbrev pub failing_operand : Instr → NoSpelling → ℕ
+failing_operand i (cause.OperandKind n) = n
+failing_operand i (cause.Register n) = n
+failing_operand i cause.Memory = first_operand is_memory i
+failing_operand i cause.Displacement = first_operand is_memory i
+failing_operand i (cause.Immediate n) = n
+failing_operand i cause.Target = first_operand may_have_target i
+failing_operand i _ = 0
+
+-- the refusal of an instruction that fails a condition
+abbrev pub no_spelling : Instr → NoSpelling → Refusal
+no_spelling i why = Spelling why (failing_operand i why)
+
+-- the bytes of an instruction, or the condition that it fails
+abbrev pub encoding_told : Instr → Result (List ℕ) NoSpelling → Result (List ℕ) Refusal
+encoding_told i (Ok bytes) = Ok bytes
+encoding_told i (Err why) = Err (no_spelling i why)
 
 -- the encoding where there are a mode and an instruction
 unfoldable pub encoding_of : Option Bits → ℕ → Option Instr → Result (List ℕ) Refusal
 encoding_of None ip i = Err Mode
 encoding_of (Some bits) ip None = Err NoInstr
-encoding_of (Some bits) ip (Some i) = encoding_told (encoding bits ip i)
+encoding_of (Some bits) ip (Some i) = encoding_told i (encoding bits ip i)
 
 -- the bytes of a struct, or why it has none
 abbrev pub encode_answer : ℕ → ℕ → FlatInstr → Result (List ℕ) Refusal

@@ -3,6 +3,7 @@ use Rattle.std.specs.Prelude.{ℕ, ℤ, pos, List, [], ◌∷◌, length, slice_
 use Rattle.x86_values.specs.declared.Instr.{Instr}
 use Rattle.x86_values.specs.Registers.{number}
 use Rattle.opcode_rows.specs.Allowed.{is_well_formed}
+use Rattle.text_parts.specs.PrefixWords.{has_memory}
 use Rattle.operand_info.specs.declared.columns.Flow.{Flow}
 use Rattle.operand_info.specs.declared.columns.Flow.TheVariants.{Next, UnconditionalBranch, IndirectBranch, ConditionalBranch, Return, Call, IndirectCall, Interrupt, Exception}
 use Rattle.operand_info.specs.declared.columns.Access.{Access}
@@ -55,6 +56,10 @@ flat_use (Some u) = record { reg_class = class_number u.reg; reg_number = number
 unfoldable pub use_at : List RegUse → ℕ → FlatUse
 use_at us n = flat_use (slice_get us n)
 
+-- the bytes of the memory operand of an instruction: by its row, and 0 where no operand is memory
+unfoldable pub memory_bytes : Instr → ℕ
+memory_bytes i = if has_memory i then memory_size i.code.0 else 0
+
 -- what an instruction does, by the columns of its row and by its operands
 unfoldable pub flat_info : Instr → FlatInfo
 flat_info i =
@@ -68,7 +73,7 @@ flat_info i =
       has_target = presence target;
       has_ip_address = presence ip_address;
       flow = flow_number (flow_of code);
-      memory_size = memory_size code;
+      memory_size = memory_bytes i;
       access = access_number (access_of code 0) ∷ access_number (access_of code 1) ∷ access_number (access_of code 2) ∷ access_number (access_of code 3) ∷ [];
       use_count = length us;
       uses = use_at us 0 ∷ use_at us 1 ∷ use_at us 2 ∷ use_at us 3 ∷ use_at us 4 ∷ use_at us 5 ∷ use_at us 6 ∷ use_at us 7 ∷ [];

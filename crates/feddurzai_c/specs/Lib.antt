@@ -3,6 +3,11 @@ pub mod Numbers
 pub mod Flat
 pub mod Back
 pub mod Answers
+pub mod Lines
+pub mod Many
+pub mod Names
+pub mod Assembling
+pub mod Jumps
 pub mod Info
 pub mod Flow
 pub mod Moving

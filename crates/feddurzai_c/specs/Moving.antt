@@ -1,5 +1,5 @@
 -- What moving some code answers, and what it leaves in the rooms.
-use Rattle.std.specs.Prelude.{◌≡◌, ◌⊎◌, ℕ, ◌+◌, ◌%◌, ◌^◌, ◌<◌, ◌≤◌, nat_le, true, false, ◌&&◌, ℤ, pos, List, [], ◌∷◌, ◌++◌, length, drop, map, slice_index_or, Option, Some, None, Result, Ok, Err, if◌then◌else◌}
+use Rattle.std.specs.Prelude.{◌≡◌, ◌⊎◌, ℕ, ◌+◌, ◌-◌, ◌*◌, ◌%◌, ◌==◌, ◌^◌, ◌<◌, ◌≤◌, nat_le, true, false, ◌&&◌, ℤ, pos, List, [], ◌∷◌, ◌++◌, length, drop, map, slice_index_or, Option, Some, None, Result, Ok, Err, if◌then◌else◌}
 use Rattle.std.specs.List.{range_with_len}
 use Rattle.x86_values.specs.declared.Bits.{Bits}
 use Rattle.x86_values.specs.declared.Decoded.{Decoded}
@@ -12,13 +12,18 @@ use Rattle.branch_sizes.specs.declared.plan.Form.{Form}
 use Rattle.branch_sizes.specs.declared.plan.Form.TheVariants.{Itself, Short, Near, Far, Bridge, FarBridge}
 use Rattle.move_goals.specs.declared.items.Placed.{Placed}
 use Rattle.move_goals.specs.Items.{item_at, one_span, passes}
+use Rattle.block_encoder.specs.declared.error.MoveError.{MoveError}
 use Rattle.block_encoder.specs.declared.error.MoveError.TheVariants as error
-use Rattle.block_encoder.specs.Moved.{IsMoved, IsRefused}
+use Rattle.branch_forms.specs.Images.{form_length}
+use Rattle.block_encoder.specs.Moved.{MovedLists, IsAnswer}
+use Rattle.block_encoder.specs.ByPlan.{IsOutsideAnswer}
 use Rattle.feddurzai_c.specs.declared.refusal.Refusal.{Refusal}
 use Rattle.feddurzai_c.specs.declared.refusal.Refusal.TheVariants as why
 use Rattle.feddurzai_c.specs.declared.flat.FlatMoved.{FlatMoved}
 use Rattle.feddurzai_c.specs.declared.flat.FlatMove.{FlatMove}
 use Rattle.feddurzai_c.specs.declared.moved.MovedCode.{MovedCode}
+use Rattle.feddurzai_c.specs.declared.moved.Targets.{Targets}
+use Rattle.feddurzai_c.specs.declared.moved.Targets.TheVariants.{Follow, Stay}
 use Rattle.feddurzai_c.specs.declared.moved.MoveRefusal.{MoveRefusal}
 use Rattle.feddurzai_c.specs.declared.moved.MoveRefusal.TheVariants.{Mode, TooLarge, BadCode, Memory, TooMany, Wraps, TooFar, Room}
 use Rattle.feddurzai_c.specs.Refusals.{refused}
@@ -72,24 +77,43 @@ entry_at items starts forms k = record {
 unfoldable pub entries : List Placed → List ℕ → List Form → ℕ → List FlatMoved
 entries items starts forms n = map (entry_at items starts forms) (range_with_len 0 n)
 
+-- ---- the end
+
+-- how many bytes of moved instructions stand before the gap and the slots: those up to the end of the image of the last one
+unfoldable pub code_len : Bits → List Placed → ℕ → List ℕ → List Form → ℕ
+code_len bits items new starts forms =
+    let last = length items - 1 in
+    if length items == 0 then 0
+    else (slice_index_or starts last 0 - new + form_length bits (item_at items last).instr (slice_index_or forms last Itself)) % 2 ^ 64
+
+-- the offset of the first slot, of 8 bytes each, behind which nothing stands: all bytes where there is none
+abbrev pub slots_offset : MovedLists → ℕ
+slots_offset m = length m.bytes - 8 * length m.slots
+
 -- ---- the answer
 
--- instructions moved as one block: the moved bytes, and an entry for each of them
-pub record AreMoved (bits : Bits) (items : List Placed) (new : ℕ) (m : MovedCode) : Type 0 where
-  pub moved : IsMoved bits items (one_span items new) m.moved
+-- the answer of moving instructions as one block: a target that is one of them goes with it, or stays
+abbrev pub IsRelocated : Targets → Bits → List Placed → ℕ → Result MovedLists MoveError → Type 0
+IsRelocated Follow bits items new answer = IsAnswer bits items (one_span items new) answer
+IsRelocated Stay bits items new answer = IsOutsideAnswer bits items new answer
+
+-- instructions moved as one block: the moved bytes, an entry for each of them, and where they end
+pub record AreMoved (targets : Targets) (bits : Bits) (items : List Placed) (new : ℕ) (m : MovedCode) : Type 0 where
+  pub moved : IsRelocated targets bits items new (Ok m.moved)
   pub entries_are : m.entries.items ≡ entries items m.moved.starts m.moved.forms (length items)
+  pub end : m.code_len ≡ code_len bits items new m.moved.starts m.moved.forms
 
 -- the same, or why they are not moved
-abbrev pub IsItemsAnswer : Bits → List Placed → ℕ → Result MovedCode MoveRefusal → Type 0
-IsItemsAnswer bits items new (Ok m) = AreMoved bits items new m
-IsItemsAnswer bits items new (Err (TooMany count)) = IsRefused bits items (one_span items new) (error.TooMany count)
-IsItemsAnswer bits items new (Err (Wraps end)) = IsRefused bits items (one_span items new) (error.Wraps end)
-IsItemsAnswer bits items new (Err (TooFar at target)) = IsRefused bits items (one_span items new) (error.TooFar at target)
-IsItemsAnswer bits items new (Err Memory) = Unit {0}
-IsItemsAnswer bits items new (Err Mode) = ⊥
-IsItemsAnswer bits items new (Err TooLarge) = ⊥
-IsItemsAnswer bits items new (Err (BadCode at e)) = ⊥
-IsItemsAnswer bits items new (Err Room) = ⊥
+abbrev pub IsItemsAnswer : Targets → Bits → List Placed → ℕ → Result MovedCode MoveRefusal → Type 0
+IsItemsAnswer targets bits items new (Ok m) = AreMoved targets bits items new m
+IsItemsAnswer targets bits items new (Err (TooMany count)) = IsRelocated targets bits items new (Err (error.TooMany count))
+IsItemsAnswer targets bits items new (Err (Wraps end)) = IsRelocated targets bits items new (Err (error.Wraps end))
+IsItemsAnswer targets bits items new (Err (TooFar at target)) = IsRelocated targets bits items new (Err (error.TooFar at target))
+IsItemsAnswer targets bits items new (Err Memory) = Unit {0}
+IsItemsAnswer targets bits items new (Err Mode) = ⊥
+IsItemsAnswer targets bits items new (Err TooLarge) = ⊥
+IsItemsAnswer targets bits items new (Err (BadCode at e)) = ⊥
+IsItemsAnswer targets bits items new (Err Room) = ⊥
 
 -- why the instructions of some code are not read
 abbrev pub IsReadRefusal : Bits → ℕ → List ℕ → MoveRefusal → Type 0
@@ -103,11 +127,11 @@ pub record IsTaken (bits : Bits) (old : ℕ) (bytes : List ℕ) : Type 0 where
   pub inside : passes bits (old + length bytes) ≡ false
 
 -- its instructions are read and moved, or their moving is refused
-pub record IsMovedAs (bits : Bits) (old : ℕ) (bytes : List ℕ) (new : ℕ) (answer : Result MovedCode MoveRefusal) : Type 0 where
+pub record IsMovedAs (targets : Targets) (bits : Bits) (old : ℕ) (bytes : List ℕ) (new : ℕ) (answer : Result MovedCode MoveRefusal) : Type 0 where
   pub taken : IsTaken bits old bytes
   pub items : List Placed
   pub read : AreItemsOf bits old bytes items
-  pub is : IsItemsAnswer bits items new answer
+  pub is : IsItemsAnswer targets bits items new answer
 
 -- the code ends past the address space
 pub record IsOldPass (bits : Bits) (old : ℕ) (bytes : List ℕ) (end : ℕ) : Type 0 where
@@ -116,21 +140,21 @@ pub record IsOldPass (bits : Bits) (old : ℕ) (bytes : List ℕ) (end : ℕ) : 
   pub passes_space : passes bits end ≡ true
 
 -- the moved code, or why it is not moved
-abbrev pub IsMoveAnswerIn : Bits → ℕ → List ℕ → ℕ → Result MovedCode MoveRefusal → Type 0
-IsMoveAnswerIn bits old bytes new (Ok m) = IsMovedAs bits old bytes new (Ok m)
-IsMoveAnswerIn bits old bytes new (Err TooLarge) = 1048576 < length bytes
-IsMoveAnswerIn bits old bytes new (Err (BadCode at e)) = IsTaken bits old bytes × StopsAt bits old bytes at e
-IsMoveAnswerIn bits old bytes new (Err Memory) = IsTaken bits old bytes
-IsMoveAnswerIn bits old bytes new (Err (TooMany count)) = IsMovedAs bits old bytes new (Err (TooMany count))
-IsMoveAnswerIn bits old bytes new (Err (Wraps end)) = IsOldPass bits old bytes end ⊎ IsMovedAs bits old bytes new (Err (Wraps end))
-IsMoveAnswerIn bits old bytes new (Err (TooFar at target)) = IsMovedAs bits old bytes new (Err (TooFar at target))
-IsMoveAnswerIn bits old bytes new (Err Mode) = ⊥
-IsMoveAnswerIn bits old bytes new (Err Room) = ⊥
+abbrev pub IsMoveAnswerIn : Targets → Bits → ℕ → List ℕ → ℕ → Result MovedCode MoveRefusal → Type 0
+IsMoveAnswerIn targets bits old bytes new (Ok m) = IsMovedAs targets bits old bytes new (Ok m)
+IsMoveAnswerIn targets bits old bytes new (Err TooLarge) = 1048576 < length bytes
+IsMoveAnswerIn targets bits old bytes new (Err (BadCode at e)) = IsTaken bits old bytes × StopsAt bits old bytes at e
+IsMoveAnswerIn targets bits old bytes new (Err Memory) = IsTaken bits old bytes
+IsMoveAnswerIn targets bits old bytes new (Err (TooMany count)) = IsMovedAs targets bits old bytes new (Err (TooMany count))
+IsMoveAnswerIn targets bits old bytes new (Err (Wraps end)) = IsOldPass bits old bytes end ⊎ IsMovedAs targets bits old bytes new (Err (Wraps end))
+IsMoveAnswerIn targets bits old bytes new (Err (TooFar at target)) = IsMovedAs targets bits old bytes new (Err (TooFar at target))
+IsMoveAnswerIn targets bits old bytes new (Err Mode) = ⊥
+IsMoveAnswerIn targets bits old bytes new (Err Room) = ⊥
 
 -- the same by the number of a mode
-abbrev pub IsMoveAnswer : Option Bits → ℕ → List ℕ → ℕ → Result MovedCode MoveRefusal → Type 0
-IsMoveAnswer None old bytes new answer = answer ≡ Err Mode
-IsMoveAnswer (Some bits) old bytes new answer = IsMoveAnswerIn bits old bytes new answer
+abbrev pub IsMoveAnswer : Targets → Option Bits → ℕ → List ℕ → ℕ → Result MovedCode MoveRefusal → Type 0
+IsMoveAnswer targets None old bytes new answer = answer ≡ Err Mode
+IsMoveAnswer targets (Some bits) old bytes new answer = IsMoveAnswerIn targets bits old bytes new answer
 
 -- ---- what is said and left
 
@@ -166,23 +190,32 @@ abbrev pub entries_left : List FlatMoved → Result MovedCode MoveRefusal → Li
 entries_left old (Ok m) = m.entries.items ++ drop (length m.entries.items) old
 entries_left old (Err e) = old
 
+-- no numbers
+abbrev pub nothing_moved : FlatMove
+nothing_moved = record { bytes = 0; count = 0; at = 0; address = 0; code_bytes = 0; slots_at = 0 }
+
 -- the numbers of a refusal: those of its instruction or offset, of its address modulo 2 ^ 64, and of too many instructions
 abbrev pub refusal_report : MoveRefusal → FlatMove
-refusal_report (BadCode at e) = record { bytes = 0; count = 0; at = at; address = 0 }
-refusal_report (TooMany count) = record { bytes = 0; count = count; at = 0; address = 0 }
-refusal_report (Wraps end) = record { bytes = 0; count = 0; at = 0; address = end % 2 ^ 64 }
-refusal_report (TooFar at target) = record { bytes = 0; count = 0; at = at; address = target }
-refusal_report _ = record { bytes = 0; count = 0; at = 0; address = 0 }
+refusal_report (BadCode at e) = record nothing_moved { at = at }
+refusal_report (TooMany count) = record nothing_moved { count = count }
+refusal_report (Wraps end) = record nothing_moved { address = end % 2 ^ 64 }
+refusal_report (TooFar at target) = record nothing_moved { at = at; address = target }
+refusal_report _ = nothing_moved
 
--- how many bytes and entries there are, also where a room does not hold them; or the numbers of the refusal
+-- how many bytes and entries there are, and where the code ends and the slots begin, also where a room does not hold them; or the numbers of the refusal
 abbrev pub report_of : Result MovedCode MoveRefusal → FlatMove
-report_of (Ok m) = record { bytes = length m.moved.bytes; count = length m.entries.items; at = 0; address = 0 }
+report_of (Ok m) = record nothing_moved {
+  bytes = length m.moved.bytes;
+  count = length m.entries.items;
+  code_bytes = m.code_len;
+  slots_at = slots_offset m.moved;
+}
 report_of (Err e) = refusal_report e
 
 -- what the call says and leaves
-pub record IsMove (bits old : ℕ) (bytes : List ℕ) (new : ℕ) (out out' : List ℕ) (room room' : List FlatMoved) (report : FlatMove) (said : ℤ) : Type 0 where
+pub record IsMove (targets : Targets) (bits old : ℕ) (bytes : List ℕ) (new : ℕ) (out out' : List ℕ) (room room' : List FlatMoved) (report : FlatMove) (said : ℤ) : Type 0 where
   pub answer : Result MovedCode MoveRefusal
-  pub is : IsMoveAnswer (bits_numbered bits) old bytes new answer
+  pub is : IsMoveAnswer targets (bits_numbered bits) old bytes new answer
   pub said_is : said ≡ moved_said (moved_within (length out) (length room) answer)
   pub bytes_are : out' ≡ bytes_left out (moved_within (length out) (length room) answer)
   pub entries_are : room' ≡ entries_left room (moved_within (length out) (length room) answer)

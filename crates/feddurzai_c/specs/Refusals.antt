@@ -3,22 +3,22 @@ use Rattle.std.specs.Prelude.{ℕ, ◌+◌, ℤ, pos, neg_ℤ}
 use Rattle.plain_spelling.specs.declared.NoSpelling.{NoSpelling}
 use Rattle.plain_spelling.specs.declared.NoSpelling.TheVariants as cause
 use Rattle.feddurzai_c.specs.declared.refusal.Refusal.{Refusal}
-use Rattle.feddurzai_c.specs.declared.refusal.Refusal.TheVariants.{Mode, Syntax, Code, Instr, Form, Room, Invalid, TooShort, Name, Memory, TooLarge, TooMany, Wraps, TooFar, Spelling}
+use Rattle.feddurzai_c.specs.declared.refusal.Refusal.TheVariants.{Mode, Syntax, Code, Instr, Form, Room, Invalid, TooShort, Name, Memory, TooLarge, TooMany, Wraps, TooFar, Text, Register, Jump, Spelling}
 
--- 256 times the number of the condition, 1 to 10, and the operand that fails it
-abbrev pub spelling_number : NoSpelling → ℕ
-spelling_number cause.Row = 256
-spelling_number (cause.OperandKind n) = 512 + n
-spelling_number (cause.Register n) = 768 + n
-spelling_number cause.Memory = 1024
-spelling_number cause.Displacement = 1280
-spelling_number (cause.Immediate n) = 1536 + n
-spelling_number cause.Target = 1792
-spelling_number cause.Prefix = 2048
-spelling_number cause.AddressSize = 2304
-spelling_number cause.Length = 2560
+-- 256 times the number of a condition, 1 to 10
+abbrev pub condition_number : NoSpelling → ℕ
+condition_number cause.Row = 256
+condition_number (cause.OperandKind n) = 512
+condition_number (cause.Register n) = 768
+condition_number cause.Memory = 1024
+condition_number cause.Displacement = 1280
+condition_number (cause.Immediate n) = 1536
+condition_number cause.Target = 1792
+condition_number cause.Prefix = 2048
+condition_number cause.AddressSize = 2304
+condition_number cause.Length = 2560
 
--- the number of a refusal
+-- the number of a refusal, 15 of which is a header's for C; of an encoding that fails with the operand that fails the condition
 abbrev pub refusal_number : Refusal → ℕ
 refusal_number Mode = 1
 refusal_number Syntax = 2
@@ -34,7 +34,10 @@ refusal_number TooLarge = 11
 refusal_number TooMany = 12
 refusal_number Wraps = 13
 refusal_number TooFar = 14
-refusal_number (Spelling why) = spelling_number why
+refusal_number Text = 16
+refusal_number Register = 17
+refusal_number Jump = 18
+refusal_number (Spelling why operand) = condition_number why + operand
 
 -- a refusal is told by its number below zero
 abbrev pub refused : Refusal → ℤ

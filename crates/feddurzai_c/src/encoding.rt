@@ -3,6 +3,7 @@
 ghost use Rattle.std.specs.Prelude.{◌≡◌, ℕ, ◌++◌, List, length, pos, IfOk, MatchResult, Ok, Err};
 ghost use Rattle.feddurzai_c.specs.Numbers.{bits_numbered};
 ghost use Rattle.feddurzai_c.specs.Back.{instr_back};
+ghost use Rattle.plain_spelling.specs.Forms.{is_memory};
 ghost use Rattle.feddurzai_c.specs.Answers as spec;
 
 use crate::flat::FlatInstr;
@@ -11,7 +12,54 @@ use crate::refusal::{Refusal, refused};
 use crate::room::put_bytes;
 use crate::unflatten::instr_back;
 use arrayvec::ArrayVec;
-use encoder::encode;
+use encoder::{NoSpelling, encode, encoded_len};
+use x86_values::{Instr, Operand};
+
+/// The place of the first operand that passes a test, 0 where none does.
+fn memory_place(instr: &Instr) -> u8
+    ensures { result ≡ spec.first_operand is_memory instr.now }
+{
+    match instr.ops.iter().position(|op| op.is_memory()) {
+        Some(n) => n as u8,
+        None => 0,
+    }
+}
+
+/// The place of the first operand that a target may be of, 0 where there is none.
+fn target_place(instr: &Instr) -> u8
+    ensures { result ≡ spec.first_operand spec.may_have_target instr.now }
+{
+    match instr
+        .ops
+        .iter()
+        .position(|op| matches!(op, Operand::Mem(_) | Operand::Near(_)))
+    {
+        Some(n) => n as u8,
+        None => 0,
+    }
+}
+
+/// The operand that fails a condition, 0 where the condition is of the whole instruction.
+fn failing_operand(instr: &Instr, why: NoSpelling) -> u8
+    ensures { result ≡ spec.failing_operand instr.now why }
+{
+    match why {
+        NoSpelling::OperandKind(n) | NoSpelling::Register(n) | NoSpelling::Immediate(n) => n,
+        NoSpelling::Memory | NoSpelling::Displacement => memory_place(instr),
+        NoSpelling::Target => target_place(instr),
+        NoSpelling::Row | NoSpelling::Prefix | NoSpelling::AddressSize | NoSpelling::Length => 0,
+    }
+}
+
+/// The refusal of an instruction that fails a condition.
+pub(crate) fn no_spelling(instr: &Instr, why: NoSpelling) -> Refusal
+    ensures { result ≡ spec.no_spelling instr.now why }
+{
+    Refusal::Spelling {
+        why,
+        operand: failing_operand(instr, why),
+    }
+}
 
 /// The bytes of the instruction of a struct.
 #[tactic(auto, unfolding(crate::specs::Answers::encoding_of))]
@@ -27,7 +75,7 @@ fn bytes_of(bits: u32, ip: u64, instr: &FlatInstr) -> Result<ArrayVec<u8, 15>, R
     };
     match encode(bits, ip, &instr) {
         Ok(bytes) => Ok(bytes),
-        Err(why) => Err(Refusal::Spelling(why)),
+        Err(why) => Err(no_spelling(&instr, why)),
     }
 }
 
@@ -35,7 +83,7 @@ fn bytes_of(bits: u32, ip: u64, instr: &FlatInstr) -> Result<ArrayVec<u8, 15>, R
 ///
 /// `ip` is the address of the first byte, taken modulo 2 to the number of bits of the mode. The length in the struct plays no part. The room is
 /// unchanged behind the bytes, and whole after a refusal: `Mode`, `Instr`, `Spelling`, `Room`, the first that stands. A `Spelling` says the first of
-/// the ten conditions of a plain spelling that fails (Intel SDM volume 2, 2.1 to 2.3).
+/// the ten conditions of a plain spelling that fails, and the operand that fails it (Intel SDM volume 2, 2.1 to 2.3).
 #[tactic(auto, unfolding(crate::specs::Answers::bytes_within))]
 #[unsafe(no_mangle)]
 pub extern "C" fn feddurzai_encode(bits: u32, ip: u64, instr: &FlatInstr, out: &mut [u8]) -> i32
@@ -46,5 +94,23 @@ pub extern "C" fn feddurzai_encode(bits: u32, ip: u64, instr: &FlatInstr, out: &
     match bytes_of(bits, ip, instr) {
         Ok(bytes) => put_bytes(out, &bytes),
         Err(why) => refused(why),
+    }
+}
+
+/// How many bytes the plain (shortest) spelling of an instruction at an address has: 1 to 15. The refusals are those of `feddurzai_encode`, but for `Room`.
+#[tactic(auto, unfolding(crate::specs::Answers::encoding_of))]
+#[unsafe(no_mangle)]
+pub extern "C" fn feddurzai_encoded_len(bits: u32, ip: u64, instr: &FlatInstr) -> i32
+    ensures { result ≡ spec.said (spec.encode_answer bits ip instr.now) }
+{
+    let Some(bits) = bits_numbered(bits) else {
+        return refused(Refusal::Mode);
+    };
+    let Some(instr) = instr_back(instr) else {
+        return refused(Refusal::Instr);
+    };
+    match encoded_len(bits, ip, &instr) {
+        Ok(len) => i32::from(len),
+        Err(why) => refused(no_spelling(&instr, why)),
     }
 }

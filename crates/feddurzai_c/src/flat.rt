@@ -108,4 +108,8 @@ pub struct FlatMove {
     pub at: u64,
     /// That target, or the end that passes the address space.
     pub address: u64,
+    /// How many bytes the moved code has before the gap and its slots.
+    pub code_bytes: u64,
+    /// The offset of the first slot; how many bytes there are where there is none.
+    pub slots_at: u64,
 }

@@ -9,10 +9,11 @@ use crate::flat::{FlatInfo, FlatInstr, FlatUse};
 use crate::numbers::class_number;
 use crate::refusal::{Refusal, refused};
 use crate::unflatten::instr_back;
-use opcode_rows::well_formed;
+use opcode_rows::{ROWS, well_formed};
 use operand_info::{
     Access, Flow, RegUse, access_of, flow_of, ip_operand, memory_size, near_target, used_registers,
 };
+use text_parts::prefix_words::has_memory;
 use x86_values::Instr;
 
 /// The number of a flow, 0 to 8.
@@ -83,6 +84,19 @@ fn value_or_zero(value: Option<u64>) -> u64
     }
 }
 
+/// The bytes of the memory operand of an instruction, 0 where no operand is memory.
+#[tactic(auto, unfolding(crate::specs::Info::memory_bytes))]
+fn memory_bytes(instr: &Instr) -> u8
+    requires { instr.now.code.0 < ROWS }
+    ensures { result ≡ spec.memory_bytes instr.now }
+{
+    if has_memory(instr) {
+        memory_size(instr.code)
+    } else {
+        0
+    }
+}
+
 /// What a well-formed instruction does.
 #[tactic(auto, using(operand_info::proofs::Uses::code_in_table, crate::proofs::FewUses::few_uses), unfolding(crate::specs::Info::flat_info))]
 fn flat_info(instr: &Instr) -> FlatInfo
@@ -99,7 +113,7 @@ fn flat_info(instr: &Instr) -> FlatInfo
         has_target: presence(target),
         has_ip_address: presence(ip_address),
         flow: flow_number(flow_of(instr.code)),
-        memory_size: memory_size(instr.code),
+        memory_size: memory_bytes(instr),
         access: [
             access_number(access_of(instr.code, 0)),
             access_number(access_of(instr.code, 1)),

@@ -6,15 +6,21 @@
 //! null where the length is 0.
 #![tactic(auto)]
 
+mod assembling;
+mod code_len;
 mod decoding;
 mod encoding;
 mod flat;
 mod flatten;
 mod flow;
 mod info;
+mod jump;
 pub mod laws;
+mod line;
+mod many;
 mod moved;
 mod moving;
+mod names;
 mod numbers;
 mod refusal;
 mod room;

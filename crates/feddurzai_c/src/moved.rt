@@ -5,9 +5,10 @@ ghost use Rattle.move_goals.specs.Items.{ArePlaced, first_disorder, one_span};
 ghost use Rattle.feddurzai_c.specs.Moving as spec;
 ghost use Rattle.feddurzai_c.specs.Numbers.{bits_numbered};
 
+use crate::code_len::code_len;
 use crate::flat::FlatMoved;
 use crate::numbers::bits_numbered;
-use block_encoder::{Form, MoveError, Moved, Placed, move_block};
+use block_encoder::{Form, MoveError, Moved, Placed, move_block, move_outside};
 use decoder::{DecodeError, decode_in};
 use move_goals::passes;
 use std::alloc::{AllocError, Global};
@@ -16,10 +17,20 @@ use x86_values::Bits;
 /// How many bytes of code are moved together at most.
 const MOST: usize = 1_048_576;
 
+/// What becomes of a target that is one of the instructions that are moved.
+#[derive(Clone, Copy, PartialEq, Eq, Debug)]
+pub(crate) enum Targets {
+    /// It goes with that instruction.
+    Follow,
+    /// It stays where it was.
+    Stay,
+}
+
 /// Moved code, and where each of its instructions went.
 #[derive(Drop)]
 pub(crate) struct MovedCode {
     pub(crate) moved: Moved,
+    pub(crate) code_len: u64,
     pub(crate) entries: Vec<FlatMoved>,
 }
 
@@ -131,20 +142,45 @@ fn entries_of(
     Ok(list)
 }
 
+/// Moves instructions as one block.
+fn relocated(
+    alloc: Global,
+    targets: Targets,
+    bits: Bits,
+    items: &[Placed],
+    new: u64,
+) -> Result<Moved, MoveError>
+    requires { ArePlaced bits items.now }
+    ensures { spec.IsRelocated targets bits items.now new result }
+{
+    match targets {
+        Targets::Follow => move_block(alloc, bits, items, new),
+        Targets::Stay => move_outside(alloc, bits, items, new),
+    }
+}
+
 /// Moves instructions that were read.
 fn move_items(
     alloc: Global,
+    targets: Targets,
     bits: Bits,
     items: &[Placed],
     new: u64,
 ) -> Result<MovedCode, MoveRefusal>
     requires placed { ArePlaced bits items.now }
     requires order { first_disorder (one_span items.now new) items.now ≡ None }
-    ensures { spec.IsItemsAnswer bits items.now new result }
+    ensures { spec.IsItemsAnswer targets bits items.now new result }
 {
-    match move_block(alloc, bits, items, new) {
+    match relocated(alloc, targets, bits, items, new) {
         Ok(moved) => match entries_of(alloc, items, moved.starts(), moved.forms()) {
-            Ok(entries) => Ok(MovedCode { moved, entries }),
+            Ok(entries) => {
+                let code_len = code_len(bits, items, new, moved.starts(), moved.forms());
+                Ok(MovedCode {
+                    moved,
+                    code_len,
+                    entries,
+                })
+            }
             Err(_) => Err(MoveRefusal::Memory),
         },
         Err(MoveError::Memory) => Err(MoveRefusal::Memory),
@@ -158,12 +194,13 @@ fn move_items(
 /// Reads some code and moves it, in a mode.
 fn move_in(
     alloc: Global,
+    targets: Targets,
     bits: Bits,
     old: u64,
     bytes: &[u8],
     new: u64,
 ) -> Result<MovedCode, MoveRefusal>
-    ensures { spec.IsMoveAnswerIn bits old bytes.now new result }
+    ensures { spec.IsMoveAnswerIn targets bits old bytes.now new result }
 {
     if bytes.len() > MOST {
         return Err(MoveRefusal::TooLarge);
@@ -173,7 +210,7 @@ fn move_in(
         return Err(MoveRefusal::Wraps { end });
     }
     match read_items(alloc, bits, old, bytes) {
-        Ok(items) => move_items(alloc, bits, &items, new),
+        Ok(items) => move_items(alloc, targets, bits, &items, new),
         Err(why) => Err(why),
     }
 }
@@ -181,15 +218,16 @@ fn move_in(
 /// Reads some code and moves it.
 pub(crate) fn moved_code(
     alloc: Global,
+    targets: Targets,
     bits: u32,
     old: u64,
     bytes: &[u8],
     new: u64,
 ) -> Result<MovedCode, MoveRefusal>
-    ensures { spec.IsMoveAnswer (bits_numbered bits) old bytes.now new result }
+    ensures { spec.IsMoveAnswer targets (bits_numbered bits) old bytes.now new result }
 {
     match bits_numbered(bits) {
         None => Err(MoveRefusal::Mode),
-        Some(bits) => move_in(alloc, bits, old, bytes, new),
+        Some(bits) => move_in(alloc, targets, bits, old, bytes, new),
     }
 }

@@ -4,9 +4,10 @@ ghost use Rattle.std.specs.Prelude.{◌≡◌, ◌≤◌, ◌++◌, length, drop
 ghost use Rattle.feddurzai_c.specs.Moving as spec;
 
 use crate::flat::{FlatMove, FlatMoved};
-use crate::moved::{MoveRefusal, MovedCode, moved_code};
+use crate::moved::{MoveRefusal, MovedCode, Targets, moved_code};
 use crate::refusal::{Refusal, refused};
 use crate::room::write_front;
+use block_encoder::Moved;
 use decoder::DecodeError;
 use std::alloc::Global;
 
@@ -35,6 +36,8 @@ const NOTHING: FlatMove = FlatMove {
     count: 0,
     at: 0,
     address: 0,
+    code_bytes: 0,
+    slots_at: 0,
 };
 
 /// The numbers of a refusal.
@@ -57,6 +60,14 @@ fn refusal_report(why: MoveRefusal) -> FlatMove
     }
 }
 
+/// The offset of the first slot, and how many bytes there are where there is none.
+fn slots_offset(moved: &Moved) -> u64
+    ensures { result ≡ spec.slots_offset moved.now }
+{
+    let slots = moved.slots().len() as u64;
+    (moved.bytes().len() as u64).saturating_sub(8 * slots)
+}
+
 /// The numbers of an answer.
 fn report_of(answer: &Result<MovedCode, MoveRefusal>) -> FlatMove
     ensures { result ≡ spec.report_of answer.now }
@@ -65,6 +76,8 @@ fn report_of(answer: &Result<MovedCode, MoveRefusal>) -> FlatMove
         Ok(m) => FlatMove {
             bytes: m.moved.bytes().len() as u64,
             count: m.entries.len() as u64,
+            code_bytes: m.code_len,
+            slots_at: slots_offset(&m.moved),
             ..NOTHING
         },
         Err(why) => refusal_report(*why),
@@ -100,11 +113,30 @@ fn put_moved(answer: &Result<MovedCode, MoveRefusal>, out: &mut [u8], map: &mut 
     }
 }
 
+/// Moves code, and leaves the moved bytes, the map and the report.
+fn move_by(
+    alloc: Global,
+    targets: Targets,
+    bits: u32,
+    old: u64,
+    bytes: &[u8],
+    new: u64,
+    out: &mut [u8],
+    map: &mut [FlatMoved],
+    report: &mut FlatMove,
+) -> i32
+    ensures { spec.IsMove targets bits old bytes.now new out.old out.new map.old map.new report.new result }
+{
+    let answer = moved_code(alloc, targets, bits, old, bytes, new);
+    *report = report_of(&answer);
+    put_moved(&answer, out, map)
+}
+
 /// Moves code from the address `old` to the address `new`: every branch and every operand at RIP or EIP still reaches what it reached, or follows it
 /// where that is moved too. It says 0.
 ///
 /// The moved bytes go to `out`, with the slots that far branches go through behind them; `map` gets an entry for each instruction. `report` gets how
-/// many bytes and instructions there are, also where a room is too small for them; or the numbers of the refusal: of `Invalid` and `TooShort` the
+/// many bytes and instructions there are, how many bytes the code has before the slots and where those begin, also where a room is too small; or the numbers of the refusal: of `Invalid` and `TooShort` the
 /// offset, of `TooMany` (above 65,536) how many, of `Wraps` the old or the new end modulo 2 to the 64, of `TooFar` the number of the instruction, from
 /// 0, and its target. The other refusals are `Mode`, `TooLarge` above 1,048,576 bytes, `Memory` and `Room`. Rooms are unchanged behind what is written
 /// and after a refusal. It takes memory of the C library, and gives it back.
@@ -119,9 +151,48 @@ pub extern "C" fn feddurzai_move(
     map: &mut [FlatMoved],
     report: &mut FlatMove,
 ) -> i32
-    ensures { spec.IsMove bits old bytes.now new out.old out.new map.old map.new report.new result }
+    ensures { spec.IsMove Targets.Follow bits old bytes.now new out.old out.new map.old map.new report.new result }
 {
-    let answer = moved_code(alloc, bits, old, bytes, new);
-    *report = report_of(&answer);
-    put_moved(&answer, out, map)
+    move_by(
+        alloc,
+        Targets::Follow,
+        bits,
+        old,
+        bytes,
+        new,
+        out,
+        map,
+        report,
+    )
+}
+
+/// Moves code from the address `old` to the address `new` and keeps every target: a branch and an operand at RIP or EIP reach what they reached, also where
+/// that is one of the moved instructions. Answer, report and refusals are those of `feddurzai_move`.
+///
+/// So an instruction moved by itself does there what it did at its old place, also where it branches to itself, and a jump to the old end that is put
+/// behind some code is a jump back.
+#[unsafe(no_mangle)]
+pub extern "C" fn feddurzai_move_outside(
+    alloc: Global,
+    bits: u32,
+    old: u64,
+    bytes: &[u8],
+    new: u64,
+    out: &mut [u8],
+    map: &mut [FlatMoved],
+    report: &mut FlatMove,
+) -> i32
+    ensures { spec.IsMove Targets.Stay bits old bytes.now new out.old out.new map.old map.new report.new result }
+{
+    move_by(
+        alloc,
+        Targets::Stay,
+        bits,
+        old,
+        bytes,
+        new,
+        out,
+        map,
+        report,
+    )
 }

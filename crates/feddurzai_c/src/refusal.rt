@@ -1,6 +1,6 @@
 //! Why a call does not do what it is asked.
 
-ghost use Rattle.std.specs.Prelude.{◌≡◌};
+ghost use Rattle.std.specs.Prelude.{◌≡◌, ◌≤◌};
 ghost use Rattle.feddurzai_c.specs.Refusals as spec;
 
 use encoder::NoSpelling;
@@ -36,21 +36,28 @@ pub(crate) enum Refusal {
     Wraps,
     /// An instruction does not reach its target from its new place.
     TooFar,
-    /// The instruction has no plain spelling there.
-    Spelling(NoSpelling),
+    /// No instruction that has a plain spelling there has this text.
+    Text,
+    /// No register has this class and number, and no prefix names such a segment.
+    Register,
+    /// A jump has no such form.
+    Jump,
+    /// The instruction has no plain spelling there: the condition that fails, and the operand that fails it, 0 for a condition of the whole instruction.
+    Spelling { why: NoSpelling, operand: u8 },
 }
 
-/// The number of the condition times 256, and the operand.
-fn spelling_number(why: NoSpelling) -> u16
-    ensures { result ≡ spec.spelling_number why }
+/// The number of a condition, 1 to 10, times 256.
+fn condition_number(why: NoSpelling) -> u16
+    ensures value { result ≡ spec.condition_number why }
+    ensures small { result ≤ 2560 }
 {
     match why {
         NoSpelling::Row => 0x100,
-        NoSpelling::OperandKind(operand) => 0x200 + u16::from(operand),
-        NoSpelling::Register(operand) => 0x300 + u16::from(operand),
+        NoSpelling::OperandKind(_) => 0x200,
+        NoSpelling::Register(_) => 0x300,
         NoSpelling::Memory => 0x400,
         NoSpelling::Displacement => 0x500,
-        NoSpelling::Immediate(operand) => 0x600 + u16::from(operand),
+        NoSpelling::Immediate(_) => 0x600,
         NoSpelling::Target => 0x700,
         NoSpelling::Prefix => 0x800,
         NoSpelling::AddressSize => 0x900,
@@ -77,7 +84,10 @@ fn refusal_number(why: Refusal) -> u16
         Refusal::TooMany => 12,
         Refusal::Wraps => 13,
         Refusal::TooFar => 14,
-        Refusal::Spelling(why) => spelling_number(why),
+        Refusal::Text => 16,
+        Refusal::Register => 17,
+        Refusal::Jump => 18,
+        Refusal::Spelling { why, operand } => condition_number(why) + u16::from(operand),
     }
 }
 

@@ -35,6 +35,15 @@ pub(crate) fn put_bytes(out: &mut [u8], bytes: &[u8]) -> i32
     told(bytes.len())
 }
 
+/// Writes a text and the byte 0 that ends it at the front of a room that holds both.
+pub(crate) fn write_text(out: &mut [u8], text: &[u8])
+    requires { length text.now < length out.old }
+    ensures { out.new ≡ spec.with_text out.old (Ok text.now) }
+{
+    write_front(out, text);
+    out[text.len()] = 0;
+}
+
 /// Writes a text and the byte 0 that ends it, where the room holds both, and says how many bytes the text has.
 #[tactic(auto, unfolding(crate::specs::Answers::text_within))]
 pub(crate) fn put_text(out: &mut [u8], text: &[u8]) -> i32
@@ -45,7 +54,6 @@ pub(crate) fn put_text(out: &mut [u8], text: &[u8]) -> i32
     if text.len() >= out.len() {
         return refused(Refusal::Room);
     }
-    write_front(out, text);
-    out[text.len()] = 0;
+    write_text(out, text);
     told(text.len())
 }

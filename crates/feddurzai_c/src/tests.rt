@@ -106,6 +106,8 @@ fn code_is_moved_and_followed(rt: HostRuntime) -> Result<(), Fail> {
         count: 0,
         at: 0,
         address: 0,
+        code_bytes: 0,
+        slots_at: 0,
     };
     let said = feddurzai_move(
         rt.alloc(),
@@ -120,6 +122,7 @@ fn code_is_moved_and_followed(rt: HostRuntime) -> Result<(), Fail> {
     assert_eq!(rt; said, 0);
     assert_eq!(rt; out, *b"\x75\x06\xff\x25\0\0\0\0\x12\x10\0\0\0\0\0\0");
     assert_eq!(rt; (report.bytes, report.count), (16, 1));
+    assert_eq!(rt; (report.code_bytes, report.slots_at), (8, 8));
     let [moved] = map;
     assert_eq!(rt; (moved.old_ip, moved.new_ip), (0x1000, 0x7fff_0000_0000));
     assert_eq!(rt; (moved.len, moved.form), (2, 3));

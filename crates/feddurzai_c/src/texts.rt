@@ -15,7 +15,7 @@ use text_parts::style::Style;
 use x86_values::{Bits, Instr};
 
 /// The text of a well-formed instruction in a style.
-fn style_text(style: Style, bits: Bits, instr: &Instr) -> ArrayVec<u8, 160>
+pub(crate) fn style_text(style: Style, bits: Bits, instr: &Instr) -> ArrayVec<u8, 160>
     requires { IsTrue (is_well_formed instr.now) }
     ensures { result.items ≡ spec.style_text style bits instr.now }
 {

@@ -1,0 +1,113 @@
+#!/usr/bin/env python3
+"""Writes the codes of common instructions into feddurzai.h and tests/codes.h, from the rows of the table.
+
+    listing_program rows | capi/codes.py            writes both
+    listing_program rows | capi/codes.py --check    says whether they are as they would be written: exit status 1 where not
+
+A row is `CODE NOTATION NAME`. The list below says which rows have a constant and how each is named; the numbers come from the rows alone.
+"""
+
+import os
+import sys
+
+HERE = os.path.dirname(os.path.abspath(__file__))
+BEGIN = "/* begin of the codes that codes.py writes */\n"
+END = "/* end of the codes that codes.py writes */\n"
+
+CONDITIONS = "o no b ae e ne be a s ns p np l ge le g".split()
+ARITHMETIC = "add or adc sbb and sub xor cmp".split()
+
+
+def wanted():
+    """Each constant with the name and the notation of its row."""
+    for name, short, near, digit in (("jmp", "EB", "E9", 4), ("call", None, "E8", 2)):
+        for size, suffix in (("o64", ""), ("o32", "_O32")):
+            if short:
+                yield f"{name}_REL8{suffix}", name, f"{size} {short} cb"
+            yield f"{name}_REL32{suffix}", name, f"{size} {near} cd"
+        yield f"{name}_RM64", name, f"o64 FF /{digit}"
+        yield f"{name}_RM32", name, f"o32 FF /{digit}"
+    for n, condition in enumerate(CONDITIONS):
+        for size, suffix in (("o64", ""), ("o32", "_O32")):
+            yield f"j{condition}_REL8{suffix}", f"j{condition}", f"{size} {0x70 + n:02X} cb"
+            yield f"j{condition}_REL32{suffix}", f"j{condition}", f"{size} 0F {0x80 + n:02X} cd"
+    yield "ret", "ret", "o64 C3"
+    yield "ret_O32", "ret", "o32 C3"
+    yield "ret_IMM16", "ret", "o64 C2 iw"
+    yield "push_R64", "push", "o64 50+ro"
+    yield "push_R32", "push", "o32 50+rd"
+    yield "push_IMM8", "push", "o64 6A ib"
+    yield "push_IMM32", "push", "o64 68 id"
+    yield "push_RM64", "push", "o64 FF /6"
+    yield "pop_R64", "pop", "o64 58+ro"
+    yield "pop_R32", "pop", "o32 58+rd"
+    yield "pop_RM64", "pop", "o64 8F /0"
+    yield "pushfq", "pushfq", "o64 9C"
+    yield "popfq", "popfq", "o64 9D"
+    for name, notation in (("nop", "NF3 90"), ("int3", "CC"), ("ud2", "0F 0B"), ("syscall", "0F 05"), ("hlt", "F4"), ("leave", "o64 C9"), ("endbr64", "F3 0F 1E FA")):
+        yield name, name, notation
+    yield "nop_RM32", "nop", "o32 0F 1F /0"
+    for bits, size in (("64", "REX.W +"), ("32", "o32")):
+        register, immediate = f"B8+{'ro io' if bits == '64' else 'rd id'}", f"R{bits}_IMM{bits}"
+        yield f"mov_RM{bits}_R{bits}", "mov", f"{size} 89 /r"
+        yield f"mov_R{bits}_RM{bits}", "mov", f"{size} 8B /r"
+        yield f"mov_{immediate}", "mov", f"{size} {register}"
+        yield f"mov_RM{bits}_IMM32", "mov", f"{size} C7 /0 id"
+        yield f"lea_R{bits}", "lea", f"{size} 8D /r"
+        yield f"xchg_RM{bits}_R{bits}", "xchg", f"{size} 87 /r"
+        yield f"test_RM{bits}_R{bits}", "test", f"{size} 85 /r"
+        yield f"test_RM{bits}_IMM32", "test", f"{size} F7 /0 id"
+        for n, name in enumerate(ARITHMETIC):
+            yield f"{name}_RM{bits}_R{bits}", name, f"{size} {8 * n + 1:02X} /r"
+            yield f"{name}_R{bits}_RM{bits}", name, f"{size} {8 * n + 3:02X} /r"
+            yield f"{name}_RM{bits}_IMM8", name, f"{size} 83 /{n} ib"
+            yield f"{name}_RM{bits}_IMM32", name, f"{size} 81 /{n} id"
+    yield "mov_RM8_R8", "mov", "88 /r"
+    yield "mov_R8_RM8", "mov", "8A /r"
+    yield "mov_R8_IMM8", "mov", "B0+rb ib"
+    yield "mov_RM8_IMM8", "mov", "C6 /0 ib"
+
+
+def read_rows(lines):
+    """Of each name and notation the code and how many rows of the name stand before it."""
+    rows, seen = {}, {}
+    for line in lines:
+        code, rest = line.rstrip("\n").split(" ", 1)
+        notation, name = rest.rsplit(" ", 1)
+        rows[name, notation] = int(code), seen.get(name, 0)
+        seen[name] = seen.get(name, 0) + 1
+    return rows
+
+
+def parts(rows):
+    """The constants as lines of the header, and as lines of the test."""
+    constants, tests = [], []
+    for constant, name, notation in wanted():
+        if (name, notation) not in rows:
+            sys.exit(f"codes.py: no row {notation} {name}")
+        code, n = rows[name, notation]
+        constant = f"FEDDURZAI_CODE_{constant.upper()}"
+        constants.append(f"    {constant} = {code},".ljust(44) + f"/* {notation} */\n")
+        tests.append(f'{{{constant}, "{name}", {n}, "{notation}"}},\n')
+    constants[-1] = constants[-1].replace(",", " ", 1)
+    return "enum {\n" + "".join(constants) + "};\n", "/* codes.py writes this: each constant of feddurzai.h with the row that it is for */\n" + "".join(tests)
+
+
+def main():
+    header_path, tests_path = os.path.join(HERE, "feddurzai.h"), os.path.join(HERE, "tests", "codes.h")
+    with open(header_path) as file:
+        header = file.read()
+    constants, tests = parts(read_rows(sys.stdin))
+    before, rest = header.split(BEGIN)
+    written = before + BEGIN + constants + END + rest.split(END)[1]
+    if sys.argv[1:] == ["--check"]:
+        with open(tests_path) as file:
+            same = header == written and file.read() == tests
+        sys.exit(0 if same else "codes.py: the codes of feddurzai.h or tests/codes.h are not those of the rows")
+    with open(header_path, "w") as file:
+        file.write(written)
+    with open(tests_path, "w") as file:
+        file.write(tests)
+
+
+main()

@@ -1,0 +1,101 @@
+//! Reading an instruction and showing it.
+
+ghost use Rattle.std.specs.Prelude.{◌≡◌};
+ghost use Rattle.feddurzai_c.specs.Numbers.{bits_numbered, style_numbered};
+ghost use Rattle.feddurzai_c.specs.Lines as spec;
+
+use crate::flat::FlatInstr;
+use crate::flatten::flat_decoded;
+use crate::numbers::{bits_numbered, style_numbered};
+use crate::refusal::{Refusal, refused};
+use crate::room::write_text;
+use crate::texts::style_text;
+use decoder::{DecodeError, decode_in};
+use text_parts::style::Style;
+use x86_values::{Bits, Decoded};
+
+/// Reads an instruction and writes its text in a style, where the room holds it.
+#[tactic(auto, unfolding(crate::specs::Lines::line_of))]
+fn line_in(
+    bits: Bits,
+    style: Style,
+    ip: u64,
+    bytes: &[u8],
+    out: &mut [u8],
+) -> Result<Decoded, Refusal>
+    ensures { spec.IsLineIn bits style ip bytes.now out.old out.new result }
+{
+    match decode_in(bits, ip, bytes) {
+        Ok(decoded) => {
+            let text = style_text(style, bits, &decoded.instr);
+            if text.len() >= out.len() {
+                return Err(Refusal::Room);
+            }
+            write_text(out, &text);
+            Ok(decoded)
+        }
+        Err(DecodeError::TooShort) => Err(Refusal::TooShort),
+        Err(DecodeError::Invalid) => Err(Refusal::Invalid),
+    }
+}
+
+/// Reads an instruction and writes its text, by the numbers of a mode and a style.
+fn line_by(
+    bits: u32,
+    syntax: u32,
+    ip: u64,
+    bytes: &[u8],
+    out: &mut [u8],
+) -> Result<Decoded, Refusal>
+    ensures { spec.IsLineBy (bits_numbered bits) (style_numbered syntax) ip bytes.now out.old out.new result }
+{
+    let Some(bits) = bits_numbered(bits) else {
+        return Err(Refusal::Mode);
+    };
+    let Some(style) = style_numbered(syntax) else {
+        return Err(Refusal::Syntax);
+    };
+    line_in(bits, style, ip, bytes, out)
+}
+
+/// Reads the instruction at the front of some bytes into a struct, writes its text and a byte 0 behind it, and says its length, 1 to 15 bytes.
+///
+/// It is what `feddurzai_decode` and `feddurzai_text` do, without the struct read back between them. Struct and room are unchanged after a refusal:
+/// `Mode`, `Syntax`, `Invalid` and `TooShort`, `Room`, the first that stands (Intel SDM volume 2, 2.1 to 2.3).
+#[unsafe(no_mangle)]
+pub extern "C" fn feddurzai_line(
+    bits: u32,
+    syntax: u32,
+    ip: u64,
+    bytes: &[u8],
+    instr: &mut FlatInstr,
+    out: &mut [u8],
+) -> i32
+    ensures { spec.IsLine bits syntax ip bytes.now instr.old instr.new out.old out.new result }
+{
+    match line_by(bits, syntax, ip, bytes, out) {
+        Ok(decoded) => {
+            *instr = flat_decoded(&decoded);
+            i32::from(decoded.len)
+        }
+        Err(why) => refused(why),
+    }
+}
+
+/// Writes the text of the instruction at the front of some bytes and a byte 0 behind it, and says its length in bytes: `feddurzai_line` where no struct is
+/// wanted, with its refusals.
+#[unsafe(no_mangle)]
+pub extern "C" fn feddurzai_line_text(
+    bits: u32,
+    syntax: u32,
+    ip: u64,
+    bytes: &[u8],
+    out: &mut [u8],
+) -> i32
+    ensures { spec.IsLineText bits syntax ip bytes.now out.old out.new result }
+{
+    match line_by(bits, syntax, ip, bytes, out) {
+        Ok(decoded) => i32::from(decoded.len),
+        Err(why) => refused(why),
+    }
+}

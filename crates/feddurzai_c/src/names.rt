@@ -1,0 +1,78 @@
+//! The texts of registers.
+
+ghost use Rattle.std.specs.Prelude.{◌≡◌, length, MatchResult, Ok, Err};
+ghost use Rattle.feddurzai_c.specs.Answers as said;
+ghost use Rattle.feddurzai_c.specs.Names as spec;
+ghost use Rattle.feddurzai_c.specs.Numbers.{prefix_numbered, style_numbered};
+
+use crate::numbers::{prefix_numbered, register_numbered, style_numbered};
+use crate::refusal::{Refusal, refused};
+use crate::room::put_text;
+use text_parts::registers;
+use text_parts::text::Text;
+use x86_values::Register;
+
+/// The text of a register that there may not be.
+#[tactic(auto, unfolding(crate::specs::Names::register_of))]
+fn text_of(syntax: u32, register: Option<Register>) -> Result<Text, Refusal>
+    ensures { MatchResult result (λ text. spec.register_of (style_numbered syntax) register ≡ Ok text.items) (λ why. spec.register_of (style_numbered syntax) register ≡ Err why) }
+{
+    let Some(style) = style_numbered(syntax) else {
+        return Err(Refusal::Syntax);
+    };
+    let Some(register) = register else {
+        return Err(Refusal::Register);
+    };
+    if register.is_named() {
+        Ok(registers::register_text(style, register))
+    } else {
+        Err(Refusal::Register)
+    }
+}
+
+/// The segment register that a prefix names.
+fn segment_of(prefix: u8) -> Option<Register>
+    ensures { result ≡ spec.segment_of (prefix_numbered prefix) }
+{
+    match prefix_numbered(prefix) {
+        Some(Some(segment)) => Some(Register::Seg(segment)),
+        _ => None,
+    }
+}
+
+/// Writes the text of a register in a style, ASCII, and a byte 0 behind it, and says how many bytes the text has: at most 6.
+///
+/// The register is that of a class and a number in it. `Syntax`, `Register` where no register has them, `Room`, the first that stands; then the room
+/// is unchanged (Intel SDM volume 1, 3.4).
+#[tactic(auto, unfolding(crate::specs::Answers::text_within))]
+#[unsafe(no_mangle)]
+pub extern "C" fn feddurzai_register_text(
+    syntax: u32,
+    reg_class: u8,
+    reg_number: u8,
+    out: &mut [u8],
+) -> i32
+    ensures said { result ≡ said.said (said.text_within (length out.old) (spec.register_answer syntax reg_class reg_number)) }
+    ensures left { out.new ≡ said.with_text out.old (said.text_within (length out.old) (spec.register_answer syntax reg_class reg_number)) }
+{
+    match text_of(syntax, register_numbered(reg_class, reg_number)) {
+        Ok(text) => put_text(out, &text),
+        Err(why) => refused(why),
+    }
+}
+
+/// Writes the text of the segment register that a prefix names, 1 to 6 for ES, CS, SS, DS, FS and GS, and a byte 0 behind it, and says how many bytes
+/// the text has: 2 or 3.
+///
+/// `Syntax`, `Register` for any other number, `Room`, the first that stands; then the room is unchanged (Intel SDM volume 2, 2.1.1).
+#[tactic(auto, unfolding(crate::specs::Answers::text_within))]
+#[unsafe(no_mangle)]
+pub extern "C" fn feddurzai_segment_text(syntax: u32, segment: u8, out: &mut [u8]) -> i32
+    ensures said { result ≡ said.said (said.text_within (length out.old) (spec.segment_answer syntax segment)) }
+    ensures left { out.new ≡ said.with_text out.old (said.text_within (length out.old) (spec.segment_answer syntax segment)) }
+{
+    match text_of(syntax, segment_of(segment)) {
+        Ok(text) => put_text(out, &text),
+        Err(why) => refused(why),
+    }
+}
