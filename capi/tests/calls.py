@@ -62,6 +62,7 @@ def read_instructions():
     check((repr(mov), str(mov)), ("<Instr 0x1000: 48895c2410 mov qword [rsp+0x10], rbx>", "mov qword [rsp+0x10], rbx"))
     check(mov.code in f.codes_of("mov"), True)
     check((f.code_of("mow"), f.codes_of("mow"), f.code_of("m\u00f6v")), (None, [], None))
+    check((f.code_of("mov", "REX.W + 89 /r"), f.code_of("mov", "REX.W + 90"), f.code_of("mov", 99)), (mov.code, None, None))
     # an address is taken modulo 2 to the power of bits
     check(f.decode(16, 0x12345, b"\x90").address, 0x2345)
     check(f.decode(64, (1 << 64) - 1, code("90ebfe"), 1).ops, (f.Near(0),))
@@ -89,7 +90,7 @@ def told_what_it_does():
 
 def made_instructions():
     rax, rbx, rcx = (f.register(name) for name in ("rax", "rbx", "rcx"))
-    lea = next(n for n in f.codes_of("lea") if f.notation(n) == "REX.W + 8D /r")
+    lea = f.code_of("lea", "REX.W + 8D /r")
     for memory, want in (
         (f.Memory(rbx), "488d03"),
         (f.Memory(rbx, displacement=-8), "488d43f8"),
@@ -135,13 +136,42 @@ def items_say_what_they_are():
     check([str(item) for item in items], ["nop", "ret"])
 
 
+def texts_are_read():
+    check(f.assemble(64, 0x1000, "mov qword [rsp+0x10], rbx"), code("48895c2410"))
+    made = f.read_intel(64, 0x1000, "je 0x1010")
+    check((made.bytes, made.address, made.bits, made.ops), (code("740e"), 0x1000, 64, (f.Near(0x1010),)))
+    check(made, f.decode(64, 0x1000, code("740e")))
+    for call in (f.assemble, f.read_intel):
+        refused(f.Reason.NO_TEXT, call, 64, 0, "mow rax, rbx")
+        refused(f.Reason.NO_TEXT, call, 64, 0, "nop\u00e9")
+        refused(f.Reason.NO_TEXT, call, 64, 0, "nop\0")
+        refused(f.Reason.BAD_MODE, call, 17, 0, "nop")
+
+
+def jumps_have_forms():
+    def jump(*arguments):
+        return f.jump(*arguments).hex()
+
+    check((jump(64, 0x1000, 0x1010, f.Jump.SHORT), jump(64, 0x1000, 0x1010)), ("eb0e", "e90b000000"))
+    check(jump(64, 0x1000, 0x7FFF00000000, f.Jump.FAR), "ff250000000000000000ff7f0000")
+    check((jump(32, 0x1000, 0x1010, f.Jump.CALL_NEAR), jump(16, 0x1000, 0x1010, 2)), ("e80b000000", "e90d00"))
+    check(jump(64, 0x1000, 0x7FFF00000000, f.Jump.CALL_FAR), "ff1502000000eb0800000000ff7f0000")
+    refused(f.Reason.BAD_JUMP, f.jump, 64, 0, 0, 6)
+    check(refused(f.Reason.NO_ENCODING, f.jump, 64, 0, 0x1000, f.Jump.SHORT).cause, f.Cause.TARGET)
+    check(refused(f.Reason.NO_ENCODING, f.jump, 32, 0, 0x1000, f.Jump.FAR).cause, f.Cause.ROW)
+
+
 def moved_and_followed():
     # je over 16 bytes, moved beyond the reach of 32 bits: an inverted jump over one through a slot
     moved = f.move(64, 0x1000, code("7410"), 0x7FFF00000000)
     check(moved.code.hex(), "7506ff25000000001210000000000000")
     check(moved.places, [f.Moved(0x1000, 0x7FFF00000000, 2, f.Form.FAR)])
     check((moved.report.bytes, moved.report.count), (16, 1))
+    # the jump through the slot is 6 bytes behind 2; the slot stands behind both
+    check((moved.report.code_bytes, moved.report.slots_at), (8, 8))
     check(f.move(64, 0, b"", 0x1000)[:2], (b"", []))
+    # a loop on itself: it goes along, or back to where it was
+    check([call(64, 0x1000, code("ebfe"), 0x1080).code.hex() for call in (f.move, f.move_outside)], ["ebfe", "e97bffffff"])
     check(f.flow(64, 0, code("740190c3")), [(0, 0), (2, 2), (3, 3)])
     check(f.flow(64, 0, b""), [])
     check(str(f.move(64, 0x1000, code("ebfe"), 0x2000).places[0]), "Moved(old_ip=4096, new_ip=8192, len=2, form=<Form.SHORT: 1>)")
@@ -215,6 +245,14 @@ def values_are_looked_at_first():
         (f.name, (-1,)),
         (f.notation, (1 << 32,)),
         (f.code_of, ("mov", -1)),
+        (f.assemble, (64, -1, "nop")),
+        (f.read_intel, (64, -1, "nop")),
+        (f.jump, (64, -1, 0)),
+        (f.jump, (64, 0, 1 << 64)),
+        (f.jump, (64, 0, 0, -1)),
+        (f.encoded_len, (64, -1, nop)),
+        (f.segment_text, (-1,)),
+        (f.move_outside, (64, 0, b"\x90", -1)),
         (f.move, (64, -1, b"\x90", 0)),
         (f.move, (64, 0, b"\x90", 1 << 64)),
         (f.flow, (64, -1, b"\x90")),
@@ -246,6 +284,8 @@ def values_are_looked_at_first():
         "code is a whole number, not NoneType": [(f.name, (None,)), (f.notation, (None,)), (f.Instr, (None,))],
         "name is a str, not NoneType": [(f.code_of, (None,)), (f.codes_of, (None,)), (f.register, (None,))],
         "name is a str, not bytes": [(f.code_of, (b"mov",))],
+        "which is a whole number, not NoneType": [(f.code_of, ("mov", None))],
+        "text is a str, not bytes": [(f.assemble, (64, 0, b"nop")), (f.read_intel, (64, 0, b"nop"))],
         "operand 0 is a Register, Memory, Immediate, Near or Far, not int": [(f.Instr, (0, 5))],
         "base is a Register or None, not str": [(f.Memory, ("rbx",))],
         "an instruction has no opcode to change": [(lambda: nop.replace(opcode=5), ())],
@@ -307,6 +347,8 @@ for test in (
     told_what_it_does,
     made_instructions,
     items_say_what_they_are,
+    texts_are_read,
+    jumps_have_forms,
     moved_and_followed,
     refusals_say_why,
     encodings_say_their_cause,

@@ -115,7 +115,7 @@ def text(bits: int, instr: Instr, syntax: int = Style.INTEL) -> str:
     >>> text(64, decode(64, 0, bytes.fromhex("48895c2410")), Style.ATT)
     'movq %rbx, 0x10(%rsp)'
     """
-    return text_of(bits, _struct_of(instr), syntax)
+    return text_of(_checks.number("bits", bits, _checks.U32), _struct_of(instr), syntax)
 
 
 def encode(bits: int, ip: int, instr: Instr) -> bytes:
@@ -124,7 +124,7 @@ def encode(bits: int, ip: int, instr: Instr) -> bytes:
     Refused: BAD_MODE, BAD_INSTR, NO_ENCODING with its cause and operand. Some instructions that were read have none: of a branch with
     needless prefixes the shortest form may no longer reach.
 
-    >>> encode(64, 0, Instr(code_of("mov", 3), Memory(register("rsp"), displacement=16), register("rbx"))).hex()
+    >>> encode(64, 0, Instr(code_of("mov", "REX.W + 89 /r"), Memory(register("rsp"), displacement=16), register("rbx"))).hex()
     '48895c2410'
     """
     return encode_of(bits, ip, _struct_of(instr))
@@ -217,14 +217,16 @@ def notation(code: int) -> str:
     return str(room.value, "ascii")
 
 
-def code_of(name: str, n: int = 0) -> Optional[int]:
-    """The code of the n-th row of a name, from 0; None where it has no more than n.
+def code_of(name: str, which: Union[int, str] = 0) -> Optional[int]:
+    """The code of a row by its name and its notation, or its number among the rows of this name, from 0. None where there is none.
 
-    >>> [notation(code) for code in (code_of("lea", 0), code_of("lea", 2))], code_of("mow")
-    (['o16 8D /r', 'REX.W + 8D /r'], None)
+    >>> code_of("lea", "REX.W + 8D /r") == code_of("lea", 2), code_of("mow")
+    (True, None)
     """
     letters = _checks.word("name", name).encode("utf-8", "replace")
-    number = _native.code_of(letters, len(letters), _checks.number("n", n))
+    if isinstance(which, str):
+        return next((code for code in codes_of(name) if notation(code) == which), None)
+    number = _native.code_of(letters, len(letters), _checks.number("which", which))
     return None if number == Reason.NO_NAME else taken(number)
 
 

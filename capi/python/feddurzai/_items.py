@@ -132,9 +132,7 @@ class Instr(Item):
     <Instr 0x1000: 48895c2410 mov qword [rsp+0x10], rbx>
     >>> mov == decode(64, 0, mov.bytes), mov.len, mov.name, str(mov.ops[1])
     (True, 5, 'mov', 'rbx')
-    >>> notation(code_of("inc", 5))
-    'REX.W + FF /0'
-    >>> Instr(code_of("inc", 5), register("r8")).encode(64, 0).hex()
+    >>> Instr(code_of("inc", "REX.W + FF /0"), register("r8")).encode(64, 0).hex()
     '49ffc0'
     """
 
@@ -199,10 +197,9 @@ class Instr(Item):
         >>> decode(64, 0, bytes.fromhex("83c005")).ops
         (Register(reg_class=<RegClass.R32: 4>, number=0), Immediate(value=5))
         """
-        values = _STRUCT.unpack(self._struct)
-        found = []
-        for n in range(0, 4 * _OP_FIELDS, _OP_FIELDS):
-            op = operand_of(values[n : n + _OP_FIELDS], self._struct[ASIZE_AT])
+        fields, found = self._struct, []
+        for at in range(0, 4 * _OP_SIZE, _OP_SIZE):
+            op = operand_of(fields[at : at + _OP_SIZE], fields[ASIZE_AT])
             if op is None:
                 break
             found.append(op)
@@ -264,9 +261,12 @@ class Instr(Item):
         >>> decode(64, 0, bytes.fromhex("83c005")).text(Style.ATT)
         'add $0x5, %eax'
         """
-        bits = self.bits if bits is None else bits
-        if bits is None:
+        if bits is not None:
+            bits = _checks.number("bits", bits, _checks.U32)
+        elif self.bits is None:
             raise ValueError("an instruction that was made has no mode: name it, as in text(bits=64)")
+        else:
+            bits = self.bits
         return text_of(bits, self._struct, syntax)
 
     def encode(self, bits: int, ip: int) -> Bytes:

@@ -154,7 +154,7 @@ class Form(_Number):
 
 
 class Jump(_Number):
-    """A form of a jump or a call, for `jump`. Those of FAR hold the address in 8 bytes behind the code, in 64-bit mode.
+    """A form of a jump or a call, for `jump`. FAR and CALL_FAR hold the target in 8 bytes behind the code, in 64-bit mode.
 
     >>> [jump(64, 0x1000, 0x1010, form).hex() for form in (Jump.SHORT, Jump.NEAR)]
     ['eb0e', 'e90b000000']
@@ -163,8 +163,8 @@ class Jump(_Number):
     SHORT = 1
     NEAR = 2
     FAR = 3
-    NEAR_CALL = 4
-    FAR_CALL = 5
+    CALL_NEAR = 4
+    CALL_FAR = 5
 
 
 class Reason(_Number):
@@ -202,7 +202,7 @@ class Cause(_Number):
     """Why `encode` finds no encoding: the first of ten conditions that fails.
 
     >>> try:
-    ...     Instr(code_of("inc", 5), Immediate(1)).encode(64, 0)
+    ...     Instr(code_of("inc", "FE /0"), Immediate(1)).encode(64, 0)
     ... except Refusal as refusal:
     ...     refusal.cause
     <Cause.KIND: 2>

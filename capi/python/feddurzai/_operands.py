@@ -2,6 +2,7 @@
 
 from __future__ import annotations
 
+import struct
 from dataclasses import dataclass
 from functools import lru_cache
 from typing import ClassVar, Dict, Optional, Tuple, Union
@@ -58,7 +59,7 @@ class Memory:
     With `base` RIP or EIP the displacement is the absolute address of the operand. Of one that was read it is signed beside a base or
     an index, else not. `disp_bits` says how much of it is written: 0, 8, 16, 32 or 64; None is the least that holds it.
 
-    >>> Instr(code_of("lea", 2), register("rax"), Memory(register("rbx"), register("rcx"), 4, -8)).text(bits=64)
+    >>> Instr(code_of("lea", "REX.W + 8D /r"), register("rax"), Memory(register("rbx"), register("rcx"), 4, -8)).text(bits=64)
     'lea rax, [rbx+rcx*4-0x8]'
     """
 
@@ -171,27 +172,30 @@ def signed(value: int, bits: int) -> int:
     return value - (1 << bits) if value >> (bits - 1) else value
 
 
-def _register_or_none(reg_class: int, number: int) -> Optional[Register]:
+@lru_cache(maxsize=None)
+def _register(reg_class: int, number: int) -> Optional[Register]:
+    """The register of a struct, None without one."""
     return Register(RegClass(reg_class), number) if reg_class else None
 
 
-def operand_of(fields: Fields, asize: int) -> Optional[Operand]:
+_OPERAND = struct.Struct("=QIH7B3x")
+
+
+@lru_cache(maxsize=8192)
+def operand_of(fields: bytes, asize: int) -> Optional[Operand]:
     """The operand of a struct that the library filled, None where it is absent."""
-    value, offset, selector, kind, reg_class, reg_number, index_class, index_number, scale, disp_bits = fields
+    value, offset, selector, kind, reg_class, reg_number, index_class, index_number, scale, disp_bits = _OPERAND.unpack(fields)
     if kind == OperandKind.REGISTER:
-        return Register(RegClass(reg_class), reg_number)
+        return _register(reg_class, reg_number)
     if kind == OperandKind.MEMORY:
-        ip_relative = reg_class in (RegClass.EIP, RegClass.RIP)
-        if (reg_class or index_class) and not ip_relative:
+        if reg_class not in (RegClass.EIP, RegClass.RIP) and (reg_class or index_class):
             value = signed(value, asize or 64)
-        return Memory(_register_or_none(reg_class, reg_number), _register_or_none(index_class, index_number), scale, value, disp_bits)
+        return Memory(_register(reg_class, reg_number), _register(index_class, index_number), scale, value, disp_bits)
     if kind == OperandKind.IMMEDIATE:
         return Immediate(value)
     if kind == OperandKind.NEAR:
         return Near(value)
-    if kind == OperandKind.FAR:
-        return Far(selector, offset)
-    return None
+    return Far(selector, offset) if kind == OperandKind.FAR else None
 
 
 @lru_cache(maxsize=None)

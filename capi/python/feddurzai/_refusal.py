@@ -65,7 +65,7 @@ class Refusal(Exception):
     number of the operand that has it, from 0; both are None else. What `move` refuses has a `report`.
 
     >>> try:
-    ...     Instr(code_of("inc", 5), Immediate(1)).encode(64, 0)
+    ...     Instr(code_of("inc", "FE /0"), Immediate(1)).encode(64, 0)
     ... except Refusal as refusal:
     ...     print(refusal, refusal.cause.name, refusal.operand, sep="; ")
     no encoding: operand 0: it is of a kind that cannot stand there; KIND; 0

@@ -5,15 +5,16 @@ from functools import lru_cache
 from typing import NamedTuple, Optional, Tuple
 
 from . import _checks, _native
-from ._numbers import Access, Flow, RegClass
+from ._numbers import Access, Flow, RegClass, Style
 from ._operands import Register
-from ._refusal import taken
+from ._refusal import refusal_of, taken
 
-# feddurzai_about: target, ip_address, has_target, has_ip_address, flow, memory_size, access[4], use_count, uses[8]
-_ABOUT = struct.Struct("=QQ4B4BB24B7x")
+# feddurzai_about: target, ip_address, has_target, has_ip_address, flow, memory_size; then access[4], use_count, uses[8]
+_ABOUT = struct.Struct("=QQ4B")
+_ACCESS_AT, _COUNT_AT, _USES_AT, _ABOUT_SIZE = 20, 24, 25, 56
 # where the kind of each operand stands in a feddurzai_instr
 _KINDS_AT = (14, 38, 62, 86)
-_AboutRoom = _native.room_of(_ABOUT.size)
+_AboutRoom = _native.room_of(_ABOUT_SIZE)
 _BytesRoom = _native.room_of(_native.MAX_LEN)
 _NameRoom = _native.room_of(_native.NAME_ROOM)
 
@@ -53,15 +54,25 @@ _FLOWS, _ACCESSES, _CLASSES = tuple(Flow), tuple(Access), tuple(RegClass)
 
 
 @lru_cache(maxsize=1024)
-def _use_of(reg_class: int, number: int, access: int) -> Use:
-    return Use(Register(_CLASSES[reg_class], number), _ACCESSES[access])
+def _accesses_of(numbers: bytes) -> Tuple[Access, ...]:
+    return tuple(_ACCESSES[number] for number in numbers)
+
+
+@lru_cache(maxsize=4096)
+def _uses_of(numbers: bytes) -> Tuple[Use, ...]:
+    return tuple(
+        Use(Register(_CLASSES[reg_class], number), _ACCESSES[access]) for reg_class, number, access in zip(*3 * [iter(numbers)])
+    )
 
 
 def text_of(bits: int, instr: bytes, syntax: int) -> str:
-    """The text of the instruction of a struct."""
+    """The text of the instruction of a struct, in a mode that was looked at."""
+    if type(syntax) is not Style:
+        syntax = _checks.number("syntax", syntax, _checks.U32)
     room = _native.TextRoom()
-    bits, syntax = _checks.number("bits", bits, _checks.U32), _checks.number("syntax", syntax, _checks.U32)
-    taken(_native.text(bits, syntax, instr, room, _native.MAX_TEXT))
+    said = _native.text(bits, syntax, instr, room, _native.MAX_TEXT)
+    if said < 0:
+        raise refusal_of(said)
     return str(room.value, "ascii")
 
 
@@ -75,17 +86,18 @@ def encode_of(bits: int, ip: int, instr: bytes) -> bytes:
 
 def info_of(instr: bytes) -> About:
     """What the instruction of a struct does."""
-    ops = sum(1 for at in _KINDS_AT if instr[at])
     room = _AboutRoom()
     taken(_native.info(instr, room))
-    target, ip_address, has_target, has_ip_address, flow, memory_size, a, b, c, d, count, *uses = _ABOUT.unpack(room.raw)
+    about = room.raw
+    target, ip_address, has_target, has_ip_address, flow, memory_size = _ABOUT.unpack_from(about)
+    ops = sum(1 for at in _KINDS_AT if instr[at])
     return About(
         _FLOWS[flow],
         target if has_target else None,
         ip_address if has_ip_address else None,
         memory_size,
-        tuple(_ACCESSES[access] for access in (a, b, c, d)[:ops]),
-        tuple(_use_of(*uses[3 * n : 3 * n + 3]) for n in range(count)),
+        _accesses_of(about[_ACCESS_AT : _ACCESS_AT + ops]),
+        _uses_of(about[_USES_AT : _USES_AT + 3 * about[_COUNT_AT]]),
     )
 
 
