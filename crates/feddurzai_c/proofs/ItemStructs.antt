@@ -1,8 +1,13 @@
 -- Going through some bytes, and writing the struct of each item.
-use Rattle.std.proofs.Common.{◌≡◌, ℕ, ◌+◌, ◌*◌, ◌<◌, ◌≤◌, min, List, [], ◌∷◌, ◌++◌, length, drop, set, refl, sym, ap, ◌∙◌, subst, arith, length-append, length-drop, drop-cons, append_assoc}
+use Rattle.std.proofs.Common.{◌≡◌, ℕ, suc, ◌+◌, ◌*◌, ◌<◌, ◌≤◌, List, [], ◌∷◌, ◌++◌, length, get_or, drop, set, refl, sym, ap, ◌∙◌, subst, arith, add-one, length-append, append_assoc}
 use Rattle.std.proofs.lemmas.List.{append-nil, map-append, length-map}
-use Rattle.std.proofs.Math.Seq.{set-append_seam}
+use Rattle.std.proofs.Math.Seq.{set-append_seam, drop-cons}
+use Rattle.std.specs.Prelude.{Result, Ok, Err, IfOk}
 use Rattle.x86_values.specs.declared.Bits.{Bits}
+use Rattle.x86_values.specs.declared.Decoded.{Decoded}
+use Rattle.decoder.specs.declared.DecodeError.{DecodeError}
+use Rattle.decoder.specs.declared.DecodeError.TheVariants.{Invalid as InvalidError, TooShort as TooShortError}
+use Rattle.decoder.specs.Answer.{reading_of}
 use Rattle.row_relation.specs.Spells.{Reading}
 use Rattle.opcode_rows.specs.Sweep.{Item, IsReadAt, Sweeps, item_len}
 use Rattle.sweep_text.specs.Sweeping.{TakesSome, SweptTo, item_read}
@@ -22,7 +27,24 @@ pub record WrittenTo (bits : Bits) (ip : ℕ) (bytes : List ℕ) (at count : ℕ
 -- one more struct behind others
 one_struct : (items : List Item) (item : Item) (old : List FlatInstr) (count : ℕ) → count ≡ length items → count < length old →
     set (structs_of items ++ drop count old) count (flat_reading item.reading) ≡ structs_of (items ++ item ∷ []) ++ drop (count + 1) old
-one_struct items item old count e lt = ?
+one_struct items item old count e lt =
+    let struct : Item → FlatInstr = λ i. flat_reading i.reading in
+    let front = structs_of items in
+    let d = struct item in
+    let rest = drop (count + 1) old in
+    let count_is : count ≡ length front = e ∙ sym (length-map items struct) in
+    ap (λ (xs : List FlatInstr). set (front ++ xs) count d) (drop-cons old count d lt)
+    ∙ (ap (λ (n : ℕ). set (front ++ get_or old count d ∷ drop (suc count) old) n d) count_is
+    ∙ (set-append_seam front (get_or old count d) (drop (suc count) old) d
+    ∙ (ap (λ (n : ℕ). front ++ d ∷ drop n old) (sym (add-one count))
+    ∙ (sym (append_assoc front (d ∷ []) rest)
+    ∙ ap (λ (xs : List FlatInstr). xs ++ rest) (sym (map-append struct items (item ∷ [])))))))
+
+-- an item takes at most 15 bytes
+pub takes_few : (r : Result Decoded DecodeError) (n : ℕ) → IfOk r (λ d. (0 < d.len) × (d.len ≤ 15) × (d.len ≤ n)) → item_len (reading_of r) ≤ 15
+takes_few (Ok d) n h = h.1
+takes_few (Err TooShortError) n h = omega arith
+takes_few (Err InvalidError) n h = omega arith
 
 module _ (turn : SweptFacts) where
   pub written-start : (bits : Bits) (ip : ℕ) (bytes : List ℕ) (old : List FlatInstr) → WrittenTo bits ip bytes 0 0 old old

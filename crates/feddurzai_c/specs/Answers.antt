@@ -1,8 +1,10 @@
 -- What the calls of the C interface answer, and what they leave.
-use Rattle.std.specs.Prelude.{◌≡◌, ◌⊎◌, ℕ, ◌+◌, ◌<◌, ◌≤◌, nat_lt, nat_le, ℤ, pos, Bool, ◌||◌, List, ◌∷◌, ◌++◌, length, drop, position, Option, Some, None, unwrap_or, Result, Ok, Err, if◌then◌else◌}
+use Rattle.std.specs.Prelude.{◌≡◌, ◌⊎◌, ℕ, ◌+◌, ◌<◌, ◌≤◌, nat_lt, nat_le, ℤ, pos, Bool, true, false, List, ◌∷◌, ◌++◌, length, drop, Option, Some, None, Result, Ok, Err, if◌then◌else◌}
 use Rattle.std.specs.Str.{IsUtf8}
 use Rattle.x86_values.specs.declared.Bits.{Bits}
 use Rattle.x86_values.specs.declared.Operand.{Operand}
+use Rattle.x86_values.specs.declared.Operand.TheVariants.{Mem as Memory, Near}
+use Rattle.x86_values.specs.Operands.{is_memory}
 use Rattle.x86_values.specs.declared.Instr.{Instr}
 use Rattle.row_relation.specs.Spells.{Reading, Read, TooShort as ReadTooShort, Invalid as ReadInvalid}
 use Rattle.opcode_rows.specs.declared.spots.TheConstants.{ROWS}
@@ -12,7 +14,7 @@ use Rattle.opcode_rows.specs.Allowed.{is_well_formed}
 use Rattle.opcode_rows.specs.Reading.{IsRead}
 use Rattle.plain_spelling.specs.declared.NoSpelling.{NoSpelling}
 use Rattle.plain_spelling.specs.declared.NoSpelling.TheVariants as cause
-use Rattle.plain_spelling.specs.Forms.{is_memory, is_near}
+use Rattle.plain_spelling.specs.Forms.{operand_at}
 use Rattle.encoder.specs.Encoding.{encoding}
 use Rattle.intel_text.specs.Text.{text as intel_text}
 use Rattle.att_text.specs.Text.{text as att_text}
@@ -109,13 +111,19 @@ text_answer bits syntax f = text_of (bits_numbered bits) (style_numbered syntax)
 
 -- ---- encoding
 
--- the first operand that passes a test, 0 where none does
-abbrev pub first_operand : (Operand → Bool) → Instr → ℕ
-first_operand test i = unwrap_or (position test i.ops) 0
+-- the number of the first of four tests that passes, 0 where none does
+abbrev pub first_place : Bool → Bool → Bool → Bool → ℕ
+first_place a b c d = if a then 0 else (if b then 1 else (if c then 2 else (if d then 3 else 0)))
 
--- an operand that a target may be of: an address, which may be one at RIP or EIP, or a near target
+-- the number of the first operand that passes a test, 0 where none does
+abbrev pub first_operand : (Operand → Bool) → Instr → ℕ
+first_operand test i = first_place (test (operand_at i 0)) (test (operand_at i 1)) (test (operand_at i 2)) (test (operand_at i 3))
+
+-- an operand that can have a target: memory, which may be at RIP or EIP, or a near target
 abbrev pub may_have_target : Operand → Bool
-may_have_target op = is_memory op || is_near op
+may_have_target (Memory m) = true
+may_have_target (Near x) = true
+may_have_target _ = false
 
 -- The operand that fails a condition, 0 where the condition is of the whole instruction: the one that the cause names; of an address and of its
 -- displacement the memory operand; of a target the memory operand or the near target. An instruction has no two of these.

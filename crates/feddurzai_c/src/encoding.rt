@@ -3,7 +3,7 @@
 ghost use Rattle.std.specs.Prelude.{◌≡◌, ℕ, ◌++◌, List, length, pos, IfOk, MatchResult, Ok, Err};
 ghost use Rattle.feddurzai_c.specs.Numbers.{bits_numbered};
 ghost use Rattle.feddurzai_c.specs.Back.{instr_back};
-ghost use Rattle.plain_spelling.specs.Forms.{is_memory};
+ghost use Rattle.x86_values.specs.Operands.{is_memory};
 ghost use Rattle.feddurzai_c.specs.Answers as spec;
 
 use crate::flat::FlatInstr;
@@ -15,28 +15,49 @@ use arrayvec::ArrayVec;
 use encoder::{NoSpelling, encode, encoded_len};
 use x86_values::{Instr, Operand};
 
-/// The place of the first operand that passes a test, 0 where none does.
-fn memory_place(instr: &Instr) -> u8
-    ensures { result ≡ spec.first_operand is_memory instr.now }
+/// The number of the first of four tests that passes, 0 where none does.
+fn first_place(a: bool, b: bool, c: bool, d: bool) -> u8
+    ensures { result ≡ spec.first_place a b c d }
 {
-    match instr.ops.iter().position(|op| op.is_memory()) {
-        Some(n) => n as u8,
-        None => 0,
+    if a {
+        0
+    } else if b {
+        1
+    } else if c {
+        2
+    } else if d {
+        3
+    } else {
+        0
     }
 }
 
-/// The place of the first operand that a target may be of, 0 where there is none.
+/// The number of the first operand that is memory, 0 where none is.
+fn memory_place(instr: &Instr) -> u8
+    ensures { result ≡ spec.first_operand is_memory instr.now }
+{
+    let [a, b, c, d] = &instr.ops;
+    first_place(a.is_memory(), b.is_memory(), c.is_memory(), d.is_memory())
+}
+
+/// Whether an operand can have a target: memory, which may be at RIP or EIP, or a near target.
+fn may_have_target(op: &Operand) -> bool
+    ensures { result ≡ spec.may_have_target op.now }
+{
+    matches!(op, Operand::Mem(_) | Operand::Near(_))
+}
+
+/// The number of the first operand that can have a target, 0 where none can.
 fn target_place(instr: &Instr) -> u8
     ensures { result ≡ spec.first_operand spec.may_have_target instr.now }
 {
-    match instr
-        .ops
-        .iter()
-        .position(|op| matches!(op, Operand::Mem(_) | Operand::Near(_)))
-    {
-        Some(n) => n as u8,
-        None => 0,
-    }
+    let [a, b, c, d] = &instr.ops;
+    first_place(
+        may_have_target(a),
+        may_have_target(b),
+        may_have_target(c),
+        may_have_target(d),
+    )
 }
 
 /// The operand that fails a condition, 0 where the condition is of the whole instruction.
