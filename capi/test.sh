@@ -162,7 +162,7 @@ tries_inspector() {
     fi
     makes_debugged -g0
     inspector "$work/debugged" main >"$work/main.log"
-    for line in 'e8[0-9a-f]{8} +call 0x[0-9a-f]+ <called>' 'call 0x[0-9a-f]+ <mmap@plt>' 'qword \[rip[+-].*\], rax <edge>'; do
+    for line in 'e8[0-9a-f]{8} +call 0x[0-9a-f]+ <called>' 'call 0x[0-9a-f]+ <mmap@plt>' 'mov qword \[rel 0x[0-9a-f]+\], r[a-z]x <edge>'; do
         grep -Eq "$line\$" "$work/main.log" || die_with "$work/main.log" "inspector: no line matches $line"
     done
     inspector "$work/debugged" called --colour always | grep -q "$(printf '\033')\[36mret" || die "inspector: colours"

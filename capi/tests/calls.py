@@ -61,6 +61,7 @@ def read_instructions():
     check((mov.lock, mov.rep, mov.segment, bool(mov)), (False, f.Repeat.NONE, f.Segment.NONE, True))
     check((repr(mov), str(mov)), ("<Instr 0x1000: 48895c2410 mov qword [rsp+0x10], rbx>", "mov qword [rsp+0x10], rbx"))
     check(mov.code in f.codes_of("mov"), True)
+    check(f.line(64, 0x1000, code("9048895c2410"), f.Style.MASM, 1), (mov, "mov qword ptr [rsp+10h], rbx"))
     check((f.code_of("mow"), f.codes_of("mow"), f.code_of("m\u00f6v")), (None, [], None))
     check((f.code_of("mov", "REX.W + 89 /r"), f.code_of("mov", "REX.W + 90"), f.code_of("mov", 99)), (mov.code, None, None))
     # an address is taken modulo 2 to the power of bits
@@ -104,7 +105,7 @@ def made_instructions():
     ):
         made = f.Instr(lea, rax, memory)
         check(made.encode(64, 0x1000).hex(), want)
-        check(f.decode(64, 0x1000, made.encode(64, 0x1000)), made if memory.disp_bits is not None else f.decode(64, 0x1000, code(want)))
+        check(f.decode(64, 0x1000, code(want)), made)
     nop = f.decode(64, 0, b"\x90")
     check((nop.replace().encode(64, 0), nop.replace(), nop.replace().address), (b"\x90", nop, None))
     made = f.Instr(nop.code, *nop.ops)
@@ -182,6 +183,8 @@ def refusals_say_why():
     refused(f.Reason.BAD_MODE, f.decode, 17, 0, b"\x90")
     refused(f.Reason.BAD_MODE, f.iterate, 17, 0, b"\x90")
     refused(f.Reason.BAD_SYNTAX, f.text, 64, mov, 9)
+    refused(f.Reason.BAD_SYNTAX, f.line, 64, 0, b"\x90", 9)
+    refused(f.Reason.TOO_SHORT, f.line, 64, 0, b"\x48", kind=f.TooShort)
     refused(f.Reason.BAD_CODE, f.name, 5000)
     refused(f.Reason.BAD_CODE, f.notation, 5000)
     refused(f.Reason.INVALID, f.decode, 64, 0, b"\x06", kind=f.InvalidCode)
@@ -239,6 +242,8 @@ def values_are_looked_at_first():
         (f.decode, (1 << 32, 0, b"\x90")),
         (f.decode, (64, 0, b"\x90", -1)),
         (f.decode, (64, 0, b"\x90", 2)),
+        (f.line, (64, 0, b"\x90", -1)),
+        (f.line, (64, 0, b"\x90", 0, 2)),
         (f.iterate, (64, -1, b"\x90")),
         (f.text, (64, nop, -1)),
         (f.encode, (64, -1, nop)),

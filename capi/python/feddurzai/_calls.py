@@ -42,6 +42,14 @@ def _read(bits: int, address: int, code: bytes, struct_: bytes) -> Instr:
     return instr
 
 
+def _window(bits: int, ip: int, code: Buffer, at: int) -> Tuple[int, int, bytes]:
+    """The mode, the address of an offset of some bytes, and as many of the bytes there as an instruction may have."""
+    code = _checks.code_bytes("code", code)
+    at = _checks.number("at", at, len(code))
+    address = _checks.number("ip", ip) + at & _checks.U64
+    return _checks.number("bits", bits, _checks.U32), address, code[at : at + _native.MAX_LEN]
+
+
 def decode(bits: int, ip: int, code: Buffer, at: int = 0) -> Instr:
     """The instruction that stands `at` an offset of some bytes, whose first has the address `ip` (both modulo 2 to the power of bits).
 
@@ -50,14 +58,23 @@ def decode(bits: int, ip: int, code: Buffer, at: int = 0) -> Instr:
     >>> decode(64, 0x1000, bytes.fromhex("90 48895c2410"), 1)
     <Instr 0x1001: 48895c2410 mov qword [rsp+0x10], rbx>
     """
-    code = _checks.code_bytes("code", code)
-    at = _checks.number("at", at, len(code))
-    ip = _checks.number("ip", ip) + at
-    bits = _checks.number("bits", bits, _checks.U32)
-    window = code[at : at + _native.MAX_LEN]
+    bits, address, window = _window(bits, ip, code, at)
     room = _InstrRoom()
-    length = taken(_native.decode(bits, ip & _checks.U64, window, len(window), room))
-    return _read(bits, ip & (1 << bits) - 1, window[:length], room.raw)
+    length = taken(_native.decode(bits, address, window, len(window), room))
+    return _read(bits, address & (1 << bits) - 1, window[:length], room.raw)
+
+
+def line(bits: int, ip: int, code: Buffer, syntax: int = Style.INTEL, at: int = 0) -> Tuple[Instr, str]:
+    """What `decode` reads, and its text in a style: one call of the library. Refused as `decode` is, and BAD_SYNTAX.
+
+    >>> line(64, 0x1000, bytes.fromhex("7410"))
+    (<Instr 0x1000: 7410 je 0x1012>, 'je 0x1012')
+    """
+    bits, address, window = _window(bits, ip, code, at)
+    syntax = _checks.number("syntax", syntax, _checks.U32)
+    room, letters = _InstrRoom(), _native.TextRoom()
+    length = taken(_native.line(bits, syntax, address, window, len(window), room, letters, _native.MAX_TEXT))
+    return _read(bits, address & (1 << bits) - 1, window[:length], room.raw), str(letters.value, "ascii")
 
 
 def iterate(bits: int, ip: int, code: Buffer) -> Iterator[Item]:
