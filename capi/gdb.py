@@ -55,15 +55,23 @@ def frame_now():
         return None
 
 
+def architecture_now():
+    """The architecture of the selected frame, or of the program where nothing runs."""
+    frame = frame_now()
+    return frame.architecture() if frame else gdb.selected_inferior().architecture()
+
+
 def bits_now():
     """The mode."""
     if BITS.kept:
         return BITS.kept
-    frame = frame_now()
-    name = frame.architecture().name() if frame else gdb.execute("show architecture", to_string=True)
-    if "i8086" in name:
+    name = architecture_now().name()
+    if name.startswith("i8086"):
         return 16
-    return 64 if "x86-64" in name and "x32" not in name else 32
+    if not name.startswith("i386"):
+        raise gdb.GdbError(f"the architecture is {name}, which is not x86: set feddurzai-bits to list its code as such")
+    # x64-32 is 64-bit code with short pointers
+    return 64 if "x86-64" in name or "x64" in name else 32
 
 
 def pc_now():
@@ -106,9 +114,7 @@ def function_at(address):
     starts = [int(found, 16) for found in re.findall(r"^(?:=>)?\s+(0x[0-9a-f]+)", lines, re.M)]
     if not starts:
         raise gdb.GdbError(f"{address:#x}: no function. Name a LENGTH or /COUNT.")
-    frame = frame_now()
-    architecture = frame.architecture() if frame else gdb.selected_inferior().architecture()
-    return starts[0], starts[-1] - starts[0] + architecture.disassemble(starts[-1])[0]["length"]
+    return starts[0], starts[-1] - starts[0] + architecture_now().disassemble(starts[-1])[0]["length"]
 
 
 def read_front(start, length):
@@ -178,12 +184,14 @@ class ListCommand(gdb.Command):
 
     def invoke(self, words, from_tty):
         asked = Asked(words, "feddurzai-list [/COUNT] [START [LENGTH]] [intel|att|masm]", True)
-        pc = pc_now()
+        # an address of GDB's, which 16-bit code may have above its own 65,536
+        pc, address = pc_now(), asked.start
         for n, item in enumerate(feddurzai.iterate(bits_now(), asked.start, asked.code)):
             if n == asked.count:
                 return
-            mark = "=>" if item.address == pc else "  "
-            print(f"{mark} {item.address:#x}{symbol_of(item.address)}: {item.bytes.hex():30} {text_of(item, asked.style)}")
+            mark = "=>" if address == pc else "  "
+            print(f"{mark} {address:#x}{symbol_of(address)}: {item.bytes.hex():30} {text_of(item, asked.style)}")
+            address += item.len
         if asked.faults:
             print(asked.fault())
 
@@ -200,12 +208,13 @@ class FlowCommand(gdb.Command):
         asked = Asked(words, "feddurzai-flow [START [LENGTH]] [intel|att|masm]", False)
         bits, pc = bits_now(), pc_now()
         for at, leader in feddurzai.flow(bits, asked.start, asked.code):
-            item = next(feddurzai.iterate(bits, asked.start + at, asked.code[at : at + LONGEST]))
+            address = asked.start + at
+            item = next(feddurzai.iterate(bits, address, asked.code[at : at + LONGEST]))
             if at == leader:
-                print(f"block {item.address:#x}{symbol_of(item.address)}")
-            mark = "=>" if item.address == pc else "  "
+                print(f"block {address:#x}{symbol_of(address)}")
+            mark = "=>" if address == pc else "  "
             beside = "" if at == leader else f"  of {asked.start + leader:#x}"
-            print(f"{mark} {item.address:#x}: {text_of(item, asked.style)}{beside}")
+            print(f"{mark} {address:#x}: {text_of(item, asked.style)}{beside}")
         if asked.faults:
             print(asked.fault())
 

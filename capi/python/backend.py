@@ -34,7 +34,7 @@ def _library(native):
 
 
 def _metadata(version):
-    return f"Metadata-Version: 2.1\nName: feddurzai\nVersion: {version}\nSummary: x86 instructions read, written, told and moved\nRequires-Python: >=3.9\n"
+    return f"Metadata-Version: 2.1\nName: feddurzai\nVersion: {version}\nSummary: x86 instructions read, written, told and moved\nRequires-Python: >=3.8\n"
 
 
 def _wheel(directory, files, tag):

@@ -76,6 +76,9 @@ def read_instructions():
     check(pickle.loads(pickle.dumps(mov)), mov)
     for kind in (bytes, bytearray, memoryview):
         check(f.decode(64, 0x1000, kind(code("48895c2410"))), mov)
+        check(f.decode(64, 0x1000, kind(code("9048895c2410")), 1), mov)
+    check(f.decode(64, 0x1000, memoryview(code("480089005c00240010"))[::2]), mov)
+    check(str(next(f.iterate(64, 0, memoryview(code("c300"))[::2]))), "ret")
 
 
 def told_what_it_does():

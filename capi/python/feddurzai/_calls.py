@@ -44,10 +44,8 @@ def _read(bits: int, address: int, code: bytes, struct_: bytes) -> Instr:
 
 def _window(bits: int, ip: int, code: Buffer, at: int) -> Tuple[int, int, bytes]:
     """The mode, the address of an offset of some bytes, and as many of the bytes there as an instruction may have."""
-    code = _checks.code_bytes("code", code)
-    at = _checks.number("at", at, len(code))
-    address = _checks.number("ip", ip) + at & _checks.U64
-    return _checks.number("bits", bits, _checks.U32), address, code[at : at + _native.MAX_LEN]
+    window = _checks.front_bytes("code", code, at, _native.MAX_LEN)
+    return _checks.number("bits", bits, _checks.U32), _checks.number("ip", ip) + at & _checks.U64, window
 
 
 def decode(bits: int, ip: int, code: Buffer, at: int = 0) -> Instr:

@@ -32,6 +32,19 @@ def code_bytes(what: str, value: Buffer) -> bytes:
         raise TypeError(f"{what} is bytes, a bytearray or a memoryview, not {type(value).__name__}") from None
 
 
+def front_bytes(what: str, value: Buffer, at: int, most: int) -> bytes:
+    """As many bytes from an offset on as there are, at most so many."""
+    if type(value) is not bytes:
+        try:
+            view = memoryview(value)
+        except TypeError:
+            return code_bytes(what, value)
+        # what has many bytes is not copied for a few of them
+        value = view.cast("B") if view.contiguous else bytes(view)
+    at = number("at", at, len(value))
+    return bytes(value[at : at + most])
+
+
 def word(what: str, value: str) -> str:
     """A text."""
     if not isinstance(value, str):
