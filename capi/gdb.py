@@ -100,18 +100,18 @@ def number_of(expression):
 
 
 def function_at(address):
-    """The first address of the function at an address, and its length."""
-    block = gdb.current_progspace().block_for_pc(address)
-    while block is not None and block.function is None:
-        block = block.superblock
-    if block is not None:
-        return block.start, block.end - block.start
-    # with no debug information GDB knows where a function ends as it disassembles it
+    """The first address of the function at an address, and its length; where it has several parts, of the part at the address.
+
+    GDB knows where a function ends, with debug information or without, as it disassembles it."""
     try:
-        lines = gdb.execute(f"disassemble {address:#x}", to_string=True)
+        text = gdb.execute(f"disassemble {address:#x}", to_string=True)
     except gdb.error as error:
         raise gdb.GdbError(f"{address:#x}: {error} Name a LENGTH or /COUNT.")
-    starts = [int(found, 16) for found in re.findall(r"^(?:=>)?\s+(0x[0-9a-f]+)", lines, re.M)]
+    for part in re.findall(r"^Address range (0x[0-9a-f]+) to (0x[0-9a-f]+):$", text, re.M):
+        start, end = (int(it, 16) for it in part)
+        if start <= address < end:
+            return start, end - start
+    starts = [int(it, 16) for it in re.findall(r"^(?:=>)?\s+(0x[0-9a-f]+)", text, re.M)]
     if not starts:
         raise gdb.GdbError(f"{address:#x}: no function. Name a LENGTH or /COUNT.")
     return starts[0], starts[-1] - starts[0] + architecture_now().disassemble(starts[-1])[0]["length"]

@@ -108,10 +108,10 @@ class Memory:
 
 @dataclass(frozen=True)
 class Immediate:
-    """An immediate, cut to the operand size where it is sign-extended.
+    """An immediate. Where it is sign-extended it is cut to the operand size: of 32 bits, -1 is 0xffffffff.
 
-    >>> decode(64, 0, bytes.fromhex("6aff")).ops
-    (Immediate(value=18446744073709551615),)
+    >>> hex(decode(64, 0, bytes.fromhex("83c0ff")).ops[1].value)
+    '0xffffffff'
     """
 
     kind: ClassVar[OperandKind] = OperandKind.IMMEDIATE
