@@ -46,9 +46,9 @@ uint32_t feddurzai_version(void);
 
 /*
  * A function that returns an int32_t says 0 or more where it did what it was asked, and else one of these. After a
- * refusal nothing was written (feddurzai_move and feddurzai_move_outside alone write their report always, but for FEDDURZAI_NULL). Where several
- * stand together, the first in the list of the function is told; before all of them FEDDURZAI_NULL, which every
- * function that takes a pointer may return, and no list repeats.
+ * refusal nothing was written (feddurzai_move and feddurzai_move_outside alone write their report always, but for
+ * FEDDURZAI_NULL). Where several stand together, the first in the list of the function is told; before all of them
+ * FEDDURZAI_NULL, which every function that takes a pointer may return, and no list repeats.
  */
 enum {
     FEDDURZAI_BAD_MODE = -1,        /* bits is not 16, 32 or 64 */
@@ -79,9 +79,9 @@ enum {
  * registers of a gather count with operand 0. The other causes are of the whole instruction, and have 0 there.
  * `said` is a number below zero.
  *
- * Some instructions that feddurzai_decode reads have no encoding where they stand: the shortest spelling may no longer
- * reach. 2e 2e 74 7f is a short branch behind padding; without the padding it is 2 bytes, and its target 129 bytes behind
- * them, out of its reach (_TARGET). Such bytes are kept as they were read.
+ * Some instructions that feddurzai_decode reads have no encoding where they stand, since the shortest spelling no
+ * longer reaches: 2e 2e 74 7f is a short branch with a prefix twice; with one of them it is 3 bytes, and its target 128
+ * bytes behind these, which 8 bits do not hold (_TARGET). Such bytes are kept as they were read.
  */
 #define FEDDURZAI_CAUSE(said) ((-(said)) >> 8)      /* 0 for any other refusal */
 #define FEDDURZAI_CAUSE_OPERAND(said) ((-(said)) & 255)
@@ -168,9 +168,9 @@ typedef struct feddurzai_operand {
  * An instruction. What feddurzai_decode fills is read back as the same instruction by every other function.
  *
  * To make one, set all bytes to 0, then code (feddurzai_code_of) and operands. A memory operand needs more than its
- * kind, base and index: `scale` 1 (also without an index), `disp_bits` where there is a displacement (8, or the 16 or 32
- * of the address size; 0 says that none is written), and the instruction's `asize`: 64 in 64-bit mode, else the size of
- * the base and index. With the base RIP, `value` is the address of the operand and disp_bits 32.
+ * kind, base and index: `scale` 1 (also without an index), `disp_bits` where there is a displacement (8, or the 16 or
+ * 32 of the address size; 0 says that none is written), and the instruction's `asize`: 64 in 64-bit mode, else the size
+ * of the base and index. With the base RIP, `value` is the address of the operand and disp_bits 32.
  */
 typedef struct feddurzai_instr {
     feddurzai_operand ops[4];
@@ -195,11 +195,11 @@ enum {
 };
 
 /*
- * Reads many instructions: goes through `len` bytes, the first at address `ip`, and fills one struct after another, until
- * the bytes end or `room` structs are filled (67108864 at most in one call). *count gets how many are. Each has its
- * length in `len`; the next begins behind it. Where no instruction stands the item is a single byte: `len` 1, one of the
- * two codes above, and all else 0, which is no instruction for any other function. A caller that has more bytes to come
- * stops at the first FEDDURZAI_CODE_TOO_SHORT, and begins there again when they are there.
+ * Reads many instructions: goes through `len` bytes, the first at address `ip`, and fills one struct after another,
+ * until the bytes end or `room` structs are filled (67108864 at most in one call). *count gets how many are. Each has
+ * its length in `len`; the next begins behind it. Where no instruction stands the item is a single byte: `len` 1, one
+ * of the two codes above, and all else 0, which is no instruction for any other function. A caller that has more bytes
+ * to come stops at the first FEDDURZAI_CODE_TOO_SHORT, and begins there again when they are there.
  *
  * Returns how many bytes the items take: the next call begins behind these. Or FEDDURZAI_BAD_MODE; then *count is
  * unchanged.
@@ -222,14 +222,14 @@ int32_t feddurzai_text(uint32_t bits, uint32_t syntax, const feddurzai_instr *in
 
 /*
  * Reads the instruction at the front of `len` bytes at address `ip`, and writes its text and a 0 behind it: what
- * feddurzai_decode and feddurzai_text do, faster, since no struct is read back. `instr` gets the instruction, and may be
- * NULL where it is not wanted. A room of FEDDURZAI_MAX_TEXT is always enough.
+ * feddurzai_decode and feddurzai_text do, faster, since no struct is read back. `instr` gets the instruction, and may
+ * be NULL where it is not wanted. A room of FEDDURZAI_MAX_TEXT is always enough.
  *
- * Returns the length of the instruction, 1 to 15, or FEDDURZAI_BAD_MODE, _BAD_SYNTAX, _INVALID, _TOO_SHORT, _NO_ROOM; then
- * *instr is unchanged too.
+ * Returns the length of the instruction, 1 to 15, or FEDDURZAI_BAD_MODE, _BAD_SYNTAX, _INVALID, _TOO_SHORT, _NO_ROOM;
+ * then *instr is unchanged too.
  *
- * The library's own functions of these names (dlsym, another language) are two: feddurzai_line, which wants a struct, and
- * feddurzai_line_text, which takes none.
+ * The library's own functions of these names (dlsym, another language) are two: feddurzai_line, which wants a struct,
+ * and feddurzai_line_text, which takes none.
  */
 int32_t feddurzai_line(uint32_t bits, uint32_t syntax, uint64_t ip, const uint8_t *bytes, size_t len,
     feddurzai_instr *instr, char *text, size_t room);
@@ -248,9 +248,9 @@ int32_t feddurzai_encode(uint32_t bits, uint64_t ip, const feddurzai_instr *inst
 int32_t feddurzai_encoded_len(uint32_t bits, uint64_t ip, const feddurzai_instr *instr);
 
 /*
- * Writes the bytes that an Intel text of `len` bytes stands for at address `ip`. The text is as feddurzai_text writes it
- * in FEDDURZAI_INTEL, with its very spaces and without a 0 at its end: `mov qword [rsp+0x10], rbx`, `jmp 0x401000`. It is
- * the shortest encoding that feddurzai_text shows so. A room of FEDDURZAI_MAX_LEN is always enough.
+ * Writes the bytes that an Intel text of `len` bytes stands for at address `ip`. The text is as feddurzai_text writes
+ * it in FEDDURZAI_INTEL, with its very spaces and without a 0 at its end: `mov qword [rsp+0x10], rbx`, `jmp 0x401000`.
+ * It is the shortest encoding that feddurzai_text shows so. A room of FEDDURZAI_MAX_LEN is always enough.
  *
  * Returns how many bytes, or FEDDURZAI_BAD_MODE, _NO_TEXT, _NO_ROOM.
  */
@@ -276,8 +276,8 @@ enum {
  * Writes a jump to `target` or a call of it, of one of these forms, for the address `at`. No register is changed.
  * A room of FEDDURZAI_MAX_JUMP is always enough.
  *
- * Returns how many bytes, or FEDDURZAI_BAD_MODE, _BAD_JUMP, a cause (FEDDURZAI_CAUSE_TARGET where the target is out of reach or
- * no address of the mode, FEDDURZAI_CAUSE_ROW of a far form outside 64-bit code), _NO_ROOM.
+ * Returns how many bytes, or FEDDURZAI_BAD_MODE, _BAD_JUMP, a cause (FEDDURZAI_CAUSE_TARGET where the target is out of
+ * reach or no address of the mode, FEDDURZAI_CAUSE_ROW of a far form outside 64-bit code), _NO_ROOM.
  */
 int32_t feddurzai_jump(uint32_t bits, uint64_t at, uint64_t target, uint32_t form, uint8_t *out, size_t room);
 
@@ -347,10 +347,10 @@ int32_t feddurzai_notation(uint32_t code, char *out, size_t room);
 int32_t feddurzai_code_of(const char *name, size_t len, size_t n);
 
 /*
- * The codes of common instructions, for a struct's `code`. feddurzai_code_of finds all others; it looks through the table,
- * so a program asks it once. RM is a register or memory, REL an offset, IMM an immediate, and the number its bits. JMP,
- * CALL, Jcc, RET, PUSH, POP and LEAVE are those of 64-bit code, but where _O32, R32 or RM32 says that they are of 32-bit
- * code; NOP_RM32 and what has two operands are of both, with a 64 of 64-bit code alone.
+ * The codes of common instructions, for a struct's `code`. feddurzai_code_of finds all others; it looks through the
+ * table, so a program asks it once. RM is a register or memory, REL an offset, IMM an immediate, and the number its
+ * bits. JMP, CALL, Jcc, RET, PUSH, POP and LEAVE are those of 64-bit code, but where _O32, R32 or RM32 says that they
+ * are of 32-bit code; NOP_RM32 and what has two operands are of both, with a 64 of 64-bit code alone.
  */
 /* begin of the codes that codes.py writes */
 enum {
@@ -580,9 +580,9 @@ typedef struct feddurzai_move_report {
  * where code_bytes == bytes, as it is within 2 gigabytes; else choose a nearer address.
  *
  * A target that is the start of an instruction of the code follows it, also where that is the very first: a branch back
- * to the start of what is moved goes to the moved start. So a recursive call of a function whose start is moved goes past
- * what is written there, and a loop of one instruction stays a loop at the new address. And a jump to the end of the
- * code that is appended to the code aims at itself. feddurzai_move_outside keeps every target instead.
+ * to the start of what is moved goes to the moved start. So a recursive call of a function whose start is moved goes
+ * past what is written there, and a loop of one instruction stays a loop at the new address. And a jump to the end of
+ * the code that is appended to the code aims at itself. feddurzai_move_outside keeps every target instead.
  *
  * Returns 0, or FEDDURZAI_BAD_MODE, _TOO_LARGE, _WRAPS (the old end), _INVALID or _TOO_SHORT, _TOO_MANY (the report's
  * count says how many), _WRAPS (the new end), _TOO_FAR, _NO_ROOM; _NO_MEMORY may stand in place of what comes behind
@@ -594,9 +594,9 @@ int32_t feddurzai_move(uint32_t bits, uint64_t old_ip, const uint8_t *bytes, siz
 
 /*
  * Moves code as feddurzai_move does, with its answer, report and refusals, and keeps every target: what a branch or an
- * operand at RIP or EIP reached it still reaches, also where that is among the moved instructions. So an instruction that
- * is moved by itself does there what it did, as single stepping elsewhere needs; and a jump to the old end that is put
- * behind some code is a jump back.
+ * operand at RIP or EIP reached it still reaches, also where that is among the moved instructions. So an instruction
+ * that is moved by itself does there what it did, as single stepping elsewhere needs; and a jump to the old end that is
+ * put behind some code is a jump back.
  */
 int32_t feddurzai_move_outside(uint32_t bits, uint64_t old_ip, const uint8_t *bytes, size_t len, uint64_t new_ip,
     uint8_t *out, size_t room, feddurzai_moved *map, size_t map_room, feddurzai_move_report *report);

@@ -163,7 +163,7 @@ static void check_cause_operands(void)
     static const uint8_t store[] = {0x48, 0x89, 0x44, 0x8b, 0x10};      /* mov [rbx+rcx*4+0x10], rax */
     static const uint8_t rip[] = {0x48, 0x8b, 0x05, 0x10, 0, 0, 0};     /* mov rax, [rip+0x10] */
     static const uint8_t shuffle[] = {0xc5, 0xf9, 0x70, 0x00, 0x1b};    /* vpshufd xmm0, [rax], 0x1b */
-    static const uint8_t padded[] = {0x2e, 0x2e, 0x74, 0x7f};           /* je behind padding: 2 bytes no longer reach */
+    static const uint8_t padded[] = {0x2e, 0x2e, 0x74, 0x7f};           /* je with a prefix twice: 3 bytes no longer reach */
     uint8_t bytes[FEDDURZAI_MAX_LEN];
     int memory;
     for (memory = 0; memory < 2; memory++) {

@@ -58,9 +58,11 @@ fn length_or_zero(bits: Bits, ip: u64, instr: &Instr) -> u8
 }
 
 /// The struct of an instruction with the length of its encoding.
+#[tactic(auto, unfolding(crate::specs::Flat::flat_instr))]
 fn flat_encoded(bits: Bits, ip: u64, instr: Instr) -> FlatInstr
     ensures flat { result ≡ flat_instr instr (spec.length_or_zero (encoding bits ip instr)) }
     ensures back { instr_back result ≡ Some instr }
+    ensures len { result.len ≡ spec.length_or_zero (encoding bits ip instr) }
 {
     let len = length_or_zero(bits, ip, &instr);
     flat_decoded(&Decoded { instr, len })

@@ -1,12 +1,11 @@
 use Rattle.std.proofs.Common.{ap, length, ◌∙◌}
-use Rattle.move_goals.specs.Items.{one_span}
-use Rattle.feddurzai_c.proofs.MovedEntries.{starts_length, forms_length}
+use Rattle.feddurzai_c.proofs.MovedEntries.{starts_length, forms_length, in_order_not_refused}
 use Rattle.feddurzai_c.proofs.moved.move_items.Goals as goal
 
 pub entries_of-requires-clause-starts : goal.entries_of-requires-clause-starts
 entries_of-requires-clause-starts c =
-    ap length c.starts.ensures ∙ starts_length c.args.bits c.args.items.now (one_span c.args.items.now c.args.new) c.in-Ok.moved c.in-Ok.ensures
+    ap length c.starts.ensures ∙ starts_length c.args.targets c.args.bits c.args.items.now c.args.new c.in-Ok.moved c.in-Ok.ensures
 
 pub entries_of-requires-clause-forms : goal.entries_of-requires-clause-forms
 entries_of-requires-clause-forms c =
-    ap length c.forms.ensures ∙ forms_length c.args.bits c.args.items.now (one_span c.args.items.now c.args.new) c.in-Ok.moved c.in-Ok.ensures
+    ap length c.forms.ensures ∙ forms_length c.args.targets c.args.bits c.args.items.now c.args.new c.in-Ok.moved c.in-Ok.ensures
