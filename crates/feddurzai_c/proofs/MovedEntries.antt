@@ -1,15 +1,13 @@
 -- The entries of moved instructions, one by one, and how many lists' elements there are.
-use Rattle.std.proofs.Common.{◌≡◌, ℕ, ◌+◌, List, [], ◌∷◌, ◌++◌, length, None, refl, sym, ap, ◌∙◌, arith}
-use Rattle.std.specs.Prelude.{Ok, Err}
-use Rattle.std.proofs.lemmas.Option.{none-some}
+use Rattle.std.proofs.Common.{◌≡◌, ℕ, ◌+◌, List, [], ◌∷◌, ◌++◌, length, refl, ap, ◌∙◌, arith}
+use Rattle.std.specs.Prelude.{Ok}
 use Rattle.std.proofs.lemmas.List.FromFn.{length-map-range_with_len, map-range_with_len_more}
 use Rattle.x86_values.specs.declared.Bits.{Bits}
 use Rattle.branch_sizes.specs.Plan.{BlockPlan}
 use Rattle.branch_sizes.specs.declared.plan.Form.{Form}
 use Rattle.move_goals.specs.declared.items.Placed.{Placed}
-use Rattle.move_goals.specs.Items.{one_span, first_disorder}
+use Rattle.move_goals.specs.Items.{one_span}
 use Rattle.move_goals.specs.Plan.{plan_for, plan_outside}
-use Rattle.block_encoder.specs.declared.error.MoveError.TheVariants.{OldOrder}
 use Rattle.block_encoder.specs.Moved.{MovedLists, AreListsOf}
 use Rattle.feddurzai_c.specs.declared.moved.Targets.{Targets}
 use Rattle.feddurzai_c.specs.declared.moved.Targets.TheVariants.{Follow, Stay}
@@ -39,9 +37,3 @@ starts_length targets bits items new m h = ap length (lists_of targets bits item
 pub forms_length : (targets : Targets) (bits : Bits) (items : List Placed) (new : ℕ) (m : MovedLists) → IsRelocated targets bits items new (Ok m) →
     length m.forms ≡ length items
 forms_length targets bits items new m h = ap length (lists_of targets bits items new m h).2.forms ∙ length-map-range_with_len _ 0 (length items)
-
--- instructions that are in order are not refused for their order
-pub in_order_not_refused : (targets : Targets) (bits : Bits) (items : List Placed) (new at : ℕ) → first_disorder (one_span items new) items ≡ None →
-    IsRelocated targets bits items new (Err (OldOrder at)) → ⊥
-in_order_not_refused Follow bits items new at order h = none-some at (sym order ∙ h.1)
-in_order_not_refused Stay bits items new at order h = h.1

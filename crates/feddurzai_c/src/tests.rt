@@ -1,10 +1,15 @@
+use crate::assembling::{feddurzai_assemble, feddurzai_read_intel};
 use crate::decoding::feddurzai_decode;
-use crate::encoding::feddurzai_encode;
+use crate::encoding::{feddurzai_encode, feddurzai_encoded_len};
 use crate::flat::{FlatInfo, FlatInstr, FlatMove, FlatMoved, FlatUse};
 use crate::flatten::ABSENT;
 use crate::flow::feddurzai_flow;
 use crate::info::feddurzai_info;
-use crate::moving::feddurzai_move;
+use crate::jump::feddurzai_jump;
+use crate::line::{feddurzai_line, feddurzai_line_text};
+use crate::many::feddurzai_decode_many;
+use crate::moving::{feddurzai_move, feddurzai_move_outside};
+use crate::names::{feddurzai_register_text, feddurzai_segment_text};
 use crate::rows::{feddurzai_code_of, feddurzai_name, feddurzai_notation};
 use crate::texts::feddurzai_text;
 use std::test::Fail;
@@ -138,5 +143,100 @@ fn code_is_moved_and_followed(rt: HostRuntime) -> Result<(), Fail> {
     assert_eq!(rt; count, 3);
     assert_eq!(rt; starts, [0, 2, 3, 0]);
     assert_eq!(rt; leaders, [0, 2, 3, 9]);
+    Ok(())
+}
+
+// `nop`, a byte that is no instruction, and `ret`: read in one call, and the last shown in one.
+#[test]
+fn many_are_read_and_a_line_is_shown(rt: HostRuntime) -> Result<(), Fail> {
+    let mut instrs = [NO_INSTR; 4];
+    let mut count = 9;
+    let code = [0x90, 0x06, 0xc3];
+    assert_eq!(rt;
+        feddurzai_decode_many(64, 0, &code, &mut instrs, &mut count),
+        3
+    );
+    assert_eq!(rt; count, 3);
+    let [nop, single, ret, behind] = instrs;
+    assert_eq!(rt; (nop.len, nop.code), (1, 290));
+    assert_eq!(rt; (single.len, single.code), (1, 0xffff));
+    assert_eq!(rt; (ret.len, behind.len), (1, 0));
+    let mut instr = NO_INSTR;
+    let mut text = [0xaa; 5];
+    assert_eq!(rt; feddurzai_line(64, 0, 2, &[0xc3], &mut instr, &mut text), 1);
+    assert_eq!(rt; text, *b"ret\0\xaa");
+    assert_eq!(rt; instr, ret);
+    assert_eq!(rt; feddurzai_line_text(64, 1, 0, &code, &mut text), 1);
+    assert_eq!(rt; text, *b"nop\0\xaa");
+    Ok(())
+}
+
+// A jump to itself by its text, names of registers, and a far call.
+#[test]
+fn texts_jumps_and_names_are_written(rt: HostRuntime) -> Result<(), Fail> {
+    let mut out = [0xaa; 3];
+    assert_eq!(rt; feddurzai_assemble(64, 0x1000, b"jmp 0x1000", &mut out), 2);
+    assert_eq!(rt; out, *b"\xeb\xfe\xaa");
+    let mut instr = NO_INSTR;
+    assert_eq!(rt;
+        feddurzai_read_intel(64, 0x1000, b"jmp 0x1000", &mut instr),
+        2
+    );
+    assert_eq!(rt;
+        (instr.op0.kind, instr.op0.value, instr.len),
+        (4, 0x1000, 2)
+    );
+    assert_eq!(rt; feddurzai_encoded_len(64, 0x1000, &instr), 2);
+    let mut name = [0xaa; 5];
+    assert_eq!(rt; feddurzai_register_text(1, 5, 0, &mut name), 4);
+    assert_eq!(rt; name, *b"%rax\0");
+    assert_eq!(rt; feddurzai_segment_text(0, 5, &mut name), 2);
+    assert_eq!(rt; name, *b"fs\0x\0");
+    let mut call = [0xaa; 16];
+    assert_eq!(rt;
+        feddurzai_jump(64, 0x1000, 0x1122_3344_5566_7788, 5, &mut call),
+        16
+    );
+    assert_eq!(rt;
+        call,
+        *b"\xff\x15\x02\0\0\0\xeb\x08\x88\x77\x66\x55\x44\x33\x22\x11"
+    );
+    Ok(())
+}
+
+// `jmp` to itself: moved by itself it still goes to where it was.
+#[test]
+fn a_target_is_kept(rt: HostRuntime) -> Result<(), Fail> {
+    let mut out = [0xaa; 3];
+    let mut map = [FlatMoved {
+        old_ip: 0,
+        new_ip: 0,
+        len: 0,
+        form: 0,
+    }];
+    let mut report = FlatMove {
+        bytes: 0,
+        count: 0,
+        at: 0,
+        address: 0,
+        code_bytes: 0,
+        slots_at: 0,
+    };
+    let said = feddurzai_move_outside(
+        rt.alloc(),
+        64,
+        0x1000,
+        &[0xeb, 0xfe],
+        0x1040,
+        &mut out,
+        &mut map,
+        &mut report,
+    );
+    assert_eq!(rt; said, 0);
+    assert_eq!(rt; out, *b"\xeb\xbe\xaa");
+    assert_eq!(rt;
+        (report.bytes, report.code_bytes, report.slots_at),
+        (2, 2, 2)
+    );
     Ok(())
 }
