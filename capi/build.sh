@@ -32,9 +32,14 @@ esac
 # one archive: the library, and the kit's way to malloc, realloc and free
 work=$(mktemp -d)
 trap 'rm -rf "$work"' EXIT
-rm -f "$out/libfeddurzai.a"
+rm -f "$out/libfeddurzai.a" "$out"/libfeddurzai.so*
 cp "$here/../crates/feddurzai_c/out/libfeddurzai_c.a" "$out/libfeddurzai.a"
 (cd "$work" && ar x "$heap" && ar -q "$out/libfeddurzai.a" ./*.o && ranlib "$out/libfeddurzai.a")
+
+# the shared library shows the calls alone; its soname has the number of the interface, so that no program loads another
+interface=$(sed -n 's/^#define FEDDURZAI_INTERFACE \([0-9]*\).*/\1/p' "$here/feddurzai.h")
+printf '{ global: feddurzai_*; local: *; };\n' >"$work/calls.map"
 "$cc" -shared -o "$out/libfeddurzai.so" -Wl,--whole-archive "$out/libfeddurzai.a" -Wl,--no-whole-archive \
-    -Wl,-soname,libfeddurzai.so
+    -Wl,-soname,"libfeddurzai.so.$interface" -Wl,--version-script="$work/calls.map"
+ln -s libfeddurzai.so "$out/libfeddurzai.so.$interface"
 echo "$out/libfeddurzai.a $out/libfeddurzai.so ($backend)"

@@ -1,12 +1,13 @@
 #!/bin/sh
 # Builds the library for C by both compilers of the kit, and tries it: the header, the structs, every function with what is and what
-# is no value of its arguments, with NULL, zeros and every room that is too small, the examples, Python, the commands of GDB, and
-# the listing of a real file against the program's.
+# is no value of its arguments, with NULL, zeros and every room that is too small, the examples, the Python package, the commands of
+# GDB, the inspector, the listing of a real file against the program's, and clients of what install.sh installs.
 #
 #   capi/test.sh [FILE]
 #
 # FILE is raw 64-bit code; where none is named it is the .text of gdb, of python3 or of the C library, the first that is there and
-# that objcopy takes. It wants the kit's `rt`, gcc with g++, and python3; objcopy and gdb where they are there. It says what it ran.
+# that objcopy takes. It wants the kit's `rt`, gcc with g++, and python3; objcopy, gdb, pkg-config, pip, mypy, pyelftools and Graphviz
+# where they are there. It says what it ran.
 set -eu
 here=$(cd "$(dirname "$0")" && pwd)
 top=$(dirname "$here")
@@ -15,14 +16,19 @@ trap 'rm -rf "$work"' EXIT
 warn='-Wall -Wextra -pedantic -Werror'
 sanitized='-g -fsanitize=address,undefined -fno-sanitize-recover=all'
 sanitizers='address and undefined behaviour sanitizers'
+# nothing is written beside the sources
+export PYTHONDONTWRITEBYTECODE=1
 
 say() { printf '%s\n' "$*"; }
 die() { say "test.sh: $*" >&2; exit 1; }
+# die_with FILE WORDS: the same, with a file in front
+die_with() { cat "$1" >&2; shift; die "$@"; }
 
 # ---- the header by itself
-printf '#include "feddurzai.h"\nint main(void) { return FEDDURZAI_INTERFACE != 2; }\n' >"$work/header.c"
+interface=$(sed -n 's/^#define FEDDURZAI_INTERFACE \([0-9]*\).*/\1/p' "$here/feddurzai.h")
+printf '#include "feddurzai.h"\nint main(void) { return FEDDURZAI_INTERFACE != %s; }\n' "$interface" >"$work/header.c"
 gcc -std=c99 $warn -I"$here" -c "$work/header.c" -o "$work/header.o"
-say "header: C99, no warning"
+say "header: interface $interface, C99, no warning"
 if command -v g++ >/dev/null; then
     g++ -x c++ -std=c++11 $warn -I"$here" -c "$work/header.c" -o "$work/header.o"
     say "header: C++11, no warning"
@@ -50,6 +56,7 @@ program=$top/crates/listing_program/out/listing_program
 for style in intel att masm; do
     "$program" list 64 401000 $style <"$file" >"$work/program.$style"
 done
+"$program" list 64 401000 intel <"$front" >"$work/front.intel"
 say "program: $(wc -l <"$work/program.intel") lines in each of three styles"
 "$program" rows | "$here/codes.py" --check || die "the codes in the header"
 say "header: the codes of common instructions are those of the program's rows"
@@ -59,9 +66,133 @@ tries_nulls() {
     language=c
     [ "$1" = gcc ] || language=c++
     "$1" "$2" $sanitized $warn -I"$here" -x $language "$here/tests/nulls.c" -x none "$out/libfeddurzai.a" -o "$out/nulls" 2>"$work/cc.log" \
-        || { cat "$work/cc.log" >&2; die "nulls.c is not built by $1 $2"; }
-    "$out/nulls" >"$work/nulls.log" || { cat "$work/nulls.log" >&2; die "$backend: NULL, a zero or a small room is answered otherwise"; }
+        || die_with "$work/cc.log" "nulls.c is not built by $1 $2"
+    "$out/nulls" >"$work/nulls.log" || die_with "$work/nulls.log" "$backend: NULL, a zero or a small room is answered otherwise"
     say "$backend: $(cat "$work/nulls.log") ($1 $2, $sanitizers)"
+}
+
+# makes_debugged [-g]: a program to look into. It has a call, a call through the PLT, and bytes at the end of what can be read
+makes_debugged() {
+    gcc -O1 "$@" -no-pie -o "$work/debugged" -xc - <<'END'
+#define _GNU_SOURCE
+#include <string.h>
+#include <sys/mman.h>
+int global = 5;
+char *edge;
+__attribute__((noinline)) int called(int x) { return x > 2 ? global + x : global; }
+int main(void)
+{
+    edge = (char *)mmap(0, 8192, PROT_READ | PROT_WRITE, MAP_PRIVATE | MAP_ANONYMOUS, -1, 0) + 4093;
+    munmap(edge + 3, 4096);
+    memcpy(edge, "\x90\x48\x83", 3);
+    return called(3) != 8;
+}
+END
+}
+
+# in_gdb WANTED COMMAND..: commands of gdb.py in a process that is stopped in `called`; a line that they write matches WANTED
+in_gdb() {
+    wanted=$1
+    shift
+    for command in "$@"; do printf '%s\n' "$command"; done >"$work/gdb.commands"
+    gdb -nx -batch -ex "source $gdb_script" -ex 'break called' -ex run -x "$work/gdb.commands" "$work/debugged" >"$work/gdb.log" 2>&1 || true
+    grep -Eq -- "$wanted" "$work/gdb.log" || die_with "$work/gdb.log" "$*: no line matches $wanted"
+    ! grep -q Traceback "$work/gdb.log" || die_with "$work/gdb.log" "$*: an exception of Python"
+}
+
+# lines_are COUNT: how many lines of a listing the last commands wrote
+lines_are() {
+    [ "$(grep -c '^[ =][ >] 0x.*: [0-9a-f]* ' "$work/gdb.log")" = "$1" ] || die_with "$work/gdb.log" "not $1 lines"
+}
+
+# tries_gdb SCRIPT
+tries_gdb() {
+    if ! command -v gdb >/dev/null; then
+        say "$backend: no gdb here, its commands are not tried"
+        return
+    fi
+    gdb_script=$1
+    for debug in -g0 -g; do
+        makes_debugged $debug
+        in_gdb 'call 0x[0-9a-f]+ <called>' 'feddurzai-list main'
+        # the function at $pc, to its last instruction
+        in_gdb '^=> 0x[0-9a-f]+ <called(\+[0-9]+)?>: ' 'feddurzai-list'
+        in_gdb '^   0x[0-9a-f]+ <called\+[0-9]+>: c3 +ret$' 'feddurzai-list'
+        in_gdb '^block 0x[0-9a-f]+ <called>' 'feddurzai-flow called att'
+        in_gdb '^=> 0x[0-9a-f]+: ' 'feddurzai-flow'
+    done
+    in_gdb '%rsp$' 'feddurzai-list main 4 att'
+    in_gdb '<main' 'feddurzai-list /3 main'
+    lines_are 3
+    in_gdb '^=> ' 'feddurzai-list /2'
+    lines_are 2
+    # what can be read before a fault, and the end of the bytes
+    in_gdb '^   0x[0-9a-f]+: 4883 +\(the bytes end here\)$' 'feddurzai-list edge 20'
+    grep -Eq '^   0x[0-9a-f]+000: no memory can be read from here on$' "$work/gdb.log" || die_with "$work/gdb.log" 'feddurzai-list edge 20'
+    lines_are 2
+    in_gdb '^   0x[0-9a-f]+: 4883 +\(the bytes end here\)$' 'feddurzai-list edge 3'
+    in_gdb 'no memory can be read there' 'feddurzai-list edge+3 20'
+    # errors in words
+    in_gdb '^nowhere: No symbol "nowhere" in current context' 'feddurzai-list nowhere 20'
+    in_gdb '^usage: feddurzai-list' 'feddurzai-list main 20 30'
+    in_gdb '^/x is no count of instructions' 'feddurzai-list /x main'
+    in_gdb '^1048577 bytes are more than 1048576' 'feddurzai-list main 1048577'
+    wrong_bits='python
+try:
+    gdb.execute("set feddurzai-bits 17")
+except gdb.error as error:
+    print(error)
+end'
+    in_gdb ' not 17: it stays 32$' 'set feddurzai-bits 32' "$wrong_bits" 'show feddurzai-bits'
+    grep -q 'feddurzai lists is 32\.$' "$work/gdb.log" || die_with "$work/gdb.log" 'set feddurzai-bits 17'
+    say "$backend: feddurzai-list and feddurzai-flow in a process that gdb stopped, with debug information and without"
+}
+
+inspector() { "$with_elftools" "$here/examples/inspector.py" "$@"; }
+
+# tries_inspector: the listing of a function and of a section, with symbols and stripped, its graph and its page
+tries_inspector() {
+    with_elftools=
+    for python in python3 /usr/bin/python3; do
+        "$python" -c 'import elftools' 2>/dev/null && { with_elftools=$python; break; }
+    done
+    if [ -z "$with_elftools" ]; then
+        say "$backend: no pyelftools here, the inspector is not tried"
+        return
+    fi
+    makes_debugged -g0
+    inspector "$work/debugged" main >"$work/main.log"
+    for line in 'e8[0-9a-f]{8} +call 0x[0-9a-f]+ <called>' 'call 0x[0-9a-f]+ <mmap@plt>' 'mov qword \[rel 0x[0-9a-f]+\], r[a-z]x <edge>'; do
+        grep -Eq "$line\$" "$work/main.log" || die_with "$work/main.log" "inspector: no line matches $line"
+    done
+    inspector "$work/debugged" called --colour always | grep -q "$(printf '\033')\[36mret" || die "inspector: colours"
+    inspector "$work/debugged" | grep -Eq '^[0-9a-f]{16} +[0-9]+ called$' || die "inspector: the functions"
+    inspector "$work/debugged" nowhere 2>&1 | grep -q '^inspector.py: no function and no section' || die "inspector: a wrong name"
+    inspector "$here/test.sh" 2>&1 | grep -q '^inspector.py: ' || die "inspector: no ELF file"
+
+    # a stripped file, by the address of a function
+    strip -o "$work/stripped" "$work/debugged"
+    at=$(inspector "$work/debugged" | awk '$3 == "called" { sub(/^0*/, "", $1); print $1 }')
+    inspector "$work/stripped" "0x$at" | grep -v '>:$' | sed 's/ <.*//' >"$work/stripped.log"
+    inspector "$work/debugged" called | grep -v '>:$' | sed 's/ <.*//' | cmp - "$work/stripped.log" || die "inspector: a stripped file"
+
+    # a section, against the program
+    inspector "$work/debugged" .text | grep -v '>:$' | sed 's/^ *//; s/ .*//' >"$work/section.log"
+    objcopy -O binary --only-section=.text "$work/debugged" "$work/debugged.bin"
+    "$program" list 64 "$(head -1 "$work/section.log")" intel <"$work/debugged.bin" | sed 's/ .*//' | cmp - "$work/section.log" || die "inspector: .text"
+
+    if ! command -v dot >/dev/null; then
+        say "$backend: examples/inspector.py lists functions and a section; no Graphviz here, no graph is drawn"
+        return
+    fi
+    inspector "$work/debugged" --flow called "$work/called.svg"
+    [ "$(grep -c 'class="edge"' "$work/called.svg")" -ge 2 ] || die_with "$work/called.svg" "inspector: --flow"
+    inspector "$work/debugged" called --html "$work/called.html"
+    # each link goes to a line that is there
+    grep -o 'href="#a[0-9a-f]*"' "$work/called.html" | sed 's/.*#\(.*\)"/id="\1"/' | sort -u >"$work/links"
+    [ "$(wc -l <"$work/links")" -ge 5 ] || die "inspector: --html has too few links"
+    while read -r link; do grep -q "$link" "$work/called.html" || die "inspector: --html: nothing is $link"; done <"$work/links"
+    say "$backend: examples/inspector.py lists functions and a section, and writes a graph and a page"
 }
 
 for backend in llvm rattle; do
@@ -70,8 +201,8 @@ for backend in llvm rattle; do
     say "$backend: built, $(wc -c <"$out/libfeddurzai.a") bytes"
 
     gcc -std=c99 $sanitized $warn -I"$here" "$here/tests/calls.c" "$out/libfeddurzai.a" -o "$out/calls" 2>"$work/cc.log" \
-        || { cat "$work/cc.log" >&2; die "calls.c is not built"; }
-    "$out/calls" >"$work/calls.log" || { cat "$work/calls.log" >&2; die "$backend: a call answered otherwise"; }
+        || die_with "$work/cc.log" "calls.c is not built"
+    "$out/calls" >"$work/calls.log" || die_with "$work/calls.log" "$backend: a call answered otherwise"
     say "$backend: $(cat "$work/calls.log") ($sanitizers)"
 
     # the functions of the header that look for NULL are compiled with the caller: as C and as C++
@@ -88,28 +219,66 @@ for backend in llvm rattle; do
     say "$backend: examples/disassemble.c lists as the program does, in three styles"
 
     gcc -std=gnu99 -O2 $warn -I"$here" "$here/examples/hook.c" "$out/libfeddurzai.a" -o "$out/hook"
-    "$out/hook" >"$work/hook.log" || { cat "$work/hook.log" >&2; die "$backend: the hook failed"; }
+    "$out/hook" >"$work/hook.log" || die_with "$work/hook.log" "$backend: the hook failed"
     say "$backend: examples/hook.c: $(tail -1 "$work/hook.log")"
 
-    FEDDURZAI_LIBRARY=$out/libfeddurzai.so python3 "$here/examples/disassemble.py" "$front" 64 401000 intel >"$work/python.intel"
-    "$program" list 64 401000 intel <"$front" >"$work/front.intel"
+    export FEDDURZAI_LIBRARY="$out/libfeddurzai.so"
+    python3 "$here/examples/disassemble.py" "$front" 64 401000 intel >"$work/python.intel"
     cmp "$work/python.intel" "$work/front.intel" || die "$backend: the listing in Python differs"
-    FEDDURZAI_LIBRARY=$out/libfeddurzai.so python3 "$here/tests/calls.py" >"$work/python.log" || die "$backend: Python: $(cat "$work/python.log")"
+    python3 "$here/tests/calls.py" "$here/python" >"$work/python.log" 2>&1 || die_with "$work/python.log" "$backend: Python"
     say "$backend: examples/disassemble.py lists as the program does; $(cat "$work/python.log")"
 
-    if command -v gdb >/dev/null; then
-        gcc -O1 -g -no-pie -o "$work/debugged" -xc - <<'END'
-int global = 5;
-__attribute__((noinline)) int called(int x) { return x > 2 ? global + x : global; }
-int main(void) { return called(3) != 8; }
-END
-        FEDDURZAI_LIBRARY=$out/libfeddurzai.so gdb -nx -batch -ex "source $here/gdb.py" -ex "break called" -ex run \
-            -ex 'feddurzai-list main 24' -ex 'feddurzai-flow called 24 att' "$work/debugged" >"$work/gdb.log" 2>&1 || true
-        grep -q 'call 0x[0-9a-f]* <called>' "$work/gdb.log" || { cat "$work/gdb.log" >&2; die "$backend: feddurzai-list"; }
-        grep -q '^block 0x[0-9a-f]* <called>' "$work/gdb.log" || { cat "$work/gdb.log" >&2; die "$backend: feddurzai-flow"; }
-        say "$backend: feddurzai-list and feddurzai-flow in a process that gdb stopped"
-    else
-        say "$backend: no gdb here, its commands are not tried"
-    fi
+    tries_gdb "$here/gdb.py"
+    tries_inspector
+    unset FEDDURZAI_LIBRARY
 done
+
+# ---- what is installed, from its files alone
+backend=installed
+prefix=$work/prefix
+"$here/install.sh" "$prefix" "$work/llvm" >"$work/install.log" || die_with "$work/install.log" "install.sh"
+shared=$(readlink -f "$prefix/lib/libfeddurzai.so")
+others=$(nm -D --defined-only "$shared" | awk '$3 !~ /^feddurzai_/ { print $3 }')
+[ -z "$others" ] || die "installed: the shared library also shows $others"
+soname=$(readelf -d "$shared" | sed -n 's/.*soname: \[\(.*\)\].*/\1/p')
+[ "$soname" = "libfeddurzai.so.$interface" ] && [ -e "$prefix/lib/$soname" ] || die "installed: the soname is $soname"
+say "installed: $(sed 's/^[^:]*: //' "$work/install.log"), $(basename "$shared") shows $(nm -D --defined-only "$shared" | wc -l) calls and nothing else"
+
+client=$work/client
+mkdir "$client"
+cp "$here/examples/disassemble.c" "$here/tests/client.py" "$client/"
+cd "$client"
+if command -v pkg-config >/dev/null; then
+    export PKG_CONFIG_PATH="$prefix/lib/pkgconfig"
+    gcc -std=c99 -O2 $warn $(pkg-config --cflags feddurzai) disassemble.c $(pkg-config --libs feddurzai) -o shared
+    LD_LIBRARY_PATH=$prefix/lib ./shared "$file" 64 401000 intel | cmp - "$work/program.intel" || die "installed: the client's listing differs"
+    gcc -std=c99 -O2 $warn $(pkg-config --cflags feddurzai) disassemble.c "$(pkg-config --variable=libdir feddurzai)/libfeddurzai.a" -o static
+    ./static "$file" 64 401000 intel | cmp - "$work/program.intel" || die "installed: the static client's listing differs"
+    say "installed: a client in C by pkg-config, version $(pkg-config --modversion feddurzai), shared and static, lists as the program does"
+else
+    say "installed: no pkg-config here, no client in C is built"
+fi
+PYTHONPATH=$prefix/share/feddurzai/python python3 client.py "$prefix" || die "installed: the client in Python"
+say "installed: a client in Python runs by PYTHONPATH"
+if python3 -m venv "$work/venv" 2>/dev/null && [ -x "$work/venv/bin/pip" ]; then
+    pip() { "$work/venv/bin/pip" --quiet --no-input --disable-pip-version-check "$@"; }
+    pip install --no-index "$prefix/share/feddurzai/python" >"$work/pip.log" 2>&1 || die_with "$work/pip.log" "installed: pip"
+    "$work/venv/bin/python" client.py "$work/venv" || die "installed: the client in Python by pip"
+    "$work/venv/bin/python" "$here/tests/calls.py" >"$work/python.log" 2>&1 || die_with "$work/python.log" "installed: Python by pip"
+    pip uninstall --yes feddurzai
+    # from the clone, as a package whose sources stay there
+    FEDDURZAI_LIBRARY=$work/llvm/libfeddurzai.so pip install --no-index --editable "$here/python" >"$work/pip.log" 2>&1 || die_with "$work/pip.log" "pip --editable"
+    FEDDURZAI_LIBRARY=$work/llvm/libfeddurzai.so "$work/venv/bin/python" "$here/tests/calls.py" >"$work/python.log" 2>&1 || die_with "$work/python.log" "pip --editable"
+    say "installed: pip takes the folder with no network, and the client runs by it"
+else
+    say "installed: no venv with pip here, the package is not installed by pip"
+fi
+cd "$top"
+tries_gdb "$prefix/share/feddurzai/gdb.py"
+if command -v mypy >/dev/null; then
+    mypy --strict --cache-dir "$work/mypy" "$prefix/share/feddurzai/python/feddurzai" >"$work/mypy.log" || die_with "$work/mypy.log" "mypy"
+    say "installed: the package's type hints: $(cat "$work/mypy.log")"
+else
+    say "installed: no mypy here, the type hints are not checked"
+fi
 say "all passed"

@@ -7,27 +7,40 @@
 import os
 import sys
 
-sys.path.insert(0, os.path.join(os.path.dirname(os.path.abspath(__file__)), ".."))
-import feddurzai
+try:
+    import feddurzai
+except ImportError:
+    sys.path.insert(0, os.path.join(os.path.dirname(os.path.abspath(__file__)), "..", "python"))
+    import feddurzai
+from feddurzai import ItemKind, Style
 
 
 def byte_text(style, byte):
     """The text of a byte at which no instruction is read."""
-    if style == "masm":
+    if style is Style.MASM:
         return f"db {'0' if byte >= 0xa0 else ''}{byte:x}h"
-    return f"{'.byte' if style == 'att' else 'db'} {byte:#x}"
+    return f"{'.byte' if style is Style.ATT else 'db'} {byte:#x}"
+
+
+def lines_of(bits, ip, code, style):
+    """Address, bytes and text of each line."""
+    for item in feddurzai.iterate(bits, ip, code):
+        if item.kind is ItemKind.INSTRUCTION:
+            yield item.address, item.bytes, item.text(style)
+            continue
+        yield item.address, item.bytes[:1], byte_text(style, item.bytes[0])
+        # behind the first byte of a cut instruction the program reads on
+        if item.kind is ItemKind.TOO_SHORT:
+            yield from lines_of(bits, (item.address + 1) % (1 << bits), item.bytes[1:], style)
 
 
 def main(words):
-    file, bits, base, style = (words + ["64", "0", "intel"][len(words) - 1:])[:4]
-    bits, base = int(bits), int(base, 16)
-    syntax = {"intel": feddurzai.INTEL, "att": feddurzai.ATT, "masm": feddurzai.MASM}[style]
+    file, bits, base, style = (words + ["64", "0", "intel"][len(words) - 1 :])[:4]
+    bits, base, style = int(bits), int(base, 16), Style[style.upper()]
     with open(file, "rb") as source:
         code = source.read()
-    for at, instr in feddurzai.iterate(bits, base, code):
-        length = instr.len if instr else 1
-        text = feddurzai.text(bits, instr, syntax) if instr else byte_text(style, code[at])
-        print(f"{(base + at) % (1 << bits):0{bits // 4}x} {code[at:at + length].hex():30} {text}")
+    for address, part, text in lines_of(bits, base, code, style):
+        print(f"{address:0{bits // 4}x} {part.hex():30} {text}")
 
 
 if __name__ == "__main__":

@@ -1,10 +1,18 @@
-"""The Python module: each function once with a value from the manual, and each kind of refusal."""
+"""The Python package: its documented examples, each function with a value from the manual, each kind of refusal, and values of no use.
+
+    calls.py [FOLDER]       FOLDER has the package; none where it is installed
+"""
 
 import ctypes
-import os
+import doctest
+import inspect
+import pickle
+import pydoc
 import sys
+import threading
 
-sys.path.insert(0, os.path.join(os.path.dirname(os.path.abspath(__file__)), ".."))
+if len(sys.argv) > 1:
+    sys.path.insert(0, sys.argv[1])
 import feddurzai as f
 
 tried = 0
@@ -16,67 +24,346 @@ def check(got, want):
     assert got == want, f"{got!r} is not {want!r}"
 
 
-def refused(number, call, *arguments):
+def raised(kind, call, *arguments, **named):
+    """What a call raises, of this very class."""
     global tried
     tried += 1
     try:
-        call(*arguments)
-    except f.Refusal as refusal:
-        assert refusal.number == number, f"{refusal.number} is not {number}"
-        return refusal
-    raise AssertionError(f"{call.__name__} is not refused")
+        made = call(*arguments, **named)
+        if inspect.isgenerator(made):
+            next(made)
+    except Exception as error:
+        assert type(error) is kind, f"{call.__name__}{arguments} raises {error!r}"
+        return error
+    raise AssertionError(f"{call.__name__}{arguments} raises nothing")
 
 
-def no_call(call, *arguments):
+def refused(reason, call, *arguments, kind=f.Refusal):
+    refusal = raised(kind, call, *arguments)
+    check(refusal.reason, reason)
+    return refusal
+
+
+def code(text):
+    return bytes.fromhex(text)
+
+
+def read_instructions():
+    mov = f.decode(64, 0x1000, code("48895c2410"))
+    check(f.text(64, mov), "mov qword [rsp+0x10], rbx")
+    check(f.text(64, mov, f.Style.ATT), "movq %rbx, 0x10(%rsp)")
+    check(f.text(64, mov, f.Style.MASM), "mov qword ptr [rsp+10h], rbx")
+    check(f.encode(64, 0x1000, mov), code("48895c2410"))
+    rsp, rbx = f.register("rsp"), f.register("rbx")
+    check(mov.ops, (f.Memory(rsp, None, 1, 16, 8), rbx))
+    check((mov.name, f.name(mov.code), f.notation(mov.code)), ("mov", "mov", "REX.W + 89 /r"))
+    check((mov.address, mov.bytes, mov.len, len(mov), mov.bits, mov.asize), (0x1000, code("48895c2410"), 5, 5, 64, 64))
+    check((mov.lock, mov.rep, mov.segment, bool(mov)), (False, f.Repeat.NONE, f.Segment.NONE, True))
+    check((repr(mov), str(mov)), ("<Instr 0x1000: 48895c2410 mov qword [rsp+0x10], rbx>", "mov qword [rsp+0x10], rbx"))
+    check(mov.code in f.codes_of("mov"), True)
+    check(f.line(64, 0x1000, code("9048895c2410"), f.Style.MASM, 1), (mov, "mov qword ptr [rsp+10h], rbx"))
+    check((f.code_of("mow"), f.codes_of("mow"), f.code_of("m\u00f6v")), (None, [], None))
+    check((f.code_of("mov", "REX.W + 89 /r"), f.code_of("mov", "REX.W + 90"), f.code_of("mov", 99)), (mov.code, None, None))
+    # an address is taken modulo 2 to the power of bits
+    check(f.decode(16, 0x12345, b"\x90").address, 0x2345)
+    check(f.decode(64, (1 << 64) - 1, code("90ebfe"), 1).ops, (f.Near(0),))
+    # an instruction holds neither its address nor its bytes
+    check(mov == f.decode(64, 0, code("3e48895c2410"), 0).replace(segment=0), True)
+    check(mov == f.decode(64, 0, code("48895c2411")), False)
+    check(mov == "mov", False)
+    check(len({mov, f.decode(64, 5, code("48895c2410"))}), 1)
+    check(f.decode(64, 0, code("f04883000a")).lock, True)
+    check(pickle.loads(pickle.dumps(mov)), mov)
+    for kind in (bytes, bytearray, memoryview):
+        check(f.decode(64, 0x1000, kind(code("48895c2410"))), mov)
+        check(f.decode(64, 0x1000, kind(code("9048895c2410")), 1), mov)
+    check(f.decode(64, 0x1000, memoryview(code("480089005c00240010"))[::2]), mov)
+    check(str(next(f.iterate(64, 0, memoryview(code("c300"))[::2]))), "ret")
+
+
+def told_what_it_does():
+    about = f.info(f.decode(64, 0x1000, code("48895c2410")))
+    check(about.access, (f.Access.WRITE, f.Access.READ))
+    check((about.memory_size, about.flow, len(about.uses)), (8, f.Flow.NEXT, 2))
+    check((about.target, about.ip_address), (None, None))
+    check(f.decode(64, 0x1000, code("488b0510000000")).info().ip_address, 0x1017)
+    check(f.decode(64, 0x1000, code("7410")).info().target, 0x1012)
+    # lock cmpxchg [rcx], rdx: the accumulator is an operand of its own in no text
+    check([use.access for use in f.decode(64, 0, code("f0480fb111")).info().uses], [f.Access.READ, f.Access.READ])
+
+
+def made_instructions():
+    rax, rbx, rcx = (f.register(name) for name in ("rax", "rbx", "rcx"))
+    lea = f.code_of("lea", "REX.W + 8D /r")
+    for memory, want in (
+        (f.Memory(rbx), "488d03"),
+        (f.Memory(rbx, displacement=-8), "488d43f8"),
+        (f.Memory(rbx, displacement=127), "488d437f"),
+        (f.Memory(rbx, displacement=128), "488d8380000000"),
+        (f.Memory(f.register("rbp")), "488d4500"),
+        (f.Memory(f.register("r13"), rcx, 4, 0), "498d448d00"),
+        (f.Memory(None, rcx, 4, 0x10), "488d048d10000000"),
+        (f.Memory(f.register("rip"), displacement=0x1017), "488d0510000000"),
+        (f.Memory(f.register("ebx")), "67488d03"),
+    ):
+        made = f.Instr(lea, rax, memory)
+        check(made.encode(64, 0x1000).hex(), want)
+        check(f.decode(64, 0x1000, code(want)), made)
+    nop = f.decode(64, 0, b"\x90")
+    check((nop.replace().encode(64, 0), nop.replace(), nop.replace().address), (b"\x90", nop, None))
+    made = f.Instr(nop.code, *nop.ops)
+    check((made.bytes, made.len, made.bits, bool(made)), (b"", 0, None, True))
+    check(str(made), repr(made))
+    raised(ValueError, made.text)
+    check(made.text(bits=64), "nop")
+
+
+def items_say_what_they_are():
+    def kinds(bits, text):
+        return [(item.kind.name, item.address, item.bytes.hex()) for item in f.iterate(bits, 0x10, code(text))]
+
+    check(kinds(64, "9006c3"), [("INSTRUCTION", 0x10, "90"), ("INVALID", 0x11, "06"), ("INSTRUCTION", 0x12, "c3")])
+    check(kinds(64, "904883c4"), [("INSTRUCTION", 0x10, "90"), ("TOO_SHORT", 0x11, "4883c4")])
+    check(kinds(64, "0f8799"), [("TOO_SHORT", 0x10, "0f8799")])
+    check(kinds(64, ""), [])
+    rest, bad = next(f.iterate(64, 0x10, code("4883c4"))), next(f.iterate(64, 0x10, b"\x06"))
+    check((repr(rest), repr(bad)), ("<Rest 0x10: 4883c4>", "<BadByte 0x10: 06>"))
+    check((rest.len, len(bad), rest == bad, rest == next(f.iterate(64, 0x10, code("4883c4")))), (3, 1, False, True))
+    # more than one call of the library reads in
+    many = list(f.iterate(64, 0, 5000 * b"\x90\x06\x66\x90" + b"\x48"))
+    check((len(many), many[-1], many[-2].address, many[-3].address), (15001, f.Rest(20000, b"\x48"), 19998, 19997))
+    check([item.address for item in f.iterate(16, 0xFFFF, b"\x90\x90")], [0xFFFF, 0])
+    # what is changed behind an item's back does not reach it
+    source = bytearray(b"\x90\xc3")
+    items = f.iterate(64, 0, source)
+    source[1] = 0x90
+    check([str(item) for item in items], ["nop", "ret"])
+
+
+def texts_are_read():
+    check(f.assemble(64, 0x1000, "mov qword [rsp+0x10], rbx"), code("48895c2410"))
+    made = f.read_intel(64, 0x1000, "je 0x1010")
+    check((made.bytes, made.address, made.bits, made.ops), (code("740e"), 0x1000, 64, (f.Near(0x1010),)))
+    check(made, f.decode(64, 0x1000, code("740e")))
+    for call in (f.assemble, f.read_intel):
+        refused(f.Reason.NO_TEXT, call, 64, 0, "mow rax, rbx")
+        refused(f.Reason.NO_TEXT, call, 64, 0, "nop\u00e9")
+        refused(f.Reason.NO_TEXT, call, 64, 0, "nop\0")
+        refused(f.Reason.BAD_MODE, call, 17, 0, "nop")
+
+
+def jumps_have_forms():
+    def jump(*arguments):
+        return f.jump(*arguments).hex()
+
+    check((jump(64, 0x1000, 0x1010, f.Jump.SHORT), jump(64, 0x1000, 0x1010)), ("eb0e", "e90b000000"))
+    check(jump(64, 0x1000, 0x7FFF00000000, f.Jump.FAR), "ff250000000000000000ff7f0000")
+    check((jump(32, 0x1000, 0x1010, f.Jump.CALL_NEAR), jump(16, 0x1000, 0x1010, 2)), ("e80b000000", "e90d00"))
+    check(jump(64, 0x1000, 0x7FFF00000000, f.Jump.CALL_FAR), "ff1502000000eb0800000000ff7f0000")
+    refused(f.Reason.BAD_JUMP, f.jump, 64, 0, 0, 6)
+    check(refused(f.Reason.NO_ENCODING, f.jump, 64, 0, 0x1000, f.Jump.SHORT).cause, f.Cause.TARGET)
+    check(refused(f.Reason.NO_ENCODING, f.jump, 32, 0, 0x1000, f.Jump.FAR).cause, f.Cause.ROW)
+
+
+def moved_and_followed():
+    # je over 16 bytes, moved beyond the reach of 32 bits: an inverted jump over one through a slot
+    moved = f.move(64, 0x1000, code("7410"), 0x7FFF00000000)
+    check(moved.code.hex(), "7506ff25000000001210000000000000")
+    check(moved.places, [f.Moved(0x1000, 0x7FFF00000000, 2, f.Form.FAR)])
+    check((moved.report.bytes, moved.report.count), (16, 1))
+    # the jump through the slot is 6 bytes behind 2; the slot stands behind both
+    check((moved.report.code_bytes, moved.report.slots_at), (8, 8))
+    check(f.move(64, 0, b"", 0x1000)[:2], (b"", []))
+    # a loop on itself: it goes along, or back to where it was
+    check([call(64, 0x1000, code("ebfe"), 0x1080).code.hex() for call in (f.move, f.move_outside)], ["ebfe", "e97bffffff"])
+    check(f.flow(64, 0, code("740190c3")), [(0, 0), (2, 2), (3, 3)])
+    check(f.flow(64, 0, b""), [])
+    check(str(f.move(64, 0x1000, code("ebfe"), 0x2000).places[0]), "Moved(old_ip=4096, new_ip=8192, len=2, form=<Form.SHORT: 1>)")
+
+
+def refusals_say_why():
+    mov = f.decode(64, 0x1000, code("48895c2410"))
+    refused(f.Reason.BAD_MODE, f.decode, 17, 0, b"\x90")
+    refused(f.Reason.BAD_MODE, f.iterate, 17, 0, b"\x90")
+    refused(f.Reason.BAD_SYNTAX, f.text, 64, mov, 9)
+    refused(f.Reason.BAD_SYNTAX, f.line, 64, 0, b"\x90", 9)
+    refused(f.Reason.TOO_SHORT, f.line, 64, 0, b"\x48", kind=f.TooShort)
+    refused(f.Reason.BAD_CODE, f.name, 5000)
+    refused(f.Reason.BAD_CODE, f.notation, 5000)
+    refused(f.Reason.INVALID, f.decode, 64, 0, b"\x06", kind=f.InvalidCode)
+    refused(f.Reason.TOO_SHORT, f.decode, 64, 0, b"\x48", kind=f.TooShort)
+    refused(f.Reason.TOO_SHORT, f.decode, 64, 0, b"\x90", 1, kind=f.TooShort)
+    far = refused(f.Reason.TOO_FAR, f.move, 64, 0x1000, code("90488b0510000000"), 0x7FFF00000000)
+    check((far.report.at, far.report.address), (1, 0x1018))
+    check(str(far), "an instruction cannot reach its target from its new place: instruction 1, target 0x1018")
+    bad = refused(f.Reason.INVALID, f.move, 64, 0, code("9006"), 0x1000, kind=f.InvalidCode)
+    check((bad.report.at, str(bad).endswith(": at offset 1"), repr(bad.report).startswith("MoveReport(bytes=0, count=0, at=1")), (1, True, True))
+    wraps = refused(f.Reason.WRAPS, f.move, 32, 0xFFFFFFFF, code("9090"), 0x1000)
+    check(str(wraps).endswith(": it ends at 0x100000001"), True)
+    refused(f.Reason.TOO_LARGE, f.move, 64, 0, bytes(f.MAX_CODE + 1), 0)
+    refused(f.Reason.TOO_LARGE, f.flow, 64, 0, bytes(f.MAX_CODE + 1))
+    check(str(refused(f.Reason.TOO_MANY, f.move, 64, 0, 65537 * b"\x90", 0)).endswith(": 65537"), True)
+    copy = pickle.loads(pickle.dumps(far))
+    check((type(copy), copy.number, copy.report, str(copy)), (f.Refusal, far.number, far.report, str(far)))
+
+
+def encodings_say_their_cause():
+    rax, rbx = f.register("rax"), f.register("rbx")
+    mov = f.decode(64, 0x1000, code("48895c2410"))
+
+    def cause(instr, want, operand, words):
+        refusal = refused(f.Reason.NO_ENCODING, f.encode, 64, 0x1000, instr)
+        check((refusal.cause, refusal.operand), (want, operand))
+        assert words in str(refusal), str(refusal)
+        check(refusal.number, -(want << 8 | (operand or 0)))
+
+    cause(mov.replace(code=5000), f.Cause.ROW, None, "the code is no row of the table that exists in the mode")
+    cause(mov.replace(ops=[mov.ops[0], f.Immediate(5)]), f.Cause.KIND, 1, "operand 1: it is of a kind")
+    cause(mov.replace(ops=[mov.ops[0], f.register("xmm1")]), f.Cause.REGISTER, 1, "operand 1: it is a register that cannot stand there")
+    lea = f.decode(64, 0, code("488d03"))
+    cause(lea.replace(ops=[rax, f.Memory(rbx, f.register("rsp"), 4)]), f.Cause.MEMORY, 1, "operand 1: base, index and scale")
+    cause(lea.replace(ops=[rax, f.Memory(rbx, None, 1, 5, 16)]), f.Cause.DISPLACEMENT, 1, "operand 1: the address has no such displacement")
+    add = f.decode(64, 0, code("83c005"))
+    cause(add.replace(ops=[add.ops[0], f.Immediate(0x1234)]), f.Cause.IMMEDIATE, 1, "operand 1: it is an immediate that its size does not hold")
+    je = f.decode(64, 0, code("7410"))
+    cause(je.replace(ops=[f.Near(1 << 40)]), f.Cause.TARGET, 0, "operand 0: its target is out of reach")
+    cause(lea.replace(ops=[rax, f.Memory(f.register("rip"), displacement=1 << 40)]), f.Cause.TARGET, 1, "operand 1: its target")
+    cause(add.replace(lock=True), f.Cause.PREFIX, None, "LOCK or a repeat prefix is not allowed")
+    cause(add.replace(asize=32), f.Cause.ADDRESS_SIZE, None, "the address size is absent, needless")
+    refused(f.Reason.BAD_INSTR, f.text, 64, mov.replace(rep=5))
+    refused(f.Reason.BAD_FORM, f.info, mov.replace(ops=[]))
+    # a branch with padding, whose shortest form does not reach
+    cause(f.decode(64, 0x1000, code("662e2e747f")), f.Cause.TARGET, 0, "out of reach")
+
+
+def values_are_looked_at_first():
+    nop = f.decode(64, 0, b"\x90")
+    for call, arguments in (
+        (f.decode, (64, -1, b"\x90")),
+        (f.decode, (64, 1 << 64, b"\x90")),
+        (f.decode, (-64, 0, b"\x90")),
+        (f.decode, (1 << 32, 0, b"\x90")),
+        (f.decode, (64, 0, b"\x90", -1)),
+        (f.decode, (64, 0, b"\x90", 2)),
+        (f.line, (64, 0, b"\x90", -1)),
+        (f.line, (64, 0, b"\x90", 0, 2)),
+        (f.iterate, (64, -1, b"\x90")),
+        (f.text, (64, nop, -1)),
+        (f.encode, (64, -1, nop)),
+        (f.name, (-1,)),
+        (f.notation, (1 << 32,)),
+        (f.code_of, ("mov", -1)),
+        (f.assemble, (64, -1, "nop")),
+        (f.read_intel, (64, -1, "nop")),
+        (f.jump, (64, -1, 0)),
+        (f.jump, (64, 0, 1 << 64)),
+        (f.jump, (64, 0, 0, -1)),
+        (f.encoded_len, (64, -1, nop)),
+        (f.segment_text, (-1,)),
+        (f.move_outside, (64, 0, b"\x90", -1)),
+        (f.move, (64, -1, b"\x90", 0)),
+        (f.move, (64, 0, b"\x90", 1 << 64)),
+        (f.flow, (64, -1, b"\x90")),
+        (f.register, ("raxx",)),
+        (f.Instr, (-1,)),
+        (f.Instr, (0, *(5 * [f.Immediate(0)]))),
+        (f.Near, (-1,)),
+        (f.Immediate, (1 << 64,)),
+        (f.Far, (1 << 16, 0)),
+        (f.Register, (15, 0)),
+        (f.Register, (f.RegClass.R64, 256)),
+        (f.Memory, (None, None, 256)),
+    ):
+        raised(ValueError, call, *arguments)
+    words = {
+        "instr is an Instr, not NoneType": [(f.text, (64, None)), (f.encode, (64, 0, None)), (f.info, (None,))],
+        "instr is an Instr, not int": [(f.text, (64, 5))],
+        "instr is an Instr, not bytes": [(f.info, (b"",))],
+        "code is bytes, a bytearray or a memoryview, not NoneType": [
+            (f.decode, (64, 0, None)),
+            (f.iterate, (64, 0, None)),
+            (f.move, (64, 0, None, 0)),
+            (f.flow, (64, 0, None)),
+        ],
+        "code is bytes, a bytearray or a memoryview, not int": [(f.decode, (64, 0, 5))],
+        "code is bytes, a bytearray or a memoryview, not str": [(f.iterate, (64, 0, "90"))],
+        "ip is a whole number, not str": [(f.decode, (64, "0", b"\x90"))],
+        "bits is a whole number, not float": [(f.decode, (64.0, 0, b"\x90"))],
+        "code is a whole number, not NoneType": [(f.name, (None,)), (f.notation, (None,)), (f.Instr, (None,))],
+        "name is a str, not NoneType": [(f.code_of, (None,)), (f.codes_of, (None,)), (f.register, (None,))],
+        "name is a str, not bytes": [(f.code_of, (b"mov",))],
+        "which is a whole number, not NoneType": [(f.code_of, ("mov", None))],
+        "text is a str, not bytes": [(f.assemble, (64, 0, b"nop")), (f.read_intel, (64, 0, b"nop"))],
+        "operand 0 is a Register, Memory, Immediate, Near or Far, not int": [(f.Instr, (0, 5))],
+        "base is a Register or None, not str": [(f.Memory, ("rbx",))],
+        "an instruction has no opcode to change": [(lambda: nop.replace(opcode=5), ())],
+    }
+    for want, calls in words.items():
+        for call, arguments in calls:
+            check(str(raised(TypeError, call, *arguments)), want)
+
+
+def registers_have_names():
+    check([str(f.Register(f.RegClass.R64, n)) for n in (0, 3, 8)], ["rax", "rbx", "r8"])
+    check((f.register("ah"), f.register("spl")), (f.Register(f.RegClass.HIGH8, 0), f.Register(f.RegClass.LOW8, 4)))
+    check(f.register("rax").name(f.Style.ATT), "%rax")
+    # 16 of each size of general registers and 4 high bytes, 6 segment, 16 control, 8 debug, 8 x87 and 8 MMX registers, 32 vector registers, EIP and RIP
+    check(len(f.registers()), 4 * 16 + 4 + 6 + 16 + 8 + 8 + 8 + 32 + 2)
+    refused(f.Reason.NO_REGISTER, f.Register(f.RegClass.SEG, 6).name)
+    refused(f.Reason.NO_REGISTER, f.segment_text, 0)
+
+
+def documents_are_true():
+    """The examples in docstrings: each public function, class, method and property has one. And what help() shows."""
     global tried
-    tried += 1
-    try:
-        list(call(*arguments))
-    except (TypeError, AttributeError, ctypes.ArgumentError):
-        return
-    raise AssertionError(f"{call.__name__} takes {arguments}")
+    names = {name: getattr(f, name) for name in f.__all__}
+    runner = doctest.DocTestRunner()
+    for name in ("__doc__", *f.__all__):
+        it = f if name == "__doc__" else names[name]
+        if not (it is f or inspect.isclass(it) or inspect.isfunction(it)):
+            continue
+        # what an enumeration or a named tuple has of its own class is no document of this package
+        tests = doctest.DocTestFinder(recurse=it is not f).find(it, name, module=False, globs=names)
+        own = [test for test in tests if not test.name.split(".")[-1].startswith("_") and (test.docstring or "").strip()]
+        for test in own:
+            if test.name == name or type(it) is type:
+                check((test.name, bool(test.examples)), (test.name, True))
+            tried += len(test.examples)
+            runner.run(test)
+    check(runner.failures, 0)
+    help_text = pydoc.render_doc(f, renderer=pydoc.plaintext)
+    check([word for word in ("ctypes", "Structure", "c_uint", "ForwardRef") if word in help_text], [])
+    check([name for name in f.__all__ if name not in help_text], [])
+    check(sum(f.version()) > 0, True)
 
 
-mov = f.decode(64, 0x1000, bytes.fromhex("48895c2410"))
-check(f.text(64, mov), "mov qword [rsp+0x10], rbx")
-check(f.text(64, mov, f.ATT), "movq %rbx, 0x10(%rsp)")
-check(f.text(64, mov, f.MASM), "mov qword ptr [rsp+10h], rbx")
-check(f.encode(64, 0x1000, mov).hex(), "48895c2410")
-check((mov.ops[1].reg_class, mov.ops[1].reg_number), (f.R64, 3))
-check(f.name(mov.code), "mov")
-check(f.notation(mov.code), "REX.W + 89 /r")
-check(mov.code in [f.code_of("mov", n) for n in range(40)], True)
-check(f.code_of("mow"), None)
-check(f.version()[0], 0)
-about = f.info(mov)
-check([f.ACCESSES[a] for a in about.access], ["write", "read", "none", "none"])
-check((about.memory_size, f.FLOWS[about.flow], about.use_count), (8, "next", 2))
-check([at for at, _ in f.iterate(64, 0, bytes.fromhex("9006c3"))], [0, 1, 2])
-check([instr is None for _, instr in f.iterate(64, 0, bytes.fromhex("9006c3"))], [False, True, False])
-check(f.decode(64, 0, b""), None)
-# je over 16 bytes, moved beyond the reach of 32 bits: an inverted jump over one through a slot
-moved, places = f.move(64, 0x1000, bytes.fromhex("7410"), 0x7fff00000000)
-check(moved.hex(), "7506ff25000000001210000000000000")
-check([(p.old_ip, p.new_ip, p.len, f.FORMS[p.form]) for p in places], [(0x1000, 0x7fff00000000, 2, "far")])
-check(f.move(64, 0, b"", 0x1000), (b"", []))
-check(f.flow(64, 0, bytes.fromhex("740190c3")), [(0, 0), (2, 2), (3, 3)])
-check(f.flow(64, 0, b""), [])
-refused(-1, f.decode, 17, 0, b"\x90")
-refused(-2, f.text, 64, mov, 9)
-refused(-3, f.name, 5000)
-refused(-14, f.move, 64, 0x1000, bytes.fromhex("488b0510000000"), 0x7fff00000000)
-check(refused(-7, f.move, 64, 0, bytes.fromhex("9006"), 0x1000).report.at, 1)
-mov.ops[1].reg_number = 200
-check((refused(-769, f.encode, 64, 0, mov).cause, refused(-769, f.encode, 64, 0, mov).operand), (3, 1))
-mov.ops[1].kind = 6
-refused(-4, f.text, 64, mov)
-# None, as `decode` gives where no instruction is read
-for call, arguments in ((f.text, (64, None)), (f.encode, (64, 0, None)), (f.info, (None,))):
-    check(str(refused(f.NULL, call, *arguments)), "None in place of an instruction")
-check(refused(-15, f.text, 64, f.decode(64, 0, b"\x06")).cause, 0)
-# what is no instruction at all, and None for bytes or a name, does not come to the library
-for call, arguments in ((f.text, (64, 5)), (f.text, (64, ctypes.POINTER(f.Instr)())), (f.encode, (64, 0, f.About())), (f.info, (b"",)),
-                        (f.name, (None,)), (f.notation, (None,)), (f.code_of, (None,)), (f.decode, (64, 0, None)),
-                        (f.move, (64, 0, None, 0)), (f.flow, (64, 0, None)), (f.iterate, (64, 0, None))):
-    no_call(call, *arguments)
-print(f"{tried} calls of the Python module")
+def threads_at_once():
+    """The same answers from several threads."""
+    source = 3000 * code("48895c2410e8f60f0000c39006")
+    want = [str(item) for item in f.iterate(64, 0x1000, source)]
+    answers = []
+    threads = [threading.Thread(target=lambda: answers.append([str(it) for it in f.iterate(64, 0x1000, source)])) for _ in range(4)]
+    for thread in threads:
+        thread.start()
+    for thread in threads:
+        thread.join()
+    check([answer == want for answer in answers], 4 * [True])
+
+
+for test in (
+    read_instructions,
+    told_what_it_does,
+    made_instructions,
+    items_say_what_they_are,
+    texts_are_read,
+    jumps_have_forms,
+    moved_and_followed,
+    refusals_say_why,
+    encodings_say_their_cause,
+    values_are_looked_at_first,
+    registers_have_names,
+    documents_are_true,
+    threads_at_once,
+):
+    test()
+print(f"{tried} calls of the Python package")

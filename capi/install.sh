@@ -1,0 +1,66 @@
+#!/bin/sh
+# Installs the library for C, Python and GDB below a folder, as /usr/local:
+#
+#   capi/install.sh PREFIX [FOLDER]
+#
+#   PREFIX/include/feddurzai.h
+#   PREFIX/lib/libfeddurzai.a, libfeddurzai.so, libfeddurzai.so.INTERFACE, libfeddurzai.so.INTERFACE.VERSION
+#   PREFIX/lib/pkgconfig/feddurzai.pc
+#   PREFIX/share/feddurzai/python       the Python package: pip installs this folder, and PYTHONPATH may name it
+#   PREFIX/share/feddurzai/gdb.py       the commands for GDB
+#
+# FOLDER has the built library: capi/out where none is named, which is built first where it is not there (build.sh says what that
+# wants). It wants a C compiler ($CC, else gcc). DESTDIR may stand in front of PREFIX, as packages are made.
+set -eu
+here=$(cd "$(dirname "$0")" && pwd)
+[ $# -ge 1 ] && [ $# -le 2 ] || { sed -n '2,4s/^# \{0,1\}//p' "$0" >&2; exit 1; }
+case $1 in
+    /*) prefix=${1%/} ;;
+    *) prefix=$(pwd)/${1%/} ;;
+esac
+from=${2:-$here/out}
+cc=${CC:-gcc}
+[ -f "$from/libfeddurzai.so" ] || "$here/build.sh" "$from"
+
+work=$(mktemp -d)
+trap 'rm -rf "$work"' EXIT
+
+# what the library says of itself is the one source of its numbers
+cat >"$work/versions.c" <<'SOURCE'
+#include "feddurzai.h"
+#include <stdio.h>
+int main(void)
+{
+    unsigned v = feddurzai_version();
+    printf("%u %u.%u.%u\n", (unsigned)feddurzai_interface(), v >> 16, v >> 8 & 255, v & 255);
+    return feddurzai_interface() != FEDDURZAI_INTERFACE;
+}
+SOURCE
+"$cc" -I"$here" "$work/versions.c" "$from/libfeddurzai.a" -o "$work/versions"
+"$work/versions" >"$work/versions.txt" || { echo "install.sh: the library in $from has another interface than feddurzai.h" >&2; exit 1; }
+read -r interface version <"$work/versions.txt"
+
+to=${DESTDIR:-}$prefix
+share=$to/share/feddurzai
+file=libfeddurzai.so.$interface.$version
+mkdir -p "$to/include" "$to/lib/pkgconfig" "$share/python/feddurzai"
+install -m 644 "$here/feddurzai.h" "$to/include/"
+install -m 644 "$from/libfeddurzai.a" "$to/lib/"
+install -m 755 "$from/libfeddurzai.so" "$to/lib/$file"
+ln -sf "$file" "$to/lib/libfeddurzai.so.$interface"
+ln -sf "libfeddurzai.so.$interface" "$to/lib/libfeddurzai.so"
+install -m 644 "$here/gdb.py" "$share/"
+install -m 644 "$here/python/pyproject.toml" "$here/python/backend.py" "$share/python/"
+install -m 644 "$here"/python/feddurzai/*.py "$here/python/feddurzai/py.typed" "$share/python/feddurzai/"
+cat >"$to/lib/pkgconfig/feddurzai.pc" <<END_OF_PC
+prefix=$prefix
+includedir=\${prefix}/include
+libdir=\${prefix}/lib
+
+Name: feddurzai
+Description: x86 instructions read, written, told and moved
+Version: $version
+Cflags: -I\${includedir}
+Libs: -L\${libdir} -lfeddurzai
+END_OF_PC
+echo "$to: feddurzai $version, interface $interface"

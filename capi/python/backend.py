@@ -1,0 +1,87 @@
+"""How pip makes a wheel of this folder: the package, and the shared library beside it, so that it stands by itself.
+
+The version is the library's. The library is the one that the package would load: capi/out of the clone, the prefix of install.sh, or the
+environment's FEDDURZAI_LIBRARY.
+"""
+
+import base64
+import hashlib
+import os
+import sys
+import sysconfig
+import zipfile
+
+HERE = os.path.dirname(os.path.abspath(__file__))
+
+
+def _package():
+    """The package, with the library that it loads."""
+    sys.path.insert(0, HERE)
+    try:
+        import feddurzai
+        from feddurzai import _native
+    finally:
+        sys.path.remove(HERE)
+    return feddurzai, _native
+
+
+def _library(native):
+    """The file of the library."""
+    (place,) = native._places()
+    if not os.path.exists(place):
+        raise SystemExit(f"{place} is no file: build the library by capi/build.sh, or name its file in FEDDURZAI_LIBRARY")
+    return place
+
+
+def _metadata(version):
+    return f"Metadata-Version: 2.1\nName: feddurzai\nVersion: {version}\nSummary: x86 instructions read, written, told and moved\nRequires-Python: >=3.8\n"
+
+
+def _wheel(directory, files, tag):
+    """Writes a wheel of some files by their names in it, and tells its name."""
+    feddurzai, _ = _package()
+    version = ".".join(map(str, feddurzai.version()))
+    info = f"feddurzai-{version}.dist-info"
+    files = {
+        **files,
+        f"{info}/METADATA": _metadata(version).encode(),
+        f"{info}/WHEEL": f"Wheel-Version: 1.0\nGenerator: feddurzai\nRoot-Is-Purelib: false\nTag: {tag}\n".encode(),
+    }
+    record = ""
+    wheel = f"feddurzai-{version}-{tag}.whl"
+    with zipfile.ZipFile(os.path.join(directory, wheel), "w", zipfile.ZIP_DEFLATED) as archive:
+        for name, content in files.items():
+            archive.writestr(name, content)
+            digest = base64.urlsafe_b64encode(hashlib.sha256(content).digest()).rstrip(b"=").decode()
+            record += f"{name},sha256={digest},{len(content)}\n"
+        archive.writestr(f"{info}/RECORD", record + f"{info}/RECORD,,\n")
+    return wheel
+
+
+def _tag():
+    return "py3-none-" + sysconfig.get_platform().replace("-", "_").replace(".", "_")
+
+
+def get_requires_for_build_wheel(config_settings=None):
+    return []
+
+
+def build_wheel(wheel_directory, config_settings=None, metadata_directory=None):
+    _, native = _package()
+    files = {}
+    folder = os.path.join(HERE, "feddurzai")
+    for name in sorted(os.listdir(folder)):
+        if name.endswith(".py") or name == "py.typed":
+            with open(os.path.join(folder, name), "rb") as source:
+                files[f"feddurzai/{name}"] = source.read()
+    with open(_library(native), "rb") as source:
+        files[f"feddurzai/{native.SONAME}"] = source.read()
+    return _wheel(wheel_directory, files, _tag())
+
+
+def get_requires_for_build_editable(config_settings=None):
+    return []
+
+
+def build_editable(wheel_directory, config_settings=None, metadata_directory=None):
+    return _wheel(wheel_directory, {"feddurzai.pth": HERE.encode() + b"\n"}, _tag())

@@ -1,0 +1,124 @@
+"""x86 instructions (16, 32 and 64-bit code) read, written, told and moved.
+
+    >>> import feddurzai
+    >>> code = bytes.fromhex("48895c2410 e8f60f0000 c3")
+    >>> for item in feddurzai.iterate(64, 0x401000, code):
+    ...     print(hex(item.address), item.bytes.hex(), item)
+    0x401000 48895c2410 mov qword [rsp+0x10], rbx
+    0x401005 e8f60f0000 call 0x402000
+    0x40100a c3 ret
+
+`decode` reads one instruction and `iterate` all of some bytes; an `Instr` has an address, bytes, operands, a text and what it does
+(`info`). `Instr(code, operands..)` makes one, and `encode` writes it. `move` puts code at another address, and `flow` follows control.
+
+`bits`, the mode, is 16, 32 or 64; addresses are 0 to 2**64 - 1. A number out of its range is a ValueError and a value of another type a
+TypeError, before anything is called. What the library refuses is a `Refusal`, whose `reason` says why. No function keeps any state: they
+may be called from several threads.
+"""
+
+from ._calls import (
+    Moved,
+    MovedCode,
+    Reached,
+    assemble,
+    code_of,
+    codes_of,
+    decode,
+    encode,
+    encoded_len,
+    flow,
+    info,
+    iterate,
+    jump,
+    line,
+    move,
+    move_outside,
+    name,
+    notation,
+    read_intel,
+    segment_text,
+    text,
+    version,
+)
+from ._items import BadByte, Instr, Item, Rest
+from ._native import INTERFACE, MAX_CODE
+from ._numbers import (
+    Access,
+    Cause,
+    Flow,
+    Form,
+    ItemKind,
+    Jump,
+    OperandKind,
+    Reason,
+    RegClass,
+    Repeat,
+    Segment,
+    Style,
+)
+from ._operands import Far, Immediate, Memory, Near, Operand, Register, register, registers
+from ._refusal import InvalidCode, MoveReport, Refusal, TooShort
+from ._told import About, Use
+
+__all__ = [
+    "About",
+    "Access",
+    "BadByte",
+    "Cause",
+    "Far",
+    "Flow",
+    "Form",
+    "INTERFACE",
+    "Immediate",
+    "Instr",
+    "InvalidCode",
+    "Item",
+    "ItemKind",
+    "Jump",
+    "MAX_CODE",
+    "Memory",
+    "MoveReport",
+    "Moved",
+    "MovedCode",
+    "Near",
+    "Operand",
+    "OperandKind",
+    "Reached",
+    "Reason",
+    "Refusal",
+    "RegClass",
+    "Register",
+    "Repeat",
+    "Rest",
+    "Segment",
+    "Style",
+    "TooShort",
+    "Use",
+    "assemble",
+    "code_of",
+    "codes_of",
+    "decode",
+    "encode",
+    "encoded_len",
+    "flow",
+    "info",
+    "iterate",
+    "jump",
+    "line",
+    "move",
+    "move_outside",
+    "name",
+    "notation",
+    "read_intel",
+    "register",
+    "registers",
+    "segment_text",
+    "text",
+    "version",
+]
+
+# what is public stands in this module, whichever file has it
+for _name in __all__:
+    if getattr(globals()[_name], "__module__", "").startswith(__name__):
+        globals()[_name].__module__ = __name__
+del _name

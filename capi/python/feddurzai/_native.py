@@ -1,0 +1,88 @@
+"""The shared library: where it is, and the types of its calls."""
+
+from __future__ import annotations
+
+import ctypes
+import os
+from typing import Callable, List, Tuple, Type
+
+# of the header that this package was written for
+INTERFACE = 2
+
+MAX_LEN = 15
+MAX_JUMP = 16
+MAX_TEXT = 161
+MAX_CODE = 1 << 20
+MAX_MOVED = 1 << 16
+NAME_ROOM = 17
+NOTATION_ROOM = 65
+
+SONAME = f"libfeddurzai.so.{INTERFACE}"
+_HERE = os.path.dirname(os.path.abspath(__file__))
+
+
+def _places() -> List[str]:
+    """Where the library may be, in the order in which it is looked for; the last by the system's rules."""
+    named = os.environ.get("FEDDURZAI_LIBRARY")
+    if named:
+        return [named]
+    beside = [
+        os.path.join(_HERE, SONAME),  # pip copied it there
+        os.path.join(_HERE, "..", "..", "out", "libfeddurzai.so"),  # in the clone, by build.sh
+        os.path.join(_HERE, "..", "..", "..", "..", "lib", SONAME),  # in a prefix, by install.sh
+    ]
+    return [os.path.normpath(place) for place in beside if os.path.exists(place)][:1] or [SONAME]
+
+
+def _load() -> Tuple[ctypes.CDLL, ctypes.PyDLL]:
+    (place,) = _places()
+    try:
+        return ctypes.CDLL(place), ctypes.PyDLL(place)
+    except OSError as error:
+        words = "build it by capi/build.sh, or name its file in the environment's FEDDURZAI_LIBRARY"
+        raise ImportError(f"the shared library of Feddurzai is not loaded ({error}): {words}") from None
+
+
+def room_of(size: int) -> Type[ctypes.Array[ctypes.c_char]]:
+    """The type of a room of so many bytes."""
+    return ctypes.c_char * size
+
+
+TextRoom = room_of(MAX_TEXT)
+
+
+# the short calls keep the interpreter's lock, which costs less than to give it up; the long ones give it up
+_long, _short = _load()
+_u8, _u32, _u64, _size, _at = ctypes.c_uint8, ctypes.c_uint32, ctypes.c_uint64, ctypes.c_size_t, ctypes.c_void_p
+
+
+def _call(library: ctypes.CDLL, name: str, *types: type, result: type = ctypes.c_int32) -> Callable[..., int]:
+    call = getattr(library, "feddurzai_" + name)
+    call.argtypes = types
+    call.restype = result
+    taken: Callable[..., int] = call
+    return taken
+
+
+interface = _call(_short, "interface", result=_u32)
+if interface() != INTERFACE:
+    raise ImportError(f"the shared library of Feddurzai has the interface {interface()}, and this package is for {INTERFACE}")
+version = _call(_short, "version", result=_u32)
+decode = _call(_short, "decode", _u32, _u64, _at, _size, _at)
+decode_many = _call(_long, "decode_many", _u32, _u64, _at, _size, _at, _size, _at)
+line = _call(_short, "line", _u32, _u32, _u64, _at, _size, _at, _at, _size)
+text = _call(_short, "text", _u32, _u32, _at, _at, _size)
+encode = _call(_short, "encode", _u32, _u64, _at, _at, _size)
+encoded_len = _call(_short, "encoded_len", _u32, _u64, _at)
+assemble = _call(_short, "assemble", _u32, _u64, _at, _size, _at, _size)
+read_intel = _call(_short, "read_intel", _u32, _u64, _at, _size, _at)
+jump = _call(_short, "jump", _u32, _u64, _u64, _u32, _at, _size)
+info = _call(_short, "info", _at, _at)
+name = _call(_short, "name", _u32, _at, _size)
+notation = _call(_short, "notation", _u32, _at, _size)
+code_of = _call(_short, "code_of", _at, _size, _size)
+register_text = _call(_short, "register_text", _u32, _u8, _u8, _at, _size)
+segment_text = _call(_short, "segment_text", _u32, _u8, _at, _size)
+move = _call(_long, "move", _u32, _u64, _at, _size, _u64, _at, _size, _at, _size, _at)
+move_outside = _call(_long, "move_outside", _u32, _u64, _at, _size, _u64, _at, _size, _at, _size, _at)
+flow = _call(_long, "flow", _u32, _u64, _at, _size, _at, _size, _at, _size)

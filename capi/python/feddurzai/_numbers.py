@@ -1,0 +1,220 @@
+"""The numbers of feddurzai.h as enumerations."""
+
+from enum import EnumMeta, IntEnum
+from typing import List
+
+
+class _Listed(EnumMeta):
+    """Enumerations of which help() shows the members, and not all that a whole number can do."""
+
+    def __dir__(cls) -> List[str]:
+        return ["__class__", "__doc__", "__members__", "__module__", *cls.__members__]
+
+
+class _Number(IntEnum, metaclass=_Listed):
+    """A number of feddurzai.h."""
+
+
+class Style(_Number):
+    """How a text is written.
+
+    >>> mov = decode(64, 0, bytes.fromhex("48895c2410"))
+    >>> [mov.text(style) for style in Style]
+    ['mov qword [rsp+0x10], rbx', 'movq %rbx, 0x10(%rsp)', 'mov qword ptr [rsp+10h], rbx']
+    """
+
+    INTEL = 0
+    ATT = 1
+    MASM = 2
+
+
+class Flow(_Number):
+    """Where control goes behind an instruction.
+
+    >>> decode(64, 0, bytes.fromhex("7410")).info().flow
+    <Flow.CONDITIONAL: 3>
+    """
+
+    NEXT = 0
+    JUMP = 1
+    INDIRECT_JUMP = 2
+    CONDITIONAL = 3
+    RETURN = 4
+    CALL = 5
+    INDIRECT_CALL = 6
+    INTERRUPT = 7
+    EXCEPTION = 8
+
+
+class Access(_Number):
+    """What is done to the whole of an operand or register; a write of a part is a read and a write.
+
+    >>> decode(64, 0, bytes.fromhex("4889c3")).info().access
+    (<Access.WRITE: 2>, <Access.READ: 1>)
+    """
+
+    NONE = 0
+    READ = 1
+    WRITE = 2
+    READ_WRITE = 3
+
+
+class OperandKind(_Number):
+    """What an operand is: the `kind` of each of `Register`, `Memory`, `Immediate`, `Near` and `Far`.
+
+    >>> [op.kind.name for op in decode(64, 0, bytes.fromhex("83c005")).ops]
+    ['REGISTER', 'IMMEDIATE']
+    """
+
+    NONE = 0
+    REGISTER = 1
+    MEMORY = 2
+    IMMEDIATE = 3
+    NEAR = 4
+    FAR = 5
+
+
+class RegClass(_Number):
+    """The class of a register; feddurzai.h says which numbers each has.
+
+    >>> decode(64, 0, bytes.fromhex("4889c3")).ops[0].reg_class
+    <RegClass.R64: 5>
+    """
+
+    NONE = 0
+    LOW8 = 1
+    HIGH8 = 2
+    R16 = 3
+    R32 = 4
+    R64 = 5
+    SEG = 6
+    CR = 7
+    DR = 8
+    ST = 9
+    MM = 10
+    XMM = 11
+    YMM = 12
+    EIP = 13
+    RIP = 14
+
+
+class Segment(_Number):
+    """A segment prefix.
+
+    >>> decode(64, 0, bytes.fromhex("64488b0425 28000000")).segment
+    <Segment.FS: 5>
+    """
+
+    NONE = 0
+    ES = 1
+    CS = 2
+    SS = 3
+    DS = 4
+    FS = 5
+    GS = 6
+
+
+class Repeat(_Number):
+    """A repeat prefix.
+
+    >>> decode(64, 0, bytes.fromhex("f3a4")).rep
+    <Repeat.REP: 243>
+    """
+
+    NONE = 0
+    REPNE = 0xF2
+    REP = 0xF3
+
+
+class ItemKind(_Number):
+    """What an item of `iterate` is.
+
+    >>> [item.kind.name for item in iterate(64, 0, bytes.fromhex("90 06 48"))]
+    ['INSTRUCTION', 'INVALID', 'TOO_SHORT']
+    """
+
+    INSTRUCTION = 0
+    INVALID = 1
+    TOO_SHORT = 2
+
+
+class Form(_Number):
+    """How the image of a moved instruction is made.
+
+    >>> move(64, 0x1000, bytes.fromhex("7410"), 0x7fff00000000).places[0].form
+    <Form.FAR: 3>
+    """
+
+    ITSELF = 0
+    SHORT = 1
+    NEAR = 2
+    FAR = 3
+    BRIDGE = 4
+    FAR_BRIDGE = 5
+
+
+class Jump(_Number):
+    """A form of a jump or a call, for `jump`. FAR and CALL_FAR hold the target in 8 bytes behind the code, in 64-bit mode.
+
+    >>> [jump(64, 0x1000, 0x1010, form).hex() for form in (Jump.SHORT, Jump.NEAR)]
+    ['eb0e', 'e90b000000']
+    """
+
+    SHORT = 1
+    NEAR = 2
+    FAR = 3
+    CALL_NEAR = 4
+    CALL_FAR = 5
+
+
+class Reason(_Number):
+    """Why a call is refused: the numbers of the library.
+
+    >>> try:
+    ...     decode(17, 0, b"")
+    ... except Refusal as refusal:
+    ...     refusal.reason
+    <Reason.BAD_MODE: -1>
+    """
+
+    BAD_MODE = -1
+    BAD_SYNTAX = -2
+    BAD_CODE = -3
+    BAD_INSTR = -4
+    BAD_FORM = -5
+    NO_ROOM = -6
+    INVALID = -7
+    TOO_SHORT = -8
+    NO_NAME = -9
+    NO_MEMORY = -10
+    TOO_LARGE = -11
+    TOO_MANY = -12
+    WRAPS = -13
+    TOO_FAR = -14
+    NULL = -15
+    NO_TEXT = -16
+    NO_REGISTER = -17
+    BAD_JUMP = -18
+    NO_ENCODING = -256
+
+
+class Cause(_Number):
+    """Why `encode` finds no encoding: the first of ten conditions that fails.
+
+    >>> try:
+    ...     Instr(code_of("inc", "FE /0"), Immediate(1)).encode(64, 0)
+    ... except Refusal as refusal:
+    ...     refusal.cause
+    <Cause.KIND: 2>
+    """
+
+    ROW = 1
+    KIND = 2
+    REGISTER = 3
+    MEMORY = 4
+    DISPLACEMENT = 5
+    IMMEDIATE = 6
+    TARGET = 7
+    PREFIX = 8
+    ADDRESS_SIZE = 9
+    LENGTH = 10

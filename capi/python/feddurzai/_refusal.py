@@ -1,0 +1,150 @@
+"""What is refused, in words."""
+
+from __future__ import annotations
+
+from dataclasses import dataclass
+from typing import Dict, Optional, Tuple, Type
+
+from ._numbers import Cause, Reason
+
+_REASONS = {
+    Reason.BAD_MODE: "the mode is not 16, 32 or 64",
+    Reason.BAD_SYNTAX: "the style is not Style.INTEL, Style.ATT or Style.MASM",
+    Reason.BAD_CODE: "the code is no row of the table",
+    Reason.BAD_INSTR: "it is no instruction: a field has a number that stands for nothing",
+    Reason.BAD_FORM: "its operands do not have the form of its row, or the code is no row",
+    Reason.NO_ROOM: "the room is too small",
+    Reason.INVALID: "no instruction begins with these bytes, and more bytes would not change that",
+    Reason.TOO_SHORT: "the bytes end before an instruction does",
+    Reason.NO_NAME: "no row has this name and number",
+    Reason.NO_MEMORY: "there is not enough memory",
+    Reason.TOO_LARGE: "there are too many bytes",
+    Reason.TOO_MANY: "there are too many instructions",
+    Reason.WRAPS: "the old or the new code passes the address space of the mode",
+    Reason.TOO_FAR: "an instruction cannot reach its target from its new place",
+    Reason.NULL: "NULL where it may not stand",
+    Reason.NO_TEXT: "no instruction that can be encoded there has this text",
+    Reason.NO_REGISTER: "there is no such register",
+    Reason.BAD_JUMP: "it is no form of a jump or a call, as Jump.NEAR",
+}
+_CAUSES = {
+    Cause.ROW: "the code is no row of the table that exists in the mode",
+    Cause.KIND: "it is of a kind that cannot stand there",
+    Cause.REGISTER: "it is a register that cannot stand there",
+    Cause.MEMORY: "base, index and scale are no address of the mode",
+    Cause.DISPLACEMENT: "the address has no such displacement",
+    Cause.IMMEDIATE: "it is an immediate that its size does not hold",
+    Cause.TARGET: "its target is out of reach",
+    Cause.PREFIX: "LOCK or a repeat prefix is not allowed",
+    Cause.ADDRESS_SIZE: "the address size is absent, needless, or not that of the operand",
+    Cause.LENGTH: "it would take more than 15 bytes",
+}
+_OF_AN_OPERAND = (Cause.KIND, Cause.REGISTER, Cause.MEMORY, Cause.DISPLACEMENT, Cause.IMMEDIATE, Cause.TARGET)
+
+
+@dataclass(frozen=True)
+class MoveReport:
+    """The numbers of a moving; feddurzai.h says when each is set.
+
+    >>> move(64, 0x1000, bytes.fromhex("7410"), 0x2000).report.bytes
+    6
+    """
+
+    bytes: int
+    count: int
+    at: int
+    address: int
+    code_bytes: int
+    slots_at: int
+
+
+class Refusal(Exception):
+    """What the library refuses: its `number`, below zero, which is the `reason` or has a `cause`.
+
+    `reason` is a `Reason`. Where `encode` finds no encoding it is `Reason.NO_ENCODING`, `cause` is a `Cause`, and `operand` the
+    number of the operand that has it, from 0; both are None else. What `move` refuses has a `report`.
+
+    >>> try:
+    ...     Instr(code_of("inc", "FE /0"), Immediate(1)).encode(64, 0)
+    ... except Refusal as refusal:
+    ...     print(refusal, refusal.cause.name, refusal.operand, sep="; ")
+    no encoding: operand 0: it is of a kind that cannot stand there; KIND; 0
+    """
+
+    number: int
+    reason: Reason
+    cause: Optional[Cause]
+    operand: Optional[int]
+    report: Optional[MoveReport]
+
+    def __init__(self, number: int, report: Optional[MoveReport] = None) -> None:
+        self.number = number
+        self.report = report
+        self.cause = self.operand = None
+        if number > -256:
+            self.reason = Reason(number)
+            words = _REASONS[self.reason]
+        else:
+            self.reason = Reason.NO_ENCODING
+            self.cause = Cause(-number >> 8)
+            words = _CAUSES[self.cause]
+            if self.cause in _OF_AN_OPERAND:
+                self.operand = -number & 255
+                words = f"operand {self.operand}: {words}"
+            words = f"no encoding: {words}"
+        super().__init__(words + _where(self.reason, report))
+
+    def __reduce__(self) -> Tuple[Type[Refusal], Tuple[int, Optional[MoveReport]]]:
+        return type(self), (self.number, self.report)
+
+
+class InvalidCode(Refusal):
+    """The bytes begin with no instruction, and more bytes would not change that.
+
+    >>> try:
+    ...     decode(64, 0, b"\\x06")
+    ... except InvalidCode as refusal:
+    ...     print(refusal)
+    no instruction begins with these bytes, and more bytes would not change that
+    """
+
+
+class TooShort(Refusal):
+    """The bytes end before an instruction does.
+
+    >>> try:
+    ...     decode(64, 0, b"\\x48")
+    ... except TooShort as refusal:
+    ...     print(refusal)
+    the bytes end before an instruction does
+    """
+
+
+_CLASSES: Dict[int, Type[Refusal]] = {Reason.INVALID: InvalidCode, Reason.TOO_SHORT: TooShort}
+
+
+def _where(reason: Reason, report: Optional[MoveReport]) -> str:
+    """What a report says of a refusal."""
+    if report is None:
+        return ""
+    if reason in _CLASSES:
+        return f": at offset {report.at}"
+    if reason is Reason.TOO_MANY:
+        return f": {report.count}"
+    if reason is Reason.WRAPS:
+        return f": it ends at {report.address:#x}"
+    if reason is Reason.TOO_FAR:
+        return f": instruction {report.at}, target {report.address:#x}"
+    return ""
+
+
+def refusal_of(number: int, report: Optional[MoveReport] = None) -> Refusal:
+    """The exception of a number below zero."""
+    return _CLASSES.get(number, Refusal)(number, report)
+
+
+def taken(number: int) -> int:
+    """A number that is no refusal."""
+    if number < 0:
+        raise refusal_of(number)
+    return number
