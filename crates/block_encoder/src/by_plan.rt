@@ -28,7 +28,10 @@ fn first_new_pass(bits: Bits, ends: &[BlockEnd]) -> Option<u128>
 }
 
 /// Moves the items of a plan, which has the forms and the goal of each, in its least layout.
-pub(crate) fn move_by_plan(
+///
+/// Old places are not looked at: where each item goes is what the plan says. `Wraps`: a new end passes the address space of the mode, the first that
+/// does. `TooFar`: an item does not reach its goal, the first that does not. `Memory` may stand in place of both; `TooMany` and `OldOrder` never come.
+pub fn move_by_plan(
     alloc: Global,
     bits: Bits,
     items: &[Placed],

@@ -15,6 +15,7 @@ mod outside;
 mod write;
 
 pub use blocks::{move_block, move_blocks};
+pub use by_plan::move_by_plan;
 pub use branch_sizes::{BlockSpan, Form};
 pub use error::MoveError;
 pub use last::last_len;

@@ -18,12 +18,12 @@ use plain_spelling::numbers::distance;
 use x86_values::{Bits, Decoded, Instr};
 
 /// Where control goes from an instruction, as far as there are bytes.
-#[derive(Clone, Copy)]
-pub(crate) struct Exits {
+#[derive(Clone, Copy, PartialEq, Eq, Debug)]
+pub struct Exits {
     /// The length of the instruction where control goes to its end, else 0.
-    pub(crate) next: u8,
+    pub next: u8,
     /// The offset of its target, where that is another one than its end.
-    pub(crate) target: Option<usize>,
+    pub target: Option<usize>,
 }
 
 /// What is read at an offset.
@@ -34,9 +34,9 @@ pub(crate) struct Stop {
     pub(crate) exits: Exits,
 }
 
-/// Whether control may go on behind an instruction.
+/// Whether control may go on behind an instruction of a flow: not behind a jump, a return or an undefined instruction.
 #[tactic(auto, unfolding(crate::specs::Control::goes_on))]
-fn goes_on(flow: Flow) -> bool
+pub fn goes_on(flow: Flow) -> bool
     ensures { result ≡ control.goes_on flow }
 {
     match flow {
@@ -157,4 +157,18 @@ pub(crate) fn stop_at(bits: Bits, base: u64, bytes: &[u8], offset: usize) -> Sto
             },
         },
     }
+}
+
+/// Where control goes from the instruction at an offset of some code, the first byte of which has the address `base`: to its end, to its near
+/// target, to both or nowhere, as far as there are bytes; nowhere where no instruction is read.
+///
+/// Addresses are taken modulo 2 to the number of bits of the mode.
+pub fn exits_at(bits: Bits, base: u64, bytes: &[u8], offset: usize) -> Exits
+    requires inside { offset < length bytes.now }
+    requires few { length bytes.now ≤ 1048576 }
+    ensures exits { AreExits (code_bytes bits base bytes.now) offset result }
+    ensures short { result.next ≤ 15 }
+    ensures inside { IfSome result.target (λ q. q < length bytes.now) }
+{
+    stop_at(bits, base, bytes, offset).exits
 }

@@ -8,6 +8,7 @@ pub mod laws;
 mod reading;
 mod walk;
 
+pub use exits::{Exits, exits_at, goes_on};
 pub use graph::{FlowError, FlowGraph, flow_graph, flow_graph_in};
 
 #[cfg(test)]

@@ -1,0 +1,29 @@
+-- Whether control elsewhere in a function enters what a detour takes.
+use Rattle.std.specs.Prelude.{◌≡◌, ◌⊎◌, ℕ, ◌<◌, ◌≤◌, List}
+use Rattle.x86_values.specs.declared.Bits.{Bits}
+use Rattle.flow_graph.specs.Control.{CodeBytes, IsSuccessor}
+use Rattle.flow_graph.specs.Reached.{Reaches}
+use Rattle.move_goals.specs.declared.items.Placed.{Placed}
+use Rattle.detour.specs.Taken.{bytes_in, offset_at, moved_count}
+
+-- one of the moved instructions begins at an offset
+abbrev pub IsMovedStart : List Placed → ℕ → Type 0
+IsMovedStart items q = (k : ℕ) × ((k < moved_count items) × (offset_at items k ≡ q))
+
+-- Control may go from a reached offset p into the part that the items take, behind its first byte. From a moved instruction it may go to the start of
+-- one, which is moved with it.
+pub record Enters (code : CodeBytes) (items : List Placed) (p q : ℕ) : Type 0 where
+  pub reached : Reaches code p
+  pub goes : IsSuccessor code p q
+  pub behind : 0 < q
+  pub within : q < bytes_in items
+  pub from : (bytes_in items ≤ p) ⊎ (IsMovedStart items p × (IsMovedStart items q → ⊥))
+
+-- p is the first offset from which it may
+pub record IsFirstEntry (code : CodeBytes) (items : List Placed) (p q : ℕ) : Type 0 where
+  pub enters : Enters code items p q
+  pub first : (earlier other : ℕ) → earlier < p → Enters code items earlier other → ⊥
+
+-- from none it may
+abbrev pub IsNotEntered : CodeBytes → List Placed → Type 0
+IsNotEntered code items = (p q : ℕ) → Enters code items p q → ⊥
