@@ -1,5 +1,5 @@
 -- Detours: the jump that is chosen, what is written over the function, the trampoline, and when there is no detour.
-use Rattle.std.specs.Prelude.{◌≡◌, ℕ, ◌+◌, ◌-◌, ◌*◌, ◌^◌, nat_le, if◌then◌else◌, List, [], ◌++◌, length, replicate, slice_index_or, Option, Some, None, IfSome, Result, Ok, Err}
+use Rattle.std.specs.Prelude.{◌≡◌, ℕ, ◌+◌, ◌-◌, ◌*◌, ◌^◌, nat_le, nat_lt, is_some, if◌then◌else◌, List, [], ◌++◌, length, replicate, slice_index_or, Option, Some, None, IfSome, Result, Ok, Err}
 use Rattle.x86_values.specs.declared.Bits.{Bits}
 use Rattle.x86_values.specs.declared.Bits.TheVariants.{B64}
 use Rattle.x86_values.specs.Wrapping.{wrapped}
@@ -15,7 +15,7 @@ use Rattle.detour.specs.declared.parts.JumpForm.{JumpForm}
 use Rattle.detour.specs.declared.parts.JumpForm.TheVariants.{Near, Relay, Absolute}
 use Rattle.detour.specs.declared.parts.Parts.{Parts}
 use Rattle.detour.specs.declared.start.StartTarget.{StartTarget}
-use Rattle.detour.specs.Taken.{AreTaken, IsBadCode, IsTooSmall, IsCodeBehind, bytes_in, all_go_on, first_code_behind}
+use Rattle.detour.specs.Taken.{AreTaken, IsBadCode, IsTooSmall, IsCodeBehind, bytes_in, first_end, first_code_behind}
 use Rattle.detour.specs.Jumps.{IsNearJump, IsOutOfReach, absolute_jump}
 use Rattle.detour.specs.Entries.{IsFirstEntry, IsNotEntered}
 use Rattle.detour.specs.Trampoline.{IsTrampoline, block_items, trampoline_plan}
@@ -44,17 +44,17 @@ IsRelayOf place (Err move_error.Memory) relay = ⊥
 IsRelayOf place (Err why) relay = relay ≡ None
 
 -- the relay of what is taken, if there is one
-abbrev pub IsRelayBehind : ℕ → ℕ → StartTarget → Result (List Placed) DetourError → Option ℕ → Type 0
-IsRelayBehind ip place start (Ok items) relay =
+abbrev pub IsRelayBehind : Bits → ℕ → ℕ → StartTarget → Result (List Placed) DetourError → Option ℕ → Type 0
+IsRelayBehind bits ip place start (Ok items) relay =
     (moved : Result MovedLists MoveError)
-    × (IsPlanAnswer B64 (block_items B64 ip items) (trampoline_plan B64 ip items place start) moved × IsRelayOf place moved relay)
-IsRelayBehind ip place start (Err Memory) relay = ⊥
-IsRelayBehind ip place start (Err why) relay = relay ≡ None
+    × (IsPlanAnswer bits (block_items bits ip items) (trampoline_plan bits ip items place start) moved × IsRelayOf place moved relay)
+IsRelayBehind bits ip place start (Err Memory) relay = ⊥
+IsRelayBehind bits ip place start (Err why) relay = relay ≡ None
 
 -- the address of the relay behind the trampoline of what a near jump of 5 bytes takes, if there is one
-abbrev pub IsRelay : ℕ → List ℕ → ℕ → StartTarget → Option ℕ → Type 0
-IsRelay ip code place start relay =
-    (taken : Result (List Placed) DetourError) × (IsTakenAnswer B64 ip code 5 taken × IsRelayBehind ip place start taken relay)
+abbrev pub IsRelay : Bits → ℕ → List ℕ → ℕ → StartTarget → Option ℕ → Type 0
+IsRelay bits ip code place start relay =
+    (taken : Result (List Placed) DetourError) × (IsTakenAnswer bits ip code 5 taken × IsRelayBehind bits ip place start taken relay)
 
 -- ---- the jump
 
@@ -69,10 +69,10 @@ abbrev pub IsJumpOf : Bits → ℕ → List ℕ → ℕ → ℕ → StartTarget 
 IsJumpOf bits ip code to place start Near bytes relay = IsNearJump bits ip to bytes × (relay ≡ None)
 IsJumpOf bits ip code to place start Relay bytes relay =
     ((bits ≡ B64) × IsOutOfReach bits ip to)
-    × ((address : ℕ) × ((relay ≡ Some address) × (IsRelay ip code place start (Some address) × IsNearJump bits ip address bytes)))
+    × ((address : ℕ) × ((relay ≡ Some address) × (IsRelay bits ip code place start (Some address) × IsNearJump bits ip address bytes)))
 IsJumpOf bits ip code to place start Absolute bytes relay =
     ((bits ≡ B64) × IsOutOfReach bits ip to)
-    × (((tried : Option ℕ) × (IsRelay ip code place start tried × IfSome tried (IsOutOfReach bits ip)))
+    × (((tried : Option ℕ) × (IsRelay bits ip code place start tried × IfSome tried (IsOutOfReach bits ip)))
     × ((bytes ≡ absolute_jump to) × (relay ≡ None)))
 
 -- the first of the three forms that reaches
@@ -98,13 +98,12 @@ abbrev pub relay_bytes : Option ℕ → ℕ → List ℕ
 relay_bytes None to = []
 relay_bytes (Some address) to = absolute_jump to
 
--- where the parts of the trampoline stand: the jump back is its last instruction, and the slots are its last bytes before a relay
+-- where the parts of the trampoline stand: the jump back is the last instruction of the block, the slots are its last bytes, and the relay is behind it
 unfoldable pub parts_of : List Placed → ℕ → MovedLists → Option ℕ → Parts
 parts_of items place m relay = record {
-  code = place;
-  jump_back = if all_go_on items then Some (slice_index_or m.starts (length m.starts - 1) 0) else None;
-  slots = if nat_le (length m.slots) 0 then None else Some (place + length m.bytes - 8 * length m.slots);
-  relay = relay;
+  jump_back = if is_some (first_end items) then None else Some (slice_index_or m.starts (length m.starts - 1) 0 - place);
+  slots = if nat_lt 0 (length m.slots) then Some (length m.bytes - 8 * length m.slots) else None;
+  relay = if is_some relay then Some (length m.bytes) else None;
 }
 
 -- the detour of a function: the first jump that reaches over what it takes, where nothing else enters, and the trampoline

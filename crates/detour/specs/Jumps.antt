@@ -1,5 +1,6 @@
 -- The jumps of a detour: from the function, and to a replacement that is far from it (Intel SDM volume 2, JMP).
-use Rattle.std.specs.Prelude.{◌≡◌, ℕ, List, [], ◌∷◌, ◌++◌, None, Ok}
+use Rattle.std.specs.Prelude.{◌≡◌, ℕ, List, [], ◌∷◌, Option, Some, None, Ok}
+use Rattle.arrayvec.specs.ArrayVec.{ArrayVec}
 use Rattle.x86_values.specs.declared.Bits.{Bits}
 use Rattle.x86_values.specs.declared.Instr.{Instr}
 use Rattle.plain_spelling.specs.Values.{low_bytes}
@@ -23,3 +24,8 @@ IsOutOfReach bits at target = (bytes : List ℕ) → IsNearJump bits at target b
 -- FF 25 and an offset of 0: a jump through the eight bytes behind it, which have the address, the lowest byte first (2.2.1.6)
 unfoldable pub absolute_jump : ℕ → List ℕ
 absolute_jump target = 0xFF ∷ 0x25 ∷ 0 ∷ 0 ∷ 0 ∷ 0 ∷ low_bytes 8 target
+
+-- the bytes of the near jump, or that it does not reach
+abbrev pub IsNearAnswer : Bits → ℕ → ℕ → Option (ArrayVec ℕ) → Type 0
+IsNearAnswer bits at target (Some bytes) = IsNearJump bits at target bytes.items
+IsNearAnswer bits at target None = IsOutOfReach bits at target

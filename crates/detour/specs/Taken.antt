@@ -1,5 +1,5 @@
 -- The instructions that a detour takes from the front of a function: as few as have the bytes of the jump.
-use Rattle.std.specs.Prelude.{◌≡◌, ℕ, suc, ◌+◌, ◌<◌, ◌≤◌, nat_le, Bool, true, false, not, ◌&&◌, ◌||◌, if◌then◌else◌, List, [], ◌∷◌, length, take, drop, sum_by, bytes_eq, Option, Some, Err}
+use Rattle.std.specs.Prelude.{◌≡◌, ℕ, ◌+◌, ◌<◌, ◌≤◌, nat_le, Bool, not, ◌&&◌, ◌||◌, List, [], ◌∷◌, length, take, drop, sum_by, bytes_eq, Option, Some, None, Err}
 use Rattle.x86_values.specs.declared.Bits.{Bits}
 use Rattle.x86_values.specs.Wrapping.{wrapped}
 use Rattle.row_relation.specs.Spells.{Reading, Read}
@@ -61,15 +61,18 @@ pub record IsTooSmall (bits : Bits) (ip : ℕ) (code : List ℕ) (len need : ℕ
 abbrev pub item_goes_on : Placed → Bool
 item_goes_on p = goes_on (flow_of p.instr.code.0)
 
--- how many of some instructions there are up to the first behind which control never goes on, that one too
-abbrev pub moved_count : List Placed → ℕ
-moved_count [] = 0
-moved_count (p ∷ ps) = if item_goes_on p then suc (moved_count ps) else 1
+-- the first of some instructions behind which control never goes on
+unfoldable pub first_end : List Placed → Option ℕ
+first_end items = first_below (λ k. not (item_goes_on (item_at items k))) (length items)
 
--- control goes on behind all of them
-abbrev pub all_go_on : List Placed → Bool
-all_go_on [] = true
-all_go_on (p ∷ ps) = if item_goes_on p then all_go_on ps else false
+-- one more than a number, else all
+abbrev pub count_to : Option ℕ → ℕ → ℕ
+count_to None n = n
+count_to (Some k) n = k + 1
+
+-- how many of them there are up to that one, which are moved
+abbrev pub moved_count : List Placed → ℕ
+moved_count items = count_to (first_end items) (length items)
 
 -- the name of NOP (90, and 0F 1F) and of INT3 (CC)
 abbrev pub nop_name : List ℕ

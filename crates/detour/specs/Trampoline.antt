@@ -1,5 +1,5 @@
 -- The trampoline of a detour: the moved instructions, and the jump back, by a plan of their own.
-use Rattle.std.specs.Prelude.{◌≡◌, ℕ, zero, suc, ◌+◌, ◌-◌, ◌*◌, ◌<◌, ◌==◌, nat_lt, if◌then◌else◌, List, [], ◌∷◌, ◌++◌, length, take, slice_index_or, Option, Some, None}
+use Rattle.std.specs.Prelude.{◌≡◌, ℕ, zero, suc, ◌+◌, ◌-◌, ◌*◌, ◌<◌, ◌==◌, nat_lt, is_some, if◌then◌else◌, List, [], ◌∷◌, ◌++◌, length, take, slice_index_or, Option, Some, None}
 use Rattle.x86_values.specs.declared.Bits.{Bits}
 use Rattle.x86_values.specs.Wrapping.{wrapped}
 use Rattle.branch_sizes.specs.declared.plan.Goal.{Goal}
@@ -15,7 +15,7 @@ use Rattle.block_encoder.specs.ByPlan.{IsMovedBy}
 use Rattle.detour.specs.declared.start.StartTarget.{StartTarget}
 use Rattle.detour.specs.declared.start.StartTarget.TheVariants.{Moved, Hooked}
 use Rattle.detour.specs.Jumps.{jump_to}
-use Rattle.detour.specs.Taken.{bytes_in, moved_count, all_go_on}
+use Rattle.detour.specs.Taken.{bytes_in, moved_count, first_end}
 
 -- ---- the instructions
 
@@ -33,7 +33,7 @@ moved_items items = take (moved_count items) items
 
 -- the jump back behind them, if control goes on there
 abbrev pub back_items : Bits → ℕ → List Placed → List Placed
-back_items bits ip items = if all_go_on items then jump_back bits (back_address bits ip items) ∷ [] else []
+back_items bits ip items = if is_some (first_end items) then [] else jump_back bits (back_address bits ip items) ∷ []
 
 -- the instructions of the trampoline
 unfoldable pub block_items : Bits → ℕ → List Placed → List Placed

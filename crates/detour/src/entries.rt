@@ -1,6 +1,11 @@
 //! Whether control elsewhere in a function enters what is taken.
 
-use crate::error::DetourError;
+ghost use Rattle.std.specs.Prelude.{◌≡◌, ◌<◌, ◌≤◌, ◌↔◌, length, IsTrue, IfOk, MatchOption};
+ghost use Rattle.flow_graph.specs.Control.{code_bytes};
+ghost use Rattle.detour.specs.Reading.{AreCoded, IsFit};
+ghost use Rattle.detour.specs.Taken.{bytes_in};
+ghost use Rattle.detour.specs.Entries.{IsMovedStart, IsEntry, IsEntryFrom, IsEntryAnswer};
+
 use crate::taken::{Taken, moved_count, offset_at};
 use flow_graph::{FlowError, exits_at, flow_graph_in};
 use move_goals::Placed;
@@ -8,8 +13,13 @@ use std::alloc::Global;
 use x86_values::Bits;
 
 /// Whether one of the moved instructions begins at an offset.
-fn is_moved_start(items: &[Placed], q: usize) -> bool {
-    'items: for k in 0..moved_count(items) {
+fn is_moved_start(items: &[Placed], q: usize) -> bool
+    requires coded { AreCoded items.now }
+    requires few { length items.now ≤ 65536 }
+    ensures { IsTrue result ↔ IsMovedStart items.now q }
+{
+    let count = moved_count(items);
+    'items: for k in 0..count {
         if offset_at(items, k) == q {
             return true;
         }
@@ -17,24 +27,43 @@ fn is_moved_start(items: &[Placed], q: usize) -> bool {
     false
 }
 
-/// Whether an offset to which control may go from another one is entered so.
-fn enters(taken: &Taken, p: usize, q: usize) -> bool {
+/// Whether control that goes from an offset to another one enters what is taken.
+fn enters(taken: &Taken, p: usize, q: usize) -> bool
+    requires coded { AreCoded taken.now.items.items }
+    requires few { length taken.now.items.items ≤ 65536 }
+    requires len { taken.now.len ≡ bytes_in taken.now.items.items }
+    ensures { IsTrue result ↔ IsEntry taken.now.items.items p q }
+{
     if q == 0 || q >= taken.len {
         return false;
     }
-    p >= taken.len || is_moved_start(&taken.items, p) && !is_moved_start(&taken.items, q)
+    if p >= taken.len {
+        return true;
+    }
+    is_moved_start(&taken.items, p) && !is_moved_start(&taken.items, q)
 }
 
-/// The offset that is entered from an offset of some code, if one is.
-fn entry_from(bits: Bits, ip: u64, code: &[u8], taken: &Taken, p: usize) -> Option<usize> {
+/// The offset in what is taken that is entered from an offset of some code, if one is.
+fn entry_from(bits: Bits, ip: u64, code: &[u8], taken: &Taken, p: usize) -> Option<usize>
+    requires inside { p < length code.now }
+    requires size { length code.now ≤ 1048576 }
+    requires fit { IsFit bits taken.now }
+    ensures { IsEntryFrom (code_bytes bits ip code.now) taken.now.items.items p result }
+{
     let exits = exits_at(bits, ip, code, p);
     let end = p + usize::from(exits.next);
     if exits.next > 0 && enters(taken, p, end) {
         return Some(end);
     }
     match exits.target {
-        Some(target) if enters(taken, p, target) => Some(target),
-        _ => None,
+        Some(target) => {
+            if enters(taken, p, target) {
+                Some(target)
+            } else {
+                None
+            }
+        }
+        None => None,
     }
 }
 
@@ -45,11 +74,16 @@ pub(crate) fn first_entry(
     ip: u64,
     code: &[u8],
     taken: &Taken,
-) -> Result<Option<(u32, usize)>, FlowError> {
+) -> Result<Option<(u32, usize)>, FlowError>
+    requires size { length code.now ≤ 1048576 }
+    requires fit { IsFit bits taken.now }
+    ensures { IfOk result (λ entry. IsEntryAnswer (code_bytes bits ip code.now) taken.now.items.items entry) }
+{
     let graph = flow_graph_in(alloc, bits, ip, code)?;
-    'starts: for start in graph.starts() {
-        if let Some(target) = entry_from(bits, ip, code, taken, *start as usize) {
-            return Ok(Some((*start, target)));
+    let starts = graph.starts();
+    'starts: for k in 0..starts.len() {
+        if let Some(target) = entry_from(bits, ip, code, taken, starts[k] as usize) {
+            return Ok(Some((starts[k], target)));
         }
     }
     Ok(None)

@@ -4,6 +4,7 @@
 mod entries;
 mod error;
 mod jumps;
+mod laws_below;
 mod making;
 mod parts;
 mod start;

@@ -1,22 +1,33 @@
 //! Making a detour.
 
-ghost use Rattle.std.specs.Prelude.{◌≤◌, length};
+ghost use Rattle.std.specs.Prelude.{◌≡◌, ◌≤◌, ◌<◌, ◌++◌, ◌^◌, None, length, IfOk, IfErr, IfSome};
+ghost use Rattle.x86_values.specs.Wrapping.{width};
+ghost use Rattle.detour.specs.declared.error.DetourError.TheVariants.{Memory};
+ghost use Rattle.detour.specs.Detours as spec;
+ghost use Rattle.detour.specs.Detours.{IsRelay, IsJumpOf, IsDetourAnswer, relay_bytes};
+ghost use Rattle.detour.specs.Made.{IsWholeTaken, IsEntryRefusal, refusal_of};
+ghost use Rattle.detour.specs.Reading.{AreCoded};
+ghost use Rattle.detour.specs.Taken as taken_spec;
 
 use crate::entries::first_entry;
 use crate::error::DetourError;
-use crate::parts::{Detour, JumpForm, Parts};
 use crate::jumps::{ABSOLUTE_LEN, NEAR_LEN, absolute_jump, near_jump};
+use crate::laws_below::laws_below;
+use crate::parts::{Detour, JumpForm, Parts};
 use crate::start::StartTarget;
-use crate::taken::{Taken, all_go_on, first_code_behind, offset_at, take};
+use crate::taken::{Taken, first_code_behind, first_end, offset_at, take};
 use crate::trampoline::lay_trampoline;
 use arrayvec::ArrayVec;
 use block_encoder::{MoveError, MovedBlocks};
 use flow_graph::FlowError;
+use move_goals::Placed;
 use std::alloc::{AllocError, Global};
 use x86_values::{Bits, wrap};
 
 /// The refusal of a moving.
-fn move_refusal(why: MoveError) -> DetourError {
+fn move_refusal(why: MoveError) -> DetourError
+    ensures { result ≡ refusal_of why }
+{
     match why {
         MoveError::Wraps { end } => DetourError::Wraps { end },
         MoveError::TooFar { at, target } => DetourError::TooFar { at, target },
@@ -31,7 +42,10 @@ fn take_whole(
     ip: u64,
     code: &[u8],
     need: usize,
-) -> Result<Taken, DetourError> {
+) -> Result<Taken, DetourError>
+    requires { need ≤ 15 }
+    ensures { IsWholeTaken bits ip code.now need result }
+{
     let taken = take(alloc, bits, ip, code, need)?;
     match first_code_behind(&taken.items) {
         Some(k) => Err(DetourError::Ends {
@@ -41,33 +55,40 @@ fn take_whole(
     }
 }
 
-/// The address of a relay behind the trampoline of a near jump, if there is one in the address space.
-fn relay_address(
-    alloc: Global,
-    ip: u64,
-    code: &[u8],
-    place: u64,
-    start: StartTarget,
-) -> Result<Option<u64>, DetourError> {
-    let taken = match take_whole(alloc, Bits::B64, ip, code, NEAR_LEN) {
-        Ok(taken) => taken,
-        Err(DetourError::Memory) => return Err(DetourError::Memory),
-        Err(_) => return Ok(None),
-    };
-    match lay_trampoline(alloc, Bits::B64, ip, &taken, place, start) {
-        Ok(moved) => Ok(relay_behind(place, moved.bytes().len())),
-        Err(MoveError::Memory) => Err(DetourError::Memory),
-        Err(_) => Ok(None),
-    }
-}
-
 /// The address of a relay behind so many bytes at a place, if it ends in the address space.
-fn relay_behind(place: u64, len: usize) -> Option<u64> {
+#[tactic(auto, unfolding(crate::specs::Detours::relay_behind))]
+fn relay_behind(place: u64, len: usize) -> Option<u64>
+    ensures { result ≡ spec.relay_behind place len }
+{
     let end = u128::from(place) + len as u128;
     if end + ABSOLUTE_LEN as u128 <= 1 << 64 {
         Some(end as u64)
     } else {
         None
+    }
+}
+
+/// The address of a relay behind the trampoline of a near jump, if there is one in the address space.
+fn relay_address(
+    alloc: Global,
+    bits: Bits,
+    ip: u64,
+    code: &[u8],
+    place: u64,
+    start: StartTarget,
+) -> Result<Option<u64>, DetourError>
+    ensures relay { IfOk result (λ relay. IsRelay bits ip code.now place start relay) }
+    ensures refused { IfErr result (λ why. why ≡ Memory) }
+{
+    let taken = match take_whole(alloc, bits, ip, code, NEAR_LEN) {
+        Ok(taken) => taken,
+        Err(DetourError::Memory) => return Err(DetourError::Memory),
+        Err(_) => return Ok(None),
+    };
+    match lay_trampoline(alloc, bits, ip, &taken, place, start) {
+        Ok(moved) => Ok(relay_behind(place, moved.bytes().len())),
+        Err(MoveError::Memory) => Err(DetourError::Memory),
+        Err(_) => Ok(None),
     }
 }
 
@@ -88,7 +109,13 @@ fn jump_for(
     to: u64,
     place: u64,
     start: StartTarget,
-) -> Result<Jump, DetourError> {
+) -> Result<Jump, DetourError>
+    requires { to < 2 ^ width bits }
+    ensures jump { IfOk result (λ jump. IsJumpOf bits ip code.now to place start jump.form jump.bytes.items jump.relay) }
+    ensures short { IfOk result (λ jump. length jump.bytes.items ≤ 15) }
+    ensures refused { IfErr result (λ why. why ≡ Memory) }
+{
+    laws_below();
     if let Some(bytes) = near_jump(bits, ip, to) {
         return Ok(Jump {
             form: JumpForm::Near,
@@ -96,7 +123,7 @@ fn jump_for(
             relay: None,
         });
     }
-    if let Some(relay) = relay_address(alloc, ip, code, place, start)? {
+    if let Some(relay) = relay_address(alloc, bits, ip, code, place, start)? {
         if let Some(bytes) = near_jump(bits, ip, relay) {
             return Ok(Jump {
                 form: JumpForm::Relay,
@@ -113,12 +140,14 @@ fn jump_for(
 }
 
 /// The patch: the jump, and CC up to the end of what is taken.
-fn patch_of(alloc: Global, jump: &[u8], len: usize) -> Result<Vec<u8>, AllocError> {
+#[tactic(auto, unfolding(crate::specs::Detours::patch_of))]
+fn patch_of(alloc: Global, jump: &[u8], len: usize) -> Result<Vec<u8>, AllocError>
+    requires { length jump.now ≤ len }
+    ensures { IfOk result (λ patch. patch.items ≡ spec.patch_of jump.now len) }
+{
     let mut patch = Vec::with_capacity(alloc, len)?;
     patch.extend_from_slice(jump)?;
-    'fill: for _k in jump.len()..len {
-        patch.push(0xCC)?;
-    }
+    patch.resize(len, 0xCC)?;
     Ok(patch)
 }
 
@@ -128,29 +157,56 @@ fn trampoline_of(
     block: &[u8],
     relay: Option<u64>,
     to: u64,
-) -> Result<Vec<u8>, AllocError> {
-    let mut bytes = Vec::with_capacity(alloc, block.len() + ABSOLUTE_LEN)?;
+) -> Result<Vec<u8>, AllocError>
+    ensures { IfOk result (λ bytes. bytes.items ≡ block.now ++ relay_bytes relay to) }
+{
+    let mut bytes = Vec::new(alloc);
     bytes.extend_from_slice(block)?;
-    if relay.is_some() {
+    if let Some(_address) = relay {
         bytes.extend_from_slice(&absolute_jump(to))?;
     }
     Ok(bytes)
 }
 
 /// Where the parts of a trampoline stand.
-fn parts_of(place: u64, taken: &Taken, moved: &MovedBlocks, relay: Option<u64>) -> Parts {
+#[tactic(auto, unfolding(crate::specs::Detours::parts_of))]
+fn parts_of(place: u64, items: &[Placed], moved: &MovedBlocks, relay: Option<u64>) -> Parts
+    requires coded { AreCoded items.now }
+    requires back { taken_spec.first_end items.now ≡ None → 0 < length moved.now.starts }
+    ensures { result ≡ spec.parts_of items.now place moved.now relay }
+{
     let starts = moved.starts();
     let slots = moved.slots().len();
-    let first = place + (moved.bytes().len() - 8 * slots) as u64;
     Parts {
-        code: place,
-        jump_back: if all_go_on(&taken.items) {
-            Some(starts[starts.len() - 1])
+        jump_back: if first_end(items).is_none() {
+            Some(starts[starts.len() - 1].saturating_sub(place))
         } else {
             None
         },
-        slots: if slots > 0 { Some(first) } else { None },
-        relay,
+        slots: if slots > 0 {
+            Some(moved.bytes().len().saturating_sub(slots.saturating_mul(8)))
+        } else {
+            None
+        },
+        relay: if relay.is_some() {
+            Some(moved.bytes().len())
+        } else {
+            None
+        },
+    }
+}
+
+/// The refusal of an entry, if there is one.
+fn refuse_entry(entry: Result<Option<(u32, usize)>, FlowError>) -> Result<(), DetourError>
+    ensures { IsEntryRefusal entry result }
+{
+    match entry {
+        Ok(None) => Ok(()),
+        Ok(Some((from, target))) => Err(DetourError::Entered {
+            from: u64::from(from),
+            target: target as u64,
+        }),
+        Err(FlowError::Memory) => Err(DetourError::Memory),
     }
 }
 
@@ -162,11 +218,12 @@ fn parts_of(place: u64, taken: &Taken, moved: &MovedBlocks, relay: Option<u64>) 
 /// The jump is the first of these that reaches: the near jump of the mode; in 64-bit mode the near jump to a relay behind the trampoline; the jump of 14
 /// bytes through an address behind it. Taken are the first instructions of `code`, as few as have at least the bytes of the jump; behind one that never
 /// goes on (RET, JMP, UD2) only padding is: NOP of any length, and INT3. The patch replaces them. The trampoline has the moved instructions, padding
-/// apart, then a jump back behind what was taken unless the last of them never goes on, in the least layout, and behind that gap, slots and relay. A target where a moved instruction
-/// begins goes with it, that of the first one as `start` says, and every other stays.
+/// apart, then a jump back behind what was taken unless the last of them never goes on, in the least layout, and behind that gap, slots and relay. A
+/// target where a moved instruction begins goes with it, that of the first one as `start` says, and every other stays.
 ///
 /// Refused, in this order: a byte of the part to be taken that starts no instruction; code that ends before it; code that is no padding behind an
-/// instruction that never goes on; code elsewhere from which control may go into the part, behind its first byte; and what the moving is refused by.
+/// instruction that never goes on; code from which control may go into the part, behind its first byte (from a moved instruction: to where none begins);
+/// and what the moving is refused by. `Memory` may stand in place of each.
 pub fn detour(
     alloc: Global,
     bits: Bits,
@@ -177,6 +234,7 @@ pub fn detour(
     start: StartTarget,
 ) -> Result<Detour, DetourError>
     requires { length code.now ≤ 1048576 }
+    ensures { IsDetourAnswer bits ip code.now to place start result }
 {
     let to = wrap(bits, u128::from(to));
     let jump = jump_for(alloc, bits, ip, code, to, place, start)?;
@@ -186,22 +244,10 @@ pub fn detour(
         Ok(moved) => Ok(Detour {
             form: jump.form,
             taken: taken.len,
-            parts: parts_of(place, &taken, &moved, jump.relay),
+            parts: parts_of(place, &taken.items, &moved, jump.relay),
             patch: patch_of(alloc, &jump.bytes, taken.len)?,
             trampoline: trampoline_of(alloc, moved.bytes(), jump.relay, to)?,
         }),
         Err(why) => Err(move_refusal(why)),
-    }
-}
-
-/// The refusal of an entry, if there is one.
-fn refuse_entry(entry: Result<Option<(u32, usize)>, FlowError>) -> Result<(), DetourError> {
-    match entry {
-        Ok(None) => Ok(()),
-        Ok(Some((from, target))) => Err(DetourError::Entered {
-            from: u64::from(from),
-            target: target as u64,
-        }),
-        Err(FlowError::Memory) => Err(DetourError::Memory),
     }
 }

@@ -15,17 +15,15 @@ pub enum JumpForm {
     Absolute,
 }
 
-/// Where the parts of a trampoline stand, as addresses.
+/// Where the parts of a trampoline stand, in bytes from its first one, where the moved instructions begin.
 #[derive(Clone, Copy, PartialEq, Eq, Debug)]
 pub struct Parts {
-    /// The first moved instruction: the place that was asked for.
-    pub code: u64,
     /// The jump back, if control goes on behind what was taken.
     pub jump_back: Option<u64>,
     /// The first of the slots, if there are any.
-    pub slots: Option<u64>,
+    pub slots: Option<usize>,
     /// The relay, if the jump goes there.
-    pub relay: Option<u64>,
+    pub relay: Option<usize>,
 }
 
 /// A detour: what is written over the first bytes of a function, and its trampoline.

@@ -1,6 +1,13 @@
 //! The instructions that are taken.
 
+ghost use Rattle.std.specs.Prelude.{◌≡◌, ◌+◌, ◌<◌, ◌≤◌, drop, length, IsTrue, IfOk, IfSome};
+ghost use Rattle.move_goals.specs.Items as old;
+ghost use Rattle.detour.specs.Reading.{IsItemRead, IsFront, AreCoded, IsFrontAnswer};
+ghost use Rattle.detour.specs.Taken as spec;
+ghost use Rattle.opcode_rows.specs.declared.spots.TheConstants.{ROWS};
+
 use crate::error::DetourError;
+use crate::laws_below::laws_below;
 use decoder::decode_in;
 use flow_graph::goes_on;
 use move_goals::Placed;
@@ -9,15 +16,12 @@ use operand_info::flow_of;
 use std::alloc::Global;
 use x86_values::{Bits, wrap};
 
-/// The first instructions of a function, with how many bytes they have together.
-#[derive(Drop)]
-pub(crate) struct Taken {
-    pub(crate) items: Vec<Placed>,
-    pub(crate) len: usize,
-}
-
 /// The instruction at an offset of some code.
-fn read_item(bits: Bits, ip: u64, code: &[u8], offset: usize) -> Result<Placed, DetourError> {
+fn read_item(bits: Bits, ip: u64, code: &[u8], offset: usize) -> Result<Placed, DetourError>
+    requires { offset < length code.now }
+    ensures { IsItemRead bits ip code.now offset result }
+{
+    laws_below();
     let at = wrap(bits, u128::from(ip) + offset as u128);
     match decode_in(bits, at, &code[offset..]) {
         Ok(decoded) => Ok(Placed {
@@ -32,6 +36,13 @@ fn read_item(bits: Bits, ip: u64, code: &[u8], offset: usize) -> Result<Placed, 
     }
 }
 
+/// The first instructions of a function, with how many bytes they have together.
+#[derive(Drop)]
+pub(crate) struct Taken {
+    pub(crate) items: Vec<Placed>,
+    pub(crate) len: usize,
+}
+
 /// The first instructions of some code, as few as have `need` bytes.
 pub(crate) fn take(
     alloc: Global,
@@ -39,7 +50,10 @@ pub(crate) fn take(
     ip: u64,
     code: &[u8],
     need: usize,
-) -> Result<Taken, DetourError> {
+) -> Result<Taken, DetourError>
+    requires need { need ≤ 15 }
+    ensures { IsFrontAnswer bits ip code.now need result }
+{
     let mut items = Vec::new(alloc);
     let mut len = 0;
     'items: while len < need {
@@ -57,38 +71,57 @@ pub(crate) fn take(
 }
 
 /// Whether control may go on behind an instruction.
-fn item_goes_on(item: &Placed) -> bool {
+fn item_goes_on(item: &Placed) -> bool
+    requires { item.now.instr.code.0 < ROWS }
+    ensures { result ≡ spec.item_goes_on item.now }
+{
     goes_on(flow_of(item.instr.code))
 }
 
 /// Whether an instruction only fills up space behind code: NOP of any length, or INT3.
-fn is_padding(item: &Placed) -> bool {
+#[tactic(auto, unfolding(crate::specs::Taken::is_padding))]
+fn is_padding(item: &Placed) -> bool
+    requires { item.now.instr.code.0 < ROWS }
+    ensures { result ≡ spec.is_padding item.now }
+{
     let name = name(item.instr.code);
     name == "nop" || name == "int3"
 }
 
-/// How many of some instructions are moved: those up to the first behind which control never goes on.
-pub(crate) fn moved_count(items: &[Placed]) -> usize {
+/// The number of the first instruction behind which control never goes on.
+#[tactic(auto, unfolding(crate::specs::Taken::first_end))]
+pub(crate) fn first_end(items: &[Placed]) -> Option<usize>
+    requires { AreCoded items.now }
+    ensures value { result ≡ spec.first_end items.now }
+    ensures within { IfSome result (λ k. k < length items.now) }
+{
+    laws_below();
     'items: for k in 0..items.len() {
         if !item_goes_on(&items[k]) {
-            return k + 1;
+            return Some(k);
         }
     }
-    items.len()
+    None
 }
 
-/// Whether control goes on behind all of some instructions.
-pub(crate) fn all_go_on(items: &[Placed]) -> bool {
-    'items: for k in 0..items.len() {
-        if !item_goes_on(&items[k]) {
-            return false;
-        }
+/// How many of some instructions are moved: those up to the first behind which control never goes on.
+pub(crate) fn moved_count(items: &[Placed]) -> usize
+    requires { AreCoded items.now }
+    ensures value { result ≡ spec.moved_count items.now }
+    ensures within { result ≤ length items.now }
+{
+    match first_end(items) {
+        Some(k) => k + 1,
+        None => items.len(),
     }
-    true
 }
 
 /// The offset at which instruction `k` begins.
-pub(crate) fn offset_at(items: &[Placed], k: usize) -> usize {
+pub(crate) fn offset_at(items: &[Placed], k: usize) -> usize
+    requires within { k ≤ length items.now }
+    requires few { length items.now ≤ 65536 }
+    ensures { result ≡ spec.offset_at items.now k }
+{
     let mut offset = 0;
     'items: for j in 0..k {
         offset += usize::from(items[j].len);
@@ -97,7 +130,13 @@ pub(crate) fn offset_at(items: &[Placed], k: usize) -> usize {
 }
 
 /// The number of the first instruction that is no padding, behind one that never goes on.
-pub(crate) fn first_code_behind(items: &[Placed]) -> Option<usize> {
+#[tactic(auto, unfolding(crate::specs::Taken::first_code_behind))]
+pub(crate) fn first_code_behind(items: &[Placed]) -> Option<usize>
+    requires { AreCoded items.now }
+    ensures value { result ≡ spec.first_code_behind items.now }
+    ensures within { IfSome result (λ k. k < length items.now) }
+{
+    laws_below();
     let moved = moved_count(items);
     'items: for k in moved..items.len() {
         if !is_padding(&items[k]) {
