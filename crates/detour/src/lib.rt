@@ -11,9 +11,6 @@ mod start;
 mod taken;
 mod trampoline;
 
-#[cfg(test)]
-mod scratch;
-
 pub use error::DetourError;
 pub use making::detour;
 pub use parts::{Detour, JumpForm, Parts};
