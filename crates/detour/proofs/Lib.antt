@@ -1,0 +1,4 @@
+pub mod Front
+pub mod Entering
+pub mod Jumping
+pub mod Planned
