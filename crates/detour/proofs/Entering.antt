@@ -1,6 +1,5 @@
 -- Which offset is the first from which control enters what is taken.
 use Rattle.std.proofs.Common.{◌≡◌, ℕ, ◌+◌, ◌<◌, ◌≤◌, inl, inr, List, length, get_or, Option, Some, None, arith, sym, subst, ◌∙◌}
-use Rattle.std.specs.List.{Contains}
 use Rattle.std.specs.List.Sorted.{IsStrictlyIncreasing}
 use Rattle.std.proofs.lemmas.Bool.{cases_lt}
 use Rattle.std.proofs.lemmas.List.{get_or_default}
@@ -8,22 +7,28 @@ use Rattle.std.proofs.lemmas.List.Elements.{All-get_or}
 use Rattle.std.proofs.lemmas.List.Kept.{AllPairs-from_increasing}
 use Rattle.flow_graph.specs.declared.exits.Exits.{Exits}
 use Rattle.flow_graph.specs.Control.{CodeBytes, IsSuccessor}
-use Rattle.flow_graph.specs.Exits.{AreExits, IsExit}
+use Rattle.flow_graph.specs.Exits.{AreExits}
 use Rattle.flow_graph.specs.Reached.{Reaches}
 use Rattle.flow_graph.specs.Graphs.{Graph, IsFlowGraph}
 use Rattle.move_goals.specs.declared.items.Placed.{Placed}
-use Rattle.detour.specs.Entries.{IsEntry, Enters, IsFirstEntry, IsNotEntered, IsEntryFrom}
+use Rattle.detour.specs.Entries.{IsEntry, Enters, IsFirstEntry, IsNotEntered, IsNextEntry, IsTargetEntry, IsEntryFrom}
 
 -- ---- from one offset
 
--- neither exit enters
-pub no_entry : (code : CodeBytes) (items : List Placed) (p : ℕ) (exits : Exits) → AreExits code p exits
-    → (0 < exits.next → IsEntry items p (p + exits.next) → ⊥) → ((q : ℕ) → exits.target ≡ Some q → IsEntry items p q → ⊥)
-    → (q : ℕ) → IsSuccessor code p q → IsEntry items p q → ⊥
-no_entry code items p exits are next target q goes entry =
-    elim (are.all q goes) [
+-- the end of the instruction is where control goes
+pub next_entry_goes : (code : CodeBytes) (items : List Placed) (p : ℕ) (exits : Exits) → AreExits code p exits → (q : ℕ)
+    → ((0 < exits.next) × (q ≡ p + exits.next)) × IsEntry items p q → IsSuccessor code p q × IsEntry items p q
+next_entry_goes code items p exits are q h =
+    (subst (λ (x : ℕ). IsSuccessor code p x) (sym h.0.1) (are.next h.0.0).0, h.1)
+
+-- else its target is, if one of the two enters
+pub target_entry_goes : (code : CodeBytes) (items : List Placed) (p : ℕ) (exits : Exits) → AreExits code p exits → IsNextEntry items p exits.next None
+    → (r : Option ℕ) → IsTargetEntry items p exits.target r → IsEntryFrom code items p r
+target_entry_goes code items p exits are next (Some q) h = ((are.target q h.0).0, h.1)
+target_entry_goes code items p exits are next None h =
+    λ q goes entry. elim (are.all q goes) [
       | inl n ↦ next n.0 (subst (λ (x : ℕ). IsEntry items p x) n.1 entry)
-      | inr t ↦ target q t entry
+      | inr t ↦ h q t entry
     ]
 
 -- ---- from the reached ones
@@ -31,6 +36,17 @@ no_entry code items p exits are next target q goes entry =
 -- no start before one of them enters
 abbrev pub NoneBefore : CodeBytes → List Placed → List ℕ → ℕ → Type 0
 NoneBefore code items starts k = (j : ℕ) → j < k → (q : ℕ) → IsSuccessor code (get_or starts j 0) q → IsEntry items (get_or starts j 0) q → ⊥
+
+-- one more of them
+pub none_more : (code : CodeBytes) (items : List Placed) (starts : List ℕ) (k : ℕ) → NoneBefore code items starts k
+    → ((q : ℕ) → IsSuccessor code (get_or starts k 0) q → IsEntry items (get_or starts k 0) q → ⊥) → NoneBefore code items starts (k + 1)
+none_more code items starts k none last j below q goes entry =
+    elim (cases_lt j k) [
+      | inl less ↦ none j less q goes entry
+      | inr not_less ↦
+          let e : j ≡ k = omega (arith, below, not_less) in
+          last q (subst (λ (n : ℕ). IsSuccessor code (get_or starts n 0) q) e goes) (subst (λ (n : ℕ). IsEntry items (get_or starts n 0) q) e entry)
+    ]
 
 ascends : (xs : List ℕ) → IsStrictlyIncreasing xs → (i j : ℕ) → i ≤ j → j < length xs → get_or xs i 0 ≤ get_or xs j 0
 ascends xs up i j le lt =

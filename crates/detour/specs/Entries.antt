@@ -1,5 +1,5 @@
 -- Whether control elsewhere in a function enters what a detour takes.
-use Rattle.std.specs.Prelude.{◌≡◌, ◌⊎◌, ℕ, ◌<◌, ◌≤◌, List, Option, Some, None}
+use Rattle.std.specs.Prelude.{◌≡◌, ◌⊎◌, ℕ, ◌+◌, ◌<◌, ◌≤◌, List, Option, Some, None}
 use Rattle.flow_graph.specs.Control.{CodeBytes, IsSuccessor}
 use Rattle.flow_graph.specs.Reached.{Reaches}
 use Rattle.move_goals.specs.declared.items.Placed.{Placed}
@@ -30,6 +30,16 @@ pub record IsFirstEntry (code : CodeBytes) (items : List Placed) (p q : ℕ) : T
 -- from none it may
 abbrev pub IsNotEntered : CodeBytes → List Placed → Type 0
 IsNotEntered code items = (p q : ℕ) → Enters code items p q → ⊥
+
+-- the end of an instruction of so many bytes at p, if it enters; without a byte control does not go on there
+abbrev pub IsNextEntry : List Placed → ℕ → ℕ → Option ℕ → Type 0
+IsNextEntry items p next (Some q) = ((0 < next) × (q ≡ p + next)) × IsEntry items p q
+IsNextEntry items p next None = 0 < next → IsEntry items p (p + next) → ⊥
+
+-- the target of an instruction at p, if it has one that enters
+abbrev pub IsTargetEntry : List Placed → ℕ → Option ℕ → Option ℕ → Type 0
+IsTargetEntry items p target (Some q) = (target ≡ Some q) × IsEntry items p q
+IsTargetEntry items p target None = (q : ℕ) → target ≡ Some q → IsEntry items p q → ⊥
 
 -- where control enters from p, or that it does not
 abbrev pub IsEntryFrom : CodeBytes → List Placed → ℕ → Option ℕ → Type 0

@@ -1,10 +1,10 @@
 //! Whether control elsewhere in a function enters what is taken.
 
-ghost use Rattle.std.specs.Prelude.{◌≡◌, ◌<◌, ◌≤◌, ◌↔◌, length, IsTrue, IfOk, MatchOption};
+ghost use Rattle.std.specs.Prelude.{◌≡◌, ◌<◌, ◌≤◌, ◌↔◌, length, IsTrue, IfOk};
 ghost use Rattle.flow_graph.specs.Control.{code_bytes};
 ghost use Rattle.detour.specs.Reading.{AreCoded, IsFit};
 ghost use Rattle.detour.specs.Taken.{bytes_in};
-ghost use Rattle.detour.specs.Entries.{IsMovedStart, IsEntry, IsEntryFrom, IsEntryAnswer};
+ghost use Rattle.detour.specs.Entries.{IsMovedStart, IsEntry, IsNextEntry, IsTargetEntry, IsEntryFrom, IsEntryAnswer};
 
 use crate::taken::{Taken, moved_count, offset_at};
 use flow_graph::{FlowError, exits_at, flow_graph_in};
@@ -43,6 +43,44 @@ fn enters(taken: &Taken, p: usize, q: usize) -> bool
     is_moved_start(&taken.items, p) && !is_moved_start(&taken.items, q)
 }
 
+/// The end of an instruction at an offset, if control goes on there and enters what is taken.
+fn entered_next(taken: &Taken, p: usize, next: u8) -> Option<usize>
+    requires coded { AreCoded taken.now.items.items }
+    requires few { length taken.now.items.items ≤ 65536 }
+    requires len { taken.now.len ≡ bytes_in taken.now.items.items }
+    requires inside { p ≤ 1048576 }
+    ensures { IsNextEntry taken.now.items.items p next result }
+{
+    if next == 0 {
+        return None;
+    }
+    let end = p + usize::from(next);
+    if enters(taken, p, end) {
+        Some(end)
+    } else {
+        None
+    }
+}
+
+/// The target of an instruction at an offset, if control goes there and enters what is taken.
+fn entered_target(taken: &Taken, p: usize, target: Option<usize>) -> Option<usize>
+    requires coded { AreCoded taken.now.items.items }
+    requires few { length taken.now.items.items ≤ 65536 }
+    requires len { taken.now.len ≡ bytes_in taken.now.items.items }
+    ensures { IsTargetEntry taken.now.items.items p target result }
+{
+    match target {
+        None => None,
+        Some(q) => {
+            if enters(taken, p, q) {
+                Some(q)
+            } else {
+                None
+            }
+        }
+    }
+}
+
 /// The offset in what is taken that is entered from an offset of some code, if one is.
 fn entry_from(bits: Bits, ip: u64, code: &[u8], taken: &Taken, p: usize) -> Option<usize>
     requires inside { p < length code.now }
@@ -51,19 +89,9 @@ fn entry_from(bits: Bits, ip: u64, code: &[u8], taken: &Taken, p: usize) -> Opti
     ensures { IsEntryFrom (code_bytes bits ip code.now) taken.now.items.items p result }
 {
     let exits = exits_at(bits, ip, code, p);
-    let end = p + usize::from(exits.next);
-    if exits.next > 0 && enters(taken, p, end) {
-        return Some(end);
-    }
-    match exits.target {
-        Some(target) => {
-            if enters(taken, p, target) {
-                Some(target)
-            } else {
-                None
-            }
-        }
-        None => None,
+    match entered_next(taken, p, exits.next) {
+        Some(end) => Some(end),
+        None => entered_target(taken, p, exits.target),
     }
 }
 

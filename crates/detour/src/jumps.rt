@@ -1,15 +1,12 @@
 //! The jumps of a detour.
 
-ghost use Rattle.std.specs.Prelude.{◌≡◌, ◌<◌, ◌≤◌, ◌^◌, length, IfSome};
-ghost use Rattle.x86_values.specs.Wrapping.{width};
+ghost use Rattle.std.specs.Prelude.{◌≡◌, ◌≤◌, length, IfSome};
 ghost use Rattle.branch_forms.specs.declared.branch.Action.TheVariants.{Jump};
 ghost use Rattle.branch_forms.specs.Branches.{near_code};
-ghost use Rattle.move_goals.specs.Items.{IsPlaced};
 ghost use Rattle.detour.specs.Jumps as spec;
 ghost use Rattle.detour.specs.Jumps.{IsNearAnswer};
 ghost use Rattle.detour.specs.Trampoline as trampoline;
 
-use crate::laws_below::laws_below;
 use arrayvec::ArrayVec;
 use encoder::encode;
 use move_goals::Placed;
@@ -53,11 +50,8 @@ fn jump_to(bits: Bits, target: u64) -> Instr
 
 /// A jump to an address, as one that stands there.
 pub(crate) fn jump_back(bits: Bits, back: u64) -> Placed
-    requires { back < 2 ^ width bits }
-    ensures value { result ≡ trampoline.jump_back bits back }
-    ensures placed { IsPlaced bits result }
+    ensures { result ≡ trampoline.jump_back bits back }
 {
-    laws_below();
     let instr = jump_to(bits, back);
     let len = plain_length(bits, &instr);
     Placed {

@@ -1,12 +1,14 @@
 //! Making a detour.
 
-ghost use Rattle.std.specs.Prelude.{◌≡◌, ◌≤◌, ◌<◌, ◌++◌, ◌^◌, None, length, IfOk, IfErr, IfSome};
+ghost use Rattle.std.specs.Prelude.{◌≡◌, ◌≤◌, ◌<◌, ◌++◌, ◌^◌, None, Ok, length, IfOk, IfErr};
 ghost use Rattle.x86_values.specs.Wrapping.{width};
 ghost use Rattle.detour.specs.declared.error.DetourError.TheVariants.{Memory};
 ghost use Rattle.detour.specs.Detours as spec;
-ghost use Rattle.detour.specs.Detours.{IsRelay, IsJumpOf, IsDetourAnswer, relay_bytes};
-ghost use Rattle.detour.specs.Made.{IsWholeTaken, IsEntryRefusal, refusal_of};
-ghost use Rattle.detour.specs.Reading.{AreCoded};
+ghost use Rattle.detour.specs.Detours.{IsRelay, IsRelayBehind, IsJumpOf, IsAnswerTo, IsDetourAnswer, relay_bytes};
+ghost use Rattle.block_encoder.specs.declared.error.MoveError.TheVariants as move_error;
+ghost use Rattle.detour.specs.Made.{IsWholeTaken, IsFarJump, IsPutTogether, IsLaid, refusal_of};
+ghost use Rattle.detour.specs.Reading.{AreCoded, IsFit};
+ghost use Rattle.detour.specs.Taken.{bytes_in};
 ghost use Rattle.detour.specs.Taken as taken_spec;
 
 use crate::entries::first_entry;
@@ -68,6 +70,47 @@ fn relay_behind(place: u64, len: usize) -> Option<u64>
     }
 }
 
+/// That there is no relay, where nothing is taken for another cause than want of memory.
+fn no_relay_for(why: DetourError) -> Result<Option<u64>, DetourError>
+    ensures none { IfOk result (λ relay. (relay ≡ None) × (why ≡ Memory → ⊥)) }
+    ensures refused { IfErr result (λ error. error ≡ Memory) }
+{
+    match why {
+        DetourError::Memory => Err(DetourError::Memory),
+        _ => Ok(None),
+    }
+}
+
+/// That there is no relay, where what is taken is not moved for another cause than want of memory.
+fn no_relay_behind(why: MoveError) -> Result<Option<u64>, DetourError>
+    ensures none { IfOk result (λ relay. (relay ≡ None) × (why ≡ move_error.Memory → ⊥)) }
+    ensures refused { IfErr result (λ error. error ≡ Memory) }
+{
+    match why {
+        MoveError::Memory => Err(DetourError::Memory),
+        _ => Ok(None),
+    }
+}
+
+/// The address of a relay behind the trampoline of what is taken, if there is one in the address space.
+fn relay_of(
+    alloc: Global,
+    bits: Bits,
+    ip: u64,
+    taken: &Taken,
+    place: u64,
+    start: StartTarget,
+) -> Result<Option<u64>, DetourError>
+    requires { IsFit bits taken.now }
+    ensures relay { IfOk result (λ relay. IsRelayBehind bits ip place start (Ok taken.now.items.items) relay) }
+    ensures refused { IfErr result (λ why. why ≡ Memory) }
+{
+    match lay_trampoline(alloc, bits, ip, taken, place, start) {
+        Ok(moved) => Ok(relay_behind(place, moved.bytes().len())),
+        Err(why) => no_relay_behind(why),
+    }
+}
+
 /// The address of a relay behind the trampoline of a near jump, if there is one in the address space.
 fn relay_address(
     alloc: Global,
@@ -80,24 +123,39 @@ fn relay_address(
     ensures relay { IfOk result (λ relay. IsRelay bits ip code.now place start relay) }
     ensures refused { IfErr result (λ why. why ≡ Memory) }
 {
-    let taken = match take_whole(alloc, bits, ip, code, NEAR_LEN) {
-        Ok(taken) => taken,
-        Err(DetourError::Memory) => return Err(DetourError::Memory),
-        Err(_) => return Ok(None),
-    };
-    match lay_trampoline(alloc, bits, ip, &taken, place, start) {
-        Ok(moved) => Ok(relay_behind(place, moved.bytes().len())),
-        Err(MoveError::Memory) => Err(DetourError::Memory),
-        Err(_) => Ok(None),
+    match take_whole(alloc, bits, ip, code, NEAR_LEN) {
+        Ok(taken) => relay_of(alloc, bits, ip, &taken, place, start),
+        Err(why) => no_relay_for(why),
     }
 }
 
 /// A jump: its form, its bytes, and the address of its relay.
 #[derive(Drop)]
-struct Jump {
+pub(crate) struct Jump {
     form: JumpForm,
     bytes: ArrayVec<u8, 15>,
     relay: Option<u64>,
+}
+
+/// The jump to a relay that reaches it, else the one that is followed by its address.
+fn far_jump(bits: Bits, ip: u64, to: u64, relay: Option<u64>) -> Jump
+    ensures jump { IsFarJump bits ip to relay result }
+    ensures short { length result.bytes.items ≤ 15 }
+{
+    if let Some(address) = relay {
+        if let Some(bytes) = near_jump(bits, ip, address) {
+            return Jump {
+                form: JumpForm::Relay,
+                bytes,
+                relay: Some(address),
+            };
+        }
+    }
+    Jump {
+        form: JumpForm::Absolute,
+        bytes: absolute_jump(to),
+        relay: None,
+    }
 }
 
 /// The first jump from the function to the replacement that reaches it.
@@ -116,27 +174,17 @@ fn jump_for(
     ensures refused { IfErr result (λ why. why ≡ Memory) }
 {
     laws_below();
-    if let Some(bytes) = near_jump(bits, ip, to) {
-        return Ok(Jump {
+    match near_jump(bits, ip, to) {
+        Some(bytes) => Ok(Jump {
             form: JumpForm::Near,
             bytes,
             relay: None,
-        });
+        }),
+        None => match relay_address(alloc, bits, ip, code, place, start) {
+            Ok(relay) => Ok(far_jump(bits, ip, to, relay)),
+            Err(_) => Err(DetourError::Memory),
+        },
     }
-    if let Some(relay) = relay_address(alloc, bits, ip, code, place, start)? {
-        if let Some(bytes) = near_jump(bits, ip, relay) {
-            return Ok(Jump {
-                form: JumpForm::Relay,
-                bytes,
-                relay: Some(relay),
-            });
-        }
-    }
-    Ok(Jump {
-        form: JumpForm::Absolute,
-        bytes: absolute_jump(to),
-        relay: None,
-    })
 }
 
 /// The patch: the jump, and CC up to the end of what is taken.
@@ -196,12 +244,82 @@ fn parts_of(place: u64, items: &[Placed], moved: &MovedBlocks, relay: Option<u64
     }
 }
 
-/// The refusal of an entry, if there is one.
-fn refuse_entry(entry: Result<Option<(u32, usize)>, FlowError>) -> Result<(), DetourError>
-    ensures { IsEntryRefusal entry result }
+/// The patch, the trampoline and its parts, of what is taken and moved.
+fn put_together(
+    alloc: Global,
+    to: u64,
+    place: u64,
+    jump: &Jump,
+    taken: &Taken,
+    moved: &MovedBlocks,
+) -> Result<Detour, DetourError>
+    requires coded { AreCoded taken.now.items.items }
+    requires len { taken.now.len ≡ bytes_in taken.now.items.items }
+    requires fits { length jump.now.bytes.items ≤ taken.now.len }
+    requires back { taken_spec.first_end taken.now.items.items ≡ None → 0 < length moved.now.starts }
+    ensures parts { IfOk result (λ d. IsPutTogether to place jump.now taken.now moved.now d) }
+    ensures refused { IfErr result (λ why. why ≡ Memory) }
 {
-    match entry {
-        Ok(None) => Ok(()),
+    let parts = parts_of(place, &taken.items, moved, jump.relay);
+    let Ok(patch) = patch_of(alloc, &jump.bytes, taken.len) else {
+        return Err(DetourError::Memory);
+    };
+    match trampoline_of(alloc, moved.bytes(), jump.relay, to) {
+        Ok(trampoline) => Ok(Detour {
+            form: jump.form,
+            taken: taken.len,
+            parts,
+            patch,
+            trampoline,
+        }),
+        Err(_) => Err(DetourError::Memory),
+    }
+}
+
+/// The detour by a jump over what it takes, which nothing else enters.
+fn lay_detour(
+    alloc: Global,
+    bits: Bits,
+    ip: u64,
+    to: u64,
+    place: u64,
+    start: StartTarget,
+    jump: &Jump,
+    taken: &Taken,
+) -> Result<Detour, DetourError>
+    requires fit { IsFit bits taken.now }
+    requires fits { length jump.now.bytes.items ≤ taken.now.len }
+    ensures { IsLaid bits ip to place start jump.now taken.now result }
+{
+    laws_below();
+    match lay_trampoline(alloc, bits, ip, taken, place, start) {
+        Ok(moved) => put_together(alloc, to, place, jump, taken, &moved),
+        Err(why) => Err(move_refusal(why)),
+    }
+}
+
+/// The detour by the first jump that reaches.
+fn detour_by(
+    alloc: Global,
+    bits: Bits,
+    ip: u64,
+    code: &[u8],
+    to: u64,
+    place: u64,
+    start: StartTarget,
+    jump: &Jump,
+) -> Result<Detour, DetourError>
+    requires size { length code.now ≤ 1048576 }
+    requires jump { IsJumpOf bits ip code.now to place start jump.now.form jump.now.bytes.items jump.now.relay }
+    requires short { length jump.now.bytes.items ≤ 15 }
+    ensures { IsAnswerTo bits ip code.now to place start result }
+{
+    let taken = match take_whole(alloc, bits, ip, code, jump.bytes.len()) {
+        Ok(taken) => taken,
+        Err(why) => return Err(why),
+    };
+    match first_entry(alloc, bits, ip, code, &taken) {
+        Ok(None) => lay_detour(alloc, bits, ip, to, place, start, jump, &taken),
         Ok(Some((from, target))) => Err(DetourError::Entered {
             from: u64::from(from),
             target: target as u64,
@@ -237,17 +355,8 @@ pub fn detour(
     ensures { IsDetourAnswer bits ip code.now to place start result }
 {
     let to = wrap(bits, u128::from(to));
-    let jump = jump_for(alloc, bits, ip, code, to, place, start)?;
-    let taken = take_whole(alloc, bits, ip, code, jump.bytes.len())?;
-    refuse_entry(first_entry(alloc, bits, ip, code, &taken))?;
-    match lay_trampoline(alloc, bits, ip, &taken, place, start) {
-        Ok(moved) => Ok(Detour {
-            form: jump.form,
-            taken: taken.len,
-            parts: parts_of(place, &taken.items, &moved, jump.relay),
-            patch: patch_of(alloc, &jump.bytes, taken.len)?,
-            trampoline: trampoline_of(alloc, moved.bytes(), jump.relay, to)?,
-        }),
-        Err(why) => Err(move_refusal(why)),
+    match jump_for(alloc, bits, ip, code, to, place, start) {
+        Ok(jump) => detour_by(alloc, bits, ip, code, to, place, start, &jump),
+        Err(_) => Err(DetourError::Memory),
     }
 }

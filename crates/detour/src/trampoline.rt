@@ -29,9 +29,7 @@ fn block_items(
     taken: &Taken,
 ) -> Result<Vec<Placed>, AllocError>
     requires { IsFit bits taken.now }
-    ensures value { IfOk result (λ items. items.items ≡ spec.block_items bits ip taken.now.items.items) }
-    ensures placed { IfOk result (λ items. ArePlaced bits items.items) }
-    ensures few { IfOk result (λ items. length items.items ≤ 65536) }
+    ensures { IfOk result (λ items. items.items ≡ spec.block_items bits ip taken.now.items.items) }
 {
     let count = moved_count(&taken.items);
     let mut items = Vec::with_capacity(alloc, count + 1)?;
