@@ -7,7 +7,7 @@ pub returns-in-Some : goal.returns-in-Some
 returns-in-Some c =
     next_entry_goes (code_bytes c.args.bits c.args.ip c.args.code.now) c.args.taken.now.items.items c.args.p c.exits_at-exits.result c.exits_at-exits.ensures.exits c.in-Some.end c.in-Some.ensures
 
-pub returns : goal.returns
-returns c =
+pub returns-in-None : goal.returns-in-None
+returns-in-None c =
     target_entry_goes (code_bytes c.args.bits c.args.ip c.args.code.now) c.args.taken.now.items.items c.args.p c.exits_at-exits.result c.exits_at-exits.ensures.exits c.in-None.ensures
     c.entered_target.result c.entered_target.ensures
