@@ -84,7 +84,7 @@ branch_to-code bits t = refl
 back_by : (t n : ℕ) → t < 2 ^ 64 → n ≡ 5 → 2 ^ 64 ≤ (t + (2 ^ 64 - (t % 2 ^ 64 + n) % 2 ^ 64)) % 2 ^ 64 + 2 ^ 31
 back_by t n below e = omega (arith, below, e)
 
-jump-four : (bits : Bits) (t : ℕ) → length (jump_to bits t).ops ≡ 4
+pub jump-four : (bits : Bits) (t : ℕ) → length (jump_to bits t).ops ≡ 4
 unfolding jump_to branch_to
 jump-four bits t = refl
 

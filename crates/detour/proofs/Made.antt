@@ -18,6 +18,10 @@ use Rattle.detour.specs.declared.taken.Taken.{Taken}
 use Rattle.detour.specs.Taken.{AreTaken, bytes_in, first_code_behind}
 use Rattle.detour.specs.Jumps.{IsOutOfReach}
 use Rattle.detour.specs.Entries.{IsNotEntered}
+use Rattle.detour.specs.LawsBelow.{LawsBelow}
+use Rattle.detour.specs.ReadBack.{IsPatchRead}
+use Rattle.detour.proofs.ReadBack.{patch_read, trampoline_read}
+use Rattle.move_goals.specs.Items.{ArePlaced}
 use Rattle.detour.specs.Trampoline.{block_items, trampoline_plan}
 use Rattle.detour.specs.Detours.{IsTakenAnswer, IsRelay, IsRelayBehind, JumpParts, DetourState, IsJumpOf, IsAnswerTo, patch_of}
 use Rattle.detour.specs.Made.{refusal_of, IsFarJumpOf, IsLaid}
@@ -78,7 +82,7 @@ far_first bits ip code to place start long far relay tried Absolute bytes by h =
 abbrev parts_of_jump : Jump → JumpParts
 parts_of_jump jump = record { form = jump.form; bytes = jump.bytes.items; relay = jump.relay }
 
-module _ (bits : Bits) (ip : ℕ) (code : List ℕ) (to place : ℕ) (start : StartTarget) (jump : Jump)
+module _ (laws : LawsBelow) (bits : Bits) (ip : ℕ) (code : List ℕ) (to place : ℕ) (start : StartTarget) (jump : Jump)
     (first : IsJumpOf bits ip code to place start jump.form jump.bytes.items jump.relay) where
   -- nothing is taken
   pub refused_untaken : (why : DetourError) → IsTakenAnswer bits ip code (length jump.bytes.items) (Err why) → IsAnswerTo bits ip code to place start (Err why)
@@ -91,7 +95,7 @@ module _ (bits : Bits) (ip : ℕ) (code : List ℕ) (to place : ℕ) (start : St
   refused_untaken (TooFar at target) h = absurd h
 
   module _ (t : Taken) (are : AreTaken bits ip code (length jump.bytes.items) t.items.items) (whole : first_code_behind t.items.items ≡ None)
-      (len : t.len ≡ bytes_in t.items.items) (closed : IsNotEntered (code_bytes bits ip code) t.items.items) where
+      (len : t.len ≡ bytes_in t.items.items) (placed : ArePlaced bits t.items.items) (closed : IsNotEntered (code_bytes bits ip code) t.items.items) where
     -- it is not moved
     unmoved_refused : (why : MoveError) → IsPlanAnswer bits (block_items bits ip t.items.items) (trampoline_plan bits ip t.items.items place start) (Err why)
         → IsAnswerTo bits ip code to place start (Err (refusal_of why))
@@ -105,7 +109,9 @@ module _ (bits : Bits) (ip : ℕ) (code : List ℕ) (to place : ℕ) (start : St
 
     -- **what is laid of it is the answer**
     pub laid_answer : (r : Result DetourState DetourError) → IsLaid bits ip to place start jump t r → IsAnswerTo bits ip code to place start r
-    laid_answer (Ok d) h = record {
+    laid_answer (Ok d) h =
+      let patch : d.patch ≡ patch_of jump.bytes.items (bytes_in t.items.items) = subst (λ (n : ℕ). d.patch ≡ patch_of jump.bytes.items n) len h.1.1.patch in
+      record {
       jump = parts_of_jump jump;
       first = first;
       items = t.items.items;
@@ -116,9 +122,12 @@ module _ (bits : Bits) (ip : ℕ) (code : List ℕ) (to place : ℕ) (start : St
       block = h.1.0;
       form = h.1.1.form;
       taken = h.1.1.taken ∙ len;
-      patch = subst (λ (n : ℕ). d.patch ≡ patch_of jump.bytes.items n) len h.1.1.patch;
+      patch = patch;
       trampoline = h.1.1.trampoline;
       parts = h.1.1.parts;
+      patch_read = subst (λ (bs : List ℕ). IsPatchRead bits ip to jump.form jump.bytes.items jump.relay bs) (sym patch)
+          (patch_read laws bits ip code to place start jump.form jump.bytes.items jump.relay first (bytes_in t.items.items));
+      trampoline_read = trampoline_read laws bits ip t.items.items place start placed h.0 h.1.0;
     }
     laid_answer (Err why) h =
         elim h [

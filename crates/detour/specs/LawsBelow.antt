@@ -8,9 +8,9 @@ use Rattle.decoder.specs.OneReading.{OneReadingFacts, WrappedFacts}
 use Rattle.moved_targets.specs.Facts.{TargetFacts}
 use Rattle.branch_forms.specs.Facts.{CodeFacts, PieceFacts, FormFacts}
 use Rattle.move_goals.specs.Facts.{FirstFacts, PlanFacts}
-use Rattle.block_encoder.specs.Facts.{SeatFacts, ReachFacts}
+use Rattle.block_encoder.specs.Facts.{SeatFacts, MovedFacts, ReachFacts}
 
--- codes, encodings, readings, targets, forms, goals, seats and reach
+-- codes, encodings, readings, targets, forms, goals, seats, moved blocks and reach
 pub record LawsBelow : Type 0 where
   pub in_table : (i : Instr) → IsTrue (is_well_formed i) → i.code.0 < ROWS
   pub encodings : EncodingFacts
@@ -23,4 +23,5 @@ pub record LawsBelow : Type 0 where
   pub firsts : FirstFacts
   pub plans : PlanFacts
   pub seats : SeatFacts
+  pub moved : MovedFacts
   pub reach : ReachFacts

@@ -4,5 +4,6 @@ pub mod LawsBelow
 pub mod Jumps
 pub mod Entries
 pub mod Trampoline
+pub mod ReadBack
 pub mod Detours
 pub mod Made

@@ -314,6 +314,7 @@ fn detour_by(
     requires short { length jump.now.bytes.items ≤ 15 }
     ensures { IsAnswerTo bits ip code.now to place start result }
 {
+    laws_below();
     let taken = match take_whole(alloc, bits, ip, code, jump.bytes.len()) {
         Ok(taken) => taken,
         Err(why) => return Err(why),
