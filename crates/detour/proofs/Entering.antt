@@ -11,7 +11,7 @@ use Rattle.flow_graph.specs.Exits.{AreExits}
 use Rattle.flow_graph.specs.Reached.{Reaches}
 use Rattle.flow_graph.specs.Graphs.{Graph, IsFlowGraph}
 use Rattle.move_goals.specs.declared.items.Placed.{Placed}
-use Rattle.detour.specs.Entries.{IsEntry, Enters, IsFirstEntry, IsNotEntered, IsNextEntry, IsTargetEntry, IsEntryFrom}
+use Rattle.detour.specs.Entries.{IsEntry, IsFirstEntry, IsNotEntered, IsNextEntry, IsTargetEntry, IsEntryFrom}
 
 -- ---- from one offset
 

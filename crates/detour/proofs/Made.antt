@@ -1,6 +1,6 @@
 -- What the parts of the making of a detour give together.
-use Rattle.std.proofs.Common.{◌≡◌, ◌⊎◌, ℕ, ◌≤◌, inl, inr, List, length, Option, Some, None, Result, Ok, Err, refl, sym, subst, ap, ◌∙◌}
-use Rattle.std.specs.Prelude.{IfOk, IfSome}
+use Rattle.std.proofs.Common.{◌≡◌, ℕ, inl, inr, List, length, Option, None, Result, Ok, Err, refl, sym, subst, ◌∙◌}
+use Rattle.std.specs.Prelude.{IfOk}
 use Rattle.x86_values.specs.declared.Bits.{Bits}
 use Rattle.x86_values.specs.declared.Bits.TheVariants.{B64}
 use Rattle.flow_graph.specs.Control.{code_bytes}
@@ -110,25 +110,25 @@ module _ (laws : LawsBelow) (bits : Bits) (ip : ℕ) (code : List ℕ) (to place
     -- **what is laid of it is the answer**
     pub laid_answer : (r : Result DetourState DetourError) → IsLaid bits ip to place start jump t r → IsAnswerTo bits ip code to place start r
     laid_answer (Ok d) h =
-      let patch : d.patch ≡ patch_of jump.bytes.items (bytes_in t.items.items) = subst (λ (n : ℕ). d.patch ≡ patch_of jump.bytes.items n) len h.1.1.patch in
-      record {
-      jump = parts_of_jump jump;
-      first = first;
-      items = t.items.items;
-      are_taken = are;
-      whole = whole;
-      closed = closed;
-      moved = h.0;
-      block = h.1.0;
-      form = h.1.1.form;
-      taken = h.1.1.taken ∙ len;
-      patch = patch;
-      trampoline = h.1.1.trampoline;
-      parts = h.1.1.parts;
-      patch_read = subst (λ (bs : List ℕ). IsPatchRead bits ip to jump.form jump.bytes.items jump.relay bs) (sym patch)
-          (patch_read laws bits ip code to place start jump.form jump.bytes.items jump.relay first (bytes_in t.items.items));
-      trampoline_read = trampoline_read laws bits ip t.items.items place start placed h.0 h.1.0;
-    }
+        let patch : d.patch ≡ patch_of jump.bytes.items (bytes_in t.items.items) = subst (λ (n : ℕ). d.patch ≡ patch_of jump.bytes.items n) len h.1.1.patch in
+        record {
+          jump = parts_of_jump jump;
+          first = first;
+          items = t.items.items;
+          are_taken = are;
+          whole = whole;
+          closed = closed;
+          moved = h.0;
+          block = h.1.0;
+          form = h.1.1.form;
+          taken = h.1.1.taken ∙ len;
+          patch = patch;
+          trampoline = h.1.1.trampoline;
+          parts = h.1.1.parts;
+          patch_read = subst (λ (bs : List ℕ). IsPatchRead bits ip to jump.form jump.bytes.items jump.relay bs) (sym patch)
+              (patch_read laws bits ip code to place start jump.form jump.bytes.items jump.relay first (bytes_in t.items.items));
+          trampoline_read = trampoline_read laws bits ip t.items.items place start placed h.0 h.1.0;
+        }
     laid_answer (Err why) h =
         elim h [
           | inl lost ↦ subst (λ (w : DetourError). IsAnswerTo bits ip code to place start (Err w)) (sym lost) tt

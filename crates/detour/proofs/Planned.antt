@@ -1,9 +1,9 @@
 -- The plan of a trampoline is well formed.
-use Rattle.std.proofs.Common.{◌≡◌, ℕ, zero, suc, ◌+◌, ◌<◌, ◌≤◌, inl, inr, Bool, true, false, List, [], ◌∷◌, ◌++◌, length, map, Option, Some, None, arith, refl, sym, subst, ap, ◌∙◌, nat_lt, ◌^◌, take}
+use Rattle.std.proofs.Common.{◌≡◌, ℕ, zero, suc, ◌+◌, ◌<◌, ◌≤◌, inl, inr, Bool, true, List, [], ◌∷◌, ◌++◌, length, map, Option, Some, None, arith, refl, sym, subst, ap, ◌∙◌, nat_lt, ◌^◌, take}
 use Rattle.std.specs.Prelude.{if◌then◌else◌, is_some, slice_get, IsTrue}
 use Rattle.std.specs.List.{list_all, range_with_len}
 use Rattle.std.specs.Option.{option_or}
-use Rattle.std.proofs.lemmas.Bool.{cases_Bool, and_from, lt-ltb, le-leb, eq-eqb, ltb-true, ltb-false}
+use Rattle.std.proofs.lemmas.Bool.{cases_Bool, and_from, lt-ltb, le-leb, eq-eqb}
 use Rattle.std.proofs.lemmas.List.FromFn.{length-map-range_with_len, map-range_with_len_more}
 use Rattle.x86_values.specs.declared.Bits.{Bits}
 use Rattle.x86_values.specs.declared.Bits.TheVariants.{B16, B32, B64}
@@ -13,15 +13,14 @@ use Rattle.x86_values.specs.Wrapping.{width, wrapped}
 use Rattle.opcode_rows.specs.Table.{table}
 use Rattle.operand_info.specs.Operands.{near_value, ip_value, first_value}
 use Rattle.branch_sizes.specs.declared.plan.Branch.{Branch}
-use Rattle.branch_sizes.specs.declared.plan.Goal.{Goal}
-use Rattle.branch_sizes.specs.Plan.{plan_of, one_block, is_fit_goal, is_fit_branch}
+use Rattle.branch_sizes.specs.Plan.{is_fit_goal, is_fit_branch}
 use Rattle.moved_targets.specs.Targets.{target_of}
 use Rattle.branch_forms.specs.Branches.{branch_of, branch_by}
 use Rattle.branch_forms.specs.Choices.{choices_of, choices_by}
 use Rattle.move_goals.specs.declared.items.Placed.{Placed}
 use Rattle.move_goals.specs.Items.{IsPlaced, ArePlaced, item_at, first_below, one_span}
 use Rattle.move_goals.specs.Goals.{begins_at}
-use Rattle.move_goals.specs.Plan.{branch_with, plan_with, kept_goal}
+use Rattle.move_goals.specs.Plan.{branch_with, kept_goal}
 use Rattle.detour.specs.LawsBelow.{LawsBelow}
 use Rattle.detour.specs.declared.start.StartTarget.{StartTarget}
 use Rattle.detour.specs.declared.start.StartTarget.TheVariants.{Moved, Hooked}

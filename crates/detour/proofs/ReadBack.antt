@@ -1,5 +1,5 @@
 -- A patch is read as its jump, and a trampoline as the images of its instructions.
-use Rattle.std.proofs.Common.{◌≡◌, ℕ, ◌<◌, List, ◌++◌, length, replicate, ◌-◌, Option, None, Some, Ok, refl, subst, sym, arith, nat_lt}
+use Rattle.std.proofs.Common.{◌≡◌, ℕ, ◌<◌, List, ◌++◌, length, replicate, ◌-◌, Option, refl, subst, sym, arith}
 use Rattle.std.specs.Prelude.{IfSome}
 use Rattle.std.proofs.lemmas.Bool.{lt-ltb}
 use Rattle.x86_values.specs.declared.Bits.{Bits}

@@ -5,13 +5,12 @@ use Rattle.row_relation.specs.Spells.{Reading, Read}
 use Rattle.opcode_rows.specs.Reading.{IsRead}
 use Rattle.move_goals.specs.declared.items.Placed.{Placed}
 use Rattle.block_encoder.specs.Aims.{StandsAtPlace, GoesToGoal}
-use Rattle.block_encoder.specs.Moved.{MovedLists}
 use Rattle.block_encoder.specs.Read.{IsReadAsImages}
 use Rattle.detour.specs.declared.parts.JumpForm.{JumpForm}
 use Rattle.detour.specs.declared.parts.JumpForm.TheVariants.{Near, Relay, Absolute}
 use Rattle.detour.specs.declared.start.StartTarget.{StartTarget}
 use Rattle.detour.specs.Jumps.{jump_to}
-use Rattle.detour.specs.Trampoline.{IsTrampoline, block_items, trampoline_plan}
+use Rattle.detour.specs.Trampoline.{block_items, trampoline_plan}
 
 -- a near jump to an address, as long as some bytes
 abbrev pub jump_reading : Bits → ℕ → List ℕ → Reading

@@ -71,13 +71,7 @@ fn entered_target(taken: &Taken, p: usize, target: Option<usize>) -> Option<usiz
 {
     match target {
         None => None,
-        Some(q) => {
-            if enters(taken, p, q) {
-                Some(q)
-            } else {
-                None
-            }
-        }
+        Some(q) => { if enters(taken, p, q) { Some(q) } else { None } }
     }
 }
 

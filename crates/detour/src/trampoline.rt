@@ -22,12 +22,7 @@ use x86_values::{Bits, wrap};
 
 /// The instructions of the trampoline: those that are moved, and the jump back if control goes on behind them.
 #[tactic(auto, unfolding(crate::specs::Trampoline::block_items))]
-fn block_items(
-    alloc: Global,
-    bits: Bits,
-    ip: u64,
-    taken: &Taken,
-) -> Result<Vec<Placed>, AllocError>
+fn block_items(alloc: Global, bits: Bits, ip: u64, taken: &Taken) -> Result<Vec<Placed>, AllocError>
     requires { IsFit bits taken.now }
     ensures { IfOk result (λ items. items.items ≡ spec.block_items bits ip taken.now.items.items) }
 {

@@ -1,4 +1,3 @@
-use Rattle.std.proofs.Common.{◌≡◌}
 use Rattle.flow_graph.specs.Control.{code_bytes}
 use Rattle.detour.proofs.Entering.{next_entry_goes, target_entry_goes}
 use Rattle.detour.proofs.entries.entry_from.Goals as goal

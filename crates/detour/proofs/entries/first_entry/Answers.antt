@@ -1,4 +1,4 @@
-use Rattle.std.proofs.Common.{◌≡◌, ◌<◌, ◌≤◌, ℕ, inl, inr, List, length, get_or, arith, sym, subst}
+use Rattle.std.proofs.Common.{◌≡◌, ◌<◌, ℕ, List, length, get_or, arith, sym, subst}
 use Rattle.flow_graph.specs.Control.{IsSuccessor, code_bytes}
 use Rattle.detour.specs.Entries.{IsEntry, IsFirstEntry}
 use Rattle.detour.proofs.Entering.{NoneBefore, none_more, none_entered, first_entered}

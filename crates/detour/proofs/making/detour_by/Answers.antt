@@ -1,8 +1,8 @@
-use Rattle.std.proofs.Common.{◌≡◌, ℕ, Option, None, Some, Ok, Err, subst, sym}
+use Rattle.std.proofs.Common.{ℕ, Option, Ok, Err, subst, sym}
 use Rattle.flow_graph.specs.Control.{code_bytes}
 use Rattle.detour.specs.Taken.{AreTaken}
 use Rattle.detour.specs.Entries.{IsEntryAnswer, IsFirstEntry}
-use Rattle.detour.specs.Detours.{IsTakenAnswer, IsEntered}
+use Rattle.detour.specs.Detours.{IsTakenAnswer}
 use Rattle.detour.specs.Made.{IsWholeTaken}
 use Rattle.detour.proofs.Made.{refused_untaken, laid_answer}
 use Rattle.detour.proofs.making.detour_by.Goals as goal

@@ -1,4 +1,4 @@
-use Rattle.std.proofs.Common.{◌≡◌, ◌<◌, length, arith, ap}
+use Rattle.std.proofs.Common.{length, arith, ap}
 use Rattle.std.proofs.lemmas.List.FromFn.{length-map-range_with_len}
 use Rattle.branch_sizes.specs.Layout.{place}
 use Rattle.detour.specs.Trampoline.{IsTrampoline, block_items, trampoline_plan}

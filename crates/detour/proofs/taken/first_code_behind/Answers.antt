@@ -1,7 +1,6 @@
 use Rattle.std.proofs.Common.{◌≤◌, length, not, ap, sym, ◌∙◌, arith}
 use Rattle.std.proofs.lemmas.Bool.{and_from, le-leb}
-use Rattle.move_goals.specs.Items.{item_at}
-use Rattle.detour.specs.Taken.{is_padding, is_code_behind, moved_count, first_code_behind}
+use Rattle.detour.specs.Taken.{is_code_behind, moved_count, first_code_behind}
 use Rattle.detour.proofs.taken.first_code_behind.Goals as goal
 
 pub returns-then-not-is_padding-clause-value : goal.returns-then-not-is_padding-clause-value

@@ -1,4 +1,4 @@
-use Rattle.std.proofs.Common.{◌≡◌, ◌+◌, ◌-◌, ◌<◌, ◌≤◌, ℕ, length}
+use Rattle.std.proofs.Common.{◌≡◌, ◌+◌, ◌-◌, ◌<◌, ℕ, length}
 use Rattle.detour.specs.Reading.{IsFront}
 use Rattle.detour.specs.Taken.{bytes_in, offset_at}
 use Rattle.detour.proofs.taken.take.Given as goal
