@@ -84,7 +84,11 @@ fn code_goes_to_the_trampoline_and_back(rt: HostRuntime) -> Result<(), Fail> {
         // jne behind xor eax, eax: its target is taken, and follows it
         (near("750231c090c3"), "e9fb3f0000", "750231c090e9fb7fffff"),
         // mov eax, ecx; dec ecx; jne to the start, which the trampoline keeps, or not
-        (near("89c8ffc975fac3"), "e9fb3f0000cc", "89c8ffc975fae9fb7fffff"),
+        (
+            near("89c8ffc975fac3"),
+            "e9fb3f0000cc",
+            "89c8ffc975fae9fb7fffff",
+        ),
         (
             hooked("89c8ffc975fac3"),
             "e9fb3f0000cc",
@@ -108,8 +112,16 @@ fn code_goes_to_the_trampoline_and_back(rt: HostRuntime) -> Result<(), Fail> {
             "e80080ffffe9fb7fffff",
         ),
         // 16-bit mode, where the jump has 3 bytes: mov ax, 1234; and loop to itself, as a bridge where its target stays
-        (small("b83412c3", StartTarget::Moved), "e9fd00", "b83412e9fdfd"),
-        (small("e2fe90c3", StartTarget::Moved), "e9fd00", "e2fe90e9fdfd"),
+        (
+            small("b83412c3", StartTarget::Moved),
+            "e9fd00",
+            "b83412e9fdfd",
+        ),
+        (
+            small("e2fe90c3", StartTarget::Moved),
+            "e9fd00",
+            "e2fe90e9fdfd",
+        ),
         (
             small("e2fe90c3", StartTarget::Hooked),
             "e9fd00",
@@ -118,8 +130,18 @@ fn code_goes_to_the_trampoline_and_back(rt: HostRuntime) -> Result<(), Fail> {
     ];
     for (case, patch, trampoline) in cases {
         let made = detour_of(rt.alloc(), &case)??;
-        assert_eq!(rt; hex::encode(rt.alloc(), made.patch())?.as_str(), patch, "the patch of {}", case.code);
-        assert_eq!(rt; hex::encode(rt.alloc(), made.trampoline())?.as_str(), trampoline, "the trampoline of {}", case.code);
+        assert_eq!(rt;
+            hex::encode(rt.alloc(), made.patch())?.as_str(),
+            patch,
+            "the patch of {}",
+            case.code
+        );
+        assert_eq!(rt;
+            hex::encode(rt.alloc(), made.trampoline())?.as_str(),
+            trampoline,
+            "the trampoline of {}",
+            case.code
+        );
         assert!(rt; made.form() == JumpForm::Near);
         assert_eq!(rt; made.taken(), made.patch().len());
     }
@@ -137,11 +159,20 @@ fn far_replacements(rt: HostRuntime) -> Result<(), Fail> {
     };
     let made = detour_of(rt.alloc(), &relay)??;
     assert!(rt; made.form() == JumpForm::Relay);
-    assert_eq!(rt; hex::encode(rt.alloc(), made.patch())?.as_str(), "e908800000cccccc");
+    assert_eq!(rt;
+        hex::encode(rt.alloc(), made.patch())?.as_str(),
+        "e908800000cccccc"
+    );
     let trampoline = "554889e54883ec20e9fb7fffffff250000000000000000ff7f0000";
-    assert_eq!(rt; hex::encode(rt.alloc(), made.trampoline())?.as_str(), trampoline);
+    assert_eq!(rt;
+        hex::encode(rt.alloc(), made.trampoline())?.as_str(),
+        trampoline
+    );
     let parts = made.parts();
-    assert_eq!(rt; (parts.jump_back, parts.slots, parts.relay), (Some(8), None, Some(13)));
+    assert_eq!(rt;
+        (parts.jump_back, parts.slots, parts.relay),
+        (Some(8), None, Some(13))
+    );
 
     let absolute = Case {
         to: 0x7FFE_0000_0000,
@@ -150,11 +181,20 @@ fn far_replacements(rt: HostRuntime) -> Result<(), Fail> {
     };
     let made = detour_of(rt.alloc(), &absolute)??;
     assert!(rt; made.form() == JumpForm::Absolute);
-    assert_eq!(rt; hex::encode(rt.alloc(), made.patch())?.as_str(), "ff250000000000000000fe7f0000");
+    assert_eq!(rt;
+        hex::encode(rt.alloc(), made.patch())?.as_str(),
+        "ff250000000000000000fe7f0000"
+    );
     let trampoline = "554889e54883ec2048897df831c0ff2504000000cccccccc0e10000000000000";
-    assert_eq!(rt; hex::encode(rt.alloc(), made.trampoline())?.as_str(), trampoline);
+    assert_eq!(rt;
+        hex::encode(rt.alloc(), made.trampoline())?.as_str(),
+        trampoline
+    );
     let parts = made.parts();
-    assert_eq!(rt; (parts.jump_back, parts.slots, parts.relay), (Some(14), Some(24), None));
+    assert_eq!(rt;
+        (parts.jump_back, parts.slots, parts.relay),
+        (Some(14), Some(24), None)
+    );
     Ok(())
 }
 
