@@ -17,6 +17,7 @@ mod write;
 pub use blocks::{move_block, move_blocks};
 pub use by_plan::move_by_plan;
 pub use branch_sizes::{BlockSpan, Form};
+pub use by_plan::move_by_plan;
 pub use error::MoveError;
 pub use last::last_len;
 pub use move_goals::Placed;

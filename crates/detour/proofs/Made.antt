@@ -1,0 +1,136 @@
+-- What the parts of the making of a detour give together.
+use Rattle.std.proofs.Common.{◌≡◌, ℕ, inl, inr, List, length, Option, None, Result, Ok, Err, refl, sym, subst, ◌∙◌}
+use Rattle.std.specs.Prelude.{IfOk}
+use Rattle.x86_values.specs.declared.Bits.{Bits}
+use Rattle.x86_values.specs.declared.Bits.TheVariants.{B64}
+use Rattle.flow_graph.specs.Control.{code_bytes}
+use Rattle.move_goals.specs.declared.items.Placed.{Placed}
+use Rattle.block_encoder.specs.declared.error.MoveError.{MoveError}
+use Rattle.block_encoder.specs.declared.error.MoveError.TheVariants as move_error
+use Rattle.block_encoder.specs.ByPlan.{IsPlanAnswer}
+use Rattle.detour.specs.declared.error.DetourError.{DetourError}
+use Rattle.detour.specs.declared.error.DetourError.TheVariants.{Memory, BadCode, TooSmall, Ends, Entered, Wraps, TooFar}
+use Rattle.detour.specs.declared.making.Jump.{Jump}
+use Rattle.detour.specs.declared.parts.JumpForm.{JumpForm}
+use Rattle.detour.specs.declared.parts.JumpForm.TheVariants.{Near, Relay, Absolute}
+use Rattle.detour.specs.declared.start.StartTarget.{StartTarget}
+use Rattle.detour.specs.declared.taken.Taken.{Taken}
+use Rattle.detour.specs.Taken.{AreTaken, bytes_in, first_code_behind}
+use Rattle.detour.specs.Jumps.{IsOutOfReach}
+use Rattle.detour.specs.Entries.{IsNotEntered}
+use Rattle.detour.specs.LawsBelow.{LawsBelow}
+use Rattle.detour.specs.ReadBack.{IsPatchRead}
+use Rattle.detour.proofs.ReadBack.{patch_read, trampoline_read}
+use Rattle.move_goals.specs.Items.{ArePlaced}
+use Rattle.detour.specs.Trampoline.{block_items, trampoline_plan}
+use Rattle.detour.specs.Detours.{IsTakenAnswer, IsRelay, IsRelayBehind, JumpParts, DetourState, IsJumpOf, IsAnswerTo, patch_of}
+use Rattle.detour.specs.Made.{refusal_of, IsFarJumpOf, IsLaid}
+
+-- ---- the relay
+
+module _ (bits : Bits) (ip : ℕ) (code : List ℕ) (place : ℕ) (start : StartTarget) where
+  -- there is none where nothing is taken
+  untaken : (why : DetourError) → IsTakenAnswer bits ip code 5 (Err why) → (why ≡ Memory → ⊥) → IsRelay bits ip code place start None
+  untaken Memory h other = absurd (other refl)
+  untaken (BadCode at error) h other = (Err (BadCode at error), (h, refl))
+  untaken (TooSmall len need) h other = (Err (TooSmall len need), (h, refl))
+  untaken (Ends at) h other = (Err (Ends at), (h, refl))
+  untaken (Entered from target) h other = absurd h
+  untaken (Wraps end) h other = absurd h
+  untaken (TooFar at target) h other = absurd h
+
+  pub relay_untaken : (why : DetourError) → IsTakenAnswer bits ip code 5 (Err why) → (r : Result (Option ℕ) DetourError)
+      → IfOk r (λ relay. (relay ≡ None) × (why ≡ Memory → ⊥)) → IfOk r (λ relay. IsRelay bits ip code place start relay)
+  relay_untaken why h (Ok relay) none = subst (λ (x : Option ℕ). IsRelay bits ip code place start x) (sym none.0) (untaken why h none.1)
+  relay_untaken why h (Err lost) none = tt
+
+  module _ (items : List Placed) where
+    -- nor where what is taken is not moved
+    unmoved : (why : MoveError) → IsPlanAnswer bits (block_items bits ip items) (trampoline_plan bits ip items place start) (Err why)
+        → (why ≡ move_error.Memory → ⊥) → IsRelayBehind bits ip place start (Ok items) None
+    unmoved move_error.Memory h other = absurd (other refl)
+    unmoved (move_error.TooMany count) h other = absurd h
+    unmoved (move_error.OldOrder at) h other = absurd h
+    unmoved (move_error.Wraps end) h other = (Err (move_error.Wraps end), (h, refl))
+    unmoved (move_error.TooFar at target) h other = (Err (move_error.TooFar at target), (h, refl))
+
+    pub relay_unmoved : (why : MoveError) → IsPlanAnswer bits (block_items bits ip items) (trampoline_plan bits ip items place start) (Err why)
+        → (r : Result (Option ℕ) DetourError) → IfOk r (λ relay. (relay ≡ None) × (why ≡ move_error.Memory → ⊥))
+        → IfOk r (λ relay. IsRelayBehind bits ip place start (Ok items) relay)
+    relay_unmoved why h (Ok relay) none = subst (λ (x : Option ℕ). IsRelayBehind bits ip place start (Ok items) x) (sym none.0) (unmoved why h none.1)
+    relay_unmoved why h (Err lost) none = tt
+
+    -- else it is that of what is taken
+    pub relay_taken : IsTakenAnswer bits ip code 5 (Ok items) → (r : Result (Option ℕ) DetourError)
+        → IfOk r (λ relay. IsRelayBehind bits ip place start (Ok items) relay) → IfOk r (λ relay. IsRelay bits ip code place start relay)
+    relay_taken are (Ok relay) h = (Ok items, (are, h))
+    relay_taken are (Err lost) h = tt
+
+-- ---- the jump
+
+-- a far jump is the first that reaches, where the near one does not
+pub far_first : (bits : Bits) (ip : ℕ) (code : List ℕ) (to place : ℕ) (start : StartTarget) → bits ≡ B64 → IsOutOfReach bits ip to
+    → (relay : Option ℕ) → IsRelay bits ip code place start relay → (form : JumpForm) (bytes : List ℕ) (by : Option ℕ) → IsFarJumpOf bits ip to relay form bytes by
+    → IsJumpOf bits ip code to place start form bytes by
+far_first bits ip code to place start long far relay tried Near bytes by h = absurd h
+far_first bits ip code to place start long far relay tried Relay bytes by h =
+    ((long, far), (h.0, (h.1.1.0, (subst (λ (r : Option ℕ). IsRelay bits ip code place start r) h.1.0 tried, h.1.1.1))))
+far_first bits ip code to place start long far relay tried Absolute bytes by h = ((long, far), ((relay, (tried, h.0)), h.1))
+
+-- ---- the answer
+
+abbrev parts_of_jump : Jump → JumpParts
+parts_of_jump jump = record { form = jump.form; bytes = jump.bytes.items; relay = jump.relay }
+
+module _ (laws : LawsBelow) (bits : Bits) (ip : ℕ) (code : List ℕ) (to place : ℕ) (start : StartTarget) (jump : Jump)
+    (first : IsJumpOf bits ip code to place start jump.form jump.bytes.items jump.relay) where
+  -- nothing is taken
+  pub refused_untaken : (why : DetourError) → IsTakenAnswer bits ip code (length jump.bytes.items) (Err why) → IsAnswerTo bits ip code to place start (Err why)
+  refused_untaken Memory h = tt
+  refused_untaken (BadCode at error) h = (parts_of_jump jump, (first, h))
+  refused_untaken (TooSmall len need) h = (parts_of_jump jump, (first, h))
+  refused_untaken (Ends at) h = (parts_of_jump jump, (first, h))
+  refused_untaken (Entered from target) h = absurd h
+  refused_untaken (Wraps end) h = absurd h
+  refused_untaken (TooFar at target) h = absurd h
+
+  module _ (t : Taken) (are : AreTaken bits ip code (length jump.bytes.items) t.items.items) (whole : first_code_behind t.items.items ≡ None)
+      (len : t.len ≡ bytes_in t.items.items) (placed : ArePlaced bits t.items.items) (closed : IsNotEntered (code_bytes bits ip code) t.items.items) where
+    -- it is not moved
+    unmoved_refused : (why : MoveError) → IsPlanAnswer bits (block_items bits ip t.items.items) (trampoline_plan bits ip t.items.items place start) (Err why)
+        → IsAnswerTo bits ip code to place start (Err (refusal_of why))
+    unmoved_refused move_error.Memory h = tt
+    unmoved_refused (move_error.TooMany count) h = absurd h
+    unmoved_refused (move_error.OldOrder at) h = absurd h
+    unmoved_refused (move_error.Wraps end) h =
+        record { jump = parts_of_jump jump; first = first; items = t.items.items; are_taken = are; whole = whole; closed = closed; refused = h }
+    unmoved_refused (move_error.TooFar at target) h =
+        record { jump = parts_of_jump jump; first = first; items = t.items.items; are_taken = are; whole = whole; closed = closed; refused = h }
+
+    -- **what is laid of it is the answer**
+    pub laid_answer : (r : Result DetourState DetourError) → IsLaid bits ip to place start jump t r → IsAnswerTo bits ip code to place start r
+    laid_answer (Ok d) h =
+        let patch : d.patch ≡ patch_of jump.bytes.items (bytes_in t.items.items) = subst (λ (n : ℕ). d.patch ≡ patch_of jump.bytes.items n) len h.1.1.patch in
+        record {
+          jump = parts_of_jump jump;
+          first = first;
+          items = t.items.items;
+          are_taken = are;
+          whole = whole;
+          closed = closed;
+          moved = h.0;
+          block = h.1.0;
+          form = h.1.1.form;
+          taken = h.1.1.taken ∙ len;
+          patch = patch;
+          trampoline = h.1.1.trampoline;
+          parts = h.1.1.parts;
+          patch_read = subst (λ (bs : List ℕ). IsPatchRead bits ip to jump.form jump.bytes.items jump.relay bs) (sym patch)
+              (patch_read laws bits ip code to place start jump.form jump.bytes.items jump.relay first (bytes_in t.items.items));
+          trampoline_read = trampoline_read laws bits ip t.items.items place start placed h.0 h.1.0;
+        }
+    laid_answer (Err why) h =
+        elim h [
+          | inl lost ↦ subst (λ (w : DetourError). IsAnswerTo bits ip code to place start (Err w)) (sym lost) tt
+          | inr cause ↦ subst (λ (w : DetourError). IsAnswerTo bits ip code to place start (Err w)) (sym cause.1.0) (unmoved_refused cause.0 cause.1.1)
+        ]

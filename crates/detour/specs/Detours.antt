@@ -1,0 +1,163 @@
+-- Detours: the jump that is chosen, what is written over the function, the trampoline, and when there is no detour.
+use Rattle.std.specs.Prelude.{◌≡◌, ℕ, ◌+◌, ◌-◌, ◌*◌, ◌^◌, nat_le, nat_lt, is_some, if◌then◌else◌, List, [], ◌++◌, length, replicate, slice_index_or, Option, Some, None, IfSome, Result, Ok, Err}
+use Rattle.x86_values.specs.declared.Bits.{Bits}
+use Rattle.x86_values.specs.declared.Bits.TheVariants.{B64}
+use Rattle.x86_values.specs.Wrapping.{wrapped}
+use Rattle.flow_graph.specs.Control.{code_bytes}
+use Rattle.move_goals.specs.declared.items.Placed.{Placed}
+use Rattle.block_encoder.specs.declared.error.MoveError.{MoveError}
+use Rattle.block_encoder.specs.declared.error.MoveError.TheVariants as move_error
+use Rattle.block_encoder.specs.Moved.{MovedLists}
+use Rattle.block_encoder.specs.ByPlan.{IsPlanAnswer}
+use Rattle.detour.specs.declared.error.DetourError.{DetourError}
+use Rattle.detour.specs.declared.error.DetourError.TheVariants.{Memory, BadCode, TooSmall, Ends, Entered, Wraps, TooFar}
+use Rattle.detour.specs.declared.parts.JumpForm.{JumpForm}
+use Rattle.detour.specs.declared.parts.JumpForm.TheVariants.{Near, Relay, Absolute}
+use Rattle.detour.specs.declared.parts.Parts.{Parts}
+use Rattle.detour.specs.declared.start.StartTarget.{StartTarget}
+use Rattle.detour.specs.Taken.{AreTaken, IsBadCode, IsTooSmall, IsCodeBehind, bytes_in, first_end, first_code_behind}
+use Rattle.detour.specs.Jumps.{IsNearJump, IsOutOfReach, absolute_jump}
+use Rattle.detour.specs.Entries.{IsFirstEntry, IsNotEntered}
+use Rattle.detour.specs.Trampoline.{IsTrampoline, block_items, trampoline_plan}
+use Rattle.detour.specs.ReadBack.{IsPatchRead, IsTrampolineRead}
+
+-- ---- what is taken
+
+-- what is taken for a jump of so many bytes: instructions behind whose end nothing but padding stands; else the first cause that there are none
+abbrev pub IsTakenAnswer : Bits → ℕ → List ℕ → ℕ → Result (List Placed) DetourError → Type 0
+IsTakenAnswer bits ip code need (Ok items) = AreTaken bits ip code need items × (first_code_behind items ≡ None)
+IsTakenAnswer bits ip code need (Err (BadCode at error)) = IsBadCode bits ip code need at error
+IsTakenAnswer bits ip code need (Err (TooSmall len wanted)) = IsTooSmall bits ip code len need × (wanted ≡ need)
+IsTakenAnswer bits ip code need (Err (Ends at)) = (items : List Placed) × (AreTaken bits ip code need items × IsCodeBehind items at)
+IsTakenAnswer bits ip code need (Err Memory) = Unit {0}
+IsTakenAnswer bits ip code need (Err why) = ⊥
+
+-- ---- the relay
+
+-- the address behind so many bytes at a place, where a relay ends in the address space of 64-bit mode
+unfoldable pub relay_behind : ℕ → ℕ → Option ℕ
+relay_behind place len = if nat_le (place + len + 14) (2 ^ 64) then Some (place + len) else None
+
+-- the relay of a trampoline, if there is one
+abbrev pub IsRelayOf : ℕ → Result MovedLists MoveError → Option ℕ → Type 0
+IsRelayOf place (Ok m) relay = relay ≡ relay_behind place (length m.bytes)
+IsRelayOf place (Err move_error.Memory) relay = ⊥
+IsRelayOf place (Err why) relay = relay ≡ None
+
+-- the relay of what is taken, if there is one
+abbrev pub IsRelayBehind : Bits → ℕ → ℕ → StartTarget → Result (List Placed) DetourError → Option ℕ → Type 0
+IsRelayBehind bits ip place start (Ok items) relay =
+    (moved : Result MovedLists MoveError)
+    × (IsPlanAnswer bits (block_items bits ip items) (trampoline_plan bits ip items place start) moved × IsRelayOf place moved relay)
+IsRelayBehind bits ip place start (Err Memory) relay = ⊥
+IsRelayBehind bits ip place start (Err why) relay = relay ≡ None
+
+-- the address of the relay behind the trampoline of what a near jump of 5 bytes takes, if there is one
+abbrev pub IsRelay : Bits → ℕ → List ℕ → ℕ → StartTarget → Option ℕ → Type 0
+IsRelay bits ip code place start relay =
+    (taken : Result (List Placed) DetourError) × (IsTakenAnswer bits ip code 5 taken × IsRelayBehind bits ip place start taken relay)
+
+-- ---- the jump
+
+-- a jump: its form, its bytes, and the address of its relay
+pub record JumpParts : Type 0 where
+  pub form : JumpForm
+  pub bytes : List ℕ
+  pub relay : Option ℕ
+
+-- a jump of a form from the function to the replacement
+abbrev pub IsJumpOf : Bits → ℕ → List ℕ → ℕ → ℕ → StartTarget → JumpForm → List ℕ → Option ℕ → Type 0
+IsJumpOf bits ip code to place start Near bytes relay = IsNearJump bits ip to bytes × (relay ≡ None)
+IsJumpOf bits ip code to place start Relay bytes relay =
+    ((bits ≡ B64) × IsOutOfReach bits ip to)
+    × ((address : ℕ) × ((relay ≡ Some address) × (IsRelay bits ip code place start (Some address) × IsNearJump bits ip address bytes)))
+IsJumpOf bits ip code to place start Absolute bytes relay =
+    ((bits ≡ B64) × IsOutOfReach bits ip to)
+    × (((tried : Option ℕ) × (IsRelay bits ip code place start tried × IfSome tried (IsOutOfReach bits ip)))
+    × ((bytes ≡ absolute_jump to) × (relay ≡ None)))
+
+-- the first of the three forms that reaches
+abbrev pub IsFirstJump : Bits → ℕ → List ℕ → ℕ → ℕ → StartTarget → JumpParts → Type 0
+IsFirstJump bits ip code to place start jump = IsJumpOf bits ip code to place start jump.form jump.bytes jump.relay
+
+-- ---- the detour
+
+-- what contracts see of a `Detour`
+pub record DetourState : Type 0 where
+  pub form : JumpForm
+  pub taken : ℕ
+  pub parts : Parts
+  pub patch : List ℕ
+  pub trampoline : List ℕ
+
+-- the jump, and INT3 up to the end of what is taken
+unfoldable pub patch_of : List ℕ → ℕ → List ℕ
+patch_of jump taken = jump ++ replicate (taken - length jump) 0xCC
+
+-- the relay is the jump through the address behind it
+abbrev pub relay_bytes : Option ℕ → ℕ → List ℕ
+relay_bytes None to = []
+relay_bytes (Some address) to = absolute_jump to
+
+-- where the parts of the trampoline stand: the jump back is the last instruction of the block, the slots are its last bytes, and the relay is behind it
+unfoldable pub parts_of : List Placed → ℕ → MovedLists → Option ℕ → Parts
+parts_of items place m relay = record {
+  jump_back = if is_some (first_end items) then None else Some (slice_index_or m.starts (length m.starts - 1) 0 - place);
+  slots = if nat_lt 0 (length m.slots) then Some (length m.bytes - 8 * length m.slots) else None;
+  relay = if is_some relay then Some (length m.bytes) else None;
+}
+
+-- the detour of a function: the first jump that reaches over what it takes, where nothing else enters, and the trampoline
+pub record IsDetour (bits : Bits) (ip : ℕ) (code : List ℕ) (to place : ℕ) (start : StartTarget) (d : DetourState) : Type 0 where
+  pub jump : JumpParts
+  pub first : IsFirstJump bits ip code to place start jump
+  pub items : List Placed
+  pub are_taken : AreTaken bits ip code (length jump.bytes) items
+  pub whole : first_code_behind items ≡ None
+  pub closed : IsNotEntered (code_bytes bits ip code) items
+  pub moved : MovedLists
+  pub block : IsTrampoline bits ip items place start moved
+  pub form : d.form ≡ jump.form
+  pub taken : d.taken ≡ bytes_in items
+  pub patch : d.patch ≡ patch_of jump.bytes (bytes_in items)
+  pub trampoline : d.trampoline ≡ moved.bytes ++ relay_bytes jump.relay to
+  pub parts : d.parts ≡ parts_of items place moved jump.relay
+  pub patch_read : IsPatchRead bits ip to jump.form jump.bytes jump.relay d.patch
+  pub trampoline_read : IsTrampolineRead bits ip items place start block.layout
+
+-- nothing is taken for the first jump that reaches, for this cause
+abbrev pub IsNotTaken : Bits → ℕ → List ℕ → ℕ → ℕ → StartTarget → DetourError → Type 0
+IsNotTaken bits ip code to place start why =
+    (jump : JumpParts) × (IsFirstJump bits ip code to place start jump × IsTakenAnswer bits ip code (length jump.bytes) (Err why))
+
+-- what is taken for it is entered, at first from an offset, to another
+pub record IsEntered (bits : Bits) (ip : ℕ) (code : List ℕ) (to place : ℕ) (start : StartTarget) (from target : ℕ) : Type 0 where
+  pub jump : JumpParts
+  pub first : IsFirstJump bits ip code to place start jump
+  pub items : List Placed
+  pub are_taken : AreTaken bits ip code (length jump.bytes) items
+  pub whole : first_code_behind items ≡ None
+  pub entry : IsFirstEntry (code_bytes bits ip code) items from target
+
+-- what is taken for it is not entered, and not moved for this cause
+pub record IsNotMoved (bits : Bits) (ip : ℕ) (code : List ℕ) (to place : ℕ) (start : StartTarget) (why : MoveError) : Type 0 where
+  pub jump : JumpParts
+  pub first : IsFirstJump bits ip code to place start jump
+  pub items : List Placed
+  pub are_taken : AreTaken bits ip code (length jump.bytes) items
+  pub whole : first_code_behind items ≡ None
+  pub closed : IsNotEntered (code_bytes bits ip code) items
+  pub refused : IsPlanAnswer bits (block_items bits ip items) (trampoline_plan bits ip items place start) (Err why)
+
+-- the answer, by the addresses in the mode
+abbrev pub IsAnswerTo : Bits → ℕ → List ℕ → ℕ → ℕ → StartTarget → Result DetourState DetourError → Type 0
+IsAnswerTo bits ip code to place start (Ok d) = IsDetour bits ip code to place start d
+IsAnswerTo bits ip code to place start (Err (Entered from target)) = IsEntered bits ip code to place start from target
+IsAnswerTo bits ip code to place start (Err (Wraps end)) = IsNotMoved bits ip code to place start (move_error.Wraps end)
+IsAnswerTo bits ip code to place start (Err (TooFar at target)) = IsNotMoved bits ip code to place start (move_error.TooFar at target)
+IsAnswerTo bits ip code to place start (Err Memory) = Unit {0}
+IsAnswerTo bits ip code to place start (Err why) = IsNotTaken bits ip code to place start why
+
+-- the answer: the address of the replacement is taken modulo 2 to the number of bits of the mode
+abbrev pub IsDetourAnswer : Bits → ℕ → List ℕ → ℕ → ℕ → StartTarget → Result DetourState DetourError → Type 0
+IsDetourAnswer bits ip code to place start answer = IsAnswerTo bits ip code (wrapped bits to) place start answer

@@ -1,0 +1,27 @@
+-- What the proofs of this crate use of the crates below: what their laws say.
+use Rattle.std.specs.Prelude.{◌<◌, IsTrue}
+use Rattle.x86_values.specs.declared.Instr.{Instr}
+use Rattle.opcode_rows.specs.Allowed.{is_well_formed}
+use Rattle.opcode_rows.specs.declared.generated_spots.TheConstants.{ROWS}
+use Rattle.encoder.specs.Facts.{EncodingFacts}
+use Rattle.decoder.specs.OneReading.{OneReadingFacts, WrappedFacts}
+use Rattle.moved_targets.specs.Facts.{TargetFacts}
+use Rattle.branch_forms.specs.Facts.{CodeFacts, PieceFacts, FormFacts}
+use Rattle.move_goals.specs.Facts.{FirstFacts, PlanFacts}
+use Rattle.block_encoder.specs.Facts.{SeatFacts, MovedFacts, ReachFacts}
+
+-- codes, encodings, readings, targets, forms, goals, seats, moved blocks and reach
+pub record LawsBelow : Type 0 where
+  pub in_table : (i : Instr) → IsTrue (is_well_formed i) → i.code.0 < ROWS
+  pub encodings : EncodingFacts
+  pub readings : OneReadingFacts
+  pub wraps : WrappedFacts
+  pub targets : TargetFacts
+  pub codes : CodeFacts
+  pub pieces : PieceFacts
+  pub forms : FormFacts
+  pub firsts : FirstFacts
+  pub plans : PlanFacts
+  pub seats : SeatFacts
+  pub moved : MovedFacts
+  pub reach : ReachFacts

@@ -1,0 +1,17 @@
+//! Detours: a jump over the first bytes of a function, and a trampoline that does what they did and goes on behind them.
+#![tactic(auto)]
+
+mod entries;
+mod error;
+mod jumps;
+mod laws_below;
+mod making;
+mod parts;
+mod start;
+mod taken;
+mod trampoline;
+
+pub use error::DetourError;
+pub use making::detour;
+pub use parts::{Detour, JumpForm, Parts};
+pub use start::StartTarget;

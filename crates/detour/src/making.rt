@@ -1,0 +1,363 @@
+//! Making a detour.
+
+ghost use Rattle.std.specs.Prelude.{◌≡◌, ◌≤◌, ◌<◌, ◌++◌, ◌^◌, None, Ok, length, IfOk, IfErr};
+ghost use Rattle.x86_values.specs.Wrapping.{width};
+ghost use Rattle.detour.specs.declared.error.DetourError.TheVariants.{Memory};
+ghost use Rattle.detour.specs.Detours as spec;
+ghost use Rattle.detour.specs.Detours.{IsRelay, IsRelayBehind, IsJumpOf, IsAnswerTo, IsDetourAnswer, relay_bytes};
+ghost use Rattle.block_encoder.specs.declared.error.MoveError.TheVariants as move_error;
+ghost use Rattle.detour.specs.Made.{IsWholeTaken, IsFarJump, IsPutTogether, IsLaid, refusal_of};
+ghost use Rattle.detour.specs.Reading.{AreCoded, IsFit};
+ghost use Rattle.detour.specs.Taken.{bytes_in};
+ghost use Rattle.detour.specs.Taken as taken_spec;
+
+use crate::entries::first_entry;
+use crate::error::DetourError;
+use crate::jumps::{ABSOLUTE_LEN, NEAR_LEN, absolute_jump, near_jump};
+use crate::laws_below::laws_below;
+use crate::parts::{Detour, JumpForm, Parts};
+use crate::start::StartTarget;
+use crate::taken::{Taken, first_code_behind, first_end, offset_at, take};
+use crate::trampoline::lay_trampoline;
+use arrayvec::ArrayVec;
+use block_encoder::{MoveError, MovedBlocks};
+use flow_graph::FlowError;
+use move_goals::Placed;
+use std::alloc::{AllocError, Global};
+use x86_values::{Bits, wrap};
+
+/// The refusal of a moving.
+fn move_refusal(why: MoveError) -> DetourError
+    ensures { result ≡ refusal_of why }
+{
+    match why {
+        MoveError::Wraps { end } => DetourError::Wraps { end },
+        MoveError::TooFar { at, target } => DetourError::TooFar { at, target },
+        _ => DetourError::Memory,
+    }
+}
+
+/// The instructions to be taken for a jump of `need` bytes, where nothing but padding stands behind one that never goes on.
+fn take_whole(
+    alloc: Global,
+    bits: Bits,
+    ip: u64,
+    code: &[u8],
+    need: usize,
+) -> Result<Taken, DetourError>
+    requires { need ≤ 15 }
+    ensures { IsWholeTaken bits ip code.now need result }
+{
+    let taken = take(alloc, bits, ip, code, need)?;
+    match first_code_behind(&taken.items) {
+        Some(k) => Err(DetourError::Ends {
+            at: offset_at(&taken.items, k) as u64,
+        }),
+        None => Ok(taken),
+    }
+}
+
+/// The address of a relay behind so many bytes at a place, if it ends in the address space.
+#[tactic(auto, unfolding(crate::specs::Detours::relay_behind))]
+fn relay_behind(place: u64, len: usize) -> Option<u64>
+    ensures { result ≡ spec.relay_behind place len }
+{
+    let end = u128::from(place) + len as u128;
+    if end + ABSOLUTE_LEN as u128 <= 1 << 64 {
+        Some(end as u64)
+    } else {
+        None
+    }
+}
+
+/// That there is no relay, where nothing is taken for another cause than want of memory.
+fn no_relay_for(why: DetourError) -> Result<Option<u64>, DetourError>
+    ensures none { IfOk result (λ relay. (relay ≡ None) × (why ≡ Memory → ⊥)) }
+    ensures refused { IfErr result (λ error. error ≡ Memory) }
+{
+    match why {
+        DetourError::Memory => Err(DetourError::Memory),
+        _ => Ok(None),
+    }
+}
+
+/// That there is no relay, where what is taken is not moved for another cause than want of memory.
+fn no_relay_behind(why: MoveError) -> Result<Option<u64>, DetourError>
+    ensures none { IfOk result (λ relay. (relay ≡ None) × (why ≡ move_error.Memory → ⊥)) }
+    ensures refused { IfErr result (λ error. error ≡ Memory) }
+{
+    match why {
+        MoveError::Memory => Err(DetourError::Memory),
+        _ => Ok(None),
+    }
+}
+
+/// The address of a relay behind the trampoline of what is taken, if there is one in the address space.
+fn relay_of(
+    alloc: Global,
+    bits: Bits,
+    ip: u64,
+    taken: &Taken,
+    place: u64,
+    start: StartTarget,
+) -> Result<Option<u64>, DetourError>
+    requires { IsFit bits taken.now }
+    ensures relay { IfOk result (λ relay. IsRelayBehind bits ip place start (Ok taken.now.items.items) relay) }
+    ensures refused { IfErr result (λ why. why ≡ Memory) }
+{
+    match lay_trampoline(alloc, bits, ip, taken, place, start) {
+        Ok(moved) => Ok(relay_behind(place, moved.bytes().len())),
+        Err(why) => no_relay_behind(why),
+    }
+}
+
+/// The address of a relay behind the trampoline of a near jump, if there is one in the address space.
+fn relay_address(
+    alloc: Global,
+    bits: Bits,
+    ip: u64,
+    code: &[u8],
+    place: u64,
+    start: StartTarget,
+) -> Result<Option<u64>, DetourError>
+    ensures relay { IfOk result (λ relay. IsRelay bits ip code.now place start relay) }
+    ensures refused { IfErr result (λ why. why ≡ Memory) }
+{
+    match take_whole(alloc, bits, ip, code, NEAR_LEN) {
+        Ok(taken) => relay_of(alloc, bits, ip, &taken, place, start),
+        Err(why) => no_relay_for(why),
+    }
+}
+
+/// A jump: its form, its bytes, and the address of its relay.
+#[derive(Drop)]
+pub(crate) struct Jump {
+    form: JumpForm,
+    bytes: ArrayVec<u8, 15>,
+    relay: Option<u64>,
+}
+
+/// The jump to a relay that reaches it, else the one that is followed by its address.
+fn far_jump(bits: Bits, ip: u64, to: u64, relay: Option<u64>) -> Jump
+    ensures jump { IsFarJump bits ip to relay result }
+    ensures short { length result.bytes.items ≤ 15 }
+{
+    if let Some(address) = relay {
+        if let Some(bytes) = near_jump(bits, ip, address) {
+            return Jump {
+                form: JumpForm::Relay,
+                bytes,
+                relay: Some(address),
+            };
+        }
+    }
+    Jump {
+        form: JumpForm::Absolute,
+        bytes: absolute_jump(to),
+        relay: None,
+    }
+}
+
+/// The first jump from the function to the replacement that reaches it.
+fn jump_for(
+    alloc: Global,
+    bits: Bits,
+    ip: u64,
+    code: &[u8],
+    to: u64,
+    place: u64,
+    start: StartTarget,
+) -> Result<Jump, DetourError>
+    requires { to < 2 ^ width bits }
+    ensures jump { IfOk result (λ jump. IsJumpOf bits ip code.now to place start jump.form jump.bytes.items jump.relay) }
+    ensures short { IfOk result (λ jump. length jump.bytes.items ≤ 15) }
+    ensures refused { IfErr result (λ why. why ≡ Memory) }
+{
+    laws_below();
+    match near_jump(bits, ip, to) {
+        Some(bytes) => Ok(Jump {
+            form: JumpForm::Near,
+            bytes,
+            relay: None,
+        }),
+        None => match relay_address(alloc, bits, ip, code, place, start) {
+            Ok(relay) => Ok(far_jump(bits, ip, to, relay)),
+            Err(_) => Err(DetourError::Memory),
+        },
+    }
+}
+
+/// The patch: the jump, and CC up to the end of what is taken.
+#[tactic(auto, unfolding(crate::specs::Detours::patch_of))]
+fn patch_of(alloc: Global, jump: &[u8], len: usize) -> Result<Vec<u8>, AllocError>
+    requires { length jump.now ≤ len }
+    ensures { IfOk result (λ patch. patch.items ≡ spec.patch_of jump.now len) }
+{
+    let mut patch = Vec::with_capacity(alloc, len)?;
+    patch.extend_from_slice(jump)?;
+    patch.resize(len, 0xCC)?;
+    Ok(patch)
+}
+
+/// The trampoline: the moved block, and the relay to the replacement if there is one.
+fn trampoline_of(
+    alloc: Global,
+    block: &[u8],
+    relay: Option<u64>,
+    to: u64,
+) -> Result<Vec<u8>, AllocError>
+    ensures { IfOk result (λ bytes. bytes.items ≡ block.now ++ relay_bytes relay to) }
+{
+    let mut bytes = Vec::new(alloc);
+    bytes.extend_from_slice(block)?;
+    if let Some(_address) = relay {
+        bytes.extend_from_slice(&absolute_jump(to))?;
+    }
+    Ok(bytes)
+}
+
+/// Where the parts of a trampoline stand.
+#[tactic(auto, unfolding(crate::specs::Detours::parts_of))]
+fn parts_of(place: u64, items: &[Placed], moved: &MovedBlocks, relay: Option<u64>) -> Parts
+    requires coded { AreCoded items.now }
+    requires back { taken_spec.first_end items.now ≡ None → 0 < length moved.now.starts }
+    ensures { result ≡ spec.parts_of items.now place moved.now relay }
+{
+    let starts = moved.starts();
+    let slots = moved.slots().len();
+    Parts {
+        jump_back: if first_end(items).is_none() {
+            Some(starts[starts.len() - 1].saturating_sub(place))
+        } else {
+            None
+        },
+        slots: if slots > 0 {
+            Some(moved.bytes().len().saturating_sub(slots.saturating_mul(8)))
+        } else {
+            None
+        },
+        relay: if relay.is_some() {
+            Some(moved.bytes().len())
+        } else {
+            None
+        },
+    }
+}
+
+/// The patch, the trampoline and its parts, of what is taken and moved.
+fn put_together(
+    alloc: Global,
+    to: u64,
+    place: u64,
+    jump: &Jump,
+    taken: &Taken,
+    moved: &MovedBlocks,
+) -> Result<Detour, DetourError>
+    requires coded { AreCoded taken.now.items.items }
+    requires len { taken.now.len ≡ bytes_in taken.now.items.items }
+    requires fits { length jump.now.bytes.items ≤ taken.now.len }
+    requires back { taken_spec.first_end taken.now.items.items ≡ None → 0 < length moved.now.starts }
+    ensures parts { IfOk result (λ d. IsPutTogether to place jump.now taken.now moved.now d) }
+    ensures refused { IfErr result (λ why. why ≡ Memory) }
+{
+    let parts = parts_of(place, &taken.items, moved, jump.relay);
+    let Ok(patch) = patch_of(alloc, &jump.bytes, taken.len) else {
+        return Err(DetourError::Memory);
+    };
+    match trampoline_of(alloc, moved.bytes(), jump.relay, to) {
+        Ok(trampoline) => Ok(Detour {
+            form: jump.form,
+            taken: taken.len,
+            parts,
+            patch,
+            trampoline,
+        }),
+        Err(_) => Err(DetourError::Memory),
+    }
+}
+
+/// The detour by a jump over what it takes, which nothing else enters.
+fn lay_detour(
+    alloc: Global,
+    bits: Bits,
+    ip: u64,
+    to: u64,
+    place: u64,
+    start: StartTarget,
+    jump: &Jump,
+    taken: &Taken,
+) -> Result<Detour, DetourError>
+    requires fit { IsFit bits taken.now }
+    requires fits { length jump.now.bytes.items ≤ taken.now.len }
+    ensures { IsLaid bits ip to place start jump.now taken.now result }
+{
+    laws_below();
+    match lay_trampoline(alloc, bits, ip, taken, place, start) {
+        Ok(moved) => put_together(alloc, to, place, jump, taken, &moved),
+        Err(why) => Err(move_refusal(why)),
+    }
+}
+
+/// The detour by the first jump that reaches.
+fn detour_by(
+    alloc: Global,
+    bits: Bits,
+    ip: u64,
+    code: &[u8],
+    to: u64,
+    place: u64,
+    start: StartTarget,
+    jump: &Jump,
+) -> Result<Detour, DetourError>
+    requires size { length code.now ≤ 1048576 }
+    requires jump { IsJumpOf bits ip code.now to place start jump.now.form jump.now.bytes.items jump.now.relay }
+    requires short { length jump.now.bytes.items ≤ 15 }
+    ensures { IsAnswerTo bits ip code.now to place start result }
+{
+    laws_below();
+    let taken = match take_whole(alloc, bits, ip, code, jump.bytes.len()) {
+        Ok(taken) => taken,
+        Err(why) => return Err(why),
+    };
+    match first_entry(alloc, bits, ip, code, &taken) {
+        Ok(None) => lay_detour(alloc, bits, ip, to, place, start, jump, &taken),
+        Ok(Some((from, target))) => Err(DetourError::Entered {
+            from: u64::from(from),
+            target: target as u64,
+        }),
+        Err(FlowError::Memory) => Err(DetourError::Memory),
+    }
+}
+
+/// A detour of a function by a jump over its first bytes to a replacement, with a trampoline that does what they did and goes on behind them.
+///
+/// `code` is the function's bytes from its first one on, which has the address `ip`; `to` is the address of the replacement; at `place` the trampoline
+/// will stand. `ip` and `to` are taken modulo 2 to the number of bits of the mode.
+///
+/// The jump is the first of these that reaches: the near jump of the mode; in 64-bit mode the near jump to a relay behind the trampoline; the jump of 14
+/// bytes through an address behind it. Taken are the first instructions of `code`, as few as have at least the bytes of the jump; behind one that never
+/// goes on (RET, JMP, UD2) only padding is: NOP of any length, and INT3. The patch replaces them. The trampoline has the moved instructions, padding
+/// apart, then a jump back behind what was taken unless the last of them never goes on, in the least layout, and behind that gap, slots and relay. A
+/// target where a moved instruction begins goes with it, that of the first one as `start` says, and every other stays.
+///
+/// Refused, in this order: a byte of the part to be taken that starts no instruction; code that ends before it; code that is no padding behind an
+/// instruction that never goes on; code from which control may go into the part, behind its first byte (from a moved instruction: to where none begins);
+/// and what the moving is refused by. `Memory` may stand in place of each.
+pub fn detour(
+    alloc: Global,
+    bits: Bits,
+    ip: u64,
+    code: &[u8],
+    to: u64,
+    place: u64,
+    start: StartTarget,
+) -> Result<Detour, DetourError>
+    requires { length code.now ≤ 1048576 }
+    ensures { IsDetourAnswer bits ip code.now to place start result }
+{
+    let to = wrap(bits, u128::from(to));
+    match jump_for(alloc, bits, ip, code, to, place, start) {
+        Ok(jump) => detour_by(alloc, bits, ip, code, to, place, start, &jump),
+        Err(_) => Err(DetourError::Memory),
+    }
+}

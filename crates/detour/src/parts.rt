@@ -1,0 +1,85 @@
+//! What a detour is made of.
+
+ghost use Rattle.std.specs.Prelude.{◌≡◌};
+
+use std::marker::Model;
+
+/// How the jump of a detour goes to the replacement.
+#[derive(Clone, Copy, PartialEq, Eq, Debug)]
+pub enum JumpForm {
+    /// The near jump of the mode.
+    Near,
+    /// A near jump to a relay, which stands behind the trampoline and has the address of the replacement.
+    Relay,
+    /// `FF 25` and the address of the replacement behind it, 14 bytes.
+    Absolute,
+}
+
+/// Where the parts of a trampoline stand, in bytes from its first one, where the moved instructions begin.
+#[derive(Clone, Copy, PartialEq, Eq, Debug)]
+pub struct Parts {
+    /// The jump back, if control goes on behind what was taken.
+    pub jump_back: Option<u64>,
+    /// The first of the slots, if there are any.
+    pub slots: Option<usize>,
+    /// The relay, if the jump goes there.
+    pub relay: Option<usize>,
+}
+
+/// A detour: what is written over the first bytes of a function, and its trampoline.
+#[derive(Drop)]
+pub struct Detour {
+    pub(crate) form: JumpForm,
+    pub(crate) taken: usize,
+    pub(crate) parts: Parts,
+    pub(crate) patch: Vec<u8>,
+    pub(crate) trampoline: Vec<u8>,
+}
+
+impl Model for Detour {
+    ghost use Rattle.detour.specs.Detours.{DetourState};
+    ghost use Rattle.std.specs.Prelude.{⊤};
+
+    ghost Value = { DetourState };
+
+    ghost view = { λ d. record { form = d.form; taken = d.taken; parts = d.parts; patch = d.patch.items; trampoline = d.trampoline.items } };
+
+    ghost invariant = { λ d. ⊤ };
+}
+
+impl Detour {
+    /// The form of the jump.
+    pub fn form(&self) -> JumpForm
+        ensures { result ≡ self.now.form }
+    {
+        self.form
+    }
+
+    /// How many bytes of the function are taken: those of the patch.
+    pub fn taken(&self) -> usize
+        ensures { result ≡ self.now.taken }
+    {
+        self.taken
+    }
+
+    /// Where the parts of the trampoline stand.
+    pub fn parts(&self) -> Parts
+        ensures { result ≡ self.now.parts }
+    {
+        self.parts
+    }
+
+    /// The bytes that replace the first ones of the function: the jump, and CC up to the end of what is taken.
+    pub fn patch(&self) -> &[u8]
+        ensures { result.now ≡ self.now.patch }
+    {
+        &self.patch
+    }
+
+    /// The bytes of the trampoline: the moved instructions, the jump back, and where they are needed a gap, slots and the relay.
+    pub fn trampoline(&self) -> &[u8]
+        ensures { result.now ≡ self.now.trampoline }
+    {
+        &self.trampoline
+    }
+}

@@ -1,0 +1,10 @@
+//! What becomes of targets at the start of the function.
+
+/// Where a taken instruction goes whose target is the function's own first byte.
+#[derive(Clone, Copy, PartialEq, Eq, Debug)]
+pub enum StartTarget {
+    /// To the moved first instruction: a loop stays in the trampoline.
+    Moved,
+    /// To where it went, and so through the jump of the detour: recursion comes to the replacement.
+    Hooked,
+}

@@ -1,0 +1,144 @@
+//! The moved instructions and the jump back.
+
+ghost use Rattle.std.specs.Prelude.{◌≡◌, ◌<◌, ◌≤◌, length, IfOk, IfSome};
+ghost use Rattle.move_goals.specs.Items.{ArePlaced, first_below};
+ghost use Rattle.move_goals.specs.Goals.{begins_at};
+ghost use Rattle.move_goals.specs.Plan.{branch_with};
+ghost use Rattle.block_encoder.specs.ByPlan.{IsPlanAnswer};
+ghost use Rattle.detour.specs.Reading.{IsFit};
+ghost use Rattle.detour.specs.Trampoline as spec;
+
+use crate::jumps::jump_back;
+use crate::laws_below::laws_below;
+use crate::start::StartTarget;
+use crate::taken::{Taken, first_end, moved_count};
+use block_encoder::{MoveError, MovedBlocks, move_by_plan};
+use branch_forms::choices_of;
+use branch_sizes::{Branch, Goal, Plan};
+use move_goals::Placed;
+use moved_targets::target_of;
+use std::alloc::{AllocError, Global};
+use x86_values::{Bits, wrap};
+
+/// The instructions of the trampoline: those that are moved, and the jump back if control goes on behind them.
+#[tactic(auto, unfolding(crate::specs::Trampoline::block_items))]
+fn block_items(alloc: Global, bits: Bits, ip: u64, taken: &Taken) -> Result<Vec<Placed>, AllocError>
+    requires { IsFit bits taken.now }
+    ensures { IfOk result (λ items. items.items ≡ spec.block_items bits ip taken.now.items.items) }
+{
+    let count = moved_count(&taken.items);
+    let mut items = Vec::with_capacity(alloc, count + 1)?;
+    items.extend_from_slice(&taken.items[..count])?;
+    if first_end(&taken.items).is_none() {
+        let back = wrap(bits, u128::from(ip) + taken.len as u128);
+        items.push(jump_back(bits, back))?;
+    }
+    Ok(items)
+}
+
+/// The first of `count` instructions that began at an address.
+fn item_at(items: &[Placed], count: usize, target: u64) -> Option<usize>
+    requires { count ≤ length items.now }
+    ensures value { result ≡ first_below (begins_at items.now target) count }
+    ensures within { IfSome result (λ k. k < count) }
+{
+    laws_below();
+    'items: for k in 0..count {
+        if items[k].ip == target {
+            return Some(k);
+        }
+    }
+    None
+}
+
+/// The goal of the function's own start.
+fn start_goal(start: StartTarget, target: u64) -> Goal
+    ensures { result ≡ spec.start_goal start target }
+{
+    match start {
+        StartTarget::Moved => Goal::Inside(0),
+        StartTarget::Hooked => Goal::Outside(target),
+    }
+}
+
+/// The goal of a target of a moved instruction.
+fn goal_of_target(start: StartTarget, items: &[Placed], count: usize, target: u64) -> Goal
+    requires within { count ≤ length items.now }
+    requires few { length items.now ≤ 65536 }
+    ensures { result ≡ spec.goal_of_target start items.now count target }
+{
+    match item_at(items, count, target) {
+        None => Goal::Outside(target),
+        Some(0) => start_goal(start, target),
+        Some(k) => Goal::Inside(k as u32),
+    }
+}
+
+/// The goal of instruction `k` of the trampoline, of which the first `count` are moved.
+fn goal_at(start: StartTarget, items: &[Placed], count: usize, k: usize) -> Goal
+    requires within { count ≤ length items.now }
+    requires few { length items.now ≤ 65536 }
+    requires item { k < length items.now }
+    ensures { result ≡ spec.goal_at start items.now count k }
+{
+    match target_of(&items[k].instr) {
+        None => Goal::None,
+        Some(target) if k < count => goal_of_target(start, items, count, target),
+        Some(target) => Goal::Outside(target),
+    }
+}
+
+/// Item `k` of the plan of the trampoline.
+fn branch_at(bits: Bits, items: &[Placed], count: usize, start: StartTarget, k: usize) -> Branch
+    requires within { count ≤ length items.now }
+    requires few { length items.now ≤ 65536 }
+    requires item { k < length items.now }
+    ensures { result ≡ branch_with bits items.now (spec.goal_at start items.now count) k }
+{
+    let goal = goal_at(start, items, count, k);
+    Branch {
+        choices: choices_of(bits, &items[k].instr),
+        goal,
+    }
+}
+
+/// The plan of the trampoline.
+fn plan_at(
+    alloc: Global,
+    bits: Bits,
+    items: &[Placed],
+    count: usize,
+    place: u64,
+    start: StartTarget,
+) -> Result<Plan, AllocError>
+    requires within { count ≤ length items.now }
+    requires few { length items.now ≤ 65536 }
+    requires placed { ArePlaced bits items.now }
+    ensures { IfOk result (λ plan. plan ≡ spec.plan_at bits items.now count place start) }
+{
+    laws_below();
+    let mut branches = Vec::with_capacity(alloc, items.len())?;
+    'items: for k in 0..items.len() {
+        branches.push(branch_at(bits, items, count, start, k))?;
+    }
+    Ok(Plan::new(place, branches))
+}
+
+/// The moved instructions and the jump back at a place, with gap and slots.
+pub(crate) fn lay_trampoline(
+    alloc: Global,
+    bits: Bits,
+    ip: u64,
+    taken: &Taken,
+    place: u64,
+    start: StartTarget,
+) -> Result<MovedBlocks, MoveError>
+    requires { IsFit bits taken.now }
+    ensures { IsPlanAnswer bits (spec.block_items bits ip taken.now.items.items) (spec.trampoline_plan bits ip taken.now.items.items place start) result }
+{
+    laws_below();
+    let items = block_items(alloc, bits, ip, taken)?;
+    let count = moved_count(&taken.items);
+    let plan = plan_at(alloc, bits, &items, count, place, start)?;
+    move_by_plan(alloc, bits, &items, &plan)
+}

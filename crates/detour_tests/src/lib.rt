@@ -1,0 +1,5 @@
+//! Detours worked out by hand, from the Intel manual's notation of JMP, CALL, Jcc and LOOP.
+#![tactic(auto)]
+
+#[cfg(test)]
+mod tests;
