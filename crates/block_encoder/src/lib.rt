@@ -15,7 +15,6 @@ mod outside;
 mod write;
 
 pub use blocks::{move_block, move_blocks};
-pub use by_plan::move_by_plan;
 pub use branch_sizes::{BlockSpan, Form};
 pub use by_plan::move_by_plan;
 pub use error::MoveError;

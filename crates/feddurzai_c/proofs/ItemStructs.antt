@@ -13,7 +13,7 @@ use Rattle.opcode_rows.specs.Sweep.{Item, IsReadAt, Sweeps, item_len}
 use Rattle.sweep_text.specs.Sweeping.{TakesSome, SweptTo, item_read}
 use Rattle.sweep_text.specs.Facts.{SweptFacts}
 use Rattle.feddurzai_c.specs.declared.flat.FlatInstr.{FlatInstr}
-use Rattle.feddurzai_c.specs.Many.{flat_reading, structs_of, most_items, AreFirstItems, IsManyIn}
+use Rattle.feddurzai_c.specs.Many.{flat_reading, structs_of, most_items, IsManyIn}
 
 -- the way has come to an offset, and the room begins with the structs of the items so far
 pub record WrittenTo (bits : Bits) (ip : ℕ) (bytes : List ℕ) (at count : ℕ) (old now : List FlatInstr) : Type 0 where
