@@ -15,8 +15,9 @@
  * called in place of the library's, see to that. A caller without them (dlsym, another language) has to keep NULL out.
  *
  * Threads: no function keeps any state, so all may be called from any number of threads at once, and none takes a lock.
- * All but feddurzai_move, feddurzai_move_outside and feddurzai_flow take no memory, and may be called from a signal
- * handler and from a hook of malloc; those three call malloc, realloc and free, and give back all that they took.
+ * All but feddurzai_move, feddurzai_move_outside, feddurzai_flow and feddurzai_detour take no memory, and may be called
+ * from a signal handler and from a hook of malloc; those four call malloc, realloc and free, and give back all that
+ * they took.
  * Nothing is owned by the library: every result is in memory of the caller's.
  *
  * C99 and C++. All numbers are in the byte order of the machine. Lengths and sizes are in bytes.
@@ -46,8 +47,8 @@ uint32_t feddurzai_version(void);
 
 /*
  * A function that returns an int32_t says 0 or more where it did what it was asked, and else one of these. After a
- * refusal nothing was written (feddurzai_move and feddurzai_move_outside alone write their report always, but for
- * FEDDURZAI_NULL). Where several stand together, the first in the list of the function is told; before all of them
+ * refusal nothing was written (feddurzai_move, feddurzai_move_outside and feddurzai_detour alone write their report
+ * always, but for FEDDURZAI_NULL). Where several stand together, the first in the list of the function is told; before all of them
  * FEDDURZAI_NULL, which every function that takes a pointer may return, and no list repeats.
  */
 enum {
@@ -68,7 +69,11 @@ enum {
     FEDDURZAI_NULL = -15,           /* NULL for a struct, or with a length above 0; it is this header that says so */
     FEDDURZAI_NO_TEXT = -16,        /* no instruction that has an encoding there has this text */
     FEDDURZAI_NO_REGISTER = -17,    /* no register has this class and number; no prefix names such a segment */
-    FEDDURZAI_BAD_JUMP = -18        /* the form is not one of FEDDURZAI_JUMP_SHORT .. FEDDURZAI_CALL_FAR */
+    FEDDURZAI_BAD_JUMP = -18,       /* the form is not one of FEDDURZAI_JUMP_SHORT .. FEDDURZAI_CALL_FAR */
+    FEDDURZAI_BAD_START = -19,      /* start is not FEDDURZAI_START_MOVED or FEDDURZAI_START_HOOKED */
+    FEDDURZAI_SMALL = -20,          /* the function has fewer bytes than the jump */
+    FEDDURZAI_ENDS = -21,           /* the function ends in what is written over, and other code stands there */
+    FEDDURZAI_ENTERED = -22         /* control may go into what is written over, behind its first byte */
     /* at and below -256: the instruction has no encoding, see FEDDURZAI_CAUSE */
 };
 
@@ -612,6 +617,61 @@ int32_t feddurzai_move_outside(uint32_t bits, uint64_t old_ip, const uint8_t *by
 int32_t feddurzai_flow(uint32_t bits, uint64_t base, const uint8_t *bytes, size_t len, uint32_t *starts, size_t room,
     uint32_t *leaders, size_t leaders_room);
 
+/* What becomes of a branch to the function's own start that is moved to the trampoline. */
+enum {
+    FEDDURZAI_START_MOVED = 0,      /* it goes to the moved first instruction: a loop stays in the trampoline */
+    FEDDURZAI_START_HOOKED = 1      /* it stays, and comes to the replacement, as recursion does elsewhere */
+};
+
+/* How the jump of a detour goes to the replacement. */
+enum {
+    FEDDURZAI_DETOUR_NEAR = 1,      /* 5 bytes (3 in 16-bit code) */
+    FEDDURZAI_DETOUR_RELAY = 2,     /* 64-bit code, 5 bytes: to a relay behind the trampoline, which goes on */
+    FEDDURZAI_DETOUR_ABSOLUTE = 3   /* 64-bit code, 14 bytes: jmp [rip], and the address in the 8 bytes behind it */
+};
+
+#define FEDDURZAI_MAX_PATCH 28      /* bytes of a patch, at most */
+
+/* The numbers of a detour. A part of the trampoline that there is not has the offset of the end, `bytes`. */
+typedef struct feddurzai_detour_report {
+    uint64_t taken;         /* how many bytes of the function are written over: those of the patch */
+    uint64_t bytes;         /* how many bytes the trampoline has; the moved instructions begin it */
+    uint64_t jump_back;     /* the offset of its jump back to the function at `taken` */
+    uint64_t slots_at;      /* the offset of the first of its slots of 8 bytes */
+    uint64_t relay_at;      /* the offset of its relay, 14 bytes */
+    uint64_t at;            /* _INVALID, _TOO_SHORT, _ENDS: the offset of the byte; _SMALL: how many bytes the function
+                               has; _ENTERED: the offset that control comes from; _TOO_FAR: the number of the
+                               instruction, from 0 */
+    uint64_t target;        /* _SMALL: how many bytes the jump has; _ENTERED: the offset that control goes to; _TOO_FAR:
+                               the target; _WRAPS: the end of the trampoline, modulo 2 to the power of 64 */
+    uint8_t form;           /* FEDDURZAI_DETOUR_NEAR .., 0 after a refusal */
+} feddurzai_detour_report;
+
+/*
+ * Makes both parts of a hook of the function at `ip`, whose first `len` bytes are `code`: the patch, which replaces its
+ * first bytes and jumps to the replacement at `to`, and the trampoline, which will stand at `place`, does what those
+ * bytes did, and goes on behind them. It writes them to two rooms, and nothing to the function: that is the caller's.
+ *
+ * The jump is the first of the forms above that reaches: with a place within 2 gigabytes of the function 5 bytes are
+ * enough, wherever the replacement is. Taken are the first instructions, as few as have the bytes of the jump, and behind
+ * one where control ends (ret, jmp, ud2) only padding; CC fills the patch up. The trampoline is these instructions moved,
+ * as by feddurzai_move, the jump back unless control ends in them, and behind that gap, slots and relay. A branch to a
+ * taken instruction follows it, one to the very start is as `start` says, and every other target stays.
+ *
+ * `code` should be the whole function, as far as it is known: a branch into what is taken is found in it (_ENTERED), and
+ * nowhere else. See docs/hooks.md for what a hook has to see to besides.
+ *
+ * The report says how many bytes there are, also where a room is too small: a first call with no rooms tells how much is
+ * needed. A room of FEDDURZAI_MAX_PATCH is always enough for the patch.
+ *
+ * Returns 0, or FEDDURZAI_BAD_MODE, _BAD_START, _TOO_LARGE (above FEDDURZAI_MAX_CODE); _INVALID or _TOO_SHORT (in the
+ * part to be taken no instruction is read), _SMALL, _ENDS, _ENTERED, _WRAPS (the trampoline), _TOO_FAR, _NO_ROOM;
+ * _NO_MEMORY may stand in place of those behind _TOO_LARGE.
+ */
+int32_t feddurzai_detour(uint32_t bits, uint64_t ip, const uint8_t *code, size_t len, uint64_t to, uint64_t place,
+    uint32_t start, uint8_t *patch, size_t patch_room, uint8_t *trampoline, size_t trampoline_room,
+    feddurzai_detour_report *report);
+
 /* ---- null pointers ----------------------------------------------------------------------------------------- */
 
 /*
@@ -779,6 +839,17 @@ static inline int32_t feddurzai_checked_flow(uint32_t bits, uint64_t base, const
     return feddurzai_flow(bits, base, bytes, len, starts, room, leaders, leaders_room);
 }
 
+static inline int32_t feddurzai_checked_detour(uint32_t bits, uint64_t ip, const uint8_t *code, size_t len, uint64_t to,
+    uint64_t place, uint32_t start, uint8_t *patch, size_t patch_room, uint8_t *trampoline, size_t trampoline_room,
+    feddurzai_detour_report *report)
+{
+    if (feddurzai_is_null(code, len) || feddurzai_is_null(patch, patch_room))
+        return FEDDURZAI_NULL;
+    if (feddurzai_is_null(trampoline, trampoline_room) || report == NULL)
+        return FEDDURZAI_NULL;
+    return feddurzai_detour(bits, ip, code, len, to, place, start, patch, patch_room, trampoline, trampoline_room, report);
+}
+
 #define feddurzai_decode feddurzai_checked_decode
 #define feddurzai_decode_many feddurzai_checked_decode_many
 #define feddurzai_line feddurzai_checked_line
@@ -798,6 +869,7 @@ static inline int32_t feddurzai_checked_flow(uint32_t bits, uint64_t base, const
 #define feddurzai_move feddurzai_checked_move
 #define feddurzai_move_outside feddurzai_checked_move_outside
 #define feddurzai_flow feddurzai_checked_flow
+#define feddurzai_detour feddurzai_checked_detour
 
 #ifdef __cplusplus
 }

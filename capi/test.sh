@@ -222,6 +222,10 @@ for backend in llvm rattle; do
     "$out/hook" >"$work/hook.log" || die_with "$work/hook.log" "$backend: the hook failed"
     say "$backend: examples/hook.c: $(tail -1 "$work/hook.log")"
 
+    gcc -std=gnu99 -O2 $warn -I"$here" "$here/examples/hook_many.c" "$out/libfeddurzai.a" -ldl -o "$out/hook_many"
+    "$out/hook_many" >"$work/hook_many.log" || die_with "$work/hook_many.log" "$backend: a hook of many failed"
+    say "$backend: examples/hook_many.c: $(sed -n 's/\(functions hooked\) at once.*/\1/p' "$work/hook_many.log" | paste -sd, -); $(tail -1 "$work/hook_many.log")"
+
     export FEDDURZAI_LIBRARY="$out/libfeddurzai.so"
     python3 "$here/examples/disassemble.py" "$front" 64 401000 intel >"$work/python.intel"
     cmp "$work/python.intel" "$work/front.intel" || die "$backend: the listing in Python differs"

@@ -1,8 +1,10 @@
 /*
- * A hook: the first instructions of a function of this program are moved to a trampoline in near memory, and a jump to
- * another function is written in their place. That one counts the call, and goes on through the trampoline.
+ * A hook: the first bytes of a function of this program are replaced by a jump to another function, and a trampoline in
+ * a page near it does what they did. That one counts the call, and goes on through the trampoline. A second function,
+ * whose loop goes back into its first bytes, is refused.
  *
- * Linux on x86-64. Run: it prints the results of the function before and with the hook, and how often that was called.
+ * Linux on x86-64. Run: it prints the results of the function before, with and after the hook, how often that was
+ * called, and why there is none of the second function.
  */
 #define _GNU_SOURCE
 #include "feddurzai.h"
@@ -12,12 +14,12 @@
 #include <string.h>
 #include <sys/mman.h>
 
-enum { JUMP_LEN = 5, MOST_MOVED = 8, PAGE = 4096 };
+enum { PAGE = 4096 };
 
 /* the function that is hooked; its first instructions are a branch that leaves them and a load by an operand at RIP */
 static volatile int scale = 3;
 
-__attribute__((noipa)) static int scaled_sum(int n)
+__attribute__((noipa, section("hooked"))) static int scaled_sum(int n)
 {
     int sum = 0, i;
     if (n < 0)
@@ -29,6 +31,22 @@ __attribute__((noipa)) static int scaled_sum(int n)
     return sum;
 }
 
+/* its loop begins at the second instruction, which is two bytes behind the first byte: a jump of 5 would be entered */
+extern const uint8_t counts_up[], counts_up_end[];
+__asm__(
+    ".pushsection hooked, \"ax\"\n"
+    "counts_up:\n"
+    "    xor %eax, %eax\n"
+    "1:  inc %eax\n"
+    "    cmp %edi, %eax\n"
+    "    jb 1b\n"
+    "    ret\n"
+    "counts_up_end:\n"
+    ".popsection\n");
+
+/* a section whose name is a name in C: the linker tells where it ends */
+extern const uint8_t __stop_hooked[];
+
 static int (*volatile call_original)(int);
 static int hook_calls;
 
@@ -38,23 +56,9 @@ static int hooked_sum(int n)
     return call_original(n);
 }
 
-/* `jmp target` for the address `at`, in 5 bytes: 0, or a refusal */
-static int32_t encode_jump(uint64_t at, uint64_t target, uint8_t *out)
+static uint64_t address_of(const void *pointer)
 {
-    int32_t code, said = FEDDURZAI_NO_NAME;
-    size_t n;
-    /* of the rows named jmp the one that takes an offset of 32 bits: the others refuse it, or are shorter */
-    for (n = 0; (code = feddurzai_code_of("jmp", 3, n)) >= 0; n++) {
-        feddurzai_instr jump;
-        memset(&jump, 0, sizeof jump);
-        jump.code = (uint16_t)code;
-        jump.ops[0].kind = FEDDURZAI_NEAR;
-        jump.ops[0].value = target;
-        said = feddurzai_encode(64, at, &jump, out, JUMP_LEN);
-        if (said == JUMP_LEN)
-            return 0;
-    }
-    return said < 0 ? said : FEDDURZAI_NO_NAME;
+    return (uint64_t)(uintptr_t)pointer;
 }
 
 /* a page to write to and run, within reach of an address, or NULL */
@@ -75,68 +79,54 @@ static uint8_t *near_page(uint64_t address)
 static int fail(const char *what, int32_t said)
 {
     printf("%s: %" PRId32 "\n", what, said);
-    return -1;
+    return 1;
 }
 
-/* prints some code, one instruction a line */
-static void print_code(uint64_t ip, const uint8_t *bytes, size_t len)
+/* prints some code, one instruction a line, and what stands behind the instructions as bytes */
+static void print_code(uint64_t ip, const uint8_t *bytes, size_t code, size_t len)
 {
     size_t at = 0;
-    while (at < len) {
+    while (at < code) {
         feddurzai_instr instr;
         char text[FEDDURZAI_MAX_TEXT];
-        int32_t n = feddurzai_decode(64, ip + at, bytes + at, len - at, &instr);
-        if (n < 0 || feddurzai_text(64, FEDDURZAI_INTEL, &instr, text, sizeof text) < 0)
+        int32_t n = feddurzai_line(64, FEDDURZAI_INTEL, ip + at, bytes + at, code - at, &instr, text, sizeof text);
+        if (n < 0)
             return;
         printf("  %" PRIx64 "  %s\n", ip + at, text);
         at += (size_t)n;
     }
+    for (; at < len; at++)
+        printf("%s%02x%s", at == code ? "  db " : " ", bytes[at], at + 1 == len ? "\n" : "");
 }
 
-/* hooks a function: 0, and through `original` what still does what the function did */
-static int install(uint8_t *function, uint64_t hook, uint8_t **original)
+/* a hook, and what is needed to remove it */
+struct hook {
+    uint8_t *function;
+    uint8_t before[FEDDURZAI_MAX_PATCH];
+    uint8_t patch[FEDDURZAI_MAX_PATCH];
+    feddurzai_detour_report report;
+};
+
+/* writes over the first bytes of a function. Nothing may run in them: here there is one thread. 0, or -1 */
+static int write_code(uint8_t *function, const uint8_t *bytes, size_t len)
 {
-    uint64_t address = (uint64_t)(uintptr_t)function;
-    uint8_t *page = near_page(address);
-    uint8_t jump[JUMP_LEN];
-    feddurzai_moved map[MOST_MOVED];
-    feddurzai_move_report report;
-    uint64_t first_page = address & ~(uint64_t)(PAGE - 1);
-    size_t taken = 0;
-    int32_t said;
-    if (page == NULL)
-        return fail("no page is free near the function", 0);
+    uint64_t first = address_of(function) & ~(uint64_t)(PAGE - 1);
+    if (mprotect((void *)(uintptr_t)first, 2 * PAGE, PROT_READ | PROT_WRITE | PROT_EXEC) != 0)
+        return -1;
+    memcpy(function, bytes, len);
+    return mprotect((void *)(uintptr_t)first, 2 * PAGE, PROT_READ | PROT_EXEC);
+}
 
-    /* whole instructions, until the jump finds room; control has to go on behind each but the last */
-    while (taken < JUMP_LEN) {
-        feddurzai_instr instr;
-        feddurzai_about about;
-        said = feddurzai_decode(64, address + taken, function + taken, FEDDURZAI_MAX_LEN, &instr);
-        if (said < 0)
-            return fail("no instruction is read", said);
-        if (feddurzai_info(&instr, &about) < 0 || about.flow == FEDDURZAI_FLOW_RETURN || about.flow == FEDDURZAI_FLOW_EXCEPTION)
-            return fail("the function is too short", about.flow);
-        taken += (size_t)said;
-    }
-
-    /* they go to the page, and a jump back to what follows them behind that */
-    said = feddurzai_move(64, address, function, taken, (uint64_t)(uintptr_t)page, page, PAGE - JUMP_LEN, map, MOST_MOVED, &report);
+/* hooks a function of `len` bytes by a page near it, which gets what still does what the function did: 0, or a refusal */
+static int32_t install(struct hook *hook, const void *function, size_t len, const void *replacement, uint8_t *page)
+{
+    int32_t said = feddurzai_detour(64, address_of(function), (const uint8_t *)function, len, address_of(replacement), address_of(page),
+        FEDDURZAI_START_MOVED, hook->patch, sizeof hook->patch, page, PAGE, &hook->report);
     if (said < 0)
-        return fail("the instructions are not moved", said);
-    if (encode_jump((uint64_t)(uintptr_t)page + report.bytes, address + taken, page + report.bytes) < 0)
-        return fail("no jump back", 0);
-    if (encode_jump(address, hook, jump) < 0)
-        return fail("no jump to the hook", 0);
-    printf("moved:\n");
-    print_code(address, function, taken);
-    printf("to:\n");
-    print_code((uint64_t)(uintptr_t)page, page, (size_t)report.bytes + JUMP_LEN);
-
-    if (mprotect((void *)(uintptr_t)first_page, 2 * PAGE, PROT_READ | PROT_WRITE | PROT_EXEC) != 0)
-        return fail("the function cannot be written", 0);
-    memcpy(function, jump, JUMP_LEN);
-    *original = page;
-    return 0;
+        return said;
+    hook->function = (uint8_t *)(uintptr_t)function;
+    memcpy(hook->before, function, (size_t)hook->report.taken);
+    return write_code(hook->function, hook->patch, (size_t)hook->report.taken);
 }
 
 int main(void)
@@ -144,12 +134,27 @@ int main(void)
     int (*volatile function)(int) = scaled_sum;
     static const int cases[] = {0, 1, 10, 100, -5};
     int before[5], k, same = 1;
-    uint8_t *original = NULL;
+    struct hook hook;
+    int32_t said;
+    uint8_t *page = near_page(address_of((void *)(uintptr_t)scaled_sum));
+    /* the function ends before the other one, or at the end of the section */
+    uint64_t start = address_of((void *)(uintptr_t)scaled_sum);
+    uint64_t end = start < address_of(counts_up) ? address_of(counts_up) : address_of(__stop_hooked);
+    if (page == NULL)
+        return fail("no page is free near the function", 0);
     for (k = 0; k < 5; k++)
         before[k] = function(cases[k]);
-    if (install((uint8_t *)(uintptr_t)scaled_sum, (uint64_t)(uintptr_t)hooked_sum, &original) < 0)
-        return 1;
-    call_original = (int (*)(int))(uintptr_t)original;
+
+    said = install(&hook, (void *)(uintptr_t)scaled_sum, (size_t)(end - start), (void *)(uintptr_t)hooked_sum, page);
+    if (said != 0)
+        return fail("the function is not hooked", said);
+    printf("taken:\n");
+    print_code(start, hook.before, (size_t)hook.report.taken, (size_t)hook.report.taken);
+    printf("patch:\n");
+    print_code(start, hook.patch, (size_t)hook.report.taken, (size_t)hook.report.taken);
+    printf("trampoline:\n");
+    print_code(address_of(page), page, (size_t)hook.report.jump_back + 5, (size_t)hook.report.bytes);
+    call_original = (int (*)(int))(uintptr_t)page;
     for (k = 0; k < 5; k++) {
         int after = function(cases[k]);
         printf("%d: %d before, %d with the hook\n", cases[k], before[k], after);
@@ -157,6 +162,18 @@ int main(void)
     }
     scale = 0;
     same = same && function(7) == -1;
+    scale = 3;
+
+    if (write_code(hook.function, hook.before, (size_t)hook.report.taken) != 0)
+        return fail("the hook is not removed", 0);
+    for (k = 0; k < 5; k++)
+        same = same && function(cases[k]) == before[k];
+
+    said = install(&hook, counts_up, (size_t)(counts_up_end - counts_up), (void *)(uintptr_t)hooked_sum, page);
+    if (said != FEDDURZAI_ENTERED || hook.report.at != 6 || hook.report.target != 2)
+        return fail("the function whose loop enters its first bytes is not refused", said);
+    printf("counts_up is refused: from offset %" PRIu64 " control goes to offset %" PRIu64 ", which would be written over\n",
+        hook.report.at, hook.report.target);
     printf("the hook was called %d times; %s\n", hook_calls, same ? "the same results" : "OTHER RESULTS");
     return same && hook_calls == 6 ? 0 : 1;
 }

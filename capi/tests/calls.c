@@ -58,6 +58,14 @@ static void check_layout(void)
     CHECK(offsetof(feddurzai_move_report, address), 24);
     CHECK(offsetof(feddurzai_move_report, code_bytes), 32);
     CHECK(offsetof(feddurzai_move_report, slots_at), 40);
+    CHECK(sizeof(feddurzai_detour_report), 64);
+    CHECK(offsetof(feddurzai_detour_report, bytes), 8);
+    CHECK(offsetof(feddurzai_detour_report, jump_back), 16);
+    CHECK(offsetof(feddurzai_detour_report, slots_at), 24);
+    CHECK(offsetof(feddurzai_detour_report, relay_at), 32);
+    CHECK(offsetof(feddurzai_detour_report, at), 40);
+    CHECK(offsetof(feddurzai_detour_report, target), 48);
+    CHECK(offsetof(feddurzai_detour_report, form), 56);
 }
 
 /* what the crate puts into each field stands where the header says */
@@ -687,6 +695,92 @@ static void check_code(void)
     free(large);
 }
 
+/* each refusal of a detour with its numbers, each form of the jump, and where the parts of the trampoline stand */
+static void check_detours(void)
+{
+    /* sub rsp, 0x18; xor eax, eax; ret */
+    static const uint8_t small[] = {0x48, 0x83, 0xec, 0x18, 0x31, 0xc0, 0xc3};
+    static const uint8_t near_patch[] = {0xe9, 0xfb, 0x0f, 0x00, 0x00, 0xcc};
+    static const uint8_t near_trampoline[] = {0x48, 0x83, 0xec, 0x18, 0x31, 0xc0, 0xe9, 0xfb, 0xdf, 0xff, 0xff};
+    /* 7 times xor eax, eax; ret */
+    static const uint8_t wide[] = {0x31, 0xc0, 0x31, 0xc0, 0x31, 0xc0, 0x31, 0xc0, 0x31, 0xc0, 0x31, 0xc0, 0x31, 0xc0, 0xc3};
+    /* sub edi, 3; jg to the start; lea eax, [rdi+10]; ret */
+    static const uint8_t loop[] = {0x83, 0xef, 0x03, 0x7f, 0xfb, 0x8d, 0x47, 0x0a, 0xc3};
+    /* xor eax, eax; inc eax; cmp eax, edi; jb to the second; ret */
+    static const uint8_t entered[] = {0x31, 0xc0, 0xff, 0xc0, 0x39, 0xf8, 0x72, 0xfa, 0xc3};
+    static const uint8_t ends[] = {0xc3, 0x90, 0x90, 0x90, 0x31, 0xc0, 0xc3};
+    static const uint8_t bad[] = {0x90, 0x06, 0x90, 0x90, 0x90}, cut[] = {0x90, 0x48};
+    static const uint8_t rip[] = {0x90, 0x48, 0x8b, 0x05, 0x10, 0x00, 0x00, 0x00, 0xc3};
+    const uint64_t far = 0x7fff00000000;
+    uint8_t *patch = malloc(FEDDURZAI_MAX_PATCH), *out = malloc(64), *large = calloc(1, FEDDURZAI_MAX_CODE + 1);
+    feddurzai_detour_report *r = malloc(sizeof *r);
+#define DETOUR(bits, code, to, place, start) \
+    feddurzai_detour(bits, 0x1000, code, sizeof code, to, place, start, patch, FEDDURZAI_MAX_PATCH, out, 64, r)
+    memset(patch, 0xaa, FEDDURZAI_MAX_PATCH);
+    memset(out, 0xaa, 64);
+    CHECK(DETOUR(17, small, 0x2000, 0x3000, 9), FEDDURZAI_BAD_MODE);
+    CHECK(DETOUR(64, small, 0x2000, 0x3000, 2), FEDDURZAI_BAD_START);
+    CHECK(feddurzai_detour(64, 0, large, FEDDURZAI_MAX_CODE + 1, 0, 0, 0, NULL, 0, NULL, 0, r), FEDDURZAI_TOO_LARGE);
+    CHECK(DETOUR(64, bad, 0x2000, 0x3000, 0), FEDDURZAI_INVALID);
+    CHECK(r->at, 1);
+    CHECK(DETOUR(64, cut, 0x2000, 0x3000, 0), FEDDURZAI_TOO_SHORT);
+    CHECK(r->at, 1);
+    CHECK(DETOUR(64, small, far, far + 0x100, 0), FEDDURZAI_SMALL);
+    CHECK(r->at, 7);
+    CHECK(r->target, 14);
+    CHECK(DETOUR(64, ends, 0x2000, 0x3000, 0), FEDDURZAI_ENDS);
+    CHECK(r->at, 4);
+    CHECK(DETOUR(64, entered, 0x2000, 0x3000, 0), FEDDURZAI_ENTERED);
+    CHECK(r->at, 6);
+    CHECK(r->target, 2);
+    CHECK(DETOUR(32, small, 0x2000, 0xfffffffc, 0), FEDDURZAI_WRAPS);
+    CHECK(r->target, 0x100000007);
+    CHECK(DETOUR(64, rip, 0x2000, far, 0), FEDDURZAI_TOO_FAR);
+    CHECK(r->at, 1);
+    CHECK(r->target, 0x1018);
+    CHECK(r->taken | r->bytes | r->jump_back | r->slots_at | r->relay_at | r->form, 0);
+    CHECK(is_untouched(patch, FEDDURZAI_MAX_PATCH) && is_untouched(out, 64), 1);
+
+    CHECK(DETOUR(64, small, 0x2000, 0x3000, 0), 0);
+    CHECK(r->taken, 6);
+    CHECK(r->bytes, 11);
+    CHECK(r->jump_back, 6);
+    CHECK(r->slots_at, 11);
+    CHECK(r->relay_at, 11);
+    CHECK(r->at | r->target, 0);
+    CHECK(r->form, FEDDURZAI_DETOUR_NEAR);
+    CHECK(memcmp(patch, near_patch, 6), 0);
+    CHECK(memcmp(out, near_trampoline, 11), 0);
+    CHECK(is_untouched(patch + 6, FEDDURZAI_MAX_PATCH - 6) && is_untouched(out + 11, 53), 1);
+    CHECK(DETOUR(64, small, far, 0x3000, 0), 0);
+    CHECK(r->form, FEDDURZAI_DETOUR_RELAY);
+    CHECK(r->relay_at, 11);
+    CHECK(r->slots_at, 25);
+    CHECK(r->bytes, 25);
+    CHECK(patch[1], 0x06);
+    CHECK(patch[2], 0x20);
+    CHECK(out[11], 0xff);
+    /* by 14 bytes; the jump back is 6 bytes, and the slot of 8 begins at a multiple of 8 */
+    CHECK(DETOUR(64, wide, far, far + 0x100, 0), 0);
+    CHECK(r->form, FEDDURZAI_DETOUR_ABSOLUTE);
+    CHECK(r->taken, 14);
+    CHECK(r->jump_back, 14);
+    CHECK(r->slots_at, 24);
+    CHECK(r->bytes, 32);
+    CHECK(r->relay_at, 32);
+    CHECK(out[24] | out[25] << 8, 0x100e);
+    /* a branch to the start: 2 bytes to the moved start, or 6 to the function */
+    CHECK(DETOUR(64, loop, 0x2000, 0x3000, FEDDURZAI_START_MOVED), 0);
+    CHECK(r->jump_back, 5);
+    CHECK(DETOUR(64, loop, 0x2000, 0x3000, FEDDURZAI_START_HOOKED), 0);
+    CHECK(r->jump_back, 9);
+#undef DETOUR
+    free(patch);
+    free(out);
+    free(large);
+    free(r);
+}
+
 int main(void)
 {
     CHECK(feddurzai_interface(), FEDDURZAI_INTERFACE);
@@ -704,6 +798,7 @@ int main(void)
     check_codes();
     check_refusals();
     check_code();
+    check_detours();
     printf("%d calls and fields, %d wrong\n", tests, failures);
     return failures != 0;
 }

@@ -181,6 +181,53 @@ def moved_and_followed():
     check(str(f.move(64, 0x1000, code("ebfe"), 0x2000).places[0]), "Moved(old_ip=4096, new_ip=8192, len=2, form=<Form.SHORT: 1>)")
 
 
+def hooks_are_made():
+    # sub rsp, 0x18; xor eax, eax; ret: two of them have six bytes, the jump five
+    small = code("4883ec18 31c0 c3")
+    near = f.detour(64, 0x1000, small, 0x2000, 0x3000)
+    check((near.patch.hex(), near.trampoline.hex()), ("e9fb0f0000cc", "4883ec1831c0e9fbdfffff"))
+    check((near.form, near.jump_back, near.slots, near.relay), (f.DetourForm.NEAR, 6, None, None))
+    check(near.report, f.DetourReport(6, 11, 6, 11, 11, 0, 0, 1))
+    # the replacement is far: by the relay behind the trampoline, at 0x300b
+    relay = f.detour(64, 0x1000, small, 0x7FFF00000000, 0x3000)
+    check((relay.patch.hex(), relay.trampoline.hex()), ("e906200000cc", "4883ec1831c0e9fbdfffffff250000000000000000ff7f0000"))
+    check((relay.form, relay.jump_back, relay.slots, relay.relay), (f.DetourForm.RELAY, 6, None, 11))
+    # the trampoline is far too: 14 bytes, of which this function has but 7
+    few = refused(f.Reason.SMALL, f.detour, 64, 0x1000, small, 0x7FFF00000000, 0x7FFE00000000)
+    check((few.report.at, few.report.target), (7, 14))
+    check(str(few), "the function has too few bytes for the jump: it has 7, the jump 14")
+    long = 7 * code("31c0") + code("c3")
+    far = f.detour(64, 0x1000, long, 0x7FFF00000000, 0x7FFE00000000)
+    check((far.patch.hex(), far.form), ("ff250000000000000000ff7f0000", f.DetourForm.ABSOLUTE))
+    # jmp [rip] of 6 bytes behind the 14, a gap up to 24 and the slot with the way back
+    check((far.trampoline.hex(), far.jump_back, far.slots), (7 * "31c0" + "ff2504000000" + "cccccccc" + "0e10000000000000", 14, 24))
+    # of the other modes
+    check(f.detour(32, 0x1000, small, 0x2000, 0x3000).patch.hex()[:10], "e9fb0f0000")
+    check(f.detour(16, 0x1000, code("31c0 40 c3"), 0x2000, 0x3000).patch.hex(), "e9fd0f")
+    # a lone return with padding, and with another function behind it
+    check(f.detour(64, 0x1000, code("c3 0f1f4000"), 0x2000, 0x3000)[:4], (code("e9fb0f0000"), code("c3"), f.DetourForm.NEAR, None))
+    ends = refused(f.Reason.ENDS, f.detour, 64, 0x1000, code("c3 90 90 90 31c0 c3"), 0x2000, 0x3000)
+    check((ends.report.at, str(ends).endswith(": at offset 4")), (4, True))
+    entered = refused(f.Reason.ENTERED, f.detour, 64, 0x1000, code("31c0 ffc0 39f8 72fa c3"), 0x2000, 0x3000)
+    check((entered.report.at, entered.report.target), (6, 2))
+    # a loop to the very start
+    loop = code("83ef03 7ffb 8d470a c3")
+    check([f.detour(64, 0x1000, loop, 0x2000, 0x3000, start).trampoline.hex() for start in f.Start],
+          ["83ef037ffbe9fbdfffff", "83ef030f8ff7dfffffe9f7dfffff"])
+    refused(f.Reason.BAD_START, f.detour, 64, 0x1000, loop, 0x2000, 0x3000, 2)
+    refused(f.Reason.BAD_MODE, f.detour, 17, 0x1000, loop, 0x2000, 0x3000)
+    refused(f.Reason.TOO_LARGE, f.detour, 64, 0, bytes(f.MAX_CODE + 1), 0, 0)
+    bad = refused(f.Reason.INVALID, f.detour, 64, 0x1000, code("90 06 909090"), 0x2000, 0x3000, kind=f.InvalidCode)
+    check(bad.report.at, 1)
+    refused(f.Reason.TOO_SHORT, f.detour, 64, 0x1000, code("90 48"), 0x2000, 0x3000, kind=f.TooShort)
+    rip = refused(f.Reason.TOO_FAR, f.detour, 64, 0x1000, code("90 488b0510000000 c3"), 0x2000, 0x7FFE00000000)
+    check((rip.report.at, rip.report.target, str(rip).endswith(": instruction 1, target 0x1018")), (1, 0x1018, True))
+    wraps = refused(f.Reason.WRAPS, f.detour, 32, 0x1000, small, 0x2000, 0xFFFFFFFC)
+    check(str(wraps).endswith(": it ends at 0x100000007"), True)
+    copy = pickle.loads(pickle.dumps(few))
+    check((type(copy), copy.number, copy.report, str(copy)), (f.Refusal, few.number, few.report, str(few)))
+
+
 def refusals_say_why():
     mov = f.decode(64, 0x1000, code("48895c2410"))
     refused(f.Reason.BAD_MODE, f.decode, 17, 0, b"\x90")
@@ -264,6 +311,9 @@ def values_are_looked_at_first():
         (f.move, (64, -1, b"\x90", 0)),
         (f.move, (64, 0, b"\x90", 1 << 64)),
         (f.flow, (64, -1, b"\x90")),
+        (f.detour, (64, 0, b"\x90", -1, 0)),
+        (f.detour, (64, 0, b"\x90", 0, 1 << 64)),
+        (f.detour, (64, 0, b"\x90", 0, 0, -1)),
         (f.register, ("raxx",)),
         (f.Instr, (-1,)),
         (f.Instr, (0, *(5 * [f.Immediate(0)]))),
@@ -284,6 +334,7 @@ def values_are_looked_at_first():
             (f.iterate, (64, 0, None)),
             (f.move, (64, 0, None, 0)),
             (f.flow, (64, 0, None)),
+            (f.detour, (64, 0, None, 0, 0)),
         ],
         "code is bytes, a bytearray or a memoryview, not int": [(f.decode, (64, 0, 5))],
         "code is bytes, a bytearray or a memoryview, not str": [(f.iterate, (64, 0, "90"))],
@@ -358,6 +409,7 @@ for test in (
     texts_are_read,
     jumps_have_forms,
     moved_and_followed,
+    hooks_are_made,
     refusals_say_why,
     encodings_say_their_cause,
     values_are_looked_at_first,

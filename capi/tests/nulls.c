@@ -13,6 +13,8 @@
 static const uint8_t code[] = {0x74, 0x01, 0x90, 0xc3};
 /* mov qword [rsp+0x10], rbx */
 static const uint8_t mov[] = {0x48, 0x89, 0x5c, 0x24, 0x10};
+/* sub rsp, 0x18; xor eax, eax; ret */
+static const uint8_t small[] = {0x48, 0x83, 0xec, 0x18, 0x31, 0xc0, 0xc3};
 static const char mov_text[] = "mov qword [rsp+0x10], rbx";
 
 enum { SPARE = 16 };
@@ -22,9 +24,10 @@ static feddurzai_instr instr, unread;
 static feddurzai_about about;
 static feddurzai_move_report report;
 static feddurzai_moved map[3];
+static feddurzai_detour_report detour;
 static uint32_t starts[3], leaders[3];
 static size_t count;
-static uint8_t out[SPARE];
+static uint8_t out[SPARE], patch[6];
 static char text[FEDDURZAI_MAX_TEXT];
 
 static void fill(void)
@@ -33,18 +36,21 @@ static void fill(void)
     memset(&about, 0xaa, sizeof about);
     memset(&report, 0xaa, sizeof report);
     memset(map, 0xaa, sizeof map);
+    memset(&detour, 0xaa, sizeof detour);
     memset(starts, 0xaa, sizeof starts);
     memset(leaders, 0xaa, sizeof leaders);
     memset(&count, 0xaa, sizeof count);
     memset(out, 0xaa, sizeof out);
+    memset(patch, 0xaa, sizeof patch);
     memset(text, 0xaa, sizeof text);
 }
 
 static int nothing_was_written(void)
 {
     return is_untouched(&unread, sizeof unread) && is_untouched(&about, sizeof about) && is_untouched(&report, sizeof report)
-        && is_untouched(map, sizeof map) && is_untouched(starts, sizeof starts) && is_untouched(leaders, sizeof leaders)
-        && is_untouched(&count, sizeof count) && is_untouched(out, sizeof out) && is_untouched(text, sizeof text);
+        && is_untouched(map, sizeof map) && is_untouched(&detour, sizeof detour) && is_untouched(starts, sizeof starts) && is_untouched(leaders, sizeof leaders)
+        && is_untouched(&count, sizeof count) && is_untouched(out, sizeof out) && is_untouched(patch, sizeof patch)
+        && is_untouched(text, sizeof text);
 }
 
 /* NULL where there is something to point to */
@@ -111,6 +117,12 @@ static void check_nulls(void)
     CHECK(feddurzai_move_outside(64, 0x1000, code, 4, 0x2000, out, sizeof out, NULL, 3, &report), FEDDURZAI_NULL);
     CHECK(feddurzai_move_outside(64, 0x1000, code, 4, 0x2000, out, sizeof out, map, 3, NULL), FEDDURZAI_NULL);
 
+    CHECK(feddurzai_detour(64, 0, NULL, 7, 0x2000, 0x3000, 0, patch, 6, out, sizeof out, &detour), FEDDURZAI_NULL);
+    CHECK(feddurzai_detour(64, 0, small, 7, 0x2000, 0x3000, 0, NULL, 6, out, sizeof out, &detour), FEDDURZAI_NULL);
+    CHECK(feddurzai_detour(64, 0, small, 7, 0x2000, 0x3000, 0, patch, 6, NULL, sizeof out, &detour), FEDDURZAI_NULL);
+    CHECK(feddurzai_detour(64, 0, small, 7, 0x2000, 0x3000, 0, patch, 6, out, sizeof out, NULL), FEDDURZAI_NULL);
+    CHECK(feddurzai_detour(64, 0, NULL, 0, 0, 0, 0, NULL, 0, NULL, 0, NULL), FEDDURZAI_NULL);
+
     CHECK(feddurzai_flow(64, 0, NULL, 4, starts, 3, leaders, 3), FEDDURZAI_NULL);
     CHECK(feddurzai_flow(64, 0, code, 4, NULL, 3, leaders, 3), FEDDURZAI_NULL);
     CHECK(feddurzai_flow(64, 0, code, 4, starts, 3, NULL, 3), FEDDURZAI_NULL);
@@ -129,6 +141,7 @@ static void check_nulls(void)
     CHECK(feddurzai_name(FEDDURZAI_CODES, NULL, 1), FEDDURZAI_NULL);
     CHECK(feddurzai_move(17, 0, code, 4, 0, out, sizeof out, map, 3, NULL), FEDDURZAI_NULL);
     CHECK(feddurzai_flow(17, 0, NULL, 4, starts, 3, leaders, 3), FEDDURZAI_NULL);
+    CHECK(feddurzai_detour(17, 0, NULL, 7, 0, 0, 9, patch, 6, out, sizeof out, &detour), FEDDURZAI_NULL);
     CHECK(FEDDURZAI_CAUSE(FEDDURZAI_NULL), 0);
     CHECK(nothing_was_written(), 1);
 
@@ -174,6 +187,11 @@ static void check_empty(void)
     CHECK(report.bytes == 0 && report.count == 0 && report.at == 0 && report.address == 0, 1);
     CHECK(report.code_bytes == 0 && report.slots_at == 0, 1);
     memset(&report, 0xaa, sizeof report);
+    CHECK(feddurzai_detour(64, 0x1000, small, 7, 0x2000, 0x3000, 0, NULL, 0, NULL, 0, &detour), FEDDURZAI_NO_ROOM);
+    CHECK(detour.taken == 6 && detour.bytes == 11 && detour.jump_back == 6 && detour.form == FEDDURZAI_DETOUR_NEAR, 1);
+    CHECK(feddurzai_detour(64, 0x1000, NULL, 0, 0x2000, 0x3000, 0, NULL, 0, NULL, 0, &detour), FEDDURZAI_SMALL);
+    CHECK(detour.taken == 0 && detour.bytes == 0 && detour.at == 0 && detour.target == 5 && detour.form == 0, 1);
+    memset(&detour, 0xaa, sizeof detour);
     CHECK(nothing_was_written(), 1);
 }
 
@@ -207,6 +225,8 @@ static void check_zeros(void)
     CHECK(feddurzai_move(0, 0, NULL, 0, 0, NULL, 0, NULL, 0, &report), FEDDURZAI_BAD_MODE);
     CHECK(report.bytes == 0 && report.count == 0 && report.at == 0 && report.address == 0, 1);
     CHECK(report.code_bytes == 0 && report.slots_at == 0, 1);
+    CHECK(feddurzai_detour(0, 0, NULL, 0, 0, 0, 0, NULL, 0, NULL, 0, &detour), FEDDURZAI_BAD_MODE);
+    CHECK(detour.taken == 0 && detour.bytes == 0 && detour.jump_back == 0 && detour.at == 0 && detour.target == 0, 1);
 }
 
 /* a room of `room` bytes, with spare ones behind that no call may write; all are 0xaa */
@@ -279,6 +299,17 @@ static void check_pairs_of_rooms(void)
                        : is_untouched(entries, second * sizeof(feddurzai_moved) + SPARE), 1);
             free(bytes);
             free(entries);
+        }
+    for (room = 0; room <= 7; room++)
+        for (second = 0; second <= 12; second++) {
+            uint8_t *over = room_of(room), *aside = room_of(second);
+            int fits = room >= 6 && second >= 11;
+            CHECK(feddurzai_detour(64, 0x1000, small, 7, 0x2000, 0x3000, 0, over, room, aside, second, &detour), fits ? 0 : FEDDURZAI_NO_ROOM);
+            CHECK(detour.taken == 6 && detour.bytes == 11, 1);
+            CHECK(is_untouched(over + (fits ? 6 : 0), room - (fits ? 6 : 0) + SPARE), 1);
+            CHECK(is_untouched(aside + (fits ? 11 : 0), second - (fits ? 11 : 0) + SPARE), 1);
+            free(over);
+            free(aside);
         }
     for (room = 0; room <= 4; room++)
         for (second = 0; second <= 4; second++) {

@@ -9,7 +9,8 @@
     0x40100a c3 ret
 
 `decode` reads one instruction and `iterate` all of some bytes; an `Instr` has an address, bytes, operands, a text and what it does
-(`info`). `Instr(code, operands..)` makes one, and `encode` writes it. `move` puts code at another address, and `flow` follows control.
+(`info`). `Instr(code, operands..)` makes one, and `encode` writes it. `move` puts code at another address, `flow` follows control,
+and `detour` makes both parts of a hook.
 
 `bits`, the mode, is 16, 32 or 64; addresses are 0 to 2**64 - 1. A number out of its range is a ValueError and a value of another type a
 TypeError, before anything is called. What the library refuses is a `Refusal`, whose `reason` says why. No function keeps any state: they
@@ -17,6 +18,7 @@ may be called from several threads.
 """
 
 from ._calls import (
+    Detour,
     Moved,
     MovedCode,
     Reached,
@@ -24,6 +26,7 @@ from ._calls import (
     code_of,
     codes_of,
     decode,
+    detour,
     encode,
     encoded_len,
     flow,
@@ -45,6 +48,7 @@ from ._native import INTERFACE, MAX_CODE
 from ._numbers import (
     Access,
     Cause,
+    DetourForm,
     Flow,
     Form,
     ItemKind,
@@ -54,10 +58,11 @@ from ._numbers import (
     RegClass,
     Repeat,
     Segment,
+    Start,
     Style,
 )
 from ._operands import Far, Immediate, Memory, Near, Operand, Register, register, registers
-from ._refusal import InvalidCode, MoveReport, Refusal, TooShort
+from ._refusal import DetourReport, InvalidCode, MoveReport, Refusal, TooShort
 from ._told import About, Use
 
 __all__ = [
@@ -65,6 +70,9 @@ __all__ = [
     "Access",
     "BadByte",
     "Cause",
+    "Detour",
+    "DetourForm",
+    "DetourReport",
     "Far",
     "Flow",
     "Form",
@@ -91,6 +99,7 @@ __all__ = [
     "Repeat",
     "Rest",
     "Segment",
+    "Start",
     "Style",
     "TooShort",
     "Use",
@@ -98,6 +107,7 @@ __all__ = [
     "code_of",
     "codes_of",
     "decode",
+    "detour",
     "encode",
     "encoded_len",
     "flow",

@@ -7,8 +7,8 @@ from typing import Callable, Iterator, List, NamedTuple, Optional, Tuple, Union
 from . import _checks, _native
 from ._checks import Buffer
 from ._items import HIGH_AT, LEN_AT, LOW_AT, SIZE, BadByte, Instr, Item, Rest
-from ._numbers import Form, Jump, Reason, Style
-from ._refusal import MoveReport, refusal_of, taken
+from ._numbers import DetourForm, Form, Jump, Reason, Start, Style
+from ._refusal import DetourReport, MoveReport, refusal_of, taken
 from ._told import About, encode_of, info_of, name_of, text_of
 
 _InstrRoom = _native.room_of(SIZE)
@@ -20,6 +20,8 @@ _NotationRoom = _native.room_of(_native.NOTATION_ROOM)
 _MOVED = struct.Struct("=QQBB6x")
 _REPORT = struct.Struct("=6Q")
 _ReportRoom = _native.room_of(_REPORT.size)
+_DETOUR_REPORT = struct.Struct("=7QB7x")
+_DetourRoom = _native.room_of(_DETOUR_REPORT.size)
 
 
 def version() -> Tuple[int, int, int]:
@@ -369,3 +371,55 @@ def flow(bits: int, base: int, code: Buffer) -> List[Reached]:
     starts, leaders = (c_uint32 * room)(), (c_uint32 * room)()
     count = taken(_native.flow(bits, base, code, len(code), starts, room, leaders, room))
     return list(map(Reached, starts[:count], leaders[:count]))
+
+
+class Detour(NamedTuple):
+    """Both parts of a hook, and where the parts of the trampoline stand in it: None for what there is not.
+
+    `patch` replaces as many of the function's first bytes; `trampoline` stands at the place that it was made for, and is called in place
+    of the function.
+
+    >>> made = detour(64, 0x1000, bytes.fromhex("4883ec18 31c0 c3"), 0x2000, 0x3000)
+    >>> made.patch.hex(), made.trampoline.hex(), made.jump_back
+    ('e9fb0f0000cc', '4883ec1831c0e9fbdfffff', 6)
+    """
+
+    patch: bytes
+    trampoline: bytes
+    form: DetourForm
+    jump_back: Optional[int]
+    slots: Optional[int]
+    relay: Optional[int]
+    report: DetourReport
+
+
+def detour(bits: int, ip: int, code: Buffer, to: int, place: int, start: int = Start.MOVED) -> Detour:
+    """The patch and the trampoline of a hook of the function at `ip`, whose bytes from its first one on are `code`: calls of it come to `to`,
+    and the trampoline, which will stand at `place`, does what it did.
+
+    The jump is the first that reaches: the near one; a near one to a relay behind the trampoline; 14 bytes with the address. Nothing is
+    written to the function. `code` should be the whole of it: a branch into what is written over is found in it, and nowhere else.
+
+    Refused, with a report: BAD_MODE, BAD_START, TOO_LARGE, INVALID, TOO_SHORT, SMALL, ENDS, ENTERED, WRAPS, TOO_FAR, NO_MEMORY.
+
+    >>> try:
+    ...     detour(64, 0x1000, bytes.fromhex("31c0 ffc0 39f8 72fa c3"), 0x2000, 0x3000)
+    ... except Refusal as refusal:
+    ...     print(refusal)
+    control may go into what would be written over: from offset 6, to offset 2
+    """
+    code = _checks.code_bytes("code", code)
+    bits, ip = _checks.number("bits", bits, _checks.U32), _checks.number("ip", ip)
+    to, place = _checks.number("to", to), _checks.number("place", place)
+    start = _checks.number("start", start, _checks.U32)
+    room = _DetourRoom()
+    said = _native.detour(bits, ip, code, len(code), to, place, start, None, 0, None, 0, room)
+    report = DetourReport(*_DETOUR_REPORT.unpack(room.raw))
+    if said != Reason.NO_ROOM:
+        raise refusal_of(said, report)
+    patch, trampoline = _native.room_of(report.taken)(), _native.room_of(report.bytes)()
+    said = _native.detour(bits, ip, code, len(code), to, place, start, patch, report.taken, trampoline, report.bytes, room)
+    if said < 0:
+        raise refusal_of(said, DetourReport(*_DETOUR_REPORT.unpack(room.raw)))
+    parts = (None if at == report.bytes else at for at in (report.jump_back, report.slots_at, report.relay_at))
+    return Detour(patch.raw, trampoline.raw, DetourForm(report.form), *parts, report)

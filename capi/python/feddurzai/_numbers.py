@@ -167,6 +167,32 @@ class Jump(_Number):
     CALL_FAR = 5
 
 
+class Start(_Number):
+    """What becomes of a moved branch to the function's own start, for `detour`.
+
+    MOVED: it goes to the moved first instruction. HOOKED: it stays, and comes to the replacement.
+
+    >>> loop = bytes.fromhex("85c9 75fc 31c0 90 c3")
+    >>> [detour(64, 0x1000, loop, 0x2000, 0x3000, start).trampoline.hex() for start in Start]
+    ['85c975fc31c0e9fbdfffff', '85c90f85f8dfffff31c0e9f7dfffff']
+    """
+
+    MOVED = 0
+    HOOKED = 1
+
+
+class DetourForm(_Number):
+    """How the jump of a detour goes to the replacement: near, near to a relay, or by 14 bytes with the address.
+
+    >>> detour(64, 0x1000, bytes.fromhex("4883ec18 31c0 c3"), 0x2000, 0x3000).form
+    <DetourForm.NEAR: 1>
+    """
+
+    NEAR = 1
+    RELAY = 2
+    ABSOLUTE = 3
+
+
 class Reason(_Number):
     """Why a call is refused: the numbers of the library.
 
@@ -195,6 +221,10 @@ class Reason(_Number):
     NO_TEXT = -16
     NO_REGISTER = -17
     BAD_JUMP = -18
+    BAD_START = -19
+    SMALL = -20
+    ENDS = -21
+    ENTERED = -22
     NO_ENCODING = -256
 
 

@@ -3,7 +3,7 @@
 from __future__ import annotations
 
 from dataclasses import dataclass
-from typing import Dict, Optional, Tuple, Type
+from typing import Dict, Optional, Tuple, Type, Union
 
 from ._numbers import Cause, Reason
 
@@ -26,6 +26,10 @@ _REASONS = {
     Reason.NO_TEXT: "no instruction that can be encoded there has this text",
     Reason.NO_REGISTER: "there is no such register",
     Reason.BAD_JUMP: "it is no form of a jump or a call, as Jump.NEAR",
+    Reason.BAD_START: "start is not Start.MOVED or Start.HOOKED",
+    Reason.SMALL: "the function has too few bytes for the jump",
+    Reason.ENDS: "the function ends where it would be written over, and other code stands there",
+    Reason.ENTERED: "control may go into what would be written over",
 }
 _CAUSES = {
     Cause.ROW: "the code is no row of the table that exists in the mode",
@@ -58,11 +62,32 @@ class MoveReport:
     slots_at: int
 
 
+@dataclass(frozen=True)
+class DetourReport:
+    """The numbers of a detour; feddurzai.h says when each is set.
+
+    >>> detour(64, 0x1000, bytes.fromhex("4883ec18 31c0 c3"), 0x2000, 0x3000).report.taken
+    6
+    """
+
+    taken: int
+    bytes: int
+    jump_back: int
+    slots_at: int
+    relay_at: int
+    at: int
+    target: int
+    form: int
+
+
+Report = Union[MoveReport, DetourReport]
+
+
 class Refusal(Exception):
     """What the library refuses: its `number`, below zero, which is the `reason` or has a `cause`.
 
     `reason` is a `Reason`. Where `encode` finds no encoding it is `Reason.NO_ENCODING`, `cause` is a `Cause`, and `operand` the
-    number of the operand that has it, from 0; both are None else. What `move` refuses has a `report`.
+    number of the operand that has it, from 0; both are None else. What `move` and `detour` refuse has a `report`.
 
     >>> try:
     ...     Instr(code_of("inc", "FE /0"), Immediate(1)).encode(64, 0)
@@ -75,9 +100,9 @@ class Refusal(Exception):
     reason: Reason
     cause: Optional[Cause]
     operand: Optional[int]
-    report: Optional[MoveReport]
+    report: Optional[Report]
 
-    def __init__(self, number: int, report: Optional[MoveReport] = None) -> None:
+    def __init__(self, number: int, report: Optional[Report] = None) -> None:
         self.number = number
         self.report = report
         self.cause = self.operand = None
@@ -94,7 +119,7 @@ class Refusal(Exception):
             words = f"no encoding: {words}"
         super().__init__(words + _where(self.reason, report))
 
-    def __reduce__(self) -> Tuple[Type[Refusal], Tuple[int, Optional[MoveReport]]]:
+    def __reduce__(self) -> Tuple[Type[Refusal], Tuple[int, Optional[Report]]]:
         return type(self), (self.number, self.report)
 
 
@@ -123,22 +148,27 @@ class TooShort(Refusal):
 _CLASSES: Dict[int, Type[Refusal]] = {Reason.INVALID: InvalidCode, Reason.TOO_SHORT: TooShort}
 
 
-def _where(reason: Reason, report: Optional[MoveReport]) -> str:
+def _where(reason: Reason, report: Optional[Report]) -> str:
     """What a report says of a refusal."""
     if report is None:
         return ""
-    if reason in _CLASSES:
+    address = report.target if isinstance(report, DetourReport) else report.address
+    if reason in _CLASSES or reason is Reason.ENDS:
         return f": at offset {report.at}"
-    if reason is Reason.TOO_MANY:
+    if reason is Reason.TOO_MANY and isinstance(report, MoveReport):
         return f": {report.count}"
     if reason is Reason.WRAPS:
-        return f": it ends at {report.address:#x}"
+        return f": it ends at {address:#x}"
     if reason is Reason.TOO_FAR:
-        return f": instruction {report.at}, target {report.address:#x}"
+        return f": instruction {report.at}, target {address:#x}"
+    if reason is Reason.SMALL:
+        return f": it has {report.at}, the jump {address}"
+    if reason is Reason.ENTERED:
+        return f": from offset {report.at}, to offset {address}"
     return ""
 
 
-def refusal_of(number: int, report: Optional[MoveReport] = None) -> Refusal:
+def refusal_of(number: int, report: Optional[Report] = None) -> Refusal:
     """The exception of a number below zero."""
     return _CLASSES.get(number, Refusal)(number, report)
 

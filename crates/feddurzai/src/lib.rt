@@ -108,3 +108,8 @@ pub mod streams {
 pub mod flow {
     pub use flow_graph::{FlowError, FlowGraph, flow_graph, flow_graph_in};
 }
+
+/// Hooks: what is written over the first bytes of a function, and the trampoline that does what they did.
+pub mod hooks {
+    pub use detour::{Detour, DetourError, JumpForm, Parts, StartTarget, detour};
+}

@@ -11,3 +11,4 @@ pub mod Jumps
 pub mod Info
 pub mod Flow
 pub mod Moving
+pub mod Hooks

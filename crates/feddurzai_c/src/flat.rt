@@ -113,3 +113,25 @@ pub struct FlatMove {
     /// The offset of the first slot; how many bytes there are where there is none.
     pub slots_at: u64,
 }
+
+/// The numbers of a detour.
+#[derive(Clone, Copy, PartialEq, Eq, Debug)]
+#[repr(C)]
+pub struct FlatDetour {
+    /// How many bytes of the function are taken: those of the patch.
+    pub taken: u64,
+    /// How many bytes the trampoline has.
+    pub bytes: u64,
+    /// The offset of its jump back; how many bytes there are where there is none.
+    pub jump_back: u64,
+    /// The offset of the first slot; how many bytes there are where there is none.
+    pub slots_at: u64,
+    /// The offset of the relay; how many bytes there are where there is none.
+    pub relay_at: u64,
+    /// The offset at which the code ends or does not go on as it has to, or the number of the instruction that does not reach its target.
+    pub at: u64,
+    /// The offset that is entered, the target that is not reached, how many bytes the jump has, or the end that passes the address space.
+    pub target: u64,
+    /// The form of the jump: 1 near, 2 near to a relay, 3 with the address behind it; 0 without a detour.
+    pub form: u8,
+}

@@ -13,6 +13,7 @@ mod encoding;
 mod flat;
 mod flatten;
 mod flow;
+mod hooks;
 mod info;
 mod jump;
 pub mod laws;

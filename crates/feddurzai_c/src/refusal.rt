@@ -42,6 +42,14 @@ pub(crate) enum Refusal {
     Register,
     /// A jump has no such form.
     Jump,
+    /// Nothing stands for what becomes of a function's own start.
+    Start,
+    /// The code is too small for the jump.
+    Small,
+    /// Other code stands behind the end of the code.
+    Ends,
+    /// What would be written over is entered.
+    Entered,
     /// The instruction has no plain spelling there: the condition that fails, and the operand that fails it, 0 for a condition of the whole instruction.
     Spelling { why: NoSpelling, operand: u8 },
 }
@@ -87,6 +95,10 @@ fn refusal_number(why: Refusal) -> u16
         Refusal::Text => 16,
         Refusal::Register => 17,
         Refusal::Jump => 18,
+        Refusal::Start => 19,
+        Refusal::Small => 20,
+        Refusal::Ends => 21,
+        Refusal::Entered => 22,
         Refusal::Spelling { why, operand } => condition_number(why) + u16::from(operand),
     }
 }
