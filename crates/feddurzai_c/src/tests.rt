@@ -1,9 +1,10 @@
 use crate::assembling::{feddurzai_assemble, feddurzai_read_intel};
 use crate::decoding::feddurzai_decode;
 use crate::encoding::{feddurzai_encode, feddurzai_encoded_len};
-use crate::flat::{FlatInfo, FlatInstr, FlatMove, FlatMoved, FlatUse};
+use crate::flat::{FlatDetour, FlatInfo, FlatInstr, FlatMove, FlatMoved, FlatUse};
 use crate::flatten::ABSENT;
 use crate::flow::feddurzai_flow;
+use crate::hooks::feddurzai_detour;
 use crate::info::feddurzai_info;
 use crate::jump::feddurzai_jump;
 use crate::line::{feddurzai_line, feddurzai_line_text};
@@ -237,6 +238,50 @@ fn a_target_is_kept(rt: HostRuntime) -> Result<(), Fail> {
     assert_eq!(rt;
         (report.bytes, report.code_bytes, report.slots_at),
         (2, 2, 2)
+    );
+    Ok(())
+}
+
+// `sub rsp, 0x18`, `xor eax, eax` and `ret`: five bytes are wanted, six taken, and the jump back is behind them.
+#[test]
+fn a_detour_is_made(rt: HostRuntime) -> Result<(), Fail> {
+    let mut patch = [0xaa; 7];
+    let mut trampoline = [0xaa; 12];
+    let mut report = FlatDetour {
+        taken: 0,
+        bytes: 0,
+        jump_back: 0,
+        slots_at: 0,
+        relay_at: 0,
+        at: 9,
+        target: 9,
+        form: 0,
+    };
+    let said = feddurzai_detour(
+        rt.alloc(),
+        64,
+        0x1000,
+        b"\x48\x83\xec\x18\x31\xc0\xc3",
+        0x2000,
+        0x3000,
+        0,
+        &mut patch,
+        &mut trampoline,
+        &mut report,
+    );
+    assert_eq!(rt; said, 0);
+    assert_eq!(rt; patch, *b"\xe9\xfb\x0f\0\0\xcc\xaa");
+    assert_eq!(rt;
+        trampoline,
+        *b"\x48\x83\xec\x18\x31\xc0\xe9\xfb\xdf\xff\xff\xaa"
+    );
+    assert_eq!(rt;
+        (report.taken, report.bytes, report.jump_back, report.form),
+        (6, 11, 6, 1)
+    );
+    assert_eq!(rt;
+        (report.slots_at, report.relay_at, report.at, report.target),
+        (11, 11, 0, 0)
     );
     Ok(())
 }
