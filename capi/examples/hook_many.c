@@ -317,9 +317,8 @@ static uint64_t run_BOUND(function f)
 #define END(name) #name "_end:\n"
 __asm__(
     ".pushsection own, \"ax\"\n"
-    /* a short branch to an instruction that is taken with it */
-    BEGIN(own_branch) "js 1f\n inc %edi\n 1: lea 5(%rdi), %eax\n test %edi, %edi\n js own_branch_more\n ret\n"
-    "own_branch_more: neg %eax\n ret\n" END(own_branch)
+    /* a short branch to an instruction that is taken with it, over one that would stop the program */
+    BEGIN(own_branch) "stc\n jc 1f\n hlt\n 1: lea 5(%rdi), %eax\n ret\n" END(own_branch)
     /* a loop to the very first byte */
     BEGIN(own_loop) "sub $3, %edi\n jg own_loop\n lea 10(%rdi), %eax\n ret\n" END(own_loop)
     /* an operand at RIP */

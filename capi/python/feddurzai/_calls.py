@@ -421,5 +421,5 @@ def detour(bits: int, ip: int, code: Buffer, to: int, place: int, start: int = S
     said = _native.detour(bits, ip, code, len(code), to, place, start, patch, report.taken, trampoline, report.bytes, room)
     if said < 0:
         raise refusal_of(said, DetourReport(*_DETOUR_REPORT.unpack(room.raw)))
-    parts = (None if at == report.bytes else at for at in (report.jump_back, report.slots_at, report.relay_at))
-    return Detour(patch.raw, trampoline.raw, DetourForm(report.form), *parts, report)
+    jump_back, slots, relay = (None if at == report.bytes else at for at in (report.jump_back, report.slots_at, report.relay_at))
+    return Detour(patch.raw, trampoline.raw, DetourForm(report.form), jump_back, slots, relay, report)
