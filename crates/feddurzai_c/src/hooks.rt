@@ -1,6 +1,6 @@
 //! Detours of functions.
 
-ghost use Rattle.std.specs.Prelude.{◌≡◌, ◌++◌, length, drop, Ok, Err};
+ghost use Rattle.std.specs.Prelude.{◌≡◌, length};
 ghost use Rattle.feddurzai_c.specs.Numbers.{bits_numbered};
 ghost use Rattle.feddurzai_c.specs.Hooks as spec;
 
@@ -146,6 +146,16 @@ fn offset_or(offset: Option<usize>, end: u64) -> u64
     }
 }
 
+/// Where a jump back stands, and the end where there is none.
+fn jump_back_or(offset: Option<u64>, end: u64) -> u64
+    ensures { result ≡ spec.offset_or offset end }
+{
+    match offset {
+        Some(offset) => offset,
+        None => end,
+    }
+}
+
 /// The numbers of a detour.
 fn detour_report(d: &Detour) -> FlatDetour
     ensures { result ≡ spec.detour_report d.now }
@@ -155,14 +165,21 @@ fn detour_report(d: &Detour) -> FlatDetour
     FlatDetour {
         taken: d.taken() as u64,
         bytes,
-        jump_back: match parts.jump_back {
-            Some(offset) => offset,
-            None => bytes,
-        },
+        jump_back: jump_back_or(parts.jump_back, bytes),
         slots_at: offset_or(parts.slots, bytes),
         relay_at: offset_or(parts.relay, bytes),
         form: jump_number(d.form()),
         ..NOTHING
+    }
+}
+
+/// The numbers of an answer.
+fn hook_report(answer: &Result<Detour, HookRefusal>) -> FlatDetour
+    ensures { result ≡ spec.hook_report answer.now }
+{
+    match answer {
+        Ok(made) => detour_report(made),
+        Err(why) => refusal_report(*why),
     }
 }
 
@@ -195,17 +212,22 @@ fn hook_of(
 
 /// Writes the patch and the trampoline, where both rooms hold them.
 #[tactic(auto, unfolding(crate::specs::Hooks::hook_within))]
-fn put_hook(d: &Detour, patch: &mut [u8], trampoline: &mut [u8]) -> i32
-    ensures said { result ≡ spec.hook_said (spec.hook_within (length patch.old) (length trampoline.old) (Ok d.now)) }
-    ensures patch { patch.new ≡ spec.patch_left patch.old (spec.hook_within (length patch.old) (length trampoline.old) (Ok d.now)) }
-    ensures trampoline { trampoline.new ≡ spec.trampoline_left trampoline.old (spec.hook_within (length patch.old) (length trampoline.old) (Ok d.now)) }
+fn put_hook(answer: &Result<Detour, HookRefusal>, patch: &mut [u8], trampoline: &mut [u8]) -> i32
+    ensures said { result ≡ spec.hook_said (spec.hook_within (length patch.old) (length trampoline.old) answer.now) }
+    ensures patch { patch.new ≡ spec.patch_left patch.old (spec.hook_within (length patch.old) (length trampoline.old) answer.now) }
+    ensures trampoline { trampoline.new ≡ spec.trampoline_left trampoline.old (spec.hook_within (length patch.old) (length trampoline.old) answer.now) }
 {
-    if d.patch().len() > patch.len() || d.trampoline().len() > trampoline.len() {
-        return refused(Refusal::Room);
+    match answer {
+        Ok(made) => {
+            if made.patch().len() > patch.len() || made.trampoline().len() > trampoline.len() {
+                return refused(Refusal::Room);
+            }
+            write_front(patch, made.patch());
+            write_front(trampoline, made.trampoline());
+            0
+        }
+        Err(why) => refused(hook_refusal(*why)),
     }
-    write_front(patch, d.patch());
-    write_front(trampoline, d.trampoline());
-    0
 }
 
 /// Makes a detour of the function whose bytes from its first one on, at the address `ip`, are `code`, to the replacement at the address `to`: the bytes
@@ -238,14 +260,7 @@ pub extern "C" fn feddurzai_detour(
 ) -> i32
     ensures { spec.IsHook bits ip code.now to place start patch.old patch.new trampoline.old trampoline.new report.new result }
 {
-    match hook_of(alloc, bits, ip, code, to, place, start) {
-        Ok(made) => {
-            *report = detour_report(&made);
-            put_hook(&made, patch, trampoline)
-        }
-        Err(why) => {
-            *report = refusal_report(why);
-            refused(hook_refusal(why))
-        }
-    }
+    let answer = hook_of(alloc, bits, ip, code, to, place, start);
+    *report = hook_report(&answer);
+    put_hook(&answer, patch, trampoline)
 }
