@@ -15,4 +15,4 @@ mod tests;
 
 pub use blocks::Region;
 pub use commands::{Command, Reply, replay};
-pub use refusals::{NotTaken, OpenError, PlaceError};
+pub use refusals::{FillError, NotTaken, OpenError, PlaceError};
