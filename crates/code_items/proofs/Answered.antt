@@ -1,9 +1,9 @@
 -- What moving the instructions of some code answers.
-use Rattle.std.proofs.Common.{◌≡◌, ℕ, zero, suc, ◌+◌, ◌^◌, ◌<◌, ◌≤◌, true, false, List, [], ◌∷◌, length, drop, Option, None, Some, refl, sym, ap, ◌∙◌, subst, arith, inl, inr}
-use Rattle.std.specs.Prelude.{map, ◌==◌, nat_lt, if◌then◌else◌, Result, Ok, Err}
+use Rattle.std.proofs.Common.{◌≡◌, ℕ, zero, suc, ◌+◌, ◌^◌, ◌<◌, ◌≤◌, true, false, List, [], ◌∷◌, length, Option, None, Some, refl, sym, ap, ◌∙◌, subst, arith, inl, inr}
+use Rattle.std.specs.Prelude.{map, ◌==◌, Result, Err}
 use Rattle.std.proofs.lemmas.List.{length-map}
 use Rattle.std.proofs.lemmas.List.FromFn.{length-map-range_with_len}
-use Rattle.std.proofs.lemmas.Bool.{cases_Bool, cond-true, cond-false, eqb-true, ltb-false}
+use Rattle.std.proofs.lemmas.Bool.{cases_Bool, eqb-true, ltb-false}
 use Rattle.x86_values.specs.declared.Bits.{Bits}
 use Rattle.x86_values.specs.Wrapping.{width}
 use Rattle.branch_sizes.specs.declared.plan.BlockSpan.{BlockSpan}
@@ -16,7 +16,7 @@ use Rattle.block_encoder.specs.declared.error.MoveError.TheVariants as error
 use Rattle.block_encoder.specs.Moved.{MovedLists, IsMoved, IsRefused, IsAnswer}
 use Rattle.code_items.specs.Sound.{ItemList}
 use Rattle.code_items.specs.Items.{ReadsUpTo, AreItemsOf, HasItems, wrapped_item, old_pass}
-use Rattle.code_items.specs.Moving.{AreBeside, IsMovedCode, RefusesCode, MovedItems}
+use Rattle.code_items.specs.Moving.{AreBeside, IsMovedCode, RefusesCode}
 use Rattle.code_items.proofs.InOrder.{no_disorder, old_end_passes}
 use Rattle.code_items.proofs.Wrapping.{wrapped-same}
 

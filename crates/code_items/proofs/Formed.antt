@@ -1,6 +1,6 @@
 -- The instructions of some items have the form of their rows.
-use Rattle.std.proofs.Common.{◌≡◌, true, List, [], ◌∷◌, ◌++◌, refl, ap, ◌∙◌}
-use Rattle.std.specs.Prelude.{◌&&◌, IsTrue}
+use Rattle.std.proofs.Common.{List, [], ◌∷◌, ◌++◌, refl, ◌∙◌}
+use Rattle.std.specs.Prelude.{IsTrue}
 use Rattle.std.proofs.lemmas.List.Folds.{list_all-append}
 use Rattle.opcode_rows.specs.Allowed.{is_well_formed}
 use Rattle.move_goals.specs.declared.items.Placed.{Placed}
