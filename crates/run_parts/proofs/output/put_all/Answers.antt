@@ -1,6 +1,7 @@
 use Rattle.std.proofs.Common.{◌++◌, List, ℕ, Option, take, arith, ap, sym, ◌∙◌}
 use Rattle.std.proofs.Math.Seq.{take-add}
 use Rattle.byte_ports.specs.Ports.{with_back}
+use Rattle.run_parts.specs.Writing.{then_put}
 use Rattle.run_parts.proofs.Appending.{with_back-append}
 use Rattle.run_parts.proofs.output.put_all.Goals as goal
 
@@ -18,5 +19,6 @@ loop-at-preserved g c =
           ∙ ap (with_back (g.K.Sink.held c.args.out.now))
           (ap (λ (xs : List ℕ). take c.loop-at.at c.args.bytes.now ++ take c.in_ok-at.field-0 xs) rest
           ∙ sym (take-add c.loop-at.at c.in_ok-at.field-0 c.args.bytes.now))));
+      puts = then_put here.puts c.in_ok-at.ensures.gives;
       later = omega arith;
     }

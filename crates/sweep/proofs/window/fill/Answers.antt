@@ -1,5 +1,7 @@
 use Rattle.std.proofs.Common.{◌+◌, ◌-◌, take, arith}
 use Rattle.std.proofs.lemmas.List.{length-take-le}
+use Rattle.std.proofs.lemmas.Result.{err_from_is_err_and}
+use Rattle.sweep.specs.Calls.{window_len}
 use Rattle.sweep.proofs.Windows.{piece_behind, at_end}
 use Rattle.sweep.proofs.window.fill.Goals as goal
 
@@ -16,3 +18,12 @@ returns-clause-ok g c =
           at_end (g.S.Source.left c.args.source.now) (g.S.Source.left c.pull.new.self) c.pull.new.into n c.in_ok-count.ensures.taken none
           (c.in_ok-count.ensures.end none (omega (arith, c.pull.auto.into, c.requires.room, c.requires.inside)));
     }
+
+pub returns-clause-pull : goal.returns-clause-pull
+unfolding window_len
+returns-clause-pull g c = record {
+  buffer = c.pull.args.into;
+  filled = c.pull.new.into;
+  few = omega (arith, c.requires.window, c.requires.inside);
+  gave = c.in_ok-count.ensures.gives;
+}

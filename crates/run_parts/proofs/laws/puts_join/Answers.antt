@@ -1,0 +1,5 @@
+use Rattle.run_parts.proofs.Putting.{puts_join, puts_join-fault}
+use Rattle.run_parts.proofs.laws.puts_join.Goals as goal
+
+pub returns : goal.returns
+returns g c = record { join = λ old now new. puts_join; join-fault = λ old now new. puts_join-fault };
