@@ -49,7 +49,7 @@ sixteen_there = refl
 
 -- a parser that goes on with what a word stands for
 open-with : {A : Type 0} (o : Option A) (a : A) (g : Option A → Words → Command) → o ≡ Some a → Begins (g (Some a)) [] → Begins (g o) []
-open-with o a g e b = subst (λ (x : Option A). Begins (g x) []) (sym e) b
+open-with {A = A} o a g e b = subst (λ (x : Option A). Begins (g x) []) (sym e) b
 
 -- ---- a command, and no more words
 
@@ -206,22 +206,14 @@ FullBehind ThroughSlots bits ws = FullRegion bits ws
 FullBehind _ bits ws = ⊥
 
 end_open-of : (through : Through) (bits : Bits) (base : ℕ) → Begins (code_end through bits base) []
-unfolding code_end
+unfolding code_end move_end map_end
 end_open-of ThroughList bits base = list_open bits base
 end_open-of ThroughInfo bits base = end_open 3 (Info bits base) (λ k e. cc)
 end_open-of ThroughRecode bits base = recode_open bits base
 end_open-of ThroughFlow bits base = end_open 3 (Flow bits base) (λ k e. cc)
 end_open-of ThroughAsm bits base = end_open 3 (Asm bits base) (λ k e. cc)
-end_open-of ThroughMove bits base = move_open bits base
-  where
-    move_open : (bits : Bits) (base : ℕ) → Begins (λ ws. move_end bits base (new_words bits ws)) []
-    unfolding move_end
-    move_open bits base = new_open (move_end bits base) bits (λ new k e. cc) (λ k. refl)
-end_open-of ThroughMap bits base = map_open bits base
-  where
-    map_open : (bits : Bits) (base : ℕ) → Begins (λ ws. map_end bits base (new_words bits ws)) []
-    unfolding map_end
-    map_open bits base = new_open (map_end bits base) bits (λ new k e. cc) (λ k. refl)
+end_open-of ThroughMove bits base = new_open (move_end bits base) bits (λ new k e. cc) (λ k. refl)
+end_open-of ThroughMap bits base = new_open (map_end bits base) bits (λ new k e. cc) (λ k. refl)
 end_open-of ThroughSlots bits base = slots_open bits base
 
 new_end_sound : (c : Result ℕ ℕ → Command) (through : Through) (bits : Bits) → ((new k : ℕ) → c (Ok new) ≡ Wrong k → ⊥) → ((k : ℕ) → c (Err k) ≡ Wrong k) →
@@ -351,11 +343,11 @@ module _ (room : ℕ) (bits : Bits) (blocks : List BlockWords) where
 
   -- where more blocks may come, or behind the last that may
   abbrev More : Type 0
-  More = (block : BlockWords) → Behind (3 + n) (blocks_from room bits (blocks ++ block ∷ [])) never
+  More = (block : BlockWords) → Behind (suc (suc (suc n))) (blocks_from room bits (blocks ++ block ∷ [])) never
 
-  len_behind : More → (old new : ℕ) (o : Option ℕ) → Behind (3 + n) (λ ws. block_step room bits blocks (block_len old new o) ws) never
+  len_behind : More → (old new : ℕ) (o : Option ℕ) → Behind (suc (suc (suc n))) (λ ws. block_step room bits blocks (block_len old new o) ws) never
   unfolding block_len
-  len_behind more old new None = inr (λ ws. wrong_as (3 + 3 * length blocks + 2) (3 + n) (omega arith))
+  len_behind more old new None = inr (λ ws. wrong_as (3 + 3 * length blocks + 2) (suc (suc (suc n))) (omega arith))
   len_behind more old new (Some len) = more (record { old = old; new = new; len = Some len })
 
   new_block : ℕ → Option ℕ → Words → Command
@@ -365,27 +357,27 @@ module _ (room : ℕ) (bits : Bits) (blocks : List BlockWords) where
   unfolding block_new
   new_block_open old new = ([], λ k e. cc)
 
-  new_block_behind : More → (old : ℕ) (o : Option ℕ) → Behind (2 + n) (λ ws. block_step room bits blocks (block_new old o ws) (drop 1 ws)) never
+  new_block_behind : More → (old : ℕ) (o : Option ℕ) → Behind (suc (suc n)) (λ ws. block_step room bits blocks (block_new old o ws) (drop 1 ws)) never
   unfolding block_new
-  new_block_behind more old None = inr (λ ws. wrong_as (3 + 3 * length blocks + 1) (2 + n) (omega arith))
+  new_block_behind more old None = inr (λ ws. wrong_as (3 + 3 * length blocks + 1) (suc (suc n)) (omega arith))
   new_block_behind more old (Some new) =
-      inl (next (2 + n) (λ ws. block_step room bits blocks (block_new old (Some new) ws) (drop 1 ws))
+      inl (next (suc (suc n)) (λ ws. block_step room bits blocks (block_new old (Some new) ws) (drop 1 ws))
       (λ w ws. block_step room bits blocks (block_len old new (number_named w)) ws) (λ w ws. refl) never (new_block_open old new)
       (λ k e. absurd cc) (λ w. len_behind more old new (number_named w)))
 
   old_block_open : (old : ℕ) → Begins (λ ws. block_step room bits blocks (block_old bits (Some old) ws) (drop 2 ws)) []
   unfolding block_old
   old_block_open old =
-      open-by (1 + n) (λ ws. block_step room bits blocks (block_old bits (Some old) ws) (drop 2 ws))
+      open-by (suc n) (λ ws. block_step room bits blocks (block_old bits (Some old) ws) (drop 2 ws))
       (λ w ws. block_step room bits blocks (block_new old (address_in bits (number_named w)) ws) (drop 1 ws)) (λ w ws. refl) (codes "0")
       (open-with (address_in bits (number_named (codes "0"))) 0 (λ o ws. block_step room bits blocks (block_new old o ws) (drop 1 ws)) (address_there bits)
       (new_block_open old 0))
 
-  old_block_behind : More → (o : Option ℕ) → Behind (1 + n) (λ ws. block_step room bits blocks (block_old bits o ws) (drop 2 ws)) never
+  old_block_behind : More → (o : Option ℕ) → Behind (suc n) (λ ws. block_step room bits blocks (block_old bits o ws) (drop 2 ws)) never
   unfolding block_old
-  old_block_behind more None = inr (λ ws. wrong_as (3 + 3 * length blocks + 0) (1 + n) (omega arith))
+  old_block_behind more None = inr (λ ws. wrong_as (3 + 3 * length blocks + 0) (suc n) (omega arith))
   old_block_behind more (Some old) =
-      inl (next (1 + n) (λ ws. block_step room bits blocks (block_old bits (Some old) ws) (drop 2 ws))
+      inl (next (suc n) (λ ws. block_step room bits blocks (block_old bits (Some old) ws) (drop 2 ws))
       (λ w ws. block_step room bits blocks (block_new old (address_in bits (number_named w)) ws) (drop 1 ws)) (λ w ws. refl) never (old_block_open old)
       (λ k e. let there : Wrong (3 + 3 * length blocks + 1) ≡ Wrong k = e in omega (arith, wrong_number (3 + 3 * length blocks + 1) k there))
       (λ w. new_block_behind more old (address_in bits (number_named w))))
@@ -410,7 +402,7 @@ blocks_more zero bits blocks whole = inr (λ ws. refl)
 blocks_more (suc room) bits blocks whole =
     inl (blocks_next room bits blocks (λ block.
     let len : length (blocks ++ block ∷ []) ≡ length blocks + 1 = length-append blocks (block ∷ []) in
-    let place : 2 + 3 * length (blocks ++ block ∷ []) ≡ 3 + (2 + 3 * length blocks) = omega (arith, len) in
+    let place : 2 + 3 * length (blocks ++ block ∷ []) ≡ suc (suc (suc (2 + 3 * length blocks))) = omega (arith, len) in
     subst (λ (m : ℕ). Behind m (blocks_from room bits (blocks ++ block ∷ [])) never) place
     (blocks_more room bits (blocks ++ block ∷ []) (omega (arith, len, whole)))))
 
@@ -482,7 +474,7 @@ name_behind name =
     either_of (same_text name (codes "sample")) _ _ (FullOf name) (λ e. whole_of name sample_words sample_sound) (λ e10.
     either_of (same_text name (codes "--help")) _ _ (FullOf name) (λ e. whole_of name (λ ws. at_end ws 2 Help) (end_sound 1 Help (λ k e. cc))) (λ e11.
     either_of (same_text name (codes "--version")) _ _ (FullOf name) (λ e. whole_of name (λ ws. at_end ws 2 Version) (end_sound 1 Version (λ k e. cc)))
-    (λ e12. inr (λ ws. refl)))))))))))))
+    (λ e12. inr (λ ws. refl))))))))))))))
 
 command_open : Begins command_of []
 unfolding command_of at_end

@@ -59,20 +59,20 @@ module _ (n : ℕ) (f : Words → Command) (h : List ℕ → Words → Command) 
   -- **the first wrong word, where each word that may come is followed by such a parser**
   pub next : (but : Words → Type 0) → Begins f [] → ((k : ℕ) → f [] ≡ Wrong k → k ≡ n + 1) →
       ((w : List ℕ) → Behind (suc n) (h w) (λ ws. but (w ∷ ws))) → Sound n f but
-  next but open none each [] k fine e = record {
+  next but begun none each [] k fine e = record {
     before = 0;
     word_is = omega (arith, none k e);
-    begin = open;
+    begin = begun;
     wrong = inr (refl, λ a. a k e);
   }
-  next but open none each (w ∷ ws) k fine e =
+  next but begun none each (w ∷ ws) k fine e =
       let told : h w ws ≡ Wrong k = sym (cons w ws) ∙ e in
       elim (each w) [
         | inl sound ↦ behind w ws k (sound ws k fine told)
         | inr refuses ↦ record {
           before = 0;
           word_is = omega (arith, same_number (h w ws) k (suc n) told (refuses ws));
-          begin = open;
+          begin = begun;
           wrong = inl (omega arith, λ b. b.1 (suc n) (cons w b.0 ∙ refuses b.0));
         }
       ]
@@ -91,8 +91,8 @@ module _ (n : ℕ) (f : Words → Command) (h : List ℕ → Words → Command) 
 
 -- no word may come
 pub last : (n : ℕ) (f : Words → Command) (but : Words → Type 0) → Allowed f [] → ((w : List ℕ) (ws : Words) → f (w ∷ ws) ≡ Wrong (suc n)) → Sound n f but
-last n f but open each =
-    next n f (λ w ws. Wrong (suc n)) each but ([], open) (λ k e. absurd (open k e)) (λ w. inr (λ ws. refl))
+last n f but begun each =
+    next n f (λ w ws. Wrong (suc n)) each but ([], begun) (λ k e. absurd (begun k e)) (λ w. inr (λ ws. refl))
 
 -- fewer words are left out
 pub sound-less : (n : ℕ) (f : Words → Command) (but other : Words → Type 0) → ((ws : Words) → but ws → other ws) → Sound n f but → Sound n f other

@@ -3,6 +3,8 @@ use Rattle.std.proofs.Common.{◌≡◌, ◌⊎◌, inl, inr, ℕ, suc, ◌+◌,
 use Rattle.std.specs.Prelude.{◌↔◌, codes}
 use Rattle.x86_values.specs.declared.Bits.{Bits}
 use Rattle.x86_values.specs.Wrapping.{width}
+use Rattle.std.proofs.lemmas.Bool.Decides.{Decides-eqb}
+use Rattle.std.proofs.lemmas.Slice.Eq.{slice_eq-Decides}
 use Rattle.command_words.specs.declared.commands.Command.{Command}
 use Rattle.command_words.specs.declared.commands.Command.TheVariants.{Wrong}
 use Rattle.command_words.specs.declared.commands.Through.TheVariants.{Slots as ThroughSlots}
@@ -39,7 +41,7 @@ first_wrong words word fine = (
 -- ---- a REGION behind which there is no room
 
 no_range : (bits : Bits) (base size : ℕ) → 2 ^ width bits < base + 16 → is_range bits base size ≡ false
-no_range bits base size full = grind
+no_range bits base size full = grind arith
 
 no_size : (bits : Bits) (base : ℕ) (o : Option ℕ) → 2 ^ width bits < base + 16 → range_in bits base o ≡ None
 unfolding range_in range_of
@@ -70,7 +72,7 @@ slots_refused mode old region words bits start base is_mode is_start is_base ful
 named_slots : (name : List ℕ) (words : Words) → same_text name (codes "slots") ≡ true → command_of (name ∷ words) ≡ code_words ThroughSlots words
 unfolding command_of
 named_slots name words e =
-    let same : name ≡ codes "slots" = pointwise_same name (codes "slots") e in subst (λ (xs : List ℕ). command_of (xs ∷ words) ≡ code_words ThroughSlots words) (sym same) refl
+    let same : name ≡ codes "slots" = (slice_eq-Decides Decides-eqb name (codes "slots") (same_text name (codes "slots")) refl).0 e in subst (λ (xs : List ℕ). command_of (xs ∷ words) ≡ code_words ThroughSlots words) (sym same) refl
 
 pub no_room : (words : Words) → HasNoRoom words → command_of words ≡ Wrong 5
 no_room [] b = absurd b
