@@ -6,8 +6,6 @@ ghost use Rattle.arrayvec.specs.ArrayVec.{array_vec_len};
 ghost use Rattle.opcode_rows.specs.Allowed.{is_well_formed};
 ghost use Rattle.intel_text.specs.Text as spec;
 
-pub mod laws;
-
 use arrayvec::ArrayVec;
 use text_parts::style::Style;
 use text_parts::text::{TEXT_LEN, Text};

@@ -1,9 +1,17 @@
 use Rattle.std.proofs.Common.{◌++◌, List, ℕ, Option, take, arith, ap, sym, ◌∙◌}
 use Rattle.std.proofs.Math.Seq.{take-add}
 use Rattle.byte_ports.specs.Ports.{with_back}
-use Rattle.run_parts.specs.Writing.{then_put}
-use Rattle.run_parts.proofs.Appending.{with_back-append}
+use Rattle.run_parts.specs.Writing.{no_put, then_put}
+use Rattle.run_parts.proofs.Appending.{with_back-nil, with_back-append}
 use Rattle.run_parts.proofs.output.put_all.Goals as goal
+
+pub loop-at-init : goal.loop-at-init
+loop-at-init g c = record {
+  within = omega arith;
+  held = sym (with_back-nil (g.K.Sink.held c.args.out.now));
+  puts = no_put;
+  later = omega arith;
+}
 
 pub loop-at-preserved : goal.loop-at-preserved
 loop-at-preserved g c =
