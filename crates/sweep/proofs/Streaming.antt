@@ -86,6 +86,7 @@ at_fault bits base lines start left left' held held' at len count window s same 
 -- what was seen so far is written
 pub written_so_far : (bits : Bits) (base : ℕ) (lines : Lines) (start left held held' : Option (List ℕ)) (at len count : ℕ) (window : List ℕ)
     (s : Streamed bits base lines start left held held' at len count window) → IsWritten bits base lines start left held held' s.seen
+unfolding at_fault
 written_so_far bits base lines start left held held' at len count window s =
     let h = at_fault bits base lines start left left held held' at len count window s refl in record { read = h.1.0; handled = h.1.1 }
 

@@ -1,9 +1,21 @@
-use Rattle.std.proofs.Common.{◌≡◌, ◌+◌, ◌-◌, ◌≤◌, min, arith, refl, ◌∙◌}
+use Rattle.std.proofs.Common.{rules, ◌≡◌, ◌+◌, ◌-◌, ◌≤◌, min, arith, refl, ◌∙◌}
 use Rattle.std.proofs.lemmas.Bool.{eqb-true, eq-eqb, ne_eqb}
 use Rattle.run_parts.specs.Reads.{code_limit}
-use Rattle.sweep.specs.Calls.{then_round}
-use Rattle.sweep.proofs.Streaming.{rose_since, written_so_far, window_is, at_write_fault, at_end_of_input, past_limit, at_bad_code, streamed_next}
+use Rattle.sweep.specs.Calls.{no_round, then_round}
+use Rattle.sweep.proofs.Streaming.{streamed_start, rose_since, written_so_far, window_is, at_write_fault, at_end_of_input, past_limit, at_bad_code, streamed_next}
 use Rattle.sweep.proofs.stream.stream_all.Goals as goal
+
+pub pulls-init : goal.pulls-init
+pulls-init g c = record {
+  streamed = streamed_start c.pieces_join.ensures _ _ _ _ _ _;
+  wide = search rules;
+  few = omega arith;
+  short = omega arith;
+  counted = omega arith;
+  source_later = omega arith;
+  rounds = no_round;
+  sink_later = omega arith;
+}
 
 pub returns-in-Err-write_ready-clause-answer : goal.returns-in-Err-write_ready-clause-answer
 unfolding code_limit

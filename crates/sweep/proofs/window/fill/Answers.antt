@@ -2,7 +2,7 @@ use Rattle.std.proofs.Common.{◌+◌, ◌-◌, take, arith}
 use Rattle.std.proofs.lemmas.List.{length-take-le}
 use Rattle.std.proofs.lemmas.Result.{err_from_is_err_and}
 use Rattle.sweep.specs.Calls.{window_len}
-use Rattle.sweep.proofs.Windows.{piece_behind, at_end}
+use Rattle.sweep.proofs.Windows.{piece_behind, part_few, at_end}
 use Rattle.sweep.proofs.window.fill.Goals as goal
 
 pub returns-clause-ok : goal.returns-clause-ok
@@ -22,8 +22,19 @@ returns-clause-ok g c =
 pub returns-clause-pull : goal.returns-clause-pull
 unfolding window_len
 returns-clause-pull g c = record {
-  buffer = c.pull.args.into;
+  buffer = _;
   filled = c.pull.new.into;
-  few = omega (arith, c.requires.window, c.requires.inside);
+  few = part_few c.args.len c.args.room c.args.window.now c.requires.window;
   gave = c.in_ok-count.ensures.gives;
 }
+
+pub returns-in_err-count-clause-pull : goal.returns-in_err-count-clause-pull
+unfolding window_len
+returns-in_err-count-clause-pull g c =
+    let p = err_from_is_err_and c.from_residual.result c.from_residual.ensures.1 in
+    rw p.1 (record {
+      buffer = _;
+      filled = c.pull.new.into;
+      few = part_few c.args.len c.args.room c.args.window.now c.requires.window;
+      gave = c.in_err-count.ensures.gives;
+    })
