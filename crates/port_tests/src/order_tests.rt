@@ -49,8 +49,15 @@ fn lines_stand_before_more_is_asked_for(rt: HostRuntime) -> Result<(), Fail> {
         let answer = status_of(rt.alloc(), words, &mut source, &mut out, &mut err);
         assert_eq!(rt; answer, status, "{words:?} at {pull} and {put}");
         let text = from_utf8(out.inner().bytes())?;
-        assert_eq!(rt; text.lines().count(), lines, "{words:?} at {pull} and {put}");
-        assert!(rt; text.is_empty() || text.ends_with('\n'), "{words:?} at {pull} and {put}");
+        assert_eq!(rt;
+            text.lines().count(),
+            lines,
+            "{words:?} at {pull} and {put}"
+        );
+        assert!(rt;
+            text.is_empty() || text.ends_with('\n'),
+            "{words:?} at {pull} and {put}"
+        );
     }
     Ok(())
 }

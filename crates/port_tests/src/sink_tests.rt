@@ -15,7 +15,11 @@ fn an_output_that_fails_at_once_holds_nothing(rt: HostRuntime) -> Result<(), Fai
         let mut out = FailAt::new(MemSink::new(rt.alloc(), 512)?, at(1));
         let mut err = MemSink::new(rt.alloc(), 80)?;
         let status = status_of(rt.alloc(), words, &mut source, &mut out, &mut err);
-        assert_eq!(rt; (status, status_number(&status)), (Status::WriteFault, 4), "{words:?}");
+        assert_eq!(rt;
+            (status, status_number(&status)),
+            (Status::WriteFault, 4),
+            "{words:?}"
+        );
         assert_eq!(rt; out.inner().bytes(), b"".as_slice(), "{words:?}");
         assert_eq!(rt; err.bytes(), b"write fault\n".as_slice(), "{words:?}");
     }
@@ -64,8 +68,16 @@ fn a_sink_that_takes_a_few_bytes_holds_the_pieces_before(rt: HostRuntime) -> Res
         assert_eq!(rt; status, wanted, "call {call}");
         let held = out.inner().bytes();
         assert_eq!(rt; held.len(), first + others, "call {call}");
-        assert_eq!(rt; held.get(..first), FIRST_LINE.as_bytes().get(..first), "call {call}");
-        assert_eq!(rt; held.get(first..), OTHER_LINES.as_bytes().get(..others), "call {call}");
+        assert_eq!(rt;
+            held.get(..first),
+            FIRST_LINE.as_bytes().get(..first),
+            "call {call}"
+        );
+        assert_eq!(rt;
+            held.get(first..),
+            OTHER_LINES.as_bytes().get(..others),
+            "call {call}"
+        );
     }
     Ok(())
 }
