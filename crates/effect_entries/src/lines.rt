@@ -12,7 +12,10 @@ pub enum Found<'a> {
 
 /// How many operands a row has.
 fn op_count(row: &Row) -> usize {
-    row.ops.iter().filter(|kind| **kind != OpKind::Absent).count()
+    row.ops
+        .iter()
+        .filter(|kind| **kind != OpKind::Absent)
+        .count()
 }
 
 /// Whether an operand of a row is one of a kind.
@@ -66,7 +69,9 @@ fn holds(row: &Row, condition: &str) -> bool {
 fn speaks_of(head: &str, name: &str, row: &Row) -> bool {
     let (names, conditions) = head.split_once(' ').unwrap_or((head, ""));
     names.split('|').any(|word| word == name)
-        && conditions.split(' ').all(|word| word == "" || holds(row, word))
+        && conditions
+            .split(' ')
+            .all(|word| word == "" || holds(row, word))
 }
 
 /// The line of a text that speaks of a row.

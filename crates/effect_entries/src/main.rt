@@ -46,7 +46,11 @@ fn compare(texts: &[String], features: &[String]) -> Result<[usize; 4]> {
     for code in 0..ROWS {
         let code = Code(code);
         let (place, words) = words_of(texts, code)?;
-        counts[if place < 4 { place } else { 3 }] = counts[if place < 4 { place } else { 3 }].wrapping_add(1);
+        counts[if place < 4 { place } else { 3 }] = counts[if place < 4 {
+            place
+        } else {
+            3
+        }].wrapping_add(1);
         let mut told = Told::new();
         for word in words.unwrap_or("none").split(' ') {
             if !told.take(code, word) {

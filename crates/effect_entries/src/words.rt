@@ -2,11 +2,11 @@
 
 ghost use Rattle.std.specs.Prelude.{◌<◌};
 
+use bitflags::Flags;
 use instruction_info::{
     AccessKind, Features, FlagSet, ImpliedMemory, ImpliedRegister, NamedMemory, RegisterGroup,
     SegmentRule, flags_of, implied_memory, implied_registers, repeats, stated_access, stated_size,
 };
-use bitflags::Flags;
 use opcode_rows::{ROWS, row_of};
 use row_types::{OpKind, Place, Row, Size};
 use x86_values::Code;
@@ -140,10 +140,9 @@ fn sized(sizes: &str, size: Size) -> Option<u16> {
 /// Whether an operand of a row is memory of no size.
 fn has_memory(row: &Row) -> bool {
     row.place != Place::Register
-        && row
-            .ops
-            .iter()
-            .any(|kind| *kind == OpKind::M || *kind == OpKind::Mp || *kind == OpKind::Mf)
+        && row.ops.iter().any(|kind| *kind == OpKind::M
+            || *kind == OpKind::Mp
+            || *kind == OpKind::Mf)
 }
 
 /// The memory of a word, without its access and its bytes: `[DS:aSI` and the like.
@@ -168,7 +167,11 @@ fn memory(word: &str) -> Option<ImpliedMemory> {
     let (at, rest) = word.split_once(']')?;
     let (segment, group, number, al) = place(at)?;
     let (done, bytes) = rest.strip_prefix(':')?.split_once(':')?;
-    let unit = if bytes == "o" { 0 } else { bytes.parse::<u8>().ok()? };
+    let unit = if bytes == "o" {
+        0
+    } else {
+        bytes.parse::<u8>().ok()?
+    };
     Some(ImpliedMemory {
         segment,
         group,
@@ -194,7 +197,11 @@ fn slots(below: bool, counts: &str) -> Option<ImpliedMemory> {
         unit: 0,
         count: count.parse::<u8>().ok()?,
         count64: count64.parse::<u8>().ok()?,
-        access: if below { AccessKind::Write } else { AccessKind::Read },
+        access: if below {
+            AccessKind::Write
+        } else {
+            AccessKind::Read
+        },
     })
 }
 
@@ -217,7 +224,13 @@ impl Told {
     }
 
     /// Takes a register, which has to be the next that the code implies.
-    fn take_register(&mut self, code: Code, group: RegisterGroup, number: u8, access: AccessKind) -> bool
+    fn take_register(
+        &mut self,
+        code: Code,
+        group: RegisterGroup,
+        number: u8,
+        access: AccessKind,
+    ) -> bool
         requires { code.0 < ROWS }
     {
         let wanted = ImpliedRegister {
@@ -254,13 +267,19 @@ impl Told {
     fn take_registers(&mut self, code: Code, word: &str) -> bool
         requires { code.0 < ROWS }
     {
-        let Some((names, done)) = word.split_once(':') else { return false };
-        let Some(done) = access(done) else { return false };
+        let Some((names, done)) = word.split_once(':') else {
+            return false
+        };
+        let Some(done) = access(done) else {
+            return false
+        };
         let (first, last) = match names.split_once('-') {
             None => (register(names), None),
             Some((first, last)) => (register(first), last.parse::<u8>().ok()),
         };
-        let Some((group, first)) = first else { return false };
+        let Some((group, first)) = first else {
+            return false
+        };
         let last = last.unwrap_or(first);
         let mut is_right = first <= last;
         for n in 0..32 {

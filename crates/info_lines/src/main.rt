@@ -67,7 +67,10 @@ fn tell(rt: &HostRuntime, bits: Bits, instr: &Instr) -> anyhow::Result<()>
     print!(rt; " ;")?;
     tell_memory(rt, all_memory(bits, instr).as_slice())?;
     let flags = flags_of(instr.code);
-    print!(rt; " ; {} {} {}", flags.read.0, flags.written.0, flags.cleared.0)?;
+    print!(rt;
+        " ; {} {} {}",
+        flags.read.0, flags.written.0, flags.cleared.0
+    )?;
     print!(rt; " {} {} {}", flags.set.0, flags.undefined.0, flags.kept.0)?;
     println!(rt; " ; {}", features_of(instr.code).0)?;
     Ok(())

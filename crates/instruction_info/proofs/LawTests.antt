@@ -247,8 +247,9 @@ counter-last bits i row at string repeat =
     let named = named_uses (uses i) in
     let segments = segment_uses bits (all_memory bits i) in
     let implied = implied_uses (setting_of bits i) (registers_of i.code.0) in
-    let last : counter_use (setting_of bits i) ≡ counter bits i ∷ [] = ap (λ b. counter_if bits i b) (repeated-true bits i row at string repeat) in
-    (named ++ (segments ++ implied),
+    let last : counter_use (setting_of bits i) ≡ counter bits i ∷ [] = ap (λ b. counter_if bits i b) (repeated-true bits i row at string repeat) in (
+      named ++ (segments ++ implied),
       ap (λ l. named ++ (segments ++ (implied ++ l))) last
-      ∙ (ap (λ l. named ++ l) (sym (append_assoc segments implied (counter bits i ∷ [])))
-      ∙ sym (append_assoc named (segments ++ implied) (counter bits i ∷ []))))
+          ∙ (ap (λ l. named ++ l) (sym (append_assoc segments implied (counter bits i ∷ [])))
+          ∙ sym (append_assoc named (segments ++ implied) (counter bits i ∷ []))),
+    )

@@ -14,8 +14,8 @@ mod registers;
 mod setting;
 
 pub use effect::{
-    AccessKind, ImpliedMemory, ImpliedRegister, NamedMemory, RegisterGroup, SegmentRule, implied_memory,
-    implied_registers, repeats, stated_access, stated_size,
+    AccessKind, ImpliedMemory, ImpliedRegister, NamedMemory, RegisterGroup, SegmentRule,
+    implied_memory, implied_registers, repeats, stated_access, stated_size,
 };
 pub use features::{Features, features_of};
 pub use flags::{FlagSet, FlagUse, flags_of};

@@ -133,9 +133,7 @@ fn operand_use(setting: Setting, code: Code, operand: Operand, access: Access) -
     ensures { result ≡ spec.operand_use setting code.0 operand access }
 {
     match operand {
-        Operand::Mem(m) => {
-            used_if(setting, code, m, named_access(stated_access(code), access))
-        }
+        Operand::Mem(m) => { used_if(setting, code, m, named_access(stated_access(code), access)) }
         _ => None,
     }
 }
