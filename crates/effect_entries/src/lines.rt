@@ -71,7 +71,7 @@ fn speaks_of(head: &str, name: &str, row: &Row) -> bool {
     names.split('|').any(|word| word == name)
         && conditions
             .split(' ')
-            .all(|word| word == "" || holds(row, word))
+            .all(|word| word.is_empty() || holds(row, word))
 }
 
 /// The line of a text that speaks of a row.

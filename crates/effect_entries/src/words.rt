@@ -238,7 +238,10 @@ impl Told {
             number,
             access,
         };
-        let is_next = implied_registers(code).get(self.registers) == Some(&wanted);
+        let is_next = match implied_registers(code).get(self.registers) {
+            Some(one) => *one == wanted,
+            None => false,
+        };
         self.registers = self.registers.wrapping_add(1);
         is_next
     }
@@ -247,9 +250,9 @@ impl Told {
     fn take_memory(&mut self, code: Code, wanted: Option<ImpliedMemory>) -> bool
         requires { code.0 < ROWS }
     {
-        let is_next = match wanted {
-            None => false,
-            Some(wanted) => implied_memory(code).get(self.memories) == Some(&wanted),
+        let is_next = match (wanted, implied_memory(code).get(self.memories)) {
+            (Some(wanted), Some(one)) => *one == wanted,
+            _ => false,
         };
         self.memories = self.memories.wrapping_add(1);
         is_next
@@ -290,46 +293,65 @@ impl Told {
         is_right
     }
 
-    /// Takes a set of flags or a number by its word.
-    fn take_value(&mut self, code: Code, key: &str, value: &str) -> bool
-        requires { code.0 < ROWS }
-    {
-        let row = row_of(code);
-        let bits = flags(value);
-        match (key, bits) {
-            ("read", Some(bits)) => self.read = bits,
-            ("written", Some(bits)) => self.written |= bits,
-            ("cleared", Some(bits)) => {
+    /// Takes a set of flags by its word.
+    fn take_flags(&mut self, key: &str, bits: u32) -> bool {
+        match key {
+            "read" => self.read = bits,
+            "written" => self.written |= bits,
+            "cleared" => {
                 self.cleared = bits;
-                self.written |= bits
+                self.written |= bits;
             }
-            ("set", Some(bits)) => {
+            "set" => {
                 self.set = bits;
-                self.written |= bits
+                self.written |= bits;
             }
-            ("undefined", Some(bits)) => self.undefined = bits,
-            ("kept", Some(bits)) => self.kept = bits,
-            ("push", _) => return self.take_slots(code, true, value),
-            ("pop", _) => return self.take_slots(code, false, value),
-            ("size", _) => {
-                if has_memory(&row) {
-                    match sized(value, row.size) {
-                        Some(size) => self.size = size,
-                        None => return false,
-                    }
-                }
-            }
-            ("memory", _) => {
-                self.named = match value {
-                    "w" => NamedMemory::Write,
-                    "cr" => NamedMemory::ConditionalRead,
-                    "cw" => NamedMemory::ConditionalWrite,
-                    _ => return false,
-                }
-            }
+            "undefined" => self.undefined = bits,
+            "kept" => self.kept = bits,
             _ => return false,
         }
         true
+    }
+
+    /// Takes the bytes of the memory operand, where the row has one of no size.
+    fn take_size(&mut self, code: Code, sizes: &str) -> bool
+        requires { code.0 < ROWS }
+    {
+        let row = row_of(code);
+        if has_memory(&row) {
+            match sized(sizes, row.size) {
+                Some(size) => self.size = size,
+                None => return false,
+            }
+        }
+        true
+    }
+
+    /// Takes what is done to the memory operand.
+    fn take_access(&mut self, word: &str) -> bool {
+        match word {
+            "w" => self.named = NamedMemory::Write,
+            "cr" => self.named = NamedMemory::ConditionalRead,
+            "cw" => self.named = NamedMemory::ConditionalWrite,
+            _ => return false,
+        }
+        true
+    }
+
+    /// Takes a word with a value.
+    fn take_value(&mut self, code: Code, key: &str, value: &str) -> bool
+        requires { code.0 < ROWS }
+    {
+        match key {
+            "push" => self.take_slots(code, true, value),
+            "pop" => self.take_slots(code, false, value),
+            "size" => self.take_size(code, value),
+            "memory" => self.take_access(value),
+            _ => match flags(value) {
+                Some(bits) => self.take_flags(key, bits),
+                None => false,
+            },
+        }
     }
 
     /// Takes a word of the line of a code, and says whether it agrees with what the library says.
