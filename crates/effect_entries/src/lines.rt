@@ -3,6 +3,7 @@
 use row_types::{LBit, OpKind, Row};
 
 /// The line that speaks of a row, if there is one.
+#[derive(Clone, Copy)]
 pub enum Found<'a> {
     None,
     /// Its words, behind the colon.

@@ -42,15 +42,12 @@ fn words_of<'a>(texts: &'a [String], code: Code) -> Result<(usize, Option<&'a st
 
 /// Compares all rows, and counts those of which each text speaks.
 fn compare(texts: &[String], features: &[String]) -> Result<[usize; 4]> {
-    let mut counts = [0; 4];
+    let mut counts: [usize; 4] = [0; 4];
     for code in 0..ROWS {
         let code = Code(code);
         let (place, words) = words_of(texts, code)?;
-        counts[if place < 4 { place } else { 3 }] = counts[if place < 4 {
-            place
-        } else {
-            3
-        }].wrapping_add(1);
+        let at = place.min(3);
+        counts[at] = counts[at].wrapping_add(1);
         let mut told = Told::new();
         for word in words.unwrap_or("none").split(' ') {
             if !told.take(code, word) {

@@ -12,6 +12,7 @@ use row_types::{OpKind, Place, Row, Size};
 use x86_values::Code;
 
 /// What a line has told so far: its flags, how many registers and uses of memory, whether a repeat prefix repeats, and of the memory operand.
+#[derive(Drop)]
 pub struct Told {
     read: u32,
     written: u32,
