@@ -2,13 +2,12 @@
 
 use row_types::{LBit, OpKind, Row};
 
-/// The line that speaks of a row, if there is one.
+/// A line: names, conditions and words.
 #[derive(Clone, Copy)]
-pub enum Found<'a> {
-    None,
-    /// Its words, behind the colon.
-    One(&'a str),
-    Two,
+pub struct Line<'a> {
+    pub names: &'a str,
+    conditions: &'a str,
+    pub words: &'a str,
 }
 
 /// How many operands a row has.
@@ -66,27 +65,23 @@ fn holds(row: &Row, condition: &str) -> bool {
     }
 }
 
-/// Whether the head of a line, names and conditions, speaks of a row.
-fn speaks_of(head: &str, name: &str, row: &Row) -> bool {
+/// The line of a text line, if it is neither empty nor a heading.
+pub fn line_in(text: &str) -> Option<Line<'_>> {
+    let (head, words) = text.split_once(" : ")?;
+    if head.starts_with('#') {
+        return None;
+    }
     let (names, conditions) = head.split_once(' ').unwrap_or((head, ""));
-    names.split('|').any(|word| word == name)
-        && conditions
-            .split(' ')
-            .all(|word| word.is_empty() || holds(row, word))
+    Some(Line {
+        names,
+        conditions,
+        words,
+    })
 }
 
-/// The line of a text that speaks of a row.
-pub fn find_line<'a>(text: &'a str, name: &str, row: &Row) -> Found<'a> {
-    let mut found = Found::None;
-    for line in text.lines() {
-        if let Some((head, words)) = line.split_once(" : ") {
-            if !head.starts_with('#') && speaks_of(head, name, row) {
-                found = match found {
-                    Found::None => Found::One(words),
-                    _ => Found::Two,
-                };
-            }
-        }
-    }
-    found
+/// Whether a row meets the conditions of a line.
+pub fn meets(line: &Line, row: &Row) -> bool {
+    line.conditions
+        .split(' ')
+        .all(|word| word.is_empty() || holds(row, word))
 }

@@ -7,9 +7,11 @@
 mod lines;
 mod words;
 
+ghost use Rattle.std.specs.Prelude.{◌<◌};
+
 use anyhow::{Result, bail};
 use instruction_info::features_of;
-use lines::{Found, find_line};
+use lines::{Line, line_in, meets};
 use opcode_rows::{ROWS, name, row_of};
 use std::fs;
 use words::{Told, features_in, is_told};
@@ -18,67 +20,123 @@ use x86_values::Code;
 /// The files of effects, of which one at most speaks of a row.
 const FILES: [&str; 3] = ["integer.txt", "x87.txt", "vector.txt"];
 
-/// The words of the one line of some texts that speaks of a row; none where no line does.
-fn words_of<'a>(texts: &'a [String], code: Code) -> Result<(usize, Option<&'a str>)> {
-    let mut found = None;
-    let mut place = texts.len();
-    if code.0 < ROWS {
-        for (n, text) in texts.iter().enumerate() {
-            match find_line(text.as_str(), name(code), &row_of(code)) {
-                Found::None => {}
-                Found::One(words) => {
-                    if found.is_some() {
-                        bail!("two files speak of row {}, {}", code.0, name(code));
-                    }
-                    found = Some(words);
-                    place = n;
-                }
-                Found::Two => bail!("two lines speak of row {}, {}", code.0, name(code)),
-            }
+/// Compares words with what a row does besides its operands.
+fn compare_effect(code: Code, words: &str) -> Result<()>
+    requires { code.0 < ROWS }
+{
+    let mut told = Told::new();
+    for word in words.split(' ') {
+        if !told.take(code, word) {
+            bail!("row {}, {}: not this: {word}", code.0, name(code));
         }
     }
-    Ok((place, found))
+    if !is_told(&told, code) {
+        bail!("row {}, {}: more than its line", code.0, name(code));
+    }
+    Ok(())
 }
 
-/// Compares all rows, and counts those of which each text speaks.
-fn compare(texts: &[String], features: &[String]) -> Result<[usize; 4]> {
-    let mut counts: [usize; 4] = [0; 4];
+/// Compares words with the features that a row needs.
+fn compare_features(code: Code, words: &str) -> Result<()>
+    requires { code.0 < ROWS }
+{
+    match features_in(words) {
+        Some(bits) if bits == features_of(code).0 => Ok(()),
+        _ => bail!("row {}, {}: other features", code.0, name(code)),
+    }
+}
+
+/// Compares a line with the row of a code.
+fn compare_row(counts: &mut Vec<u8>, code: Code, words: &str, is_effect: bool) -> Result<()>
+    requires { code.0 < ROWS }
+{
+    if is_effect {
+        compare_effect(code, words)?;
+    } else {
+        compare_features(code, words)?;
+    }
+    if let Some(count) = counts.get_mut(code.0 as usize) {
+        *count = count.saturating_add(1);
+    }
+    Ok(())
+}
+
+/// Compares a line with the rows of a name that it speaks of, and counts them; a name without a row is an error.
+fn compare_name(counts: &mut Vec<u8>, line: &Line, word: &str, is_effect: bool) -> Result<usize> {
+    let mut rows: usize = 0;
     for code in 0..ROWS {
-        let code = Code(code);
-        let (place, words) = words_of(texts, code)?;
-        let at = place.min(3);
-        counts[at] = counts[at].wrapping_add(1);
-        let mut told = Told::new();
-        for word in words.unwrap_or("none").split(' ') {
-            if !told.take(code, word) {
-                bail!("row {}, {}: not this: {word}", code.0, name(code));
-            }
+        if name(Code(code)) == word && meets(line, &row_of(Code(code))) {
+            compare_row(counts, Code(code), line.words, is_effect)?;
+            rows = rows.wrapping_add(1);
         }
-        if !is_told(&told, code) {
-            bail!("row {}, {}: more than its line", code.0, name(code));
+    }
+    if rows == 0 {
+        bail!("no row is {word}");
+    }
+    Ok(rows)
+}
+
+/// Compares a line with the rows that it speaks of, and counts them.
+fn compare_line(counts: &mut Vec<u8>, line: &Line, is_effect: bool) -> Result<usize> {
+    let mut rows: usize = 0;
+    for word in line.names.split('|') {
+        rows = rows.wrapping_add(compare_name(counts, line, word, is_effect)?);
+    }
+    Ok(rows)
+}
+
+/// Compares the lines of a text, and counts the rows that they speak of.
+fn compare_text(counts: &mut Vec<u8>, text: &str, is_effect: bool) -> Result<usize> {
+    let mut rows: usize = 0;
+    for line in text.lines() {
+        if let Some(line) = line_in(line) {
+            rows = rows.wrapping_add(compare_line(counts, &line, is_effect)?);
         }
-        let (_, words) = words_of(features, code)?;
-        match words.and_then(features_in) {
-            Some(bits) if bits == features_of(code).0 => {}
-            _ => bail!("row {}, {}: other features", code.0, name(code)),
-        }
+    }
+    Ok(rows)
+}
+
+/// As many counts as there are rows, all 0.
+fn no_counts(rt: &HostRuntime) -> Result<Vec<u8>> {
+    let mut counts = Vec::new(rt.alloc());
+    for _ in 0..ROWS {
+        counts.push(0)?;
     }
     Ok(counts)
 }
 
+/// Compares the rows of which no line speaks, and counts them; a row of which two lines speak is an error.
+fn compare_rest(counts: &Vec<u8>) -> Result<usize> {
+    let mut rest: usize = 0;
+    for code in 0..ROWS {
+        match counts.get(code as usize) {
+            Some(0) => {
+                compare_effect(Code(code), "none")?;
+                rest = rest.wrapping_add(1);
+            }
+            Some(1) => {}
+            _ => bail!("two lines speak of row {code}"),
+        }
+    }
+    Ok(rest)
+}
+
 /// Reads the files and compares their lines with the rows.
 fn main(rt: HostRuntime) -> Result<()> {
-    let alloc = rt.alloc();
-    let mut texts = Vec::new(alloc);
+    let mut counts = no_counts(&rt)?;
     for file in FILES {
-        texts.push(fs::read_to_string(&rt, file)?)?;
+        let text = fs::read_to_string(&rt, file)?;
+        let rows = compare_text(&mut counts, text.as_str(), true)?;
+        println!(rt; "{file}: {rows} rows")?;
     }
-    let mut features = Vec::new(alloc);
-    features.push(fs::read_to_string(&rt, "features.txt")?)?;
-    let [integer, x87, vector, none] = compare(&texts, &features)?;
-    println!(rt; "integer.txt: {integer} rows")?;
-    println!(rt; "x87.txt: {x87} rows")?;
-    println!(rt; "vector.txt: {vector} rows, and {none} do nothing else")?;
-    println!(rt; "features.txt: {ROWS} rows")?;
+    let rest = compare_rest(&counts)?;
+    println!(rt; "{rest} rows do nothing besides their operands")?;
+    let mut counts = no_counts(&rt)?;
+    let text = fs::read_to_string(&rt, "features.txt")?;
+    let rows = compare_text(&mut counts, text.as_str(), false)?;
+    if counts.iter().any(|count| *count != 1) {
+        bail!("no line, or two, speak of the features of a row");
+    }
+    println!(rt; "features.txt: {rows} rows")?;
     Ok(())
 }

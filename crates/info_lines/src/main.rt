@@ -8,6 +8,7 @@ ghost use Rattle.opcode_rows.specs.Allowed.{is_well_formed};
 use decoder::{DecodeError, decode};
 use instruction_info::{MemoryUse, RegisterUse, all_memory, all_registers, features_of, flags_of};
 use opcode_rows::name;
+use operand_info::laws::well_formed_codes_are_in_the_table;
 use x86_values::{Bits, Decoded, Instr, Register};
 
 /// What is read in a mode.
@@ -62,6 +63,7 @@ fn tell_memory(rt: &HostRuntime, uses: &[MemoryUse]) -> anyhow::Result<()> {
 fn tell(rt: &HostRuntime, bits: Bits, instr: &Instr) -> anyhow::Result<()>
     requires { IsTrue (is_well_formed instr.now) }
 {
+    well_formed_codes_are_in_the_table();
     print!(rt; " {} {} ;", name(instr.code), instr.code.0)?;
     tell_registers(rt, all_registers(bits, instr).as_slice())?;
     print!(rt; " ;")?;
