@@ -1,5 +1,5 @@
 -- What every effect keeps to, each by computing over the effects, or over all rows with their names and effects.
-use Rattle.std.proofs.Common.{◌≡◌, ℕ, zero, suc, ◌<◌, Bool, true, false, ◌&&◌, ◌||◌, List, [], ◌∷◌, ◌++◌, length, slice_get, refl, ap, sym, ◌∙◌, arith}
+use Rattle.std.proofs.Common.{◌≡◌, ℕ, zero, suc, ◌<◌, Bool, true, false, ◌&&◌, List, [], ◌∷◌, ◌++◌, length, slice_get, refl, ap, sym, ◌∙◌, arith}
 use Rattle.std.specs.Prelude.{Option, Some, None, not, IsTrue, ◌==◌, if◌then◌else◌, unwrap_or, take, bit_and, bit_or}
 use Rattle.std.specs.List.{list_all, list_any}
 use Rattle.std.proofs.lemmas.Option.{slice_get_within}
@@ -8,7 +8,6 @@ use Rattle.std.proofs.lemmas.List.{append_assoc}
 use Rattle.x86_values.specs.declared.Bits.{Bits}
 use Rattle.x86_values.specs.declared.Instr.{Instr}
 use Rattle.row_types.specs.declared.Row.{Row}
-use Rattle.instruction_parts.specs.Sizes.{is_vex_row}
 use Rattle.row_fields.proofs.Cands.{and-left, and-right}
 use Rattle.rows_integer.specs.Table.{table as integer_rows, flat_rows as integer_flat}
 use Rattle.rows_x87.specs.Table.{table as x87_rows, flat_rows as x87_flat}
@@ -17,7 +16,6 @@ use Rattle.rows_vex.specs.Table.{table as vex_rows, flat_rows as vex_flat}
 use Rattle.opcode_rows.specs.declared.generated_spots.TheConstants.{ROWS, VERSION1_ROWS}
 use Rattle.opcode_rows.proofs.JoinFacts.{length-table}
 use Rattle.opcode_rows.specs.Table.{spots, rows_in, table, names, name_of}
-use Rattle.operand_info.specs.declared.columns.Flow.{Flow}
 use Rattle.operand_info.specs.Names.{is_jump, is_call, is_conditional, is_return, is_system_call, is_interrupt, is_undefined}
 use Rattle.operand_info.specs.Columns.{has_direct_target, flow_at}
 use Rattle.operand_info.specs.ByCode.{flow_in, flow_of}

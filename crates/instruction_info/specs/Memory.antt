@@ -4,7 +4,7 @@ use Rattle.std.specs.Option.{option_or}
 use Rattle.x86_values.specs.declared.Bits.{Bits}
 use Rattle.x86_values.specs.declared.Bits.TheVariants.{B16, B32, B64}
 use Rattle.x86_values.specs.declared.Segment.{Segment}
-use Rattle.x86_values.specs.declared.Segment.TheVariants.{Es, Cs, Ss, Ds, Fs, Gs}
+use Rattle.x86_values.specs.declared.Segment.TheVariants.{Es, Ss, Ds, Fs, Gs}
 use Rattle.x86_values.specs.declared.Register.{Register}
 use Rattle.x86_values.specs.declared.Register.TheVariants.{Low8, R16, R32, R64}
 use Rattle.x86_values.specs.declared.Mem.{Mem}
