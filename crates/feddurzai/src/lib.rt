@@ -59,10 +59,14 @@ pub mod format {
     pub use text_parts::text::Text;
 }
 
-/// What an instruction does: its flow, the access of its operands, its registers and targets. What ends in `_of_instr` takes an instruction, the others
-/// with its name a code; `laws` has that the code of a well-formed instruction is one of the table.
+/// What an instruction does: its flow, the access of its operands, its registers, memory and flags, implied ones too, its targets and features. What ends
+/// in `_of_instr` takes an instruction, the others with its name a code; `laws` has that the code of a well-formed instruction is one of the table.
 pub mod info {
     pub use crate::columns::{access_of_instr, flow_of_instr, memory_size_of_instr};
+    pub use instruction_info::{
+        AccessKind, Features, FlagSet, FlagUse, MemoryUse, RegisterUse, all_memory, all_registers,
+        features_of, flags_of, full_register, laws as effect_laws,
+    };
     pub use operand_info::{
         Access, Flow, RegUse, access_of, flow_of, ip_operand, laws, memory_size, near_target,
         used_registers,
@@ -132,4 +136,9 @@ pub mod streams {
 pub mod flow {
     pub use crate::reached::{CodeGraphError, graph_of_code};
     pub use flow_graph::{FlowError, FlowGraph, flow_graph, flow_graph_in, laws};
+}
+
+/// Hooks: what is written over the first bytes of a function, and the trampoline that does what they did.
+pub mod hooks {
+    pub use detour::{Detour, DetourError, JumpForm, Parts, StartTarget, detour};
 }
