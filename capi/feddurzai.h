@@ -40,7 +40,7 @@ extern "C" {
 /* The interface of the library that is linked: to be compared with FEDDURZAI_INTERFACE. */
 uint32_t feddurzai_interface(void);
 
-/* The version of the library: major << 16 | minor << 8 | patch. */
+/* The version, the same as the program's: major << 16 | minor << 8 | patch. */
 uint32_t feddurzai_version(void);
 
 /* ---- refusals ---------------------------------------------------------------------------------------------- */

@@ -1,10 +1,11 @@
 -- What a fill by command answers and leaves, by the length of the block that was found.
-use Rattle.std.proofs.Common.{◌≡◌, ℕ, ◌≤◌, ◌<◌, replicate, refl, Option, Some, None, option_map, IsTrue}
+use Rattle.std.proofs.Common.{◌≡◌, ℕ, ◌≤◌, ◌<◌, replicate, refl, Option, Some, None, Ok, Err, option_map, IsTrue}
 use Rattle.std.proofs.lemmas.Bool.{le-leb, lt-leb}
 use Rattle.code_region.specs.declared.commands.Command.TheVariants.{Fill}
 use Rattle.code_region.specs.declared.commands.Reply.TheVariants.{Filled, NotLive, TooLong}
+use Rattle.code_region.specs.declared.refusals.FillError.TheVariants.{NotLive as NotLiveError, TooLong as TooLongError}
 use Rattle.code_region.specs.State.{LiveBlock, RegionState, len_of, live_block}
-use Rattle.code_region.specs.Filling.{can_fill, filled}
+use Rattle.code_region.specs.Filling.{can_fill, fill_answer, filled}
 use Rattle.code_region.specs.Running.{reply_of, after}
 
 some_len : (found : Option LiveBlock) (limit : ℕ) → option_map len_of found ≡ Some limit → (block : LiveBlock) × (found ≡ Some block) × (block.len ≡ limit)
@@ -57,5 +58,23 @@ pub after-filled : (state : RegionState) (place byte count limit : ℕ) → opti
     filled state place (replicate count byte) ≡ after state (Fill place byte count)
 unfolding after can_fill
 after-filled state place byte count limit e fits =
+    let block = some_len (live_block state place) limit e in
+    rw (block.1, block.2, le-leb count limit fits) refl
+
+-- ---- a fill with bytes
+
+pub answer-not_live : (state : RegionState) (place count : ℕ) → option_map len_of (live_block state place) ≡ None →
+    Err (NotLiveError place) ≡ fill_answer (live_block state place) place count
+answer-not_live state place count e = rw (none_found (live_block state place) e) refl
+
+pub answer-too_long : (state : RegionState) (place count limit : ℕ) → option_map len_of (live_block state place) ≡ Some limit → limit < count →
+    Err (TooLongError limit) ≡ fill_answer (live_block state place) place count
+answer-too_long state place count limit e long =
+    let block = some_len (live_block state place) limit e in
+    rw (block.1, block.2, lt-leb count limit long) refl
+
+pub answer-filled : (state : RegionState) (place count limit : ℕ) → option_map len_of (live_block state place) ≡ Some limit → count ≤ limit →
+    Ok tt ≡ fill_answer (live_block state place) place count
+answer-filled state place count limit e fits =
     let block = some_len (live_block state place) limit e in
     rw (block.1, block.2, le-leb count limit fits) refl

@@ -1,11 +1,11 @@
 //! The region: its bytes, and the live blocks in it.
 
-ghost use Rattle.std.specs.Prelude.{◌≡◌, ◌⊎◌, ◌<◌, ◌≤◌, IsTrue, IfSome, IfOk, IfErr, OnErr, Ok, Err, Some, None, insert, length, map, option_map, slice_get, vec_len, vec_capacity};
+ghost use Rattle.std.specs.Prelude.{◌≡◌, ◌⊎◌, ◌<◌, ◌≤◌, IsTrue, IfSome, IfOk, IfErr, OnOk, OnErr, Ok, Err, Some, None, insert, length, map, option_map, slice_get, vec_len, vec_capacity};
 ghost use Rattle.code_region.specs.State.{rounded, live_block, image_of, place_and_len, len_of};
 ghost use Rattle.code_region.specs.Opening.{open_refusal, opened};
 ghost use Rattle.code_region.specs.Placing.{place_answer, placed};
 ghost use Rattle.code_region.specs.Releasing.{release_answer, released};
-ghost use Rattle.code_region.specs.Filling.{can_fill, filled};
+ghost use Rattle.code_region.specs.Filling.{can_fill, fill_answer, filled};
 ghost use Rattle.code_region.specs.Contents.{bytes_of};
 ghost use Rattle.code_region.specs.Running.{reply_of, after};
 ghost use Rattle.code_region.specs.Keeping.{IsSound};
@@ -13,7 +13,7 @@ ghost use Rattle.code_region.specs.Keeping.{IsSound};
 use crate::commands::{Command, Reply, reply_to_place, reply_to_release};
 use crate::contents::{Content, INT3, erase, write};
 use crate::gaps::{Search, Span, find_place, first_fit};
-use crate::refusals::{NotTaken, OpenError, PlaceError};
+use crate::refusals::{FillError, NotTaken, OpenError, PlaceError};
 use std::alloc::Global;
 use std::marker::Model;
 
@@ -189,6 +189,24 @@ impl Region {
         ensures { self.new ≡ filled self.old place bytes.now }
     {
         self.set_content(place, Content::Bytes(bytes));
+    }
+
+    /// Writes `bytes` at the front of the live block that starts at `place`, and CC over the rest of the block, where both are so.
+    ///
+    /// Refused with nothing changed: first where no live block starts there, then where the bytes are more than its rounded length.
+    pub fn try_fill(&mut self, place: u64, bytes: &[u8]) -> Result<(), FillError>
+        ensures answer { result ≡ fill_answer (live_block self.old place) place (length bytes.now) }
+        ensures ok { OnOk result (self.new ≡ filled self.old place bytes.now) }
+        ensures refused { OnErr result (self.new ≡ self.old) }
+    {
+        match self.block_len(place) {
+            None => Err(FillError::NotLive { place }),
+            Some(limit) if limit < bytes.len() as u64 => Err(FillError::TooLong { limit }),
+            Some(_) => {
+                self.fill(place, bytes);
+                Ok(())
+            }
+        }
     }
 
     /// Writes `content` at the front of the live block that starts at `place`, and CC over the rest of the block.

@@ -13,4 +13,4 @@ mod refusals;
 
 pub use blocks::Region;
 pub use commands::{Command, Reply, replay};
-pub use refusals::{NotTaken, OpenError, PlaceError};
+pub use refusals::{FillError, NotTaken, OpenError, PlaceError};

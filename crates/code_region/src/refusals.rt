@@ -33,6 +33,17 @@ pub enum PlaceError {
     Full { len: u64, largest: u64 },
 }
 
+/// Why a block is not filled.
+#[derive(Clone, Copy, PartialEq, Eq, Debug, Error)]
+pub enum FillError {
+    /// No live block starts at `place`.
+    #[error("no live block at {place:#x}")]
+    NotLive { place: u64 },
+    /// The live block has only `limit` bytes.
+    #[error("the block has only {limit} bytes")]
+    TooLong { limit: u64 },
+}
+
 /// No live block starts at `place`.
 #[derive(Clone, Copy, PartialEq, Eq, Debug, Error)]
 #[error("no live block at {place:#x}")]

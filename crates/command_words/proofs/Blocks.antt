@@ -96,7 +96,7 @@ blocks-full room bits blocks words none full =
     ap (λ (r : ℕ). blocks_from r bits blocks words) none ∙ ap (λ (n : ℕ). Wrong (2 + 3 * n)) full
 
 -- at a word that is not allowed or missing
-step-wrong : (room : ℕ) (bits : Bits) (blocks : List BlockWords) (words : List (List ℕ)) (before : ℕ) →
+pub step-wrong : (room : ℕ) (bits : Bits) (blocks : List BlockWords) (words : List (List ℕ)) (before : ℕ) →
     block_at bits words ≡ Err before → blocks_from (suc room) bits blocks words ≡ Wrong (3 + 3 * length blocks + before)
 unfolding blocks_from
 step-wrong room bits blocks words before read = rw (read, blocks_from) refl
@@ -106,7 +106,7 @@ pub blocks-wrong : (left room : ℕ) (bits : Bits) (blocks : List BlockWords) (w
 blocks-wrong left room bits blocks words before one read = rw (one, add-one) (step-wrong room bits blocks words before read)
 
 -- at the last block
-step-last : (room : ℕ) (bits : Bits) (blocks : List BlockWords) (words : List (List ℕ)) (block : BlockWords) →
+pub step-last : (room : ℕ) (bits : Bits) (blocks : List BlockWords) (words : List (List ℕ)) (block : BlockWords) →
     block_at bits words ≡ Ok block → is_some block.len ≡ false →
     blocks_from (suc room) bits blocks words ≡ Blocks bits (record { items = blocks ++ block ∷ [] })
 unfolding blocks_from
@@ -123,7 +123,7 @@ pub blocks-last : (left room : ℕ) (bits : Bits) (blocks : List BlockWords) (wo
 blocks-last left room bits blocks words block one read last = rw (one, add-one) (step-last room bits blocks words block read last)
 
 -- at a block with a length
-step-more : (room : ℕ) (bits : Bits) (blocks : List BlockWords) (words : List (List ℕ)) (block : BlockWords) →
+pub step-more : (room : ℕ) (bits : Bits) (blocks : List BlockWords) (words : List (List ℕ)) (block : BlockWords) →
     block_at bits words ≡ Ok block → is_some block.len ≡ true →
     blocks_from (suc room) bits blocks words ≡ blocks_from room bits (blocks ++ block ∷ []) (drop 3 words)
 unfolding blocks_from

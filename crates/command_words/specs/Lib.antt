@@ -1,3 +1,4 @@
 pub mod Counts
 pub mod Ranges
+pub mod Refused
 pub mod Words

@@ -3,6 +3,7 @@
 
 mod commands;
 mod count;
+pub mod laws;
 mod range;
 mod words;
 

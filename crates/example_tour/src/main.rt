@@ -2,15 +2,13 @@
 //! away that its call needs another form.
 #![tactic(auto)]
 
-mod items;
 mod show;
 
 use feddurzai::encoding::encode;
-use feddurzai::moving::move_block;
+use feddurzai::moving::move_code;
 use feddurzai::rows::code_of;
 use feddurzai::values::Operand::{Absent, Reg};
 use feddurzai::values::{Bits, Instr, Register, Rep};
-use items::read_items;
 use show::show;
 
 /// push rbp; mov rbp, rsp; test edi, edi; jle 1f; lock inc dword [rsi+rdi*4+0x10]; call 0x402000; 1: pop rbp; ret
@@ -35,9 +33,9 @@ fn main(rt: HostRuntime) -> anyhow::Result<()> {
         show(&rt, bits, old, &bytes)?;
     }
 
-    let items = read_items(rt.alloc(), bits, old, &FUNCTION)?;
-    let moved = move_block(rt.alloc(), bits, &items, new)?;
-    for (item, (start, form)) in items.iter().zip(moved.starts().iter().zip(moved.forms())) {
+    let moved = move_code(rt.alloc(), bits, old, &FUNCTION, new)?;
+    let places = moved.starts().iter().zip(moved.forms());
+    for (item, (start, form)) in moved.items().iter().zip(places) {
         println!(rt; "{:x} -> {start:x} {form:?}", item.ip)?;
     }
     println!(rt; "{}", hex::encode(rt.alloc(), moved.bytes())?)?;

@@ -2,12 +2,11 @@
 
 use feddurzai::decoding::Items;
 use feddurzai::format::{Intel, Style, print_att, register_text};
-use feddurzai::info::{flow_of, used_registers};
+use feddurzai::info::{flow_of_instr, used_registers};
 use feddurzai::values::{Bits, Decoded};
 use std::str::from_utf8;
 
 /// Writes a line for each instruction: its address, its text in two styles, where control goes, and what it does to registers.
-#[tactic(auto, using(operand_info::proofs::Uses::code_in_table))]
 pub fn show(rt: &HostRuntime, bits: Bits, ip: u64, code: &[u8]) -> anyhow::Result<()> {
     for item in Items::new(bits, ip, code) {
         match item.reading {
@@ -18,7 +17,7 @@ pub fn show(rt: &HostRuntime, bits: Bits, ip: u64, code: &[u8]) -> anyhow::Resul
                 print!(rt;
                     "{:x}  {intel:<34}{att:<34}{:?}",
                     item.ip,
-                    flow_of(instr.code)
+                    flow_of_instr(&instr)
                 )?;
                 for used in used_registers(&instr).iter() {
                     let name = register_text(Style::Intel, used.reg);

@@ -1,0 +1,59 @@
+-- The definitions that the contracts of the calls cite, handed out under the library's name; each says at its head what it holds.
+
+-- values
+pub use Rattle.x86_values.specs.Wrapping
+pub use Rattle.x86_values.specs.Modes
+pub use Rattle.x86_values.specs.Named
+pub use Rattle.x86_values.specs.Operands as InstrOperands
+-- rows, and what bytes mean
+pub use Rattle.opcode_rows.specs.Table
+pub use Rattle.opcode_rows.specs.Allowed
+pub use Rattle.opcode_rows.specs.Reading
+pub use Rattle.opcode_rows.specs.Sweep
+pub use Rattle.row_relation.specs.Spells
+-- reading
+pub use Rattle.decoder.specs.Answer as Decoding
+pub use Rattle.decoder.specs.Items as DecodedItems
+pub use Rattle.decoder.specs.Cursor
+pub use Rattle.code_items.specs.Sound as CodeLists
+pub use Rattle.code_items.specs.Items as CodeItems
+pub use Rattle.code_items.specs.Iteration
+-- writing and texts
+pub use Rattle.encoder.specs.Encoding
+pub use Rattle.plain_laws.specs.Plain
+pub use Rattle.intel_reader.specs.Assembled
+pub use Rattle.intel_text.specs.Text as IntelText
+pub use Rattle.att_text.specs.Text as AttText
+pub use Rattle.masm_text.specs.Text as MasmText
+-- what an instruction does
+pub use Rattle.operand_info.specs.ByCode
+pub use Rattle.operand_info.specs.Operands
+-- moving
+pub use Rattle.code_items.specs.Moving as MovingCode
+pub use Rattle.move_goals.specs.Items as OldItems
+pub use Rattle.move_goals.specs.Plan as MovePlan
+pub use Rattle.block_encoder.specs.Moved
+pub use Rattle.block_encoder.specs.ByPlan
+pub use Rattle.block_encoder.specs.Aims
+pub use Rattle.block_encoder.specs.Read as ReadBack
+pub use Rattle.branch_sizes.specs.Plan as BranchPlan
+pub use Rattle.branch_sizes.specs.Layout
+-- regions and slots
+pub use Rattle.code_region.specs.State as RegionState
+pub use Rattle.code_region.specs.Opening
+pub use Rattle.code_region.specs.Placing
+pub use Rattle.code_region.specs.Releasing
+pub use Rattle.code_region.specs.Filling
+pub use Rattle.step_slots.specs.State as SlotState
+pub use Rattle.step_slots.specs.Stepping as SlotSteps
+pub use Rattle.step_slots.specs.Holding
+pub mod Stepping
+-- flow
+pub use Rattle.flow_graph.specs.Control
+pub use Rattle.flow_graph.specs.Reached as ReachedOffsets
+pub use Rattle.flow_graph.specs.Graphs
+pub mod Reached
+-- streams
+pub use Rattle.byte_ports.specs.Ports
+pub use Rattle.sweep.specs.Streams
+pub use Rattle.sweep.specs.Ends as StreamEnds

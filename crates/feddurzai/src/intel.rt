@@ -1,14 +1,16 @@
 //! An instruction with the mode in which it is shown.
 
-ghost use Rattle.std.specs.Prelude.{IsTrue};
+ghost use Rattle.std.specs.Prelude.{IsTrue, Some};
+ghost use Rattle.std.specs.Fmt.{styled_text};
 ghost use Rattle.opcode_rows.specs.Allowed.{is_well_formed};
+ghost use Rattle.intel_text.specs.Text.{text};
 
 use intel_text::print;
 use std::fmt;
 use std::str::from_utf8;
 use x86_values::{Bits, Instr};
 
-/// Shows an instruction in the Intel style, in a mode.
+/// Shows a well-formed instruction in the Intel style, in a mode: what it writes is the text of `print_intel`.
 #[derive(Clone, Copy, PartialEq, Eq, Debug)]
 pub struct Intel {
     pub bits: Bits,
@@ -17,6 +19,10 @@ pub struct Intel {
 }
 
 impl fmt::Display for Intel {
+    ghost output = { λ x. Some (text x.bits x.instr) };
+
+    ghost styled_output = { λ x spec. Some (styled_text spec (text x.bits x.instr)) };
+
     fn fmt<W: fmt::Write>(&self, f: &mut fmt::Formatter<W>) -> fmt::Result {
         let text = print(self.bits, &self.instr);
         match from_utf8(text.as_slice()) {

@@ -4,18 +4,26 @@
 //! there, below it.
 #![tactic(auto)]
 
+mod columns;
 mod intel;
+mod reached;
+mod stepping;
 
 /// Registers, operands and instructions as data.
 pub mod values {
     pub use x86_values::{
-        Bits, Code, Decoded, DispSize, Instr, Mem, Operand, Register, Rep, Segment, same, wrap,
+        Bits, Code, Decoded, DispSize, Instr, Mem, Operand, Register, Rep, Segment, laws, same,
+        wrap,
     };
 }
 
-/// Reading bytes: whole instructions, items one behind another, and the parts of one. `laws` has that no bytes have two spellings.
+/// Reading bytes: whole code, single instructions, items one behind another, and the parts of one. `laws` has that no bytes have two spellings, and
+/// `reading_laws` that they have one reading.
 pub mod decoding {
-    pub use decoder::{DecodeError, Decoder, Item, Items, decode, decode_counted, decode_in, laws};
+    pub use code_items::{CodeItem, CodeItems, CodeIter, ReadError, read_items};
+    pub use decoder::{
+        DecodeError, Decoder, Item, Items, decode, decode_counted, decode_in, laws, reading_laws,
+    };
     pub use modrm_sib::{
         TailError, UNREAD, modrm_of_byte, read_operands, read_row, read_row_into, sib_of_byte,
     };
@@ -27,7 +35,7 @@ pub mod decoding {
 
 /// Writing instructions: the shortest bytes of one, and its parts.
 pub mod encoding {
-    pub use encoder::{NoSpelling, encode, encoded_len};
+    pub use encoder::{NoSpelling, encode, encoded_len, laws};
     pub use modrm_sib::{write_operands, write_tail};
     pub use prefixes::write_prefixes;
     pub use row_relation::{
@@ -37,7 +45,7 @@ pub mod encoding {
 
 /// Reading Intel texts: the instruction that a text stands for, and its bytes.
 pub mod assembling {
-    pub use intel_reader::{TextError, assemble, read_intel};
+    pub use intel_reader::{TextError, assemble, laws, read_intel};
 }
 
 /// The text of instructions and registers in three styles.
@@ -51,18 +59,25 @@ pub mod format {
     pub use text_parts::text::Text;
 }
 
-/// What an instruction does: its flow, the access of its operands, its registers and targets.
+/// What an instruction does: its flow, the access of its operands, its registers, memory and flags, implied ones too, its targets and features. What ends
+/// in `_of_instr` takes an instruction, the others with its name a code; `laws` has that the code of a well-formed instruction is one of the table.
 pub mod info {
+    pub use crate::columns::{access_of_instr, flow_of_instr, memory_size_of_instr};
+    pub use instruction_info::{
+        AccessKind, Features, FlagSet, FlagUse, MemoryUse, RegisterUse, all_memory, all_registers,
+        features_of, flags_of, full_register, laws as effect_laws,
+    };
     pub use operand_info::{
-        Access, Flow, RegUse, access_of, flow_of, ip_operand, memory_size, near_target,
+        Access, Flow, RegUse, access_of, flow_of, ip_operand, laws, memory_size, near_target,
         used_registers,
     };
 }
 
-/// The rows of the table, by code, name and opcode byte, and their notation.
+/// The rows of the table, by code, name and opcode byte, and their notation. `mnemonic` is `name`.
 pub mod rows {
     pub use opcode_rows::{
-        ROWS, VERSION1_ROWS, cell_len, code_of, first_of, name, row, row_of, well_formed,
+        ROWS, VERSION1_ROWS, cell_len, code_of, first_of, laws, name, name as mnemonic, row,
+        row_of, well_formed,
     };
     pub use row_lines::{notation_of, row_line};
     pub use row_notation::{NotationFault, read_notation, shape_of, write_notation};
@@ -75,38 +90,52 @@ pub mod rows {
     };
 }
 
-/// Moving blocks of code to other addresses.
+/// Moving code to other addresses: `move_code` takes bytes, `move_items` what was read of them, and the others instructions that some bytes spell.
+/// Below them stand the plan of branches and its least layout; a `Branch` has its choices in an `ArrayVec`.
 pub mod moving {
+    pub use arrayvec::ArrayVec;
     pub use block_encoder::{
-        BlockSpan, Form, MoveError, Moved, MovedBlocks, Placed, last_len, move_block, move_blocks,
-        move_outside,
+        BlockSpan, Form, MoveError, Moved, MovedBlocks, Placed, last_len, laws, move_block,
+        move_blocks, move_outside,
     };
-    pub use branch_sizes::{Branch, Choice, Goal, LayoutError, Plan, Reach, least_layout};
+    pub use branch_sizes::{
+        Branch, Choice, Goal, LayoutError, Plan, Reach, Sums, laws as layout_laws, least_layout,
+        places,
+    };
+    pub use code_items::{MoveCodeError, MovedCode, move_code, move_items};
 }
 
 /// Places for code in a fixed range of addresses.
 pub mod region {
-    pub use code_region::{Command, NotTaken, OpenError, PlaceError, Region, Reply, replay};
+    pub use code_region::{
+        Command, FillError, NotTaken, OpenError, PlaceError, Region, Reply, laws, replay,
+    };
 }
 
-/// Slots for displaced single stepping: an instruction elsewhere, and the jump back.
+/// Slots for displaced single stepping: an instruction elsewhere, and the jump back. `step_code` takes bytes.
 pub mod slots {
-    pub use step_slots::{StepCommand, StepError, StepReply, StepSlot, StepSlots, replay};
+    pub use crate::stepping::{StepCodeError, step_code};
+    pub use step_slots::{StepCommand, StepError, StepReply, StepSlot, StepSlots, laws, replay};
 }
 
-/// Listings of any input, a line at a time, and the ports that they go between.
+/// Listings of any input, a line at a time, and the ports that they go between: over memory, over the readers and writers of std, and for tests. `laws`
+/// speaks of the ways through a source, `sweep_laws` of the items of some bytes.
 pub mod streams {
     pub use byte_ports::{
-        CountSink, FailAt, Failed, MakeError, MemSink, MemSource, Sink, SlowSource, Source,
+        CountSink, FailAt, Failed, MakeError, MemSink, MemSource, ReaderSource, Sink, SlowSource,
+        Source, WriterSink,
     };
     pub use sweep::{
-        Lines, ListError, StreamError, Style, info_stream, list_stream, recode_stream, stream_lines,
+        Lines, ListError, StreamError, Style, info_stream, laws, list_stream, recode_stream,
+        stream_lines,
     };
+    pub use sweep_text::laws as sweep_laws;
 }
 
 /// The offsets that control reaches, and their basic blocks.
 pub mod flow {
-    pub use flow_graph::{FlowError, FlowGraph, flow_graph, flow_graph_in};
+    pub use crate::reached::{CodeGraphError, graph_of_code};
+    pub use flow_graph::{FlowError, FlowGraph, flow_graph, flow_graph_in, laws};
 }
 
 /// Hooks: what is written over the first bytes of a function, and the trampoline that does what they did.

@@ -2,12 +2,12 @@
 
 ghost use Rattle.std.specs.Prelude.{◌≡◌};
 
-/// The version of the library: major, minor and patch in a byte each, the last the lowest.
+/// The version: major, minor and patch in a byte each, the last the lowest. The program tells the same by `--version`.
 #[unsafe(no_mangle)]
 pub extern "C" fn feddurzai_version() -> u32
-    ensures { result ≡ 0x000100 }
+    ensures { result ≡ 0x000200 }
 {
-    0x00_01_00
+    0x00_02_00
 }
 
 /// The number of the interface. It rises when a struct, a number or a call of it changes.

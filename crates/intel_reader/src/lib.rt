@@ -4,7 +4,8 @@
 //! spelling is shortest; of these the one with the least code; of these the one with the least bytes.
 #![tactic(auto)]
 
-ghost use Rattle.std.specs.Prelude.{◌≡◌, ◌↔◌, IfOk, IsErr};
+ghost use Rattle.std.specs.Prelude.{◌≡◌, ◌↔◌, IfOk, IsErr, IsTrue};
+ghost use Rattle.opcode_rows.specs.Allowed.{is_well_formed};
 ghost use Rattle.intel_text.specs.Text as printed;
 ghost use Rattle.intel_reader.specs.Assembled.{IsAssembled, AssemblesTo, IsNoText};
 
@@ -30,11 +31,13 @@ pub enum TextError {
 ///
 /// `ip` is the address of the first byte, taken modulo 2 to the number of bits of the mode. The text is one that the printer writes: ASCII, lower case,
 /// with its very spaces. Of all instructions with this text that have a plain spelling of at most 15 bytes there, it is the one whose plain spelling is
-/// shortest; of these the one with the least code; of these the one with the least bytes. It is refused exactly where there is none.
+/// shortest; of these the one with the least code; of these the one with the least bytes. It is well formed, so that it can be printed. It is refused
+/// exactly where there is none.
 pub fn read_intel(bits: Bits, ip: u64, text: &[u8]) -> Result<Instr, TextError>
     ensures assembled { IfOk result (λ i. IsAssembled bits ip text.now i) }
     ensures none { IsErr result ↔ IsNoText bits ip text.now }
     ensures printed { IfOk result (λ i. printed.text bits i ≡ text.now) }
+    ensures formed { IfOk result (λ i. IsTrue (is_well_formed i)) }
 {
     match first_of(bits, ip, text) {
         Some(found) => Ok(found.instr),

@@ -127,3 +127,19 @@ pub same-words : (bits : Bits) (row : Row) (name : List ℕ) (instr : Instr) (lo
     (let words : IntelWords = record { lock = lock; rep = rep; seg = seg; asize = asize; osize = osize; ops = ops } in words) ≡ words_of bits row name instr
 unfolding words_of
 same-words bits row name instr lock rep seg asize osize ops el er es ea eo eops = rw (el, er, es, ea, eo, eops) refl
+
+-- ---- a text shows its words
+
+same-value : (x y : List OperandText) (o : Option (List OperandText)) → o ≡ Some x → o ≡ Some y → x ≡ y
+same-value x y o e f = cc
+
+pub shown_words : (bits : Bits) (row other : Row) (name another : List ℕ) (i j : Instr) → is_printable bits row name i ≡ true → is_printable bits other another j ≡ true →
+    bracket_layout Intel bits row name i ≡ bracket_layout Intel bits other another j → words_of bits row name i ≡ words_of bits other another j
+shown_words bits row other name another i j hi hj e =
+    let text : List ℕ = bracket_layout Intel bits other another j in
+    let a = text-read bits row name i text hi e in
+    let b = text-read bits other another j text hj refl in
+    let ops : List OperandText = nth_of bits row i 0 ∷ nth_of bits row i 1 ∷ nth_of bits row i 2 ∷ nth_of bits row i 3 ∷ [] in
+    let same = same-value ops _ _ a.ops b.ops in
+    sym (same-words bits row name i _ _ _ _ _ ops a.lock a.rep a.seg a.asize a.osize refl)
+    ∙ same-words bits other another j _ _ _ _ _ ops b.lock b.rep b.seg b.asize b.osize same

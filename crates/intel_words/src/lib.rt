@@ -2,6 +2,7 @@
 #![tactic(auto)]
 
 mod addresses;
+pub mod laws;
 mod numbers;
 mod operands;
 mod prefixes;

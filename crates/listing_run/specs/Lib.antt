@@ -1,4 +1,5 @@
 pub mod Outcome
+pub mod Calls
 pub mod Rows
 pub mod Texts
 pub mod Taken

@@ -9,6 +9,7 @@ ghost use Rattle.run_parts.specs.Writing.{Says};
 ghost use Rattle.listing_run.specs.Texts as text;
 ghost use Rattle.listing_run.specs.Rows.{rows_text};
 ghost use Rattle.listing_run.specs.Outcome.{RunsAs, GoesThroughAs, WritesAs, Reads, Streams, IsWrong, Completes, CompletesThrough, one_block};
+ghost use Rattle.listing_run.specs.Calls.{IsCalledThrough, IsCalledBy};
 ghost use Rattle.listing_run.specs.Taken.{limit_of};
 ghost use Rattle.moving_run.specs.Moving.{MovesAs, CompletesMoving};
 ghost use Rattle.command_words.specs.declared.commands.Command.TheVariants.{Wrong};
@@ -67,6 +68,7 @@ fn go_through<S: Source, K: Sink>(
         → CompletesThrough bits base lines (S.left source.old) result }
     ensures taken { Takes code_limit (S.left source.old) (S.left source.new)
         × (result ≡ Status.ReadFault → EndsAtFault S.pull_gives S.left source.new) }
+    ensures calls { IsCalledThrough S.left S.pull_gives K.held K.put_gives bits base lines source.old source.new out.old out.new result }
 {
     match stream_lines(bits, base, lines, source, out) {
         Ok(_) => Status::Done,
@@ -127,6 +129,7 @@ fn answer<S: Source, K: Sink>(
         → Completes command (S.left source.old) result }
     ensures taken { Takes (limit_of command) (S.left source.old) (S.left source.new)
         × (result ≡ Status.ReadFault → EndsAtFault S.pull_gives S.left source.new) }
+    ensures calls { IsCalledBy S.left S.pull_gives K.held K.put_gives command source.old source.new out.old out.new result }
 {
     match command {
         Command::Help => write_text(help_text(), out),
@@ -233,6 +236,10 @@ pub fn run<S: Source, K: Sink, E: Sink>(
     // Whatever the status is, what was taken of the source is at most one byte more than the limit of the command. A pull that failed is the last one.
     ensures taken { Takes (limit_of (command_of (texts words.now))) (S.left source.old) (S.left source.new)
         × (result ≡ Status.ReadFault → EndsAtFault S.pull_gives S.left source.new) }
+
+    // The calls of list, info and recode in their order: before each pull the lines of all items of which 15 bytes were seen were put, a pull asks for at most
+    // 16,384 bytes, none comes that bad code did not need, and no call follows one that failed.
+    ensures calls { IsCalledBy S.left S.pull_gives K.held K.put_gives (command_of (texts words.now)) source.old source.new out.old out.new result }
 
     // Where no port fails the command is done, within the limit of its input, or ends at the first bad code. What takes its input as a whole may want
     // memory; list, info and recode take none.

@@ -4,6 +4,7 @@
 #![tactic(auto)]
 
 mod merging;
+mod same;
 mod table;
 
 use anyhow::{Result, bail};

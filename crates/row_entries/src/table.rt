@@ -4,8 +4,9 @@ ghost use Rattle.std.specs.Prelude.{◌≡◌, ◌<◌, ◌≤◌, ◌↔◌, Is
 ghost use Rattle.opcode_rows.specs.Table.{name_of};
 ghost use Rattle.entry_lines.specs.Rows.{view};
 ghost use Rattle.entry_lines.specs.Text.{in_small_letters};
-ghost use Rattle.row_entries.specs.Table.{AreNamedFrom, AreNamed};
+ghost use Rattle.row_entries.specs.Table.{IsRowOf, AreRowsFrom, AreRows};
 
+use crate::same::same_row;
 use entry_lines::rows::NamedRow;
 use entry_lines::text::is_small_of;
 use opcode_rows::{ROWS, name, row_of};
@@ -22,15 +23,15 @@ fn is_name(capitals: &[u8], code: u16) -> bool
 /// Whether a row of an entry is that of a code below `ROWS`, field by field, and has its name.
 fn is_row_at(row: &NamedRow, code: u16) -> bool
     requires { code < ROWS }
-    ensures { IsTrue result → (in_small_letters row.now.name.now ≡ name_of code) }
+    ensures { IsTrue result ↔ IsRowOf (view row.now) code }
 {
-    row.row == row_of(Code(code)) && is_name(row.name, code)
+    same_row(&row.row, &row_of(Code(code))) && is_name(row.name, code)
 }
 
 /// The first code from `at` on whose row is not the next of some rows; None where these are the rest of the table.
 fn first_difference(rows: &[NamedRow], at: u16) -> Option<u16>
     requires { at ≤ ROWS }
-    ensures { IsNone result → AreNamedFrom (map view rows.now) at }
+    ensures { IsNone result ↔ AreRowsFrom (map view rows.now) at }
 {
     match rows {
         [] => if at < ROWS { Some(at) } else { None },
@@ -42,10 +43,10 @@ fn first_difference(rows: &[NamedRow], at: u16) -> Option<u16>
     }
 }
 
-/// Compares rows in the order of the table with its rows and names: Ok where they are the table's, one by one. Else it gives the first code at
+/// Compares rows in the order of the table with its rows and names: Ok exactly where they are the table's, one by one. Else it gives the first code at
 /// which they differ.
 pub fn compare(rows: &[NamedRow]) -> Result<(), u16>
-    ensures { IsOk result → AreNamed (map view rows.now) }
+    ensures { IsOk result ↔ AreRows (map view rows.now) }
 {
     match first_difference(rows, 0) {
         None => Ok(()),

@@ -1,5 +1,6 @@
 pub mod Appending
 pub mod Held
 pub mod HexDigits
+pub mod Putting
 pub mod Saying
 pub mod Whole

@@ -1,8 +1,9 @@
 -- What holds of texts that are written in pieces, and of sources that are read to their end.
-use Rattle.std.specs.Prelude.{◌≡◌, ℕ, ◌<◌, List, [], ◌++◌, length, Option, Some}
+use Rattle.std.specs.Prelude.{◌≡◌, ℕ, ◌<◌, List, [], ◌++◌, length, Option, Some, Result}
+use Rattle.byte_ports.specs.declared.failed.Failed.{Failed}
 use Rattle.byte_ports.specs.Ports.{with_front, with_back}
 use Rattle.run_parts.specs.Reads.{ReadsAll, ReadsTooMany}
-use Rattle.run_parts.specs.Writing.{HoldsFront, Moves, Held}
+use Rattle.run_parts.specs.Writing.{HoldsFront, Moves, Held, Puts, PutsToFault}
 
 -- a text that is written with some of it held back
 pub record HeldFacts : Type 0 where
@@ -33,3 +34,10 @@ pub record ReadFacts : Type 0 where
   -- where one more than the limit was read, they are above it
   pub too_many : (limit : ℕ) (bytes : List ℕ) (left' : Option (List ℕ)) (read : List ℕ) → ReadsTooMany limit (Some bytes) left' read →
       limit < length bytes
+
+-- calls of a sink
+pub record PutFacts {K : Type 0} (gives : K → List ℕ → Result ℕ Failed → K → Type 0) : Type 0 where
+  -- none failed, before and behind a sink
+  pub join : (old now new : K) → Puts gives old now → Puts gives now new → Puts gives old new
+  -- none failed before it, and behind it the last alone
+  pub join-fault : (old now new : K) → Puts gives old now → PutsToFault gives now new → PutsToFault gives old new

@@ -1,5 +1,6 @@
 -- What stands in a sink after text was written to it, whole or up to a failure.
-use Rattle.std.specs.Prelude.{◌≡◌, ◌⊎◌, ℕ, ◌≤◌, List, ◌++◌, length, take, Option}
+use Rattle.std.specs.Prelude.{◌≡◌, ◌⊎◌, ℕ, ◌≤◌, List, ◌++◌, length, take, Option, Result, Ok, Err}
+use Rattle.byte_ports.specs.declared.failed.Failed.{Failed}
 use Rattle.byte_ports.specs.Ports.{with_back}
 
 -- a sink holds what it held and then the first bytes of a text
@@ -24,3 +25,16 @@ pub record Held (start held : Option (List ℕ)) (pending text : List ℕ) : Typ
   pub written : List ℕ
   pub held_is : held ≡ with_back start written
   pub joined : written ++ pending ≡ text
+
+-- calls of a sink one behind another, none of which failed
+pub data Puts {K : Type 0} (gives : K → List ℕ → Result ℕ Failed → K → Type 0) (old : K) : K → Type 0 where
+  no_put : Puts gives old old
+  then_put : {now new : K} {piece : List ℕ} {count : ℕ} → Puts gives old now → gives now piece (Ok count) new → Puts gives old new
+
+-- such calls and then one that failed, which is the last: the sink is as that call left it
+pub record PutsToFault {K : Type 0} (gives : K → List ℕ → Result ℕ Failed → K → Type 0) (old new : K) : Type 0 where
+  pub before : K
+  pub piece : List ℕ
+  pub why : Failed
+  pub puts : Puts gives old before
+  pub failed : gives before piece (Err why) new

@@ -1,6 +1,8 @@
 //! What holds of texts that are written in pieces, and of sources that are read to their end.
 
-ghost use Rattle.run_parts.specs.Facts.{HeldFacts, PieceFacts, ReadFacts};
+ghost use Rattle.run_parts.specs.Facts.{HeldFacts, PieceFacts, ReadFacts, PutFacts};
+
+use byte_ports::Sink;
 
 /// A text of which some is held back on the way stands whole in the sink once that is written, and its first bytes do after a failure.
 #[inline]
@@ -18,4 +20,10 @@ pub fn pieces_join()
 #[inline]
 pub fn told_bytes_are_read()
     ensures { ReadFacts }
+{}
+
+/// Calls of a sink of which none failed, and behind them such calls or those up to one that failed, are one row of calls.
+#[inline]
+pub fn puts_join<K: Sink>()
+    ensures { PutFacts K.put_gives }
 {}

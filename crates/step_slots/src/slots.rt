@@ -111,6 +111,13 @@ impl StepSlots {
         })
     }
 
+    /// The mode of the slots.
+    pub fn bits(&self) -> Bits
+        ensures { result ≡ self.now.bits }
+    {
+        self.bits
+    }
+
     /// Gives an instruction a slot, and answers the address of its block.
     ///
     /// The instruction was read, or could have been written, at its address. Refused, in this order and with nothing changed: as many live slots as there

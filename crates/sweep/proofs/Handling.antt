@@ -132,13 +132,14 @@ module _ (f : HeldFacts) where
   -- a failure while text is held back
   pub progress-failed : (bits : Bits) (base : ℕ) (lines : Lines) (from : ℕ) (bytes : List ℕ) (used count : ℕ) (ended : Bool) (start held held' : Option (List ℕ))
       (pending : List ℕ) → Progress bits base lines from bytes used count ended start held pending → HoldsFront held held' pending →
-      HandlesFront bits base lines from bytes start held'
+      HandlesFront bits base lines from bytes ended start held'
   progress-failed bits base lines from bytes used count ended start held held' pending p front =
       record {
         items = p.items;
         rest = drop used bytes;
         sweeps = p.sweeps;
         all = p.all;
+        ready = p.ready;
         written = f.held-failed start held held' pending (lines_of bits base lines p.items) p.told front;
       }
 
@@ -147,7 +148,7 @@ module _ (f : HeldFacts) where
       (start held held' held'' : Option (List ℕ)) (before after : List ℕ) (error : DecodeError) →
       Progress bits base lines from bytes used count ended start held before →
       StopsAtItem bits base lines (from + used) (drop used bytes) held held' before after error → HoldsFront held' held'' after →
-      HandlesFront bits base lines from bytes start held''
+      HandlesFront bits base lines from bytes ended start held''
   progress-stop_failed bits base lines from bytes used count ended start held held' held'' before after error p stop front =
       let same : HoldsFront held held'' before = (
         front.0,

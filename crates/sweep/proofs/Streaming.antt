@@ -14,6 +14,7 @@ use Rattle.sweep_text.specs.Lines.{GoesOn, line_of, lines_of}
 use Rattle.run_parts.specs.Reads.{code_limit, ReadsAll, ReadsTooMany}
 use Rattle.run_parts.specs.Facts.{PieceFacts}
 use Rattle.sweep.specs.Steps.{IsReady, HandlesEnd, HandlesItems, HandlesFront}
+use Rattle.sweep.specs.Calls.{IsWritten}
 use Rattle.sweep.specs.Window.{Fills}
 use Rattle.sweep.specs.Streams.{WritesLines, WritesHandled, WritesLinesFront, WritesLinesBefore, Sees, Reads, MayHandle}
 use Rattle.sweep.specs.declared.ready.Handled.{Handled}
@@ -81,6 +82,13 @@ at_fault bits base lines start left left' held held' at len count window s same 
     },
   ),
 )
+
+-- what was seen so far is written
+pub written_so_far : (bits : Bits) (base : ℕ) (lines : Lines) (start left held held' : Option (List ℕ)) (at len count : ℕ) (window : List ℕ)
+    (s : Streamed bits base lines start left held held' at len count window) → IsWritten bits base lines start left held held' s.seen
+unfolding at_fault
+written_so_far bits base lines start left held held' at len count window s =
+    let h = at_fault bits base lines start left left held held' at len count window s refl in record { read = h.1.0; handled = h.1.1 }
 
 lines_join : (bits : Bits) (base : ℕ) (lines : Lines) (items more : List Item) →
     lines_of bits base lines (items ++ more) ≡ lines_of bits base lines items ++ lines_of bits base lines more
@@ -162,10 +170,18 @@ module _ (join : PieceFacts) (bits : Bits) (base : ℕ) (lines : Lines) (start l
     within = omega (arith, length_now, fills_few);
   }
 
+  -- items that are ready, or behind which the input has ended, may be handled, and so may those before them
+  may_handle : (ended : Bool) (items : List Item) → (ended ≡ false → All (IsReady (at + length (drop at now))) items) → (ended ≡ true → n ≡ 0) →
+      All (λ item. MayHandle start left' now item.offset) (s.items ++ items)
+  may_handle true items ready last_pull = λ k d lt. inr (reads_all (last_pull refl))
+  may_handle false items ready last_pull =
+      let all = All-append (IsReady (length now)) s.items items ready_now (all_ready (at + length (drop at now)) (length now) items (omega (arith, place)) (ready refl)) in
+      λ k d lt. inl (all k d lt)
+
   -- the sink failed
-  pub at_write_fault : (held'' : Option (List ℕ)) → HandlesFront bits base lines at (drop at now) held' held'' →
-      (seen : List ℕ) × (Sees start left' seen × WritesLinesFront bits base lines seen held held'')
-  at_write_fault held'' h =
+  pub at_write_fault : (ended : Bool) (held'' : Option (List ℕ)) → HandlesFront bits base lines at (drop at now) ended held' held'' → (ended ≡ true → n ≡ 0) →
+      (seen : List ℕ) × (Sees start left' seen × WritesLinesFront bits base lines start left' seen held held'')
+  at_write_fault ended held'' h last_pull =
       let part = take h.written.0 (lines_of bits base lines h.items) in
       let before = lines_of bits base lines s.items in (
         now,
@@ -175,6 +191,7 @@ module _ (join : PieceFacts) (bits : Bits) (base : ℕ) (lines : Lines) (start l
             items = s.items ++ h.items;
             sweep = (h.rest, sweeps_join bits base 0 at now s.items (drop at now) h.items h.rest sweeps_now place h.sweeps);
             all = All-append (GoesOn lines) s.items h.items s.all h.all;
+            may = may_handle ended h.items h.ready last_pull;
             written = (
               length before + h.written.0,
               h.written.1

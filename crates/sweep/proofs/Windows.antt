@@ -1,7 +1,7 @@
 -- The bytes at the front of a window.
-use Rattle.std.proofs.Common.{◌≡◌, ℕ, ◌+◌, ◌≤◌, List, [], ◌++◌, length, take, Option, Some, None, arith, refl, sym, ap, ◌∙◌, take-take}
+use Rattle.std.proofs.Common.{◌≡◌, ℕ, ◌+◌, ◌-◌, ◌≤◌, List, [], ◌++◌, length, take, drop, Option, Some, None, arith, refl, sym, ap, ◌∙◌, take-take}
 use Rattle.std.specs.Prelude.{IfSome}
-use Rattle.std.proofs.lemmas.List.{length-take-le}
+use Rattle.std.proofs.lemmas.List.{length-take-le, length-take, length-drop}
 use Rattle.byte_ports.specs.Ports.{with_front}
 use Rattle.run_parts.specs.Reads.{IsAtEnd}
 use Rattle.std.proofs.lemmas.Slice.{take-put_mid}
@@ -16,6 +16,10 @@ piece_behind a k n xs ys inside few =
     = take-take (a + n) (a + length ys) (put_mid a k xs ys) (omega arith) in
     let len : a + n ≡ length (take a xs) + n = omega (arith, length-take-le a xs inside) in
     sym front ∙ (ap (take (a + n)) whole ∙ (ap (λ m. take m (take a xs ++ ys)) len ∙ take-append-add (take a xs) ys n))
+
+-- a part of a window has no more bytes
+pub part_few : (len room : ℕ) (window : List ℕ) → length window ≤ 16384 → length (take (len + room - len) (drop len window)) ≤ 16384
+part_few len room window few = omega (arith, length-take (len + room - len) (drop len window), length-drop len window, few)
 
 -- no byte is left where none was taken and none was left
 pub at_end : (left left' : Option (List ℕ)) (piece : List ℕ) (n : ℕ) → left ≡ with_front (take n piece) left' → n ≡ 0 → IfSome left (λ bytes. bytes ≡ []) →

@@ -1,5 +1,6 @@
 pub mod Steps
 pub mod Window
 pub mod Streams
+pub mod Calls
 pub mod Ends
 pub mod Facts

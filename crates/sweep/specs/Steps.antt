@@ -54,10 +54,11 @@ pub record HandlesItems (bits : Bits) (base : ℕ) (lines : Lines) (at : ℕ) (b
   pub written : held' ≡ with_back held (lines_of bits base lines items)
   pub ends : HandlesEnd bits base lines (at + handled.used) (drop handled.used bytes) ended handled.stop
 
--- the front of those lines was written
-pub record HandlesFront (bits : Bits) (base : ℕ) (lines : Lines) (at : ℕ) (bytes : List ℕ) (held held' : Option (List ℕ)) : Type 0 where
+-- the front of those lines was written, again of items that are ready, unless the input has ended
+pub record HandlesFront (bits : Bits) (base : ℕ) (lines : Lines) (at : ℕ) (bytes : List ℕ) (ended : Bool) (held held' : Option (List ℕ)) : Type 0 where
   pub items : List Item
   pub rest : List ℕ
   pub sweeps : Sweeps bits base at bytes items rest
   pub all : All (GoesOn lines) items
+  pub ready : ended ≡ false → All (IsReady (at + length bytes)) items
   pub written : HoldsFront held held' (lines_of bits base lines items)

@@ -34,13 +34,6 @@ pub record WritesHandled (bits : Bits) (base : ℕ) (lines : Lines) (seen : List
   pub all : All (GoesOn lines) items
   pub written : held' ≡ with_back held (lines_of bits base lines items)
 
--- the front of the lines was written: first bytes of the lines of first items, behind each of which the command goes on
-pub record WritesLinesFront (bits : Bits) (base : ℕ) (lines : Lines) (seen : List ℕ) (held held' : Option (List ℕ)) : Type 0 where
-  pub items : List Item
-  pub sweep : BeginsSweep bits base seen items
-  pub all : All (GoesOn lines) items
-  pub written : HoldsFront held held' (lines_of bits base lines items)
-
 -- the lines before an offset were written: there stands the first item at which the command ends, with this error
 pub record WritesLinesBefore (bits : Bits) (base : ℕ) (lines : Lines) (seen : List ℕ) (offset : ℕ) (error : DecodeError) (held held' : Option (List ℕ)) : Type 0 where
   pub items : List Item
@@ -67,6 +60,14 @@ pub record Reads (left left' : Option (List ℕ)) (seen : List ℕ) : Type 0 whe
 abbrev pub MayHandle : Option (List ℕ) → Option (List ℕ) → List ℕ → ℕ → Type 0
 MayHandle left left' seen offset = (offset + 15 ≤ length seen) ⊎ ReadsAll code_limit left left' seen
 
+-- the front of the lines was written: first bytes of the lines of first items, each of which may be handled, and behind each of which the command goes on
+pub record WritesLinesFront (bits : Bits) (base : ℕ) (lines : Lines) (left left' : Option (List ℕ)) (seen : List ℕ) (held held' : Option (List ℕ)) : Type 0 where
+  pub items : List Item
+  pub sweep : BeginsSweep bits base seen items
+  pub all : All (GoesOn lines) items
+  pub may : All (λ item. MayHandle left left' seen item.offset) items
+  pub written : HoldsFront held held' (lines_of bits base lines items)
+
 -- a stream by its answer: when each may come, and what was written then
 abbrev pub StreamsAs : Bits → ℕ → Lines → Option (List ℕ) → Option (List ℕ) → Option (List ℕ) → Option (List ℕ) → Type 0 → Type 0 →
     Result ℕ StreamError → Type 0
@@ -77,6 +78,6 @@ StreamsAs bits base lines left left' held held' source_rose out_rose (Err (BadCo
 StreamsAs bits base lines left left' held held' source_rose out_rose (Err ReadFault) =
     source_rose × ((seen : List ℕ) × (Reads left left' seen × WritesHandled bits base lines seen held held'))
 StreamsAs bits base lines left left' held held' source_rose out_rose (Err WriteFault) =
-    out_rose × ((seen : List ℕ) × (Sees left left' seen × WritesLinesFront bits base lines seen held held'))
+    out_rose × ((seen : List ℕ) × (Sees left left' seen × WritesLinesFront bits base lines left left' seen held held'))
 StreamsAs bits base lines left left' held held' source_rose out_rose (Err (TooLarge limit)) =
     (limit ≡ code_limit) × ((bytes : List ℕ) × (ReadsTooMany code_limit left left' bytes × WritesHandled bits base lines (take code_limit bytes) held held'))

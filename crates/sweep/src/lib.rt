@@ -9,4 +9,4 @@ mod window;
 
 pub use error::{ListError, StreamError};
 pub use stream::{info_stream, list_stream, recode_stream, stream_lines};
-pub use sweep_text::{Lines, Style};
+pub use sweep_text::{Lines, Style, Style as Syntax};

@@ -1,14 +1,14 @@
 //! Writing the lines of the items at the front of some bytes, as far as nothing that follows can change them.
 
-ghost use Rattle.std.specs.Prelude.{◌≡◌, ◌<◌, ◌≤◌, ◌+◌, true, false, length, IfOk, OnErr};
+ghost use Rattle.std.specs.Prelude.{◌≡◌, ◌<◌, ◌≤◌, ◌+◌, true, false, length, IfOk, OnOk, OnErr};
 ghost use Rattle.byte_ports.specs.Ports.{HasCause};
-ghost use Rattle.run_parts.specs.Writing.{HoldsFront};
+ghost use Rattle.run_parts.specs.Writing.{HoldsFront, Puts, PutsToFault};
 ghost use Rattle.sweep.specs.Steps.{TakesStep, HandlesItems, HandlesFront};
 
 use crate::window::WINDOW_LEN;
 use byte_ports::{Failed, Sink};
 use decoder::DecodeError;
-use run_parts::laws::held_texts_arrive;
+use run_parts::laws::{held_texts_arrive, puts_join};
 use run_parts::{make_room, put_all};
 use sweep_text::{Chunk, Lines, append_line, item_len, read_at, stop_of};
 use x86_values::Bits;
@@ -49,6 +49,8 @@ fn write_item<K: Sink>(
     requires some { 0 < length rest.now }
     ensures ok { IfOk result (λ step. TakesStep bits base lines at rest.now (K.held out.old) (K.held out.new) pending.old.items pending.new.items step) }
     ensures err { OnErr result (HoldsFront (K.held out.old) (K.held out.new) pending.old.items) }
+    ensures puts { OnOk result (Puts K.put_gives out.old out.new) }
+    ensures last { OnErr result (PutsToFault K.put_gives out.old out.new) }
     ensures cause { HasCause (K.faults out.old) (K.faults out.new) result }
 {
     let reading = read_at(bits, base, at, rest);
@@ -85,10 +87,13 @@ pub(crate) fn write_ready<K: Sink>(
     requires short { length bytes.now ≤ WINDOW_LEN }
     ensures ok { IfOk result (λ handled. HandlesItems bits base lines at bytes.now ended (K.held out.old) (K.held out.new) handled) }
     ensures few { IfOk result (λ handled. handled.count ≤ handled.used) }
-    ensures err { OnErr result (HandlesFront bits base lines at bytes.now (K.held out.old) (K.held out.new)) }
+    ensures err { OnErr result (HandlesFront bits base lines at bytes.now ended (K.held out.old) (K.held out.new)) }
+    ensures puts { OnOk result (Puts K.put_gives out.old out.new) }
+    ensures last { OnErr result (PutsToFault K.put_gives out.old out.new) }
     ensures cause { HasCause (K.faults out.old) (K.faults out.new) result }
 {
     held_texts_arrive();
+    puts_join::<K>();
     let mut pending = Chunk::new();
     let mut used = 0;
     let mut count = 0;

@@ -4,9 +4,11 @@ ghost use Rattle.std.specs.Prelude.{◌≡◌, IsTrue};
 ghost use Rattle.byte_ports.specs.Ports.{Rose};
 ghost use Rattle.prefixes.specs.Answer.{is_mode, mode_of};
 ghost use Rattle.run_parts.specs.Reads.{code_limit, Takes, EndsAtFault};
+ghost use Rattle.sweep.specs.Calls.{IsCalled};
 ghost use Rattle.sweep.specs.Streams.{StreamsAs};
 ghost use Rattle.sweep.specs.Ends.{of_listing, CompletesStream, CompletesListing};
 ghost use Rattle.sweep_text.specs.declared.lines.Lines.TheVariants as lines;
+ghost use Rattle.sweep.specs.declared.error.ListError.TheVariants as lists;
 ghost use Rattle.sweep.specs.declared.error.StreamError.TheVariants as why;
 
 use crate::error::{ListError, StreamError};
@@ -35,6 +37,7 @@ fn stream_all<S: Source, K: Sink>(
     ensures answer { StreamsAs bits base lines (S.left source.old) (S.left source.new) (K.held sink.old) (K.held sink.new)
         (Rose (S.faults source.old) (S.faults source.new)) (Rose (K.faults sink.old) (K.faults sink.new)) result }
     ensures last { result ≡ Err why.ReadFault → EndsAtFault S.pull_gives S.left source.new }
+    ensures calls { IsCalled S.left S.pull_gives K.held K.put_gives bits base lines source.old source.new sink.old sink.new result }
 {
     pieces_join();
     let mut window = [0; WINDOW_LEN];
@@ -75,9 +78,10 @@ fn stream_all<S: Source, K: Sink>(
 /// them. The answer is the number of items.
 ///
 /// An item is handled once 15 bytes from its start on were read or the input has ended, and before any byte past 16,777,216 is told. What was handled
-/// is put to the sink before the source is asked again. The first refusal in this order ends the way: `ReadFault` and `WriteFault` only where that
-/// port's count of faults rose, `BadCode` at the first item for which the command has no line, `TooLarge` where the source gives more than 16,777,216
-/// bytes.
+/// is put to the sink before the source is asked again, each time for at most 16,384 bytes. The first refusal in this order ends the way: `ReadFault` and
+/// `WriteFault` only where that port's count of faults rose, `BadCode` at the first item for which the command has no line, `TooLarge` where the source
+/// gives more than 16,777,216 bytes. A call of a port that fails is the last of all, and behind `BadCode` and `WriteFault` no more was taken than the last
+/// pull gave before which fewer than 15 bytes of that item were seen.
 pub fn stream_lines<S: Source, K: Sink>(
     bits: Bits,
     base: u64,
@@ -91,6 +95,7 @@ pub fn stream_lines<S: Source, K: Sink>(
         → CompletesStream bits base lines (S.left source.old) result }
     ensures taken { Takes code_limit (S.left source.old) (S.left source.new)
         × (result ≡ Err why.ReadFault → EndsAtFault S.pull_gives S.left source.new) }
+    ensures calls { IsCalled S.left S.pull_gives K.held K.put_gives bits base lines source.old source.new sink.old sink.new result }
 {
     told_bytes_are_read();
     sweeps_agree();
@@ -112,7 +117,9 @@ pub fn list_stream<const BITS: u32, S: Source, K: Sink>(
         (Rose (S.faults source.old) (S.faults source.new)) (Rose (K.faults sink.old) (K.faults sink.new)) (of_listing result) }
     ensures complete { (Rose (S.faults source.old) (S.faults source.new) → ⊥) → (Rose (K.faults sink.old) (K.faults sink.new) → ⊥)
         → CompletesListing (S.left source.old) (of_listing result) }
-    ensures taken { Takes code_limit (S.left source.old) (S.left source.new) }
+    ensures taken { Takes code_limit (S.left source.old) (S.left source.new)
+        × (result ≡ Err lists.ReadFault → EndsAtFault S.pull_gives S.left source.new) }
+    ensures calls { IsCalled S.left S.pull_gives K.held K.put_gives (mode_of BITS) base (lines.Listing syntax) source.old source.new sink.old sink.new (of_listing result) }
 {
     told_bytes_are_read();
     let lines = Lines::Listing { syntax };
@@ -139,7 +146,9 @@ pub fn recode_stream<const BITS: u32, S: Source, K: Sink>(
         (Rose (S.faults source.old) (S.faults source.new)) (Rose (K.faults sink.old) (K.faults sink.new)) result }
     ensures complete { (Rose (S.faults source.old) (S.faults source.new) → ⊥) → (Rose (K.faults sink.old) (K.faults sink.new) → ⊥)
         → CompletesStream (mode_of BITS) base (lines.Recode to new_base) (S.left source.old) result }
-    ensures taken { Takes code_limit (S.left source.old) (S.left source.new) }
+    ensures taken { Takes code_limit (S.left source.old) (S.left source.new)
+        × (result ≡ Err why.ReadFault → EndsAtFault S.pull_gives S.left source.new) }
+    ensures calls { IsCalled S.left S.pull_gives K.held K.put_gives (mode_of BITS) base (lines.Recode to new_base) source.old source.new sink.old sink.new result }
 {
     stream_lines(
         mode_of::<BITS>(),
@@ -161,7 +170,9 @@ pub fn info_stream<const BITS: u32, S: Source, K: Sink>(
         (Rose (S.faults source.old) (S.faults source.new)) (Rose (K.faults sink.old) (K.faults sink.new)) result }
     ensures complete { (Rose (S.faults source.old) (S.faults source.new) → ⊥) → (Rose (K.faults sink.old) (K.faults sink.new) → ⊥)
         → CompletesStream (mode_of BITS) base lines.Info (S.left source.old) result }
-    ensures taken { Takes code_limit (S.left source.old) (S.left source.new) }
+    ensures taken { Takes code_limit (S.left source.old) (S.left source.new)
+        × (result ≡ Err why.ReadFault → EndsAtFault S.pull_gives S.left source.new) }
+    ensures calls { IsCalled S.left S.pull_gives K.held K.put_gives (mode_of BITS) base lines.Info source.old source.new sink.old sink.new result }
 {
     stream_lines(mode_of::<BITS>(), base, Lines::Info, source, sink)
 }

@@ -3,6 +3,7 @@
 ghost use Rattle.std.specs.Prelude.{◌≡◌, ◌+◌, ◌<◌, ◌≤◌, ◌-◌, length, take, drop, IfOk, OnErr};
 ghost use Rattle.byte_ports.specs.Ports.{HasCause};
 ghost use Rattle.run_parts.specs.Reads.{EndsAtFault};
+ghost use Rattle.sweep.specs.Calls.{Pull};
 ghost use Rattle.sweep.specs.Window.{Fills};
 
 use byte_ports::{Failed, Source};
@@ -18,10 +19,12 @@ pub(crate) fn fill<S: Source>(
     room: usize,
 ) -> Result<usize, Failed>
     requires room { 0 < room }
+    requires window { length window.old ≤ WINDOW_LEN }
     requires inside { len + room ≤ length window.old }
     ensures ok { IfOk result (λ n. Fills (S.left source.old) (S.left source.new) window.old window.new len room n) }
     ensures none_taken { OnErr result (S.left source.new ≡ S.left source.old) }
     ensures last { OnErr result (EndsAtFault S.pull_gives S.left source.new) }
+    ensures pull { Pull S.pull_gives source.old result source.new }
     ensures cause { HasCause (S.faults source.old) (S.faults source.new) result }
     ensures len { length window.new ≡ length window.old }
 {

@@ -1,8 +1,17 @@
 use Rattle.std.proofs.Common.{◌++◌, List, ℕ, Option, take, arith, ap, sym, ◌∙◌}
 use Rattle.std.proofs.Math.Seq.{take-add}
 use Rattle.byte_ports.specs.Ports.{with_back}
-use Rattle.run_parts.proofs.Appending.{with_back-append}
+use Rattle.run_parts.specs.Writing.{no_put, then_put}
+use Rattle.run_parts.proofs.Appending.{with_back-nil, with_back-append}
 use Rattle.run_parts.proofs.output.put_all.Goals as goal
+
+pub loop-at-init : goal.loop-at-init
+loop-at-init g c = record {
+  within = omega arith;
+  held = sym (with_back-nil (g.K.Sink.held c.args.out.now));
+  puts = no_put;
+  later = omega arith;
+}
 
 pub loop-at-preserved : goal.loop-at-preserved
 loop-at-preserved g c =
@@ -18,5 +27,6 @@ loop-at-preserved g c =
           ∙ ap (with_back (g.K.Sink.held c.args.out.now))
           (ap (λ (xs : List ℕ). take c.loop-at.at c.args.bytes.now ++ take c.in_ok-at.field-0 xs) rest
           ∙ sym (take-add c.loop-at.at c.in_ok-at.field-0 c.args.bytes.now))));
+      puts = then_put here.puts c.in_ok-at.ensures.gives;
       later = omega arith;
     }

@@ -1,6 +1,7 @@
 use Rattle.std.proofs.Common.{ℕ, take, refl, sym, ap}
 use Rattle.decoder.specs.Answer.{reading_of}
 use Rattle.opcode_rows.specs.Sweep.{item_len}
+use Rattle.run_parts.specs.Writing.{no_put}
 use Rattle.sweep.proofs.Handling.{moves-line}
 use Rattle.sweep.proofs.ready.write_item.Goals as goal
 
@@ -45,3 +46,6 @@ returns-clause-ok g c =
       count_is = c.item_len-count.ensures;
       moves = moves-line _ _ _ c.make_room.new.pending.items _ _ c.in_ok-make_room.ensures.ok c.append_line.ensures.items;
     }
+
+pub returns-in-Some-clause-puts : goal.returns-in-Some-clause-puts
+returns-in-Some-clause-puts g c = no_put

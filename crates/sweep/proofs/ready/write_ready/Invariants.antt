@@ -1,10 +1,12 @@
 use Rattle.std.proofs.Common.{◌≤◌, ◌-◌, length}
+use Rattle.run_parts.specs.Writing.{Puts}
 use Rattle.sweep.proofs.Handling.{Progress}
 use Rattle.sweep.proofs.ready.write_ready.Given as goal
 
 abbrev pub invariant-items : goal.invariant-items
 invariant-items g l = record {
   progress : Progress l.bits l.base l.lines l.at l.bytes l.used l.count l.ended (g.K.Sink.held l.initial.out) (g.K.Sink.held l.out) l.pending.items;
+  puts : Puts g.K.Sink.put_gives l.initial.out l.out;
   later : g.K.Sink.faults l.initial.out ≤ g.K.Sink.faults l.out;
 }
 

@@ -1,4 +1,5 @@
 use Rattle.std.proofs.Common.{◌≡◌, ◌+◌, ◌-◌, ◌≤◌, ◌<◌, length}
+use Rattle.sweep.specs.Calls.{Rounds}
 use Rattle.sweep.proofs.Streaming.{Streamed}
 use Rattle.sweep.proofs.stream.stream_all.Given as goal
 
@@ -11,6 +12,7 @@ invariant-pulls g l = record {
   short : l.len < 15;
   counted : l.count ≤ l.at;
   source_later : g.S.Source.faults l.initial.source ≤ g.S.Source.faults l.source;
+  rounds : Rounds g.S.Source.left g.S.Source.pull_gives g.K.Sink.held g.K.Sink.put_gives l.bits l.base l.lines l.initial.source l.initial.sink l.source l.sink;
   sink_later : g.K.Sink.faults l.initial.sink ≤ g.K.Sink.faults l.sink;
 }
 

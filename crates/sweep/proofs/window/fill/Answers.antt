@@ -1,6 +1,8 @@
 use Rattle.std.proofs.Common.{◌+◌, ◌-◌, take, arith}
 use Rattle.std.proofs.lemmas.List.{length-take-le}
-use Rattle.sweep.proofs.Windows.{piece_behind, at_end}
+use Rattle.std.proofs.lemmas.Result.{err_from_is_err_and}
+use Rattle.sweep.specs.Calls.{window_len}
+use Rattle.sweep.proofs.Windows.{piece_behind, part_few, at_end}
 use Rattle.sweep.proofs.window.fill.Goals as goal
 
 pub returns-clause-ok : goal.returns-clause-ok
@@ -16,3 +18,23 @@ returns-clause-ok g c =
           at_end (g.S.Source.left c.args.source.now) (g.S.Source.left c.pull.new.self) c.pull.new.into n c.in_ok-count.ensures.taken none
           (c.in_ok-count.ensures.end none (omega (arith, c.pull.auto.into, c.requires.room, c.requires.inside)));
     }
+
+pub returns-clause-pull : goal.returns-clause-pull
+unfolding window_len
+returns-clause-pull g c = record {
+  buffer = _;
+  filled = c.pull.new.into;
+  few = part_few c.args.len c.args.room c.args.window.now c.requires.window;
+  gave = c.in_ok-count.ensures.gives;
+}
+
+pub returns-in_err-count-clause-pull : goal.returns-in_err-count-clause-pull
+unfolding window_len
+returns-in_err-count-clause-pull g c =
+    let p = err_from_is_err_and c.from_residual.result c.from_residual.ensures.1 in
+    rw p.1 (record {
+      buffer = _;
+      filled = c.pull.new.into;
+      few = part_few c.args.len c.args.room c.args.window.now c.requires.window;
+      gave = c.in_err-count.ensures.gives;
+    })

@@ -1,0 +1,5 @@
+pub mod Answered
+pub mod Formed
+pub mod InOrder
+pub mod ReadSoFar
+pub mod Wrapping

@@ -1,0 +1,4 @@
+pub mod Items
+pub mod Iteration
+pub mod Moving
+pub mod Sound

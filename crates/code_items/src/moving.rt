@@ -1,0 +1,158 @@
+//! Some code moved to another address.
+
+ghost use Rattle.std.specs.Prelude.{◌≡◌, length};
+ghost use Rattle.move_goals.specs.Items.{one_span};
+ghost use Rattle.block_encoder.specs.Moved.{IsAnswer};
+ghost use Rattle.code_items.specs.Items as spec;
+ghost use Rattle.code_items.specs.Moving.{IsCodeAnswer};
+
+use crate::items::CodeItems;
+use crate::reading::{ReadError, read_items};
+use block_encoder::{Form, MoveError, Moved, move_block};
+use branch_sizes::laws::blocks_have_all_items;
+use decoder::DecodeError;
+use move_goals::laws::first_numbers_pass;
+use move_goals::passes;
+use std::alloc::Global;
+use std::marker::Model;
+use thiserror::Error;
+use x86_values::Bits;
+
+/// How many instructions are moved together at most.
+const MOST: usize = 65_536;
+
+/// Why some code is not moved. Where causes stand together the first of these in the order `BadCode`, `TooMany`, `Wraps`, `TooFar` is told; `Memory` may
+/// stand in place of each.
+#[derive(Clone, Copy, PartialEq, Eq, Debug, Error)]
+pub enum MoveCodeError {
+    /// No instruction begins at this offset from the first byte, where the one before it ends.
+    #[error("no instruction at offset {at:#x}: {error}")]
+    BadCode { at: u64, error: DecodeError },
+    /// There was not enough memory.
+    #[error("out of memory")]
+    Memory,
+    /// There are this many instructions, more than 65,536.
+    #[error("{count} instructions are too many")]
+    TooMany { count: u64 },
+    /// The old or the new end is this address, which passes the address space of the mode.
+    #[error("end {end:#x} passes the address space")]
+    Wraps { end: u128 },
+    /// The instruction of this number, from 0, does not reach its goal, which is this address.
+    #[error("instruction {at} cannot reach {target:#x}")]
+    TooFar { at: u64, target: u64 },
+}
+
+/// Some code that was moved: its instructions, and where each went.
+#[derive(Drop)]
+pub struct MovedCode {
+    code: CodeItems,
+    moved: Moved,
+}
+
+impl Model for MovedCode {
+    ghost use Rattle.code_items.specs.Moving.{MovedItems, AreBeside};
+
+    ghost Value = { MovedItems };
+
+    ghost view = { λ m. record { code = m.code; moved = m.moved } };
+
+    ghost invariant = { λ m. AreBeside m.code.items m.moved };
+}
+
+impl MovedCode {
+    /// The instructions as they were, with their old addresses.
+    pub fn items(&self) -> &CodeItems
+        ensures { result.now ≡ self.now.code }
+    {
+        &self.code
+    }
+
+    /// The moved bytes: the images of the instructions, and where there are slots a gap of at most 7 bytes CC and the slots.
+    pub fn bytes(&self) -> &[u8]
+        ensures { result.now ≡ self.now.moved.bytes }
+    {
+        self.moved.bytes()
+    }
+
+    /// The new address of each instruction.
+    pub fn starts(&self) -> &[u64]
+        ensures starts { result.now ≡ self.now.moved.starts }
+        ensures len { length result.now ≡ length self.now.code.items }
+    {
+        self.moved.starts()
+    }
+
+    /// The form of each instruction.
+    pub fn forms(&self) -> &[Form]
+        ensures forms { result.now ≡ self.now.moved.forms }
+        ensures len { length result.now ≡ length self.now.code.items }
+    {
+        self.moved.forms()
+    }
+
+    /// The addresses in the slots, in order.
+    pub fn slots(&self) -> &[u64]
+        ensures { result.now ≡ self.now.moved.slots }
+    {
+        self.moved.slots()
+    }
+}
+
+/// The address behind some code, where that passes the address space of the mode. Code without bytes has no end.
+#[tactic(auto, unfolding(crate::specs::Items::old_pass))]
+fn old_pass(bits: Bits, old: u64, bytes: &[u8]) -> Option<u128>
+    ensures { result ≡ spec.old_pass bits old bytes.now }
+{
+    if bytes.is_empty() {
+        return None;
+    }
+    let end = u128::from(old) + bytes.len() as u128;
+    if passes(bits, end) { Some(end) } else { None }
+}
+
+/// Moves instructions that were read, as one block, to a new address: [`move_block`] of them. `OldOrder` comes where the code passed the address space.
+pub fn move_items(alloc: Global, code: &CodeItems, new: u64) -> Result<Moved, MoveError>
+    ensures { IsAnswer code.now.bits code.now.items (one_span code.now.items new) result }
+{
+    move_block(alloc, code.bits, &code.placed, new)
+}
+
+/// Reads some code at the address `old` and moves it to the address `new`: every branch and every operand at RIP or EIP still reaches what it reached,
+/// or follows it where that is moved too; branches have the forms of the least layout, in which no branch is longer than in any other that reaches all its goals.
+///
+/// Refused in this order: at the first byte that begins no instruction; above 65,536 instructions; where the old end, else the new end, passes the
+/// address space of the mode; at the first instruction that does not reach its goal. `Memory` may come at any point.
+pub fn move_code(
+    alloc: Global,
+    bits: Bits,
+    old: u64,
+    bytes: &[u8],
+    new: u64,
+) -> Result<MovedCode, MoveCodeError>
+    ensures { IsCodeAnswer bits old bytes.now new result }
+{
+    first_numbers_pass();
+    blocks_have_all_items();
+    let code = match read_items(alloc, bits, old, bytes) {
+        Ok(code) => code,
+        Err(ReadError::BadCode { at, error }) => return Err(MoveCodeError::BadCode { at, error }),
+        Err(ReadError::Memory) => return Err(MoveCodeError::Memory),
+    };
+    let count = code.len();
+    if count > MOST {
+        return Err(MoveCodeError::TooMany {
+            count: count as u64,
+        });
+    }
+    if let Some(end) = old_pass(bits, old, bytes) {
+        return Err(MoveCodeError::Wraps { end });
+    }
+    match move_items(alloc, &code, new) {
+        Ok(moved) => Ok(MovedCode { code, moved }),
+        Err(MoveError::Memory) => Err(MoveCodeError::Memory),
+        Err(MoveError::TooMany { count }) => Err(MoveCodeError::TooMany { count }),
+        Err(MoveError::OldOrder { .. }) => unreachable!(),
+        Err(MoveError::Wraps { end }) => Err(MoveCodeError::Wraps { end }),
+        Err(MoveError::TooFar { at, target }) => Err(MoveCodeError::TooFar { at, target }),
+    }
+}

@@ -1,0 +1,142 @@
+//! Compares what `instruction_info` says of each row with the lines that it is made from: the files in data/, as docs/instruction-info.md says how they
+//! are read.
+//!
+//! It prints of how many rows each file speaks, and ends with an error at the first row of which the lines say something else.
+#![tactic(auto)]
+
+mod lines;
+mod words;
+
+ghost use Rattle.std.specs.Prelude.{◌<◌};
+
+use anyhow::{Result, bail};
+use instruction_info::features_of;
+use lines::{Line, line_in, meets};
+use opcode_rows::{ROWS, name, row_of};
+use std::fs;
+use words::{Told, features_in, is_told};
+use x86_values::Code;
+
+/// The files of effects, of which one at most speaks of a row.
+const FILES: [&str; 3] = ["integer.txt", "x87.txt", "vector.txt"];
+
+/// Compares words with what a row does besides its operands.
+fn compare_effect(code: Code, words: &str) -> Result<()>
+    requires { code.0 < ROWS }
+{
+    let mut told = Told::new();
+    for word in words.split(' ') {
+        if !told.take(code, word) {
+            bail!("row {}, {}: not this: {word}", code.0, name(code));
+        }
+    }
+    if !is_told(&told, code) {
+        bail!("row {}, {}: more than its line", code.0, name(code));
+    }
+    Ok(())
+}
+
+/// Compares words with the features that a row needs.
+fn compare_features(code: Code, words: &str) -> Result<()>
+    requires { code.0 < ROWS }
+{
+    match features_in(words) {
+        Some(bits) if bits == features_of(code).0 => Ok(()),
+        _ => bail!("row {}, {}: other features", code.0, name(code)),
+    }
+}
+
+/// Compares a line with the row of a code.
+fn compare_row(counts: &mut Vec<u8>, code: Code, words: &str, is_effect: bool) -> Result<()>
+    requires { code.0 < ROWS }
+{
+    if is_effect {
+        compare_effect(code, words)?;
+    } else {
+        compare_features(code, words)?;
+    }
+    if let Some(count) = counts.get_mut(code.0 as usize) {
+        *count = count.saturating_add(1);
+    }
+    Ok(())
+}
+
+/// Compares a line with the rows of a name that it speaks of, and counts them; a name without a row is an error.
+fn compare_name(counts: &mut Vec<u8>, line: &Line, word: &str, is_effect: bool) -> Result<usize> {
+    let mut rows: usize = 0;
+    for code in 0..ROWS {
+        if name(Code(code)) == word && meets(line, &row_of(Code(code))) {
+            compare_row(counts, Code(code), line.words, is_effect)?;
+            rows = rows.wrapping_add(1);
+        }
+    }
+    if rows == 0 {
+        bail!("no row is {word}");
+    }
+    Ok(rows)
+}
+
+/// Compares a line with the rows that it speaks of, and counts them.
+fn compare_line(counts: &mut Vec<u8>, line: &Line, is_effect: bool) -> Result<usize> {
+    let mut rows: usize = 0;
+    for word in line.names.split('|') {
+        rows = rows.wrapping_add(compare_name(counts, line, word, is_effect)?);
+    }
+    Ok(rows)
+}
+
+/// Compares the lines of a text, and counts the rows that they speak of.
+fn compare_text(counts: &mut Vec<u8>, text: &str, is_effect: bool) -> Result<usize> {
+    let mut rows: usize = 0;
+    for line in text.lines() {
+        if let Some(line) = line_in(line) {
+            rows = rows.wrapping_add(compare_line(counts, &line, is_effect)?);
+        }
+    }
+    Ok(rows)
+}
+
+/// As many counts as there are rows, all 0.
+fn no_counts(rt: &HostRuntime) -> Result<Vec<u8>> {
+    let mut counts = Vec::new(rt.alloc());
+    for _ in 0..ROWS {
+        counts.push(0)?;
+    }
+    Ok(counts)
+}
+
+/// Compares the rows of which no line speaks, and counts them; a row of which two lines speak is an error.
+fn compare_rest(counts: &Vec<u8>) -> Result<usize> {
+    let mut rest: usize = 0;
+    for code in 0..ROWS {
+        match counts.get(code as usize) {
+            Some(0) => {
+                compare_effect(Code(code), "none")?;
+                rest = rest.wrapping_add(1);
+            }
+            Some(1) => {}
+            _ => bail!("two lines speak of row {code}"),
+        }
+    }
+    Ok(rest)
+}
+
+/// Reads the files and compares their lines with the rows.
+fn main(rt: HostRuntime) -> Result<()> {
+    let mut counts = no_counts(&rt)?;
+    for file in FILES {
+        let text = fs::read_to_string(&rt, file)?;
+        let rows = compare_text(&mut counts, text.as_str(), true)?;
+        println!(rt; "{file}: {rows} rows")?;
+    }
+    let rest = compare_rest(&counts)?;
+    println!(rt; "{rest} rows do nothing besides their operands")?;
+    let mut counts = no_counts(&rt)?;
+    let text = fs::read_to_string(&rt, "features.txt")?;
+    let rows = compare_text(&mut counts, text.as_str(), false)?;
+    if counts.iter().any(|count| *count != 1) {
+        bail!("no line, or two, speak of the features of a row");
+    }
+    println!(rt; "features.txt: {rows} rows")?;
+    Ok(())
+}

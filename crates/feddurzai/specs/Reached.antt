@@ -1,0 +1,9 @@
+-- Why no graph of some code is given.
+use Rattle.std.specs.Prelude.{◌≡◌, ℕ, ◌<◌, ◌≤◌, List, length}
+use Rattle.feddurzai.specs.declared.reached.CodeGraphError.{CodeGraphError}
+use Rattle.feddurzai.specs.declared.reached.CodeGraphError.TheVariants.{TooLarge, Memory}
+
+-- there are too many bytes, or there is no memory for the graph of fewer
+abbrev pub IsGraphRefusal : List ℕ → CodeGraphError → Type 0
+IsGraphRefusal bytes (TooLarge len) = (1048576 < length bytes) × (len ≡ length bytes)
+IsGraphRefusal bytes Memory = length bytes ≤ 1048576

@@ -1,0 +1,80 @@
+-- What the tables of effects keep to, each by computing over the whole of a table.
+use Rattle.std.proofs.Common.{◌≡◌, ℕ, zero, suc, ◌<◌, ◌≤◌, ◌+◌, Bool, true, ◌&&◌, List, [], ◌∷◌, slice_get, length, take, refl, ap, sym, ◌∙◌, arith}
+use Rattle.std.specs.Prelude.{Some, unwrap_or, nat_lt, nat_le}
+use Rattle.std.specs.List.{list_all}
+use Rattle.std.proofs.lemmas.Bool.{ltb-true, leb-true}
+use Rattle.row_fields.proofs.Cands.{and-left, and-right}
+use Rattle.instruction_info.specs.declared.effect.Effect.{Effect}
+use Rattle.instruction_info.specs.declared.generated_effects.TheConstants.{EFFECT_COUNT, REGISTER_COUNT, MEMORY_COUNT}
+use Rattle.instruction_info.specs.Effects.{indexes, effects, no_effect, effect_of, fits}
+
+-- what passes on all of a list passes on what stands at a place
+pub all-at : {X : Type 0} (p : X → Bool) (xs : List X) (k : ℕ) (x : X) → list_all p xs ≡ true → slice_get xs k ≡ Some x → p x ≡ true
+all-at p [] k x h at = cc
+all-at p (y ∷ ys) zero x h at = let same : y ≡ x = cc in ap p (sym same) ∙ and-left (p y) (list_all p ys) h
+all-at p (y ∷ ys) (suc k) x h at = all-at p ys k x (and-right (p y) (list_all p ys) h) at
+
+-- what is taken of a list is no longer than asked
+pub take-few : {X : Type 0} (n : ℕ) (xs : List X) → length (take n xs) ≤ n
+take-few zero xs = omega arith
+take-few (suc n) [] = omega arith
+take-few (suc n) (x ∷ xs) = omega (arith, take-few n xs)
+
+-- ---- indexes
+
+abbrev is_index : ℕ → Bool
+is_index k = nat_lt k EFFECT_COUNT
+
+indexes_within : list_all is_index indexes ≡ true
+unfolding indexes
+indexes_within = refl
+
+pub index-within : (code k : ℕ) → slice_get indexes code ≡ Some k → k < EFFECT_COUNT
+index-within code k at = ltb-true k EFFECT_COUNT (all-at is_index indexes code k indexes_within at)
+
+pub effect-known : (code k : ℕ) (e : Effect) → slice_get indexes code ≡ Some k → slice_get effects k ≡ Some e → e ≡ effect_of code
+unfolding effect_of
+effect-known code k e at here =
+    sym (ap (λ o. unwrap_or (slice_get effects (unwrap_or o 0)) no_effect) at ∙ ap (λ o. unwrap_or o no_effect) here)
+
+-- ---- effects
+
+effects_fit : list_all fits effects ≡ true
+unfolding effects fits
+effects_fit = refl
+
+pub effect-fits : (k : ℕ) (e : Effect) → slice_get effects k ≡ Some e → fits e ≡ true
+effect-fits k e at = all-at fits effects k e effects_fit at
+
+-- the parts of the test
+abbrev registers_lie : Effect → Bool
+registers_lie e = nat_le (e.first_register + e.registers) REGISTER_COUNT
+
+abbrev memory_lies : Effect → Bool
+memory_lies e = nat_le (e.first_memory + e.memories) MEMORY_COUNT
+
+abbrev memory_fits : Effect → Bool
+memory_fits e = memory_lies e && nat_le e.memories 3
+
+abbrev rest_fits : Effect → Bool
+rest_fits e = nat_le e.registers 26 && memory_fits e
+
+pub registers-lie : (e : Effect) → fits e ≡ true → e.first_register + e.registers ≤ REGISTER_COUNT
+unfolding fits
+registers-lie e h = leb-true (e.first_register + e.registers) REGISTER_COUNT (and-left (registers_lie e) (rest_fits e) h)
+
+rest-fits : (e : Effect) → fits e ≡ true → rest_fits e ≡ true
+unfolding fits
+rest-fits e h = and-right (registers_lie e) (rest_fits e) h
+
+pub registers-few : (e : Effect) → fits e ≡ true → e.registers ≤ 26
+registers-few e h = leb-true e.registers 26 (and-left (nat_le e.registers 26) (memory_fits e) (rest-fits e h))
+
+memory-fits : (e : Effect) → fits e ≡ true → memory_fits e ≡ true
+memory-fits e h = and-right (nat_le e.registers 26) (memory_fits e) (rest-fits e h)
+
+pub memory-lies : (e : Effect) → fits e ≡ true → e.first_memory + e.memories ≤ MEMORY_COUNT
+memory-lies e h = leb-true (e.first_memory + e.memories) MEMORY_COUNT (and-left (memory_lies e) (nat_le e.memories 3) (memory-fits e h))
+
+pub memory-few : (e : Effect) → fits e ≡ true → e.memories ≤ 3
+memory-few e h = leb-true e.memories 3 (and-right (memory_lies e) (nat_le e.memories 3) (memory-fits e h))

@@ -1,0 +1,100 @@
+-- The effects of the rows: the tables of constants, and what they say of a code.
+use Rattle.std.specs.Prelude.{ℕ, ◌+◌, nat_le, Bool, false, ◌&&◌, List, slice_get, unwrap_or, take, drop}
+use Rattle.instruction_info.specs.declared.effect.Effect.{Effect}
+use Rattle.instruction_info.specs.declared.effect.NamedMemory.TheVariants.{AsOperand}
+use Rattle.instruction_info.specs.declared.effect.ImpliedRegister.{ImpliedRegister}
+use Rattle.instruction_info.specs.declared.effect.ImpliedMemory.{ImpliedMemory}
+use Rattle.instruction_info.specs.declared.generated_effects.TheConstants.{EFFECT_INDEXES, EFFECTS, IMPLIED_REGISTERS, IMPLIED_MEMORY, REGISTER_COUNT, MEMORY_COUNT}
+
+-- ---- the tables
+
+-- which effect each row has, by code
+unfoldable pub indexes : List ℕ
+indexes = EFFECT_INDEXES
+
+-- the effects
+unfoldable pub effects : List Effect
+effects = EFFECTS
+
+-- the implied registers of all effects
+unfoldable pub register_list : List ImpliedRegister
+register_list = IMPLIED_REGISTERS
+
+-- the implied memory of all effects
+unfoldable pub memory_list : List ImpliedMemory
+memory_list = IMPLIED_MEMORY
+
+-- the registers and the memory of an effect are few, and lie in their lists
+unfoldable pub fits : Effect → Bool
+fits e =
+    nat_le (e.first_register + e.registers) REGISTER_COUNT
+    && (nat_le e.registers 26 && (nat_le (e.first_memory + e.memories) MEMORY_COUNT && nat_le e.memories 3))
+
+-- ---- by code
+
+-- the effect of nothing
+abbrev pub no_effect : Effect
+no_effect = record {
+  read = 0;
+  written = 0;
+  cleared = 0;
+  set = 0;
+  undefined = 0;
+  kept = 0;
+  features = 0;
+  first_register = 0;
+  registers = 0;
+  first_memory = 0;
+  memories = 0;
+  repeats = false;
+  size = 0;
+  named = AsOperand;
+}
+
+-- the effect of a code, that of nothing where the table has none
+unfoldable pub effect_of : ℕ → Effect
+effect_of code = unwrap_or (slice_get effects (unwrap_or (slice_get indexes code) 0)) no_effect
+
+-- the flags that decide what is done (the operation of each instruction)
+unfoldable pub flags_read : ℕ → ℕ
+flags_read code = (effect_of code).read
+
+-- the flags that are given a value (flags affected)
+unfoldable pub flags_written : ℕ → ℕ
+flags_written code = (effect_of code).written
+
+-- those of them that become 0
+unfoldable pub flags_cleared : ℕ → ℕ
+flags_cleared code = (effect_of code).cleared
+
+-- those of them that become 1
+unfoldable pub flags_set : ℕ → ℕ
+flags_set code = (effect_of code).set
+
+-- the flags that are undefined afterwards
+unfoldable pub flags_undefined : ℕ → ℕ
+flags_undefined code = (effect_of code).undefined
+
+-- the flags that some instructions of the row leave as they were
+unfoldable pub flags_kept : ℕ → ℕ
+flags_kept code = (effect_of code).kept
+
+-- the CPUID features that are needed (the feature flag of the opcode table)
+unfoldable pub features_of : ℕ → ℕ
+features_of code = (effect_of code).features
+
+-- the registers that an effect implies
+abbrev pub registers_in : Effect → List ImpliedRegister
+registers_in e = take e.registers (drop e.first_register register_list)
+
+-- the memory that an effect implies
+abbrev pub memory_in : Effect → List ImpliedMemory
+memory_in e = take e.memories (drop e.first_memory memory_list)
+
+-- the registers that no operand names
+unfoldable pub registers_of : ℕ → List ImpliedRegister
+registers_of code = registers_in (effect_of code)
+
+-- the memory that no operand names
+unfoldable pub memory_of : ℕ → List ImpliedMemory
+memory_of code = memory_in (effect_of code)

@@ -1,0 +1,101 @@
+//! The CPUID features that an instruction needs.
+
+ghost use Rattle.std.specs.Prelude.{⊤, ◌≡◌, ◌<◌, [], ◌∷◌, codes};
+ghost use Rattle.instruction_info.specs.Effects as spec;
+
+use crate::effect::effect_at;
+use bitflags::{Flag, Flags, bitflag_items};
+use opcode_rows::ROWS;
+use x86_values::Code;
+
+/// CPUID feature flags (Intel SDM volume 2, CPUID), each by the name that it has there. An instruction needs all of its set.
+#[derive(Clone, Copy, PartialEq, Eq, Debug)]
+pub struct Features(pub u64);
+
+bitflag_items! {
+    impl Features: u64 {
+        const FPU = 0x1;
+        const TSC = 0x2;
+        const MSR = 0x4;
+        const CX8 = 0x8;
+        const SEP = 0x10;
+        const CMOV = 0x20;
+        const CLFSH = 0x40;
+        const MMX = 0x80;
+        const FXSR = 0x100;
+        const SSE = 0x200;
+        const SSE2 = 0x400;
+        const SSE3 = 0x800;
+        const PCLMULQDQ = 0x1000;
+        const MONITOR = 0x2000;
+        const SSSE3 = 0x4000;
+        const FMA = 0x8000;
+        const CX16 = 0x10000;
+        const SSE41 = 0x20000;
+        const SSE42 = 0x40000;
+        const MOVBE = 0x80000;
+        const POPCNT = 0x100000;
+        const AES = 0x200000;
+        const XSAVE = 0x400000;
+        const AVX = 0x800000;
+        const F16C = 0x1000000;
+        const RDRAND = 0x2000000;
+        const FSGSBASE = 0x4000000;
+        const BMI1 = 0x8000000;
+        const AVX2 = 0x10000000;
+        const BMI2 = 0x20000000;
+        const RDSEED = 0x40000000;
+        const ADX = 0x80000000;
+        const SMAP = 0x100000000;
+        const CLFLUSHOPT = 0x200000000;
+        const CET_SS = 0x400000000;
+        const CET_IBT = 0x800000000;
+        const XSAVEOPT = 0x1000000000;
+        const LZCNT = 0x2000000000;
+        const PREFETCHW = 0x4000000000;
+        const SYSCALL = 0x8000000000;
+        const RDTSCP = 0x10000000000;
+    }
+}
+
+impl Flags for Features {
+    type Bits = u64;
+
+    ghost exact = { ⊤ };
+
+    ghost table = { (codes "FPU", 0x1) ∷ (codes "TSC", 0x2) ∷ (codes "MSR", 0x4) ∷ (codes "CX8", 0x8) ∷ (codes "SEP", 0x10) ∷
+        (codes "CMOV", 0x20) ∷ (codes "CLFSH", 0x40) ∷ (codes "MMX", 0x80) ∷ (codes "FXSR", 0x100) ∷ (codes "SSE", 0x200) ∷
+        (codes "SSE2", 0x400) ∷ (codes "SSE3", 0x800) ∷ (codes "PCLMULQDQ", 0x1000) ∷ (codes "MONITOR", 0x2000) ∷
+        (codes "SSSE3", 0x4000) ∷ (codes "FMA", 0x8000) ∷ (codes "CX16", 0x10000) ∷ (codes "SSE41", 0x20000) ∷
+        (codes "SSE42", 0x40000) ∷ (codes "MOVBE", 0x80000) ∷ (codes "POPCNT", 0x100000) ∷ (codes "AES", 0x200000) ∷
+        (codes "XSAVE", 0x400000) ∷ (codes "AVX", 0x800000) ∷ (codes "F16C", 0x1000000) ∷ (codes "RDRAND", 0x2000000) ∷
+        (codes "FSGSBASE", 0x4000000) ∷ (codes "BMI1", 0x8000000) ∷ (codes "AVX2", 0x10000000) ∷ (codes "BMI2", 0x20000000) ∷
+        (codes "RDSEED", 0x40000000) ∷ (codes "ADX", 0x80000000) ∷ (codes "SMAP", 0x100000000) ∷
+        (codes "CLFLUSHOPT", 0x200000000) ∷ (codes "CET_SS", 0x400000000) ∷ (codes "CET_IBT", 0x800000000) ∷
+        (codes "XSAVEOPT", 0x1000000000) ∷ (codes "LZCNT", 0x2000000000) ∷ (codes "PREFETCHW", 0x4000000000) ∷
+        (codes "SYSCALL", 0x8000000000) ∷ (codes "RDTSCP", 0x10000000000) ∷ [] };
+
+    ghost set_of = { λ f. f.0 };
+
+    fn flags<'a>() -> &'a [Flag<Features>] {
+        Features::FLAGS
+    }
+
+    fn bits(&self) -> u64 {
+        self.0
+    }
+
+    fn from_bits_retain(bits: u64) -> Features {
+        Features(bits)
+    }
+}
+
+/// The features that the manual's page of a code below `ROWS` names, none for what each processor has.
+///
+/// Two forms of a row can need different ones: VBROADCASTSS and VBROADCASTSD from memory need AVX, which is told, and from a register AVX2.
+pub fn features_of(code: Code) -> Features
+    requires { code.0 < ROWS }
+    ensures { result.0 ≡ spec.features_of code.0 }
+{
+    Features(effect_at(code).features)
+}

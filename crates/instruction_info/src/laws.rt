@@ -1,0 +1,53 @@
+//! What holds of the whole table.
+
+ghost use Rattle.std.specs.Prelude.{◌≡◌, ◌<◌, ◌++◌, ◌∷◌, [], ℕ, List, slice_get, Some, IsTrue, false, true, bit_and, bit_or};
+ghost use Rattle.std.specs.List.{list_any};
+ghost use Rattle.x86_values.specs.declared.Bits.{Bits};
+ghost use Rattle.x86_values.specs.declared.Instr.{Instr};
+ghost use Rattle.row_types.specs.declared.Row.{Row};
+ghost use Rattle.opcode_rows.specs.declared.generated_spots.TheConstants.{VERSION1_ROWS};
+ghost use Rattle.opcode_rows.specs.Table.{table, name_of};
+ghost use Rattle.operand_info.specs.ByCode.{flow_of};
+ghost use Rattle.operand_info.specs.Names.{is_system_call};
+ghost use Rattle.instruction_info.specs.declared.registers.RegisterUse.{RegisterUse};
+ghost use Rattle.instruction_info.specs.Effects.{effect_of, memory_of, flags_read, flags_written, flags_cleared, flags_set, flags_undefined, flags_kept, features_of};
+ghost use Rattle.instruction_info.specs.Settings.{has_repeat};
+ghost use Rattle.instruction_info.specs.Registers.{all_registers};
+ghost use Rattle.instruction_info.specs.Laws.{tested_flags, is_calling, is_returning, is_system_return, is_push, is_pop, is_string_row, counter, added_features};
+
+/// Flags that are cleared or set are written, none is both written and undefined, and those that may be kept are one or the other.
+pub fn flags_are_told_apart()
+    ensures cleared { (code : ℕ) → bit_and (flags_cleared code) (flags_written code) ≡ flags_cleared code }
+    ensures set_ { (code : ℕ) → bit_and (flags_set code) (flags_written code) ≡ flags_set code }
+    ensures undefined { (code : ℕ) → bit_and (flags_undefined code) (flags_written code) ≡ 0 }
+    ensures kept { (code : ℕ) → bit_and (flags_kept code) (bit_or (flags_written code) (flags_undefined code)) ≡ flags_kept code }
+{}
+
+/// A conditional row, one of Jcc, SETcc, CMOVcc, FCMOVcc, LOOPcc, LOOP and JRCXZ, reads exactly the flags of its condition.
+pub fn conditions_are_read()
+    ensures { (code flags : ℕ) (row : Row) → slice_get table code ≡ Some row → tested_flags row ≡ Some flags → flags_read code ≡ flags }
+{}
+
+/// Each call but those of the system writes to the stack below its pointer.
+pub fn calls_push()
+    ensures { (code : ℕ) (row : Row) → slice_get table code ≡ Some row → IsTrue (is_calling (flow_of code))
+        → is_system_call (name_of code) ≡ false → IsTrue (list_any is_push (memory_of code)) }
+{}
+
+/// Each return but those from system calls reads the stack at its pointer.
+pub fn returns_pop()
+    ensures { (code : ℕ) (row : Row) → slice_get table code ≡ Some row → IsTrue (is_returning (flow_of code))
+        → is_system_return (name_of code) ≡ false → IsTrue (list_any is_pop (memory_of code)) }
+{}
+
+/// A repeat prefix repeats the string instructions and no other row, and behind one the counter is the last of all registers.
+pub fn strings_repeat()
+    ensures rows { (code : ℕ) (row : Row) → slice_get table code ≡ Some row → (effect_of code).repeats ≡ is_string_row row }
+    ensures counter { (bits : Bits) (i : Instr) (row : Row) → slice_get table i.code.0 ≡ Some row → IsTrue (is_string_row row)
+        → IsTrue (has_repeat i.rep) → (front : List RegisterUse) × (all_registers bits i ≡ front ++ counter bits i ∷ []) }
+{}
+
+/// No row of version 1 needs a feature of version 2: PCLMULQDQ, FMA, AES or F16C.
+pub fn features_have_their_versions()
+    ensures { (code : ℕ) → code < VERSION1_ROWS → bit_and (features_of code) added_features ≡ 0 }
+{}

@@ -1,0 +1,208 @@
+//! The registers that an instruction touches.
+
+ghost use Rattle.std.specs.Prelude.{◌≡◌, ◌<◌, ◌≤◌, ◌+◌, ◌++◌, IsTrue, length};
+ghost use Rattle.arrayvec.specs.ArrayVec.{array_vec_len};
+ghost use Rattle.opcode_rows.specs.Allowed.{is_well_formed};
+ghost use Rattle.instruction_info.specs.Registers as spec;
+
+use crate::effect::{AccessKind, ImpliedRegister, RegisterGroup, implied_registers};
+use crate::memory::{MemoryUse, all_memory};
+use crate::setting::{Setting, done, general_register, register_in, setting_of};
+use arrayvec::ArrayVec;
+use operand_info::laws::well_formed_codes_are_in_the_table;
+use operand_info::{Access, RegUse, used_registers};
+use x86_values::{Bits, Instr, Register, Segment};
+
+/// A register with what an instruction does to it.
+#[derive(Clone, Copy, PartialEq, Eq, Debug)]
+pub struct RegisterUse {
+    pub reg: Register,
+    pub access: AccessKind,
+}
+
+/// AL, which is read.
+impl Default for RegisterUse {
+    fn default() -> RegisterUse {
+        RegisterUse {
+            reg: Register::Low8(0),
+            access: AccessKind::Read,
+        }
+    }
+}
+
+/// At most 48 uses of registers.
+type Uses = ArrayVec<RegisterUse, 48>;
+
+/// The widest register that holds a register: RAX of AL, AH, AX and EAX, YMM1 of XMM1, RIP of EIP, and of any other the register itself. Uses of two
+/// registers touch one place where these are one.
+pub fn full_register(reg: Register) -> Register
+    ensures { result ≡ spec.full_register reg }
+{
+    match reg {
+        Register::Low8(n)
+        | Register::High8(n)
+        | Register::R16(n)
+        | Register::R32(n)
+        | Register::R64(n) => Register::R64(n),
+        Register::Xmm(n) | Register::Ymm(n) => Register::Ymm(n),
+        Register::Eip | Register::Rip => Register::Rip,
+        other => other,
+    }
+}
+
+/// The access that an operand has.
+fn operand_access(access: Access) -> AccessKind
+    ensures { result ≡ spec.operand_access access }
+{
+    match access {
+        Access::None | Access::Read => AccessKind::Read,
+        Access::Write => AccessKind::Write,
+        Access::ReadWrite => AccessKind::ReadWrite,
+    }
+}
+
+/// Appends registers that operands name.
+#[tactic(auto, unfolding(crate::specs::Registers::named_uses))]
+fn push_named(uses: &mut Uses, named: &[RegUse])
+    requires { array_vec_len uses.old + length named.now ≤ 48 }
+    ensures items { uses.new.items ≡ uses.old.items ++ spec.named_uses named.now }
+    ensures room { array_vec_len uses.new ≤ array_vec_len uses.old + length named.now }
+{
+    match named {
+        [] => {}
+        [one, rest @ ..] => {
+            uses.push(RegisterUse {
+                reg: one.reg,
+                access: operand_access(one.access),
+            });
+            push_named(uses, rest)
+        }
+    }
+}
+
+/// Whether a segment register counts in an address: in 64-bit mode FS and GS alone (Intel SDM volume 1, 3.4.2.1).
+fn counts(bits: Bits, segment: Segment) -> bool
+    ensures { result ≡ spec.counts bits segment }
+{
+    match (bits, segment) {
+        (Bits::B64, Segment::Fs | Segment::Gs) => true,
+        (Bits::B64, _) => false,
+        _ => true,
+    }
+}
+
+/// What is done to the segment register of memory to which this is done: it is read, under a condition where all of that is under one.
+fn segment_access(access: AccessKind) -> AccessKind
+    ensures { result ≡ spec.segment_access access }
+{
+    match access {
+        AccessKind::ConditionalRead
+        | AccessKind::ConditionalWrite
+        | AccessKind::ConditionalReadWrite => AccessKind::ConditionalRead,
+        _ => AccessKind::Read,
+    }
+}
+
+/// Appends the segment register of some memory, where it counts.
+fn push_segment(uses: &mut Uses, bits: Bits, memory: MemoryUse)
+    requires { array_vec_len uses.old < 48 }
+    ensures items { uses.new.items ≡ uses.old.items ++ spec.segment_use bits memory }
+    ensures room { array_vec_len uses.new ≤ array_vec_len uses.old + 1 }
+{
+    if counts(bits, memory.segment) {
+        uses.push(RegisterUse {
+            reg: Register::Seg(memory.segment),
+            access: segment_access(memory.access),
+        })
+    }
+}
+
+/// Appends the segment registers of some memory.
+#[tactic(auto, unfolding(crate::specs::Registers::segment_uses))]
+fn push_segments(uses: &mut Uses, bits: Bits, memory: &[MemoryUse])
+    requires { array_vec_len uses.old + length memory.now ≤ 48 }
+    ensures items { uses.new.items ≡ uses.old.items ++ spec.segment_uses bits memory.now }
+    ensures room { array_vec_len uses.new ≤ array_vec_len uses.old + length memory.now }
+{
+    match memory {
+        [] => {}
+        [m, rest @ ..] => {
+            push_segment(uses, bits, *m);
+            push_segments(uses, bits, rest)
+        }
+    }
+}
+
+/// Whether a mode has a register of a group: XMM8 and YMM8 on are those of 64-bit mode.
+fn is_there(bits: Bits, group: RegisterGroup, n: u8) -> bool
+    ensures { result ≡ spec.is_there bits group n }
+{
+    match (bits, group) {
+        (Bits::B64, _) => true,
+        (_, RegisterGroup::Xmm | RegisterGroup::Ymm) => n < 8,
+        _ => true,
+    }
+}
+
+/// Appends an implied register, where the mode has it.
+fn push_register(uses: &mut Uses, setting: Setting, one: ImpliedRegister)
+    requires { array_vec_len uses.old < 48 }
+    ensures items { uses.new.items ≡ uses.old.items ++ spec.implied_use setting one }
+    ensures room { array_vec_len uses.new ≤ array_vec_len uses.old + 1 }
+{
+    if is_there(setting.bits, one.group, one.number) {
+        uses.push(RegisterUse {
+            reg: register_in(setting, one.group, one.number),
+            access: done(setting, one.access),
+        })
+    }
+}
+
+/// Appends implied registers.
+#[tactic(auto, unfolding(crate::specs::Registers::implied_uses))]
+fn push_registers(uses: &mut Uses, setting: Setting, implied: &[ImpliedRegister])
+    requires { array_vec_len uses.old + length implied.now ≤ 48 }
+    ensures items { uses.new.items ≡ uses.old.items ++ spec.implied_uses setting implied.now }
+    ensures room { array_vec_len uses.new ≤ array_vec_len uses.old + length implied.now }
+{
+    match implied {
+        [] => {}
+        [one, rest @ ..] => {
+            push_register(uses, setting, *one);
+            push_registers(uses, setting, rest)
+        }
+    }
+}
+
+/// Appends the counter of a repeat prefix, CX, ECX or RCX by the address size, where one repeats: it is read, and written where it was not 0.
+fn push_counter(uses: &mut Uses, setting: Setting)
+    requires { array_vec_len uses.old < 48 }
+    ensures { uses.new.items ≡ uses.old.items ++ spec.counter_use setting }
+{
+    if setting.repeated {
+        uses.push(RegisterUse {
+            reg: general_register(setting.address, 1),
+            access: AccessKind::ReadConditionalWrite,
+        })
+    }
+}
+
+/// The registers that a well-formed instruction touches in a mode: those that its operands name, as `used_registers` has them; the segment registers of
+/// the memory that `all_memory` has, of which in 64-bit mode FS and GS alone count; those that are implied; and the counter of a repeat prefix. A register
+/// that is touched in two ways is there twice.
+#[tactic(auto, unfolding(crate::specs::Registers::all_registers))]
+pub fn all_registers(bits: Bits, instr: &Instr) -> ArrayVec<RegisterUse, 48>
+    requires { IsTrue (is_well_formed instr.now) }
+    ensures { result.items ≡ spec.all_registers bits instr.now }
+{
+    well_formed_codes_are_in_the_table();
+    let setting = setting_of(bits, instr);
+    let named = used_registers(instr);
+    let memory = all_memory(bits, instr);
+    let mut uses = ArrayVec::new();
+    push_named(&mut uses, named.as_slice());
+    push_segments(&mut uses, bits, memory.as_slice());
+    push_registers(&mut uses, setting, implied_registers(instr.code));
+    push_counter(&mut uses, setting);
+    uses
+}

@@ -1,0 +1,155 @@
+//! What the implied registers and addresses of an instruction go by.
+
+ghost use Rattle.std.specs.Prelude.{◌≡◌, ◌<◌, slice_get};
+ghost use Rattle.opcode_rows.specs.Table.{table};
+ghost use Rattle.instruction_info.specs.Settings as spec;
+
+use crate::effect::{AccessKind, RegisterGroup, repeats};
+use opcode_rows::{ROWS, row_of};
+use row_types::Size;
+use x86_values::{Bits, Code, Instr, Register, Rep, Segment};
+
+/// The mode, which is the stack size too, the operand and address sizes, the segment prefix that counts, and whether a repeat prefix repeats.
+#[derive(Clone, Copy)]
+pub struct Setting {
+    pub bits: Bits,
+    pub operand: Bits,
+    pub address: Bits,
+    pub seg: Option<Segment>,
+    pub repeated: bool,
+}
+
+/// The operand size that a row asks for; 32 where it asks for none.
+#[inline]
+fn operand_size(size: Size) -> Bits
+    ensures { result ≡ spec.size_named size }
+{
+    match size {
+        Size::O16 => Bits::B16,
+        Size::O64 | Size::W1 => Bits::B64,
+        _ => Bits::B32,
+    }
+}
+
+/// Whether there is a repeat prefix.
+#[inline]
+fn has_repeat(rep: Rep) -> bool
+    ensures { result ≡ spec.has_repeat rep }
+{
+    match rep {
+        Rep::None => false,
+        _ => true,
+    }
+}
+
+/// The operand size of the row of a code.
+#[inline]
+fn operand_of(code: Code) -> Bits
+    requires { code.0 < ROWS }
+    ensures { result ≡ spec.size_in (slice_get table code.0) }
+{
+    operand_size(row_of(code).size)
+}
+
+/// What an instruction goes by in a mode. Where it keeps no address size that is the mode's.
+#[tactic(auto, unfolding(crate::specs::Settings::setting_of))]
+pub fn setting_of(bits: Bits, instr: &Instr) -> Setting
+    requires { instr.now.code.0 < ROWS }
+    ensures { result ≡ spec.setting_of bits instr.now }
+{
+    Setting {
+        bits,
+        operand: operand_of(instr.code),
+        address: instr.asize.unwrap_or(bits),
+        seg: instr.seg,
+        repeated: has_repeat(instr.rep) && repeats(instr.code),
+    }
+}
+
+/// The general register of a size.
+#[inline]
+pub fn general_register(size: Bits, n: u8) -> Register
+    ensures { result ≡ spec.general_register size n }
+{
+    match size {
+        Bits::B16 => Register::R16(n),
+        Bits::B32 => Register::R32(n),
+        Bits::B64 => Register::R64(n),
+    }
+}
+
+/// The general register of 64 bits in 64-bit mode, and else of 32.
+#[inline]
+fn wide(bits: Bits, n: u8) -> Register
+    ensures { result ≡ spec.wide bits n }
+{
+    match bits {
+        Bits::B64 => Register::R64(n),
+        _ => Register::R32(n),
+    }
+}
+
+/// The segment register of a number, GS from 5 on.
+#[inline]
+fn segment_of(n: u8) -> Segment
+    ensures { result ≡ spec.segment_of n }
+{
+    match n {
+        0 => Segment::Es,
+        1 => Segment::Cs,
+        2 => Segment::Ss,
+        3 => Segment::Ds,
+        4 => Segment::Fs,
+        _ => Segment::Gs,
+    }
+}
+
+/// The register of a group by its number.
+#[tactic(auto, unfolding(crate::specs::Settings::register_in))]
+pub fn register_in(setting: Setting, group: RegisterGroup, n: u8) -> Register
+    ensures { result ≡ spec.register_in setting group n }
+{
+    match group {
+        RegisterGroup::Low8 => Register::Low8(n),
+        RegisterGroup::High8 => Register::High8(n),
+        RegisterGroup::R16 => Register::R16(n),
+        RegisterGroup::R32 => Register::R32(n),
+        RegisterGroup::R64 => Register::R64(n),
+        RegisterGroup::Operand => general_register(setting.operand, n),
+        RegisterGroup::Address => general_register(setting.address, n),
+        RegisterGroup::Stack => general_register(setting.bits, n),
+        RegisterGroup::Wide => wide(setting.bits, n),
+        RegisterGroup::Segment => Register::Seg(segment_of(n)),
+        RegisterGroup::Control => Register::Cr(n),
+        RegisterGroup::X87 => Register::St(n),
+        RegisterGroup::Xmm => Register::Xmm(n),
+        RegisterGroup::Ymm => Register::Ymm(n),
+    }
+}
+
+/// An access that happens under a condition.
+#[inline]
+pub fn conditional(access: AccessKind) -> AccessKind
+    ensures { result ≡ spec.conditional access }
+{
+    match access {
+        AccessKind::Read => AccessKind::ConditionalRead,
+        AccessKind::Write => AccessKind::ConditionalWrite,
+        AccessKind::ReadWrite | AccessKind::ReadConditionalWrite => {
+            AccessKind::ConditionalReadWrite
+        }
+        other => other,
+    }
+}
+
+/// What is done where a repeat prefix may have a counter of 0.
+#[inline]
+pub fn done(setting: Setting, access: AccessKind) -> AccessKind
+    ensures { result ≡ spec.done setting access }
+{
+    if setting.repeated {
+        conditional(access)
+    } else {
+        access
+    }
+}

@@ -1,0 +1,22 @@
+use crate::ports::status_of;
+use byte_ports::{CountSink, MemSink, MemSource};
+use listing_run::{Status, status_number};
+use std::str::from_utf8;
+use std::test::Fail;
+
+/// One byte past the limit: of 16,777,216 times `nop` all have a line but the last 14, 52 bytes each.
+#[test]
+fn a_byte_past_the_limit_is_told(rt: HostRuntime) -> Result<(), Fail> {
+    let mut code = Vec::new(rt.alloc());
+    code.resize(16_777_217, 0x90)?;
+    let mut source = MemSource::new(&code);
+    let mut out = CountSink::new();
+    let mut err = MemSink::new(rt.alloc(), 80)?;
+    let words = ["list", "64", "0", "intel"];
+    let status = status_of(rt.alloc(), &words, &mut source, &mut out, &mut err);
+    assert_eq!(rt; status, Status::TooLarge { limit: 16_777_216 });
+    assert_eq!(rt; status_number(&status), 6);
+    assert_eq!(rt; out.count(), 872_414_504);
+    assert_eq!(rt; from_utf8(err.bytes())?, "input over 16777216 bytes\n");
+    Ok(())
+}
