@@ -1,6 +1,6 @@
 //! Bytes of moved code and of slots, by the manual's notation of JMP, the conditional jumps and LOOP.
 
-use run_outcomes::outcome;
+use run_outcomes::run_command;
 use std::test::Fail;
 
 #[test]
@@ -54,7 +54,7 @@ fn moved_code_has_its_bytes(rt: HostRuntime) -> Result<(), Fail> {
         ("move 16 ffff 0", "90", "90"),
     ] {
         let input = hex::decode(rt.alloc(), digits)?;
-        let ran = outcome(rt.alloc(), command, &input)?;
+        let ran = run_command(rt.alloc(), command, &input)?;
         let out = hex::encode(rt.alloc(), &ran.out)?;
         let err = ran.err.len();
         assert_eq!(rt;
@@ -83,7 +83,7 @@ fn long_code_has_its_bytes(rt: HostRuntime) -> Result<(), Fail> {
         input.resize(input.len().saturating_add(nops), 0x90)?;
         let mut moved = hex::decode(rt.alloc(), front)?;
         moved.resize(moved.len().saturating_add(nops), 0x90)?;
-        let ran = outcome(rt.alloc(), command, &input)?;
+        let ran = run_command(rt.alloc(), command, &input)?;
         assert_eq!(rt; ran.number, 0, "{command}");
         assert_eq!(rt; ran.out.as_slice(), moved.as_slice(), "{command}");
     }
@@ -94,7 +94,7 @@ fn long_code_has_its_bytes(rt: HostRuntime) -> Result<(), Fail> {
         chain.extend_from_slice(&[0xeb, 0x80])?;
     }
     chain.extend_from_slice(&[0x90, 0xeb, 0xfd])?;
-    let ran = outcome(rt.alloc(), "move 64 1000 5000", &chain)?;
+    let ran = run_command(rt.alloc(), "move 64 1000 5000", &chain)?;
     assert_eq!(rt; (ran.number, ran.out.len()), (0, 243));
     assert!(rt; ran.out.ends_with(&[0x90, 0xeb, 0xfd]));
     Ok(())
@@ -157,7 +157,7 @@ fn each_instruction_has_its_slot(rt: HostRuntime) -> Result<(), Fail> {
         ("slots 16 0 FFF0 10", "", "cccccccccccccccccccccccccccccccc"),
     ] {
         let input = hex::decode(rt.alloc(), digits)?;
-        let ran = outcome(rt.alloc(), command, &input)?;
+        let ran = run_command(rt.alloc(), command, &input)?;
         let out = hex::encode(rt.alloc(), &ran.out)?;
         let err = ran.err.len();
         assert_eq!(rt;

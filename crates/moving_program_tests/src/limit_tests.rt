@@ -1,6 +1,6 @@
 //! What is refused, and that nothing is written then.
 
-use run_outcomes::outcome;
+use run_outcomes::run_command;
 use std::test::Fail;
 
 #[test]
@@ -90,7 +90,7 @@ fn code_that_is_refused_leaves_nothing(rt: HostRuntime) -> Result<(), Fail> {
         ),
     ] {
         let input = hex::decode(rt.alloc(), digits)?;
-        let ran = outcome(rt.alloc(), command, &input)?;
+        let ran = run_command(rt.alloc(), command, &input)?;
         assert_eq!(rt; ran.told()?, (number, "", line), "{command} {digits}");
     }
     Ok(())
@@ -124,7 +124,7 @@ fn inputs_have_their_limits(rt: HostRuntime) -> Result<(), Fail> {
         ),
     ] {
         let input = vec![in rt.alloc(); byte; count]?;
-        let ran = outcome(rt.alloc(), command, &input)?;
+        let ran = run_command(rt.alloc(), command, &input)?;
         assert_eq!(rt; ran.told()?, (number, "", line), "{command} {count}");
     }
     Ok(())

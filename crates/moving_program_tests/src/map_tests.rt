@@ -1,6 +1,6 @@
 //! Lines of the flow of control, of maps and of made code.
 
-use run_outcomes::outcome;
+use run_outcomes::run_command;
 use std::test::Fail;
 
 #[test]
@@ -138,7 +138,7 @@ fn maps_and_reached_offsets_have_their_lines(rt: HostRuntime) -> Result<(), Fail
         ),
     ] {
         let input = hex::decode(rt.alloc(), digits)?;
-        let ran = outcome(rt.alloc(), command, &input)?;
+        let ran = run_command(rt.alloc(), command, &input)?;
         assert_eq!(rt; ran.told()?, (0, lines, ""), "{command} {digits}");
     }
     Ok(())
@@ -155,7 +155,7 @@ fn made_code_has_its_numbers(rt: HostRuntime) -> Result<(), Fail> {
         ("sample 10000", most),
         ("sample 00010000", most),
     ] {
-        let ran = outcome(rt.alloc(), command, &[0x0f, 0x04])?;
+        let ran = run_command(rt.alloc(), command, &[0x0f, 0x04])?;
         assert_eq!(rt; ran.told()?, (0, lines, ""), "{command}");
     }
     Ok(())

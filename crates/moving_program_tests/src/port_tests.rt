@@ -1,6 +1,6 @@
 //! What a command leaves where a port fails at a call, or has too little room.
 
-use run_outcomes::{Ports, WHOLE, outcome_between};
+use run_outcomes::{Ports, WHOLE, run_between};
 use std::test::Fail;
 
 const ROOM: usize = 256;
@@ -43,7 +43,7 @@ fn a_fault_of_a_port_leaves_what_it_should(rt: HostRuntime) -> Result<(), Fail> 
             room,
             is_slow: false,
         };
-        let ran = outcome_between(rt.alloc(), command, &input, &ports)?;
+        let ran = run_between(rt.alloc(), command, &input, &ports)?;
         assert_eq!(rt; ran.told()?, (number, out, err), "{command} {digits}");
     }
     Ok(())
@@ -59,7 +59,7 @@ fn an_output_with_little_room_takes_a_part(rt: HostRuntime) -> Result<(), Fail> 
     ] {
         let input = hex::decode(rt.alloc(), digits)?;
         let ports = Ports { room, ..WHOLE };
-        let ran = outcome_between(rt.alloc(), command, &input, &ports)?;
+        let ran = run_between(rt.alloc(), command, &input, &ports)?;
         let taken = hex::encode(rt.alloc(), &ran.out)?;
         assert_eq!(rt; (ran.number, taken.as_str()), (4, out), "{command}");
         assert_eq!(rt; ran.err.as_slice(), b"write fault\n".as_slice());

@@ -90,7 +90,7 @@ fn outcome_of<S: Source + Drop>(
 }
 
 /// What a command, whose words are parted by single spaces, gives for an input between such ports. The only refusal is want of memory.
-pub fn outcome_between(
+pub fn run_between(
     alloc: Global,
     command: &str,
     input: &[u8],
@@ -105,6 +105,6 @@ pub fn outcome_between(
 }
 
 /// What a command, whose words are parted by single spaces, gives for an input. The only refusal is want of memory.
-pub fn outcome(alloc: Global, command: &str, input: &[u8]) -> Result<Outcome, MakeError> {
-    outcome_between(alloc, command, input, &WHOLE)
+pub fn run_command(alloc: Global, command: &str, input: &[u8]) -> Result<Outcome, MakeError> {
+    run_between(alloc, command, input, &WHOLE)
 }

@@ -1,6 +1,6 @@
 //! Intel texts, a line each, and the bytes that they stand for.
 
-use run_outcomes::outcome;
+use run_outcomes::run_command;
 use std::test::Fail;
 
 #[test]
@@ -30,7 +30,7 @@ fn lines_have_their_bytes(rt: HostRuntime) -> Result<(), Fail> {
         ("asm 32 0", "mov eax, dword [bx+si]\n", "678b00"),
         ("asm 64 0", "mov rax, qword [rel 0x7]\n", "488b0500000000"),
     ] {
-        let ran = outcome(rt.alloc(), command, lines.as_bytes())?;
+        let ran = run_command(rt.alloc(), command, lines.as_bytes())?;
         let shown = hex::encode(rt.alloc(), &ran.out)?;
         assert_eq!(rt; (ran.number, shown.as_str()), (0, digits), "{lines}");
         assert_eq!(rt; ran.err.as_slice(), b"".as_slice(), "{lines}");
@@ -56,7 +56,7 @@ fn the_first_line_that_is_no_text_is_told(rt: HostRuntime) -> Result<(), Fail> {
         ("NOP\n", 1),
     ] {
         let line = format!(in rt.alloc(); "bad text in line {at}\n")?;
-        let ran = outcome(rt.alloc(), "asm 64 0", lines.as_bytes())?;
+        let ran = run_command(rt.alloc(), "asm 64 0", lines.as_bytes())?;
         assert_eq!(rt; ran.told()?, (11, "", line.as_str()), "{lines}");
     }
     Ok(())

@@ -1,6 +1,6 @@
 //! Lines of listings, of what instructions do and of their bytes in another mode, by the manual's notation and as other disassemblers write them.
 
-use run_outcomes::outcome;
+use run_outcomes::run_command;
 use std::alloc::{AllocError, Global};
 use std::str::from_utf8;
 use std::test::Fail;
@@ -101,7 +101,7 @@ fn listings_have_their_texts(rt: HostRuntime) -> Result<(), Fail> {
         ),
     ] {
         let input = hex::decode(rt.alloc(), digits)?;
-        let ran = outcome(rt.alloc(), command, &input)?;
+        let ran = run_command(rt.alloc(), command, &input)?;
         let (number, out, err) = ran.told()?;
         let bits = command.split(' ').nth(1).unwrap_or("no mode");
         let found = texts_of(rt.alloc(), bits, out)?;
@@ -199,7 +199,7 @@ fn streams_have_their_lines(rt: HostRuntime) -> Result<(), Fail> {
         ),
     ] {
         let input = hex::decode(rt.alloc(), digits)?;
-        let ran = outcome(rt.alloc(), command, &input)?;
+        let ran = run_command(rt.alloc(), command, &input)?;
         assert_eq!(rt; ran.told()?, (0, lines, ""), "{command} {digits}");
     }
     Ok(())
@@ -220,7 +220,7 @@ fn bad_code_ends_a_stream(rt: HostRuntime) -> Result<(), Fail> {
         ),
     ] {
         let input = hex::decode(rt.alloc(), digits)?;
-        let ran = outcome(rt.alloc(), command, &input)?;
+        let ran = run_command(rt.alloc(), command, &input)?;
         assert_eq!(rt; ran.told()?, (2, lines, told), "{command} {digits}");
     }
     Ok(())
@@ -240,7 +240,7 @@ fn long_inputs_have_their_lines(rt: HostRuntime) -> Result<(), Fail> {
             input.push(0x06)?;
             input.push(0x90)?;
         }
-        let ran = outcome(rt.alloc(), command, &input)?;
+        let ran = run_command(rt.alloc(), command, &input)?;
         assert_eq!(rt; (ran.number, ran.out.len()), (number, len), "{command}");
     }
     Ok(())
@@ -248,7 +248,7 @@ fn long_inputs_have_their_lines(rt: HostRuntime) -> Result<(), Fail> {
 
 #[test]
 fn the_table_has_a_line_for_each_row(rt: HostRuntime) -> Result<(), Fail> {
-    let ran = outcome(rt.alloc(), "rows", &[0x90])?;
+    let ran = run_command(rt.alloc(), "rows", &[0x90])?;
     let text = from_utf8(&ran.out)?;
     let first = "0 00 /r add\n1 o16 01 /r add\n2 o32 01 /r add\n3 REX.W + 01 /r add\n4 02 /r add\n";
     assert!(rt; text.starts_with(first));

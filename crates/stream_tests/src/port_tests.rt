@@ -1,6 +1,6 @@
 //! What a stream leaves where a port fails at a call, or has too little room.
 
-use run_outcomes::{Ports, WHOLE, outcome_between};
+use run_outcomes::{Ports, WHOLE, run_between};
 use std::test::Fail;
 
 const ROOM: usize = 16_384;
@@ -62,7 +62,7 @@ fn a_fault_of_a_port_leaves_what_it_should(rt: HostRuntime) -> Result<(), Fail> 
             room,
             is_slow: false,
         };
-        let ran = outcome_between(rt.alloc(), command, &input, &ports)?;
+        let ran = run_between(rt.alloc(), command, &input, &ports)?;
         assert_eq!(rt; ran.told()?, (number, out, err), "{command} {digits}");
     }
     Ok(())
@@ -95,7 +95,7 @@ fn lines_are_written_before_more_is_read(rt: HostRuntime) -> Result<(), Fail> {
             is_slow: true,
             ..WHOLE
         };
-        let ran = outcome_between(rt.alloc(), command, &input, &ports)?;
+        let ran = run_between(rt.alloc(), command, &input, &ports)?;
         assert_eq!(rt; ran.told()?, (number, out, err), "{command} at {pull}");
     }
     Ok(())

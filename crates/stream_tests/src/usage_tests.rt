@@ -1,6 +1,6 @@
 //! Which word of a command line is wrong: the first that is not allowed, missing or too many.
 
-use run_outcomes::outcome;
+use run_outcomes::run_command;
 use std::test::Fail;
 
 #[test]
@@ -81,7 +81,7 @@ fn a_wrong_word_is_named(rt: HostRuntime) -> Result<(), Fail> {
         ("sample 1 1", 3),
     ] {
         let line = format!(in rt.alloc(); "usage: word {word}\n")?;
-        let ran = outcome(rt.alloc(), command, &[0x90])?;
+        let ran = run_command(rt.alloc(), command, &[0x90])?;
         assert_eq!(rt; ran.told()?, (1, "", line.as_str()), "{command}");
     }
     Ok(())
@@ -95,10 +95,10 @@ fn at_most_sixteen_blocks_are_taken(rt: HostRuntime) -> Result<(), Fail> {
     for _ in 0..48 {
         command.push_str(" 16")?;
     }
-    let ran = outcome(rt.alloc(), &command, &[])?;
+    let ran = run_command(rt.alloc(), &command, &[])?;
     assert_eq!(rt; ran.told()?, (0, "", ""));
     command.push_str(" 16")?;
-    let ran = outcome(rt.alloc(), &command, &[])?;
+    let ran = run_command(rt.alloc(), &command, &[])?;
     assert_eq!(rt; ran.told()?, (1, "", "usage: word 50\n"));
     Ok(())
 }
