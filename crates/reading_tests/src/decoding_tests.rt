@@ -80,15 +80,16 @@ fn a_decoder_stays_where_nothing_is_read(rt: HostRuntime) {
     // push rbp; mov rbp, rsp; a byte that is invalid; jmp +0; the first byte of a call
     let bytes = [0x55, 0x48, 0x89, 0xE5, 0x06, 0xEB, 0x00, 0xE8];
     let mut decoder = Decoder::<64>::new(&bytes, 0x40_1000);
-    for (len, position) in [(Ok(1), 1), (Ok(3), 4), (Err(Invalid), 4), (Err(Invalid), 4)] {
-        assert_eq!(rt; len_of(decoder.decode()), len);
-        assert_eq!(rt; decoder.position(), position);
-    }
+    assert_eq!(rt; len_of(decoder.decode()), Ok(1));
+    assert_eq!(rt; len_of(decoder.decode()), Ok(3));
+    assert_eq!(rt; decoder.position(), 4);
+    assert_eq!(rt; len_of(decoder.decode()), Err(Invalid));
+    assert_eq!(rt; decoder.position(), 4);
     decoder.skip(1);
-    for (len, position) in [(Ok(2), 7), (Err(TooShort), 7)] {
-        assert_eq!(rt; len_of(decoder.decode()), len);
-        assert_eq!(rt; decoder.position(), position);
-    }
+    assert_eq!(rt; len_of(decoder.decode()), Ok(2));
+    assert_eq!(rt; decoder.position(), 7);
+    assert_eq!(rt; len_of(decoder.decode()), Err(TooShort));
+    assert_eq!(rt; decoder.position(), 7);
     decoder.set_position(8);
     assert_eq!(rt; len_of(decoder.decode()), Err(TooShort));
     decoder.set_position(0);
