@@ -20,8 +20,19 @@ fn texts_of(alloc: Global, bits: &str, listing: &str) -> Result<String, AllocErr
     Ok(texts)
 }
 
+/// The status of a command, whose words are parted by single spaces, over bytes in hexadecimal, and the texts of its lines, behind which stands what it said.
+fn texts_told(alloc: Global, command: &str, digits: &str) -> Result<(u8, String), Fail> {
+    let input = hex::decode(alloc, digits)?;
+    let ran = run_command(alloc, command, &input)?;
+    let (number, out, err) = ran.told()?;
+    let bits = command.split(' ').nth(1).unwrap_or("no mode");
+    let mut found = texts_of(alloc, bits, out)?;
+    found.push_str(err)?;
+    Ok((number, found))
+}
+
 #[test]
-fn listings_have_their_texts(rt: HostRuntime) -> Result<(), Fail> {
+fn prefixes_have_their_texts(rt: HostRuntime) -> Result<(), Fail> {
     for (command, digits, texts) in [
         ("list 64 0 intel", "66", "db 0x66\n"),
         ("list 64 0 intel", "6690", "nop\n"),
@@ -33,6 +44,16 @@ fn listings_have_their_texts(rt: HostRuntime) -> Result<(), Fail> {
         ("list 64 0 intel", "f001c0", "db 0xf0\nadd eax, eax\n"),
         ("list 64 0 intel", "f088", "db 0xf0\ndb 0x88\n"),
         ("list 64 0 intel", "0f", "db 0xf\n"),
+    ] {
+        let (number, found) = texts_told(rt.alloc(), command, digits)?;
+        assert_eq!(rt; (number, found.as_str()), (0, texts), "{command} {digits}");
+    }
+    Ok(())
+}
+
+#[test]
+fn addresses_have_their_texts(rt: HostRuntime) -> Result<(), Fail> {
+    for (command, digits, texts) in [
         ("list 16 0 intel", "8b00", "mov ax, word [bx+si]\n"),
         ("list 16 0 intel", "678b00", "mov ax, word [eax]\n"),
         ("list 32 0 intel", "678b00", "mov eax, dword [bx+si]\n"),
@@ -55,6 +76,16 @@ fn listings_have_their_texts(rt: HostRuntime) -> Result<(), Fail> {
             "488b0500000000",
             "mov rax, qword ptr [1007h]\n",
         ),
+    ] {
+        let (number, found) = texts_told(rt.alloc(), command, digits)?;
+        assert_eq!(rt; (number, found.as_str()), (0, texts), "{command} {digits}");
+    }
+    Ok(())
+}
+
+#[test]
+fn sizes_have_their_texts(rt: HostRuntime) -> Result<(), Fail> {
+    for (command, digits, texts) in [
         ("list 64 0 intel", "0fb607", "movzx eax, byte [rdi]\n"),
         ("list 64 0 att", "0fb607", "movzbl (%rdi), %eax\n"),
         ("list 64 0 masm", "0fb607", "movzx eax, byte ptr [rdi]\n"),
@@ -67,6 +98,16 @@ fn listings_have_their_texts(rt: HostRuntime) -> Result<(), Fail> {
         ("list 32 0 intel", "9a100000000800", "callf 0x8:0x10\n"),
         ("list 32 0 att", "9a100000000800", "callf $0x8, $0x10\n"),
         ("list 32 0 masm", "9a100000000800", "callf 8h:10h\n"),
+    ] {
+        let (number, found) = texts_told(rt.alloc(), command, digits)?;
+        assert_eq!(rt; (number, found.as_str()), (0, texts), "{command} {digits}");
+    }
+    Ok(())
+}
+
+#[test]
+fn numbers_have_their_texts(rt: HostRuntime) -> Result<(), Fail> {
+    for (command, digits, texts) in [
         ("list 32 0 intel", "83c0ff", "add eax, 0xffffffff\n"),
         ("list 32 0 att", "83c0ff", "add $0xffffffff, %eax\n"),
         ("list 32 0 masm", "83c0ff", "add eax, 0ffffffffh\n"),
@@ -81,6 +122,16 @@ fn listings_have_their_texts(rt: HostRuntime) -> Result<(), Fail> {
             "48895c2410",
             "mov qword ptr [rsp+10h], rbx\n",
         ),
+    ] {
+        let (number, found) = texts_told(rt.alloc(), command, digits)?;
+        assert_eq!(rt; (number, found.as_str()), (0, texts), "{command} {digits}");
+    }
+    Ok(())
+}
+
+#[test]
+fn single_bytes_have_their_texts(rt: HostRuntime) -> Result<(), Fail> {
+    for (command, digits, texts) in [
         ("list 16 0 intel", "0f", "db 0xf\n"),
         ("list 16 0 att", "0f", ".byte 0xf\n"),
         ("list 16 0 masm", "0f", "db 0fh\n"),
@@ -100,16 +151,8 @@ fn listings_have_their_texts(rt: HostRuntime) -> Result<(), Fail> {
             "db 0x66\nnop\n",
         ),
     ] {
-        let input = hex::decode(rt.alloc(), digits)?;
-        let ran = run_command(rt.alloc(), command, &input)?;
-        let (number, out, err) = ran.told()?;
-        let bits = command.split(' ').nth(1).unwrap_or("no mode");
-        let found = texts_of(rt.alloc(), bits, out)?;
-        assert_eq!(rt;
-            (number, found.as_str(), err),
-            (0, texts, ""),
-            "{command} {digits}"
-        );
+        let (number, found) = texts_told(rt.alloc(), command, digits)?;
+        assert_eq!(rt; (number, found.as_str()), (0, texts), "{command} {digits}");
     }
     Ok(())
 }
