@@ -85,11 +85,11 @@ line "an instruction of move" "$(whole "$moved" move "$bits" 400000 10000000)" "
 
 # the library for C, where it was built: capi/build.sh FOLDER/capi
 if [ ! -f "$folder/capi/libfeddurzai.a" ]; then "$top/capi/build.sh" "$folder/capi" >&2; fi
-for work in decode text encode; do
+for work in decode text line encode; do
     flags=()
-    case $work in text) flags=(-DWITH_TEXT) ;; encode) flags=(-DWITH_ENCODE) ;; esac
+    case $work in text) flags=(-DWITH_TEXT) ;; line) flags=(-DWITH_LINE) ;; encode) flags=(-DWITH_ENCODE) ;; esac
     cc -O2 -o "$folder/c_$work" "$top/bench/peers/feddurzai.c" -I"$top/capi" "${flags[@]}" "$folder/capi/libfeddurzai.a"
     one=$(count "$folder/c_$work" "$part" "$bits" 1)
     two=$(count "$folder/c_$work" "$part" "$bits" 2)
-    line "C: $(case $work in decode) echo feddurzai_decode ;; *) echo "decode and $work" ;; esac)" $((two - one)) "$lines"
+    line "C: $(case $work in decode) echo feddurzai_decode ;; line) echo feddurzai_line ;; *) echo "decode and $work" ;; esac)" $((two - one)) "$lines"
 done

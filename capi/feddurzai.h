@@ -15,9 +15,9 @@
  * called in place of the library's, see to that. A caller without them (dlsym, another language) has to keep NULL out.
  *
  * Threads: no function keeps any state, so all may be called from any number of threads at once, and none takes a lock.
- * All but feddurzai_move, feddurzai_move_outside, feddurzai_flow and feddurzai_detour take no memory, and may be called
- * from a signal handler and from a hook of malloc; those four call malloc, realloc and free, and give back all that
- * they took.
+ * All but feddurzai_move, feddurzai_move_outside, feddurzai_move_blocks, feddurzai_flow, feddurzai_flow_from and
+ * feddurzai_detour take no memory, and may be called from a signal handler and from a hook of malloc; those six call
+ * malloc, realloc and free, and give back all that they took.
  * Nothing is owned by the library: every result is in memory of the caller's.
  *
  * C99 and C++. All numbers are in the byte order of the machine. Lengths and sizes are in bytes.
@@ -35,7 +35,7 @@ extern "C" {
 /* ---- versions ---------------------------------------------------------------------------------------------- */
 
 /* The number of this interface. It rises when a struct, a number or a function changes. */
-#define FEDDURZAI_INTERFACE 2
+#define FEDDURZAI_INTERFACE 3
 
 /* The interface of the library that is linked: to be compared with FEDDURZAI_INTERFACE. */
 uint32_t feddurzai_interface(void);
@@ -47,8 +47,8 @@ uint32_t feddurzai_version(void);
 
 /*
  * A function that returns an int32_t says 0 or more where it did what it was asked, and else one of these. After a
- * refusal nothing was written (feddurzai_move, feddurzai_move_outside and feddurzai_detour alone write their report
- * always, but for FEDDURZAI_NULL). Where several stand together, the first in the list of the function is told; before all of them
+ * refusal nothing was written (feddurzai_move, feddurzai_move_outside, feddurzai_move_blocks and feddurzai_detour alone
+ * write their report always, but for FEDDURZAI_NULL). Where several stand together, the first in the list of the function is told; before all of them
  * FEDDURZAI_NULL, which every function that takes a pointer may return, and no list repeats.
  */
 enum {
@@ -60,9 +60,9 @@ enum {
     FEDDURZAI_NO_ROOM = -6,         /* the room is too small */
     FEDDURZAI_INVALID = -7,         /* the bytes begin with no instruction, and more bytes would not change that */
     FEDDURZAI_TOO_SHORT = -8,       /* the bytes end before an instruction does */
-    FEDDURZAI_NO_NAME = -9,         /* no row has this name and number */
+    FEDDURZAI_NO_NAME = -9,         /* no row has this name and number; no feature has this bit */
     FEDDURZAI_NO_MEMORY = -10,      /* malloc had no memory */
-    FEDDURZAI_TOO_LARGE = -11,      /* there are more than FEDDURZAI_MAX_CODE bytes */
+    FEDDURZAI_TOO_LARGE = -11,      /* there are more than FEDDURZAI_MAX_CODE bytes (feddurzai_flow_from: _MAX_FLOW) */
     FEDDURZAI_TOO_MANY = -12,       /* there are more than FEDDURZAI_MAX_MOVED instructions */
     FEDDURZAI_WRAPS = -13,          /* the old or the new code passes the address space of the mode */
     FEDDURZAI_TOO_FAR = -14,        /* an instruction cannot reach its target from its new place */
@@ -73,7 +73,12 @@ enum {
     FEDDURZAI_BAD_START = -19,      /* start is not FEDDURZAI_START_MOVED or FEDDURZAI_START_HOOKED */
     FEDDURZAI_SMALL = -20,          /* the function has fewer bytes than the jump */
     FEDDURZAI_ENDS = -21,           /* the function ends in what is written over, and other code stands there */
-    FEDDURZAI_ENTERED = -22         /* control may go into what is written over, behind its first byte */
+    FEDDURZAI_ENTERED = -22,        /* control may go into what is written over, behind its first byte */
+    FEDDURZAI_BAD_BLOCK = -23,      /* a block is not inside the bytes */
+    FEDDURZAI_BAD_REGION = -24,     /* the numbers are no region, or its blocks do not stand inside it in order */
+    FEDDURZAI_EMPTY = -25,          /* a place for 0 bytes */
+    FEDDURZAI_FULL = -26,           /* no gap of the region is long enough */
+    FEDDURZAI_NOT_LIVE = -27        /* no live block starts at that address */
     /* at and below -256: the instruction has no encoding, see FEDDURZAI_CAUSE */
 };
 
@@ -153,6 +158,12 @@ enum {
 enum { FEDDURZAI_REPNE = 0xF2, FEDDURZAI_REP = 0xF3 };
 
 /*
+ * Leaves the width of a displacement to feddurzai_encode and feddurzai_encoded_len: the shortest that the address has. For
+ * every other call a struct with it is no instruction.
+ */
+#define FEDDURZAI_DISP_SHORTEST 255
+
+/*
  * An operand. The fields that its kind does not use are written as 0 and not read. The displacement of an address is
  * sign-extended and cut to the address size; at the base RIP or EIP it is the absolute address of the operand.
  */
@@ -166,7 +177,7 @@ typedef struct feddurzai_operand {
     uint8_t index_class;
     uint8_t index_number;
     uint8_t scale;          /* 1, 2, 4 or 8, and 1 without an index */
-    uint8_t disp_bits;      /* how much of the displacement is written: 0, 8, 16, 32 or 64 */
+    uint8_t disp_bits;      /* how much of the displacement is written: 0, 8, 16, 32 or 64; FEDDURZAI_DISP_SHORTEST */
 } feddurzai_operand;
 
 /*
@@ -174,7 +185,7 @@ typedef struct feddurzai_operand {
  *
  * To make one, set all bytes to 0, then code (feddurzai_code_of) and operands. A memory operand needs more than its
  * kind, base and index: `scale` 1 (also without an index), `disp_bits` where there is a displacement (8, or the 16 or
- * 32 of the address size; 0 says that none is written), and the instruction's `asize`: 64 in 64-bit mode, else the size
+ * 32 of the address size; 0 says that none is written; FEDDURZAI_DISP_SHORTEST leaves it to feddurzai_encode), and the instruction's `asize`: 64 in 64-bit mode, else the size
  * of the base and index. With the base RIP, `value` is the address of the operand and disp_bits 32.
  */
 typedef struct feddurzai_instr {
@@ -192,6 +203,33 @@ typedef struct feddurzai_instr {
  * Returns its length, 1 to 15, or FEDDURZAI_BAD_MODE, _INVALID, _TOO_SHORT; then *instr is unchanged.
  */
 int32_t feddurzai_decode(uint32_t bits, uint64_t ip, const uint8_t *bytes, size_t len, feddurzai_instr *instr);
+
+/* A part of an instruction's bytes: the offset of its first byte, and how many it has, 0 where it is not there. */
+typedef struct feddurzai_part {
+    uint8_t at;
+    uint8_t len;
+} feddurzai_part;
+
+/*
+ * Where the parts of an instruction stand in its bytes, in their order. A part that is not there has the offset at
+ * which it would stand.
+ */
+typedef struct feddurzai_byte_offsets {
+    feddurzai_part prefixes;        /* legacy prefixes and REX */
+    feddurzai_part lead;            /* VEX, or the escape bytes 0F, 0F 38 or 0F 3A */
+    feddurzai_part opcode;
+    feddurzai_part modrm;
+    feddurzai_part sib;
+    feddurzai_part displacement;    /* also the absolute address of a mov of the accumulator */
+    feddurzai_part immediates[4];   /* each operand's own bytes: an immediate, the offset of a near branch, a far pointer
+                                       (its offset, then the selector), or the byte that names a vector register */
+} feddurzai_byte_offsets;
+
+/*
+ * Tells where the parts of the instruction at the front of `len` bytes stand. Returns its length, 1 to 15, or
+ * FEDDURZAI_BAD_MODE, _INVALID, _TOO_SHORT; then *parts is unchanged.
+ */
+int32_t feddurzai_offsets(uint32_t bits, const uint8_t *bytes, size_t len, feddurzai_byte_offsets *parts);
 
 /* The codes of an item of feddurzai_decode_many at which no instruction stands: no row has them. */
 enum {
@@ -333,6 +371,104 @@ typedef struct feddurzai_about {
 
 /* Tells what an instruction does. Returns 0, or FEDDURZAI_BAD_INSTR, _BAD_FORM. */
 int32_t feddurzai_info(const feddurzai_instr *instr, feddurzai_about *about);
+
+/* ---- what an instruction touches --------------------------------------------------------------------------- */
+
+/*
+ * What is done to a register or to memory that is touched: the bits FEDDURZAI_READ and FEDDURZAI_WRITE, and these two,
+ * for what a condition, a mask, or a repeat prefix with a counter of 0 may prevent. One of 1, 2, 3, 4, 8, 12 and 9.
+ */
+enum { FEDDURZAI_MAY_READ = 4, FEDDURZAI_MAY_WRITE = 8 };
+
+/* Flags: those of EFLAGS at their bits there, and the condition bits of the x87 status word at theirs and 16 more. */
+enum {
+    FEDDURZAI_FLAG_CF = 0x1, FEDDURZAI_FLAG_PF = 0x4, FEDDURZAI_FLAG_AF = 0x10, FEDDURZAI_FLAG_ZF = 0x40,
+    FEDDURZAI_FLAG_SF = 0x80, FEDDURZAI_FLAG_TF = 0x100, FEDDURZAI_FLAG_IF = 0x200, FEDDURZAI_FLAG_DF = 0x400,
+    FEDDURZAI_FLAG_OF = 0x800, FEDDURZAI_FLAG_IOPL = 0x3000, FEDDURZAI_FLAG_NT = 0x4000, FEDDURZAI_FLAG_RF = 0x10000,
+    FEDDURZAI_FLAG_VM = 0x20000, FEDDURZAI_FLAG_AC = 0x40000, FEDDURZAI_FLAG_VIF = 0x80000,
+    FEDDURZAI_FLAG_VIP = 0x100000, FEDDURZAI_FLAG_ID = 0x200000,
+    FEDDURZAI_FLAG_C0 = 0x1000000, FEDDURZAI_FLAG_C1 = 0x2000000, FEDDURZAI_FLAG_C2 = 0x4000000,
+    FEDDURZAI_FLAG_C3 = 0x40000000
+};
+
+/* CPUID features, by their bits in a set: `features >> FEDDURZAI_FEATURE_AVX2 & 1`. */
+enum {
+    FEDDURZAI_FEATURE_FPU = 0, FEDDURZAI_FEATURE_TSC = 1, FEDDURZAI_FEATURE_MSR = 2, FEDDURZAI_FEATURE_CX8 = 3,
+    FEDDURZAI_FEATURE_SEP = 4, FEDDURZAI_FEATURE_CMOV = 5, FEDDURZAI_FEATURE_CLFSH = 6, FEDDURZAI_FEATURE_MMX = 7,
+    FEDDURZAI_FEATURE_FXSR = 8, FEDDURZAI_FEATURE_SSE = 9, FEDDURZAI_FEATURE_SSE2 = 10, FEDDURZAI_FEATURE_SSE3 = 11,
+    FEDDURZAI_FEATURE_PCLMULQDQ = 12, FEDDURZAI_FEATURE_MONITOR = 13, FEDDURZAI_FEATURE_SSSE3 = 14,
+    FEDDURZAI_FEATURE_FMA = 15, FEDDURZAI_FEATURE_CX16 = 16, FEDDURZAI_FEATURE_SSE41 = 17,
+    FEDDURZAI_FEATURE_SSE42 = 18, FEDDURZAI_FEATURE_MOVBE = 19, FEDDURZAI_FEATURE_POPCNT = 20,
+    FEDDURZAI_FEATURE_AES = 21, FEDDURZAI_FEATURE_XSAVE = 22, FEDDURZAI_FEATURE_AVX = 23, FEDDURZAI_FEATURE_F16C = 24,
+    FEDDURZAI_FEATURE_RDRAND = 25, FEDDURZAI_FEATURE_FSGSBASE = 26, FEDDURZAI_FEATURE_BMI1 = 27,
+    FEDDURZAI_FEATURE_AVX2 = 28, FEDDURZAI_FEATURE_BMI2 = 29, FEDDURZAI_FEATURE_RDSEED = 30,
+    FEDDURZAI_FEATURE_ADX = 31, FEDDURZAI_FEATURE_SMAP = 32, FEDDURZAI_FEATURE_CLFLUSHOPT = 33,
+    FEDDURZAI_FEATURE_CET_SS = 34, FEDDURZAI_FEATURE_CET_IBT = 35, FEDDURZAI_FEATURE_XSAVEOPT = 36,
+    FEDDURZAI_FEATURE_LZCNT = 37, FEDDURZAI_FEATURE_PREFETCHW = 38, FEDDURZAI_FEATURE_SYSCALL = 39,
+    FEDDURZAI_FEATURE_RDTSCP = 40
+};
+#define FEDDURZAI_FEATURES 41   /* how many there are */
+
+#define FEDDURZAI_MAX_MEMORY_USES 4
+#define FEDDURZAI_MAX_REGISTER_USES 32
+
+/*
+ * Memory that is touched. The registers count with the values that they have before the instruction; only POP to memory
+ * at rSP takes the value behind its own increment. With an index of class FEDDURZAI_LOW8 (XLAT) that register is added.
+ */
+typedef struct feddurzai_memory_use {
+    uint64_t displacement;  /* cut to the address size; with the base RIP or EIP the absolute address */
+    uint16_t size;          /* how many bytes; 0 where the processor's state decides (XSAVE, XRSTOR) */
+    uint8_t segment;        /* FEDDURZAI_ES .. FEDDURZAI_GS: the segment that counts, by a prefix or by default */
+    uint8_t base_class;     /* FEDDURZAI_NO_REG without a base */
+    uint8_t base_number;
+    uint8_t index_class;    /* FEDDURZAI_NO_REG without an index; a vector register in a gather */
+    uint8_t index_number;
+    uint8_t scale;          /* 1, 2, 4 or 8 */
+    uint8_t access;         /* FEDDURZAI_READ .. */
+} feddurzai_memory_use;
+
+/* What an instruction touches, named by its operands or implied. */
+typedef struct feddurzai_touched {
+    uint64_t features;          /* the CPUID features that it needs, all of them: bits by FEDDURZAI_FEATURE_FPU .. */
+    uint32_t flags_read;        /* flags that what it does depends on */
+    uint32_t flags_written;     /* flags that it gives a value; those in neither this nor flags_undefined stay */
+    uint32_t flags_cleared;     /* those of flags_written that become 0 */
+    uint32_t flags_set;         /* those of flags_written that become 1 */
+    uint32_t flags_undefined;   /* flags that the manual leaves undefined behind it; none of flags_written */
+    uint32_t flags_kept;        /* those of flags_written and flags_undefined that it may leave: by a count of 0 .. */
+    feddurzai_memory_use memory[FEDDURZAI_MAX_MEMORY_USES];     /* the memory operand, what is implied; then zeros */
+    feddurzai_use registers[FEDDURZAI_MAX_REGISTER_USES];       /* named, segments, implied, a counter; then zeros */
+    uint8_t memory_count;       /* how many entries of memory there are */
+    uint8_t register_count;     /* how many entries of registers */
+} feddurzai_touched;
+
+/*
+ * Tells what an instruction touches in a mode. Of registers those stand first that feddurzai_info names, then the
+ * segment registers that memory is read through (in 64-bit code FS and GS alone), then those that no operand names, as
+ * RSP of a push, and last the counter of a repeat prefix. A register may stand there twice. The size of an implied
+ * register or address goes by the operand size, the address size or the mode. Registers that the library has no name
+ * for are left out: MXCSR, the x87 control and tag words, descriptor tables, RIP as the place of control.
+ *
+ * Returns 0, or FEDDURZAI_BAD_MODE, _BAD_INSTR, _BAD_FORM; then *touched is unchanged.
+ */
+int32_t feddurzai_effects(uint32_t bits, const feddurzai_instr *instr, feddurzai_touched *touched);
+
+/*
+ * The widest register that holds the register of a class and a number: RAX of AL, AH, AX and EAX, YMM1 of XMM1, RIP of
+ * EIP, and of any other the register itself. Uses of two registers touch one place where these are one number.
+ *
+ * Returns its class and number together, 0 or more, or FEDDURZAI_NO_REGISTER.
+ */
+int32_t feddurzai_full_register(uint8_t reg_class, uint8_t reg_number);
+#define FEDDURZAI_FULL_CLASS(said) ((said) >> 8)
+#define FEDDURZAI_FULL_NUMBER(said) ((said) & 255)
+
+/*
+ * Writes the name of the CPUID feature of a bit, FEDDURZAI_FEATURE_FPU .., as `AVX2`, and a 0 behind it. A room of 11 is
+ * always enough. Returns the length of the name, or FEDDURZAI_NO_NAME, _NO_ROOM.
+ */
+int32_t feddurzai_feature_name(uint32_t bit, char *out, size_t room);
 
 /* ---- the table --------------------------------------------------------------------------------------------- */
 
@@ -544,6 +680,7 @@ enum {
 /* ---- code -------------------------------------------------------------------------------------------------- */
 
 #define FEDDURZAI_MAX_CODE 1048576u     /* bytes of code that are moved or followed together, at most */
+#define FEDDURZAI_MAX_FLOW 16777216u    /* bytes of code that are followed from several first offsets, at most */
 #define FEDDURZAI_MAX_MOVED 65536u      /* instructions that are moved together, at most */
 
 /* How the image of an instruction is made. */
@@ -606,6 +743,100 @@ int32_t feddurzai_move(uint32_t bits, uint64_t old_ip, const uint8_t *bytes, siz
 int32_t feddurzai_move_outside(uint32_t bits, uint64_t old_ip, const uint8_t *bytes, size_t len, uint64_t new_ip,
     uint8_t *out, size_t room, feddurzai_moved *map, size_t map_room, feddurzai_move_report *report);
 
+/* A block of code that is moved with others. */
+typedef struct feddurzai_block {
+    uint64_t old_ip;    /* the address of its first byte */
+    uint64_t new_ip;    /* the address that this byte moves to */
+    uint64_t offset;    /* where it stands in the bytes that are given */
+    uint64_t len;       /* how many bytes the block has */
+} feddurzai_block;
+
+/* Where a moved block is in `out`: from the end of the one before, or from the start. */
+typedef struct feddurzai_placed_block {
+    uint64_t end;           /* the offset in `out` behind its last byte */
+    uint64_t code_bytes;    /* how many bytes it has without its slots: control goes on behind it there */
+    uint64_t count;         /* how many instructions: so many entries of the map, behind those of the block before */
+} feddurzai_placed_block;
+
+/* The numbers of a moving of blocks. */
+typedef struct feddurzai_blocks_report {
+    uint64_t bytes;     /* how many bytes the moved blocks have together, with their slots */
+    uint64_t count;     /* how many instructions */
+    uint64_t block;     /* the number of the block that fails, from 0; where none is told, how many there are */
+    uint64_t at;        /* _INVALID, _TOO_SHORT: the offset of the byte in this block; _TOO_FAR: the number of the
+                           instruction in this block, from 0 */
+    uint64_t address;   /* _TOO_FAR: its target; _WRAPS: the end of the block, modulo 2 to the power of 64 */
+} feddurzai_blocks_report;
+
+/*
+ * Moves several blocks of code at once, each to an address of its own: the parts of a function (.text and .text.cold),
+ * or functions that call each other. What a branch or an operand at RIP or EIP reached it still reaches, or follows
+ * where that is the start of an instruction of any of the blocks: of the same block, else of the first that has one.
+ *
+ * The bytes of block b are the blocks[b].len ones from blocks[b].offset on of `len` bytes; so a whole section may be
+ * given, and blocks in it. The moved blocks are written to `out` one behind another, each with its slots, and belong to
+ * their new addresses one by one. `places` says where each ends there, and `map` has an entry for each instruction, block
+ * by block. What feddurzai_move says of a jump back and of a target that follows holds here of each block.
+ *
+ * The report says how many bytes and instructions there are, also where a room is too small: so a first call with no
+ * rooms tells how much is needed. There are as many places as blocks.
+ *
+ * Returns 0, or FEDDURZAI_BAD_MODE; _TOO_LARGE (more than FEDDURZAI_MAX_MOVED blocks, or FEDDURZAI_MAX_CODE bytes in all
+ * of them); of the first block that is not read, with its number, _BAD_BLOCK, _WRAPS (its old end), _INVALID or _TOO_SHORT;
+ * _TOO_MANY (the report's count says how many instructions); _WRAPS (a new end; the report's block is then the number of
+ * blocks); _TOO_FAR; _NO_ROOM. _NO_MEMORY may stand in place of those behind _TOO_LARGE.
+ */
+int32_t feddurzai_move_blocks(uint32_t bits, const uint8_t *bytes, size_t len, const feddurzai_block *blocks, size_t count,
+    uint8_t *out, size_t room, feddurzai_placed_block *places, size_t places_room, feddurzai_moved *map, size_t map_room,
+    feddurzai_blocks_report *report);
+
+/* ---- places for moved code --------------------------------------------------------------------------------- */
+
+/*
+ * A fixed range of addresses in which blocks of code find a place. It is three numbers, and beside them an array of the
+ * caller's with the live blocks, by address, in its first `count` elements; `{base, size, 0}` is one without a block. The
+ * size is 16 to 1048576 and a multiple of 16, the array has 1 to 65536 elements, and the region ends at 2 to the power of
+ * 64 or before. The calls look at all of this, and at whether each block has some bytes and stands inside the region, none
+ * over another: else they say FEDDURZAI_BAD_REGION, and change nothing.
+ */
+typedef struct feddurzai_region {
+    uint64_t base;      /* its first address */
+    uint64_t size;      /* how many bytes it has */
+    uint64_t count;     /* how many blocks are live */
+} feddurzai_region;
+
+/* A live block. */
+typedef struct feddurzai_live {
+    uint64_t place;     /* the address where it starts */
+    uint64_t len;       /* how many bytes it takes */
+} feddurzai_live;
+
+/*
+ * Hands out a place for `len` bytes, rounded up to a multiple of 16: the front of the first gap, by address, that is so
+ * long. *place gets its address, and the block becomes one of the live ones; `room` is how many elements `blocks` has.
+ *
+ * Returns 0, or FEDDURZAI_BAD_REGION, _EMPTY (`len` is 0), _NO_ROOM (all elements are live blocks), _FULL.
+ */
+int32_t feddurzai_region_reserve(feddurzai_region *region, feddurzai_live *blocks, size_t room, uint64_t len,
+    uint64_t *place);
+
+/*
+ * Ends the live block that starts at `place`; a later block may be placed there. Fill it with no bytes first where an
+ * image of the region is kept. Returns 0, or FEDDURZAI_BAD_REGION, _NOT_LIVE.
+ */
+int32_t feddurzai_region_release(feddurzai_region *region, feddurzai_live *blocks, size_t room, uint64_t place);
+
+/*
+ * Writes `len` bytes at the front of the live block that starts at `place`, and CC (int3) over the rest of the block. It
+ * writes to `image`, which has the bytes of the region from its base on: its memory, or a copy of it. `len` 0 clears the
+ * block. Nothing else of the image is written.
+ *
+ * Returns 0, or FEDDURZAI_BAD_REGION, _NO_ROOM (the image is shorter than the region), _NOT_LIVE, _NO_ROOM (the block has
+ * fewer bytes).
+ */
+int32_t feddurzai_region_fill(const feddurzai_region *region, const feddurzai_live *blocks, size_t room, uint64_t place,
+    const uint8_t *bytes, size_t len, uint8_t *image, size_t image_len);
+
 /*
  * Follows control from the first byte of `len` bytes of code, which has the address `base`. Writes the offsets of the
  * instructions that it reaches to `starts`, in ascending order, and beside each the offset at which its basic block
@@ -616,6 +847,27 @@ int32_t feddurzai_move_outside(uint32_t bits, uint64_t old_ip, const uint8_t *by
  */
 int32_t feddurzai_flow(uint32_t bits, uint64_t base, const uint8_t *bytes, size_t len, uint32_t *starts, size_t room,
     uint32_t *leaders, size_t leaders_room);
+
+/* The kinds of a start at which no instruction is read; of another it is the flow, FEDDURZAI_FLOW_NEXT .. */
+enum {
+    FEDDURZAI_KIND_TOO_SHORT = 0xfe,    /* the bytes end before the instruction does */
+    FEDDURZAI_KIND_INVALID = 0xff       /* no instruction begins there */
+};
+
+/*
+ * Follows control as feddurzai_flow does, from each of `count` first offsets: the starts of functions, say, or a .cold
+ * part besides the function it belongs to. Writes the reached offsets to `starts` and beside each its leader to
+ * `leaders`, as feddurzai_flow does, and to `kinds` what is read there: the flow of the instruction, or
+ * FEDDURZAI_KIND_INVALID or _TOO_SHORT, from where control goes nowhere. A first offset that is `len` or more adds
+ * nothing, nor does one that stands there again; their order does not matter. Every other one begins a basic block,
+ * whatever goes to it. From the offset 0 alone it writes what feddurzai_flow does.
+ *
+ * Returns how many are reached, at most `len`, or FEDDURZAI_BAD_MODE, _TOO_LARGE (above FEDDURZAI_MAX_FLOW), _NO_MEMORY,
+ * _NO_ROOM (some room is too small).
+ */
+int32_t feddurzai_flow_from(uint32_t bits, uint64_t base, const uint8_t *bytes, size_t len, const uint32_t *entries,
+    size_t count, uint32_t *starts, size_t room, uint32_t *leaders, size_t leaders_room, uint8_t *kinds,
+    size_t kinds_room);
 
 /* What becomes of a branch to the function's own start that is moved to the trampoline. */
 enum {
@@ -700,6 +952,11 @@ static inline int32_t feddurzai_checked_decode_many(uint32_t bits, uint64_t ip, 
     if (feddurzai_is_null(bytes, len) || feddurzai_is_null(instrs, room) || count == NULL)
         return FEDDURZAI_NULL;
     return feddurzai_decode_many(bits, ip, bytes, len, instrs, room, count);
+}
+
+static inline int32_t feddurzai_checked_offsets(uint32_t bits, const uint8_t *bytes, size_t len, feddurzai_byte_offsets *parts)
+{
+    return feddurzai_is_null(bytes, len) || parts == NULL ? FEDDURZAI_NULL : feddurzai_offsets(bits, bytes, len, parts);
 }
 
 /* here NULL for the struct stands for none */
@@ -790,6 +1047,20 @@ static inline int32_t feddurzai_checked_info(const feddurzai_instr *instr, feddu
     return feddurzai_info(instr, about);
 }
 
+static inline int32_t feddurzai_checked_effects(uint32_t bits, const feddurzai_instr *instr, feddurzai_touched *touched)
+{
+    if (instr == NULL || touched == NULL)
+        return FEDDURZAI_NULL;
+    return feddurzai_effects(bits, instr, touched);
+}
+
+static inline int32_t feddurzai_checked_feature_name(uint32_t bit, char *out, size_t room)
+{
+    if (feddurzai_is_null(out, room))
+        return FEDDURZAI_NULL;
+    return feddurzai_feature_name(bit, out, room);
+}
+
 static inline int32_t feddurzai_checked_name(uint32_t code, char *out, size_t room)
 {
     if (feddurzai_is_null(out, room))
@@ -831,12 +1102,61 @@ static inline int32_t feddurzai_checked_move_outside(uint32_t bits, uint64_t old
     return feddurzai_move_outside(bits, old_ip, bytes, len, new_ip, out, room, map, map_room, report);
 }
 
+static inline int32_t feddurzai_checked_move_blocks(uint32_t bits, const uint8_t *bytes, size_t len,
+    const feddurzai_block *blocks, size_t count, uint8_t *out, size_t room, feddurzai_placed_block *places,
+    size_t places_room, feddurzai_moved *map, size_t map_room, feddurzai_blocks_report *report)
+{
+    if (feddurzai_is_null(bytes, len) || feddurzai_is_null(blocks, count) || feddurzai_is_null(out, room))
+        return FEDDURZAI_NULL;
+    if (feddurzai_is_null(places, places_room) || feddurzai_is_null(map, map_room) || report == NULL)
+        return FEDDURZAI_NULL;
+    return feddurzai_move_blocks(bits, bytes, len, blocks, count, out, room, places, places_room, map, map_room, report);
+}
+
+static inline int32_t feddurzai_checked_region_reserve(feddurzai_region *region, feddurzai_live *blocks, size_t room,
+    uint64_t len, uint64_t *place)
+{
+    if (region == NULL || feddurzai_is_null(blocks, room) || place == NULL)
+        return FEDDURZAI_NULL;
+    return feddurzai_region_reserve(region, blocks, room, len, place);
+}
+
+static inline int32_t feddurzai_checked_region_release(feddurzai_region *region, feddurzai_live *blocks, size_t room,
+    uint64_t place)
+{
+    if (region == NULL || feddurzai_is_null(blocks, room))
+        return FEDDURZAI_NULL;
+    return feddurzai_region_release(region, blocks, room, place);
+}
+
+static inline int32_t feddurzai_checked_region_fill(const feddurzai_region *region, const feddurzai_live *blocks,
+    size_t room, uint64_t place, const uint8_t *bytes, size_t len, uint8_t *image, size_t image_len)
+{
+    if (region == NULL || feddurzai_is_null(blocks, room))
+        return FEDDURZAI_NULL;
+    if (feddurzai_is_null(bytes, len) || feddurzai_is_null(image, image_len))
+        return FEDDURZAI_NULL;
+    return feddurzai_region_fill(region, blocks, room, place, bytes, len, image, image_len);
+}
+
 static inline int32_t feddurzai_checked_flow(uint32_t bits, uint64_t base, const uint8_t *bytes, size_t len,
     uint32_t *starts, size_t room, uint32_t *leaders, size_t leaders_room)
 {
     if (feddurzai_is_null(bytes, len) || feddurzai_is_null(starts, room) || feddurzai_is_null(leaders, leaders_room))
         return FEDDURZAI_NULL;
     return feddurzai_flow(bits, base, bytes, len, starts, room, leaders, leaders_room);
+}
+
+static inline int32_t feddurzai_checked_flow_from(uint32_t bits, uint64_t base, const uint8_t *bytes, size_t len,
+    const uint32_t *entries, size_t count, uint32_t *starts, size_t room, uint32_t *leaders, size_t leaders_room,
+    uint8_t *kinds, size_t kinds_room)
+{
+    if (feddurzai_is_null(bytes, len) || feddurzai_is_null(entries, count) || feddurzai_is_null(starts, room))
+        return FEDDURZAI_NULL;
+    if (feddurzai_is_null(leaders, leaders_room) || feddurzai_is_null(kinds, kinds_room))
+        return FEDDURZAI_NULL;
+    return feddurzai_flow_from(bits, base, bytes, len, entries, count, starts, room, leaders, leaders_room, kinds,
+        kinds_room);
 }
 
 static inline int32_t feddurzai_checked_detour(uint32_t bits, uint64_t ip, const uint8_t *code, size_t len, uint64_t to,
@@ -852,6 +1172,7 @@ static inline int32_t feddurzai_checked_detour(uint32_t bits, uint64_t ip, const
 
 #define feddurzai_decode feddurzai_checked_decode
 #define feddurzai_decode_many feddurzai_checked_decode_many
+#define feddurzai_offsets feddurzai_checked_offsets
 #define feddurzai_line feddurzai_checked_line
 #define feddurzai_line_text feddurzai_checked_line_text
 #define feddurzai_text feddurzai_checked_text
@@ -863,12 +1184,19 @@ static inline int32_t feddurzai_checked_detour(uint32_t bits, uint64_t ip, const
 #define feddurzai_register_text feddurzai_checked_register_text
 #define feddurzai_segment_text feddurzai_checked_segment_text
 #define feddurzai_info feddurzai_checked_info
+#define feddurzai_effects feddurzai_checked_effects
+#define feddurzai_feature_name feddurzai_checked_feature_name
 #define feddurzai_name feddurzai_checked_name
 #define feddurzai_notation feddurzai_checked_notation
 #define feddurzai_code_of feddurzai_checked_code_of
 #define feddurzai_move feddurzai_checked_move
 #define feddurzai_move_outside feddurzai_checked_move_outside
+#define feddurzai_move_blocks feddurzai_checked_move_blocks
+#define feddurzai_region_reserve feddurzai_checked_region_reserve
+#define feddurzai_region_release feddurzai_checked_region_release
+#define feddurzai_region_fill feddurzai_checked_region_fill
 #define feddurzai_flow feddurzai_checked_flow
+#define feddurzai_flow_from feddurzai_checked_flow_from
 #define feddurzai_detour feddurzai_checked_detour
 
 #ifdef __cplusplus

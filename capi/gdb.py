@@ -7,6 +7,9 @@ START and LENGTH are expressions of GDB, as `main 40` or `$pc 0x80`; one with sp
 at START, and with no START that at $pc. /COUNT lists so many instructions from START, or from $pc. `=>` marks the instruction at $pc.
 
 The mode is that of the inferior's architecture; set it by `set feddurzai-bits 16`, 32 or 64, and back by 0.
+
+With `set feddurzai-effects on` the list says what the instruction that ran last read and wrote, with ` >` before it; with `all` what each
+instruction reads and writes; and with `off` neither.
 """
 
 import os
@@ -45,6 +48,54 @@ class Bits(gdb.Parameter):
 
 
 BITS = Bits()
+
+
+class EffectsShown(gdb.Parameter):
+    """Of which instructions feddurzai-list says what they read and write: off of none, on of the one that ran last, all of each.
+
+    Which one ran last is known where the last two stops were one instruction apart, as after stepi."""
+
+    set_doc = "Set of which instructions feddurzai-list says what they read and write."
+    show_doc = "Show of which instructions feddurzai-list says what they read and write."
+    WORDS = {"off": "none", "on": "the one that ran last", "all": "each"}
+
+    def __init__(self):
+        # GDB itself refuses any other value, and keeps the old one
+        super().__init__("feddurzai-effects", gdb.COMMAND_DATA, gdb.PARAM_ENUM, list(self.WORDS))
+        self.value = "off"
+
+    def get_set_string(self):
+        return ""
+
+    def get_show_string(self, value):
+        return f"feddurzai-list says of {self.WORDS[value]} what it reads and writes (feddurzai-effects is {value})."
+
+
+EFFECTS = EffectsShown()
+
+
+class Stops:
+    """Where a thread stood at the last two stops."""
+
+    def __init__(self):
+        self.before = self.now = None
+        gdb.events.stop.connect(self.take)
+        gdb.events.exited.connect(self.forget)
+
+    def take(self, event):
+        """Takes the place of a stop."""
+        try:
+            place = (gdb.selected_thread().ptid, gdb.newest_frame().pc())
+        except (gdb.error, AttributeError):
+            place = None
+        self.before, self.now = self.now, place
+
+    def forget(self, event):
+        """The program has ended."""
+        self.before = self.now = None
+
+
+STOPS = Stops()
 
 
 def frame_now():
@@ -174,10 +225,94 @@ def text_of(item, style):
     return item.text(style) + ("" if address is None else symbol_of(address))
 
 
+def last_run():
+    """The instruction that ran last, None where that is not known: the last two stops are one instruction apart."""
+    if STOPS.before is None or STOPS.now is None or STOPS.before[0] != STOPS.now[0]:
+        return None
+    before, now = STOPS.before[1], STOPS.now[1]
+    item = next(feddurzai.iterate(bits_now(), before, read_front(before, LONGEST)), None)
+    if item is None or item.kind is not feddurzai.ItemKind.INSTRUCTION:
+        return None
+    about, behind = item.info(), {item.address + item.len, before if item.rep else None}
+    if about.flow in (feddurzai.Flow.RETURN, feddurzai.Flow.INDIRECT_JUMP, feddurzai.Flow.INDIRECT_CALL):
+        return item
+    if about.flow in (feddurzai.Flow.JUMP, feddurzai.Flow.CALL):
+        behind = set()
+    return item if now in behind | {about.target} else None
+
+
+# the general registers, each with where it lies in the widest one
+PARTS = {
+    feddurzai.RegClass.LOW8: (0, 8),
+    feddurzai.RegClass.HIGH8: (8, 8),
+    feddurzai.RegClass.R16: (0, 16),
+    feddurzai.RegClass.R32: (0, 32),
+    feddurzai.RegClass.R64: (0, 64),
+}
+
+
+def value_of(register):
+    """`=0x5` of a general register as it is now, nothing of any other."""
+    if register.reg_class not in PARTS:
+        return ""
+    shift, bits = PARTS[register.reg_class]
+    widest = feddurzai.RegClass.R64 if register.reg_class is feddurzai.RegClass.R64 or bits_now() == 64 else feddurzai.RegClass.R32
+    try:
+        value = int(gdb.parse_and_eval(f"${feddurzai.Register(widest, register.full().number)}"))
+    except (gdb.error, ValueError):
+        return ""
+    return f"={value >> shift & (1 << bits) - 1:#x}"
+
+
+def touched_words(told, surely, maybe, values):
+    """The registers and the memory of which an access has one of two bits; `?` behind those that a condition may prevent."""
+    words = {}
+    for use in told.registers:
+        if use.access & (surely | maybe):
+            mark = "" if use.access & surely else "?"
+            words[str(use.register)] = mark + (value_of(use.register) if values else "")
+    found = [name + mark for name, mark in words.items()]
+    for memory in told.memory:
+        if memory.access & (surely | maybe):
+            size = f" {memory.size} bytes" if memory.size else ""
+            found.append(f"{memory}{size}{'' if memory.access & surely else '?'}")
+    return found
+
+
+def flag_words(flags, kept=feddurzai.Flags(0), value=None):
+    """The names of flags, with their values where EFLAGS is given; `?` behind those that may be kept."""
+    found = []
+    for name, flag in feddurzai.Flags.__members__.items():
+        if flags & flag:
+            known = value is not None and not name.startswith("C") or value is not None and name == "CF"
+            found.append(name + ("?" if kept & flag else "") + (f"={(value & flag) // (flag & -flag)}" if known else ""))
+    return found
+
+
+def effects_text(instr, ran):
+    """What an instruction reads and writes, in a line; of one that ran with what it left in general registers and in EFLAGS."""
+    told = instr.effects()
+    eflags = None
+    if ran:
+        try:
+            eflags = int(gdb.parse_and_eval("$eflags"))
+        except gdb.error:
+            pass
+    reads = touched_words(told, feddurzai.Touch.READ, feddurzai.Touch.MAY_READ, False) + flag_words(told.flags_read)
+    writes = touched_words(told, feddurzai.Touch.WRITE, feddurzai.Touch.MAY_WRITE, ran)
+    writes += flag_words(told.flags_written, told.flags_kept, eflags)
+    undefined = flag_words(told.flags_undefined, told.flags_kept)
+    parts = [f"{'read' if ran else 'reads'} {', '.join(reads)}"] if reads else []
+    parts += [f"{'wrote' if ran else 'writes'} {', '.join(writes)}"] if writes else []
+    parts += [f"undefined {', '.join(undefined)}"] if undefined else []
+    return "      " + ("; ".join(parts) or "touches nothing")
+
+
 class ListCommand(gdb.Command):
     """List code of the inferior: feddurzai-list [/COUNT] [START [LENGTH]] [intel|att|masm].
 
-    With no LENGTH it is the function at START, and with no START that at $pc. /COUNT lists so many instructions."""
+    With no LENGTH it is the function at START, and with no START that at $pc. /COUNT lists so many instructions. With `set feddurzai-effects
+    on` it says what the instruction that ran last read and wrote, and with `all` what each reads and writes."""
 
     def __init__(self):
         super().__init__("feddurzai-list", gdb.COMMAND_DATA, gdb.COMPLETE_EXPRESSION)
@@ -186,14 +321,29 @@ class ListCommand(gdb.Command):
         asked = Asked(words, "feddurzai-list [/COUNT] [START [LENGTH]] [intel|att|masm]", True)
         # an address of GDB's, which 16-bit code may have above its own 65,536
         pc, address = pc_now(), asked.start
+        ran = last_run() if EFFECTS.value == "on" else None
+        at = STOPS.before[1] if ran else None
         for n, item in enumerate(feddurzai.iterate(bits_now(), asked.start, asked.code)):
             if n == asked.count:
-                return
-            mark = "=>" if address == pc else "  "
-            print(f"{mark} {address:#x}{symbol_of(address)}: {item.bytes.hex():30} {text_of(item, asked.style)}")
+                break
+            self.tell(item, address, "=>" if address == pc else " >" if address == at else "  ", asked.style)
+            if address == at:
+                print(effects_text(item, True))
+                ran = None
+            elif EFFECTS.value == "all" and item.kind is feddurzai.ItemKind.INSTRUCTION:
+                print(effects_text(item, False))
             address += item.len
-        if asked.faults:
-            print(asked.fault())
+        else:
+            if asked.faults:
+                print(asked.fault())
+        # it stands elsewhere
+        if ran:
+            self.tell(ran, at, " >", asked.style)
+            print(effects_text(ran, True))
+
+    def tell(self, item, address, mark, style):
+        """A line of the listing."""
+        print(f"{mark} {address:#x}{symbol_of(address)}: {item.bytes.hex():30} {text_of(item, style)}")
 
 
 class FlowCommand(gdb.Command):
@@ -207,7 +357,7 @@ class FlowCommand(gdb.Command):
     def invoke(self, words, from_tty):
         asked = Asked(words, "feddurzai-flow [START [LENGTH]] [intel|att|masm]", False)
         bits, pc = bits_now(), pc_now()
-        for at, leader in feddurzai.flow(bits, asked.start, asked.code):
+        for at, leader, _ in feddurzai.flow(bits, asked.start, asked.code):
             address = asked.start + at
             item = next(feddurzai.iterate(bits, address, asked.code[at : at + LONGEST]))
             if at == leader:

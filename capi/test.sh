@@ -145,6 +145,19 @@ except gdb.error as error:
 end'
     in_gdb ' not 17: it stays 32$' 'set feddurzai-bits 32' "$wrong_bits" 'show feddurzai-bits'
     grep -q 'feddurzai lists is 32\.$' "$work/gdb.log" || die_with "$work/gdb.log" 'set feddurzai-bits 17'
+    # what the instruction that ran last did, and what each does
+    in_gdb '^ > 0x[0-9a-f]+ <called(\+[0-9]+)?>: ' 'set feddurzai-effects on' stepi 'feddurzai-list'
+    grep -Eq '^      (read|wrote|touches) ' "$work/gdb.log" || die_with "$work/gdb.log" 'set feddurzai-effects on'
+    in_gdb '^      reads rsp, .*ss:\[rsp\] 8 bytes; writes rsp$' 'set feddurzai-effects all' 'feddurzai-list called'
+    ! grep -q '^ > ' "$work/gdb.log" || die_with "$work/gdb.log" 'set feddurzai-effects all'
+    wrong_effects='python
+try:
+    gdb.execute("set feddurzai-effects maybe")
+except gdb.error as error:
+    print(error)
+end'
+    in_gdb 'Undefined item: "maybe"' 'set feddurzai-effects all' "$wrong_effects" 'show feddurzai-effects'
+    grep -q 'feddurzai-effects is all)\.$' "$work/gdb.log" || die_with "$work/gdb.log" 'set feddurzai-effects maybe'
     say "$backend: feddurzai-list and feddurzai-flow in a process that gdb stopped, with debug information and without"
 }
 
@@ -231,6 +244,12 @@ for backend in llvm rattle; do
     cmp "$work/python.intel" "$work/front.intel" || die "$backend: the listing in Python differs"
     python3 "$here/tests/calls.py" "$here/python" >"$work/python.log" 2>&1 || die_with "$work/python.log" "$backend: Python"
     say "$backend: examples/disassemble.py lists as the program does; $(cat "$work/python.log")"
+    # mov eax, edi; neg eax; cmovs eax, edi; ret: RAX is dead before the first, the flags before the second
+    printf '\211\370\367\330\017\110\307\303' >"$work/abs.bin"
+    python3 "$here/examples/liveness.py" "$work/abs.bin" 64 401000 | sed 's/  */ /g' >"$work/liveness.log"
+    printf '%s\n' '0000000000401000 mov eax, edi rax OF SF ZF AF PF CF' '0000000000401002 neg eax OF SF ZF AF PF CF' \
+        '0000000000401004 cmovs eax, edi' '0000000000401007 ret' | cmp - "$work/liveness.log" || die_with "$work/liveness.log" "$backend: liveness.py"
+    say "$backend: examples/liveness.py tells what is dead in a function of four instructions"
 
     tries_gdb "$here/gdb.py"
     tries_inspector

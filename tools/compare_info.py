@@ -3,8 +3,9 @@
 
     tools/compare_info.py --write LINES           the instructions of each row, mode and form, a line each
     tools/compare_info.py ANSWERS                 compares; ANSWERS is what the program info_lines writes of these lines
+    tools/compare_info.py --llvm ANSWERS          the same with LLVM, which has registers alone, EFLAGS among them
 
-Debian's package libzydis-dev has Zydis; a C compiler is needed too. Each difference is of one of the kinds that docs/instruction-info.md lists, or it
+Debian's packages libzydis-dev and llvm-14-dev have both; a compiler of C or C++ is needed too. Each difference is of one of the kinds that docs/instruction-info.md lists, or it
 is printed, and the exit status is 1. Nothing rests on this script.
 """
 import argparse
@@ -17,6 +18,7 @@ import tempfile
 
 sys.dont_write_bytecode = True
 from info.kinds import KINDS  # noqa: E402
+from info.llvm_kinds import KINDS as LLVM_KINDS  # noqa: E402
 from info.samples import samples  # noqa: E402
 from tables.effects import ACCESS, FEATURES, FLAGS  # noqa: E402
 from tables.entries import read_all  # noqa: E402
@@ -163,6 +165,53 @@ def words(bits):
     return next((short for short, name in ACCESS.items() if BITS[name] == bits), f'{bits}' if bits else '-')
 
 
+# ------------------------------------------------------------------ LLVM
+
+# registers that the library has no name for, or tells otherwise: the place of control, and the index that a SIB names as none
+LLVM_NAMELESS = re.compile(r'^(rip|eip|ip|eiz|riz|mxcsr|fpcw|fpsw|ssp|_)$')
+LLVM_SEGMENTS = {'es', 'cs', 'ss', 'ds', 'fs', 'gs'}
+# EFLAGS but DF, which is a register of its own there
+EFLAGS = {name for name in FLAGS if not name.startswith('C') or name == 'CF'} - {'DF'}
+
+
+def llvm_answer(text):
+    head, *uses = text.split()
+    answer = Answer()
+    answer.name = head
+    for use in uses:
+        how, reg = use.lower().split(':')
+        if not LLVM_NAMELESS.match(reg):
+            answer.touch(reg, {'r': 1, 'w': 2}[how])
+    return answer
+
+
+def llvm_differences(bits, ours, theirs):
+    """The registers of which two answers say something else: a condition is none to LLVM, and an address names its segment where a prefix does."""
+    mine = collections.Counter({reg: access & 3 | access >> 2 for reg, access in ours.registers.items()})
+    for name, flags in (('eflags', EFLAGS), ('df', {'DF'})):
+        read, written = ours.flags[0] & flags, (ours.flags[1] | ours.flags[4]) & flags
+        if read or written:
+            mine[name] = bool(read) + 2 * bool(written)
+    segments = {m[0] for m in ours.memory}
+    for reg in sorted(set(mine) | set(theirs.registers)):
+        a, b = mine[reg], theirs.registers[reg]
+        if reg in LLVM_SEGMENTS and reg in segments:
+            b |= 1 if a & 1 else 0
+            a |= b & 1
+        if a != b:
+            yield f'register {reg}', words(a), words(b)
+
+
+def llvm_lines(lines):
+    with tempfile.TemporaryDirectory() as folder:
+        program = os.path.join(folder, 'llvm_info')
+        flags = subprocess.run(['llvm-config-14', '--cppflags'], capture_output=True, text=True, check=True).stdout.split()
+        libraries = subprocess.run(['llvm-config-14', '--ldflags', '--libs', 'x86', 'mc', 'mcdisassembler'], capture_output=True, text=True, check=True).stdout.split()
+        source = os.path.join(HERE, 'info', 'llvm_info.cpp')
+        subprocess.run(['c++', '-std=c++17', '-O1', '-w', '-fno-rtti', *flags, source, '-o', program, *libraries], check=True)
+        return subprocess.run([program], input='\n'.join(lines) + '\n', capture_output=True, text=True, check=True).stdout.splitlines()
+
+
 def their_lines(lines):
     with tempfile.TemporaryDirectory() as folder:
         program = os.path.join(folder, 'zydis_info')
@@ -170,8 +219,8 @@ def their_lines(lines):
         return subprocess.run([program], input='\n'.join(lines) + '\n', capture_output=True, text=True, check=True).stdout.splitlines()
 
 
-def kind_of(row, aspect, ours, theirs):
-    for kind, test in KINDS:
+def kind_of(kinds, row, aspect, ours, theirs):
+    for kind, test in kinds:
         if test(row, aspect, ours, theirs):
             return kind
     return None
@@ -181,6 +230,7 @@ def main():
     parser = argparse.ArgumentParser(description=__doc__, formatter_class=argparse.RawDescriptionHelpFormatter)
     parser.add_argument('--write', metavar='LINES')
     parser.add_argument('--all', action='store_true', help='print the differences of each kind too')
+    parser.add_argument('--llvm', action='store_true', help='compare with LLVM')
     parser.add_argument('answers', nargs='?')
     args = parser.parse_args()
     table = table_of(read_all())
@@ -195,13 +245,17 @@ def main():
         return 0
     with open(args.answers) as file:
         answers = file.read().splitlines()
-    theirs = {' '.join(line.split()[:2]): line for line in their_lines([' '.join(line.split()[:2]) for line in answers])}
+    ask, read, compare, named = (llvm_lines, llvm_answer, llvm_differences, LLVM_KINDS) if args.llvm else (their_lines, their_answer, differences, KINDS)
+    theirs = {' '.join(line.split()[:2]): line for line in ask([' '.join(line.split()[:2]) for line in answers])}
     kinds, open_, agree, seen = collections.Counter(), collections.OrderedDict(), 0, set()
-    shown = collections.defaultdict(collections.OrderedDict)
+    shown, unread = collections.defaultdict(collections.OrderedDict), collections.Counter()
     for line in answers:
         key = ' '.join(line.split()[:2])
         row, text = rows[key], theirs[key]
         mine = line[len(key):]
+        if args.llvm and (text.endswith('invalid') or key.startswith('16 ') and row.kind == 'Legacy' and row.cls == 'P66'):
+            unread[row.name] += 1
+            continue
         if text.endswith('invalid') or mine.strip() == 'invalid':
             found = [('length', mine.strip()[:20], text[len(key):][:20])] if mine.strip() != 'invalid' or not text.endswith('invalid') else []
         else:
@@ -210,16 +264,18 @@ def main():
                 found = [('row', ours.name, row.name)]
             else:
                 seen.add(ours.code)
-                found = list(differences(int(key.split()[0]), ours, their_answer(text[len(key):])))
+                found = list(compare(int(key.split()[0]), ours, read(text[len(key):])))
         agree += not found
         for aspect, a, b in found:
-            kind = kind_of(row, aspect, str(a), str(b))
+            kind = kind_of(named, row, aspect, str(a), str(b))
             group = shown[kind] if kind else open_
             if kind:
                 kinds[kind] += 1
             group.setdefault((row.name, aspect, str(a), str(b)), []).append(key)
-    print(f'{len(answers)} instructions of {len(seen)} rows; {agree} agree in all')
-    for kind, _ in KINDS:
+    print(f'{len(answers) - sum(unread.values())} instructions of {len(seen)} rows; {agree} agree in all')
+    if unread:
+        print(f'{sum(unread.values())} are not read there: {" ".join(sorted(unread))}')
+    for kind, _ in named:
         print(f'  {kinds[kind]:6d} {kind}')
         if args.all:
             for (name, aspect, a, b), keys in shown[kind].items():

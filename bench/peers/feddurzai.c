@@ -1,9 +1,12 @@
-// The library for C: the instruction as a struct, or with its Intel text (-DWITH_TEXT), or encoded again (-DWITH_ENCODE).
+// The library for C: the instruction as a struct, or with its Intel text (-DWITH_TEXT), both by one call (-DWITH_LINE), or encoded again
+// (-DWITH_ENCODE).
 #include "measure.h"
 #include "feddurzai.h"
 
 #ifdef WITH_TEXT
 #define NAME "feddurzai in C, text"
+#elif defined WITH_LINE
+#define NAME "feddurzai in C, text by one call"
 #elif defined WITH_ENCODE
 #define NAME "feddurzai in C, encoded"
 #else
@@ -15,7 +18,12 @@ static void sweep(const uint8_t *bytes, size_t size, int bits, struct counts *co
     feddurzai_instr instr;
     size_t place = 0;
     while (place < size) {
+#ifdef WITH_LINE
+        char line[FEDDURZAI_MAX_TEXT];
+        int32_t len = feddurzai_line((uint32_t)bits, FEDDURZAI_INTEL, place, bytes + place, size - place, &instr, line, sizeof line);
+#else
         int32_t len = feddurzai_decode((uint32_t)bits, place, bytes + place, size - place, &instr);
+#endif
         if (len > 0) {
 #ifdef WITH_TEXT
             char text[FEDDURZAI_MAX_TEXT];

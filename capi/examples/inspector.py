@@ -277,7 +277,7 @@ class Block:
 def blocks_of(bits, start, code):
     """The basic blocks that control reaches from the first byte of some code, in ascending order."""
     by_leader = {}
-    for at, leader in feddurzai.flow(bits, start, code):
+    for at, leader, _ in feddurzai.flow(bits, start, code):
         item = next(feddurzai.iterate(bits, start + at, code[at : at + 15]))
         by_leader.setdefault(start + leader, []).append(item)
     return [Block(items, by_leader) for _, items in sorted(by_leader.items())]

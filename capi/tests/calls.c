@@ -48,6 +48,26 @@ static void check_layout(void)
     CHECK(offsetof(feddurzai_about, access), 20);
     CHECK(offsetof(feddurzai_about, use_count), 24);
     CHECK(offsetof(feddurzai_about, uses), 25);
+    CHECK(sizeof(feddurzai_memory_use), 24);
+    CHECK(offsetof(feddurzai_memory_use, size), 8);
+    CHECK(offsetof(feddurzai_memory_use, segment), 10);
+    CHECK(offsetof(feddurzai_memory_use, base_class), 11);
+    CHECK(offsetof(feddurzai_memory_use, base_number), 12);
+    CHECK(offsetof(feddurzai_memory_use, index_class), 13);
+    CHECK(offsetof(feddurzai_memory_use, index_number), 14);
+    CHECK(offsetof(feddurzai_memory_use, scale), 15);
+    CHECK(offsetof(feddurzai_memory_use, access), 16);
+    CHECK(sizeof(feddurzai_touched), 232);
+    CHECK(offsetof(feddurzai_touched, flags_read), 8);
+    CHECK(offsetof(feddurzai_touched, flags_written), 12);
+    CHECK(offsetof(feddurzai_touched, flags_cleared), 16);
+    CHECK(offsetof(feddurzai_touched, flags_set), 20);
+    CHECK(offsetof(feddurzai_touched, flags_undefined), 24);
+    CHECK(offsetof(feddurzai_touched, flags_kept), 28);
+    CHECK(offsetof(feddurzai_touched, memory), 32);
+    CHECK(offsetof(feddurzai_touched, registers), 128);
+    CHECK(offsetof(feddurzai_touched, memory_count), 224);
+    CHECK(offsetof(feddurzai_touched, register_count), 225);
     CHECK(sizeof(feddurzai_moved), 24);
     CHECK(offsetof(feddurzai_moved, new_ip), 8);
     CHECK(offsetof(feddurzai_moved, len), 16);
@@ -58,6 +78,23 @@ static void check_layout(void)
     CHECK(offsetof(feddurzai_move_report, address), 24);
     CHECK(offsetof(feddurzai_move_report, code_bytes), 32);
     CHECK(offsetof(feddurzai_move_report, slots_at), 40);
+    CHECK(sizeof(feddurzai_block), 32);
+    CHECK(offsetof(feddurzai_block, new_ip), 8);
+    CHECK(offsetof(feddurzai_block, offset), 16);
+    CHECK(offsetof(feddurzai_block, len), 24);
+    CHECK(sizeof(feddurzai_placed_block), 24);
+    CHECK(offsetof(feddurzai_placed_block, code_bytes), 8);
+    CHECK(offsetof(feddurzai_placed_block, count), 16);
+    CHECK(sizeof(feddurzai_blocks_report), 40);
+    CHECK(offsetof(feddurzai_blocks_report, count), 8);
+    CHECK(offsetof(feddurzai_blocks_report, block), 16);
+    CHECK(offsetof(feddurzai_blocks_report, at), 24);
+    CHECK(offsetof(feddurzai_blocks_report, address), 32);
+    CHECK(sizeof(feddurzai_region), 24);
+    CHECK(offsetof(feddurzai_region, size), 8);
+    CHECK(offsetof(feddurzai_region, count), 16);
+    CHECK(sizeof(feddurzai_live), 16);
+    CHECK(offsetof(feddurzai_live, len), 8);
     CHECK(sizeof(feddurzai_detour_report), 64);
     CHECK(offsetof(feddurzai_detour_report, bytes), 8);
     CHECK(offsetof(feddurzai_detour_report, jump_back), 16);
@@ -164,6 +201,178 @@ static void check_memory_sizes(void)
     }
 }
 
+/* a register that is touched, and what is done to it */
+#define CHECK_USE(use, a_class, a_number, an_access) \
+    CHECK((use).reg_class, a_class); \
+    CHECK((use).reg_number, a_number); \
+    CHECK((use).access, an_access)
+
+/* what an instruction touches, in each field: by the manual's pages */
+static void check_effects(void)
+{
+    static const uint8_t xadd[] = {0x64, 0xf0, 0x67, 0x45, 0x0f, 0xc1, 0x8c, 0xc8, 0x78, 0x56, 0x34, 0x12};
+    static const uint8_t push[] = {0x53};
+    static const uint8_t moves[] = {0xf3, 0xa4};
+    static const uint8_t xlat[] = {0xd7};
+    static const uint8_t shift[] = {0xd3, 0xe0};                        /* shl eax, cl */
+    static const uint8_t clear[] = {0xf8};                              /* clc */
+    static const uint8_t set[] = {0xf9};                                /* stc */
+    static const uint8_t compare[] = {0xdb, 0xf1};                      /* fcomi st0, st1 */
+    static const uint8_t from_register[] = {0xc4, 0xe2, 0x7d, 0x18, 0xc1};  /* vbroadcastss ymm0, xmm1 */
+    static const uint8_t from_memory[] = {0xc4, 0xe2, 0x7d, 0x18, 0x01};    /* vbroadcastss ymm0, dword [rcx] */
+    static const uint8_t save[] = {0x0f, 0xae, 0x64, 0xc8, 0x10};       /* xsave [rax+rcx*8+0x10] */
+    const uint64_t one = 1, status = FEDDURZAI_FLAG_OF | FEDDURZAI_FLAG_SF | FEDDURZAI_FLAG_ZF | FEDDURZAI_FLAG_AF
+        | FEDDURZAI_FLAG_PF | FEDDURZAI_FLAG_CF;
+    feddurzai_touched *t = malloc(sizeof *t);
+    char name[16];
+    uint32_t bit;
+    feddurzai_instr *i = instr_of(xadd, sizeof xadd, 64, 0);            /* lock xadd dword fs:[r8d+ecx*8+0x12345678], r9d */
+    memset(t, 0xaa, sizeof *t);
+    CHECK(feddurzai_effects(64, i, t), 0);
+    CHECK(t->features, 0);
+    CHECK(t->flags_read, 0);
+    CHECK(t->flags_written, status);
+    CHECK(t->flags_cleared | t->flags_set | t->flags_undefined | t->flags_kept, 0);
+    CHECK(t->memory_count, 1);
+    CHECK(t->memory[0].displacement, 0x12345678);
+    CHECK(t->memory[0].size, 4);
+    CHECK(t->memory[0].segment, FEDDURZAI_FS);
+    CHECK(t->memory[0].base_class, FEDDURZAI_R32);
+    CHECK(t->memory[0].base_number, 8);
+    CHECK(t->memory[0].index_class, FEDDURZAI_R32);
+    CHECK(t->memory[0].index_number, FEDDURZAI_CX);
+    CHECK(t->memory[0].scale, 8);
+    CHECK(t->memory[0].access, FEDDURZAI_READ_WRITE);
+    CHECK(t->memory[1].segment, 0);
+    CHECK(t->register_count, 4);
+    CHECK_USE(t->registers[0], FEDDURZAI_R32, 8, FEDDURZAI_READ);
+    CHECK_USE(t->registers[1], FEDDURZAI_R32, FEDDURZAI_CX, FEDDURZAI_READ);
+    CHECK_USE(t->registers[2], FEDDURZAI_R32, 9, FEDDURZAI_READ_WRITE);
+    CHECK_USE(t->registers[3], FEDDURZAI_SEG, 4, FEDDURZAI_READ);
+    CHECK_USE(t->registers[4], 0, 0, 0);
+    free(i);
+
+    /* a push by the mode: 8 bytes below RSP, 4 below ESP, which reads SS too */
+    i = instr_of(push, sizeof push, 64, 0);
+    CHECK(feddurzai_effects(64, i, t), 0);
+    CHECK(t->register_count, 2);
+    CHECK_USE(t->registers[0], FEDDURZAI_R64, FEDDURZAI_BX, FEDDURZAI_READ);
+    CHECK_USE(t->registers[1], FEDDURZAI_R64, FEDDURZAI_SP, FEDDURZAI_READ_WRITE);
+    CHECK(t->memory_count, 1);
+    CHECK(t->memory[0].displacement, (uint64_t)-8);
+    CHECK(t->memory[0].size, 8);
+    CHECK(t->memory[0].segment, FEDDURZAI_SS);
+    CHECK(t->memory[0].base_class << 8 | t->memory[0].base_number, FEDDURZAI_R64 << 8 | FEDDURZAI_SP);
+    CHECK(t->memory[0].index_class << 8 | t->memory[0].index_number, 0);
+    CHECK(t->memory[0].access, FEDDURZAI_WRITE);
+    free(i);
+    i = instr_of(push, sizeof push, 32, 0);
+    CHECK(feddurzai_effects(32, i, t), 0);
+    CHECK(t->register_count, 3);
+    CHECK_USE(t->registers[1], FEDDURZAI_SEG, 2, FEDDURZAI_READ);
+    CHECK_USE(t->registers[2], FEDDURZAI_R32, FEDDURZAI_SP, FEDDURZAI_READ_WRITE);
+    CHECK(t->memory[0].displacement, 0xfffffffc);
+    CHECK(t->memory[0].size, 4);
+    free(i);
+
+    /* rep movsb: all under the counter */
+    i = instr_of(moves, sizeof moves, 64, 0);
+    CHECK(feddurzai_effects(64, i, t), 0);
+    CHECK(t->flags_read, FEDDURZAI_FLAG_DF);
+    CHECK(t->flags_written, 0);
+    CHECK(t->register_count, 3);
+    CHECK_USE(t->registers[0], FEDDURZAI_R64, FEDDURZAI_SI, FEDDURZAI_MAY_READ | FEDDURZAI_MAY_WRITE);
+    CHECK_USE(t->registers[1], FEDDURZAI_R64, FEDDURZAI_DI, FEDDURZAI_MAY_READ | FEDDURZAI_MAY_WRITE);
+    CHECK_USE(t->registers[2], FEDDURZAI_R64, FEDDURZAI_CX, FEDDURZAI_READ | FEDDURZAI_MAY_WRITE);
+    CHECK(t->memory_count, 2);
+    CHECK(t->memory[0].access, FEDDURZAI_MAY_READ);
+    CHECK(t->memory[1].access, FEDDURZAI_MAY_WRITE);
+    CHECK(t->memory[1].segment, FEDDURZAI_ES);
+    free(i);
+    i = instr_of(xlat, sizeof xlat, 64, 0);
+    CHECK(feddurzai_effects(64, i, t), 0);
+    CHECK(t->memory[0].base_class << 8 | t->memory[0].base_number, FEDDURZAI_R64 << 8 | FEDDURZAI_BX);
+    CHECK(t->memory[0].index_class << 8 | t->memory[0].index_number, FEDDURZAI_LOW8 << 8 | FEDDURZAI_AX);
+    free(i);
+
+    /* flags: written, undefined and kept by a count of 0; cleared; set; those of the x87 unit */
+    i = instr_of(shift, sizeof shift, 64, 0);
+    CHECK(feddurzai_effects(64, i, t), 0);
+    CHECK(t->flags_undefined, FEDDURZAI_FLAG_OF | FEDDURZAI_FLAG_AF);
+    CHECK(t->flags_written, FEDDURZAI_FLAG_SF | FEDDURZAI_FLAG_ZF | FEDDURZAI_FLAG_PF | FEDDURZAI_FLAG_CF);
+    CHECK(t->flags_kept, status);
+    free(i);
+    i = instr_of(clear, sizeof clear, 64, 0);
+    CHECK(feddurzai_effects(64, i, t), 0);
+    CHECK(t->flags_cleared, FEDDURZAI_FLAG_CF);
+    CHECK(t->flags_set, 0);
+    free(i);
+    i = instr_of(set, sizeof set, 64, 0);
+    CHECK(feddurzai_effects(64, i, t), 0);
+    CHECK(t->flags_set, FEDDURZAI_FLAG_CF);
+    CHECK(t->flags_cleared, 0);
+    free(i);
+    i = instr_of(compare, sizeof compare, 64, 0);
+    CHECK(feddurzai_effects(64, i, t), 0);
+    CHECK(t->features, one << FEDDURZAI_FEATURE_FPU | one << FEDDURZAI_FEATURE_CMOV);
+    CHECK(t->flags_cleared & FEDDURZAI_FLAG_C1, FEDDURZAI_FLAG_C1);
+    free(i);
+
+    /* features go by the form */
+    i = instr_of(from_register, sizeof from_register, 64, 0);
+    CHECK(feddurzai_effects(64, i, t), 0);
+    CHECK(t->features, one << FEDDURZAI_FEATURE_AVX2);
+    free(i);
+    i = instr_of(from_memory, sizeof from_memory, 64, 0);
+    CHECK(feddurzai_effects(64, i, t), 0);
+    CHECK(t->features, one << FEDDURZAI_FEATURE_AVX);
+    free(i);
+
+    /* the most registers: base, index, EDX, EAX, 8 of the x87 unit and 16 vector registers */
+    i = instr_of(save, sizeof save, 64, 0);
+    CHECK(feddurzai_effects(64, i, t), 0);
+    CHECK(t->register_count, 28);
+    CHECK(t->memory[0].size, 0);
+    CHECK(t->registers[28].reg_class, 0);
+
+    /* refusals, of which the first that stands is told; the struct is unchanged then */
+    memset(t, 0xaa, sizeof *t);
+    CHECK(feddurzai_effects(17, i, t), FEDDURZAI_BAD_MODE);
+    i->lock = 2;
+    CHECK(feddurzai_effects(17, i, t), FEDDURZAI_BAD_MODE);
+    CHECK(feddurzai_effects(64, i, t), FEDDURZAI_BAD_INSTR);
+    i->lock = 0;
+    i->code = FEDDURZAI_CODES;
+    CHECK(feddurzai_effects(64, i, t), FEDDURZAI_BAD_FORM);
+    CHECK(is_untouched(t, sizeof *t), 1);
+    free(i);
+    free(t);
+
+    CHECK(feddurzai_full_register(FEDDURZAI_LOW8, 0), FEDDURZAI_R64 << 8);
+    CHECK(feddurzai_full_register(FEDDURZAI_HIGH8, 3), FEDDURZAI_R64 << 8 | FEDDURZAI_BX);
+    CHECK(feddurzai_full_register(FEDDURZAI_R16, 15), FEDDURZAI_R64 << 8 | 15);
+    CHECK(FEDDURZAI_FULL_CLASS(feddurzai_full_register(FEDDURZAI_XMM, 9)), FEDDURZAI_YMM);
+    CHECK(FEDDURZAI_FULL_NUMBER(feddurzai_full_register(FEDDURZAI_XMM, 9)), 9);
+    CHECK(feddurzai_full_register(FEDDURZAI_EIP, 0), FEDDURZAI_RIP << 8);
+    CHECK(feddurzai_full_register(FEDDURZAI_SEG, 5), FEDDURZAI_SEG << 8 | 5);
+    CHECK(feddurzai_full_register(FEDDURZAI_MM, 7), FEDDURZAI_MM << 8 | 7);
+    CHECK(feddurzai_full_register(FEDDURZAI_R64, 16), FEDDURZAI_NO_REGISTER);
+    CHECK(feddurzai_full_register(FEDDURZAI_NO_REG, 0), FEDDURZAI_NO_REGISTER);
+    CHECK(feddurzai_full_register(15, 0), FEDDURZAI_NO_REGISTER);
+
+    CHECK(feddurzai_feature_name(FEDDURZAI_FEATURE_FPU, name, sizeof name), 3);
+    CHECK(strcmp(name, "FPU"), 0);
+    CHECK(feddurzai_feature_name(FEDDURZAI_FEATURE_AVX2, name, sizeof name), 4);
+    CHECK(strcmp(name, "AVX2"), 0);
+    CHECK(feddurzai_feature_name(FEDDURZAI_FEATURE_RDTSCP, name, sizeof name), 6);
+    CHECK(strcmp(name, "RDTSCP"), 0);
+    CHECK(feddurzai_feature_name(FEDDURZAI_FEATURE_CLFLUSHOPT, name, 11), 10);
+    for (bit = 0; bit < FEDDURZAI_FEATURES; bit++)
+        CHECK(feddurzai_feature_name(bit, name, 11) > 1, 1);
+    CHECK(feddurzai_feature_name(FEDDURZAI_FEATURES, name, sizeof name), FEDDURZAI_NO_NAME);
+    CHECK(feddurzai_feature_name(0xffffffff, NULL, 0), FEDDURZAI_NO_NAME);
+}
+
 /* the operand that fails the condition: an address, its displacement and a target by the place where they stand */
 static void check_cause_operands(void)
 {
@@ -213,6 +422,35 @@ static void check_cause_operands(void)
 }
 
 /* an instruction read and shown in one call, with a struct and without */
+/* the parts of three instructions, counted by hand */
+static void check_offsets(void)
+{
+    /* mov [rsp+0x10], rbx; enter 0x10, 1; palignr xmm6, xmm1, 8 */
+    static const struct {
+        uint8_t bytes[6];
+        int32_t len;
+        feddurzai_byte_offsets parts;
+    } cases[] = {
+        {{0x48, 0x89, 0x5c, 0x24, 0x10}, 5, {{0, 1}, {1, 0}, {1, 1}, {2, 1}, {3, 1}, {4, 1}, {{5, 0}, {5, 0}, {5, 0}, {5, 0}}}},
+        {{0xc8, 0x10, 0x00, 0x01}, 4, {{0, 0}, {0, 0}, {0, 1}, {1, 0}, {1, 0}, {1, 0}, {{1, 2}, {3, 1}, {4, 0}, {4, 0}}}},
+        {{0x66, 0x0f, 0x3a, 0x0f, 0xf1, 0x08}, 6, {{0, 1}, {1, 2}, {3, 1}, {4, 1}, {5, 0}, {5, 0}, {{5, 0}, {5, 0}, {5, 1}, {6, 0}}}},
+    };
+    static const uint8_t bad[] = {0x06};
+    feddurzai_byte_offsets *parts = malloc(sizeof *parts);
+    size_t k;
+    memset(parts, 0xaa, sizeof *parts);
+    CHECK(feddurzai_offsets(17, bad, 1, parts), FEDDURZAI_BAD_MODE);
+    CHECK(feddurzai_offsets(64, bad, 1, parts), FEDDURZAI_INVALID);
+    CHECK(feddurzai_offsets(64, cases[0].bytes, 4, parts), FEDDURZAI_TOO_SHORT);
+    CHECK(feddurzai_offsets(64, NULL, 0, parts), FEDDURZAI_TOO_SHORT);
+    CHECK(is_untouched(parts, sizeof *parts), 1);
+    for (k = 0; k < sizeof cases / sizeof *cases; k++) {
+        CHECK(feddurzai_offsets(64, cases[k].bytes, sizeof cases[k].bytes, parts), cases[k].len);
+        CHECK(memcmp(parts, &cases[k].parts, sizeof *parts), 0);
+    }
+    free(parts);
+}
+
 static void check_lines(void)
 {
     static const uint8_t mov[] = {0x48, 0x89, 0x5c, 0x24, 0x10, 0x90};
@@ -423,6 +661,128 @@ static void check_jumps(void)
     }
 }
 
+/* a width of a displacement that is left to the library: none, 8 or 32 bits, and the least that a base of RBP has */
+static void check_shortest_displacements(void)
+{
+    static const struct { uint8_t base_class, base; uint64_t disp; const char *bytes; int len; } rows[] = {
+        {FEDDURZAI_R64, FEDDURZAI_BX, 0, "\x48\x8b\x03", 3},
+        {FEDDURZAI_R64, FEDDURZAI_BP, 0, "\x48\x8b\x45\x00", 4},
+        {FEDDURZAI_R64, FEDDURZAI_BX, 0x7f, "\x48\x8b\x43\x7f", 4},
+        {FEDDURZAI_R64, FEDDURZAI_BX, 0x80, "\x48\x8b\x83\x80\x00\x00\x00", 7},
+        {FEDDURZAI_R64, FEDDURZAI_BX, (uint64_t)-128, "\x48\x8b\x43\x80", 4},
+        {FEDDURZAI_NO_REG, 0, 0x10, "\x48\x8b\x04\x25\x10\x00\x00\x00", 8},
+        {FEDDURZAI_RIP, 0, 0x1017, "\x48\x8b\x05\x10\x00\x00\x00", 7},
+    };
+    feddurzai_instr mov;
+    uint8_t out[FEDDURZAI_MAX_LEN];
+    char text[FEDDURZAI_MAX_TEXT];
+    size_t i;
+    memset(&mov, 0, sizeof mov);
+    mov.code = FEDDURZAI_CODE_MOV_R64_RM64;
+    mov.asize = 64;
+    mov.ops[0].kind = FEDDURZAI_REGISTER;
+    mov.ops[0].reg_class = FEDDURZAI_R64;
+    mov.ops[1].kind = FEDDURZAI_MEMORY;
+    mov.ops[1].scale = 1;
+    mov.ops[1].disp_bits = FEDDURZAI_DISP_SHORTEST;
+    for (i = 0; i < sizeof rows / sizeof rows[0]; i++) {
+        mov.ops[1].reg_class = rows[i].base_class;
+        mov.ops[1].reg_number = rows[i].base;
+        mov.ops[1].value = rows[i].disp;
+        CHECK(feddurzai_encode(64, 0x1000, &mov, out, sizeof out), rows[i].len);
+        CHECK(memcmp(out, rows[i].bytes, (size_t)rows[i].len), 0);
+        CHECK(feddurzai_encoded_len(64, 0x1000, &mov), rows[i].len);
+    }
+    mov.ops[1].reg_class = FEDDURZAI_R64;
+    mov.ops[1].value = (uint64_t)1 << 32;
+    CHECK(FEDDURZAI_CAUSE(feddurzai_encode(64, 0x1000, &mov, out, sizeof out)), FEDDURZAI_CAUSE_DISPLACEMENT);
+    CHECK(FEDDURZAI_CAUSE_OPERAND(feddurzai_encode(64, 0x1000, &mov, out, sizeof out)), 1);
+    CHECK(feddurzai_text(64, FEDDURZAI_INTEL, &mov, text, sizeof text), FEDDURZAI_BAD_INSTR);
+}
+
+/* a function and its cold part, which jump to each other: both are moved at once, and still do */
+static void check_blocks(void)
+{
+    /* 1000: jne 1100; ret   1100: jmp 1006, behind bytes that belong to neither */
+    static const uint8_t bytes[] = {0x0f, 0x85, 0xfa, 0x00, 0x00, 0x00, 0xc3, 0xcc, 0xcc, 0xe9, 0x01, 0xff, 0xff, 0xff};
+    static const feddurzai_block blocks[] = {{0x1000, 0x2000, 0, 7}, {0x1100, 0x2020, 9, 5}};
+    /* 2000: jne 2020; ret   2020: jmp 2006: what is near stays near */
+    static const uint8_t want[] = {0x0f, 0x85, 0x1a, 0x00, 0x00, 0x00, 0xc3, 0xe9, 0xe1, 0xff, 0xff, 0xff};
+    feddurzai_block bad[2];
+    feddurzai_placed_block places[2];
+    feddurzai_moved map[3];
+    feddurzai_blocks_report report;
+    uint8_t out[16];
+    CHECK(feddurzai_move_blocks(64, bytes, sizeof bytes, blocks, 2, out, sizeof out, places, 2, map, 3, &report), 0);
+    CHECK(report.bytes == 12 && report.count == 3 && report.block == 2, 1);
+    CHECK(memcmp(out, want, 12), 0);
+    CHECK(places[0].end == 7 && places[0].code_bytes == 7 && places[0].count == 2, 1);
+    CHECK(places[1].end == 12 && places[1].code_bytes == 5 && places[1].count == 1, 1);
+    CHECK(map[2].old_ip == 0x1100 && map[2].new_ip == 0x2020 && map[2].len == 5 && map[2].form == FEDDURZAI_NEAR_FORM, 1);
+
+    /* the second block is not inside the bytes, passes the address space, or holds what is no instruction */
+    memcpy(bad, blocks, sizeof bad);
+    bad[1].offset = 10;
+    CHECK(feddurzai_move_blocks(64, bytes, sizeof bytes, bad, 2, out, sizeof out, places, 2, map, 3, &report), FEDDURZAI_BAD_BLOCK);
+    CHECK(report.block, 1);
+    bad[1].offset = UINT64_MAX;
+    CHECK(feddurzai_move_blocks(64, bytes, sizeof bytes, bad, 2, out, sizeof out, places, 2, map, 3, &report), FEDDURZAI_BAD_BLOCK);
+    bad[1] = blocks[1];
+    bad[1].old_ip = UINT64_MAX - 3;
+    CHECK(feddurzai_move_blocks(64, bytes, sizeof bytes, bad, 2, out, sizeof out, places, 2, map, 3, &report), FEDDURZAI_WRAPS);
+    CHECK(report.block == 1 && report.address == 1, 1);
+    bad[1] = blocks[1];
+    bad[1].len = 4;
+    CHECK(feddurzai_move_blocks(64, bytes, sizeof bytes, bad, 2, out, sizeof out, places, 2, map, 3, &report), FEDDURZAI_TOO_SHORT);
+    CHECK(report.block == 1 && report.at == 0, 1);
+    bad[1].new_ip = UINT64_MAX - 1;
+    bad[1].len = 5;
+    CHECK(feddurzai_move_blocks(64, bytes, sizeof bytes, bad, 2, out, sizeof out, places, 2, map, 3, &report), FEDDURZAI_WRAPS);
+    CHECK(report.block, 2);
+    bad[1].len = FEDDURZAI_MAX_CODE;
+    CHECK(feddurzai_move_blocks(64, bytes, sizeof bytes, bad, 2, out, sizeof out, places, 2, map, 3, &report), FEDDURZAI_TOO_LARGE);
+}
+
+/* places in a region: the first gap that is long enough, and each again once it is released */
+static void check_region(void)
+{
+    feddurzai_region region = {0x10000, 64, 0};
+    feddurzai_live live[3];
+    uint8_t image[64];
+    uint64_t place = 7;
+    memset(image, 0xcc, sizeof image);
+    CHECK(feddurzai_region_reserve(&region, live, 3, 0, &place), FEDDURZAI_EMPTY);
+    CHECK(feddurzai_region_reserve(&region, live, 3, 65, &place), FEDDURZAI_FULL);
+    CHECK(place == 7 && region.count == 0, 1);
+    CHECK(feddurzai_region_reserve(&region, live, 3, 17, &place), 0);
+    CHECK(place == 0x10000 && live[0].place == 0x10000 && live[0].len == 32, 1);
+    CHECK(feddurzai_region_reserve(&region, live, 3, 16, &place), 0);
+    CHECK(place == 0x10020 && region.count == 2 && live[1].len == 16, 1);
+    CHECK(feddurzai_region_fill(&region, live, 3, 0x10020, (const uint8_t *)"\x90\xc3", 2, image, sizeof image), 0);
+    CHECK(image[31] == 0xcc && image[32] == 0x90 && image[33] == 0xc3 && image[34] == 0xcc, 1);
+    CHECK(feddurzai_region_fill(&region, live, 3, 0x10020, image, 17, image + 47, 17), FEDDURZAI_NO_ROOM);
+    CHECK(feddurzai_region_fill(&region, live, 3, 0x10010, image, 1, image, sizeof image), FEDDURZAI_NOT_LIVE);
+    CHECK(feddurzai_region_release(&region, live, 3, 0x10010), FEDDURZAI_NOT_LIVE);
+    CHECK(feddurzai_region_release(&region, live, 3, 0x10000), 0);
+    CHECK(region.count == 1 && live[0].place == 0x10020, 1);
+    CHECK(feddurzai_region_reserve(&region, live, 3, 1, &place), 0);
+    CHECK(place == 0x10000 && live[0].len == 16 && live[1].place == 0x10020, 1);
+    CHECK(feddurzai_region_reserve(&region, live, 3, 1, &place), 0);
+    CHECK(place == 0x10010 && live[1].place == 0x10010 && region.count == 3, 1);
+    CHECK(feddurzai_region_reserve(&region, live, 3, 1, &place), FEDDURZAI_NO_ROOM);
+    CHECK(feddurzai_region_fill(&region, live, 3, 0x10020, NULL, 0, image, sizeof image), 0);
+    CHECK(image[32] == 0xcc && image[33] == 0xcc, 1);
+    /* two that stand over one another, a size that is none, and an end past the address space */
+    live[1].place = 0x1000f;
+    CHECK(feddurzai_region_release(&region, live, 3, 0x10000), FEDDURZAI_BAD_REGION);
+    live[1].place = 0x10010;
+    region.size = 40;
+    CHECK(feddurzai_region_release(&region, live, 3, 0x10000), FEDDURZAI_BAD_REGION);
+    region.size = 64;
+    region.base = UINT64_MAX - 62;
+    CHECK(feddurzai_region_release(&region, live, 3, 0x10000), FEDDURZAI_BAD_REGION);
+}
+
 /* targets that are among the moved instructions: they follow, or are kept */
 static void check_kept_targets(void)
 {
@@ -479,6 +839,7 @@ static void check_refusals(void)
     feddurzai_about *about = malloc(sizeof *about);
     feddurzai_move_report *report = malloc(sizeof *report);
     feddurzai_instr kept;
+    feddurzai_touched touched;
     char text[FEDDURZAI_MAX_TEXT];
     uint8_t bytes[FEDDURZAI_MAX_LEN];
     int n, k;
@@ -593,6 +954,7 @@ static void check_refusals(void)
         n = feddurzai_info(i, about);
         if (n > 0)
             CHECK(n, 0);
+        CHECK(feddurzai_effects(64, i, &touched), n);
     }
     free(i);
     free(about);
@@ -687,6 +1049,41 @@ static void check_code(void)
     CHECK(starts[2], 3);
     CHECK(leaders[2], 3);
     CHECK(feddurzai_flow(64, 0, large, FEDDURZAI_MAX_CODE + 1, starts, 3, leaders, 3), FEDDURZAI_TOO_LARGE);
+
+    /* 74 01 90 c3 from the nop, twice, and from no byte; then with an invalid byte and one too few behind it */
+    {
+        static const uint32_t entries[] = {2, 9, 2}, both[] = {2, 0};
+        static const uint8_t bad[] = {0x74, 0x00, 0x06, 0xe8};
+        uint8_t *kinds = malloc(3), *much = calloc(1, FEDDURZAI_MAX_FLOW + 1);
+        memset(starts, 0xaa, 3 * sizeof *starts);
+        memset(leaders, 0xaa, 3 * sizeof *leaders);
+        memset(kinds, 0xaa, 3);
+        CHECK(feddurzai_flow_from(64, 0, NULL, 0, NULL, 0, NULL, 0, NULL, 0, NULL, 0), 0);
+        CHECK(feddurzai_flow_from(64, 0, code, 4, NULL, 0, NULL, 0, NULL, 0, NULL, 0), 0);
+        CHECK(feddurzai_flow_from(17, 0, code, 4, entries, 3, starts, 3, leaders, 3, kinds, 3), FEDDURZAI_BAD_MODE);
+        CHECK(feddurzai_flow_from(64, 0, code, 4, entries, 3, starts, 1, leaders, 3, kinds, 3), FEDDURZAI_NO_ROOM);
+        CHECK(feddurzai_flow_from(64, 0, code, 4, entries, 3, starts, 3, leaders, 1, kinds, 3), FEDDURZAI_NO_ROOM);
+        CHECK(feddurzai_flow_from(64, 0, code, 4, entries, 3, starts, 3, leaders, 3, kinds, 1), FEDDURZAI_NO_ROOM);
+        CHECK(is_untouched(starts, 3 * sizeof *starts), 1);
+        CHECK(is_untouched(leaders, 3 * sizeof *leaders), 1);
+        CHECK(is_untouched(kinds, 3), 1);
+        CHECK(feddurzai_flow_from(64, 0, code, 4, entries, 3, starts, 3, leaders, 3, kinds, 3), 2);
+        CHECK(starts[0] == 2 && starts[1] == 3, 1);
+        CHECK(leaders[0] == 2 && leaders[1] == 2, 1);
+        CHECK(kinds[0] == FEDDURZAI_FLOW_NEXT && kinds[1] == FEDDURZAI_FLOW_RETURN, 1);
+        CHECK(is_untouched(starts + 2, sizeof *starts), 1);
+        CHECK(is_untouched(kinds + 2, 1), 1);
+        CHECK(feddurzai_flow_from(64, 0, bad, 4, both, 2, starts, 3, leaders, 3, kinds, 3), 2);
+        CHECK(kinds[0] == FEDDURZAI_FLOW_CONDITIONAL && kinds[1] == FEDDURZAI_KIND_INVALID, 1);
+        CHECK(feddurzai_flow_from(64, 0, bad + 3, 1, both + 1, 1, starts, 3, leaders, 3, kinds, 3), 1);
+        CHECK(kinds[0], FEDDURZAI_KIND_TOO_SHORT);
+        CHECK(feddurzai_flow_from(64, 0, much, FEDDURZAI_MAX_FLOW + 1, both, 2, starts, 3, leaders, 3, kinds, 3),
+            FEDDURZAI_TOO_LARGE);
+        CHECK(feddurzai_flow_from(64, 0, much, FEDDURZAI_MAX_FLOW, both, 2, starts, 3, leaders, 3, kinds, 3),
+            FEDDURZAI_NO_ROOM);
+        free(kinds);
+        free(much);
+    }
     free(out);
     free(map);
     free(report);
@@ -788,13 +1185,18 @@ int main(void)
     check_layout();
     check_fields();
     check_memory_sizes();
+    check_effects();
     check_cause_operands();
     check_lines();
+    check_offsets();
     check_many();
     check_texts();
     check_register_names();
     check_jumps();
     check_kept_targets();
+    check_shortest_displacements();
+    check_blocks();
+    check_region();
     check_codes();
     check_refusals();
     check_code();

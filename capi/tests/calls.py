@@ -92,6 +92,61 @@ def told_what_it_does():
     check([use.access for use in f.decode(64, 0, code("f0480fb111")).info().uses], [f.Access.READ, f.Access.READ])
 
 
+def told_what_it_touches():
+    status = f.Flags.OF | f.Flags.SF | f.Flags.ZF | f.Flags.AF | f.Flags.PF | f.Flags.CF
+    rw, may = f.Touch.READ | f.Touch.WRITE, f.Touch.MAY_READ | f.Touch.MAY_WRITE
+
+    def registers(bits, text):
+        told = f.decode(bits, 0, code(text)).effects()
+        return {str(use.register): use.access for use in told.registers}
+
+    check(registers(64, "53"), {"rbx": f.Touch.READ, "rsp": rw})
+    check(registers(32, "53"), {"ebx": f.Touch.READ, "ss": f.Touch.READ, "esp": rw})
+    check(registers(64, "f3a4"), {"rsi": may, "rdi": may, "rcx": f.Touch.READ | f.Touch.MAY_WRITE})
+    check(registers(64, "67f3a4"), {"esi": may, "edi": may, "ecx": f.Touch.READ | f.Touch.MAY_WRITE})
+    cpuid = registers(64, "0fa2")
+    check(sorted(cpuid), ["eax", "ebx", "ecx", "edx"])
+    check((cpuid["ebx"], cpuid["eax"]), (f.Touch.WRITE, rw))
+    check({str(f.register(name).full()) for name in ("al", "ah", "ax", "eax", "rax")}, {"rax"})
+    check((str(f.register("spl").full()), str(f.register("xmm3").full()), str(f.register("eip").full())), ("rsp", "ymm3", "rip"))
+    refused(f.Reason.NO_REGISTER, f.Register(f.RegClass.SEG, 6).full)
+
+    # a far call of 32-bit code pushes CS and EIP: 8 bytes below ESP
+    told = f.effects(32, f.decode(32, 0, code("9a 78563412 2300")))
+    (memory,) = told.memory
+    check((memory.segment, memory.base, memory.index, memory.displacement, memory.size), (f.Segment.SS, f.register("esp"), None, -8, 8))
+    check((memory.access, str(memory)), (f.Touch.WRITE, "ss:[esp-0x8]"))
+    check(str(f.decode(64, 0, code("d7")).effects().memory[0]), "ds:[rbx+al]")
+    check(str(f.decode(64, 0x1000, code("488b0510000000")).effects().memory[0]), "ds:[0x1017]")
+    check(str(f.decode(64, 0, code("64488b0425 28000000")).effects().memory[0]), "fs:[0x28]")
+    check([str(m) for m in f.decode(64, 0, code("ff74cb10")).effects().memory], ["ds:[rbx+rcx*8+0x10]", "ss:[rsp-0x8]"])
+    check([str(m) for m in f.decode(16, 0, code("53")).effects().memory], ["ss:[sp-0x2]"])
+    check(f.decode(64, 0, code("4c8d00")).effects().memory, ())
+
+    # flags: add; adc, which reads the carry; shl by CL, where a count of 0 keeps them; inc; test; ja
+    add, adc = (f.decode(64, 0, code(text)).effects() for text in ("01d8", "11d8"))
+    check((add.flags_read, add.flags_written, add.flags_undefined, add.flags_kept), (f.Flags(0), status, f.Flags(0), f.Flags(0)))
+    check(adc.flags_read, f.Flags.CF)
+    shl = f.decode(64, 0, code("d3e0")).effects()
+    check((shl.flags_written | shl.flags_undefined, shl.flags_kept), (status, status))
+    check(f.decode(64, 0, code("ffc0")).effects().flags_written, status & ~f.Flags.CF)
+    test = f.decode(64, 0, code("85c0")).effects()
+    check((test.flags_cleared, test.flags_undefined, test.flags_set), (f.Flags.CF | f.Flags.OF, f.Flags.AF, f.Flags(0)))
+    check(f.decode(64, 0, code("7710")).effects().flags_read, f.Flags.CF | f.Flags.ZF)
+    check(f.decode(64, 0, code("f9")).effects().flags_set, f.Flags.CF)
+    check(bool(f.decode(64, 0, code("dbf1")).effects().flags_cleared & f.Flags.C1), True)
+
+    # features, of which those of two forms of a row can differ
+    for text, want in (("90", ""), ("dbf1", "FPU CMOV"), ("c4e27d1801", "AVX"), ("c4e27d18c1", "AVX2"), ("0f05", "SYSCALL")):
+        check(f.decode(64, 0, code(text)).effects().features, frozenset(want.split()))
+    made = f.decode(64, 0, code("53")).replace()
+    raised(ValueError, made.effects)
+    check(made.effects(64), f.effects(64, made))
+    refused(f.Reason.BAD_MODE, f.effects, 17, made)
+    refused(f.Reason.BAD_FORM, f.effects, 64, made.replace(ops=[]))
+    refused(f.Reason.BAD_INSTR, f.effects, 64, made.replace(rep=5))
+
+
 def made_instructions():
     rax, rbx, rcx = (f.register(name) for name in ("rax", "rbx", "rcx"))
     lea = f.code_of("lea", "REX.W + 8D /r")
@@ -165,6 +220,40 @@ def jumps_have_forms():
     check(refused(f.Reason.NO_ENCODING, f.jump, 32, 0, 0x1000, f.Jump.FAR).cause, f.Cause.ROW)
 
 
+def moved_as_blocks():
+    # a function and its cold part, which jump to each other
+    hot, cold = f.Block(0x1000, code("0f85fa000000c3"), 0x2000), f.Block(0x1100, code("e901ffffff"), 0x2020)
+    moved = f.move_blocks(64, [hot, cold])
+    check([(block.new_ip, block.code.hex(), block.code_bytes) for block in moved], [(0x2000, "0f851a000000c3", 7), (0x2020, "e9e1ffffff", 5)])
+    check(moved[1].places, [f.Moved(0x1100, 0x2020, 5, f.Form.NEAR)])
+    check(f.move_blocks(64, []), [])
+    bad = refused(f.Reason.INVALID, f.move_blocks, 64, [hot, f.Block(0, code("9006"), 0x3000)], kind=f.InvalidCode)
+    check((bad.report.block, bad.report.at), (1, 1))
+    refused(f.Reason.WRAPS, f.move_blocks, 64, [f.Block((1 << 64) - 1, b"\x90\x90", 0)])
+    raised(TypeError, f.move_blocks, 64, [b"\x90"])
+    raised(ValueError, f.Block, -1, b"", 0)
+    raised(TypeError, f.Block, 0, "nop", 0)
+
+
+def placed_in_a_region():
+    region = f.Region(0x10000, 64, 2)
+    first, second = region.reserve(17), region.reserve(1)
+    check((first, second), (0x10000, 0x10020))
+    region.fill(second, code("90c3"))
+    check(region.image[30:36].hex(), "cccc90c3cccc")
+    refused(f.Reason.NO_ROOM, region.reserve, 1)
+    refused(f.Reason.NOT_LIVE, region.release, 0x10010)
+    refused(f.Reason.NO_ROOM, region.fill, second, bytes(17))
+    region.release(second)
+    check((region.image, region.live), (64 * b"\xcc", [f.Live(0x10000, 32)]))
+    refused(f.Reason.FULL, region.reserve, 33)
+    refused(f.Reason.EMPTY, region.reserve, 0)
+    refused(f.Reason.BAD_REGION, f.Region, 0, 40)
+    refused(f.Reason.BAD_REGION, f.Region, (1 << 64) - 32, 64)
+    raised(ValueError, region.reserve, -1)
+    raised(TypeError, region.fill, first, "nop")
+
+
 def moved_and_followed():
     # je over 16 bytes, moved beyond the reach of 32 bits: an inverted jump over one through a slot
     moved = f.move(64, 0x1000, code("7410"), 0x7FFF00000000)
@@ -176,7 +265,13 @@ def moved_and_followed():
     check(f.move(64, 0, b"", 0x1000)[:2], (b"", []))
     # a loop on itself: it goes along, or back to where it was
     check([call(64, 0x1000, code("ebfe"), 0x1080).code.hex() for call in (f.move, f.move_outside)], ["ebfe", "e97bffffff"])
-    check(f.flow(64, 0, code("740190c3")), [(0, 0), (2, 2), (3, 3)])
+    found = f.flow(64, 0, code("740190c3"))
+    check(found, [(0, 0, f.Flow.CONDITIONAL), (2, 2, f.Flow.NEXT), (3, 3, f.Flow.RETURN)])
+    check(f.flow(64, 0, code("740190c3"), [0]), found)
+    check(f.flow(64, 0, code("740190c3"), 2), [(2, 2, f.Flow.NEXT), (3, 2, f.Flow.RETURN)])
+    check([(at, leader) for at, leader, _ in f.flow(64, 0, code("9090c3c3"), (3, 1, 1, 4))], [(1, 1), (2, 1), (3, 3)])
+    check([reached.kind for reached in f.flow(64, 0, code("9006e8"), {2, 0})], [f.Flow.NEXT, f.Reason.INVALID, f.Reason.TOO_SHORT])
+    check(f.flow(64, 0, code("90"), []), [])
     check(f.flow(64, 0, b""), [])
     check(str(f.move(64, 0x1000, code("ebfe"), 0x2000).places[0]), "Moved(old_ip=4096, new_ip=8192, len=2, form=<Form.SHORT: 1>)")
 
@@ -248,7 +343,7 @@ def refusals_say_why():
     wraps = refused(f.Reason.WRAPS, f.move, 32, 0xFFFFFFFF, code("9090"), 0x1000)
     check(str(wraps).endswith(": it ends at 0x100000001"), True)
     refused(f.Reason.TOO_LARGE, f.move, 64, 0, bytes(f.MAX_CODE + 1), 0)
-    refused(f.Reason.TOO_LARGE, f.flow, 64, 0, bytes(f.MAX_CODE + 1))
+    refused(f.Reason.TOO_LARGE, f.flow, 64, 0, bytes(f.MAX_FLOW + 1))
     check(str(refused(f.Reason.TOO_MANY, f.move, 64, 0, 65537 * b"\x90", 0)).endswith(": 65537"), True)
     copy = pickle.loads(pickle.dumps(far))
     check((type(copy), copy.number, copy.report, str(copy)), (f.Refusal, far.number, far.report, str(far)))
@@ -296,6 +391,7 @@ def values_are_looked_at_first():
         (f.line, (64, 0, b"\x90", 0, 2)),
         (f.iterate, (64, -1, b"\x90")),
         (f.text, (64, nop, -1)),
+        (f.effects, (-1, nop)),
         (f.encode, (64, -1, nop)),
         (f.name, (-1,)),
         (f.notation, (1 << 32,)),
@@ -311,6 +407,8 @@ def values_are_looked_at_first():
         (f.move, (64, -1, b"\x90", 0)),
         (f.move, (64, 0, b"\x90", 1 << 64)),
         (f.flow, (64, -1, b"\x90")),
+        (f.flow, (64, 0, b"\x90", -1)),
+        (f.flow, (64, 0, b"\x90", [1 << 32])),
         (f.detour, (64, 0, b"\x90", -1, 0)),
         (f.detour, (64, 0, b"\x90", 0, 1 << 64)),
         (f.detour, (64, 0, b"\x90", 0, 0, -1)),
@@ -326,7 +424,7 @@ def values_are_looked_at_first():
     ):
         raised(ValueError, call, *arguments)
     words = {
-        "instr is an Instr, not NoneType": [(f.text, (64, None)), (f.encode, (64, 0, None)), (f.info, (None,))],
+        "instr is an Instr, not NoneType": [(f.text, (64, None)), (f.encode, (64, 0, None)), (f.info, (None,)), (f.effects, (64, None))],
         "instr is an Instr, not int": [(f.text, (64, 5))],
         "instr is an Instr, not bytes": [(f.info, (b"",))],
         "code is bytes, a bytearray or a memoryview, not NoneType": [
@@ -404,10 +502,13 @@ def threads_at_once():
 for test in (
     read_instructions,
     told_what_it_does,
+    told_what_it_touches,
     made_instructions,
     items_say_what_they_are,
     texts_are_read,
     jumps_have_forms,
+    moved_as_blocks,
+    placed_in_a_region,
     moved_and_followed,
     hooks_are_made,
     refusals_say_why,

@@ -15,17 +15,28 @@ static const uint8_t code[] = {0x74, 0x01, 0x90, 0xc3};
 static const uint8_t mov[] = {0x48, 0x89, 0x5c, 0x24, 0x10};
 /* sub rsp, 0x18; xor eax, eax; ret */
 static const uint8_t small[] = {0x48, 0x83, 0xec, 0x18, 0x31, 0xc0, 0xc3};
+/* the je as a block, and what stands behind it as another */
+static const feddurzai_block whole[] = {{0x1000, 0x2000, 0, 2}, {0x1002, 0x3000, 2, 2}};
 static const char mov_text[] = "mov qword [rsp+0x10], rbx";
 
 enum { SPARE = 16 };
 
 /* the structs of the calls, each filled with 0xaa where no call wrote */
 static feddurzai_instr instr, unread;
+static feddurzai_byte_offsets parts;
 static feddurzai_about about;
+static feddurzai_touched touched;
 static feddurzai_move_report report;
 static feddurzai_moved map[3];
+static feddurzai_blocks_report blocks_report;
+static feddurzai_placed_block places[2];
+static feddurzai_region region;
+static feddurzai_live live[2];
+static uint64_t place;
 static feddurzai_detour_report detour;
 static uint32_t starts[3], leaders[3];
+static uint8_t kinds[3];
+static const uint32_t firsts[2] = {0, 2};
 static size_t count;
 static uint8_t out[SPARE], patch[6];
 static char text[FEDDURZAI_MAX_TEXT];
@@ -33,11 +44,19 @@ static char text[FEDDURZAI_MAX_TEXT];
 static void fill(void)
 {
     memset(&unread, 0xaa, sizeof unread);
+    memset(&parts, 0xaa, sizeof parts);
     memset(&about, 0xaa, sizeof about);
+    memset(&touched, 0xaa, sizeof touched);
     memset(&report, 0xaa, sizeof report);
     memset(map, 0xaa, sizeof map);
+    memset(&blocks_report, 0xaa, sizeof blocks_report);
+    memset(places, 0xaa, sizeof places);
+    memset(&region, 0xaa, sizeof region);
+    memset(live, 0xaa, sizeof live);
+    memset(&place, 0xaa, sizeof place);
     memset(&detour, 0xaa, sizeof detour);
     memset(starts, 0xaa, sizeof starts);
+    memset(kinds, 0xaa, sizeof kinds);
     memset(leaders, 0xaa, sizeof leaders);
     memset(&count, 0xaa, sizeof count);
     memset(out, 0xaa, sizeof out);
@@ -47,8 +66,12 @@ static void fill(void)
 
 static int nothing_was_written(void)
 {
-    return is_untouched(&unread, sizeof unread) && is_untouched(&about, sizeof about) && is_untouched(&report, sizeof report)
-        && is_untouched(map, sizeof map) && is_untouched(&detour, sizeof detour) && is_untouched(starts, sizeof starts) && is_untouched(leaders, sizeof leaders)
+    return is_untouched(&unread, sizeof unread) && is_untouched(&parts, sizeof parts) && is_untouched(&about, sizeof about) && is_untouched(&touched, sizeof touched)
+        && is_untouched(&report, sizeof report) && is_untouched(map, sizeof map)
+        && is_untouched(&blocks_report, sizeof blocks_report) && is_untouched(places, sizeof places)
+        && is_untouched(&region, sizeof region) && is_untouched(live, sizeof live) && is_untouched(&place, sizeof place)
+        && is_untouched(&detour, sizeof detour)
+        && is_untouched(starts, sizeof starts) && is_untouched(leaders, sizeof leaders) && is_untouched(kinds, sizeof kinds)
         && is_untouched(&count, sizeof count) && is_untouched(out, sizeof out) && is_untouched(patch, sizeof patch)
         && is_untouched(text, sizeof text);
 }
@@ -68,6 +91,9 @@ static void check_nulls(void)
     CHECK(feddurzai_decode_many(64, 0, code, 4, &unread, 1, NULL), FEDDURZAI_NULL);
     CHECK(feddurzai_decode_many(64, 0, NULL, 0, NULL, 0, NULL), FEDDURZAI_NULL);
 
+    CHECK(feddurzai_offsets(64, NULL, 4, &parts), FEDDURZAI_NULL);
+    CHECK(feddurzai_offsets(64, code, 4, NULL), FEDDURZAI_NULL);
+    CHECK(feddurzai_offsets(64, NULL, 0, NULL), FEDDURZAI_NULL);
     CHECK(feddurzai_line(64, FEDDURZAI_INTEL, 0, NULL, 4, &unread, text, sizeof text), FEDDURZAI_NULL);
     CHECK(feddurzai_line(64, FEDDURZAI_INTEL, 0, NULL, 4, NULL, text, sizeof text), FEDDURZAI_NULL);
     CHECK(feddurzai_line(64, FEDDURZAI_INTEL, 0, code, 4, &unread, NULL, sizeof text), FEDDURZAI_NULL);
@@ -100,6 +126,10 @@ static void check_nulls(void)
     CHECK(feddurzai_info(NULL, &about), FEDDURZAI_NULL);
     CHECK(feddurzai_info(&instr, NULL), FEDDURZAI_NULL);
     CHECK(feddurzai_info(NULL, NULL), FEDDURZAI_NULL);
+    CHECK(feddurzai_effects(64, NULL, &touched), FEDDURZAI_NULL);
+    CHECK(feddurzai_effects(64, &instr, NULL), FEDDURZAI_NULL);
+    CHECK(feddurzai_effects(64, NULL, NULL), FEDDURZAI_NULL);
+    CHECK(feddurzai_feature_name(0, NULL, sizeof text), FEDDURZAI_NULL);
 
     CHECK(feddurzai_name(0, NULL, sizeof text), FEDDURZAI_NULL);
     CHECK(feddurzai_notation(0, NULL, sizeof text), FEDDURZAI_NULL);
@@ -117,6 +147,24 @@ static void check_nulls(void)
     CHECK(feddurzai_move_outside(64, 0x1000, code, 4, 0x2000, out, sizeof out, NULL, 3, &report), FEDDURZAI_NULL);
     CHECK(feddurzai_move_outside(64, 0x1000, code, 4, 0x2000, out, sizeof out, map, 3, NULL), FEDDURZAI_NULL);
 
+    CHECK(feddurzai_move_blocks(64, NULL, 4, whole, 1, out, sizeof out, places, 2, map, 3, &blocks_report), FEDDURZAI_NULL);
+    CHECK(feddurzai_move_blocks(64, code, 4, NULL, 1, out, sizeof out, places, 2, map, 3, &blocks_report), FEDDURZAI_NULL);
+    CHECK(feddurzai_move_blocks(64, code, 4, whole, 1, NULL, sizeof out, places, 2, map, 3, &blocks_report), FEDDURZAI_NULL);
+    CHECK(feddurzai_move_blocks(64, code, 4, whole, 1, out, sizeof out, NULL, 2, map, 3, &blocks_report), FEDDURZAI_NULL);
+    CHECK(feddurzai_move_blocks(64, code, 4, whole, 1, out, sizeof out, places, 2, NULL, 3, &blocks_report), FEDDURZAI_NULL);
+    CHECK(feddurzai_move_blocks(64, code, 4, whole, 1, out, sizeof out, places, 2, map, 3, NULL), FEDDURZAI_NULL);
+    CHECK(feddurzai_move_blocks(64, NULL, 0, NULL, 0, NULL, 0, NULL, 0, NULL, 0, NULL), FEDDURZAI_NULL);
+
+    CHECK(feddurzai_region_reserve(NULL, live, 2, 16, &place), FEDDURZAI_NULL);
+    CHECK(feddurzai_region_reserve(&region, NULL, 2, 16, &place), FEDDURZAI_NULL);
+    CHECK(feddurzai_region_reserve(&region, live, 2, 16, NULL), FEDDURZAI_NULL);
+    CHECK(feddurzai_region_release(NULL, live, 2, 0), FEDDURZAI_NULL);
+    CHECK(feddurzai_region_release(&region, NULL, 2, 0), FEDDURZAI_NULL);
+    CHECK(feddurzai_region_fill(NULL, live, 2, 0, code, 4, out, sizeof out), FEDDURZAI_NULL);
+    CHECK(feddurzai_region_fill(&region, NULL, 2, 0, code, 4, out, sizeof out), FEDDURZAI_NULL);
+    CHECK(feddurzai_region_fill(&region, live, 2, 0, NULL, 4, out, sizeof out), FEDDURZAI_NULL);
+    CHECK(feddurzai_region_fill(&region, live, 2, 0, code, 4, NULL, sizeof out), FEDDURZAI_NULL);
+
     CHECK(feddurzai_detour(64, 0, NULL, 7, 0x2000, 0x3000, 0, patch, 6, out, sizeof out, &detour), FEDDURZAI_NULL);
     CHECK(feddurzai_detour(64, 0, small, 7, 0x2000, 0x3000, 0, NULL, 6, out, sizeof out, &detour), FEDDURZAI_NULL);
     CHECK(feddurzai_detour(64, 0, small, 7, 0x2000, 0x3000, 0, patch, 6, NULL, sizeof out, &detour), FEDDURZAI_NULL);
@@ -127,6 +175,11 @@ static void check_nulls(void)
     CHECK(feddurzai_flow(64, 0, code, 4, NULL, 3, leaders, 3), FEDDURZAI_NULL);
     CHECK(feddurzai_flow(64, 0, code, 4, starts, 3, NULL, 3), FEDDURZAI_NULL);
     CHECK(feddurzai_flow(64, 0, NULL, 4, NULL, 3, NULL, 3), FEDDURZAI_NULL);
+    CHECK(feddurzai_flow_from(64, 0, NULL, 4, firsts, 2, starts, 3, leaders, 3, kinds, 3), FEDDURZAI_NULL);
+    CHECK(feddurzai_flow_from(64, 0, code, 4, NULL, 2, starts, 3, leaders, 3, kinds, 3), FEDDURZAI_NULL);
+    CHECK(feddurzai_flow_from(64, 0, code, 4, firsts, 2, NULL, 3, leaders, 3, kinds, 3), FEDDURZAI_NULL);
+    CHECK(feddurzai_flow_from(64, 0, code, 4, firsts, 2, starts, 3, NULL, 3, kinds, 3), FEDDURZAI_NULL);
+    CHECK(feddurzai_flow_from(64, 0, code, 4, firsts, 2, starts, 3, leaders, 3, NULL, 3), FEDDURZAI_NULL);
 
     /* before every other refusal, and no cause of the encoder's */
     CHECK(feddurzai_decode(17, 0, code, 4, NULL), FEDDURZAI_NULL);
@@ -138,9 +191,12 @@ static void check_nulls(void)
     CHECK(feddurzai_assemble(17, 0, NULL, 1, out, sizeof out), FEDDURZAI_NULL);
     CHECK(feddurzai_jump(17, 0, 0, 0, NULL, 1), FEDDURZAI_NULL);
     CHECK(feddurzai_info(&unread, NULL), FEDDURZAI_NULL);
+    CHECK(feddurzai_effects(17, &unread, NULL), FEDDURZAI_NULL);
+    CHECK(feddurzai_feature_name(FEDDURZAI_FEATURES, NULL, 1), FEDDURZAI_NULL);
     CHECK(feddurzai_name(FEDDURZAI_CODES, NULL, 1), FEDDURZAI_NULL);
     CHECK(feddurzai_move(17, 0, code, 4, 0, out, sizeof out, map, 3, NULL), FEDDURZAI_NULL);
     CHECK(feddurzai_flow(17, 0, NULL, 4, starts, 3, leaders, 3), FEDDURZAI_NULL);
+    CHECK(feddurzai_flow_from(17, 0, code, 4, NULL, 2, starts, 3, leaders, 3, kinds, 3), FEDDURZAI_NULL);
     CHECK(feddurzai_detour(17, 0, NULL, 7, 0, 0, 9, patch, 6, out, sizeof out, &detour), FEDDURZAI_NULL);
     CHECK(FEDDURZAI_CAUSE(FEDDURZAI_NULL), 0);
     CHECK(nothing_was_written(), 1);
@@ -158,6 +214,7 @@ static void check_empty(void)
 {
     fill();
     CHECK(feddurzai_decode(64, 0, NULL, 0, &unread), FEDDURZAI_TOO_SHORT);
+    CHECK(feddurzai_offsets(64, NULL, 0, &parts), FEDDURZAI_TOO_SHORT);
     CHECK(feddurzai_line(64, FEDDURZAI_INTEL, 0, NULL, 0, &unread, NULL, 0), FEDDURZAI_TOO_SHORT);
     CHECK(feddurzai_line(64, FEDDURZAI_INTEL, 0, mov, 5, NULL, NULL, 0), FEDDURZAI_NO_ROOM);
     CHECK(feddurzai_line_text(64, FEDDURZAI_INTEL, 0, mov, 5, NULL, 0), FEDDURZAI_NO_ROOM);
@@ -169,6 +226,7 @@ static void check_empty(void)
     CHECK(feddurzai_jump(64, 0, 0, FEDDURZAI_JUMP_NEAR, NULL, 0), FEDDURZAI_NO_ROOM);
     CHECK(feddurzai_register_text(0, FEDDURZAI_R64, 0, NULL, 0), FEDDURZAI_NO_ROOM);
     CHECK(feddurzai_segment_text(0, FEDDURZAI_FS, NULL, 0), FEDDURZAI_NO_ROOM);
+    CHECK(feddurzai_feature_name(0, NULL, 0), FEDDURZAI_NO_ROOM);
     CHECK(feddurzai_name(0, NULL, 0), FEDDURZAI_NO_ROOM);
     CHECK(feddurzai_notation(0, NULL, 0), FEDDURZAI_NO_ROOM);
     CHECK(feddurzai_code_of(NULL, 0, 0), FEDDURZAI_NO_NAME);
@@ -177,6 +235,8 @@ static void check_empty(void)
     CHECK(feddurzai_flow(64, 0, code, 4, starts, 3, NULL, 0), FEDDURZAI_NO_ROOM);
     CHECK(feddurzai_flow(64, 0, NULL, 0, starts, 3, leaders, 3), 0);
     CHECK(feddurzai_flow(64, 0, NULL, 0, NULL, 0, NULL, 0), 0);
+    CHECK(feddurzai_flow_from(64, 0, NULL, 0, NULL, 0, starts, 3, leaders, 3, kinds, 3), 0);
+    CHECK(feddurzai_flow_from(64, 0, code, 4, firsts, 2, NULL, 0, NULL, 0, NULL, 0), FEDDURZAI_NO_ROOM);
     CHECK(nothing_was_written(), 1);
     CHECK(feddurzai_move(64, 0x1000, code, 4, 0x2000, NULL, 0, map, 3, &report), FEDDURZAI_NO_ROOM);
     CHECK(feddurzai_move(64, 0x1000, code, 4, 0x2000, out, sizeof out, NULL, 0, &report), FEDDURZAI_NO_ROOM);
@@ -187,6 +247,16 @@ static void check_empty(void)
     CHECK(report.bytes == 0 && report.count == 0 && report.at == 0 && report.address == 0, 1);
     CHECK(report.code_bytes == 0 && report.slots_at == 0, 1);
     memset(&report, 0xaa, sizeof report);
+    CHECK(feddurzai_move_blocks(64, code, 4, whole, 2, NULL, 0, NULL, 0, NULL, 0, &blocks_report), FEDDURZAI_NO_ROOM);
+    CHECK(blocks_report.bytes == 8 && blocks_report.count == 3 && blocks_report.block == 2, 1);
+    CHECK(blocks_report.at == 0 && blocks_report.address == 0, 1);
+    CHECK(feddurzai_move_blocks(64, NULL, 0, NULL, 0, NULL, 0, NULL, 0, NULL, 0, &blocks_report), 0);
+    CHECK(blocks_report.bytes == 0 && blocks_report.count == 0 && blocks_report.block == 0, 1);
+    memset(&blocks_report, 0xaa, sizeof blocks_report);
+    CHECK(feddurzai_region_reserve(&region, NULL, 0, 16, &place), FEDDURZAI_BAD_REGION);
+    CHECK(feddurzai_region_release(&region, NULL, 0, 0), FEDDURZAI_BAD_REGION);
+    CHECK(feddurzai_region_fill(&region, NULL, 0, 0, NULL, 0, NULL, 0), FEDDURZAI_BAD_REGION);
+    CHECK(nothing_was_written(), 1);
     CHECK(feddurzai_detour(64, 0x1000, small, 7, 0x2000, 0x3000, 0, NULL, 0, NULL, 0, &detour), FEDDURZAI_NO_ROOM);
     CHECK(detour.taken == 6 && detour.bytes == 11 && detour.jump_back == 6 && detour.form == FEDDURZAI_DETOUR_NEAR, 1);
     CHECK(feddurzai_detour(64, 0x1000, NULL, 0, 0x2000, 0x3000, 0, NULL, 0, NULL, 0, &detour), FEDDURZAI_SMALL);
@@ -203,6 +273,7 @@ static void check_zeros(void)
     fill();
     CHECK(feddurzai_decode(0, 0, NULL, 0, &unread), FEDDURZAI_BAD_MODE);
     CHECK(feddurzai_decode_many(0, 0, NULL, 0, NULL, 0, &count), FEDDURZAI_BAD_MODE);
+    CHECK(feddurzai_offsets(0, NULL, 0, &parts), FEDDURZAI_BAD_MODE);
     CHECK(feddurzai_line(0, 0, 0, NULL, 0, NULL, NULL, 0), FEDDURZAI_BAD_MODE);
     CHECK(feddurzai_line_text(0, 0, 0, NULL, 0, NULL, 0), FEDDURZAI_BAD_MODE);
     CHECK(feddurzai_text(0, 0, &zeros, NULL, 0), FEDDURZAI_BAD_MODE);
@@ -213,18 +284,30 @@ static void check_zeros(void)
     CHECK(feddurzai_jump(0, 0, 0, 0, NULL, 0), FEDDURZAI_BAD_MODE);
     CHECK(feddurzai_register_text(0, 0, 0, NULL, 0), FEDDURZAI_NO_REGISTER);
     CHECK(feddurzai_segment_text(0, 0, NULL, 0), FEDDURZAI_NO_REGISTER);
+    CHECK(feddurzai_full_register(0, 0), FEDDURZAI_NO_REGISTER);
+    CHECK(feddurzai_feature_name(0, NULL, 0), FEDDURZAI_NO_ROOM);
+    CHECK(feddurzai_effects(0, &zeros, &touched), FEDDURZAI_BAD_MODE);
     CHECK(feddurzai_flow(0, 0, NULL, 0, NULL, 0, NULL, 0), FEDDURZAI_BAD_MODE);
+    CHECK(feddurzai_flow_from(0, 0, NULL, 0, NULL, 0, NULL, 0, NULL, 0, NULL, 0), FEDDURZAI_BAD_MODE);
     CHECK(feddurzai_name(0, NULL, 0), FEDDURZAI_NO_ROOM);
     CHECK(feddurzai_notation(0, NULL, 0), FEDDURZAI_NO_ROOM);
     CHECK(feddurzai_code_of(NULL, 0, 0), FEDDURZAI_NO_NAME);
     /* `add` without operands */
     CHECK(feddurzai_info(&zeros, &about), FEDDURZAI_BAD_FORM);
+    CHECK(feddurzai_effects(64, &zeros, &touched), FEDDURZAI_BAD_FORM);
     CHECK(feddurzai_text(64, 0, &zeros, text, sizeof text), FEDDURZAI_BAD_FORM);
     CHECK(FEDDURZAI_CAUSE(feddurzai_encode(64, 0, &zeros, out, sizeof out)), FEDDURZAI_CAUSE_KIND);
     CHECK(nothing_was_written(), 1);
     CHECK(feddurzai_move(0, 0, NULL, 0, 0, NULL, 0, NULL, 0, &report), FEDDURZAI_BAD_MODE);
     CHECK(report.bytes == 0 && report.count == 0 && report.at == 0 && report.address == 0, 1);
     CHECK(report.code_bytes == 0 && report.slots_at == 0, 1);
+    CHECK(feddurzai_move_blocks(0, NULL, 0, NULL, 0, NULL, 0, NULL, 0, NULL, 0, &blocks_report), FEDDURZAI_BAD_MODE);
+    CHECK(blocks_report.bytes == 0 && blocks_report.count == 0 && blocks_report.block == 0, 1);
+    memset(&region, 0, sizeof region);
+    memset(live, 0, sizeof live);
+    CHECK(feddurzai_region_reserve(&region, live, 2, 0, &place), FEDDURZAI_BAD_REGION);
+    CHECK(feddurzai_region_release(&region, live, 2, 0), FEDDURZAI_BAD_REGION);
+    CHECK(feddurzai_region_fill(&region, live, 2, 0, NULL, 0, out, 0), FEDDURZAI_BAD_REGION);
     CHECK(feddurzai_detour(0, 0, NULL, 0, 0, 0, 0, NULL, 0, NULL, 0, &detour), FEDDURZAI_BAD_MODE);
     CHECK(detour.taken == 0 && detour.bytes == 0 && detour.jump_back == 0 && detour.at == 0 && detour.target == 0, 1);
 }
@@ -237,7 +320,7 @@ static uint8_t *room_of(size_t room)
     return bytes;
 }
 
-enum writer { TEXT, LINE, LINE_TEXT, ENCODE, ASSEMBLE, JUMP, REGISTER_TEXT, SEGMENT_TEXT, NAME, NOTATION };
+enum writer { TEXT, LINE, LINE_TEXT, ENCODE, ASSEMBLE, JUMP, REGISTER_TEXT, SEGMENT_TEXT, FEATURE_NAME, NAME, NOTATION };
 
 static int32_t written(enum writer writer, uint8_t *bytes, size_t room)
 {
@@ -258,6 +341,8 @@ static int32_t written(enum writer writer, uint8_t *bytes, size_t room)
         return feddurzai_register_text(FEDDURZAI_ATT, FEDDURZAI_R64, 0, (char *)bytes, room);
     case SEGMENT_TEXT:
         return feddurzai_segment_text(FEDDURZAI_INTEL, FEDDURZAI_FS, (char *)bytes, room);
+    case FEATURE_NAME:
+        return feddurzai_feature_name(FEDDURZAI_FEATURE_AVX2, (char *)bytes, room);
     case NAME:
         return feddurzai_name(instr.code, (char *)bytes, room);
     default:
@@ -300,6 +385,20 @@ static void check_pairs_of_rooms(void)
             free(bytes);
             free(entries);
         }
+    /* the blocks become a branch of 6 bytes, and 90 c3 behind it */
+    for (room = 6; room <= 9; room++)
+        for (second = 0; second <= 3; second++) {
+            uint8_t *bytes = room_of(room), *rows = room_of(second * sizeof(feddurzai_placed_block));
+            int fits = room >= 8 && second >= 2;
+            CHECK(feddurzai_move_blocks(64, code, 4, whole, 2, bytes, room, (feddurzai_placed_block *)(void *)rows, second, map, 3, &blocks_report),
+                fits ? 0 : FEDDURZAI_NO_ROOM);
+            CHECK(blocks_report.bytes == 8 && blocks_report.count == 3, 1);
+            CHECK(fits ? memcmp(bytes + 6, code + 2, 2) == 0 && is_untouched(bytes + 8, room - 8 + SPARE) : is_untouched(bytes, room + SPARE), 1);
+            CHECK(fits ? is_untouched(rows + 2 * sizeof(feddurzai_placed_block), (second - 2) * sizeof(feddurzai_placed_block) + SPARE)
+                       : is_untouched(rows, second * sizeof(feddurzai_placed_block) + SPARE), 1);
+            free(bytes);
+            free(rows);
+        }
     for (room = 0; room <= 7; room++)
         for (second = 0; second <= 12; second++) {
             uint8_t *over = room_of(room), *aside = room_of(second);
@@ -338,6 +437,7 @@ int main(void)
     check_rooms_of(JUMP, "\xeb\x7f", 2, 2);
     check_rooms_of(REGISTER_TEXT, "%rax", 5, 4);
     check_rooms_of(SEGMENT_TEXT, "fs", 3, 2);
+    check_rooms_of(FEATURE_NAME, "AVX2", 5, 4);
     check_rooms_of(NAME, "mov", 4, 3);
     check_rooms_of(NOTATION, "REX.W + 89 /r", 14, 13);
     check_pairs_of_rooms();

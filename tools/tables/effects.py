@@ -85,7 +85,8 @@ class Memory:
 @dataclass(frozen=True)
 class Effect:
     """What a row does besides its operands: the flags of each set, the registers, the memory, whether a repeat prefix counts, the bytes of the memory
-    operand where the columns have none, what is done to it where a mask chooses its elements, and the features."""
+    operand where the columns have none, what is done to it where a mask chooses its elements, and the features: of the form with memory, or of a row
+    that has one form alone, and of the form without."""
     flags: tuple
     registers: tuple
     memory: tuple
@@ -93,6 +94,7 @@ class Effect:
     size: int
     named: str
     features: int
+    register_features: int
 
 
 # ------------------------------------------------------------------ lines
@@ -182,6 +184,26 @@ def sized(text, row):
     return sizes[0] if len(sizes) == 1 else sizes[{'O16': 0, 'O64': 2}.get(row.size, 1)]
 
 
+def feature_bits(word, where):
+    bits = 0
+    for feature in () if word == 'none' else word.split('+'):
+        if feature not in FEATURES:
+            raise BadEntry(f'{where}: no feature: {feature}')
+        bits |= 1 << FEATURES.index(feature)
+    return bits
+
+
+def feature_sets(line):
+    """The features of a line, and those of the form without memory, which a second word may name."""
+    first, *rest = line.words
+    needed = feature_bits(first, line.where)
+    if not rest:
+        return needed, needed
+    if len(rest) > 1 or not rest[0].startswith('register='):
+        raise BadEntry(f'{line.where}: not features, or features and register=')
+    return needed, feature_bits(rest[0][len('register='):], line.where)
+
+
 def effect_of(line, features, row):
     sets, implied, mems, repeat, size, named = dict.fromkeys(FLAG_SETS, 0), [], [], False, 0, 'AsOperand'
     for word in (line.words if line else ()):
@@ -209,13 +231,8 @@ def effect_of(line, features, row):
         except (KeyError, ValueError, TypeError):
             raise BadEntry(f'{line.where}: no effect: {word}')
     sets['written'] |= sets['cleared'] | sets['set']
-    bits = 0
-    for word in features.words:
-        for feature in () if word == 'none' else word.split('+'):
-            if feature not in FEATURES:
-                raise BadEntry(f'{features.where}: no feature: {feature}')
-            bits |= 1 << FEATURES.index(feature)
-    return Effect(tuple(sets[name] for name in FLAG_SETS), tuple(implied), tuple(mems), repeat, size, named, bits)
+    needed, of_register = feature_sets(features)
+    return Effect(tuple(sets[name] for name in FLAG_SETS), tuple(implied), tuple(mems), repeat, size, named, needed, of_register)
 
 
 def effects_of(table):
@@ -251,7 +268,7 @@ macro_rules! indexes {
 }
 
 macro_rules! effects {
-    ($($read:literal $written:literal $cleared:literal $set:literal $undefined:literal $kept:literal $features:literal
+    ($($read:literal $written:literal $cleared:literal $set:literal $undefined:literal $kept:literal $features:literal $register_features:literal
         $register:literal $registers:literal $memory:literal $memories:literal $repeat:literal $size:literal $named:ident),*) => {
         [$(Effect {
             read: $read,
@@ -261,6 +278,7 @@ macro_rules! effects {
             undefined: $undefined,
             kept: $kept,
             features: $features,
+            register_features: $register_features,
             first_register: $register,
             registers: $registers,
             first_memory: $memory,
@@ -325,13 +343,13 @@ def files(table):
     distinct = list(dict.fromkeys(each))
     registers_, register_at = pool([effect.registers for effect in distinct])
     memories, memory_at = pool([effect.memory for effect in distinct])
-    lines = [' '.join(f'{n:#x}' for n in e.flags) + f' {e.features:#x} {register_at[e.registers]} {len(e.registers)} {memory_at[e.memory]} {len(e.memory)} '
+    lines = [' '.join(f'{n:#x}' for n in e.flags) + f' {e.features:#x} {e.register_features:#x} {register_at[e.registers]} {len(e.registers)} {memory_at[e.memory]} {len(e.memory)} '
         f'{low(e.repeat)} {e.size} {e.named}' for e in distinct]
     at = {effect: k for k, effect in enumerate(distinct)}
     text = HEAD + count_text('EFFECT_COUNT', 'effects', distinct) + count_text('REGISTER_COUNT', 'implied registers', registers_)
     text += count_text('MEMORY_COUNT', 'implied uses of memory', memories) + table_text('EFFECT_INDEXES', 'Which effect a row has, by code.', 'u16', 'indexes', [str(at[effect]) for effect in each])
-    text += '\n' + table_text('EFFECTS', 'The effects: flags read, written, cleared, set, undefined and kept, features, registers, memory, whether a repeat '
-        'prefix counts,\n/// the bytes of the memory operand and what is done to it.', 'Effect', 'effects', lines)
+    text += '\n' + table_text('EFFECTS', 'The effects: flags read, written, cleared, set, undefined and kept, features, those of the form without '
+        'memory,\n/// registers, memory, whether a repeat prefix counts, the bytes of the memory operand and what is done to it.', 'Effect', 'effects', lines)
     text += '\n' + table_text('IMPLIED_REGISTERS', 'The registers that no operand names.', 'ImpliedRegister', 'registers',
         [f'{r.group} {r.number} {r.access}' for r in registers_])
     text += '\n' + table_text('IMPLIED_MEMORY', 'The memory that no operand names.', 'ImpliedMemory', 'memories',

@@ -1,4 +1,6 @@
 """The codes of the rows by the buckets of their names, by the rule that crates/name_index/specs/Buckets.antt states."""
+from .entries import M64
+from .operand_sets import asks_66, asks_w, plain_size
 from .source import wrapped
 
 BUCKETS = 1024
@@ -16,17 +18,29 @@ def bucket_of(name):
     return bucket
 
 
+def least(row):
+    """The fewest bytes of an instruction of the row, in 64-bit mode where it exists there, with no registers and no address that ask for more."""
+    bits = 64 if row.modes & M64 else 32
+    size = plain_size(bits, row) // 8
+    words = 2 if size == 2 else 4
+    immediates = {'Ib': 1, 'Ibs': 1, 'Jb': 1, 'Lx': 1, 'Iw': 2, 'Iz': words, 'Jz': words, 'Iv': size, 'Ap': words + 2}
+    escapes = {'One': 0, 'M0f': 1}.get(row.map, 2)
+    front = asks_66(bits, row) + asks_w(row) + escapes if row.kind == 'Legacy' else 2
+    return front + 1 + (row.rule != 'No') + sum(immediates.get(kind, 0) for kind in row.ops)
+
+
 def files(table):
-    """The file of this stage: where it stands under crates/, and its text."""
+    """The file of this stage: where it stands under crates/, and its text. In a bucket the rows of fewer bytes stand first, since a reader of texts
+    leaves out what comes behind what it found."""
     buckets = [[] for _ in range(BUCKETS)]
-    for code, row in enumerate(table):
+    for code, row in sorted(enumerate(table), key=lambda item: (least(item[1]), item[0])):
         buckets[bucket_of(row.name)].append(code)
     order = [f'{code},' for bucket in buckets for code in bucket]
     starts, first = ['0,'], 0
     for bucket in buckets:
         first += len(bucket)
         starts.append(f'{first},')
-    text = (HEAD + '/// The codes, by bucket and code.\n' + f'pub static ORDER: [u16; {len(order)}] = [\n' + wrapped(order, '    ', 99) + '];\n\n'
+    text = (HEAD + '/// The codes, by bucket and in it by the fewest bytes of their rows.\n' + f'pub static ORDER: [u16; {len(order)}] = [\n' + wrapped(order, '    ', 99) + '];\n\n'
         + '/// Where each bucket begins in `ORDER`, and where the last ends.\n' + f'pub static STARTS: [u16; {len(starts)}] = [\n'
         + wrapped(starts, '    ', 99) + '];\n')
     return {'name_index/src/generated_buckets.rt': text}

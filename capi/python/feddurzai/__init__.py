@@ -8,15 +8,16 @@
     0x401005 e8f60f0000 call 0x402000
     0x40100a c3 ret
 
-`decode` reads one instruction and `iterate` all of some bytes; an `Instr` has an address, bytes, operands, a text and what it does
-(`info`). `Instr(code, operands..)` makes one, and `encode` writes it. `move` puts code at another address, `flow` follows control,
-and `detour` makes both parts of a hook.
+`decode` reads one instruction and `iterate` all of some bytes; an `Instr` has an address, bytes, operands, a text, what it does (`info`)
+and what it touches (`effects`). `Instr(code, operands..)` makes one, and `encode` writes it. `move` puts code at another address, `flow`
+follows control, and `detour` makes both parts of a hook.
 
 `bits`, the mode, is 16, 32 or 64; addresses are 0 to 2**64 - 1. A number out of its range is a ValueError and a value of another type a
 TypeError, before anything is called. What the library refuses is a `Refusal`, whose `reason` says why. No function keeps any state: they
 may be called from several threads.
 """
 
+from ._blocks import Block, MovedBlock, move_blocks
 from ._calls import (
     Detour,
     Moved,
@@ -27,6 +28,7 @@ from ._calls import (
     codes_of,
     decode,
     detour,
+    effects,
     encode,
     encoded_len,
     flow,
@@ -43,12 +45,14 @@ from ._calls import (
     text,
     version,
 )
+from ._effects import Effects, MemoryUse, RegisterUse
 from ._items import BadByte, Instr, Item, Rest
-from ._native import INTERFACE, MAX_CODE
+from ._native import INTERFACE, MAX_CODE, MAX_FLOW
 from ._numbers import (
     Access,
     Cause,
     DetourForm,
+    Flags,
     Flow,
     Form,
     ItemKind,
@@ -60,20 +64,27 @@ from ._numbers import (
     Segment,
     Start,
     Style,
+    Touch,
 )
+from ._offsets import Offsets, Part, offsets
 from ._operands import Far, Immediate, Memory, Near, Operand, Register, register, registers
-from ._refusal import DetourReport, InvalidCode, MoveReport, Refusal, TooShort
+from ._refusal import BlocksReport, DetourReport, InvalidCode, MoveReport, Refusal, TooShort
+from ._region import Live, Region
 from ._told import About, Use
 
 __all__ = [
     "About",
     "Access",
     "BadByte",
+    "Block",
+    "BlocksReport",
     "Cause",
     "Detour",
     "DetourForm",
     "DetourReport",
+    "Effects",
     "Far",
+    "Flags",
     "Flow",
     "Form",
     "INTERFACE",
@@ -83,31 +94,41 @@ __all__ = [
     "Item",
     "ItemKind",
     "Jump",
+    "Live",
     "MAX_CODE",
+    "MAX_FLOW",
     "Memory",
+    "MemoryUse",
     "MoveReport",
     "Moved",
+    "MovedBlock",
     "MovedCode",
     "Near",
+    "Offsets",
     "Operand",
     "OperandKind",
+    "Part",
     "Reached",
     "Reason",
     "Refusal",
     "RegClass",
+    "Region",
     "Register",
+    "RegisterUse",
     "Repeat",
     "Rest",
     "Segment",
     "Start",
     "Style",
     "TooShort",
+    "Touch",
     "Use",
     "assemble",
     "code_of",
     "codes_of",
     "decode",
     "detour",
+    "effects",
     "encode",
     "encoded_len",
     "flow",
@@ -116,9 +137,11 @@ __all__ = [
     "jump",
     "line",
     "move",
+    "move_blocks",
     "move_outside",
     "name",
     "notation",
+    "offsets",
     "read_intel",
     "register",
     "registers",

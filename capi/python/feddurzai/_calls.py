@@ -1,13 +1,14 @@
 """The calls: code is read, told, made, moved and followed."""
 
 import struct
-from ctypes import byref, c_char_p, c_size_t, c_uint32, c_void_p, cast
-from typing import Callable, Iterator, List, NamedTuple, Optional, Tuple, Union
+from ctypes import byref, c_char_p, c_size_t, c_uint8, c_uint32, c_void_p, cast
+from typing import Callable, Dict, Iterable, Iterator, List, NamedTuple, Optional, Tuple, Union
 
 from . import _checks, _native
 from ._checks import Buffer
+from ._effects import Effects, effects_of
 from ._items import HIGH_AT, LEN_AT, LOW_AT, SIZE, BadByte, Instr, Item, Rest
-from ._numbers import DetourForm, Form, Jump, Reason, Start, Style
+from ._numbers import DetourForm, Flow, Form, Jump, Reason, Start, Style
 from ._refusal import DetourReport, MoveReport, refusal_of, taken
 from ._told import About, encode_of, info_of, name_of, text_of
 
@@ -208,6 +209,17 @@ def info(instr: Instr) -> About:
     return info_of(_struct_of(instr))
 
 
+def effects(bits: int, instr: Instr) -> Effects:
+    """What an instruction touches in a mode, its operands and what no operand names: registers, memory, flags, and the CPUID features that it
+    needs. Refused: BAD_MODE, BAD_INSTR, BAD_FORM.
+
+    >>> told = effects(64, decode(64, 0, bytes.fromhex("0f94c0")))
+    >>> [str(use.register) for use in told.registers], told.flags_read == Flags.ZF
+    (['al'], True)
+    """
+    return effects_of(_checks.number("bits", bits, _checks.U32), _struct_of(instr))
+
+
 def _struct_of(instr: Instr) -> bytes:
     if not isinstance(instr, Instr):
         raise TypeError(f"instr is an Instr, not {type(instr).__name__}")
@@ -345,32 +357,49 @@ def move_outside(bits: int, old_ip: int, code: Buffer, new_ip: int) -> MovedCode
 
 
 class Reached(NamedTuple):
-    """The offset of an instruction that control reaches, and the offset at which its basic block begins.
+    """The offset of an instruction that control reaches, the offset at which its basic block begins, and where control goes behind it:
+    a `Flow`, or `Reason.INVALID` or `Reason.TOO_SHORT` where no instruction is read there.
 
-    >>> flow(64, 0, bytes.fromhex("9090"))[1]
-    Reached(start=1, leader=0)
+    >>> flow(64, 0, bytes.fromhex("90c3"))[1]
+    Reached(start=1, leader=0, kind=<Flow.RETURN: 4>)
     """
 
     start: int
     leader: int
+    kind: Union[Flow, Reason]
 
 
-def flow(bits: int, base: int, code: Buffer) -> List[Reached]:
-    """The instructions that control reaches from the first byte of code, which has the address `base`, in ascending order.
+_KINDS: Dict[int, Union[Flow, Reason]] = {**{int(kind): kind for kind in Flow}, 0xFE: Reason.TOO_SHORT, 0xFF: Reason.INVALID}
 
-    Where it goes on behind a call, and to the procedure that is called, if that is in the code. Refused: BAD_MODE, TOO_LARGE,
-    NO_MEMORY.
+
+def flow(bits: int, base: int, code: Buffer, entries: Union[int, Iterable[int]] = 0) -> List[Reached]:
+    """The instructions that control reaches from the first byte of code, which has the address `base`, in ascending order; or from one or
+    many other offsets, `entries`, of which those outside the code add nothing. Each entry begins a basic block.
+
+    Where it goes on behind a call, and to the procedure that is called, if that is in the code. Refused: BAD_MODE, TOO_LARGE (above
+    MAX_FLOW bytes), NO_MEMORY.
 
     >>> [(reached.start, reached.leader) for reached in flow(64, 0x1000, bytes.fromhex("7401 90 c3 90"))]
     [(0, 0), (2, 2), (3, 3)]
+    >>> [reached.start for reached in flow(64, 0x1000, bytes.fromhex("7401 90 c3 90"), [2, 4])]
+    [2, 3, 4]
     """
     code = _checks.code_bytes("code", code)
     bits, base = _checks.number("bits", bits, _checks.U32), _checks.number("base", base)
+    if isinstance(entries, Iterable):
+        chosen = [_checks.number("each of entries", entry, _checks.U32) for entry in entries]
+    else:
+        chosen = [_checks.number("entries", entries, _checks.U32)]
     # a row for each byte at the most; past the limit the library looks at none
-    room = min(len(code), _native.MAX_CODE)
-    starts, leaders = (c_uint32 * room)(), (c_uint32 * room)()
-    count = taken(_native.flow(bits, base, code, len(code), starts, room, leaders, room))
-    return list(map(Reached, starts[:count], leaders[:count]))
+    room = min(len(code), _native.MAX_FLOW)
+    starts, leaders, kinds = (c_uint32 * room)(), (c_uint32 * room)(), bytearray(room)
+    count = taken(
+        _native.flow_from(
+            *(bits, base, code, len(code), (c_uint32 * len(chosen))(*chosen), len(chosen)),
+            *(starts, room, leaders, room, (c_uint8 * room).from_buffer(kinds), room),
+        )
+    )
+    return list(map(Reached, starts[:count], leaders[:count], map(_KINDS.__getitem__, kinds[:count])))
 
 
 class Detour(NamedTuple):

@@ -7,6 +7,7 @@ import sys
 from typing import Any, Optional, Tuple
 
 from . import _checks
+from ._effects import Effects, effects_of
 from ._numbers import ItemKind, Repeat, Segment, Style
 from ._operands import ABSENT, OPERANDS, Memory, Operand, operand_of
 from ._told import About, encode_of, info_of, name_of, text_of
@@ -284,6 +285,18 @@ class Instr(Item):
         8
         """
         return info_of(self._struct)
+
+    def effects(self, bits: Optional[int] = None) -> Effects:
+        """What it touches: see the function `effects`. One that was made needs the mode.
+
+        >>> sorted(decode(64, 0, bytes.fromhex("c4e27d18c1")).effects().features)
+        ['AVX2']
+        """
+        if bits is None:
+            bits = self.bits
+            if bits is None:
+                raise ValueError("an instruction that was made has no mode: name it, as in effects(bits=64)")
+        return effects_of(bits, self._struct)
 
     def _key(self) -> Tuple[int, ...]:
         """All fields but the length: the bytes between them may be any."""

@@ -7,12 +7,13 @@ import os
 from typing import Callable, List, Tuple, Type
 
 # of the header that this package was written for
-INTERFACE = 2
+INTERFACE = 3
 
 MAX_LEN = 15
 MAX_JUMP = 16
 MAX_TEXT = 161
 MAX_CODE = 1 << 20
+MAX_FLOW = 1 << 24
 MAX_MOVED = 1 << 16
 NAME_ROOM = 17
 NOTATION_ROOM = 65
@@ -70,6 +71,7 @@ if interface() != INTERFACE:
 version = _call(_short, "version", result=_u32)
 decode = _call(_short, "decode", _u32, _u64, _at, _size, _at)
 decode_many = _call(_long, "decode_many", _u32, _u64, _at, _size, _at, _size, _at)
+offsets = _call(_short, "offsets", _u32, _at, _size, _at)
 line = _call(_short, "line", _u32, _u32, _u64, _at, _size, _at, _at, _size)
 text = _call(_short, "text", _u32, _u32, _at, _at, _size)
 encode = _call(_short, "encode", _u32, _u64, _at, _at, _size)
@@ -78,6 +80,9 @@ assemble = _call(_short, "assemble", _u32, _u64, _at, _size, _at, _size)
 read_intel = _call(_short, "read_intel", _u32, _u64, _at, _size, _at)
 jump = _call(_short, "jump", _u32, _u64, _u64, _u32, _at, _size)
 info = _call(_short, "info", _at, _at)
+effects = _call(_short, "effects", _u32, _at, _at)
+full_register = _call(_short, "full_register", _u8, _u8)
+feature_name = _call(_short, "feature_name", _u32, _at, _size)
 name = _call(_short, "name", _u32, _at, _size)
 notation = _call(_short, "notation", _u32, _at, _size)
 code_of = _call(_short, "code_of", _at, _size, _size)
@@ -85,5 +90,9 @@ register_text = _call(_short, "register_text", _u32, _u8, _u8, _at, _size)
 segment_text = _call(_short, "segment_text", _u32, _u8, _at, _size)
 move = _call(_long, "move", _u32, _u64, _at, _size, _u64, _at, _size, _at, _size, _at)
 move_outside = _call(_long, "move_outside", _u32, _u64, _at, _size, _u64, _at, _size, _at, _size, _at)
+move_blocks = _call(_long, "move_blocks", _u32, _at, _size, _at, _size, _at, _size, _at, _size, _at, _size, _at)
+region_reserve = _call(_short, "region_reserve", _at, _at, _size, _u64, _at)
+region_release = _call(_short, "region_release", _at, _at, _size, _u64)
+region_fill = _call(_short, "region_fill", _at, _at, _size, _u64, _at, _size, _at, _size)
 detour = _call(_long, "detour", _u32, _u64, _at, _size, _u64, _u64, _u32, _at, _size, _at, _size, _at)
-flow = _call(_long, "flow", _u32, _u64, _at, _size, _at, _size, _at, _size)
+flow_from = _call(_long, "flow_from", _u32, _u64, _at, _size, _at, _size, _at, _size, _at, _size, _at, _size)

@@ -1,6 +1,6 @@
 """The numbers of feddurzai.h as enumerations."""
 
-from enum import EnumMeta, IntEnum
+from enum import EnumMeta, IntEnum, IntFlag
 from typing import List
 
 
@@ -57,6 +57,51 @@ class Access(_Number):
     READ = 1
     WRITE = 2
     READ_WRITE = 3
+
+
+class Touch(IntFlag, metaclass=_Listed):
+    """What is done to a register or to memory that an instruction touches, in `effects`.
+
+    MAY_READ and MAY_WRITE are what a condition, a mask, or a repeat prefix whose counter is 0 may prevent.
+
+    >>> [use.access == Touch.MAY_READ | Touch.MAY_WRITE for use in decode(64, 0, bytes.fromhex("f3ab")).effects().registers]
+    [False, True, False]
+    """
+
+    READ = 1
+    WRITE = 2
+    MAY_READ = 4
+    MAY_WRITE = 8
+
+
+class Flags(IntFlag, metaclass=_Listed):
+    """Flags: those of EFLAGS at their bits there, and the condition bits of the x87 status word at theirs and 16 more. IOPL has two bits.
+
+    >>> decode(64, 0, bytes.fromhex("11d8")).effects().flags_read == Flags.CF
+    True
+    """
+
+    CF = 0x1
+    PF = 0x4
+    AF = 0x10
+    ZF = 0x40
+    SF = 0x80
+    TF = 0x100
+    IF = 0x200
+    DF = 0x400
+    OF = 0x800
+    IOPL = 0x3000
+    NT = 0x4000
+    RF = 0x10000
+    VM = 0x20000
+    AC = 0x40000
+    VIF = 0x80000
+    VIP = 0x100000
+    ID = 0x200000
+    C0 = 0x1000000
+    C1 = 0x2000000
+    C2 = 0x4000000
+    C3 = 0x40000000
 
 
 class OperandKind(_Number):
@@ -225,6 +270,11 @@ class Reason(_Number):
     SMALL = -20
     ENDS = -21
     ENTERED = -22
+    BAD_BLOCK = -23
+    BAD_REGION = -24
+    EMPTY = -25
+    FULL = -26
+    NOT_LIVE = -27
     NO_ENCODING = -256
 
 

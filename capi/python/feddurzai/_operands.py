@@ -45,6 +45,15 @@ class Register:
         """
         return _name_of(_checks.number("syntax", syntax, _checks.U32), self.reg_class, self.number)
 
+    def full(self) -> Register:
+        """The widest register that holds it: RAX of AL, AH, AX and EAX, YMM1 of XMM1, RIP of EIP, and of any other itself. Two registers
+        touch one place where these are one. Refused where its class has no such number.
+
+        >>> [str(register(name).full()) for name in ("ah", "r9d", "xmm1", "cs")]
+        ['rax', 'r9', 'ymm1', 'cs']
+        """
+        return _full_of(self.reg_class, self.number)
+
     def __str__(self) -> str:
         return self.name()
 
@@ -203,6 +212,12 @@ def _name_of(syntax: int, reg_class: int, number: int) -> str:
     room = _native.TextRoom()
     taken(_native.register_text(syntax, reg_class, number, room, _native.MAX_TEXT))
     return str(room.value, "ascii")
+
+
+@lru_cache(maxsize=None)
+def _full_of(reg_class: int, number: int) -> Register:
+    said = taken(_native.full_register(reg_class, number))
+    return Register(RegClass(said >> 8), said & 255)
 
 
 @lru_cache(maxsize=None)

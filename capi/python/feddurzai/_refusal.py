@@ -30,6 +30,11 @@ _REASONS = {
     Reason.SMALL: "the function has too few bytes for the jump",
     Reason.ENDS: "the function ends where it would be written over, and other code stands there",
     Reason.ENTERED: "control may go into what would be written over",
+    Reason.BAD_BLOCK: "a block is not inside the bytes",
+    Reason.BAD_REGION: "the numbers are no region: its size is 16 to 1048576 and a multiple of 16, and its live blocks stand inside it",
+    Reason.EMPTY: "no place for 0 bytes",
+    Reason.FULL: "no gap of the region is long enough",
+    Reason.NOT_LIVE: "no live block starts there",
 }
 _CAUSES = {
     Cause.ROW: "the code is no row of the table that exists in the mode",
@@ -80,7 +85,25 @@ class DetourReport:
     form: int
 
 
-Report = Union[MoveReport, DetourReport]
+@dataclass(frozen=True)
+class BlocksReport:
+    """The numbers of a moving of blocks; feddurzai.h says when each is set.
+
+    >>> try:
+    ...     move_blocks(64, [Block(0, b"\\x90", 0x100), Block(0x10, b"\\x90\\x06", 0x200)])
+    ... except InvalidCode as refusal:
+    ...     print(refusal.report.block, refusal.report.at)
+    1 1
+    """
+
+    bytes: int
+    count: int
+    block: int
+    at: int
+    address: int
+
+
+Report = Union[MoveReport, DetourReport, BlocksReport]
 
 
 class Refusal(Exception):
@@ -152,6 +175,8 @@ def _where(reason: Reason, report: Optional[Report]) -> str:
     """What a report says of a refusal."""
     if report is None:
         return ""
+    if isinstance(report, BlocksReport):
+        return _where_of_blocks(reason, report)
     address = report.target if isinstance(report, DetourReport) else report.address
     if reason in _CLASSES or reason is Reason.ENDS:
         return f": at offset {report.at}"
@@ -165,6 +190,19 @@ def _where(reason: Reason, report: Optional[Report]) -> str:
         return f": it has {report.at}, the jump {address}"
     if reason is Reason.ENTERED:
         return f": from offset {report.at}, to offset {address}"
+    return ""
+
+
+def _where_of_blocks(reason: Reason, report: BlocksReport) -> str:
+    """What the report of a moving of blocks says of a refusal."""
+    if reason in _CLASSES:
+        return f": at offset {report.at} of block {report.block}"
+    if reason is Reason.TOO_MANY:
+        return f": {report.count}"
+    if reason is Reason.WRAPS:
+        return f": a block ends at {report.address:#x}"
+    if reason is Reason.TOO_FAR:
+        return f": instruction {report.at} of block {report.block}, target {report.address:#x}"
     return ""
 
 

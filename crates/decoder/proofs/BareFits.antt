@@ -27,7 +27,7 @@ use Rattle.instruction_parts.specs.Counting.{is_64, rex_bit}
 use Rattle.instruction_parts.specs.Kinds.{method_of}
 use Rattle.instruction_parts.specs.Sizes.{exists_in, is_lockable, is_vex_row, operand_size, state_size, bit_w}
 use Rattle.instruction_parts.proofs.Tests.{and_left, and_right, not_true, equal_from}
-use Rattle.row_fit.specs.Fits.{same_map, vex_class_fits, w_fits, l_fits, is_vvvv, is_memory_method, reg_field, is_map_one, legacy_class_fits, class_fits, size_fits, takes_w_as_size, sizes_fit, vvvv_fits, opcode_allows, opcode_fits, modrm_rule_fits, place_allows, place_of, place_fits, opcode_and_modrm_fit, is_gather, reads_by, kind_at, lock_fits, register_fits, destination_fits, gather_fits, nop_fits, registers_fit, state_fits}
+use Rattle.row_fit.specs.Fits.{immediates_bytes, immediate_bytes, is_any_mode, is_offset, reads_mode, same_map, vex_class_fits, w_fits, l_fits, is_vvvv, is_memory_method, reg_field, is_map_one, legacy_class_fits, class_fits, size_fits, takes_w_as_size, sizes_fit, vvvv_fits, opcode_allows, opcode_fits, modrm_rule_fits, place_allows, place_of, place_fits, opcode_and_modrm_fit, is_gather, reads_by, kind_at, lock_fits, register_fits, destination_fits, gather_fits, nop_fits, registers_fit, state_fits}
 use Rattle.row_fit.specs.Sound.{has_modrm_rule}
 use Rattle.row_fields.specs.declared.Fields.{Fields}
 use Rattle.row_fields.specs.Holds.{is_vex, map_number, stands_in, opcode_holds, prefix_of, class_allows, prefix_holds, byte_of, byte_holds, place_holds, reg_holds, rm_holds, size_allows, size_holds, w_holds, l_holds, rex_b_holds, holds}
@@ -39,7 +39,9 @@ use Rattle.rows_x87.specs.Table.{table as x87_rows, flat_rows as x87_flat}
 use Rattle.rows_sse.specs.Table.{table as sse_rows, flat_rows as sse_flat}
 use Rattle.rows_vex.specs.Table.{table as vex_rows, flat_rows as vex_flat}
 use Rattle.opcode_rows.specs.Table.{spots, rows_in, table}
-use Rattle.decoder.specs.Bare.{bare_rows, is_bare_front, place_is_said, names_each_number, kind_is_bare, rule_is_bare, bytes_are_bare, opcode_is_bare, row_is_bare}
+use Rattle.instruction_parts.specs.Kinds.{immediate_width}
+use Rattle.decoder.specs.declared.bare.BareRow.{BareRow}
+use Rattle.decoder.specs.Bare.{known_of, immediates_at, bare_rows, is_bare_front, place_is_said, names_each_number, kind_is_bare, rule_is_bare, bytes_are_bare, opcode_is_bare, row_is_bare}
 use Rattle.decoder.proofs.InCell.{kind_is_vex}
 
 both : (a b : Bool) → a ≡ true → b ≡ true → (a && b) ≡ true
@@ -270,18 +272,33 @@ said-allows place.Any place.Register m s h = cc
 said-allows place.Memory place.Register m s h = cc
 said-allows place.Register place.Memory m s h = cc
 
-kind-parts : (x : Place) (k : OpKind) → kind_is_bare x k ≡ true
-    → (names_each_number k ≡ true) × ((is_gather (method_of k) ≡ false) × (place_is_said x (place_of (method_of k)) ≡ true))
+-- what is said of an operand's kind
+record SaidKind (x : Place) (k : OpKind) : Type 0 where
+  numbers : names_each_number k ≡ true
+  gather : is_gather (method_of k) ≡ false
+  mode : is_any_mode (method_of k) ≡ false
+  offset : is_offset (method_of k) ≡ false
+  place : place_is_said x (place_of (method_of k)) ≡ true
+
+kind-parts : (x : Place) (k : OpKind) → kind_is_bare x k ≡ true → SaidKind x k
 unfolding kind_is_bare
 kind-parts x k h =
     let h1 = and_right _ _ h in
-    (and_left _ _ h, (not_true _ (and_left _ _ h1), and_right _ _ h1))
+    let h2 = and_right _ _ h1 in
+    let h3 = and_right _ _ h2 in
+    record {
+      numbers = and_left _ _ h;
+      gather = not_true _ (and_left _ _ h1);
+      mode = not_true _ (and_left _ _ h2);
+      offset = not_true _ (and_left _ _ h3);
+      place = and_right _ _ h3;
+    }
 
 kinds-allow : (x : Place) (m : ModRm) (ops : List OpKind) → list_all (kind_is_bare x) ops ≡ true → place_allows x m ≡ true
     → list_all (λ kind. place_allows (place_of (method_of kind)) m) ops ≡ true
 kinds-allow x m [] h at = refl
 kinds-allow x m (k ∷ ops) h at =
-    both _ _ (said-allows x (place_of (method_of k)) m (kind-parts x k (and_left _ _ h)).1.1 at)
+    both _ _ (said-allows x (place_of (method_of k)) m (kind-parts x k (and_left _ _ h)).place at)
     (kinds-allow x m ops (and_right _ _ h) at)
 
 abbrev modrm_by : ModRmRule → ℕ → Option ModRm
@@ -338,7 +355,7 @@ all-registers : (bits : Bits) (state : PrefixState) (m : Option ModRm) (x : Plac
     → list_all (register_fits bits state m) ops ≡ true
 all-registers bits state m x [] h = refl
 all-registers bits state m x (k ∷ ops) h =
-    both _ _ (register-fits bits state m k (kind-parts x k (and_left _ _ h)).0) (all-registers bits state m x ops (and_right _ _ h))
+    both _ _ (register-fits bits state m k (kind-parts x k (and_left _ _ h)).numbers) (all-registers bits state m x ops (and_right _ _ h))
 
 not-cs : (row : Row) (m : Option ModRm) (x : Place) → list_all (kind_is_bare x) row.ops ≡ true → destination_fits row m ≡ true
 unfolding destination_fits
@@ -351,12 +368,31 @@ not-cs row m x h = by_ops row.ops h
     by_ops : (ops : List OpKind) → list_all (kind_is_bare x) ops ≡ true
         → (elim (slice_index_or ops 0 Absent) [ Sw ↦ not (reg_field m == 1) | _ ↦ true ]) ≡ true
     by_ops [] e = refl
-    by_ops (k ∷ ops) e = by_kind k (kind-parts x k (and_left _ _ e)).0
+    by_ops (k ∷ ops) e = by_kind k (kind-parts x k (and_left _ _ e)).numbers
 
 no-gather : (x : Place) (ops : List OpKind) → list_all (kind_is_bare x) ops ≡ true → list_any (λ kind. is_gather (method_of kind)) ops ≡ false
 no-gather x [] h = refl
 no-gather x (k ∷ ops) h =
-    ap (λ b. b || list_any (λ kind. is_gather (method_of kind)) ops) (kind-parts x k (and_left _ _ h)).1.0 ∙ no-gather x ops (and_right _ _ h)
+    ap (λ b. b || list_any (λ kind. is_gather (method_of kind)) ops) (kind-parts x k (and_left _ _ h)).gather ∙ no-gather x ops (and_right _ _ h)
+
+no-offset : (x : Place) (ops : List OpKind) → list_all (kind_is_bare x) ops ≡ true → list_any (λ kind. is_offset (method_of kind)) ops ≡ false
+no-offset x [] h = refl
+no-offset x (k ∷ ops) h =
+    ap (λ b. b || list_any (λ kind. is_offset (method_of kind)) ops) (kind-parts x k (and_left _ _ h)).offset ∙ no-offset x ops (and_right _ _ h)
+
+no-any_mode : (x : Place) (ops : List OpKind) → list_all (kind_is_bare x) ops ≡ true → list_any (λ kind. is_any_mode (method_of kind)) ops ≡ false
+no-any_mode x [] h = refl
+no-any_mode x (k ∷ ops) h =
+    ap (λ b. b || list_any (λ kind. is_any_mode (method_of kind)) ops) (kind-parts x k (and_left _ _ h)).mode ∙ no-any_mode x ops (and_right _ _ h)
+
+-- such a row reads ModRM.mod
+pub bare-mode : (row : Row) → row_is_bare row ≡ true → reads_mode row ≡ true
+unfolding reads_mode
+bare-mode row h = ap not (no-any_mode row.place row.ops (said row h).kinds)
+
+-- and has no absolute address
+pub bare-offset : (row : Row) → row_is_bare row ≡ true → reads_by is_offset row ≡ false
+bare-offset row h = no-offset row.place row.ops (said row h).kinds
 
 registers-fit : (bits : Bits) (row : Row) (state : PrefixState) (m : Option ModRm) (sib : Option Sib) → Said row → ApartInOne row.map state.opcode
     → registers_fit bits row state m sib ≡ true
@@ -454,18 +490,29 @@ bare-fits bits row state tail sib bare start small h =
 
 -- ---- the table
 
-by_rule : map row_is_bare table ≡ bare_rows
-unfolding row_is_bare kind_is_bare opcode_is_bare method_of bare_rows table rows_in spots integer_rows integer_flat x87_rows x87_flat sse_rows sse_flat vex_rows vex_flat
+by_rule : map known_of table ≡ bare_rows
+unfolding known_of row_is_bare kind_is_bare opcode_is_bare method_of immediates_bytes immediate_bytes immediate_width bare_rows table rows_in spots integer_rows integer_flat x87_rows x87_flat sse_rows sse_flat vex_rows vex_flat
 by_rule = refl
 
-same_flag : (a b : Bool) → Some a ≡ Some b → a ≡ b
-same_flag a b e = cc
+same_known : (a b : BareRow) → Some a ≡ Some b → a ≡ b
+same_known a b e = cc
 
--- the flag at the code of a row
-pub flag-of_row : (code : ℕ) (row : Row) (flag : Bool) → slice_get table code ≡ Some row → slice_get bare_rows code ≡ Some flag → flag ≡ row_is_bare row
-flag-of_row code row flag at here =
-    same_flag flag (row_is_bare row)
-    (sym here ∙ (ap (λ flags. slice_get flags code) (sym by_rule) ∙ (slice_get-map row_is_bare table code ∙ ap (option_map row_is_bare) at)))
+-- what is known of the code of a row
+pub known-of_row : (code : ℕ) (row : Row) (known : BareRow) → slice_get table code ≡ Some row → slice_get bare_rows code ≡ Some known → known ≡ known_of row
+known-of_row code row known at here =
+    same_known known (known_of row)
+    (sym here ∙ (ap (λ all. slice_get all code) (sym by_rule) ∙ (slice_get-map known_of table code ∙ ap (option_map known_of) at)))
+
+pub known-bare : (row : Row) (known : BareRow) → known ≡ known_of row → known.bare ≡ row_is_bare row
+unfolding known_of
+known-bare row known e = ap (λ (k : BareRow). k.bare) e
+
+-- and so are the bytes of its immediates
+pub known-immediates : (size : Bits) (row : Row) (known : BareRow) → known ≡ known_of row → immediates_at size known ≡ immediates_bytes size row
+unfolding known_of
+known-immediates B16 row known e = ap (λ (k : BareRow). k.at_16) e
+known-immediates B32 row known e = ap (λ (k : BareRow). k.at_32) e
+known-immediates B64 row known e = ap (λ (k : BareRow). k.at_64) e
 
 -- ---- the bytes behind the opcode byte
 

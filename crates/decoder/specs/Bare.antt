@@ -2,6 +2,7 @@
 use Rattle.std.specs.Prelude.{ℕ, ◌+◌, Bool, true, false, not, ◌&&◌, ◌||◌, ◌==◌, nat_le, nat_lt, List, is_none}
 use Rattle.std.specs.List.{list_all}
 use Rattle.x86_values.specs.declared.Bits.{Bits}
+use Rattle.x86_values.specs.declared.Bits.TheVariants.{B16, B32, B64}
 use Rattle.row_types.specs.declared.Row.{Row}
 use Rattle.row_types.specs.declared.Map.{Map}
 use Rattle.row_types.specs.declared.Plus.{Plus}
@@ -16,7 +17,8 @@ use Rattle.instruction_parts.specs.declared.spelling.PrefixState.{PrefixState}
 use Rattle.instruction_parts.specs.Counting.{is_64}
 use Rattle.instruction_parts.specs.Kinds.{method_of}
 use Rattle.instruction_parts.specs.Sizes.{is_vex_row}
-use Rattle.row_fit.specs.Fits.{is_map_one, is_gather, place_of, takes_w_as_size}
+use Rattle.row_fit.specs.Fits.{is_map_one, is_gather, is_any_mode, is_offset, immediates_bytes, place_of, takes_w_as_size}
+use Rattle.decoder.specs.declared.bare.BareRow.{BareRow}
 use Rattle.decoder.specs.declared.generated_bare_rows.TheConstants.{BARE_ROWS}
 
 -- a front has no LOCK and no VEX, and no REX outside 64-bit mode
@@ -37,10 +39,14 @@ names_each_number Cn = false
 names_each_number Dn = false
 names_each_number _ = true
 
--- an operand with every register number, that is no gather and whose limit to register or memory the row itself says
+-- an operand with every register number, that is no gather, heeds ModRM.mod, has no absolute address, and whose limit to register or memory the
+-- row itself says
 unfoldable pub kind_is_bare : Place → OpKind → Bool
 kind_is_bare where_ kind =
-    names_each_number kind && (not (is_gather (method_of kind)) && place_is_said where_ (place_of (method_of kind)))
+    names_each_number kind
+    && (not (is_gather (method_of kind))
+    && (not (is_any_mode (method_of kind))
+    && (not (is_offset (method_of kind)) && place_is_said where_ (place_of (method_of kind)))))
 
 -- the ModRM byte is not fixed
 abbrev pub rule_is_bare : ModRmRule → Bool
@@ -65,6 +71,21 @@ row_is_bare row =
     && (rule_is_bare row.modrm
     && (list_all (kind_is_bare row.place) row.ops && opcode_is_bare row.map row.plus row.opcode)))
 
+-- what is known of a row beforehand: whether nothing is left to ask of it, and the bytes of its immediates at each operand size
+unfoldable pub known_of : Row → BareRow
+known_of row = record {
+  bare = row_is_bare row;
+  at_16 = immediates_bytes B16 row;
+  at_32 = immediates_bytes B32 row;
+  at_64 = immediates_bytes B64 row;
+}
+
 -- the same of each row, by code
-unfoldable pub bare_rows : List Bool
+unfoldable pub bare_rows : List BareRow
 bare_rows = BARE_ROWS
+
+-- the bytes of the immediates at an operand size
+abbrev pub immediates_at : Bits → BareRow → ℕ
+immediates_at B16 known = known.at_16
+immediates_at B32 known = known.at_32
+immediates_at B64 known = known.at_64

@@ -1,5 +1,5 @@
 -- The items of some bytes, one behind another: an instruction, or a single byte where none is read.
-use Rattle.std.specs.Prelude.{◌≡◌, ℕ, ◌+◌, ◌<◌, ◌≤◌, List, [], length, take, drop, Option, Some, None, Result, Ok, Err}
+use Rattle.std.specs.Prelude.{◌≡◌, ℕ, ◌+◌, ◌<◌, ◌≤◌, [], length, take, drop, Option, Some, None, Result, Ok, Err}
 use Rattle.x86_values.specs.declared.Decoded.{Decoded}
 use Rattle.x86_values.specs.Wrapping.{wrapped}
 use Rattle.opcode_rows.specs.Reading.{IsRead}

@@ -25,7 +25,7 @@ use Rattle.branch_forms.specs.Branches.{near_code}
 use Rattle.branch_forms.specs.Images.{branch_to}
 use Rattle.branch_forms.specs.Rows.{offset_row}
 use Rattle.move_goals.specs.Items.{IsPlaced}
-use Rattle.detour.specs.Jumps.{jump_to, IsOutOfReach}
+use Rattle.detour.specs.Jumps.{jump_to, IsNearJump, IsOutOfReach}
 use Rattle.detour.specs.LawsBelow.{LawsBelow}
 
 first_two : (a b : Bool) → a ≡ true → b ≡ true → ((a && b) && (true && (true && true))) ≡ true
@@ -94,6 +94,13 @@ module _ (laws : LawsBelow) where
   jump-size B16 t = let e = laws.pieces.near_jump-length B16 B16 t in (omega (arith, e), omega (arith, e))
   jump-size B32 t = let e = laws.pieces.near_jump-length B32 B32 t in (omega (arith, e), omega (arith, e))
   jump-size B64 t = let e = laws.pieces.near_jump-length B64 B64 t in (omega (arith, e), omega (arith, e))
+
+  -- the near jump of 64-bit mode has five bytes
+  pub near-five : (at t : ℕ) (bytes : List ℕ) → IsNearJump B64 at t bytes → length bytes ≡ 5
+  unfolding jump_to
+  near-five at t bytes e =
+      let l = laws.pieces.near_jump-length B64 B64 t in
+      let n = laws.targets.encoding-length B64 at (branch_to (near_code Jump B64) None t) bytes e in omega (arith, l, n)
 
   row-encoded : (bits : Bits) (at : ℕ) (row : Row) (i : Instr) → slice_get table i.code.0 ≡ Some row → Suits bits (wrapped bits at) row i → plain_length bits i ≤ 15
       → IsEncodedIn bits at i

@@ -19,8 +19,8 @@ use Rattle.detour.specs.Taken.{AreTaken, bytes_in, first_code_behind}
 use Rattle.detour.specs.Jumps.{IsOutOfReach}
 use Rattle.detour.specs.Entries.{IsNotEntered}
 use Rattle.detour.specs.LawsBelow.{LawsBelow}
-use Rattle.detour.specs.ReadBack.{IsPatchRead}
-use Rattle.detour.proofs.ReadBack.{patch_read, trampoline_read}
+use Rattle.detour.specs.ReadBack.{IsPatchRead, IsRelayRead}
+use Rattle.detour.proofs.ReadBack.{patch_read, relay_read, trampoline_read}
 use Rattle.move_goals.specs.Items.{ArePlaced}
 use Rattle.detour.specs.Trampoline.{block_items, trampoline_plan}
 use Rattle.detour.specs.Detours.{IsTakenAnswer, IsRelay, IsRelayBehind, JumpParts, DetourState, IsJumpOf, IsAnswerTo, patch_of}
@@ -128,6 +128,8 @@ module _ (laws : LawsBelow) (bits : Bits) (ip : ℕ) (code : List ℕ) (to place
           patch_read = subst (λ (bs : List ℕ). IsPatchRead bits ip to jump.form jump.bytes.items jump.relay bs) (sym patch)
               (patch_read laws bits ip code to place start jump.form jump.bytes.items jump.relay first (bytes_in t.items.items));
           trampoline_read = trampoline_read laws bits ip t.items.items place start placed h.0 h.1.0;
+          relay_read = subst (λ (bs : List ℕ). IsRelayRead to place (length h.0.bytes) jump.relay bs) (sym h.1.1.trampoline)
+              (relay_read laws bits ip code to place start jump.form jump.bytes.items jump.relay first t.items.items are h.0 h.1.0);
         }
     laid_answer (Err why) h =
         elim h [

@@ -1,6 +1,7 @@
 -- A patch is read as its jump, and a trampoline as the images of its instructions.
-use Rattle.std.proofs.Common.{◌≡◌, ℕ, ◌<◌, List, ◌++◌, length, replicate, ◌-◌, Option, refl, subst, sym, arith}
+use Rattle.std.proofs.Common.{◌≡◌, ℕ, ◌+◌, ◌<◌, List, ◌++◌, length, replicate, ◌-◌, Option, Some, None, refl, subst, sym, arith}
 use Rattle.std.specs.Prelude.{IfSome}
+use Rattle.std.proofs.Math.Seq.{drop-append_seam}
 use Rattle.std.proofs.lemmas.Bool.{lt-ltb}
 use Rattle.x86_values.specs.declared.Bits.{Bits}
 use Rattle.x86_values.specs.Wrapping.{wrapped}
@@ -14,12 +15,14 @@ use Rattle.detour.specs.LawsBelow.{LawsBelow}
 use Rattle.detour.specs.declared.parts.JumpForm.{JumpForm}
 use Rattle.detour.specs.declared.parts.JumpForm.TheVariants.{Near, Relay, Absolute}
 use Rattle.detour.specs.declared.start.StartTarget.{StartTarget}
-use Rattle.detour.specs.Jumps.{jump_to, IsNearJump}
-use Rattle.detour.specs.Taken.{moved_count}
+use Rattle.detour.specs.Jumps.{jump_to, IsNearJump, absolute_jump}
+use Rattle.detour.specs.Taken.{AreTaken, moved_count}
 use Rattle.detour.specs.Trampoline.{IsTrampoline, block_items, goal_at, plan_at, trampoline_plan}
-use Rattle.detour.specs.ReadBack.{jump_reading, IsPatchRead, IsTrampolineRead}
-use Rattle.detour.specs.Detours.{IsJumpOf, patch_of}
-use Rattle.detour.proofs.Jumping.{jump-four}
+use Rattle.detour.specs.ReadBack.{jump_reading, IsAbsoluteRead, IsRelayRead, IsPatchRead, IsTrampolineRead}
+use Rattle.detour.specs.Detours.{IsJumpOf, patch_of, relay_bytes}
+use Rattle.detour.proofs.Jumping.{jump-four, near-five}
+use Rattle.detour.proofs.Through.{absolute_read, absolute_alone}
+use Rattle.detour.proofs.OnePlace.{relay_place}
 use Rattle.detour.proofs.Planned.{block_placed}
 
 in_first : (items : List Placed) (place k : ℕ) → k < length items → block_number (one_span items place) k ≡ 0
@@ -39,7 +42,35 @@ module _ (laws : LawsBelow) where
   patch_read bits ip code to place start Relay bytes relay h taken =
       subst (λ (r : Option ℕ). IfSome r (λ address. IsRead bits ip (bytes ++ replicate (taken - length bytes) 0xCC) (jump_reading bits address bytes))) (sym h.1.1.0)
       (near_read bits ip h.1.0 bytes (replicate (taken - length bytes) 0xCC) h.1.1.1.1)
-  patch_read bits ip code to place start Absolute bytes relay h taken = tt
+  patch_read bits ip code to place start Absolute bytes relay h taken = (
+    h.0.0,
+    subst (λ (bs : List ℕ). IsAbsoluteRead ip to (bs ++ replicate (taken - length bs) 0xCC)) (sym h.1.1.0)
+        (absolute_read laws ip to (replicate (taken - length (absolute_jump to)) 0xCC)),
+  )
+
+  no_relay : (to place : ℕ) (block : List ℕ) (relay : Option ℕ) → relay ≡ None → IsRelayRead to place (length block) relay (block ++ relay_bytes relay to)
+  no_relay to place block relay none =
+      subst (λ (r : Option ℕ). IsRelayRead to place (length block) r (block ++ relay_bytes r to)) (sym none) tt
+
+  relay_there : (to place : ℕ) (block : List ℕ) (relay : Option ℕ) (address : ℕ) → relay ≡ Some address → address ≡ place + length block
+      → IsRelayRead to place (length block) relay (block ++ relay_bytes relay to)
+  relay_there to place block relay address some there =
+      subst (λ (r : Option ℕ). IsRelayRead to place (length block) r (block ++ relay_bytes r to)) (sym some) (
+        there,
+        subst (λ (bs : List ℕ). IsAbsoluteRead address to bs) (sym (drop-append_seam block (absolute_jump to))) (absolute_alone laws address to),
+      )
+
+  -- **the relay is behind the block, and is read as the jump to the replacement**
+  pub relay_read : (bits : Bits) (ip : ℕ) (code : List ℕ) (to place : ℕ) (start : StartTarget) (form : JumpForm) (bytes : List ℕ) (relay : Option ℕ)
+      → IsJumpOf bits ip code to place start form bytes relay → (items : List Placed) → AreTaken bits ip code (length bytes) items → (m : MovedLists)
+      → IsTrampoline bits ip items place start m → IsRelayRead to place (length m.bytes) relay (m.bytes ++ relay_bytes relay to)
+  relay_read bits ip code to place start Near bytes relay h items are m block = no_relay to place m.bytes relay h.1
+  relay_read bits ip code to place start Relay bytes relay h items are m block =
+      let five : length bytes ≡ 5 = near-five laws ip h.1.0 bytes (subst (λ (b : Bits). IsNearJump b ip h.1.0 bytes) h.0.0 h.1.1.1.1) in
+      let tried = h.1.1.1.0 in
+      relay_there to place m.bytes relay h.1.0 h.1.1.0
+      (relay_place laws bits ip code place start items m block (subst (λ (n : ℕ). AreTaken bits ip code n items) five are) tried.0 tried.1.0 h.1.0 tried.1.1)
+  relay_read bits ip code to place start Absolute bytes relay h items are m block = no_relay to place m.bytes relay h.1.1.1
 
   -- **the trampoline is read as the images of its instructions, each at its place, going to its goal**
   pub trampoline_read : (bits : Bits) (ip : ℕ) (items : List Placed) (place : ℕ) (start : StartTarget) → ArePlaced bits items

@@ -19,7 +19,7 @@ use Rattle.detour.specs.Taken.{AreTaken, IsBadCode, IsTooSmall, IsCodeBehind, by
 use Rattle.detour.specs.Jumps.{IsNearJump, IsOutOfReach, absolute_jump}
 use Rattle.detour.specs.Entries.{IsFirstEntry, IsNotEntered}
 use Rattle.detour.specs.Trampoline.{IsTrampoline, block_items, trampoline_plan}
-use Rattle.detour.specs.ReadBack.{IsPatchRead, IsTrampolineRead}
+use Rattle.detour.specs.ReadBack.{IsPatchRead, IsRelayRead, IsTrampolineRead}
 
 -- ---- what is taken
 
@@ -124,6 +124,7 @@ pub record IsDetour (bits : Bits) (ip : ℕ) (code : List ℕ) (to place : ℕ) 
   pub parts : d.parts ≡ parts_of items place moved jump.relay
   pub patch_read : IsPatchRead bits ip to jump.form jump.bytes jump.relay d.patch
   pub trampoline_read : IsTrampolineRead bits ip items place start block.layout
+  pub relay_read : IsRelayRead to place (length moved.bytes) jump.relay d.trampoline
 
 -- nothing is taken for the first jump that reaches, for this cause
 abbrev pub IsNotTaken : Bits → ℕ → List ℕ → ℕ → ℕ → StartTarget → DetourError → Type 0

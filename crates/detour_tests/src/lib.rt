@@ -1,5 +1,7 @@
-//! Detours worked out by hand, from the Intel manual's notation of JMP, CALL, Jcc and LOOP.
+//! Detours and hooks worked out by hand, from the Intel manual's notation of JMP, CALL, Jcc and LOOP.
 #![tactic(auto)]
 
+#[cfg(test)]
+mod hook_tests;
 #[cfg(test)]
 mod tests;

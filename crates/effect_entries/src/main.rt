@@ -7,15 +7,15 @@
 mod lines;
 mod words;
 
-ghost use Rattle.std.specs.Prelude.{◌<◌};
+ghost use Rattle.std.specs.Prelude.{◌<◌, ◌≡◌};
 
 use anyhow::{Result, bail};
-use instruction_info::features_of;
+use instruction_info::{features_of, needed_features};
 use lines::{Line, line_in, meets};
 use opcode_rows::{ROWS, name, row_of};
 use std::fs;
 use words::{Told, features_in, is_told};
-use x86_values::Code;
+use x86_values::{Code, DispSize, Instr, Mem, Operand, Register, Rep};
 
 /// The files of effects, of which one at most speaks of a row.
 const FILES: [&str; 3] = ["integer.txt", "x87.txt", "vector.txt"];
@@ -36,12 +36,42 @@ fn compare_effect(code: Code, words: &str) -> Result<()>
     Ok(())
 }
 
-/// Compares words with the features that a row needs.
+/// An instruction of a code whose first operand is an address, or the register AL.
+fn sample(code: Code, with_memory: bool) -> Instr
+    ensures { result.code ≡ code }
+{
+    let address = Mem {
+        base: None,
+        index: None,
+        scale: 1,
+        disp_size: DispSize::D0,
+        disp: 0,
+    };
+    let first = if with_memory {
+        Operand::Mem(address)
+    } else {
+        Operand::Reg(Register::Low8(0))
+    };
+    Instr {
+        code,
+        lock: false,
+        rep: Rep::None,
+        seg: None,
+        asize: None,
+        ops: [first, Operand::Absent, Operand::Absent, Operand::Absent],
+    }
+}
+
+/// Compares words with the features that a row needs, in its form with memory and in that without.
 fn compare_features(code: Code, words: &str) -> Result<()>
     requires { code.0 < ROWS }
 {
-    match features_in(words) {
-        Some(bits) if bits == features_of(code).0 => Ok(()),
+    let (all, register) = words.split_once(" register=").unwrap_or((words, words));
+    match (features_in(all), features_in(register)) {
+        (Some(all), Some(register))
+            if all == features_of(code).0
+                && all == needed_features(&sample(code, true)).0
+                && register == needed_features(&sample(code, false)).0 => { Ok(()) }
         _ => bail!("row {}, {}: other features", code.0, name(code)),
     }
 }

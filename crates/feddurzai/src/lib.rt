@@ -33,6 +33,11 @@ pub mod decoding {
     pub use step_count::Steps;
 }
 
+/// Where prefixes, opcode, ModRM, SIB, displacement and each immediate of an instruction stand in its bytes.
+pub mod parts {
+    pub use byte_offsets::{ByteOffsets, Part, laws, offsets};
+}
+
 /// Writing instructions: the shortest bytes of one, and its parts.
 pub mod encoding {
     pub use encoder::{NoSpelling, encode, encoded_len, laws};
@@ -65,7 +70,7 @@ pub mod info {
     pub use crate::columns::{access_of_instr, flow_of_instr, memory_size_of_instr};
     pub use instruction_info::{
         AccessKind, Features, FlagSet, FlagUse, MemoryUse, RegisterUse, all_memory, all_registers,
-        features_of, flags_of, full_register, laws as effect_laws,
+        features_of, flags_of, full_register, laws as effect_laws, needed_features,
     };
     pub use operand_info::{
         Access, Flow, RegUse, access_of, flow_of, ip_operand, laws, memory_size, near_target,
@@ -134,11 +139,15 @@ pub mod streams {
 
 /// The offsets that control reaches, and their basic blocks.
 pub mod flow {
-    pub use crate::reached::{CodeGraphError, graph_of_code};
-    pub use flow_graph::{FlowError, FlowGraph, flow_graph, flow_graph_in, laws};
+    pub use crate::reached::{CodeGraphError, graph_of_code, graph_of_code_from};
+    pub use flow_graph::{FlowError, FlowGraph, flow_graph, flow_graph_from, flow_graph_in, laws};
 }
 
-/// Hooks: what is written over the first bytes of a function, and the trampoline that does what they did.
+/// Hooks: what is written over the first bytes of a function, and the trampoline that does what they did; and those that are live, with their trampolines in
+/// a range of addresses. `laws` has that these stay apart, each with its bytes, after any list of installs and removals.
 pub mod hooks {
     pub use detour::{Detour, DetourError, JumpForm, Parts, StartTarget, detour};
+    pub use hook_slots::{
+        Hook, HookCommand, HookReply, Hooks, InstallError, MakeError, NotTaken, laws, replay,
+    };
 }

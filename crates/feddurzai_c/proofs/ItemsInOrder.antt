@@ -74,7 +74,7 @@ are_placed bits ip bytes (p ∷ ps) ip' rest h (suc k) lt = are_placed bits (ip 
 
 -- ---- and in order
 
-follows : (bits : Bits) (ip : ℕ) (bytes : List ℕ) (items : List Placed) (ip' : ℕ) (rest : List ℕ) → ReadsUpTo bits ip bytes items ip' rest →
+pub follows : (bits : Bits) (ip : ℕ) (bytes : List ℕ) (items : List Placed) (ip' : ℕ) (rest : List ℕ) → ReadsUpTo bits ip bytes items ip' rest →
     (j : ℕ) → suc j < length items → (item_at items (suc j)).ip ≡ old_end (item_at items j)
 follows bits ip bytes [] ip' rest h j lt = absurd (omega arith)
 follows bits ip bytes (p ∷ []) ip' rest h j lt = absurd (omega arith)

@@ -1,7 +1,17 @@
 pub mod ThereAndBack
 pub mod FewUses
 pub mod FewReached
+pub mod PutKinds
 pub mod ItemsInOrder
 pub mod MovedEntries
 pub mod ItemStructs
 pub mod CodeEnds
+pub mod FeatureNames
+pub mod BlocksInOrder
+pub mod RegionsLaid
+pub mod RegionCalls
+pub mod CodeLengths
+pub mod MovedEnds
+pub mod Widths
+pub mod BlockPlaces
+pub mod BlockAnswers

@@ -1,5 +1,5 @@
 -- What the calls of the C interface answer, and what they leave.
-use Rattle.std.specs.Prelude.{◌≡◌, ◌⊎◌, ℕ, ◌+◌, ◌<◌, ◌≤◌, nat_lt, nat_le, ℤ, pos, Bool, true, false, List, ◌∷◌, ◌++◌, length, drop, Option, Some, None, Result, Ok, Err, if◌then◌else◌}
+use Rattle.std.specs.Prelude.{◌≡◌, ◌⊎◌, ℕ, ◌+◌, ◌<◌, ◌≤◌, nat_lt, nat_le, ◌==◌, ◌&&◌, ℤ, pos, Bool, true, false, List, [], ◌∷◌, ◌++◌, length, drop, Option, Some, None, Result, Ok, Err, if◌then◌else◌}
 use Rattle.std.specs.Str.{IsUtf8}
 use Rattle.x86_values.specs.declared.Bits.{Bits}
 use Rattle.x86_values.specs.declared.Operand.{Operand}
@@ -24,6 +24,7 @@ use Rattle.text_parts.specs.declared.style.Style.{Style}
 use Rattle.text_parts.specs.declared.style.Style.TheVariants.{Intel, Att, Masm}
 use Rattle.feddurzai_c.specs.declared.refusal.Refusal.{Refusal}
 use Rattle.feddurzai_c.specs.declared.refusal.Refusal.TheVariants.{Mode, Syntax, Code, Instr as NoInstr, Form, Room, Invalid, TooShort, Name, Spelling}
+use Rattle.feddurzai_c.specs.declared.flat.FlatOperand.{FlatOperand}
 use Rattle.feddurzai_c.specs.declared.flat.FlatInstr.{FlatInstr}
 use Rattle.feddurzai_c.specs.Refusals.{refused}
 use Rattle.feddurzai_c.specs.Numbers.{bits_numbered, style_numbered}
@@ -151,9 +152,43 @@ encoding_of None ip i = Err Mode
 encoding_of (Some bits) ip None = Err NoInstr
 encoding_of (Some bits) ip (Some i) = encoding_told i (encoding bits ip i)
 
+-- the bytes of a struct whose widths are numbers of bits, or why it has none
+abbrev pub sized_answer : ℕ → ℕ → FlatInstr → Result (List ℕ) Refusal
+sized_answer bits ip f = encoding_of (bits_numbered bits) ip (instr_back f)
+
+-- a memory operand whose displacement has the width 255 leaves it to the library
+abbrev pub is_open : FlatOperand → Bool
+is_open op = op.kind == 2 && op.disp_bits == 255
+
+-- an operand, with this width where it is left to the library
+abbrev pub with_width : ℕ → FlatOperand → FlatOperand
+with_width w op = if is_open op then record op { disp_bits = w } else op
+
+-- a struct with such operands
+unfoldable pub of_width : ℕ → FlatInstr → FlatInstr
+of_width w f = record f { op0 = with_width w f.op0; op1 = with_width w f.op1; op2 = with_width w f.op2; op3 = with_width w f.op3 }
+
+-- the address has a displacement of this width: that is not why there are no bytes
+abbrev pub has_width : Result (List ℕ) Refusal → Bool
+has_width (Err (Spelling cause.Displacement n)) = false
+has_width _ = true
+
+-- the shortest of some widths that the address has, and the last where it has none of the others
+abbrev pub first_width : (ℕ → Result (List ℕ) Refusal) → List ℕ → ℕ → ℕ
+first_width answer [] last = last
+first_width answer (w ∷ ws) last = if has_width (answer w) then w else first_width answer ws last
+
+-- the width of a displacement that is left to the library, in bits: the shortest that the address has (2.1.5)
+unfoldable pub width_of : ℕ → ℕ → FlatInstr → ℕ
+width_of bits ip f = first_width (λ w. sized_answer bits ip (of_width w f)) (0 ∷ 8 ∷ 16 ∷ 32 ∷ []) 64
+
+-- the struct with that width
+abbrev pub sized : ℕ → ℕ → FlatInstr → FlatInstr
+sized bits ip f = of_width (width_of bits ip f) f
+
 -- the bytes of a struct, or why it has none
 abbrev pub encode_answer : ℕ → ℕ → FlatInstr → Result (List ℕ) Refusal
-encode_answer bits ip f = encoding_of (bits_numbered bits) ip (instr_back f)
+encode_answer bits ip f = sized_answer bits ip (sized bits ip f)
 
 -- so many bytes at the front of a room are read as the instruction at the address, whatever stands behind them
 abbrev pub IsEncodedAt : Option Bits → ℕ → Option Instr → List ℕ → ℕ → Type 0

@@ -1,7 +1,6 @@
 -- What making a detour answers, and what it leaves in the rooms.
 use Rattle.std.specs.Prelude.{◌≡◌, ℕ, ◌==◌, ◌%◌, ◌^◌, ◌<◌, ◌≤◌, nat_le, ◌&&◌, ℤ, pos, List, ◌++◌, length, drop, Option, Some, None, Result, Ok, Err, if◌then◌else◌}
 use Rattle.x86_values.specs.declared.Bits.{Bits}
-use Rattle.decoder.specs.declared.DecodeError.{DecodeError}
 use Rattle.decoder.specs.declared.DecodeError.TheVariants.{Invalid as InvalidError, TooShort as TooShortError}
 use Rattle.detour.specs.declared.error.DetourError.{DetourError}
 use Rattle.detour.specs.declared.error.DetourError.TheVariants as error

@@ -1,5 +1,6 @@
 pub mod Refusals
 pub mod Numbers
+pub mod Offsets
 pub mod Flat
 pub mod Back
 pub mod Answers
@@ -9,6 +10,11 @@ pub mod Names
 pub mod Assembling
 pub mod Jumps
 pub mod Info
+pub mod Effects
 pub mod Flow
+pub mod FlowFrom
 pub mod Moving
+pub mod Blocks
 pub mod Hooks
+pub mod Regions
+pub mod RegionSearch

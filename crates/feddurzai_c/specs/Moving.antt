@@ -79,11 +79,12 @@ entries items starts forms n = map (entry_at items starts forms) (range_with_len
 
 -- ---- the end
 
--- how many bytes of moved instructions stand before the gap and the slots: those up to the end of the image of the last one
-unfoldable pub code_len : Bits → List Placed → ℕ → List ℕ → List Form → ℕ
-code_len bits items new starts forms =
-    let last = length items - 1 in
-    if length items == 0 then 0
+-- How many bytes of moved instructions stand before the gap and the slots, where so many from one on move to an address: those up to the end of the
+-- image of the last one.
+unfoldable pub code_len : Bits → List Placed → ℕ → ℕ → ℕ → List ℕ → List Form → ℕ
+code_len bits items first count new starts forms =
+    let last = first + count - 1 in
+    if count == 0 then 0
     else (slice_index_or starts last 0 - new + form_length bits (item_at items last).instr (slice_index_or forms last Itself)) % 2 ^ 64
 
 -- the offset of the first slot, of 8 bytes each, behind which nothing stands: all bytes where there is none
@@ -101,7 +102,7 @@ IsRelocated Stay bits items new answer = IsOutsideAnswer bits items new answer
 pub record AreMoved (targets : Targets) (bits : Bits) (items : List Placed) (new : ℕ) (m : MovedCode) : Type 0 where
   pub moved : IsRelocated targets bits items new (Ok m.moved)
   pub entries_are : m.entries.items ≡ entries items m.moved.starts m.moved.forms (length items)
-  pub end : m.code_len ≡ code_len bits items new m.moved.starts m.moved.forms
+  pub end : m.code_len ≡ code_len bits items 0 (length items) new m.moved.starts m.moved.forms
 
 -- the same, or why they are not moved
 abbrev pub IsItemsAnswer : Targets → Bits → List Placed → ℕ → Result MovedCode MoveRefusal → Type 0

@@ -3,7 +3,7 @@ use Rattle.std.specs.Prelude.{ℕ, ◌+◌, ℤ, pos, neg_ℤ}
 use Rattle.plain_spelling.specs.declared.NoSpelling.{NoSpelling}
 use Rattle.plain_spelling.specs.declared.NoSpelling.TheVariants as cause
 use Rattle.feddurzai_c.specs.declared.refusal.Refusal.{Refusal}
-use Rattle.feddurzai_c.specs.declared.refusal.Refusal.TheVariants.{Mode, Syntax, Code, Instr, Form, Room, Invalid, TooShort, Name, Memory, TooLarge, TooMany, Wraps, TooFar, Text, Register, Jump, Start, Small, Ends, Entered, Spelling}
+use Rattle.feddurzai_c.specs.declared.refusal.Refusal.TheVariants.{Mode, Syntax, Code, Instr, Form, Room, Invalid, TooShort, Name, Memory, TooLarge, TooMany, Wraps, TooFar, Text, Register, Jump, Start, Small, Ends, Entered, Block, Region, Empty, Full, NotLive, Spelling}
 
 -- 256 times the number of a condition, 1 to 10
 abbrev pub condition_number : NoSpelling → ℕ
@@ -41,6 +41,11 @@ refusal_number Start = 19
 refusal_number Small = 20
 refusal_number Ends = 21
 refusal_number Entered = 22
+refusal_number Block = 23
+refusal_number Region = 24
+refusal_number Empty = 25
+refusal_number Full = 26
+refusal_number NotLive = 27
 refusal_number (Spelling why operand) = condition_number why + operand
 
 -- a refusal is told by its number below zero

@@ -1,6 +1,6 @@
 //! Where moved code ends.
 
-ghost use Rattle.std.specs.Prelude.{◌≡◌, ◌<◌, length};
+ghost use Rattle.std.specs.Prelude.{◌≡◌, ◌+◌, ◌<◌, ◌≤◌, length};
 ghost use Rattle.branch_forms.specs.Images.{form_length, instrs_of, pieces_length};
 ghost use Rattle.feddurzai_c.specs.Moving as spec;
 
@@ -34,23 +34,26 @@ fn form_len(bits: Bits, instr: &Instr, form: Form) -> u64
     image_len(bits, &image_of(bits, instr, form, 0, 0, 0))
 }
 
-/// How many bytes moved instructions have: those up to the end of the image of the last one.
+/// How many bytes `count` moved instructions from number `first` on have, which move to `new`: those up to the end of the image of the last one.
 #[tactic(auto, unfolding(crate::specs::Moving::code_len))]
 pub(crate) fn code_len(
     bits: Bits,
     items: &[Placed],
+    first: usize,
+    count: usize,
     new: u64,
     starts: &[u64],
     forms: &[Form],
 ) -> u64
+    requires within { first + count ≤ length items.now }
     requires starts { length starts.now ≡ length items.now }
     requires forms { length forms.now ≡ length items.now }
-    ensures { result ≡ spec.code_len bits items.now new starts.now forms.now }
+    ensures { result ≡ spec.code_len bits items.now first count new starts.now forms.now }
 {
-    if items.is_empty() {
+    if count == 0 {
         return 0;
     }
-    let last = items.len() - 1;
+    let last = first + count - 1;
     let offset = starts[last].saturating_sub(new);
     offset.wrapping_add(form_len(bits, &items[last].instr, forms[last]))
 }

@@ -5,7 +5,7 @@ ghost use Rattle.feddurzai_c.specs.Numbers.{bits_numbered};
 ghost use Rattle.feddurzai_c.specs.Answers as spec;
 
 use crate::flat::FlatInstr;
-use crate::flatten::flat_decoded;
+use crate::flatten::flat_into;
 use crate::numbers::bits_numbered;
 use crate::refusal::{Refusal, refused};
 use decoder::{DecodeError, decode_in};
@@ -17,7 +17,7 @@ fn decode_into(bits: Bits, ip: u64, bytes: &[u8], instr: &mut FlatInstr) -> i32
 {
     match decode_in(bits, ip, bytes) {
         Ok(decoded) => {
-            *instr = flat_decoded(&decoded);
+            flat_into(&decoded, instr);
             i32::from(decoded.len)
         }
         Err(DecodeError::TooShort) => refused(Refusal::TooShort),

@@ -6,7 +6,7 @@ ghost use Rattle.feddurzai_c.specs.Back.{instr_back};
 ghost use Rattle.x86_values.specs.Operands.{is_memory};
 ghost use Rattle.feddurzai_c.specs.Answers as spec;
 
-use crate::flat::FlatInstr;
+use crate::flat::{FlatInstr, FlatOperand};
 use crate::numbers::bits_numbered;
 use crate::refusal::{Refusal, refused};
 use crate::room::put_bytes;
@@ -82,10 +82,10 @@ pub(crate) fn no_spelling(instr: &Instr, why: NoSpelling) -> Refusal
     }
 }
 
-/// The bytes of the instruction of a struct.
+/// The bytes of the instruction of a struct whose displacement has a width.
 #[tactic(auto, unfolding(crate::specs::Answers::encoding_of))]
 fn bytes_of(bits: u32, ip: u64, instr: &FlatInstr) -> Result<ArrayVec<u8, 15>, Refusal>
-    ensures answer { MatchResult result (λ bytes. spec.encode_answer bits ip instr.now ≡ Ok bytes.items) (λ why. spec.encode_answer bits ip instr.now ≡ Err why) }
+    ensures answer { MatchResult result (λ bytes. spec.sized_answer bits ip instr.now ≡ Ok bytes.items) (λ why. spec.sized_answer bits ip instr.now ≡ Err why) }
     ensures read_back { IfOk result (λ bytes. (rest : List ℕ) → spec.IsEncodedAt (bits_numbered bits) ip (instr_back instr.now) (bytes.items ++ rest) (length bytes.items)) }
 {
     let Some(bits) = bits_numbered(bits) else {
@@ -100,29 +100,107 @@ fn bytes_of(bits: u32, ip: u64, instr: &FlatInstr) -> Result<ArrayVec<u8, 15>, R
     }
 }
 
+/// Whether the width of an operand's displacement is left to the library.
+fn is_open(op: &FlatOperand) -> bool
+    ensures { result ≡ spec.is_open op.now }
+{
+    op.kind == 2 && op.disp_bits == 255
+}
+
+/// An operand with this width where it is left to the library.
+fn with_width(width: u8, op: &FlatOperand) -> FlatOperand
+    ensures { result ≡ spec.with_width width op.now }
+{
+    if is_open(op) {
+        FlatOperand {
+            disp_bits: width,
+            ..*op
+        }
+    } else {
+        *op
+    }
+}
+
+/// A struct with this width where it is left to the library.
+#[tactic(auto, unfolding(crate::specs::Answers::of_width))]
+fn of_width(width: u8, f: &FlatInstr) -> FlatInstr
+    ensures { result ≡ spec.of_width width f.now }
+{
+    FlatInstr {
+        op0: with_width(width, &f.op0),
+        op1: with_width(width, &f.op1),
+        op2: with_width(width, &f.op2),
+        op3: with_width(width, &f.op3),
+        ..*f
+    }
+}
+
+/// Whether the address of a struct has a displacement of this width.
+fn has_width(bits: u32, ip: u64, f: &FlatInstr, width: u8) -> bool
+    ensures { result ≡ spec.has_width (spec.sized_answer bits ip (spec.of_width width f.now)) }
+{
+    let sized = of_width(width, f);
+    match bytes_of(bits, ip, &sized) {
+        Ok(_) => true,
+        Err(Refusal::Spelling { why, .. }) => !matches!(why, NoSpelling::Displacement),
+        Err(_) => true,
+    }
+}
+
+/// The shortest width of a displacement that the address of a struct has, in bits.
+#[tactic(auto, unfolding(crate::specs::Answers::width_of))]
+fn width_of(bits: u32, ip: u64, f: &FlatInstr) -> u8
+    ensures { result ≡ spec.width_of bits ip f.now }
+{
+    if has_width(bits, ip, f, 0) {
+        0
+    } else if has_width(bits, ip, f, 8) {
+        8
+    } else if has_width(bits, ip, f, 16) {
+        16
+    } else if has_width(bits, ip, f, 32) {
+        32
+    } else {
+        64
+    }
+}
+
+/// A struct whose displacement has a width: its own, or the shortest where that is left to the library.
+#[tactic(auto, using(crate::proofs::Widths::of_width_closed))]
+fn sized(bits: u32, ip: u64, f: &FlatInstr) -> FlatInstr
+    ensures { result ≡ spec.sized bits ip f.now }
+{
+    if is_open(&f.op0) || is_open(&f.op1) || is_open(&f.op2) || is_open(&f.op3) {
+        of_width(width_of(bits, ip, f), f)
+    } else {
+        *f
+    }
+}
+
 /// Writes the plain (shortest) spelling of an instruction at an address, and says how many bytes it has: 1 to 15.
 ///
-/// `ip` is the address of the first byte, taken modulo 2 to the number of bits of the mode. The length in the struct plays no part. The room is
-/// unchanged behind the bytes, and whole after a refusal: `Mode`, `Instr`, `Spelling`, `Room`, the first that stands. A `Spelling` says the first of
-/// the ten conditions of a plain spelling that fails, and the operand that fails it (Intel SDM volume 2, 2.1 to 2.3).
+/// `ip` is the address of the first byte, taken modulo 2 to the number of bits of the mode. The length in the struct plays no part. A displacement of the
+/// width 255 gets the shortest width that its address has. The room is unchanged behind the bytes, and whole after a refusal: `Mode`, `Instr`, `Spelling`,
+/// `Room`, the first that stands. A `Spelling` says the first of the ten conditions of a plain spelling that fails, and the operand that fails it (Intel SDM
+/// volume 2, 2.1 to 2.3).
 #[tactic(auto, unfolding(crate::specs::Answers::bytes_within))]
 #[unsafe(no_mangle)]
 pub extern "C" fn feddurzai_encode(bits: u32, ip: u64, instr: &FlatInstr, out: &mut [u8]) -> i32
     ensures said { result ≡ spec.said (spec.bytes_within (length out.old) (spec.encode_answer bits ip instr.now)) }
     ensures left { out.new ≡ spec.with_bytes out.old (spec.bytes_within (length out.old) (spec.encode_answer bits ip instr.now)) }
-    ensures read_back { (n : ℕ) → result ≡ pos n → spec.IsEncodedAt (bits_numbered bits) ip (instr_back instr.now) out.new n }
+    ensures read_back { (n : ℕ) → result ≡ pos n → spec.IsEncodedAt (bits_numbered bits) ip (instr_back (spec.sized bits ip instr.now)) out.new n }
 {
-    match bytes_of(bits, ip, instr) {
+    let instr = sized(bits, ip, instr);
+    match bytes_of(bits, ip, &instr) {
         Ok(bytes) => put_bytes(out, &bytes),
         Err(why) => refused(why),
     }
 }
 
-/// How many bytes the plain (shortest) spelling of an instruction at an address has: 1 to 15. The refusals are those of `feddurzai_encode`, but for `Room`.
+/// How many bytes the instruction of a struct has, whose displacement has a width.
 #[tactic(auto, unfolding(crate::specs::Answers::encoding_of))]
-#[unsafe(no_mangle)]
-pub extern "C" fn feddurzai_encoded_len(bits: u32, ip: u64, instr: &FlatInstr) -> i32
-    ensures { result ≡ spec.said (spec.encode_answer bits ip instr.now) }
+fn len_of(bits: u32, ip: u64, instr: &FlatInstr) -> i32
+    ensures { result ≡ spec.said (spec.sized_answer bits ip instr.now) }
 {
     let Some(bits) = bits_numbered(bits) else {
         return refused(Refusal::Mode);
@@ -134,4 +212,13 @@ pub extern "C" fn feddurzai_encoded_len(bits: u32, ip: u64, instr: &FlatInstr) -
         Ok(len) => i32::from(len),
         Err(why) => refused(no_spelling(&instr, why)),
     }
+}
+
+/// How many bytes the plain (shortest) spelling of an instruction at an address has: 1 to 15. The refusals are those of `feddurzai_encode`, but for `Room`.
+#[unsafe(no_mangle)]
+pub extern "C" fn feddurzai_encoded_len(bits: u32, ip: u64, instr: &FlatInstr) -> i32
+    ensures { result ≡ spec.said (spec.encode_answer bits ip instr.now) }
+{
+    let instr = sized(bits, ip, instr);
+    len_of(bits, ip, &instr)
 }

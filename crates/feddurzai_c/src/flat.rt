@@ -82,6 +82,58 @@ pub struct FlatInfo {
     pub uses: [FlatUse; 8],
 }
 
+/// Memory that an instruction touches, with what it does there: an address of a segment, and a number of bytes.
+#[derive(Clone, Copy, PartialEq, Eq, Debug)]
+#[repr(C)]
+pub struct FlatMemoryUse {
+    /// The displacement, cut to the address size; at the base RIP or EIP the absolute address.
+    pub displacement: u64,
+    /// How many bytes, 0 where that is not known.
+    pub size: u16,
+    /// The segment register, 1 to 6 for ES, CS, SS, DS, FS and GS.
+    pub segment: u8,
+    /// The class of the base, 0 for none.
+    pub base_class: u8,
+    /// Its number in the class.
+    pub base_number: u8,
+    /// The class of the index, 0 for none.
+    pub index_class: u8,
+    /// Its number in the class.
+    pub index_number: u8,
+    /// 1, 2, 4 or 8.
+    pub scale: u8,
+    /// The bits of what is done.
+    pub access: u8,
+}
+
+/// What an instruction touches. What is done to a register or memory is a number of four bits: 1 read, 2 written, 4 and 8 the same under a condition.
+#[derive(Clone, Copy, PartialEq, Eq, Debug)]
+#[repr(C)]
+pub struct FlatTouched {
+    /// The CPUID features that it needs, by their bits.
+    pub features: u64,
+    /// The flags that it depends on: EFLAGS at their bits, C0 to C3 at bits 24, 25, 26 and 30.
+    pub flags_read: u32,
+    /// The flags that it gives a value.
+    pub flags_written: u32,
+    /// Those of them that become 0.
+    pub flags_cleared: u32,
+    /// Those of them that become 1.
+    pub flags_set: u32,
+    /// The flags that are undefined behind it.
+    pub flags_undefined: u32,
+    /// Those of the written and undefined that it may leave as they were.
+    pub flags_kept: u32,
+    /// The memory, at most four uses, and behind them zeros.
+    pub memory: [FlatMemoryUse; 4],
+    /// The registers, at most 32 uses, and behind them zeros.
+    pub registers: [FlatUse; 32],
+    /// How many uses of memory there are.
+    pub memory_count: u8,
+    /// How many uses of registers there are.
+    pub register_count: u8,
+}
+
 /// An instruction that was moved.
 #[derive(Clone, Copy, PartialEq, Eq, Debug)]
 #[repr(C)]
@@ -114,6 +166,48 @@ pub struct FlatMove {
     pub slots_at: u64,
 }
 
+/// A block of code that is moved with others.
+#[derive(Clone, Copy, PartialEq, Eq, Debug)]
+#[repr(C)]
+pub struct FlatBlock {
+    /// The address of its first byte before.
+    pub old_ip: u64,
+    /// That address after.
+    pub new_ip: u64,
+    /// Where its first byte stands in the bytes of all blocks.
+    pub offset: u64,
+    /// How many bytes it has.
+    pub len: u64,
+}
+
+/// A moved block.
+#[derive(Clone, Copy, PartialEq, Eq, Debug)]
+#[repr(C)]
+pub struct FlatPlace {
+    /// How many moved bytes there are up to its end; the next block begins there.
+    pub end: u64,
+    /// How many bytes it has before the gap and its slots.
+    pub code_bytes: u64,
+    /// How many instructions it has.
+    pub count: u64,
+}
+
+/// The numbers of a moving of blocks.
+#[derive(Clone, Copy, PartialEq, Eq, Debug)]
+#[repr(C)]
+pub struct FlatBlocks {
+    /// How many bytes the moved blocks have together, with their slots.
+    pub bytes: u64,
+    /// How many instructions they have together.
+    pub count: u64,
+    /// The number of the block that fails, from 0; how many there are where that is not told.
+    pub block: u64,
+    /// In this block the offset of the byte at which none is read, or the number of the instruction that does not reach its target.
+    pub at: u64,
+    /// That target, or the end that passes the address space.
+    pub address: u64,
+}
+
 /// The numbers of a detour.
 #[derive(Clone, Copy, PartialEq, Eq, Debug)]
 #[repr(C)]
@@ -134,4 +228,57 @@ pub struct FlatDetour {
     pub target: u64,
     /// The form of the jump: 1 near, 2 near to a relay, 3 with the address behind it; 0 without a detour.
     pub form: u8,
+}
+
+/// A fixed range of addresses in which blocks of code find a place.
+#[derive(Clone, Copy, PartialEq, Eq, Debug)]
+#[repr(C)]
+pub struct FlatRegion {
+    /// Its first address.
+    pub base: u64,
+    /// How many bytes it has.
+    pub size: u64,
+    /// How many blocks are live in it: the first ones of an array beside it.
+    pub count: u64,
+}
+
+/// A live block of a region.
+#[derive(Clone, Copy, PartialEq, Eq, Debug)]
+#[repr(C)]
+pub struct FlatLive {
+    /// The address where it starts.
+    pub place: u64,
+    /// How many bytes it takes.
+    pub len: u64,
+}
+
+/// A part of an instruction's bytes.
+#[derive(Clone, Copy, PartialEq, Eq, Debug)]
+#[repr(C)]
+pub struct FlatPart {
+    /// The offset of its first byte from the first one of the instruction.
+    pub at: u8,
+    /// How many bytes it has, 0 where it is not there.
+    pub len: u8,
+}
+
+/// Where the parts of an instruction stand in its bytes, in their order.
+#[derive(Clone, Copy, PartialEq, Eq, Debug)]
+#[repr(C)]
+pub struct FlatOffsets {
+    /// The legacy prefixes and the REX.
+    pub prefixes: FlatPart,
+    /// The VEX, or the escape bytes 0F, 0F 38 or 0F 3A.
+    pub lead: FlatPart,
+    /// The opcode byte.
+    pub opcode: FlatPart,
+    pub modrm: FlatPart,
+    pub sib: FlatPart,
+    pub displacement: FlatPart,
+    /// The bytes behind the displacement that are the first operand's own, and so on: an immediate, an offset of a branch, a far pointer, or the byte
+    /// that names a register.
+    pub immediate0: FlatPart,
+    pub immediate1: FlatPart,
+    pub immediate2: FlatPart,
+    pub immediate3: FlatPart,
 }

@@ -24,8 +24,22 @@ pub(crate) const ABSENT: FlatOperand = FlatOperand {
     disp_bits: 0,
 };
 
+/// A struct of which nothing is written yet.
+const NO_INSTR: FlatInstr = FlatInstr {
+    op0: ABSENT,
+    op1: ABSENT,
+    op2: ABSENT,
+    op3: ABSENT,
+    code: 0,
+    len: 0,
+    lock: 0,
+    rep: 0,
+    segment: 0,
+    asize: 0,
+};
+
 /// The class of a register that may be absent.
-fn base_class(register: Option<Register>) -> u8
+pub(crate) fn base_class(register: Option<Register>) -> u8
     ensures { result ≡ spec.base_class register }
 {
     match register {
@@ -35,7 +49,7 @@ fn base_class(register: Option<Register>) -> u8
 }
 
 /// The number of a register that may be absent.
-fn base_number(register: Option<Register>) -> u8
+pub(crate) fn base_number(register: Option<Register>) -> u8
     ensures { result ≡ spec.base_number register }
 {
     match register {
@@ -45,9 +59,10 @@ fn base_number(register: Option<Register>) -> u8
 }
 
 /// An address.
+#[inline(always)]
 #[tactic(auto, unfolding(crate::specs::Flat::flat_operand))]
-fn flat_memory(m: Mem) -> FlatOperand
-    ensures { result ≡ spec.flat_operand (Operand.Mem m) }
+fn flat_memory(m: &Mem) -> FlatOperand
+    ensures { result ≡ spec.flat_operand (Operand.Mem m.now) }
 {
     FlatOperand {
         value: m.disp,
@@ -62,56 +77,85 @@ fn flat_memory(m: Mem) -> FlatOperand
     }
 }
 
-/// An operand.
+/// Writes an operand to its place in a struct.
+// Each arm writes the place: an operand that all arms hand on is put together from its parts again.
+#[inline(never)]
 #[tactic(auto, unfolding(crate::specs::Flat::flat_operand))]
-fn flat_operand(operand: Operand) -> FlatOperand
-    ensures { result ≡ spec.flat_operand operand }
+fn present_into(operand: &Operand, place: &mut FlatOperand)
+    ensures { place.new ≡ spec.flat_operand operand.now }
 {
     match operand {
-        Operand::Absent => ABSENT,
-        Operand::Reg(register) => FlatOperand {
-            kind: 1,
-            reg_class: class_number(register),
-            reg_number: register.number(),
-            ..ABSENT
-        },
-        Operand::Mem(m) => flat_memory(m),
-        Operand::Imm(value) => FlatOperand {
-            value,
-            kind: 3,
-            ..ABSENT
-        },
-        Operand::Near(value) => FlatOperand {
-            value,
-            kind: 4,
-            ..ABSENT
-        },
-        Operand::Far { selector, offset } => FlatOperand {
-            offset,
-            selector,
-            kind: 5,
-            ..ABSENT
-        },
+        Operand::Absent => *place = ABSENT,
+        Operand::Reg(register) => {
+            *place = FlatOperand {
+                kind: 1,
+                reg_class: class_number(*register),
+                reg_number: register.number(),
+                ..ABSENT
+            }
+        }
+        Operand::Mem(m) => *place = flat_memory(m),
+        Operand::Imm(value) => {
+            *place = FlatOperand {
+                value: *value,
+                kind: 3,
+                ..ABSENT
+            }
+        }
+        Operand::Near(value) => {
+            *place = FlatOperand {
+                value: *value,
+                kind: 4,
+                ..ABSENT
+            }
+        }
+        Operand::Far { selector, offset } => {
+            *place = FlatOperand {
+                offset: *offset,
+                selector: *selector,
+                kind: 5,
+                ..ABSENT
+            }
+        }
     }
 }
 
-/// An instruction and its length. The instruction comes back from the struct.
+/// Writes an operand, where there is one, to its place in a struct.
+#[inline(always)]
+#[tactic(auto, unfolding(crate::specs::Flat::flat_operand))]
+fn operand_into(operand: &Operand, place: &mut FlatOperand)
+    ensures { place.new ≡ spec.flat_operand operand.now }
+{
+    match operand {
+        Operand::Absent => *place = ABSENT,
+        _ => present_into(operand, place),
+    }
+}
+
+/// Writes an instruction and its length to a struct, from which the instruction comes back.
 #[tactic(auto, using(crate::proofs::ThereAndBack::instr_back_flat), unfolding(crate::specs::Flat::flat_instr))]
+pub(crate) fn flat_into(d: &Decoded, place: &mut FlatInstr)
+    ensures flat { place.new ≡ spec.flat_decoded d.now }
+    ensures back { instr_back place.new ≡ Some d.now.instr }
+{
+    operand_into(&d.instr.ops[0], &mut place.op0);
+    operand_into(&d.instr.ops[1], &mut place.op1);
+    operand_into(&d.instr.ops[2], &mut place.op2);
+    operand_into(&d.instr.ops[3], &mut place.op3);
+    place.code = d.instr.code.0;
+    place.len = d.len;
+    place.lock = lock_number(d.instr.lock);
+    place.rep = rep_number(d.instr.rep);
+    place.segment = prefix_number(d.instr.seg);
+    place.asize = asize_number(d.instr.asize);
+}
+
+/// An instruction and its length. The instruction comes back from the struct.
 pub(crate) fn flat_decoded(d: &Decoded) -> FlatInstr
     ensures flat { result ≡ spec.flat_decoded d.now }
     ensures back { instr_back result ≡ Some d.now.instr }
 {
-    let [op0, op1, op2, op3] = d.instr.ops;
-    FlatInstr {
-        op0: flat_operand(op0),
-        op1: flat_operand(op1),
-        op2: flat_operand(op2),
-        op3: flat_operand(op3),
-        code: d.instr.code.0,
-        len: d.len,
-        lock: lock_number(d.instr.lock),
-        rep: rep_number(d.instr.rep),
-        segment: prefix_number(d.instr.seg),
-        asize: asize_number(d.instr.asize),
-    }
+    let mut flat = NO_INSTR;
+    flat_into(d, &mut flat);
+    flat
 }

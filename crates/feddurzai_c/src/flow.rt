@@ -30,7 +30,7 @@ fn graph_of(alloc: Global, bits: u32, base: u64, bytes: &[u8]) -> Result<FlowGra
 }
 
 /// Writes numbers at the front of a room.
-fn write_numbers(out: &mut [u32], numbers: &[u32])
+pub(crate) fn write_numbers(out: &mut [u32], numbers: &[u32])
     requires { length numbers.now ≤ length out.old }
     ensures { out.new ≡ numbers.now ++ drop (length numbers.now) out.old }
 {

@@ -17,7 +17,7 @@ use text_parts::prefix_words::has_memory;
 use x86_values::Instr;
 
 /// The number of a flow, 0 to 8.
-fn flow_number(flow: Flow) -> u8
+pub(crate) fn flow_number(flow: Flow) -> u8
     ensures { result ≡ spec.flow_number flow }
 {
     match flow {

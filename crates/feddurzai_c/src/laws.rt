@@ -1,7 +1,19 @@
 //! What holds of the structs, whatever is called.
 
-ghost use Rattle.std.specs.Prelude.{◌≡◌, ℕ, length, Some};
+ghost use Rattle.std.specs.Prelude.{◌≡◌, ℕ, ◌-◌, ◌%◌, ◌^◌, ◌<◌, List, length, slice_index_or, Some};
+ghost use Rattle.x86_values.specs.declared.Bits.{Bits};
+ghost use Rattle.branch_sizes.specs.declared.plan.BlockSpan.{BlockSpan};
+ghost use Rattle.branch_sizes.specs.Layout.{span_at};
+ghost use Rattle.move_goals.specs.declared.items.Placed.{Placed};
+ghost use Rattle.move_goals.specs.Items.{AreSpansOf, one_span};
+ghost use Rattle.move_goals.specs.Plan.{plan_for, plan_outside};
+ghost use Rattle.move_layout.specs.Laid.{images_end};
 ghost use Rattle.x86_values.specs.declared.Instr.{Instr};
+ghost use Rattle.feddurzai_c.specs.declared.moved.MovedCode.{MovedCode};
+ghost use Rattle.feddurzai_c.specs.declared.moved_blocks.CodeBlocks.{CodeBlocks};
+ghost use Rattle.feddurzai_c.specs.declared.moved.Targets.TheVariants.{Follow, Stay};
+ghost use Rattle.feddurzai_c.specs.Moving.{AreMoved};
+ghost use Rattle.feddurzai_c.specs.Blocks.{AreBlocksMoved, no_place};
 ghost use Rattle.feddurzai_c.specs.Flat.{flat_instr};
 ghost use Rattle.feddurzai_c.specs.Back.{instr_back};
 
@@ -10,3 +22,17 @@ ghost use Rattle.feddurzai_c.specs.Back.{instr_back};
 pub fn instructions_come_back()
     ensures { (i : Instr) (len : ℕ) → length i.ops ≡ 4 → instr_back (flat_instr i len) ≡ Some i }
 {}
+
+/// The code of moved instructions ends where their images end and the gap or the slots begin, in each call that moves some: of instructions that follow one
+/// another, of those that keep their targets, and of each block of several.
+pub fn code_ends_with_its_images()
+    ensures follow { (bits : Bits) (items : List Placed) (new : ℕ) (m : MovedCode) → (moved : AreMoved Follow bits items new m)
+        → m.code_len ≡ (images_end (plan_for bits (one_span items new) items) moved.moved.layout 0 - new) % 2 ^ 64 }
+    ensures stay { (bits : Bits) (items : List Placed) (new : ℕ) (m : MovedCode) → (moved : AreMoved Stay bits items new m)
+        → m.code_len ≡ (images_end (plan_outside bits items new) moved.moved.1.layout 0 - new) % 2 ^ 64 }
+    ensures blocks { (bits : Bits) (spans : List BlockSpan) (items : List Placed) (m : CodeBlocks) → AreSpansOf items spans → (moved : AreBlocksMoved bits spans items m)
+        → (b : ℕ) → b < length spans → (slice_index_or m.places.items b no_place).code_bytes
+        ≡ (images_end (plan_for bits spans items) moved.moved.layout b - (span_at spans b).new_base) % 2 ^ 64 }
+{
+    block_encoder::laws::plans_seat_their_items();
+}

@@ -7,12 +7,16 @@
 #![tactic(auto)]
 
 mod assembling;
+mod block_places;
+mod blocks;
 mod code_len;
 mod decoding;
+mod effects;
 mod encoding;
 mod flat;
 mod flatten;
 mod flow;
+mod flow_from;
 mod hooks;
 mod info;
 mod jump;
@@ -20,10 +24,14 @@ pub mod laws;
 mod line;
 mod many;
 mod moved;
+mod moved_blocks;
 mod moving;
 mod names;
 mod numbers;
+mod offsets;
 mod refusal;
+mod region;
+mod region_search;
 mod room;
 mod rows;
 #[cfg(test)]

@@ -5,7 +5,7 @@ ghost use Rattle.feddurzai_c.specs.Numbers.{bits_numbered, style_numbered};
 ghost use Rattle.feddurzai_c.specs.Lines as spec;
 
 use crate::flat::FlatInstr;
-use crate::flatten::flat_decoded;
+use crate::flatten::flat_into;
 use crate::numbers::{bits_numbered, style_numbered};
 use crate::refusal::{Refusal, refused};
 use crate::room::write_text;
@@ -15,6 +15,8 @@ use text_parts::style::Style;
 use x86_values::{Bits, Decoded};
 
 /// Reads an instruction and writes its text in a style, where the room holds it.
+// Built into its callers, which take the result apart: so it is not copied once more.
+#[inline(always)]
 #[tactic(auto, unfolding(crate::specs::Lines::line_of))]
 fn line_in(
     bits: Bits,
@@ -40,6 +42,7 @@ fn line_in(
 }
 
 /// Reads an instruction and writes its text, by the numbers of a mode and a style.
+#[inline(always)]
 fn line_by(
     bits: u32,
     syntax: u32,
@@ -75,7 +78,7 @@ pub extern "C" fn feddurzai_line(
 {
     match line_by(bits, syntax, ip, bytes, out) {
         Ok(decoded) => {
-            *instr = flat_decoded(&decoded);
+            flat_into(&decoded, instr);
             i32::from(decoded.len)
         }
         Err(why) => refused(why),

@@ -15,7 +15,7 @@ use std::alloc::{AllocError, Global};
 use x86_values::Bits;
 
 /// How many bytes of code are moved together at most.
-const MOST: usize = 1_048_576;
+pub(crate) const MOST: usize = 1_048_576;
 
 /// What becomes of a target that is one of the instructions that are moved.
 #[derive(Clone, Copy, PartialEq, Eq, Debug)]
@@ -70,7 +70,7 @@ fn form_number(form: Form) -> u8
 }
 
 /// Reads the instructions of some code, each with its address.
-fn read_items(
+pub(crate) fn read_items(
     alloc: Global,
     bits: Bits,
     base: u64,
@@ -125,7 +125,7 @@ fn entry_at(items: &[Placed], starts: &[u64], forms: &[Form], k: usize) -> FlatM
 }
 
 /// The entries of moved instructions.
-fn entries_of(
+pub(crate) fn entries_of(
     alloc: Global,
     items: &[Placed],
     starts: &[u64],
@@ -174,7 +174,8 @@ fn move_items(
     match relocated(alloc, targets, bits, items, new) {
         Ok(moved) => match entries_of(alloc, items, moved.starts(), moved.forms()) {
             Ok(entries) => {
-                let code_len = code_len(bits, items, new, moved.starts(), moved.forms());
+                let count = items.len();
+                let code_len = code_len(bits, items, 0, count, new, moved.starts(), moved.forms());
                 Ok(MovedCode {
                     moved,
                     code_len,
@@ -192,7 +193,7 @@ fn move_items(
 }
 
 /// The address behind the old code. No bytes are an empty block, whose old end is its new base.
-fn code_end(old: u64, bytes: &[u8], new: u64) -> u128
+pub(crate) fn code_end(old: u64, bytes: &[u8], new: u64) -> u128
     ensures { result ≡ spec.code_end old bytes.now new }
 {
     if bytes.is_empty() {

@@ -85,7 +85,7 @@ fn report_of(answer: &Result<MovedCode, MoveRefusal>) -> FlatMove
 }
 
 /// Writes entries at the front of a room.
-fn write_entries(map: &mut [FlatMoved], entries: &[FlatMoved])
+pub(crate) fn write_entries(map: &mut [FlatMoved], entries: &[FlatMoved])
     requires { length entries.now ≤ length map.old }
     ensures { map.new ≡ entries.now ++ drop (length entries.now) map.old }
 {

@@ -24,7 +24,7 @@ pub(crate) enum Refusal {
     Invalid,
     /// The bytes end before an instruction does.
     TooShort,
-    /// No row has this name and number.
+    /// No row has this name and number, or no feature this bit.
     Name,
     /// There was not enough memory.
     Memory,
@@ -50,6 +50,16 @@ pub(crate) enum Refusal {
     Ends,
     /// What would be written over is entered.
     Entered,
+    /// A block is not inside the bytes.
+    Block,
+    /// The numbers of a region are none, or its live blocks do not stand by address inside it.
+    Region,
+    /// A place for no bytes.
+    Empty,
+    /// No gap of the region is long enough.
+    Full,
+    /// No live block starts there.
+    NotLive,
     /// The instruction has no plain spelling there: the condition that fails, and the operand that fails it, 0 for a condition of the whole instruction.
     Spelling { why: NoSpelling, operand: u8 },
 }
@@ -99,6 +109,11 @@ fn refusal_number(why: Refusal) -> u16
         Refusal::Small => 20,
         Refusal::Ends => 21,
         Refusal::Entered => 22,
+        Refusal::Block => 23,
+        Refusal::Region => 24,
+        Refusal::Empty => 25,
+        Refusal::Full => 26,
+        Refusal::NotLive => 27,
         Refusal::Spelling { why, operand } => condition_number(why) + u16::from(operand),
     }
 }

@@ -1,9 +1,15 @@
 use crate::assembling::{feddurzai_assemble, feddurzai_read_intel};
+use crate::blocks::feddurzai_move_blocks;
 use crate::decoding::feddurzai_decode;
+use crate::effects::{feddurzai_effects, feddurzai_feature_name, feddurzai_full_register};
 use crate::encoding::{feddurzai_encode, feddurzai_encoded_len};
-use crate::flat::{FlatDetour, FlatInfo, FlatInstr, FlatMove, FlatMoved, FlatUse};
+use crate::flat::{
+    FlatBlock, FlatBlocks, FlatDetour, FlatInfo, FlatInstr, FlatMemoryUse, FlatMove, FlatMoved,
+    FlatOffsets, FlatPart, FlatPlace, FlatTouched, FlatUse,
+};
 use crate::flatten::ABSENT;
 use crate::flow::feddurzai_flow;
+use crate::flow_from::feddurzai_flow_from;
 use crate::hooks::feddurzai_detour;
 use crate::info::feddurzai_info;
 use crate::jump::feddurzai_jump;
@@ -11,6 +17,7 @@ use crate::line::{feddurzai_line, feddurzai_line_text};
 use crate::many::feddurzai_decode_many;
 use crate::moving::{feddurzai_move, feddurzai_move_outside};
 use crate::names::{feddurzai_register_text, feddurzai_segment_text};
+use crate::offsets::feddurzai_offsets;
 use crate::rows::{feddurzai_code_of, feddurzai_name, feddurzai_notation};
 use crate::texts::feddurzai_text;
 use std::test::Fail;
@@ -26,6 +33,21 @@ const NO_INSTR: FlatInstr = FlatInstr {
     rep: 0,
     segment: 0,
     asize: 0,
+};
+
+const NO_PART: FlatPart = FlatPart { at: 0, len: 0 };
+
+const NO_PARTS: FlatOffsets = FlatOffsets {
+    prefixes: NO_PART,
+    lead: NO_PART,
+    opcode: NO_PART,
+    modrm: NO_PART,
+    sib: NO_PART,
+    displacement: NO_PART,
+    immediate0: NO_PART,
+    immediate1: NO_PART,
+    immediate2: NO_PART,
+    immediate3: NO_PART,
 };
 
 const NO_USE: FlatUse = FlatUse {
@@ -70,6 +92,9 @@ fn an_instruction_is_read_shown_and_written(rt: HostRuntime) -> Result<(), Fail>
     let mut written = [0xaa; 6];
     assert_eq!(rt; feddurzai_encode(64, 0x1000, &instr, &mut written), 5);
     assert_eq!(rt; written, *b"\x48\x89\x5c\x24\x10\xaa");
+    let mut parts = NO_PARTS;
+    assert_eq!(rt; feddurzai_offsets(64, &bytes, &mut parts), 5);
+    assert_eq!(rt; (parts.displacement.at, parts.displacement.len), (4, 1));
     Ok(())
 }
 
@@ -94,6 +119,65 @@ fn an_instruction_and_its_row_are_told(rt: HostRuntime) -> Result<(), Fail> {
     );
     assert_eq!(rt; notation, *b"REX.W + 89 /r\0\xaa");
     assert_eq!(rt; feddurzai_code_of(b"add", 0), 0);
+    Ok(())
+}
+
+const NO_MEMORY: FlatMemoryUse = FlatMemoryUse {
+    displacement: 0,
+    size: 0,
+    segment: 0,
+    base_class: 0,
+    base_number: 0,
+    index_class: 0,
+    index_number: 0,
+    scale: 0,
+    access: 0,
+};
+
+// `push rbx` reads RBX, moves RSP and writes 8 bytes below it; RSP holds SPL; and the last feature has a name of 6 letters.
+#[test]
+fn what_is_touched_is_told(rt: HostRuntime) -> Result<(), Fail> {
+    let mut instr = NO_INSTR;
+    assert_eq!(rt; feddurzai_decode(64, 0, &[0x53], &mut instr), 1);
+    let mut told = FlatTouched {
+        features: 1,
+        flags_read: 1,
+        flags_written: 1,
+        flags_cleared: 1,
+        flags_set: 1,
+        flags_undefined: 1,
+        flags_kept: 1,
+        memory: [NO_MEMORY; 4],
+        registers: [NO_USE; 32],
+        memory_count: 9,
+        register_count: 9,
+    };
+    assert_eq!(rt; feddurzai_effects(64, &instr, &mut told), 0);
+    assert_eq!(rt;
+        (told.features, told.flags_read, told.flags_written),
+        (0, 0, 0)
+    );
+    assert_eq!(rt; (told.memory_count, told.register_count), (1, 2));
+    let [pushed, ..] = told.memory;
+    assert_eq!(rt;
+        (
+            pushed.displacement,
+            pushed.size,
+            pushed.segment,
+            pushed.access
+        ),
+        (0xffff_ffff_ffff_fff8, 8, 3, 2)
+    );
+    let [rbx, rsp, behind, ..] = told.registers;
+    assert_eq!(rt; (rbx.reg_class, rbx.reg_number, rbx.access), (5, 3, 1));
+    assert_eq!(rt; (rsp.reg_class, rsp.reg_number, rsp.access), (5, 4, 3));
+    assert_eq!(rt; behind, NO_USE);
+    assert_eq!(rt; feddurzai_full_register(1, 4), 0x504);
+    assert_eq!(rt; feddurzai_full_register(5, 16), -17);
+    let mut name = [0xaa; 8];
+    assert_eq!(rt; feddurzai_feature_name(40, &mut name), 6);
+    assert_eq!(rt; name, *b"RDTSCP\0\xaa");
+    assert_eq!(rt; feddurzai_feature_name(41, &mut name), -9);
     Ok(())
 }
 
@@ -144,6 +228,21 @@ fn code_is_moved_and_followed(rt: HostRuntime) -> Result<(), Fail> {
     assert_eq!(rt; count, 3);
     assert_eq!(rt; starts, [0, 2, 3, 0]);
     assert_eq!(rt; leaders, [0, 2, 3, 9]);
+    let mut kinds = [9; 4];
+    let count = feddurzai_flow_from(
+        rt.alloc(),
+        64,
+        0,
+        &[0x74, 0x01, 0x90, 0x06],
+        &[2],
+        &mut starts,
+        &mut leaders,
+        &mut kinds,
+    );
+    assert_eq!(rt; count, 2);
+    assert_eq!(rt; starts, [2, 3, 3, 0]);
+    assert_eq!(rt; leaders, [2, 2, 3, 9]);
+    assert_eq!(rt; kinds, [0, 0xff, 9, 9]);
     Ok(())
 }
 
@@ -284,4 +383,62 @@ fn a_detour_is_made(rt: HostRuntime) -> Result<(), Fail> {
         (11, 11, 0, 0)
     );
     Ok(())
+}
+
+// 1000: jne 1100; ret. 1100: jmp 1006. Both move, and what is near stays near: 2000: jne 2020; ret. 2020: jmp 2006.
+#[test]
+fn blocks_are_moved_at_once(rt: HostRuntime) {
+    let bytes = [
+        0x0f, 0x85, 0xfa, 0, 0, 0, 0xc3, 0xcc, 0xcc, 0xe9, 1, 0xff, 0xff, 0xff,
+    ];
+    let blocks = [
+        FlatBlock {
+            old_ip: 0x1000,
+            new_ip: 0x2000,
+            offset: 0,
+            len: 7,
+        },
+        FlatBlock {
+            old_ip: 0x1100,
+            new_ip: 0x2020,
+            offset: 9,
+            len: 5,
+        },
+    ];
+    let mut out = [0xaa; 13];
+    let nothing = FlatMoved {
+        old_ip: 0,
+        new_ip: 0,
+        len: 0,
+        form: 0,
+    };
+    let mut map = [nothing; 3];
+    let mut places = [FlatPlace {
+        end: 0,
+        code_bytes: 0,
+        count: 0,
+    }; 2];
+    let mut report = FlatBlocks {
+        bytes: 0,
+        count: 0,
+        block: 0,
+        at: 0,
+        address: 0,
+    };
+    let said = feddurzai_move_blocks(
+        rt.alloc(),
+        64,
+        &bytes,
+        &blocks,
+        &mut out,
+        &mut places,
+        &mut map,
+        &mut report,
+    );
+    assert_eq!(rt; said, 0);
+    assert_eq!(rt; out, *b"\x0f\x85\x1a\0\0\0\xc3\xe9\xe1\xff\xff\xff\xaa");
+    assert_eq!(rt; (report.bytes, report.count, report.block), (12, 3, 2));
+    let [first, second] = places;
+    assert_eq!(rt; (first.end, first.code_bytes, first.count), (7, 7, 2));
+    assert_eq!(rt; (second.end, second.code_bytes, second.count), (12, 5, 1));
 }

@@ -13,7 +13,7 @@ pub extern "C" fn feddurzai_version() -> u32
 /// The number of the interface. It rises when a struct, a number or a call of it changes.
 #[unsafe(no_mangle)]
 pub extern "C" fn feddurzai_interface() -> u32
-    ensures { result ≡ 2 }
+    ensures { result ≡ 3 }
 {
-    2
+    3
 }

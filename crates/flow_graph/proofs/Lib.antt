@@ -1,7 +1,10 @@
 pub mod OneReading
 pub mod Leaving
+pub mod Ordering
+pub mod Entering
 pub mod Arriving
 pub mod Walking
 pub mod Telling
 pub mod Listing
 pub mod Unique
+pub mod OneEntry

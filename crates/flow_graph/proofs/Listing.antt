@@ -3,10 +3,10 @@ use Rattle.std.proofs.Common.{◌≡◌, ℕ, ◌+◌, ◌-◌, ◌<◌, ◌≤�
 use Rattle.std.proofs.lemmas.Bool.{cases_lt}
 use Rattle.std.proofs.lemmas.List.{get_or_past, get_or_default}
 use Rattle.flow_graph.specs.Control.{CodeBytes}
-use Rattle.flow_graph.specs.Reached.{Reaches, Follows, LeaderOf, itself as leader_itself, carried as leader_carried}
+use Rattle.flow_graph.specs.ReachedFrom.{ReachesFrom, FollowsFrom, LeaderFrom, itself as leader_itself, carried as leader_carried}
 use Rattle.flow_graph.specs.Marks.{FollowsByMark, AreMarks, AreChained, LeaderByMarks, itself, carried, AreMarkedBelow}
 use Rattle.flow_graph.specs.Told.{Tells, MarkedAreTold, AreFlowsOf}
-use Rattle.flow_graph.specs.Graphs.{IsFlowGraph}
+use Rattle.flow_graph.specs.Graphs.{IsFlowGraphFrom}
 use Rattle.flow_graph.proofs.Telling.{Flows}
 
 -- ---- a leader
@@ -41,30 +41,30 @@ leader_is_itself marks offset h some = itself (omega arith)
 
 -- ---- the graph of some marks
 
-module _ (code : CodeBytes) (marks : List ℕ) (right : AreMarks code marks) where
+module _ (code : CodeBytes) (entries marks : List ℕ) (right : AreMarks code entries marks) where
   pub chained : AreChained marks
   chained q h = let f = right.follows q h in (f.0, f.1, right.complete f.0 f.2.reached)
 
-  leader : (l q : ℕ) → LeaderByMarks marks l q → LeaderOf code l q
+  leader : (l q : ℕ) → LeaderByMarks marks l q → LeaderFrom code entries l q
   leader l _ (itself e) = leader_itself (record { reached = right.reached l (omega arith); no_follower = right.leads l e })
   leader l _ (carried p q by h) =
       let f = right.follows q by.0 in
       let s = f.1.1 in
       let t = by.1 in
       let e : f.0 ≡ p = omega arith in
-      leader_carried p q (subst (λ x. Follows code x q) e f.2) (leader l p h)
+      leader_carried p q (subst (λ x. FollowsFrom code entries x q) e f.2) (leader l p h)
 
   inside : (q : ℕ) → 0 < get_or marks q 0 → q < length marks
   inside q h = elim (cases_lt q (length marks)) [ inl l ↦ l | inr g ↦ absurd (omega (arith, get_or_past marks q 0 g)) ]
 
   pub graph_right : (starts leaders : List ℕ) (told flows : Flows) → AreMarkedBelow marks (length marks) starts leaders → MarkedAreTold code marks told →
-      AreFlowsOf told starts flows → IsFlowGraph code (record { starts = starts; leaders = leaders; flows = flows })
+      AreFlowsOf told starts flows → IsFlowGraphFrom code entries (record { starts = starts; leaders = leaders; flows = flows })
   graph_right starts leaders told flows b t f =
       record {
         len = b.len;
         flows_len = f.len;
         ascending = b.ascending;
-        reached = λ k d h. subst (Reaches code) (get_or_default starts k 0 d h) (right.reached (get_or starts k 0) (b.marked k h));
+        reached = λ k d h. subst (ReachesFrom code entries) (get_or_default starts k 0 d h) (right.reached (get_or starts k 0) (b.marked k h));
         complete = λ q h. let m = right.complete q h in b.complete q (inside q m) m;
         led = λ k h. leader (get_or leaders k 0) (get_or starts k 0) (b.led k h);
         told = λ k h. subst (Tells code (get_or starts k 0)) (sym (f.each k h)) (t.each (get_or starts k 0) (b.marked k h));

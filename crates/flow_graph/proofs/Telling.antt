@@ -72,9 +72,9 @@ told_turn code order longer turn p new flows flows' here before inside more old 
         ]
 
 -- **behind the last turn each marked offset is told of**
-pub told_end : (code : CodeBytes) (marks order : List ℕ) (turn : ℕ) (flows : Flows) → IsWalk code marks order (IsTreated code order turn) → length order ≤ turn →
+pub told_end : (code : CodeBytes) (entries marks order : List ℕ) (turn : ℕ) (flows : Flows) → IsWalk code entries marks order (IsTreated code order turn) → length order ≤ turn →
     AreTold code order turn flows → MarkedAreTold code marks flows
-told_end code marks order turn flows w done told =
+told_end code entries marks order turn flows w done told =
     record {
       len = told.len;
       each = λ q h.

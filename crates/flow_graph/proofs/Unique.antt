@@ -1,41 +1,79 @@
--- There is one leader of an offset, and one graph of some code.
+-- There is one leader of an offset, and one graph of some code from the same first offsets.
 use Rattle.std.proofs.Common.{◌≡◌, ℕ, zero, suc, ◌<◌, ◌≤◌, inl, inr, Bool, List, length, get_or, arith, refl, sym, subst, ap, ◌∙◌}
-use Rattle.std.specs.Prelude.{IsTrue}
+use Rattle.std.specs.Prelude.{IsTrue, ◌↔◌}
 use Rattle.std.specs.List.{Contains}
 use Rattle.std.specs.List.Sorted.{IsStrictlyIncreasing}
 use Rattle.std.proofs.lemmas.Bool.{cases_lt}
 use Rattle.std.proofs.lemmas.List.{ext_get_or, get_or_default}
 use Rattle.std.proofs.lemmas.List.Kept.{AllPairs-from_increasing}
 use Rattle.flow_graph.specs.Control.{CodeBytes, IsSuccessor}
-use Rattle.flow_graph.specs.Reached.{Reaches, start, step, Follows, IsLeader, LeaderOf, itself, carried}
+use Rattle.flow_graph.specs.ReachedFrom.{ReachesFrom, start, step, FollowsFrom, IsLeaderFrom, LeaderFrom, itself, carried}
 use Rattle.flow_graph.specs.Told.{Tells, untold, told_at}
 use Rattle.decoder.specs.OneReading.{OneReadingFacts}
 use Rattle.flow_graph.proofs.Telling.{Flows, told_same}
-use Rattle.flow_graph.specs.Graphs.{Graph, IsFlowGraph}
+use Rattle.flow_graph.specs.Graphs.{Graph, IsFlowGraphFrom}
 
 -- **a set that is closed along control has the reached offsets**
-pub least : (code : CodeBytes) (chosen : ℕ → Bool) → (0 < length code.bytes → IsTrue (chosen 0)) →
-    ((p q : ℕ) → IsTrue (chosen p) → IsSuccessor code p q → IsTrue (chosen q)) → (q : ℕ) → Reaches code q → IsTrue (chosen q)
-least code chosen entry closed _ (start h) = entry h
-least code chosen entry closed _ (step p q h s) = closed p q (least code chosen entry closed p h) s
+pub least_from : (code : CodeBytes) (entries : List ℕ) (chosen : ℕ → Bool) → ((q : ℕ) → Contains entries q → q < length code.bytes → IsTrue (chosen q)) →
+    ((p q : ℕ) → IsTrue (chosen p) → IsSuccessor code p q → IsTrue (chosen q)) → (q : ℕ) → ReachesFrom code entries q → IsTrue (chosen q)
+least_from code entries chosen entry closed _ (start q has h) = entry q has h
+least_from code entries chosen entry closed _ (step p q h s) = closed p q (least_from code entries chosen entry closed p h) s
 
 -- an offset that follows none is its own leader
-own_leader : (code : CodeBytes) (q : ℕ) → IsLeader code q → (leader : ℕ) → LeaderOf code leader q → q ≡ leader
-own_leader code _ l leader (itself m) = refl
-own_leader code _ l leader (carried p q f h) = absurd (l.no_follower p f)
+own_leader : (code : CodeBytes) (entries : List ℕ) (q : ℕ) → IsLeaderFrom code entries q → (leader : ℕ) → LeaderFrom code entries leader q → q ≡ leader
+own_leader code entries _ l leader (itself m) = refl
+own_leader code entries _ l leader (carried p q f h) = absurd (l.no_follower p f)
 
 -- an offset that follows another has its leader
-carried_leader : (code : CodeBytes) (p q : ℕ) → Follows code p q → (leader : ℕ) → LeaderOf code leader q → LeaderOf code leader p
-carried_leader code p _ f leader (itself m) = absurd (m.no_follower p f)
-carried_leader code p _ f leader (carried r q g h) = subst (LeaderOf code leader) (f.alone r g.reached g.successor) h
+carried_leader : (code : CodeBytes) (entries : List ℕ) (p q : ℕ) → FollowsFrom code entries p q → (leader : ℕ) → LeaderFrom code entries leader q →
+    LeaderFrom code entries leader p
+carried_leader code entries p _ f leader (itself m) = absurd (m.no_follower p f)
+carried_leader code entries p _ f leader (carried r q g h) = subst (LeaderFrom code entries leader) (f.alone r g.reached g.successor) h
 
-leaders_same : (code : CodeBytes) (leader other q : ℕ) → LeaderOf code leader q → LeaderOf code other q → leader ≡ other
-leaders_same code leader other _ (itself l) h = own_leader code leader l other h
-leaders_same code leader other _ (carried p q f h) k = leaders_same code leader other p h (carried_leader code p q f other k)
+leaders_same : (code : CodeBytes) (entries : List ℕ) (leader other q : ℕ) → LeaderFrom code entries leader q → LeaderFrom code entries other q → leader ≡ other
+leaders_same code entries leader other _ (itself l) h = own_leader code entries leader l other h
+leaders_same code entries leader other _ (carried p q f h) k =
+    leaders_same code entries leader other p h (carried_leader code entries p q f other k)
 
 -- **an offset has one leader**
-pub one_leader : (code : CodeBytes) (q leader other : ℕ) → LeaderOf code leader q → LeaderOf code other q → leader ≡ other
-one_leader code q leader other h k = leaders_same code leader other q h k
+pub one_leader_from : (code : CodeBytes) (entries : List ℕ) (q leader other : ℕ) → LeaderFrom code entries leader q → LeaderFrom code entries other q → leader ≡ other
+one_leader_from code entries q leader other h k = leaders_same code entries leader other q h k
+
+-- ---- the same first offsets, in another order
+
+reaches_by : (code : CodeBytes) (a b : List ℕ) → ((q : ℕ) → Contains a q → Contains b q) → (q : ℕ) → ReachesFrom code a q → ReachesFrom code b q
+reaches_by code a b there _ (start q has h) = start q (there q has) h
+reaches_by code a b there _ (step p q h s) = step p q (reaches_by code a b there p h) s
+
+module _ (code : CodeBytes) (a b : List ℕ) (there : (q : ℕ) → Contains a q → Contains b q) (back : (q : ℕ) → Contains b q → Contains a q) where
+  follows_by : (p q : ℕ) → FollowsFrom code a p q → FollowsFrom code b p q
+  follows_by p q f =
+      record {
+        no_entry = λ has. f.no_entry (back q has);
+        reached = reaches_by code a b there p f.reached;
+        successor = f.successor;
+        ends = f.ends;
+        only = f.only;
+        alone = λ r h s. f.alone r (reaches_by code b a back r h) s;
+      }
+
+module _ (code : CodeBytes) (a b : List ℕ) (there : (q : ℕ) → Contains a q → Contains b q) (back : (q : ℕ) → Contains b q → Contains a q) where
+  leader_by : (l q : ℕ) → LeaderFrom code a l q → LeaderFrom code b l q
+  leader_by l _ (itself m) =
+      itself (record { reached = reaches_by code a b there l m.reached; no_follower = λ p f. m.no_follower p (follows_by code b a back there p l f) })
+  leader_by l _ (carried p q f h) = carried p q (follows_by code a b there back p q f) (leader_by l p h)
+
+  graph_by : (g : Graph) → IsFlowGraphFrom code a g → IsFlowGraphFrom code b g
+  graph_by g is =
+      record {
+        len = is.len;
+        flows_len = is.flows_len;
+        ascending = is.ascending;
+        reached = λ k d h. reaches_by code a b there (get_or g.starts k d) (is.reached k d h);
+        complete = λ q h. is.complete q (reaches_by code b a back q h);
+        led = λ k h. leader_by (get_or g.leaders k 0) (get_or g.starts k 0) (is.led k h);
+        told = is.told;
+      }
 
 -- ---- lists of numbers in strictly ascending order
 
@@ -120,23 +158,23 @@ module _ (xs ys : List ℕ) (up_x : IsStrictlyIncreasing xs) (up_y : IsStrictlyI
 
 -- ---- graphs
 
-starts_within : (code : CodeBytes) (g h : Graph) → IsFlowGraph code g → IsFlowGraph code h → Within g.starts h.starts
-starts_within code g h a b n has =
-    let at = place_of g.starts n has in b.complete n (subst (Reaches code) at.2 (a.reached at.0 0 at.1))
+starts_within : (code : CodeBytes) (entries : List ℕ) (g h : Graph) → IsFlowGraphFrom code entries g → IsFlowGraphFrom code entries h → Within g.starts h.starts
+starts_within code entries g h a b n has =
+    let at = place_of g.starts n has in b.complete n (subst (ReachesFrom code entries) at.2 (a.reached at.0 0 at.1))
 
--- **some code has one graph**
-pub one_graph : OneReadingFacts → (code : CodeBytes) (graph other : Graph) → IsFlowGraph code graph → IsFlowGraph code other → graph ≡ other
-one_graph one code g h a b =
+same_graph : OneReadingFacts → (code : CodeBytes) (entries : List ℕ) (graph other : Graph) → IsFlowGraphFrom code entries graph → IsFlowGraphFrom code entries other →
+    graph ≡ other
+same_graph one code entries g h a b =
     let starts : g.starts ≡ h.starts =
-    same_numbers g.starts h.starts a.ascending b.ascending (starts_within code g h a b) (starts_within code h g b a) in
+    same_numbers g.starts h.starts a.ascending b.ascending (starts_within code entries g h a b) (starts_within code entries h g b a) in
     let len : length g.starts ≡ length h.starts = ap length starts in
     let leaders : g.leaders ≡ h.leaders =
     ext_get_or 0 g.leaders h.leaders (omega (arith, len, a.len, b.len))
     (λ k l.
     let in_g : k < length g.starts = omega (arith, a.len) in
     let in_h : k < length h.starts = omega (arith, len) in
-    one_leader code (get_or g.starts k 0) (get_or g.leaders k 0) (get_or h.leaders k 0) (a.led k in_g)
-    (subst (λ xs. LeaderOf code (get_or h.leaders k 0) (get_or xs k 0)) (sym starts) (b.led k in_h))) in
+    one_leader_from code entries (get_or g.starts k 0) (get_or g.leaders k 0) (get_or h.leaders k 0) (a.led k in_g)
+    (subst (λ xs. LeaderFrom code entries (get_or h.leaders k 0) (get_or xs k 0)) (sym starts) (b.led k in_h))) in
     let flows : g.flows ≡ h.flows =
     ext_get_or untold g.flows h.flows (omega (arith, len, a.flows_len, b.flows_len))
     (λ k l.
@@ -148,3 +186,9 @@ one_graph one code g h a b =
   where
     make : List ℕ → List ℕ → Flows → Graph
     make s l f = record { starts = s; leaders = l; flows = f }
+
+-- **some code has one graph from the same first offsets**
+pub one_graph_from : OneReadingFacts → (code : CodeBytes) (entries others : List ℕ) (graph other : Graph) → ((q : ℕ) → Contains entries q ↔ Contains others q) →
+    IsFlowGraphFrom code entries graph → IsFlowGraphFrom code others other → graph ≡ other
+one_graph_from one code entries others g h same a b =
+    same_graph one code entries g h a (graph_by code others entries (λ q has. (same q).1 has) (λ q has. (same q).0 has) h b)

@@ -4,6 +4,7 @@ use Rattle.std.specs.List.{All, Contains}
 use Rattle.std.specs.List.Sorted.{IsStrictlyIncreasing}
 use Rattle.flow_graph.specs.Control.{CodeBytes}
 use Rattle.flow_graph.specs.Reached.{Reaches, LeaderOf}
+use Rattle.flow_graph.specs.ReachedFrom.{ReachesFrom, LeaderFrom}
 use Rattle.flow_graph.specs.Told.{Tells, told_at}
 use Rattle.decoder.specs.declared.DecodeError.{DecodeError}
 use Rattle.operand_info.specs.declared.columns.Flow.{Flow}
@@ -22,4 +23,14 @@ pub record IsFlowGraph (code : CodeBytes) (graph : Graph) : Type 0 where
   pub reached : All (Reaches code) graph.starts
   pub complete : (q : ℕ) → Reaches code q → Contains graph.starts q
   pub led : (k : ℕ) → k < length graph.starts → LeaderOf code (slice_index graph.leaders k) (slice_index graph.starts k)
+  pub told : (k : ℕ) → k < length graph.starts → Tells code (slice_index graph.starts k) (told_at graph.flows k)
+
+-- the same of what is reached from several first offsets
+pub record IsFlowGraphFrom (code : CodeBytes) (entries : List ℕ) (graph : Graph) : Type 0 where
+  pub len : length graph.leaders ≡ length graph.starts
+  pub flows_len : length graph.flows ≡ length graph.starts
+  pub ascending : IsStrictlyIncreasing graph.starts
+  pub reached : All (ReachesFrom code entries) graph.starts
+  pub complete : (q : ℕ) → ReachesFrom code entries q → Contains graph.starts q
+  pub led : (k : ℕ) → k < length graph.starts → LeaderFrom code entries (slice_index graph.leaders k) (slice_index graph.starts k)
   pub told : (k : ℕ) → k < length graph.starts → Tells code (slice_index graph.starts k) (told_at graph.flows k)

@@ -3,7 +3,7 @@ use Rattle.std.specs.Prelude.{◌≡◌, ℕ, ◌+◌, ◌<◌, List, [], ◌∷
 use Rattle.std.specs.List.{Contains}
 use Rattle.std.specs.List.Sorted.{IsStrictlyIncreasing}
 use Rattle.flow_graph.specs.Control.{CodeBytes}
-use Rattle.flow_graph.specs.Reached.{Reaches, Follows}
+use Rattle.flow_graph.specs.ReachedFrom.{ReachesFrom, FollowsFrom}
 
 -- an arrival at q marks it by the first mark, and by 1 where another came before
 abbrev pub marked : List ℕ → ℕ → ℕ → List ℕ
@@ -18,12 +18,12 @@ abbrev pub FollowsByMark : List ℕ → ℕ → ℕ → Type 0
 FollowsByMark marks p q = (1 < slice_index marks q) × (p + slice_index marks q ≡ q + 1)
 
 -- the marks tell which offsets are reached, and which of those are followers
-pub record AreMarks (code : CodeBytes) (marks : List ℕ) : Type 0 where
+pub record AreMarks (code : CodeBytes) (entries marks : List ℕ) : Type 0 where
   pub len : length marks ≡ length code.bytes
-  pub reached : (q : ℕ) → 0 < slice_index marks q → Reaches code q
-  pub complete : (q : ℕ) → Reaches code q → 0 < slice_index marks q
-  pub leads : (q : ℕ) → slice_index marks q ≡ 1 → (p : ℕ) → Follows code p q → ⊥
-  pub follows : (q : ℕ) → 1 < slice_index marks q → (p : ℕ) × FollowsByMark marks p q × Follows code p q
+  pub reached : (q : ℕ) → 0 < slice_index marks q → ReachesFrom code entries q
+  pub complete : (q : ℕ) → ReachesFrom code entries q → 0 < slice_index marks q
+  pub leads : (q : ℕ) → slice_index marks q ≡ 1 → (p : ℕ) → FollowsFrom code entries p q → ⊥
+  pub follows : (q : ℕ) → 1 < slice_index marks q → (p : ℕ) × FollowsByMark marks p q × FollowsFrom code entries p q
 
 -- what a mark says of another offset is true: it is marked
 abbrev pub AreChained : List ℕ → Type 0

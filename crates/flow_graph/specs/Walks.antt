@@ -1,10 +1,10 @@
 -- A walk along control: the marks, the order in which offsets were first arrived at, and the edges that were gone along.
-use Rattle.std.specs.Prelude.{◌≡◌, ℕ, zero, suc, ◌+◌, ◌<◌, ◌≤◌, List, [], ◌∷◌, length, Option, Some, None, slice_index, slice_set, replicate, ◌==◌, nat_lt, ◌⊎◌, if◌then◌else◌}
-use Rattle.std.specs.List.{count_by}
+use Rattle.std.specs.Prelude.{◌≡◌, ℕ, ◌+◌, ◌<◌, ◌≤◌, List, length, Option, Some, None, slice_index, ◌==◌, nat_lt, ◌⊎◌, if◌then◌else◌}
+use Rattle.std.specs.List.{count_by, Contains}
 use Rattle.flow_graph.specs.declared.exits.Exits.{Exits}
 use Rattle.flow_graph.specs.Control.{CodeBytes, IsSuccessor, EndsAt}
 use Rattle.flow_graph.specs.Marks.{marked, queued}
-use Rattle.flow_graph.specs.Reached.{Reaches, Follows}
+use Rattle.flow_graph.specs.ReachedFrom.{ReachesFrom, FollowsFrom}
 
 -- some edges from offset to offset
 abbrev pub Edges : Type 1
@@ -44,27 +44,40 @@ pub record FollowsSoFar (code : CodeBytes) (gone : Edges) (p q : ℕ) : Type 0 w
   pub alone : (r : ℕ) → gone r q → r ≡ p
 
 -- each offset of the order is reached and stands there once; the marked offsets are those; and each mark is right so far
-pub record IsWalk (code : CodeBytes) (marks order : List ℕ) (gone : Edges) : Type 0 where
+pub record IsWalk (code : CodeBytes) (entries marks order : List ℕ) (gone : Edges) : Type 0 where
   pub len : length marks ≡ length code.bytes
   pub unmarked : count_by (λ m. m == 0) marks + length order ≡ length marks
-  pub entry : 0 < length code.bytes → 0 < slice_index marks 0
-  pub reached : (k : ℕ) → k < length order → Reaches code (slice_index order k)
+  pub entry : (q : ℕ) → Contains entries q → q < length code.bytes → slice_index marks q ≡ 1
+  pub reached : (k : ℕ) → k < length order → ReachesFrom code entries (slice_index order k)
   pub marked : (k : ℕ) → k < length order → 0 < slice_index marks (slice_index order k)
   pub listed : (q : ℕ) → 0 < slice_index marks q → (k : ℕ) × (k < length order) × (slice_index order k ≡ q)
   pub apart : (i j : ℕ) → i < length order → j < length order → slice_index order i ≡ slice_index order j → i ≡ j
-  pub sound : (p q : ℕ) → gone p q → Reaches code p × IsSuccessor code p q
+  pub sound : (p q : ℕ) → gone p q → ReachesFrom code entries p × IsSuccessor code p q
   pub arrived : (p q : ℕ) → gone p q → 0 < slice_index marks q
-  pub leads : (q : ℕ) → slice_index marks q ≡ 1 → (p : ℕ) → Follows code p q → ⊥
+  pub leads : (q : ℕ) → slice_index marks q ≡ 1 → (p : ℕ) → FollowsFrom code entries p q → ⊥
   pub follows : (q : ℕ) → 1 < slice_index marks q → (p : ℕ) × (p + slice_index marks q ≡ q + 1) × FollowsSoFar code gone p q
 
--- the marks of a walk that stands at the first byte
-abbrev pub first_marks : ℕ → List ℕ
-first_marks count = slice_set (replicate count 0) 0 1
+-- the marks behind a first offset, if there is a byte
+abbrev pub entered_marks : List ℕ → ℕ → List ℕ
+entered_marks marks q = if nat_lt q (length marks) then marked marks q 1 else marks
 
--- its order: that byte, if there is one
-abbrev pub first_order : ℕ → List ℕ
-first_order zero = []
-first_order (suc n) = 0 ∷ []
+-- the order behind it
+abbrev pub entered_order : List ℕ → List ℕ → ℕ → List ℕ
+entered_order marks order q = if nat_lt q (length marks) then queued marks order q else order
+
+-- the order has each marked offset once
+pub record IsOrder (marks order : List ℕ) : Type 0 where
+  pub unmarked : count_by (λ m. m == 0) marks + length order ≡ length marks
+  pub marked : (k : ℕ) → k < length order → 0 < slice_index marks (slice_index order k)
+  pub listed : (q : ℕ) → 0 < slice_index marks q → (k : ℕ) × (k < length order) × (slice_index order k ≡ q)
+  pub apart : (i j : ℕ) → i < length order → j < length order → slice_index order i ≡ slice_index order j → i ≡ j
+
+-- the first n of the first offsets are marked, as far as there are bytes, by 1, and no other offset is
+pub record IsEntered (entries : List ℕ) (count n : ℕ) (marks order : List ℕ) : Type 0 where
+  pub len : length marks ≡ count
+  pub once : IsOrder marks order
+  pub entry : (k : ℕ) → k < n → slice_index entries k < count → 0 < slice_index marks (slice_index entries k)
+  pub only : (q : ℕ) → 0 < slice_index marks q → (slice_index marks q ≡ 1) × (q < count) × Contains entries q
 
 -- the second order begins with the first
 pub record Extends (old new : List ℕ) : Type 0 where

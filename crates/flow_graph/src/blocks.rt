@@ -11,7 +11,7 @@ use std::alloc::{AllocError, Global};
 
 /// The leader of an offset, where those of the offsets before it are given.
 fn leader_of(marks: &[u8], leaders: &[u32], offset: usize) -> u32
-    requires few { length marks.now ≤ 1048576 }
+    requires few { length marks.now ≤ 16777216 }
     requires chained { AreChained marks.now }
     requires inside { offset < length marks.now }
     requires len { length leaders.now ≡ offset }
@@ -43,7 +43,7 @@ impl Blocks {
         offset: usize,
         leader: u32,
     ) -> Result<(), AllocError>
-        requires few { length marks.now ≤ 1048576 }
+        requires few { length marks.now ≤ 16777216 }
         requires inside { offset < length marks.now }
         requires leader { 0 < slice_index marks.now offset → LeaderByMarks marks.now leader offset }
         requires before { AreMarkedBelow marks.now offset self.old.starts.items self.old.leaders.items }
@@ -68,7 +68,7 @@ pub(crate) fn blocks_of(
     marks: &[u8],
     flows: &[Result<Flow, DecodeError>],
 ) -> Result<Blocks, AllocError>
-    requires few { length marks.now ≤ 1048576 }
+    requires few { length marks.now ≤ 16777216 }
     requires chained { AreChained marks.now }
     requires each { length flows.now ≡ length marks.now }
     ensures listed { IfOk result (λ blocks. AreMarkedBelow marks.now (length marks.now) blocks.starts.items blocks.leaders.items) }

@@ -116,7 +116,7 @@ fn exits_of(
     decoded: &Decoded,
 ) -> Exits
     requires inside { offset < length bytes.now }
-    requires few { length bytes.now ≤ 1048576 }
+    requires few { length bytes.now ≤ 16777216 }
     requires flow { flow ≡ columns.flow_of decoded.now.instr.code.0 }
     ensures value { result ≡ spec.exits_of (code_bytes bits base bytes.now) offset decoded.now }
     ensures short { result.next ≤ decoded.now.len }
@@ -133,7 +133,7 @@ fn exits_of(
 /// What is read at an offset, and where control goes from it.
 pub(crate) fn stop_at(bits: Bits, base: u64, bytes: &[u8], offset: usize) -> Stop
     requires inside { offset < length bytes.now }
-    requires few { length bytes.now ≤ 1048576 }
+    requires few { length bytes.now ≤ 16777216 }
     ensures told { Tells (code_bytes bits base bytes.now) offset result.flow }
     ensures exits { AreExits (code_bytes bits base bytes.now) offset result.exits }
     ensures short { result.exits.next ≤ 15 }

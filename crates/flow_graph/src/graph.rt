@@ -3,9 +3,10 @@
 ghost use Rattle.std.specs.Prelude.{◌≤◌, length, IsTrue, IfOk};
 ghost use Rattle.prefixes.specs.Answer.{is_mode, mode_of};
 ghost use Rattle.flow_graph.specs.Control.{code_bytes};
-ghost use Rattle.flow_graph.specs.Graphs.{IsFlowGraph};
+ghost use Rattle.flow_graph.specs.Graphs.{IsFlowGraph, IsFlowGraphFrom};
 
 use crate::blocks::{Blocks, blocks_of};
+use crate::laws::one_entry_is_the_first_byte;
 use crate::walk::walk_all;
 use decoder::DecodeError;
 use operand_info::Flow;
@@ -29,13 +30,13 @@ impl From<AllocError> for FlowError {
     }
 }
 
-/// The offsets that control reaches from the first byte of some code, each with the leader of its basic block and the flow of its
-/// instruction.
+/// The offsets that control reaches from the first byte of some code, or from several first offsets, each with the leader of its basic block and
+/// the flow of its instruction.
 ///
 /// From an instruction control goes to its end, unless it is a jump, a return or an undefined instruction, and to its near
 /// target, if it has one, as far as there are bytes; where no instruction is read, it goes nowhere. A reached offset is a
 /// follower where control comes to it from one reached instruction alone, which ends there and from which control goes
-/// nowhere else. The other reached offsets are leaders. A basic block is a leader and the followers behind it.
+/// nowhere else, and no first offset. The other reached offsets are leaders. A basic block is a leader and the followers behind it.
 #[derive(Drop)]
 pub struct FlowGraph {
     blocks: Blocks,
@@ -106,7 +107,26 @@ pub fn flow_graph_in(
     requires { length bytes.now ≤ 1048576 }
     ensures { IfOk result (λ graph. IsFlowGraph (code_bytes bits base bytes.now) graph) }
 {
-    let walk = walk_all(alloc, bits, base, bytes)?;
+    one_entry_is_the_first_byte();
+    flow_graph_from(alloc, bits, base, bytes, &[0])
+}
+
+/// What control reaches from several first offsets of code of at most 16,777,216 bytes, the first of which has the address `base`: the starts of
+/// functions, say.
+///
+/// An offset at which there is no byte adds nothing, nor does one that stands there again; their order does not matter. A first offset is a
+/// leader, whatever goes to it. `Memory` is the only refusal.
+pub fn flow_graph_from(
+    alloc: Global,
+    bits: Bits,
+    base: u64,
+    bytes: &[u8],
+    entries: &[u32],
+) -> Result<FlowGraph, FlowError>
+    requires { length bytes.now ≤ 16777216 }
+    ensures { IfOk result (λ graph. IsFlowGraphFrom (code_bytes bits base bytes.now) entries.now graph) }
+{
+    let walk = walk_all(alloc, bits, base, bytes, entries)?;
     let blocks = blocks_of(alloc, &walk.marks, &walk.flows)?;
     Ok(FlowGraph { blocks })
 }

@@ -1,9 +1,11 @@
 //! What holds of the graphs of all code.
 
-ghost use Rattle.std.specs.Prelude.{◌≡◌, ◌<◌, ℕ, Bool, IsTrue, length};
+ghost use Rattle.std.specs.Prelude.{◌≡◌, ◌<◌, ◌↔◌, ℕ, Bool, List, [], ◌∷◌, IsTrue, length};
+ghost use Rattle.std.specs.List.{Contains};
 ghost use Rattle.flow_graph.specs.Control.{CodeBytes, IsSuccessor};
 ghost use Rattle.flow_graph.specs.Reached.{Reaches, LeaderOf};
-ghost use Rattle.flow_graph.specs.Graphs.{Graph, IsFlowGraph};
+ghost use Rattle.flow_graph.specs.ReachedFrom.{ReachesFrom};
+ghost use Rattle.flow_graph.specs.Graphs.{Graph, IsFlowGraph, IsFlowGraphFrom};
 
 use decoder::reading_laws::bytes_have_one_reading;
 
@@ -25,3 +27,25 @@ pub fn graphs_are_unique()
 {
     bytes_have_one_reading();
 }
+
+/// Every set that has the first offsets within the code, and with each offset its successors, has what is reached from them.
+pub fn reached_from_is_least()
+    ensures { (code : CodeBytes) (entries : List ℕ) (chosen : ℕ → Bool)
+        → ((q : ℕ) → Contains entries q → q < length code.bytes → IsTrue (chosen q))
+        → ((p q : ℕ) → IsTrue (chosen p) → IsSuccessor code p q → IsTrue (chosen q))
+        → (q : ℕ) → ReachesFrom code entries q → IsTrue (chosen q) }
+{}
+
+/// Some code has one graph at most from the same first offsets, in whatever order and however often they stand in the list.
+pub fn graphs_from_are_unique()
+    ensures { (code : CodeBytes) (entries others : List ℕ) (graph other : Graph)
+        → ((q : ℕ) → Contains entries q ↔ Contains others q)
+        → IsFlowGraphFrom code entries graph → IsFlowGraphFrom code others other → graph ≡ other }
+{
+    bytes_have_one_reading();
+}
+
+/// The graph of some code is the one from its first byte alone.
+pub fn one_entry_is_the_first_byte()
+    ensures { (code : CodeBytes) (graph : Graph) → IsFlowGraphFrom code (0 ∷ []) graph ↔ IsFlowGraph code graph }
+{}

@@ -1,4 +1,4 @@
-//! The code that control reaches from the first byte of some bytes, and its basic blocks.
+//! The code that control reaches from the first byte of some bytes or from several offsets, and its basic blocks.
 #![tactic(auto)]
 
 mod blocks;
@@ -9,4 +9,4 @@ mod reading;
 mod walk;
 
 pub use exits::{Exits, exits_at, goes_on};
-pub use graph::{FlowError, FlowGraph, flow_graph, flow_graph_in};
+pub use graph::{FlowError, FlowGraph, flow_graph, flow_graph_from, flow_graph_in};

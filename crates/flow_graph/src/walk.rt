@@ -1,11 +1,11 @@
-//! The walk along control from the first byte, which marks what it reaches.
+//! The walk along control from the first offsets, which marks what it reaches.
 
-ghost use Rattle.std.specs.Prelude.{◌≡◌, ◌+◌, ◌<◌, ◌≤◌, length, IfOk, OnOk};
+ghost use Rattle.std.specs.Prelude.{◌≡◌, ◌+◌, ◌<◌, ◌≤◌, ℕ, List, length, slice_index, IfOk, OnOk};
 ghost use Rattle.flow_graph.specs.Control.{code_bytes};
 ghost use Rattle.flow_graph.specs.Marks.{marked, queued, AreMarks};
 ghost use Rattle.flow_graph.specs.Told.{AreTold, MarkedAreTold};
 ghost use Rattle.flow_graph.specs.Walks as spec;
-ghost use Rattle.flow_graph.specs.Walks.{first_marks, first_order, next_marks, next_order, IsTreated, IsWalk};
+ghost use Rattle.flow_graph.specs.Walks.{entered_marks, entered_order, next_marks, next_order, IsEntered, IsTreated, IsWalk};
 
 use crate::exits::{Exits, stop_at};
 use decoder::DecodeError;
@@ -38,30 +38,27 @@ pub(crate) struct Walk {
 }
 
 impl Walk {
-    /// A walk that stands at the first byte.
-    fn start(alloc: Global, count: usize) -> Result<Walk, AllocError>
-        ensures marks { IfOk result (λ walk. walk.marks.items ≡ first_marks count) }
-        ensures order { IfOk result (λ walk. walk.order.items ≡ first_order count) }
+    /// A walk that stands at the first offsets, in their order.
+    fn start(alloc: Global, count: usize, entries: &[u32]) -> Result<Walk, AllocError>
+        requires few { count ≤ 16777216 }
+        ensures entered { IfOk result (λ walk. IsEntered entries.now count (length entries.now) walk.marks.items walk.order.items) }
         ensures flows { IfOk result (λ walk. length walk.flows.items ≡ count) }
     {
-        let mut marks = vec![in alloc; 0u8; count]?;
-        let flows = vec![in alloc; Err(DecodeError::Invalid); count]?;
-        let mut order = Vec::new(alloc);
-        if count > 0 {
-            marks[0] = LEADER;
-            order.push(0)?;
+        let mut walk = Walk {
+            marks: vec![in alloc; 0u8; count]?,
+            flows: vec![in alloc; Err(DecodeError::Invalid); count]?,
+            order: Vec::new(alloc),
+        };
+        'entries: for entry in entries {
+            walk.enter(*entry as usize)?;
         }
-        Ok(Walk {
-            marks,
-            flows,
-            order,
-        })
+        Ok(walk)
     }
 
     /// Arrives at an offset, whose mark is `first` if it is the first time.
     fn arrive(&mut self, offset: usize, first: u8) -> Result<(), AllocError>
         requires inside { offset < length self.old.marks.items }
-        requires few { length self.old.marks.items ≤ 1048576 }
+        requires few { length self.old.marks.items ≤ 16777216 }
         ensures marks { OnOk result (self.new.marks.items ≡ marked self.old.marks.items offset first) }
         ensures order { OnOk result (self.new.order.items ≡ queued self.old.marks.items self.old.order.items offset) }
         ensures flows { OnOk result (self.new.flows.items ≡ self.old.flows.items) }
@@ -75,10 +72,23 @@ impl Walk {
         Ok(())
     }
 
+    /// Arrives at a first offset, if there is a byte.
+    fn enter(&mut self, entry: usize) -> Result<(), AllocError>
+        requires few { length self.old.marks.items ≤ 16777216 }
+        ensures marks { OnOk result (self.new.marks.items ≡ entered_marks self.old.marks.items entry) }
+        ensures order { OnOk result (self.new.order.items ≡ entered_order self.old.marks.items self.old.order.items entry) }
+        ensures flows { OnOk result (self.new.flows.items ≡ self.old.flows.items) }
+    {
+        if entry < self.marks.len() {
+            self.arrive(entry, LEADER)?;
+        }
+        Ok(())
+    }
+
     /// Goes from an offset to the end of its instruction, where control goes there.
     fn go_on(&mut self, offset: usize, exits: Exits) -> Result<(), AllocError>
         requires inside { 0 < exits.next → offset + exits.next < length self.old.marks.items }
-        requires few { length self.old.marks.items ≤ 1048576 }
+        requires few { length self.old.marks.items ≤ 16777216 }
         requires short { exits.next ≤ 15 }
         ensures marks { OnOk result (self.new.marks.items ≡ next_marks self.old.marks.items offset exits) }
         ensures order { OnOk result (self.new.order.items ≡ next_order self.old.marks.items self.old.order.items offset exits) }
@@ -92,12 +102,15 @@ impl Walk {
 
     /// Goes along all edges from the offset whose turn it is.
     fn follow(&mut self, bits: Bits, base: u64, bytes: &[u8], turn: usize) -> Result<(), AllocError>
-        requires few { length bytes.now ≤ 1048576 }
-        requires walk { IsWalk (code_bytes bits base bytes.now) self.old.marks.items self.old.order.items
-            (IsTreated (code_bytes bits base bytes.now) self.old.order.items turn) }
+        requires few { length bytes.now ≤ 16777216 }
+        requires len { length self.old.marks.items ≡ length bytes.now }
         requires told { AreTold (code_bytes bits base bytes.now) self.old.order.items turn self.old.flows.items }
         requires turn { turn < length self.old.order.items }
-        ensures walk { OnOk result (IsWalk (code_bytes bits base bytes.now) self.new.marks.items self.new.order.items
+        requires inside { slice_index self.old.order.items turn < length bytes.now }
+        ensures walk { OnOk result ((entries : List ℕ)
+            → IsWalk (code_bytes bits base bytes.now) entries self.old.marks.items self.old.order.items
+            (IsTreated (code_bytes bits base bytes.now) self.old.order.items turn)
+            → IsWalk (code_bytes bits base bytes.now) entries self.new.marks.items self.new.order.items
             (IsTreated (code_bytes bits base bytes.now) self.new.order.items (turn + 1))) }
         ensures told { OnOk result (AreTold (code_bytes bits base bytes.now) self.new.order.items (turn + 1) self.new.flows.items) }
     {
@@ -112,18 +125,19 @@ impl Walk {
     }
 }
 
-/// Marks what control reaches from the first byte.
+/// Marks what control reaches from the first offsets.
 pub(crate) fn walk_all(
     alloc: Global,
     bits: Bits,
     base: u64,
     bytes: &[u8],
+    entries: &[u32],
 ) -> Result<Walk, AllocError>
-    requires { length bytes.now ≤ 1048576 }
-    ensures marks { IfOk result (λ walk. AreMarks (code_bytes bits base bytes.now) walk.marks.items) }
+    requires { length bytes.now ≤ 16777216 }
+    ensures marks { IfOk result (λ walk. AreMarks (code_bytes bits base bytes.now) entries.now walk.marks.items) }
     ensures told { IfOk result (λ walk. MarkedAreTold (code_bytes bits base bytes.now) walk.marks.items walk.flows.items) }
 {
-    let mut walk = Walk::start(alloc, bytes.len())?;
+    let mut walk = Walk::start(alloc, bytes.len(), entries)?;
     let mut turn = 0;
     'turns: while turn < walk.order.len() {
         walk.follow(bits, base, bytes, turn)?;

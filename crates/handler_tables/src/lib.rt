@@ -10,5 +10,4 @@ mod splits;
 mod walk;
 
 pub use node::{Next, Node};
-pub use row_fields::Fields;
 pub use walk::find;

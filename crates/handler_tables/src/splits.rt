@@ -1,34 +1,43 @@
 //! What nodes split by, as numbers of the fields.
-ghost use Rattle.std.specs.Prelude.{◌≡◌};
+ghost use Rattle.std.specs.Prelude.{◌≡◌, is_some};
 ghost use Rattle.prefixes.specs.Answer.{mode_of};
 ghost use Rattle.row_fields.specs.Holds.{map_number, prefix_of, byte_of};
 ghost use Rattle.row_fields.specs.FieldNumbers.{size_number, plain_size};
 ghost use Rattle.instruction_parts.specs.Bytes as parts;
+ghost use Rattle.instruction_parts.specs.Counting.{rex_bit};
+ghost use Rattle.unique_spelling.specs.FieldsOf as fields;
 ghost use Rattle.handler_tables.specs.Splits.{field_at};
 
 use crate::node::Split;
+use instruction_parts::PrefixState;
+use instruction_parts::sizes::bit_of_rex;
 use prefixes::mode_of;
-use row_fields::{Fields, Map, Rep};
+use row_fields::{Map, Rep};
 use x86_values::Bits;
 
-/// The number of what a node splits by.
+/// The number of what a node splits by, from a front and the byte behind its opcode byte.
 // Not built into the walk: there each of these numbers would be made before the first node, and most walks need one or two.
 #[inline(never)]
-pub fn field_of<const BITS: u32>(split: Split, fields: &Fields) -> usize
-    ensures { result ≡ field_at (mode_of BITS) split fields.now }
+#[tactic(auto, unfolding(unique_spelling::specs::FieldsOf::fields_of))]
+pub(crate) fn field_of<const BITS: u32>(
+    split: Split,
+    state: &PrefixState,
+    byte: Option<u8>,
+) -> usize
+    ensures { result ≡ field_at (mode_of BITS) split (fields.fields_of state.now byte) }
 {
     match split {
-        Split::Kind => kind_number(fields),
-        Split::Opcode => fields.opcode as usize,
-        Split::Prefix => prefix_number(fields),
-        Split::Place => bit(byte_number(fields) / 64 == 3),
-        Split::Reg => (byte_number(fields) / 8 % 8) as usize,
-        Split::Rm => (byte_number(fields) % 8) as usize,
+        Split::Kind => kind_number(state),
+        Split::Opcode => state.opcode as usize,
+        Split::Prefix => prefix_number(repeat_of(state), size66_of(state)),
+        Split::Place => bit(byte_number(byte) / 64 == 3),
+        Split::Reg => (byte_number(byte) / 8 % 8) as usize,
+        Split::Rm => (byte_number(byte) % 8) as usize,
         Split::Mode => size_number(mode_of::<BITS>()),
-        Split::Size => size_number(plain_size(mode_of::<BITS>(), fields)),
-        Split::W => bit(fields.w),
-        Split::L => bit(fields.l),
-        Split::RexB => bit(fields.rex_b),
+        Split::Size => size_number(plain_size(mode_of::<BITS>(), size66_of(state), w_of(state))),
+        Split::W => bit(w_of(state)),
+        Split::L => bit(l_of(state)),
+        Split::RexB => bit(bit_of_rex(0, state.rex)),
     }
 }
 
@@ -41,10 +50,10 @@ fn bit(b: bool) -> usize
 
 /// The number of the kind and the map.
 #[inline(always)]
-pub(crate) fn kind_number(fields: &Fields) -> usize
-    ensures { result ≡ map_number fields.now.vex fields.now.map }
+pub(crate) fn kind_number(state: &PrefixState) -> usize
+    ensures { result ≡ map_number (is_some state.now.vex) state.now.map }
 {
-    match (fields.vex, fields.map) {
+    match (state.vex.is_some(), state.map) {
         (false, Map::One) => 0,
         (false, Map::M0f) => 1,
         (false, Map::M0f38) => 2,
@@ -56,11 +65,59 @@ pub(crate) fn kind_number(fields: &Fields) -> usize
     }
 }
 
-/// The prefixes that count, by number: 0 for none, 1 for 66, 2 for F3 and 3 for F2, which outrank 66 (2.1.1, 3.1.1.1).
-fn prefix_number(fields: &Fields) -> usize
-    ensures { result ≡ prefix_of fields.now.rep fields.now.size66 }
+/// The repeat prefix that counts, or that pp of the VEX says.
+fn repeat_of(state: &PrefixState) -> Rep
+    ensures { result ≡ fields.repeat_of state.now.vex state.now.rep }
 {
-    match (fields.rep, fields.size66) {
+    match state.vex {
+        None => state.rep,
+        Some(vex) => {
+            if vex.pp == 2 {
+                Rep::F3
+            } else if vex.pp == 3 {
+                Rep::F2
+            } else {
+                Rep::None
+            }
+        }
+    }
+}
+
+/// Whether 66 occurs, or pp of the VEX says it.
+fn size66_of(state: &PrefixState) -> bool
+    ensures { result ≡ fields.size66_of state.now.vex state.now.size66 }
+{
+    match state.vex {
+        None => state.size66,
+        Some(vex) => vex.pp == 1,
+    }
+}
+
+/// W of the VEX, else of the REX.
+fn w_of(state: &PrefixState) -> bool
+    ensures { result ≡ fields.w_of state.now.vex state.now.rex }
+{
+    match state.vex {
+        None => bit_of_rex(3, state.rex),
+        Some(vex) => vex.w,
+    }
+}
+
+/// L of the VEX, else no.
+fn l_of(state: &PrefixState) -> bool
+    ensures { result ≡ fields.l_of state.now.vex }
+{
+    match state.vex {
+        None => false,
+        Some(vex) => vex.l,
+    }
+}
+
+/// The prefixes that count, by number: 0 for none, 1 for 66, 2 for F3 and 3 for F2, which outrank 66 (2.1.1, 3.1.1.1).
+fn prefix_number(rep: Rep, size66: bool) -> usize
+    ensures { result ≡ prefix_of rep size66 }
+{
+    match (rep, size66) {
         (Rep::F3, _) => 2,
         (Rep::F2, _) => 3,
         (Rep::None, true) => 1,
@@ -80,10 +137,10 @@ fn size_number(size: Bits) -> usize
 }
 
 /// The operand size by the prefixes and the mode alone: W gives 64 in 64-bit mode, 66 the other of 16 and 32.
-fn plain_size(bits: Bits, fields: &Fields) -> Bits
-    ensures { result ≡ plain_size bits fields.now.size66 fields.now.w }
+fn plain_size(bits: Bits, size66: bool, w: bool) -> Bits
+    ensures { result ≡ plain_size bits size66 w }
 {
-    match (bits, fields.w, fields.size66) {
+    match (bits, w, size66) {
         (Bits::B64, true, _) => Bits::B64,
         (Bits::B16, _, false) => Bits::B16,
         (Bits::B16, _, true) => Bits::B32,
@@ -93,11 +150,11 @@ fn plain_size(bits: Bits, fields: &Fields) -> Bits
 }
 
 /// The ModRM byte, or 0 where there is none.
-fn byte_number(fields: &Fields) -> u8
-    ensures { result ≡ byte_of fields.now.modrm }
+fn byte_number(byte: Option<u8>) -> u8
+    ensures { result ≡ byte_of byte }
 {
-    match fields.modrm {
-        Some(byte) => byte,
+    match byte {
+        Some(b) => b,
         None => 0,
     }
 }

@@ -4,6 +4,7 @@ ghost use Rattle.prefixes.specs.Answer.{is_mode, mode_of};
 ghost use Rattle.row_fields.specs.Holds.{HoldsNowhere, IsOnlyRow};
 ghost use Rattle.opcode_rows.specs.Table.{table};
 ghost use Rattle.handler_tables.specs.Nodes.{nodes2, nodes3, nodes4, nodes8, nodes256, splits2, splits3, splits4, splits8};
+ghost use Rattle.unique_spelling.specs.FieldsOf.{fields_of};
 ghost use Rattle.handler_tables.specs.Splits.{width_of, field_at, root_of};
 
 use crate::generated_nodes::{
@@ -11,26 +12,32 @@ use crate::generated_nodes::{
 };
 use crate::node::{Next, Node, Split};
 use crate::splits::{field_of, kind_number};
-use row_fields::Fields;
+use instruction_parts::PrefixState;
 use std::sync::ledger::Ledger;
 use step_count::Steps;
 use x86_values::Code;
 
-/// The code of the one row of the table whose conditions hold on the fields in a mode; None exactly where no row's do.
+/// The code of the one row of the table whose conditions hold in a mode on a front and the byte behind its opcode byte; None exactly where no
+/// row's do.
 ///
 /// `BITS` is the mode: 16, 32 or 64. Each look-up in a node is a step: at most 11, and at least 2 where a row is found.
+// Of the front only what a node asks for is looked at.
 #[inline(always)]
-pub fn find<const BITS: u32, L: Ledger>(fields: &Fields, steps: &mut Steps<L>) -> Option<Code>
+pub fn find<const BITS: u32, L: Ledger>(
+    state: &PrefixState,
+    byte: Option<u8>,
+    steps: &mut Steps<L>,
+) -> Option<Code>
     requires { IsTrue (is_mode BITS) }
     ensures row { MatchOption result
-        (HoldsNowhere (mode_of BITS) table fields.now)
-        (λ code. IsOnlyRow (mode_of BITS) table fields.now code.0) }
+        (HoldsNowhere (mode_of BITS) table (fields_of state.now byte))
+        (λ code. IsOnlyRow (mode_of BITS) table (fields_of state.now byte) code.0) }
     ensures most { steps.new ≤ steps.old + 11 }
     ensures least { IsSome result → steps.old + 2 ≤ steps.new }
 {
-    let opcode = fields.opcode as usize;
-    let root = node8(root_number(fields));
-    let cells = match root.next(kind_number(fields), steps) {
+    let opcode = state.opcode as usize;
+    let root = node8(root_number(byte));
+    let cells = match root.next(kind_number(state), steps) {
         Next::Stop => return None,
         Next::N256(cells) => cells,
         _ => unreachable!(),
@@ -41,10 +48,10 @@ pub fn find<const BITS: u32, L: Ledger>(fields: &Fields, steps: &mut Steps<L>) -
         next = match next {
             Next::Stop => return None,
             Next::Leaf(code) => return Some(code),
-            Next::N2(at) => along::<BITS, 2, L>(&node2(at), split2(at), fields, steps),
-            Next::N3(at) => along::<BITS, 3, L>(&node3(at), split3(at), fields, steps),
-            Next::N4(at) => along::<BITS, 4, L>(&node4(at), split4(at), fields, steps),
-            Next::N8(at) => along::<BITS, 8, L>(&node8(at), split8(at), fields, steps),
+            Next::N2(at) => along::<BITS, 2, L>(&node2(at), split2(at), state, byte, steps),
+            Next::N3(at) => along::<BITS, 3, L>(&node3(at), split3(at), state, byte, steps),
+            Next::N4(at) => along::<BITS, 4, L>(&node4(at), split4(at), state, byte, steps),
+            Next::N8(at) => along::<BITS, 8, L>(&node8(at), split8(at), state, byte, steps),
             Next::N256(_) => unreachable!(),
         };
     }
@@ -56,23 +63,24 @@ pub fn find<const BITS: u32, L: Ledger>(fields: &Fields, steps: &mut Steps<L>) -
 fn along<const BITS: u32, const N: usize, L: Ledger>(
     node: &Node<N>,
     split: Split,
-    fields: &Fields,
+    state: &PrefixState,
+    byte: Option<u8>,
     steps: &mut Steps<L>,
 ) -> Next
     requires { width_of split ≤ N }
-    ensures entry { slice_get node.now (field_at (mode_of BITS) split fields.now) ≡ Some result }
+    ensures entry { slice_get node.now (field_at (mode_of BITS) split (fields_of state.now byte)) ≡ Some result }
     ensures step { steps.new ≡ steps.old + 1 }
 {
     // Read, since that it is a byte is known of what is read.
-    let _opcode = fields.opcode;
-    node.next(field_of::<BITS>(split, fields), steps)
+    let _opcode = state.opcode;
+    node.next(field_of::<BITS>(split, state, byte), steps)
 }
 
-/// The root for fields with a ModRM byte, and for those without one.
-fn root_number(fields: &Fields) -> u16
-    ensures { result ≡ root_of fields.now.modrm }
+/// The root where a byte stands behind the opcode byte, and the root where none does.
+fn root_number(byte: Option<u8>) -> u16
+    ensures { result ≡ root_of byte }
 {
-    match fields.modrm {
+    match byte {
         Some(_) => 0,
         None => 1,
     }

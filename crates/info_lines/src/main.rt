@@ -6,7 +6,9 @@ ghost use Rattle.std.specs.Prelude.{IfOk, IsTrue};
 ghost use Rattle.opcode_rows.specs.Allowed.{is_well_formed};
 
 use decoder::{DecodeError, decode};
-use instruction_info::{MemoryUse, RegisterUse, all_memory, all_registers, features_of, flags_of};
+use instruction_info::{
+    MemoryUse, RegisterUse, all_memory, all_registers, flags_of, needed_features,
+};
 use opcode_rows::name;
 use operand_info::laws::well_formed_codes_are_in_the_table;
 use x86_values::{Bits, Decoded, Instr, Register};
@@ -74,7 +76,7 @@ fn tell(rt: &HostRuntime, bits: Bits, instr: &Instr) -> anyhow::Result<()>
         flags.read.0, flags.written.0, flags.cleared.0
     )?;
     print!(rt; " {} {} {}", flags.set.0, flags.undefined.0, flags.kept.0)?;
-    println!(rt; " ; {}", features_of(instr.code).0)?;
+    println!(rt; " ; {}", needed_features(instr).0)?;
     Ok(())
 }
 

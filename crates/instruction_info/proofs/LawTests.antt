@@ -37,7 +37,7 @@ passes-or p [] d (suc k) h hd = hd
 passes-or p (x ∷ xs) d zero h hd = and-left (p x) (list_all p xs) h
 passes-or p (x ∷ xs) d (suc k) h hd = passes-or p xs d k (and-right (p x) (list_all p xs) h) hd
 
-each_effect : (p : Effect → Bool) → list_all p effects ≡ true → p no_effect ≡ true → (code : ℕ) → p (effect_of code) ≡ true
+pub each_effect : (p : Effect → Bool) → list_all p effects ≡ true → p no_effect ≡ true → (code : ℕ) → p (effect_of code) ≡ true
 unfolding effect_of
 each_effect p h hd code = passes-or p effects no_effect (unwrap_or (slice_get indexes code) 0) h hd
 
@@ -88,11 +88,11 @@ kept-changed code = eqb-true _ _ (each_effect keeps_changed all_keep_changed ref
 -- ---- all rows
 
 -- the effect of an index
-abbrev effect_numbered : ℕ → Effect
+abbrev pub effect_numbered : ℕ → Effect
 effect_numbered k = unwrap_or (slice_get effects k) no_effect
 
 -- a test of each row with its name and its effect
-unfoldable all_rows : (List ℕ → Row → Effect → Bool) → List (List ℕ) → List Row → List ℕ → Bool
+unfoldable pub all_rows : (List ℕ → Row → Effect → Bool) → List (List ℕ) → List Row → List ℕ → Bool
 all_rows p [] rows ks = true
 all_rows p (n ∷ ns) [] ks = true
 all_rows p (n ∷ ns) (r ∷ rs) [] = true
@@ -120,7 +120,7 @@ unfolding indexes
 length-indexes = refl
 
 -- what passes on all rows passes on the row of a code
-each_row : (p : List ℕ → Row → Effect → Bool) → all_rows p names table indexes ≡ true → (code : ℕ) (row : Row) → slice_get table code ≡ Some row
+pub each_row : (p : List ℕ → Row → Effect → Bool) → all_rows p names table indexes ≡ true → (code : ℕ) (row : Row) → slice_get table code ≡ Some row
     → p (name_of code) row (effect_of code) ≡ true
 unfolding name_of effect_of
 each_row p h code row at =

@@ -1,2 +1,3 @@
 mod Effects
 mod LawTests
+pub mod FewUses

@@ -1,5 +1,8 @@
 -- The effects of the rows: the tables of constants, and what they say of a code.
-use Rattle.std.specs.Prelude.{ℕ, ◌+◌, nat_le, Bool, false, ◌&&◌, List, slice_get, unwrap_or, take, drop}
+use Rattle.std.specs.Prelude.{ℕ, ◌+◌, nat_le, Bool, false, ◌&&◌, if◌then◌else◌, List, slice_get, unwrap_or, take, drop}
+use Rattle.std.specs.List.{list_any}
+use Rattle.x86_values.specs.declared.Instr.{Instr}
+use Rattle.x86_values.specs.Operands.{is_memory}
 use Rattle.instruction_info.specs.declared.effect.Effect.{Effect}
 use Rattle.instruction_info.specs.declared.effect.NamedMemory.TheVariants.{AsOperand}
 use Rattle.instruction_info.specs.declared.effect.ImpliedRegister.{ImpliedRegister}
@@ -42,6 +45,7 @@ no_effect = record {
   undefined = 0;
   kept = 0;
   features = 0;
+  register_features = 0;
   first_register = 0;
   registers = 0;
   first_memory = 0;
@@ -82,6 +86,18 @@ flags_kept code = (effect_of code).kept
 -- the CPUID features that are needed (the feature flag of the opcode table)
 unfoldable pub features_of : ℕ → ℕ
 features_of code = (effect_of code).features
+
+-- those that the form without memory needs, of a row that has both forms
+unfoldable pub register_features_of : ℕ → ℕ
+register_features_of code = (effect_of code).register_features
+
+-- an operand is memory
+abbrev pub has_memory : Instr → Bool
+has_memory i = list_any is_memory i.ops
+
+-- the features that an instruction needs: those of its form, with memory or without
+unfoldable pub needed_features : Instr → ℕ
+needed_features i = if has_memory i then features_of i.code.0 else register_features_of i.code.0
 
 -- the registers that an effect implies
 abbrev pub registers_in : Effect → List ImpliedRegister

@@ -84,7 +84,7 @@ pub enum NamedMemory {
     ConditionalWrite,
 }
 
-/// What a row does besides its operands: the flags of each set, the features, where its registers and its memory begin in their lists and how many
+/// What a row does besides its operands: the flags of each set, the features, those of the form without memory where a row has both forms, where its registers and its memory begin in their lists and how many
 /// they are, whether a repeat prefix repeats it, the bytes of the memory operand where the columns have none, and what is done to that.
 #[derive(Clone, Copy)]
 pub struct Effect {
@@ -95,6 +95,7 @@ pub struct Effect {
     pub undefined: u32,
     pub kept: u32,
     pub features: u64,
+    pub register_features: u64,
     pub first_register: u16,
     pub registers: u16,
     pub first_memory: u16,

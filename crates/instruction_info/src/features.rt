@@ -6,7 +6,7 @@ ghost use Rattle.instruction_info.specs.Effects as spec;
 use crate::effect::effect_at;
 use bitflags::{Flag, Flags, bitflag_items};
 use opcode_rows::ROWS;
-use x86_values::Code;
+use x86_values::{Code, Instr};
 
 /// CPUID feature flags (Intel SDM volume 2, CPUID), each by the name that it has there. An instruction needs all of its set.
 #[derive(Clone, Copy, PartialEq, Eq, Debug)]
@@ -92,10 +92,42 @@ impl Flags for Features {
 
 /// The features that the manual's page of a code below `ROWS` names, none for what each processor has.
 ///
-/// Two forms of a row can need different ones: VBROADCASTSS and VBROADCASTSD from memory need AVX, which is told, and from a register AVX2.
+/// Two forms of a row can need different ones: VBROADCASTSS and VBROADCASTSD from memory need AVX, which is told, and from a register AVX2, which
+/// `needed_features` tells.
 pub fn features_of(code: Code) -> Features
     requires { code.0 < ROWS }
     ensures { result.0 ≡ spec.features_of code.0 }
 {
     Features(effect_at(code).features)
+}
+
+/// The features that the form without memory of a code below `ROWS` needs: those of `features_of` for all rows but a few.
+#[inline]
+fn register_features_of(code: Code) -> Features
+    requires { code.0 < ROWS }
+    ensures { result.0 ≡ spec.register_features_of code.0 }
+{
+    Features(effect_at(code).register_features)
+}
+
+/// Whether an operand is memory.
+#[inline]
+fn has_memory(instr: &Instr) -> bool
+    ensures { result ≡ spec.has_memory instr.now }
+{
+    instr.ops.iter().any(|op| op.is_memory())
+}
+
+/// The features that an instruction needs whose code is below `ROWS`: those of its row, where an operand is memory, and of two forms of a row else those
+/// of the other.
+#[tactic(auto, unfolding(crate::specs::Effects::needed_features))]
+pub fn needed_features(instr: &Instr) -> Features
+    requires { instr.now.code.0 < ROWS }
+    ensures { result.0 ≡ spec.needed_features instr.now }
+{
+    if has_memory(instr) {
+        features_of(instr.code)
+    } else {
+        register_features_of(instr.code)
+    }
 }

@@ -17,7 +17,7 @@ pub use effect::{
     AccessKind, ImpliedMemory, ImpliedRegister, NamedMemory, RegisterGroup, SegmentRule,
     implied_memory, implied_registers, repeats, stated_access, stated_size,
 };
-pub use features::{Features, features_of};
+pub use features::{Features, features_of, needed_features};
 pub use flags::{FlagSet, FlagUse, flags_of};
 pub use memory::{MemoryUse, all_memory};
 pub use registers::{RegisterUse, all_registers, full_register};

@@ -30,8 +30,8 @@ impl Default for RegisterUse {
     }
 }
 
-/// At most 48 uses of registers.
-type Uses = ArrayVec<RegisterUse, 48>;
+/// At most 32 uses of registers.
+type Uses = ArrayVec<RegisterUse, 32>;
 
 /// The widest register that holds a register: RAX of AL, AH, AX and EAX, YMM1 of XMM1, RIP of EIP, and of any other the register itself. Uses of two
 /// registers touch one place where these are one.
@@ -64,7 +64,7 @@ fn operand_access(access: Access) -> AccessKind
 /// Appends registers that operands name.
 #[tactic(auto, unfolding(crate::specs::Registers::named_uses))]
 fn push_named(uses: &mut Uses, named: &[RegUse])
-    requires { array_vec_len uses.old + length named.now ≤ 48 }
+    requires { array_vec_len uses.old + length named.now ≤ 32 }
     ensures items { uses.new.items ≡ uses.old.items ++ spec.named_uses named.now }
     ensures room { array_vec_len uses.new ≤ array_vec_len uses.old + length named.now }
 {
@@ -105,7 +105,7 @@ fn segment_access(access: AccessKind) -> AccessKind
 
 /// Appends the segment register of some memory, where it counts.
 fn push_segment(uses: &mut Uses, bits: Bits, memory: MemoryUse)
-    requires { array_vec_len uses.old < 48 }
+    requires { array_vec_len uses.old < 32 }
     ensures items { uses.new.items ≡ uses.old.items ++ spec.segment_use bits memory }
     ensures room { array_vec_len uses.new ≤ array_vec_len uses.old + 1 }
 {
@@ -120,7 +120,7 @@ fn push_segment(uses: &mut Uses, bits: Bits, memory: MemoryUse)
 /// Appends the segment registers of some memory.
 #[tactic(auto, unfolding(crate::specs::Registers::segment_uses))]
 fn push_segments(uses: &mut Uses, bits: Bits, memory: &[MemoryUse])
-    requires { array_vec_len uses.old + length memory.now ≤ 48 }
+    requires { array_vec_len uses.old + length memory.now ≤ 32 }
     ensures items { uses.new.items ≡ uses.old.items ++ spec.segment_uses bits memory.now }
     ensures room { array_vec_len uses.new ≤ array_vec_len uses.old + length memory.now }
 {
@@ -146,7 +146,7 @@ fn is_there(bits: Bits, group: RegisterGroup, n: u8) -> bool
 
 /// Appends an implied register, where the mode has it.
 fn push_register(uses: &mut Uses, setting: Setting, one: ImpliedRegister)
-    requires { array_vec_len uses.old < 48 }
+    requires { array_vec_len uses.old < 32 }
     ensures items { uses.new.items ≡ uses.old.items ++ spec.implied_use setting one }
     ensures room { array_vec_len uses.new ≤ array_vec_len uses.old + 1 }
 {
@@ -161,7 +161,7 @@ fn push_register(uses: &mut Uses, setting: Setting, one: ImpliedRegister)
 /// Appends implied registers.
 #[tactic(auto, unfolding(crate::specs::Registers::implied_uses))]
 fn push_registers(uses: &mut Uses, setting: Setting, implied: &[ImpliedRegister])
-    requires { array_vec_len uses.old + length implied.now ≤ 48 }
+    requires { array_vec_len uses.old + length implied.now ≤ 32 }
     ensures items { uses.new.items ≡ uses.old.items ++ spec.implied_uses setting implied.now }
     ensures room { array_vec_len uses.new ≤ array_vec_len uses.old + length implied.now }
 {
@@ -176,7 +176,7 @@ fn push_registers(uses: &mut Uses, setting: Setting, implied: &[ImpliedRegister]
 
 /// Appends the counter of a repeat prefix, CX, ECX or RCX by the address size, where one repeats: it is read, and written where it was not 0.
 fn push_counter(uses: &mut Uses, setting: Setting)
-    requires { array_vec_len uses.old < 48 }
+    requires { array_vec_len uses.old < 32 }
     ensures { uses.new.items ≡ uses.old.items ++ spec.counter_use setting }
 {
     if setting.repeated {
@@ -189,9 +189,9 @@ fn push_counter(uses: &mut Uses, setting: Setting)
 
 /// The registers that a well-formed instruction touches in a mode: those that its operands name, as `used_registers` has them; the segment registers of
 /// the memory that `all_memory` has, of which in 64-bit mode FS and GS alone count; those that are implied; and the counter of a repeat prefix. A register
-/// that is touched in two ways is there twice.
-#[tactic(auto, unfolding(crate::specs::Registers::all_registers))]
-pub fn all_registers(bits: Bits, instr: &Instr) -> ArrayVec<RegisterUse, 48>
+/// that is touched in two ways is there twice. They are 32 at the most.
+#[tactic(auto, using(crate::proofs::FewUses::few_uses), unfolding(crate::specs::Registers::all_registers))]
+pub fn all_registers(bits: Bits, instr: &Instr) -> ArrayVec<RegisterUse, 32>
     requires { IsTrue (is_well_formed instr.now) }
     ensures { result.items ≡ spec.all_registers bits instr.now }
 {

@@ -6,24 +6,20 @@ use Rattle.x86_values.specs.declared.Bits.{Bits}
 use Rattle.x86_values.specs.declared.Bits.TheVariants.{B64}
 use Rattle.x86_values.specs.declared.DispSize.{DispSize}
 use Rattle.x86_values.specs.declared.DispSize.TheVariants.{D0}
-use Rattle.x86_values.specs.declared.Mem.{Mem}
 use Rattle.x86_values.specs.declared.Operand.{Operand}
 use Rattle.x86_values.specs.declared.Operand.TheVariants.{Mem as MemOperand}
 use Rattle.x86_values.specs.declared.Code.{Code}
 use Rattle.x86_values.specs.declared.Instr.{Instr}
 use Rattle.x86_values.specs.Wrapping.{wrapped}
 use Rattle.row_types.specs.declared.Row.{Row}
-use Rattle.row_types.specs.declared.Place.{Place}
-use Rattle.row_types.specs.declared.Place.TheVariants.{Any as AnyPlace, Memory as OnlyMemory, Register as OnlyRegister}
 use Rattle.instruction_parts.specs.declared.kinds.Method.{Method}
-use Rattle.instruction_parts.specs.declared.kinds.Method.TheVariants as method
 use Rattle.instruction_parts.specs.Kinds.{method_of}
 use Rattle.instruction_parts.specs.Sizes.{has_address_mark}
 use Rattle.instruction_parts.proofs.Tests.{and_left, and_right}
 use Rattle.row_fit.specs.Fits.{kind_at}
 use Rattle.opcode_rows.specs.Table.{table}
 use Rattle.x86_values.specs.Comparing.{same_bits}
-use Rattle.plain_spelling.specs.Forms.{is_variant_of, is_allowed_in, is_memory, operand_at}
+use Rattle.plain_spelling.specs.Forms.{is_memory, operand_at}
 use Rattle.plain_spelling.specs.Addresses.{has_address_size, displacement_suits, shown_size, written_size}
 use Rattle.plain_spelling.specs.Expressible.{offered, told_size, size_agrees, has_memory_operand, is_size_of, address_size_suits}
 use Rattle.plain_spelling.proofs.Asked.{each-at}
@@ -35,13 +31,12 @@ use Rattle.intel_words.specs.declared.words.Inside.{Inside}
 use Rattle.intel_words.specs.declared.words.Inside.TheVariants.{Nothing, Lone, Rel, Sum}
 use Rattle.intel_reader.specs.Assembled.{Assembly, IsCandidate}
 use Rattle.intel_reader.specs.Candidate.{is_near_at, address_from, operand_from, text_at, candidate}
-use Rattle.intel_reader.specs.Possible.{kinds_allow, is_address, has_address, has_size, text_agrees, size_allowed, text_offers, displacement_allowed}
-use Rattle.intel_reader.proofs.CandidateBack.{variant_at}
+use Rattle.intel_reader.specs.Possible.{is_address, has_address, has_size, text_agrees, size_allowed, text_offers, displacement_allowed}
 use Rattle.intel_reader.proofs.PlainFacts.{plain_is_ready}
 
 -- ---- the conditions, on what is made of the words
 
-code_is : (bits : Bits) (row : Row) (code : Code) (words : IntelWords) (asize : Option Bits) (size : DispSize) → (candidate bits row code words asize size).code ≡ code
+pub code_is : (bits : Bits) (row : Row) (code : Code) (words : IntelWords) (asize : Option Bits) (size : DispSize) → (candidate bits row code words asize size).code ≡ code
 unfolding candidate
 code_is bits row code words asize size = refl
 
@@ -60,33 +55,6 @@ made_at bits row code words asize size (suc zero) h = refl
 made_at bits row code words asize size (suc (suc zero)) h = refl
 made_at bits row code words asize size (suc (suc (suc zero))) h = refl
 made_at bits row code words asize size (suc (suc (suc (suc n)))) h = absurd (omega arith)
-
--- ---- the kinds of the operands
-
-memory_same : (place : Place) (how : Method) (m p : Mem) → is_variant_of place how (MemOperand m) ≡ true → is_variant_of place how (MemOperand p) ≡ true
-unfolding is_variant_of is_allowed_in
-memory_same AnyPlace method.RegisterOrMemory m p h = refl
-memory_same OnlyMemory method.RegisterOrMemory m p h = refl
-memory_same OnlyRegister method.RegisterOrMemory m p h = cc
-memory_same place how m p h = h
-
-variant_same : (place : Place) (how : Method) (near : Bool) (a : Bits) (size : DispSize) (t : OperandText) → is_variant_of place how (operand_from near a size t) ≡ true → is_variant_of place how (operand_from near B64 D0 t) ≡ true
-unfolding operand_from
-variant_same place how near a size Absent h = h
-variant_same place how near a size (Reg r) h = h
-variant_same place how near a size (Number x) h = h
-variant_same place how near a size (Far s o) h = h
-variant_same place how near a size (Address t) h = memory_same place how (address_from a size t.inside) (address_from B64 D0 t.inside) h
-
--- **a row of whose kinds the operands are not has no such instruction**
-pub kinds_there : (bits : Bits) (ip : ℕ) (row : Row) (code : Code) (words : IntelWords) (asize : Option Bits) (size : DispSize) → Given bits ip row (candidate bits row code words asize size) → kinds_allow row words ≡ true
-unfolding kinds_allow
-kinds_there bits ip row code words asize size g =
-    let i : Instr = candidate bits row code words asize size in
-    let one = λ (n : ℕ) (below : n < 4).
-    variant_same row.place (method_of (kind_at row n)) (is_near_at row n) (unwrap_or asize bits) size (text_at words n)
-    (variant_at bits ip row i n _ g below (made_at bits row code words asize size n below)) in
-    and_from _ _ (one 0 (omega arith)) (and_from _ _ (one 1 (omega arith)) (and_from _ _ (one 2 (omega arith)) (one 3 (omega arith))))
 
 -- ---- the address size
 

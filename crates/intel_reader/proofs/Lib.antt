@@ -5,7 +5,8 @@ pub mod CandidateBack
 pub mod Printed
 pub mod Leading
 pub mod PlainFacts
-pub mod AllowedRegisters
 pub mod AllowedWords
 pub mod Choosing
+pub mod TakenRows
+pub mod LeastLengths
 pub mod Apart

@@ -1,4 +1,5 @@
 pub mod Assembled
 pub mod Candidate
 pub mod Choice
+pub mod Lengths
 pub mod Possible

@@ -1,6 +1,6 @@
 //! The first of all candidates of a text: what each row, address size and displacement size makes of its words is printed, compared and encoded.
 
-ghost use Rattle.std.specs.Prelude.{◌≡◌, ◌⊎◌, ◌<◌, ◌||◌, IfSome, IsNone, MatchOption, Option, Some, slice_get, bytes_eq};
+ghost use Rattle.std.specs.Prelude.{◌≡◌, true, false, ◌⊎◌, ◌<◌, ◌||◌, IfSome, IsNone, MatchOption, Option, Some, slice_get, bytes_eq};
 ghost use Rattle.x86_values.specs.declared.Bits.{Bits};
 ghost use Rattle.x86_values.specs.declared.DispSize.{DispSize};
 ghost use Rattle.row_types.specs.declared.Row.{Row};
@@ -9,21 +9,22 @@ ghost use Rattle.text_parts.specs.PrefixWords as prefix_words;
 ghost use Rattle.text_parts.specs.PrefixWords.{name_text};
 ghost use Rattle.intel_words.specs.Words.{words_of};
 ghost use Rattle.name_index.specs.Buckets.{order};
+ghost use Rattle.name_index.specs.Operands.{number_of};
 ghost use Rattle.intel_reader.specs.Assembled.{Assembly, rank, IsCandidate, IsFirst, IsNoText};
 ghost use Rattle.intel_reader.specs.Candidate as spec;
-ghost use Rattle.intel_reader.specs.Possible.{is_counter_word};
+ghost use Rattle.intel_reader.specs.Possible.{is_counter_word, asked_by};
 ghost use Rattle.intel_reader.specs.Choice.{assembly_of, Leads, IsHeld, IsProgress};
+ghost use Rattle.intel_reader.specs.Lengths.{is_behind};
 
 use crate::candidate::candidate;
-use crate::possible::{
-    displacement_allowed, files_allow, has_address, has_size, kinds_allow, size_allowed,
-};
+use crate::lengths::least_len;
+use crate::possible::{asked_by, displacement_allowed, has_address, has_size, size_allowed};
 use arrayvec::ArrayVec;
 use encoder::encode;
-use instruction_parts::sizes::exists_in;
 use intel_text::print;
 use intel_words::reading::read_words;
 use intel_words::words::IntelWords;
+use name_index::operands::takes_at;
 use name_index::{code_at, indices_of};
 use opcode_rows::{ROWS, name, row_of, well_formed};
 use row_types::Row;
@@ -47,18 +48,42 @@ fn order_of(a: &Found, b: &Found) -> Ordering
     lengths.then(codes.then(bytes))
 }
 
-/// The earlier of what was found before and another.
-fn earlier(best: Option<Found>, other: Found) -> Option<Found>
-    ensures one { (result ≡ best) ⊎ (result ≡ Some other) }
-    ensures kept { (b : Assembly) → Leads best b → Leads result b }
-    ensures led { Leads result (assembly_of other) }
+/// Whether what was found before comes behind another, or nothing was found.
+fn gives_way(best: &Option<Found>, other: &Found) -> bool
+    ensures kept { result ≡ true → (b : Assembly) → Leads best.now b → Leads (Some other.now) b }
+    ensures stays { result ≡ false → Leads best.now (assembly_of other.now) }
 {
     match best {
-        None => Some(other),
-        Some(first) => match order_of(&first, &other) {
-            Ordering::Greater => Some(other),
-            _ => Some(first),
+        None => true,
+        Some(first) => match order_of(first, other) {
+            Ordering::Greater => true,
+            _ => false,
         },
+    }
+}
+
+/// Puts another in the place of what was found before, where it comes first.
+fn keep_first(best: &mut Option<Found>, other: Found)
+    ensures one { (best.new ≡ best.old) ⊎ (best.new ≡ Some other) }
+    ensures kept { (b : Assembly) → Leads best.old b → Leads best.new b }
+    ensures led { Leads best.new (assembly_of other) }
+{
+    if gives_way(best, &other) {
+        *best = Some(other);
+    }
+}
+
+/// Whether an instruction of a code with so many bytes or more comes behind what was found.
+#[tactic(auto, unfolding(crate::specs::Lengths::is_behind))]
+fn is_behind(best: &Option<Found>, code: Code, least: u8) -> bool
+    ensures { result ≡ is_behind best.now code.0 least }
+{
+    match best {
+        None => false,
+        Some(first) => {
+            first.bytes.len() < least as usize
+                || (first.bytes.len() == least as usize && first.instr.code.0 < code.0)
+        }
     }
 }
 
@@ -85,7 +110,7 @@ fn tried(bits: Bits, ip: u64, text: &[u8], instr: Instr) -> Option<Found>
 
 /// What was found, with the candidate of an address size and a displacement size.
 fn with_candidate(
-    best: Option<Found>,
+    best: &mut Option<Found>,
     bits: Bits,
     ip: u64,
     text: &[u8],
@@ -94,24 +119,27 @@ fn with_candidate(
     words: &IntelWords,
     asize: Option<Bits>,
     size: DispSize,
-) -> Option<Found>
+)
     requires row { slice_get table code.0 ≡ Some row.now }
-    ensures progress { IsProgress bits ip text.now best result }
-    ensures covers { (b : Assembly) → IsCandidate bits ip text.now b → spec.candidate bits row.now code words.now asize size ≡ b.instr → Leads result b }
+    ensures progress { IsProgress bits ip text.now best.old best.new }
+    ensures covers { (b : Assembly) → IsCandidate bits ip text.now b → spec.candidate bits row.now code words.now asize size ≡ b.instr → Leads best.new b }
 {
     if !displacement_allowed(bits, row, words, asize, size) {
-        return best;
+        return;
+    }
+    if is_behind(best, code, least_len(bits, row, words, size)) {
+        return;
     }
     let instr = candidate(bits, row, code, words, asize, size);
     match tried(bits, ip, text, instr) {
-        None => best,
-        Some(found) => earlier(best, found),
+        None => {}
+        Some(found) => keep_first(best, found),
     }
 }
 
 /// The best of what was found before and the candidates of a row, at one address size, with all displacement sizes.
 fn with_sizes(
-    best: Option<Found>,
+    best: &mut Option<Found>,
     bits: Bits,
     ip: u64,
     text: &[u8],
@@ -119,84 +147,65 @@ fn with_sizes(
     code: Code,
     words: &IntelWords,
     asize: Option<Bits>,
-) -> Option<Found>
+)
     requires row { slice_get table code.0 ≡ Some row.now }
-    ensures progress { IsProgress bits ip text.now best result }
-    ensures covers { (b : Assembly) (size : DispSize) → IsCandidate bits ip text.now b → spec.candidate bits row.now code words.now asize size ≡ b.instr → Leads result b }
+    ensures progress { IsProgress bits ip text.now best.old best.new }
+    ensures covers { (b : Assembly) (size : DispSize) → IsCandidate bits ip text.now b → spec.candidate bits row.now code words.now asize size ≡ b.instr → Leads best.new b }
 {
     if !size_allowed(bits, row, words, asize) {
-        return best;
+        return;
     }
-    let none = with_candidate(best, bits, ip, text, row, code, words, asize, DispSize::D0);
+    with_candidate(best, bits, ip, text, row, code, words, asize, DispSize::D0);
     if !has_address(words) {
-        return none;
+        return;
     }
-    let byte = with_candidate(none, bits, ip, text, row, code, words, asize, DispSize::D8);
-    let word = with_candidate(byte, bits, ip, text, row, code, words, asize, DispSize::D16);
-    let dword = with_candidate(word, bits, ip, text, row, code, words, asize, DispSize::D32);
-    with_candidate(
-        dword,
-        bits,
-        ip,
-        text,
-        row,
-        code,
-        words,
-        asize,
-        DispSize::D64,
-    )
+    with_candidate(best, bits, ip, text, row, code, words, asize, DispSize::D8);
+    with_candidate(best, bits, ip, text, row, code, words, asize, DispSize::D16);
+    with_candidate(best, bits, ip, text, row, code, words, asize, DispSize::D32);
+    with_candidate(best, bits, ip, text, row, code, words, asize, DispSize::D64);
 }
 
 /// The best of what was found and the candidates of a row with all address sizes.
 fn with_row(
-    best: Option<Found>,
+    best: &mut Option<Found>,
     bits: Bits,
     ip: u64,
     text: &[u8],
     row: &Row,
     code: Code,
     words: &IntelWords,
-) -> Option<Found>
+)
     requires row { slice_get table code.0 ≡ Some row.now }
-    ensures progress { IsProgress bits ip text.now best result }
+    ensures progress { IsProgress bits ip text.now best.old best.new }
     ensures covers { (b : Assembly) (asize : Option Bits) (size : DispSize) → IsCandidate bits ip text.now b
-        → spec.candidate bits row.now code words.now asize size ≡ b.instr → Leads result b }
+        → spec.candidate bits row.now code words.now asize size ≡ b.instr → Leads best.new b }
 {
-    if !kinds_allow(row, words) {
-        return best;
-    }
-    if !files_allow(bits, row, words) {
-        return best;
-    }
-    if !exists_in(bits, row) {
-        return best;
-    }
-    let none = with_sizes(best, bits, ip, text, row, code, words, None);
+    with_sizes(best, bits, ip, text, row, code, words, None);
     if !has_size(row, words) {
-        return none;
+        return;
     }
-    let short = with_sizes(none, bits, ip, text, row, code, words, Some(Bits::B16));
-    let wide = with_sizes(short, bits, ip, text, row, code, words, Some(Bits::B32));
-    with_sizes(wide, bits, ip, text, row, code, words, Some(Bits::B64))
+    with_sizes(best, bits, ip, text, row, code, words, Some(Bits::B16));
+    with_sizes(best, bits, ip, text, row, code, words, Some(Bits::B32));
+    with_sizes(best, bits, ip, text, row, code, words, Some(Bits::B64));
 }
 
 /// The best of what was found and the candidates of a code, where the words are those of each candidate of the text.
 fn with_code(
-    best: Option<Found>,
+    best: &mut Option<Found>,
     bits: Bits,
     ip: u64,
     text: &[u8],
     words: &IntelWords,
     code: Code,
-) -> Option<Found>
+)
     requires code { code.0 < ROWS }
     requires read { (b : Assembly) (row : Row) → IsCandidate bits ip text.now b → slice_get table b.instr.code.0 ≡ Some row
         → words.now ≡ words_of bits row (name_of b.instr.code.0) b.instr }
-    ensures progress { IsProgress bits ip text.now best result }
-    ensures covers { (b : Assembly) → IsCandidate bits ip text.now b → b.instr.code.0 ≡ code.0 → Leads result b }
+    ensures progress { IsProgress bits ip text.now best.old best.new }
+    ensures covers { (b : Assembly) → IsCandidate bits ip text.now b → b.instr.code.0 ≡ code.0 → Leads best.new b }
 {
     let row = row_of(code);
-    with_row(best, bits, ip, text, &row, code, words)
+    with_row(best, bits, ip, text, &row, code, words);
 }
 
 /// Whether a name is that of the jump on the counter.
@@ -219,76 +228,77 @@ fn may_have(word: &[u8], code: Code) -> bool
 
 /// What was found, with the candidates of a code whose row has this name.
 fn with_named(
-    best: Option<Found>,
+    best: &mut Option<Found>,
     bits: Bits,
     ip: u64,
     text: &[u8],
     words: &IntelWords,
     word: &[u8],
     code: Code,
-) -> Option<Found>
+)
     requires code { code.0 < ROWS }
     requires read { (b : Assembly) (row : Row) → IsCandidate bits ip text.now b → slice_get table b.instr.code.0 ≡ Some row
         → words.now ≡ words_of bits row (name_of b.instr.code.0) b.instr }
     requires named { (b : Assembly) → IsCandidate bits ip text.now b → word.now ≡ name_text bits (name_of b.instr.code.0) b.instr }
-    ensures progress { IsProgress bits ip text.now best result }
-    ensures covers { (b : Assembly) → IsCandidate bits ip text.now b → b.instr.code.0 ≡ code.0 → Leads result b }
+    ensures progress { IsProgress bits ip text.now best.old best.new }
+    ensures covers { (b : Assembly) → IsCandidate bits ip text.now b → b.instr.code.0 ≡ code.0 → Leads best.new b }
 {
     if may_have(word, code) {
-        with_code(best, bits, ip, text, words, code)
-    } else {
-        best
+        with_code(best, bits, ip, text, words, code);
     }
 }
 
 /// What was found, with the candidates of the code at an index in the order by names.
 fn with_index(
-    best: Option<Found>,
+    best: &mut Option<Found>,
     bits: Bits,
     ip: u64,
     text: &[u8],
     words: &IntelWords,
     word: &[u8],
     index: u16,
-) -> Option<Found>
+)
     requires read { (b : Assembly) (row : Row) → IsCandidate bits ip text.now b → slice_get table b.instr.code.0 ≡ Some row
         → words.now ≡ words_of bits row (name_of b.instr.code.0) b.instr }
     requires named { (b : Assembly) → IsCandidate bits ip text.now b → word.now ≡ name_text bits (name_of b.instr.code.0) b.instr }
-    ensures progress { IsProgress bits ip text.now best result }
-    ensures covers { (b : Assembly) → IsCandidate bits ip text.now b → slice_get order index ≡ Some b.instr.code.0 → Leads result b }
+    ensures progress { IsProgress bits ip text.now best.old best.new }
+    ensures covers { (b : Assembly) → IsCandidate bits ip text.now b → slice_get order index ≡ Some b.instr.code.0 → Leads best.new b }
 {
     if index >= ROWS {
-        return best;
+        return;
     }
     let code = code_at(index);
     if code.0 >= ROWS {
-        return best;
+        return;
     }
-    with_named(best, bits, ip, text, words, word, code)
+    with_named(best, bits, ip, text, words, word, code);
 }
 
 /// What was found, with the candidates of the codes of a name.
 fn with_name(
-    best: Option<Found>,
+    best: &mut Option<Found>,
     bits: Bits,
     ip: u64,
     text: &[u8],
     words: &IntelWords,
+    asked: u64,
     word: &[u8],
     name: &[u8],
-) -> Option<Found>
+)
+    requires asked { asked ≡ number_of (asked_by bits words.now) }
     requires read { (b : Assembly) (row : Row) → IsCandidate bits ip text.now b → slice_get table b.instr.code.0 ≡ Some row
         → words.now ≡ words_of bits row (name_of b.instr.code.0) b.instr }
     requires named { (b : Assembly) → IsCandidate bits ip text.now b → word.now ≡ name_text bits (name_of b.instr.code.0) b.instr }
-    ensures progress { IsProgress bits ip text.now best result }
-    ensures covers { (b : Assembly) → IsCandidate bits ip text.now b → name_of b.instr.code.0 ≡ name.now → Leads result b }
+    ensures progress { IsProgress bits ip text.now best.old best.new }
+    ensures covers { (b : Assembly) → IsCandidate bits ip text.now b → name_of b.instr.code.0 ≡ name.now → Leads best.new b }
 {
     let indices = indices_of(name);
-    let mut led = best;
     for index in indices.first..indices.end {
-        led = with_index(led, bits, ip, text, words, word, index);
+        if !takes_at(index, asked) {
+            continue;
+        }
+        with_index(best, bits, ip, text, words, word, index);
     }
-    led
 }
 
 /// Whether a name in a text is that of the jump on the counter, with one of its address sizes.
@@ -307,12 +317,23 @@ fn first_among(bits: Bits, ip: u64, text: &[u8], words: &IntelWords, word: &[u8]
     ensures first { IfSome result (λ f. IsFirst bits ip text.now (assembly_of f)) }
     ensures none { IsNone result → IsNoText bits ip text.now }
 {
-    let named = with_name(None, bits, ip, text, words, word, word);
-    if is_counter_word(word) {
-        with_name(named, bits, ip, text, words, word, b"jrcxz".as_slice())
-    } else {
-        named
+    let asked = asked_by(bits, words);
+    let mut best = None;
+    with_name(&mut best, bits, ip, text, words, asked, word, word);
+    if !is_counter_word(word) {
+        return best;
     }
+    with_name(
+        &mut best,
+        bits,
+        ip,
+        text,
+        words,
+        asked,
+        word,
+        b"jrcxz".as_slice(),
+    );
+    best
 }
 
 /// The first of all candidates of a text.

@@ -12,6 +12,7 @@ ghost use Rattle.intel_reader.specs.Assembled.{IsAssembled, AssemblesTo, IsNoTex
 mod candidate;
 mod choice;
 pub mod laws;
+mod lengths;
 mod possible;
 
 use arrayvec::ArrayVec;

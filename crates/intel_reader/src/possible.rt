@@ -1,150 +1,44 @@
 //! Tests of the words of a text before any instruction is made of them: whether a row can have them at all, and with which sizes.
 
 ghost use Rattle.std.specs.Prelude.{◌≡◌, ◌<◌};
-ghost use Rattle.x86_values.specs.declared.Bits.TheVariants.{B64};
-ghost use Rattle.x86_values.specs.declared.DispSize.TheVariants.{D0};
-ghost use Rattle.instruction_parts.specs.Kinds.{file_of};
-ghost use Rattle.row_fit.specs.Fits as kinds;
-ghost use Rattle.plain_spelling.specs.Forms.{is_variant_of};
-ghost use Rattle.intel_reader.specs.Candidate as candidates;
+ghost use Rattle.name_index.specs.Operands.{number_of};
 ghost use Rattle.intel_reader.specs.Possible as spec;
 
 use crate::candidate::address_from;
-use instruction_parts::kinds::{File, Method, file_of_kind, method_of_kind};
+use instruction_parts::kinds::{Method, method_of_kind};
 use instruction_parts::sizes::has_address_mark;
 use intel_words::words::{IntelWords, OperandText};
+use name_index::operands::{OperandClass, asked, class_of_register};
 use plain_spelling::addresses::{displacement_suits, has_address_size, told_size, written_size};
-use plain_spelling::front::{asks_66, asks_rex_w, plain_size};
 use row_fit::tail_fits::kind_at;
-use row_types::{Place, Row};
-use x86_values::{Bits, DispSize, Register, same_bits};
+use row_types::Row;
+use x86_values::{Bits, DispSize, same_bits};
 
-/// Whether the words of an operand are of a variant that a kind of this method allows.
-#[tactic(auto, unfolding(plain_spelling::specs::Forms::is_variant_of, plain_spelling::specs::Forms::is_allowed_in, crate::specs::Candidate::operand_from, crate::specs::Candidate::is_near_method))]
-fn variant_allowed(place: Place, method: Method, text: &OperandText) -> bool
-    ensures { result ≡ is_variant_of place method (candidates.operand_from (candidates.is_near_method method) B64 D0 text.now) }
+/// The class of an operand.
+#[tactic(auto, unfolding(crate::specs::Possible::class_of))]
+fn class_of(text: &OperandText) -> OperandClass
+    ensures { result ≡ spec.class_of text.now }
 {
     match text {
-        OperandText::Absent => match method {
-            Method::Nothing => true,
-            _ => false,
-        },
-        OperandText::Reg(_) => match method {
-            Method::RegisterOrMemory => match place {
-                Place::Memory => false,
-                _ => true,
-            },
-            Method::Nothing
-            | Method::MemoryOnly
-            | Method::Gather
-            | Method::Offset
-            | Method::AsWritten
-            | Method::Extended
-            | Method::One
-            | Method::Near
-            | Method::Pointer => false,
-            _ => true,
-        },
-        OperandText::Number(_) => match method {
-            Method::AsWritten | Method::Extended | Method::One | Method::Near => true,
-            _ => false,
-        },
-        OperandText::Far { .. } => match method {
-            Method::Pointer => true,
-            _ => false,
-        },
-        OperandText::Mem(_) => match method {
-            Method::RegisterOrMemory => match place {
-                Place::Register => false,
-                _ => true,
-            },
-            Method::MemoryOnly | Method::Gather | Method::Offset => true,
-            _ => false,
-        },
+        OperandText::Absent => OperandClass::Absent,
+        OperandText::Reg(register) => class_of_register(*register),
+        OperandText::Number(_) => OperandClass::Number,
+        OperandText::Far { .. } => OperandClass::Pointer,
+        OperandText::Mem(_) => OperandClass::Address,
     }
 }
 
-/// Whether operand n has a variant that the row's kind allows.
-fn kind_allows(row: &Row, words: &IntelWords, n: usize) -> bool
-    requires { n < 4 }
-    ensures { result ≡ spec.kind_allows row.now words.now n }
+/// What the words ask of a row in a mode, as flags.
+pub fn asked_by(bits: Bits, words: &IntelWords) -> u64
+    ensures { result ≡ number_of (spec.asked_by bits words.now) }
 {
-    variant_allowed(row.place, method_of_kind(kind_at(row, n)), &words.ops[n])
-}
-
-/// Whether each operand has a variant that the row's kind allows.
-#[tactic(auto, unfolding(crate::specs::Possible::kinds_allow))]
-pub fn kinds_allow(row: &Row, words: &IntelWords) -> bool
-    ensures { result ≡ spec.kinds_allow row.now words.now }
-{
-    kind_allows(row, words, 0)
-        && kind_allows(row, words, 1)
-        && kind_allows(row, words, 2)
-        && kind_allows(row, words, 3)
-}
-
-/// Whether a register is a general one of a size.
-#[tactic(auto, unfolding(crate::specs::Possible::is_general))]
-fn is_general(size: Bits, register: Register) -> bool
-    ensures { result ≡ spec.is_general size register }
-{
-    match (size, register) {
-        (Bits::B16, Register::R16(_)) => true,
-        (Bits::B32, Register::R32(_)) => true,
-        (Bits::B64, Register::R64(_)) => true,
-        _ => false,
-    }
-}
-
-/// Whether a file may name a register at an operand size.
-#[tactic(auto, unfolding(crate::specs::Possible::in_file, crate::specs::Possible::is_byte_register, crate::specs::Possible::is_xmm_register))]
-fn in_file(size: Bits, file: File, register: Register) -> bool
-    ensures { result ≡ spec.in_file size file register }
-{
-    match file {
-        File::Byte => match register {
-            Register::Low8(_) => true,
-            Register::High8(_) => true,
-            _ => false,
-        },
-        File::Word => is_general(Bits::B16, register),
-        File::Dword => is_general(Bits::B32, register),
-        File::Qword => is_general(Bits::B64, register),
-        File::OperandSize => is_general(size, register),
-        File::WordOrDword => match size {
-            Bits::B16 => is_general(Bits::B16, register),
-            _ => is_general(Bits::B32, register),
-        },
-        File::Xmm => match register {
-            Register::Xmm(_) => true,
-            _ => false,
-        },
-        _ => true,
-    }
-}
-
-/// Whether a register that stands as operand n is one that the row's kind may name.
-#[tactic(auto, unfolding(crate::specs::Possible::text_in_file))]
-fn nth_in_file(size: Bits, row: &Row, words: &IntelWords, n: usize) -> bool
-    requires { n < 4 }
-    ensures { result ≡ spec.text_in_file size (file_of (kinds.kind_at row.now n)) (candidates.text_at words.now n) }
-{
-    match words.ops[n] {
-        OperandText::Reg(register) => in_file(size, file_of_kind(kind_at(row, n)), register),
-        _ => true,
-    }
-}
-
-/// Whether each register is one that the row's kind may name.
-#[tactic(auto, unfolding(crate::specs::Possible::files_allow))]
-pub fn files_allow(bits: Bits, row: &Row, words: &IntelWords) -> bool
-    ensures { result ≡ spec.files_allow bits row.now words.now }
-{
-    let size = plain_size(bits, row, asks_rex_w(row), asks_66(bits, row));
-    nth_in_file(size, row, words, 0)
-        && nth_in_file(size, row, words, 1)
-        && nth_in_file(size, row, words, 2)
-        && nth_in_file(size, row, words, 3)
+    asked(
+        bits,
+        class_of(&words.ops[0]),
+        class_of(&words.ops[1]),
+        class_of(&words.ops[2]),
+        class_of(&words.ops[3]),
+    )
 }
 
 /// Whether an operand is an address.

@@ -1,5 +1,6 @@
 -- Answers whose instruction was written to a place.
-use Rattle.std.proofs.Common.{IfOk, Result, Ok, Err}
+use Rattle.std.proofs.Common.{◌≡◌, ℕ, IfOk, Option, Some, None, Result, Ok, Err, subst}
+use Rattle.std.specs.Prelude.{IfSome}
 use Rattle.x86_values.specs.declared.Decoded.{Decoded}
 use Rattle.modrm_sib.specs.Answer.{answer_in}
 
@@ -7,3 +8,8 @@ use Rattle.modrm_sib.specs.Answer.{answer_in}
 pub ok_in : (E : Type 0) (P : Decoded → Type 0) (r : Result (Unit {0}) E) (place : Decoded) → IfOk (answer_in r place) P → IfOk r (λ done. P place)
 ok_in E P (Ok done) place h = h
 ok_in E P (Err why) place h = tt
+
+-- what holds of a number where there is one
+pub told : (known : Option ℕ) (n : ℕ) (P : ℕ → Type 0) → IfSome known P → known ≡ Some n → P n
+told None n P h e = cc
+told (Some m) n P h e = let same : m ≡ n = cc in subst P same h

@@ -1,14 +1,14 @@
 -- What stands behind an opcode byte, and when it can stand behind one of a row (Intel SDM volume 2, 2.1.3 to 2.1.5).
-use Rattle.std.specs.Prelude.{ℕ, ◌/◌, ◌%◌, Bool, true, ◌&&◌, not, ◌≡◌, if◌then◌else◌, List, [], ◌∷◌, Option, Some, None}
+use Rattle.std.specs.Prelude.{ℕ, ◌/◌, ◌%◌, Bool, true, false, ◌&&◌, not, ◌≡◌, if◌then◌else◌, List, [], ◌∷◌, Option, Some, None}
 use Rattle.std.specs.List.{list_any}
 use Rattle.x86_values.specs.declared.Bits.{Bits}
 use Rattle.row_types.specs.declared.Row.{Row}
 use Rattle.instruction_parts.specs.declared.spelling.ModRm.{ModRm}
 use Rattle.instruction_parts.specs.declared.spelling.Sib.{Sib}
 use Rattle.instruction_parts.specs.declared.spelling.PrefixState.{PrefixState}
-use Rattle.instruction_parts.specs.Sizes.{is_vex_row, state_address_size, size_bytes}
+use Rattle.instruction_parts.specs.Sizes.{is_vex_row, state_size, state_address_size, size_bytes}
 use Rattle.row_fit.specs.Sound.{has_modrm_rule}
-use Rattle.row_fit.specs.Fits.{reads_by, is_offset, reads_mode, needs_sib, displacement_bytes, same_map, opcode_allows, opcode_and_modrm_fit, lock_fits, registers_fit, state_fits}
+use Rattle.row_fit.specs.Fits.{immediates_bytes, reads_by, is_offset, reads_mode, needs_sib, displacement_bytes, same_map, opcode_allows, opcode_and_modrm_fit, lock_fits, registers_fit, state_fits}
 
 -- a ModRM of its fields
 abbrev pub modrm_of : ℕ → ℕ → ℕ → ModRm
@@ -91,3 +91,9 @@ modrm_in row (b ∷ bytes) = if has_modrm_rule row.modrm then Some (modrm_of_byt
 -- the row takes the state with the ModRM that stands there, whatever SIB stands behind it
 abbrev pub KnownToFit : Bits → Row → PrefixState → List ℕ → Type 0
 KnownToFit bits row state bytes = (sib : Option Sib) → parts_fit bits row state (modrm_in row bytes) sib ≡ true
+
+-- the row reads ModRM.mod, has no absolute address, and under the prefixes of the state its immediates have n bytes (2.1.5)
+pub record TellsLengths (bits : Bits) (row : Row) (state : PrefixState) (n : ℕ) : Type 0 where
+  pub mode : reads_mode row ≡ true
+  pub offset : reads_by is_offset row ≡ false
+  pub immediates : n ≡ immediates_bytes (state_size bits row state) row

@@ -2,11 +2,11 @@
 //! (Intel SDM volume 2, 2.1.3 to 2.1.5).
 #![tactic(auto)]
 
-ghost use Rattle.std.specs.Prelude.{◌≡◌, ◌<◌, ◌≤◌, ◌+◌, true, IsTrue, length, drop, IfOk};
+ghost use Rattle.std.specs.Prelude.{◌≡◌, ◌<◌, ◌≤◌, ◌+◌, IsTrue, length, drop, IfSome, IfOk};
 ghost use Rattle.instruction_parts.specs.Front.{front_of, Known};
 ghost use Rattle.prefixes.specs.Answer.{is_mode, mode_of};
 ghost use Rattle.row_fit.specs.Sound.{sound};
-ghost use Rattle.modrm_sib.specs.Parts.{KnownToFit};
+ghost use Rattle.modrm_sib.specs.Parts.{KnownToFit, TellsLengths};
 ghost use Rattle.row_relation.specs.RowReading.{RowReads, RowReadsNothing, RowCanGoOn};
 
 mod ends;
@@ -58,7 +58,7 @@ pub fn read_row(
         → RowReadsNothing bits row.now bytes.now × (RowCanGoOn bits row.now bytes.now → ⊥) }
 {
     let mut decoded = UNREAD;
-    match read_row_into(bits, ip, state, code, row, false, bytes, &mut decoded) {
+    match read_row_into(bits, ip, state, code, row, None, bytes, &mut decoded) {
         Ok(()) => Ok(decoded),
         Err(error) => Err(error),
     }
@@ -72,7 +72,7 @@ pub const UNREAD: Decoded = Decoded {
 
 /// Reads the tail of a row as [`read_row`] does, and writes the instruction to a place. After an error nothing is said of what stands there.
 ///
-/// `known` says that the row is known to take the state with the ModRM that stands there, so that it is not asked again.
+/// `known` are the bytes of the row's immediates, where it is known to take the state with the ModRM that stands there: so that is not asked again.
 #[inline(always)]
 pub fn read_row_into(
     bits: Bits,
@@ -80,12 +80,13 @@ pub fn read_row_into(
     state: &PrefixState,
     code: Code,
     row: &Row,
-    known: bool,
+    known: Option<u8>,
     bytes: &[u8],
     place: &mut Decoded,
 ) -> Result<(), TailError>
     requires sound { IsTrue (sound row.now) }
-    requires known { known ≡ true → KnownToFit bits row.now state.now (drop (state.now.used + 1) bytes.now) }
+    requires known { IfSome known (λ n. TellsLengths bits row.now state.now n) }
+    requires fitting { IfSome known (λ _. KnownToFit bits row.now state.now (drop (state.now.used + 1) bytes.now)) }
     requires front { front_of bits bytes.now ≡ Known state.now }
     ensures ok { IfOk result (λ _. RowReads bits ip code row.now bytes.now place.new) }
     ensures len { IfOk result (λ _. (0 < place.new.len) × (place.new.len < 64) × (place.new.len ≤ length bytes.now)) }

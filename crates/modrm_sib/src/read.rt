@@ -1,6 +1,6 @@
 //! The bytes behind the opcode byte, read part by part.
 
-ghost use Rattle.std.specs.Prelude.{◌≡◌, ◌<◌, ◌≤◌, true, IsTrue, ℕ, IfOk, IfErr, Err};
+ghost use Rattle.std.specs.Prelude.{◌≡◌, ◌<◌, ◌≤◌, true, IsTrue, ℕ, IfSome, IfOk, IfErr, Err};
 ghost use Rattle.x86_values.specs.declared.Decoded.{Decoded};
 ghost use Rattle.modrm_sib.specs.Answer as spec;
 ghost use Rattle.modrm_sib.specs.Parts as parts;
@@ -10,7 +10,9 @@ ghost use Rattle.row_fit.specs.Sound.{sound, has_modrm_rule};
 
 use crate::TailError;
 use crate::ends::{some_modrm_fits, some_sib_fits};
-use crate::parts::{displacement_len, modrm_of_byte, parts_fit, sib_of_byte, takes_sib};
+use crate::parts::{
+    displacement_len, has_sib, modrm_of_byte, parts_fit, plain_displacement_len, sib_of_byte,
+};
 use instruction_parts::sizes::state_size;
 use instruction_parts::{ModRm, PrefixState, Sib};
 use row_fit::tail_fits::immediates_bytes;
@@ -31,31 +33,40 @@ fn at_end(can_go_on: bool) -> TailError
 }
 
 /// The bytes of the displacement, of which there are 8 at most.
-#[inline]
+#[inline(always)]
 fn displacement_size(
     bits: Bits,
     row: &Row,
     state: &PrefixState,
+    known: Option<u8>,
     m: Option<ModRm>,
     sib: Option<Sib>,
 ) -> u8
+    requires { IfSome known (λ n. parts.TellsLengths bits row.now state.now n) }
     ensures value { result ≡ parts.displacement_len bits row.now state.now m sib }
     ensures small { result ≤ 8 }
 {
-    displacement_len(bits, row, state, m, sib)
+    match known {
+        Some(_) => plain_displacement_len(bits, state, m, sib),
+        None => displacement_len(bits, row, state, m, sib),
+    }
 }
 
 /// The bytes of the immediates, of which a row has 8 at most.
 #[inline(always)]
-fn immediates_size(size: Bits, row: &Row) -> u8
-    requires { IsTrue (sound row.now) }
-    ensures value { result ≡ fits.immediates_bytes size row.now }
+fn immediates_size(bits: Bits, row: &Row, state: &PrefixState, known: Option<u8>) -> u8
+    requires sound { IsTrue (sound row.now) }
+    requires known { IfSome known (λ n. parts.TellsLengths bits row.now state.now n) }
+    ensures value { result ≡ fits.immediates_bytes (state_size bits row.now state.now) row.now }
     ensures small { result ≤ 8 }
 {
-    immediates_bytes(size, row)
+    match known {
+        Some(n) => n,
+        None => immediates_bytes(state_size(bits, row, state), row),
+    }
 }
 
-/// What stands behind ModRM and SIB. Whether these fit the row is not asked where it is `known` that they do.
+/// What stands behind ModRM and SIB. Whether these fit the row is not asked where it is `known`.
 // An instruction is written where it is to stand, here and in the calls above: handed on as a value, it is copied by each of them.
 #[inline(always)]
 #[tactic(auto, unfolding(crate::specs::Answer::rest_answer, crate::specs::Answer::fitting_answer))]
@@ -65,12 +76,13 @@ fn read_rest(
     state: &PrefixState,
     code: Code,
     row: &Row,
-    known: bool,
+    known: Option<u8>,
     head: &Head,
     place: &mut Decoded,
 ) -> Result<(), TailError>
     requires sound { IsTrue (sound row.now) }
-    requires known { known ≡ true → parts.parts_fit bits row.now state.now head.now.modrm head.now.sib ≡ true }
+    requires known { IfSome known (λ n. parts.TellsLengths bits row.now state.now n) }
+    requires fitting { IfSome known (λ _. parts.parts_fit bits row.now state.now head.now.modrm head.now.sib ≡ true) }
     requires modrm { IsTrue (fits.modrm_in_range head.now.modrm) }
     requires sib { IsTrue (fits.sib_in_range head.now.sib) }
     requires few { head.now.used < 18 }
@@ -83,11 +95,11 @@ fn read_rest(
         used,
         rest: bytes,
     } = *head;
-    if !known && !parts_fit(bits, row, state, m, sib) {
+    if known.is_none() && !parts_fit(bits, row, state, m, sib) {
         return Err(TailError::Forbidden);
     }
-    let disp_len = displacement_size(bits, row, state, m, sib);
-    let imm_len = immediates_size(state_size(bits, row, state), row);
+    let disp_len = displacement_size(bits, row, state, known, m, sib);
+    let imm_len = immediates_size(bits, row, state, known);
     let behind = disp_len as usize + imm_len as usize;
     if bytes.len() < behind {
         return Err(TailError::Ended);
@@ -130,15 +142,18 @@ pub(crate) struct Head<'a> {
 }
 
 /// ModRM, and the SIB where it takes one.
+// Where the bytes end, a copy of the row is handed on: so the row itself need not stand in memory.
 #[inline(always)]
 #[tactic(auto, unfolding(crate::specs::Answer::tail_answer, crate::specs::Answer::modrm_answer, crate::specs::Answer::behind_modrm_answer, crate::specs::Answer::sib_answer))]
 fn head_of<'a>(
     bits: Bits,
     state: &PrefixState,
     row: &Row,
+    known: Option<u8>,
     bytes: &'a [u8],
 ) -> Result<Head<'a>, TailError>
     requires few { state.now.used < 15 }
+    requires known { IfSome known (λ n. parts.TellsLengths bits row.now state.now n) }
     ensures ok { IfOk result (λ h. (ip : ℕ) (code : Code) → spec.tail_answer bits ip state.now code row.now bytes.now
         ≡ spec.rest_answer bits ip state.now code row.now h.modrm h.sib h.used h.rest.now) }
     ensures modrm { IfOk result (λ h. IsTrue (fits.modrm_in_range h.modrm)) }
@@ -157,11 +172,14 @@ fn head_of<'a>(
         });
     }
     match bytes.split_first() {
-        None => Err(at_end(some_modrm_fits(bits, row, state))),
+        None => {
+            let row = *row;
+            Err(at_end(some_modrm_fits(bits, &row, state)))
+        }
         Some((b, rest)) => {
             let m = modrm_of_byte(*b);
             let used = used + 1;
-            if !takes_sib(bits, row, state, m) {
+            if !has_sib(bits, row, state, m, known.is_some()) {
                 return Ok(Head {
                     modrm: Some(m),
                     sib: None,
@@ -170,7 +188,10 @@ fn head_of<'a>(
                 });
             }
             match rest.split_first() {
-                None => Err(at_end(some_sib_fits(bits, row, state, m))),
+                None => {
+                    let row = *row;
+                    Err(at_end(some_sib_fits(bits, &row, state, m)))
+                }
                 Some((b, rest)) => Ok(Head {
                     modrm: Some(m),
                     sib: Some(sib_of_byte(*b)),
@@ -190,16 +211,17 @@ pub(crate) fn read_tail(
     state: &PrefixState,
     code: Code,
     row: &Row,
-    known: bool,
+    known: Option<u8>,
     bytes: &[u8],
     place: &mut Decoded,
 ) -> Result<(), TailError>
     requires sound { IsTrue (sound row.now) }
     requires few { state.now.used < 15 }
-    requires known { known ≡ true → parts.KnownToFit bits row.now state.now bytes.now }
+    requires known { IfSome known (λ n. parts.TellsLengths bits row.now state.now n) }
+    requires fitting { IfSome known (λ _. parts.KnownToFit bits row.now state.now bytes.now) }
     ensures { spec.answer_in result place.new ≡ spec.tail_answer bits ip state.now code row.now bytes.now }
 {
-    match head_of(bits, state, row, bytes) {
+    match head_of(bits, state, row, known, bytes) {
         Err(error) => Err(error),
         Ok(head) => read_rest(bits, ip, state, code, row, known, &head, place),
     }

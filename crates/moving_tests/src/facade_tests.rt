@@ -3,8 +3,9 @@
 use crate::items::all_placed;
 use feddurzai::decoding::decode_in;
 use feddurzai::encoding::{NoSpelling, encode, encoded_len};
-use feddurzai::flow::flow_graph_in;
+use feddurzai::flow::{flow_graph_in, graph_of_code_from};
 use feddurzai::format::Intel;
+use feddurzai::hooks::{Hooks, JumpForm, StartTarget, detour};
 use feddurzai::info::{Flow, flow_of};
 use feddurzai::moving::move_block;
 use feddurzai::region::{NotTaken, Region};
@@ -37,6 +38,8 @@ fn each_module_has_its_call(rt: HostRuntime) -> Result<(), Fail> {
     assert_eq!(rt; moved.bytes(), image.as_slice());
     let graph = flow_graph_in(rt.alloc(), Bits::B64, 0x1000, &bytes)?;
     assert_eq!(rt; graph.starts(), [0].as_slice());
+    let graph = graph_of_code_from(rt.alloc(), Bits::B64, 0x1000, &bytes, &[1])?;
+    assert_eq!(rt; graph.starts(), [1].as_slice());
     let mut source = MemSource::new(&bytes);
     let mut lines = MemSink::new(rt.alloc(), 80)?;
     assert_eq!(rt;
@@ -51,5 +54,15 @@ fn each_module_has_its_call(rt: HostRuntime) -> Result<(), Fail> {
     assert_eq!(rt; region.place(6)?, 0x2000);
     let mut slots = StepSlots::make(rt.alloc(), Bits::B64, 0x2000, 64, 2)?;
     assert_eq!(rt; slots.finish(0x2000), Err(NotTaken { place: 0x2000 }));
+    let code = [0x31, 0xC0, 0x83, 0xF8, 0x05, 0xC3];
+    let start = StartTarget::Moved;
+    let made = detour(rt.alloc(), Bits::B64, 0x1000, &code, 0x5000, 0x2000, start)?;
+    assert_eq!(rt; (made.form(), made.taken()), (JumpForm::Near, 5));
+    let mut hooks = Hooks::make(rt.alloc(), Bits::B64, 0x2000, 32, 16)?;
+    assert_eq!(rt;
+        hooks.install(rt.alloc(), 0x1000, &code, 0x5000, start)?,
+        0x2000
+    );
+    assert!(rt; hooks.image().starts_with(made.trampoline()));
     Ok(())
 }

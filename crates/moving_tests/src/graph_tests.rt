@@ -1,7 +1,7 @@
 //! What control reaches in pieces of code, and their basic blocks.
 
 use decoder::DecodeError;
-use flow_graph::{FlowGraph, flow_graph, flow_graph_in};
+use flow_graph::{FlowGraph, flow_graph, flow_graph_from, flow_graph_in};
 use operand_info::Flow;
 use std::alloc::Global;
 use std::test::Fail;
@@ -105,6 +105,44 @@ fn each_reached_offset_has_its_flow(rt: HostRuntime) -> Result<(), Fail> {
         let graph = graph_of(rt.alloc(), Bits::B64, 0, digits)?;
         assert_eq!(rt; graph.flows(), flows, "the flows of {digits}");
     }
+    Ok(())
+}
+
+// 64-bit code at 0x401000 from several first offsets: those outside the code, and those that stand there again, add nothing.
+#[test]
+fn several_entries_have_one_graph(rt: HostRuntime) -> Result<(), Fail> {
+    let cases: [(&str, &[u32], &[u32], &[u32]); 10] = [
+        ("", &[0], &[], &[]),
+        ("9090c3", &[], &[], &[]),
+        ("9090c3", &[1], &[1, 2], &[1, 1]),
+        ("9090c3", &[3, 0x8000_0000], &[], &[]),
+        // in the midst of a basic block, which it parts
+        ("9090c3", &[0, 1], &[0, 1, 2], &[0, 1, 1]),
+        ("9090c3", &[1, 3, 0, 1], &[0, 1, 2], &[0, 1, 1]),
+        // behind a return, and into an instruction: ret; mov eax, 0xc3
+        ("c3b8c3000000", &[0, 2], &[0, 2], &[0, 2]),
+        // control comes to the other by a jump back to it
+        ("9090ebfd", &[2], &[1, 2], &[1, 2]),
+        ("9090ebfd", &[0, 2], &[0, 1, 2], &[0, 1, 2]),
+        // a join of two functions: jmp to the ret, nop, ret
+        ("eb0190c3", &[2, 0], &[0, 2, 3], &[0, 2, 3]),
+    ];
+    for (digits, entries, starts, leaders) in cases {
+        let bytes = hex::decode(rt.alloc(), digits)?;
+        if bytes.len() > 16 {
+            return Err(Fail::new("there are more than 16 bytes"));
+        }
+        let graph = flow_graph_from(rt.alloc(), Bits::B64, 0x40_1000, &bytes, entries)?;
+        assert_eq!(rt; graph.starts(), starts, "the starts of {digits}");
+        assert_eq!(rt; graph.leaders(), leaders, "the leaders of {digits}");
+    }
+    let graph = flow_graph_from(rt.alloc(), Bits::B64, 0, &[0x90, 0xE8, 0x06], &[2, 0])?;
+    let flows = [
+        Ok(Flow::Next),
+        Err(DecodeError::TooShort),
+        Err(DecodeError::Invalid),
+    ];
+    assert_eq!(rt; graph.flows(), flows.as_slice());
     Ok(())
 }
 

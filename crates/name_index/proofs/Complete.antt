@@ -1,10 +1,13 @@
 -- Each code of the table lies in the bucket of its name.
-use Rattle.std.proofs.Common.{◌≡◌, ◌⊎◌, inl, inr, ℕ, zero, suc, ◌+◌, ◌-◌, ◌*◌, ◌%◌, ◌<◌, ◌≤◌, Bool, true, false, ◌&&◌, ◌||◌, ◌==◌, List, [], ◌∷◌, length, get_or, drop, Option, Some, None, refl, ap, subst, arith, slice_get, eqb-true, add-one, drop-cons}
+use Rattle.std.proofs.Common.{◌≡◌, inl, inr, ℕ, zero, suc, ◌+◌, ◌-◌, ◌*◌, ◌%◌, ◌<◌, ◌≤◌, Bool, true, false, ◌&&◌, ◌||◌, ◌==◌, List, [], ◌∷◌, length, get_or, drop, Option, Some, None, refl, ap, subst, arith, slice_get, eqb-true, add-one, drop-cons}
 use Rattle.std.specs.Prelude.{unwrap_or}
 use Rattle.std.proofs.lemmas.Bool.{or_cases}
 use Rattle.instruction_parts.proofs.Tests.{and_left, and_right}
 use Rattle.opcode_rows.specs.declared.generated_spots.TheConstants.{ROWS}
-use Rattle.opcode_rows.specs.Table.{names, name_of}
+use Rattle.std.proofs.lemmas.Option.{slice_get_within}
+use Rattle.row_types.specs.declared.Row.{Row}
+use Rattle.opcode_rows.specs.Table.{table, names, name_of}
+use Rattle.opcode_rows.proofs.JoinFacts.{length-table}
 use Rattle.name_index.specs.Buckets.{bucket_from, bucket_of, order, starts}
 
 -- ---- a code at one of some indices
@@ -103,3 +106,24 @@ drop_all (x ∷ xs) (suc k) h = drop_all xs k (omega arith)
 pub bucket-end : (bucket : ℕ) (name : List ℕ) (k : ℕ) → length name ≤ k → bucket ≡ bucket_from bucket (drop k name)
 unfolding bucket_from
 bucket-end bucket name k h = rw (drop_all name k h) refl
+
+-- ---- the indices
+
+length-order : length order ≡ ROWS
+unfolding order
+length-order = refl
+
+-- a code stands at indices below the number of rows alone
+pub index_below : (k code : ℕ) → slice_get order k ≡ Some code → k < ROWS
+index_below k code h = omega (slice_get_within order k code h, length-order, arith)
+
+-- rows have the codes below their number
+pub code_below : (code : ℕ) (row : Row) → slice_get table code ≡ Some row → code < ROWS
+code_below code row h = omega (slice_get_within table code row h, length-table, arith)
+
+same_code : (o : Option ℕ) (x y : ℕ) → o ≡ Some x → o ≡ Some y → x ≡ y
+same_code o x y e f = cc
+
+-- one code stands at an index
+pub code_at_index : (k x y : ℕ) → slice_get order k ≡ Some x → slice_get order k ≡ Some y → x ≡ y
+code_at_index k x y e f = same_code (slice_get order k) x y e f

@@ -1,1 +1,3 @@
 pub mod Complete
+pub mod Flags
+pub mod RowNumbers

@@ -1,4 +1,4 @@
-//! The codes of the opcode table by the names of their rows.
+//! The codes of the opcode table by the names of their rows, and which operands the rows take.
 #![tactic(auto)]
 
 ghost use Rattle.std.specs.Prelude.{◌≡◌, ℕ, ◌+◌, ◌<◌, ◌≤◌, Some, slice_get};
@@ -6,6 +6,8 @@ ghost use Rattle.name_index.specs.Buckets.{bucket_of, order, starts};
 ghost use Rattle.opcode_rows.specs.Table.{name_of};
 
 mod generated_buckets;
+mod generated_operands;
+pub mod operands;
 
 use generated_buckets::{ORDER, STARTS};
 use opcode_rows::ROWS;

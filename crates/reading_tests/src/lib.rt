@@ -12,6 +12,8 @@ mod info_tests;
 #[cfg(test)]
 mod notation_tests;
 #[cfg(test)]
+mod offset_tests;
+#[cfg(test)]
 mod read_bytes;
 #[cfg(test)]
 mod row_tests;

@@ -1,5 +1,5 @@
 -- What a fitting spelling means: the operands of an instruction (Intel SDM volume 2, 2.1.3 to 2.1.5, 2.2.1, 2.3.5 to 2.3.12).
-use Rattle.std.specs.Prelude.{ℕ, ◌+◌, ◌-◌, ◌*◌, ◌/◌, ◌%◌, ◌^◌, Bool, true, false, ◌&&◌, ◌||◌, ◌==◌, nat_lt, if◌then◌else◌, List, [], ◌∷◌, length, take, drop, Option, Some, None, slice_index}
+use Rattle.std.specs.Prelude.{◌≡◌, ℕ, ◌+◌, ◌-◌, ◌*◌, ◌/◌, ◌%◌, ◌^◌, Bool, true, false, ◌&&◌, ◌||◌, ◌==◌, nat_lt, if◌then◌else◌, List, [], ◌∷◌, length, take, drop, Option, Some, None, slice_index}
 use Rattle.std.specs.List.{list_any}
 use Rattle.x86_values.specs.declared.Bits.{Bits}
 use Rattle.x86_values.specs.declared.Bits.TheVariants.{B16, B32, B64}
@@ -106,6 +106,10 @@ register_of bits row state StackFile n = St (n % 8)
 register_of bits row state MmxFile n = Mm (n % 8)
 register_of bits row state XmmFile n = Xmm n
 register_of bits row state VectorFile n = vector row.l n
+
+-- under the prefixes of the state the row has this operand size, and it has this L
+abbrev pub HasSizes : Bits → PrefixState → Bits → LBit → Row → Type 0
+HasSizes bits state size l row = (size ≡ state_size bits row state) × (l ≡ row.l)
 
 -- ---- memory
 

@@ -2,6 +2,7 @@
 
 ghost use Rattle.std.specs.Prelude.{◌≡◌, ◌<◌, ◌≤◌, ◌+◌, length, Option, None, Some};
 ghost use Rattle.row_meaning.specs.Meaning as spec;
+ghost use Rattle.row_types.specs.declared.Row.{Row};
 ghost use Rattle.instruction_parts.specs.Bytes as bytes;
 ghost use Rattle.instruction_parts.specs.Sizes.{state_size};
 
@@ -100,22 +101,21 @@ fn native_size(bits: Bits) -> Bits
 pub fn register_of(bits: Bits, row: &Row, state: &PrefixState, file: File, n: u8) -> Register
     ensures { result ≡ spec.register_of bits row.now state.now file n }
 {
-    register_of_size(bits, state_size(bits, row, state), row, state, file, n)
+    register_of_size(bits, state_size(bits, row, state), row.l, state, file, n)
 }
 
-/// The register of a file with a number, where the operand size is known.
+/// The register of a file with a number, where the operand size and the row's L are known.
 #[inline(always)]
 #[tactic(auto, unfolding(crate::specs::Meaning::register_of))]
 pub fn register_of_size(
     bits: Bits,
     size: Bits,
-    row: &Row,
+    l: LBit,
     state: &PrefixState,
     file: File,
     n: u8,
 ) -> Register
-    requires { size ≡ state_size bits row.now state.now }
-    ensures { result ≡ spec.register_of bits row.now state.now file n }
+    ensures { (row : Row) → spec.HasSizes bits state.now size l row → result ≡ spec.register_of bits row state.now file n }
 {
     match file {
         File::Byte => byte_register(state.rex, n),
@@ -132,7 +132,7 @@ pub fn register_of_size(
         File::Stack => Register::St(n % 8),
         File::Mmx => Register::Mm(n % 8),
         File::Xmm => Register::Xmm(n),
-        File::Vector => vector(row.l, n),
+        File::Vector => vector(l, n),
     }
 }
 

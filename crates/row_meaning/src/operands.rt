@@ -2,6 +2,7 @@
 
 ghost use Rattle.std.specs.Prelude.{◌≡◌, ◌<◌, ◌≤◌, ◌+◌, ◌||◌, false, length, IsTrue, Some, None, if◌then◌else◌};
 ghost use Rattle.row_meaning.specs.Meaning as spec;
+ghost use Rattle.row_types.specs.declared.Row.{Row};
 ghost use Rattle.row_fit.specs.Fits as fits;
 ghost use Rattle.instruction_parts.specs.Bytes as bytes;
 ghost use Rattle.x86_values.specs.declared.Bits.{Bits};
@@ -12,8 +13,7 @@ ghost use Rattle.row_fit.specs.Sound.{sound};
 ghost use Rattle.instruction_parts.specs.declared.kinds.Method.TheVariants.{Pointer as PointerMethod};
 
 use crate::meaning::{
-    disp_size_of, general_register, ip_or_absolute, memory_16, register_of, register_of_size,
-    target,
+    disp_size_of, general_register, ip_or_absolute, memory_16, register_of_size, target,
 };
 use crate::numbers::{little_endian, sign_extended};
 use instruction_parts::bytes::{lead_len, state_of};
@@ -25,7 +25,7 @@ use row_fit::fits::mode_is_memory;
 use row_fit::tail_fits::{
     immediate_bytes, index_number, kind_at, reg_number, rm_number, vvvv_number, with_high_bit,
 };
-use row_types::{Class, OpKind, Row};
+use row_types::{Class, LBit, OpKind, Row};
 use x86_values::{Bits, Code, Instr, Mem, Operand, Register, Rep, wrap};
 
 /// A register number, which is small.
@@ -201,7 +201,8 @@ fn memory_into(bits: Bits, state: &PrefixState, behind: &Behind, place: &mut Ope
 #[tactic(auto, unfolding(crate::specs::Meaning::gather_memory, row_fit::specs::Fits::sib_in_range, row_fit::specs::Fits::index_number))]
 fn gather_memory(
     bits: Bits,
-    row: &Row,
+    size: Bits,
+    l: LBit,
     state: &PrefixState,
     file: File,
     m: ModRm,
@@ -210,14 +211,16 @@ fn gather_memory(
 ) -> Operand
     requires sib { IsTrue (fits.sib_in_range sib) }
     requires disp { length disp.now ≤ 8 }
-    ensures { result ≡ spec.gather_memory bits row.now state.now file m sib disp.now }
+    ensures { (row : Row) → spec.HasSizes bits state.now size l row
+        → result ≡ spec.gather_memory bits row state.now file m sib disp.now }
 {
     match sib {
         None => Operand::Absent,
         Some(s) => {
-            let index = register_of(
+            let index = register_of_size(
                 bits,
-                row,
+                size,
+                l,
                 state,
                 file,
                 number_u8(index_number(state, Some(s))),
@@ -296,7 +299,8 @@ fn far_pointer(imm: &[u8]) -> Operand
 /// The operand of a gather.
 fn gather_operand(
     bits: Bits,
-    row: &Row,
+    size: Bits,
+    l: LBit,
     state: &PrefixState,
     file: File,
     m: Option<ModRm>,
@@ -305,11 +309,12 @@ fn gather_operand(
 ) -> Operand
     requires sib { IsTrue (fits.sib_in_range sib) }
     requires disp { length disp.now ≤ 8 }
-    ensures { result ≡ spec.with_modrm (λ m. spec.gather_memory bits row.now state.now file m sib disp.now) m }
+    ensures { (row : Row) → spec.HasSizes bits state.now size l row
+        → result ≡ spec.with_modrm (λ m. spec.gather_memory bits row state.now file m sib disp.now) m }
 {
     match m {
         None => Operand::Absent,
-        Some(m) => gather_memory(bits, row, state, file, m, sib, disp),
+        Some(m) => gather_memory(bits, size, l, state, file, m, sib, disp),
     }
 }
 
@@ -328,16 +333,16 @@ pub struct Behind<'a> {
 fn register_into(
     bits: Bits,
     size: Bits,
-    row: &Row,
+    l: LBit,
     state: &PrefixState,
     kind: OpKind,
     n: u8,
     place: &mut Operand,
 )
-    requires { size ≡ state_size bits row.now state.now }
-    ensures { place.new ≡ Reg (spec.register_of bits row.now state.now (file_of kind) n) }
+    ensures { (row : Row) → spec.HasSizes bits state.now size l row
+        → place.new ≡ Reg (spec.register_of bits row state.now (file_of kind) n) }
 {
-    *place = Operand::Reg(register_of_size(bits, size, row, state, file_of_kind(kind), n));
+    *place = Operand::Reg(register_of_size(bits, size, l, state, file_of_kind(kind), n));
 }
 
 /// An operand by how it is read, written to a place; `imm` are the bytes of the immediates that are its own. It answers whether the operand is
@@ -348,7 +353,7 @@ fn register_into(
 fn operand_into(
     bits: Bits,
     size: Bits,
-    row: &Row,
+    l: LBit,
     state: &PrefixState,
     behind: &Behind,
     kind: OpKind,
@@ -356,13 +361,12 @@ fn operand_into(
     imm: &[u8],
     place: &mut Operand,
 ) -> bool
-    requires size { size ≡ state_size bits row.now state.now }
     requires modrm { IsTrue (fits.modrm_in_range behind.now.modrm) }
     requires sib { IsTrue (fits.sib_in_range behind.now.sib) }
     requires disp { length behind.now.disp.now ≤ 8 }
     requires imm { length imm.now ≤ 8 }
     requires pointer { method ≡ PointerMethod → length imm.now ≤ 6 }
-    ensures operand { place.new ≡ spec.operand_by bits row.now state.now
+    ensures operand { (row : Row) → spec.HasSizes bits state.now size l row → place.new ≡ spec.operand_by bits row state.now
         (spec.tail behind.now.modrm behind.now.sib behind.now.disp.now behind.now.next) kind method imm.now }
     ensures memory { result ≡ fits.is_memory_method method behind.now.modrm }
 {
@@ -373,7 +377,7 @@ fn operand_into(
         }
         Method::ModRmReg => {
             let n = reg_number_u8(state, behind.modrm);
-            register_into(bits, size, row, state, kind, n, place);
+            register_into(bits, size, l, state, kind, n, place);
             false
         }
         Method::RegisterOrMemory => {
@@ -382,13 +386,13 @@ fn operand_into(
                 true
             } else {
                 let n = rm_number_u8(bits, state, behind.modrm);
-                register_into(bits, size, row, state, kind, n, place);
+                register_into(bits, size, l, state, kind, n, place);
                 false
             }
         }
         Method::RegisterOnly | Method::AnyMode => {
             let n = rm_number_u8(bits, state, behind.modrm);
-            register_into(bits, size, row, state, kind, n, place);
+            register_into(bits, size, l, state, kind, n, place);
             false
         }
         Method::MemoryOnly => {
@@ -397,23 +401,24 @@ fn operand_into(
         }
         Method::OpcodeLow => {
             let n = number_u8(with_high_bit(bit_b(bits, state), state.opcode % 8));
-            register_into(bits, size, row, state, kind, n, place);
+            register_into(bits, size, l, state, kind, n, place);
             false
         }
         Method::Vvvv => {
             let n = vvvv_number(bits, state);
-            register_into(bits, size, row, state, kind, n, place);
+            register_into(bits, size, l, state, kind, n, place);
             false
         }
         Method::LastByte => {
             let n = last_byte_number(bits, imm);
-            register_into(bits, size, row, state, kind, n, place);
+            register_into(bits, size, l, state, kind, n, place);
             false
         }
         Method::Gather => {
             *place = gather_operand(
                 bits,
-                row,
+                size,
+                l,
                 state,
                 file_of_kind(kind),
                 behind.modrm,
@@ -444,7 +449,7 @@ fn operand_into(
         }
         Method::Fixed => {
             let n = fixed_number_of_kind(kind);
-            register_into(bits, size, row, state, kind, n, place);
+            register_into(bits, size, l, state, kind, n, place);
             false
         }
         Method::One => {
@@ -478,6 +483,7 @@ fn immediates_before(size: Bits, row: &Row, n: usize) -> usize
 }
 
 /// The bytes of the immediates that are those of operand n, which has so many.
+// Nearly every row with immediates has them in one operand, whose they all are.
 #[inline(always)]
 #[tactic(auto, unfolding(crate::specs::Meaning::own_immediate))]
 fn own_immediate<'a>(size: Bits, row: &Row, n: usize, imm: &'a [u8], len: usize) -> &'a [u8]
@@ -488,8 +494,12 @@ fn own_immediate<'a>(size: Bits, row: &Row, n: usize, imm: &'a [u8], len: usize)
 {
     if len == 0 {
         &[]
+    } else if len == imm.len() {
+        imm
     } else {
-        let (_, rest) = imm.split_at(immediates_before(size, row, n));
+        // A copy, so that the row itself need not stand in memory.
+        let row = *row;
+        let (_, rest) = imm.split_at(immediates_before(size, &row, n));
         let (own, _) = rest.split_at(len);
         own
     }
@@ -532,34 +542,31 @@ fn immediate_of<'a>(size: Bits, row: &Row, n: usize, kind: OpKind, imm: &'a [u8]
     }
 }
 
-/// Operand n, where there is one, written to a place. It answers whether the operand is memory.
+/// An operand of a kind, where there is one, written to a place; `own` are its own bytes of the immediates. It answers whether the operand is
+/// memory.
+// Of the row it gets what it needs, so that the row need not stand in memory.
 #[inline(never)]
-#[tactic(auto, unfolding(crate::specs::Meaning::operand_at, crate::specs::Meaning::own_immediate))]
 fn present_into(
     bits: Bits,
     size: Bits,
-    row: &Row,
+    l: LBit,
     state: &PrefixState,
     behind: &Behind,
-    n: usize,
     kind: OpKind,
+    own: &[u8],
     place: &mut Operand,
 ) -> bool
-    requires size { size ≡ state_size bits row.now state.now }
     requires modrm { IsTrue (fits.modrm_in_range behind.now.modrm) }
     requires sib { IsTrue (fits.sib_in_range behind.now.sib) }
     requires disp { length behind.now.disp.now ≤ 8 }
-    requires imm { length behind.now.imm.now ≤ 8 }
-    requires whole { length behind.now.imm.now ≡ fits.immediates_bytes size row.now }
-    requires number { n < 4 }
-    requires kind { kind ≡ fits.kind_at row.now n }
-    ensures operand { place.new ≡ spec.operand_at bits row.now state.now
-        (spec.tail behind.now.modrm behind.now.sib behind.now.disp.now behind.now.next) behind.now.imm.now n }
+    requires own { length own.now ≤ 8 }
+    requires pointer { method_of kind ≡ PointerMethod → length own.now ≤ 6 }
+    ensures operand { (row : Row) → spec.HasSizes bits state.now size l row → place.new ≡ spec.operand_by bits row state.now
+        (spec.tail behind.now.modrm behind.now.sib behind.now.disp.now behind.now.next) kind (method_of kind) own.now }
     ensures memory { result ≡ fits.is_memory_method (method_of kind) behind.now.modrm }
 {
-    let own = immediate_of(size, row, n, kind, behind.imm);
     let method = method_of_kind(kind);
-    operand_into(bits, size, row, state, behind, kind, method, own, place)
+    operand_into(bits, size, l, state, behind, kind, method, own, place)
 }
 
 /// Operand n, written to a place. It answers whether the operand is memory.
@@ -592,7 +599,10 @@ fn operand_at_into(
             *place = Operand::Absent;
             false
         }
-        _ => present_into(bits, size, row, state, behind, n, kind, place),
+        _ => {
+            let own = immediate_of(size, row, n, kind, behind.imm);
+            present_into(bits, size, row.l, state, behind, kind, own, place)
+        }
     }
 }
 

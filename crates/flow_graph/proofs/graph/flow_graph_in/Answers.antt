@@ -1,18 +1,14 @@
-use Rattle.std.proofs.Common.{sym, subst}
+use Rattle.std.proofs.Common.{Result, Ok, Err}
+use Rattle.std.specs.Prelude.{IfOk}
 use Rattle.flow_graph.specs.Control.{code_bytes}
-use Rattle.flow_graph.specs.Marks.{AreMarks}
-use Rattle.flow_graph.proofs.Listing.{chained, graph_right}
 use Rattle.flow_graph.proofs.graph.flow_graph_in.Goals as goal
 
-pub blocks_of-requires-clause-chained : goal.blocks_of-requires-clause-chained
-blocks_of-requires-clause-chained c =
-    let code = code_bytes c.args.bits c.args.base c.args.bytes.now in
-    chained code c.deref.result.now (subst (AreMarks code) (sym c.deref.ensures.value) c.in_ok-walk.ensures.marks)
+-- what follows from what holds of an answer's graph holds of it
+through : {X E : Type 0} (r : Result X E) (P Q : X → Type 0) → ((x : X) → P x → Q x) → IfOk r P → IfOk r Q
+through (Ok x) P Q f h = f x h
+through (Err e) P Q f h = h
 
 pub returns : goal.returns
 returns c =
-    let code = code_bytes c.args.bits c.args.base c.args.bytes.now in
-    let blocks = c.in_ok-blocks.blocks in
-    graph_right code c.deref.result.now (subst (AreMarks code) (sym c.deref.ensures.value) c.in_ok-walk.ensures.marks) blocks.starts.items blocks.leaders.items
-    c.deref-2.result.now blocks.flows.items c.in_ok-blocks.ensures.listed
-    (rw (c.deref.ensures.value, c.deref-2.ensures.value) c.in_ok-walk.ensures.told) c.in_ok-blocks.ensures.flows
+    through c.flow_graph_from.result _ _
+    (λ graph from. (c.one_entry_is_the_first_byte.ensures (code_bytes c.args.bits c.args.base c.args.bytes.now) graph).0 from) c.flow_graph_from.ensures

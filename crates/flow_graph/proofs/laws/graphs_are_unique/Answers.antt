@@ -1,4 +1,4 @@
-use Rattle.flow_graph.proofs.Unique.{one_graph}
+use Rattle.flow_graph.proofs.OneEntry.{one_graph}
 use Rattle.flow_graph.proofs.laws.graphs_are_unique.Goals as goal
 
 pub returns : goal.returns

@@ -8,7 +8,7 @@ abbrev pub invariant-turns : goal.invariant-turns
 invariant-turns l =
     let code = code_bytes l.bits l.base l.bytes in
     record {
-      walk : IsWalk code l.walk.marks.items l.walk.order.items (IsTreated code l.walk.order.items l.turn);
+      walk : IsWalk code l.entries l.walk.marks.items l.walk.order.items (IsTreated code l.walk.order.items l.turn);
       told : AreTold code l.walk.order.items l.turn l.walk.flows.items;
     }
 

@@ -6,6 +6,6 @@ use Rattle.intel_reader.proofs.choice.with_name.Given as goal
 
 abbrev pub invariant-loop-index : goal.invariant-loop-index
 invariant-loop-index l = record {
-  progress : IsProgress l.bits l.ip l.text l.fn.best l.led;
-  led : (b : Assembly) → IsCandidate l.bits l.ip l.text b → (k : ℕ) → l.initial.index ≤ k → k < l.index → slice_get order k ≡ Some b.instr.code.0 → Leads l.led b;
+  progress : IsProgress l.bits l.ip l.text l.fn.best l.best;
+  led : (b : Assembly) → IsCandidate l.bits l.ip l.text b → (k : ℕ) → l.initial.index ≤ k → k < l.index → slice_get order k ≡ Some b.instr.code.0 → Leads l.best b;
 }

@@ -8,12 +8,12 @@ use Rattle.intel_reader.proofs.choice.with_sizes.Goals as goal
 
 pub returns-clause-covers : goal.returns-clause-covers
 returns-clause-covers c = λ b size k e.
-    five c.args.bits c.args.ip c.args.text.now c.with_candidate-none.result c.with_candidate-byte.result c.with_candidate-word.result
-    c.with_candidate-dword.result c.with_candidate.result b
+    five c.args.bits c.args.ip c.args.text.now c.with_candidate.new.best c.with_candidate-2.new.best c.with_candidate-3.new.best
+    c.with_candidate-4.new.best c.with_candidate-5.new.best b
     (λ (z : DispSize). spec.candidate c.args.bits c.args.row.now c.args.code c.args.words.now c.args.asize z ≡ b.instr)
-    c.with_candidate-byte.ensures.progress c.with_candidate-word.ensures.progress c.with_candidate-dword.ensures.progress c.with_candidate.ensures.progress
-    (λ p. c.with_candidate-none.ensures.covers b k p) (λ p. c.with_candidate-byte.ensures.covers b k p) (λ p. c.with_candidate-word.ensures.covers b k p)
-    (λ p. c.with_candidate-dword.ensures.covers b k p) (λ p. c.with_candidate.ensures.covers b k p) size e
+    c.with_candidate-2.ensures.progress c.with_candidate-3.ensures.progress c.with_candidate-4.ensures.progress c.with_candidate-5.ensures.progress
+    (λ p. c.with_candidate.ensures.covers b k p) (λ p. c.with_candidate-2.ensures.covers b k p) (λ p. c.with_candidate-3.ensures.covers b k p)
+    (λ p. c.with_candidate-4.ensures.covers b k p) (λ p. c.with_candidate-5.ensures.covers b k p) size e
 
 pub returns-then-not-size_allowed-clause-covers : goal.returns-then-not-size_allowed-clause-covers
 returns-then-not-size_allowed-clause-covers c = λ b size k e.
@@ -25,5 +25,5 @@ returns-then-not-size_allowed-clause-covers c = λ b size k e.
 pub returns-then-not-has_address-clause-covers : goal.returns-then-not-has_address-clause-covers
 returns-then-not-has_address-clause-covers c = λ b size k e.
     let none : has_address c.args.words.now ≡ false = cc (c.has_address.ensures, c.if-not-has_address.true) in
-    c.with_candidate-none.ensures.covers b k
+    c.with_candidate.ensures.covers b k
     (same_without_address c.args.bits c.args.row.now c.args.code c.args.words.now c.args.asize size none ∙ e)

@@ -1,0 +1,119 @@
+#!/usr/bin/env python3
+"""Says which general registers and flags are dead at each address of a function: what is in them there is never read again.
+
+    liveness.py FILE [BITS [BASE]]      FILE has the bytes of the function; BITS is 16, 32 or 64, BASE hexadecimal
+    liveness.py FILE FUNCTION           a function of an ELF file, by its name or a hexadecimal address, as 0x401000 (wants pyelftools)
+
+A hook or an instrumentation may use what is dead at an address without saving it. The answer errs to one side only, towards live:
+
+ - All is live at a call, a return, an interrupt, a system call, and where control leaves the bytes or goes to a target that is not known:
+   nothing is taken for granted of a calling convention. (So a flag is dead only where an instruction behind it overwrites it for sure.)
+ - A register is overwritten by a write of the whole, which in 64-bit code one of its low 32 bits is, too; not by one of a part, and not by
+   one that a condition, a mask or a counter may prevent. A flag is overwritten where it gets a value or is undefined, always.
+ - What the operands of an instruction name is read, also where the result does not depend on it, as in `xor eax, eax`.
+
+Control is followed from the first byte. Code that only an indirect jump reaches is not looked at, and all is live at that jump. What a
+debugger or a signal handler looks at is not asked.
+"""
+
+import os
+import sys
+from dataclasses import dataclass
+
+try:
+    import feddurzai
+except ImportError:
+    sys.path.insert(0, os.path.join(os.path.dirname(os.path.abspath(__file__)), "..", "python"))
+    import feddurzai
+from feddurzai import Flags, Flow, Instr, RegClass, Register, Touch
+
+FLAGS = {name: Flags[name] for name in ("OF", "DF", "SF", "ZF", "AF", "PF", "CF")}
+LEAVES = (Flow.CALL, Flow.INDIRECT_CALL, Flow.RETURN, Flow.INDIRECT_JUMP, Flow.INTERRUPT, Flow.EXCEPTION)
+
+
+def places_of(bits):
+    """All that is followed: general registers by their widest names, and flags."""
+    return {Register(RegClass.R64, n) for n in range(16 if bits == 64 else 8)} | set(FLAGS)
+
+
+@dataclass(frozen=True)
+class Step:
+    """An instruction: what it reads, what it overwrites for sure, and the addresses behind it; an address that is None leaves the code."""
+
+    item: Instr
+    reads: frozenset
+    overwrites: frozenset
+    behind: tuple
+
+
+def step_of(item, reached, everything):
+    """The step of an instruction."""
+    if not isinstance(item, Instr):
+        return Step(item, everything, frozenset(), ())
+    about, told = item.info(), item.effects()
+    whole = (RegClass.R64, RegClass.R32) if item.bits == 64 else (RegClass.R32,)
+    reads = {use.register.full() for use in told.registers if use.access & (Touch.READ | Touch.MAY_READ)}
+    overwrites = {use.register.full() for use in told.registers if use.access & Touch.WRITE and use.register.reg_class in whole}
+    reads |= {name for name, flag in FLAGS.items() if told.flags_read & flag}
+    surely = (told.flags_written | told.flags_undefined) & ~told.flags_kept
+    overwrites |= {name for name, flag in FLAGS.items() if surely & flag}
+    if about.flow in LEAVES:
+        return Step(item, everything, frozenset(), ())
+    behind = [] if about.flow is Flow.JUMP else [(item.address + item.len) % (1 << item.bits)]
+    if about.target is not None:
+        behind.append(about.target)
+    return Step(item, everything & reads, everything & overwrites, tuple(to if to in reached else None for to in behind))
+
+
+def liveness(bits, start, code):
+    """The steps of a function in ascending order, each with what is dead before it."""
+    everything = frozenset(places_of(bits))
+    items = {}
+    for reached in feddurzai.flow(bits, start, code):
+        item = next(feddurzai.iterate(bits, (start + reached.start) % (1 << bits), code[reached.start : reached.start + 15]))
+        items[item.address] = item
+    steps = {address: step_of(item, items, everything) for address, item in items.items()}
+    live = {address: frozenset() for address in steps}
+    changed = True
+    while changed:
+        changed = False
+        for address in sorted(steps, reverse=True):
+            step = steps[address]
+            after = frozenset().union(*(everything if to is None else live[to] for to in step.behind))
+            before = step.reads | (after - step.overwrites)
+            changed |= before != live[address]
+            live[address] = before
+    return [(steps[address], everything - live[address]) for address in sorted(steps)]
+
+
+def name_of(register, bits):
+    """The name of a general register in a mode."""
+    return str(register if bits == 64 else Register(RegClass.R32, register.number))
+
+
+def main(words):
+    file, *rest = words
+    with open(file, "rb") as source:
+        if rest and rest[0] not in ("16", "32", "64"):
+            from inspector import Program
+
+            program = Program(source)
+            bits = program.bits
+            _, start, code = program.code_of(rest[0])
+        else:
+            bits, start = int((rest or ["64"])[0]), int(rest[1], 16) if len(rest) > 1 else 0
+            code = source.read()
+    for step, dead in liveness(bits, start, code):
+        registers = sorted((it for it in dead if isinstance(it, Register)), key=lambda it: it.number)
+        flags = [name for name in FLAGS if name in dead]
+        free = " ".join([*(name_of(it, bits) for it in registers), *flags])
+        print(f"{step.item.address:0{bits // 4}x}  {step.item.text():40} {free}".rstrip())
+
+
+if __name__ == "__main__":
+    if not 2 <= len(sys.argv) <= 4:
+        sys.exit(__doc__)
+    try:
+        main(sys.argv[1:])
+    except (OSError, ValueError, LookupError, feddurzai.Refusal) as error:
+        sys.exit(f"liveness.py: {error.args[0] if isinstance(error, LookupError) else error}")

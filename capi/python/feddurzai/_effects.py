@@ -1,0 +1,148 @@
+"""What an instruction touches: registers, memory, flags and features, those that no operand names too."""
+
+from __future__ import annotations
+
+import struct
+from dataclasses import dataclass
+from functools import lru_cache
+from typing import FrozenSet, Optional, Tuple
+
+from . import _checks, _native
+from ._numbers import Flags, RegClass, Segment, Touch
+from ._operands import ADDRESS_BITS, Register, signed
+from ._refusal import taken
+
+# feddurzai_touched: features, six sets of flags; then memory[4], registers[32], memory_count, register_count
+_SETS = struct.Struct("=Q6I")
+_MEMORY = struct.Struct("=QH7B7x")
+_MEMORY_AT, _REGISTERS_AT, _COUNTS_AT, _SIZE = 32, 128, 224, 232
+_TouchedRoom = _native.room_of(_SIZE)
+# where the address size of a feddurzai_instr stands
+_ASIZE_AT = 102
+
+
+@dataclass(frozen=True)
+class RegisterUse:
+    """A register that an instruction touches, and what is done to it.
+
+    >>> [(str(use.register), use.access == Touch.READ | Touch.WRITE) for use in decode(64, 0, bytes.fromhex("c3")).effects().registers]
+    [('rsp', True)]
+    """
+
+    register: Register
+    access: Touch
+
+
+@dataclass(frozen=True)
+class MemoryUse:
+    """Memory that an instruction touches: an address of a segment, as base, index times scale and displacement, and what is done there.
+
+    The registers count with the values that they have before the instruction. `displacement` is signed beside a base or an index; with
+    the base RIP or EIP it is the absolute address. `size` counts the bytes; it is 0 where the processor's state decides (XSAVE, XRSTOR).
+
+    >>> push = decode(64, 0, bytes.fromhex("53")).effects().memory[0]
+    >>> str(push), push.segment.name, push.size, push.access == Touch.WRITE
+    ('ss:[rsp-0x8]', 'SS', 8, True)
+    """
+
+    segment: Segment
+    base: Optional[Register]
+    index: Optional[Register]
+    scale: int
+    displacement: int
+    size: int
+    access: Touch
+
+    def __str__(self) -> str:
+        fixed = self.base is not None and self.base.reg_class in (RegClass.EIP, RegClass.RIP)
+        parts = [] if self.base is None or fixed else [str(self.base)]
+        if self.index is not None:
+            parts.append(str(self.index) + (f"*{self.scale}" if self.scale > 1 else ""))
+        words = "+".join(parts)
+        if self.displacement or not parts:
+            words += f"{'-' if self.displacement < 0 else '+' if parts else ''}{abs(self.displacement):#x}"
+        return f"{self.segment.name.lower()}:[{words}]"
+
+
+@dataclass(frozen=True)
+class Effects:
+    """What an instruction touches.
+
+    `registers` has those that its operands name, then the segment registers that memory is read through, then those that no operand
+    names, and last the counter of a repeat prefix; a register may be there twice. `memory` has the memory operand, then what is implied.
+
+    The flags: what it does depends on `flags_read`; it gives `flags_written` a value, of which `flags_cleared` become 0 and `flags_set` 1;
+    `flags_undefined` are undefined behind it. All others stay, and of these two `flags_kept` may stay, as by a shift whose count is 0.
+
+    `features` are the names of the CPUID features that it needs, all of them.
+
+    >>> told = decode(64, 0, bytes.fromhex("f3a4")).effects()
+    >>> [(str(use.register), int(use.access)) for use in told.registers]
+    [('rsi', 12), ('rdi', 12), ('rcx', 9)]
+    >>> [str(memory) for memory in told.memory], told.flags_read == Flags.DF
+    (['ds:[rsi]', 'es:[rdi]'], True)
+    """
+
+    registers: Tuple[RegisterUse, ...]
+    memory: Tuple[MemoryUse, ...]
+    flags_read: Flags
+    flags_written: Flags
+    flags_cleared: Flags
+    flags_set: Flags
+    flags_undefined: Flags
+    flags_kept: Flags
+    features: FrozenSet[str]
+
+
+@lru_cache(maxsize=None)
+def _register(reg_class: int, number: int) -> Optional[Register]:
+    return Register(RegClass(reg_class), number) if reg_class else None
+
+
+@lru_cache(maxsize=4096)
+def _registers_of(numbers: bytes) -> Tuple[RegisterUse, ...]:
+    return tuple(
+        RegisterUse(Register(RegClass(reg_class), number), Touch(access)) for reg_class, number, access in zip(*3 * [iter(numbers)])
+    )
+
+
+@lru_cache(maxsize=4096)
+def _memory_of(numbers: bytes, asize: int) -> MemoryUse:
+    value, size, segment, base_class, base_number, index_class, index_number, scale, access = _MEMORY.unpack(numbers)
+    base, index = _register(base_class, base_number), _register(index_class, index_number)
+    if base_class not in (RegClass.EIP, RegClass.RIP) and (base or index):
+        value = signed(value, ADDRESS_BITS.get(base_class) or ADDRESS_BITS.get(index_class) or asize or 64)
+    return MemoryUse(Segment(segment), base, index, scale, value, size, Touch(access))
+
+
+@lru_cache(maxsize=None)
+def _feature_of(bit: int) -> str:
+    room = _native.TextRoom()
+    taken(_native.feature_name(bit, room, _native.MAX_TEXT))
+    return str(room.value, "ascii")
+
+
+@lru_cache(maxsize=256)
+def _features_of(bits: int) -> FrozenSet[str]:
+    return frozenset(_feature_of(bit) for bit in range(bits.bit_length()) if bits >> bit & 1)
+
+
+def effects_of(bits: int, instr: bytes) -> Effects:
+    """What the instruction of a struct touches, in a mode."""
+    room = _TouchedRoom()
+    taken(_native.effects(_checks.number("bits", bits, _checks.U32), instr, room))
+    told = room.raw
+    features, read, written, cleared, set_, undefined, kept = _SETS.unpack_from(told)
+    memory_count, register_count = told[_COUNTS_AT], told[_COUNTS_AT + 1]
+    places = range(_MEMORY_AT, _MEMORY_AT + memory_count * _MEMORY.size, _MEMORY.size)
+    return Effects(
+        _registers_of(told[_REGISTERS_AT : _REGISTERS_AT + 3 * register_count]),
+        tuple(_memory_of(told[at : at + _MEMORY.size], instr[_ASIZE_AT]) for at in places),
+        Flags(read),
+        Flags(written),
+        Flags(cleared),
+        Flags(set_),
+        Flags(undefined),
+        Flags(kept),
+        _features_of(features),
+    )

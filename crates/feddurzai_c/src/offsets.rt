@@ -1,0 +1,69 @@
+//! Where the parts of an instruction stand in its bytes.
+
+ghost use Rattle.std.specs.Prelude.{◌≡◌};
+ghost use Rattle.feddurzai_c.specs.Numbers.{bits_numbered};
+ghost use Rattle.feddurzai_c.specs.Offsets as spec;
+
+use crate::flat::{FlatOffsets, FlatPart};
+use crate::numbers::bits_numbered;
+use crate::refusal::{Refusal, refused};
+use byte_offsets::{ByteOffsets, Part, offsets};
+use decoder::DecodeError;
+use x86_values::Bits;
+
+/// A part as a flat struct.
+fn flat_part(part: Part) -> FlatPart
+    ensures { result ≡ spec.flat_part part }
+{
+    FlatPart {
+        at: part.at,
+        len: part.len,
+    }
+}
+
+/// All parts as a flat struct.
+#[tactic(auto, unfolding(crate::specs::Offsets::flat_offsets))]
+fn flat_offsets(offsets: &ByteOffsets) -> FlatOffsets
+    ensures { result ≡ spec.flat_offsets offsets.now }
+{
+    let [first, second, third, fourth] = offsets.immediates;
+    FlatOffsets {
+        prefixes: flat_part(offsets.prefixes),
+        lead: flat_part(offsets.lead),
+        opcode: flat_part(offsets.opcode),
+        modrm: flat_part(offsets.modrm),
+        sib: flat_part(offsets.sib),
+        displacement: flat_part(offsets.displacement),
+        immediate0: flat_part(first),
+        immediate1: flat_part(second),
+        immediate2: flat_part(third),
+        immediate3: flat_part(fourth),
+    }
+}
+
+/// Tells the parts of the instruction at the front of some bytes in a mode that is known, and answers its length or the refusal.
+fn offsets_into(bits: Bits, bytes: &[u8], parts: &mut FlatOffsets) -> i32
+    ensures { spec.AreOffsetsIn bits bytes.now parts.old parts.new result }
+{
+    match offsets(bits, 0, bytes) {
+        Ok(found) => {
+            *parts = flat_offsets(&found);
+            i32::from(found.len)
+        }
+        Err(DecodeError::TooShort) => refused(Refusal::TooShort),
+        Err(DecodeError::Invalid) => refused(Refusal::Invalid),
+    }
+}
+
+/// Tells where the parts of the instruction at the front of some bytes stand, and says its length, 1 to 15 bytes. An address plays no part in that.
+///
+/// The struct is unchanged after a refusal: `Mode`, `Invalid` and `TooShort`, as of reading (Intel SDM volume 2, 2.1, figure 2-1).
+#[unsafe(no_mangle)]
+pub extern "C" fn feddurzai_offsets(bits: u32, bytes: &[u8], parts: &mut FlatOffsets) -> i32
+    ensures { spec.AreOffsetsOf (bits_numbered bits) bytes.now parts.old parts.new result }
+{
+    match bits_numbered(bits) {
+        None => refused(Refusal::Mode),
+        Some(bits) => offsets_into(bits, bytes, parts),
+    }
+}

@@ -1,0 +1,129 @@
+//! Live blocks of a region: whether they are laid, and where one starts or a gap is.
+
+ghost use Rattle.std.specs.Prelude.{◌≡◌, ◌+◌, ◌<◌, ◌≤◌, ◌^◌, IsTrue, is_none, IfSome, IfNone, length};
+ghost use Rattle.code_region.specs.Opening.{open_refusal};
+ghost use Rattle.code_region.specs.State.{rounded as rounded_len};
+ghost use Rattle.feddurzai_c.specs.Regions as spec;
+ghost use Rattle.feddurzai_c.specs.RegionSearch as search_spec;
+
+use crate::flat::{FlatLive, FlatRegion};
+
+/// The unit in which places are handed out, in bytes.
+const UNIT: u64 = 16;
+
+/// The greatest multiple of the unit that a `u64` holds.
+const LAST_UNIT: u64 = u64::MAX - (UNIT - 1);
+
+/// The greatest size of a region, in bytes.
+const MAX_SIZE: u64 = 1_048_576;
+
+/// The greatest number of live blocks.
+const MAX_BLOCKS: usize = 65_536;
+
+/// Where a new block goes: its address, and the number of the live block before which it stands.
+#[derive(Clone, Copy, PartialEq, Eq, Debug)]
+pub(crate) struct NewPlace {
+    pub(crate) index: usize,
+    pub(crate) place: u64,
+}
+
+/// Whether base, size and room are those of a region.
+#[tactic(auto, unfolding(code_region::specs::Opening::open_refusal))]
+fn is_opened(base: u64, size: u64, room: usize) -> bool
+    ensures { result ≡ is_none (open_refusal base size room) }
+{
+    size != 0
+        && size % UNIT == 0
+        && size <= MAX_SIZE
+        && room != 0
+        && room <= MAX_BLOCKS
+        && u128::from(base) + u128::from(size) <= 1 << 64
+}
+
+/// Whether blocks stand by address from one address on, none over another, and end at another or before.
+fn are_laid(base: u64, limit: u128, live: &[FlatLive]) -> bool
+    ensures { result ≡ spec.are_laid base limit live.now }
+{
+    let mut from = u128::from(base);
+    'live: for k in 0..live.len() {
+        let block = live[k];
+        if u128::from(block.place) < from || block.len == 0 {
+            return false;
+        }
+        from = u128::from(block.place) + u128::from(block.len);
+    }
+    from <= limit
+}
+
+/// Whether numbers and an array are a region.
+#[tactic(auto, unfolding(crate::specs::Regions::is_region))]
+pub(crate) fn is_region(region: &FlatRegion, blocks: &[FlatLive]) -> bool
+    ensures { result ≡ spec.is_region region.now blocks.now }
+{
+    if !is_opened(region.base, region.size, blocks.len()) {
+        return false;
+    }
+    if region.count > blocks.len() as u64 {
+        return false;
+    }
+    let (live, _) = blocks.split_at(region.count as usize);
+    are_laid(
+        region.base,
+        u128::from(region.base) + u128::from(region.size),
+        live,
+    )
+}
+
+/// A length rounded up to a multiple of the unit; one that rounds to no `u64` counts as the last multiple.
+#[tactic(auto, unfolding(code_region::specs::State::rounded))]
+pub(crate) fn rounded(len: u64) -> u64
+    ensures { result ≡ rounded_len len }
+{
+    if len > LAST_UNIT {
+        LAST_UNIT
+    } else {
+        (len + (UNIT - 1)) / UNIT * UNIT
+    }
+}
+
+/// The first gap, by address, of at least so many bytes between live blocks.
+pub(crate) fn new_place(base: u64, limit: u128, live: &[FlatLive], needed: u64) -> Option<NewPlace>
+    requires laid { IsTrue (spec.are_laid base limit live.now) }
+    requires end { limit ≤ 2 ^ 64 }
+    requires some { 0 < needed }
+    ensures found { IfSome result (λ new. search_spec.IsNewPlace base limit needed live.now new.index new.place) }
+    ensures none { IfNone result (search_spec.IsFull base limit needed live.now) }
+{
+    let mut from = u128::from(base);
+    'live: for k in 0..live.len() {
+        let block = live[k];
+        if from + u128::from(needed) <= u128::from(block.place) {
+            return Some(NewPlace {
+                index: k,
+                place: from as u64,
+            });
+        }
+        from = u128::from(block.place) + u128::from(block.len);
+    }
+    if from + u128::from(needed) <= limit {
+        return Some(NewPlace {
+            index: live.len(),
+            place: from as u64,
+        });
+    }
+    None
+}
+
+/// The number of the live block that starts at an address.
+pub(crate) fn index_of(base: u64, limit: u128, live: &[FlatLive], place: u64) -> Option<usize>
+    requires laid { IsTrue (spec.are_laid base limit live.now) }
+    ensures found { IfSome result (λ k. search_spec.StartsAt place live.now k) }
+    ensures none { IfNone result (search_spec.StartsNowhere place live.now) }
+{
+    'live: for k in 0..live.len() {
+        if live[k].place == place {
+            return Some(k);
+        }
+    }
+    None
+}

@@ -1,0 +1,354 @@
+-- Hooks as they are made and removed, and what holds of them then.
+use Rattle.std.proofs.Common.{◌≡◌, ℕ, ◌+◌, ◌-◌, ◌%◌, ◌/◌, ◌≤◌, ◌<◌, inl, inr, List, [], ◌∷◌, ◌++◌, length, get_or, replicate, take, drop, arith, ap, refl, subst, sym, ◌∙◌, nat_lt, nat_eq, Option, None, Result, Ok, Err}
+use Rattle.std.specs.Prelude.{IsTrue}
+use Rattle.std.proofs.Math.Nat.{div-mul-le_self}
+use Rattle.std.proofs.lemmas.Bool.{cases_Bool, eqb-true, eqb-false, ltb-true, ltb-false}
+use Rattle.x86_values.specs.declared.Bits.{Bits}
+use Rattle.code_region.specs.State.{LiveBlock, RegionState, int3, rounded, image_of}
+use Rattle.code_region.specs.declared.refusals.NotTaken.{NotTaken}
+use Rattle.code_region.specs.declared.refusals.PlaceError.{PlaceError}
+use Rattle.code_region.specs.Opening.{opened}
+use Rattle.code_region.specs.Placing.{place_answer, with_block, unfilled, placed}
+use Rattle.code_region.specs.Releasing.{release_answer, released}
+use Rattle.code_region.specs.Filling.{with_content, can_fill}
+use Rattle.code_region.specs.Keeping.{IsSound}
+use Rattle.code_region.specs.Laws.{HoldsContents}
+use Rattle.detour.specs.declared.start.StartTarget.{StartTarget}
+use Rattle.hook_slots.specs.declared.making.Hook.{Hook}
+use Rattle.hook_slots.specs.declared.refusals.InstallError.{InstallError}
+use Rattle.hook_slots.specs.declared.refusals.InstallError.TheVariants.{Memory, Full, NoDetour, TooLong}
+use Rattle.hook_slots.specs.State.{HooksState, no_hooks, with_hook, hook_at}
+use Rattle.hook_slots.specs.Opening.{make_refusal}
+use Rattle.hook_slots.specs.Installing.{IsHookPlaced, place_refusal, hooks_after, IsInstalled}
+use Rattle.hook_slots.specs.Removing.{remove_of, remove_answer, without_hook, removed}
+use Rattle.hook_slots.specs.declared.commands.HookCommand.{HookCommand}
+use Rattle.hook_slots.specs.declared.commands.HookCommand.TheVariants.{Install, Remove}
+use Rattle.hook_slots.specs.declared.commands.HookReply.{HookReply}
+use Rattle.hook_slots.specs.Running.{IsRun}
+use Rattle.hook_slots.specs.Holding.{AreApart, AreDetours, HoldsHooks}
+use Rattle.hook_slots.specs.Keeping.{IsSlot, AreSpaced, IsBlockOf, AreBlocksOf, AreKept, AreKeptIn, AreAscending, StandsAt}
+use Rattle.hook_slots.specs.LawsBelow.{LawsBelow}
+use Rattle.hook_slots.proofs.Region.{placed-none, placed-room, placed-can_fill, filled-is, filled-sound, release-found, release-none, release-why}
+use Rattle.hook_slots.proofs.Spaced.{rounded-slot, slots-with, slots-without, with-longer, without-shorter, is-full, place-slot}
+use Rattle.hook_slots.proofs.Blocks.{blocks-count, blocks-at, blocks-ascend, blocks-with, blocks-without, blocks-stand, blocks-none, blocks-found}
+
+-- a number that is not another, and not above it
+below : (n m : ℕ) → (n ≡ m → ⊥) → n ≤ m → n < m
+below n m ne le = elim (cases_Bool (nat_lt n m)) [
+  | inl lt ↦ ltb-true n m lt
+  | inr ge ↦ absurd (ne (omega (arith, le, ltb-false n m ge)))
+]
+
+no_block : LiveBlock
+no_block = record { place = 0; len = 0; content = [] }
+
+-- ---- a slot that is asked for
+
+module _ (laws : LawsBelow) (slot : ℕ) (region : RegionState) (sound : IsSound region) (spaced : AreSpaced slot region) where
+  -- a trampoline that has no more bytes than a slot is filled in
+  pub slot-can_fill : (place : ℕ) → place_answer region slot ≡ Ok place → (n : ℕ) → n ≤ slot → IsTrue (can_fill (placed region slot) place n)
+  slot-can_fill place e n le =
+      let same = rounded-slot slot spaced.is_slot in
+      placed-can_fill laws region slot place sound e n (omega (arith, le, same))
+
+  -- a place that is given back leaves the region as it was
+  pub given-back : (place : ℕ) → place_answer region slot ≡ Ok place → (now : RegionState) → now ≡ placed region slot → (new : RegionState) → new ≡ released now place → new ≡ region
+  given-back place e now is new same =
+      same ∙ (ap (λ (r : RegionState). released r place) is ∙ (laws.regions.restores region slot place sound e).blocks)
+
+-- no place is handed out where each slot has a hook
+pub full-placed : (bits : Bits) (slot : ℕ) (region : RegionState) (sound : IsSound region) (spaced : AreSpaced slot region) (ip : ℕ) (code : List ℕ) (to : ℕ)
+    (start : StartTarget) (why : PlaceError) → place_answer region slot ≡ Err why → (new : RegionState) → new ≡ region → (said : InstallError) → said ≡ place_refusal why
+    → IsHookPlaced bits slot region ip code to start (Err said) new
+full-placed bits slot region sound spaced ip code to start why e new same said is =
+    let full = is-full slot region spaced sound why e in
+    subst (λ (w : InstallError). IsHookPlaced bits slot region ip code to start (Err w) new) (sym (is ∙ ap place_refusal full.0)) ((full.1, refl), same)
+
+-- ---- what is kept
+
+module _ (laws : LawsBelow) (bits : Bits) (slot : ℕ) (region : RegionState) (hooks : List Hook) (room : ℕ) (kept : AreKept bits slot region hooks room) where
+  pub kept-ascend : AreAscending 0 hooks
+  kept-ascend = lower region.base hooks (blocks-ascend bits slot region.base (region.base + region.size) hooks region.live kept.blocks kept.sound)
+    where
+      lower : (high : ℕ) (rest : List Hook) → AreAscending high rest → AreAscending 0 rest
+      lower high [] h = tt
+      lower high (s ∷ rest) h = (omega arith, h.1)
+
+  -- an install
+  module _ (ip : ℕ) (code : List ℕ) (to : ℕ) (start : StartTarget) (hook : Hook) (new : RegionState)
+      (made : IsHookPlaced bits slot region ip code to start (Ok hook) new) where
+    pub install-room : length hooks < room
+    install-room =
+        let many = placed-room laws region slot hook.place kept.sound made.0.0 in
+        let count = blocks-count bits slot hooks region.live kept.blocks in
+        let fewer = below (length region.live) region.max_blocks many kept.spaced.few in
+        let roomy = kept.roomy in
+        omega (arith, fewer, count, roomy)
+
+    bytes : List ℕ
+    bytes = hook.detour.trampoline
+
+    block : LiveBlock
+    block = with_content bytes (unfilled hook.place (rounded slot))
+
+    now : RegionState
+    now = record region { live = with_block block region.live }
+
+    same_slot : rounded slot ≡ slot
+    same_slot = rounded-slot slot kept.spaced.is_slot
+
+    fits : length bytes ≤ rounded slot
+    unfolding bytes
+    fits = let le = made.0.1.1 in let same = same_slot in omega (arith, le, same)
+
+    is_now : new ≡ now
+    unfolding bytes block now
+    is_now = made.1 ∙ filled-is laws region slot hook.place kept.sound made.0.0 bytes fits
+
+    sound_new : IsSound new
+    unfolding bytes
+    sound_new = subst IsSound (sym made.1) (filled-sound laws region slot hook.place kept.sound made.0.0 bytes fits)
+
+    spaced_now : AreSpaced slot now
+    unfolding bytes block now
+    spaced_now =
+        let at = place-slot slot region kept.spaced kept.sound hook.place made.0.0 in
+        let many = placed-room laws region slot hook.place kept.sound made.0.0 in
+        let fewer = below (length region.live) region.max_blocks many kept.spaced.few in
+        let longer = with-longer block region.live in
+        record {
+          is_slot = kept.spaced.is_slot;
+          slots = slots-with region.base slot block region.live same_slot at.0 at.1 kept.spaced.slots;
+          few = omega (arith, fewer, longer);
+          room = kept.spaced.room;
+        }
+
+    blocks_now : AreBlocksOf bits slot (with_hook hook hooks) now.live
+    unfolding bytes block now
+    blocks_now =
+        let this : IsBlockOf bits slot hook block =
+        record {
+          place = refl;
+          len = same_slot;
+          is_detour = (code, made.0.1.0.is);
+          short = made.0.1.1;
+          content = ap (λ (n : ℕ). hook.detour.trampoline ++ replicate (n - length hook.detour.trampoline) int3) same_slot;
+        } in
+        blocks-with bits slot hook block hooks region.live this (placed-none laws region slot hook.place kept.sound made.0.0) kept.blocks
+
+    -- **a hook more is kept**
+    pub install-kept : (more : ℕ) → room ≤ more → (after : List Hook) → after ≡ with_hook hook hooks → AreKept bits slot new after more
+    unfolding now
+    install-kept more roomy after same =
+        let fit = kept.roomy in
+        let on_now : AreKept bits slot now (with_hook hook hooks) more =
+        record {
+          sound = subst IsSound is_now sound_new;
+          spaced = spaced_now;
+          blocks = blocks_now;
+          roomy = omega (arith, fit, roomy);
+        } in
+        subst (λ (r : RegionState). AreKept bits slot r after more) (sym is_now)
+        (subst (λ (xs : List Hook). AreKept bits slot now xs more) (sym same) on_now)
+
+    pub install-max : new.max_blocks ≡ region.max_blocks
+    unfolding now
+    install-max = ap (λ (r : RegionState). r.max_blocks) is_now
+
+  -- a removal
+  pub remove-kept : (place : ℕ) → AreKept bits slot (released region place) (without_hook place hooks) room
+  unfolding released
+  remove-kept place =
+      let fewer = without-shorter place region.live in
+      let few = kept.spaced.few in
+      record {
+        sound = laws.regions.released-sound region place kept.sound;
+        spaced = record {
+          is_slot = kept.spaced.is_slot;
+          slots = slots-without region.base slot place region.live kept.spaced.slots;
+          few = omega (arith, fewer, few);
+          room = kept.spaced.room;
+        };
+        blocks = blocks-without bits slot place hooks region.live kept.blocks;
+        roomy = kept.roomy;
+      }
+
+  pub remove-stands : (place : ℕ) → release_answer region place ≡ Ok tt → StandsAt place hooks
+  remove-stands place e =
+      let found = release-found region place e in
+      blocks-stand bits slot place found.0 hooks region.live kept.blocks found.1
+
+  pub remove-made : (place : ℕ) (new : RegionState) → new ≡ released region place → (left : List Hook) → left ≡ without_hook place hooks
+      → (more : ℕ) → more ≡ room → AreKept bits slot new left more
+  remove-made place new is left same more full =
+      subst (λ (r : RegionState). AreKept bits slot r left more) (sym is)
+      (subst (λ (xs : List Hook). AreKept bits slot (released region place) xs more) (sym same)
+      (subst (λ (n : ℕ). AreKept bits slot (released region place) (without_hook place hooks) n) (sym full) (remove-kept place)))
+
+  remove-none : (place : ℕ) (why : NotTaken) → release_answer region place ≡ Err why → hook_at place hooks ≡ None
+  remove-none place why e = blocks-found bits slot place hooks region.live kept.blocks (release-none region place why e)
+
+  remove-same : (place : ℕ) (why : NotTaken) → release_answer region place ≡ Err why → without_hook place hooks ≡ hooks
+  remove-same place why e = blocks-none bits slot place hooks region.live kept.blocks (release-none region place why e)
+
+  -- a removal that is refused
+  module _ (place : ℕ) (why : NotTaken) (e : release_answer region place ≡ Err why) (now : HooksState)
+      (seen : record { bits = bits; slot = slot; region = region; hooks = hooks } ≡ now) where
+    pub refused-answer : Err why ≡ remove_answer now place
+    refused-answer =
+        let P : HooksState → Type 0 = λ s. Err why ≡ remove_answer s place in
+        let Q : Option Hook → Type 0 = λ o. Err why ≡ remove_of o place in
+        let wrapped_why : NotTaken → Result Hook NotTaken = λ w. Err w in
+        subst P seen (subst Q (sym (remove-none place why e)) (ap wrapped_why (release-why region place why e)))
+
+    pub refused-state : (new : RegionState) → new ≡ released region place → record { bits = bits; slot = slot; region = new; hooks = hooks } ≡ removed now place
+    refused-state new is =
+        let with_region : RegionState → HooksState = λ (r : RegionState). record { bits = bits; slot = slot; region = r; hooks = hooks } in
+        let with_hooks : List Hook → HooksState = λ (xs : List Hook). record { bits = bits; slot = slot; region = released region place; hooks = xs } in
+        ap with_region is ∙ (ap with_hooks (sym (remove-same place why e)) ∙ ap (λ (s : HooksState). removed s place) seen)
+
+-- ---- what is seen
+
+module _ (laws : LawsBelow) (state : HooksState) (room : ℕ) (kept : AreKept state.bits state.slot state.region state.hooks room) where
+  count : length state.hooks ≡ length state.region.live
+  count = blocks-count state.bits state.slot state.hooks state.region.live kept.blocks
+
+  block-at : (k : ℕ) (d : Hook) (b : LiveBlock) → k < length state.hooks → IsBlockOf state.bits state.slot (get_or state.hooks k d) (get_or state.region.live k b)
+  block-at k d b lt = blocks-at state.bits state.slot state.hooks state.region.live k d b kept.blocks lt
+
+  pub kept-apart : AreApart state
+  kept-apart = record {
+    inside = λ k d lt.
+        let is = block-at k d no_block lt in
+        let within = laws.regions.inside state.region kept.sound k no_block (omega (arith, count, lt)) in
+        (omega (arith, within.0, is.place), omega (arith, within.1, is.place, is.len));
+    apart = λ i j d less lt.
+        let one = block-at i d no_block (omega (arith, less, lt)) in
+        let two = block-at j d no_block lt in
+        let order = laws.regions.disjoint state.region kept.sound i j no_block less (omega (arith, count, lt)) in
+        omega (arith, order, one.place, one.len, two.place);
+    short = λ k d lt. (block-at k d no_block lt).short;
+  }
+
+  pub kept-detours : AreDetours state
+  kept-detours = λ k d lt. (block-at k d no_block lt).is_detour
+
+  pub kept-holds : HoldsHooks state (image_of state.region)
+  kept-holds = record {
+    trampolines = λ k d lt.
+        let is = block-at k d no_block lt in
+        let there = holds.contents k no_block (omega (arith, count, lt)) in
+        ap (λ (n : ℕ). take n (drop ((get_or state.hooks k d).place - state.region.base) (image_of state.region))) (sym is.len)
+        ∙ (ap (λ (n : ℕ). take (get_or state.region.live k no_block).len (drop (n - state.region.base) (image_of state.region))) (sym is.place)
+        ∙ (there ∙ is.content));
+    elsewhere = λ k lt free.
+        holds.elsewhere k lt (λ j d jl.
+        let here : j < length state.hooks = omega (arith, count, jl) in
+        let is = block-at j (one_of state.hooks j here) d here in
+        elim (free j (one_of state.hooks j here) here) [
+          | inl before ↦ inl (omega (arith, before, is.place))
+          | inr behind ↦ inr (omega (arith, behind, is.place, is.len))
+        ]);
+  }
+    where
+      one_of : (hooks : List Hook) (k : ℕ) → k < length hooks → Hook
+      one_of [] k lt = absurd (omega arith)
+      one_of (hook ∷ hooks) k lt = hook
+
+      holds : HoldsContents state.region (image_of state.region)
+      holds = laws.regions.contents state.region kept.sound
+
+-- ---- no hooks
+
+-- what is refused none of
+pub slot-good : (bits : Bits) (base size slot : ℕ) → make_refusal bits base size slot ≡ None → IsSlot slot
+unfolding make_refusal
+slot-good bits base size slot none =
+    elim (cases_Bool (nat_eq size 0)) [
+      | inl bad ↦ (let f = rw bad at none in absurd cc)
+      | inr some ↦ elim (cases_Bool (nat_eq (size % 16) 0)) [
+        | inr bad ↦ (let f = rw (some, bad) at none in absurd cc)
+        | inl units ↦ elim (cases_Bool (nat_lt 1048576 size)) [
+          | inl bad ↦ (let f = rw (some, units, bad) at none in absurd cc)
+          | inr small ↦ elim (cases_Bool (nat_eq slot 0)) [
+            | inl bad ↦ (let f = rw (some, units, small, bad) at none in absurd cc)
+            | inr has ↦ elim (cases_Bool (nat_eq (slot % 16) 0)) [
+              | inr bad ↦ (let f = rw (some, units, small, has, bad) at none in absurd cc)
+              | inl in_units ↦ elim (cases_Bool (nat_lt size slot)) [
+                | inl bad ↦ (let f = rw (some, units, small, has, in_units, bad) at none in absurd cc)
+                | inr within ↦ record {
+                  some = positive (eqb-false slot 0 has);
+                  units = eqb-true (slot % 16) 0 in_units;
+                  small = omega (arith, ltb-false 1048576 size small, ltb-false size slot within);
+                }
+              ]
+            ]
+          ]
+        ]
+      ]
+    ]
+  where
+    positive : (slot ≡ 0 → ⊥) → 0 < slot
+    positive ne = below 0 slot (λ e. ne (sym e)) (omega arith)
+
+pub kept-made : (laws : LawsBelow) (bits : Bits) (base size slot : ℕ) → make_refusal bits base size slot ≡ None → (region : RegionState)
+    → region ≡ opened base size (size / slot) → (hooks : List Hook) → hooks ≡ [] → (room : ℕ) → size / slot ≤ room → AreKept bits slot region hooks room
+kept-made laws bits base size slot none region is hooks no_hooks room roomy =
+    let fit = div-mul-le_self size slot in
+    subst (λ (r : RegionState). AreKept bits slot r hooks room) (sym is)
+    (subst (λ (xs : List Hook). AreKept bits slot (opened base size (size / slot)) xs room) (sym no_hooks) (record {
+      sound = laws.regions.opened-sound base size (size / slot);
+      spaced = record {
+        is_slot = slot-good bits base size slot none;
+        slots = tt;
+        few = omega arith;
+        room = fit;
+      };
+      blocks = tt;
+      roomy = roomy;
+    }))
+
+-- ---- in runs
+
+pub made-kept : (laws : LawsBelow) (bits : Bits) (base size slot : ℕ) → make_refusal bits base size slot ≡ None → AreKeptIn (no_hooks bits base size slot)
+made-kept laws bits base size slot none =
+    kept-made laws bits base size slot none (opened base size (size / slot)) refl [] refl (size / slot) (omega arith)
+
+module _ (laws : LawsBelow) (old : HooksState) (kept : AreKeptIn old) where
+  pub removed-kept : (place : ℕ) → AreKeptIn (removed old place)
+  unfolding released
+  removed-kept place = remove-kept laws old.bits old.slot old.region old.hooks old.region.max_blocks kept place
+
+  unchanged : (region : RegionState) → region ≡ old.region → (hooks : List Hook) → hooks ≡ old.hooks → AreKept old.bits old.slot region hooks region.max_blocks
+  unchanged region is hooks same =
+      subst (λ (r : RegionState). AreKept old.bits old.slot r hooks r.max_blocks) (sym is)
+      (subst (λ (xs : List Hook). AreKept old.bits old.slot old.region xs old.region.max_blocks) (sym same) kept)
+
+  module _ (ip : ℕ) (code : List ℕ) (to : ℕ) (start : StartTarget) where
+    -- the region and the hooks after an install
+    after-kept : (made : Result Hook InstallError) (region : RegionState) → IsHookPlaced old.bits old.slot old.region ip code to start made region
+        → (hooks : List Hook) → hooks ≡ hooks_after made old.hooks → AreKept old.bits old.slot region hooks region.max_blocks
+    after-kept (Ok hook) region placed_there hooks same =
+        let max = install-max laws old.bits old.slot old.region old.hooks old.region.max_blocks kept ip code to start hook region placed_there in
+        install-kept laws old.bits old.slot old.region old.hooks old.region.max_blocks kept ip code to start hook region placed_there region.max_blocks
+        (omega (arith, max)) hooks same
+    after-kept (Err (Full max)) region left hooks same = unchanged region left.1 hooks same
+    after-kept (Err (NoDetour why)) region left hooks same = unchanged region left.1 hooks same
+    after-kept (Err (TooLong len size)) region left hooks same = unchanged region left.1 hooks same
+    after-kept (Err Memory) region left hooks same = unchanged region left hooks same
+
+    pub installed-kept : (answer : Result ℕ InstallError) (new : HooksState) → IsInstalled old ip code to start answer new → AreKeptIn new
+    installed-kept answer new done =
+        let here = after-kept done.made new.region done.region new.hooks done.hooks in
+        subst (λ (b : Bits). AreKept b new.slot new.region new.hooks new.region.max_blocks) (sym done.bits)
+        (subst (λ (n : ℕ). AreKept old.bits n new.region new.hooks new.region.max_blocks) (sym done.slot) here)
+
+-- **any list of commands keeps hooks**
+pub run-kept : (laws : LawsBelow) (commands : List HookCommand) (replies : List HookReply) (old new : HooksState) → AreKeptIn old → IsRun old commands replies new → AreKeptIn new
+run-kept laws [] [] old new kept run = subst AreKeptIn (sym run) kept
+run-kept laws [] (reply ∷ replies) old new kept run = absurd run
+run-kept laws (command ∷ commands) [] old new kept run = absurd run
+run-kept laws (Install ip code to start ∷ commands) (reply ∷ replies) old new kept run =
+    run-kept laws commands replies run.0 new (installed-kept laws old kept ip code.now to start run.1.0.0 run.0 run.1.0.1.1) run.1.1
+run-kept laws (Remove place ∷ commands) (reply ∷ replies) old new kept run =
+    run-kept laws commands replies run.0 new (subst AreKeptIn (sym run.1.0.1) (removed-kept laws old kept place)) run.1.1

@@ -1,0 +1,7 @@
+use Rattle.hook_slots.proofs.laws_below.laws_below.Goals as goal
+
+pub returns : goal.returns
+returns c = record {
+  regions = c.sound_regions_keep_their_laws.ensures;
+  places = c.places_are_gaps.ensures;
+}

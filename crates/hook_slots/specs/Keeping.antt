@@ -1,0 +1,66 @@
+-- What holds of hooks at any time.
+use Rattle.std.specs.Prelude.{◌≡◌, ◌⊎◌, ℕ, ◌+◌, ◌-◌, ◌*◌, ◌%◌, ◌<◌, ◌≤◌, nat_lt, if◌then◌else◌, suc, List, [], ◌∷◌, ◌++◌, length, replicate}
+use Rattle.x86_values.specs.declared.Bits.{Bits}
+use Rattle.code_region.specs.State.{LiveBlock, RegionState, int3}
+use Rattle.code_region.specs.Keeping.{IsSound}
+use Rattle.hook_slots.specs.declared.making.Hook.{Hook}
+use Rattle.hook_slots.specs.State.{HooksState}
+use Rattle.hook_slots.specs.Holding.{HasDetour}
+
+-- a slot has some bytes, in units of 16
+pub record IsSlot (slot : ℕ) : Type 0 where
+  pub some : 0 < slot
+  pub units : slot % 16 ≡ 0
+  pub small : slot ≤ 1048576
+
+-- each block is a slot, of which the first one begins at the base
+abbrev pub AreSlots : ℕ → ℕ → List LiveBlock → Type 0
+AreSlots base slot [] = Unit {0}
+AreSlots base slot (block ∷ blocks) = ((block.len ≡ slot) × ((index : ℕ) × (block.place ≡ base + index * slot))) × AreSlots base slot blocks
+
+-- a region has no more blocks than slots, and each block is one
+pub record AreSpaced (slot : ℕ) (region : RegionState) : Type 0 where
+  pub is_slot : IsSlot slot
+  pub slots : AreSlots region.base slot region.live
+  pub few : length region.live ≤ region.max_blocks
+  pub room : region.max_blocks * slot ≤ region.size
+
+-- a live block is that of a hook: it stands there, is as long as a slot, and has the bytes of the trampoline, filled up with INT3
+pub record IsBlockOf (bits : Bits) (slot : ℕ) (hook : Hook) (block : LiveBlock) : Type 0 where
+  pub place : block.place ≡ hook.place
+  pub len : block.len ≡ slot
+  pub is_detour : HasDetour bits hook
+  pub short : length hook.detour.trampoline ≤ slot
+  pub content : block.content ≡ hook.detour.trampoline ++ replicate (slot - length hook.detour.trampoline) int3
+
+-- the live blocks are those of the hooks, one by one
+abbrev pub AreBlocksOf : Bits → ℕ → List Hook → List LiveBlock → Type 0
+AreBlocksOf bits slot [] [] = Unit {0}
+AreBlocksOf bits slot (hook ∷ hooks) (block ∷ blocks) = IsBlockOf bits slot hook block × AreBlocksOf bits slot hooks blocks
+AreBlocksOf bits slot hooks blocks = ⊥
+
+-- hooks in a region, with room for so many
+pub record AreKept (bits : Bits) (slot : ℕ) (region : RegionState) (hooks : List Hook) (room : ℕ) : Type 0 where
+  pub sound : IsSound region
+  pub spaced : AreSpaced slot region
+  pub blocks : AreBlocksOf bits slot hooks region.live
+  pub roomy : region.max_blocks ≤ room
+
+-- the same of what is seen of hooks
+abbrev pub AreKeptIn : HooksState → Type 0
+AreKeptIn state = AreKept state.bits state.slot state.region state.hooks state.region.max_blocks
+
+-- how many trampolines start before an address
+abbrev pub rank : ℕ → List Hook → ℕ
+rank place [] = 0
+rank place (hook ∷ hooks) = if nat_lt hook.place place then suc (rank place hooks) else 0
+
+-- the hooks stand by address, from one on
+abbrev pub AreAscending : ℕ → List Hook → Type 0
+AreAscending from [] = Unit {0}
+AreAscending from (hook ∷ hooks) = (from ≤ hook.place) × AreAscending (hook.place + 1) hooks
+
+-- one of the trampolines starts at an address
+abbrev pub StandsAt : ℕ → List Hook → Type 0
+StandsAt place [] = ⊥
+StandsAt place (hook ∷ hooks) = (hook.place ≡ place) ⊎ StandsAt place hooks

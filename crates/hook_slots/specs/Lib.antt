@@ -1,0 +1,9 @@
+pub mod State
+pub mod Opening
+pub mod Installing
+pub mod Removing
+pub mod Running
+pub mod Holding
+pub mod Keeping
+pub mod Facts
+pub mod LawsBelow

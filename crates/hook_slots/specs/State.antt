@@ -1,0 +1,27 @@
+-- What hooks are to their user: a region of slots, and the live hooks in it.
+use Rattle.std.specs.Prelude.{ℕ, ◌/◌, ◌==◌, nat_lt, if◌then◌else◌, List, [], ◌∷◌, Option, find}
+use Rattle.x86_values.specs.declared.Bits.{Bits}
+use Rattle.code_region.specs.State.{RegionState}
+use Rattle.code_region.specs.Opening.{opened}
+use Rattle.hook_slots.specs.declared.making.Hook.{Hook}
+
+-- the mode, the size of a slot, the region, and the live hooks by address
+pub record HooksState : Type 0 where
+  pub bits : Bits
+  pub slot : ℕ
+  pub region : RegionState
+  pub hooks : List Hook
+
+-- no live hook, and as many slots as the range has room for
+abbrev pub no_hooks : Bits → ℕ → ℕ → ℕ → HooksState
+no_hooks bits base size slot = record { bits = bits; slot = slot; region = opened base size (size / slot); hooks = [] }
+
+-- the hooks with one more, by address
+abbrev pub with_hook : Hook → List Hook → List Hook
+with_hook hook [] = hook ∷ []
+with_hook hook (other ∷ others) =
+    if nat_lt other.place hook.place then other ∷ with_hook hook others else hook ∷ other ∷ others
+
+-- the hook whose trampoline starts at an address, if there is one
+abbrev pub hook_at : ℕ → List Hook → Option Hook
+hook_at place hooks = find (λ hook. hook.place == place) hooks

@@ -1,0 +1,12 @@
+//! What the laws of the crates below say, for the proofs of this crate.
+
+ghost use Rattle.hook_slots.specs.LawsBelow.{LawsBelow};
+
+/// The laws of the crates below as one fact. It does nothing.
+#[inline]
+pub(crate) fn laws_below()
+    ensures { LawsBelow }
+{
+    code_region::laws::sound_regions_keep_their_laws();
+    code_region::laws::places_are_gaps();
+}
