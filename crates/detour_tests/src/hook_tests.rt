@@ -2,8 +2,9 @@
 
 use code_region::NotTaken;
 use detour::{DetourError, StartTarget};
-use hook_slots::{HookCommand, HookReply, Hooks, InstallError, MakeError, replay};
+use hook_slots::{Hook, HookCommand, HookReply, Hooks, InstallError, MakeError, replay};
 use std::alloc::Global;
+use std::process::Abort;
 use std::test::Fail;
 use x86_values::Bits;
 
@@ -19,7 +20,7 @@ struct Function {
 fn install(
     hooks: &mut Hooks,
     alloc: Global,
-    function: &Function,
+    function: Function,
 ) -> Result<Result<u64, InstallError>, Fail> {
     let code = hex::decode(alloc, function.code)?;
     if code.len() > 64 {
@@ -29,7 +30,8 @@ fn install(
 }
 
 /// That a range has these trampolines in its slots, as hexadecimal digits, and CC elsewhere.
-fn holds(alloc: Global, hooks: &Hooks, slot: usize, trampolines: &[&str]) -> Result<bool, Fail> {
+fn holds(alloc: Global, hooks: &Hooks, slot: u64, trampolines: &[&str]) -> Result<bool, Fail> {
+    let slot = slot as usize;
     let mut image = Vec::new(alloc);
     for digits in trampolines.iter() {
         let bytes = hex::decode(alloc, digits)?;
@@ -45,16 +47,24 @@ fn holds(alloc: Global, hooks: &Hooks, slot: usize, trampolines: &[&str]) -> Res
     Ok(hooks.image() == image.as_slice())
 }
 
-/// Two functions in a mode, with what goes over them and their trampolines in the two slots of a range.
+/// A function that is hooked, and what is wanted of it: the place of its trampoline, what goes over it, and the trampoline.
+#[derive(Clone, Copy)]
+struct Hooked {
+    function: Function,
+    place: u64,
+    patch: &'static str,
+    trampoline: &'static str,
+}
+
+/// Two functions in a mode, and a range with two slots for their trampolines.
 #[derive(Clone, Copy)]
 struct Case {
     bits: Bits,
     base: u64,
+    size: u64,
     slot: u64,
-    functions: [Function; 2],
-    places: [u64; 2],
-    patches: [&'static str; 2],
-    trampolines: [&'static str; 2],
+    one: Hooked,
+    two: Hooked,
 }
 
 fn cases() -> [Case; 3] {
@@ -63,121 +73,164 @@ fn cases() -> [Case; 3] {
         Case {
             bits: Bits::B64,
             base: 0x9000,
+            size: 64,
             slot: 32,
-            functions: [
-                Function {
+            one: Hooked {
+                function: Function {
                     ip: 0x1000,
                     code: "554889e54883ec20c3",
                     to: 0x5000,
                 },
-                Function {
+                place: 0x9000,
+                patch: "e9fb3f0000cccccc",
+                trampoline: "554889e54883ec20e9fb7fffff",
+            },
+            two: Hooked {
+                function: Function {
                     ip: 0x1100,
                     code: "89c8ffc975fac3",
                     to: 0x5000,
                 },
-            ],
-            places: [0x9000, 0x9020],
-            patches: ["e9fb3f0000cccccc", "e9fb3e0000cc"],
-            trampolines: ["554889e54883ec20e9fb7fffff", "89c8ffc975fae9db80ffff"],
+                place: 0x9020,
+                patch: "e9fb3e0000cc",
+                trampoline: "89c8ffc975fae9db80ffff",
+            },
         },
         // push ebp; mov ebp, esp; sub esp, 8: and a call of what follows it, from 9015 to 1105; back from 900B to 1006, and from 901A to 1105
         Case {
             bits: Bits::B32,
             base: 0x9000,
+            size: 32,
             slot: 16,
-            functions: [
-                Function {
+            one: Hooked {
+                function: Function {
                     ip: 0x1000,
                     code: "5589e583ec08c3",
                     to: 0x5000,
                 },
-                Function {
+                place: 0x9000,
+                patch: "e9fb3f0000cc",
+                trampoline: "5589e583ec08e9fb7fffff",
+            },
+            two: Hooked {
+                function: Function {
                     ip: 0x1100,
                     code: "e80000000058c3",
                     to: 0x5000,
                 },
-            ],
-            places: [0x9000, 0x9010],
-            patches: ["e9fb3f0000cc", "e9fb3e0000"],
-            trampolines: ["5589e583ec08e9fb7fffff", "e8f080ffffe9eb80ffff"],
+                place: 0x9010,
+                patch: "e9fb3e0000",
+                trampoline: "e8f080ffffe9eb80ffff",
+            },
         },
         // mov ax, 1234 twice: the jumps have 3 bytes; back from 306 to 103, and from 316 to 123
         Case {
             bits: Bits::B16,
             base: 0x300,
+            size: 32,
             slot: 16,
-            functions: [
-                Function {
+            one: Hooked {
+                function: Function {
                     ip: 0x100,
                     code: "b83412c3",
                     to: 0x200,
                 },
-                Function {
+                place: 0x300,
+                patch: "e9fd00",
+                trampoline: "b83412e9fdfd",
+            },
+            two: Hooked {
+                function: Function {
                     ip: 0x120,
                     code: "b83412c3",
                     to: 0x200,
                 },
-            ],
-            places: [0x300, 0x310],
-            patches: ["e9fd00", "e9dd00"],
-            trampolines: ["b83412e9fdfd", "b83412e90dfe"],
+                place: 0x310,
+                patch: "e9dd00",
+                trampoline: "b83412e90dfe",
+            },
         },
     ]
+}
+
+/// The hooks of a case, with its functions hooked one after the other.
+fn both_installed(rt: &impl Abort, alloc: Global, case: Case) -> Result<Hooks, Fail> {
+    let Case {
+        bits,
+        base,
+        size,
+        slot,
+        one,
+        two,
+    } = case;
+    let mut hooks = Hooks::make(alloc, bits, base, size, slot)?;
+    assert!(rt; holds(alloc, &hooks, slot, &["", ""])?);
+    let place = install(&mut hooks, alloc, one.function)?;
+    assert_eq!(rt; place, Ok(one.place));
+    assert!(rt; holds(alloc, &hooks, slot, &[one.trampoline, ""])?);
+    let place = install(&mut hooks, alloc, two.function)?;
+    assert_eq!(rt; place, Ok(two.place));
+    assert!(rt; holds(alloc, &hooks, slot, &[one.trampoline, two.trampoline])?);
+    Ok(hooks)
+}
+
+/// A live hook has its place, its function and what goes over that.
+fn is_hooked(rt: &impl Abort, alloc: Global, hook: &Hook, wanted: Hooked) -> Result<(), Fail> {
+    assert_eq!(rt; (hook.place, hook.ip), (wanted.place, wanted.function.ip));
+    let written = hex::encode(alloc, hook.detour.patch())?;
+    assert_eq!(rt; written.as_str(), wanted.patch);
+    let digits = hex::encode(alloc, &hook.original)?;
+    assert_eq!(rt; digits.as_str().len(), wanted.patch.len());
+    assert!(rt; wanted.function.code.starts_with(digits.as_str()));
+    Ok(())
+}
+
+/// The first of two hooks is removed, and its function is hooked again at the same place.
+fn removed_and_made_again(
+    rt: &impl Abort,
+    alloc: Global,
+    hooks: Hooks,
+    case: Case,
+) -> Result<(), Fail> {
+    let mut hooks = hooks;
+    let Case { slot, one, two, .. } = case;
+    // no slot is free, which is told before anything of the function
+    let none = Function {
+        code: "",
+        ..one.function
+    };
+    let refused = install(&mut hooks, alloc, none)?;
+    assert_eq!(rt; refused, Err(InstallError::Full { max: 2 }));
+    // the first slot is CC again, and the first to be free
+    let place = one.place;
+    let gone = hooks.remove(place)?;
+    assert_eq!(rt; gone.ip, one.function.ip);
+    assert_eq!(rt; gone.original.len(), gone.detour.taken());
+    assert!(rt; holds(alloc, &hooks, slot, &["", two.trampoline])?);
+    assert_eq!(rt; hooks.live().len(), 1);
+    match hooks.remove(place) {
+        Ok(_) => return Err(Fail::new("a hook is removed twice")),
+        Err(why) => assert_eq!(rt; why, NotTaken { place }),
+    }
+    let again = install(&mut hooks, alloc, one.function)?;
+    assert_eq!(rt; again, Ok(place));
+    assert!(rt; holds(alloc, &hooks, slot, &[one.trampoline, two.trampoline])?);
+    Ok(())
 }
 
 #[test]
 fn hooks_made_and_removed(rt: HostRuntime) -> Result<(), Fail> {
     for case in cases() {
-        let Case {
-            bits,
-            base,
-            slot: slot_len,
-            functions,
-            places,
-            patches,
-            trampolines,
-        } = case;
         let alloc = rt.alloc();
-        let slot = slot_len as usize;
-        let [one, two] = functions;
-        let mut hooks = Hooks::make(alloc, bits, base, slot_len * 2, slot_len)?;
-        assert!(rt; holds(alloc, &hooks, slot, &["", ""])?);
-        assert_eq!(rt; install(&mut hooks, alloc, &one)?, Ok(places[0]));
-        assert!(rt; holds(alloc, &hooks, slot, &[trampolines[0], ""])?);
-        assert_eq!(rt; install(&mut hooks, alloc, &two)?, Ok(places[1]));
-        assert!(rt; holds(alloc, &hooks, slot, &trampolines)?);
-        for (k, hook) in hooks.live().iter().enumerate() {
-            if k < 2 {
-                let (function, place, patch) = (functions[k], places[k], patches[k]);
-                assert_eq!(rt; (hook.place, hook.ip), (place, function.ip));
-                let written = hex::encode(alloc, hook.detour.patch())?;
-                assert_eq!(rt; written.as_str(), patch);
-                let digits = hex::encode(alloc, &hook.original)?;
-                assert_eq!(rt; digits.as_str().len(), patch.len());
-                assert!(rt; function.code.starts_with(digits.as_str()));
+        let hooks = both_installed(&rt, alloc, case)?;
+        match hooks.live() {
+            [first, second] => {
+                is_hooked(&rt, alloc, first, case.one)?;
+                is_hooked(&rt, alloc, second, case.two)?;
             }
+            _ => return Err(Fail::new("two hooks are live")),
         }
-        // no slot is free, which is told before anything of the function
-        let none = Function { code: "", ..one };
-        assert_eq!(rt;
-            install(&mut hooks, alloc, &none)?,
-            Err(InstallError::Full { max: 2 })
-        );
-        // the first slot is CC again, and the first to be free
-        let gone = hooks.remove(places[0])?;
-        assert_eq!(rt;
-            (gone.ip, gone.original.len()),
-            (one.ip, gone.detour.taken())
-        );
-        assert!(rt; holds(alloc, &hooks, slot, &["", trampolines[1]])?);
-        assert_eq!(rt; hooks.live().len(), 1);
-        let place = places[0];
-        match hooks.remove(place) {
-            Ok(_) => return Err(Fail::new("a hook is removed twice")),
-            Err(why) => assert_eq!(rt; why, NotTaken { place }),
-        }
-        assert_eq!(rt; install(&mut hooks, alloc, &one)?, Ok(place));
-        assert!(rt; holds(alloc, &hooks, slot, &trampolines)?);
+        removed_and_made_again(&rt, alloc, hooks, case)?;
     }
     Ok(())
 }
@@ -225,10 +278,10 @@ fn hooks_refused(rt: HostRuntime) -> Result<(), Fail> {
         ),
     ];
     for (function, refusal) in functions {
-        assert_eq!(rt; install(&mut hooks, alloc, &function)?, Err(refusal));
+        assert_eq!(rt; install(&mut hooks, alloc, function)?, Err(refusal));
         assert!(rt; holds(alloc, &hooks, 16, &["", "", ""])?);
     }
-    assert_eq!(rt; install(&mut hooks, alloc, &near)?, Ok(0x9000));
+    assert_eq!(rt; install(&mut hooks, alloc, near)?, Ok(0x9000));
     Ok(())
 }
 
