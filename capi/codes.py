@@ -1,7 +1,7 @@
 #!/usr/bin/env python3
-"""Writes the codes of common instructions into feddurzai.h and tests/codes.h, from the rows of the table.
+"""Writes the codes of common instructions into feddurzai.h, tests/codes.h and the Python package, from the rows of the table.
 
-    listing_program rows | capi/codes.py            writes both
+    listing_program rows | capi/codes.py            writes all three
     listing_program rows | capi/codes.py --check    says whether they are as they would be written: exit status 1 where not
 
 A row is `CODE NOTATION NAME`. The list below says which rows have a constant and how each is named; the numbers come from the rows alone.
@@ -79,35 +79,70 @@ def read_rows(lines):
     return rows
 
 
+PYTHON_HEAD = '''"""The codes of common instructions. codes.py writes this file from the rows of the table."""
+
+import enum
+
+
+class Code(enum.IntEnum):
+    """The codes of common instructions, for an `Instr`; `code_of` finds all others.
+
+    RM is a register or memory, REL an offset, IMM an immediate, and the number its bits. JMP, CALL, Jcc, RET, PUSH, POP and LEAVE are those
+    of 64-bit code, but where _O32, R32 or RM32 says that they are of 32-bit code.
+
+    >>> Instr(Code.JMP_REL32, Near(0x2000)).encode(64, 0x1000).hex()
+    'e9fb0f0000'
+    >>> Code.JMP_REL32 == code_of("jmp", "o64 E9 cd")
+    True
+    """
+
+'''
+
+
 def parts(rows):
-    """The constants as lines of the header, and as lines of the test."""
-    constants, tests = [], []
+    """The constants as lines of the header, of the test and of the Python package."""
+    constants, tests, members = [], [], []
     for constant, name, notation in wanted():
         if (name, notation) not in rows:
             sys.exit(f"codes.py: no row {notation} {name}")
         code, n = rows[name, notation]
-        constant = f"FEDDURZAI_CODE_{constant.upper()}"
+        constant = constant.upper()
+        members.append(f"    {constant} = {code}".ljust(32) + f"# {notation}\n")
+        constant = f"FEDDURZAI_CODE_{constant}"
         constants.append(f"    {constant} = {code},".ljust(44) + f"/* {notation} */\n")
         tests.append(f'{{{constant}, "{name}", {n}, "{notation}"}},\n')
     constants[-1] = constants[-1].replace(",", " ", 1)
-    return "enum {\n" + "".join(constants) + "};\n", "/* codes.py writes this: each constant of feddurzai.h with the row that it is for */\n" + "".join(tests)
+    return (
+        "enum {\n" + "".join(constants) + "};\n",
+        "/* codes.py writes this: each constant of feddurzai.h with the row that it is for */\n" + "".join(tests),
+        PYTHON_HEAD + "".join(members),
+    )
+
+
+def text_of(path):
+    """What a file has, and nothing where there is none."""
+    if not os.path.exists(path):
+        return ""
+    with open(path) as file:
+        return file.read()
 
 
 def main():
-    header_path, tests_path = os.path.join(HERE, "feddurzai.h"), os.path.join(HERE, "tests", "codes.h")
-    with open(header_path) as file:
-        header = file.read()
-    constants, tests = parts(read_rows(sys.stdin))
+    header_path = os.path.join(HERE, "feddurzai.h")
+    header = text_of(header_path)
+    constants, tests, members = parts(read_rows(sys.stdin))
     before, rest = header.split(BEGIN)
-    written = before + BEGIN + constants + END + rest.split(END)[1]
+    written = {
+        header_path: before + BEGIN + constants + END + rest.split(END)[1],
+        os.path.join(HERE, "tests", "codes.h"): tests,
+        os.path.join(HERE, "python", "feddurzai", "_codes.py"): members,
+    }
     if sys.argv[1:] == ["--check"]:
-        with open(tests_path) as file:
-            same = header == written and file.read() == tests
-        sys.exit(0 if same else "codes.py: the codes of feddurzai.h or tests/codes.h are not those of the rows")
-    with open(header_path, "w") as file:
-        file.write(written)
-    with open(tests_path, "w") as file:
-        file.write(tests)
+        other = [path for path, text in written.items() if text_of(path) != text]
+        sys.exit(f"codes.py: the codes are not those of the rows in {', '.join(other)}" if other else 0)
+    for path, text in written.items():
+        with open(path, "w") as file:
+            file.write(text)
 
 
 main()

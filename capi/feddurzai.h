@@ -15,9 +15,9 @@
  * called in place of the library's, see to that. A caller without them (dlsym, another language) has to keep NULL out.
  *
  * Threads: no function keeps any state, so all may be called from any number of threads at once, and none takes a lock.
- * All but feddurzai_move, feddurzai_move_outside, feddurzai_move_blocks, feddurzai_flow, feddurzai_flow_from and
- * feddurzai_detour take no memory, and may be called from a signal handler and from a hook of malloc; those six call
- * malloc, realloc and free, and give back all that they took.
+ * All but feddurzai_move, feddurzai_move_outside, feddurzai_move_blocks, feddurzai_step, feddurzai_flow,
+ * feddurzai_flow_from and feddurzai_detour take no memory, and may be called from a signal handler and from a hook of
+ * malloc; those seven call malloc, realloc and free, and give back all that they took.
  * Nothing is owned by the library: every result is in memory of the caller's.
  *
  * C99 and C++. All numbers are in the byte order of the machine. Lengths and sizes are in bytes.
@@ -47,9 +47,10 @@ uint32_t feddurzai_version(void);
 
 /*
  * A function that returns an int32_t says 0 or more where it did what it was asked, and else one of these. After a
- * refusal nothing was written (feddurzai_move, feddurzai_move_outside, feddurzai_move_blocks and feddurzai_detour alone
- * write their report always, but for FEDDURZAI_NULL). Where several stand together, the first in the list of the function is told; before all of them
- * FEDDURZAI_NULL, which every function that takes a pointer may return, and no list repeats.
+ * refusal nothing was written (feddurzai_move, feddurzai_move_outside, feddurzai_move_blocks, feddurzai_step and
+ * feddurzai_detour alone write their report always, but for FEDDURZAI_NULL). Where several stand together, the first in
+ * the list of the function is told; before all of them FEDDURZAI_NULL, which every function that takes a pointer may
+ * return, and no list repeats.
  */
 enum {
     FEDDURZAI_BAD_MODE = -1,        /* bits is not 16, 32 or 64 */
@@ -83,10 +84,11 @@ enum {
 };
 
 /*
- * Why feddurzai_encode finds no encoding: the first of ten conditions that fails, and the operand that fails it, 0 to
- * 3. The causes _KIND to _TARGET have an operand: of an address and its displacement it is the memory operand, of a
- * target the near target or the memory operand at RIP or EIP (an instruction has no two of these); two equal vector
- * registers of a gather count with operand 0. The other causes are of the whole instruction, and have 0 there.
+ * Why feddurzai_encode finds no encoding: the first of ten conditions that fails, and the first operand that fails it,
+ * 0 to 3. The causes _KIND to _TARGET have an operand. Of an address and its displacement it is the memory operand, of a
+ * target the near target or the memory operand at RIP or EIP: the only one, since no row has two operands that can be
+ * these. Two equal vector registers of a gather count with operand 0. The other causes are of the whole instruction,
+ * and have 0 there.
  * `said` is a number below zero.
  *
  * Some instructions that feddurzai_decode reads have no encoding where they stand, since the shortest spelling no
@@ -211,8 +213,8 @@ typedef struct feddurzai_part {
 } feddurzai_part;
 
 /*
- * Where the parts of an instruction stand in its bytes, in their order. A part that is not there has the offset at
- * which it would stand.
+ * Where the parts of an instruction stand in its bytes, in their order. The bytes there are the part's own; numbers
+ * have their lowest byte first. A part that is not there has the offset at which it would stand.
  */
 typedef struct feddurzai_byte_offsets {
     feddurzai_part prefixes;        /* legacy prefixes and REX */
@@ -837,6 +839,50 @@ int32_t feddurzai_region_release(feddurzai_region *region, feddurzai_live *block
 int32_t feddurzai_region_fill(const feddurzai_region *region, const feddurzai_live *blocks, size_t room, uint64_t place,
     const uint8_t *bytes, size_t len, uint8_t *image, size_t image_len);
 
+/* ---- stepping an instruction elsewhere --------------------------------------------------------------------- */
+
+#define FEDDURZAI_MAX_STEP 53       /* bytes of the code of a step, at most */
+
+/* The numbers of the code of a step. */
+typedef struct feddurzai_step_report {
+    uint64_t bytes;     /* how many bytes the code has */
+    uint64_t back_at;   /* the offset of its jump back: where control comes when the instruction is done */
+    uint64_t address;   /* _TOO_FAR: the target; _WRAPS: the end of the code, modulo 2 to the power of 64 */
+    uint8_t len;        /* how many bytes the instruction had */
+} feddurzai_step_report;
+
+/*
+ * Writes the code by which a debugger lets one instruction run while its breakpoint stays: the instruction at the front
+ * of `len` bytes, which stands at address `old_ip` (taken modulo 2 to the power of bits), made for the address `place`,
+ * and a jump back to the address behind it, old_ip + report->len. The bytes are the program's own, without the
+ * breakpoint; FEDDURZAI_MAX_LEN of them are enough. Every target stays: what a branch or an operand at RIP or EIP
+ * reached it still reaches, also where that is the instruction itself. A room of FEDDURZAI_MAX_STEP is always enough.
+ *
+ * Control that is at place + report->back_at has done the instruction, and is to be told as old_ip + report->len; at an
+ * address of the code before that it is still at old_ip, as a fault is. Several instructions may stand for the one, so a
+ * debugger that steps by the processor's trap flag steps on until control is at back_at or outside the code.
+ * A call pushes the address behind it in the code: the procedure comes back there and by the jump back to where it
+ * should. The code has to stand until then, or the debugger puts old_ip + report->len in place of the pushed address.
+ *
+ * Places for the code of many threads: feddurzai_region_reserve for feddurzai_step_len (or FEDDURZAI_MAX_STEP) bytes
+ * gives one, feddurzai_region_fill writes the code there, and feddurzai_region_release ends it.
+ *
+ * Returns how many bytes, or FEDDURZAI_BAD_MODE, _INVALID, _TOO_SHORT, _WRAPS (the code passes the address space of the
+ * mode), _TOO_FAR (the instruction does not reach its target from the place), _NO_ROOM; _NO_MEMORY may stand in place of
+ * those behind _TOO_SHORT. The report has the numbers also where the room is too small.
+ */
+int32_t feddurzai_step(uint32_t bits, uint64_t old_ip, const uint8_t *bytes, size_t len, uint64_t place, uint8_t *out,
+    size_t room, feddurzai_step_report *report);
+
+/*
+ * How many bytes feddurzai_step writes at most for this instruction, at whatever place that is a multiple of 16 bytes
+ * behind `base`, as those of a region with that base are: 1 to FEDDURZAI_MAX_STEP.
+ * Or FEDDURZAI_BAD_MODE, _INVALID, _TOO_SHORT.
+ */
+int32_t feddurzai_step_len(uint32_t bits, uint64_t old_ip, const uint8_t *bytes, size_t len, uint64_t base);
+
+/* ---- where control goes ------------------------------------------------------------------------------------ */
+
 /*
  * Follows control from the first byte of `len` bytes of code, which has the address `base`. Writes the offsets of the
  * instructions that it reaches to `starts`, in ascending order, and beside each the offset at which its basic block
@@ -1139,6 +1185,22 @@ static inline int32_t feddurzai_checked_region_fill(const feddurzai_region *regi
     return feddurzai_region_fill(region, blocks, room, place, bytes, len, image, image_len);
 }
 
+static inline int32_t feddurzai_checked_step(uint32_t bits, uint64_t old_ip, const uint8_t *bytes, size_t len,
+    uint64_t place, uint8_t *out, size_t room, feddurzai_step_report *report)
+{
+    if (feddurzai_is_null(bytes, len) || feddurzai_is_null(out, room) || report == NULL)
+        return FEDDURZAI_NULL;
+    return feddurzai_step(bits, old_ip, bytes, len, place, out, room, report);
+}
+
+static inline int32_t feddurzai_checked_step_len(uint32_t bits, uint64_t old_ip, const uint8_t *bytes, size_t len,
+    uint64_t base)
+{
+    if (feddurzai_is_null(bytes, len))
+        return FEDDURZAI_NULL;
+    return feddurzai_step_len(bits, old_ip, bytes, len, base);
+}
+
 static inline int32_t feddurzai_checked_flow(uint32_t bits, uint64_t base, const uint8_t *bytes, size_t len,
     uint32_t *starts, size_t room, uint32_t *leaders, size_t leaders_room)
 {
@@ -1195,6 +1257,8 @@ static inline int32_t feddurzai_checked_detour(uint32_t bits, uint64_t ip, const
 #define feddurzai_region_reserve feddurzai_checked_region_reserve
 #define feddurzai_region_release feddurzai_checked_region_release
 #define feddurzai_region_fill feddurzai_checked_region_fill
+#define feddurzai_step feddurzai_checked_step
+#define feddurzai_step_len feddurzai_checked_step_len
 #define feddurzai_flow feddurzai_checked_flow
 #define feddurzai_flow_from feddurzai_checked_flow_from
 #define feddurzai_detour feddurzai_checked_detour

@@ -58,8 +58,8 @@ for style in intel att masm; do
 done
 "$program" list 64 401000 intel <"$front" >"$work/front.intel"
 say "program: $(wc -l <"$work/program.intel") lines in each of three styles"
-"$program" rows | "$here/codes.py" --check || die "the codes in the header"
-say "header: the codes of common instructions are those of the program's rows"
+"$program" rows | "$here/codes.py" --check || die "the codes of the header or of Python"
+say "header and Python: the codes of common instructions are those of the program's rows"
 
 # tries_nulls COMPILER STANDARD: every function with NULL, zeros and small rooms, under the sanitizers
 tries_nulls() {
@@ -238,6 +238,10 @@ for backend in llvm rattle; do
     gcc -std=gnu99 -O2 $warn -I"$here" "$here/examples/hook_many.c" "$out/libfeddurzai.a" -ldl -o "$out/hook_many"
     "$out/hook_many" >"$work/hook_many.log" || die_with "$work/hook_many.log" "$backend: a hook of many failed"
     say "$backend: examples/hook_many.c: $(sed -n 's/\(functions hooked\) at once.*/\1/p' "$work/hook_many.log" | paste -sd, -); $(tail -1 "$work/hook_many.log")"
+
+    gcc -std=gnu99 -O2 $warn -I"$here" "$here/examples/step.c" "$out/libfeddurzai.a" -o "$out/step"
+    "$out/step" >"$work/step.log" || die_with "$work/step.log" "$backend: an instruction was not stepped as it runs"
+    say "$backend: examples/step.c: $(tail -1 "$work/step.log")"
 
     export FEDDURZAI_LIBRARY="$out/libfeddurzai.so"
     python3 "$here/examples/disassemble.py" "$front" 64 401000 intel >"$work/python.intel"

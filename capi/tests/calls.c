@@ -95,6 +95,10 @@ static void check_layout(void)
     CHECK(offsetof(feddurzai_region, count), 16);
     CHECK(sizeof(feddurzai_live), 16);
     CHECK(offsetof(feddurzai_live, len), 8);
+    CHECK(sizeof(feddurzai_step_report), 32);
+    CHECK(offsetof(feddurzai_step_report, back_at), 8);
+    CHECK(offsetof(feddurzai_step_report, address), 16);
+    CHECK(offsetof(feddurzai_step_report, len), 24);
     CHECK(sizeof(feddurzai_detour_report), 64);
     CHECK(offsetof(feddurzai_detour_report, bytes), 8);
     CHECK(offsetof(feddurzai_detour_report, jump_back), 16);
@@ -815,6 +819,78 @@ static void check_kept_targets(void)
     free(out);
 }
 
+/* what a step of one instruction at 0x1000 is at a place: the bytes, and where its jump back stands */
+static void check_step(uint32_t bits, const char *bytes, size_t len, uint64_t place, const char *want, size_t want_len, uint64_t back_at)
+{
+    uint8_t *out = malloc(FEDDURZAI_MAX_STEP + 1);
+    feddurzai_step_report *r = malloc(sizeof *r);
+    memset(out, 0xaa, FEDDURZAI_MAX_STEP + 1);
+    CHECK(feddurzai_step(bits, 0x1000, (const uint8_t *)bytes, len, place, out, FEDDURZAI_MAX_STEP, r), (int)want_len);
+    CHECK(memcmp(out, want, want_len), 0);
+    CHECK(is_untouched(out + want_len, FEDDURZAI_MAX_STEP + 1 - want_len), 1);
+    CHECK(r->bytes, want_len);
+    CHECK(r->back_at, back_at);
+    CHECK(r->len, len);
+    CHECK(r->address, 0);
+    CHECK(feddurzai_step_len(bits, 0x1000, (const uint8_t *)bytes, len, place % 16) >= (int)want_len, 1);
+    free(out);
+    free(r);
+}
+
+/* steps elsewhere, with their bytes by hand */
+static void check_steps(void)
+{
+    static const uint8_t load[] = {0x8b, 0x05, 0, 0, 0, 0};     /* mov eax, [rip] */
+    static const uint8_t call[] = {0xe8, 0xfb, 0x0f, 0, 0};     /* call 0x2000 */
+    static const uint8_t bad[] = {0x06};
+    feddurzai_region region = {0x500000, 128, 0};
+    feddurzai_live live[2];
+    feddurzai_step_report r;
+    uint8_t out[FEDDURZAI_MAX_STEP], image[128];
+    uint64_t place = 0;
+    int32_t len;
+    /* push rax, and jmp 0x1001 */
+    check_step(64, "\x50", 1, 0x2000, "\x50\xe9\xfb\xef\xff\xff", 6, 1);
+    check_step(32, "\x50", 1, 0x2000, "\x50\xe9\xfb\xef\xff\xff", 6, 1);
+    check_step(16, "\x50", 1, 0x2000, "\x50\xe9\xfd\xef", 4, 1);
+    /* jmp to itself: to where it stood */
+    check_step(64, "\xeb\xfe", 2, 0x1080, "\xe9\x7b\xff\xff\xff\xe9\x78\xff\xff\xff", 10, 5);
+    /* loop 0x1010: there it is a loop over a jump, and a jump behind these */
+    check_step(64, "\xe2\x0e", 2, 0x2000, "\xe2\x02\xeb\x05\xe9\x07\xf0\xff\xff\xe9\xf4\xef\xff\xff", 14, 9);
+    /* a call through its address behind the jump back, which also has one */
+    check_step(64, (const char *)call, 5, 0x7f0000000000,
+        "\xff\x15\x0a\0\0\0\xff\x25\x0c\0\0\0\xcc\xcc\xcc\xcc\0\x20\0\0\0\0\0\0\x05\x10\0\0\0\0\0\0", 32, 6);
+    /* an address is taken modulo 2 to the power of bits: jmp 0 behind the last byte of 16-bit code */
+    CHECK(feddurzai_step(16, 0x5ffff, (const uint8_t *)"\x50", 1, 0x10, out, sizeof out, &r), 4);
+    CHECK(out[1] == 0xe9 && out[2] == 0xec && out[3] == 0xff, 1);
+
+    memset(out, 0xaa, sizeof out);
+    CHECK(feddurzai_step(17, 0x1000, call, 5, 0x2000, out, sizeof out, &r), FEDDURZAI_BAD_MODE);
+    CHECK(feddurzai_step(64, 0x1000, bad, 1, 0x2000, out, sizeof out, &r), FEDDURZAI_INVALID);
+    CHECK(feddurzai_step(64, 0x1000, call, 4, 0x2000, out, sizeof out, &r), FEDDURZAI_TOO_SHORT);
+    CHECK(feddurzai_step(16, 0x1000, (const uint8_t *)"\x50", 1, 0xfffe, out, sizeof out, &r), FEDDURZAI_WRAPS);
+    CHECK(r.bytes == 0 && r.back_at == 0 && r.len == 0 && r.address == 0x10002, 1);
+    CHECK(feddurzai_step(16, 0x1000, (const uint8_t *)"\x50", 1, 0x20000, out, sizeof out, &r), FEDDURZAI_WRAPS);
+    CHECK(r.address, 0x20004);
+    CHECK(feddurzai_step(64, 0x1000, load, 6, 0x7f0000000000, out, sizeof out, &r), FEDDURZAI_TOO_FAR);
+    CHECK(r.bytes == 0 && r.address == 0x1006, 1);
+    CHECK(is_untouched(out, sizeof out), 1);
+    CHECK(feddurzai_step_len(17, 0, call, 5, 0), FEDDURZAI_BAD_MODE);
+    CHECK(feddurzai_step_len(64, 0, bad, 1, 0), FEDDURZAI_INVALID);
+    CHECK(feddurzai_step_len(64, 0, call, 4, 0), FEDDURZAI_TOO_SHORT);
+
+    /* a place of a region for as many bytes as it may take, wherever that is */
+    CHECK(feddurzai_region_reserve(&region, live, 2, 1, &place), 0);
+    len = feddurzai_step_len(64, 0x1000, call, 5, region.base);
+    CHECK(len, 32);
+    CHECK(feddurzai_region_reserve(&region, live, 2, (uint64_t)len, &place), 0);
+    CHECK(place, 0x500010);
+    len = feddurzai_step(64, 0x1000, call, 5, place, out, sizeof out, &r);
+    CHECK(len, 10);
+    CHECK(feddurzai_region_fill(&region, live, 2, place, out, (size_t)len, image, sizeof image), 0);
+    CHECK(memcmp(image + 16, "\xe8\xeb\x1f\xb0\xff\xe9\xeb\x0f\xb0\xff\xcc\xcc", 12), 0);
+}
+
 /* each constant is the code of the row that its name says, by the library's own search and notation */
 static void check_codes(void)
 {
@@ -1197,6 +1273,7 @@ int main(void)
     check_shortest_displacements();
     check_blocks();
     check_region();
+    check_steps();
     check_codes();
     check_refusals();
     check_code();

@@ -254,6 +254,55 @@ def placed_in_a_region():
     raised(TypeError, region.fill, first, "nop")
 
 
+def stepped_elsewhere():
+    call = code("e8fb0f0000")
+    # a call and a jump back by hand; the same at an offset of more bytes
+    for given in ((0x1000, call), (0xFFF, b"\x90" + call, 1)):
+        made = f.step(64, given[0], given[1], 0x1800, *given[2:])
+        check(made, f.Step(code("e8fb070000e9fbf7ffff"), 5, 5))
+        check(f.step_len(64, given[0], given[1], 0x1800, *given[2:]), 32)
+    check(f.step(16, 0x5FFFF, b"\x50", 0x10).code, code("50e9ecff"))
+    check(max(f.step_len(64, 0, kind, base) for kind in (call, code("e200")) for base in range(16)) <= f.MAX_STEP, True)
+    refused(f.Reason.BAD_MODE, f.step, 17, 0, call, 0)
+    refused(f.Reason.INVALID, f.step, 64, 0, b"\x06", 0, kind=f.InvalidCode)
+    refused(f.Reason.TOO_SHORT, f.step, 64, 0, b"\xe8", 0, kind=f.TooShort)
+    wraps = refused(f.Reason.WRAPS, f.step, 16, 0x1000, b"\x90", 0xFFFE)
+    check(str(wraps), "the old or the new code passes the address space of the mode: it ends at 0x10002")
+    far = refused(f.Reason.TOO_FAR, f.step, 64, 0x1000, code("8b0500000000"), 0x7F0000000000)
+    check((str(far), far.report.address), ("an instruction cannot reach its target from its new place: target 0x1006", 0x1006))
+    check(pickle.loads(pickle.dumps(far)).report, far.report)
+    refused(f.Reason.BAD_MODE, f.step_len, 17, 0, call, 0)
+    refused(f.Reason.INVALID, f.step_len, 64, 0, b"\x06", 0, kind=f.InvalidCode)
+    refused(f.Reason.TOO_SHORT, f.step_len, 64, 0, b"\xe8", 0, kind=f.TooShort)
+
+    # slots: 16 bytes for a push, 32 for a call; what is finished is free again
+    slots = f.StepSlots(64, 0x10000, 64, 2)
+    check((slots.step(0x1000, b"\x50"), slots.step(0x10FFF, b"\x90" + call, 1)), (0x10000, 0x10010))
+    check([(slot.place, slot.old_ip, slot.step.len) for slot in slots.live], [(0x10000, 0x1000, 1), (0x10010, 0x11000, 5)])
+    check(slots.image, code("50e9fb0fffff") + 10 * b"\xcc" + code("e8eb1f0000e9eb0f0000") + 38 * b"\xcc")
+    refused(f.Reason.NO_ROOM, slots.step, 0x1000, b"\x50")
+    refused(f.Reason.NOT_LIVE, slots.finish, 0x10020)
+    slots.finish(0x10000)
+    refused(f.Reason.FULL, slots.step, 0x1000, call)
+    check([slot.place for slot in slots.live], [0x10010])
+    high = f.StepSlots(64, 0x7F0000000000, 64)
+    refused(f.Reason.TOO_FAR, high.step, 0x1000, code("8b0500000000"))
+    refused(f.Reason.INVALID, high.step, 0x1000, b"\x06", kind=f.InvalidCode)
+    check((high.live, high.image, repr(high)), ([], 64 * b"\xcc", "<StepSlots 0x7f0000000000: 64 bytes, 0 live>"))
+    refused(f.Reason.BAD_MODE, f.StepSlots, 17, 0, 64)
+    refused(f.Reason.BAD_REGION, f.StepSlots, 16, 0xFFF0, 32)
+    refused(f.Reason.BAD_REGION, f.StepSlots, 64, 0, 8)
+
+
+def codes_have_names():
+    check(len(f.Code), 179)
+    check([code for code in f.Code if f.name(code) != code.name.split("_")[0].lower()], [])
+    check(f.Instr(f.Code.RET).encode(64, 0), b"\xc3")
+    check((f.Code.JMP_REL32, f.Code.MOV_RM64_R64), (f.code_of("jmp", "o64 E9 cd"), f.code_of("mov", "REX.W + 89 /r")))
+    check(f.decode(64, 0, b"\xcc").code is f.Code.INT3, False)
+    check(f.decode(64, 0, b"\xcc").code == f.Code.INT3, True)
+
+
 def moved_and_followed():
     # je over 16 bytes, moved beyond the reach of 32 bits: an inverted jump over one through a slot
     moved = f.move(64, 0x1000, code("7410"), 0x7FFF00000000)
@@ -409,6 +458,11 @@ def values_are_looked_at_first():
         (f.flow, (64, -1, b"\x90")),
         (f.flow, (64, 0, b"\x90", -1)),
         (f.flow, (64, 0, b"\x90", [1 << 32])),
+        (f.step, (64, -1, b"\x90", 0)),
+        (f.step, (64, 0, b"\x90", 1 << 64)),
+        (f.step, (64, 0, b"\x90", 0, 2)),
+        (f.step_len, (64, 0, b"\x90", -1)),
+        (f.StepSlots, (64, -1, 64)),
         (f.detour, (64, 0, b"\x90", -1, 0)),
         (f.detour, (64, 0, b"\x90", 0, 1 << 64)),
         (f.detour, (64, 0, b"\x90", 0, 0, -1)),
@@ -432,6 +486,7 @@ def values_are_looked_at_first():
             (f.iterate, (64, 0, None)),
             (f.move, (64, 0, None, 0)),
             (f.flow, (64, 0, None)),
+            (f.step, (64, 0, None, 0)),
             (f.detour, (64, 0, None, 0, 0)),
         ],
         "code is bytes, a bytearray or a memoryview, not int": [(f.decode, (64, 0, 5))],
@@ -509,6 +564,8 @@ for test in (
     jumps_have_forms,
     moved_as_blocks,
     placed_in_a_region,
+    stepped_elsewhere,
+    codes_have_names,
     moved_and_followed,
     hooks_are_made,
     refusals_say_why,

@@ -34,6 +34,7 @@ static feddurzai_region region;
 static feddurzai_live live[2];
 static uint64_t place;
 static feddurzai_detour_report detour;
+static feddurzai_step_report step;
 static uint32_t starts[3], leaders[3];
 static uint8_t kinds[3];
 static const uint32_t firsts[2] = {0, 2};
@@ -55,6 +56,7 @@ static void fill(void)
     memset(live, 0xaa, sizeof live);
     memset(&place, 0xaa, sizeof place);
     memset(&detour, 0xaa, sizeof detour);
+    memset(&step, 0xaa, sizeof step);
     memset(starts, 0xaa, sizeof starts);
     memset(kinds, 0xaa, sizeof kinds);
     memset(leaders, 0xaa, sizeof leaders);
@@ -70,7 +72,7 @@ static int nothing_was_written(void)
         && is_untouched(&report, sizeof report) && is_untouched(map, sizeof map)
         && is_untouched(&blocks_report, sizeof blocks_report) && is_untouched(places, sizeof places)
         && is_untouched(&region, sizeof region) && is_untouched(live, sizeof live) && is_untouched(&place, sizeof place)
-        && is_untouched(&detour, sizeof detour)
+        && is_untouched(&detour, sizeof detour) && is_untouched(&step, sizeof step)
         && is_untouched(starts, sizeof starts) && is_untouched(leaders, sizeof leaders) && is_untouched(kinds, sizeof kinds)
         && is_untouched(&count, sizeof count) && is_untouched(out, sizeof out) && is_untouched(patch, sizeof patch)
         && is_untouched(text, sizeof text);
@@ -165,6 +167,12 @@ static void check_nulls(void)
     CHECK(feddurzai_region_fill(&region, live, 2, 0, NULL, 4, out, sizeof out), FEDDURZAI_NULL);
     CHECK(feddurzai_region_fill(&region, live, 2, 0, code, 4, NULL, sizeof out), FEDDURZAI_NULL);
 
+    CHECK(feddurzai_step(64, 0, NULL, 4, 0x2000, out, sizeof out, &step), FEDDURZAI_NULL);
+    CHECK(feddurzai_step(64, 0, code, 4, 0x2000, NULL, sizeof out, &step), FEDDURZAI_NULL);
+    CHECK(feddurzai_step(64, 0, code, 4, 0x2000, out, sizeof out, NULL), FEDDURZAI_NULL);
+    CHECK(feddurzai_step(64, 0, NULL, 0, 0, NULL, 0, NULL), FEDDURZAI_NULL);
+    CHECK(feddurzai_step_len(64, 0, NULL, 4, 0), FEDDURZAI_NULL);
+
     CHECK(feddurzai_detour(64, 0, NULL, 7, 0x2000, 0x3000, 0, patch, 6, out, sizeof out, &detour), FEDDURZAI_NULL);
     CHECK(feddurzai_detour(64, 0, small, 7, 0x2000, 0x3000, 0, NULL, 6, out, sizeof out, &detour), FEDDURZAI_NULL);
     CHECK(feddurzai_detour(64, 0, small, 7, 0x2000, 0x3000, 0, patch, 6, NULL, sizeof out, &detour), FEDDURZAI_NULL);
@@ -257,6 +265,12 @@ static void check_empty(void)
     CHECK(feddurzai_region_release(&region, NULL, 0, 0), FEDDURZAI_BAD_REGION);
     CHECK(feddurzai_region_fill(&region, NULL, 0, 0, NULL, 0, NULL, 0), FEDDURZAI_BAD_REGION);
     CHECK(nothing_was_written(), 1);
+    CHECK(feddurzai_step(64, 0x1000, mov, 5, 0x2000, NULL, 0, &step), FEDDURZAI_NO_ROOM);
+    CHECK(step.bytes == 10 && step.back_at == 5 && step.address == 0 && step.len == 5, 1);
+    CHECK(feddurzai_step(64, 0x1000, NULL, 0, 0x2000, NULL, 0, &step), FEDDURZAI_TOO_SHORT);
+    CHECK(step.bytes == 0 && step.back_at == 0 && step.address == 0 && step.len == 0, 1);
+    memset(&step, 0xaa, sizeof step);
+    CHECK(feddurzai_step_len(64, 0, NULL, 0, 0), FEDDURZAI_TOO_SHORT);
     CHECK(feddurzai_detour(64, 0x1000, small, 7, 0x2000, 0x3000, 0, NULL, 0, NULL, 0, &detour), FEDDURZAI_NO_ROOM);
     CHECK(detour.taken == 6 && detour.bytes == 11 && detour.jump_back == 6 && detour.form == FEDDURZAI_DETOUR_NEAR, 1);
     CHECK(feddurzai_detour(64, 0x1000, NULL, 0, 0x2000, 0x3000, 0, NULL, 0, NULL, 0, &detour), FEDDURZAI_SMALL);
@@ -308,6 +322,9 @@ static void check_zeros(void)
     CHECK(feddurzai_region_reserve(&region, live, 2, 0, &place), FEDDURZAI_BAD_REGION);
     CHECK(feddurzai_region_release(&region, live, 2, 0), FEDDURZAI_BAD_REGION);
     CHECK(feddurzai_region_fill(&region, live, 2, 0, NULL, 0, out, 0), FEDDURZAI_BAD_REGION);
+    CHECK(feddurzai_step(0, 0, NULL, 0, 0, NULL, 0, &step), FEDDURZAI_BAD_MODE);
+    CHECK(step.bytes == 0 && step.back_at == 0 && step.address == 0 && step.len == 0, 1);
+    CHECK(feddurzai_step_len(0, 0, NULL, 0, 0), FEDDURZAI_BAD_MODE);
     CHECK(feddurzai_detour(0, 0, NULL, 0, 0, 0, 0, NULL, 0, NULL, 0, &detour), FEDDURZAI_BAD_MODE);
     CHECK(detour.taken == 0 && detour.bytes == 0 && detour.jump_back == 0 && detour.at == 0 && detour.target == 0, 1);
 }
@@ -366,6 +383,20 @@ static void check_rooms_of(enum writer writer, const void *want, size_t least, i
     CHECK(memcmp(bytes, want, least), 0);
     CHECK(is_untouched(bytes + least, SPARE), 1);
     free(bytes);
+}
+
+/* the code of a step, in every room up to one more byte than it has: the report always tells how many it has */
+static void check_rooms_of_steps(void)
+{
+    size_t room;
+    for (room = 0; room <= 11; room++) {
+        uint8_t *bytes = room_of(room);
+        int fits = room >= 10;
+        CHECK(feddurzai_step(64, 0x1000, mov, sizeof mov, 0x2000, bytes, room, &step), fits ? 10 : FEDDURZAI_NO_ROOM);
+        CHECK(step.bytes == 10 && step.back_at == 5 && step.len == 5, 1);
+        CHECK(fits ? memcmp(bytes, mov, sizeof mov) == 0 && is_untouched(bytes + 10, room - 10 + SPARE) : is_untouched(bytes, room + SPARE), 1);
+        free(bytes);
+    }
 }
 
 /* both rooms of a call that has two, from none to one more than is wanted of each */
@@ -440,6 +471,7 @@ int main(void)
     check_rooms_of(FEATURE_NAME, "AVX2", 5, 4);
     check_rooms_of(NAME, "mov", 4, 3);
     check_rooms_of(NOTATION, "REX.W + 89 /r", 14, 13);
+    check_rooms_of_steps();
     check_pairs_of_rooms();
     printf("%d answers to NULL, zeros and small rooms, %d wrong\n", tests, failures);
     return failures != 0;

@@ -10,7 +10,8 @@
 
 `decode` reads one instruction and `iterate` all of some bytes; an `Instr` has an address, bytes, operands, a text, what it does (`info`)
 and what it touches (`effects`). `Instr(code, operands..)` makes one, and `encode` writes it. `move` puts code at another address, `flow`
-follows control, and `detour` makes both parts of a hook.
+follows control, `detour` makes both parts of a hook, and `StepSlots` steps instructions elsewhere. `Code` has the codes of common
+instructions.
 
 `bits`, the mode, is 16, 32 or 64; addresses are 0 to 2**64 - 1. A number out of its range is a ValueError and a value of another type a
 TypeError, before anything is called. What the library refuses is a `Refusal`, whose `reason` says why. No function keeps any state: they
@@ -45,9 +46,10 @@ from ._calls import (
     text,
     version,
 )
+from ._codes import Code
 from ._effects import Effects, MemoryUse, RegisterUse
 from ._items import BadByte, Instr, Item, Rest
-from ._native import INTERFACE, MAX_CODE, MAX_FLOW
+from ._native import INTERFACE, MAX_CODE, MAX_FLOW, MAX_STEP
 from ._numbers import (
     Access,
     Cause,
@@ -68,8 +70,9 @@ from ._numbers import (
 )
 from ._offsets import Offsets, Part, offsets
 from ._operands import Far, Immediate, Memory, Near, Operand, Register, register, registers
-from ._refusal import BlocksReport, DetourReport, InvalidCode, MoveReport, Refusal, TooShort
+from ._refusal import BlocksReport, DetourReport, InvalidCode, MoveReport, Refusal, StepReport, TooShort
 from ._region import Live, Region
+from ._steps import Step, StepSlot, StepSlots, step, step_len
 from ._told import About, Use
 
 __all__ = [
@@ -79,6 +82,7 @@ __all__ = [
     "Block",
     "BlocksReport",
     "Cause",
+    "Code",
     "Detour",
     "DetourForm",
     "DetourReport",
@@ -97,6 +101,7 @@ __all__ = [
     "Live",
     "MAX_CODE",
     "MAX_FLOW",
+    "MAX_STEP",
     "Memory",
     "MemoryUse",
     "MoveReport",
@@ -119,6 +124,10 @@ __all__ = [
     "Rest",
     "Segment",
     "Start",
+    "Step",
+    "StepReport",
+    "StepSlot",
+    "StepSlots",
     "Style",
     "TooShort",
     "Touch",
@@ -146,6 +155,8 @@ __all__ = [
     "register",
     "registers",
     "segment_text",
+    "step",
+    "step_len",
     "text",
     "version",
 ]

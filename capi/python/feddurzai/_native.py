@@ -15,6 +15,7 @@ MAX_TEXT = 161
 MAX_CODE = 1 << 20
 MAX_FLOW = 1 << 24
 MAX_MOVED = 1 << 16
+MAX_STEP = 53
 NAME_ROOM = 17
 NOTATION_ROOM = 65
 
@@ -94,5 +95,7 @@ move_blocks = _call(_long, "move_blocks", _u32, _at, _size, _at, _size, _at, _si
 region_reserve = _call(_short, "region_reserve", _at, _at, _size, _u64, _at)
 region_release = _call(_short, "region_release", _at, _at, _size, _u64)
 region_fill = _call(_short, "region_fill", _at, _at, _size, _u64, _at, _size, _at, _size)
+step = _call(_short, "step", _u32, _u64, _at, _size, _u64, _at, _size, _at)
+step_len = _call(_short, "step_len", _u32, _u64, _at, _size, _u64)
 detour = _call(_long, "detour", _u32, _u64, _at, _size, _u64, _u64, _u32, _at, _size, _at, _size, _at)
 flow_from = _call(_long, "flow_from", _u32, _u64, _at, _size, _at, _size, _at, _size, _at, _size, _at, _size)

@@ -103,14 +103,32 @@ class BlocksReport:
     address: int
 
 
-Report = Union[MoveReport, DetourReport, BlocksReport]
+@dataclass(frozen=True)
+class StepReport:
+    """The numbers of the code of a step; feddurzai.h says when each is set.
+
+    >>> try:
+    ...     step(16, 0x1000, b"\\x90", 0xFFFE)
+    ... except Refusal as refusal:
+    ...     print(hex(refusal.report.address))
+    0x10002
+    """
+
+    bytes: int
+    back_at: int
+    address: int
+    len: int
+
+
+Report = Union[MoveReport, DetourReport, BlocksReport, StepReport]
 
 
 class Refusal(Exception):
     """What the library refuses: its `number`, below zero, which is the `reason` or has a `cause`.
 
     `reason` is a `Reason`. Where `encode` finds no encoding it is `Reason.NO_ENCODING`, `cause` is a `Cause`, and `operand` the
-    number of the operand that has it, from 0; both are None else. What `move` and `detour` refuse has a `report`.
+    number of the operand that has it, from 0; both are None else. What `move`, `step` and `detour` refuse has a
+    `report`.
 
     >>> try:
     ...     Instr(code_of("inc", "FE /0"), Immediate(1)).encode(64, 0)
@@ -177,6 +195,8 @@ def _where(reason: Reason, report: Optional[Report]) -> str:
         return ""
     if isinstance(report, BlocksReport):
         return _where_of_blocks(reason, report)
+    if isinstance(report, StepReport):
+        return _where_of_step(reason, report)
     address = report.target if isinstance(report, DetourReport) else report.address
     if reason in _CLASSES or reason is Reason.ENDS:
         return f": at offset {report.at}"
@@ -203,6 +223,15 @@ def _where_of_blocks(reason: Reason, report: BlocksReport) -> str:
         return f": a block ends at {report.address:#x}"
     if reason is Reason.TOO_FAR:
         return f": instruction {report.at} of block {report.block}, target {report.address:#x}"
+    return ""
+
+
+def _where_of_step(reason: Reason, report: StepReport) -> str:
+    """What the report of a step says of a refusal."""
+    if reason is Reason.WRAPS:
+        return f": it ends at {report.address:#x}"
+    if reason is Reason.TOO_FAR:
+        return f": target {report.address:#x}"
     return ""
 
 

@@ -22,7 +22,9 @@ use Rattle.opcode_rows.specs.Reading.{IsRead}
 use Rattle.byte_offsets.specs.declared.layout.Lengths.{Lengths}
 use Rattle.byte_offsets.specs.declared.layout.ByteOffsets.{ByteOffsets}
 use Rattle.byte_offsets.specs.Offsets.{offsets_by, offsets_of, lengths_of, AreOffsets}
+use Rattle.byte_offsets.specs.PartBytes.{HoldParts}
 use Rattle.byte_offsets.specs.Tails.{lengths_in}
+use Rattle.byte_offsets.proofs.PartBytes.{parts-hold}
 use Rattle.byte_offsets.proofs.TailRead.{used_is, lead_is, lengths_right, immediates_of}
 
 -- what the law of the front says
@@ -186,6 +188,7 @@ offsets_right law fit bits ip bytes d reads row row_is state front o found =
       spelled = r.spelled;
       offsets_are = are;
       len_is = ap (λ (x : ByteOffsets). x.len) are ∙ (len_right bits r.row s f ∙ r.len_is);
+      hold = subst (HoldParts bits r.row s bytes) (sym are) (parts-hold bits r.row s bytes (drop d.len bytes) f r.bytes_are);
     }
 
 -- what the law of spellings says

@@ -1,3 +1,4 @@
 pub mod Short
 pub mod TailRead
+pub mod PartBytes
 pub mod FrontRead

@@ -1,2 +1,3 @@
+pub mod PartBytes
 pub mod Offsets
 pub mod Tails

@@ -17,6 +17,7 @@ use Rattle.decoder.specs.Answer.{reading_of}
 use Rattle.byte_offsets.specs.declared.layout.Part.{Part}
 use Rattle.byte_offsets.specs.declared.layout.Lengths.{Lengths}
 use Rattle.byte_offsets.specs.declared.layout.ByteOffsets.{ByteOffsets}
+use Rattle.byte_offsets.specs.PartBytes.{HoldParts}
 
 -- a part at an offset
 abbrev pub part : ℕ → ℕ → Part
@@ -59,7 +60,7 @@ lengths_of row s = record {
 abbrev pub offsets_of : Bits → Row → Spelling → ByteOffsets
 offsets_of bits row s = offsets_by (lengths_of row s) (state_size bits row (state_of bits row s)) row
 
--- the parts are those of the spelling that is read at the front of some bytes
+-- the parts are those of the spelling that is read at the front of some bytes, and the bytes at each part are its own
 pub record AreOffsets (bits : Bits) (ip : ℕ) (bytes : List ℕ) (offsets : ByteOffsets) : Type 0 where
   pub decoded : Decoded
   pub reads : IsRead bits ip bytes (Read decoded)
@@ -69,6 +70,7 @@ pub record AreOffsets (bits : Bits) (ip : ℕ) (bytes : List ℕ) (offsets : Byt
   pub spelled : IsSpelledBy bits (wrapped bits ip) (take decoded.len bytes) decoded.instr row spelling
   pub offsets_are : offsets ≡ offsets_of bits row spelling
   pub len_is : offsets.len ≡ decoded.len
+  pub hold : HoldParts bits row spelling bytes offsets
 
 -- the parts where an instruction is read, else why none is
 abbrev pub IsOffsetsAnswer : Bits → ℕ → List ℕ → Result ByteOffsets DecodeError → Type 0

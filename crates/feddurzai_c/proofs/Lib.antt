@@ -13,5 +13,8 @@ pub mod RegionCalls
 pub mod CodeLengths
 pub mod MovedEnds
 pub mod Widths
+pub mod Failing
+pub mod OneTarget
+pub mod StepAnswers
 pub mod BlockPlaces
 pub mod BlockAnswers

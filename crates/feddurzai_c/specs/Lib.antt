@@ -16,5 +16,7 @@ pub mod FlowFrom
 pub mod Moving
 pub mod Blocks
 pub mod Hooks
+pub mod Steps
+pub mod Failing
 pub mod Regions
 pub mod RegionSearch

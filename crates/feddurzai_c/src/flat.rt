@@ -230,6 +230,20 @@ pub struct FlatDetour {
     pub form: u8,
 }
 
+/// The numbers of the code of a step.
+#[derive(Clone, Copy, PartialEq, Eq, Debug)]
+#[repr(C)]
+pub struct FlatStep {
+    /// How many bytes the code has.
+    pub bytes: u64,
+    /// The offset of its jump back, behind the image of the instruction.
+    pub back_at: u64,
+    /// The target that is not reached, or the end that passes the address space.
+    pub address: u64,
+    /// How many bytes the instruction had.
+    pub len: u8,
+}
+
 /// A fixed range of addresses in which blocks of code find a place.
 #[derive(Clone, Copy, PartialEq, Eq, Debug)]
 #[repr(C)]

@@ -1,7 +1,12 @@
 //! What holds of the structs, whatever is called.
 
-ghost use Rattle.std.specs.Prelude.{◌≡◌, ℕ, ◌-◌, ◌%◌, ◌^◌, ◌<◌, List, length, slice_index_or, Some};
+ghost use Rattle.std.specs.Prelude.{◌≡◌, ℕ, ◌-◌, ◌%◌, ◌^◌, ◌<◌, List, length, slice_get, slice_index_or, Some, Err};
 ghost use Rattle.x86_values.specs.declared.Bits.{Bits};
+ghost use Rattle.x86_values.specs.Wrapping.{wrapped};
+ghost use Rattle.row_types.specs.declared.Row.{Row};
+ghost use Rattle.plain_spelling.specs.declared.NoSpelling.{NoSpelling};
+ghost use Rattle.opcode_rows.specs.Table.{table};
+ghost use Rattle.encoder.specs.Encoding.{encoding};
 ghost use Rattle.branch_sizes.specs.declared.plan.BlockSpan.{BlockSpan};
 ghost use Rattle.branch_sizes.specs.Layout.{span_at};
 ghost use Rattle.move_goals.specs.declared.items.Placed.{Placed};
@@ -14,6 +19,7 @@ ghost use Rattle.feddurzai_c.specs.declared.moved_blocks.CodeBlocks.{CodeBlocks}
 ghost use Rattle.feddurzai_c.specs.declared.moved.Targets.TheVariants.{Follow, Stay};
 ghost use Rattle.feddurzai_c.specs.Moving.{AreMoved};
 ghost use Rattle.feddurzai_c.specs.Blocks.{AreBlocksMoved, no_place};
+ghost use Rattle.feddurzai_c.specs.Failing.{IsFailing};
 ghost use Rattle.feddurzai_c.specs.Flat.{flat_instr};
 ghost use Rattle.feddurzai_c.specs.Back.{instr_back};
 
@@ -36,3 +42,10 @@ pub fn code_ends_with_its_images()
 {
     block_encoder::laws::plans_seat_their_items();
 }
+
+/// The operand that `feddurzai_encode` tells with a cause fails the condition of that cause: it is the first that does. Of an address, a displacement and a
+/// target it is the only one, since no row has two operands that can be memory or a near target.
+pub fn told_operands_fail()
+    ensures { (bits : Bits) (ip : ℕ) (row : Row) (i : Instr) (why : NoSpelling) → slice_get table i.code.0 ≡ Some row → encoding bits ip i ≡ Err why
+        → IsFailing bits (wrapped bits ip) row i why }
+{}

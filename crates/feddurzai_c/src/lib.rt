@@ -34,6 +34,7 @@ mod region;
 mod region_search;
 mod room;
 mod rows;
+mod stepping;
 #[cfg(test)]
 mod tests;
 mod texts;

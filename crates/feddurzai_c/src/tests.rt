@@ -5,7 +5,7 @@ use crate::effects::{feddurzai_effects, feddurzai_feature_name, feddurzai_full_r
 use crate::encoding::{feddurzai_encode, feddurzai_encoded_len};
 use crate::flat::{
     FlatBlock, FlatBlocks, FlatDetour, FlatInfo, FlatInstr, FlatMemoryUse, FlatMove, FlatMoved,
-    FlatOffsets, FlatPart, FlatPlace, FlatTouched, FlatUse,
+    FlatOffsets, FlatPart, FlatPlace, FlatStep, FlatTouched, FlatUse,
 };
 use crate::flatten::ABSENT;
 use crate::flow::feddurzai_flow;
@@ -19,6 +19,7 @@ use crate::moving::{feddurzai_move, feddurzai_move_outside};
 use crate::names::{feddurzai_register_text, feddurzai_segment_text};
 use crate::offsets::feddurzai_offsets;
 use crate::rows::{feddurzai_code_of, feddurzai_name, feddurzai_notation};
+use crate::stepping::{feddurzai_step, feddurzai_step_len};
 use crate::texts::feddurzai_text;
 use std::test::Fail;
 
@@ -441,4 +442,121 @@ fn blocks_are_moved_at_once(rt: HostRuntime) {
     let [first, second] = places;
     assert_eq!(rt; (first.end, first.code_bytes, first.count), (7, 7, 2));
     assert_eq!(rt; (second.end, second.code_bytes, second.count), (12, 5, 1));
+}
+
+// `call 0x2000` at 0x1000, stepped at 0x1800: E8 and the distance, and a jump back to 0x1005; a place from which the call goes through a slot; a jump to
+// itself, which goes back to where it stood.
+#[test]
+fn a_step_is_made(rt: HostRuntime) -> Result<(), Fail> {
+    let call = *b"\xe8\xfb\x0f\0\0";
+    let mut out = [0xaa; 12];
+    let mut report = FlatStep {
+        bytes: 9,
+        back_at: 9,
+        address: 9,
+        len: 9,
+    };
+    let said = feddurzai_step(rt.alloc(), 64, 0x1000, &call, 0x1800, &mut out, &mut report);
+    assert_eq!(rt; said, 10);
+    assert_eq!(rt; out, *b"\xe8\xfb\x07\0\0\xe9\xfb\xf7\xff\xff\xaa\xaa");
+    assert_eq!(rt;
+        (report.bytes, report.back_at, report.address, report.len),
+        (10, 5, 0, 5)
+    );
+    assert_eq!(rt; feddurzai_step_len(64, 0x1000, &call, 0x1800), 32);
+    let mut far = [0xaa; 32];
+    let said = feddurzai_step(
+        rt.alloc(),
+        64,
+        0x1000,
+        &call,
+        0x7f00_0000_0000,
+        &mut far,
+        &mut report,
+    );
+    assert_eq!(rt; said, 32);
+    assert_eq!(rt;
+        far,
+        *b"\xff\x15\x0a\0\0\0\xff\x25\x0c\0\0\0\xcc\xcc\xcc\xcc\0\x20\0\0\0\0\0\0\x05\x10\0\0\0\0\0\0"
+    );
+    assert_eq!(rt; (report.bytes, report.back_at), (32, 6));
+    let said = feddurzai_step(
+        rt.alloc(),
+        64,
+        0x1000,
+        b"\xeb\xfe",
+        0x1080,
+        &mut out,
+        &mut report,
+    );
+    assert_eq!(rt; said, 10);
+    assert_eq!(rt; out, *b"\xe9\x7b\xff\xff\xff\xe9\x78\xff\xff\xff\xaa\xaa");
+    Ok(())
+}
+
+// What is refused of a step leaves the room as it is.
+#[test]
+fn steps_are_refused(rt: HostRuntime) -> Result<(), Fail> {
+    let mut out = [0xaa; 9];
+    let mut report = FlatStep {
+        bytes: 9,
+        back_at: 9,
+        address: 9,
+        len: 9,
+    };
+    let call = *b"\xe8\xfb\x0f\0\0";
+    assert_eq!(rt;
+        feddurzai_step(rt.alloc(), 17, 0x1000, &call, 0x1800, &mut out, &mut report),
+        -1
+    );
+    assert_eq!(rt;
+        feddurzai_step(
+            rt.alloc(),
+            64,
+            0x1000,
+            b"\x06",
+            0x1800,
+            &mut out,
+            &mut report
+        ),
+        -7
+    );
+    assert_eq!(rt;
+        feddurzai_step(rt.alloc(), 64, 0x1000, &[], 0x1800, &mut out, &mut report),
+        -8
+    );
+    // `nop` and a jump of 3 bytes pass the last address of 16-bit code
+    assert_eq!(rt;
+        feddurzai_step(
+            rt.alloc(),
+            16,
+            0x1000,
+            b"\x90",
+            0xfffe,
+            &mut out,
+            &mut report
+        ),
+        -13
+    );
+    assert_eq!(rt; (report.bytes, report.address), (0, 0x10002));
+    // `mov eax, [rip]` cannot reach from there
+    let said = feddurzai_step(
+        rt.alloc(),
+        64,
+        0x1000,
+        b"\x8b\x05\0\0\0\0",
+        0x7f00_0000_0000,
+        &mut out,
+        &mut report,
+    );
+    assert_eq!(rt; (said, report.address), (-14, 0x1006));
+    assert_eq!(rt;
+        feddurzai_step(rt.alloc(), 64, 0x1000, &call, 0x1800, &mut out, &mut report),
+        -6
+    );
+    assert_eq!(rt; (report.bytes, out), (10, [0xaa; 9]));
+    assert_eq!(rt; feddurzai_step_len(17, 0x1000, &call, 0x1800), -1);
+    assert_eq!(rt; feddurzai_step_len(64, 0x1000, b"\x06", 0x1800), -7);
+    assert_eq!(rt; feddurzai_step_len(64, 0x1000, b"\xe8", 0x1800), -8);
+    Ok(())
 }

@@ -4,5 +4,6 @@ pub mod Region
 pub mod Blocks
 pub mod Stepped
 pub mod StepAnswers
+pub mod Stood
 pub mod Slotted
 pub mod Runs

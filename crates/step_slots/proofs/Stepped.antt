@@ -20,7 +20,7 @@ use Rattle.step_slots.specs.Block.{back_address, step_items, step_plan, IsOutOfR
 use Rattle.step_slots.specs.LawsBelow.{LawsBelow}
 use Rattle.step_slots.proofs.JumpBack.{jump-placed, jump-length, jump-reached}
 
-back-below : (bits : Bits) (item : Placed) → back_address bits item < 2 ^ width bits
+pub back-below : (bits : Bits) (item : Placed) → back_address bits item < 2 ^ width bits
 back-below B16 item = omega arith
 back-below B32 item = omega arith
 back-below B64 item = omega arith

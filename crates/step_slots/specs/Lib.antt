@@ -1,4 +1,5 @@
 pub mod Block
+pub mod Standing
 pub mod State
 pub mod Stepping
 pub mod Running

@@ -61,7 +61,7 @@ fn jump_at(bits: Bits, back: u64) -> Placed
 }
 
 /// An instruction, and the jump back to the address behind it.
-fn step_items(bits: Bits, item: Placed) -> [Placed; 2]
+pub(crate) fn step_items(bits: Bits, item: Placed) -> [Placed; 2]
     ensures { result ≡ spec.step_items bits item }
 {
     let back = wrap(bits, u128::from(item.ip) + u128::from(item.len));

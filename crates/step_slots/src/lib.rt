@@ -9,9 +9,11 @@ mod laws_below;
 mod order;
 mod refusals;
 mod slots;
+mod standing;
 
 pub use block_encoder::Placed;
 pub use code_region::{NotTaken, OpenError};
 pub use commands::{StepCommand, StepReply, replay};
 pub use refusals::StepError;
 pub use slots::{StepSlot, StepSlots};
+pub use standing::{StandError, step_at, step_len};

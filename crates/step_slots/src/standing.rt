@@ -1,0 +1,64 @@
+//! The block of an instruction at a place that the caller chooses.
+
+ghost use Rattle.std.specs.Prelude.{◌≡◌, ◌<◌, ◌≤◌, length, IfOk};
+ghost use Rattle.move_goals.specs.Items.{IsPlaced};
+ghost use Rattle.step_slots.specs.Block.{reserved};
+ghost use Rattle.step_slots.specs.Standing.{IsStood, FitsReserved};
+
+use crate::block::step_items;
+use crate::laws_below::laws_below;
+use block_encoder::{MoveError, Moved, Placed, last_len, move_outside};
+use std::alloc::Global;
+use thiserror::Error;
+use x86_values::Bits;
+
+/// Why an instruction has no block at a place.
+#[derive(Clone, Copy, PartialEq, Eq, Debug, Error)]
+pub enum StandError {
+    /// There was not enough memory.
+    #[error("out of memory")]
+    Memory,
+    /// The block would end at this address, which passes the address space of the mode.
+    #[error("the block ends at {end:#x}, past the address space")]
+    Wraps { end: u128 },
+    /// The instruction does not reach its target from the place, which is this address.
+    #[error("cannot reach {target:#x}")]
+    TooFar { target: u64 },
+}
+
+/// The block of an instruction at a place: its moved image there, which keeps its target, and a jump back to the address behind the instruction where it
+/// stood. The jump back is the second of the moved items, so `starts()[1]` is its address.
+///
+/// It is the block that [`StepSlots::step`](crate::StepSlots::step) fills a slot with, for a caller who has places of another kind. The instruction was read, or
+/// could have been written, at its address. Refused, in this order: a block that would end behind the address space of the mode; an instruction that does
+/// not reach its target from there; and at any point where there is no memory.
+pub fn step_at(alloc: Global, bits: Bits, item: Placed, place: u64) -> Result<Moved, StandError>
+    requires { IsPlaced bits item }
+    ensures answer { IsStood bits item place result }
+    ensures starts { IfOk result (λ moved. length moved.starts ≡ 2) }
+    ensures short { IfOk result (λ moved. length moved.bytes ≤ 53) }
+    ensures fits { IfOk result (λ moved. FitsReserved bits item place moved.bytes) }
+{
+    laws_below();
+    let items = step_items(bits, item);
+    match move_outside(alloc, bits, &items, place) {
+        Ok(moved) => Ok(moved),
+        Err(MoveError::Memory) => Err(StandError::Memory),
+        Err(MoveError::Wraps { end }) => Err(StandError::Wraps { end }),
+        Err(MoveError::TooFar { target, .. }) => Err(StandError::TooFar { target }),
+        Err(MoveError::TooMany { .. }) => unreachable!(),
+        Err(MoveError::OldOrder { .. }) => unreachable!(),
+    }
+}
+
+/// How many bytes are reserved for the block of an instruction: the longest that it may have at a place that stands a multiple of 16 bytes behind `base`.
+pub fn step_len(bits: Bits, item: Placed, base: u64) -> u64
+    requires { IsPlaced bits item }
+    ensures value { result ≡ reserved bits base item }
+    ensures some { 0 < result }
+    ensures short { result ≤ 53 }
+{
+    laws_below();
+    let items = step_items(bits, item);
+    last_len(bits, &items, base)
+}
