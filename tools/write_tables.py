@@ -18,8 +18,8 @@ The entries are read once (docs/entries.md says how a line is read) and expanded
   columns   crates/operand_info/src/generated_columns.rt
   nodes     crates/handler_tables/src/generated_nodes.rt
   bare      crates/decoder/src/generated_bare_rows.rt
-  names     crates/name_index/src/generated_buckets.rt
-  operands  crates/name_index/src/generated_operands.rt
+  names     crates/intel_reader/src/generated_buckets.rt
+  operands  crates/intel_reader/src/generated_operands.rt
   effects   crates/instruction_info/src/generated_effects.rt, from the lines in crates/effect_entries/data too (docs/instruction-info.md)
 
 Nothing rests on this program: the crates prove of what it writes what their contracts and laws say, and row_entries compares the entries with the

@@ -1,4 +1,4 @@
-"""The codes of the rows by the buckets of their names, by the rule that crates/name_index/specs/Buckets.antt states."""
+"""The codes of the rows by the buckets of their names, by the rule that crates/intel_reader/specs/Buckets.antt states."""
 from .entries import M64
 from .operand_sets import asks_66, asks_w, plain_size
 from .source import wrapped
@@ -43,4 +43,4 @@ def files(table):
     text = (HEAD + '/// The codes, by bucket and in it by the fewest bytes of their rows.\n' + f'pub static ORDER: [u16; {len(order)}] = [\n' + wrapped(order, '    ', 99) + '];\n\n'
         + '/// Where each bucket begins in `ORDER`, and where the last ends.\n' + f'pub static STARTS: [u16; {len(starts)}] = [\n'
         + wrapped(starts, '    ', 99) + '];\n')
-    return {'name_index/src/generated_buckets.rt': text}
+    return {'intel_reader/src/generated_buckets.rt': text}

@@ -1,4 +1,4 @@
-"""Which operands each row takes, by the classes that crates/name_index/specs/Operands.antt states. That crate proves of each number that it is what
+"""Which operands each row takes, by the classes that crates/intel_reader/specs/Operands.antt states. That crate proves of each number that it is what
 the definitions say."""
 from .entries import BANG, CARET
 from .source import with_commas, wrapped
@@ -101,4 +101,4 @@ def files(table):
     """The file of this stage: where it stands under crates/, and its text."""
     numbers = [f'{flags(row):#x}' for row in table]
     text = HEAD + f'pub static OPERANDS: [u64; {len(numbers)}] = operands! {{\n' + wrapped(with_commas(numbers), '    ') + '};\n'
-    return {'name_index/src/generated_operands.rt': text}
+    return {'intel_reader/src/generated_operands.rt': text}

@@ -15,7 +15,7 @@ use Rattle.opcode_rows.specs.Table.{table, name_of}
 use Rattle.opcode_rows.specs.Allowed.{is_well_formed}
 use Rattle.text_parts.specs.declared.style.Style.TheVariants.{Intel}
 use Rattle.text_parts.specs.PrefixWords.{is_counter_jump, counter_jump, name_text, text_address_size}
-use Rattle.name_index.specs.Buckets.{order}
+use Rattle.intel_reader.specs.Buckets.{order}
 use Rattle.x86_values.specs.declared.Bits.TheVariants.{B16, B32, B64}
 use Rattle.intel_reader.specs.Possible.{is_counter_word}
 use Rattle.text_parts.specs.Layout.{bracket_layout}

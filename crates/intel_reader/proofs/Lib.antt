@@ -1,3 +1,6 @@
+pub mod Complete
+pub mod Flags
+pub mod RowNumbers
 pub mod AddressBack
 pub mod AddressFacts
 pub mod OperandFacts

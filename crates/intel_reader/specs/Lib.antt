@@ -1,3 +1,5 @@
+pub mod Buckets
+pub mod Operands
 pub mod Assembled
 pub mod Candidate
 pub mod Choice

@@ -17,9 +17,9 @@ use Rattle.text_parts.specs.PrefixWords.{counter_jump}
 use Rattle.intel_words.specs.declared.words.IntelWords.{IntelWords}
 use Rattle.intel_words.specs.declared.words.OperandText.{OperandText}
 use Rattle.intel_words.specs.declared.words.OperandText.TheVariants.{Absent, Reg, Number, Far, Mem as Address}
-use Rattle.name_index.specs.declared.operands.OperandClass.{OperandClass}
-use Rattle.name_index.specs.declared.operands.OperandClass.TheVariants as class
-use Rattle.name_index.specs.Operands.{class_of_register, takes, asked_flags}
+use Rattle.intel_reader.specs.declared.operands.OperandClass.{OperandClass}
+use Rattle.intel_reader.specs.declared.operands.OperandClass.TheVariants as class
+use Rattle.intel_reader.specs.Operands.{class_of_register, takes, asked_flags}
 use Rattle.intel_reader.specs.Candidate.{address_from, text_at}
 
 -- ---- the name

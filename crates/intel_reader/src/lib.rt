@@ -9,10 +9,14 @@ ghost use Rattle.opcode_rows.specs.Allowed.{is_well_formed};
 ghost use Rattle.intel_text.specs.Text as printed;
 ghost use Rattle.intel_reader.specs.Assembled.{IsAssembled, AssemblesTo, IsNoText};
 
+mod buckets;
 mod candidate;
 mod choice;
+mod generated_buckets;
+mod generated_operands;
 pub mod laws;
 mod lengths;
+mod operands;
 mod possible;
 
 use arrayvec::ArrayVec;

@@ -1,14 +1,14 @@
 //! Tests of the words of a text before any instruction is made of them: whether a row can have them at all, and with which sizes.
 
 ghost use Rattle.std.specs.Prelude.{◌≡◌, ◌<◌};
-ghost use Rattle.name_index.specs.Operands.{number_of};
+ghost use Rattle.intel_reader.specs.Operands.{number_of};
 ghost use Rattle.intel_reader.specs.Possible as spec;
 
 use crate::candidate::address_from;
+use crate::operands::{OperandClass, asked, class_of_register};
 use instruction_parts::kinds::{Method, method_of_kind};
 use instruction_parts::sizes::has_address_mark;
 use intel_words::words::{IntelWords, OperandText};
-use name_index::operands::{OperandClass, asked, class_of_register};
 use plain_spelling::addresses::{displacement_suits, has_address_size, told_size, written_size};
 use row_fit::tail_fits::kind_at;
 use row_types::Row;

@@ -34,6 +34,11 @@ use Rattle.row_meaning.specs.Meaning.{meaning, little_endian, sign_extended, seg
 use Rattle.plain_spelling.specs.PlainFront.{register_number, is_low_byte_of_rex}
 use Rattle.plain_form.specs.IsPlain.{needs_66, needed_repeat, needed_by, needs_w, rex_is_needed, vex_is_short, l_is_needed, vvvv_is_read, reg_is_read, lone_is_zero, rm_is_read, mode_is_register, has_index, sib_is_needed, scale_is_read, last_byte_is_read, immediates_are_read, meant_operands, only_if, needs_r, needs_x, needs_b, needed_prefixes}
 
+-- one name for all definitions that an example computes with: a proof that unfolds it computes with each of them
+unfoldable every_rule : Unit {0}
+unfolding bytes_of vex_bytes vex_last_byte vex_map_byte lead_bytes tail_bytes front_bytes state_from state_of method_of file_of immediate_width fixed_number is_segment is_legacy_prefix is_prefix has_lock has_66 has_67 counting_repeat segment_named counting_segment counting_rex exists_in operand_size address_size bit_r bit_x bit_b bit_w state_size forbids_vex fits reads_mode reg_number rm_number vvvv_number index_number prefixes_fit legacy_class_fits vex_class_fits class_fits is_vex_of_mode is_opcode opcode_allows opcode_is_kept vex_fits opcode_fits modrm_rule_fits place_allows place_fits opcode_and_modrm_fit size_fits w_fits l_fits sizes_fit vvvv_fits needs_sib is_displacement_alone displacement_bytes address_fits immediate_bytes immediates_bytes lengths_fit is_memory_method lock_fits is_control_number register_fits destination_fits gather_fits nop_fits registers_fit vex_in_range modrm_in_range sib_in_range fields_in_range tail_fits state_fits meaning little_endian sign_extended segment_numbered general_register byte_register vector register_of disp_size_of base_16 index_16 memory_16 ip_or_absolute sib_base sib_index memory_with_sib memory_at_base memory_wide memory_of memory_absolute gather_memory last_byte_number near_target far_pointer memory_operand operand_by immediates_before own_immediate operand_at kept_repeat has_memory kept_address_size instr_of register_number is_low_byte_of_rex needs_66 needed_repeat needed_by needs_w rex_is_needed vex_is_short l_is_needed vvvv_is_read reg_is_read lone_is_zero rm_is_read mode_is_register has_index sib_is_needed scale_is_read last_byte_is_read immediates_are_read
+every_rule = tt
+
 abbrev row : RowKind → Map → Class → ℕ → Size → WBit → LBit → ℕ → OpKind → OpKind → OpKind → ℕ → Row
 row kind map class opcode size w l modes a b c marks = record {
   kind = kind;
@@ -107,95 +112,95 @@ verdict bits row s = fits bits row s ∷ plain bits row s ∷ []
 
 -- 01 C0
 without_prefixes : verdict B64 add (legacy [] 0x01 (modrm 3 0 0) None) ≡ true ∷ true ∷ []
-unfolding bytes_of vex_bytes vex_last_byte vex_map_byte lead_bytes tail_bytes front_bytes state_from state_of method_of file_of immediate_width fixed_number is_segment is_legacy_prefix is_prefix has_lock has_66 has_67 counting_repeat segment_named counting_segment counting_rex exists_in operand_size address_size bit_r bit_x bit_b bit_w state_size forbids_vex fits reads_mode reg_number rm_number vvvv_number index_number prefixes_fit legacy_class_fits vex_class_fits class_fits is_vex_of_mode is_opcode opcode_allows opcode_is_kept vex_fits opcode_fits modrm_rule_fits place_allows place_fits opcode_and_modrm_fit size_fits w_fits l_fits sizes_fit vvvv_fits needs_sib is_displacement_alone displacement_bytes address_fits immediate_bytes immediates_bytes lengths_fit is_memory_method lock_fits is_control_number register_fits destination_fits gather_fits nop_fits registers_fit vex_in_range modrm_in_range sib_in_range fields_in_range tail_fits state_fits meaning little_endian sign_extended segment_numbered general_register byte_register vector register_of disp_size_of base_16 index_16 memory_16 ip_or_absolute sib_base sib_index memory_with_sib memory_at_base memory_wide memory_of memory_absolute gather_memory last_byte_number near_target far_pointer memory_operand operand_by immediates_before own_immediate operand_at kept_repeat has_memory kept_address_size instr_of register_number is_low_byte_of_rex needs_66 needed_repeat needed_by needs_w rex_is_needed vex_is_short l_is_needed vvvv_is_read reg_is_read lone_is_zero rm_is_read mode_is_register has_index sib_is_needed scale_is_read last_byte_is_read immediates_are_read
+unfolding every_rule
 without_prefixes = refl
 
 -- 66 01 C0 in 16-bit mode
 needed_66 : verdict B16 add (legacy (0x66 ∷ []) 0x01 (modrm 3 0 0) None) ≡ true ∷ true ∷ []
-unfolding bytes_of vex_bytes vex_last_byte vex_map_byte lead_bytes tail_bytes front_bytes state_from state_of method_of file_of immediate_width fixed_number is_segment is_legacy_prefix is_prefix has_lock has_66 has_67 counting_repeat segment_named counting_segment counting_rex exists_in operand_size address_size bit_r bit_x bit_b bit_w state_size forbids_vex fits reads_mode reg_number rm_number vvvv_number index_number prefixes_fit legacy_class_fits vex_class_fits class_fits is_vex_of_mode is_opcode opcode_allows opcode_is_kept vex_fits opcode_fits modrm_rule_fits place_allows place_fits opcode_and_modrm_fit size_fits w_fits l_fits sizes_fit vvvv_fits needs_sib is_displacement_alone displacement_bytes address_fits immediate_bytes immediates_bytes lengths_fit is_memory_method lock_fits is_control_number register_fits destination_fits gather_fits nop_fits registers_fit vex_in_range modrm_in_range sib_in_range fields_in_range tail_fits state_fits meaning little_endian sign_extended segment_numbered general_register byte_register vector register_of disp_size_of base_16 index_16 memory_16 ip_or_absolute sib_base sib_index memory_with_sib memory_at_base memory_wide memory_of memory_absolute gather_memory last_byte_number near_target far_pointer memory_operand operand_by immediates_before own_immediate operand_at kept_repeat has_memory kept_address_size instr_of register_number is_low_byte_of_rex needs_66 needed_repeat needed_by needs_w rex_is_needed vex_is_short l_is_needed vvvv_is_read reg_is_read lone_is_zero rm_is_read mode_is_register has_index sib_is_needed scale_is_read last_byte_is_read immediates_are_read
+unfolding every_rule
 needed_66 = refl
 
 -- 66 88 C0
 needless_66 : verdict B64 mov (legacy (0x66 ∷ []) 0x88 (modrm 3 0 0) None) ≡ true ∷ false ∷ []
-unfolding bytes_of vex_bytes vex_last_byte vex_map_byte lead_bytes tail_bytes front_bytes state_from state_of method_of file_of immediate_width fixed_number is_segment is_legacy_prefix is_prefix has_lock has_66 has_67 counting_repeat segment_named counting_segment counting_rex exists_in operand_size address_size bit_r bit_x bit_b bit_w state_size forbids_vex fits reads_mode reg_number rm_number vvvv_number index_number prefixes_fit legacy_class_fits vex_class_fits class_fits is_vex_of_mode is_opcode opcode_allows opcode_is_kept vex_fits opcode_fits modrm_rule_fits place_allows place_fits opcode_and_modrm_fit size_fits w_fits l_fits sizes_fit vvvv_fits needs_sib is_displacement_alone displacement_bytes address_fits immediate_bytes immediates_bytes lengths_fit is_memory_method lock_fits is_control_number register_fits destination_fits gather_fits nop_fits registers_fit vex_in_range modrm_in_range sib_in_range fields_in_range tail_fits state_fits meaning little_endian sign_extended segment_numbered general_register byte_register vector register_of disp_size_of base_16 index_16 memory_16 ip_or_absolute sib_base sib_index memory_with_sib memory_at_base memory_wide memory_of memory_absolute gather_memory last_byte_number near_target far_pointer memory_operand operand_by immediates_before own_immediate operand_at kept_repeat has_memory kept_address_size instr_of register_number is_low_byte_of_rex needs_66 needed_repeat needed_by needs_w rex_is_needed vex_is_short l_is_needed vvvv_is_read reg_is_read lone_is_zero rm_is_read mode_is_register has_index sib_is_needed scale_is_read last_byte_is_read immediates_are_read
+unfolding every_rule
 needless_66 = refl
 
 -- 67 88 C0, which has no address
 needless_67 : verdict B64 mov (legacy (0x67 ∷ []) 0x88 (modrm 3 0 0) None) ≡ true ∷ false ∷ []
-unfolding bytes_of vex_bytes vex_last_byte vex_map_byte lead_bytes tail_bytes front_bytes state_from state_of method_of file_of immediate_width fixed_number is_segment is_legacy_prefix is_prefix has_lock has_66 has_67 counting_repeat segment_named counting_segment counting_rex exists_in operand_size address_size bit_r bit_x bit_b bit_w state_size forbids_vex fits reads_mode reg_number rm_number vvvv_number index_number prefixes_fit legacy_class_fits vex_class_fits class_fits is_vex_of_mode is_opcode opcode_allows opcode_is_kept vex_fits opcode_fits modrm_rule_fits place_allows place_fits opcode_and_modrm_fit size_fits w_fits l_fits sizes_fit vvvv_fits needs_sib is_displacement_alone displacement_bytes address_fits immediate_bytes immediates_bytes lengths_fit is_memory_method lock_fits is_control_number register_fits destination_fits gather_fits nop_fits registers_fit vex_in_range modrm_in_range sib_in_range fields_in_range tail_fits state_fits meaning little_endian sign_extended segment_numbered general_register byte_register vector register_of disp_size_of base_16 index_16 memory_16 ip_or_absolute sib_base sib_index memory_with_sib memory_at_base memory_wide memory_of memory_absolute gather_memory last_byte_number near_target far_pointer memory_operand operand_by immediates_before own_immediate operand_at kept_repeat has_memory kept_address_size instr_of register_number is_low_byte_of_rex needs_66 needed_repeat needed_by needs_w rex_is_needed vex_is_short l_is_needed vvvv_is_read reg_is_read lone_is_zero rm_is_read mode_is_register has_index sib_is_needed scale_is_read last_byte_is_read immediates_are_read
+unfolding every_rule
 needless_67 = refl
 
 -- 67 88 00
 needed_67 : verdict B64 mov (legacy (0x67 ∷ []) 0x88 (modrm 0 0 0) None) ≡ true ∷ true ∷ []
-unfolding bytes_of vex_bytes vex_last_byte vex_map_byte lead_bytes tail_bytes front_bytes state_from state_of method_of file_of immediate_width fixed_number is_segment is_legacy_prefix is_prefix has_lock has_66 has_67 counting_repeat segment_named counting_segment counting_rex exists_in operand_size address_size bit_r bit_x bit_b bit_w state_size forbids_vex fits reads_mode reg_number rm_number vvvv_number index_number prefixes_fit legacy_class_fits vex_class_fits class_fits is_vex_of_mode is_opcode opcode_allows opcode_is_kept vex_fits opcode_fits modrm_rule_fits place_allows place_fits opcode_and_modrm_fit size_fits w_fits l_fits sizes_fit vvvv_fits needs_sib is_displacement_alone displacement_bytes address_fits immediate_bytes immediates_bytes lengths_fit is_memory_method lock_fits is_control_number register_fits destination_fits gather_fits nop_fits registers_fit vex_in_range modrm_in_range sib_in_range fields_in_range tail_fits state_fits meaning little_endian sign_extended segment_numbered general_register byte_register vector register_of disp_size_of base_16 index_16 memory_16 ip_or_absolute sib_base sib_index memory_with_sib memory_at_base memory_wide memory_of memory_absolute gather_memory last_byte_number near_target far_pointer memory_operand operand_by immediates_before own_immediate operand_at kept_repeat has_memory kept_address_size instr_of register_number is_low_byte_of_rex needs_66 needed_repeat needed_by needs_w rex_is_needed vex_is_short l_is_needed vvvv_is_read reg_is_read lone_is_zero rm_is_read mode_is_register has_index sib_is_needed scale_is_read last_byte_is_read immediates_are_read
+unfolding every_rule
 needed_67 = refl
 
 -- 64 F0 01 00
 ascending : verdict B64 add (legacy (0x64 ∷ 0xF0 ∷ []) 0x01 (modrm 0 0 0) None) ≡ true ∷ true ∷ []
-unfolding bytes_of vex_bytes vex_last_byte vex_map_byte lead_bytes tail_bytes front_bytes state_from state_of method_of file_of immediate_width fixed_number is_segment is_legacy_prefix is_prefix has_lock has_66 has_67 counting_repeat segment_named counting_segment counting_rex exists_in operand_size address_size bit_r bit_x bit_b bit_w state_size forbids_vex fits reads_mode reg_number rm_number vvvv_number index_number prefixes_fit legacy_class_fits vex_class_fits class_fits is_vex_of_mode is_opcode opcode_allows opcode_is_kept vex_fits opcode_fits modrm_rule_fits place_allows place_fits opcode_and_modrm_fit size_fits w_fits l_fits sizes_fit vvvv_fits needs_sib is_displacement_alone displacement_bytes address_fits immediate_bytes immediates_bytes lengths_fit is_memory_method lock_fits is_control_number register_fits destination_fits gather_fits nop_fits registers_fit vex_in_range modrm_in_range sib_in_range fields_in_range tail_fits state_fits meaning little_endian sign_extended segment_numbered general_register byte_register vector register_of disp_size_of base_16 index_16 memory_16 ip_or_absolute sib_base sib_index memory_with_sib memory_at_base memory_wide memory_of memory_absolute gather_memory last_byte_number near_target far_pointer memory_operand operand_by immediates_before own_immediate operand_at kept_repeat has_memory kept_address_size instr_of register_number is_low_byte_of_rex needs_66 needed_repeat needed_by needs_w rex_is_needed vex_is_short l_is_needed vvvv_is_read reg_is_read lone_is_zero rm_is_read mode_is_register has_index sib_is_needed scale_is_read last_byte_is_read immediates_are_read
+unfolding every_rule
 ascending = refl
 
 -- F0 64 01 00
 descending : verdict B64 add (legacy (0xF0 ∷ 0x64 ∷ []) 0x01 (modrm 0 0 0) None) ≡ true ∷ false ∷ []
-unfolding bytes_of vex_bytes vex_last_byte vex_map_byte lead_bytes tail_bytes front_bytes state_from state_of method_of file_of immediate_width fixed_number is_segment is_legacy_prefix is_prefix has_lock has_66 has_67 counting_repeat segment_named counting_segment counting_rex exists_in operand_size address_size bit_r bit_x bit_b bit_w state_size forbids_vex fits reads_mode reg_number rm_number vvvv_number index_number prefixes_fit legacy_class_fits vex_class_fits class_fits is_vex_of_mode is_opcode opcode_allows opcode_is_kept vex_fits opcode_fits modrm_rule_fits place_allows place_fits opcode_and_modrm_fit size_fits w_fits l_fits sizes_fit vvvv_fits needs_sib is_displacement_alone displacement_bytes address_fits immediate_bytes immediates_bytes lengths_fit is_memory_method lock_fits is_control_number register_fits destination_fits gather_fits nop_fits registers_fit vex_in_range modrm_in_range sib_in_range fields_in_range tail_fits state_fits meaning little_endian sign_extended segment_numbered general_register byte_register vector register_of disp_size_of base_16 index_16 memory_16 ip_or_absolute sib_base sib_index memory_with_sib memory_at_base memory_wide memory_of memory_absolute gather_memory last_byte_number near_target far_pointer memory_operand operand_by immediates_before own_immediate operand_at kept_repeat has_memory kept_address_size instr_of register_number is_low_byte_of_rex needs_66 needed_repeat needed_by needs_w rex_is_needed vex_is_short l_is_needed vvvv_is_read reg_is_read lone_is_zero rm_is_read mode_is_register has_index sib_is_needed scale_is_read last_byte_is_read immediates_are_read
+unfolding every_rule
 descending = refl
 
 -- F0 F0 01 00
 doubled : verdict B64 add (legacy (0xF0 ∷ 0xF0 ∷ []) 0x01 (modrm 0 0 0) None) ≡ true ∷ false ∷ []
-unfolding bytes_of vex_bytes vex_last_byte vex_map_byte lead_bytes tail_bytes front_bytes state_from state_of method_of file_of immediate_width fixed_number is_segment is_legacy_prefix is_prefix has_lock has_66 has_67 counting_repeat segment_named counting_segment counting_rex exists_in operand_size address_size bit_r bit_x bit_b bit_w state_size forbids_vex fits reads_mode reg_number rm_number vvvv_number index_number prefixes_fit legacy_class_fits vex_class_fits class_fits is_vex_of_mode is_opcode opcode_allows opcode_is_kept vex_fits opcode_fits modrm_rule_fits place_allows place_fits opcode_and_modrm_fit size_fits w_fits l_fits sizes_fit vvvv_fits needs_sib is_displacement_alone displacement_bytes address_fits immediate_bytes immediates_bytes lengths_fit is_memory_method lock_fits is_control_number register_fits destination_fits gather_fits nop_fits registers_fit vex_in_range modrm_in_range sib_in_range fields_in_range tail_fits state_fits meaning little_endian sign_extended segment_numbered general_register byte_register vector register_of disp_size_of base_16 index_16 memory_16 ip_or_absolute sib_base sib_index memory_with_sib memory_at_base memory_wide memory_of memory_absolute gather_memory last_byte_number near_target far_pointer memory_operand operand_by immediates_before own_immediate operand_at kept_repeat has_memory kept_address_size instr_of register_number is_low_byte_of_rex needs_66 needed_repeat needed_by needs_w rex_is_needed vex_is_short l_is_needed vvvv_is_read reg_is_read lone_is_zero rm_is_read mode_is_register has_index sib_is_needed scale_is_read last_byte_is_read immediates_are_read
+unfolding every_rule
 doubled = refl
 
 -- 3E 64 01 00
 outranked_segment : verdict B64 add (legacy (0x3E ∷ 0x64 ∷ []) 0x01 (modrm 0 0 0) None) ≡ true ∷ false ∷ []
-unfolding bytes_of vex_bytes vex_last_byte vex_map_byte lead_bytes tail_bytes front_bytes state_from state_of method_of file_of immediate_width fixed_number is_segment is_legacy_prefix is_prefix has_lock has_66 has_67 counting_repeat segment_named counting_segment counting_rex exists_in operand_size address_size bit_r bit_x bit_b bit_w state_size forbids_vex fits reads_mode reg_number rm_number vvvv_number index_number prefixes_fit legacy_class_fits vex_class_fits class_fits is_vex_of_mode is_opcode opcode_allows opcode_is_kept vex_fits opcode_fits modrm_rule_fits place_allows place_fits opcode_and_modrm_fit size_fits w_fits l_fits sizes_fit vvvv_fits needs_sib is_displacement_alone displacement_bytes address_fits immediate_bytes immediates_bytes lengths_fit is_memory_method lock_fits is_control_number register_fits destination_fits gather_fits nop_fits registers_fit vex_in_range modrm_in_range sib_in_range fields_in_range tail_fits state_fits meaning little_endian sign_extended segment_numbered general_register byte_register vector register_of disp_size_of base_16 index_16 memory_16 ip_or_absolute sib_base sib_index memory_with_sib memory_at_base memory_wide memory_of memory_absolute gather_memory last_byte_number near_target far_pointer memory_operand operand_by immediates_before own_immediate operand_at kept_repeat has_memory kept_address_size instr_of register_number is_low_byte_of_rex needs_66 needed_repeat needed_by needs_w rex_is_needed vex_is_short l_is_needed vvvv_is_read reg_is_read lone_is_zero rm_is_read mode_is_register has_index sib_is_needed scale_is_read last_byte_is_read immediates_are_read
+unfolding every_rule
 outranked_segment = refl
 
 -- 40 88 E0
 rex_of_spl : verdict B64 mov (legacy (0x40 ∷ []) 0x88 (modrm 3 4 0) None) ≡ true ∷ true ∷ []
-unfolding bytes_of vex_bytes vex_last_byte vex_map_byte lead_bytes tail_bytes front_bytes state_from state_of method_of file_of immediate_width fixed_number is_segment is_legacy_prefix is_prefix has_lock has_66 has_67 counting_repeat segment_named counting_segment counting_rex exists_in operand_size address_size bit_r bit_x bit_b bit_w state_size forbids_vex fits reads_mode reg_number rm_number vvvv_number index_number prefixes_fit legacy_class_fits vex_class_fits class_fits is_vex_of_mode is_opcode opcode_allows opcode_is_kept vex_fits opcode_fits modrm_rule_fits place_allows place_fits opcode_and_modrm_fit size_fits w_fits l_fits sizes_fit vvvv_fits needs_sib is_displacement_alone displacement_bytes address_fits immediate_bytes immediates_bytes lengths_fit is_memory_method lock_fits is_control_number register_fits destination_fits gather_fits nop_fits registers_fit vex_in_range modrm_in_range sib_in_range fields_in_range tail_fits state_fits meaning little_endian sign_extended segment_numbered general_register byte_register vector register_of disp_size_of base_16 index_16 memory_16 ip_or_absolute sib_base sib_index memory_with_sib memory_at_base memory_wide memory_of memory_absolute gather_memory last_byte_number near_target far_pointer memory_operand operand_by immediates_before own_immediate operand_at kept_repeat has_memory kept_address_size instr_of register_number is_low_byte_of_rex needs_66 needed_repeat needed_by needs_w rex_is_needed vex_is_short l_is_needed vvvv_is_read reg_is_read lone_is_zero rm_is_read mode_is_register has_index sib_is_needed scale_is_read last_byte_is_read immediates_are_read
+unfolding every_rule
 rex_of_spl = refl
 
 -- 40 88 C0
 rex_alone : verdict B64 mov (legacy (0x40 ∷ []) 0x88 (modrm 3 0 0) None) ≡ true ∷ false ∷ []
-unfolding bytes_of vex_bytes vex_last_byte vex_map_byte lead_bytes tail_bytes front_bytes state_from state_of method_of file_of immediate_width fixed_number is_segment is_legacy_prefix is_prefix has_lock has_66 has_67 counting_repeat segment_named counting_segment counting_rex exists_in operand_size address_size bit_r bit_x bit_b bit_w state_size forbids_vex fits reads_mode reg_number rm_number vvvv_number index_number prefixes_fit legacy_class_fits vex_class_fits class_fits is_vex_of_mode is_opcode opcode_allows opcode_is_kept vex_fits opcode_fits modrm_rule_fits place_allows place_fits opcode_and_modrm_fit size_fits w_fits l_fits sizes_fit vvvv_fits needs_sib is_displacement_alone displacement_bytes address_fits immediate_bytes immediates_bytes lengths_fit is_memory_method lock_fits is_control_number register_fits destination_fits gather_fits nop_fits registers_fit vex_in_range modrm_in_range sib_in_range fields_in_range tail_fits state_fits meaning little_endian sign_extended segment_numbered general_register byte_register vector register_of disp_size_of base_16 index_16 memory_16 ip_or_absolute sib_base sib_index memory_with_sib memory_at_base memory_wide memory_of memory_absolute gather_memory last_byte_number near_target far_pointer memory_operand operand_by immediates_before own_immediate operand_at kept_repeat has_memory kept_address_size instr_of register_number is_low_byte_of_rex needs_66 needed_repeat needed_by needs_w rex_is_needed vex_is_short l_is_needed vvvv_is_read reg_is_read lone_is_zero rm_is_read mode_is_register has_index sib_is_needed scale_is_read last_byte_is_read immediates_are_read
+unfolding every_rule
 rex_alone = refl
 
 -- 42 88 E0, whose X nothing reads
 rex_bit_x : verdict B64 mov (legacy (0x42 ∷ []) 0x88 (modrm 3 4 0) None) ≡ true ∷ false ∷ []
-unfolding bytes_of vex_bytes vex_last_byte vex_map_byte lead_bytes tail_bytes front_bytes state_from state_of method_of file_of immediate_width fixed_number is_segment is_legacy_prefix is_prefix has_lock has_66 has_67 counting_repeat segment_named counting_segment counting_rex exists_in operand_size address_size bit_r bit_x bit_b bit_w state_size forbids_vex fits reads_mode reg_number rm_number vvvv_number index_number prefixes_fit legacy_class_fits vex_class_fits class_fits is_vex_of_mode is_opcode opcode_allows opcode_is_kept vex_fits opcode_fits modrm_rule_fits place_allows place_fits opcode_and_modrm_fit size_fits w_fits l_fits sizes_fit vvvv_fits needs_sib is_displacement_alone displacement_bytes address_fits immediate_bytes immediates_bytes lengths_fit is_memory_method lock_fits is_control_number register_fits destination_fits gather_fits nop_fits registers_fit vex_in_range modrm_in_range sib_in_range fields_in_range tail_fits state_fits meaning little_endian sign_extended segment_numbered general_register byte_register vector register_of disp_size_of base_16 index_16 memory_16 ip_or_absolute sib_base sib_index memory_with_sib memory_at_base memory_wide memory_of memory_absolute gather_memory last_byte_number near_target far_pointer memory_operand operand_by immediates_before own_immediate operand_at kept_repeat has_memory kept_address_size instr_of register_number is_low_byte_of_rex needs_66 needed_repeat needed_by needs_w rex_is_needed vex_is_short l_is_needed vvvv_is_read reg_is_read lone_is_zero rm_is_read mode_is_register has_index sib_is_needed scale_is_read last_byte_is_read immediates_are_read
+unfolding every_rule
 rex_bit_x = refl
 
 -- 41 01 C0
 rex_bit_b : verdict B64 add (legacy (0x41 ∷ []) 0x01 (modrm 3 0 0) None) ≡ true ∷ true ∷ []
-unfolding bytes_of vex_bytes vex_last_byte vex_map_byte lead_bytes tail_bytes front_bytes state_from state_of method_of file_of immediate_width fixed_number is_segment is_legacy_prefix is_prefix has_lock has_66 has_67 counting_repeat segment_named counting_segment counting_rex exists_in operand_size address_size bit_r bit_x bit_b bit_w state_size forbids_vex fits reads_mode reg_number rm_number vvvv_number index_number prefixes_fit legacy_class_fits vex_class_fits class_fits is_vex_of_mode is_opcode opcode_allows opcode_is_kept vex_fits opcode_fits modrm_rule_fits place_allows place_fits opcode_and_modrm_fit size_fits w_fits l_fits sizes_fit vvvv_fits needs_sib is_displacement_alone displacement_bytes address_fits immediate_bytes immediates_bytes lengths_fit is_memory_method lock_fits is_control_number register_fits destination_fits gather_fits nop_fits registers_fit vex_in_range modrm_in_range sib_in_range fields_in_range tail_fits state_fits meaning little_endian sign_extended segment_numbered general_register byte_register vector register_of disp_size_of base_16 index_16 memory_16 ip_or_absolute sib_base sib_index memory_with_sib memory_at_base memory_wide memory_of memory_absolute gather_memory last_byte_number near_target far_pointer memory_operand operand_by immediates_before own_immediate operand_at kept_repeat has_memory kept_address_size instr_of register_number is_low_byte_of_rex needs_66 needed_repeat needed_by needs_w rex_is_needed vex_is_short l_is_needed vvvv_is_read reg_is_read lone_is_zero rm_is_read mode_is_register has_index sib_is_needed scale_is_read last_byte_is_read immediates_are_read
+unfolding every_rule
 rex_bit_b = refl
 
 -- C5 F8 58 C1
 two_bytes_of_vex : verdict B64 vaddps (vex false false false) ≡ true ∷ true ∷ []
-unfolding bytes_of vex_bytes vex_last_byte vex_map_byte lead_bytes tail_bytes front_bytes state_from state_of method_of file_of immediate_width fixed_number is_segment is_legacy_prefix is_prefix has_lock has_66 has_67 counting_repeat segment_named counting_segment counting_rex exists_in operand_size address_size bit_r bit_x bit_b bit_w state_size forbids_vex fits reads_mode reg_number rm_number vvvv_number index_number prefixes_fit legacy_class_fits vex_class_fits class_fits is_vex_of_mode is_opcode opcode_allows opcode_is_kept vex_fits opcode_fits modrm_rule_fits place_allows place_fits opcode_and_modrm_fit size_fits w_fits l_fits sizes_fit vvvv_fits needs_sib is_displacement_alone displacement_bytes address_fits immediate_bytes immediates_bytes lengths_fit is_memory_method lock_fits is_control_number register_fits destination_fits gather_fits nop_fits registers_fit vex_in_range modrm_in_range sib_in_range fields_in_range tail_fits state_fits meaning little_endian sign_extended segment_numbered general_register byte_register vector register_of disp_size_of base_16 index_16 memory_16 ip_or_absolute sib_base sib_index memory_with_sib memory_at_base memory_wide memory_of memory_absolute gather_memory last_byte_number near_target far_pointer memory_operand operand_by immediates_before own_immediate operand_at kept_repeat has_memory kept_address_size instr_of register_number is_low_byte_of_rex needs_66 needed_repeat needed_by needs_w rex_is_needed vex_is_short l_is_needed vvvv_is_read reg_is_read lone_is_zero rm_is_read mode_is_register has_index sib_is_needed scale_is_read last_byte_is_read immediates_are_read
+unfolding every_rule
 two_bytes_of_vex = refl
 
 -- C4 E1 78 58 C1
 three_bytes_of_vex : verdict B64 vaddps (vex true false false) ≡ true ∷ false ∷ []
-unfolding bytes_of vex_bytes vex_last_byte vex_map_byte lead_bytes tail_bytes front_bytes state_from state_of method_of file_of immediate_width fixed_number is_segment is_legacy_prefix is_prefix has_lock has_66 has_67 counting_repeat segment_named counting_segment counting_rex exists_in operand_size address_size bit_r bit_x bit_b bit_w state_size forbids_vex fits reads_mode reg_number rm_number vvvv_number index_number prefixes_fit legacy_class_fits vex_class_fits class_fits is_vex_of_mode is_opcode opcode_allows opcode_is_kept vex_fits opcode_fits modrm_rule_fits place_allows place_fits opcode_and_modrm_fit size_fits w_fits l_fits sizes_fit vvvv_fits needs_sib is_displacement_alone displacement_bytes address_fits immediate_bytes immediates_bytes lengths_fit is_memory_method lock_fits is_control_number register_fits destination_fits gather_fits nop_fits registers_fit vex_in_range modrm_in_range sib_in_range fields_in_range tail_fits state_fits meaning little_endian sign_extended segment_numbered general_register byte_register vector register_of disp_size_of base_16 index_16 memory_16 ip_or_absolute sib_base sib_index memory_with_sib memory_at_base memory_wide memory_of memory_absolute gather_memory last_byte_number near_target far_pointer memory_operand operand_by immediates_before own_immediate operand_at kept_repeat has_memory kept_address_size instr_of register_number is_low_byte_of_rex needs_66 needed_repeat needed_by needs_w rex_is_needed vex_is_short l_is_needed vvvv_is_read reg_is_read lone_is_zero rm_is_read mode_is_register has_index sib_is_needed scale_is_read last_byte_is_read immediates_are_read
+unfolding every_rule
 three_bytes_of_vex = refl
 
 -- C4 E1 F8 58 C1, whose W nothing reads
 w_of_a_vex : verdict B64 vaddps (vex true true false) ≡ true ∷ false ∷ []
-unfolding bytes_of vex_bytes vex_last_byte vex_map_byte lead_bytes tail_bytes front_bytes state_from state_of method_of file_of immediate_width fixed_number is_segment is_legacy_prefix is_prefix has_lock has_66 has_67 counting_repeat segment_named counting_segment counting_rex exists_in operand_size address_size bit_r bit_x bit_b bit_w state_size forbids_vex fits reads_mode reg_number rm_number vvvv_number index_number prefixes_fit legacy_class_fits vex_class_fits class_fits is_vex_of_mode is_opcode opcode_allows opcode_is_kept vex_fits opcode_fits modrm_rule_fits place_allows place_fits opcode_and_modrm_fit size_fits w_fits l_fits sizes_fit vvvv_fits needs_sib is_displacement_alone displacement_bytes address_fits immediate_bytes immediates_bytes lengths_fit is_memory_method lock_fits is_control_number register_fits destination_fits gather_fits nop_fits registers_fit vex_in_range modrm_in_range sib_in_range fields_in_range tail_fits state_fits meaning little_endian sign_extended segment_numbered general_register byte_register vector register_of disp_size_of base_16 index_16 memory_16 ip_or_absolute sib_base sib_index memory_with_sib memory_at_base memory_wide memory_of memory_absolute gather_memory last_byte_number near_target far_pointer memory_operand operand_by immediates_before own_immediate operand_at kept_repeat has_memory kept_address_size instr_of register_number is_low_byte_of_rex needs_66 needed_repeat needed_by needs_w rex_is_needed vex_is_short l_is_needed vvvv_is_read reg_is_read lone_is_zero rm_is_read mode_is_register has_index sib_is_needed scale_is_read last_byte_is_read immediates_are_read
+unfolding every_rule
 w_of_a_vex = refl
 
 -- 01 04 24
 needed_sib : verdict B64 add (legacy [] 0x01 (modrm 0 0 4) (sib 0 4 4)) ≡ true ∷ true ∷ []
-unfolding bytes_of vex_bytes vex_last_byte vex_map_byte lead_bytes tail_bytes front_bytes state_from state_of method_of file_of immediate_width fixed_number is_segment is_legacy_prefix is_prefix has_lock has_66 has_67 counting_repeat segment_named counting_segment counting_rex exists_in operand_size address_size bit_r bit_x bit_b bit_w state_size forbids_vex fits reads_mode reg_number rm_number vvvv_number index_number prefixes_fit legacy_class_fits vex_class_fits class_fits is_vex_of_mode is_opcode opcode_allows opcode_is_kept vex_fits opcode_fits modrm_rule_fits place_allows place_fits opcode_and_modrm_fit size_fits w_fits l_fits sizes_fit vvvv_fits needs_sib is_displacement_alone displacement_bytes address_fits immediate_bytes immediates_bytes lengths_fit is_memory_method lock_fits is_control_number register_fits destination_fits gather_fits nop_fits registers_fit vex_in_range modrm_in_range sib_in_range fields_in_range tail_fits state_fits meaning little_endian sign_extended segment_numbered general_register byte_register vector register_of disp_size_of base_16 index_16 memory_16 ip_or_absolute sib_base sib_index memory_with_sib memory_at_base memory_wide memory_of memory_absolute gather_memory last_byte_number near_target far_pointer memory_operand operand_by immediates_before own_immediate operand_at kept_repeat has_memory kept_address_size instr_of register_number is_low_byte_of_rex needs_66 needed_repeat needed_by needs_w rex_is_needed vex_is_short l_is_needed vvvv_is_read reg_is_read lone_is_zero rm_is_read mode_is_register has_index sib_is_needed scale_is_read last_byte_is_read immediates_are_read
+unfolding every_rule
 needed_sib = refl
 
 -- 01 04 20
 needless_sib : verdict B64 add (legacy [] 0x01 (modrm 0 0 4) (sib 0 4 0)) ≡ true ∷ false ∷ []
-unfolding bytes_of vex_bytes vex_last_byte vex_map_byte lead_bytes tail_bytes front_bytes state_from state_of method_of file_of immediate_width fixed_number is_segment is_legacy_prefix is_prefix has_lock has_66 has_67 counting_repeat segment_named counting_segment counting_rex exists_in operand_size address_size bit_r bit_x bit_b bit_w state_size forbids_vex fits reads_mode reg_number rm_number vvvv_number index_number prefixes_fit legacy_class_fits vex_class_fits class_fits is_vex_of_mode is_opcode opcode_allows opcode_is_kept vex_fits opcode_fits modrm_rule_fits place_allows place_fits opcode_and_modrm_fit size_fits w_fits l_fits sizes_fit vvvv_fits needs_sib is_displacement_alone displacement_bytes address_fits immediate_bytes immediates_bytes lengths_fit is_memory_method lock_fits is_control_number register_fits destination_fits gather_fits nop_fits registers_fit vex_in_range modrm_in_range sib_in_range fields_in_range tail_fits state_fits meaning little_endian sign_extended segment_numbered general_register byte_register vector register_of disp_size_of base_16 index_16 memory_16 ip_or_absolute sib_base sib_index memory_with_sib memory_at_base memory_wide memory_of memory_absolute gather_memory last_byte_number near_target far_pointer memory_operand operand_by immediates_before own_immediate operand_at kept_repeat has_memory kept_address_size instr_of register_number is_low_byte_of_rex needs_66 needed_repeat needed_by needs_w rex_is_needed vex_is_short l_is_needed vvvv_is_read reg_is_read lone_is_zero rm_is_read mode_is_register has_index sib_is_needed scale_is_read last_byte_is_read immediates_are_read
+unfolding every_rule
 needless_sib = refl
 
 -- 01 04 64
 scale_without_index : verdict B64 add (legacy [] 0x01 (modrm 0 0 4) (sib 1 4 4)) ≡ true ∷ false ∷ []
-unfolding bytes_of vex_bytes vex_last_byte vex_map_byte lead_bytes tail_bytes front_bytes state_from state_of method_of file_of immediate_width fixed_number is_segment is_legacy_prefix is_prefix has_lock has_66 has_67 counting_repeat segment_named counting_segment counting_rex exists_in operand_size address_size bit_r bit_x bit_b bit_w state_size forbids_vex fits reads_mode reg_number rm_number vvvv_number index_number prefixes_fit legacy_class_fits vex_class_fits class_fits is_vex_of_mode is_opcode opcode_allows opcode_is_kept vex_fits opcode_fits modrm_rule_fits place_allows place_fits opcode_and_modrm_fit size_fits w_fits l_fits sizes_fit vvvv_fits needs_sib is_displacement_alone displacement_bytes address_fits immediate_bytes immediates_bytes lengths_fit is_memory_method lock_fits is_control_number register_fits destination_fits gather_fits nop_fits registers_fit vex_in_range modrm_in_range sib_in_range fields_in_range tail_fits state_fits meaning little_endian sign_extended segment_numbered general_register byte_register vector register_of disp_size_of base_16 index_16 memory_16 ip_or_absolute sib_base sib_index memory_with_sib memory_at_base memory_wide memory_of memory_absolute gather_memory last_byte_number near_target far_pointer memory_operand operand_by immediates_before own_immediate operand_at kept_repeat has_memory kept_address_size instr_of register_number is_low_byte_of_rex needs_66 needed_repeat needed_by needs_w rex_is_needed vex_is_short l_is_needed vvvv_is_read reg_is_read lone_is_zero rm_is_read mode_is_register has_index sib_is_needed scale_is_read last_byte_is_read immediates_are_read
+unfolding every_rule
 scale_without_index = refl

@@ -3,15 +3,20 @@
 //! It prints how many entries and rows of each file agree, and ends with an error at the first row that is not its entry's.
 #![tactic(auto)]
 
+mod entry;
 mod merging;
+mod rows;
 mod same;
 mod table;
+mod text;
+mod variants;
+mod words;
 
 use anyhow::{Result, bail};
-use entry_lines::rows::{NamedRow, NoRows, Section, add_rows};
 use merging::merged;
 use opcode_rows::{ROWS, name};
 use row_types::RowKind;
+use rows::{NamedRow, NoRows, Section, add_rows};
 use std::alloc::Global;
 use std::fs;
 use std::str::from_utf8;

@@ -2,13 +2,13 @@
 
 ghost use Rattle.std.specs.Prelude.{◌≡◌, ◌<◌, ◌≤◌, ◌↔◌, IsTrue, IsOk, IsNone, map};
 ghost use Rattle.opcode_rows.specs.Table.{name_of};
-ghost use Rattle.entry_lines.specs.Rows.{view};
-ghost use Rattle.entry_lines.specs.Text.{in_small_letters};
+ghost use Rattle.row_entries.specs.Rows.{view};
+ghost use Rattle.row_entries.specs.Text.{in_small_letters};
 ghost use Rattle.row_entries.specs.Table.{IsRowOf, AreRowsFrom, AreRows};
 
+use crate::rows::NamedRow;
 use crate::same::same_row;
-use entry_lines::rows::NamedRow;
-use entry_lines::text::is_small_of;
+use crate::text::is_small_of;
 use opcode_rows::{ROWS, name, row_of};
 use x86_values::Code;
 

@@ -1,3 +1,9 @@
+pub mod Drawing
+pub mod Rows
+pub mod Spelled
+pub mod Aims
+pub mod Drawn
+pub mod Sweeping
 pub mod Listed
 pub mod Reaching
 pub mod Refusing

@@ -7,7 +7,7 @@ use Rattle.text_parts.specs.declared.style.Style.TheVariants.{Intel}
 use Rattle.sweep_text.specs.Listing.{item_line, listing}
 use Rattle.sweep_text.specs.Sweeping.{TakesSome, SweptTo, item_read}
 use Rattle.sweep_text.specs.Facts.{SweptFacts}
-use Rattle.sample_code.specs.Generator.{code_base}
+use Rattle.sample_run.specs.Generator.{code_base}
 
 -- the first items of some code are listed, and what stands behind them is the rest of its sweep
 pub record Listed (bytes : List ℕ) (at text : ℕ) : Type 0 where

@@ -27,7 +27,7 @@ use Rattle.move_layout.specs.Laid.{goal_value, goal_address, slots_of, images_en
 use Rattle.move_layout.specs.Facts.{SlotFacts}
 use Rattle.block_encoder.specs.Moved.{IsReached, seat_reach, first_new_pass}
 use Rattle.block_encoder.specs.Facts.{SeatFacts, ReachFacts}
-use Rattle.sample_code.specs.Made.{IsAimedLow, nowhere, near, by_rip}
+use Rattle.sample_run.specs.Made.{IsAimedLow, nowhere, near, by_rip}
 use Rattle.sample_run.specs.Sample.{moved_base}
 
 -- ---- forms

@@ -20,8 +20,8 @@ use Rattle.moving_run.specs.Code.{IsInstruction, AreSwept, placed_by, placed_in,
 use Rattle.moving_run.specs.Ends.{first_pass}
 use Rattle.moving_run.specs.Moving.{MovesInput, RefusesCode, IsRefusal}
 use Rattle.moving_run.specs.Facts.{InputFacts, PlacedFacts}
-use Rattle.sample_code.specs.Generator.{code_base, code_of}
-use Rattle.sample_code.specs.Made.{IsAimedLow, IsMade, HasInstructions}
+use Rattle.sample_run.specs.Generator.{code_base, code_of}
+use Rattle.sample_run.specs.Made.{IsAimedLow, IsMade, HasInstructions}
 use Rattle.branch_sizes.specs.Facts.{LengthFacts, TotalFacts}
 use Rattle.move_goals.specs.Facts.{FirstFacts, PlanFacts}
 use Rattle.move_layout.specs.Facts.{SlotFacts}

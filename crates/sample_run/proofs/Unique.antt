@@ -16,7 +16,7 @@ use Rattle.move_goals.specs.Plan.{plan_for}
 use Rattle.block_encoder.specs.Bytes.{bytes_of_blocks}
 use Rattle.block_encoder.specs.Moved.{MovedLists, IsMoved}
 use Rattle.moving_run.specs.Code.{placed_in}
-use Rattle.sample_code.specs.Generator.{code_base, code_of}
+use Rattle.sample_run.specs.Generator.{code_base, code_of}
 use Rattle.sample_run.specs.declared.summary.Summary.{Summary}
 use Rattle.sample_run.specs.Sample.{IsSample, moved_base, grown, summary_text}
 

@@ -10,7 +10,7 @@ use Rattle.run_parts.specs.declared.status.Status.{Status}
 use Rattle.run_parts.specs.declared.status.Status.TheVariants.{Memory}
 use Rattle.moving_run.specs.Code.{placed_in}
 use Rattle.moving_run.specs.Moving.{MovesInput, IsRefusal}
-use Rattle.sample_code.specs.Generator.{code_base, code_of}
+use Rattle.sample_run.specs.Generator.{code_base, code_of}
 use Rattle.sample_run.specs.Sample.{moved_base}
 
 -- the block of made code

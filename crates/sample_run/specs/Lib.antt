@@ -1,2 +1,4 @@
+pub mod Generator
+pub mod Made
 pub mod Sample
 pub mod Facts

@@ -18,7 +18,7 @@ use Rattle.byte_ports.specs.Ports.{with_back}
 use Rattle.run_parts.specs.declared.status.Status.{Status}
 use Rattle.run_parts.specs.declared.status.Status.TheVariants.{Done, WriteFault, Memory}
 use Rattle.run_parts.specs.Writing.{HoldsFront}
-use Rattle.sample_code.specs.Generator.{code_base, code_of}
+use Rattle.sample_run.specs.Generator.{code_base, code_of}
 use Rattle.sample_run.specs.declared.summary.Summary.{Summary}
 
 -- the address that made code is moved to

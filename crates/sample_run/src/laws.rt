@@ -1,17 +1,23 @@
 //! What holds of made code, as the contracts of functions that do nothing.
 
-ghost use Rattle.std.specs.Prelude.{◌≡◌, ℕ};
+ghost use Rattle.std.specs.Prelude.{◌≡◌, ◌≤◌, ℕ};
 ghost use Rattle.sample_run.specs.declared.summary.Summary.{Summary};
 ghost use Rattle.sample_run.specs.Sample.{IsSample, summary_text};
 ghost use Rattle.sample_run.specs.Facts.{MadeFacts};
+ghost use Rattle.sample_run.specs.Made.{HasInstructions};
 
 use block_encoder::laws::{items_reach_their_goals, plans_seat_their_items};
 use branch_sizes::laws::{images_are_short, least_is_unique, totals_rise};
 use move_goals::laws::{first_numbers_pass, plans_are_well_formed};
 use move_layout::laws::far_forms_have_slots;
 use moving_run::laws::{inputs_are_read_in_one_way, instructions_are_placed};
-use sample_code::laws::made_code_has_instructions_alone;
 use sweep_text::laws::sweeps_agree;
+
+/// Made code is read as the instructions that were drawn, each with its bytes: nothing else stands in it, and what is aimed at an address by RIP is aimed
+/// at a low one.
+pub fn made_code_has_instructions_alone()
+    ensures { (n : ℕ) → n ≤ 65536 → HasInstructions n }
+{}
 
 /// So many instructions have the same six lines, whenever and wherever they are made.
 pub fn samples_have_one_text()

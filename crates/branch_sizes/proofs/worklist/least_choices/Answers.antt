@@ -1,8 +1,11 @@
-use Rattle.std.proofs.Common.{arith, sym, subst}
+use Rattle.std.proofs.Common.{◌≡◌, ◌≤◌, arith, sym, subst, ◌∙◌}
+use Rattle.std.specs.Prelude.{All}
 use Rattle.std.proofs.lemmas.Bool.{both_ways}
 use Rattle.std.proofs.lemmas.List.{take_at}
 use Rattle.branch_sizes.specs.Plan.{plan_of}
-use Rattle.branch_sizes.specs.Layout.{AreLengths, IsLayout, IsLeast, AtMost}
+use Rattle.branch_sizes.specs.Layout.{first_layout, AreLengths, IsLayout, IsLeast, AtMost}
+use Rattle.branch_sizes.proofs.Growing.{first_is_layout}
+use Rattle.branch_sizes.proofs.Rising.{first_at_most}
 use Rattle.branch_sizes.proofs.worklist.least_choices.Goals as goal
 
 pub passes-preserved : goal.passes-preserved
@@ -29,3 +32,36 @@ returns c =
       least = λ other closed. grown.grows.below other closed
           (subst (λ xs. AtMost xs other) (sym c.deref_mut.ensures.value) (c.passes.invariant.least other closed));
     })
+
+pub places-requires-clause-layout : goal.places-requires-clause-layout
+places-requires-clause-layout c =
+    let p = plan_of c.args.spans.now c.args.items.now in
+    subst (IsLayout p) (sym (c.deref.ensures.value ∙ c.in_ok-layout.ensures.items_if_clones_equal (λ y e. e))) (first_is_layout p c.requires)
+
+pub make-requires-clause-few : goal.make-requires-clause-few
+make-requires-clause-few c =
+    omega (arith, c.deref-2.ensures.len, c.in_ok-lengths.ensures.lengths.len, c.requires.few_items)
+
+pub make-requires-clause-lengths : goal.make-requires-clause-lengths
+make-requires-clause-lengths c =
+    subst (λ xs. All (λ n. (1 ≤ n) × (n ≤ 15)) xs) (sym c.deref-2.ensures.value) c.in_ok-lengths.ensures.fit
+
+pub passes-init : goal.passes-init
+passes-init c =
+    let p = plan_of c.args.spans.now c.args.items.now in
+    let is : c.in_ok-layout.layout.items ≡ first_layout p = c.in_ok-layout.ensures.items_if_clones_equal (λ y e. e) in
+    let same : c.in_ok-sums.sums ≡ c.in_ok-lengths.lengths.items = c.in_ok-sums.ensures ∙ c.deref-2.ensures.value in
+    record {
+      lengths = subst (λ xs. AreLengths p xs c.in_ok-sums.sums) (sym is)
+          (subst (AreLengths p (first_layout p)) (sym same) c.in_ok-lengths.ensures.lengths);
+      is_layout = subst (IsLayout p) (sym is) (first_is_layout p c.requires);
+      least = λ other closed. subst (λ xs. AtMost xs other) (sym is) (first_at_most p other);
+    }
+
+pub pass-requires-clause-layout : goal.pass-requires-clause-layout
+pass-requires-clause-layout c =
+    subst (IsLayout (plan_of c.args.spans.now c.args.items.now)) (sym c.deref_mut.ensures.value) c.passes.invariant.is_layout
+
+pub pass-requires-clause-lengths : goal.pass-requires-clause-lengths
+pass-requires-clause-lengths c =
+    subst (λ xs. AreLengths (plan_of c.args.spans.now c.args.items.now) xs c.passes.sums) (sym c.deref_mut.ensures.value) c.passes.invariant.lengths

@@ -1,5 +1,5 @@
 use Rattle.std.proofs.Common.{◌≡◌, ◌<◌, ◌≤◌, ℕ, Some, slice_get}
-use Rattle.name_index.specs.Buckets.{order}
+use Rattle.intel_reader.specs.Buckets.{order}
 use Rattle.intel_reader.specs.Assembled.{Assembly, IsCandidate}
 use Rattle.intel_reader.specs.Choice.{Leads, IsProgress}
 use Rattle.intel_reader.proofs.choice.with_name.Given as goal

@@ -4,8 +4,8 @@ use Rattle.moving_run.specs.Code.{placed_in}
 use Rattle.sample_run.specs.Sample.{grown}
 use Rattle.opcode_rows.specs.Sweep.{IsSweep}
 use Rattle.x86_values.specs.declared.Bits.TheVariants.{B64}
-use Rattle.sample_code.specs.Generator.{code_base, code_of}
-use Rattle.sample_code.specs.Made.{HasInstructions}
+use Rattle.sample_run.specs.Generator.{code_base, code_of}
+use Rattle.sample_run.specs.Made.{HasInstructions}
 use Rattle.moving_run.specs.Moving.{IsRefusal, MovesInput}
 use Rattle.sample_run.specs.Facts.{made_block}
 use Rattle.sample_run.proofs.summary.summarize.Goals as goal

@@ -1,6 +1,0 @@
--- Each call goes on behind the first.
-use Rattle.std.proofs.Common.{length}
-use Rattle.entry_lines.proofs.rows.+add_rows.Given as goal
-
-abbrev pub decreases-add_rows : goal.decreases-add_rows
-decreases-add_rows l = length l.text.now

@@ -1,6 +1,0 @@
--- Each call goes on behind the first.
-use Rattle.std.proofs.Common.{length}
-use Rattle.entry_lines.proofs.rows.+add_rows_at.Given as goal
-
-abbrev pub decreases-add_rows_at : goal.decreases-add_rows_at
-decreases-add_rows_at l = length l.variants.now

@@ -1,6 +1,0 @@
--- Each call goes on behind the first byte.
-use Rattle.std.proofs.Common.{length}
-use Rattle.entry_lines.proofs.text.+behind.Given as goal
-
-abbrev pub decreases-behind : goal.decreases-behind
-decreases-behind l = length l.text.now

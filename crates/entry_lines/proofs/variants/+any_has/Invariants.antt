@@ -1,6 +1,0 @@
--- Each call goes on behind the first kind.
-use Rattle.std.proofs.Common.{length}
-use Rattle.entry_lines.proofs.variants.+any_has.Given as goal
-
-abbrev pub decreases-any_has : goal.decreases-any_has
-decreases-any_has l = length l.kinds.now

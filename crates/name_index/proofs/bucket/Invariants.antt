@@ -1,6 +1,0 @@
-use Rattle.std.proofs.Common.{◌≡◌, ◌<◌, drop}
-use Rattle.name_index.specs.Buckets.{bucket_from}
-use Rattle.name_index.proofs.bucket.Given as goal
-
-abbrev pub invariant-loop-byte : goal.invariant-loop-byte
-invariant-loop-byte l = (l.bucket < 1024) × (bucket_from l.bucket (drop l.byte-index l.name) ≡ bucket_from 0 l.name)

@@ -1,7 +1,0 @@
-use Rattle.std.proofs.lemmas.Option.{slice_get-get_or}
-use Rattle.name_index.specs.Operands.{row_numbers}
-use Rattle.name_index.proofs.operands.flags_of.Goals as goal
-
-pub returns : goal.returns
-unfolding row_numbers
-returns c = slice_get-get_or row_numbers c.args.code.0 _ c.requires

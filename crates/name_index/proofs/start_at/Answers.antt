@@ -1,7 +1,0 @@
-use Rattle.std.proofs.lemmas.Option.{slice_get-get_or}
-use Rattle.name_index.specs.Buckets.{starts}
-use Rattle.name_index.proofs.start_at.Goals as goal
-
-pub returns : goal.returns
-unfolding starts
-returns c = slice_get-get_or starts c.args.bucket _ c.requires

@@ -1,0 +1,121 @@
+-- The rows of the instructions that are drawn.
+use Rattle.std.proofs.Common.{◌≡◌, ℕ, [], ◌∷◌, refl, slice_get}
+use Rattle.std.specs.Prelude.{Some}
+use Rattle.row_types.specs.declared.Row.{Row}
+use Rattle.row_types.specs.declared.RowKind.TheVariants.{Legacy, Vex}
+use Rattle.row_types.specs.declared.Map.TheVariants.{One, M0f}
+use Rattle.row_types.specs.declared.Class.{Class}
+use Rattle.row_types.specs.declared.Class.TheVariants.{Any as AnyClass, Np, Nf3}
+use Rattle.row_types.specs.declared.Plus.{Plus}
+use Rattle.row_types.specs.declared.Plus.TheVariants.{No as NoPlus, Register as PlusRegister}
+use Rattle.row_types.specs.declared.ModRmRule.{ModRmRule}
+use Rattle.row_types.specs.declared.ModRmRule.TheVariants.{No as NoModRm, Any as AnyModRm}
+use Rattle.row_types.specs.declared.Place.TheVariants.{Any as AnyPlace}
+use Rattle.row_types.specs.declared.Size.{Size}
+use Rattle.row_types.specs.declared.Size.TheVariants.{None as NoSize, O32, O64}
+use Rattle.row_types.specs.declared.WBit.TheVariants.{None as NoW, Wig}
+use Rattle.row_types.specs.declared.LBit.TheVariants.{None as NoL, L128}
+use Rattle.row_types.specs.declared.OpKind.{OpKind}
+use Rattle.row_types.specs.declared.OpKind.TheVariants.{Absent, Ev, Gv, Zv, Iv, Jb, Jz, Vx, Hx, Wx}
+use Rattle.rows_integer.specs.Table.{table as integer_rows, flat_rows as integer_flat}
+use Rattle.rows_x87.specs.Table.{table as x87_rows, flat_rows as x87_flat}
+use Rattle.rows_sse.specs.Table.{table as sse_rows, flat_rows as sse_flat}
+use Rattle.rows_vex.specs.Table.{table as vex_rows, flat_rows as vex_flat}
+use Rattle.opcode_rows.specs.Table.{spots, rows_in, table}
+
+-- a legacy row of the one-byte map
+abbrev one_byte : Class → ℕ → Plus → ModRmRule → Size → ℕ → OpKind → OpKind → ℕ → Row
+one_byte class opcode plus modrm size modes first second marks = record {
+  kind = Legacy;
+  map = One;
+  class = class;
+  opcode = opcode;
+  plus = plus;
+  modrm = modrm;
+  place = AnyPlace;
+  size = size;
+  w = NoW;
+  l = NoL;
+  modes = record { 0 = modes };
+  ops = first ∷ second ∷ Absent ∷ Absent ∷ [];
+  marks = record { 0 = marks };
+}
+
+-- NOP
+abbrev pub nop_row : Row
+nop_row = one_byte Nf3 0x90 NoPlus NoModRm NoSize 7 Absent Absent 0
+
+-- MOV r/m64, r64
+abbrev pub store_row : Row
+store_row = one_byte AnyClass 0x89 NoPlus AnyModRm O64 4 Ev Gv 0
+
+-- MOV r32, imm32
+abbrev pub number_row : Row
+number_row = one_byte AnyClass 0xB8 PlusRegister NoModRm O32 7 Zv Iv 0
+
+-- MOV r32, r/m32
+abbrev pub load_row : Row
+load_row = one_byte AnyClass 0x8B NoPlus AnyModRm O32 7 Gv Ev 0
+
+-- JNE rel8
+abbrev pub branch_row : Row
+branch_row = one_byte AnyClass 0x75 NoPlus NoModRm O64 4 Jb Absent 20
+
+-- CALL rel32
+abbrev pub call_row : Row
+call_row = one_byte AnyClass 0xE8 NoPlus NoModRm O64 4 Jz Absent 20
+
+-- MOV r64, r/m64
+abbrev pub wide_load_row : Row
+wide_load_row = one_byte AnyClass 0x8B NoPlus AnyModRm O64 4 Gv Ev 0
+
+-- VADDPS xmm, xmm, xmm/m128
+abbrev pub add_row : Row
+add_row = record {
+  kind = Vex;
+  map = M0f;
+  class = Np;
+  opcode = 0x58;
+  plus = NoPlus;
+  modrm = AnyModRm;
+  place = AnyPlace;
+  size = NoSize;
+  w = Wig;
+  l = L128;
+  modes = record { 0 = 7 };
+  ops = Vx ∷ Hx ∷ Wx ∷ Absent ∷ [];
+  marks = record { 0 = 0 };
+}
+
+rows_are : slice_get table 290 ∷ slice_get table 275 ∷ slice_get table 346 ∷ slice_get table 278
+    ∷ slice_get table 169 ∷ slice_get table 623 ∷ slice_get table 279 ∷ slice_get table 1496 ∷ []
+    ≡ Some nop_row ∷ Some store_row ∷ Some number_row ∷ Some load_row
+    ∷ Some branch_row ∷ Some call_row ∷ Some wide_load_row ∷ Some add_row ∷ []
+unfolding table rows_in spots integer_rows integer_flat x87_rows x87_flat sse_rows sse_flat vex_rows vex_flat
+rows_are = refl
+
+-- ---- each stands in the table at its code
+
+pub at-nop : slice_get table 290 ≡ Some nop_row
+at-nop = let h = rows_are in cc
+
+pub at-store : slice_get table 275 ≡ Some store_row
+at-store = let h = rows_are in cc
+
+pub at-number : slice_get table 346 ≡ Some number_row
+at-number = let h = rows_are in cc
+
+pub at-load : slice_get table 278 ≡ Some load_row
+at-load = let h = rows_are in cc
+
+pub at-branch : slice_get table 169 ≡ Some branch_row
+at-branch = let h = rows_are in cc
+
+pub at-call : slice_get table 623 ≡ Some call_row
+at-call = let h = rows_are in cc
+
+pub at-wide_load : slice_get table 279 ≡ Some wide_load_row
+at-wide_load = let h = rows_are in cc
+
+pub at-add : slice_get table 1496 ≡ Some add_row
+at-add = let h = rows_are in cc
