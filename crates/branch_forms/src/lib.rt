@@ -5,6 +5,7 @@
 mod branch;
 mod choices;
 mod form_lengths;
+mod generated_codes;
 mod image;
 pub mod laws;
 mod laws_below;
