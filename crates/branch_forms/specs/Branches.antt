@@ -41,7 +41,7 @@ branch_in row =
       | _ ↦ None
     ]
 
--- the same of a row that may be absent
+-- the relative branch of a row that may be absent
 abbrev pub branch_by : Option Row → Option RelativeBranch
 branch_by None = None
 branch_by (Some row) = branch_in row
