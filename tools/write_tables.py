@@ -5,7 +5,7 @@ import os
 import sys
 
 sys.dont_write_bytecode = True
-from tables import bare, columns, effects, name_buckets, nodes, operand_sets, row_files  # noqa: E402
+from tables import bare, branches, columns, effects, name_buckets, nodes, operand_sets, row_files  # noqa: E402
 from tables.entries import BadEntry, read_all  # noqa: E402
 from tables.rows import table_of  # noqa: E402
 
@@ -20,6 +20,7 @@ The entries are read once (docs/entries.md says how a line is read) and expanded
   bare      crates/decoder/src/generated_bare_rows.rt
   names     crates/intel_reader/src/generated_buckets.rt
   operands  crates/intel_reader/src/generated_operands.rt
+  branches  crates/branch_forms/src/generated_codes.rt
   effects   crates/instruction_info/src/generated_effects.rt, from the lines in crates/effect_entries/data too (docs/instruction-info.md)
 
 Nothing rests on this program: the crates prove of what it writes what their contracts and laws say, and row_entries compares the entries with the
@@ -41,7 +42,7 @@ def main():
     check = parser.parse_args().check
     try:
         table = table_of(read_all())
-        files = {path: text for stage in (row_files, columns, nodes, bare, name_buckets, operand_sets, effects) for path, text in stage.files(table).items()}
+        files = {path: text for stage in (row_files, columns, nodes, bare, name_buckets, operand_sets, branches, effects) for path, text in stage.files(table).items()}
     except BadEntry as bad:
         print(bad, file=sys.stderr)
         return 2

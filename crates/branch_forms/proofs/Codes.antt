@@ -14,6 +14,7 @@ use Rattle.rows_sse.specs.Table.{table as sse_rows, flat_rows as sse_flat}
 use Rattle.rows_vex.specs.Table.{table as vex_rows, flat_rows as vex_flat}
 use Rattle.opcode_rows.specs.Table.{spots, rows_in, table}
 use Rattle.branch_forms.specs.declared.branch.Action.TheVariants.{Jump, Call, Condition, Count}
+use Rattle.branch_forms.specs.declared.generated_codes.TheConstants.{JMP_REL8, JMP_REL16, CALL_REL16, JO_REL8, JO_REL16, LOOPNE_REL8, JMP_RM64, CALL_RM64}
 use Rattle.branch_forms.specs.Branches.{size_number, short_code, near_code, far_code}
 use Rattle.branch_forms.specs.Rows.{offset_row, memory_row}
 
@@ -90,31 +91,31 @@ row-of-size first count map opcode kind marks h n size fits =
 
 -- ---- the rows of the table
 
-short_conditions : rows_behind 152 48 table ≡ branch_rows One 0x70 Jb 20 48
+short_conditions : rows_behind JO_REL8 48 table ≡ branch_rows One 0x70 Jb 20 48
 unfolding rows_behind branch_rows listed table rows_in spots integer_rows integer_flat x87_rows x87_flat sse_rows sse_flat vex_rows vex_flat
 short_conditions = refl
 
-near_conditions : rows_behind 992 48 table ≡ branch_rows M0f 0x80 Jz 20 48
+near_conditions : rows_behind JO_REL16 48 table ≡ branch_rows M0f 0x80 Jz 20 48
 unfolding rows_behind branch_rows listed table rows_in spots integer_rows integer_flat x87_rows x87_flat sse_rows sse_flat vex_rows vex_flat
 near_conditions = refl
 
-counts : rows_behind 603 12 table ≡ branch_rows One 0xE0 Jb 22 12
+counts : rows_behind LOOPNE_REL8 12 table ≡ branch_rows One 0xE0 Jb 22 12
 unfolding rows_behind branch_rows listed table rows_in spots integer_rows integer_flat x87_rows x87_flat sse_rows sse_flat vex_rows vex_flat
 counts = refl
 
-near_calls : rows_behind 621 3 table ≡ branch_rows One 0xE8 Jz 20 3
+near_calls : rows_behind CALL_REL16 3 table ≡ branch_rows One 0xE8 Jz 20 3
 unfolding rows_behind branch_rows listed table rows_in spots integer_rows integer_flat x87_rows x87_flat sse_rows sse_flat vex_rows vex_flat
 near_calls = refl
 
-near_jumps : rows_behind 624 3 table ≡ branch_rows One 0xE9 Jz 20 3
+near_jumps : rows_behind JMP_REL16 3 table ≡ branch_rows One 0xE9 Jz 20 3
 unfolding rows_behind branch_rows listed table rows_in spots integer_rows integer_flat x87_rows x87_flat sse_rows sse_flat vex_rows vex_flat
 near_jumps = refl
 
-short_jumps : rows_behind 629 3 table ≡ branch_rows One 0xEB Jb 20 3
+short_jumps : rows_behind JMP_REL8 3 table ≡ branch_rows One 0xEB Jb 20 3
 unfolding rows_behind branch_rows listed table rows_in spots integer_rows integer_flat x87_rows x87_flat sse_rows sse_flat vex_rows vex_flat
 short_jumps = refl
 
-through_memory : slice_get table 685 ∷ slice_get table 691 ∷ [] ≡ Some (memory_row 2) ∷ Some (memory_row 4) ∷ []
+through_memory : slice_get table CALL_RM64 ∷ slice_get table JMP_RM64 ∷ [] ≡ Some (memory_row 2) ∷ Some (memory_row 4) ∷ []
 unfolding table rows_in spots integer_rows integer_flat x87_rows x87_flat sse_rows sse_flat vex_rows vex_flat
 through_memory = refl
 
@@ -122,27 +123,27 @@ through_memory = refl
 
 pub short-jump : (size : Bits) → slice_get table (short_code Jump size) ≡ Some (offset_row One 0xEB Jb 20 size)
 unfolding short_code
-short-jump size = row-of-size 629 3 One 0xEB Jb 20 short_jumps 0 size (omega arith)
+short-jump size = row-of-size JMP_REL8 3 One 0xEB Jb 20 short_jumps 0 size (omega arith)
 
 pub short-condition : (n : ℕ) (size : Bits) → n < 16 → slice_get table (short_code (Condition n) size) ≡ Some (offset_row One (0x70 + n) Jb 20 size)
 unfolding short_code
-short-condition n size lt = row-of-size 152 48 One 0x70 Jb 20 short_conditions n size (omega arith)
+short-condition n size lt = row-of-size JO_REL8 48 One 0x70 Jb 20 short_conditions n size (omega arith)
 
 pub short-count : (n : ℕ) (size : Bits) → n < 4 → slice_get table (short_code (Count n) size) ≡ Some (offset_row One (0xE0 + n) Jb 22 size)
 unfolding short_code
-short-count n size lt = row-of-size 603 12 One 0xE0 Jb 22 counts n size (omega arith)
+short-count n size lt = row-of-size LOOPNE_REL8 12 One 0xE0 Jb 22 counts n size (omega arith)
 
 pub near-jump : (size : Bits) → slice_get table (near_code Jump size) ≡ Some (offset_row One 0xE9 Jz 20 size)
 unfolding near_code
-near-jump size = row-of-size 624 3 One 0xE9 Jz 20 near_jumps 0 size (omega arith)
+near-jump size = row-of-size JMP_REL16 3 One 0xE9 Jz 20 near_jumps 0 size (omega arith)
 
 pub near-call : (size : Bits) → slice_get table (near_code Call size) ≡ Some (offset_row One 0xE8 Jz 20 size)
 unfolding near_code
-near-call size = row-of-size 621 3 One 0xE8 Jz 20 near_calls 0 size (omega arith)
+near-call size = row-of-size CALL_REL16 3 One 0xE8 Jz 20 near_calls 0 size (omega arith)
 
 pub near-condition : (n : ℕ) (size : Bits) → n < 16 → slice_get table (near_code (Condition n) size) ≡ Some (offset_row M0f (0x80 + n) Jz 20 size)
 unfolding near_code
-near-condition n size lt = row-of-size 992 48 M0f 0x80 Jz 20 near_conditions n size (omega arith)
+near-condition n size lt = row-of-size JO_REL16 48 M0f 0x80 Jz 20 near_conditions n size (omega arith)
 
 pub far-call : slice_get table (far_code Call) ≡ Some (memory_row 2)
 unfolding far_code

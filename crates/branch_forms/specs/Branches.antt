@@ -14,6 +14,7 @@ use Rattle.operand_info.specs.Operands.{near_value, first_value}
 use Rattle.branch_forms.specs.declared.branch.Action.{Action}
 use Rattle.branch_forms.specs.declared.branch.Action.TheVariants.{Jump, Call, Condition, Count}
 use Rattle.branch_forms.specs.declared.branch.RelativeBranch.{RelativeBranch}
+use Rattle.branch_forms.specs.declared.generated_codes.TheConstants.{JMP_REL8, JMP_REL16, CALL_REL16, JO_REL8, JO_REL16, LOOPNE_REL8, JMP_RM64, CALL_RM64}
 
 -- ---- which instructions are relative branches
 
@@ -40,7 +41,7 @@ branch_in row =
       | _ ↦ None
     ]
 
--- the same of a row that may be absent
+-- the relative branch of a row that may be absent
 abbrev pub branch_by : Option Row → Option RelativeBranch
 branch_by None = None
 branch_by (Some row) = branch_in row
@@ -73,17 +74,17 @@ size_number B64 = 2
 
 -- the code of the branch with an offset of 8 bits; a CALL has none, and its own code stands for it
 unfoldable pub short_code : Action → Bits → ℕ
-short_code Jump size = 629 + size_number size
-short_code Call size = 621 + size_number size
-short_code (Condition n) size = 152 + 3 * n + size_number size
-short_code (Count n) size = 603 + 3 * n + size_number size
+short_code Jump size = JMP_REL8 + size_number size
+short_code Call size = CALL_REL16 + size_number size
+short_code (Condition n) size = JO_REL8 + 3 * n + size_number size
+short_code (Count n) size = LOOPNE_REL8 + 3 * n + size_number size
 
 -- the code of the branch with an offset of 16 or 32 bits; a branch on a counter has none, and that of JMP stands for it
 unfoldable pub near_code : Action → Bits → ℕ
-near_code Jump size = 624 + size_number size
-near_code Call size = 621 + size_number size
-near_code (Condition n) size = 992 + 3 * n + size_number size
-near_code (Count n) size = 624 + size_number size
+near_code Jump size = JMP_REL16 + size_number size
+near_code Call size = CALL_REL16 + size_number size
+near_code (Condition n) size = JO_REL16 + 3 * n + size_number size
+near_code (Count n) size = JMP_REL16 + size_number size
 
 -- the code of a branch as it stands
 abbrev pub own_code : RelativeBranch → ℕ
@@ -91,8 +92,8 @@ own_code b = if b.is_short then short_code b.action b.size else near_code b.acti
 
 -- the code of CALL and JMP through memory in 64-bit mode
 unfoldable pub far_code : Action → ℕ
-far_code Call = 685
-far_code _ = 691
+far_code Call = CALL_RM64
+far_code _ = JMP_RM64
 
 -- the other condition: the lowest bit of its number changes (B.1.4.7)
 unfoldable pub opposite_condition : ℕ → ℕ

@@ -97,7 +97,7 @@ branch_image bits i b Far place goal slot = far_image bits b place b.action slot
 branch_image bits i b Bridge place goal slot = bridge bits b i.asize place (bridge_jump b goal)
 branch_image bits i b FarBridge place goal slot = bridge bits b i.asize place (through_slot (far_code Jump) slot)
 
--- the same of an instruction that may be no relative branch: then it is itself, aimed at its goal
+-- the image of an instruction that may be no relative branch: then it is itself, aimed at its goal
 abbrev pub image_by : Bits → Instr → Option RelativeBranch → Form → ℕ → ℕ → ℕ → List Instr
 image_by bits i None form place goal slot = with_target goal i ∷ []
 image_by bits i (Some b) form place goal slot = branch_image bits i b form place goal slot

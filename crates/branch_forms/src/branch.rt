@@ -3,6 +3,9 @@
 ghost use Rattle.std.specs.Prelude.{◌≡◌, ◌<◌};
 ghost use Rattle.branch_forms.specs.Branches as spec;
 
+use crate::generated_codes::{
+    CALL_REL16, CALL_RM64, JMP_REL8, JMP_REL16, JMP_RM64, JO_REL8, JO_REL16, LOOPNE_REL8,
+};
 use opcode_rows::{ROWS, row_of};
 use operand_info::near_target;
 use row_types::{OpKind, Row, Size};
@@ -124,10 +127,10 @@ pub fn short_code(action: Action, size: Bits) -> u16
     ensures { result ≡ spec.short_code action size }
 {
     match action {
-        Action::Jump => 629 + size_number(size),
-        Action::Call => 621 + size_number(size),
-        Action::Condition(n) => 152 + 3 * u16::from(n) + size_number(size),
-        Action::Count(n) => 603 + 3 * u16::from(n) + size_number(size),
+        Action::Jump => JMP_REL8 + size_number(size),
+        Action::Call => CALL_REL16 + size_number(size),
+        Action::Condition(n) => JO_REL8 + 3 * u16::from(n) + size_number(size),
+        Action::Count(n) => LOOPNE_REL8 + 3 * u16::from(n) + size_number(size),
     }
 }
 
@@ -137,10 +140,10 @@ pub fn near_code(action: Action, size: Bits) -> u16
     ensures { result ≡ spec.near_code action size }
 {
     match action {
-        Action::Jump => 624 + size_number(size),
-        Action::Call => 621 + size_number(size),
-        Action::Condition(n) => 992 + 3 * u16::from(n) + size_number(size),
-        Action::Count(_) => 624 + size_number(size),
+        Action::Jump => JMP_REL16 + size_number(size),
+        Action::Call => CALL_REL16 + size_number(size),
+        Action::Condition(n) => JO_REL16 + 3 * u16::from(n) + size_number(size),
+        Action::Count(_) => JMP_REL16 + size_number(size),
     }
 }
 
@@ -150,8 +153,8 @@ pub fn far_code(action: Action) -> u16
     ensures { result ≡ spec.far_code action }
 {
     match action {
-        Action::Call => 685,
-        _ => 691,
+        Action::Call => CALL_RM64,
+        _ => JMP_RM64,
     }
 }
 

@@ -5,10 +5,11 @@
 mod branch;
 mod choices;
 mod form_lengths;
+mod generated_codes;
 mod image;
 pub mod laws;
 mod laws_below;
 
-pub use branch::{Action, RelativeBranch, branch_of};
+pub use branch::{Action, RelativeBranch, branch_of, near_code};
 pub use choices::choices_of;
 pub use image::{Image, image_of};

@@ -1,13 +1,12 @@
 //! The jumps of a detour.
 
 ghost use Rattle.std.specs.Prelude.{◌≡◌, ◌≤◌, length, IfSome};
-ghost use Rattle.branch_forms.specs.declared.branch.Action.TheVariants.{Jump};
-ghost use Rattle.branch_forms.specs.Branches.{near_code};
 ghost use Rattle.detour.specs.Jumps as spec;
 ghost use Rattle.detour.specs.Jumps.{IsNearAnswer};
 ghost use Rattle.detour.specs.Trampoline as trampoline;
 
 use arrayvec::ArrayVec;
+use branch_forms::{Action, near_code};
 use encoder::encode;
 use move_goals::Placed;
 use moved_targets::plain_length;
@@ -20,18 +19,6 @@ pub(crate) const NEAR_LEN: usize = 5;
 /// How many bytes a jump has that is followed by its address.
 pub(crate) const ABSOLUTE_LEN: usize = 14;
 
-/// The code of the JMP with an offset of the mode's own operand size.
-#[tactic(auto, unfolding(branch_forms::specs::Branches::near_code, branch_forms::specs::Branches::size_number))]
-fn jump_code(bits: Bits) -> u16
-    ensures { result ≡ near_code Jump bits }
-{
-    match bits {
-        Bits::B16 => 624,
-        Bits::B32 => 625,
-        Bits::B64 => 626,
-    }
-}
-
 /// A JMP with an offset of the mode's own operand size.
 #[tactic(auto, unfolding(crate::specs::Jumps::jump_to, branch_forms::specs::Images::branch_to))]
 fn jump_to(bits: Bits, target: u64) -> Instr
@@ -39,7 +26,7 @@ fn jump_to(bits: Bits, target: u64) -> Instr
 {
     let none = Operand::Absent;
     Instr {
-        code: Code(jump_code(bits)),
+        code: Code(near_code(Action::Jump, bits)),
         ops: [Operand::Near(target), none, none, none],
         lock: false,
         rep: Rep::None,

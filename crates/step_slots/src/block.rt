@@ -2,8 +2,6 @@
 
 ghost use Rattle.std.specs.Prelude.{◌≡◌, ◌≤◌, ◌+◌, ◌<◌, ◌^◌};
 ghost use Rattle.x86_values.specs.Wrapping.{width};
-ghost use Rattle.branch_forms.specs.declared.branch.Action.TheVariants.{Jump};
-ghost use Rattle.branch_forms.specs.Branches.{near_code};
 ghost use Rattle.code_region.specs.Keeping.{IsSound};
 ghost use Rattle.code_region.specs.Laws.{AreInUnits};
 ghost use Rattle.code_region.specs.State.{rounded as rounded_len};
@@ -14,22 +12,11 @@ ghost use Rattle.step_slots.specs.Stepping.{IsBlockStepped, IsOfLength, IsOfReac
 use crate::laws_below::laws_below;
 use crate::refusals::StepError;
 use block_encoder::{MoveError, Placed, last_len, move_outside};
+use branch_forms::{Action, near_code};
 use code_region::{PlaceError, Region};
 use moved_targets::plain_length;
 use std::alloc::Global;
 use x86_values::{Bits, Code, Instr, Operand, Rep, wrap};
-
-/// The code of the JMP with an offset of the mode's own operand size.
-#[tactic(auto, unfolding(branch_forms::specs::Branches::near_code, branch_forms::specs::Branches::size_number))]
-fn jump_code(bits: Bits) -> u16
-    ensures { result ≡ near_code Jump bits }
-{
-    match bits {
-        Bits::B16 => 624,
-        Bits::B32 => 625,
-        Bits::B64 => 626,
-    }
-}
 
 /// A JMP with an offset of the mode's own operand size.
 #[tactic(auto, unfolding(crate::specs::Block::jump_to, branch_forms::specs::Images::branch_to))]
@@ -38,7 +25,7 @@ fn jump_to(bits: Bits, target: u64) -> Instr
 {
     let none = Operand::Absent;
     Instr {
-        code: Code(jump_code(bits)),
+        code: Code(near_code(Action::Jump, bits)),
         ops: [Operand::Near(target), none, none, none],
         lock: false,
         rep: Rep::None,
