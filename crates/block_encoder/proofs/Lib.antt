@@ -18,3 +18,4 @@ pub mod Counting
 pub mod Branching
 pub mod LastForms
 pub mod ReadThere
+pub mod Ready

@@ -4,11 +4,11 @@ ghost use Rattle.std.specs.Prelude.{◌≡◌};
 ghost use Rattle.move_goals.specs.Items as old;
 ghost use Rattle.block_encoder.specs.Moved.{IsAnswer};
 
-use crate::by_plan::move_by_plan;
+use crate::by_plan::move_with_ready;
 use crate::error::MoveError;
 use crate::moved::{Moved, MovedBlocks};
 use branch_sizes::BlockSpan;
-use move_goals::{Placed, first_disorder, first_old_pass, plan_for};
+use move_goals::{Placed, first_disorder, first_old_pass, plan_with_ready, ready_bytes};
 use std::alloc::Global;
 use x86_values::Bits;
 
@@ -44,11 +44,15 @@ pub fn move_blocks(
     if let Some(end) = first_old_pass(bits, items, spans) {
         return Err(MoveError::Wraps { end });
     }
-    let plan = match plan_for(alloc, bits, items, spans) {
+    let ready = match ready_bytes(alloc, bits, items) {
+        Ok(ready) => ready,
+        Err(_) => return Err(MoveError::Memory),
+    };
+    let plan = match plan_with_ready(alloc, bits, items, spans, &ready) {
         Ok(plan) => plan,
         Err(_) => return Err(MoveError::Memory),
     };
-    move_by_plan(alloc, bits, items, &plan)
+    move_with_ready(alloc, bits, items, &plan, &ready)
 }
 
 /// Moves one block of code to a new address, by the rules and with the refusals of [`move_blocks`].

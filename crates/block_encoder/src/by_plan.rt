@@ -1,6 +1,7 @@
 //! Moving blocks by a plan of them.
 
 ghost use Rattle.std.specs.Prelude.{◌≡◌, length};
+ghost use Rattle.move_goals.specs.Ready.{AreReady};
 ghost use Rattle.block_encoder.specs.ByPlan.{IsPlanAnswer};
 ghost use Rattle.block_encoder.specs.Written.{first_end_past};
 
@@ -8,6 +9,7 @@ use crate::error::MoveError;
 use crate::laws_below::laws_below;
 use crate::moved::MovedBlocks;
 use crate::write::write_blocks;
+use arrayvec::ArrayVec;
 use branch_sizes::Plan;
 use move_goals::{Placed, passes};
 use move_layout::{BlockEnd, lay_out};
@@ -40,6 +42,21 @@ pub fn move_by_plan(
     requires { length plan.now.items ≡ length items.now }
     ensures { IsPlanAnswer bits items.now plan.now result }
 {
+    move_with_ready(alloc, bits, items, plan, &[])
+}
+
+/// Moves the items of a plan as [`move_by_plan`] does. Where bytes of an item are ready, which do not depend on its place, these are written.
+pub(crate) fn move_with_ready(
+    alloc: Global,
+    bits: Bits,
+    items: &[Placed],
+    plan: &Plan,
+    ready: &[ArrayVec<u8, 15>],
+) -> Result<MovedBlocks, MoveError>
+    requires plan { length plan.now.items ≡ length items.now }
+    requires ready { AreReady bits items.now ready.now }
+    ensures { IsPlanAnswer bits items.now plan.now result }
+{
     laws_below();
     let laid = match lay_out(alloc, plan) {
         Ok(laid) => laid,
@@ -48,5 +65,5 @@ pub fn move_by_plan(
     if let Some(end) = first_new_pass(bits, &laid.ends) {
         return Err(MoveError::Wraps { end });
     }
-    write_blocks(alloc, bits, items, plan, &laid)
+    write_blocks(alloc, bits, items, plan, &laid, ready)
 }

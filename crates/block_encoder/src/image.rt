@@ -1,6 +1,6 @@
 //! The bytes of one moved instruction.
 
-ghost use Rattle.std.specs.Prelude.{◌≡◌, ◌↔◌, ◌+◌, ◌^◌, ◌<◌, ◌≤◌, IsTrue, IfOk, IfSome, MatchBool};
+ghost use Rattle.std.specs.Prelude.{◌≡◌, ◌↔◌, ◌+◌, ◌^◌, ◌<◌, ◌≤◌, [], ◌∷◌, IsTrue, IfOk, IfSome, MatchBool};
 ghost use Rattle.encoder.specs.Encoding.{encoding};
 ghost use Rattle.branch_sizes.specs.Layout.{Reaches};
 ghost use Rattle.branch_forms.specs.Images.{instrs_of};
@@ -8,12 +8,11 @@ ghost use Rattle.block_encoder.specs.Bytes.{bytes_from, seated_bytes};
 ghost use Rattle.block_encoder.specs.Moved as moved;
 ghost use Rattle.block_encoder.specs.Written.{IsPieceAppended, AreAppended, IsSeatWritten};
 
-use branch_forms::{Image, image_of};
+use branch_forms::{Image, image_of, near_image, short_image};
 use branch_sizes::{Form, Reach};
 use encoder::encode;
 use move_layout::Seat;
-use moved_targets::laws::without_target_nothing_changes;
-use moved_targets::{target_of, target_reach};
+use moved_targets::{target_reach, with_target};
 use std::alloc::AllocError;
 use x86_values::laws::wrapped_twice;
 use x86_values::{Bits, Instr, wrap};
@@ -106,8 +105,46 @@ fn append_image(
     }
 }
 
-/// Appends the plain spellings of the image of an instruction in its seat, which is the instruction itself where it has no target. `false`: one of
-/// them has none there, and those before it may be appended.
+/// Appends the plain spellings of an image that may have several instructions, in its seat. `false`: one of them has none there, and those before it may
+/// be appended. It is a function of its own, so that the other images need no room for three instructions.
+#[inline(never)]
+fn append_several(
+    bits: Bits,
+    instr: &Instr,
+    seat: &Seat,
+    goal: u64,
+    bytes: &mut Vec<u8>,
+) -> Result<bool, AllocError>
+    requires place { seat.now.place < 2 ^ 64 }
+    requires slot { seat.now.slot < 2 ^ 64 }
+    requires goal { goal ≡ seat.now.goal }
+    ensures { IfOk result (λ done. AreAppended (seated_bytes bits instr.now seat.now) bytes.old.items bytes.new.items done) }
+{
+    let image = image_of(
+        bits,
+        instr,
+        seat.form,
+        seat.place as u64,
+        goal,
+        seat.slot as u64,
+    );
+    append_image(bits, seat.place, &image, bytes)
+}
+
+/// Appends the plain spelling of an instruction that is the whole image of another one in its seat. `false`: it has none there.
+fn append_single(
+    bits: Bits,
+    seat: &Seat,
+    image: &Instr,
+    bytes: &mut Vec<u8>,
+) -> Result<bool, AllocError>
+    requires { seat.now.place < 2 ^ 64 }
+    ensures { IfOk result (λ done. AreAppended (bytes_from bits seat.now.place (image.now ∷ [])) bytes.old.items bytes.new.items done) }
+{
+    Ok(append_piece(bits, seat.place, image, bytes)?.is_some())
+}
+
+/// Appends the plain spellings of the image of an instruction in its seat. `false`: one of them has none there, and those before it may be appended.
 fn append_seated(
     bits: Bits,
     instr: &Instr,
@@ -120,20 +157,14 @@ fn append_seated(
     requires goal { goal ≡ seat.now.goal }
     ensures { IfOk result (λ done. AreAppended (seated_bytes bits instr.now seat.now) bytes.old.items bytes.new.items done) }
 {
-    let [_first, _second, _third, _fourth] = instr.ops;
-    if target_of(instr).is_none() {
-        without_target_nothing_changes();
-        return Ok(append_piece(bits, seat.place, instr, bytes)?.is_some());
+    match seat.form {
+        Form::Itself => append_single(bits, seat, &with_target(instr, goal), bytes),
+        Form::Short => append_single(bits, seat, &short_image(instr, goal), bytes),
+        Form::Near => append_single(bits, seat, &near_image(instr, goal), bytes),
+        Form::Far | Form::Bridge | Form::FarBridge => {
+            append_several(bits, instr, seat, goal, bytes)
+        }
     }
-    let image = image_of(
-        bits,
-        instr,
-        seat.form,
-        seat.place as u64,
-        goal,
-        seat.slot as u64,
-    );
-    append_image(bits, seat.place, &image, bytes)
 }
 
 /// Appends the bytes of an instruction in its seat, aimed at its goal. `false`: it does not reach the goal, and some of its bytes may be appended.

@@ -1,7 +1,8 @@
 //! The bytes of moved blocks.
 
-ghost use Rattle.std.specs.Prelude.{◌≡◌, None, length};
+ghost use Rattle.std.specs.Prelude.{◌≡◌, ◌<◌, ◌^◌, None, length};
 ghost use Rattle.move_layout.specs.Laid.{IsLaidLeast};
+ghost use Rattle.move_goals.specs.Ready.{MayBeReady, AreReady};
 ghost use Rattle.block_encoder.specs.ByPlan.{IsPlanAnswer};
 ghost use Rattle.block_encoder.specs.Written.{IsGoalAddress, IsSeatOf, IsItemWritten, first_end_past};
 
@@ -10,9 +11,11 @@ use crate::error::MoveError;
 use crate::image::write_image;
 use crate::laws_below::laws_below;
 use crate::moved::MovedBlocks;
-use branch_sizes::{BlockSpan, Branch, Goal, Plan};
-use move_goals::Placed;
+use arrayvec::ArrayVec;
+use branch_sizes::{BlockSpan, Branch, Form, Goal, Plan};
+use move_goals::{Placed, ready_of};
 use move_layout::{BlockEnd, Layout, Seat};
+use moved_targets::laws::{without_target_all_is_reached, without_target_nothing_changes};
 use std::alloc::Global;
 use x86_values::{Bits, Instr};
 
@@ -28,19 +31,21 @@ fn goal_address(goal: Goal, address: u128) -> u64
     }
 }
 
-/// Appends the bytes of item `k` in its seat, or refuses it where it does not reach its goal.
-fn write_item(
+/// Appends the bytes of item `k` in its seat, or refuses it where it does not reach its goal, which is this address.
+#[inline(never)]
+fn write_aimed(
     bits: Bits,
     k: usize,
     instr: &Instr,
-    branch: &Branch,
     seat: &Seat,
+    target: u64,
     bytes: &mut Vec<u8>,
 ) -> Result<(), MoveError>
-    requires { IsSeatOf branch.now seat.now }
+    requires place { seat.now.place < 2 ^ 64 }
+    requires slot { seat.now.slot < 2 ^ 64 }
+    requires target { target ≡ seat.now.goal }
     ensures { IsItemWritten bits instr.now seat.now k bytes.old.items bytes.new.items result }
 {
-    let target = goal_address(branch.goal, seat.goal);
     if write_image(bits, instr, seat, target, bytes)? {
         Ok(())
     } else {
@@ -49,6 +54,32 @@ fn write_item(
             target,
         })
     }
+}
+
+/// Appends the bytes of item `k` in its seat, those that are ready of it where there are some, or refuses it where it does not reach its goal.
+fn write_item(
+    bits: Bits,
+    k: usize,
+    instr: &Instr,
+    branch: &Branch,
+    seat: &Seat,
+    ready: &[u8],
+    bytes: &mut Vec<u8>,
+) -> Result<(), MoveError>
+    requires seat { IsSeatOf branch.now seat.now }
+    requires ready { MayBeReady bits instr.now ready.now }
+    ensures { IsItemWritten bits instr.now seat.now k bytes.old.items bytes.new.items result }
+{
+    // Four operands, as the proof has to know.
+    let [_first, _second, _third, _fourth] = instr.ops;
+    let target = goal_address(branch.goal, seat.goal);
+    if !ready.is_empty() && matches!(seat.form, Form::Itself) {
+        without_target_nothing_changes();
+        without_target_all_is_reached();
+        bytes.extend_from_slice(ready)?;
+        return Ok(());
+    }
+    write_aimed(bits, k, instr, seat, target, bytes)
 }
 
 /// How many bytes of memory blocks take that end there.
@@ -68,8 +99,10 @@ pub(crate) fn write_blocks(
     items: &[Placed],
     plan: &Plan,
     laid: &Layout,
+    ready: &[ArrayVec<u8, 15>],
 ) -> Result<MovedBlocks, MoveError>
     requires plan { length plan.now.items ≡ length items.now }
+    requires ready { AreReady bits items.now ready.now }
     requires laid { IsLaidLeast plan.now laid.now }
     requires ends { first_end_past bits laid.now.ends.items ≡ None }
     ensures { IsPlanAnswer bits items.now plan.now result }
@@ -86,7 +119,16 @@ pub(crate) fn write_blocks(
         for _ in 0..spans[b].count {
             let k = starts.len();
             let seat = laid.seats[k];
-            write_item(bits, k, &items[k].instr, &branches[k], &seat, &mut bytes)?;
+            let own = ready_of(ready, k);
+            write_item(
+                bits,
+                k,
+                &items[k].instr,
+                &branches[k],
+                &seat,
+                own,
+                &mut bytes,
+            )?;
             starts.push(seat.place as u64)?;
             forms.push(seat.form)?;
         }

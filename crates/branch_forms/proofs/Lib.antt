@@ -7,3 +7,4 @@ pub mod NearFirst
 pub mod Own
 pub mod Fit
 pub mod Sized
+pub mod Single

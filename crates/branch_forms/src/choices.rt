@@ -1,9 +1,12 @@
 //! The forms that a moved instruction may take.
 
-ghost use Rattle.std.specs.Prelude.{◌≡◌, ◌≤◌, ◌++◌, length, map};
+ghost use Rattle.std.specs.Prelude.{◌≡◌, ◌≤◌, ◌++◌, [], ◌∷◌, None, length, map};
 ghost use Rattle.branch_forms.specs.Branches.{branch_of};
 ghost use Rattle.x86_values.specs.Wrapping.{width as bits_of};
 ghost use Rattle.branch_forms.specs.Choices as spec;
+ghost use Rattle.branch_sizes.specs.declared.plan.Form.TheVariants.{Itself};
+ghost use Rattle.branch_sizes.specs.declared.plan.Reach.TheVariants.{Always};
+ghost use Rattle.moved_targets.specs.Targets.{target_of, plain_length};
 
 use crate::branch::{Action, RelativeBranch, branch_of};
 use crate::form_lengths::branch_length;
@@ -122,6 +125,20 @@ fn branch_choices(bits: Bits, instr: &Instr, branch: RelativeBranch) -> ArrayVec
     }
 }
 
+/// One choice, of the instruction itself.
+#[inline]
+fn alone(len: u8) -> ArrayVec<Choice, 3>
+    ensures { result.items ≡ record { form = Itself; len = len; reach = Always } ∷ [] }
+{
+    let mut choices = ArrayVec::new();
+    choices.push(Choice {
+        form: Form::Itself,
+        len,
+        reach: Reach::Always,
+    });
+    choices
+}
+
 /// The choice of what is no relative branch.
 #[inline]
 fn own_choice(bits: Bits, instr: &Instr) -> ArrayVec<Choice, 3>
@@ -129,13 +146,17 @@ fn own_choice(bits: Bits, instr: &Instr) -> ArrayVec<Choice, 3>
     ensures { result.items ≡ spec.choices_by bits instr.now None }
 {
     laws_below();
-    let mut choices = ArrayVec::new();
-    choices.push(Choice {
-        form: Form::Itself,
-        len: plain_length(bits, instr),
-        reach: Reach::Always,
-    });
-    choices
+    alone(plain_length(bits, instr))
+}
+
+/// The forms of an instruction without a target, whose plain spelling has this many bytes.
+pub fn choices_without_target(bits: Bits, instr: &Instr, len: u8) -> ArrayVec<Choice, 3>
+    requires untargeted { target_of instr.now ≡ None }
+    requires len { len ≡ plain_length bits instr.now }
+    ensures { result.items ≡ spec.choices_of bits instr.now }
+{
+    laws_below();
+    alone(len)
 }
 
 /// The forms that an instruction may take at a new place, from the first to the last, with their lengths in bytes and what they reach. What is no

@@ -1,6 +1,8 @@
 //! The images of a moved instruction.
 
-ghost use Rattle.std.specs.Prelude.{◌≡◌, ◌<◌};
+ghost use Rattle.std.specs.Prelude.{◌≡◌, ◌<◌, ℕ, [], ◌∷◌};
+ghost use Rattle.x86_values.specs.declared.Bits.{Bits};
+ghost use Rattle.branch_sizes.specs.declared.plan.Form.TheVariants.{Short, Near};
 ghost use Rattle.branch_forms.specs.Images as spec;
 
 use crate::branch::{
@@ -164,6 +166,26 @@ fn branch_image(
             let last = through_slot(far_code(Action::Jump), slot);
             bridge(bits, branch, asize, place, last)
         }
+    }
+}
+
+/// The image of an instruction in the short form, aimed at a goal: one instruction, wherever it stands. What is no relative branch is its own image.
+pub fn short_image(instr: &Instr, goal: u64) -> Instr
+    ensures { (bits : Bits) (place slot : ℕ) → spec.image_of bits instr.now Short place goal slot ≡ result ∷ [] }
+{
+    match branch_of(instr) {
+        None => with_target(instr, goal),
+        Some(branch) => short_branch(branch, instr.asize, goal),
+    }
+}
+
+/// The image of an instruction in the near form, as [`short_image`] is that in the short one.
+pub fn near_image(instr: &Instr, goal: u64) -> Instr
+    ensures { (bits : Bits) (place slot : ℕ) → spec.image_of bits instr.now Near place goal slot ≡ result ∷ [] }
+{
+    match branch_of(instr) {
+        None => with_target(instr, goal),
+        Some(branch) => branch_to(near_code(branch.action, branch.size), None, goal),
     }
 }
 

@@ -11,5 +11,5 @@ pub mod laws;
 mod laws_below;
 
 pub use branch::{Action, RelativeBranch, branch_of, near_code};
-pub use choices::choices_of;
-pub use image::{Image, image_of};
+pub use choices::{choices_of, choices_without_target};
+pub use image::{Image, image_of, near_image, short_image};

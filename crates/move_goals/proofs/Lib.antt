@@ -3,3 +3,4 @@ pub mod Blocks
 pub mod Began
 pub mod Aims
 pub mod Planned
+pub mod Pushed

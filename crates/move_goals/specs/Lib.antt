@@ -1,5 +1,6 @@
 pub mod Items
 pub mod Goals
 pub mod Starts
+pub mod Ready
 pub mod Plan
 pub mod Facts

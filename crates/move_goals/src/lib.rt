@@ -6,9 +6,11 @@ pub mod laws;
 mod order;
 mod outside;
 mod plan;
+mod ready;
 mod starts;
 
 pub use items::Placed;
 pub use order::{first_disorder, first_old_pass, passes};
 pub use outside::plan_outside;
-pub use plan::plan_for;
+pub use plan::{plan_for, plan_with_ready};
+pub use ready::{ready_bytes, ready_of};

@@ -1,17 +1,36 @@
 //! The plan of some moved blocks.
 
 ghost use Rattle.std.specs.Prelude.{◌≡◌, ◌-◌, ◌<◌, ◌≤◌, None, IfOk, length};
+ghost use Rattle.branch_sizes.specs.declared.plan.Goal.TheVariants.{None as Nowhere};
+ghost use Rattle.branch_forms.specs.Choices.{choices_of};
+ghost use Rattle.moved_targets.specs.Independent.{IsIndependent};
 ghost use Rattle.move_goals.specs.Items as old;
+ghost use Rattle.move_goals.specs.Ready.{MayBeReady, AreReady};
 ghost use Rattle.move_goals.specs.Plan as spec;
 ghost use Rattle.move_goals.specs.Starts.{AreStartsBelow, Ascend};
 
 use crate::items::Placed;
+use crate::ready::ready_of;
 use crate::starts::{Starts, goal_in, starts_of};
-use branch_forms::choices_of;
-use branch_sizes::{BlockSpan, Branch, Plan};
+use arrayvec::ArrayVec;
+use branch_forms::{choices_of, choices_without_target};
+use branch_sizes::{BlockSpan, Branch, Goal, Plan};
 use moved_targets::target_of;
 use std::alloc::{AllocError, Global};
-use x86_values::Bits;
+use x86_values::{Bits, Instr};
+
+/// The one form of an item of which these bytes are ready; it has no goal.
+fn ready_branch(bits: Bits, instr: &Instr, ready: &[u8]) -> Branch
+    requires some { 0 < length ready.now }
+    requires ready { IsIndependent bits instr.now ready.now }
+    ensures { result ≡ record { choices = record { items = choices_of bits instr.now }; goal = Nowhere } }
+{
+    moved_targets::laws::spellings_are_moved();
+    Branch {
+        choices: choices_without_target(bits, instr, ready.len() as u8),
+        goal: Goal::None,
+    }
+}
 
 /// The forms and the goal of item `k`, which is one of a block of the items from `from` on, below `to`.
 fn branch_between(
@@ -21,8 +40,10 @@ fn branch_between(
     from: usize,
     to: usize,
     k: usize,
+    ready: &[u8],
 ) -> Branch
     requires few { length items.now ≤ 65536 }
+    requires ready { MayBeReady bits (old.item_at items.now k).instr ready.now }
     requires starts { to - from < length items.now → AreStartsBelow items.now (length items.now) starts.now }
     requires order { from ≤ to }
     requires end { to ≤ length items.now }
@@ -31,20 +52,25 @@ fn branch_between(
     ensures { result ≡ spec.branch_between bits items.now from to k }
 {
     let instr = &items[k].instr;
+    if !ready.is_empty() {
+        return ready_branch(bits, instr, ready);
+    }
     Branch {
         choices: choices_of(bits, instr),
         goal: goal_in(items, starts, from, to, target_of(instr)),
     }
 }
 
-/// The items of the plan of some moved blocks.
+/// The items of the plan of some moved blocks, of which some bytes may be ready.
 fn branches_of(
     alloc: Global,
     bits: Bits,
     items: &[Placed],
     spans: &[BlockSpan],
+    ready: &[ArrayVec<u8, 15>],
 ) -> Result<Vec<Branch>, AllocError>
     requires few { length items.now ≤ 65536 }
+    requires ready { AreReady bits items.now ready.now }
     requires spans { old.AreSpansOf items.now spans.now }
     requires placed { old.ArePlaced bits items.now }
     requires order { old.first_disorder spans.now items.now ≡ None }
@@ -57,7 +83,8 @@ fn branches_of(
     for span in spans {
         let to = from + span.count as usize;
         'items: for k in from..to {
-            branches.push(branch_between(bits, items, &starts, from, to, k))?;
+            let bytes = ready_of(ready, k);
+            branches.push(branch_between(bits, items, &starts, from, to, k, bytes))?;
         }
         from = to;
     }
@@ -79,7 +106,26 @@ pub fn plan_for(
     requires order { old.first_disorder spans.now items.now ≡ None }
     ensures { IfOk result (λ plan. plan ≡ spec.plan_for bits spans.now items.now) }
 {
+    plan_with_ready(alloc, bits, items, spans, &[])
+}
+
+/// The plan of some moved blocks, as [`plan_for`] makes it. Where bytes of an item are ready, which do not depend on its place, it has no target, and as
+/// many bytes.
+pub fn plan_with_ready(
+    alloc: Global,
+    bits: Bits,
+    items: &[Placed],
+    spans: &[BlockSpan],
+    ready: &[ArrayVec<u8, 15>],
+) -> Result<Plan, AllocError>
+    requires few { length items.now ≤ 65536 }
+    requires spans { old.AreSpansOf items.now spans.now }
+    requires placed { old.ArePlaced bits items.now }
+    requires order { old.first_disorder spans.now items.now ≡ None }
+    requires ready { AreReady bits items.now ready.now }
+    ensures { IfOk result (λ plan. plan ≡ spec.plan_for bits spans.now items.now) }
+{
     branch_forms::laws::forms_are_fit();
-    let branches = branches_of(alloc, bits, items, spans)?;
+    let branches = branches_of(alloc, bits, items, spans, ready)?;
     Ok(Plan::of_blocks(Vec::from_slice(alloc, spans)?, branches))
 }

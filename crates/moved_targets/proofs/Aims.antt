@@ -69,7 +69,8 @@ with_target-target t old i h = target-with_target t i ∙ ap (instead t) h
 
 -- ---- nothing is aimed without a target
 
-or_none : (a b : Option ℕ) → option_or a b ≡ None → (a ≡ None) × (b ≡ None)
+-- neither of two is there where the first that is, is not
+pub or_none : (a b : Option ℕ) → option_or a b ≡ None → (a ≡ None) × (b ≡ None)
 or_none None b h = (refl, h)
 or_none (Some x) b h = cc
 

@@ -8,3 +8,4 @@ pub mod Reaches
 pub mod Below
 pub mod Shared
 pub mod Elsewhere
+pub mod Alike

@@ -101,7 +101,7 @@ by_method bits row method.Offset file m e h = let k = rw e at h in cc
 by_method bits row _ file m e h = let k = rw e at h in (and_parts (is_64 bits) (is_none m.index && m.scale == 1) k).0
 
 -- the test of an address by its parts
-abbrev reached_by : ℕ → AddressForm → ℕ → Bool
+abbrev pub reached_by : ℕ → AddressForm → ℕ → Bool
 reached_by next form disp = elim form [ Relative size ↦ is_extended_of 4 (width size) (distance size next disp) | _ ↦ true ]
 
 mode_64 : (bits : Bits) → is_64 bits ≡ true → bits ≡ B64

@@ -10,6 +10,7 @@ ghost use Rattle.operand_info.specs.Operands.{near_value, first_value};
 ghost use Rattle.encoder.specs.Encoding.{encoding};
 ghost use Rattle.branch_sizes.specs.Layout.{Reaches};
 ghost use Rattle.moved_targets.specs.Targets.{target_of, with_target, target_reach, plain_length};
+ghost use Rattle.branch_sizes.specs.declared.plan.Reach.TheVariants.{Always};
 ghost use Rattle.moved_targets.specs.Facts.{DistanceFacts, TargetFacts};
 
 /// An encoding has the length of the plain spelling.
@@ -53,6 +54,18 @@ pub fn aimed_has_its_target()
 #[inline]
 pub fn without_target_nothing_changes()
     ensures { (t : ℕ) (i : Instr) → length i.ops ≡ 4 → target_of i ≡ None → with_target t i ≡ i }
+{}
+
+/// What has no target is encoded alike at every address.
+#[inline]
+pub fn without_target_encoded_alike()
+    ensures { (bits : Bits) (ip other : ℕ) (i : Instr) → length i.ops ≡ 4 → target_of i ≡ None → encoding bits ip i ≡ encoding bits other i }
+{}
+
+/// What has no target reaches wherever it stands.
+#[inline]
+pub fn without_target_all_is_reached()
+    ensures { (i : Instr) → target_of i ≡ None → target_reach i ≡ Always }
 {}
 
 /// All of these as one record.

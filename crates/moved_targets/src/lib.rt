@@ -10,7 +10,10 @@ use operand_info::{ip_operand, near_target};
 use plain_spelling::parts::plain_parts;
 use x86_values::{Bits, Instr, Mem, Operand, Register};
 
+mod independent;
 pub mod laws;
+
+pub use independent::independent_bytes;
 
 /// The address that an instruction is aimed at: the target of a near branch, else the address of an operand at RIP or EIP. None where it
 /// has neither; far pointers and absolute addresses are no targets.

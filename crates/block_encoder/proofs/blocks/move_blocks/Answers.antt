@@ -7,13 +7,13 @@ use Rattle.move_goals.specs.Goals.{goal_at}
 use Rattle.block_encoder.proofs.Answering.{answer_is}
 use Rattle.block_encoder.proofs.blocks.move_blocks.Goals as goal
 
-pub move_by_plan-requires : goal.move_by_plan-requires
-move_by_plan-requires c =
-    ap (λ (p : BlockPlan). length p.items) c.in-Ok.ensures
+pub move_with_ready-requires-clause-plan : goal.move_with_ready-requires-clause-plan
+move_with_ready-requires-clause-plan c =
+    ap (λ (p : BlockPlan). length p.items) c.in-Ok-plan_with_ready.ensures
     ∙ plan-count c.args.bits c.args.spans.now c.args.items.now (goal_at c.args.spans.now c.args.items.now)
 
 pub returns : goal.returns
 returns c =
     let sound : IsOldSound c.args.bits c.args.items.now c.args.spans.now =
     record { few = search rules; order = search rules; ends = search rules } in
-    answer_is c.args.bits c.args.items.now c.args.spans.now sound c.in-Ok.plan c.in-Ok.ensures c.move_by_plan.result c.move_by_plan.ensures
+    answer_is c.args.bits c.args.items.now c.args.spans.now sound c.in-Ok-plan_with_ready.plan c.in-Ok-plan_with_ready.ensures c.move_with_ready.result c.move_with_ready.ensures

@@ -1,9 +1,6 @@
-use Rattle.std.proofs.Common.{sym, ap, ◌∙◌}
-use Rattle.block_encoder.specs.Written.{first_end_past}
-use Rattle.block_encoder.proofs.Answering.{new_pass}
+use Rattle.move_goals.specs.Items.{item_at}
+use Rattle.block_encoder.proofs.Ready.{none_ready}
 use Rattle.block_encoder.proofs.by_plan.move_by_plan.Goals as goal
 
-pub returns-in-Some : goal.returns-in-Some
-returns-in-Some c =
-    new_pass c.laws_below.ensures c.args.bits c.args.plan.now c.in-Ok.laid c.in-Ok.ensures c.in-Some.end
-    (sym (c.in-Some.ensures ∙ ap (λ xs. first_end_past c.args.bits xs) c.deref.ensures.value))
+pub move_with_ready-requires-clause-ready : goal.move_with_ready-requires-clause-ready
+move_with_ready-requires-clause-ready c = λ k. none_ready c.args.bits (item_at c.args.items.now k).instr

@@ -1,18 +1,35 @@
-use Rattle.std.proofs.Common.{◌≡◌, length, None, rules}
-use Rattle.moved_targets.specs.Targets.{target_of}
-use Rattle.block_encoder.specs.Bytes.{seated_image}
-use Rattle.block_encoder.proofs.Appending.{own_piece}
-use Rattle.block_encoder.proofs.Going.{untargeted-image}
+use Rattle.std.proofs.Common.{◌≡◌, [], ◌∷◌, List, sym, ap, subst, ◌∙◌}
+use Rattle.x86_values.specs.declared.Instr.{Instr}
+use Rattle.branch_sizes.specs.declared.plan.Form.TheVariants.{Itself, Short, Near}
+use Rattle.moved_targets.specs.Targets.{with_target}
+use Rattle.branch_forms.specs.Images.{image_of}
+use Rattle.block_encoder.proofs.Ready.{itself-image, seated_single}
 use Rattle.block_encoder.proofs.image.append_seated.Goals as goal
 
-pub returns-then-is_none : goal.returns-then-is_none
-returns-then-is_none c =
+pub returns-in-Itself : goal.returns-in-Itself
+returns-in-Itself c =
     let i = c.args.instr.now in
     let seat = c.args.seat.now in
-    let four : length c.args.instr.now.ops ≡ 4 = search rules in
-    let none : target_of c.args.instr.now ≡ None = search rules in
-    own_piece c.args.bits seat.place i (seated_image c.args.bits i seat) c.args.bytes.now.items c.append_piece.new.bytes.items
-    c.in_ok-append_piece.field-0 c.is_some.result
-    (untargeted-image c.args.bits i seat.form seat.place seat.goal seat.slot
-    (c.without_target_nothing_changes.ensures seat.goal i four none) none)
-    c.in_ok-append_piece.ensures.piece c.is_some.ensures
+    let only : Instr → List Instr = λ x. x ∷ [] in
+    let image = itself-image c.args.bits i seat.place seat.goal seat.slot
+    ∙ ap only (ap (λ g. with_target g i) (sym c.requires.goal) ∙ sym c.with_target.ensures) in
+    seated_single c.args.bits i c.with_target.result seat Itself c.args.bytes.now.items c.append_single.new.bytes.items c.append_single.result
+    c.in-Itself.is image c.append_single.ensures
+
+pub returns-in-Short : goal.returns-in-Short
+returns-in-Short c =
+    let i = c.args.instr.now in
+    let seat = c.args.seat.now in
+    let image = subst (λ g. image_of c.args.bits i Short seat.place g seat.slot ≡ c.short_image.result ∷ []) c.requires.goal
+    (c.short_image.ensures c.args.bits seat.place seat.slot) in
+    seated_single c.args.bits i c.short_image.result seat Short c.args.bytes.now.items c.append_single-in-Short.new.bytes.items c.append_single-in-Short.result
+    c.in-Short.is image c.append_single-in-Short.ensures
+
+pub returns-in-Near : goal.returns-in-Near
+returns-in-Near c =
+    let i = c.args.instr.now in
+    let seat = c.args.seat.now in
+    let image = subst (λ g. image_of c.args.bits i Near seat.place g seat.slot ≡ c.near_image.result ∷ []) c.requires.goal
+    (c.near_image.ensures c.args.bits seat.place seat.slot) in
+    seated_single c.args.bits i c.near_image.result seat Near c.args.bytes.now.items c.append_single-in-Near.new.bytes.items c.append_single-in-Near.result
+    c.in-Near.is image c.append_single-in-Near.ensures

@@ -1,6 +1,8 @@
-use Rattle.std.proofs.Common.{◌≡◌, ◌+◌, ◌-◌, ◌<◌, [], ◌∷◌, ◌++◌, length, arith, ap, ◌∙◌}
+use Rattle.std.proofs.Common.{◌≡◌, ◌+◌, ◌-◌, ◌<◌, [], ◌∷◌, ◌++◌, length, arith, ap, sym, subst, ◌∙◌}
 use Rattle.std.proofs.lemmas.Result.{err_from_is_err_and}
 use Rattle.branch_sizes.specs.Layout.{span_at}
+use Rattle.move_goals.specs.Items.{item_at}
+use Rattle.move_goals.specs.Ready.{MayBeReady}
 use Rattle.block_encoder.proofs.Writing.{item_step}
 use Rattle.block_encoder.proofs.Steps.{item_facts, item_refuses, end_facts, end_step, blocks_moved}
 use Rattle.block_encoder.proofs.write.write_blocks.Goals as goal
@@ -50,14 +52,19 @@ bounds-branches-k c =
     (omega (arith, c.loop-test.true, c.loop.invariant.count_is)) c.len-k.result (c.len-k.ensures ∙ c.loop.starts.ok.0) in
     omega (arith, f.in_plan, ap length c.items-branches.ensures)
 
-pub write_item-requires : goal.write_item-requires
-write_item-requires c =
+pub write_item-requires-clause-seat : goal.write_item-requires-clause-seat
+write_item-requires-clause-seat c =
     let bl : c.loop-b.b < length c.args.plan.now.spans = omega (arith, c.loop-b-test.true, ap length c.spans-spans.ensures.spans) in
     let f = item_facts c.laws_below.ensures c.args.bits c.args.items.now c.args.plan.now c.args.laid.now c.spans-spans.ensures.plan c.requires.plan c.requires.laid c.requires.ends
     c.loop-b.b c.loop.counter c.loop.bytes.items c.loop.starts.items c.loop.forms.items c.loop-b.slots.items c.loop-b.ends.items
     (c.loop.invariant.written c.requires.laid.0 c.requires.laid.2) bl
     (omega (arith, c.loop-test.true, c.loop.invariant.count_is)) c.len-k.result (c.len-k.ensures ∙ c.loop.starts.ok.0) in
     f.seat_for c.index.result.now c.index-branches-k.result c.index.ensures (rw c.items-branches.ensures at c.index-branches-k.is)
+
+pub write_item-requires-clause-ready : goal.write_item-requires-clause-ready
+write_item-requires-clause-ready c =
+    subst (λ bytes. MayBeReady c.args.bits (item_at c.args.items.now c.len-k.result).instr bytes) (sym c.ready_of-own.ensures)
+    (c.requires.ready c.len-k.result)
 
 pub returns-in_err-write_item : goal.returns-in_err-write_item
 returns-in_err-write_item c =

@@ -1,5 +1,7 @@
-use Rattle.std.proofs.Common.{◌≡◌, rules, sym, ◌∙◌}
+use Rattle.std.proofs.Common.{◌≡◌, ℕ, [], ◌∷◌, sym, ap, ◌∙◌, List}
+use Rattle.branch_sizes.specs.declared.plan.Choice.{Choice}
 use Rattle.branch_sizes.specs.declared.plan.Form.TheVariants.{Itself}
+use Rattle.branch_sizes.specs.declared.plan.Reach.TheVariants.{Always}
 use Rattle.branch_forms.specs.Images.{form_length}
 use Rattle.branch_forms.proofs.Lengths.{other-length}
 use Rattle.branch_forms.proofs.choices.own_choice.Goals as goal
@@ -8,4 +10,5 @@ pub returns : goal.returns
 returns c =
     let long : c.plain_length.result ≡ form_length c.args.bits c.args.instr.now Itself =
     c.plain_length.ensures.value ∙ sym (other-length c.laws_below.ensures c.args.bits c.args.instr.now Itself c.requires) in
-    rw (← long) (search rules)
+    let one : ℕ → List Choice = λ n. record { form = Itself; len = n; reach = Always } ∷ [] in
+    c.alone.ensures ∙ ap one long
