@@ -40,7 +40,7 @@ def opcode_is_bare(row):
 
 
 def is_bare(row):
-    return (row.kind == 'Legacy' and row.size not in ('W0', 'W1') and row.rule != 'Fixed'
+    return (row.kind == 'Legacy' and sum(kind in IMMEDIATES for kind in row.ops) <= 1 and row.size not in ('W0', 'W1') and row.rule != 'Fixed'
         and all(kind_is_bare(row.place, kind) for kind in row.ops) and opcode_is_bare(row))
 
 

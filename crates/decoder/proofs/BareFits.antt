@@ -40,6 +40,7 @@ use Rattle.rows_sse.specs.Table.{table as sse_rows, flat_rows as sse_flat}
 use Rattle.rows_vex.specs.Table.{table as vex_rows, flat_rows as vex_flat}
 use Rattle.opcode_rows.specs.Table.{spots, rows_in, table}
 use Rattle.instruction_parts.specs.Kinds.{immediate_width}
+use Rattle.row_meaning.specs.Given.{has_one_immediate}
 use Rattle.decoder.specs.declared.bare.BareRow.{BareRow}
 use Rattle.decoder.specs.Bare.{known_of, immediates_at, bare_rows, is_bare_front, place_is_said, names_each_number, kind_is_bare, rule_is_bare, bytes_are_bare, opcode_is_bare, row_is_bare}
 use Rattle.decoder.proofs.InCell.{kind_is_vex}
@@ -98,11 +99,12 @@ record Said (row : Row) : Type 0 where
 said : (row : Row) → row_is_bare row ≡ true → Said row
 unfolding row_is_bare
 said row h =
-    let h1 = and_right _ _ h in
+    let h0 = and_right _ _ h in
+    let h1 = and_right _ _ h0 in
     let h2 = and_right _ _ h1 in
     let h3 = and_right _ _ h2 in
     record {
-      legacy = not_true _ (and_left _ _ h);
+      legacy = not_true _ (and_left _ _ h0);
       size = not_true _ (and_left _ _ h1);
       rule_ = and_left _ _ h2;
       kinds = and_left _ _ h3;
@@ -390,7 +392,12 @@ pub bare-mode : (row : Row) → row_is_bare row ≡ true → reads_mode row ≡ 
 unfolding reads_mode
 bare-mode row h = ap not (no-any_mode row.place row.ops (said row h).kinds)
 
--- and has no absolute address
+-- at most one of its operands has bytes of the immediates
+pub bare-one : (row : Row) → row_is_bare row ≡ true → has_one_immediate row ≡ true
+unfolding row_is_bare
+bare-one row h = and_left _ _ h
+
+-- and it has no absolute address
 pub bare-offset : (row : Row) → row_is_bare row ≡ true → reads_by is_offset row ≡ false
 bare-offset row h = no-offset row.place row.ops (said row h).kinds
 
@@ -491,7 +498,7 @@ bare-fits bits row state tail sib bare start small h =
 -- ---- the table
 
 by_rule : map known_of table ≡ bare_rows
-unfolding known_of row_is_bare kind_is_bare opcode_is_bare method_of immediates_bytes immediate_bytes immediate_width bare_rows table rows_in spots integer_rows integer_flat x87_rows x87_flat sse_rows sse_flat vex_rows vex_flat
+unfolding known_of row_is_bare has_one_immediate kind_is_bare opcode_is_bare method_of immediates_bytes immediate_bytes immediate_width bare_rows table rows_in spots integer_rows integer_flat x87_rows x87_flat sse_rows sse_flat vex_rows vex_flat
 by_rule = refl
 
 same_known : (a b : BareRow) → Some a ≡ Some b → a ≡ b

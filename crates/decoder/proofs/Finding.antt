@@ -52,7 +52,8 @@ front_holds bits ip bytes state i n h a =
 not_both : (b : Bool) → b ≡ true → b ≡ false → ⊥
 not_both b p q = cc
 
-same_some : (row other : Row) → Some row ≡ Some other → row ≡ other
+-- two rows with one code are one
+pub same_some : (row other : Row) → Some row ≡ Some other → row ≡ other
 same_some row other h = cc
 
 -- **where no row's conditions hold, no instruction is at the front**

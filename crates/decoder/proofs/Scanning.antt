@@ -15,6 +15,7 @@ use Rattle.row_fit.proofs.OneSpelling.{one_spelling}
 use Rattle.row_fit.proofs.FrontGrows.{front-extends}
 use Rattle.row_relation.specs.Spells.{SpellsNothing, IsTooShort, IsInvalid}
 use Rattle.row_relation.specs.RowReading.{RowReads, RowReadsNothing, RowCanGoOn}
+use Rattle.modrm_sib.specs.Answer.{ReadsNothingShort}
 use Rattle.decoder.specs.Cells.{IsPlaced, CellIs, RowIsLate, RowStops, Scanned}
 use Rattle.decoder.proofs.Placed.{placed}
 use Rattle.decoder.proofs.Fronts.{known_is}
@@ -30,6 +31,13 @@ pub late_by_length : (bits : Bits) (ip : ℕ) (code : Code) (row : Row) (bytes :
 late_by_length bits ip code row bytes d r long s rest fit e =
     let one = one_spelling bits row s r.spelling rest r.rest fit r.fitting (sym e ∙ r.bytes_are) in
     omega (arith, ap (λ (t : Spelling). length (bytes_of row t)) one.0, r.length_is)
+
+-- where a row reads nothing of at most 15 bytes, its spellings are longer
+pub late_by_either : (bits : Bits) (ip : ℕ) (code : Code) (row : Row) (bytes : List ℕ) → ReadsNothingShort bits ip code row bytes → RowIsLate bits row bytes
+late_by_either bits ip code row bytes h = elim h [
+  | inl nothing ↦ late_by_nothing bits row bytes nothing
+  | inr long ↦ late_by_length bits ip code row bytes long.0 long.1.0 long.1.1
+]
 
 stops_by_length : (bits : Bits) (ip : ℕ) (code : Code) (row : Row) (bytes : List ℕ) (d : Decoded) → RowReads bits ip code row bytes d → 15 < d.len → RowStops bits row bytes
 stops_by_length bits ip code row bytes d r long short goes =

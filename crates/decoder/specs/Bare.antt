@@ -18,6 +18,7 @@ use Rattle.instruction_parts.specs.Counting.{is_64}
 use Rattle.instruction_parts.specs.Kinds.{method_of}
 use Rattle.instruction_parts.specs.Sizes.{is_vex_row}
 use Rattle.row_fit.specs.Fits.{is_map_one, is_gather, is_any_mode, is_offset, immediates_bytes, place_of, takes_w_as_size}
+use Rattle.row_meaning.specs.Given.{has_one_immediate}
 use Rattle.decoder.specs.declared.bare.BareRow.{BareRow}
 use Rattle.decoder.specs.declared.generated_bare_rows.TheConstants.{BARE_ROWS}
 
@@ -63,13 +64,14 @@ bytes_are_bare _ first =
 unfoldable pub opcode_is_bare : Map → Plus → ℕ → Bool
 opcode_is_bare map p first = not (is_map_one map) || bytes_are_bare p first
 
--- nothing is left to ask of the row behind a bare front
+-- nothing is left to ask of the row behind a bare front, and at most one of its operands has bytes of the immediates
 unfoldable pub row_is_bare : Row → Bool
 row_is_bare row =
-    not (is_vex_row row)
+    has_one_immediate row
+    && (not (is_vex_row row)
     && (not (takes_w_as_size row.size)
     && (rule_is_bare row.modrm
-    && (list_all (kind_is_bare row.place) row.ops && opcode_is_bare row.map row.plus row.opcode)))
+    && (list_all (kind_is_bare row.place) row.ops && opcode_is_bare row.map row.plus row.opcode))))
 
 -- what is known of a row beforehand: whether nothing is left to ask of it, and the bytes of its immediates at each operand size
 unfoldable pub known_of : Row → BareRow

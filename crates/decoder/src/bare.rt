@@ -1,17 +1,12 @@
 //! The rows that ask nothing more of a front and a ModRM that lead to them.
 
-ghost use Rattle.std.specs.Prelude.{◌≡◌, ◌<◌, slice_get, Some, IfSome, IsTrue};
-ghost use Rattle.instruction_parts.specs.Sizes.{state_size};
-ghost use Rattle.row_fit.specs.Fits.{immediates_bytes};
-ghost use Rattle.opcode_rows.specs.Table.{table};
+ghost use Rattle.std.specs.Prelude.{◌≡◌, ◌<◌, slice_get, Some};
 ghost use Rattle.decoder.specs.Bare as spec;
 
 use crate::generated_bare_rows::BARE_ROWS;
 use instruction_parts::PrefixState;
 use instruction_parts::counting::is_64;
-use instruction_parts::sizes::state_size;
 use opcode_rows::ROWS;
-use row_types::Row;
 use x86_values::{Bits, Code};
 
 /// What is known of a row beforehand: whether nothing is left to ask of it once a bare front leads to it, and the bytes of its immediates at each
@@ -27,7 +22,7 @@ pub(crate) struct BareRow {
 /// Whether a front has no LOCK and no VEX, and no REX outside 64-bit mode, where none is read.
 #[inline]
 #[tactic(auto, unfolding(crate::specs::Bare::is_bare_front))]
-fn is_bare_front(bits: Bits, state: &PrefixState) -> bool
+pub(crate) fn is_bare_front(bits: Bits, state: &PrefixState) -> bool
     ensures { result ≡ spec.is_bare_front bits state.now }
 {
     !state.lock && state.vex.is_none() && (is_64(bits) || state.rex.is_none())
@@ -35,7 +30,7 @@ fn is_bare_front(bits: Bits, state: &PrefixState) -> bool
 
 /// What is known of the row of a code below `ROWS`.
 #[inline]
-fn bare_row(code: Code) -> BareRow
+pub(crate) fn bare_row(code: Code) -> BareRow
     requires { code.0 < ROWS }
     ensures { slice_get spec.bare_rows code.0 ≡ Some result }
 {
@@ -44,29 +39,12 @@ fn bare_row(code: Code) -> BareRow
 
 /// The bytes of a row's immediates at an operand size.
 #[inline]
-fn immediates_at(size: Bits, known: BareRow) -> u8
+pub(crate) fn immediates_at(size: Bits, known: BareRow) -> u8
     ensures { result ≡ spec.immediates_at size known }
 {
     match size {
         Bits::B16 => known.at_16,
         Bits::B32 => known.at_32,
         Bits::B64 => known.at_64,
-    }
-}
-
-/// The bytes of the immediates of a row, where nothing is left to ask of it once the nine fields of this front lead to it; else None.
-#[inline(always)]
-pub(crate) fn known_immediates(bits: Bits, state: &PrefixState, code: Code, row: &Row) -> Option<u8>
-    requires code { code.0 < ROWS }
-    requires row { slice_get table code.0 ≡ Some row.now }
-    ensures front { IfSome result (λ _. IsTrue (spec.is_bare_front bits state.now)) }
-    ensures bare { IfSome result (λ _. IsTrue (spec.row_is_bare row.now)) }
-    ensures immediates { IfSome result (λ n. n ≡ immediates_bytes (state_size bits row.now state.now) row.now) }
-{
-    let known = bare_row(code);
-    if is_bare_front(bits, state) && known.bare {
-        Some(immediates_at(state_size(bits, row, state), known))
-    } else {
-        None
     }
 }

@@ -1,23 +1,26 @@
 //! The one row whose conditions hold, and what it reads.
 
-ghost use Rattle.std.specs.Prelude.{◌≡◌, ◌+◌, ◌<◌, ◌≤◌, length, is_some, slice_get, MatchOption, Some, IfSome, IfOk, IfErr, IsTrue};
+ghost use Rattle.std.specs.Prelude.{◌≡◌, ◌+◌, ◌<◌, ◌≤◌, length, slice_get, MatchOption, Some, IfSome, IsNone, IsTrue};
 ghost use Rattle.instruction_parts.specs.Front.{front_of, Known};
 ghost use Rattle.prefixes.specs.Answer.{is_mode, mode_of};
 ghost use Rattle.row_relation.specs.Spells.{ReadsAs, SpellsNothing};
-ghost use Rattle.row_relation.specs.RowReading.{RowReads, RowReadsNothing};
+ghost use Rattle.row_relation.specs.RowReading.{RowReads};
+ghost use Rattle.row_types.specs.declared.Row.{Row};
 ghost use Rattle.row_fields.specs.Holds.{holds};
 ghost use Rattle.unique_spelling.specs.FieldsOf.{fields_of};
 ghost use Rattle.opcode_rows.specs.Table.{table};
 ghost use Rattle.opcode_rows.specs.Allowed.{is_well_formed};
+ghost use Rattle.decoder.specs.Bare as bare;
+ghost use Rattle.decoder.specs.Cells.{RowIsLate};
 
-use crate::bare::known_immediates;
+use crate::bare::{BareRow, bare_row, immediates_at, is_bare_front};
 use crate::cell::LONGEST;
 use handler_tables::find;
 use instruction_parts::PrefixState;
-use modrm_sib::{TailError, read_row_into};
-use opcode_rows::row;
+use instruction_parts::sizes::state_size;
+use modrm_sib::{read_known_into, read_row_into};
+use opcode_rows::{ROWS, row};
 use prefixes::mode_of;
-use row_types::Row;
 use std::sync::ledger::Ledger;
 use step_count::Steps;
 use x86_values::{Bits, Code, Decoded};
@@ -46,18 +49,10 @@ pub(crate) fn read_found<const BITS: u32, L: Ledger>(
     let bits = mode_of::<BITS>();
     match find::<BITS, L>(state, byte_behind(state, bytes), steps) {
         None => None,
-        Some(code) => {
-            let row = row(code, steps);
-            match read_by_row(bits, ip, state, code, &row, bytes, place) {
-                Ok(()) => {
-                    if place.len as usize <= LONGEST {
-                        return Some(());
-                    }
-                    None
-                }
-                Err(_) => None,
-            }
-        }
+        Some(code) => match read_by_code(bits, ip, state, code, bytes, place, steps) {
+            Some(()) => Some(()),
+            None => None,
+        },
     }
 }
 
@@ -69,50 +64,95 @@ fn byte_behind(state: &PrefixState, bytes: &[u8]) -> Option<u8>
     bytes.get(state.used as usize + 1).copied()
 }
 
-/// Reads by a row whose conditions hold on the nine fields of the front and the byte behind it. Where these leave nothing to ask, nothing is asked.
+/// Reads by the row of a code, whose conditions hold on the nine fields of the front and the byte behind it. Where these leave nothing to ask,
+/// nothing is asked.
+// Which it is, is known before the row is looked up: so where nothing is asked the row need not stand in memory.
 #[inline(always)]
-fn read_by_row(
+fn read_by_code<L: Ledger>(
     bits: Bits,
     ip: u64,
     state: &PrefixState,
     code: Code,
-    row: &Row,
     bytes: &[u8],
     place: &mut Decoded,
-) -> Result<(), TailError>
+    steps: &mut Steps<L>,
+) -> Option<()>
     requires front { front_of bits bytes.now ≡ Known state.now }
-    requires row { slice_get table code.0 ≡ Some row.now }
-    requires holding { IsTrue (holds bits row.now (fields_of state.now (slice_get bytes.now (state.now.used + 1)))) }
-    ensures ok { IfOk result (λ _. RowReads bits ip code row.now bytes.now place.new) }
-    ensures len { IfOk result (λ _. (0 < place.new.len) × (place.new.len < 64) × (place.new.len ≤ length bytes.now)) }
-    ensures err { IfErr result (λ _. RowReadsNothing bits row.now bytes.now) }
+    requires code { code.0 < ROWS }
+    requires holding { (row : Row) → slice_get table code.0 ≡ Some row
+        → IsTrue (holds bits row (fields_of state.now (slice_get bytes.now (state.now.used + 1)))) }
+    ensures some { IfSome result (λ _. (row : Row) → slice_get table code.0 ≡ Some row → RowReads bits ip code row bytes.now place.new) }
+    ensures len { IfSome result (λ _. (0 < place.new.len) × (place.new.len ≤ 15) × (place.new.len ≤ length bytes.now)) }
+    ensures none { IsNone result → (row : Row) → slice_get table code.0 ≡ Some row → RowIsLate bits row bytes.now }
+    ensures step { steps.new ≡ steps.old + 1 }
 {
-    match known_immediates(bits, state, code, row) {
-        Some(n) => read_row_into(bits, ip, state, code, row, Some(n), bytes, place),
-        None => {
-            // A copy, so that the row itself need not stand in memory.
-            let row = *row;
-            read_asked(bits, ip, state, code, &row, bytes, place)
-        }
+    let known = bare_row(code);
+    if known.bare && is_bare_front(bits, state) {
+        read_bare(bits, ip, state, code, known, bytes, place, steps)
+    } else {
+        read_asked(bits, ip, state, code, bytes, place, steps)
+    }
+}
+
+/// Reads by a row of which nothing is left to ask.
+#[inline(always)]
+fn read_bare<L: Ledger>(
+    bits: Bits,
+    ip: u64,
+    state: &PrefixState,
+    code: Code,
+    known: BareRow,
+    bytes: &[u8],
+    place: &mut Decoded,
+    steps: &mut Steps<L>,
+) -> Option<()>
+    requires front { front_of bits bytes.now ≡ Known state.now }
+    requires code { code.0 < ROWS }
+    requires holding { (row : Row) → slice_get table code.0 ≡ Some row
+        → IsTrue (holds bits row (fields_of state.now (slice_get bytes.now (state.now.used + 1)))) }
+    requires known { slice_get bare.bare_rows code.0 ≡ Some known }
+    requires bare { IsTrue known.bare }
+    requires start { IsTrue (bare.is_bare_front bits state.now) }
+    ensures some { IfSome result (λ _. (row : Row) → slice_get table code.0 ≡ Some row → RowReads bits ip code row bytes.now place.new) }
+    ensures len { IfSome result (λ _. (0 < place.new.len) × (place.new.len ≤ 15) × (place.new.len ≤ length bytes.now)) }
+    ensures none { IsNone result → (row : Row) → slice_get table code.0 ≡ Some row → RowIsLate bits row bytes.now }
+    ensures step { steps.new ≡ steps.old + 1 }
+{
+    let row = row(code, steps);
+    let size = state_size(bits, &row, state);
+    let immediates = immediates_at(size, known);
+    match read_known_into(bits, ip, state, code, &row, size, immediates, bytes, place) {
+        Some(()) => Some(()),
+        None => None,
     }
 }
 
 /// Reads by a row of which all is asked.
 #[inline(never)]
-fn read_asked(
+fn read_asked<L: Ledger>(
     bits: Bits,
     ip: u64,
     state: &PrefixState,
     code: Code,
-    row: &Row,
     bytes: &[u8],
     place: &mut Decoded,
-) -> Result<(), TailError>
+    steps: &mut Steps<L>,
+) -> Option<()>
     requires front { front_of bits bytes.now ≡ Known state.now }
-    requires row { slice_get table code.0 ≡ Some row.now }
-    ensures ok { IfOk result (λ _. RowReads bits ip code row.now bytes.now place.new) }
-    ensures len { IfOk result (λ _. (0 < place.new.len) × (place.new.len < 64) × (place.new.len ≤ length bytes.now)) }
-    ensures err { IfErr result (λ _. RowReadsNothing bits row.now bytes.now) }
+    requires code { code.0 < ROWS }
+    ensures some { IfSome result (λ _. (row : Row) → slice_get table code.0 ≡ Some row → RowReads bits ip code row bytes.now place.new) }
+    ensures len { IfSome result (λ _. (0 < place.new.len) × (place.new.len ≤ 15) × (place.new.len ≤ length bytes.now)) }
+    ensures none { IsNone result → (row : Row) → slice_get table code.0 ≡ Some row → RowIsLate bits row bytes.now }
+    ensures step { steps.new ≡ steps.old + 1 }
 {
-    read_row_into(bits, ip, state, code, row, None, bytes, place)
+    let row = row(code, steps);
+    match read_row_into(bits, ip, state, code, &row, None, bytes, place) {
+        Ok(()) => {
+            if place.len as usize <= LONGEST {
+                return Some(());
+            }
+            None
+        }
+        Err(_) => None,
+    }
 }

@@ -41,6 +41,33 @@ pub(crate) fn field_of<const BITS: u32>(
     }
 }
 
+/// The same for a node of three entries, which mostly splits by the mode or the operand size: those are told at once.
+#[inline(always)]
+#[tactic(auto, unfolding(unique_spelling::specs::FieldsOf::fields_of))]
+pub(crate) fn size_field_of<const BITS: u32>(
+    split: Split,
+    state: &PrefixState,
+    byte: Option<u8>,
+) -> usize
+    ensures { result ≡ field_at (mode_of BITS) split (fields.fields_of state.now byte) }
+{
+    match split {
+        Split::Mode => size_number(mode_of::<BITS>()),
+        Split::Size => state_size_number::<BITS>(state),
+        _ => field_of::<BITS>(split, state, byte),
+    }
+}
+
+/// The number of the operand size by the prefixes and the mode alone.
+// Not built into the walk either, as it would be made before the first node.
+#[inline(never)]
+fn state_size_number<const BITS: u32>(state: &PrefixState) -> usize
+    ensures { result ≡ size_number
+        (plain_size (mode_of BITS) (fields.size66_of state.now.vex state.now.size66) (fields.w_of state.now.vex state.now.rex)) }
+{
+    size_number(plain_size(mode_of::<BITS>(), size66_of(state), w_of(state)))
+}
+
 /// A bit as a number.
 fn bit(b: bool) -> usize
     ensures { result ≡ parts.bit b }

@@ -11,7 +11,7 @@ use crate::generated_nodes::{
     NODES2, NODES3, NODES4, NODES8, NODES256, SPLITS2, SPLITS3, SPLITS4, SPLITS8,
 };
 use crate::node::{Next, Node, Split};
-use crate::splits::{field_of, kind_number};
+use crate::splits::{field_of, kind_number, size_field_of};
 use instruction_parts::PrefixState;
 use std::sync::ledger::Ledger;
 use step_count::Steps;
@@ -58,6 +58,22 @@ pub fn find<const BITS: u32, L: Ledger>(
     unreachable!()
 }
 
+/// The number of what a node of `N` entries splits by.
+#[inline(always)]
+fn field_in<const BITS: u32, const N: usize>(
+    split: Split,
+    state: &PrefixState,
+    byte: Option<u8>,
+) -> usize
+    ensures { result ≡ field_at (mode_of BITS) split (fields_of state.now byte) }
+{
+    if N == 3 {
+        size_field_of::<BITS>(split, state, byte)
+    } else {
+        field_of::<BITS>(split, state, byte)
+    }
+}
+
 /// The entry of a node below the opcode byte for what it splits by.
 #[inline(always)]
 fn along<const BITS: u32, const N: usize, L: Ledger>(
@@ -73,7 +89,7 @@ fn along<const BITS: u32, const N: usize, L: Ledger>(
 {
     // Read, since that it is a byte is known of what is read.
     let _opcode = state.opcode;
-    node.next(field_of::<BITS>(split, state, byte), steps)
+    node.next(field_in::<BITS, N>(split, state, byte), steps)
 }
 
 /// The root where a byte stands behind the opcode byte, and the root where none does.

@@ -13,3 +13,13 @@ ok_in E P (Err why) place h = tt
 pub told : (known : Option ℕ) (n : ℕ) (P : ℕ → Type 0) → IfSome known P → known ≡ Some n → P n
 told None n P h e = cc
 told (Some m) n P h e = let same : m ≡ n = cc in subst P same h
+
+-- what follows from what holds where there is an answer
+pub some_in : (r : Option (Unit {0})) (P Q : Type 0) → (P → Q) → IfSome r (λ done. P) → IfSome r (λ done. Q)
+some_in None P Q f h = tt
+some_in (Some done) P Q f h = f h
+
+-- and from two facts
+pub some_in_both : (r : Option (Unit {0})) (P Q R : Type 0) → (P → Q → R) → IfSome r (λ done. P) → IfSome r (λ done. Q) → IfSome r (λ done. R)
+some_in_both None P Q R f h k = tt
+some_in_both (Some done) P Q R f h k = f h k

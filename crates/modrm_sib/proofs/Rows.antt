@@ -28,7 +28,7 @@ use Rattle.instruction_parts.proofs.Tests.{either, and_left, and_right}
 use Rattle.modrm_sib.specs.declared.TailError.{TailError}
 use Rattle.modrm_sib.specs.declared.TailError.TheVariants.{Ended, Forbidden}
 use Rattle.modrm_sib.specs.Parts.{displacement_len}
-use Rattle.modrm_sib.specs.Answer.{tail_answer}
+use Rattle.modrm_sib.specs.Answer.{tail_answer, IsOver, ReadsNothingShort}
 use Rattle.modrm_sib.proofs.Tails.{both, whole, tail_of_spelling, spelling_of_tail, used_is, part_bytes}
 use Rattle.modrm_sib.proofs.Tells.{Tells, ReadTail, NoTail, NeverTail, GoesOn, tail_tells}
 
@@ -254,6 +254,18 @@ pub answered_forbidden : (bits : Bits) (ip : ℕ) (code : Code) (row : Row) (byt
 answered_forbidden bits ip code row bytes (Ok d) a e = cc
 answered_forbidden bits ip code row bytes (Err Ended) a e = cc
 answered_forbidden bits ip code row bytes (Err Forbidden) a e = a
+
+-- an answer that is an instruction
+pub answered_read : (bits : Bits) (ip : ℕ) (code : Code) (row : Row) (bytes : List ℕ) (r : Result Decoded TailError) (d : Decoded) → Answered bits ip code row bytes r
+    → r ≡ Ok d → RowReads bits ip code row bytes d × LengthFits d.len bytes
+answered_read bits ip code row bytes r d a e = subst (λ (x : Result Decoded TailError). Answered bits ip code row bytes x) e a
+
+-- an answer that is none of at most 15 bytes
+pub answered_over : (bits : Bits) (ip : ℕ) (code : Code) (row : Row) (bytes : List ℕ) (r : Result Decoded TailError) → Answered bits ip code row bytes r
+    → IsOver r → ReadsNothingShort bits ip code row bytes
+answered_over bits ip code row bytes (Ok d) a long = inr (d, (a.0, long))
+answered_over bits ip code row bytes (Err Ended) a long = inl a.0
+answered_over bits ip code row bytes (Err Forbidden) a long = inl a.0
 
 -- numbers that are each below 256 are bytes
 pub bytes_from_type : (xs : List ℕ) → ((k : ℕ) → Fits w8 (get_or xs k 0)) → are_bytes xs ≡ true

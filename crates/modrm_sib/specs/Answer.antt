@@ -1,5 +1,5 @@
 -- What reading the bytes behind an opcode byte answers, part by part.
-use Rattle.std.specs.Prelude.{ℕ, ◌+◌, Bool, true, false, nat_le, if◌then◌else◌, List, [], ◌∷◌, length, take, drop, Option, Some, None, Result, Ok, Err}
+use Rattle.std.specs.Prelude.{◌⊎◌, ℕ, ◌+◌, ◌<◌, Bool, true, false, nat_le, if◌then◌else◌, List, [], ◌∷◌, length, take, drop, Option, Some, None, Result, Ok, Err}
 use Rattle.x86_values.specs.declared.Bits.{Bits}
 use Rattle.x86_values.specs.declared.Code.{Code}
 use Rattle.x86_values.specs.declared.Decoded.{Decoded}
@@ -10,6 +10,7 @@ use Rattle.instruction_parts.specs.declared.spelling.PrefixState.{PrefixState}
 use Rattle.instruction_parts.specs.Sizes.{state_size}
 use Rattle.row_fit.specs.Fits.{immediates_bytes}
 use Rattle.row_fit.specs.Sound.{has_modrm_rule}
+use Rattle.row_relation.specs.RowReading.{RowReads, RowReadsNothing}
 use Rattle.row_meaning.specs.Meaning.{tail, instr_of, next_address}
 use Rattle.modrm_sib.specs.declared.TailError.{TailError}
 use Rattle.modrm_sib.specs.declared.TailError.TheVariants.{Ended, Forbidden}
@@ -69,3 +70,13 @@ unfoldable pub tail_answer : Bits → ℕ → PrefixState → Code → Row → L
 tail_answer bits ip state code row bytes =
     if has_modrm_rule row.modrm then modrm_answer bits ip state code row (state.used + 1) bytes
     else rest_answer bits ip state code row None None (state.used + 1) bytes
+
+-- no instruction of at most 15 bytes
+abbrev pub IsOver : Result Decoded TailError → Type 0
+IsOver (Ok d) = 15 < d.len
+IsOver (Err why) = Unit {0}
+
+-- the row reads nothing, or an instruction of more than 15 bytes
+abbrev pub ReadsNothingShort : Bits → ℕ → Code → Row → List ℕ → Type 0
+ReadsNothingShort bits ip code row bytes =
+    RowReadsNothing bits row bytes ⊎ ((d : Decoded) × (RowReads bits ip code row bytes d × (15 < d.len)))

@@ -2,20 +2,25 @@
 //! (Intel SDM volume 2, 2.1.3 to 2.1.5).
 #![tactic(auto)]
 
-ghost use Rattle.std.specs.Prelude.{◌≡◌, ◌<◌, ◌≤◌, ◌+◌, IsTrue, length, drop, IfSome, IfOk};
+ghost use Rattle.std.specs.Prelude.{◌≡◌, ◌<◌, ◌≤◌, ◌+◌, IsTrue, length, drop, IfSome, IsNone, IfOk};
 ghost use Rattle.instruction_parts.specs.Front.{front_of, Known};
 ghost use Rattle.prefixes.specs.Answer.{is_mode, mode_of};
 ghost use Rattle.row_fit.specs.Sound.{sound};
+ghost use Rattle.modrm_sib.specs.Answer.{ReadsNothingShort};
 ghost use Rattle.modrm_sib.specs.Parts.{KnownToFit, TellsLengths};
+ghost use Rattle.row_meaning.specs.Given.{has_one_immediate};
+ghost use Rattle.instruction_parts.specs.Sizes.{state_size};
 ghost use Rattle.row_relation.specs.RowReading.{RowReads, RowReadsNothing, RowCanGoOn};
 
 mod ends;
+mod known;
 pub mod laws;
 mod parts;
 mod read;
 mod write;
 
 use instruction_parts::PrefixState;
+use known::read_known_tail;
 pub use parts::{modrm_of_byte, sib_of_byte};
 use prefixes::mode_of;
 use row_meaning::operands;
@@ -97,6 +102,37 @@ pub fn read_row_into(
 {
     let (_, tail) = bytes.split_at(state.used as usize + 1);
     read::read_tail(bits, ip, state, code, row, known, tail, place)
+}
+
+/// Reads the tail of a row as [`read_row_into`] does, where the row is known to take the state with the ModRM that stands there, and at most one
+/// of its operands has bytes of the immediates. Answers None where the bytes begin with no instruction of the row of at most 15 bytes; then nothing is
+/// said of what stands in the place.
+///
+/// `size` is the operand size of the row under the prefixes, and `immediates` the bytes of its immediates.
+#[inline(always)]
+pub fn read_known_into(
+    bits: Bits,
+    ip: u64,
+    state: &PrefixState,
+    code: Code,
+    row: &Row,
+    size: Bits,
+    immediates: u8,
+    bytes: &[u8],
+    place: &mut Decoded,
+) -> Option<()>
+    requires sound { IsTrue (sound row.now) }
+    requires one { IsTrue (has_one_immediate row.now) }
+    requires size { size ≡ state_size bits row.now state.now }
+    requires known { TellsLengths bits row.now state.now immediates }
+    requires fitting { KnownToFit bits row.now state.now (drop (state.now.used + 1) bytes.now) }
+    requires front { front_of bits bytes.now ≡ Known state.now }
+    ensures some { IfSome result (λ _. RowReads bits ip code row.now bytes.now place.new) }
+    ensures len { IfSome result (λ _. (0 < place.new.len) × (place.new.len ≤ 15) × (place.new.len ≤ length bytes.now)) }
+    ensures none { IsNone result → ReadsNothingShort bits ip code row.now bytes.now }
+{
+    let (_, tail) = bytes.split_at(state.used as usize + 1);
+    read_known_tail(bits, ip, state, code, row, size, immediates, tail, place)
 }
 
 /// The instruction of a row whose front these bytes have, with its length in bytes.

@@ -122,7 +122,7 @@ fn read_rest(
 
 /// Whether the row has a ModRM.
 #[inline]
-fn has_modrm(row: &Row) -> bool
+pub(crate) fn has_modrm(row: &Row) -> bool
     ensures { result ≡ has_modrm_rule row.now.modrm }
 {
     match row.modrm {

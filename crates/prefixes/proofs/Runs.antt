@@ -1,5 +1,5 @@
 -- Runs of prefixes, within 15 bytes and beyond.
-use Rattle.std.proofs.Common.{◌≡◌, ℕ, zero, suc, ◌≤◌, min, Bool, true, false, ◌&&◌, ◌==◌, nat_le, List, [], ◌∷◌, length, take, Option, Some, None, refl, ap, arith, if◌then◌else◌}
+use Rattle.std.proofs.Common.{◌≡◌, ℕ, zero, suc, ◌≤◌, min, Bool, true, false, ◌&&◌, ◌||◌, ◌==◌, nat_le, List, [], ◌∷◌, length, take, Option, Some, None, refl, ap, arith, if◌then◌else◌}
 use Rattle.std.specs.List.{take_while, prefix_len}
 use Rattle.std.proofs.lemmas.List.{length-take}
 use Rattle.x86_values.specs.declared.Bits.{Bits}
@@ -7,7 +7,7 @@ use Rattle.x86_values.specs.declared.Bits.TheVariants.{B16, B32, B64}
 use Rattle.row_types.specs.declared.Map.{Map}
 use Rattle.row_types.specs.declared.Map.TheVariants.{One, M0f, M0f38, M0f3a}
 use Rattle.instruction_parts.specs.declared.spelling.Vex.{Vex}
-use Rattle.instruction_parts.specs.Counting.{is_prefix, is_64}
+use Rattle.instruction_parts.specs.Counting.{is_legacy_prefix, is_rex, is_prefix, is_64}
 use Rattle.instruction_parts.specs.Bytes.{state_from}
 use Rattle.instruction_parts.specs.Front.{Front, Open, Forbidden, Known, prefix_run, forbids_vex, top_two_set, short_vex, long_vex, opcode_front, short_vex_front, third_byte_front, long_vex_front, vex_front, vex_or_opcode_front, escape_front, is_vex_lead, lead_front, long_front, within_15, front_of}
 use Rattle.prefixes.specs.Answer.{answer_of, answer_within_15}
@@ -152,3 +152,24 @@ unfolding within_15
 answer_of-within_15 given Open = answer-if (nat_le 15 given) Forbidden Open
 answer_of-within_15 given Forbidden = refl
 answer_of-within_15 given (Known state) = answer-if (nat_le 15 state.used) Forbidden (Known state)
+
+-- ---- runs of no prefix and of a REX alone
+
+or_true : (a : Bool) → (a || true) ≡ true
+or_true true = refl
+or_true false = refl
+
+rex_is_prefix : (bits : Bits) (b : ℕ) → is_64 bits ≡ true → is_rex b ≡ true → is_prefix bits b ≡ true
+unfolding is_prefix
+rex_is_prefix bits b h k = rw (h, k) (or_true (is_legacy_prefix b))
+
+-- the run of bytes whose first is no prefix
+pub run_of_none : (bits : Bits) (b : ℕ) (bytes rest : List ℕ) → bytes ≡ b ∷ rest → is_prefix bits b ≡ false → 0 ≡ length (prefix_run bits bytes)
+unfolding prefix_run
+run_of_none bits b bytes rest e h = rw (e, h) refl
+
+-- the run of bytes of which the first is a REX, and the second no prefix
+pub run_of_rex : (bits : Bits) (a b : ℕ) (bytes rest more : List ℕ) → bytes ≡ a ∷ rest → rest ≡ b ∷ more → is_64 bits ≡ true → is_rex a ≡ true
+    → is_prefix bits b ≡ false → 1 ≡ length (prefix_run bits bytes)
+unfolding prefix_run
+run_of_rex bits a b bytes rest more e f h k n = rw (e, rex_is_prefix bits a h k, f, n) refl

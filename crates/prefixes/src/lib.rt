@@ -9,7 +9,7 @@ ghost use Rattle.instruction_parts.specs.declared.spelling.PrefixState.{PrefixSt
 ghost use Rattle.prefixes.specs.Answer.{is_mode, mode_of, answer_of, answer_within_15, answer_in};
 
 use instruction_parts::bytes::state_into;
-use instruction_parts::counting::{forbids_vex, is_64, is_prefix};
+use instruction_parts::counting::{forbids_vex, is_64, is_prefix, is_rex};
 use instruction_parts::sizes::bit_of_byte;
 use instruction_parts::{PrefixState, Vex};
 
@@ -382,18 +382,65 @@ pub fn read_front(bits: Bits, bytes: &[u8]) -> Result<PrefixState, PrefixError>
     }
 }
 
-/// Reads the front as [`read_front`] does, and writes it to a place: as a value it is copied at each call that it comes through.
+/// Whether a byte is a prefix. Most opcode bytes stand in a range that holds none.
 #[inline(always)]
-pub fn read_front_into(bits: Bits, bytes: &[u8], place: &mut PrefixState) -> Result<(), PrefixError>
+fn is_prefix_byte(bits: Bits, b: u8) -> bool
+    ensures { result ≡ counting.is_prefix bits b }
+{
+    if b >= 0x68 && b < 0xF0 {
+        false
+    } else {
+        is_prefix(bits, b)
+    }
+}
+
+/// The front of bytes, given the length of their run of prefixes.
+#[inline(always)]
+fn front_behind(
+    bits: Bits,
+    bytes: &[u8],
+    n: usize,
+    place: &mut PrefixState,
+) -> Result<(), PrefixError>
+    requires run { n ≡ length (front.prefix_run bits bytes.now) }
+    requires few { n < 15 }
+    ensures { answer_in result place.new ≡ answer_of (front.front_of bits bytes.now) }
+{
+    let answer = long_front(bits, bytes, n, place);
+    bounded(bytes.len(), place.used, answer)
+}
+
+/// The front of bytes behind any prefixes.
+#[inline(never)]
+fn front_of_run(bits: Bits, bytes: &[u8], place: &mut PrefixState) -> Result<(), PrefixError>
     ensures { answer_in result place.new ≡ answer_of (front.front_of bits bytes.now) }
 {
     let n = bounded_run_len(bits, bytes);
     if n >= 15 {
         Err(PrefixError::Forbidden)
     } else {
-        let answer = long_front(bits, bytes, n, place);
-        bounded(bytes.len(), place.used, answer)
+        front_behind(bits, bytes, n, place)
     }
+}
+
+/// Reads the front as [`read_front`] does, and writes it to a place: as a value it is copied at each call that it comes through.
+// Most instructions have no prefix or a REX alone: neither takes a pass over the prefixes.
+#[inline(always)]
+pub fn read_front_into(bits: Bits, bytes: &[u8], place: &mut PrefixState) -> Result<(), PrefixError>
+    ensures { answer_in result place.new ≡ answer_of (front.front_of bits bytes.now) }
+{
+    if let Some((first, rest)) = bytes.split_first() {
+        if is_64(bits) && is_rex(*first) {
+            if let Some((second, _)) = rest.split_first() {
+                if !is_prefix_byte(bits, *second) {
+                    return front_behind(bits, bytes, 1, place);
+                }
+            }
+        } else if !is_prefix_byte(bits, *first) {
+            return front_behind(bits, bytes, 0, place);
+        }
+    }
+    front_of_run(bits, bytes, place)
 }
 
 /// The front of the bytes in the mode `BITS`, which is 16, 32 or 64: what they say up to and with their opcode byte.

@@ -1,1 +1,3 @@
 pub mod ImmediateLaws
+pub mod GivenLaws
+pub mod InstrLaws

@@ -1,2 +1,3 @@
 pub mod Meaning
 pub mod MemorySize
+pub mod Given

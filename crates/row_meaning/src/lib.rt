@@ -1,6 +1,7 @@
 //! What a fitting spelling means: the operands of an instruction (Intel SDM volume 2, 2.1 to 2.3).
 #![tactic(auto)]
 
+pub mod given;
 pub mod meaning;
 mod memory_size;
 pub mod numbers;

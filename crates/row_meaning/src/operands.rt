@@ -80,6 +80,7 @@ fn scale_of(index: Option<Register>, s: Sib) -> u8
 }
 
 /// An address with a SIB and this index.
+#[inline(always)]
 #[tactic(auto, unfolding(crate::specs::Meaning::memory_with_sib))]
 fn memory_with_sib(
     bits: Bits,
@@ -105,6 +106,7 @@ fn memory_with_sib(
 }
 
 /// An address of a general register.
+#[inline(always)]
 #[tactic(auto, unfolding(crate::specs::Meaning::memory_at_base))]
 fn memory_at_base(bits: Bits, asize: Bits, state: &PrefixState, m: ModRm, disp: &[u8]) -> Mem
     requires rm { m.rm < 8 }
@@ -121,6 +123,7 @@ fn memory_at_base(bits: Bits, asize: Bits, state: &PrefixState, m: ModRm, disp: 
 }
 
 /// An address in 32 and 64-bit addressing.
+#[inline(always)]
 #[tactic(auto, unfolding(crate::specs::Meaning::memory_wide, row_fit::specs::Fits::sib_in_range))]
 fn memory_wide(
     bits: Bits,
@@ -173,9 +176,9 @@ fn memory_of(
 }
 
 /// The operand that is memory by ModRM, written to a place.
-#[inline(always)]
+#[inline(never)]
 #[tactic(auto, unfolding(crate::specs::Meaning::memory_operand, row_fit::specs::Fits::modrm_in_range))]
-fn memory_into(bits: Bits, state: &PrefixState, behind: &Behind, place: &mut Operand)
+pub(crate) fn memory_into(bits: Bits, state: &PrefixState, behind: &Behind, place: &mut Operand)
     requires modrm { IsTrue (fits.modrm_in_range behind.now.modrm) }
     requires sib { IsTrue (fits.sib_in_range behind.now.sib) }
     requires disp { length behind.now.disp.now ≤ 8 }
@@ -266,7 +269,7 @@ fn near_target(size: Bits, next: u64, imm: &[u8]) -> Operand
 
 /// The numbers that the fields ask for, each below 16.
 #[tactic(auto, unfolding(row_fit::specs::Fits::modrm_in_range, row_fit::specs::Fits::reg_number))]
-fn reg_number_u8(state: &PrefixState, m: Option<ModRm>) -> u8
+pub(crate) fn reg_number_u8(state: &PrefixState, m: Option<ModRm>) -> u8
     requires { IsTrue (fits.modrm_in_range m) }
     ensures { result ≡ fits.reg_number state.now m }
 {
@@ -275,7 +278,7 @@ fn reg_number_u8(state: &PrefixState, m: Option<ModRm>) -> u8
 
 /// The number that r/m asks for, below 16.
 #[tactic(auto, unfolding(row_fit::specs::Fits::modrm_in_range, row_fit::specs::Fits::rm_number))]
-fn rm_number_u8(bits: Bits, state: &PrefixState, m: Option<ModRm>) -> u8
+pub(crate) fn rm_number_u8(bits: Bits, state: &PrefixState, m: Option<ModRm>) -> u8
     requires { IsTrue (fits.modrm_in_range m) }
     ensures { result ≡ fits.rm_number bits state.now m }
 {
@@ -330,7 +333,7 @@ pub struct Behind<'a> {
 
 /// The register of a number that an operand of the kind names, written to a place.
 #[inline(always)]
-fn register_into(
+pub(crate) fn register_into(
     bits: Bits,
     size: Bits,
     l: LBit,
@@ -350,7 +353,7 @@ fn register_into(
 // Each arm writes the place: an operand that all arms hand on is put together from its parts again.
 #[inline(always)]
 #[tactic(auto, unfolding(crate::specs::Meaning::operand_by, row_fit::specs::Fits::is_memory_method))]
-fn operand_into(
+pub(crate) fn operand_into(
     bits: Bits,
     size: Bits,
     l: LBit,
@@ -608,7 +611,7 @@ fn operand_at_into(
 
 /// The classes any and NF3 keep the counting repeat prefix.
 #[tactic(auto, unfolding(crate::specs::Meaning::kept_repeat))]
-fn kept_repeat(class: Class, rep: Rep) -> Rep
+pub(crate) fn kept_repeat(class: Class, rep: Rep) -> Rep
     ensures { result ≡ spec.kept_repeat class rep }
 {
     match class {
@@ -619,7 +622,7 @@ fn kept_repeat(class: Class, rep: Rep) -> Rep
 }
 
 /// Whether one of four operands is memory.
-fn any_of(first: bool, second: bool, third: bool, fourth: bool) -> bool
+pub(crate) fn any_of(first: bool, second: bool, third: bool, fourth: bool) -> bool
     ensures { result ≡ first || (second || (third || fourth)) }
 {
     first || second || third || fourth
@@ -627,7 +630,12 @@ fn any_of(first: bool, second: bool, third: bool, fourth: bool) -> bool
 
 /// The address size of an instruction, where some operand is memory or the row has the mark a.
 #[inline(always)]
-fn kept_address_size(bits: Bits, row: &Row, state: &PrefixState, memory: bool) -> Option<Bits>
+pub(crate) fn kept_address_size(
+    bits: Bits,
+    row: &Row,
+    state: &PrefixState,
+    memory: bool,
+) -> Option<Bits>
     ensures { result ≡ if memory || has_address_mark row.now then Some (state_address_size bits state.now) else None }
 {
     if memory || has_address_mark(row) {

@@ -1,22 +1,14 @@
-use Rattle.std.proofs.Common.{◌≡◌, ◌≤◌, ℕ, ap, refl, sym, ◌∙◌, arith, length, drop, List}
+use Rattle.std.proofs.Common.{◌≡◌, ◌≤◌, ℕ, ap, sym, ◌∙◌, arith, length, drop, List}
 use Rattle.std.proofs.lemmas.List.{length-take, length-drop}
 use Rattle.x86_values.specs.declared.Bits.{Bits}
-use Rattle.x86_values.specs.declared.Operand.TheVariants.{Absent as AbsentOperand}
 use Rattle.row_types.specs.declared.Row.{Row}
-use Rattle.row_types.specs.declared.OpKind.TheVariants.{Absent as AbsentKind}
-use Rattle.instruction_parts.specs.declared.spelling.PrefixState.{PrefixState}
 use Rattle.instruction_parts.specs.Kinds.{method_of}
 use Rattle.row_types.specs.declared.OpKind.{OpKind}
 use Rattle.instruction_parts.specs.declared.kinds.Method.TheVariants.{Pointer}
 use Rattle.row_fit.specs.Fits.{immediate_bytes, kind_at}
-use Rattle.row_meaning.specs.Meaning.{Tail, immediates_before, own_immediate, operand_by, operand_at}
-use Rattle.row_meaning.proofs.ImmediateLaws.{pointer_short}
+use Rattle.row_meaning.specs.Meaning.{immediates_before, own_immediate}
+use Rattle.row_meaning.proofs.ImmediateLaws.{pointer_short, absent_operand}
 use Rattle.row_meaning.proofs.operands.operand_at_into.Goals as goal
-
--- an operand of the kind absent is absent
-absent_operand : (bits : Bits) (row : Row) (state : PrefixState) (t : Tail) (imm : List ℕ) (n : ℕ) → kind_at row n ≡ AbsentKind → operand_at bits row state t imm n ≡ AbsentOperand
-unfolding operand_at operand_by method_of
-absent_operand bits row state t imm n h = rw h refl
 
 pub returns-in-Absent-clause-operand : goal.returns-in-Absent-clause-operand
 returns-in-Absent-clause-operand c =

@@ -1,16 +1,9 @@
-use Rattle.std.proofs.Common.{◌≡◌, ℕ, zero, List, ◌+◌, ◌≤◌, ap, sym, ◌∙◌, arith, length, take, drop}
-use Rattle.std.proofs.Math.Seq.{take-length}
+use Rattle.std.proofs.Common.{ap, ◌∙◌, arith, length}
 use Rattle.std.proofs.lemmas.List.{length-drop}
 use Rattle.row_fit.specs.Fits.{immediate_bytes, kind_at}
 use Rattle.row_meaning.specs.Meaning.{immediates_before, own_immediate}
-use Rattle.row_meaning.proofs.ImmediateLaws.{before_within}
+use Rattle.row_meaning.proofs.ImmediateLaws.{before_within, whole_list}
 use Rattle.row_meaning.proofs.operands.own_immediate.Goals as goal
-
--- what is all of the bytes stands behind none
-whole_list : (xs : List ℕ) (before len : ℕ) → len ≡ length xs → before + len ≤ length xs → xs ≡ take len (drop before xs)
-whole_list xs before len e within =
-    let none : before ≡ zero = omega arith in
-    rw (none, e) (sym (take-length xs))
 
 -- an operand whose immediate is as long as all of them has them all
 pub returns-then-len-imm : goal.returns-then-len-imm

@@ -1,0 +1,22 @@
+-- Rows of which one operand at most has bytes of the immediates.
+use Rattle.std.specs.Prelude.{Bool, true, false, not, ◌&&◌}
+use Rattle.row_types.specs.declared.Row.{Row}
+use Rattle.row_types.specs.declared.OpKind.{OpKind}
+use Rattle.instruction_parts.specs.declared.kinds.Width.TheVariants.{Zero as ZeroWidth}
+use Rattle.instruction_parts.specs.Kinds.{immediate_width}
+use Rattle.row_fit.specs.Fits.{kind_at}
+
+-- an operand of the kind has bytes of the immediates (A.2.2)
+abbrev pub has_immediate : OpKind → Bool
+has_immediate kind = elim (immediate_width kind) [ ZeroWidth ↦ false | _ ↦ true ]
+
+-- at most one of four holds
+abbrev pub at_most_one : Bool → Bool → Bool → Bool → Bool
+at_most_one true b c d = not b && (not c && not d)
+at_most_one false true c d = not c && not d
+at_most_one false false c d = not (c && d)
+
+-- at most one operand has bytes of the immediates
+unfoldable pub has_one_immediate : Row → Bool
+has_one_immediate row =
+    at_most_one (has_immediate (kind_at row 0)) (has_immediate (kind_at row 1)) (has_immediate (kind_at row 2)) (has_immediate (kind_at row 3))
