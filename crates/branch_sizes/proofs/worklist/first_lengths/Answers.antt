@@ -7,7 +7,8 @@ use Rattle.branch_sizes.proofs.worklist.first_lengths.Goals as goal
 
 pub image_len-requires : goal.image_len-requires
 image_len-requires c =
-    (first_choice c.args.spans.now c.args.items.now c.requires c.lengths.k c.index-items-k.result c.lengths-test.true c.index-items-k.is).0
+    (first_choice c.args.spans.now c.args.items.now c.requires c.lengths.k c.index-items-k.result
+    c.lengths-test.true c.index-items-k.is).0
 
 pub lengths-preserved : goal.lengths-preserved
 lengths-preserved c =
@@ -16,14 +17,17 @@ lengths-preserved c =
     let ys = c.push.new.self.items in
     let n = c.image_len.result in
     let x = c.index-items-k.result in
-    let is = c.image_len.ensures ∙ first_image c.args.spans.now c.args.items.now c.lengths.k x c.lengths-test.true c.index-items-k.is in
-    let some = first_choice c.args.spans.now c.args.items.now c.requires c.lengths.k x c.lengths-test.true c.index-items-k.is in
+    let is = c.image_len.ensures
+    ∙ first_image c.args.spans.now c.args.items.now c.lengths.k x c.lengths-test.true c.index-items-k.is in
+    let some = first_choice c.args.spans.now c.args.items.now c.requires c.lengths.k x
+    c.lengths-test.true c.index-items-k.is in
     let low : 1 ≤ n = omega (arith, some.1, c.image_len.ensures) in
     let high : n ≤ 15 = omega (arith, is, image_short p c.requires (first_layout p) c.lengths.k) in
     record {
       len = omega (arith, pushed_len xs ys n c.in_ok-push.ensures.items, c.lengths.invariant.len);
       each = pushed (λ i v. v ≡ image_length p (first_layout p) i) xs ys n c.in_ok-push.ensures.items
-          (subst (λ i. n ≡ image_length p (first_layout p) i) (sym c.lengths.invariant.len) is) c.lengths.invariant.each;
+          (subst (λ i. n ≡ image_length p (first_layout p) i) (sym c.lengths.invariant.len) is)
+          c.lengths.invariant.each;
       fit = pushed (λ i v. (1 ≤ v) × (v ≤ 15)) xs ys n c.in_ok-push.ensures.items (low, high) c.lengths.invariant.fit;
     }
 

@@ -13,12 +13,19 @@ passes-preserved c =
     let p = plan_of c.args.spans.now c.args.items.now in
     let grown = c.in_ok-grew.ensures in
     let back = take_at c.pass.new.layout _ c.passes.layout.len
-    (omega (arith, c.passes.layout.ok, c.deref_mut.ensures.len, grown.grows.layout.len, c.passes.invariant.is_layout.len)) in
+    (omega (
+      arith,
+      c.passes.layout.ok,
+      c.deref_mut.ensures.len,
+      grown.grows.layout.len,
+      c.passes.invariant.is_layout.len,
+    )) in
     record {
       lengths = subst (λ xs. AreLengths p xs c.pass.new.sums) (sym back) grown.lengths;
       is_layout = subst (IsLayout p) (sym back) grown.grows.layout;
       least = λ other closed. subst (λ xs. AtMost xs other) (sym back)
-          (grown.grows.below other closed (subst (λ xs. AtMost xs other) (sym c.deref_mut.ensures.value) (c.passes.invariant.least other closed)));
+          (grown.grows.below other closed
+          (subst (λ xs. AtMost xs other) (sym c.deref_mut.ensures.value) (c.passes.invariant.least other closed)));
     }
 
 pub returns : goal.returns
@@ -26,7 +33,13 @@ returns c =
     let p = plan_of c.args.spans.now c.args.items.now in
     let grown = c.in_ok-grew.ensures in
     let back = take_at c.pass.new.layout _ c.passes.layout.len
-    (omega (arith, c.passes.layout.ok, c.deref_mut.ensures.len, grown.grows.layout.len, c.passes.invariant.is_layout.len)) in
+    (omega (
+      arith,
+      c.passes.layout.ok,
+      c.deref_mut.ensures.len,
+      grown.grows.layout.len,
+      c.passes.invariant.is_layout.len,
+    )) in
     subst (IsLeast p) (sym back) (record {
       closed = grown.closed (λ t. both_ways _ c.if-not-grew.true t);
       least = λ other closed. grown.grows.below other closed
@@ -36,7 +49,8 @@ returns c =
 pub places-requires-clause-layout : goal.places-requires-clause-layout
 places-requires-clause-layout c =
     let p = plan_of c.args.spans.now c.args.items.now in
-    subst (IsLayout p) (sym (c.deref.ensures.value ∙ c.in_ok-layout.ensures.items_if_clones_equal (λ y e. e))) (first_is_layout p c.requires)
+    subst (IsLayout p) (sym (c.deref.ensures.value ∙ c.in_ok-layout.ensures.items_if_clones_equal (λ y e. e)))
+    (first_is_layout p c.requires)
 
 pub make-requires-clause-few : goal.make-requires-clause-few
 make-requires-clause-few c =
@@ -60,8 +74,11 @@ passes-init c =
 
 pub pass-requires-clause-layout : goal.pass-requires-clause-layout
 pass-requires-clause-layout c =
-    subst (IsLayout (plan_of c.args.spans.now c.args.items.now)) (sym c.deref_mut.ensures.value) c.passes.invariant.is_layout
+    subst (IsLayout (plan_of c.args.spans.now c.args.items.now)) (sym c.deref_mut.ensures.value)
+    c.passes.invariant.is_layout
 
 pub pass-requires-clause-lengths : goal.pass-requires-clause-lengths
 pass-requires-clause-lengths c =
-    subst (λ xs. AreLengths (plan_of c.args.spans.now c.args.items.now) xs c.passes.sums) (sym c.deref_mut.ensures.value) c.passes.invariant.lengths
+    subst (λ xs. AreLengths (plan_of c.args.spans.now c.args.items.now) xs c.passes.sums)
+    (sym c.deref_mut.ensures.value)
+    c.passes.invariant.lengths

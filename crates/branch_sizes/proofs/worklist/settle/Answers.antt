@@ -13,18 +13,21 @@ suspects-preserved c =
     let p = plan_in c.args.tables.now in
     record {
       lengths = c.grow_and_note-in-suspects.ensures.lengths;
-      grows = grows_twice p _ _ _ (grows_twice p _ _ _ c.suspects.invariant.grows c.queue.invariant.grows) c.grow_and_note-in-suspects.ensures.grows;
+      grows = grows_twice p _ _ _ (grows_twice p _ _ _ c.suspects.invariant.grows c.queue.invariant.grows)
+          c.grow_and_note-in-suspects.ensures.grows;
     }
 
 pub returns-in_err-grow_and_note-clause-grows : goal.returns-in_err-grow_and_note-clause-grows
 returns-in_err-grow_and_note-clause-grows c =
     let p = plan_in c.args.tables.now in
-    grows_twice p _ _ _ (grows_twice p _ _ _ c.suspects.invariant.grows c.queue.invariant.grows) c.grow_and_note.ensures.grows
+    grows_twice p _ _ _ (grows_twice p _ _ _ c.suspects.invariant.grows c.queue.invariant.grows)
+    c.grow_and_note.ensures.grows
 
 pub returns-in_err-grow_and_note-2-clause-grows : goal.returns-in_err-grow_and_note-2-clause-grows
 returns-in_err-grow_and_note-2-clause-grows c =
     let p = plan_in c.args.tables.now in
-    grows_twice p _ _ _ (grows_twice p _ _ _ c.suspects.invariant.grows c.queue.invariant.grows) c.grow_and_note-in-suspects.ensures.grows
+    grows_twice p _ _ _ (grows_twice p _ _ _ c.suspects.invariant.grows c.queue.invariant.grows)
+    c.grow_and_note-in-suspects.ensures.grows
 
 pub returns-in_default-passed-clause-grows : goal.returns-in_default-passed-clause-grows
 returns-in_default-passed-clause-grows c =
@@ -33,4 +36,5 @@ returns-in_default-passed-clause-grows c =
 pub returns-then-not-branch-clause-grows : goal.returns-then-not-branch-clause-grows
 returns-then-not-branch-clause-grows c =
     let p = plan_in c.args.tables.now in
-    grows_twice p _ _ _ (grows_twice p _ _ _ c.suspects.invariant.grows c.queue.invariant.grows) c.grow_and_note-in-suspects.ensures.grows
+    grows_twice p _ _ _ (grows_twice p _ _ _ c.suspects.invariant.grows c.queue.invariant.grows)
+    c.grow_and_note-in-suspects.ensures.grows
