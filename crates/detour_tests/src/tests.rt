@@ -29,12 +29,12 @@ fn near(code: &'static str) -> Case {
     }
 }
 
-/// The same in another mode.
+/// A function at 1000 in a mode, with replacement and trampoline as [`near`] has them.
 fn near_in(bits: Bits, code: &'static str) -> Case {
     Case { bits, ..near(code) }
 }
 
-/// The same, where recursion comes to the replacement.
+/// A function of 64-bit mode as [`near`] has it, where recursion comes to the replacement.
 fn hooked(code: &'static str) -> Case {
     Case {
         start: StartTarget::Hooked,

@@ -190,7 +190,7 @@ fn answer<const BITS: u32>(sample: Sample, bytes: &[u8]) -> Result<Result<Decode
     Ok(read_operands::<BITS>(0x1000, &state, code_of_row(sample), &row, bytes))
 }
 
-/// The same in a mode that is given as a value.
+/// What [`answer`] says in a mode that is given as a value.
 fn answer_in(bits: Bits, sample: Sample, bytes: &[u8]) -> Result<Result<Decoded, TailError>, Fail> {
     match bits {
         Bits::B16 => answer::<16>(sample, bytes),
