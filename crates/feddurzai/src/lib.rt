@@ -117,10 +117,14 @@ pub mod region {
     };
 }
 
-/// Slots for displaced single stepping: an instruction elsewhere, and the jump back. `step_code` takes bytes.
+/// Slots for displaced single stepping: an instruction elsewhere, and the jump back. `step_code` takes bytes, and `step_at` makes the same block at a
+/// place of the caller's.
 pub mod slots {
     pub use crate::stepping::{StepCodeError, step_code};
-    pub use step_slots::{StepCommand, StepError, StepReply, StepSlot, StepSlots, laws, replay};
+    pub use step_slots::{
+        StandError, StepCommand, StepError, StepReply, StepSlot, StepSlots, laws, replay, step_at,
+        step_len,
+    };
 }
 
 /// Listings of any input, a line at a time, and the ports that they go between: over memory, over the readers and writers of std, and for tests. `laws`
