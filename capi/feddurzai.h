@@ -61,7 +61,7 @@ enum {
     FEDDURZAI_NO_ROOM = -6,         /* the room is too small */
     FEDDURZAI_INVALID = -7,         /* the bytes begin with no instruction, and more bytes would not change that */
     FEDDURZAI_TOO_SHORT = -8,       /* the bytes end before an instruction does */
-    FEDDURZAI_NO_NAME = -9,         /* no row has this name and number; no feature has this bit */
+    FEDDURZAI_NO_NAME = -9,         /* no row has this name and number; no feature this bit; no operand this number */
     FEDDURZAI_NO_MEMORY = -10,      /* malloc had no memory */
     FEDDURZAI_TOO_LARGE = -11,      /* there are more than FEDDURZAI_MAX_CODE bytes (feddurzai_flow_from: _MAX_FLOW) */
     FEDDURZAI_TOO_MANY = -12,       /* there are more than FEDDURZAI_MAX_MOVED instructions */
@@ -482,6 +482,18 @@ int32_t feddurzai_name(uint32_t code, char *out, size_t room);
 
 /* The same of its notation, as `REX.W + 81 /0 id`. A room of 65 is always enough. */
 int32_t feddurzai_notation(uint32_t code, char *out, size_t room);
+
+/*
+ * Tells operand `index` of a row, 0 to 3. Writes the word of its kind and a 0 behind it, and sets *access to what is
+ * done to the operand, FEDDURZAI_ACCESS_NONE, _READ, _WRITE or _READ_WRITE, as feddurzai_info has it. The word is that
+ * of Intel SDM volume 2, A.2, as `Eb` or `Gv`: how the operand is addressed and of what type it is. Beside those of the
+ * manual, Z is a register by the opcode and gx, gv are the addresses of a gather; a fixed register has its name, as
+ * `AL` or `rAX`. An operand that the row does not have has the empty word and no access. A room of 6 is always enough.
+ *
+ * Returns the length of the word, 0 for an operand that the row does not have, or FEDDURZAI_BAD_CODE, _NO_NAME (the
+ * index is above 3), _NO_ROOM; then *access and the room are unchanged.
+ */
+int32_t feddurzai_row_operand(uint32_t code, uint32_t index, uint8_t *access, char *kind, size_t room);
 
 /*
  * The code of the n-th row of a name of `len` bytes, from 0, in the order of the codes. Returns FEDDURZAI_NO_NAME
@@ -1121,6 +1133,13 @@ static inline int32_t feddurzai_checked_notation(uint32_t code, char *out, size_
     return feddurzai_notation(code, out, room);
 }
 
+static inline int32_t feddurzai_checked_row_operand(uint32_t code, uint32_t index, uint8_t *access, char *kind, size_t room)
+{
+    if (access == NULL || feddurzai_is_null(kind, room))
+        return FEDDURZAI_NULL;
+    return feddurzai_row_operand(code, index, access, kind, room);
+}
+
 static inline int32_t feddurzai_checked_code_of(const char *name, size_t len, size_t n)
 {
     if (feddurzai_is_null(name, len))
@@ -1250,6 +1269,7 @@ static inline int32_t feddurzai_checked_detour(uint32_t bits, uint64_t ip, const
 #define feddurzai_feature_name feddurzai_checked_feature_name
 #define feddurzai_name feddurzai_checked_name
 #define feddurzai_notation feddurzai_checked_notation
+#define feddurzai_row_operand feddurzai_checked_row_operand
 #define feddurzai_code_of feddurzai_checked_code_of
 #define feddurzai_move feddurzai_checked_move
 #define feddurzai_move_outside feddurzai_checked_move_outside

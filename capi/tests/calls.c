@@ -906,6 +906,61 @@ static void check_codes(void)
     }
 }
 
+/* operands of rows: kinds by the entries of the manual, and what chapters 3 to 5 say is done to them */
+static void check_row_operands(void)
+{
+    static const struct { const char *name, *notation; uint32_t index; const char *kind; uint8_t access; } operands[] = {
+        {"add", "00 /r", 0, "Eb", FEDDURZAI_READ_WRITE},
+        {"add", "00 /r", 1, "Gb", FEDDURZAI_READ},
+        {"add", "00 /r", 2, "", FEDDURZAI_ACCESS_NONE},
+        {"add", "00 /r", 3, "", FEDDURZAI_ACCESS_NONE},
+        {"mov", "REX.W + 89 /r", 0, "Ev", FEDDURZAI_WRITE},
+        {"mov", "REX.W + 89 /r", 1, "Gv", FEDDURZAI_READ},
+        {"cmp", "3C ib", 0, "AL", FEDDURZAI_READ},
+        {"cmp", "3C ib", 1, "Ib", FEDDURZAI_READ},
+        {"shl", "D0 /4", 1, "1", FEDDURZAI_READ},
+        {"lea", "REX.W + 8D /r", 1, "M", FEDDURZAI_ACCESS_NONE},
+    };
+    char notation[65], kind[6];
+    uint8_t access;
+    uint32_t code, index;
+    size_t k, n;
+    int32_t found;
+    for (k = 0; k < sizeof operands / sizeof *operands; k++) {
+        for (n = 0; (found = feddurzai_code_of(operands[k].name, strlen(operands[k].name), n)) >= 0; n++) {
+            CHECK(feddurzai_notation((uint32_t)found, notation, sizeof notation) > 0, 1);
+            if (strcmp(notation, operands[k].notation) == 0)
+                break;
+        }
+        CHECK(found >= 0, 1);
+        access = 0xaa;
+        CHECK(feddurzai_row_operand((uint32_t)found, operands[k].index, &access, kind, sizeof kind), (int32_t)strlen(operands[k].kind));
+        CHECK(strcmp(kind, operands[k].kind), 0);
+        CHECK(access, operands[k].access);
+    }
+    /* a room of 6 for each; an operand that is not there has no access, and none stands behind it */
+    for (code = 0; code < FEDDURZAI_CODES; code++) {
+        int absent = 0;
+        for (index = 0; index < 4; index++) {
+            int32_t length = feddurzai_row_operand(code, index, &access, kind, sizeof kind);
+            CHECK(length >= 0 && (size_t)length == strlen(kind), 1);
+            CHECK(absent && length > 0, 0);
+            absent = length == 0;
+            CHECK(absent ? access == FEDDURZAI_ACCESS_NONE : access <= FEDDURZAI_READ_WRITE, 1);
+        }
+    }
+    access = 0xaa;
+    memset(kind, 0xaa, sizeof kind);
+    CHECK(feddurzai_row_operand(FEDDURZAI_CODES, 0, &access, kind, sizeof kind), FEDDURZAI_BAD_CODE);
+    CHECK(feddurzai_row_operand(0xffffffff, 4, &access, NULL, 0), FEDDURZAI_BAD_CODE);
+    CHECK(feddurzai_row_operand(0, 4, &access, kind, sizeof kind), FEDDURZAI_NO_NAME);
+    CHECK(feddurzai_row_operand(0, 0xffffffff, &access, NULL, 0), FEDDURZAI_NO_NAME);
+    CHECK(feddurzai_row_operand(0, 0, &access, kind, 2), FEDDURZAI_NO_ROOM);
+    CHECK(feddurzai_row_operand(0, 2, &access, NULL, 0), FEDDURZAI_NO_ROOM);
+    CHECK(access, 0xaa);
+    CHECK(is_untouched((const uint8_t *)kind, sizeof kind), 1);
+}
+
 static void check_refusals(void)
 {
     static const uint8_t nop[] = {0x90};
@@ -965,6 +1020,7 @@ static void check_refusals(void)
     CHECK(feddurzai_notation(0, NULL, 0), FEDDURZAI_NO_ROOM);
     CHECK(feddurzai_notation(0, text, sizeof text), 5);
     CHECK(strcmp(text, "00 /r"), 0);
+    check_row_operands();
     CHECK(feddurzai_name(0, text, 4), 3);
     CHECK(strcmp(text, "add"), 0);
     CHECK(feddurzai_code_of(NULL, 0, 0), FEDDURZAI_NO_NAME);

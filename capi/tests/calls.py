@@ -62,6 +62,8 @@ def read_instructions():
     check((repr(mov), str(mov)), ("<Instr 0x1000: 48895c2410 mov qword [rsp+0x10], rbx>", "mov qword [rsp+0x10], rbx"))
     check(mov.code in f.codes_of("mov"), True)
     check(f.line(64, 0x1000, code("9048895c2410"), f.Style.MASM, 1), (mov, "mov qword ptr [rsp+10h], rbx"))
+    check([f.row_operand(mov.code, index) for index in (0, 1)], [("Ev", f.Access.WRITE), ("Gv", f.Access.READ)])
+    check(f.row_operand(mov.code, 2), f.RowOperand("", f.Access.NONE))
     check((f.code_of("mow"), f.codes_of("mow"), f.code_of("m\u00f6v")), (None, [], None))
     check((f.code_of("mov", "REX.W + 89 /r"), f.code_of("mov", "REX.W + 90"), f.code_of("mov", 99)), (mov.code, None, None))
     # an address is taken modulo 2 to the power of bits
@@ -381,6 +383,7 @@ def refusals_say_why():
     refused(f.Reason.TOO_SHORT, f.line, 64, 0, b"\x48", kind=f.TooShort)
     refused(f.Reason.BAD_CODE, f.name, 5000)
     refused(f.Reason.BAD_CODE, f.notation, 5000)
+    refused(f.Reason.BAD_CODE, f.row_operand, 5000, 0)
     refused(f.Reason.INVALID, f.decode, 64, 0, b"\x06", kind=f.InvalidCode)
     refused(f.Reason.TOO_SHORT, f.decode, 64, 0, b"\x48", kind=f.TooShort)
     refused(f.Reason.TOO_SHORT, f.decode, 64, 0, b"\x90", 1, kind=f.TooShort)
@@ -444,6 +447,9 @@ def values_are_looked_at_first():
         (f.encode, (64, -1, nop)),
         (f.name, (-1,)),
         (f.notation, (1 << 32,)),
+        (f.row_operand, (1 << 32, 0)),
+        (f.row_operand, (0, 4)),
+        (f.row_operand, (0, -1)),
         (f.code_of, ("mov", -1)),
         (f.assemble, (64, -1, "nop")),
         (f.read_intel, (64, -1, "nop")),

@@ -36,7 +36,7 @@ static uint64_t place;
 static feddurzai_detour_report detour;
 static feddurzai_step_report step;
 static uint32_t starts[3], leaders[3];
-static uint8_t kinds[3];
+static uint8_t kinds[3], access;
 static const uint32_t firsts[2] = {0, 2};
 static size_t count;
 static uint8_t out[SPARE], patch[6];
@@ -59,6 +59,7 @@ static void fill(void)
     memset(&step, 0xaa, sizeof step);
     memset(starts, 0xaa, sizeof starts);
     memset(kinds, 0xaa, sizeof kinds);
+    memset(&access, 0xaa, sizeof access);
     memset(leaders, 0xaa, sizeof leaders);
     memset(&count, 0xaa, sizeof count);
     memset(out, 0xaa, sizeof out);
@@ -74,6 +75,7 @@ static int nothing_was_written(void)
         && is_untouched(&region, sizeof region) && is_untouched(live, sizeof live) && is_untouched(&place, sizeof place)
         && is_untouched(&detour, sizeof detour) && is_untouched(&step, sizeof step)
         && is_untouched(starts, sizeof starts) && is_untouched(leaders, sizeof leaders) && is_untouched(kinds, sizeof kinds)
+        && is_untouched(&access, sizeof access)
         && is_untouched(&count, sizeof count) && is_untouched(out, sizeof out) && is_untouched(patch, sizeof patch)
         && is_untouched(text, sizeof text);
 }
@@ -135,6 +137,9 @@ static void check_nulls(void)
 
     CHECK(feddurzai_name(0, NULL, sizeof text), FEDDURZAI_NULL);
     CHECK(feddurzai_notation(0, NULL, sizeof text), FEDDURZAI_NULL);
+    CHECK(feddurzai_row_operand(0, 0, &access, NULL, sizeof text), FEDDURZAI_NULL);
+    CHECK(feddurzai_row_operand(0, 0, NULL, text, sizeof text), FEDDURZAI_NULL);
+    CHECK(feddurzai_row_operand(0, 0, NULL, NULL, 0), FEDDURZAI_NULL);
     CHECK(feddurzai_code_of(NULL, 3, 0), FEDDURZAI_NULL);
 
     CHECK(feddurzai_move(64, 0x1000, NULL, 4, 0x2000, out, sizeof out, map, 3, &report), FEDDURZAI_NULL);
@@ -202,6 +207,7 @@ static void check_nulls(void)
     CHECK(feddurzai_effects(17, &unread, NULL), FEDDURZAI_NULL);
     CHECK(feddurzai_feature_name(FEDDURZAI_FEATURES, NULL, 1), FEDDURZAI_NULL);
     CHECK(feddurzai_name(FEDDURZAI_CODES, NULL, 1), FEDDURZAI_NULL);
+    CHECK(feddurzai_row_operand(FEDDURZAI_CODES, 4, NULL, text, sizeof text), FEDDURZAI_NULL);
     CHECK(feddurzai_move(17, 0, code, 4, 0, out, sizeof out, map, 3, NULL), FEDDURZAI_NULL);
     CHECK(feddurzai_flow(17, 0, NULL, 4, starts, 3, leaders, 3), FEDDURZAI_NULL);
     CHECK(feddurzai_flow_from(17, 0, code, 4, NULL, 2, starts, 3, leaders, 3, kinds, 3), FEDDURZAI_NULL);
@@ -237,6 +243,7 @@ static void check_empty(void)
     CHECK(feddurzai_feature_name(0, NULL, 0), FEDDURZAI_NO_ROOM);
     CHECK(feddurzai_name(0, NULL, 0), FEDDURZAI_NO_ROOM);
     CHECK(feddurzai_notation(0, NULL, 0), FEDDURZAI_NO_ROOM);
+    CHECK(feddurzai_row_operand(0, 0, &access, NULL, 0), FEDDURZAI_NO_ROOM);
     CHECK(feddurzai_code_of(NULL, 0, 0), FEDDURZAI_NO_NAME);
     CHECK(feddurzai_flow(64, 0, code, 4, NULL, 0, NULL, 0), FEDDURZAI_NO_ROOM);
     CHECK(feddurzai_flow(64, 0, code, 4, NULL, 0, leaders, 3), FEDDURZAI_NO_ROOM);
@@ -305,6 +312,7 @@ static void check_zeros(void)
     CHECK(feddurzai_flow_from(0, 0, NULL, 0, NULL, 0, NULL, 0, NULL, 0, NULL, 0), FEDDURZAI_BAD_MODE);
     CHECK(feddurzai_name(0, NULL, 0), FEDDURZAI_NO_ROOM);
     CHECK(feddurzai_notation(0, NULL, 0), FEDDURZAI_NO_ROOM);
+    CHECK(feddurzai_row_operand(0, 0, &access, NULL, 0), FEDDURZAI_NO_ROOM);
     CHECK(feddurzai_code_of(NULL, 0, 0), FEDDURZAI_NO_NAME);
     /* `add` without operands */
     CHECK(feddurzai_info(&zeros, &about), FEDDURZAI_BAD_FORM);
@@ -337,7 +345,7 @@ static uint8_t *room_of(size_t room)
     return bytes;
 }
 
-enum writer { TEXT, LINE, LINE_TEXT, ENCODE, ASSEMBLE, JUMP, REGISTER_TEXT, SEGMENT_TEXT, FEATURE_NAME, NAME, NOTATION };
+enum writer { TEXT, LINE, LINE_TEXT, ENCODE, ASSEMBLE, JUMP, REGISTER_TEXT, SEGMENT_TEXT, FEATURE_NAME, NAME, NOTATION, ROW_OPERAND };
 
 static int32_t written(enum writer writer, uint8_t *bytes, size_t room)
 {
@@ -362,8 +370,10 @@ static int32_t written(enum writer writer, uint8_t *bytes, size_t room)
         return feddurzai_feature_name(FEDDURZAI_FEATURE_AVX2, (char *)bytes, room);
     case NAME:
         return feddurzai_name(instr.code, (char *)bytes, room);
-    default:
+    case NOTATION:
         return feddurzai_notation(instr.code, (char *)bytes, room);
+    default:
+        return feddurzai_row_operand(instr.code, 1, &access, (char *)bytes, room);
     }
 }
 
@@ -471,6 +481,7 @@ int main(void)
     check_rooms_of(FEATURE_NAME, "AVX2", 5, 4);
     check_rooms_of(NAME, "mov", 4, 3);
     check_rooms_of(NOTATION, "REX.W + 89 /r", 14, 13);
+    check_rooms_of(ROW_OPERAND, "Gv", 3, 2);
     check_rooms_of_steps();
     check_pairs_of_rooms();
     printf("%d answers to NULL, zeros and small rooms, %d wrong\n", tests, failures);

@@ -8,7 +8,7 @@ from . import _checks, _native
 from ._checks import Buffer
 from ._effects import Effects, effects_of
 from ._items import HIGH_AT, LEN_AT, LOW_AT, SIZE, BadByte, Instr, Item, Rest
-from ._numbers import DetourForm, Flow, Form, Jump, Reason, Start, Style
+from ._numbers import Access, DetourForm, Flow, Form, Jump, Reason, Start, Style
 from ._refusal import DetourReport, MoveReport, refusal_of, taken
 from ._told import About, encode_of, info_of, name_of, text_of
 
@@ -18,6 +18,7 @@ _CHUNKS = (16, 256, 2048)
 _BytesRoom = _native.room_of(_native.MAX_LEN)
 _JumpRoom = _native.room_of(_native.MAX_JUMP)
 _NotationRoom = _native.room_of(_native.NOTATION_ROOM)
+_KindRoom = _native.room_of(_native.KIND_ROOM)
 _MOVED = struct.Struct("=QQBB6x")
 _REPORT = struct.Struct("=6Q")
 _ReportRoom = _native.room_of(_REPORT.size)
@@ -244,6 +245,34 @@ def notation(code: int) -> str:
     room = _NotationRoom()
     taken(_native.notation(_checks.number("code", code, _checks.U32), room, _native.NOTATION_ROOM))
     return str(room.value, "ascii")
+
+
+class RowOperand(NamedTuple):
+    """An operand of a row: the word of its kind, and what is done to the whole of it.
+
+    The word is that of Intel SDM volume 2, A.2, as `Eb` or `Gv`: how the operand is addressed and of what type it is. Z is a register by the
+    opcode, gx and gv are the addresses of a gather, and a fixed register has its name. It is empty for an operand that the row does not have.
+
+    >>> row_operand(code_of("shl", "D0 /4"), 1)
+    RowOperand(kind='1', access=<Access.READ: 1>)
+    """
+
+    kind: str
+    access: Access
+
+
+def row_operand(code: int, index: int) -> RowOperand:
+    """The operand of a row of the table, by its number from 0 to 3. Refused: BAD_CODE.
+
+    >>> [row_operand(decode(64, 0, bytes.fromhex("4889c3")).code, index) for index in (0, 1)]
+    [RowOperand(kind='Ev', access=<Access.WRITE: 2>), RowOperand(kind='Gv', access=<Access.READ: 1>)]
+    >>> row_operand(0, 2)
+    RowOperand(kind='', access=<Access.NONE: 0>)
+    """
+    room, access = _KindRoom(), c_uint8()
+    code, index = _checks.number("code", code, _checks.U32), _checks.number("index", index, 3)
+    taken(_native.row_operand(code, index, byref(access), room, _native.KIND_ROOM))
+    return RowOperand(str(room.value, "ascii"), Access(access.value))
 
 
 def code_of(name: str, which: Union[int, str] = 0) -> Optional[int]:

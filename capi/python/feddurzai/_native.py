@@ -18,6 +18,7 @@ MAX_MOVED = 1 << 16
 MAX_STEP = 53
 NAME_ROOM = 17
 NOTATION_ROOM = 65
+KIND_ROOM = 6
 
 SONAME = f"libfeddurzai.so.{INTERFACE}"
 _HERE = os.path.dirname(os.path.abspath(__file__))
@@ -86,6 +87,7 @@ full_register = _call(_short, "full_register", _u8, _u8)
 feature_name = _call(_short, "feature_name", _u32, _at, _size)
 name = _call(_short, "name", _u32, _at, _size)
 notation = _call(_short, "notation", _u32, _at, _size)
+row_operand = _call(_short, "row_operand", _u32, _u32, _at, _at, _size)
 code_of = _call(_short, "code_of", _at, _size, _size)
 register_text = _call(_short, "register_text", _u32, _u8, _u8, _at, _size)
 segment_text = _call(_short, "segment_text", _u32, _u8, _at, _size)

@@ -10,6 +10,7 @@ pub mod Names
 pub mod Assembling
 pub mod Jumps
 pub mod Info
+pub mod RowOperands
 pub mod Effects
 pub mod Flow
 pub mod FlowFrom

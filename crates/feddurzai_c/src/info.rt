@@ -34,7 +34,7 @@ pub(crate) fn flow_number(flow: Flow) -> u8
 }
 
 /// The number of an access, 0 to 3.
-fn access_number(access: Access) -> u8
+pub(crate) fn access_number(access: Access) -> u8
     ensures { result ≡ spec.access_number access }
 {
     match access {

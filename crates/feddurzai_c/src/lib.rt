@@ -33,6 +33,7 @@ mod refusal;
 mod region;
 mod region_search;
 mod room;
+mod row_operands;
 mod rows;
 mod stepping;
 #[cfg(test)]

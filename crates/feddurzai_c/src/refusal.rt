@@ -24,7 +24,7 @@ pub(crate) enum Refusal {
     Invalid,
     /// The bytes end before an instruction does.
     TooShort,
-    /// No row has this name and number, or no feature this bit.
+    /// No row has this name and number, no feature this bit, or no operand this number.
     Name,
     /// There was not enough memory.
     Memory,

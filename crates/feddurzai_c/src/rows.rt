@@ -11,7 +11,7 @@ use std::str::from_utf8;
 use x86_values::Code;
 
 /// The code of a number, where it is one of the table.
-fn code_numbered(n: u32) -> Option<Code>
+pub(crate) fn code_numbered(n: u32) -> Option<Code>
     ensures row { IfSome result (λ code. (code.0 ≡ n) × (n < ROWS)) }
     ensures none { IsNone result → ROWS ≤ n }
 {
