@@ -17,11 +17,11 @@ ghost use Rattle.opcode_rows.specs.Reading.{IsRead};
 ghost use Rattle.encoder.specs.Encoding.{encoding, encoded_by, written, written_onto, length_of, reading_of_bytes};
 
 use arrayvec::ArrayVec;
-use instruction_parts::sizes::exists_in;
+use instruction_parts::sizes::{exists_in, is_vex_row};
 use opcode_rows::{ROWS, row_of};
 pub use plain_spelling::NoSpelling;
 use plain_spelling::conditions::first_failed_condition;
-use plain_spelling::parts::{PlainParts, plain_parts};
+use plain_spelling::parts::{PlainParts, legacy_parts, plain_parts};
 use prefixes::append_front;
 use row_relation::append_plain_tail;
 use row_types::Row;
@@ -30,8 +30,28 @@ use x86_values::{Bits, Instr, wrap};
 pub mod laws;
 
 /// Writes the encoding of an instruction of a row that exists in the mode, at an address of the mode, or answers why there is none.
+#[inline(never)]
+fn encode_any_row(
+    out: &mut ArrayVec<u8, 15>,
+    bits: Bits,
+    ip: u64,
+    row: &Row,
+    instr: &Instr,
+) -> Option<NoSpelling>
+    requires empty { out.old.items ≡ [] }
+    requires sound { IsTrue (sound row.now) }
+    requires writable { IsTrue (writable row.now) }
+    requires exists { IsTrue (sizes.exists_in bits row.now) }
+    ensures { written_onto result out.new ≡ encoded_by (failure bits ip row.now instr.now) (bytes_of row.now (plain_spelling bits ip row.now instr.now)) }
+{
+    // Four operands, as the proof has to know.
+    let [_first, _second, _third, _fourth] = instr.ops;
+    write_parts(out, bits, row, instr, &plain_parts(bits, ip, row, instr))
+}
+
+/// Writes the encoding of an instruction as [`encode_any_row`] does.
 ///
-/// It is a function of its own, so that the row and the parts are read where they lie.
+/// Most are of a legacy row in 64-bit mode. For them it is built once more with that known, which saves the tests of the mode and the VEX.
 #[inline(never)]
 fn encode_row(
     out: &mut ArrayVec<u8, 15>,
@@ -48,7 +68,19 @@ fn encode_row(
 {
     // Four operands, as the proof has to know.
     let [_first, _second, _third, _fourth] = instr.ops;
-    write_parts(out, bits, row, instr, &plain_parts(bits, ip, row, instr))
+    if is_vex_row(row) {
+        return encode_any_row(out, bits, ip, row, instr);
+    }
+    match bits {
+        Bits::B64 => write_parts(
+            out,
+            Bits::B64,
+            row,
+            instr,
+            &legacy_parts(Bits::B64, ip, row, instr),
+        ),
+        _ => encode_any_row(out, bits, ip, row, instr),
+    }
 }
 
 /// Writes the encoding of an instruction of a row that exists in the mode, by the parts of its plain spelling, which say the address, or

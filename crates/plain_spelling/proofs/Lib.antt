@@ -12,3 +12,4 @@ pub mod FrontRange
 pub mod ImmediateRoom
 pub mod Failures
 pub mod Suiting
+pub mod SizedRegisters

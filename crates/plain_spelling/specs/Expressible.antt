@@ -12,7 +12,7 @@ use Rattle.row_types.specs.declared.Row.{Row}
 use Rattle.row_types.specs.declared.Class.TheVariants.{Any as AnyClass, Nf3}
 use Rattle.row_types.specs.declared.Plus.TheVariants.{Register as PlusRegister}
 use Rattle.row_types.specs.declared.OpKind.{OpKind}
-use Rattle.row_types.specs.declared.OpKind.TheVariants.{Sw, Cn, Dn}
+use Rattle.row_types.specs.declared.OpKind.TheVariants.{Ev, Gv, Rv, Sw, Cn, Dn}
 use Rattle.instruction_parts.specs.declared.kinds.Method.{Method}
 use Rattle.instruction_parts.specs.declared.kinds.Method.TheVariants as method
 use Rattle.instruction_parts.specs.Kinds.{method_of, file_of, fixed_number}
@@ -27,7 +27,7 @@ use Rattle.plain_spelling.specs.Forms.{is_variant_of, is_memory, operand_at}
 use Rattle.x86_values.specs.Comparing.{same_bits, same_register}
 use Rattle.plain_spelling.specs.PlainFront.{register_number, number_in_reg, number_in_vvvv, number_in_index, asked, asked_opcode, plain_front_of}
 use Rattle.plain_spelling.specs.declared.addresses.AddressForm.TheVariants.{Relative}
-use Rattle.plain_spelling.specs.Addresses.{form_of, register_count, has_address_size, pointer_size, shown_size, written_size, shape_suits, displacement_suits}
+use Rattle.plain_spelling.specs.Addresses.{form_of, register_count, has_address_size, is_address_register, pointer_size, shown_size, written_size, shape_suits, displacement_suits}
 use Rattle.plain_spelling.specs.PlainTail.{plain_size, plain_len, plain_next}
 
 -- ---- 1. the row exists in the mode
@@ -78,6 +78,17 @@ unfoldable pub is_nameable : Bits → Row → Instr → ℕ → Register → Boo
 is_nameable bits row i n r =
     exists_in_mode bits r && (nat_lt (register_number r) (register_count bits)
     && (is_of_kind bits row i (kind_at row n) r && (is_not_nop row (method_of (kind_at row n)) r && kind_allows bits n (kind_at row n) r)))
+
+-- the kind names general registers of operand size, and asks no more of them
+abbrev pub names_any_sized : OpKind → Bool
+names_any_sized Ev = true
+names_any_sized Gv = true
+names_any_sized Rv = true
+names_any_sized _ = false
+
+-- a general register of the operand size with a number of the mode, of which the kind names any: a register that can be named by its kind
+unfoldable pub is_sized_register : Bits → Bits → OpKind → Register → Bool
+is_sized_register bits size kind r = names_any_sized kind && is_address_register bits size r
 
 -- XMM0 to XMM15 or YMM0 to YMM15
 abbrev pub is_vector_register : Register → Bool

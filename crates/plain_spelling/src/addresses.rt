@@ -207,8 +207,9 @@ fn rm_of_short(base: u8, index: Option<Register>) -> Option<u8>
 }
 
 /// Whether a register is a general one of an address size, with a number of the mode.
+#[inline]
 #[tactic(auto, unfolding(crate::specs::Addresses::is_address_register))]
-fn is_address_register(bits: Bits, asize: Bits, register: Register) -> bool
+pub fn is_address_register(bits: Bits, asize: Bits, register: Register) -> bool
     ensures { result ≡ spec.is_address_register bits asize register }
 {
     (match general_size(register) {

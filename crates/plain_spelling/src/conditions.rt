@@ -17,8 +17,8 @@ ghost use Rattle.plain_spelling.specs.declared.NoSpelling.TheVariants as cause;
 
 use crate::NoSpelling;
 use crate::addresses::{
-    AddressForm, displacement_suits, form_of, has_address_size, register_count, shape_suits,
-    told_size, written_size,
+    AddressForm, displacement_suits, form_of, has_address_size, is_address_register,
+    register_count, shape_suits, told_size, written_size,
 };
 use crate::forms::{is_memory, is_variant_of, operand_at};
 use crate::numbers::{distance, is_below_bytes, is_extended_of, is_of_width};
@@ -144,6 +144,27 @@ fn kind_allows(bits: Bits, n: usize, kind: OpKind, register: Register) -> bool
     }
 }
 
+/// Whether a kind names general registers of operand size, and asks no more of them.
+fn names_any_sized(kind: OpKind) -> bool
+    ensures { result ≡ spec.names_any_sized kind }
+{
+    match kind {
+        OpKind::Ev | OpKind::Gv | OpKind::Rv => true,
+        _ => false,
+    }
+}
+
+/// Whether a register is a general one of the operand size with a number of the mode, and the kind names any such.
+///
+/// Most register operands are, so it is built into its callers, and saves them the tests of the others.
+#[inline(always)]
+#[tactic(auto, unfolding(crate::specs::Expressible::is_sized_register))]
+fn is_sized_register(bits: Bits, size: Bits, kind: OpKind, register: Register) -> bool
+    ensures { result ≡ spec.is_sized_register bits size kind register }
+{
+    names_any_sized(kind) && is_address_register(bits, size, register)
+}
+
 /// Whether the register can be named as operand n.
 #[inline(never)]
 #[tactic(auto, unfolding(crate::specs::Expressible::is_nameable))]
@@ -167,6 +188,26 @@ fn is_nameable(
         && is_of_kind(bits, row, instr, state, size, kind, register)
         && is_not_nop(row, method_of_kind(kind), register)
         && kind_allows(bits, n, kind, register)
+}
+
+/// Whether the register can be named as operand n, by the parts of the plain spelling.
+///
+/// The front is copied, so that the parts need not lie in memory where no operand comes here.
+#[inline(always)]
+fn is_nameable_under(
+    bits: Bits,
+    row: &Row,
+    instr: &Instr,
+    parts: &PlainParts,
+    n: usize,
+    register: Register,
+) -> bool
+    requires place { n < 4 }
+    requires parts { ArePartsOf bits row.now instr.now parts.now }
+    ensures { result ≡ spec.is_nameable bits row.now instr.now n register }
+{
+    let state = parts.state;
+    is_nameable(bits, row, instr, &state, parts.size, n, register)
 }
 
 /// Whether a register is XMM or YMM.
@@ -720,15 +761,10 @@ fn present_suits(bits: Bits, row: &Row, instr: &Instr, parts: &PlainParts, n: us
     }
     match operand {
         Operand::Absent => true,
-        Operand::Reg(register) => is_nameable(
-            bits,
-            row,
-            instr,
-            &parts.state,
-            parts.size,
-            n,
-            register,
-        ),
+        Operand::Reg(register) => {
+            is_sized_register(bits, parts.size, kind, register)
+                || is_nameable_under(bits, row, instr, parts, n, register)
+        }
         Operand::Mem(memory) => {
             shape_suits(bits, row, method, file_of_kind(kind), memory)
                 && displacement_suits(written_size(bits, instr.asize, memory), method, memory)
@@ -773,7 +809,7 @@ fn operand_suits(bits: Bits, row: &Row, instr: &Instr, parts: &PlainParts, n: us
 }
 
 /// Whether the conditions 2 to 9 hold.
-#[inline]
+#[inline(always)]
 #[tactic(auto, unfolding(crate::specs::Expressible::tail_suits, crate::specs::PlainFront::byte_front, crate::specs::PlainFront::plain_front_of))]
 fn tail_suits(bits: Bits, row: &Row, instr: &Instr, parts: &PlainParts) -> bool
     requires { ArePartsOf bits row.now instr.now parts.now }
@@ -792,6 +828,7 @@ fn tail_suits(bits: Bits, row: &Row, instr: &Instr, parts: &PlainParts) -> bool
 /// the address at which it is to stand.
 ///
 /// Mostly all hold, which one test of each operand shows; only else the conditions are tested in their order.
+#[inline(always)]
 pub fn first_failed_condition(
     bits: Bits,
     row: &Row,
@@ -804,6 +841,8 @@ pub fn first_failed_condition(
     if tail_suits(bits, row, instr, parts) {
         None
     } else {
-        first_failure(bits, row, instr, parts)
+        // Copied, so that the parts need not lie in memory where all conditions hold.
+        let kept = *parts;
+        first_failure(bits, row, instr, &kept)
     }
 }

@@ -1,8 +1,9 @@
 //! What the plain spelling of an instruction is made of, computed once.
 
-ghost use Rattle.std.specs.Prelude.{◌≡◌, ◌<◌, ◌≤◌, ◌+◌, min, IsTrue};
+ghost use Rattle.std.specs.Prelude.{◌≡◌, ◌<◌, ◌≤◌, ◌+◌, min, IsTrue, false};
 ghost use Rattle.x86_values.specs.declared.Bits.TheVariants.{B16, B32, B64};
 ghost use Rattle.row_fit.specs.Fits.{immediate_bytes as bytes_of_kind, immediates_bytes as bytes_of_row};
+ghost use Rattle.instruction_parts.specs.Sizes as sizes;
 ghost use Rattle.row_fit.specs.Sound.{sound};
 ghost use Rattle.plain_spelling.specs.PlainFront as front;
 ghost use Rattle.plain_spelling.specs.PlainTail as spec;
@@ -213,9 +214,22 @@ fn vex_parts(bits: Bits, ip: u64, row: &Row, instr: &Instr) -> PlainParts
     parts_with(bits, ip, row, instr, &asked, vex)
 }
 
-/// The parts of the plain spelling of an instruction of a row at an address.
+/// The parts of the plain spelling of an instruction of a legacy row at an address.
 ///
 /// It is built into its callers, where the parts then lie once.
+#[inline(always)]
+pub fn legacy_parts(bits: Bits, ip: u64, row: &Row, instr: &Instr) -> PlainParts
+    requires sound { IsTrue (sound row.now) }
+    requires legacy { sizes.is_vex_row row.now ≡ false }
+    ensures parts { ArePartsOf bits row.now instr.now result }
+    ensures ip { result.ip ≡ ip }
+    ensures small { result.len < 64 }
+{
+    let asked = numbers_asked(row, instr);
+    parts_with(bits, ip, row, instr, &asked, None)
+}
+
+/// The parts of the plain spelling of an instruction of a row at an address.
 #[inline(always)]
 pub fn plain_parts(bits: Bits, ip: u64, row: &Row, instr: &Instr) -> PlainParts
     requires { IsTrue (sound row.now) }
@@ -226,7 +240,6 @@ pub fn plain_parts(bits: Bits, ip: u64, row: &Row, instr: &Instr) -> PlainParts
     if is_vex_row(row) {
         vex_parts(bits, ip, row, instr)
     } else {
-        let asked = numbers_asked(row, instr);
-        parts_with(bits, ip, row, instr, &asked, None)
+        legacy_parts(bits, ip, row, instr)
     }
 }

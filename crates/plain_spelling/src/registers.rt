@@ -181,6 +181,7 @@ fn is_low_byte_of_rex(operand: Operand) -> bool
 }
 
 /// Whether some operand is SPL, BPL, SIL or DIL, which only a REX can name.
+#[inline(always)]
 pub fn asks_low_byte(instr: &Instr) -> bool
     ensures { result ≡ spec.asks_low_byte instr.now.ops }
 {

@@ -213,6 +213,7 @@ fn append_immediates_if(
 }
 
 /// Appends the opcode byte of the plain spelling of an instruction and what stands behind it, by the parts of the plain spelling (2.1).
+#[inline(always)]
 #[tactic(auto, unfolding(instruction_parts::specs::Bytes::modrm_bytes, instruction_parts::specs::Bytes::sib_bytes))]
 pub fn append_plain_tail(out: &mut ArrayVec<u8, 15>, row: &Row, instr: &Instr, parts: &PlainParts)
     requires room { array_vec_len out.old + tail_count row.now instr.now parts.now ≤ 15 }

@@ -5,7 +5,8 @@ use Rattle.x86_values.specs.declared.Operand.TheVariants.{Absent, Reg, Mem as Me
 use Rattle.plain_spelling.specs.Forms.{is_variant_of, operand_at}
 use Rattle.plain_spelling.specs.Addresses.{shape_suits, displacement_suits, written_size}
 use Rattle.plain_spelling.specs.PlainTail.{plain_size, plain_next}
-use Rattle.plain_spelling.specs.Expressible.{near_reaches, address_reaches}
+use Rattle.plain_spelling.specs.Expressible.{is_sized_register, near_reaches, address_reaches}
+use Rattle.plain_spelling.proofs.SizedRegisters.{sized-nameable}
 use Rattle.plain_spelling.proofs.Suiting.{absent-suits, register-suits, memory-suits, near-suits}
 use Rattle.plain_spelling.proofs.conditions.present_suits.Goals as goal
 
@@ -15,11 +16,21 @@ returns-in-Absent c =
     let v : is_variant_of c.args.row.now.place (method_of (kind_at c.args.row.now c.args.n)) Absent ≡ true = cc in
     sym v ∙ absent-suits c.args.bits c.args.parts.now.ip c.args.row.now c.args.instr.now c.args.n e
 
-pub returns-in-Reg : goal.returns-in-Reg
-returns-in-Reg c =
+pub returns-then-is_sized_register : goal.returns-then-is_sized_register
+returns-then-is_sized_register c =
+    let row = c.args.row.now in
+    let r = c.in-Reg.register in
+    let e : operand_at c.args.instr.now c.args.n ≡ Reg r = sym c.operand_at-operand.ensures ∙ c.in-Reg.is in
+    let v : is_variant_of row.place (method_of (kind_at row c.args.n)) (Reg r) ≡ true = cc in
+    let h : is_sized_register c.args.bits (plain_size c.args.bits row) (kind_at row c.args.n) r ≡ true = cc in
+    c.if-is_sized_register.true ∙ sym (sized-nameable c.args.bits row c.args.instr.now c.args.n r h)
+    ∙ register-suits c.args.bits c.args.parts.now.ip row c.args.instr.now c.args.n r e v
+
+pub returns-else-is_sized_register : goal.returns-else-is_sized_register
+returns-else-is_sized_register c =
     let e : operand_at c.args.instr.now c.args.n ≡ Reg c.in-Reg.register = sym c.operand_at-operand.ensures ∙ c.in-Reg.is in
     let v : is_variant_of c.args.row.now.place (method_of (kind_at c.args.row.now c.args.n)) (Reg c.in-Reg.register) ≡ true = cc in
-    c.is_nameable.ensures ∙ register-suits c.args.bits c.args.parts.now.ip c.args.row.now c.args.instr.now c.args.n c.in-Reg.register e v
+    c.is_nameable_under.ensures ∙ register-suits c.args.bits c.args.parts.now.ip c.args.row.now c.args.instr.now c.args.n c.in-Reg.register e v
 
 pub returns-then-displacement_suits : goal.returns-then-displacement_suits
 returns-then-displacement_suits c =
