@@ -20,7 +20,7 @@ use arrayvec::ArrayVec;
 use instruction_parts::sizes::{exists_in, is_vex_row};
 use opcode_rows::{ROWS, row_of};
 pub use plain_spelling::NoSpelling;
-use plain_spelling::conditions::first_failed_condition;
+use plain_spelling::conditions::{first_failed_condition, is_pair};
 use plain_spelling::parts::{PlainParts, legacy_parts, plain_parts};
 use prefixes::append_front;
 use row_relation::append_plain_tail;
@@ -51,7 +51,8 @@ fn encode_any_row(
 
 /// Writes the encoding of an instruction as [`encode_any_row`] does.
 ///
-/// Most are of a legacy row in 64-bit mode. For them it is built once more with that known, which saves the tests of the mode and the VEX.
+/// Most are of a legacy row in 64-bit mode and have two operands at most. For them it is built once more with that known, which saves the tests
+/// of the mode, of a VEX and of two operands.
 #[inline(never)]
 fn encode_row(
     out: &mut ArrayVec<u8, 15>,
@@ -68,11 +69,8 @@ fn encode_row(
 {
     // Four operands, as the proof has to know.
     let [_first, _second, _third, _fourth] = instr.ops;
-    if is_vex_row(row) {
-        return encode_any_row(out, bits, ip, row, instr);
-    }
     match bits {
-        Bits::B64 => write_parts(
+        Bits::B64 if !is_vex_row(row) && is_pair(row, instr) => write_parts(
             out,
             Bits::B64,
             row,
@@ -135,10 +133,10 @@ fn encode_by_row(bits: Bits, ip: u64, instr: &Instr) -> Result<ArrayVec<u8, 15>,
     ensures { written result ≡ encoding bits ip instr.now }
 {
     let mut bytes = ArrayVec::new();
-    match encode_onto(&mut bytes, bits, ip, instr) {
-        None => Ok(bytes),
-        Some(refusal) => Err(refusal),
+    if let Some(refusal) = encode_onto(&mut bytes, bits, ip, instr) {
+        return Err(refusal);
     }
+    Ok(bytes)
 }
 
 /// The bytes of the plain spelling of an instruction at an address, 1 to 15: the shortest that are read as it there.

@@ -13,3 +13,4 @@ pub mod ImmediateRoom
 pub mod Failures
 pub mod Suiting
 pub mod SizedRegisters
+pub mod BasedAddresses

@@ -5,7 +5,7 @@ use Rattle.x86_values.specs.declared.Register.{Register}
 use Rattle.x86_values.specs.declared.Register.TheVariants.{Low8, Xmm, Ymm}
 use Rattle.x86_values.specs.declared.Mem.{Mem}
 use Rattle.x86_values.specs.declared.Operand.{Operand}
-use Rattle.x86_values.specs.declared.Operand.TheVariants.{Reg, Mem as MemOperand, Imm, Near, Far}
+use Rattle.x86_values.specs.declared.Operand.TheVariants.{Absent, Reg, Mem as MemOperand, Imm, Near, Far}
 use Rattle.x86_values.specs.declared.Instr.{Instr}
 use Rattle.x86_values.specs.Wrapping.{width}
 use Rattle.row_types.specs.declared.Row.{Row}
@@ -23,7 +23,7 @@ use Rattle.row_meaning.specs.Meaning.{register_of}
 use Rattle.plain_spelling.specs.declared.NoSpelling.{NoSpelling}
 use Rattle.plain_spelling.specs.declared.NoSpelling.TheVariants as cause
 use Rattle.plain_spelling.specs.Values.{is_extended_of, distance}
-use Rattle.plain_spelling.specs.Forms.{is_variant_of, is_memory, operand_at}
+use Rattle.plain_spelling.specs.Forms.{is_variant_of, is_absent, is_memory, operand_at}
 use Rattle.x86_values.specs.Comparing.{same_bits, same_register}
 use Rattle.plain_spelling.specs.PlainFront.{register_number, number_in_reg, number_in_vvvv, number_in_index, asked, asked_opcode, plain_front_of}
 use Rattle.plain_spelling.specs.declared.addresses.AddressForm.TheVariants.{Relative}
@@ -294,6 +294,12 @@ unfoldable pub operand_suits : Bits → ℕ → Row → Instr → ℕ → Bool
 operand_suits bits ip row i n =
     kind_suits row i n && (named bits row i n && (address_suits bits row i n && (offered bits row i n
     && (immediate_suits bits row i n && target_suits bits ip row i n))))
+
+-- the operands 2 and 3 are absent, as their kinds ask
+unfoldable pub is_pair : Row → Instr → Bool
+is_pair row i =
+    is_variant_of row.place (method_of (kind_at row 2)) Absent && (is_variant_of row.place (method_of (kind_at row 3)) Absent
+    && (is_absent (operand_at i 2) && is_absent (operand_at i 3)))
 
 -- the conditions 2 to 9 hold
 unfoldable pub tail_suits : Bits → ℕ → Row → Instr → Bool

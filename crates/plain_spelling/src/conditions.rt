@@ -4,7 +4,7 @@ ghost use Rattle.std.specs.Prelude.{◌≡◌, ◌<◌, ◌≤◌, ◌&&◌, not
 ghost use Rattle.x86_values.specs.declared.Operand.TheVariants.{Absent};
 ghost use Rattle.row_types.specs.declared.Place.{Place};
 ghost use Rattle.row_types.specs.declared.Plus.TheVariants.{Register as PlusRegister};
-ghost use Rattle.instruction_parts.specs.Kinds.{method_of};
+ghost use Rattle.instruction_parts.specs.Kinds.{method_of, file_of};
 ghost use Rattle.plain_spelling.specs.Forms.{is_variant_of};
 ghost use Rattle.instruction_parts.specs.Sizes as sizes;
 ghost use Rattle.row_fit.specs.Fits as fits;
@@ -12,15 +12,16 @@ ghost use Rattle.row_meaning.specs.Meaning as meaning;
 ghost use Rattle.plain_spelling.specs.PlainFront as front;
 ghost use Rattle.plain_spelling.specs.PlainTail as tail;
 ghost use Rattle.plain_spelling.specs.Parts.{ArePartsOf};
+ghost use Rattle.plain_spelling.specs.Addresses as addresses;
 ghost use Rattle.plain_spelling.specs.Expressible as spec;
 ghost use Rattle.plain_spelling.specs.declared.NoSpelling.TheVariants as cause;
 
 use crate::NoSpelling;
 use crate::addresses::{
-    AddressForm, displacement_suits, form_of, has_address_size, is_address_register,
-    register_count, shape_suits, told_size, written_size,
+    AddressForm, displacement_suits, form_of, has_address_size, is_address_register, is_based,
+    is_by_modrm, register_count, shape_suits, told_size, written_size,
 };
-use crate::forms::{is_memory, is_variant_of, operand_at};
+use crate::forms::{is_absent, is_memory, is_variant_of, operand_at};
 use crate::numbers::{distance, is_below_bytes, is_extended_of, is_of_width};
 use crate::parts::{PlainParts, immediate_len};
 use crate::registers::{numbers_asked, register_number};
@@ -145,6 +146,7 @@ fn kind_allows(bits: Bits, n: usize, kind: OpKind, register: Register) -> bool
 }
 
 /// Whether a kind names general registers of operand size, and asks no more of them.
+#[inline(always)]
 fn names_any_sized(kind: OpKind) -> bool
     ensures { result ≡ spec.names_any_sized kind }
 {
@@ -741,7 +743,48 @@ fn first_failure(bits: Bits, row: &Row, instr: &Instr, parts: &PlainParts) -> Op
     }
 }
 
+/// The same, by a copy of the parts, which so need not lie in memory where all conditions hold. It is made field by field, without what lies
+/// between them.
+#[inline(always)]
+fn first_failure_by(bits: Bits, row: &Row, instr: &Instr, parts: &PlainParts) -> Option<NoSpelling>
+    requires { ArePartsOf bits row.now instr.now parts.now }
+    ensures { result ≡ spec.first_failed_condition bits parts.now.ip row.now instr.now }
+{
+    let copy = PlainParts {
+        ip: parts.ip,
+        state: parts.state,
+        addressing: parts.addressing,
+        size: parts.size,
+        displacement: parts.displacement,
+        immediates: parts.immediates,
+        len: parts.len,
+        next: parts.next,
+    };
+    first_failure(bits, row, instr, &copy)
+}
+
 // ---- whether all of them hold, each operand gone over once
+
+/// Whether an address meets the conditions 4, 5 and 7 by itself, as an operand of a kind before the next address.
+#[inline(never)]
+fn memory_suits(
+    bits: Bits,
+    row: &Row,
+    asize: Option<Bits>,
+    next: u64,
+    kind: OpKind,
+    memory: Mem,
+) -> bool
+    ensures { result ≡ (addresses.shape_suits bits row.now (method_of kind) (file_of kind) memory && (addresses.displacement_suits (addresses.written_size bits asize memory) (method_of kind) memory && spec.address_reaches next memory)) }
+{
+    let method = method_of_kind(kind);
+    if is_by_modrm(method) && is_based(bits, &memory) {
+        return true;
+    }
+    shape_suits(bits, row, method, file_of_kind(kind), memory)
+        && displacement_suits(written_size(bits, asize, memory), method, memory)
+        && address_reaches(next, memory)
+}
 
 /// Whether an operand that is there meets the conditions 2 to 7 by itself.
 ///
@@ -765,11 +808,7 @@ fn present_suits(bits: Bits, row: &Row, instr: &Instr, parts: &PlainParts, n: us
             is_sized_register(bits, parts.size, kind, register)
                 || is_nameable_under(bits, row, instr, parts, n, register)
         }
-        Operand::Mem(memory) => {
-            shape_suits(bits, row, method, file_of_kind(kind), memory)
-                && displacement_suits(written_size(bits, instr.asize, memory), method, memory)
-                && address_reaches(parts.next, memory)
-        }
+        Operand::Mem(memory) => { memory_suits(bits, row, instr.asize, parts.next, kind, memory) }
         Operand::Near(target) => {
             near_reaches(
                 parts.size,
@@ -808,6 +847,28 @@ fn operand_suits(bits: Bits, row: &Row, instr: &Instr, parts: &PlainParts, n: us
     }
 }
 
+/// Whether the operands 2 and 3 are absent, as their kinds ask. Few rows have more than two.
+#[inline(always)]
+#[tactic(auto, unfolding(crate::specs::Expressible::is_pair))]
+pub fn is_pair(row: &Row, instr: &Instr) -> bool
+    ensures { result ≡ spec.is_pair row.now instr.now }
+{
+    is_absent_kind(kind_at(row, 2))
+        && is_absent_kind(kind_at(row, 3))
+        && is_absent(operand_at(instr, 2))
+        && is_absent(operand_at(instr, 3))
+}
+
+/// Whether the operands 2 and 3 meet the conditions 2 to 7 by themselves.
+#[inline(always)]
+fn last_suit(bits: Bits, row: &Row, instr: &Instr, parts: &PlainParts) -> bool
+    requires { ArePartsOf bits row.now instr.now parts.now }
+    ensures { result ≡ (spec.operand_suits bits parts.now.ip row.now instr.now 2 && spec.operand_suits bits parts.now.ip row.now instr.now 3) }
+{
+    is_pair(row, instr)
+        || (operand_suits(bits, row, instr, parts, 2) && operand_suits(bits, row, instr, parts, 3))
+}
+
 /// Whether the conditions 2 to 9 hold.
 #[inline(always)]
 #[tactic(auto, unfolding(crate::specs::Expressible::tail_suits, crate::specs::PlainFront::byte_front, crate::specs::PlainFront::plain_front_of))]
@@ -817,8 +878,7 @@ fn tail_suits(bits: Bits, row: &Row, instr: &Instr, parts: &PlainParts) -> bool
 {
     operand_suits(bits, row, instr, parts, 0)
         && operand_suits(bits, row, instr, parts, 1)
-        && operand_suits(bits, row, instr, parts, 2)
-        && operand_suits(bits, row, instr, parts, 3)
+        && last_suit(bits, row, instr, parts)
         && gather_suits(row, instr, 0)
         && prefixes_suit(row, instr, parts.state.opcode)
         && address_size_suits(bits, row, instr)
@@ -841,8 +901,6 @@ pub fn first_failed_condition(
     if tail_suits(bits, row, instr, parts) {
         None
     } else {
-        // Copied, so that the parts need not lie in memory where all conditions hold.
-        let kept = *parts;
-        first_failure(bits, row, instr, &kept)
+        first_failure_by(bits, row, instr, parts)
     }
 }

@@ -174,7 +174,7 @@ pub fn append_tail(out: &mut ArrayVec<u8, 15>, s: &Spelling)
 }
 
 /// Appends the displacement before the next address, of so many bytes: mostly there is none, and then the operand is not looked for.
-#[inline]
+#[inline(always)]
 fn append_displacement_if(
     out: &mut ArrayVec<u8, 15>,
     count: u8,
@@ -193,7 +193,7 @@ fn append_displacement_if(
 }
 
 /// Appends the immediates, of so many bytes together: mostly there is none.
-#[inline]
+#[inline(always)]
 fn append_immediates_if(
     out: &mut ArrayVec<u8, 15>,
     count: u8,

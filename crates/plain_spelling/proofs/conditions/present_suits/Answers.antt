@@ -1,4 +1,4 @@
-use Rattle.std.proofs.Common.{◌≡◌, true, sym, ◌∙◌, rules}
+use Rattle.std.proofs.Common.{◌≡◌, true, ◌&&◌, sym, ◌∙◌}
 use Rattle.instruction_parts.specs.Kinds.{method_of, file_of}
 use Rattle.row_fit.specs.Fits.{kind_at, immediate_bytes}
 use Rattle.x86_values.specs.declared.Operand.TheVariants.{Absent, Reg, Mem as MemOperand, Near}
@@ -32,16 +32,14 @@ returns-else-is_sized_register c =
     let v : is_variant_of c.args.row.now.place (method_of (kind_at c.args.row.now c.args.n)) (Reg c.in-Reg.register) ≡ true = cc in
     c.is_nameable_under.ensures ∙ register-suits c.args.bits c.args.parts.now.ip c.args.row.now c.args.instr.now c.args.n c.in-Reg.register e v
 
-pub returns-then-displacement_suits : goal.returns-then-displacement_suits
-returns-then-displacement_suits c =
-    let m = c.in-Mem.memory in
+pub returns-in-Mem : goal.returns-in-Mem
+returns-in-Mem c =
     let row = c.args.row.now in
+    let m = c.in-Mem.memory in
     let e : operand_at c.args.instr.now c.args.n ≡ MemOperand m = sym c.operand_at-operand.ensures ∙ c.in-Mem.is in
     let v : is_variant_of row.place (method_of (kind_at row c.args.n)) (MemOperand m) ≡ true = cc in
-    let s : shape_suits c.args.bits row (method_of (kind_at row c.args.n)) (file_of (kind_at row c.args.n)) m ≡ true = search rules in
-    let d : displacement_suits (written_size c.args.bits c.args.instr.now.asize m) (method_of (kind_at row c.args.n)) m ≡ true = search rules in
-    let a : c.address_reaches.result ≡ address_reaches (plain_next c.args.bits c.args.parts.now.ip row c.args.instr.now) m = cc in
-    a ∙ memory-suits c.args.bits c.args.parts.now.ip row c.args.instr.now c.args.n m e v s d
+    let same : c.memory_suits.result ≡ (shape_suits c.args.bits row (method_of (kind_at row c.args.n)) (file_of (kind_at row c.args.n)) m && (displacement_suits (written_size c.args.bits c.args.instr.now.asize m) (method_of (kind_at row c.args.n)) m && address_reaches (plain_next c.args.bits c.args.parts.now.ip row c.args.instr.now) m)) = cc in
+    same ∙ memory-suits c.args.bits c.args.parts.now.ip row c.args.instr.now c.args.n m e v
 
 pub returns-in-Near : goal.returns-in-Near
 returns-in-Near c =
