@@ -859,35 +859,46 @@ pub fn is_pair(row: &Row, instr: &Instr) -> bool
         && is_absent(operand_at(instr, 3))
 }
 
-/// Whether the operands 2 and 3 meet the conditions 2 to 7 by themselves.
+/// Whether the operands 2 and 3 meet the conditions 2 to 7 by themselves, by whether they are absent as their kinds ask.
 #[inline(always)]
-fn last_suit(bits: Bits, row: &Row, instr: &Instr, parts: &PlainParts) -> bool
-    requires { ArePartsOf bits row.now instr.now parts.now }
+fn last_suit(bits: Bits, row: &Row, instr: &Instr, parts: &PlainParts, pair: bool) -> bool
+    requires parts { ArePartsOf bits row.now instr.now parts.now }
+    requires pair { pair ≡ spec.is_pair row.now instr.now }
     ensures { result ≡ (spec.operand_suits bits parts.now.ip row.now instr.now 2 && spec.operand_suits bits parts.now.ip row.now instr.now 3) }
 {
-    is_pair(row, instr)
-        || (operand_suits(bits, row, instr, parts, 2) && operand_suits(bits, row, instr, parts, 3))
+    if pair {
+        true
+    } else {
+        operand_suits(bits, row, instr, parts, 2) && operand_suits(bits, row, instr, parts, 3)
+    }
 }
 
-/// Whether the conditions 2 to 9 hold.
+/// Whether the conditions 2 to 9 hold, by whether the operands are a pair and the row is a gather.
 #[inline(always)]
 #[tactic(auto, unfolding(crate::specs::Expressible::tail_suits, crate::specs::PlainFront::byte_front, crate::specs::PlainFront::plain_front_of))]
-fn tail_suits(bits: Bits, row: &Row, instr: &Instr, parts: &PlainParts) -> bool
-    requires { ArePartsOf bits row.now instr.now parts.now }
+fn tail_suits(
+    bits: Bits,
+    row: &Row,
+    instr: &Instr,
+    parts: &PlainParts,
+    pair: bool,
+    gather: bool,
+) -> bool
+    requires parts { ArePartsOf bits row.now instr.now parts.now }
+    requires pair { pair ≡ spec.is_pair row.now instr.now }
+    requires gather { gather ≡ fits.reads_by fits.is_gather row.now }
     ensures { result ≡ spec.tail_suits bits parts.now.ip row.now instr.now }
 {
     operand_suits(bits, row, instr, parts, 0)
         && operand_suits(bits, row, instr, parts, 1)
-        && last_suit(bits, row, instr, parts)
-        && gather_suits(row, instr, 0)
+        && last_suit(bits, row, instr, parts, pair)
+        && (!gather || gather_numbers_differ(row, instr))
         && prefixes_suit(row, instr, parts.state.opcode)
         && address_size_suits(bits, row, instr)
 }
 
 /// The first that fails of the conditions 2 to 9 on an instruction of a row, None where all hold. `parts` are those of its plain spelling at
 /// the address at which it is to stand.
-///
-/// Mostly all hold, which one test of each operand shows; only else the conditions are tested in their order.
 #[inline(always)]
 pub fn first_failed_condition(
     bits: Bits,
@@ -898,7 +909,35 @@ pub fn first_failed_condition(
     requires { ArePartsOf bits row.now instr.now parts.now }
     ensures { result ≡ spec.first_failed_condition bits parts.now.ip row.now instr.now }
 {
-    if tail_suits(bits, row, instr, parts) {
+    first_failed_of(
+        bits,
+        row,
+        instr,
+        parts,
+        is_pair(row, instr),
+        reads_gather(row),
+    )
+}
+
+/// What [`first_failed_condition`] answers, by whether the operands 2 and 3 are absent as their kinds ask, and by whether the row is a gather. A
+/// caller that knows both saves their tests.
+///
+/// Mostly all hold, which one test of each operand shows; only else the conditions are tested in their order.
+#[inline(always)]
+pub fn first_failed_of(
+    bits: Bits,
+    row: &Row,
+    instr: &Instr,
+    parts: &PlainParts,
+    pair: bool,
+    gather: bool,
+) -> Option<NoSpelling>
+    requires parts { ArePartsOf bits row.now instr.now parts.now }
+    requires pair { pair ≡ spec.is_pair row.now instr.now }
+    requires gather { gather ≡ fits.reads_by fits.is_gather row.now }
+    ensures { result ≡ spec.first_failed_condition bits parts.now.ip row.now instr.now }
+{
+    if tail_suits(bits, row, instr, parts, pair, gather) {
         None
     } else {
         first_failure_by(bits, row, instr, parts)

@@ -1,6 +1,6 @@
 use Rattle.std.proofs.Common.{sym, ◌∙◌}
 use Rattle.plain_spelling.proofs.Failures.{tail-none}
-use Rattle.plain_spelling.proofs.conditions.first_failed_condition.Goals as goal
+use Rattle.plain_spelling.proofs.conditions.first_failed_of.Goals as goal
 
 pub returns-then-tail_suits : goal.returns-then-tail_suits
 returns-then-tail_suits c =
