@@ -63,6 +63,7 @@ pub fn has_address_size(bits: Bits, asize: Bits) -> bool
 }
 
 /// The size of a general register; the others have none.
+#[inline(always)]
 #[tactic(auto, unfolding(crate::specs::Addresses::general_size))]
 fn general_size(register: Register) -> Option<Bits>
     ensures { result ≡ spec.general_size register }

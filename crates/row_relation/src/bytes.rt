@@ -107,7 +107,11 @@ pub fn append_lead(out: &mut ArrayVec<u8, 15>, map: Map, vex: Option<Vex>)
     ensures { out.new.items ≡ out.old.items ++ spec.lead_bytes map vex }
 {
     match vex {
-        None => append_few(out, escape_bytes(map)),
+        // Mostly there is no escape byte, which is seen before the bytes are looked up.
+        None => match map {
+            Map::One => {}
+            _ => append_few(out, escape_bytes(map)),
+        },
         Some(v) => append_vex(out, v),
     }
 }
