@@ -89,6 +89,7 @@ fn append_recode_line(
 ///
 /// `base` is the address of the first byte of the code, `offset` how far the item stands behind it, `bytes` the bytes
 /// of the item, and `reading` what is read at its front.
+#[inline(always)]
 pub fn append_line(
     out: &mut Chunk,
     bits: Bits,

@@ -7,12 +7,12 @@ ghost use Rattle.opcode_rows.specs.Sweep as spec;
 ghost use Rattle.sweep_text.specs.Sweeping.{TakesSome};
 
 use decoder::reading_laws::wrapped_addresses_read_alike;
-use decoder::{DecodeError, decode};
+use decoder::{DecodeError, decode_in};
 use x86_values::{Bits, Decoded, wrap};
 
 /// Reads the bytes from an offset on, of code whose first byte has the address `base`. Addresses wrap in the mode.
 #[inline]
-#[tactic(auto, using(crate::proofs::Covering::takes_some), unfolding(prefixes::specs::Answer::mode_of))]
+#[tactic(auto, using(crate::proofs::Covering::takes_some))]
 pub fn read_at(bits: Bits, base: u64, offset: usize, bytes: &[u8]) -> Result<Decoded, DecodeError>
     ensures reading { spec.IsReadAt bits base offset bytes.now (reading_of result) }
     ensures length { IfOk result (λ d. (0 < d.len) × (d.len ≤ 15) × (d.len ≤ length bytes.now)) }
@@ -21,11 +21,7 @@ pub fn read_at(bits: Bits, base: u64, offset: usize, bytes: &[u8]) -> Result<Dec
 {
     wrapped_addresses_read_alike();
     let ip = wrap(bits, u128::from(base) + offset as u128);
-    match bits {
-        Bits::B16 => decode::<16>(ip, bytes),
-        Bits::B32 => decode::<32>(ip, bytes),
-        Bits::B64 => decode::<64>(ip, bytes),
-    }
+    decode_in(bits, ip, bytes)
 }
 
 /// How many bytes an item of the sweep takes: those of its instruction, or one where none is read.
