@@ -44,6 +44,7 @@ pub(crate) fn append_bytes<const N: usize>(out: &mut ArrayVec<u8, N>, bytes: &[u
 }
 
 /// Appends the address of an offset in code whose first byte has the address `base`: 4, 8 or 16 hexadecimal digits, as the mode has. It wraps in the mode.
+#[inline(always)]
 #[tactic(auto, unfolding(crate::specs::Listing::address_text))]
 pub fn append_address(out: &mut Chunk, bits: Bits, base: u64, offset: usize)
     requires { array_vec_len out.old + 16 ≤ CHUNK_LEN }
