@@ -72,7 +72,7 @@ pub fn decode_on<L: Ledger>(
 
 /// Reads the instruction at the front of some bytes on a count of its own, and writes it to a place. After an error nothing is said of the place.
 #[inline(always)]
-fn decode_on_into<L: Ledger>(
+pub(crate) fn decode_on_into<L: Ledger>(
     blank: Blank,
     bits: Bits,
     ip: u64,
