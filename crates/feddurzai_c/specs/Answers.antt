@@ -156,6 +156,11 @@ encoding_of (Some bits) ip (Some i) = encoding_told i (encoding bits ip i)
 abbrev pub sized_answer : ℕ → ℕ → FlatInstr → Result (List ℕ) Refusal
 sized_answer bits ip f = encoding_of (bits_numbered bits) ip (instr_back f)
 
+-- their number
+abbrev pub length_told : Result (List ℕ) Refusal → Result ℕ Refusal
+length_told (Ok bytes) = Ok (length bytes)
+length_told (Err why) = Err why
+
 -- a memory operand whose displacement has the width 255 leaves it to the library
 abbrev pub is_open : FlatOperand → Bool
 is_open op = op.kind == 2 && op.disp_bits == 255

@@ -20,6 +20,11 @@ line_of style bits room (Read d) = if nat_lt (length (style_text style bits d.in
 line_of style bits room ReadTooShort = Err TooShort
 line_of style bits room ReadInvalid = Err Invalid
 
+-- a line whose instruction was written to a place
+abbrev pub line_at : Result (Unit {0}) Refusal → Decoded → Result Decoded Refusal
+line_at (Ok done) place = Ok place
+line_at (Err why) place = Err why
+
 -- the text of a line
 abbrev pub line_text : Style → Bits → Result Decoded Refusal → Result (List ℕ) Refusal
 line_text style bits (Ok d) = Ok (style_text style bits d.instr)

@@ -133,6 +133,7 @@ fn operand_into(operand: &Operand, place: &mut FlatOperand)
 }
 
 /// Writes an instruction and its length to a struct, from which the instruction comes back.
+#[inline(always)]
 #[tactic(auto, using(crate::proofs::ThereAndBack::instr_back_flat), unfolding(crate::specs::Flat::flat_instr))]
 pub(crate) fn flat_into(d: &Decoded, place: &mut FlatInstr)
     ensures flat { place.new ≡ spec.flat_decoded d.now }
