@@ -20,11 +20,10 @@ use Rattle.rows_integer.specs.Table.{table as integer_rows, flat_rows as integer
 use Rattle.rows_x87.specs.Table.{table as x87_rows, flat_rows as x87_flat}
 use Rattle.rows_sse.specs.Table.{table as sse_rows, flat_rows as sse_flat}
 use Rattle.rows_vex.specs.Table.{table as vex_rows, flat_rows as vex_flat}
-use Rattle.opcode_rows.specs.Table.{spots, rows_in, table, names, name_of}
+use Rattle.opcode_rows.specs.Table.{spots, rows_in, table, names}
 use Rattle.opcode_rows.specs.Allowed.{has_numbers, operand_is_formed, is_formed, is_formed_by, is_well_formed}
 use Rattle.operand_info.specs.declared.columns.Access.{Access}
 use Rattle.operand_info.specs.declared.columns.Access.TheVariants as operand
-use Rattle.operand_info.specs.declared.registers.RegUse.{RegUse}
 use Rattle.operand_info.specs.ByCode.{access_of}
 use Rattle.operand_info.specs.Operands.{operand_use, address_use, uses_of, uses_at, uses}
 use Rattle.instruction_info.specs.declared.effect.Effect.{Effect}
