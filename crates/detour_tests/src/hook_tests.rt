@@ -153,25 +153,32 @@ fn cases() -> [Case; 3] {
     ]
 }
 
-/// The hooks of a case, with its functions hooked one after the other.
-fn both_installed(rt: &impl Abort, alloc: Global, case: Case) -> Result<Hooks, Fail> {
-    let Case {
-        bits,
-        base,
-        size,
-        slot,
-        one,
-        two,
-    } = case;
-    let mut hooks = Hooks::make(alloc, bits, base, size, slot)?;
-    assert!(rt; holds(alloc, &hooks, slot, &["", ""])?);
-    let place = install(&mut hooks, alloc, one.function)?;
-    assert_eq!(rt; place, Ok(one.place));
-    assert!(rt; holds(alloc, &hooks, slot, &[one.trampoline, ""])?);
-    let place = install(&mut hooks, alloc, two.function)?;
-    assert_eq!(rt; place, Ok(two.place));
-    assert!(rt; holds(alloc, &hooks, slot, &[one.trampoline, two.trampoline])?);
-    Ok(hooks)
+/// Hooks a function, which gets this place.
+fn is_installed(
+    rt: &impl Abort,
+    alloc: Global,
+    hooks: &mut Hooks,
+    wanted: Hooked,
+) -> Result<(), Fail> {
+    let place = install(hooks, alloc, wanted.function)?;
+    assert_eq!(rt; place, Ok(wanted.place));
+    Ok(())
+}
+
+/// The functions of a case are hooked one after the other.
+fn both_installed(
+    rt: &impl Abort,
+    alloc: Global,
+    hooks: &mut Hooks,
+    case: Case,
+) -> Result<(), Fail> {
+    let Case { slot, one, two, .. } = case;
+    assert!(rt; holds(alloc, hooks, slot, &["", ""])?);
+    is_installed(rt, alloc, hooks, one)?;
+    assert!(rt; holds(alloc, hooks, slot, &[one.trampoline, ""])?);
+    is_installed(rt, alloc, hooks, two)?;
+    assert!(rt; holds(alloc, hooks, slot, &[one.trampoline, two.trampoline])?);
+    Ok(())
 }
 
 /// A live hook has its place, its function and what goes over that.
@@ -241,8 +248,7 @@ fn removed_and_made_again(
     assert!(rt; holds(alloc, hooks, slot, &["", two.trampoline])?);
     assert_eq!(rt; hooks.live().len(), 1);
     none_is_removed(rt, hooks, one.place)?;
-    let again = install(hooks, alloc, one.function)?;
-    assert_eq!(rt; again, Ok(one.place));
+    is_installed(rt, alloc, hooks, one)?;
     assert!(rt; holds(alloc, hooks, slot, &[one.trampoline, two.trampoline])?);
     Ok(())
 }
@@ -262,10 +268,41 @@ fn both_are_live(rt: &impl Abort, alloc: Global, hooks: &Hooks, case: Case) -> R
 fn hooks_made_and_removed(rt: HostRuntime) -> Result<(), Fail> {
     for case in cases() {
         let alloc = rt.alloc();
-        let mut hooks = both_installed(&rt, alloc, case)?;
+        let mut hooks = Hooks::make(alloc, case.bits, case.base, case.size, case.slot)?;
+        both_installed(&rt, alloc, &mut hooks, case)?;
         both_are_live(&rt, alloc, &hooks, case)?;
         removed_and_made_again(&rt, alloc, &mut hooks, case)?;
     }
+    Ok(())
+}
+
+/// That no hooks are made of such a range and slot.
+fn no_hooks(
+    rt: &impl Abort,
+    alloc: Global,
+    size: u64,
+    slot: u64,
+    refusal: MakeError,
+) -> Result<(), Fail> {
+    match Hooks::make(alloc, Bits::B32, 0xFFFF_FFD0, size, slot) {
+        Ok(_) => Err(Fail::new("there are hooks")),
+        Err(why) => {
+            assert_eq!(rt; why, refusal);
+            Ok(())
+        }
+    }
+}
+
+/// That a function is not hooked, and the three slots stay as they were.
+fn is_refused(
+    rt: &impl Abort,
+    alloc: Global,
+    hooks: &mut Hooks,
+    function: Function,
+    refusal: InstallError,
+) -> Result<(), Fail> {
+    assert_eq!(rt; install(hooks, alloc, function)?, Err(refusal));
+    assert!(rt; holds(alloc, hooks, 16, &["", "", ""])?);
     Ok(())
 }
 
@@ -282,10 +319,7 @@ fn hooks_refused(rt: HostRuntime) -> Result<(), Fail> {
         (64, 64, MakeError::Wraps { end: 0x1_0000_0010 }),
     ];
     for (size, slot, refusal) in sizes {
-        match Hooks::make(alloc, Bits::B32, 0xFFFF_FFD0, size, slot) {
-            Ok(_) => return Err(Fail::new("there are hooks")),
-            Err(why) => assert_eq!(rt; why, refusal),
-        }
+        no_hooks(&rt, alloc, size, slot, refusal)?;
     }
     let mut hooks = Hooks::make(alloc, Bits::B64, 0x9000, 48, 16)?;
     let near = Function {
@@ -312,8 +346,7 @@ fn hooks_refused(rt: HostRuntime) -> Result<(), Fail> {
         ),
     ];
     for (function, refusal) in functions {
-        assert_eq!(rt; install(&mut hooks, alloc, function)?, Err(refusal));
-        assert!(rt; holds(alloc, &hooks, 16, &["", "", ""])?);
+        is_refused(&rt, alloc, &mut hooks, function, refusal)?;
     }
     assert_eq!(rt; install(&mut hooks, alloc, near)?, Ok(0x9000));
     Ok(())
