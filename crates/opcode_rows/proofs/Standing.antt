@@ -6,8 +6,6 @@ use Rattle.x86_values.specs.declared.Bits.{Bits}
 use Rattle.row_types.specs.declared.Row.{Row}
 use Rattle.row_types.specs.declared.RowKind.{RowKind}
 use Rattle.row_types.specs.declared.RowKind.TheVariants as kind
-use Rattle.row_types.specs.declared.Map.{Map}
-use Rattle.row_types.specs.declared.Map.TheVariants as map
 use Rattle.row_types.specs.declared.Plus.{Plus}
 use Rattle.row_types.specs.declared.Plus.TheVariants as plus
 use Rattle.instruction_parts.specs.declared.spelling.Vex.{Vex}

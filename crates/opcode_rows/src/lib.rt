@@ -10,19 +10,19 @@ mod generated_cells;
 mod generated_names;
 mod generated_spots;
 pub mod laws;
+mod names;
 mod spot;
 
 ghost use Rattle.std.specs.Prelude.{◌≡◌, ◌+◌, ◌<◌, ◌≤◌, ◌↔◌, length, map, slice_get, Some, IfSome, IsNone};
 ghost use Rattle.row_lists.specs.Cells.{map_index, span_of, IsRunOf};
 ghost use Rattle.opcode_rows.specs.Table.{part_table, spots, table, name_of, cell, spans_of};
-ghost use Rattle.opcode_rows.specs.Table as spec;
 
 pub use by_name::code_of;
 pub use form::well_formed;
 use generated_cells::{LEGACY_SPANS, VEX_SPANS};
-use generated_names::{ADDED_NAMES, NAMES};
+use generated_spots::SPOTS;
 pub use generated_spots::{ROWS, VERSION1_ROWS};
-use generated_spots::{ADDED_ROWS, SPOTS};
+use names::{added_name, first_name};
 use row_lists::{Span, span_in};
 use row_types::{Map, Row, RowKind};
 use spot::{Part, Spot};
@@ -92,39 +92,6 @@ fn row_at(code: Code) -> Row
     ensures { slice_get table code.0 ≡ Some result }
 {
     spot_row(spot_at(code.0))
-}
-
-/// The name of a row of version 1.
-fn first_name(code: u16) -> &'static str
-    requires { code < VERSION1_ROWS }
-    ensures { result.now ≡ name_of code }
-{
-    first_names()[code as usize]
-}
-
-/// The name of a row of version 2.
-fn added_name(code: u16) -> &'static str
-    requires behind { VERSION1_ROWS ≤ code }
-    requires within { code < ROWS }
-    ensures { result.now ≡ name_of code }
-{
-    added_names()[(code - VERSION1_ROWS) as usize]
-}
-
-/// The names of the rows of version 1, by code.
-fn first_names() -> &'static [&'static str; VERSION1_ROWS as usize]
-    ensures names { map (λ name. name.now) result.now ≡ spec.first_names }
-    ensures count { length result.now ≡ VERSION1_ROWS }
-{
-    &NAMES
-}
-
-/// The names of the rows of version 2, by code from `VERSION1_ROWS` on.
-fn added_names() -> &'static [&'static str; ADDED_ROWS as usize]
-    ensures names { map (λ name. name.now) result.now ≡ spec.added_names }
-    ensures count { length result.now ≡ ADDED_ROWS }
-{
-    &ADDED_NAMES
 }
 
 /// Where the row of a code lies.

@@ -1,5 +1,5 @@
 use Rattle.std.proofs.Common.{refl}
-use Rattle.opcode_rows.proofs.added_names.Goals as goal
+use Rattle.opcode_rows.proofs.names.names_from_512.Goals as goal
 
 pub returns-clause-names : goal.returns-clause-names
 returns-clause-names c = refl

@@ -1,7 +1,7 @@
 use Rattle.std.proofs.Common.{◌≡◌, ◌<◌, ◌+◌, ◌-◌, arith}
 use Rattle.opcode_rows.specs.declared.generated_spots.TheConstants.{VERSION1_ROWS, ADDED_ROWS}
 use Rattle.opcode_rows.proofs.Named.{added-named}
-use Rattle.opcode_rows.proofs.added_name.Goals as goal
+use Rattle.opcode_rows.proofs.names.added_name.Goals as goal
 
 pub returns : goal.returns
 returns c =
