@@ -10,7 +10,7 @@ ghost use Rattle.branch_sizes.specs.Tables.{plan_in};
 ghost use Rattle.branch_sizes.specs.Layout.{IsLayout};
 
 use crate::layout::end_of_space;
-use crate::order::Order;
+use crate::order::{Order, may_grow};
 use crate::plan::{Choice, Goal, Reach};
 use crate::tables::Tables;
 use std::alloc::{AllocError, Global};
@@ -206,6 +206,26 @@ fn number_of(numbers: &[usize], item: usize) -> usize {
     *numbers.get(item).unwrap_or(&0)
 }
 
+/// Writes the limits of item `k`, which may grow, into the last half of the parts.
+fn write_limits(parts: &mut [Part], order: &Order, tables: &Tables, layout: &[u8], k: usize)
+    requires layout { IsLayout (plan_in tables.now) layout.now }
+    requires item { k < length tables.now.items.now }
+{
+    let rooms = rooms_of(tables, layout, k);
+    let own = Part {
+        growth: 0,
+        room: rooms.own,
+    };
+    write_limit(parts, number_of(&order.own, k), own);
+    if let Goal::Inside(_) = tables.items[k].goal {
+        let goal = Part {
+            growth: 0,
+            room: rooms.goal,
+        };
+        write_limit(parts, number_of(&order.goal, k), goal);
+    }
+}
+
 impl Limits {
     /// The limits in the layout of first choices.
     pub(crate) fn make(alloc: Global, tables: &Tables, layout: &[u8]) -> Result<Limits, AllocError>
@@ -219,18 +239,8 @@ impl Limits {
         let half = power_above(order.owners.len());
         let mut parts = vec![in alloc; none; 2 * half]?;
         'items: for k in 0..tables.items.len() {
-            let rooms = rooms_of(tables, layout, k);
-            let own = Part {
-                growth: 0,
-                room: rooms.own,
-            };
-            write_limit(&mut parts, number_of(&order.own, k), own);
-            if let Goal::Inside(_) = tables.items[k].goal {
-                let goal = Part {
-                    growth: 0,
-                    room: rooms.goal,
-                };
-                write_limit(&mut parts, number_of(&order.goal, k), goal);
+            if may_grow(&tables.items[k]) {
+                write_limits(&mut parts, &order, tables, layout, k);
             }
         }
         join_parts(&mut parts);
