@@ -1,7 +1,7 @@
-use Rattle.std.proofs.Common.{ℕ, List}
+use Rattle.std.proofs.Common.{◌^◌, ◌<◌, ℕ, List, length, get_or}
 use Rattle.branch_sizes.specs.Plan.{plan_of}
-use Rattle.branch_sizes.specs.Layout.{AreLengths, IsLayout, IsClosed, AtMost, room}
-use Rattle.branch_sizes.proofs.worklist.least_choices.Given as goal
+use Rattle.branch_sizes.specs.Layout.{AreLengths, ArePlaces, IsLayout, IsClosed, AtMost, room}
+use Rattle.branch_sizes.proofs.worklist.grown_from_first.Given as goal
 
 abbrev pub invariant-passes : goal.invariant-passes
 invariant-passes l =
@@ -10,6 +10,8 @@ invariant-passes l =
       lengths : AreLengths p l.layout.items l.sums;
       is_layout : IsLayout p l.layout.items;
       least : (other : List ℕ) → IsClosed p other → AtMost l.layout.items other;
+      places : ArePlaces p l.layout.items l.now.items;
+      below : (i : ℕ) → i < length l.now.items → get_or l.now.items i 0 < 2 ^ 66;
     }
 
 abbrev pub decreases-passes : goal.decreases-passes
