@@ -6,11 +6,10 @@ ghost use Rattle.move_layout.specs.Laid as spec;
 ghost use Rattle.move_layout.specs.Slots.{seat_over, IsNumbering};
 ghost use Rattle.move_layout.specs.Tables.{plan_in, AreSeats, AreEnds};
 
-use crate::choices::least_choices;
 use crate::places::{choice_of, goal_of, images_end_of};
 use crate::slots::{block_end, is_far_form, next_multiple_of_8, slot_number};
 use crate::tables::Tables;
-use branch_sizes::{Form, LayoutError, Plan, Reach, places};
+use branch_sizes::{Form, LayoutError, Plan, Reach, least_choices};
 use std::alloc::{AllocError, Global};
 use std::collections::BTreeMap;
 
@@ -136,13 +135,12 @@ fn lay_blocks(alloc: Global, tables: &Tables) -> Result<Layout, AllocError>
 pub fn lay_out(alloc: Global, plan: &Plan) -> Result<Layout, LayoutError>
     ensures { IfOk result (λ laid. spec.IsLaidLeast plan.now laid) }
 {
-    let layout = least_choices(alloc, plan)?;
-    let places = places(alloc, plan.spans(), plan.items(), &layout)?;
+    let least = least_choices(alloc, plan)?;
     let tables = Tables {
         spans: plan.spans(),
         items: plan.items(),
-        layout: &layout,
-        places: &places,
+        layout: &least.choices,
+        places: &least.places,
     };
     Ok(lay_blocks(alloc, &tables)?)
 }

@@ -1,7 +1,6 @@
 //! The least layout of moved blocks, with the place and goal of each item and the slots behind each block.
 #![tactic(auto)]
 
-mod choices;
 pub mod laws;
 mod layout;
 mod places;
