@@ -1,47 +1,20 @@
 //! The bytes of one moved instruction.
 
-ghost use Rattle.std.specs.Prelude.{◌≡◌, ◌↔◌, ◌+◌, ◌^◌, ◌<◌, ◌≤◌, [], ◌∷◌, IsTrue, IfOk, IfSome, MatchBool};
+ghost use Rattle.std.specs.Prelude.{◌≡◌, ◌+◌, ◌^◌, ◌<◌, ◌≤◌, [], ◌∷◌, IfOk, IfSome, MatchBool};
 ghost use Rattle.encoder.specs.Encoding.{encoding};
-ghost use Rattle.branch_sizes.specs.Layout.{Reaches};
 ghost use Rattle.branch_forms.specs.Images.{instrs_of};
 ghost use Rattle.block_encoder.specs.Bytes.{bytes_from, seated_bytes};
 ghost use Rattle.block_encoder.specs.Moved as moved;
 ghost use Rattle.block_encoder.specs.Written.{IsPieceAppended, AreAppended, IsSeatWritten};
 
 use branch_forms::{Image, image_of, near_image, short_image};
-use branch_sizes::{Form, Reach};
+use branch_sizes::{Form, Reach, reaches};
 use encoder::encode;
 use move_layout::Seat;
 use moved_targets::{target_reach, with_target};
 use std::alloc::AllocError;
 use x86_values::laws::wrapped_twice;
 use x86_values::{Bits, Instr, wrap};
-
-/// Whether an address is below 2 to a number of bits.
-fn is_below(address: u128, bits: u8) -> bool
-    requires { address < 2 ^ 96 }
-    ensures { IsTrue result ↔ (address < 2 ^ bits) }
-{
-    bits >= 96 || address < 1 << bits
-}
-
-/// Whether an image of some bytes at a place reaches a goal.
-fn reaches(reach: Reach, len: u8, place: u128, goal: u128) -> bool
-    requires place { place < 2 ^ 66 }
-    requires goal { goal < 2 ^ 66 }
-    ensures { IsTrue result ↔ Reaches reach len place goal }
-{
-    let end = place + u128::from(len);
-    match reach {
-        Reach::Always => true,
-        Reach::Signed8 => end <= goal + 128 && goal < end + 128,
-        Reach::Signed32 => end <= goal + 0x8000_0000 && goal < end + 0x8000_0000,
-        Reach::Below(bits) => is_below(goal, bits),
-        Reach::BridgeBelow { bits, inner } => {
-            is_below(goal, bits) && is_below(place + u128::from(inner), bits)
-        }
-    }
-}
 
 /// What an instruction in a seat reaches.
 fn seat_reach(instr: &Instr, form: Form, reach: Reach) -> Reach

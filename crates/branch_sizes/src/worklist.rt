@@ -345,7 +345,7 @@ pub(crate) fn grown_from_first(
         first: &first,
     };
     let mut suspects = Suspects::make(alloc, &tables, &layout)?;
-    let mut now = places(alloc, spans, items, &layout)?;
+    let mut now = Vec::from_slice(alloc, &first)?;
     'passes: loop {
         let unclosed = unclosed_items(alloc, &tables, &layout, &now)?;
         if unclosed.is_empty() {

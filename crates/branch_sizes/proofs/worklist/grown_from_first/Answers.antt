@@ -1,4 +1,4 @@
-use Rattle.std.proofs.Common.{◌≡◌, ◌≤◌, arith, sym, subst, ◌∙◌}
+use Rattle.std.proofs.Common.{◌≡◌, ◌<◌, ◌≤◌, ◌^◌, ℕ, List, length, get_or, arith, sym, subst, ◌∙◌}
 use Rattle.std.specs.Prelude.{All}
 use Rattle.std.proofs.lemmas.List.{take_at}
 use Rattle.branch_sizes.specs.Plan.{plan_of}
@@ -26,13 +26,15 @@ passes-init c =
     let p = plan_of c.args.spans.now c.args.items.now in
     let is : c.in_ok-layout.layout.items ≡ first_layout p = c.in_ok-layout.ensures.items_if_clones_equal (λ y e. e) in
     let same : c.in_ok-sums.sums ≡ c.in_ok-lengths.lengths.items = c.in_ok-sums.ensures ∙ c.deref-2.ensures.value in
+    let now : c.in_ok-now.now.items ≡ c.in_ok-first.first.items = c.in_ok-now.ensures.items ∙ c.deref-7.ensures.value in
     record {
       lengths = subst (λ xs. AreLengths p xs c.in_ok-sums.sums) (sym is)
           (subst (AreLengths p (first_layout p)) (sym same) c.in_ok-lengths.ensures.lengths);
       is_layout = subst (IsLayout p) (sym is) (first_is_layout p c.requires);
       least = λ other closed. subst (λ xs. AtMost xs other) (sym is) (first_at_most p other);
-      places = subst (λ xs. ArePlaces p xs c.in_ok-now.now.items) c.deref-7.ensures.value c.in_ok-now.ensures.places;
-      below = c.in_ok-now.ensures.below;
+      places = subst (λ xs. ArePlaces p c.in_ok-layout.layout.items xs) (sym now)
+          (subst (λ xs. ArePlaces p xs c.in_ok-first.first.items) c.deref.ensures.value c.in_ok-first.ensures.places);
+      below = subst (λ (xs : List ℕ). (i : ℕ) → i < length xs → get_or xs i 0 < 2 ^ 66) (sym now) c.in_ok-first.ensures.below;
     }
 
 pub places-requires-in-passes-clause-layout : goal.places-requires-in-passes-clause-layout
