@@ -65,6 +65,9 @@ build >&2
 "$top/capi/build.sh" "$folder/capi" >&2
 peer feddurzai_c feddurzai.c -I"$top/capi" "$folder/capi/libfeddurzai.a"
 peer feddurzai_c_text feddurzai.c -DWITH_TEXT -I"$top/capi" "$folder/capi/libfeddurzai.a"
+peer feddurzai_c_line feddurzai.c -DWITH_LINE -I"$top/capi" "$folder/capi/libfeddurzai.a"
+peer feddurzai_c_encode feddurzai.c -DWITH_ENCODE -I"$top/capi" "$folder/capi/libfeddurzai.a"
+peer zydis_encode zydis.c -DWITH_ENCODE -lZydis
 peer zydis_text zydis.c -DWITH_TEXT -lZydis
 peer distorm_text distorm.c -DWITH_TEXT -ldistorm3
 peer capstone_detail capstone.c -lcapstone
@@ -73,7 +76,7 @@ peer zydis_operands zydis.c -lZydis
 peer zydis_plain zydis.c -DNO_OPERANDS -lZydis
 peer distorm distorm.c -ldistorm3
 peer llvm llvm.c $(llvm-config-14 --cflags --ldflags 2>/dev/null || true) -lLLVM-14
-names="llvm_read llvm_print llvm_encode rattle_read rattle_print rattle_encode feddurzai_c feddurzai_c_text zydis_operands zydis_text zydis_plain distorm distorm_text capstone_detail capstone_plain llvm"
+names="llvm_read llvm_print llvm_encode rattle_read rattle_print rattle_encode feddurzai_c feddurzai_c_text feddurzai_c_line feddurzai_c_encode zydis_operands zydis_text zydis_encode zydis_plain distorm distorm_text capstone_detail capstone_plain llvm"
 
 for round in $(seq "$rounds"); do
     echo "round $round, processor time"

@@ -216,4 +216,5 @@ def main():
             print(example)
 
 
-main()
+if __name__ == "__main__":
+    main()

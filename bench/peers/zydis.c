@@ -1,4 +1,5 @@
-// Zydis: the instruction with its operands, without them (-DNO_OPERANDS), or with them and its Intel text (-DWITH_TEXT).
+// Zydis: the instruction with its operands, without them (-DNO_OPERANDS), with them and its Intel text (-DWITH_TEXT), or with them and encoded again
+// (-DWITH_ENCODE).
 #include "measure.h"
 #include <Zydis/Zydis.h>
 
@@ -6,6 +7,8 @@
 #define NAME "zydis, no operands"
 #elif defined(WITH_TEXT)
 #define NAME "zydis, text"
+#elif defined(WITH_ENCODE)
+#define NAME "zydis, encoded"
 #else
 #define NAME "zydis, operands"
 #endif
@@ -39,6 +42,14 @@ static void sweep(const uint8_t *bytes, size_t size, int bits, struct counts *co
             char text[256];
             ZydisFormatterFormatInstruction(&formatter, &instruction, operands, instruction.operand_count_visible, text, sizeof text, place, ZYAN_NULL);
             counts->sum += (uint64_t)text[0];
+#endif
+#ifdef WITH_ENCODE
+            ZydisEncoderRequest request;
+            uint8_t bytes_again[ZYDIS_MAX_INSTRUCTION_LENGTH];
+            ZyanUSize length = sizeof bytes_again;
+            if (ZYAN_SUCCESS(ZydisEncoderDecodedInstructionToEncoderRequest(&instruction, operands, instruction.operand_count_visible, &request))
+                && ZYAN_SUCCESS(ZydisEncoderEncodeInstruction(&request, bytes_again, &length)))
+                counts->sum += length;
 #endif
             place += instruction.length;
         } else {

@@ -30,5 +30,5 @@ def code_of(table, where):
 
 def files(table):
     """The file of this stage: where it stands under crates/, and its text."""
-    text = HEAD + ''.join(f'\n/// {said}.\npub(crate) const {name}: u16 = {code_of(table, tuple(where))};\n' for name, said, *where in FORMS)
+    text = HEAD + ''.join(f'\n/// {said}.\npub const {name}: u16 = {code_of(table, tuple(where))};\n' for name, said, *where in FORMS)
     return {'branch_forms/src/generated_codes.rt': text}

@@ -21,6 +21,9 @@ SPOT = '''macro_rules! spots {
 }
 '''
 
+# How many names a list has: proofs read short lists faster.
+NAMES_A_LIST = 512
+
 NAMES = '''macro_rules! names {
     ($($name:literal)*) => {
         [$($name),*]
@@ -92,17 +95,21 @@ def all_cells_text(table):
     return text + '\n' + cells_text('VEX_SPANS', 'Where the VEX rows of each cell lie in the table, by map and opcode byte: the code of the first of them, and their number.', table, 'Vex')
 
 
-def names_of(rows, static, doc):
-    text = f'/// The names of the rows{doc}.\npub static {static}: [&str; {len(rows)}] = names! {{\n'
+def names_of(rows, kind, name, doc):
+    text = f'/// The names of the rows{doc}.\npub {kind} {name}: [&str; {len(rows)}] = names! {{\n'
     return text + wrapped([f'"{row.name}"' for row in rows], '    ') + '};\n'
 
 
 def names_text(table):
-    """The names, those of later versions in a list of their own."""
-    text, first = HEAD.format('the names of the rows') + NAMES + '\n', [row for row in table if row.entry.version == 1]
-    if len(first) == len(table):
-        return text + names_of(table, 'NAMES', ', by code')
-    return text + names_of(first, 'NAMES', ' of version 1, by code') + '\n' + names_of(table[len(first):], 'ADDED_NAMES', ' of version 2, in their order')
+    """The names by code, 512 a list, those of later versions in a list of their own. Full lists are constants: they are lines of one static."""
+    text, first = HEAD.format('the names of the rows') + NAMES, [row for row in table if row.entry.version == 1]
+    for at in range(0, len(first), NAMES_A_LIST):
+        rows = first[at:at + NAMES_A_LIST]
+        kind = 'const' if len(rows) == NAMES_A_LIST else 'static'
+        text += '\n' + names_of(rows, kind, f'NAMES_FROM_{at}', f' of version 1, from the code {at} on')
+    if len(first) < len(table):
+        text += '\n' + names_of(table[len(first):], 'static', 'ADDED_NAMES', ' of version 2, in their order')
+    return text
 
 
 def files(table):

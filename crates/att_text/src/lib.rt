@@ -13,7 +13,7 @@ ghost use Rattle.text_parts.specs.Layout.{has_one_long};
 ghost use Rattle.att_text.specs.Text as spec;
 
 use crate::names::append_name;
-use crate::operands::append_part;
+use crate::operands::{append_first_part, append_later_part};
 use arrayvec::ArrayVec;
 use row_types::Row;
 use text_parts::prefix_words::append_prefix_words;
@@ -36,10 +36,10 @@ fn append_short<const N: usize>(
 {
     append_prefix_words(out, bits, row, name, instr);
     append_name(out, bits, row, name, instr);
-    append_part(out, bits, row, name, instr, 3);
-    append_part(out, bits, row, name, instr, 2);
-    append_part(out, bits, row, name, instr, 1);
-    append_part(out, bits, row, name, instr, 0);
+    append_later_part(out, bits, row, name, instr, 3);
+    append_later_part(out, bits, row, name, instr, 2);
+    append_later_part(out, bits, row, name, instr, 1);
+    append_first_part(out, bits, row, name, instr);
 }
 
 /// Appends the text of an instruction of a row with this name, in a mode.

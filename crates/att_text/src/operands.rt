@@ -1,7 +1,9 @@
 //! Operands in AT&T.
 
-ghost use Rattle.std.specs.Prelude.{◌≡◌, ◌<◌, ◌≤◌, ◌+◌, ◌++◌, length};
+ghost use Rattle.std.specs.Prelude.{◌≡◌, ◌<◌, ◌≤◌, ◌+◌, ◌++◌, length, codes};
 ghost use Rattle.arrayvec.specs.ArrayVec.{array_vec_len};
+ghost use Rattle.text_parts.specs.Numbers.{number};
+ghost use Rattle.text_parts.specs.declared.style.Style.TheVariants.{Att};
 ghost use Rattle.att_text.specs.Operands as spec;
 
 use crate::names::is_word;
@@ -12,7 +14,7 @@ use text_parts::addresses::{
     append_base, append_lone_displacement, append_scale, append_signed_displacement, is_absolute,
     is_instruction_pointer,
 };
-use text_parts::layout::{is_far_pointer, nth_operand, separator};
+use text_parts::layout::{append_separator, is_far_pointer, operand_at};
 use text_parts::numbers::append_number;
 use text_parts::prefix_words::text_address_size;
 use text_parts::registers::{append_override, append_register};
@@ -77,6 +79,7 @@ fn append_address<const N: usize>(out: &mut ArrayVec<u8, N>, asize: Bits, m: &Me
 }
 
 /// Appends an address with its segment.
+#[inline(never)]
 #[tactic(auto, unfolding(crate::specs::Operands::att_memory))]
 fn append_memory<const N: usize>(
     out: &mut ArrayVec<u8, N>,
@@ -91,27 +94,42 @@ fn append_memory<const N: usize>(
     append_address(out, asize, m);
 }
 
+/// Appends a far pointer: its selector and its offset, as constants.
+#[inline(never)]
+fn append_far<const N: usize>(out: &mut ArrayVec<u8, N>, selector: u16, offset: u32)
+    requires { array_vec_len out.old
+        + length (codes "$" ++ (number Att selector ++ (codes ", $" ++ number Att offset))) ≤ N }
+    ensures { out.new.items ≡ out.old.items
+        ++ (codes "$" ++ (number Att selector ++ (codes ", $" ++ number Att offset))) }
+{
+    append_few(out, b"$");
+    append_number(out, Style::Att, u64::from(selector));
+    append_few(out, b", $");
+    append_number(out, Style::Att, u64::from(offset));
+}
+
 /// Appends an operand.
+#[inline(always)]
 #[tactic(auto, unfolding(crate::specs::Operands::att_operand))]
-fn append_operand<const N: usize>(out: &mut ArrayVec<u8, N>, bits: Bits, instr: &Instr, op: Operand)
-    requires { array_vec_len out.old + length (spec.att_operand bits instr.now op) ≤ N }
-    ensures { out.new.items ≡ out.old.items ++ spec.att_operand bits instr.now op }
+fn append_operand<const N: usize>(
+    out: &mut ArrayVec<u8, N>,
+    bits: Bits,
+    instr: &Instr,
+    op: &Operand,
+)
+    requires { array_vec_len out.old + length (spec.att_operand bits instr.now op.now) ≤ N }
+    ensures { out.new.items ≡ out.old.items ++ spec.att_operand bits instr.now op.now }
 {
     match op {
         Operand::Absent => {}
-        Operand::Reg(r) => append_register(out, Style::Att, r),
+        Operand::Reg(r) => append_register(out, Style::Att, *r),
         Operand::Imm(x) => {
             append_few(out, b"$");
-            append_number(out, Style::Att, x);
+            append_number(out, Style::Att, *x);
         }
-        Operand::Near(x) => append_number(out, Style::Att, x),
-        Operand::Far { selector, offset } => {
-            append_few(out, b"$");
-            append_number(out, Style::Att, selector as u64);
-            append_few(out, b", $");
-            append_number(out, Style::Att, offset as u64);
-        }
-        Operand::Mem(m) => append_memory(out, instr.seg, text_address_size(bits, instr), &m),
+        Operand::Near(x) => append_number(out, Style::Att, *x),
+        Operand::Far { selector, offset } => append_far(out, *selector, *offset),
+        Operand::Mem(m) => append_memory(out, instr.seg, text_address_size(bits, instr), m),
     }
 }
 
@@ -138,34 +156,51 @@ fn is_branch_name(name: &[u8]) -> bool
         || is_word(name, b"jmpf")
 }
 
-/// The star in front of the target of an indirect call or jump.
+/// Appends the star in front of the target of an indirect call or jump.
+#[inline]
 #[tactic(auto, unfolding(crate::specs::Operands::star))]
-fn star(row: &Row, name: &[u8], n: usize) -> &'static [u8]
-    ensures { result.now ≡ spec.star row.now name.now n }
+fn append_star<const N: usize>(out: &mut ArrayVec<u8, N>, row: &Row, name: &[u8])
+    requires { array_vec_len out.old + length (spec.star row.now name.now 0) ≤ N }
+    ensures { out.new.items ≡ out.old.items ++ spec.star row.now name.now 0 }
 {
-    if n == 0 && is_branch_name(name) && holds_target(kind_at(row, 0)) {
-        b"*"
-    } else {
-        b""
+    if holds_target(kind_at(row, 0)) && is_branch_name(name) {
+        append_few(out, b"*");
     }
 }
 
 /// Whether no operand stands behind operand `n`.
+#[inline]
 #[tactic(auto, unfolding(crate::specs::Operands::is_last))]
 fn is_last(instr: &Instr, n: usize) -> bool
     requires { n < 4 }
     ensures { result ≡ spec.is_last instr.now n }
 {
-    n == 3
-        || match nth_operand(instr, n + 1) {
-            Operand::Absent => true,
-            _ => false,
-        }
+    n == 3 || operand_at(instr, n + 1).is_absent()
 }
 
-/// Appends operand `n` with what stands in front of it.
+/// Appends the first operand with what stands in front of it.
+#[inline(always)]
 #[tactic(auto, unfolding(crate::specs::Operands::att_part))]
-pub fn append_part<const N: usize>(
+pub fn append_first_part<const N: usize>(
+    out: &mut ArrayVec<u8, N>,
+    bits: Bits,
+    row: &Row,
+    name: &[u8],
+    instr: &Instr,
+)
+    requires { array_vec_len out.old + length (spec.att_part bits row.now name.now instr.now 0) ≤ N }
+    ensures { out.new.items ≡ out.old.items ++ spec.att_part bits row.now name.now instr.now 0 }
+{
+    let op = operand_at(instr, 0);
+    append_separator(out, is_last(instr, 0), op);
+    append_star(out, row, name);
+    append_operand(out, bits, instr, op);
+}
+
+/// Appends operand `n` behind the first with what stands in front of it. Nothing is called for one that is absent.
+#[inline(always)]
+#[tactic(auto, unfolding(crate::specs::Operands::att_part, crate::specs::Operands::att_operand, crate::specs::Operands::star, text_parts::specs::Layout::separator))]
+pub fn append_later_part<const N: usize>(
     out: &mut ArrayVec<u8, N>,
     bits: Bits,
     row: &Row,
@@ -173,12 +208,17 @@ pub fn append_part<const N: usize>(
     instr: &Instr,
     n: usize,
 )
+    requires later { 0 < n }
     requires number { n < 4 }
     requires room { array_vec_len out.old + length (spec.att_part bits row.now name.now instr.now n) ≤ N }
     ensures { out.new.items ≡ out.old.items ++ spec.att_part bits row.now name.now instr.now n }
 {
-    let op = nth_operand(instr, n);
-    append_few(out, separator(is_last(instr, n), op));
-    append_few(out, star(row, name, n));
-    append_operand(out, bits, instr, op);
+    let op = operand_at(instr, n);
+    match op {
+        Operand::Absent => {}
+        _ => {
+            append_separator(out, is_last(instr, n), op);
+            append_operand(out, bits, instr, op);
+        }
+    }
 }

@@ -13,7 +13,7 @@ use Rattle.block_encoder.specs.Moved.{MovedLists, IsOldSound, IsAnswer}
 use Rattle.block_encoder.specs.ByPlan.{IsPassBy, IsPlanAnswer, IsOutsideAnswer}
 use Rattle.block_encoder.specs.Written.{first_end_past}
 use Rattle.block_encoder.specs.LawsBelow.{LawsBelow}
-use Rattle.block_encoder.proofs.Seats.{same_pass}
+use Rattle.block_encoder.proofs.Fragments.{same_pass}
 
 module _ (bits : Bits) (items : List Placed) (spans : List BlockSpan) (old : IsOldSound bits items spans) where
   -- where the old items are sound the plan of the blocks decides

@@ -30,13 +30,13 @@ use Rattle.move_goals.specs.declared.items.Placed.{Placed}
 use Rattle.move_goals.specs.Items.{AreSpansOf, ArePlaced, item_at}
 use Rattle.move_goals.specs.Goals.{own_item, other_item, goal_among, goal_of_target, goal_of, goal_at}
 use Rattle.move_goals.specs.Plan.{plan_with, plan_for}
-use Rattle.move_layout.specs.Laid.{is_far, is_far_at, goal_value, goal_address, images_end, new_end, seat_at}
+use Rattle.move_layout.specs.Laid.{is_far, is_far_at, goal_value, goal_address, images_end, new_end, fragment_at}
 use Rattle.block_encoder.specs.Bytes.{bytes_from}
-use Rattle.block_encoder.specs.Moved.{seat_reach, IsReached, first_new_pass}
+use Rattle.block_encoder.specs.Moved.{fragment_reach, IsReached, first_new_pass}
 use Rattle.block_encoder.specs.LawsBelow.{LawsBelow}
 use Rattle.block_encoder.proofs.Places.{place-first, place-last, place-next, place-rises, place-is}
 use Rattle.block_encoder.proofs.Inside.{end_within, image-within}
-use Rattle.block_encoder.proofs.Chosen.{is_own, plan-item, plan-count, choice-is, choice-below, seat-own}
+use Rattle.block_encoder.proofs.Chosen.{is_own, plan-item, plan-count, choice-is, choice-below, fragment-own}
 use Rattle.block_encoder.proofs.Reached.{goal-below}
 use Rattle.block_encoder.proofs.Going.{branched, slot-is}
 use Rattle.block_encoder.proofs.Counting.{counter-fits, mode-fits}
@@ -97,7 +97,7 @@ among_reached p layout k c None (Some j) t h = inside_reached p layout k c j (bl
 among_reached p layout k c None None t h = h.0
 
 -- what a branch reaches is what its form reaches
-pub branch_reach : (i : Instr) (form : Form) (reach : Reach) (len at g : ℕ) → is_own form ≡ false → Reaches reach len at g → Reaches (seat_reach i form reach) len at g
+pub branch_reach : (i : Instr) (form : Form) (reach : Reach) (len at g : ℕ) → is_own form ≡ false → Reaches reach len at g → Reaches (fragment_reach i form reach) len at g
 branch_reach i Itself reach len at g h r = cc
 branch_reach i Short reach len at g h r = r
 branch_reach i NearForm reach len at g h r = r
@@ -133,7 +133,7 @@ module _ (laws : LawsBelow) where
 
     -- a slot is near the end of each image of its block
     slot_near : is_far_at (plan_with B64 spans items goals) layout k ≡ true
-        → IsSlotNear (place (plan_with B64 spans items goals) layout k) (image_length (plan_with B64 spans items goals) layout k) (seat_at (plan_with B64 spans items goals) layout k).slot
+        → IsSlotNear (place (plan_with B64 spans items goals) layout k) (image_length (plan_with B64 spans items goals) layout k) (fragment_at (plan_with B64 spans items goals) layout k).slot
     unfolding plan_with
     slot_near far =
         let p = plan_with B64 spans items goals in
@@ -219,12 +219,12 @@ module _ (laws : LawsBelow) where
 
       form-spelled-here : (form : Form) → chosen (plan_with B64 spans items goals) layout k ≡ branch_choice B64 (item_at items k).instr (sized action short) form → form_fits action short form ≡ true
           → IsSome (bytes_from B64 (place (plan_with B64 spans items goals) layout k) (branch_image B64 (item_at items k).instr (sized action short) form (place (plan_with B64 spans items goals) layout k)
-          (goal_address (plan_with B64 spans items goals) layout k) (seat_at (plan_with B64 spans items goals) layout k).slot))
+          (goal_address (plan_with B64 spans items goals) layout k) (fragment_at (plan_with B64 spans items goals) layout k).slot))
       form-spelled-here form is fits =
           let p = plan_with B64 spans items goals in
           let at = place p layout k in
           let goal = goal_address p layout k in
-          let slot = (seat_at p layout k).slot in
+          let slot = (fragment_at p layout k).slot in
           let instr = (item_at items k).instr in
           let len : image_length p layout k ≡ pieces_length B64 (branch_image B64 instr (sized action short) form at goal slot) =
           ap (λ (c : Choice). c.len) is ∙ sym (image-length form at goal slot) in
@@ -237,15 +237,15 @@ module _ (laws : LawsBelow) where
 
       -- **the branch has its bytes**
       branch-reached : IsReached B64 items (plan_with B64 spans items goals) layout k
-      unfolding seat_at
+      unfolding fragment_at
       branch-reached =
           let p = plan_with B64 spans items goals in
           let instr = (item_at items k).instr in
           let form = get_or (branch_forms B64 action short) (get_or layout k 0) Itself in
           let at = place p layout k in
           let goal = goal_address p layout k in
-          let slot = (seat_at p layout k).slot in
-          let own = seat-own B64 spans items goals layout least.closed.is_layout k lt (sized action short) e in
+          let slot = (fragment_at p layout k).slot in
+          let own = fragment-own B64 spans items goals layout least.closed.is_layout k lt (sized action short) e in
           let fits = form_at (form_fits action short) (branch_forms B64 action short) (get_or layout k 0) (forms_fit action short) form-below in (
             branch_reach instr (chosen p layout k).form (chosen p layout k).reach (chosen p layout k).len at goal own reaches,
             subst (λ (f : Form). IsSome (bytes_from B64 at (image_of B64 instr f at goal slot))) (sym (ap (λ (c : Choice). c.form) chosen-is))

@@ -1,4 +1,4 @@
--- The choices of an item in the plan of some moved blocks, and the seat that a layout gives it.
+-- The choices of an item in the plan of some moved blocks, and the fragment that a layout gives it.
 use Rattle.std.proofs.Common.{◌≡◌, ℕ, zero, suc, ◌<◌, Bool, true, false, List, [], ◌∷◌, length, map, get_or, Option, Some, None, refl, ap, sym, ◌∙◌, subst, arith}
 use Rattle.std.proofs.lemmas.List.FromFn.{get_or-map-range_with_len, length-map-range_with_len}
 use Rattle.x86_values.specs.declared.Bits.{Bits}
@@ -20,7 +20,7 @@ use Rattle.branch_forms.specs.Choices.{in_64, branch_forms, branch_choice, choic
 use Rattle.move_goals.specs.declared.items.Placed.{Placed}
 use Rattle.move_goals.specs.Items.{item_at}
 use Rattle.move_goals.specs.Plan.{branch_with, plan_with}
-use Rattle.move_layout.specs.Laid.{seat_at}
+use Rattle.move_layout.specs.Laid.{fragment_at}
 
 -- ---- choices
 
@@ -106,7 +106,7 @@ module _ (bits : Bits) (spans : List BlockSpan) (items : List Placed) (goals : �
   unfolding plan_with
   plan-item k lt = get_or-map-range_with_len (branch_with bits items goals) 0 (length items) k k no_branch lt (omega arith)
 
-  -- ---- seats
+  -- ---- fragments
 
   module _ (layout : List ℕ) (l : IsLayout (plan_with bits spans items goals) layout) (k : ℕ) (lt : k < length items) where
     -- the choice of an item
@@ -118,22 +118,22 @@ module _ (bits : Bits) (spans : List BlockSpan) (items : List Placed) (goals : �
         subst (λ b. get_or layout k 0 < length b.choices.items) (plan-item k lt)
         (l.valid k (subst (λ n. k < n) (sym plan-count) lt))
 
-    -- the seat is as long as the image in its form
-    pub seat-length : (seat_at (plan_with bits spans items goals) layout k).len ≡ form_length bits (item_at items k).instr (seat_at (plan_with bits spans items goals) layout k).form
-    unfolding seat_at
-    seat-length = rw choice-is (choice-length bits (item_at items k).instr (get_or layout k 0) choice-below)
+    -- the fragment is as long as the image in its form
+    pub fragment-length : (fragment_at (plan_with bits spans items goals) layout k).len ≡ form_length bits (item_at items k).instr (fragment_at (plan_with bits spans items goals) layout k).form
+    unfolding fragment_at
+    fragment-length = rw choice-is (choice-length bits (item_at items k).instr (get_or layout k 0) choice-below)
 
-    pub seat-no_branch : (seat_at (plan_with bits spans items goals) layout k).form ≡ Itself → branch_of (item_at items k).instr ≡ None
-    unfolding seat_at
-    seat-no_branch e = own-form bits (item_at items k).instr (get_or layout k 0) choice-below (sym (ap (λ x. x.form) choice-is) ∙ e)
+    pub fragment-no_branch : (fragment_at (plan_with bits spans items goals) layout k).form ≡ Itself → branch_of (item_at items k).instr ≡ None
+    unfolding fragment_at
+    fragment-no_branch e = own-form bits (item_at items k).instr (get_or layout k 0) choice-below (sym (ap (λ x. x.form) choice-is) ∙ e)
 
-    pub seat-own : (b : RelativeBranch) → branch_of (item_at items k).instr ≡ Some b → is_own (chosen (plan_with bits spans items goals) layout k).form ≡ false
-    seat-own b e = ap (λ c. is_own c.form) choice-is ∙ moved-form bits (item_at items k).instr b (get_or layout k 0) e choice-below
+    pub fragment-own : (b : RelativeBranch) → branch_of (item_at items k).instr ≡ Some b → is_own (chosen (plan_with bits spans items goals) layout k).form ≡ false
+    fragment-own b e = ap (λ c. is_own c.form) choice-is ∙ moved-form bits (item_at items k).instr b (get_or layout k 0) e choice-below
 
-    pub seat-image_length : (seat_at (plan_with bits spans items goals) layout k).len ≡ image_length (plan_with bits spans items goals) layout k
-    unfolding seat_at
-    seat-image_length = refl
+    pub fragment-image_length : (fragment_at (plan_with bits spans items goals) layout k).len ≡ image_length (plan_with bits spans items goals) layout k
+    unfolding fragment_at
+    fragment-image_length = refl
 
-    pub seat-place : (seat_at (plan_with bits spans items goals) layout k).place ≡ place (plan_with bits spans items goals) layout k
-    unfolding seat_at
-    seat-place = refl
+    pub fragment-place : (fragment_at (plan_with bits spans items goals) layout k).place ≡ place (plan_with bits spans items goals) layout k
+    unfolding fragment_at
+    fragment-place = refl

@@ -23,12 +23,12 @@ use Rattle.branch_forms.specs.Images.{branch_to, through_slot, counter_size, sho
 use Rattle.move_goals.specs.declared.items.Placed.{Placed}
 use Rattle.move_goals.specs.Items.{ArePlaced, no_instr, item_at}
 use Rattle.move_goals.specs.Plan.{plan_with}
-use Rattle.move_layout.specs.Laid.{is_far, is_far_at, goal_address, slot_address, seat_at}
+use Rattle.move_layout.specs.Laid.{is_far, is_far_at, goal_address, slot_address, fragment_at}
 use Rattle.block_encoder.specs.Bytes.{image_at}
 use Rattle.block_encoder.specs.Aims.{last_instr}
 use Rattle.block_encoder.specs.LawsBelow.{LawsBelow}
 use Rattle.block_encoder.proofs.Pieces.{spelled-four}
-use Rattle.block_encoder.proofs.Chosen.{is_own, seat-own}
+use Rattle.block_encoder.proofs.Chosen.{is_own, fragment-own}
 
 -- ---- single instructions
 
@@ -117,8 +117,8 @@ untargeted-image bits i form place goal slot stays none =
 
 -- a far form has the slot of its goal
 pub slot-is : (p : BlockPlan) (layout : List ℕ) (k : ℕ) → is_far_at p layout k ≡ true
-    → (seat_at p layout k).slot ≡ slot_address p layout (block_number p.spans k) (goal_address p layout k)
-unfolding seat_at
+    → (fragment_at p layout k).slot ≡ slot_address p layout (block_number p.spans k) (goal_address p layout k)
+unfolding fragment_at
 slot-is p layout k far = cond-true (is_far_at p layout k) (slot_address p layout (block_number p.spans k) (goal_address p layout k)) 0 far
 
 module _ (laws : LawsBelow) where
@@ -182,21 +182,21 @@ module _ (laws : LawsBelow) where
   -- ---- moved items
 
   module _ (bits : Bits) (items : List Placed) (spans : List BlockSpan) (goals : ℕ → Goal) (layout : List ℕ) (k : ℕ) where
-    -- the image, by the parts of the seat
+    -- the image, by the parts of the fragment
     image-is : image_at bits items (plan_with bits spans items goals) layout k
         ≡ image_of bits (item_at items k).instr (chosen (plan_with bits spans items goals) layout k).form (place (plan_with bits spans items goals) layout k)
-        (goal_address (plan_with bits spans items goals) layout k) (seat_at (plan_with bits spans items goals) layout k).slot
-    unfolding seat_at
+        (goal_address (plan_with bits spans items goals) layout k) (fragment_at (plan_with bits spans items goals) layout k).slot
+    unfolding fragment_at
     image-is = refl
 
     -- **each instruction of an image but the last goes over the next one**
     pub goes-over : (n : ℕ) → n + 1 < length (image_at bits items (plan_with bits spans items goals) layout k)
         → first_value near_value (get_or (image_at bits items (plan_with bits spans items goals) layout k) n no_instr)
         ≡ Some (wrapped bits (place (plan_with bits spans items goals) layout k + pieces_length bits (take (n + 2) (image_at bits items (plan_with bits spans items goals) layout k))))
-    unfolding seat_at
+    unfolding fragment_at
     goes-over n lt =
         image-over bits (item_at items k).instr (chosen (plan_with bits spans items goals) layout k).form (place (plan_with bits spans items goals) layout k)
-        (goal_address (plan_with bits spans items goals) layout k) (seat_at (plan_with bits spans items goals) layout k).slot n lt
+        (goal_address (plan_with bits spans items goals) layout k) (fragment_at (plan_with bits spans items goals) layout k).slot n lt
 
     -- **what has no near target is aimed at the goal**
     pub goes-address : first_value near_value (item_at items k).instr ≡ None
@@ -204,7 +204,7 @@ module _ (laws : LawsBelow) where
     goes-address none =
         image-is
         ∙ image-address bits (item_at items k).instr (chosen (plan_with bits spans items goals) layout k).form (place (plan_with bits spans items goals) layout k)
-        (goal_address (plan_with bits spans items goals) layout k) (seat_at (plan_with bits spans items goals) layout k).slot none
+        (goal_address (plan_with bits spans items goals) layout k) (fragment_at (plan_with bits spans items goals) layout k).slot none
 
     module _ (placed : ArePlaced bits items) (lt : k < length items) where
       -- **what has no target stays as it is**
@@ -214,14 +214,14 @@ module _ (laws : LawsBelow) where
           let four = spelled-four bits (wrapped bits (item_at items k).ip) i.bytes (item_at items k).instr i.spelled in
           image-is
           ∙ untargeted-image bits (item_at items k).instr (chosen (plan_with bits spans items goals) layout k).form (place (plan_with bits spans items goals) layout k)
-          (goal_address (plan_with bits spans items goals) layout k) (seat_at (plan_with bits spans items goals) layout k).slot
+          (goal_address (plan_with bits spans items goals) layout k) (fragment_at (plan_with bits spans items goals) layout k).slot
           (laws.targets.untargeted-with_target (goal_address (plan_with bits spans items goals) layout k) (item_at items k).instr four none) none
 
       -- the image of a branch
       image-branch : (t : ℕ) → first_value near_value (item_at items k).instr ≡ Some t
           → (b : RelativeBranch) × (branch_of (item_at items k).instr ≡ Some b) × (image_at bits items (plan_with bits spans items goals) layout k
           ≡ branch_image bits (item_at items k).instr b (chosen (plan_with bits spans items goals) layout k).form (place (plan_with bits spans items goals) layout k)
-          (goal_address (plan_with bits spans items goals) layout k) (seat_at (plan_with bits spans items goals) layout k).slot)
+          (goal_address (plan_with bits spans items goals) layout k) (fragment_at (plan_with bits spans items goals) layout k).slot)
       unfolding image_of
       image-branch t some =
           let i = placed k lt in
@@ -229,7 +229,7 @@ module _ (laws : LawsBelow) where
             b.0,
             b.1,
             image-is ∙ ap (λ (o : Option RelativeBranch). image_by bits (item_at items k).instr o (chosen (plan_with bits spans items goals) layout k).form (place (plan_with bits spans items goals) layout k)
-                (goal_address (plan_with bits spans items goals) layout k) (seat_at (plan_with bits spans items goals) layout k).slot) b.1,
+                (goal_address (plan_with bits spans items goals) layout k) (fragment_at (plan_with bits spans items goals) layout k).slot) b.1,
           )
 
       -- **a branch goes to its goal**
@@ -238,20 +238,20 @@ module _ (laws : LawsBelow) where
           → first_value near_value (last_instr (image_at bits items (plan_with bits spans items goals) layout k)) ≡ Some (goal_address (plan_with bits spans items goals) layout k)
       goes-near l t some far =
           let b = image-branch t some in
-          let moved = seat-own bits spans items goals layout l k lt b.0 b.1 in
+          let moved = fragment-own bits spans items goals layout l k lt b.0 b.1 in
           ap (λ (is : List Instr). first_value near_value (last_instr is)) b.2
           ∙ branch-near bits (item_at items k).instr b.0 (chosen (plan_with bits spans items goals) layout k).form (place (plan_with bits spans items goals) layout k)
-          (goal_address (plan_with bits spans items goals) layout k) (seat_at (plan_with bits spans items goals) layout k).slot moved far
+          (goal_address (plan_with bits spans items goals) layout k) (fragment_at (plan_with bits spans items goals) layout k).slot moved far
 
       -- **or through its slot**
       pub goes-slot : (t : ℕ) → first_value near_value (item_at items k).instr ≡ Some t
           → is_far_at (plan_with bits spans items goals) layout k ≡ true
-          → first_value ip_value (last_instr (image_at bits items (plan_with bits spans items goals) layout k)) ≡ Some (seat_at (plan_with bits spans items goals) layout k).slot
+          → first_value ip_value (last_instr (image_at bits items (plan_with bits spans items goals) layout k)) ≡ Some (fragment_at (plan_with bits spans items goals) layout k).slot
       goes-slot t some far =
           let b = image-branch t some in
           ap (λ (is : List Instr). first_value ip_value (last_instr is)) b.2
           ∙ branch-far bits (item_at items k).instr b.0 (chosen (plan_with bits spans items goals) layout k).form (place (plan_with bits spans items goals) layout k)
-          (goal_address (plan_with bits spans items goals) layout k) (seat_at (plan_with bits spans items goals) layout k).slot far
+          (goal_address (plan_with bits spans items goals) layout k) (fragment_at (plan_with bits spans items goals) layout k).slot far
 
       -- **which is that of its goal**
       pub goes-far : (t : ℕ) → first_value near_value (item_at items k).instr ≡ Some t

@@ -10,14 +10,14 @@ use Rattle.branch_sizes.specs.Layout.{IsLayout, first_of_block, span_at, image_l
 use Rattle.move_goals.specs.declared.items.Placed.{Placed}
 use Rattle.move_goals.specs.Items.{AreSpansOf, ArePlaced, item_at}
 use Rattle.move_goals.specs.Plan.{plan_with}
-use Rattle.move_layout.specs.Laid.{seat_at}
+use Rattle.move_layout.specs.Laid.{fragment_at}
 use Rattle.block_encoder.specs.Bytes.{bytes_from, image_at, image_bytes, bytes_at, block_images}
 use Rattle.block_encoder.specs.Read.{image_instrs, IsReadAsImages}
 use Rattle.block_encoder.specs.LawsBelow.{LawsBelow}
 use Rattle.block_encoder.proofs.Sweeping.{HaveFour, StandAt, spellings-length, spellings-sweep, images-joined, images-have_four}
 use Rattle.block_encoder.proofs.Pieces.{spelled-four, image-four}
 use Rattle.block_encoder.proofs.Places.{place_in, place-first, place-next, place-is, in_block-below}
-use Rattle.block_encoder.proofs.Chosen.{seat-length, seat-image_length, seat-place}
+use Rattle.block_encoder.proofs.Chosen.{fragment-length, fragment-image_length, fragment-place}
 
 some_or : (o : Option (List ℕ)) → IsSome o → o ≡ Some (unwrap_or o [])
 some_or None h = cc
@@ -31,16 +31,16 @@ module _ (laws : LawsBelow) where
       pub bytes-are : bytes_from bits (place (plan_with bits spans items goals) layout k) (image_at bits items (plan_with bits spans items goals) layout k) ≡ Some (bytes_at bits items (plan_with bits spans items goals) layout k)
       bytes-are =
           subst (λ (at : ℕ). bytes_from bits at (image_at bits items (plan_with bits spans items goals) layout k) ≡ Some (bytes_at bits items (plan_with bits spans items goals) layout k))
-          (seat-place bits spans items goals layout l k lt)
+          (fragment-place bits spans items goals layout l k lt)
           (some_or (image_bytes bits items (plan_with bits spans items goals) layout k) some)
 
       pub bytes-length : length (bytes_at bits items (plan_with bits spans items goals) layout k) ≡ image_length (plan_with bits spans items goals) layout k
       bytes-length =
-          let seat = seat_at (plan_with bits spans items goals) layout k in
+          let fragment = fragment_at (plan_with bits spans items goals) layout k in
           let i = (item_at items k).instr in
           spellings-length laws bits (place (plan_with bits spans items goals) layout k) (image_at bits items (plan_with bits spans items goals) layout k) (bytes_at bits items (plan_with bits spans items goals) layout k) bytes-are
-          ∙ (laws.forms.image_of-length bits i seat.form seat.place seat.goal seat.slot
-          ∙ (sym (seat-length bits spans items goals layout l k lt) ∙ seat-image_length bits spans items goals layout l k lt))
+          ∙ (laws.forms.image_of-length bits i fragment.form fragment.place fragment.goal fragment.slot
+          ∙ (sym (fragment-length bits spans items goals layout l k lt) ∙ fragment-image_length bits spans items goals layout l k lt))
 
     -- ---- a block
 
@@ -62,8 +62,8 @@ module _ (laws : LawsBelow) where
       four-at : (k : ℕ) → first_of_block spans b ≤ k → k < first_of_block spans b + (span_at spans b).count → HaveFour (image_at bits items (plan_with bits spans items goals) layout k)
       four-at k from below =
           let i = placed k (item-below k from below) in
-          let seat = seat_at (plan_with bits spans items goals) layout k in
-          image-four bits (item_at items k).instr seat.form seat.place seat.goal seat.slot
+          let fragment = fragment_at (plan_with bits spans items goals) layout k in
+          image-four bits (item_at items k).instr fragment.form fragment.place fragment.goal fragment.slot
           (spelled-four bits (wrapped bits (item_at items k).ip) i.bytes (item_at items k).instr i.spelled)
 
       -- **the images of a block are read as their instructions**

@@ -1,6 +1,6 @@
 pub mod Appending
 pub mod Writing
-pub mod Seats
+pub mod Fragments
 pub mod Steps
 pub mod Answering
 pub mod Sweeping

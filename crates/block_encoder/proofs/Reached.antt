@@ -17,13 +17,13 @@ use Rattle.move_goals.specs.declared.items.Placed.{Placed}
 use Rattle.move_goals.specs.Items.{AreSpansOf, ArePlaced, item_at}
 use Rattle.move_goals.specs.Goals.{is_in_block_of, begins_at, own_item, other_item, goal_among, goal_of_target, goal_of, goal_at}
 use Rattle.move_goals.specs.Plan.{plan_with, plan_for}
-use Rattle.move_layout.specs.Laid.{goal_value, goal_address, seat_at}
+use Rattle.move_layout.specs.Laid.{goal_value, goal_address, fragment_at}
 use Rattle.block_encoder.specs.Bytes.{bytes_from}
-use Rattle.block_encoder.specs.Moved.{seat_reach, IsReached, first_new_pass}
+use Rattle.block_encoder.specs.Moved.{fragment_reach, IsReached, first_new_pass}
 use Rattle.block_encoder.specs.LawsBelow.{LawsBelow}
 use Rattle.block_encoder.proofs.Sweeping.{one_spelled}
 use Rattle.block_encoder.proofs.Inside.{width-most, image-within}
-use Rattle.block_encoder.proofs.Chosen.{plan-item, choice-is, choice-below, seat-length, seat-no_branch, seat-place, seat-image_length}
+use Rattle.block_encoder.proofs.Chosen.{plan-item, choice-is, choice-below, fragment-length, fragment-no_branch, fragment-place, fragment-image_length}
 
 -- what is no relative branch is itself in each form, aimed at its goal
 other_image : (bits : Bits) (i : Instr) (form : Form) (at goal slot : ℕ) → branch_of i ≡ None → image_of bits i form at goal slot ≡ with_target goal i ∷ []
@@ -78,31 +78,31 @@ module _ (laws : LawsBelow) where
           (by_target (target_of (item_at items k).instr)
           (λ t e. laws.targets.target-below bits (wrapped bits (item_at items k).ip) i.bytes (item_at items k).instr t i.spelled e))
 
-      seat_goal : (seat_at (plan_for bits spans items) layout k).goal ≡ goal_address (plan_for bits spans items) layout k
-      unfolding seat_at
-      seat_goal = refl
+      fragment_goal : (fragment_at (plan_for bits spans items) layout k).goal ≡ goal_address (plan_for bits spans items) layout k
+      unfolding fragment_at
+      fragment_goal = refl
 
       -- **it has its bytes where it reaches its goal**
-      pub other-reached : (seat_at (plan_for bits spans items) layout k).form ≡ Itself
-          → Reaches (seat_reach (item_at items k).instr (seat_at (plan_for bits spans items) layout k).form (seat_at (plan_for bits spans items) layout k).reach) (seat_at (plan_for bits spans items) layout k).len (seat_at (plan_for bits spans items) layout k).place (seat_at (plan_for bits spans items) layout k).goal
+      pub other-reached : (fragment_at (plan_for bits spans items) layout k).form ≡ Itself
+          → Reaches (fragment_reach (item_at items k).instr (fragment_at (plan_for bits spans items) layout k).form (fragment_at (plan_for bits spans items) layout k).reach) (fragment_at (plan_for bits spans items) layout k).len (fragment_at (plan_for bits spans items) layout k).place (fragment_at (plan_for bits spans items) layout k).goal
           → IsReached bits items (plan_for bits spans items) layout k
       other-reached own reaches =
-          let seat = seat_at (plan_for bits spans items) layout k in
+          let fragment = fragment_at (plan_for bits spans items) layout k in
           let instr = (item_at items k).instr in
           let i = placed k lt in
           let old = wrapped bits (item_at items k).ip in
-          let no_branch = seat-no_branch bits spans items (goal_at spans items) layout l k lt own in
+          let no_branch = fragment-no_branch bits spans items (goal_at spans items) layout l k lt own in
           let none = laws.forms.no_branch-no_near bits old i.bytes instr i.spelled no_branch in
-          let len : seat.len ≡ plain_length bits instr = seat-length bits spans items (goal_at spans items) layout l k lt ∙ laws.forms.other-length bits instr seat.form no_branch in
-          let target : Reaches (target_reach instr) seat.len seat.place seat.goal =
-          subst (λ (form : Form). Reaches (seat_reach instr form seat.reach) seat.len seat.place seat.goal) own reaches in
-          let there : Reaches (target_reach instr) (plain_length bits instr) seat.place seat.goal =
-          subst (λ (n : ℕ). Reaches (target_reach instr) n seat.place seat.goal) len target in
-          let within : seat.place + plain_length bits instr ≤ 2 ^ width bits =
-          omega (arith, len, ends k lt, seat-place bits spans items (goal_at spans items) layout l k lt, seat-image_length bits spans items (goal_at spans items) layout l k lt) in
-          let below : seat.goal < 2 ^ 64 = omega (arith, seat_goal, goal-below) in
-          let e = laws.targets.encoded-elsewhere bits old seat.place seat.goal i.bytes instr i.spelled none there within below in (
+          let len : fragment.len ≡ plain_length bits instr = fragment-length bits spans items (goal_at spans items) layout l k lt ∙ laws.forms.other-length bits instr fragment.form no_branch in
+          let target : Reaches (target_reach instr) fragment.len fragment.place fragment.goal =
+          subst (λ (form : Form). Reaches (fragment_reach instr form fragment.reach) fragment.len fragment.place fragment.goal) own reaches in
+          let there : Reaches (target_reach instr) (plain_length bits instr) fragment.place fragment.goal =
+          subst (λ (n : ℕ). Reaches (target_reach instr) n fragment.place fragment.goal) len target in
+          let within : fragment.place + plain_length bits instr ≤ 2 ^ width bits =
+          omega (arith, len, ends k lt, fragment-place bits spans items (goal_at spans items) layout l k lt, fragment-image_length bits spans items (goal_at spans items) layout l k lt) in
+          let below : fragment.goal < 2 ^ 64 = omega (arith, fragment_goal, goal-below) in
+          let e = laws.targets.encoded-elsewhere bits old fragment.place fragment.goal i.bytes instr i.spelled none there within below in (
             reaches,
-            subst (λ (is : List Instr). IsSome (bytes_from bits seat.place is)) (sym (other_image bits instr seat.form seat.place seat.goal seat.slot no_branch))
-                (one_spelled bits seat.place (with_target seat.goal instr) e.0 e.1),
+            subst (λ (is : List Instr). IsSome (bytes_from bits fragment.place is)) (sym (other_image bits instr fragment.form fragment.place fragment.goal fragment.slot no_branch))
+                (one_spelled bits fragment.place (with_target fragment.goal instr) e.0 e.1),
           )

@@ -19,14 +19,14 @@ use Rattle.moved_targets.specs.Targets.{plain_length}
 use Rattle.move_goals.specs.declared.items.Placed.{Placed}
 use Rattle.move_goals.specs.Items.{ArePlaced, item_at}
 use Rattle.move_goals.specs.Plan.{plan_with}
-use Rattle.move_layout.specs.Laid.{seat_at}
-use Rattle.block_encoder.specs.Bytes.{bytes_from, seated_image, seated_bytes}
+use Rattle.move_layout.specs.Laid.{fragment_at}
+use Rattle.block_encoder.specs.Bytes.{bytes_from, fragment_image, fragment_bytes}
 use Rattle.block_encoder.specs.Moved.{IsReached}
 use Rattle.block_encoder.specs.Read.{AreRead, IsReadToGoal}
 use Rattle.block_encoder.specs.LawsBelow.{LawsBelow}
 use Rattle.block_encoder.proofs.Sweeping.{HaveFour, parted, cons-spelled}
 use Rattle.block_encoder.proofs.Pieces.{spelled-four, image-four}
-use Rattle.block_encoder.proofs.Chosen.{seat-own}
+use Rattle.block_encoder.proofs.Chosen.{fragment-own}
 use Rattle.block_encoder.proofs.Going.{branched, goes-near, goes-slot}
 use Rattle.block_encoder.proofs.Branching.{branch_reach}
 
@@ -92,30 +92,30 @@ module _ (laws : LawsBelow) where
       (branch : first_value near_value (item_at items k).instr ≡ Some t) where
     -- **where it has its bytes, reading them gives the goal**
     pub reached-read : IsReached bits items (plan_with bits spans items goals) layout k
-        → IsReadToGoal bits (item_at items k).instr (seat_at (plan_with bits spans items goals) layout k)
-    unfolding seat_at
+        → IsReadToGoal bits (item_at items k).instr (fragment_at (plan_with bits spans items goals) layout k)
+    unfolding fragment_at
     reached-read reached =
-        let seat = seat_at (plan_with bits spans items goals) layout k in
+        let fragment = fragment_at (plan_with bits spans items goals) layout k in
         let i = placed k lt in
         let instr = (item_at items k).instr in
-        let four = image-four bits instr seat.form seat.place seat.goal seat.slot (spelled-four bits (wrapped bits (item_at items k).ip) i.bytes instr i.spelled) in
-        let some = some-known (seated_bytes bits instr seat) reached.1 in
+        let four = image-four bits instr fragment.form fragment.place fragment.goal fragment.slot (spelled-four bits (wrapped bits (item_at items k).ip) i.bytes instr i.spelled) in
+        let some = some-known (fragment_bytes bits instr fragment) reached.1 in
         record {
           bytes = some.0;
-          read = encoded-read bits seat.place (seated_image bits instr seat) some.0 four some.1;
+          read = encoded-read bits fragment.place (fragment_image bits instr fragment) some.0 four some.1;
           near = λ close. goes-near laws bits items spans goals layout k placed lt l t branch close;
           far = λ far. goes-slot laws bits items spans goals layout k placed lt t branch far;
         }
 
     -- **and where some bytes are read so, it has its bytes**
-    pub read-reached : (let seat = seat_at (plan_with bits spans items goals) layout k in Reaches seat.reach seat.len seat.place seat.goal)
-        → IsReadToGoal bits (item_at items k).instr (seat_at (plan_with bits spans items goals) layout k) → IsReached bits items (plan_with bits spans items goals) layout k
-    unfolding seat_at
+    pub read-reached : (let fragment = fragment_at (plan_with bits spans items goals) layout k in Reaches fragment.reach fragment.len fragment.place fragment.goal)
+        → IsReadToGoal bits (item_at items k).instr (fragment_at (plan_with bits spans items goals) layout k) → IsReached bits items (plan_with bits spans items goals) layout k
+    unfolding fragment_at
     read-reached reaches there =
-        let seat = seat_at (plan_with bits spans items goals) layout k in
+        let fragment = fragment_at (plan_with bits spans items goals) layout k in
         let i = placed k lt in
         let instr = (item_at items k).instr in
         let b = branched laws bits (wrapped bits (item_at items k).ip) i.bytes instr t i.spelled branch in
-        let own = seat-own bits spans items goals layout l k lt b.0 b.1 in
-        let found = read-encoded bits seat.place (seated_image bits instr seat) there.bytes there.read in
-        (branch_reach instr seat.form seat.reach seat.len seat.place seat.goal own reaches, known-some (seated_bytes bits instr seat) found.0 found.1)
+        let own = fragment-own bits spans items goals layout l k lt b.0 b.1 in
+        let found = read-encoded bits fragment.place (fragment_image bits instr fragment) there.bytes there.read in
+        (branch_reach instr fragment.form fragment.reach fragment.len fragment.place fragment.goal own reaches, known-some (fragment_bytes bits instr fragment) found.0 found.1)

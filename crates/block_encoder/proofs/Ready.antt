@@ -1,4 +1,4 @@
--- Bytes that are ready are those of the instruction in any seat.
+-- Bytes that are ready are those of the instruction in any fragment.
 use Rattle.std.proofs.Common.{◌≡◌, ℕ, ◌+◌, Bool, Option, Result, List, [], ◌∷◌, ◌++◌, length, Some, None, Ok, Err, refl, sym, ap, subst, ◌∙◌, arith}
 use Rattle.std.specs.Prelude.{unwrap_or, IsSome, IfOk}
 use Rattle.std.proofs.lemmas.List.{append-nil}
@@ -15,11 +15,11 @@ use Rattle.branch_sizes.specs.declared.plan.Reach.TheVariants.{Always}
 use Rattle.branch_sizes.specs.Layout.{Reaches}
 use Rattle.moved_targets.specs.Targets.{target_reach, with_target}
 use Rattle.moved_targets.specs.Independent.{IsIndependent}
-use Rattle.move_layout.specs.declared.layout.Seat.{Seat}
+use Rattle.move_layout.specs.declared.layout.Fragment.{Fragment}
 use Rattle.move_goals.specs.Ready.{MayBeReady}
-use Rattle.block_encoder.specs.Bytes.{in_front, bytes_from, seated_bytes}
-use Rattle.block_encoder.specs.Moved.{seat_reach}
-use Rattle.block_encoder.specs.Written.{AreAppended, IsSeatWritten}
+use Rattle.block_encoder.specs.Bytes.{in_front, bytes_from, fragment_bytes}
+use Rattle.block_encoder.specs.Moved.{fragment_reach}
+use Rattle.block_encoder.specs.Written.{AreAppended, IsFragmentWritten}
 use Rattle.block_encoder.proofs.Going.{untargeted-image}
 
 own_image : (bits : Bits) (i : Instr) (b : Option RelativeBranch) (place goal slot : ℕ) → image_by bits i b Itself place goal slot ≡ with_target goal i ∷ []
@@ -35,7 +35,7 @@ single bits at i bytes h =
     (ap (λ (b : List ℕ). Some b) (append-nil bytes))
 
 own_reach : (i : Instr) (form : Form) (reach : Reach) (len place goal : ℕ) → form ≡ Itself → target_reach i ≡ Always
-    → Reaches (seat_reach i form reach) len place goal
+    → Reaches (fragment_reach i form reach) len place goal
 own_reach i form reach len place goal form-is free = rw (form-is, free) _
 
 -- the image of its own form
@@ -43,25 +43,25 @@ pub itself-image : (bits : Bits) (i : Instr) (place goal slot : ℕ) → image_o
 unfolding image_of
 itself-image bits i place goal slot = own_image bits i (branch_of i) place goal slot
 
--- what is appended of an image of one instruction is appended of the seat
-pub seated_single : {E : Type 0} (bits : Bits) (i image : Instr) (seat : Seat) (form : Form) (old new : List ℕ) (r : Result Bool E) → seat.form ≡ form
-    → image_of bits i form seat.place seat.goal seat.slot ≡ image ∷ []
-    → IfOk r (λ done. AreAppended (bytes_from bits seat.place (image ∷ [])) old new done)
-    → IfOk r (λ done. AreAppended (seated_bytes bits i seat) old new done)
-seated_single bits i image seat form old new r form-is image-is h = rw (form-is, image-is) h
+-- what is appended of an image of one instruction is appended of the fragment
+pub fragment_single : {E : Type 0} (bits : Bits) (i image : Instr) (fragment : Fragment) (form : Form) (old new : List ℕ) (r : Result Bool E) → fragment.form ≡ form
+    → image_of bits i form fragment.place fragment.goal fragment.slot ≡ image ∷ []
+    → IfOk r (λ done. AreAppended (bytes_from bits fragment.place (image ∷ [])) old new done)
+    → IfOk r (λ done. AreAppended (fragment_bytes bits i fragment) old new done)
+fragment_single bits i image fragment form old new r form-is image-is h = rw (form-is, image-is) h
 
 -- no bytes are ready of anything
 pub none_ready : (bits : Bits) (i : Instr) → MayBeReady bits i []
 none_ready bits i some = absurd (omega (arith, some))
 
--- **an instruction of which some bytes are ready is written by them in a seat of its own form**
-pub written_ready : (bits : Bits) (i : Instr) (seat : Seat) (old new bytes : List ℕ) → with_target seat.goal i ≡ i → target_reach i ≡ Always
-    → IsIndependent bits i bytes → seat.form ≡ Itself → new ≡ old ++ bytes → IsSeatWritten bits i seat old new
-written_ready bits i seat old new bytes stays free is own appended =
-    let image = untargeted-image bits i seat.form seat.place seat.goal seat.slot stays is.untargeted in
-    let written : seated_bytes bits i seat ≡ Some bytes =
-    ap (bytes_from bits seat.place) image ∙ single bits seat.place i bytes (is.encoded seat.place) in
-    let there : IsSome (seated_bytes bits i seat) = subst (λ b. IsSome b) (sym written) refl in (
-      (own_reach i seat.form seat.reach seat.len seat.place seat.goal own free, there),
+-- **an instruction of which some bytes are ready is written by them in a fragment of its own form**
+pub written_ready : (bits : Bits) (i : Instr) (fragment : Fragment) (old new bytes : List ℕ) → with_target fragment.goal i ≡ i → target_reach i ≡ Always
+    → IsIndependent bits i bytes → fragment.form ≡ Itself → new ≡ old ++ bytes → IsFragmentWritten bits i fragment old new
+written_ready bits i fragment old new bytes stays free is own appended =
+    let image = untargeted-image bits i fragment.form fragment.place fragment.goal fragment.slot stays is.untargeted in
+    let written : fragment_bytes bits i fragment ≡ Some bytes =
+    ap (bytes_from bits fragment.place) image ∙ single bits fragment.place i bytes (is.encoded fragment.place) in
+    let there : IsSome (fragment_bytes bits i fragment) = subst (λ b. IsSome b) (sym written) refl in (
+      (own_reach i fragment.form fragment.reach fragment.len fragment.place fragment.goal own free, there),
       appended ∙ ap (λ b. old ++ unwrap_or b []) (sym written),
     )

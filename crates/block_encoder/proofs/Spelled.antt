@@ -16,7 +16,7 @@ use Rattle.plain_spelling.specs.Values.{is_extended_of, distance}
 use Rattle.plain_spelling.specs.Forms.{is_variant_of, is_allowed_in}
 use Rattle.plain_spelling.specs.Addresses.{has_address_size, form_of, offers, form_offers, displacement_count, is_displacement, displacement_suits, is_shape, shape_suits, pointer_size, shown_size, written_size}
 use Rattle.plain_spelling.specs.PlainTail.{plain_size, plain_next, plain_spelling}
-use Rattle.plain_spelling.specs.Expressible.{Suits, kind_suits, register_suits, address_suits, offered, immediate_suits, immediate_suits_how, near_reaches, address_reaches, target_suits, lock_suits, repeat_suits, prefixes_suit, has_memory_operand, told_size, size_agrees, is_size_of, address_size_suits}
+use Rattle.plain_spelling.specs.Expressible.{Suits, kind_suits, register_suits, address_suits, displacement_offered, immediate_suits, immediate_suits_how, near_reaches, address_reaches, target_suits, lock_suits, repeat_suits, prefixes_suit, has_memory_operand, told_size, size_agrees, is_size_of, address_size_suits}
 use Rattle.opcode_rows.specs.Table.{table}
 use Rattle.encoder.specs.Encoding.{encoding}
 use Rattle.moved_targets.specs.Targets.{plain_length}
@@ -45,7 +45,7 @@ short-suits : (map : Map) (counts : Bool) (opcode code : ℕ) (asize : Option Bi
     → address_size_suits B64 (offset_row map opcode Jb (marks_of counts) B64) (branch_to code asize t) ≡ true → t < 2 ^ 64
     → is_extended_of 1 64 (distance B64 (plain_next B64 ip (offset_row map opcode Jb (marks_of counts) B64) (branch_to code asize t)) t) ≡ true
     → Suits B64 ip (offset_row map opcode Jb (marks_of counts) B64) (branch_to code asize t)
-unfolding branch_to exists_in kind_suits is_variant_of method_of register_suits address_suits offered immediate_suits immediate_suits_how target_suits near_reaches plain_size operand_size immediate_bytes immediate_width prefixes_suit lock_suits repeat_suits
+unfolding branch_to exists_in kind_suits is_variant_of method_of register_suits address_suits displacement_offered immediate_suits immediate_suits_how target_suits near_reaches plain_size operand_size immediate_bytes immediate_width prefixes_suit lock_suits repeat_suits
 short-suits map true opcode code asize t ip sized below near = record {
   exists = refl;
   kinds = refl;
@@ -72,7 +72,7 @@ short-suits map false opcode code asize t ip sized below near = record {
 near-suits : (map : Map) (opcode code t ip : ℕ) → t < 2 ^ 64
     → is_extended_of 4 64 (distance B64 (plain_next B64 ip (offset_row map opcode Jz 20 B64) (branch_to code None t)) t) ≡ true
     → Suits B64 ip (offset_row map opcode Jz 20 B64) (branch_to code None t)
-unfolding branch_to exists_in kind_suits is_variant_of method_of register_suits address_suits offered immediate_suits immediate_suits_how target_suits near_reaches plain_size operand_size immediate_bytes immediate_width prefixes_suit lock_suits repeat_suits address_size_suits has_memory_operand
+unfolding branch_to exists_in kind_suits is_variant_of method_of register_suits address_suits displacement_offered immediate_suits immediate_suits_how target_suits near_reaches plain_size operand_size immediate_bytes immediate_width prefixes_suit lock_suits repeat_suits address_size_suits has_memory_operand
 near-suits map opcode code t ip below near = record {
   exists = refl;
   kinds = refl;
@@ -105,7 +105,7 @@ branch_to-code code asize t = refl
 slot-suits : (digit code slot ip : ℕ) → slot < 2 ^ 64
     → is_extended_of 4 64 (distance B64 (plain_next B64 ip (memory_row digit) (through_slot code slot)) slot) ≡ true
     → Suits B64 ip (memory_row digit) (through_slot code slot)
-unfolding through_slot exists_in kind_suits is_variant_of is_allowed_in method_of file_of register_suits address_suits shape_suits is_shape form_of offered displacement_suits offers form_offers displacement_count is_displacement written_size shown_size pointer_size immediate_suits immediate_suits_how target_suits address_reaches plain_size operand_size immediate_bytes immediate_width prefixes_suit lock_suits repeat_suits address_size_suits has_memory_operand is_size_of size_agrees told_size has_address_size
+unfolding through_slot exists_in kind_suits is_variant_of is_allowed_in method_of file_of register_suits address_suits shape_suits is_shape form_of displacement_offered displacement_suits offers form_offers displacement_count is_displacement written_size shown_size pointer_size immediate_suits immediate_suits_how target_suits address_reaches plain_size operand_size immediate_bytes immediate_width prefixes_suit lock_suits repeat_suits address_size_suits has_memory_operand is_size_of size_agrees told_size has_address_size
 slot-suits digit code slot ip below near = record {
   exists = refl;
   kinds = refl;

@@ -10,18 +10,18 @@ use Rattle.branch_sizes.specs.Plan.{BlockPlan, item_at, no_branch, IsWellFormed}
 use Rattle.branch_sizes.specs.Layout.{first_of_block, span_at, place}
 use Rattle.move_goals.specs.declared.items.Placed.{Placed}
 use Rattle.move_goals.specs.Items.{item_at as instr_at}
-use Rattle.move_layout.specs.declared.layout.Seat.{Seat}
+use Rattle.move_layout.specs.declared.layout.Fragment.{Fragment}
 use Rattle.move_layout.specs.declared.layout.BlockEnd.{BlockEnd}
 use Rattle.move_layout.specs.declared.layout.Layout.{Layout}
-use Rattle.move_layout.specs.Laid.{IsLaid, IsLaidLeast, goal_address, seat_at, slots_of, all_slots, images_end, no_seat, no_end}
+use Rattle.move_layout.specs.Laid.{IsLaid, IsLaidLeast, goal_address, fragment_at, slots_of, all_slots, images_end, no_fragment, no_end}
 use Rattle.block_encoder.specs.declared.error.MoveError.{MoveError}
 use Rattle.block_encoder.specs.declared.error.MoveError.TheVariants.{Memory, TooMany, OldOrder, Wraps, TooFar}
-use Rattle.block_encoder.specs.Moved.{MovedLists, IsSeatReached, IsReached, IsFirstUnreached}
+use Rattle.block_encoder.specs.Moved.{MovedLists, IsFragmentReached, IsReached, IsFirstUnreached}
 use Rattle.block_encoder.specs.ByPlan.{IsMovedBy, IsPlanAnswer}
-use Rattle.block_encoder.specs.Written.{IsItemWritten, IsSeatOf, gap_behind, first_end_past}
+use Rattle.block_encoder.specs.Written.{IsItemWritten, IsFragmentOf, gap_behind, first_end_past}
 use Rattle.block_encoder.specs.Bytes.{slot_bytes}
 use Rattle.block_encoder.specs.LawsBelow.{LawsBelow}
-use Rattle.block_encoder.proofs.Seats.{end_fits, seat_of, slots_below, slots_within, slots_part, same_pass}
+use Rattle.block_encoder.proofs.Fragments.{end_fits, fragment_of, slots_below, slots_within, slots_part, same_pass}
 use Rattle.block_encoder.proofs.Writing.{AreWritten, item_stops, block_step, all_written}
 
 -- the items that are written are as many as their places
@@ -33,10 +33,10 @@ pub record ItemFacts (items : List Placed) (p : BlockPlan) (laid : Layout) (b i 
   pub at : k ≡ first_of_block p.spans b + i
   pub in_items : k < length items
   pub in_plan : k < length p.items
-  pub in_seats : k < length laid.seats.items
+  pub in_fragments : k < length laid.fragments.items
   pub small : k < 65536
-  pub seat_is : (seat : Seat) → seat ≡ get_or laid.seats.items k seat → seat ≡ get_or laid.seats.items k no_seat
-  pub seat_for : (seat : Seat) (branch : Branch) → seat ≡ get_or laid.seats.items k seat → branch ≡ get_or p.items k branch → IsSeatOf branch seat
+  pub fragment_is : (fragment : Fragment) → fragment ≡ get_or laid.fragments.items k fragment → fragment ≡ get_or laid.fragments.items k no_fragment
+  pub fragment_for : (fragment : Fragment) (branch : Branch) → fragment ≡ get_or laid.fragments.items k fragment → branch ≡ get_or p.items k branch → IsFragmentOf branch fragment
 
 -- the end of block b, whose slots come behind the first ones
 pub record EndFacts (p : BlockPlan) (laid : Layout) (b first : ℕ) (end : BlockEnd) : Type 0 where
@@ -47,9 +47,9 @@ pub record EndFacts (p : BlockPlan) (laid : Layout) (b first : ℕ) (end : Block
   pub goals : (all : List ℕ) (n : ℕ) → all ≡ laid.slots.items → n ≡ end.slots → (j : ℕ) → j < length (take n (drop first all))
       → get_or (take n (drop first all)) j 0 < 2 ^ 64
 
-seat_goal_is : (p : BlockPlan) (layout : List ℕ) (k : ℕ) (seat : Seat) → seat ≡ seat_at p layout k → seat.goal ≡ goal_address p layout k
-unfolding seat_at
-seat_goal_is p layout k seat is = ap (λ (s : Seat). s.goal) is
+fragment_goal_is : (p : BlockPlan) (layout : List ℕ) (k : ℕ) (fragment : Fragment) → fragment ≡ fragment_at p layout k → fragment.goal ≡ goal_address p layout k
+unfolding fragment_at
+fragment_goal_is p layout k fragment is = ap (λ (s : Fragment). s.goal) is
 
 module _ (laws : LawsBelow) where
   -- there are no more slots than items
@@ -69,40 +69,40 @@ module _ (laws : LawsBelow) where
     item_facts il k e =
         let at : k ≡ first_of_block p.spans b + i = placed_count (place p ll.0) starts (first_of_block p.spans b + i) k written.starts_are e in
         let in_plan : k < length p.items = omega (arith, at, laws.blocks.item_below p.spans b i bl il, w.counts) in
-        let in_seats : k < length laid.seats.items = omega (arith, in_plan, ll.2.seat_count) in
+        let in_fragments : k < length laid.fragments.items = omega (arith, in_plan, ll.2.fragment_count) in
         record {
           at = at;
           in_items = omega (arith, in_plan, count);
           in_plan = in_plan;
-          in_seats = in_seats;
+          in_fragments = in_fragments;
           small = omega (arith, in_plan, w.few_items);
-          seat_is = λ seat h. get_or_read laid.seats.items k seat in_seats h no_seat;
-          seat_for = λ seat branch h g.
-              let s : seat_at p ll.0 k ≡ seat = sym (get_or_read laid.seats.items k seat in_seats h no_seat ∙ ll.2.seats k in_plan) in
+          fragment_is = λ fragment h. get_or_read laid.fragments.items k fragment in_fragments h no_fragment;
+          fragment_for = λ fragment branch h g.
+              let s : fragment_at p ll.0 k ≡ fragment = sym (get_or_read laid.fragments.items k fragment in_fragments h no_fragment ∙ ll.2.fragments k in_plan) in
               let x : item_at p k ≡ branch = sym (get_or_read p.items k branch in_plan g no_branch) in
-              subst (λ a. IsSeatOf branch a) s
-              (subst (λ a. IsSeatOf a (seat_at p ll.0 k)) x
-              (seat_of laws p w ll.0 ll.1.closed.is_layout (end_fits laws bits p ll.0 laid ll.2 none) k in_plan));
+              subst (λ a. IsFragmentOf branch a) s
+              (subst (λ a. IsFragmentOf a (fragment_at p ll.0 k)) x
+              (fragment_of laws p w ll.0 ll.1.closed.is_layout (end_fits laws bits p ll.0 laid ll.2 none) k in_plan));
         }
 
     -- an item that is not written refuses the blocks
     pub item_refuses : (k : ℕ) → ItemFacts items p laid b i k
-        → (seat : Seat) → seat ≡ get_or laid.seats.items k seat → (old new : List ℕ) (why : MoveError)
-        → IsItemWritten bits (instr_at items k).instr seat k old new (Err why) → IsPlanAnswer bits items p (Err why)
-    item_refuses k f seat is old new Memory h = tt
-    item_refuses k f seat is old new (TooMany n) h = absurd h
-    item_refuses k f seat is old new (OldOrder n) h = absurd h
-    item_refuses k f seat is old new (Wraps n) h = absurd h
-    item_refuses k f seat is old new (TooFar j t) h =
-        let s : seat ≡ seat_at p ll.0 k = f.seat_is seat is ∙ ll.2.seats k f.in_plan in
-        let goal : seat.goal ≡ goal_address p ll.0 k = seat_goal_is p ll.0 k seat s in
-        let stuck : IsReached bits items p ll.0 k → ⊥ = subst (λ a. IsSeatReached bits (instr_at items k).instr a → ⊥) s h.1.1 in
+        → (fragment : Fragment) → fragment ≡ get_or laid.fragments.items k fragment → (old new : List ℕ) (why : MoveError)
+        → IsItemWritten bits (instr_at items k).instr fragment k old new (Err why) → IsPlanAnswer bits items p (Err why)
+    item_refuses k f fragment is old new Memory h = tt
+    item_refuses k f fragment is old new (TooMany n) h = absurd h
+    item_refuses k f fragment is old new (OldOrder n) h = absurd h
+    item_refuses k f fragment is old new (Wraps n) h = absurd h
+    item_refuses k f fragment is old new (TooFar j t) h =
+        let s : fragment ≡ fragment_at p ll.0 k = f.fragment_is fragment is ∙ ll.2.fragments k f.in_plan in
+        let goal : fragment.goal ≡ goal_address p ll.0 k = fragment_goal_is p ll.0 k fragment s in
+        let stuck : IsReached bits items p ll.0 k → ⊥ = subst (λ a. IsFragmentReached bits (instr_at items k).instr a → ⊥) s h.1.1 in
         record {
           layout = ll.0;
           least = ll.1;
           ends = sym (same_pass laws bits p ll.0 laid ll.2) ∙ none;
           first = subst (IsFirstUnreached bits items p ll.0) (sym h.0)
-              (item_stops bits items p ll.0 b i bytes starts forms slots ends written k f.at seat s f.in_items stuck);
+              (item_stops bits items p ll.0 b i bytes starts forms slots ends written k f.at fragment s f.in_items stuck);
           target_is = (h.1.0 ∙ goal) ∙ ap (goal_address p ll.0) (sym h.0);
         }
 

@@ -11,12 +11,12 @@ use Rattle.branch_sizes.specs.Plan.{BlockPlan}
 use Rattle.branch_sizes.specs.Layout.{first_of_block, span_at, chosen, place}
 use Rattle.move_goals.specs.declared.items.Placed.{Placed}
 use Rattle.move_goals.specs.Items.{item_at}
-use Rattle.move_layout.specs.declared.layout.Seat.{Seat}
+use Rattle.move_layout.specs.declared.layout.Fragment.{Fragment}
 use Rattle.move_layout.specs.declared.layout.BlockEnd.{BlockEnd}
-use Rattle.move_layout.specs.Laid.{goal_address, seat_at, end_at, slots_of, all_slots}
+use Rattle.move_layout.specs.Laid.{goal_address, fragment_at, end_at, slots_of, all_slots}
 use Rattle.block_encoder.specs.Bytes.{bytes_at, block_images, gap_bytes, slot_bytes, block_bytes, bytes_of_blocks}
 use Rattle.block_encoder.specs.Moved.{MovedLists, IsReached, IsFirstUnreached, AreListsOf}
-use Rattle.block_encoder.specs.Written.{IsSeatWritten, gap_behind}
+use Rattle.block_encoder.specs.Written.{IsFragmentWritten, gap_behind}
 
 -- the first b blocks are written, and i items of the next one
 pub record AreWritten (bits : Bits) (items : List Placed) (p : BlockPlan) (layout : List ℕ) (b i : ℕ)
@@ -52,27 +52,27 @@ one_more P n k m e f below here j lt =
 
 module _ (bits : Bits) (items : List Placed) (p : BlockPlan) (layout : List ℕ) (b i : ℕ) (bytes starts : List ℕ) (forms : List Form) (slots ends : List ℕ)
     (w : AreWritten bits items p layout b i bytes starts forms slots ends) where
-  -- item k, which is item i of block b, in its seat
-  module _ (k : ℕ) (e : k ≡ first_of_block p.spans b + i) (seat : Seat) (is : seat ≡ seat_at p layout k) where
-    seat_place : seat.place ≡ place p layout k
-    unfolding seat_at
-    seat_place = ap (λ s. s.place) is
+  -- item k, which is item i of block b, in its fragment
+  module _ (k : ℕ) (e : k ≡ first_of_block p.spans b + i) (fragment : Fragment) (is : fragment ≡ fragment_at p layout k) where
+    fragment_place : fragment.place ≡ place p layout k
+    unfolding fragment_at
+    fragment_place = ap (λ s. s.place) is
 
-    seat_form : seat.form ≡ (chosen p layout k).form
-    unfolding seat_at
-    seat_form = ap (λ s. s.form) is
+    fragment_form : fragment.form ≡ (chosen p layout k).form
+    unfolding fragment_at
+    fragment_form = ap (λ s. s.form) is
 
-    seat_goal : seat.goal ≡ goal_address p layout k
-    unfolding seat_at
-    seat_goal = ap (λ s. s.goal) is
+    fragment_goal : fragment.goal ≡ goal_address p layout k
+    unfolding fragment_at
+    fragment_goal = ap (λ s. s.goal) is
 
     -- the item is written
-    pub item_step : (bytes2 starts2 : List ℕ) (forms2 : List Form) → seat.goal < 2 ^ 64
-        → IsSeatWritten bits (item_at items k).instr seat bytes bytes2 → starts2 ≡ starts ++ seat.place ∷ [] → forms2 ≡ forms ++ seat.form ∷ []
+    pub item_step : (bytes2 starts2 : List ℕ) (forms2 : List Form) → fragment.goal < 2 ^ 64
+        → IsFragmentWritten bits (item_at items k).instr fragment bytes bytes2 → starts2 ≡ starts ++ fragment.place ∷ [] → forms2 ≡ forms ++ fragment.form ∷ []
         → AreWritten bits items p layout b (i + 1) bytes2 starts2 forms2 slots ends
     item_step bytes2 starts2 forms2 goal written placed formed =
-        let here : IsSeatWritten bits (item_at items k).instr (seat_at p layout k) bytes bytes2 =
-        subst (λ s. IsSeatWritten bits (item_at items k).instr s bytes bytes2) is written in
+        let here : IsFragmentWritten bits (item_at items k).instr (fragment_at p layout k) bytes bytes2 =
+        subst (λ s. IsFragmentWritten bits (item_at items k).instr s bytes bytes2) is written in
         let n = first_of_block p.spans b + i in
         let one : n + 1 ≡ first_of_block p.spans b + (i + 1) = omega arith in
         let at : 0 + n ≡ k = omega arith in
@@ -83,17 +83,17 @@ module _ (bits : Bits) (items : List Placed) (p : BlockPlan) (layout : List ℕ)
         record {
           bytes_are = (here.1 ∙ ap (λ xs. xs ++ f k) w.bytes_are)
               ∙ (append_assoc all some (f k) ∙ ap (λ xs. all ++ xs) (sym (flat_more f (first_of_block p.spans b) i k (sym e))));
-          starts_are = (placed ∙ (ap (λ xs. xs ++ seat.place ∷ []) w.starts_are
-              ∙ ap (λ x. map (place p layout) (range_with_len 0 n) ++ x ∷ []) seat_place))
+          starts_are = (placed ∙ (ap (λ xs. xs ++ fragment.place ∷ []) w.starts_are
+              ∙ ap (λ x. map (place p layout) (range_with_len 0 n) ++ x ∷ []) fragment_place))
               ∙ (sym (map-range_with_len_more (place p layout) 0 n k at) ∙ ap (λ m. map (place p layout) (range_with_len 0 m)) one);
-          forms_are = (formed ∙ (ap (λ xs. xs ++ seat.form ∷ []) w.forms_are
-              ∙ ap (λ x. map form_of (range_with_len 0 n) ++ x ∷ []) seat_form))
+          forms_are = (formed ∙ (ap (λ xs. xs ++ fragment.form ∷ []) w.forms_are
+              ∙ ap (λ x. map form_of (range_with_len 0 n) ++ x ∷ []) fragment_form))
               ∙ (sym (map-range_with_len_more form_of 0 n k at) ∙ ap (λ m. map form_of (range_with_len 0 m)) one);
           slots_are = w.slots_are;
           ends_are = w.ends_are;
           reached = one_more (IsReached bits items p layout) n k (first_of_block p.spans b + (i + 1)) (sym e) (sym one) w.reached here.0;
           goals_fit = one_more (λ j. goal_address p layout j < 2 ^ 64) n k (first_of_block p.spans b + (i + 1)) (sym e) (sym one) w.goals_fit
-              (omega (arith, seat_goal, goal));
+              (omega (arith, fragment_goal, goal));
         }
 
     -- the item is the first that does not reach its goal

@@ -10,8 +10,8 @@ use Rattle.branch_sizes.specs.Layout.{first_of_block, span_at}
 use Rattle.branch_forms.specs.Images.{image_of}
 use Rattle.move_goals.specs.declared.items.Placed.{Placed}
 use Rattle.move_goals.specs.Items.{item_at}
-use Rattle.move_layout.specs.declared.layout.Seat.{Seat}
-use Rattle.move_layout.specs.Laid.{slots_of, images_end, slots_start, seat_at}
+use Rattle.move_layout.specs.declared.layout.Fragment.{Fragment}
+use Rattle.move_layout.specs.Laid.{slots_of, images_end, slots_start, fragment_at}
 
 -- bytes in front of others, which there may not be
 abbrev pub in_front : List ℕ → Option (List ℕ) → Option (List ℕ)
@@ -24,21 +24,21 @@ bytes_from bits at [] = Some []
 bytes_from bits at (i ∷ is) =
     elim (encoding bits at i) [ Ok bytes ↦ in_front bytes (bytes_from bits (at + length bytes) is) | Err why ↦ None ]
 
--- the image of an instruction in its seat
-abbrev pub seated_image : Bits → Instr → Seat → List Instr
-seated_image bits i seat = image_of bits i seat.form seat.place seat.goal seat.slot
+-- the image of an instruction in its fragment
+abbrev pub fragment_image : Bits → Instr → Fragment → List Instr
+fragment_image bits i fragment = image_of bits i fragment.form fragment.place fragment.goal fragment.slot
 
 -- its bytes there
-abbrev pub seated_bytes : Bits → Instr → Seat → Option (List ℕ)
-seated_bytes bits i seat = bytes_from bits seat.place (seated_image bits i seat)
+abbrev pub fragment_bytes : Bits → Instr → Fragment → Option (List ℕ)
+fragment_bytes bits i fragment = bytes_from bits fragment.place (fragment_image bits i fragment)
 
 -- the image of item k in a layout
 abbrev pub image_at : Bits → List Placed → BlockPlan → List ℕ → ℕ → List Instr
-image_at bits items p layout k = seated_image bits (item_at items k).instr (seat_at p layout k)
+image_at bits items p layout k = fragment_image bits (item_at items k).instr (fragment_at p layout k)
 
 -- its bytes there
 abbrev pub image_bytes : Bits → List Placed → BlockPlan → List ℕ → ℕ → Option (List ℕ)
-image_bytes bits items p layout k = seated_bytes bits (item_at items k).instr (seat_at p layout k)
+image_bytes bits items p layout k = fragment_bytes bits (item_at items k).instr (fragment_at p layout k)
 
 -- the bytes of item k, nothing where it has none
 abbrev pub bytes_at : Bits → List Placed → BlockPlan → List ℕ → ℕ → List ℕ

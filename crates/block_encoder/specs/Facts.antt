@@ -23,16 +23,16 @@ use Rattle.branch_forms.specs.Choices.{choices_of}
 use Rattle.move_goals.specs.declared.items.Placed.{Placed}
 use Rattle.move_goals.specs.Items.{AreSpansOf, ArePlaced, item_at, no_instr}
 use Rattle.move_goals.specs.Plan.{branch_with, plan_with, plan_for, plan_outside}
-use Rattle.move_layout.specs.Laid.{goal_value, goal_address, is_far_at, new_end, slot_address, seat_at}
+use Rattle.move_layout.specs.Laid.{goal_value, goal_address, is_far_at, new_end, slot_address, fragment_at}
 use Rattle.block_encoder.specs.Bytes.{image_at, block_bytes}
 use Rattle.block_encoder.specs.Aims.{last_instr, StandsAtPlace, HasSlot}
-use Rattle.block_encoder.specs.Moved.{MovedLists, IsReached, seat_reach, first_new_pass}
+use Rattle.block_encoder.specs.Moved.{MovedLists, IsReached, fragment_reach, first_new_pass}
 use Rattle.block_encoder.specs.ByPlan.{IsMovedBy}
 use Rattle.block_encoder.specs.Read.{IsReadAsImages}
 use Rattle.block_encoder.specs.Last.{last_layout, last_len}
 
--- the plan of some items with some goals, and the seats that a layout of it gives them
-pub record SeatFacts : Type 0 where
+-- the plan of some items with some goals, and the fragments that a layout of it gives them
+pub record FragmentFacts : Type 0 where
   pub plan-spans : (bits : Bits) (spans : List BlockSpan) (items : List Placed) (goals : ℕ → Goal) → (plan_with bits spans items goals).spans ≡ spans
   pub plan-count : (bits : Bits) (spans : List BlockSpan) (items : List Placed) (goals : ℕ → Goal)
       → length (plan_with bits spans items goals).items ≡ length items
@@ -45,13 +45,13 @@ pub record SeatFacts : Type 0 where
   pub choice-below : (bits : Bits) (spans : List BlockSpan) (items : List Placed) (goals : ℕ → Goal) (layout : List ℕ)
       → IsLayout (plan_with bits spans items goals) layout → (k : ℕ) → k < length items
       → slice_index_or layout k 0 < length (choices_of bits (item_at items k).instr)
-  -- its seat
-  pub seat-place : (bits : Bits) (spans : List BlockSpan) (items : List Placed) (goals : ℕ → Goal) (layout : List ℕ)
+  -- its fragment
+  pub fragment-place : (bits : Bits) (spans : List BlockSpan) (items : List Placed) (goals : ℕ → Goal) (layout : List ℕ)
       → IsLayout (plan_with bits spans items goals) layout → (k : ℕ) → k < length items
-      → (seat_at (plan_with bits spans items goals) layout k).place ≡ place (plan_with bits spans items goals) layout k
-  pub seat-image_length : (bits : Bits) (spans : List BlockSpan) (items : List Placed) (goals : ℕ → Goal) (layout : List ℕ)
+      → (fragment_at (plan_with bits spans items goals) layout k).place ≡ place (plan_with bits spans items goals) layout k
+  pub fragment-image_length : (bits : Bits) (spans : List BlockSpan) (items : List Placed) (goals : ℕ → Goal) (layout : List ℕ)
       → IsLayout (plan_with bits spans items goals) layout → (k : ℕ) → k < length items
-      → (seat_at (plan_with bits spans items goals) layout k).len ≡ image_length (plan_with bits spans items goals) layout k
+      → (fragment_at (plan_with bits spans items goals) layout k).len ≡ image_length (plan_with bits spans items goals) layout k
 
 -- of blocks that are moved by any plan of them: where the images and slots stand, what is read of them, and where the images go
 pub record MovedFacts : Type 0 where
@@ -95,8 +95,8 @@ pub record ReachFacts : Type 0 where
   -- what is no branch does where its operand does
   pub other-reached : (bits : Bits) (items : List Placed) (spans : List BlockSpan) → AreSpansOf items spans → ArePlaced bits items → length items ≤ 65536
       → (layout : List ℕ) → IsLeast (plan_for bits spans items) layout → first_new_pass bits (plan_for bits spans items) layout ≡ None
-      → (k : ℕ) → k < length items → let seat = seat_at (plan_for bits spans items) layout k in
-      seat.form ≡ Itself → Reaches (seat_reach (item_at items k).instr seat.form seat.reach) seat.len seat.place seat.goal
+      → (k : ℕ) → k < length items → let fragment = fragment_at (plan_for bits spans items) layout k in
+      fragment.form ≡ Itself → Reaches (fragment_reach (item_at items k).instr fragment.form fragment.reach) fragment.len fragment.place fragment.goal
       → IsReached bits items (plan_for bits spans items) layout k
   -- in 64-bit mode a branch does, also where its goal is another one that its layout reaches
   pub reached-in_64 : (items : List Placed) (spans : List BlockSpan) → AreSpansOf items spans → ArePlaced B64 items → length items ≤ 65536

@@ -13,11 +13,11 @@ use Rattle.moved_targets.specs.Targets.{target_reach}
 use Rattle.move_goals.specs.declared.items.Placed.{Placed}
 use Rattle.move_goals.specs.Items.{item_at, first_disorder, first_passing, first_old_pass}
 use Rattle.move_goals.specs.Plan.{plan_for}
-use Rattle.move_layout.specs.declared.layout.Seat.{Seat}
-use Rattle.move_layout.specs.Laid.{goal_address, seat_at, new_end, all_slots}
+use Rattle.move_layout.specs.declared.layout.Fragment.{Fragment}
+use Rattle.move_layout.specs.Laid.{goal_address, fragment_at, new_end, all_slots}
 use Rattle.block_encoder.specs.declared.error.MoveError.{MoveError}
 use Rattle.block_encoder.specs.declared.error.MoveError.TheVariants.{Memory, TooMany, OldOrder, Wraps, TooFar}
-use Rattle.block_encoder.specs.Bytes.{seated_bytes, bytes_of_blocks}
+use Rattle.block_encoder.specs.Bytes.{fragment_bytes, bytes_of_blocks}
 
 -- what a moving gives: the bytes of the blocks one behind another, the new place and the form of each item, the goals in the slots, and the
 -- offset behind each block with its gap and slots
@@ -31,18 +31,18 @@ pub record MovedLists : Type 0 where
 -- ---- reach
 
 -- what an item in a form reaches: a branch what its form reaches, anything else what its operand at RIP or EIP reaches
-abbrev pub seat_reach : Instr → Form → Reach → Reach
-seat_reach i Itself reach = target_reach i
-seat_reach i form reach = reach
+abbrev pub fragment_reach : Instr → Form → Reach → Reach
+fragment_reach i Itself reach = target_reach i
+fragment_reach i form reach = reach
 
--- an instruction reaches its goal from its seat: its form does, and each instruction of its image has a plain spelling at its place
-abbrev pub IsSeatReached : Bits → Instr → Seat → Type 0
-IsSeatReached bits i seat =
-    Reaches (seat_reach i seat.form seat.reach) seat.len seat.place seat.goal × IsSome (seated_bytes bits i seat)
+-- an instruction reaches its goal from its fragment: its form does, and each instruction of its image has a plain spelling at its place
+abbrev pub IsFragmentReached : Bits → Instr → Fragment → Type 0
+IsFragmentReached bits i fragment =
+    Reaches (fragment_reach i fragment.form fragment.reach) fragment.len fragment.place fragment.goal × IsSome (fragment_bytes bits i fragment)
 
 -- item k does in a layout
 abbrev pub IsReached : Bits → List Placed → BlockPlan → List ℕ → ℕ → Type 0
-IsReached bits items p layout k = IsSeatReached bits (item_at items k).instr (seat_at p layout k)
+IsReached bits items p layout k = IsFragmentReached bits (item_at items k).instr (fragment_at p layout k)
 
 -- item k is the first that does not
 pub record IsFirstUnreached (bits : Bits) (items : List Placed) (p : BlockPlan) (layout : List ℕ) (k : ℕ) : Type 0 where

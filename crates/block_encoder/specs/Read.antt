@@ -13,9 +13,9 @@ use Rattle.branch_sizes.specs.Plan.{BlockPlan}
 use Rattle.branch_sizes.specs.Layout.{first_of_block, span_at}
 use Rattle.moved_targets.specs.Targets.{plain_length}
 use Rattle.move_goals.specs.declared.items.Placed.{Placed}
-use Rattle.move_layout.specs.declared.layout.Seat.{Seat}
+use Rattle.move_layout.specs.declared.layout.Fragment.{Fragment}
 use Rattle.move_layout.specs.Laid.{is_far}
-use Rattle.block_encoder.specs.Bytes.{image_at, block_images, seated_image}
+use Rattle.block_encoder.specs.Bytes.{image_at, block_images, fragment_image}
 use Rattle.block_encoder.specs.Aims.{last_instr}
 
 -- an instruction at an offset with its bytes, as an item of a sweep
@@ -51,8 +51,8 @@ AreRead bits at bytes (i ∷ is) =
 
 -- reading the image of a relative branch at its place gives the goal: some bytes are read there as its instructions, of which the last one goes to the
 -- goal, or of a far form through the slot
-pub record IsReadToGoal (bits : Bits) (i : Instr) (seat : Seat) : Type 0 where
+pub record IsReadToGoal (bits : Bits) (i : Instr) (fragment : Fragment) : Type 0 where
   pub bytes : List ℕ
-  pub read : AreRead bits seat.place bytes (seated_image bits i seat)
-  pub near : is_far seat.form ≡ false → first_value near_value (last_instr (seated_image bits i seat)) ≡ Some seat.goal
-  pub far : is_far seat.form ≡ true → first_value ip_value (last_instr (seated_image bits i seat)) ≡ Some seat.slot
+  pub read : AreRead bits fragment.place bytes (fragment_image bits i fragment)
+  pub near : is_far fragment.form ≡ false → first_value near_value (last_instr (fragment_image bits i fragment)) ≡ Some fragment.goal
+  pub far : is_far fragment.form ≡ true → first_value ip_value (last_instr (fragment_image bits i fragment)) ≡ Some fragment.slot

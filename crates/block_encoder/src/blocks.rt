@@ -7,7 +7,7 @@ ghost use Rattle.block_encoder.specs.Moved.{IsAnswer};
 use crate::by_plan::move_with_ready;
 use crate::error::MoveError;
 use crate::moved::{Moved, MovedBlocks};
-use branch_sizes::BlockSpan;
+use branch_sizes::{BlockSpan, MOST_ITEMS};
 use move_goals::{Placed, first_disorder, first_old_pass, plan_with_ready, ready_bytes};
 use std::alloc::Global;
 use x86_values::Bits;
@@ -33,7 +33,7 @@ pub fn move_blocks(
     requires placed { old.ArePlaced bits items.now }
     ensures { IsAnswer bits items.now spans.now result }
 {
-    if items.len() > 65_536 {
+    if items.len() > MOST_ITEMS {
         return Err(MoveError::TooMany {
             count: items.len() as u64,
         });
@@ -44,14 +44,8 @@ pub fn move_blocks(
     if let Some(end) = first_old_pass(bits, items, spans) {
         return Err(MoveError::Wraps { end });
     }
-    let ready = match ready_bytes(alloc, bits, items) {
-        Ok(ready) => ready,
-        Err(_) => return Err(MoveError::Memory),
-    };
-    let plan = match plan_with_ready(alloc, bits, items, spans, &ready) {
-        Ok(plan) => plan,
-        Err(_) => return Err(MoveError::Memory),
-    };
+    let ready = ready_bytes(alloc, bits, items)?;
+    let plan = plan_with_ready(alloc, bits, items, spans, &ready)?;
     move_with_ready(alloc, bits, items, &plan, &ready)
 }
 

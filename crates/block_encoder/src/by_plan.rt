@@ -58,10 +58,7 @@ pub(crate) fn move_with_ready(
     ensures { IsPlanAnswer bits items.now plan.now result }
 {
     laws_below();
-    let laid = match lay_out(alloc, plan) {
-        Ok(laid) => laid,
-        Err(_) => return Err(MoveError::Memory),
-    };
+    let laid = lay_out(alloc, plan)?;
     if let Some(end) = first_new_pass(bits, &laid.ends) {
         return Err(MoveError::Wraps { end });
     }

@@ -3,6 +3,7 @@
 ghost use Rattle.std.specs.Prelude.{◌≡◌};
 ghost use Rattle.block_encoder.specs.declared.error.MoveError.TheVariants as why;
 
+use branch_sizes::LayoutError;
 use std::alloc::{AllocError, AllocFailed};
 use thiserror::Error;
 
@@ -31,6 +32,14 @@ impl From<AllocError> for MoveError {
     ghost from_gives = { λ _ e. e ≡ why.Memory };
 
     fn from(_e: AllocError) -> MoveError {
+        MoveError::Memory
+    }
+}
+
+impl From<LayoutError> for MoveError {
+    ghost from_gives = { λ _ e. e ≡ why.Memory };
+
+    fn from(_e: LayoutError) -> MoveError {
         MoveError::Memory
     }
 }

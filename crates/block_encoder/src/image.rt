@@ -1,51 +1,24 @@
 //! The bytes of one moved instruction.
 
-ghost use Rattle.std.specs.Prelude.{◌≡◌, ◌↔◌, ◌+◌, ◌^◌, ◌<◌, ◌≤◌, [], ◌∷◌, IsTrue, IfOk, IfSome, MatchBool};
+ghost use Rattle.std.specs.Prelude.{◌≡◌, ◌+◌, ◌^◌, ◌<◌, ◌≤◌, [], ◌∷◌, IfOk, IfSome, MatchBool};
 ghost use Rattle.encoder.specs.Encoding.{encoding};
-ghost use Rattle.branch_sizes.specs.Layout.{Reaches};
 ghost use Rattle.branch_forms.specs.Images.{instrs_of};
-ghost use Rattle.block_encoder.specs.Bytes.{bytes_from, seated_bytes};
+ghost use Rattle.block_encoder.specs.Bytes.{bytes_from, fragment_bytes};
 ghost use Rattle.block_encoder.specs.Moved as moved;
-ghost use Rattle.block_encoder.specs.Written.{IsPieceAppended, AreAppended, IsSeatWritten};
+ghost use Rattle.block_encoder.specs.Written.{IsPieceAppended, AreAppended, IsFragmentWritten};
 
 use branch_forms::{Image, image_of, near_image, short_image};
-use branch_sizes::{Form, Reach};
+use branch_sizes::{Form, Reach, reaches};
 use encoder::encode;
-use move_layout::Seat;
+use move_layout::Fragment;
 use moved_targets::{target_reach, with_target};
 use std::alloc::AllocError;
 use x86_values::laws::wrapped_twice;
 use x86_values::{Bits, Instr, wrap};
 
-/// Whether an address is below 2 to a number of bits.
-fn is_below(address: u128, bits: u8) -> bool
-    requires { address < 2 ^ 96 }
-    ensures { IsTrue result ↔ (address < 2 ^ bits) }
-{
-    bits >= 96 || address < 1 << bits
-}
-
-/// Whether an image of some bytes at a place reaches a goal.
-fn reaches(reach: Reach, len: u8, place: u128, goal: u128) -> bool
-    requires place { place < 2 ^ 66 }
-    requires goal { goal < 2 ^ 66 }
-    ensures { IsTrue result ↔ Reaches reach len place goal }
-{
-    let end = place + u128::from(len);
-    match reach {
-        Reach::Always => true,
-        Reach::Signed8 => end <= goal + 128 && goal < end + 128,
-        Reach::Signed32 => end <= goal + 0x8000_0000 && goal < end + 0x8000_0000,
-        Reach::Below(bits) => is_below(goal, bits),
-        Reach::BridgeBelow { bits, inner } => {
-            is_below(goal, bits) && is_below(place + u128::from(inner), bits)
-        }
-    }
-}
-
-/// What an instruction in a seat reaches.
-fn seat_reach(instr: &Instr, form: Form, reach: Reach) -> Reach
-    ensures { result ≡ moved.seat_reach instr.now form reach }
+/// What an instruction in a fragment reaches.
+fn fragment_reach(instr: &Instr, form: Form, reach: Reach) -> Reach
+    ensures { result ≡ moved.fragment_reach instr.now form reach }
 {
     match form {
         Form::Itself => target_reach(instr),
@@ -105,84 +78,84 @@ fn append_image(
     }
 }
 
-/// Appends the plain spellings of an image that may have several instructions, in its seat. `false`: one of them has none there, and those before it may
+/// Appends the plain spellings of an image that may have several instructions, in its fragment. `false`: one of them has none there, and those before it may
 /// be appended. It is a function of its own, so that the other images need no room for three instructions.
 #[inline(never)]
 fn append_several(
     bits: Bits,
     instr: &Instr,
-    seat: &Seat,
+    fragment: &Fragment,
     goal: u64,
     bytes: &mut Vec<u8>,
 ) -> Result<bool, AllocError>
-    requires place { seat.now.place < 2 ^ 64 }
-    requires slot { seat.now.slot < 2 ^ 64 }
-    requires goal { goal ≡ seat.now.goal }
-    ensures { IfOk result (λ done. AreAppended (seated_bytes bits instr.now seat.now) bytes.old.items bytes.new.items done) }
+    requires place { fragment.now.place < 2 ^ 64 }
+    requires slot { fragment.now.slot < 2 ^ 64 }
+    requires goal { goal ≡ fragment.now.goal }
+    ensures { IfOk result (λ done. AreAppended (fragment_bytes bits instr.now fragment.now) bytes.old.items bytes.new.items done) }
 {
     let image = image_of(
         bits,
         instr,
-        seat.form,
-        seat.place as u64,
+        fragment.form,
+        fragment.place as u64,
         goal,
-        seat.slot as u64,
+        fragment.slot as u64,
     );
-    append_image(bits, seat.place, &image, bytes)
+    append_image(bits, fragment.place, &image, bytes)
 }
 
-/// Appends the plain spelling of an instruction that is the whole image of another one in its seat. `false`: it has none there.
+/// Appends the plain spelling of an instruction that is the whole image of another one in its fragment. `false`: it has none there.
 fn append_single(
     bits: Bits,
-    seat: &Seat,
+    fragment: &Fragment,
     image: &Instr,
     bytes: &mut Vec<u8>,
 ) -> Result<bool, AllocError>
-    requires { seat.now.place < 2 ^ 64 }
-    ensures { IfOk result (λ done. AreAppended (bytes_from bits seat.now.place (image.now ∷ [])) bytes.old.items bytes.new.items done) }
+    requires { fragment.now.place < 2 ^ 64 }
+    ensures { IfOk result (λ done. AreAppended (bytes_from bits fragment.now.place (image.now ∷ [])) bytes.old.items bytes.new.items done) }
 {
-    Ok(append_piece(bits, seat.place, image, bytes)?.is_some())
+    Ok(append_piece(bits, fragment.place, image, bytes)?.is_some())
 }
 
-/// Appends the plain spellings of the image of an instruction in its seat. `false`: one of them has none there, and those before it may be appended.
-fn append_seated(
+/// Appends the plain spellings of the image of an instruction in its fragment. `false`: one of them has none there, and those before it may be appended.
+fn append_fragment(
     bits: Bits,
     instr: &Instr,
-    seat: &Seat,
+    fragment: &Fragment,
     goal: u64,
     bytes: &mut Vec<u8>,
 ) -> Result<bool, AllocError>
-    requires place { seat.now.place < 2 ^ 64 }
-    requires slot { seat.now.slot < 2 ^ 64 }
-    requires goal { goal ≡ seat.now.goal }
-    ensures { IfOk result (λ done. AreAppended (seated_bytes bits instr.now seat.now) bytes.old.items bytes.new.items done) }
+    requires place { fragment.now.place < 2 ^ 64 }
+    requires slot { fragment.now.slot < 2 ^ 64 }
+    requires goal { goal ≡ fragment.now.goal }
+    ensures { IfOk result (λ done. AreAppended (fragment_bytes bits instr.now fragment.now) bytes.old.items bytes.new.items done) }
 {
-    match seat.form {
-        Form::Itself => append_single(bits, seat, &with_target(instr, goal), bytes),
-        Form::Short => append_single(bits, seat, &short_image(instr, goal), bytes),
-        Form::Near => append_single(bits, seat, &near_image(instr, goal), bytes),
+    match fragment.form {
+        Form::Itself => append_single(bits, fragment, &with_target(instr, goal), bytes),
+        Form::Short => append_single(bits, fragment, &short_image(instr, goal), bytes),
+        Form::Near => append_single(bits, fragment, &near_image(instr, goal), bytes),
         Form::Far | Form::Bridge | Form::FarBridge => {
-            append_several(bits, instr, seat, goal, bytes)
+            append_several(bits, instr, fragment, goal, bytes)
         }
     }
 }
 
-/// Appends the bytes of an instruction in its seat, aimed at its goal. `false`: it does not reach the goal, and some of its bytes may be appended.
+/// Appends the bytes of an instruction in its fragment, aimed at its goal. `false`: it does not reach the goal, and some of its bytes may be appended.
 pub(crate) fn write_image(
     bits: Bits,
     instr: &Instr,
-    seat: &Seat,
+    fragment: &Fragment,
     goal: u64,
     bytes: &mut Vec<u8>,
 ) -> Result<bool, AllocError>
-    requires place { seat.now.place < 2 ^ 64 }
-    requires slot { seat.now.slot < 2 ^ 64 }
-    requires goal { goal ≡ seat.now.goal }
-    ensures { IfOk result (λ reached. MatchBool reached (IsSeatWritten bits instr.now seat.now bytes.old.items bytes.new.items) (moved.IsSeatReached bits instr.now seat.now → ⊥)) }
+    requires place { fragment.now.place < 2 ^ 64 }
+    requires slot { fragment.now.slot < 2 ^ 64 }
+    requires goal { goal ≡ fragment.now.goal }
+    ensures { IfOk result (λ reached. MatchBool reached (IsFragmentWritten bits instr.now fragment.now bytes.old.items bytes.new.items) (moved.IsFragmentReached bits instr.now fragment.now → ⊥)) }
 {
-    let reach = seat_reach(instr, seat.form, seat.reach);
-    if !reaches(reach, seat.len, seat.place, u128::from(goal)) {
+    let reach = fragment_reach(instr, fragment.form, fragment.reach);
+    if !reaches(reach, fragment.len, fragment.place, u128::from(goal)) {
         return Ok(false);
     }
-    append_seated(bits, instr, seat, goal, bytes)
+    append_fragment(bits, instr, fragment, goal, bytes)
 }

@@ -14,13 +14,13 @@ ghost use Rattle.branch_forms.specs.Images.{pieces_length};
 ghost use Rattle.move_goals.specs.declared.items.Placed.{Placed};
 ghost use Rattle.move_goals.specs.Items.{AreSpansOf, ArePlaced, item_at, no_instr};
 ghost use Rattle.move_goals.specs.Plan.{plan_for, plan_with};
-ghost use Rattle.move_layout.specs.Laid.{goal_address, is_far_at, new_end, slot_address, seat_at};
+ghost use Rattle.move_layout.specs.Laid.{goal_address, is_far_at, new_end, slot_address, fragment_at};
 ghost use Rattle.block_encoder.specs.Bytes.{image_at, block_bytes};
 ghost use Rattle.block_encoder.specs.Aims.{last_instr, StandsAtPlace, HasSlot};
-ghost use Rattle.block_encoder.specs.Moved.{seat_reach, IsReached, first_new_pass, MovedLists};
+ghost use Rattle.block_encoder.specs.Moved.{fragment_reach, IsReached, first_new_pass, MovedLists};
 ghost use Rattle.block_encoder.specs.ByPlan.{IsMovedBy};
 ghost use Rattle.block_encoder.specs.Read.{IsReadAsImages, IsReadToGoal};
-ghost use Rattle.block_encoder.specs.Facts.{SeatFacts, MovedFacts, ReachFacts, LastFacts};
+ghost use Rattle.block_encoder.specs.Facts.{FragmentFacts, MovedFacts, ReachFacts, LastFacts};
 
 use crate::laws_below::laws_below;
 
@@ -39,8 +39,8 @@ pub fn moved_code_is_read_as_images()
 pub fn only_targets_are_too_far()
     ensures { (bits : Bits) (items : List Placed) (spans : List BlockSpan) → AreSpansOf items spans → ArePlaced bits items → length items ≤ 65536
         → (layout : List ℕ) → IsLeast (plan_for bits spans items) layout → first_new_pass bits (plan_for bits spans items) layout ≡ None
-        → (k : ℕ) → k < length items → let seat = seat_at (plan_for bits spans items) layout k in
-        seat.form ≡ Itself → Reaches (seat_reach (item_at items k).instr seat.form seat.reach) seat.len seat.place seat.goal
+        → (k : ℕ) → k < length items → let fragment = fragment_at (plan_for bits spans items) layout k in
+        fragment.form ≡ Itself → Reaches (fragment_reach (item_at items k).instr fragment.form fragment.reach) fragment.len fragment.place fragment.goal
         → IsReached bits items (plan_for bits spans items) layout k }
 {
     laws_below();
@@ -111,17 +111,17 @@ pub fn branches_reach_in_64_bit_mode()
 pub fn branches_are_reached_where_they_are_read()
     ensures { (bits : Bits) (items : List Placed) (spans : List BlockSpan) (goals : ℕ → Goal) → ArePlaced bits items
         → (layout : List ℕ) → IsLayout (plan_with bits spans items goals) layout → (k t : ℕ) → k < length items
-        → first_value near_value (item_at items k).instr ≡ Some t → let seat = seat_at (plan_with bits spans items goals) layout k in
-        Reaches seat.reach seat.len seat.place seat.goal
-        → (IsReached bits items (plan_with bits spans items goals) layout k ↔ IsReadToGoal bits (item_at items k).instr seat) }
+        → first_value near_value (item_at items k).instr ≡ Some t → let fragment = fragment_at (plan_with bits spans items goals) layout k in
+        Reaches fragment.reach fragment.len fragment.place fragment.goal
+        → (IsReached bits items (plan_with bits spans items goals) layout k ↔ IsReadToGoal bits (item_at items k).instr fragment) }
 {
     laws_below();
 }
 
-/// The plan of some items has their forms and goals, and a layout of it gives each the seat of its choice.
+/// The plan of some items has their forms and goals, and a layout of it gives each the fragment of its choice.
 #[inline]
-pub fn plans_seat_their_items()
-    ensures { SeatFacts }
+pub fn plans_lay_out_their_items()
+    ensures { FragmentFacts }
 {}
 
 /// The laws of the images and slots of moved blocks as one record.

@@ -7,6 +7,7 @@ ghost use Rattle.block_encoder.specs.ByPlan.{IsOutsideAnswer};
 use crate::by_plan::move_by_plan;
 use crate::error::MoveError;
 use crate::moved::{Moved, MovedBlocks};
+use branch_sizes::MOST_ITEMS;
 use move_goals::{Placed, plan_outside};
 use std::alloc::Global;
 use x86_values::Bits;
@@ -36,14 +37,11 @@ pub fn move_outside(
     requires { ArePlaced bits items.now }
     ensures { IsOutsideAnswer bits items.now new_base result }
 {
-    if items.len() > 65_536 {
+    if items.len() > MOST_ITEMS {
         return Err(MoveError::TooMany {
             count: items.len() as u64,
         });
     }
-    let plan = match plan_outside(alloc, bits, items, new_base) {
-        Ok(plan) => plan,
-        Err(_) => return Err(MoveError::Memory),
-    };
+    let plan = plan_outside(alloc, bits, items, new_base)?;
     one_block(move_by_plan(alloc, bits, items, &plan))
 }

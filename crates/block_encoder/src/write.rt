@@ -4,7 +4,7 @@ ghost use Rattle.std.specs.Prelude.{◌≡◌, ◌<◌, ◌^◌, None, length};
 ghost use Rattle.move_layout.specs.Laid.{IsLaidLeast};
 ghost use Rattle.move_goals.specs.Ready.{MayBeReady, AreReady};
 ghost use Rattle.block_encoder.specs.ByPlan.{IsPlanAnswer};
-ghost use Rattle.block_encoder.specs.Written.{IsGoalAddress, IsSeatOf, IsItemWritten, first_end_past};
+ghost use Rattle.block_encoder.specs.Written.{IsGoalAddress, IsFragmentOf, IsItemWritten, first_end_past};
 
 use crate::ends::write_end;
 use crate::error::MoveError;
@@ -14,7 +14,7 @@ use crate::moved::MovedBlocks;
 use arrayvec::ArrayVec;
 use branch_sizes::{BlockSpan, Branch, Form, Goal, Plan};
 use move_goals::{Placed, ready_of};
-use move_layout::{BlockEnd, Layout, Seat};
+use move_layout::{BlockEnd, Fragment, Layout};
 use moved_targets::laws::{without_target_all_is_reached, without_target_nothing_changes};
 use std::alloc::Global;
 use x86_values::{Bits, Instr};
@@ -31,22 +31,22 @@ fn goal_address(goal: Goal, address: u128) -> u64
     }
 }
 
-/// Appends the bytes of item `k` in its seat, or refuses it where it does not reach its goal, which is this address.
+/// Appends the bytes of item `k` in its fragment, or refuses it where it does not reach its goal, which is this address.
 #[inline(never)]
 fn write_aimed(
     bits: Bits,
     k: usize,
     instr: &Instr,
-    seat: &Seat,
+    fragment: &Fragment,
     target: u64,
     bytes: &mut Vec<u8>,
 ) -> Result<(), MoveError>
-    requires place { seat.now.place < 2 ^ 64 }
-    requires slot { seat.now.slot < 2 ^ 64 }
-    requires target { target ≡ seat.now.goal }
-    ensures { IsItemWritten bits instr.now seat.now k bytes.old.items bytes.new.items result }
+    requires place { fragment.now.place < 2 ^ 64 }
+    requires slot { fragment.now.slot < 2 ^ 64 }
+    requires target { target ≡ fragment.now.goal }
+    ensures { IsItemWritten bits instr.now fragment.now k bytes.old.items bytes.new.items result }
 {
-    if write_image(bits, instr, seat, target, bytes)? {
+    if write_image(bits, instr, fragment, target, bytes)? {
         Ok(())
     } else {
         Err(MoveError::TooFar {
@@ -56,30 +56,30 @@ fn write_aimed(
     }
 }
 
-/// Appends the bytes of item `k` in its seat, those that are ready of it where there are some, or refuses it where it does not reach its goal.
+/// Appends the bytes of item `k` in its fragment, those that are ready of it where there are some, or refuses it where it does not reach its goal.
 fn write_item(
     bits: Bits,
     k: usize,
     instr: &Instr,
     branch: &Branch,
-    seat: &Seat,
+    fragment: &Fragment,
     ready: &[u8],
     bytes: &mut Vec<u8>,
 ) -> Result<(), MoveError>
-    requires seat { IsSeatOf branch.now seat.now }
+    requires fragment { IsFragmentOf branch.now fragment.now }
     requires ready { MayBeReady bits instr.now ready.now }
-    ensures { IsItemWritten bits instr.now seat.now k bytes.old.items bytes.new.items result }
+    ensures { IsItemWritten bits instr.now fragment.now k bytes.old.items bytes.new.items result }
 {
     // Four operands, as the proof has to know.
     let [_first, _second, _third, _fourth] = instr.ops;
-    let target = goal_address(branch.goal, seat.goal);
-    if !ready.is_empty() && matches!(seat.form, Form::Itself) {
+    let target = goal_address(branch.goal, fragment.goal);
+    if !ready.is_empty() && matches!(fragment.form, Form::Itself) {
         without_target_nothing_changes();
         without_target_all_is_reached();
         bytes.extend_from_slice(ready)?;
         return Ok(());
     }
-    write_aimed(bits, k, instr, seat, target, bytes)
+    write_aimed(bits, k, instr, fragment, target, bytes)
 }
 
 /// How many bytes of memory blocks take that end there.
@@ -118,19 +118,19 @@ pub(crate) fn write_blocks(
     for b in 0..spans.len() {
         for _ in 0..spans[b].count {
             let k = starts.len();
-            let seat = laid.seats[k];
+            let fragment = laid.fragments[k];
             let own = ready_of(ready, k);
             write_item(
                 bits,
                 k,
                 &items[k].instr,
                 &branches[k],
-                &seat,
+                &fragment,
                 own,
                 &mut bytes,
             )?;
-            starts.push(seat.place as u64)?;
-            forms.push(seat.form)?;
+            starts.push(fragment.place as u64)?;
+            forms.push(fragment.form)?;
         }
         let end = laid.ends[b];
         let first = slots.len();

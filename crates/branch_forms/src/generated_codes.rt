@@ -2,25 +2,25 @@
 //! crates/row_entries/data.
 
 /// JO rel8 at operand size 16.
-pub(crate) const JO_REL8: u16 = 152;
+pub const JO_REL8: u16 = 152;
 
 /// LOOPNE rel8 at operand size 16.
-pub(crate) const LOOPNE_REL8: u16 = 603;
+pub const LOOPNE_REL8: u16 = 603;
 
 /// CALL rel16.
-pub(crate) const CALL_REL16: u16 = 621;
+pub const CALL_REL16: u16 = 621;
 
 /// JMP rel16.
-pub(crate) const JMP_REL16: u16 = 624;
+pub const JMP_REL16: u16 = 624;
 
 /// JMP rel8 at operand size 16.
-pub(crate) const JMP_REL8: u16 = 629;
+pub const JMP_REL8: u16 = 629;
 
 /// CALL r/m64.
-pub(crate) const CALL_RM64: u16 = 685;
+pub const CALL_RM64: u16 = 685;
 
 /// JMP r/m64.
-pub(crate) const JMP_RM64: u16 = 691;
+pub const JMP_RM64: u16 = 691;
 
 /// JO rel16.
-pub(crate) const JO_REL16: u16 = 992;
+pub const JO_REL16: u16 = 992;

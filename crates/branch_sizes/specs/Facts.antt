@@ -50,7 +50,7 @@ pub record TotalFacts : Type 0 where
   pub total_more : (f g : ℕ → ℕ) → ((k : ℕ) → f k ≤ g k) → (i j : ℕ) → i ≤ j → total f j + total g i ≤ total g j + total f i
   pub total_rises : (f : ℕ → ℕ) (i j : ℕ) → i ≤ j → total f i ≤ total f j
   pub total_small : (f : ℕ → ℕ) (m : ℕ) → ((k : ℕ) → f k ≤ m) → (n : ℕ) → total f n ≤ n * m
-  -- the same, taken from the front
+  -- a sum is its first value and the sum of the others
   pub total-front : (f : ℕ → ℕ) (n : ℕ) → total f (suc n) ≡ f 0 + total (λ i. f (suc i)) n
 
 -- the forms of a layout, item by item

@@ -1,8 +1,8 @@
 //! The least closed layout, and what a layout is made of: reach, places and forms.
 
 ghost use Rattle.std.specs.Prelude.{◌≡◌, ◌↔◌, ◌+◌, ◌<◌, ◌≤◌, ◌^◌, ℕ, IsTrue, IfOk, OnOk, OnErr, length, slice_index, slice_index_or, EachIndex};
-ghost use Rattle.branch_sizes.specs.Plan.{plan_of, no_choice, no_branch, is_fit_reach, IsWellFormed};
-ghost use Rattle.branch_sizes.specs.Layout.{Reaches, ReachesFromBoth, IsLayout, ArePlaces, AreBlocks, forms_of, AreLeastForms};
+ghost use Rattle.branch_sizes.specs.Plan.{plan_of, no_choice, no_branch, IsWellFormed};
+ghost use Rattle.branch_sizes.specs.Layout.{Reaches, ReachesFromBoth, IsLayout, IsLeast, ArePlaces, AreBlocks, forms_of, AreLeastForms};
 
 use crate::plan::{BlockSpan, Branch, Choice, Form, Plan, Reach};
 use crate::worklist;
@@ -17,34 +17,41 @@ pub(crate) fn end_of_space(bits: u8) -> u128
     1 << bits
 }
 
-/// Whether a choice at a place reaches a goal. Places may lie behind the end of the address space.
-pub(crate) fn reaches(choice: &Choice, place: u128, goal: u128) -> bool
-    requires fit { IsTrue (is_fit_reach choice.now.reach) }
+/// Whether an address is below 2 to a number of bits.
+fn is_below(address: u128, bits: u8) -> bool
+    requires { address < 2 ^ 96 }
+    ensures { IsTrue result ↔ (address < 2 ^ bits) }
+{
+    bits >= 96 || address < 1 << bits
+}
+
+/// Whether an image of some bytes at a place reaches a goal. Places may lie behind the end of the address space.
+#[inline]
+pub fn reaches(reach: Reach, len: u8, place: u128, goal: u128) -> bool
     requires place { place < 2 ^ 66 }
     requires goal { goal < 2 ^ 66 }
-    ensures { IsTrue result ↔ Reaches choice.now.reach choice.now.len place goal }
+    ensures { IsTrue result ↔ Reaches reach len place goal }
 {
-    let end = place + u128::from(choice.len);
-    match choice.reach {
+    let end = place + u128::from(len);
+    match reach {
         Reach::Always => true,
         Reach::Signed8 => end <= goal + 128 && goal < end + 128,
         Reach::Signed32 => end <= goal + 0x8000_0000 && goal < end + 0x8000_0000,
-        Reach::Below(bits) => goal < end_of_space(bits),
+        Reach::Below(bits) => is_below(goal, bits),
         Reach::BridgeBelow { bits, inner } => {
-            goal < end_of_space(bits) && place + u128::from(inner) < end_of_space(bits)
+            is_below(goal, bits) && is_below(place + u128::from(inner), bits)
         }
     }
 }
 
 /// Whether a choice reaches a goal from each of two places.
 pub(crate) fn reaches_from_both(choice: &Choice, place: u128, first: u128, goal: u128) -> bool
-    requires fit { IsTrue (is_fit_reach choice.now.reach) }
     requires place { place < 2 ^ 66 }
     requires first { first < 2 ^ 66 }
     requires goal { goal < 2 ^ 66 }
     ensures { IsTrue result ↔ ReachesFromBoth choice.now place first goal }
 {
-    reaches(choice, place, goal) && reaches(choice, first, goal)
+    reaches(choice.reach, choice.len, place, goal) && reaches(choice.reach, choice.len, first, goal)
 }
 
 /// The number of the block of each item.
@@ -131,6 +138,25 @@ impl From<AllocError> for LayoutError {
     }
 }
 
+/// The least closed layout of a plan, and where its images stand.
+#[derive(Drop)]
+pub struct LeastLayout {
+    /// The number of each item's choice.
+    pub choices: Vec<u8>,
+    /// The address of each item's image, which may lie behind the end of the address space.
+    pub places: Vec<u128>,
+}
+
+/// The choices of the least closed layout of a plan, item by item, of which [`least_layout`] has the forms, and the places of the images.
+/// `Memory` is the only refusal.
+pub fn least_choices(alloc: Global, plan: &Plan) -> Result<LeastLayout, LayoutError>
+    ensures least { IfOk result (λ least. IsLeast plan.now least.choices.items) }
+    ensures places { IfOk result (λ least. ArePlaces plan.now least.choices.items least.places.items) }
+    ensures below { IfOk result (λ least. EachIndex least.places.items (λ k. slice_index least.places.items k < 2 ^ 66)) }
+{
+    worklist::grown_from_first(alloc, plan.spans(), plan.items())
+}
+
 /// Sets `forms` to the forms of the least closed layout of a plan, item by item.
 ///
 /// In a closed layout each item has its last choice, or its choice reaches its goal: an item of its own block from
@@ -142,7 +168,7 @@ pub fn least_layout(alloc: Global, plan: &Plan, forms: &mut Vec<Form>) -> Result
     ensures ok { OnOk result (AreLeastForms plan.now forms.new.items) }
     ensures err { OnErr result (forms.new.items ≡ forms.old.items) }
 {
-    let layout = worklist::least_choices(alloc, plan.spans(), plan.items())?;
-    *forms = chosen_forms(alloc, plan.items(), &layout)?;
+    let least = least_choices(alloc, plan)?;
+    *forms = chosen_forms(alloc, plan.items(), &least.choices)?;
     Ok(())
 }

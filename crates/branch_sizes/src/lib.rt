@@ -11,6 +11,6 @@ mod suspects;
 mod tables;
 mod worklist;
 
-pub use layout::{LayoutError, least_layout, places};
-pub use plan::{BlockSpan, Branch, Choice, Form, Goal, Plan, Reach};
+pub use layout::{LayoutError, LeastLayout, least_choices, least_layout, places, reaches};
+pub use plan::{BlockSpan, Branch, Choice, Form, Goal, MOST_ITEMS, Plan, Reach};
 pub use sums::Sums;

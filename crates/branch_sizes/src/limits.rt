@@ -10,7 +10,7 @@ ghost use Rattle.branch_sizes.specs.Tables.{plan_in};
 ghost use Rattle.branch_sizes.specs.Layout.{IsLayout};
 
 use crate::layout::end_of_space;
-use crate::order::Order;
+use crate::order::{Order, may_grow};
 use crate::plan::{Choice, Goal, Reach};
 use crate::tables::Tables;
 use std::alloc::{AllocError, Global};
@@ -39,7 +39,7 @@ struct Rooms {
 }
 
 /// The rooms of a branch that reaches wherever it and its goal stand.
-fn unlimited() -> Rooms {
+fn without_limit() -> Rooms {
     Rooms {
         own: UNLIMITED,
         goal: UNLIMITED,
@@ -55,7 +55,7 @@ fn rooms_apart(choice: &Choice, place: u128, goal: u128) -> Rooms
 {
     let end = place + u128::from(choice.len);
     match choice.reach {
-        Reach::Always => unlimited(),
+        Reach::Always => without_limit(),
         Reach::Signed8 => Rooms {
             own: room(end, goal + 128),
             goal: room(goal + 1, end + 128),
@@ -88,16 +88,16 @@ fn rooms_of(tables: &Tables, layout: &[u8], k: usize) -> Rooms
     let item = &tables.items[k];
     let f = usize::from(layout[k]);
     if f + 1 == item.choices.len() {
-        return unlimited();
+        return without_limit();
     }
     let choice = &item.choices[f];
     match item.goal {
-        Goal::None => unlimited(),
+        Goal::None => without_limit(),
         Goal::Outside(t) => rooms_apart(choice, tables.first[k], u128::from(t)),
         Goal::Inside(j) => {
             let j = j as usize;
             if tables.blocks[j] == tables.blocks[k] && is_signed(choice.reach) {
-                unlimited()
+                without_limit()
             } else {
                 rooms_apart(choice, tables.first[k], tables.first[j])
             }
@@ -161,7 +161,7 @@ fn join_parts(parts: &mut [Part]) {
 }
 
 /// The number of the first limit that is passed.
-fn first_passed(parts: &[Part]) -> Option<usize> {
+fn first_over_limit(parts: &[Part]) -> Option<usize> {
     let half = parts.len() / 2;
     if half == 0 || parts[1].room >= 0 {
         return None;
@@ -206,6 +206,26 @@ fn number_of(numbers: &[usize], item: usize) -> usize {
     *numbers.get(item).unwrap_or(&0)
 }
 
+/// Writes the limits of item `k`, which may grow, into the last half of the parts.
+fn write_limits(parts: &mut [Part], order: &Order, tables: &Tables, layout: &[u8], k: usize)
+    requires layout { IsLayout (plan_in tables.now) layout.now }
+    requires item { k < length tables.now.items.now }
+{
+    let rooms = rooms_of(tables, layout, k);
+    let own = Part {
+        growth: 0,
+        room: rooms.own,
+    };
+    write_limit(parts, number_of(&order.own, k), own);
+    if let Goal::Inside(_) = tables.items[k].goal {
+        let goal = Part {
+            growth: 0,
+            room: rooms.goal,
+        };
+        write_limit(parts, number_of(&order.goal, k), goal);
+    }
+}
+
 impl Limits {
     /// The limits in the layout of first choices.
     pub(crate) fn make(alloc: Global, tables: &Tables, layout: &[u8]) -> Result<Limits, AllocError>
@@ -219,18 +239,8 @@ impl Limits {
         let half = power_above(order.owners.len());
         let mut parts = vec![in alloc; none; 2 * half]?;
         'items: for k in 0..tables.items.len() {
-            let rooms = rooms_of(tables, layout, k);
-            let own = Part {
-                growth: 0,
-                room: rooms.own,
-            };
-            write_limit(&mut parts, number_of(&order.own, k), own);
-            if let Goal::Inside(_) = tables.items[k].goal {
-                let goal = Part {
-                    growth: 0,
-                    room: rooms.goal,
-                };
-                write_limit(&mut parts, number_of(&order.goal, k), goal);
+            if may_grow(&tables.items[k]) {
+                write_limits(&mut parts, &order, tables, layout, k);
             }
         }
         join_parts(&mut parts);
@@ -268,8 +278,8 @@ impl Limits {
     }
 
     /// An item whose branch has a limit that is passed.
-    pub(crate) fn passed(&self) -> Option<usize> {
-        let number = first_passed(&self.parts)?;
+    pub(crate) fn over_limit(&self) -> Option<usize> {
+        let number = first_over_limit(&self.parts)?;
         let owner = self.order.owners.get(number)?;
         Some(*owner as usize)
     }

@@ -83,6 +83,9 @@ enum Spans {
     Many(Vec<BlockSpan>),
 }
 
+/// The most items that a plan has.
+pub const MOST_ITEMS: usize = 65_536;
+
 /// Items in blocks: the first span has the first items, and so on. There are at most 65,536 items and as many blocks.
 #[derive(Drop)]
 pub struct Plan {

@@ -80,8 +80,8 @@ impl Suspects {
     }
 
     /// An item whose branch has a limit that is passed.
-    pub(crate) fn passed(&self) -> Option<usize> {
-        self.limits.passed()
+    pub(crate) fn over_limit(&self) -> Option<usize> {
+        self.limits.over_limit()
     }
 
     /// Notes that item `i` grew by some bytes: it is a suspect itself, as are the branches near it that go over it.

@@ -1,11 +1,13 @@
 //! The least closed layout, by growth from a worklist over running sums.
 
-ghost use Rattle.std.specs.Prelude.{◌≡◌, ◌↔◌, ◌+◌, ◌<◌, ◌≤◌, ◌^◌, ℕ, IsTrue, IfOk, OnOk, IsSome, IsNone, All, length};
-ghost use Rattle.branch_sizes.specs.Plan.{plan_of, is_fit_reach, IsWellFormed};
+ghost use Rattle.std.specs.Prelude.{◌≡◌, ◌↔◌, ◌+◌, ◌<◌, ◌≤◌, ◌^◌, ℕ, List, IsTrue, IfOk, OnOk, IsSome, IsNone, All, length, slice_index, slice_index_or, EachIndex};
+ghost use Rattle.branch_sizes.specs.Plan.{plan_of, IsWellFormed};
 ghost use Rattle.branch_sizes.specs.Tables.{plan_in};
-ghost use Rattle.branch_sizes.specs.Layout.{first_layout, place, ReachesGoal, IsItemClosed, IsLayout, IsClosed, IsLeast, ArePlaces, AreBlocks, AreStarts, AreLengths, GrowsTo, room};
+ghost use Rattle.branch_sizes.specs.Layout.{first_layout, place, ReachesGoal, IsItemClosed, IsLayout, IsClosed, IsLeast, AreUnclosed, ArePlaces, AreBlocks, AreStarts, AreLengths, GrowsTo, room};
 
-use crate::layout::{LayoutError, block_numbers, image_len, places, reaches, reaches_from_both};
+use crate::layout::{
+    LayoutError, LeastLayout, block_numbers, image_len, places, reaches, reaches_from_both,
+};
 use crate::plan::{BlockSpan, Branch, Choice, Goal};
 use crate::sums::Sums;
 use crate::suspects::Suspects;
@@ -51,7 +53,52 @@ fn place_now(tables: &Tables, layout: &[u8], sums: &Sums, k: usize) -> u128
     new_base(&tables.spans[block]) + u128::from(before)
 }
 
-/// Whether a choice of item `k` reaches the goal. `first` has the places in the layout of first choices.
+/// Whether a choice of item `k`, which stands at `from`, reaches the goal, which stands at `at` where it is an item. `first` of the tables has the
+/// places in the layout of first choices.
+fn reaches_goal_from(
+    tables: &Tables,
+    k: usize,
+    choice: &Choice,
+    goal: Goal,
+    from: u128,
+    at: u128,
+) -> bool
+    requires item { k < length tables.now.items.now }
+    requires inside { (j : ℕ) → goal ≡ Goal.Inside j → j < length tables.now.items.now }
+    requires from { from < 2 ^ 66 }
+    requires at { at < 2 ^ 66 }
+    ensures { (layout : List ℕ) → from ≡ place (plan_in tables.now) layout k → ((j : ℕ) → goal ≡ Goal.Inside j → at ≡ place (plan_in tables.now) layout j)
+        → (IsTrue result ↔ ReachesGoal (plan_in tables.now) layout k choice.now goal) }
+{
+    match goal {
+        Goal::None => true,
+        Goal::Outside(t) => reaches_from_both(choice, from, tables.first[k], u128::from(t)),
+        Goal::Inside(j) => {
+            let j = j as usize;
+            if tables.blocks[j] == tables.blocks[k] {
+                reaches(choice.reach, choice.len, from, at)
+            } else {
+                reaches_from_both(choice, from, tables.first[k], at)
+                    && reaches_from_both(choice, from, tables.first[k], tables.first[j])
+            }
+        }
+    }
+}
+
+/// The place of a goal that is an item, 0 for every other goal, in the layout whose lengths the sums have.
+fn goal_place_now(tables: &Tables, layout: &[u8], sums: &Sums, goal: Goal) -> u128
+    requires lengths { AreLengths (plan_in tables.now) layout.now sums.now }
+    requires inside { (j : ℕ) → goal ≡ Goal.Inside j → j < length tables.now.items.now }
+    ensures place { (j : ℕ) → goal ≡ Goal.Inside j → result ≡ place (plan_in tables.now) layout.now j }
+    ensures small { result < 2 ^ 66 }
+{
+    match goal {
+        Goal::Inside(j) => place_now(tables, layout, sums, j as usize),
+        Goal::None | Goal::Outside(_) => 0,
+    }
+}
+
+/// Whether a choice of item `k` reaches the goal, in the layout whose lengths the sums have.
 fn reaches_goal_now(
     tables: &Tables,
     layout: &[u8],
@@ -63,27 +110,14 @@ fn reaches_goal_now(
     requires lengths { AreLengths (plan_in tables.now) layout.now sums.now }
     requires item { k < length tables.now.items.now }
     requires inside { (j : ℕ) → goal ≡ Goal.Inside j → j < length tables.now.items.now }
-    requires fit { IsTrue (is_fit_reach choice.now.reach) }
     ensures { IsTrue result ↔ ReachesGoal (plan_in tables.now) layout.now k choice.now goal }
 {
-    let place = place_now(tables, layout, sums, k);
-    match goal {
-        Goal::None => true,
-        Goal::Outside(t) => reaches_from_both(choice, place, tables.first[k], u128::from(t)),
-        Goal::Inside(j) => {
-            let j = j as usize;
-            let goal_place = place_now(tables, layout, sums, j);
-            if tables.blocks[j] == tables.blocks[k] {
-                reaches(choice, place, goal_place)
-            } else {
-                reaches_from_both(choice, place, tables.first[k], goal_place)
-                    && reaches_from_both(choice, place, tables.first[k], tables.first[j])
-            }
-        }
-    }
+    let from = place_now(tables, layout, sums, k);
+    let at = goal_place_now(tables, layout, sums, goal);
+    reaches_goal_from(tables, k, choice, goal, from, at)
 }
 
-/// Whether item `k` has its last choice or reaches its goal.
+/// Whether item `k` has its last choice or reaches its goal, in the layout whose lengths the sums have.
 fn is_item_closed_now(tables: &Tables, layout: &[u8], sums: &Sums, k: usize) -> bool
     requires layout { IsLayout (plan_in tables.now) layout.now }
     requires lengths { AreLengths (plan_in tables.now) layout.now sums.now }
@@ -94,6 +128,81 @@ fn is_item_closed_now(tables: &Tables, layout: &[u8], sums: &Sums, k: usize) -> 
     let f = usize::from(layout[k]);
     f + 1 == item.choices.len()
         || reaches_goal_now(tables, layout, sums, k, &item.choices[f], item.goal)
+}
+
+/// The place of a goal that is an item, 0 for every other goal, by the places of all items.
+fn goal_place_in(places: &[u128], goal: Goal) -> u128
+    requires inside { (j : ℕ) → goal ≡ Goal.Inside j → j < length places.now }
+    requires below { EachIndex places.now (λ i. slice_index places.now i < 2 ^ 66) }
+    ensures place { (j : ℕ) → goal ≡ Goal.Inside j → result ≡ slice_index_or places.now j 0 }
+    ensures small { result < 2 ^ 66 }
+{
+    match goal {
+        Goal::Inside(j) => places[j as usize],
+        Goal::None | Goal::Outside(_) => 0,
+    }
+}
+
+/// Whether a choice of item `k` reaches the goal, in the layout that has these places.
+fn reaches_goal_in(
+    tables: &Tables,
+    layout: &[u8],
+    places: &[u128],
+    k: usize,
+    choice: &Choice,
+    goal: Goal,
+) -> bool
+    requires places { ArePlaces (plan_in tables.now) layout.now places.now }
+    requires below { EachIndex places.now (λ i. slice_index places.now i < 2 ^ 66) }
+    requires item { k < length tables.now.items.now }
+    requires inside { (j : ℕ) → goal ≡ Goal.Inside j → j < length tables.now.items.now }
+    ensures { IsTrue result ↔ ReachesGoal (plan_in tables.now) layout.now k choice.now goal }
+{
+    reaches_goal_from(
+        tables,
+        k,
+        choice,
+        goal,
+        places[k],
+        goal_place_in(places, goal),
+    )
+}
+
+/// Whether item `k` has its last choice or reaches its goal, in the layout that has these places.
+#[inline]
+fn is_item_closed_in(tables: &Tables, layout: &[u8], places: &[u128], k: usize) -> bool
+    requires layout { IsLayout (plan_in tables.now) layout.now }
+    requires places { ArePlaces (plan_in tables.now) layout.now places.now }
+    requires below { EachIndex places.now (λ i. slice_index places.now i < 2 ^ 66) }
+    requires item { k < length tables.now.items.now }
+    ensures { IsTrue result ↔ IsItemClosed (plan_in tables.now) layout.now k }
+{
+    let item = &tables.items[k];
+    let f = usize::from(layout[k]);
+    f + 1 == item.choices.len()
+        || reaches_goal_in(tables, layout, places, k, &item.choices[f], item.goal)
+}
+
+/// The items that are not closed in the layout that has these places.
+fn unclosed_items(
+    alloc: Global,
+    tables: &Tables,
+    layout: &[u8],
+    places: &[u128],
+) -> Result<Vec<u32>, AllocError>
+    requires layout { IsLayout (plan_in tables.now) layout.now }
+    requires places { ArePlaces (plan_in tables.now) layout.now places.now }
+    requires below { EachIndex places.now (λ i. slice_index places.now i < 2 ^ 66) }
+    ensures unclosed { IfOk result (λ unclosed. AreUnclosed (plan_in tables.now) layout.now unclosed.items) }
+    ensures closed { IfOk result (λ unclosed. length unclosed.items ≡ 0 → IsClosed (plan_in tables.now) layout.now) }
+{
+    let mut unclosed = Vec::new(alloc);
+    'items: for k in 0..tables.items.len() {
+        if !is_item_closed_in(tables, layout, places, k) {
+            unclosed.push(k as u32)?;
+        }
+    }
+    Ok(unclosed)
 }
 
 /// Lets item `k` grow if it is not closed, and says by how many bytes it did.
@@ -162,7 +271,9 @@ fn settle(
         'queue: while let Some(k) = suspects.pop() {
             grow_and_note(tables, layout, sums, suspects, k)?;
         }
-        let Some(k) = suspects.passed() else { break };
+        let Some(k) = suspects.over_limit() else {
+            break
+        };
         if !grow_and_note(tables, layout, sums, suspects, k)? {
             break;
         }
@@ -170,28 +281,28 @@ fn settle(
     Ok(())
 }
 
-/// Lets each item grow that is not closed when its turn comes, with what that drives apart, and says whether any did.
-fn pass(
+/// Lets each of the unclosed items grow that is not closed when its turn comes, with what that drives apart. The first one does.
+fn grow_unclosed(
     tables: &Tables,
     layout: &mut [u8],
     sums: &mut Sums,
     suspects: &mut Suspects,
-) -> Result<bool, AllocError>
+    unclosed: &[u32],
+) -> Result<(), AllocError>
     requires layout { IsLayout (plan_in tables.now) layout.old }
     requires lengths { AreLengths (plan_in tables.now) layout.old sums.old }
+    requires unclosed { AreUnclosed (plan_in tables.now) layout.old unclosed.now }
+    requires some { 0 < length unclosed.now }
     ensures lengths { OnOk result (AreLengths (plan_in tables.now) layout.new sums.new) }
     ensures grows { OnOk result (GrowsTo (plan_in tables.now) layout.old layout.new) }
-    ensures less { IfOk result (λ grew. IsTrue grew → room (plan_in tables.now) layout.new < room (plan_in tables.now) layout.old) }
-    ensures closed { IfOk result (λ grew. (IsTrue grew → ⊥) → IsClosed (plan_in tables.now) layout.new) }
+    ensures less { OnOk result (room (plan_in tables.now) layout.new < room (plan_in tables.now) layout.old) }
 {
-    let mut grew = false;
-    'turns: for k in 0..tables.items.len() {
-        if grow_and_note(tables, layout, sums, suspects, k)? {
+    'turns: for n in 0..unclosed.len() {
+        if grow_and_note(tables, layout, sums, suspects, unclosed[n] as usize)? {
             settle(tables, layout, sums, suspects)?;
-            grew = true;
         }
     }
-    Ok(grew)
+    Ok(())
 }
 
 /// The lengths of the first choices.
@@ -211,14 +322,16 @@ fn first_lengths(
     Ok(lens)
 }
 
-/// The least closed layout.
-pub(crate) fn least_choices(
+/// The least closed layout: from the first choices on, what is not closed grows until all is.
+pub(crate) fn grown_from_first(
     alloc: Global,
     spans: &[BlockSpan],
     items: &[Branch],
-) -> Result<Vec<u8>, LayoutError>
+) -> Result<LeastLayout, LayoutError>
     requires { IsWellFormed (plan_of spans.now items.now) }
-    ensures { IfOk result (λ layout. IsLeast (plan_of spans.now items.now) layout.items) }
+    ensures least { IfOk result (λ least. IsLeast (plan_of spans.now items.now) least.choices.items) }
+    ensures places { IfOk result (λ least. ArePlaces (plan_of spans.now items.now) least.choices.items least.places.items) }
+    ensures below { IfOk result (λ least. EachIndex least.places.items (λ k. slice_index least.places.items k < 2 ^ 66)) }
 {
     let blocks = block_numbers(alloc, spans, items)?;
     let starts = block_starts(alloc, spans, items)?;
@@ -234,11 +347,17 @@ pub(crate) fn least_choices(
         first: &first,
     };
     let mut suspects = Suspects::make(alloc, &tables, &layout)?;
+    let mut now = Vec::from_slice(alloc, &first)?;
     'passes: loop {
-        let grew = pass(&tables, &mut layout, &mut sums, &mut suspects)?;
-        if !grew {
+        let unclosed = unclosed_items(alloc, &tables, &layout, &now)?;
+        if unclosed.is_empty() {
             break;
         }
+        grow_unclosed(&tables, &mut layout, &mut sums, &mut suspects, &unclosed)?;
+        now = places(alloc, spans, items, &layout)?;
     }
-    Ok(layout)
+    Ok(LeastLayout {
+        choices: layout,
+        places: now,
+    })
 }

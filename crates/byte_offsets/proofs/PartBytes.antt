@@ -1,5 +1,6 @@
 -- The bytes at each part that is told are those of the spelling.
 use Rattle.std.proofs.Common.{◌≡◌, ℕ, zero, suc, ◌+◌, ◌<◌, ◌≤◌, List, [], ◌∷◌, ◌++◌, length, take, drop, length-append, length-drop, append_assoc, refl, ap, ◌∙◌, arith}
+use Rattle.std.proofs.lemmas.Bool.{and_parts, eqb-true}
 use Rattle.std.specs.Prelude.{slice_index_or}
 use Rattle.std.proofs.lemmas.List.{take-append-le, drop-append-le}
 use Rattle.std.proofs.Math.Seq.{drop-append_seam, take-append_seam, drop-append-add}
@@ -8,7 +9,6 @@ use Rattle.row_types.specs.declared.Row.{Row}
 use Rattle.instruction_parts.specs.declared.spelling.Spelling.{Spelling}
 use Rattle.instruction_parts.specs.Bytes.{bytes_of, front_bytes, tail_bytes, lead_bytes, modrm_bytes, sib_bytes, state_of}
 use Rattle.instruction_parts.specs.Sizes.{state_size}
-use Rattle.instruction_parts.proofs.Tests.{and_right, equal_from}
 use Rattle.row_fit.specs.Fits.{Fits, kind_at, immediate_bytes, immediates_bytes, lengths_fit}
 use Rattle.row_meaning.specs.Meaning.{immediates_before, own_immediate}
 use Rattle.byte_offsets.specs.declared.layout.Lengths.{Lengths}
@@ -49,7 +49,7 @@ immediates-all : (bits : Bits) (row : Row) (s : Spelling) → Fits bits row s
     → length s.imm.items ≡ immediates_bytes (state_size bits row (state_of bits row s)) row
 unfolding lengths_fit
 immediates-all bits row s f =
-    equal_from (length s.imm.items) (immediates_bytes (state_size bits row (state_of bits row s)) row) (and_right _ _ f.lengths)
+    eqb-true (length s.imm.items) (immediates_bytes (state_size bits row (state_of bits row s)) row) (and_parts _ _ f.lengths).1
 
 -- the part of each operand, among those that are told
 told-own : (l : Lengths) (size : Bits) (row : Row) (n : ℕ) → n < 4 → slice_index_or (offsets_by l size row).immediates n no_part

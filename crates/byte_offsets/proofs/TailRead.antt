@@ -1,5 +1,6 @@
 -- The lengths of the parts that are found in a front and a tail are those of the spelling.
 use Rattle.std.proofs.Common.{◌≡◌, ℕ, ◌+◌, ◌-◌, ◌*◌, ◌/◌, ◌%◌, ◌<◌, ◌⊎◌, inl, inr, append_assoc, Bool, true, false, ◌&&◌, ◌==◌, nat_lt, List, [], ◌∷◌, ◌++◌, length, length-append, Option, Some, None, is_some, is_none, refl, ap, sym, ◌∙◌, arith, if◌then◌else◌}
+use Rattle.std.proofs.lemmas.Bool.{and_parts, cases_Bool, eqb-true}
 use Rattle.std.specs.Prelude.{slice_get}
 use Rattle.std.specs.Option.{option_map}
 use Rattle.x86_values.specs.declared.Bits.{Bits}
@@ -15,7 +16,6 @@ use Rattle.instruction_parts.specs.declared.spelling.Spelling.{Spelling}
 use Rattle.instruction_parts.specs.declared.spelling.PrefixState.{PrefixState}
 use Rattle.instruction_parts.specs.Bytes.{front_bytes, tail_bytes, lead_bytes, spelled_map, modrm_byte, sib_byte, modrm_bytes, sib_bytes, state_of, state_from}
 use Rattle.instruction_parts.specs.Sizes.{state_address_size, state_size, size_bytes}
-use Rattle.instruction_parts.proofs.Tests.{either, and_left, and_right, equal_from}
 use Rattle.row_fit.specs.Fits.{Fits, opcode_and_modrm_fit, opcode_fits, modrm_rule_fits, place_fits, lengths_fit, address_fits, immediates_bytes, same_bool, reads_mode, reads_by, is_offset, needs_sib, displacement_bytes, fields_in_range, are_bytes, vex_in_range, modrm_in_range, sib_in_range}
 use Rattle.row_fit.specs.Sound.{has_modrm_rule}
 use Rattle.modrm_sib.specs.Parts.{modrm_of, sib_of, modrm_of_byte, sib_of_byte, modrm_in, takes_sib, displacement_len}
@@ -32,9 +32,9 @@ three_fields a b c n hb hc e = (omega arith, omega arith, omega arith)
 modrm_back : (m : ModRm) → modrm_in_range (Some m) ≡ true → modrm_of_byte (modrm_byte m) ≡ m
 unfolding modrm_of_byte modrm_in_range
 modrm_back m h =
-    let r = and_right (nat_lt m.mode3 4) (nat_lt m.reg 8 && nat_lt m.rm 8) h in
-    let reg = ltb-true m.reg 8 (and_left (nat_lt m.reg 8) (nat_lt m.rm 8) r) in
-    let rm = ltb-true m.rm 8 (and_right (nat_lt m.reg 8) (nat_lt m.rm 8) r) in
+    let r = (and_parts (nat_lt m.mode3 4) (nat_lt m.reg 8 && nat_lt m.rm 8) h).1 in
+    let reg = ltb-true m.reg 8 (and_parts (nat_lt m.reg 8) (nat_lt m.rm 8) r).0 in
+    let rm = ltb-true m.rm 8 (and_parts (nat_lt m.reg 8) (nat_lt m.rm 8) r).1 in
     let b = modrm_byte m in
     let e = three_fields m.mode3 m.reg m.rm b reg rm refl in
     ap (λ x. modrm_of x (b / 8 % 8) (b % 8)) e.0 ∙ ap (λ x. modrm_of m.mode3 x (b % 8)) e.1 ∙ ap (λ x. modrm_of m.mode3 m.reg x) e.2
@@ -42,9 +42,9 @@ modrm_back m h =
 sib_back : (s : Sib) → sib_in_range (Some s) ≡ true → sib_of_byte (sib_byte s) ≡ s
 unfolding sib_of_byte sib_in_range
 sib_back s h =
-    let r = and_right (nat_lt s.scale 4) (nat_lt s.index 8 && nat_lt s.base 8) h in
-    let index = ltb-true s.index 8 (and_left (nat_lt s.index 8) (nat_lt s.base 8) r) in
-    let base = ltb-true s.base 8 (and_right (nat_lt s.index 8) (nat_lt s.base 8) r) in
+    let r = (and_parts (nat_lt s.scale 4) (nat_lt s.index 8 && nat_lt s.base 8) h).1 in
+    let index = ltb-true s.index 8 (and_parts (nat_lt s.index 8) (nat_lt s.base 8) r).0 in
+    let base = ltb-true s.base 8 (and_parts (nat_lt s.index 8) (nat_lt s.base 8) r).1 in
     let b = sib_byte s in
     let e = three_fields s.scale s.index s.base b index base refl in
     ap (λ x. sib_of x (b / 8 % 8) (b % 8)) e.0 ∙ ap (λ x. sib_of s.scale x (b % 8)) e.1 ∙ ap (λ x. sib_of s.scale s.index x) e.2
@@ -106,8 +106,8 @@ sib_found : (bits : Bits) (row : Row) (state : PrefixState) (m : Option ModRm) (
     sib_in bits row state m (modrm_bytes m ++ (sib_bytes sib ++ xs)) ≡ sib
 unfolding sib_in address_fits
 sib_found bits row state None sib given xs h range =
-    no_sib sib (and_left (is_none sib) (given == (if reads_by is_offset row then size_bytes (state_address_size bits state) else 0)) h)
-sib_found bits row state (Some m) sib given xs h range = sib_taken bits row state m sib xs (taken (either (reads_mode row))) range
+    no_sib sib (and_parts (is_none sib) (given == (if reads_by is_offset row then size_bytes (state_address_size bits state) else 0)) h).0
+sib_found bits row state (Some m) sib given xs h range = sib_taken bits row state m sib xs (taken (cases_Bool (reads_mode row))) range
   where
     asize : Bits
     asize = state_address_size bits state
@@ -117,19 +117,19 @@ sib_found bits row state (Some m) sib given xs h range = sib_taken bits row stat
         let f : (same_bool (is_some sib) (needs_sib asize m) && given == displacement_bytes asize m sib) ≡ true =
         ap (λ b. if b then same_bool (is_some sib) (needs_sib asize m) && given == displacement_bytes asize m sib else is_none sib && given == 0) (sym e) ∙ h in
         takes-by bits row state m true e
-        ∙ sym (same_from (is_some sib) (needs_sib asize m) (and_left (same_bool (is_some sib) (needs_sib asize m)) (given == displacement_bytes asize m sib) f))
+        ∙ sym (same_from (is_some sib) (needs_sib asize m) (and_parts (same_bool (is_some sib) (needs_sib asize m)) (given == displacement_bytes asize m sib) f).0)
     taken (inr e) =
         let f : (is_none sib && given == 0) ≡ true =
         ap (λ b. if b then same_bool (is_some sib) (needs_sib asize m) && given == displacement_bytes asize m sib else is_none sib && given == 0) (sym e) ∙ h in
-        takes-by bits row state m false e ∙ ap is_some (no_sib sib (and_left (is_none sib) (given == 0) f))
+        takes-by bits row state m false e ∙ ap is_some (no_sib sib (and_parts (is_none sib) (given == 0) f).0)
 
 displacement_found : (bits : Bits) (row : Row) (state : PrefixState) (m : Option ModRm) (sib : Option Sib) (given : ℕ) →
     address_fits (state_address_size bits state) row m sib given ≡ true → displacement_len bits row state m sib ≡ given
 unfolding address_fits displacement_len
 displacement_found bits row state None sib given h =
     let asked : ℕ = if reads_by is_offset row then size_bytes (state_address_size bits state) else 0 in
-    sym (equal_from given asked (and_right (is_none sib) (given == asked) h))
-displacement_found bits row state (Some m) sib given h = found (either (reads_mode row))
+    sym (eqb-true given asked (and_parts (is_none sib) (given == asked) h).1)
+displacement_found bits row state (Some m) sib given h = found (cases_Bool (reads_mode row))
   where
     asize : Bits
     asize = state_address_size bits state
@@ -139,11 +139,11 @@ displacement_found bits row state (Some m) sib given h = found (either (reads_mo
         let f : (same_bool (is_some sib) (needs_sib asize m) && given == displacement_bytes asize m sib) ≡ true =
         ap (λ b. if b then same_bool (is_some sib) (needs_sib asize m) && given == displacement_bytes asize m sib else is_none sib && given == 0) (sym e) ∙ h in
         ap (λ b. if b then displacement_bytes asize m sib else 0) e
-        ∙ sym (equal_from given (displacement_bytes asize m sib) (and_right (same_bool (is_some sib) (needs_sib asize m)) (given == displacement_bytes asize m sib) f))
+        ∙ sym (eqb-true given (displacement_bytes asize m sib) (and_parts (same_bool (is_some sib) (needs_sib asize m)) (given == displacement_bytes asize m sib) f).1)
     found (inr e) =
         let f : (is_none sib && given == 0) ≡ true =
         ap (λ b. if b then same_bool (is_some sib) (needs_sib asize m) && given == displacement_bytes asize m sib else is_none sib && given == 0) (sym e) ∙ h in
-        ap (λ b. if b then displacement_bytes asize m sib else 0) e ∙ sym (equal_from given 0 (and_right (is_none sib) (given == 0) f))
+        ap (λ b. if b then displacement_bytes asize m sib else 0) e ∙ sym (eqb-true given 0 (and_parts (is_none sib) (given == 0) f).1)
 
 -- ---- all of them
 
@@ -175,21 +175,21 @@ parted s rest = simp append_assoc
 rule_of : (row : Row) (o : ℕ) (m : Option ModRm) → opcode_and_modrm_fit row o m ≡ true → modrm_rule_fits row.plus row.modrm m ≡ true
 unfolding opcode_and_modrm_fit
 rule_of row o m h =
-    and_left (modrm_rule_fits row.plus row.modrm m) (place_fits row m)
-    (and_right (opcode_fits row o) (modrm_rule_fits row.plus row.modrm m && place_fits row m) h)
+    (and_parts (modrm_rule_fits row.plus row.modrm m) (place_fits row m)
+    (and_parts (opcode_fits row o) (modrm_rule_fits row.plus row.modrm m && place_fits row m) h).1).0
 
 address_of : (bits : Bits) (row : Row) (state : PrefixState) (m : Option ModRm) (sib : Option Sib) (disp imm : ℕ) →
     lengths_fit bits row state m sib disp imm ≡ true → address_fits (state_address_size bits state) row m sib disp ≡ true
 unfolding lengths_fit
 address_of bits row state m sib disp imm h =
-    and_left (address_fits (state_address_size bits state) row m sib disp) (imm == immediates_bytes (state_size bits row state) row) h
+    (and_parts (address_fits (state_address_size bits state) row m sib disp) (imm == immediates_bytes (state_size bits row state) row) h).0
 
 pub immediates_of : (bits : Bits) (row : Row) (state : PrefixState) (m : Option ModRm) (sib : Option Sib) (disp imm : ℕ) →
     lengths_fit bits row state m sib disp imm ≡ true → imm ≡ immediates_bytes (state_size bits row state) row
 unfolding lengths_fit
 immediates_of bits row state m sib disp imm h =
-    equal_from imm (immediates_bytes (state_size bits row state) row)
-    (and_right (address_fits (state_address_size bits state) row m sib disp) (imm == immediates_bytes (state_size bits row state) row) h)
+    eqb-true imm (immediates_bytes (state_size bits row state) row)
+    (and_parts (address_fits (state_address_size bits state) row m sib disp) (imm == immediates_bytes (state_size bits row state) row) h).1
 
 -- what stands in the ranges of the fields
 ranges_of : (s : Spelling) → fields_in_range s ≡ true → (modrm_in_range s.modrm ≡ true) × (sib_in_range s.sib ≡ true)
@@ -201,10 +201,10 @@ ranges_of s h =
     let modrm = modrm_in_range s.modrm in
     let sib = sib_in_range s.sib in
     let behind = are_bytes s.disp.items && are_bytes s.imm.items in
-    let a = and_right prefixes (vex && (opcode && (modrm && (sib && behind)))) h in
-    let b = and_right vex (opcode && (modrm && (sib && behind))) a in
-    let c = and_right opcode (modrm && (sib && behind)) b in
-    (and_left modrm (sib && behind) c, and_left sib behind (and_right modrm (sib && behind) c))
+    let a = (and_parts prefixes (vex && (opcode && (modrm && (sib && behind)))) h).1 in
+    let b = (and_parts vex (opcode && (modrm && (sib && behind))) a).1 in
+    let c = (and_parts opcode (modrm && (sib && behind)) b).1 in
+    ((and_parts modrm (sib && behind) c).0, (and_parts sib behind (and_parts modrm (sib && behind) c).1).0)
 
 -- **behind the state of a spelling its tail has the lengths of the spelling**
 pub lengths_right : (bits : Bits) (row : Row) (s : Spelling) (rest tail : List ℕ) → Fits bits row s → tail ≡ tail_bytes s ++ rest →

@@ -9,6 +9,7 @@ ghost use Rattle.code_items.specs.Moving.{IsCodeAnswer};
 use crate::items::CodeItems;
 use crate::reading::{ReadError, read_items};
 use block_encoder::{Form, MoveError, Moved, move_block};
+use branch_sizes::MOST_ITEMS;
 use branch_sizes::laws::blocks_have_all_items;
 use decoder::DecodeError;
 use move_goals::laws::first_numbers_pass;
@@ -17,9 +18,6 @@ use std::alloc::Global;
 use std::marker::Model;
 use thiserror::Error;
 use x86_values::Bits;
-
-/// How many instructions are moved together at most.
-const MOST: usize = 65_536;
 
 /// Why some code is not moved. Where causes stand together the first of these in the order `BadCode`, `TooMany`, `Wraps`, `TooFar` is told; `Memory` may
 /// stand in place of each.
@@ -139,7 +137,7 @@ pub fn move_code(
         Err(ReadError::Memory) => return Err(MoveCodeError::Memory),
     };
     let count = code.len();
-    if count > MOST {
+    if count > MOST_ITEMS {
         return Err(MoveCodeError::TooMany {
             count: count as u64,
         });

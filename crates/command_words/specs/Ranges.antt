@@ -16,7 +16,7 @@ pub record IsRange (range : Range) : Type 0 where
   pub few : range.size ≤ 1048576
   pub inside : range.base + range.size ≤ 2 ^ width range.bits
 
--- the same, as a test
+-- a base and a size are those of such a range, as a test
 abbrev pub is_range : Bits → ℕ → ℕ → Bool
 is_range bits base size = not (size == 0) && size % 16 == 0 && nat_le size 1048576 && nat_le (base + size) (2 ^ width bits)
 

@@ -1,5 +1,6 @@
 -- A row of which nothing is left to ask takes what leads to it.
 use Rattle.std.proofs.Common.{◌≡◌, ℕ, zero, suc, ◌+◌, ◌/◌, ◌%◌, ◌<◌, ◌≤◌, Bool, true, false, not, ◌&&◌, ◌||◌, ◌==◌, Option, Some, None, is_some, is_none, option_map, get_or, Fits, w8, rules, map, List, [], ◌∷◌, drop, slice_get, refl, ap, sym, ◌∙◌, subst, arith, eq-eqb, leb-true, nat_le, nat_lt, if◌then◌else◌}
+use Rattle.std.proofs.lemmas.Bool.{and_parts, eqb-true, not-true}
 use Rattle.std.specs.List.{list_all, list_any}
 use Rattle.std.specs.Prelude.{slice_index_or}
 use Rattle.std.proofs.lemmas.Option.{slice_get-map, get_or_from_slice_get}
@@ -26,7 +27,6 @@ use Rattle.instruction_parts.specs.declared.spelling.PrefixState.{PrefixState}
 use Rattle.instruction_parts.specs.Counting.{is_64, rex_bit}
 use Rattle.instruction_parts.specs.Kinds.{method_of}
 use Rattle.instruction_parts.specs.Sizes.{exists_in, is_lockable, is_vex_row, operand_size, state_size, bit_w}
-use Rattle.instruction_parts.proofs.Tests.{and_left, and_right, not_true, equal_from}
 use Rattle.row_fit.specs.Fits.{immediates_bytes, immediate_bytes, is_any_mode, is_offset, reads_mode, same_map, vex_class_fits, w_fits, l_fits, is_vvvv, is_memory_method, reg_field, is_map_one, legacy_class_fits, class_fits, size_fits, takes_w_as_size, sizes_fit, vvvv_fits, opcode_allows, opcode_fits, modrm_rule_fits, place_allows, place_of, place_fits, opcode_and_modrm_fit, is_gather, reads_by, kind_at, lock_fits, register_fits, destination_fits, gather_fits, nop_fits, registers_fit, state_fits}
 use Rattle.row_fit.specs.Sound.{has_modrm_rule}
 use Rattle.row_fields.specs.declared.Fields.{Fields}
@@ -71,21 +71,21 @@ held bits row f h =
     let t2 : Bool = prefix_holds row f.opcode (prefix_of f.rep f.size66) && t3 in
     let t1 : Bool = byte_holds row.modrm (is_some f.modrm) && t2 in
     let t0 : Bool = exists_in bits row && t1 in
-    let h0 : t0 ≡ true = and_right (stands_in row (map_number f.vex f.map) f.opcode) t0 h in
-    let h1 : t1 ≡ true = and_right (exists_in bits row) t1 h0 in
-    let h2 : t2 ≡ true = and_right (byte_holds row.modrm (is_some f.modrm)) t2 h1 in
-    let h3 : t3 ≡ true = and_right (prefix_holds row f.opcode (prefix_of f.rep f.size66)) t3 h2 in
-    let h4 : t4 ≡ true = and_right (place_holds row.modrm row.place (byte / 64 == 3)) t4 h3 in
-    let h5 : t5 ≡ true = and_right (reg_holds row.modrm (byte / 8 % 8)) t5 h4 in
-    let h6 : t6 ≡ true = and_right (rm_holds row.modrm row.plus (byte % 8)) t6 h5 in
+    let h0 : t0 ≡ true = (and_parts (stands_in row (map_number f.vex f.map) f.opcode) t0 h).1 in
+    let h1 : t1 ≡ true = (and_parts (exists_in bits row) t1 h0).1 in
+    let h2 : t2 ≡ true = (and_parts (byte_holds row.modrm (is_some f.modrm)) t2 h1).1 in
+    let h3 : t3 ≡ true = (and_parts (prefix_holds row f.opcode (prefix_of f.rep f.size66)) t3 h2).1 in
+    let h4 : t4 ≡ true = (and_parts (place_holds row.modrm row.place (byte / 64 == 3)) t4 h3).1 in
+    let h5 : t5 ≡ true = (and_parts (reg_holds row.modrm (byte / 8 % 8)) t5 h4).1 in
+    let h6 : t6 ≡ true = (and_parts (rm_holds row.modrm row.plus (byte % 8)) t6 h5).1 in
     record {
-      stands = and_left (stands_in row (map_number f.vex f.map) f.opcode) t0 h;
-      exists = and_left (exists_in bits row) t1 h0;
-      byte = and_left (byte_holds row.modrm (is_some f.modrm)) t2 h1;
-      prefix = and_left (prefix_holds row f.opcode (prefix_of f.rep f.size66)) t3 h2;
-      place = and_left (place_holds row.modrm row.place (byte / 64 == 3)) t4 h3;
-      reg = and_left (reg_holds row.modrm (byte / 8 % 8)) t5 h4;
-      size = and_left (size_holds bits row f.size66 f.w) t7 h6;
+      stands = (and_parts (stands_in row (map_number f.vex f.map) f.opcode) t0 h).0;
+      exists = (and_parts (exists_in bits row) t1 h0).0;
+      byte = (and_parts (byte_holds row.modrm (is_some f.modrm)) t2 h1).0;
+      prefix = (and_parts (prefix_holds row f.opcode (prefix_of f.rep f.size66)) t3 h2).0;
+      place = (and_parts (place_holds row.modrm row.place (byte / 64 == 3)) t4 h3).0;
+      reg = (and_parts (reg_holds row.modrm (byte / 8 % 8)) t5 h4).0;
+      size = (and_parts (size_holds bits row f.size66 f.w) t7 h6).0;
     }
 
 -- what is said of a row of which nothing is left to ask
@@ -99,16 +99,16 @@ record Said (row : Row) : Type 0 where
 said : (row : Row) → row_is_bare row ≡ true → Said row
 unfolding row_is_bare
 said row h =
-    let h0 = and_right _ _ h in
-    let h1 = and_right _ _ h0 in
-    let h2 = and_right _ _ h1 in
-    let h3 = and_right _ _ h2 in
+    let h0 = (and_parts _ _ h).1 in
+    let h1 = (and_parts _ _ h0).1 in
+    let h2 = (and_parts _ _ h1).1 in
+    let h3 = (and_parts _ _ h2).1 in
     record {
-      legacy = not_true _ (and_left _ _ h0);
-      size = not_true _ (and_left _ _ h1);
-      rule_ = and_left _ _ h2;
-      kinds = and_left _ _ h3;
-      opcode = and_right _ _ h3;
+      legacy = not-true _ (and_parts _ _ h0).0;
+      size = not-true _ (and_parts _ _ h1).0;
+      rule_ = (and_parts _ _ h2).0;
+      kinds = (and_parts _ _ h3).0;
+      opcode = (and_parts _ _ h3).1;
     }
 
 -- ---- map and opcode byte
@@ -137,15 +137,15 @@ opcode-fits row o h = by_plus row.plus h
   where
     by_plus : (p : Plus) → opcode_holds p row.opcode o ≡ true → (elim p [ plus.Register ↦ nat_le row.opcode o && nat_lt o (row.opcode + 8) | _ ↦ o == row.opcode ]) ≡ true
     by_plus plus.Register e = e
-    by_plus plus.No e = eq-eqb o row.opcode (sym (equal_from row.opcode o e))
-    by_plus plus.Stack e = eq-eqb o row.opcode (sym (equal_from row.opcode o e))
+    by_plus plus.No e = eq-eqb o row.opcode (sym (eqb-true row.opcode o e))
+    by_plus plus.Stack e = eq-eqb o row.opcode (sym (eqb-true row.opcode o e))
 
 differs : (a b : ℕ) → (a ≡ b → ⊥) → (a == b) ≡ false
 differs a b apart_ = by_cases (a == b) refl
   where
     by_cases : (x : Bool) → (a == b) ≡ x → (a == b) ≡ false
     by_cases false e = e
-    by_cases true e = absurd (apart_ (equal_from a b e))
+    by_cases true e = absurd (apart_ (eqb-true a b e))
 
 -- the byte is none of the five that ask more of what stands around them
 record Apart (o : ℕ) : Type 0 where
@@ -157,15 +157,15 @@ record Apart (o : ℕ) : Type 0 where
 
 apart-one : (first o : ℕ) → first ≡ o → bytes_are_bare plus.No first ≡ true → Apart o
 apart-one first o e h =
-    let h1 = and_right _ _ h in
-    let h2 = and_right _ _ h1 in
-    let h3 = and_right _ _ h2 in
+    let h1 = (and_parts _ _ h).1 in
+    let h2 = (and_parts _ _ h1).1 in
+    let h3 = (and_parts _ _ h2).1 in
     record {
-      b62 = ap (λ n. n == 0x62) (sym e) ∙ not_true _ (and_left _ _ h);
-      b8f = ap (λ n. n == 0x8F) (sym e) ∙ not_true _ (and_left _ _ h1);
-      b90 = ap (λ n. n == 0x90) (sym e) ∙ not_true _ (and_left _ _ h2);
-      bc4 = ap (λ n. n == 0xC4) (sym e) ∙ not_true _ (and_left _ _ h3);
-      bc5 = ap (λ n. n == 0xC5) (sym e) ∙ not_true _ (and_right _ _ h3);
+      b62 = ap (λ n. n == 0x62) (sym e) ∙ not-true _ (and_parts _ _ h).0;
+      b8f = ap (λ n. n == 0x8F) (sym e) ∙ not-true _ (and_parts _ _ h1).0;
+      b90 = ap (λ n. n == 0x90) (sym e) ∙ not-true _ (and_parts _ _ h2).0;
+      bc4 = ap (λ n. n == 0xC4) (sym e) ∙ not-true _ (and_parts _ _ h3).0;
+      bc5 = ap (λ n. n == 0xC5) (sym e) ∙ not-true _ (and_parts _ _ h3).1;
     }
 
 apart-below : (o : ℕ) → o < 0x62 → Apart o
@@ -195,14 +195,14 @@ apart-eight first o h low high = by_cases (nat_le (first + 8) 0x62) refl
     by_cases true e = let at : first + 8 ≤ 0x62 = leb-true (first + 8) 0x62 e in apart-below o (omega arith)
     by_cases false e =
         let two : (nat_lt 0x90 first && nat_le (first + 8) 0xC4) ≡ true = ap (λ b. b || (nat_lt 0x90 first && nat_le (first + 8) 0xC4)) (sym e) ∙ h in
-        let from : 0x90 < first = ltb-true 0x90 first (and_left _ _ two) in
-        let to : first + 8 ≤ 0xC4 = leb-true (first + 8) 0xC4 (and_right _ _ two) in
+        let from : 0x90 < first = ltb-true 0x90 first (and_parts _ _ two).0 in
+        let to : first + 8 ≤ 0xC4 = leb-true (first + 8) 0xC4 (and_parts _ _ two).1 in
         apart-between o (omega arith) (omega arith)
 
 bytes-apart : (p : Plus) (first o : ℕ) → bytes_are_bare p first ≡ true → opcode_holds p first o ≡ true → Apart o
-bytes-apart plus.Register first o h at = apart-eight first o h (leb-true first o (and_left _ _ at)) (ltb-true o (first + 8) (and_right _ _ at))
-bytes-apart plus.No first o h at = apart-one first o (equal_from first o at) h
-bytes-apart plus.Stack first o h at = apart-one first o (equal_from first o at) h
+bytes-apart plus.Register first o h at = apart-eight first o h (leb-true first o (and_parts _ _ at).0) (ltb-true o (first + 8) (and_parts _ _ at).1)
+bytes-apart plus.No first o h at = apart-one first o (eqb-true first o at) h
+bytes-apart plus.Stack first o h at = apart-one first o (eqb-true first o at) h
 
 abbrev ApartInOne : Map → ℕ → Type 0
 ApartInOne m o = is_map_one m ≡ true → Apart o
@@ -261,7 +261,7 @@ lt_3 n lt e = grind (arith, lt, e)
 allowed : (x : Place) (b : ℕ) → b < 256 → place_holds rule.Any x (b / 64 == 3) ≡ true → place_allows x (modrm_of_byte b) ≡ true
 unfolding place_allows modrm_of_byte
 allowed place.Any b lt h = refl
-allowed place.Memory b lt h = lt_3 (b / 64) (omega arith) (not_true (b / 64 == 3) h)
+allowed place.Memory b lt h = lt_3 (b / 64) (omega arith) (not-true (b / 64 == 3) h)
 allowed place.Register b lt h = h
 
 said-allows : (x y : Place) (m : ModRm) → place_is_said x y ≡ true → place_allows x m ≡ true → place_allows y m ≡ true
@@ -285,23 +285,23 @@ record SaidKind (x : Place) (k : OpKind) : Type 0 where
 kind-parts : (x : Place) (k : OpKind) → kind_is_bare x k ≡ true → SaidKind x k
 unfolding kind_is_bare
 kind-parts x k h =
-    let h1 = and_right _ _ h in
-    let h2 = and_right _ _ h1 in
-    let h3 = and_right _ _ h2 in
+    let h1 = (and_parts _ _ h).1 in
+    let h2 = (and_parts _ _ h1).1 in
+    let h3 = (and_parts _ _ h2).1 in
     record {
-      numbers = and_left _ _ h;
-      gather = not_true _ (and_left _ _ h1);
-      mode = not_true _ (and_left _ _ h2);
-      offset = not_true _ (and_left _ _ h3);
-      place = and_right _ _ h3;
+      numbers = (and_parts _ _ h).0;
+      gather = not-true _ (and_parts _ _ h1).0;
+      mode = not-true _ (and_parts _ _ h2).0;
+      offset = not-true _ (and_parts _ _ h3).0;
+      place = (and_parts _ _ h3).1;
     }
 
 kinds-allow : (x : Place) (m : ModRm) (ops : List OpKind) → list_all (kind_is_bare x) ops ≡ true → place_allows x m ≡ true
     → list_all (λ kind. place_allows (place_of (method_of kind)) m) ops ≡ true
 kinds-allow x m [] h at = refl
 kinds-allow x m (k ∷ ops) h at =
-    both _ _ (said-allows x (place_of (method_of k)) m (kind-parts x k (and_left _ _ h)).place at)
-    (kinds-allow x m ops (and_right _ _ h) at)
+    both _ _ (said-allows x (place_of (method_of k)) m (kind-parts x k (and_parts _ _ h).0).place at)
+    (kinds-allow x m ops (and_parts _ _ h).1 at)
 
 abbrev modrm_by : ModRmRule → ℕ → Option ModRm
 modrm_by r b = if has_modrm_rule r then Some (modrm_of_byte b) else None
@@ -357,7 +357,7 @@ all-registers : (bits : Bits) (state : PrefixState) (m : Option ModRm) (x : Plac
     → list_all (register_fits bits state m) ops ≡ true
 all-registers bits state m x [] h = refl
 all-registers bits state m x (k ∷ ops) h =
-    both _ _ (register-fits bits state m k (kind-parts x k (and_left _ _ h)).numbers) (all-registers bits state m x ops (and_right _ _ h))
+    both _ _ (register-fits bits state m k (kind-parts x k (and_parts _ _ h).0).numbers) (all-registers bits state m x ops (and_parts _ _ h).1)
 
 not-cs : (row : Row) (m : Option ModRm) (x : Place) → list_all (kind_is_bare x) row.ops ≡ true → destination_fits row m ≡ true
 unfolding destination_fits
@@ -370,22 +370,22 @@ not-cs row m x h = by_ops row.ops h
     by_ops : (ops : List OpKind) → list_all (kind_is_bare x) ops ≡ true
         → (elim (slice_index_or ops 0 Absent) [ Sw ↦ not (reg_field m == 1) | _ ↦ true ]) ≡ true
     by_ops [] e = refl
-    by_ops (k ∷ ops) e = by_kind k (kind-parts x k (and_left _ _ e)).numbers
+    by_ops (k ∷ ops) e = by_kind k (kind-parts x k (and_parts _ _ e).0).numbers
 
 no-gather : (x : Place) (ops : List OpKind) → list_all (kind_is_bare x) ops ≡ true → list_any (λ kind. is_gather (method_of kind)) ops ≡ false
 no-gather x [] h = refl
 no-gather x (k ∷ ops) h =
-    ap (λ b. b || list_any (λ kind. is_gather (method_of kind)) ops) (kind-parts x k (and_left _ _ h)).gather ∙ no-gather x ops (and_right _ _ h)
+    ap (λ b. b || list_any (λ kind. is_gather (method_of kind)) ops) (kind-parts x k (and_parts _ _ h).0).gather ∙ no-gather x ops (and_parts _ _ h).1
 
 no-offset : (x : Place) (ops : List OpKind) → list_all (kind_is_bare x) ops ≡ true → list_any (λ kind. is_offset (method_of kind)) ops ≡ false
 no-offset x [] h = refl
 no-offset x (k ∷ ops) h =
-    ap (λ b. b || list_any (λ kind. is_offset (method_of kind)) ops) (kind-parts x k (and_left _ _ h)).offset ∙ no-offset x ops (and_right _ _ h)
+    ap (λ b. b || list_any (λ kind. is_offset (method_of kind)) ops) (kind-parts x k (and_parts _ _ h).0).offset ∙ no-offset x ops (and_parts _ _ h).1
 
 no-any_mode : (x : Place) (ops : List OpKind) → list_all (kind_is_bare x) ops ≡ true → list_any (λ kind. is_any_mode (method_of kind)) ops ≡ false
 no-any_mode x [] h = refl
 no-any_mode x (k ∷ ops) h =
-    ap (λ b. b || list_any (λ kind. is_any_mode (method_of kind)) ops) (kind-parts x k (and_left _ _ h)).mode ∙ no-any_mode x ops (and_right _ _ h)
+    ap (λ b. b || list_any (λ kind. is_any_mode (method_of kind)) ops) (kind-parts x k (and_parts _ _ h).0).mode ∙ no-any_mode x ops (and_parts _ _ h).1
 
 -- such a row reads ModRM.mod
 pub bare-mode : (row : Row) → row_is_bare row ≡ true → reads_mode row ≡ true
@@ -395,7 +395,7 @@ bare-mode row h = ap not (no-any_mode row.place row.ops (said row h).kinds)
 -- at most one of its operands has bytes of the immediates
 pub bare-one : (row : Row) → row_is_bare row ≡ true → has_one_immediate row ≡ true
 unfolding row_is_bare
-bare-one row h = and_left _ _ h
+bare-one row h = (and_parts _ _ h).0
 
 -- and it has no absolute address
 pub bare-offset : (row : Row) → row_is_bare row ≡ true → reads_by is_offset row ≡ false
@@ -424,8 +424,8 @@ none-is (Some v) h = cc
 front : (bits : Bits) (state : PrefixState) → is_bare_front bits state ≡ true → Front bits state
 unfolding is_bare_front
 front bits state h =
-    let h1 = and_right _ _ h in
-    record { lock = not_true _ (and_left _ _ h); vex = none-is _ (and_left _ _ h1); rex = and_right _ _ h1 }
+    let h1 = (and_parts _ _ h).1 in
+    record { lock = not-true _ (and_parts _ _ h).0; vex = none-is _ (and_parts _ _ h1).0; rex = (and_parts _ _ h1).1 }
 
 class-of : (row : Row) (state : PrefixState) (v : Option Vex) → v ≡ None
     → class_allows row.class (prefix_of (repeat_of v state.rep) (size66_of v state.size66)) ≡ true
@@ -457,7 +457,7 @@ state-fits : (bits : Bits) (row : Row) (state : PrefixState) → Said row → Fr
 unfolding state_fits class_fits prefix_holds vvvv_fits
 state-fits bits row state s f exists prefix size =
     both _ _ exists
-    (both _ _ (class-of row state state.vex f.vex (and_left _ _ prefix))
+    (both _ _ (class-of row state state.vex f.vex (and_parts _ _ prefix).0)
     (both _ _ (sizes-fit bits row state s f size) (no-vex (λ v. v.vvvv == 0 || reads_by is_vvvv row) state.vex f.vex)))
 
 lead-of : (row : Row) (v : Option Vex) (a : Bool) → v ≡ None → is_vex_row row ≡ false → a ≡ true
@@ -487,10 +487,10 @@ bare-fits bits row state tail sib bare start small h =
     let s = said row bare in
     let f = front bits state start in
     let k = held bits row (fields_of state (first_byte tail)) h in
-    let at : opcode_holds row.plus row.opcode state.opcode ≡ true = and_right _ _ k.stands in
+    let at : opcode_holds row.plus row.opcode state.opcode ≡ true = (and_parts _ _ k.stands).1 in
     let is : ApartInOne row.map state.opcode = apart row.map row.plus row.opcode state.opcode s.opcode at in
     both _ _ (state-fits bits row state s f k.exists k.prefix k.size)
-    (both _ _ (lead-fits bits row state (modrm_in row tail) s f.vex (and_left _ _ k.stands) is)
+    (both _ _ (lead-fits bits row state (modrm_in row tail) s f.vex (and_parts _ _ k.stands).0 is)
     (both _ _ (modrm-fits row state.opcode tail s at small k.byte k.place k.reg)
     (both _ _ (ap (λ b. not b || (is_lockable row && is_memory_method (method_of (kind_at row 0)) (modrm_in row tail))) f.lock)
     (registers-fit bits row state (modrm_in row tail) sib s is))))

@@ -1,5 +1,7 @@
 -- What a fitting spelling of a sound row means has the form of the row.
 use Rattle.std.proofs.Common.{◌≡◌, ◌⊎◌, inl, inr, ℕ, zero, suc, ◌+◌, ◌/◌, ◌%◌, ◌<◌, ◌≤◌, Bool, true, false, ◌&&◌, ◌||◌, not, ◌==◌, nat_lt, List, [], ◌∷◌, length, take, drop, Option, Some, None, is_some, is_none, refl, ap, sym, ◌∙◌, subst, arith, if◌then◌else◌, slice_index, slice_index_or, slice_get}
+use Rattle.std.proofs.lemmas.Bool.{and_parts, cases_Bool, eqb-true, not-true}
+use Rattle.instruction_parts.proofs.Tests.{or_right}
 use Rattle.std.specs.List.{list_any, list_all}
 use borrow.Author.Tests.{ltb-true, leb-true}
 use Rattle.x86_values.specs.declared.Bits.{Bits}
@@ -38,7 +40,6 @@ use Rattle.row_relation.specs.RowReading.{RowReads}
 use Rattle.opcode_rows.specs.Table.{table}
 use Rattle.plain_spelling.specs.Forms.{is_register, is_memory, is_allowed_in, is_variant_of}
 use Rattle.opcode_rows.specs.Allowed.{has_numbers, is_named, is_named_if, operand_is_formed, is_formed, is_well_formed}
-use Rattle.instruction_parts.proofs.Tests.{either, and_left, and_right, not_true, or_right, equal_from}
 use Rattle.opcode_rows.proofs.Formed.{well_formed-at}
 use Rattle.decoder.proofs.ReadingLaws.{meaning_code}
 use Rattle.decoder.proofs.FormedRegisters.{both, register_named, extended_small, extended_low, no_bit, address_numbers, SibRangeIf, with_sib_address, memory_address, absolute_address}
@@ -47,8 +48,8 @@ use Rattle.decoder.proofs.FormedRegisters.{both, register_named, extended_small,
 
 all_at : (p : OpKind → Bool) (kinds : List OpKind) (n : ℕ) → p Absent ≡ true → list_all p kinds ≡ true → p (slice_index_or kinds n Absent) ≡ true
 all_at p [] n none h = none
-all_at p (k ∷ kinds) zero none h = and_left (p k) (list_all p kinds) h
-all_at p (k ∷ kinds) (suc n) none h = all_at p kinds n none (and_right (p k) (list_all p kinds) h)
+all_at p (k ∷ kinds) zero none h = (and_parts (p k) (list_all p kinds) h).0
+all_at p (k ∷ kinds) (suc n) none h = all_at p kinds n none (and_parts (p k) (list_all p kinds) h).1
 
 or_false_left : (a b : Bool) → (a || b) ≡ false → a ≡ false
 or_false_left true b h = cc
@@ -64,7 +65,7 @@ none_at p (k ∷ kinds) zero none h = or_false_left (p k) (list_any p kinds) h
 none_at p (k ∷ kinds) (suc n) none h = none_at p kinds n none (or_false_right (p k) (list_any p kinds) h)
 
 any_at : (p : OpKind → Bool) (kinds : List OpKind) (n : ℕ) → p Absent ≡ false → p (slice_index_or kinds n Absent) ≡ true → list_any p kinds ≡ true
-any_at p kinds n none h = elim (either (list_any p kinds)) [
+any_at p kinds n none h = elim (cases_Bool (list_any p kinds)) [
   | inl yes_any ↦ yes_any
   | inr no_any ↦ (let e = none_at p kinds n none no_any in cc)
 ]
@@ -140,7 +141,7 @@ gather_is_not_any_mode _ h k = cc
 
 -- a row with a gather reads ModRM.mod
 gather_reads_mode : (row : Row) → at_most_one reads_rm row ≡ true → reads_by is_gather row ≡ true → reads_by is_any_mode row ≡ false
-gather_reads_mode row one gather = elim (either (reads_by is_any_mode row)) [
+gather_reads_mode row one gather = elim (cases_Bool (reads_by is_any_mode row)) [
   | inr never ↦ never
   | inl some_mode ↦
       let most : count_where (λ kind. reads_rm (method_of kind)) row.ops ≤ 1 = leb-true _ 1 one in
@@ -171,8 +172,8 @@ record OperandFacts (bits : Bits) (row : Row) (state : PrefixState) (m : Option 
 no_byte_file : (row : Row) → vex_is_proper row ≡ true → list_any (λ kind. is_byte_file (file_of kind)) row.ops ≡ false
 unfolding vex_is_proper
 no_byte_file row h =
-    not_true _ (and_right (not (is_fixed_rule row.modrm)) _ (and_right (not (is_map_one row.map)) _ (and_right (size_says_w row.size row.w) _
-    (and_right (is_size_of_vex row.size) _ (and_right (is_class_of_vex row.class) _ (and_right (not (is_no_l row.l)) _ (and_right (not (is_no_w row.w)) _ h)))))))
+    not-true _ (and_parts (not (is_fixed_rule row.modrm)) _ (and_parts (not (is_map_one row.map)) _ (and_parts (size_says_w row.size row.w) _
+    (and_parts (is_size_of_vex row.size) _ (and_parts (is_class_of_vex row.class) _ (and_parts (not (is_no_l row.l)) _ (and_parts (not (is_no_w row.w)) _ h).1).1).1).1).1).1).1
 
 absent_is_no_byte : is_byte_file (file_of Absent) ≡ false
 unfolding file_of
@@ -197,13 +198,13 @@ no_vex : (bits : Bits) (row : Row) (prefixes : List ℕ) (vex : Option Vex) (opc
 unfolding vex_fits
 no_vex bits row prefixes None opcode m h legacy = refl
 no_vex bits row prefixes (Some v) opcode m h legacy =
-    let e = and_left (is_vex_row row) _ h in cc
+    let e = (and_parts (is_vex_row row) _ h).0 in cc
 
 -- a row with a ModRM has it
 modrm_there : (row : Row) (opcode : ℕ) (m : Option ModRm) → opcode_and_modrm_fit row opcode m ≡ true → has_modrm_rule row.modrm ≡ true → is_some m ≡ true
 unfolding opcode_and_modrm_fit modrm_rule_fits
 modrm_there row opcode m h rule =
-    by_rule row.modrm rule (and_left (modrm_rule_fits row.plus row.modrm m) (place_fits row m) (and_right (opcode_fits row opcode) (modrm_rule_fits row.plus row.modrm m && place_fits row m) h))
+    by_rule row.modrm rule (and_parts (modrm_rule_fits row.plus row.modrm m) (place_fits row m) (and_parts (opcode_fits row opcode) (modrm_rule_fits row.plus row.modrm m && place_fits row m) h).1).0
   where
     some_passes : (p : ModRm → Bool) (o : Option ModRm) → has_modrm p o ≡ true → is_some o ≡ true
     some_passes p None e = cc
@@ -218,7 +219,7 @@ modrm_there row opcode m h rule =
 reg_rule : (row : Row) → operands_are_proper row ≡ true → (reads_by reads_reg row ≡ true) ⊎ (reads_by reads_rm row ≡ true) → has_modrm_rule row.modrm ≡ true
 unfolding operands_are_proper
 reg_rule row h reads =
-    let first = and_left ((not (reads_by reads_reg row) && not (reads_by reads_rm row)) || has_modrm_rule row.modrm) _ h in
+    let first = (and_parts ((not (reads_by reads_reg row) && not (reads_by reads_rm row)) || has_modrm_rule row.modrm) _ h).0 in
     or_right (not (reads_by reads_reg row) && not (reads_by reads_rm row)) (has_modrm_rule row.modrm) (neither reads) first
   where
     neither : (reads_by reads_reg row ≡ true) ⊎ (reads_by reads_rm row ≡ true) → (not (reads_by reads_reg row) && not (reads_by reads_rm row)) ≡ false
@@ -239,29 +240,29 @@ reads_mode_from row h = ap not h
 
 same_as_true : (a b : Bool) → b ≡ true → same_bool a b ≡ true → a ≡ true
 same_as_true true b e h = refl
-same_as_true false b e h = let n = not_true b h in cc
+same_as_true false b e h = let n = not-true b h in cc
 
 sib_from : (asize : Bits) (row : Row) (m : ModRm) (sib : Option Sib) (disp : ℕ) → reads_mode row ≡ true → needs_sib asize m ≡ true → address_fits asize row (Some m) sib disp ≡ true → is_some sib ≡ true
 unfolding address_fits
 sib_from asize row m sib disp reads needs h = by_mode (reads_mode row) reads h
   where
     by_mode : (test : Bool) → test ≡ true → (if test then same_bool (is_some sib) (needs_sib asize m) && disp == displacement_bytes asize m sib else is_none sib && disp == 0) ≡ true → is_some sib ≡ true
-    by_mode true t e = same_as_true (is_some sib) (needs_sib asize m) needs (and_left _ _ e)
+    by_mode true t e = same_as_true (is_some sib) (needs_sib asize m) needs (and_parts _ _ e).0
     by_mode false t e = cc
 
 -- a gather has a SIB
 gather_sib : (bits : Bits) (row : Row) (state : PrefixState) (m : Option ModRm) (sib : Option Sib) (disp imm : ℕ) → reads_by is_gather row ≡ true → at_most_one reads_rm row ≡ true → lengths_fit bits row state m sib disp imm ≡ true → registers_fit bits row state m sib ≡ true → is_some sib ≡ true
 unfolding lengths_fit registers_fit gather_fits
 gather_sib bits row state None sib disp imm gather one lengths registers =
-    let rest = and_right (list_all (register_fits bits state None) row.ops) _ registers in
-    let fit = by_gather (reads_by is_gather row) (gather_fits bits state None sib) gather (and_left (not (reads_by is_gather row) || gather_fits bits state None sib) _ (and_right (destination_fits row None) _ rest)) in
+    let rest = (and_parts (list_all (register_fits bits state None) row.ops) _ registers).1 in
+    let fit = by_gather (reads_by is_gather row) (gather_fits bits state None sib) gather (and_parts (not (reads_by is_gather row) || gather_fits bits state None sib) _ (and_parts (destination_fits row None) _ rest).1).0 in
     cc
 gather_sib bits row state (Some m) sib disp imm gather one lengths registers =
     let asize = state_address_size bits state in
-    let fit = by_gather (reads_by is_gather row) (gather_fits bits state (Some m) sib) gather (and_left _ _ (and_right _ _ (and_right _ _ registers))) in
-    let needs : needs_sib asize m ≡ true = and_left (needs_sib asize m) _ fit in
+    let fit = by_gather (reads_by is_gather row) (gather_fits bits state (Some m) sib) gather (and_parts _ _ (and_parts _ _ (and_parts _ _ registers).1).1).0 in
+    let needs : needs_sib asize m ≡ true = (and_parts (needs_sib asize m) _ fit).0 in
     let reads : reads_mode row ≡ true = reads_mode_from row (gather_reads_mode row one gather) in
-    sib_from asize row m sib disp reads needs (and_left (address_fits asize row (Some m) sib disp) _ lengths)
+    sib_from asize row m sib disp reads needs (and_parts (address_fits asize row (Some m) sib disp) _ lengths).0
 
 -- ---- the numbers that are read
 
@@ -269,18 +270,18 @@ reg_small : (m : Option ModRm) → modrm_in_range m ≡ true → (reg_field m < 
 unfolding modrm_in_range
 reg_small None h = (omega arith, omega arith)
 reg_small (Some m) h =
-    let rest = and_right (nat_lt m.mode3 4) (nat_lt m.reg 8 && nat_lt m.rm 8) h in
-    (ltb-true m.reg 8 (and_left (nat_lt m.reg 8) (nat_lt m.rm 8) rest), ltb-true m.rm 8 (and_right (nat_lt m.reg 8) (nat_lt m.rm 8) rest))
+    let rest = (and_parts (nat_lt m.mode3 4) (nat_lt m.reg 8 && nat_lt m.rm 8) h).1 in
+    (ltb-true m.reg 8 (and_parts (nat_lt m.reg 8) (nat_lt m.rm 8) rest).0, ltb-true m.rm 8 (and_parts (nat_lt m.reg 8) (nat_lt m.rm 8) rest).1)
 
 sib_small : (sib : Option Sib) → sib_in_range sib ≡ true → SibRangeIf sib
 unfolding sib_in_range
 sib_small None h = tt
 sib_small (Some s) h =
-    let rest = and_right (nat_lt s.scale 4) (nat_lt s.index 8 && nat_lt s.base 8) h in
+    let rest = (and_parts (nat_lt s.scale 4) (nat_lt s.index 8 && nat_lt s.base 8) h).1 in
     record {
-      scale = ltb-true s.scale 4 (and_left (nat_lt s.scale 4) (nat_lt s.index 8 && nat_lt s.base 8) h);
-      index = ltb-true s.index 8 (and_left (nat_lt s.index 8) (nat_lt s.base 8) rest);
-      base = ltb-true s.base 8 (and_right (nat_lt s.index 8) (nat_lt s.base 8) rest);
+      scale = ltb-true s.scale 4 (and_parts (nat_lt s.scale 4) (nat_lt s.index 8 && nat_lt s.base 8) h).0;
+      index = ltb-true s.index 8 (and_parts (nat_lt s.index 8) (nat_lt s.base 8) rest).0;
+      base = ltb-true s.base 8 (and_parts (nat_lt s.index 8) (nat_lt s.base 8) rest).1;
     }
 
 -- the four fields that name a register, as numbers
@@ -301,7 +302,7 @@ vvvv_small bits state h = by_vex state.vex h
 
     by_vex : (vex : Option Vex) → vex_in_range vex ≡ true → (elim vex [ None ↦ 0 | Some v ↦ (if is_64 bits then v.vvvv else v.vvvv % 8) ]) < 16
     by_vex None e = omega arith
-    by_vex (Some v) e = by_mode v (is_64 bits) (ltb-true v.vvvv 16 (and_left (nat_lt v.vvvv 16) _ e))
+    by_vex (Some v) e = by_mode v (is_64 bits) (ltb-true v.vvvv 16 (and_parts (nat_lt v.vvvv 16) _ e).0)
 
 index_small : (state : PrefixState) (sib : Option Sib) → SibRangeIf sib → index_number state sib < 16
 unfolding index_number
@@ -382,7 +383,7 @@ fixed_small _ = omega arith
 -- the first byte of some, 0 without one
 first_small : (bytes : List ℕ) → are_bytes bytes ≡ true → slice_index bytes 0 < 256
 first_small [] h = omega arith
-first_small (b ∷ bytes) h = ltb-true b 256 (and_left (nat_lt b 256) (are_bytes bytes) h)
+first_small (b ∷ bytes) h = ltb-true b 256 (and_parts (nat_lt b 256) (are_bytes bytes) h).0
 
 last_byte_small : (bits : Bits) (imm : List ℕ) → are_bytes imm ≡ true → last_byte_number bits imm < 16
 unfolding last_byte_number
@@ -399,7 +400,7 @@ reg_number_low state m range e = extended_low (bit_r state) (reg_field m) e (reg
 debug_register : (bits : Bits) (state : PrefixState) (m : Option ModRm) (kind : OpKind) → kind ≡ DnKind → register_fits bits state m kind ≡ true → bit_r state ≡ false
 unfolding register_fits
 debug_register bits state m kind e h =
-    not_true (bit_r state) (subst (λ (k : OpKind). register_fits bits state m k ≡ true) e h)
+    not-true (bit_r state) (subst (λ (k : OpKind). register_fits bits state m k ≡ true) e h)
 
 absent_fits : (bits : Bits) (state : PrefixState) (m : Option ModRm) → register_fits bits state m Absent ≡ true
 unfolding register_fits
@@ -444,7 +445,7 @@ unfolding place_allows is_allowed_in
 allowed_memory AnyPlace m x h e k = or_from_right (is_register x) (is_memory x) k
 allowed_memory Memory m x h e k = k
 allowed_memory OnlyRegister m x h e k =
-    let three = equal_from m.mode3 3 h in
+    let three = eqb-true m.mode3 3 h in
     let less = ltb-true m.mode3 3 e in absurd (omega arith)
 
 allowed_register : (place : Place) (m : ModRm) (x : Operand) → place_allows place m ≡ true → nat_lt m.mode3 3 ≡ false → is_register x ≡ true → is_allowed_in place x ≡ true
@@ -455,7 +456,7 @@ allowed_register OnlyRegister m x h e k = k
 
 place_of_row : (row : Row) (m : ModRm) → place_fits row (Some m) ≡ true → place_allows row.place m ≡ true
 unfolding place_fits
-place_of_row row m h = and_left (place_allows row.place m) _ h
+place_of_row row m h = (and_parts (place_allows row.place m) _ h).0
 
 -- ---- operands by how they are read
 
@@ -536,12 +537,12 @@ take_bytes : (n : ℕ) (bytes : List ℕ) → are_bytes bytes ≡ true → are_b
 take_bytes zero bytes h = refl
 take_bytes (suc n) [] h = refl
 take_bytes (suc n) (b ∷ bytes) h =
-    both (nat_lt b 256) (are_bytes (take n bytes)) (and_left (nat_lt b 256) (are_bytes bytes) h) (take_bytes n bytes (and_right (nat_lt b 256) (are_bytes bytes) h))
+    both (nat_lt b 256) (are_bytes (take n bytes)) (and_parts (nat_lt b 256) (are_bytes bytes) h).0 (take_bytes n bytes (and_parts (nat_lt b 256) (are_bytes bytes) h).1)
 
 drop_bytes : (n : ℕ) (bytes : List ℕ) → are_bytes bytes ≡ true → are_bytes (drop n bytes) ≡ true
 drop_bytes zero bytes h = h
 drop_bytes (suc n) [] h = refl
-drop_bytes (suc n) (b ∷ bytes) h = drop_bytes n bytes (and_right (nat_lt b 256) (are_bytes bytes) h)
+drop_bytes (suc n) (b ∷ bytes) h = drop_bytes n bytes (and_parts (nat_lt b 256) (are_bytes bytes) h).1
 
 -- operand n
 operand_formed : (bits : Bits) (row : Row) (state : PrefixState) (t : Tail) (imm : List ℕ) (n : ℕ) → OperandFacts bits row state t.modrm t.sib → are_bytes imm ≡ true → (let x : Operand = operand_at bits row state t imm n in (is_variant_of row.place (method_of (kind_at row n)) x && has_numbers x)) ≡ true
@@ -571,26 +572,26 @@ unfolding fields_in_range
 ranges s h =
     let bytes = are_bytes s.disp.items && are_bytes s.imm.items in
     let r1 = modrm_in_range s.modrm && (sib_in_range s.sib && bytes) in
-    let r2 = and_right (are_bytes s.prefixes.items) (vex_in_range s.vex && (nat_lt s.opcode 256 && r1)) h in
-    let r3 = and_right (nat_lt s.opcode 256) r1 (and_right (vex_in_range s.vex) (nat_lt s.opcode 256 && r1) r2) in
-    let r4 = and_right (sib_in_range s.sib) bytes (and_right (modrm_in_range s.modrm) (sib_in_range s.sib && bytes) r3) in
+    let r2 = (and_parts (are_bytes s.prefixes.items) (vex_in_range s.vex && (nat_lt s.opcode 256 && r1)) h).1 in
+    let r3 = (and_parts (nat_lt s.opcode 256) r1 (and_parts (vex_in_range s.vex) (nat_lt s.opcode 256 && r1) r2).1).1 in
+    let r4 = (and_parts (sib_in_range s.sib) bytes (and_parts (modrm_in_range s.modrm) (sib_in_range s.sib && bytes) r3).1).1 in
     record {
-      vex = and_left (vex_in_range s.vex) (nat_lt s.opcode 256 && r1) r2;
-      imm = and_right (are_bytes s.disp.items) (are_bytes s.imm.items) r4;
+      vex = (and_parts (vex_in_range s.vex) (nat_lt s.opcode 256 && r1) r2).0;
+      imm = (and_parts (are_bytes s.disp.items) (are_bytes s.imm.items) r4).1;
     }
 
 place_part : (row : Row) (opcode : ℕ) (m : Option ModRm) → opcode_and_modrm_fit row opcode m ≡ true → place_fits row m ≡ true
 unfolding opcode_and_modrm_fit
 place_part row opcode m h =
-    and_right (modrm_rule_fits row.plus row.modrm m) (place_fits row m) (and_right (opcode_fits row opcode) (modrm_rule_fits row.plus row.modrm m && place_fits row m) h)
+    (and_parts (modrm_rule_fits row.plus row.modrm m) (place_fits row m) (and_parts (opcode_fits row opcode) (modrm_rule_fits row.plus row.modrm m && place_fits row m) h).1).1
 
 registers_part : (bits : Bits) (row : Row) (state : PrefixState) (m : Option ModRm) (sib : Option Sib) → registers_fit bits row state m sib ≡ true → list_all (register_fits bits state m) row.ops ≡ true
 unfolding registers_fit
-registers_part bits row state m sib h = and_left (list_all (register_fits bits state m) row.ops) _ h
+registers_part bits row state m sib h = (and_parts (list_all (register_fits bits state m) row.ops) _ h).0
 
 one_rm : (row : Row) → operands_are_apart row ≡ true → at_most_one reads_rm row ≡ true
 unfolding operands_are_apart
-one_rm row h = and_left (at_most_one reads_rm row) _ (and_right (at_most_one reads_reg row) _ h)
+one_rm row h = (and_parts (at_most_one reads_rm row) _ (and_parts (at_most_one reads_reg row) _ h).1).0
 
 absent_reads : (p : Method → Bool) → p Nothing ≡ false → p (method_of Absent) ≡ false
 unfolding method_of

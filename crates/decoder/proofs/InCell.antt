@@ -1,5 +1,6 @@
 -- The rows that stand where a state says, by the cells of the table.
 use Rattle.std.proofs.Common.{◌≡◌, ℕ, ◌+◌, ◌<◌, Bool, true, false, ◌&&◌, ◌==◌, nat_le, nat_lt, is_some, refl, ap, sym, ◌∙◌, arith, length}
+use Rattle.std.proofs.lemmas.Bool.{eqb-true}
 use Rattle.row_types.specs.declared.Row.{Row}
 use Rattle.row_types.specs.declared.RowKind.{RowKind}
 use Rattle.row_types.specs.declared.RowKind.TheVariants.{Legacy, Vex as VexRow}
@@ -12,7 +13,6 @@ use Rattle.row_fields.specs.Holds.{is_vex, map_number, opcode_holds, stands_in, 
 use Rattle.row_lists.specs.Cells.{stands_in_cell, cell_of, IsRunOf}
 use Rattle.opcode_rows.specs.Table.{table, cell}
 use Rattle.opcode_rows.proofs.CellRuns.{run-cell}
-use Rattle.instruction_parts.proofs.Tests.{equal_from}
 use Rattle.decoder.specs.Cells.{IsPlaced, CellIs, cell_count}
 
 eqb_self : (n : ℕ) → (n == n) ≡ true
@@ -31,9 +31,9 @@ unfolding opcode_fits
 opcode_stands row op h = by_plus row.plus h
   where
     by_plus : (plus : Plus) → (elim plus [ PlusRegister ↦ nat_le row.opcode op && nat_lt op (row.opcode + 8) | _ ↦ op == row.opcode ]) ≡ true → opcode_holds plus row.opcode op ≡ true
-    by_plus NoPlus e = ap (λ n. row.opcode == n) (equal_from op row.opcode e) ∙ eqb_self row.opcode
+    by_plus NoPlus e = ap (λ n. row.opcode == n) (eqb-true op row.opcode e) ∙ eqb_self row.opcode
     by_plus PlusRegister e = e
-    by_plus PlusStack e = ap (λ n. row.opcode == n) (equal_from op row.opcode e) ∙ eqb_self row.opcode
+    by_plus PlusStack e = ap (λ n. row.opcode == n) (eqb-true op row.opcode e) ∙ eqb_self row.opcode
 
 both_hold : (a b : Bool) → a ≡ true → b ≡ true → (a && b) ≡ true
 both_hold a b ha hb = rw (ha, hb)

@@ -60,7 +60,7 @@ bytes_are_bare plus.Register first = nat_le (first + 8) 0x62 || (nat_lt 0x90 fir
 bytes_are_bare _ first =
     not (first == 0x62) && (not (first == 0x8F) && (not (first == 0x90) && (not (first == 0xC4) && not (first == 0xC5))))
 
--- the same, asked of rows of the one-byte map
+-- the opcode bytes of a row of the one-byte map are none of these; in the other maps any byte will do
 unfoldable pub opcode_is_bare : Map → Plus → ℕ → Bool
 opcode_is_bare map p first = not (is_map_one map) || bytes_are_bare p first
 
@@ -82,7 +82,7 @@ known_of row = record {
   at_64 = immediates_bytes B64 row;
 }
 
--- the same of each row, by code
+-- what is known of each row before it is looked up, by code
 unfoldable pub bare_rows : List BareRow
 bare_rows = BARE_ROWS
 

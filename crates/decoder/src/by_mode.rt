@@ -1,12 +1,13 @@
 //! The reading of some bytes in a mode that is a value.
 
 ghost use Rattle.std.specs.Prelude.{◌<◌, ◌≤◌, length, IsTrue, IfOk};
+ghost use Rattle.modrm_sib.specs.Answer.{answer_in};
 ghost use Rattle.opcode_rows.specs.Allowed.{is_well_formed};
 ghost use Rattle.opcode_rows.specs.Reading.{IsRead};
 ghost use Rattle.decoder.specs.Answer.{reading_of, IsOnlyReading};
 
 use crate::DecodeError;
-use crate::reading::decode_on;
+use crate::reading::{decode_on, decode_on_into};
 use std::marker::Brand;
 use std::sync::ledger::Blank;
 use x86_values::{Bits, Decoded};
@@ -19,4 +20,15 @@ pub fn decode_in(bits: Bits, ip: u64, bytes: &[u8]) -> Result<Decoded, DecodeErr
     ensures alone { IfOk result (λ d. IsOnlyReading bits ip bytes.now d) }
 {
     decode_on::<Brand>(Blank::new(1), bits, ip, bytes)
+}
+
+/// Reads as [`decode_in`], and writes the instruction to `out`. After an error nothing is said of what stands there.
+#[inline(always)]
+pub fn decode_onto(bits: Bits, ip: u64, bytes: &[u8], out: &mut Decoded) -> Result<(), DecodeError>
+    ensures reading { IsRead bits ip bytes.now (reading_of (answer_in result out.new)) }
+    ensures length { IfOk result (λ _. (0 < out.new.len) × (out.new.len ≤ 15) × (out.new.len ≤ length bytes.now)) }
+    ensures form { IfOk result (λ _. IsTrue (is_well_formed out.new.instr)) }
+    ensures alone { IfOk result (λ _. IsOnlyReading bits ip bytes.now out.new) }
+{
+    decode_on_into::<Brand>(Blank::new(1), bits, ip, bytes, out)
 }

@@ -25,31 +25,31 @@ use std::sync::ledger::Ledger;
 use step_count::Steps;
 use x86_values::{Bits, Code, Decoded};
 
-/// Writes to a place the instruction that bytes with a known front begin with, and answers None where there is none. It is read by the one row
+/// Writes to `out` the instruction that bytes with a known front begin with, and answers None where there is none. It is read by the one row
 /// whose conditions hold on the front and the byte behind it.
 #[inline(always)]
 pub(crate) fn read_found<const BITS: u32, L: Ledger>(
     ip: u64,
     state: &PrefixState,
     bytes: &[u8],
-    place: &mut Decoded,
+    out: &mut Decoded,
     steps: &mut Steps<L>,
 ) -> Option<()>
     requires mode { IsTrue (is_mode BITS) }
     requires front { front_of (mode_of BITS) bytes.now ≡ Known state.now }
     ensures reading { MatchOption result
         (SpellsNothing table (mode_of BITS) ip bytes.now)
-        (λ _. ReadsAs table (mode_of BITS) ip bytes.now place.new.instr place.new.len) }
+        (λ _. ReadsAs table (mode_of BITS) ip bytes.now out.new.instr out.new.len) }
     ensures length { IfSome result
-        (λ _. (0 < place.new.len) × (place.new.len ≤ 15) × (place.new.len ≤ length bytes.now)) }
-    ensures form { IfSome result (λ _. IsTrue (is_well_formed place.new.instr)) }
+        (λ _. (0 < out.new.len) × (out.new.len ≤ 15) × (out.new.len ≤ length bytes.now)) }
+    ensures form { IfSome result (λ _. IsTrue (is_well_formed out.new.instr)) }
     ensures most { steps.new ≤ steps.old + 12 }
     ensures least { IfSome result (λ _. steps.old + 3 ≤ steps.new) }
 {
     let bits = mode_of::<BITS>();
     match find::<BITS, L>(state, byte_behind(state, bytes), steps) {
         None => None,
-        Some(code) => match read_by_code(bits, ip, state, code, bytes, place, steps) {
+        Some(code) => match read_by_code(bits, ip, state, code, bytes, out, steps) {
             Some(()) => Some(()),
             None => None,
         },
@@ -74,23 +74,23 @@ fn read_by_code<L: Ledger>(
     state: &PrefixState,
     code: Code,
     bytes: &[u8],
-    place: &mut Decoded,
+    out: &mut Decoded,
     steps: &mut Steps<L>,
 ) -> Option<()>
     requires front { front_of bits bytes.now ≡ Known state.now }
     requires code { code.0 < ROWS }
     requires holding { (row : Row) → slice_get table code.0 ≡ Some row
         → IsTrue (holds bits row (fields_of state.now (slice_get bytes.now (state.now.used + 1)))) }
-    ensures some { IfSome result (λ _. (row : Row) → slice_get table code.0 ≡ Some row → RowReads bits ip code row bytes.now place.new) }
-    ensures len { IfSome result (λ _. (0 < place.new.len) × (place.new.len ≤ 15) × (place.new.len ≤ length bytes.now)) }
+    ensures some { IfSome result (λ _. (row : Row) → slice_get table code.0 ≡ Some row → RowReads bits ip code row bytes.now out.new) }
+    ensures len { IfSome result (λ _. (0 < out.new.len) × (out.new.len ≤ 15) × (out.new.len ≤ length bytes.now)) }
     ensures none { IsNone result → (row : Row) → slice_get table code.0 ≡ Some row → RowIsLate bits row bytes.now }
     ensures step { steps.new ≡ steps.old + 1 }
 {
     let known = bare_row(code);
     if known.bare && is_bare_front(bits, state) {
-        read_bare(bits, ip, state, code, known, bytes, place, steps)
+        read_bare(bits, ip, state, code, known, bytes, out, steps)
     } else {
-        read_asked(bits, ip, state, code, bytes, place, steps)
+        read_asked(bits, ip, state, code, bytes, out, steps)
     }
 }
 
@@ -103,7 +103,7 @@ fn read_bare<L: Ledger>(
     code: Code,
     known: BareRow,
     bytes: &[u8],
-    place: &mut Decoded,
+    out: &mut Decoded,
     steps: &mut Steps<L>,
 ) -> Option<()>
     requires front { front_of bits bytes.now ≡ Known state.now }
@@ -113,15 +113,15 @@ fn read_bare<L: Ledger>(
     requires known { slice_get bare.bare_rows code.0 ≡ Some known }
     requires bare { IsTrue known.bare }
     requires start { IsTrue (bare.is_bare_front bits state.now) }
-    ensures some { IfSome result (λ _. (row : Row) → slice_get table code.0 ≡ Some row → RowReads bits ip code row bytes.now place.new) }
-    ensures len { IfSome result (λ _. (0 < place.new.len) × (place.new.len ≤ 15) × (place.new.len ≤ length bytes.now)) }
+    ensures some { IfSome result (λ _. (row : Row) → slice_get table code.0 ≡ Some row → RowReads bits ip code row bytes.now out.new) }
+    ensures len { IfSome result (λ _. (0 < out.new.len) × (out.new.len ≤ 15) × (out.new.len ≤ length bytes.now)) }
     ensures none { IsNone result → (row : Row) → slice_get table code.0 ≡ Some row → RowIsLate bits row bytes.now }
     ensures step { steps.new ≡ steps.old + 1 }
 {
     let row = row(code, steps);
     let size = state_size(bits, &row, state);
     let immediates = immediates_at(size, known);
-    match read_known_into(bits, ip, state, code, &row, size, immediates, bytes, place) {
+    match read_known_into(bits, ip, state, code, &row, size, immediates, bytes, out) {
         Some(()) => Some(()),
         None => None,
     }
@@ -135,20 +135,20 @@ fn read_asked<L: Ledger>(
     state: &PrefixState,
     code: Code,
     bytes: &[u8],
-    place: &mut Decoded,
+    out: &mut Decoded,
     steps: &mut Steps<L>,
 ) -> Option<()>
     requires front { front_of bits bytes.now ≡ Known state.now }
     requires code { code.0 < ROWS }
-    ensures some { IfSome result (λ _. (row : Row) → slice_get table code.0 ≡ Some row → RowReads bits ip code row bytes.now place.new) }
-    ensures len { IfSome result (λ _. (0 < place.new.len) × (place.new.len ≤ 15) × (place.new.len ≤ length bytes.now)) }
+    ensures some { IfSome result (λ _. (row : Row) → slice_get table code.0 ≡ Some row → RowReads bits ip code row bytes.now out.new) }
+    ensures len { IfSome result (λ _. (0 < out.new.len) × (out.new.len ≤ 15) × (out.new.len ≤ length bytes.now)) }
     ensures none { IsNone result → (row : Row) → slice_get table code.0 ≡ Some row → RowIsLate bits row bytes.now }
     ensures step { steps.new ≡ steps.old + 1 }
 {
     let row = row(code, steps);
-    match read_row_into(bits, ip, state, code, &row, None, bytes, place) {
+    match read_row_into(bits, ip, state, code, &row, None, bytes, out) {
         Ok(()) => {
-            if place.len as usize <= LONGEST {
+            if out.len as usize <= LONGEST {
                 return Some(());
             }
             None

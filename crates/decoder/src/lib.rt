@@ -11,9 +11,10 @@ mod items;
 mod reading;
 pub mod reading_laws;
 
-pub use by_mode::decode_in;
+pub use by_mode::{decode_in, decode_onto};
 pub use cursor::Decoder;
 pub use items::{Item, Items};
+pub use modrm_sib::UNREAD;
 pub use reading::{decode, decode_counted};
 use thiserror::Error;
 pub use unique_spelling::laws;

@@ -70,29 +70,29 @@ pub fn decode_on<L: Ledger>(
     }
 }
 
-/// Reads the instruction at the front of some bytes on a count of its own, and writes it to a place. After an error nothing is said of the place.
+/// Reads the instruction at the front of some bytes on a count of its own, and writes it to `out`. After an error nothing is said of `out`.
 #[inline(always)]
-fn decode_on_into<L: Ledger>(
+pub(crate) fn decode_on_into<L: Ledger>(
     blank: Blank,
     bits: Bits,
     ip: u64,
     bytes: &[u8],
-    place: &mut Decoded,
+    out: &mut Decoded,
 ) -> Result<(), DecodeError>
     requires name { blank.name ≡ L.name }
     requires parts { blank.parts ≡ L.parts }
     requires some { 0 < L.parts }
-    ensures reading { IsRead bits ip bytes.now (reading_of (answer_in result place.new)) }
-    ensures length { IfOk (answer_in result place.new)
+    ensures reading { IsRead bits ip bytes.now (reading_of (answer_in result out.new)) }
+    ensures length { IfOk (answer_in result out.new)
         (λ d. (0 < d.len) × (d.len ≤ 15) × (d.len ≤ length bytes.now)) }
-    ensures form { IfOk (answer_in result place.new) (λ d. IsTrue (is_well_formed d.instr)) }
-    ensures alone { IfOk (answer_in result place.new) (λ d. IsOnlyReading bits ip bytes.now d) }
+    ensures form { IfOk (answer_in result out.new) (λ d. IsTrue (is_well_formed d.instr)) }
+    ensures alone { IfOk (answer_in result out.new) (λ d. IsOnlyReading bits ip bytes.now d) }
 {
     let mut steps = Steps::<L>::open(blank);
     match bits {
-        Bits::B16 => decode_into::<16, L>(ip, bytes, place, &mut steps),
-        Bits::B32 => decode_into::<32, L>(ip, bytes, place, &mut steps),
-        Bits::B64 => decode_into::<64, L>(ip, bytes, place, &mut steps),
+        Bits::B16 => decode_into::<16, L>(ip, bytes, out, &mut steps),
+        Bits::B32 => decode_into::<32, L>(ip, bytes, out, &mut steps),
+        Bits::B64 => decode_into::<64, L>(ip, bytes, out, &mut steps),
     }
 }
 
@@ -119,21 +119,21 @@ pub fn decode_counted<const BITS: u32, L: Ledger>(
     }
 }
 
-/// Reads and counts as [`decode_counted`], and writes the instruction to a place: as a value it would be copied at each call on the way.
+/// Reads and counts as [`decode_counted`], and writes the instruction to `out`: as a value it would be copied at each call on the way.
 #[inline(never)]
 fn decode_into<const BITS: u32, L: Ledger>(
     ip: u64,
     bytes: &[u8],
-    place: &mut Decoded,
+    out: &mut Decoded,
     steps: &mut Steps<L>,
 ) -> Result<(), DecodeError>
     requires { IsTrue (is_mode BITS) }
-    ensures reading { IsRead (mode_of BITS) ip bytes.now (reading_of (answer_in result place.new)) }
-    ensures length { IfOk (answer_in result place.new)
+    ensures reading { IsRead (mode_of BITS) ip bytes.now (reading_of (answer_in result out.new)) }
+    ensures length { IfOk (answer_in result out.new)
         (λ d. (0 < d.len) × (d.len ≤ 15) × (d.len ≤ length bytes.now)) }
-    ensures form { IfOk (answer_in result place.new) (λ d. IsTrue (is_well_formed d.instr)) }
-    ensures alone { IfOk (answer_in result place.new) (λ d. IsOnlyReading (mode_of BITS) ip bytes.now d) }
-    ensures instruction { IfOk (answer_in result place.new)
+    ensures form { IfOk (answer_in result out.new) (λ d. IsTrue (is_well_formed d.instr)) }
+    ensures alone { IfOk (answer_in result out.new) (λ d. IsOnlyReading (mode_of BITS) ip bytes.now d) }
+    ensures instruction { IfOk (answer_in result out.new)
         (λ d. (steps.old + 3 ≤ steps.new) × (steps.new ≤ steps.old + 12)) }
     ensures most { steps.new ≤ steps.old + most_steps (front_of (mode_of BITS) bytes.now) }
 {
@@ -142,7 +142,7 @@ fn decode_into<const BITS: u32, L: Ledger>(
     match read_front_into(bits, bytes, &mut state) {
         Err(PrefixError::Ended) => Err(DecodeError::TooShort),
         Err(PrefixError::Forbidden) => Err(DecodeError::Invalid),
-        Ok(()) => read_known::<BITS, L>(wrap(bits, u128::from(ip)), &state, bytes, place, steps),
+        Ok(()) => read_known::<BITS, L>(wrap(bits, u128::from(ip)), &state, bytes, out, steps),
     }
 }
 
@@ -152,20 +152,20 @@ fn read_known<const BITS: u32, L: Ledger>(
     ip: u64,
     state: &PrefixState,
     bytes: &[u8],
-    place: &mut Decoded,
+    out: &mut Decoded,
     steps: &mut Steps<L>,
 ) -> Result<(), DecodeError>
     requires mode { IsTrue (is_mode BITS) }
     requires front { front_of (mode_of BITS) bytes.now ≡ Known state.now }
-    ensures reading { IsReading table (mode_of BITS) ip bytes.now (reading_of (answer_in result place.new)) }
-    ensures length { IfOk (answer_in result place.new)
+    ensures reading { IsReading table (mode_of BITS) ip bytes.now (reading_of (answer_in result out.new)) }
+    ensures length { IfOk (answer_in result out.new)
         (λ d. (0 < d.len) × (d.len ≤ 15) × (d.len ≤ length bytes.now)) }
-    ensures form { IfOk (answer_in result place.new) (λ d. IsTrue (is_well_formed d.instr)) }
-    ensures instruction { IfOk (answer_in result place.new)
+    ensures form { IfOk (answer_in result out.new) (λ d. IsTrue (is_well_formed d.instr)) }
+    ensures instruction { IfOk (answer_in result out.new)
         (λ d. (steps.old + 3 ≤ steps.new) × (steps.new ≤ steps.old + 12)) }
     ensures most { steps.new ≤ steps.old + 12 + cell_count state.now }
 {
-    match read_found::<BITS, L>(ip, state, bytes, place, steps) {
+    match read_found::<BITS, L>(ip, state, bytes, out, steps) {
         Some(()) => Ok(()),
         None => Err(error_of(mode_of::<BITS>(), ip, state, bytes, cell_of(state), steps)),
     }

@@ -16,7 +16,7 @@ use Rattle.plain_spelling.specs.Values.{is_extended_of, distance}
 use Rattle.plain_spelling.specs.Forms.{is_variant_of}
 use Rattle.plain_spelling.specs.PlainFront.{asks_rex_w, asks_66}
 use Rattle.plain_spelling.specs.PlainTail.{plain_size, plain_next, plain_spelling}
-use Rattle.plain_spelling.specs.Expressible.{Suits, kind_suits, register_suits, address_suits, offered, immediate_suits, immediate_suits_how, near_reaches, target_suits, lock_suits, repeat_suits, prefixes_suit, has_memory_operand, address_size_suits}
+use Rattle.plain_spelling.specs.Expressible.{Suits, kind_suits, register_suits, address_suits, displacement_offered, immediate_suits, immediate_suits_how, near_reaches, target_suits, lock_suits, repeat_suits, prefixes_suit, has_memory_operand, address_size_suits}
 use Rattle.opcode_rows.specs.Table.{table}
 use Rattle.encoder.specs.Encoding.{encoding}
 use Rattle.moved_targets.specs.Targets.{plain_length}
@@ -46,7 +46,7 @@ unfolding is_extended_of distance
 all_near-32 next t = rw (lt-ltb ((t + (2 ^ 64 - next)) % 2 ^ 32) (2 ^ 32) (omega arith)) refl
 
 suits-16 : (t ip : ℕ) → t < 2 ^ 16 → Suits B16 ip (offset_row One 0xE9 Jz 20 B16) (branch_to (near_code Jump B16) None t)
-unfolding branch_to exists_in kind_suits is_variant_of method_of register_suits address_suits offered immediate_suits immediate_suits_how target_suits near_reaches plain_size operand_size immediate_bytes immediate_width prefixes_suit lock_suits repeat_suits address_size_suits has_memory_operand asks_rex_w asks_66
+unfolding branch_to exists_in kind_suits is_variant_of method_of register_suits address_suits displacement_offered immediate_suits immediate_suits_how target_suits near_reaches plain_size operand_size immediate_bytes immediate_width prefixes_suit lock_suits repeat_suits address_size_suits has_memory_operand asks_rex_w asks_66
 suits-16 t ip below = record {
   exists = refl;
   kinds = refl;
@@ -62,7 +62,7 @@ suits-16 t ip below = record {
 }
 
 suits-32 : (t ip : ℕ) → t < 2 ^ 32 → Suits B32 ip (offset_row One 0xE9 Jz 20 B32) (branch_to (near_code Jump B32) None t)
-unfolding branch_to exists_in kind_suits is_variant_of method_of register_suits address_suits offered immediate_suits immediate_suits_how target_suits near_reaches plain_size operand_size immediate_bytes immediate_width prefixes_suit lock_suits repeat_suits address_size_suits has_memory_operand asks_rex_w asks_66
+unfolding branch_to exists_in kind_suits is_variant_of method_of register_suits address_suits displacement_offered immediate_suits immediate_suits_how target_suits near_reaches plain_size operand_size immediate_bytes immediate_width prefixes_suit lock_suits repeat_suits address_size_suits has_memory_operand asks_rex_w asks_66
 suits-32 t ip below = record {
   exists = refl;
   kinds = refl;

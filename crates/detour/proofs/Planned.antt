@@ -161,4 +161,4 @@ module _ (laws : LawsBelow) where
   -- the plan has as many items
   pub plan_count : (bits : Bits) (items : List Placed) (count place : ℕ) (start : StartTarget) → length (plan_at bits items count place start).items ≡ length items
   unfolding plan_at
-  plan_count bits items count place start = laws.seats.plan-count bits (one_span items place) items (goal_at start items count)
+  plan_count bits items count place start = laws.fragments.plan-count bits (one_span items place) items (goal_at start items count)

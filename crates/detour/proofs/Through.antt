@@ -12,7 +12,7 @@ use Rattle.plain_spelling.specs.Forms.{is_variant_of, is_allowed_in}
 use Rattle.plain_spelling.specs.Addresses.{has_address_size, form_of, offers, form_offers, displacement_count, is_displacement, displacement_suits, is_shape, shape_suits, pointer_size, shown_size, written_size, general_size, address_fields, alone_fields, wide_fields, wide_needs_sib}
 use Rattle.plain_spelling.specs.PlainFront.{register_number, number_in_reg, number_in_rm, number_in_index, number_in_vvvv, number_in_opcode, is_low_byte_of_rex, asks_rex_w, asks_r, asks_x, asks_b, asks_66, asks_67, asks_vex_w, asked_used, asked_repeat, asked_rex, asked_vex, asked_opcode, class_pp, plain_front_of}
 use Rattle.plain_spelling.specs.PlainTail.{prefixes_of, plain_size, plain_modrm, plain_sib_of, rm_fields, fixed_rm, displacement_of, operand_immediate, immediate_at, plain_immediates, plain_len, plain_next, plain_spelling}
-use Rattle.plain_spelling.specs.Expressible.{Suits, kind_suits, register_suits, address_suits, offered, immediate_suits, immediate_suits_how, address_reaches, target_suits, lock_suits, repeat_suits, prefixes_suit, has_memory_operand, told_size, size_agrees, is_size_of, address_size_suits}
+use Rattle.plain_spelling.specs.Expressible.{Suits, kind_suits, register_suits, address_suits, displacement_offered, immediate_suits, immediate_suits_how, address_reaches, target_suits, lock_suits, repeat_suits, prefixes_suit, has_memory_operand, told_size, size_agrees, is_size_of, address_size_suits}
 use Rattle.opcode_rows.specs.Table.{table}
 use Rattle.opcode_rows.specs.Reading.{IsRead}
 use Rattle.encoder.specs.Encoding.{encoding}
@@ -35,7 +35,7 @@ no-distance slot below = omega (arith, below)
 through-suits : (slot ip : ℕ) → slot < 2 ^ 64
     → is_extended_of 4 64 (distance B64 (plain_next B64 ip (memory_row 4) (through_slot (far_code Jump) slot)) slot) ≡ true
     → Suits B64 ip (memory_row 4) (through_slot (far_code Jump) slot)
-unfolding through_slot exists_in kind_suits is_variant_of is_allowed_in method_of file_of register_suits address_suits shape_suits is_shape form_of offered displacement_suits offers form_offers displacement_count is_displacement written_size shown_size pointer_size immediate_suits immediate_suits_how target_suits address_reaches plain_size operand_size immediate_bytes immediate_width prefixes_suit lock_suits repeat_suits address_size_suits has_memory_operand is_size_of size_agrees told_size has_address_size
+unfolding through_slot exists_in kind_suits is_variant_of is_allowed_in method_of file_of register_suits address_suits shape_suits is_shape form_of displacement_offered displacement_suits offers form_offers displacement_count is_displacement written_size shown_size pointer_size immediate_suits immediate_suits_how target_suits address_reaches plain_size operand_size immediate_bytes immediate_width prefixes_suit lock_suits repeat_suits address_size_suits has_memory_operand is_size_of size_agrees told_size has_address_size
 through-suits slot ip below near = record {
   exists = refl;
   kinds = refl;

@@ -10,9 +10,9 @@ use Rattle.branch_sizes.specs.Layout.{IsLeast}
 use Rattle.moved_targets.specs.Facts.{TargetFacts}
 use Rattle.branch_forms.specs.Facts.{CodeFacts, PieceFacts, FormFacts}
 use Rattle.move_goals.specs.Facts.{FirstFacts, PlanFacts}
-use Rattle.block_encoder.specs.Facts.{SeatFacts, MovedFacts, ReachFacts}
+use Rattle.block_encoder.specs.Facts.{FragmentFacts, MovedFacts, ReachFacts}
 
--- codes, encodings, readings, layouts, targets, forms, goals, seats, moved blocks and reach
+-- codes, encodings, readings, layouts, targets, forms, goals, fragments, moved blocks and reach
 pub record LawsBelow : Type 0 where
   pub in_table : (i : Instr) → IsTrue (is_well_formed i) → i.code.0 < ROWS
   pub encodings : EncodingFacts
@@ -25,6 +25,6 @@ pub record LawsBelow : Type 0 where
   pub forms : FormFacts
   pub firsts : FirstFacts
   pub plans : PlanFacts
-  pub seats : SeatFacts
+  pub fragments : FragmentFacts
   pub moved : MovedFacts
   pub reach : ReachFacts

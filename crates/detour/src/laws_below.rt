@@ -18,7 +18,7 @@ pub(crate) fn laws_below()
     branch_forms::laws::forms_are_fit();
     move_goals::laws::first_numbers_pass();
     move_goals::laws::plans_are_well_formed();
-    block_encoder::laws::plans_seat_their_items();
+    block_encoder::laws::plans_lay_out_their_items();
     block_encoder::laws::moved_blocks_keep_their_laws();
     block_encoder::laws::items_reach_their_goals();
 }

@@ -291,7 +291,6 @@ fn lay_detour(
     requires fits { length jump.now.bytes.items ≤ taken.now.len }
     ensures { IsLaid bits ip to place start jump.now taken.now result }
 {
-    laws_below();
     match lay_trampoline(alloc, bits, ip, taken, place, start) {
         Ok(moved) => put_together(alloc, to, place, jump, taken, &moved),
         Err(why) => Err(move_refusal(why)),

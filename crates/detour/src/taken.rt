@@ -9,10 +9,12 @@ ghost use Rattle.opcode_rows.specs.declared.generated_spots.TheConstants.{ROWS};
 use crate::error::DetourError;
 use crate::laws_below::laws_below;
 use decoder::decode_in;
+use decoder::reading_laws::wrapped_addresses_read_alike;
 use flow_graph::goes_on;
 use move_goals::Placed;
 use opcode_rows::name;
 use operand_info::flow_of;
+use operand_info::laws::well_formed_codes_are_in_the_table;
 use std::alloc::Global;
 use x86_values::{Bits, wrap};
 
@@ -21,7 +23,8 @@ fn read_item(bits: Bits, ip: u64, code: &[u8], offset: usize) -> Result<Placed, 
     requires { offset < length code.now }
     ensures { IsItemRead bits ip code.now offset result }
 {
-    laws_below();
+    well_formed_codes_are_in_the_table();
+    wrapped_addresses_read_alike();
     let at = wrap(bits, u128::from(ip) + offset as u128);
     match decode_in(bits, at, &code[offset..]) {
         Ok(decoded) => Ok(Placed {

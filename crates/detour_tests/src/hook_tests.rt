@@ -153,25 +153,32 @@ fn cases() -> [Case; 3] {
     ]
 }
 
-/// The hooks of a case, with its functions hooked one after the other.
-fn both_installed(rt: &impl Abort, alloc: Global, case: Case) -> Result<Hooks, Fail> {
-    let Case {
-        bits,
-        base,
-        size,
-        slot,
-        one,
-        two,
-    } = case;
-    let mut hooks = Hooks::make(alloc, bits, base, size, slot)?;
-    assert!(rt; holds(alloc, &hooks, slot, &["", ""])?);
-    let place = install(&mut hooks, alloc, one.function)?;
-    assert_eq!(rt; place, Ok(one.place));
-    assert!(rt; holds(alloc, &hooks, slot, &[one.trampoline, ""])?);
-    let place = install(&mut hooks, alloc, two.function)?;
-    assert_eq!(rt; place, Ok(two.place));
-    assert!(rt; holds(alloc, &hooks, slot, &[one.trampoline, two.trampoline])?);
-    Ok(hooks)
+/// Hooks a function, which gets this place.
+fn is_installed(
+    rt: &impl Abort,
+    alloc: Global,
+    hooks: &mut Hooks,
+    wanted: Hooked,
+) -> Result<(), Fail> {
+    let place = install(hooks, alloc, wanted.function)?;
+    assert_eq!(rt; place, Ok(wanted.place));
+    Ok(())
+}
+
+/// The functions of a case are hooked one after the other.
+fn both_installed(
+    rt: &impl Abort,
+    alloc: Global,
+    hooks: &mut Hooks,
+    case: Case,
+) -> Result<(), Fail> {
+    let Case { slot, one, two, .. } = case;
+    assert!(rt; holds(alloc, hooks, slot, &["", ""])?);
+    is_installed(rt, alloc, hooks, one)?;
+    assert!(rt; holds(alloc, hooks, slot, &[one.trampoline, ""])?);
+    is_installed(rt, alloc, hooks, two)?;
+    assert!(rt; holds(alloc, hooks, slot, &[one.trampoline, two.trampoline])?);
+    Ok(())
 }
 
 /// A live hook has its place, its function and what goes over that.
@@ -185,53 +192,117 @@ fn is_hooked(rt: &impl Abort, alloc: Global, hook: &Hook, wanted: Hooked) -> Res
     Ok(())
 }
 
+/// A third function is refused for want of a slot, before anything is told of it.
+fn no_slot_is_free(
+    rt: &impl Abort,
+    alloc: Global,
+    hooks: &mut Hooks,
+    function: Function,
+) -> Result<(), Fail> {
+    let none = Function {
+        code: "",
+        ..function
+    };
+    let refused = install(hooks, alloc, none)?;
+    assert_eq!(rt; refused, Err(InstallError::Full { max: 2 }));
+    Ok(())
+}
+
+/// A hook that is removed tells its function, with the bytes that were taken.
+fn is_hook_of(rt: &impl Abort, gone: &Hook, function: Function) {
+    assert_eq!(rt; gone.ip, function.ip);
+    assert_eq!(rt; gone.original.len(), gone.detour.taken());
+}
+
+/// A hook is removed once.
+fn is_removed(rt: &impl Abort, hooks: &mut Hooks, wanted: Hooked) -> Result<(), Fail> {
+    match hooks.remove(wanted.place) {
+        Ok(gone) => is_hook_of(rt, &gone, wanted.function),
+        Err(_) => return Err(Fail::new("a hook is not removed")),
+    }
+    Ok(())
+}
+
+/// No hook is removed where none is.
+fn none_is_removed(rt: &impl Abort, hooks: &mut Hooks, place: u64) -> Result<(), Fail> {
+    match hooks.remove(place) {
+        Ok(_) => Err(Fail::new("a hook is removed twice")),
+        Err(why) => {
+            assert_eq!(rt; why, NotTaken { place });
+            Ok(())
+        }
+    }
+}
+
 /// The first of two hooks is removed, and its function is hooked again at the same place.
 fn removed_and_made_again(
     rt: &impl Abort,
     alloc: Global,
-    hooks: Hooks,
+    hooks: &mut Hooks,
     case: Case,
 ) -> Result<(), Fail> {
-    let mut hooks = hooks;
     let Case { slot, one, two, .. } = case;
-    // no slot is free, which is told before anything of the function
-    let none = Function {
-        code: "",
-        ..one.function
-    };
-    let refused = install(&mut hooks, alloc, none)?;
-    assert_eq!(rt; refused, Err(InstallError::Full { max: 2 }));
+    no_slot_is_free(rt, alloc, hooks, one.function)?;
     // the first slot is CC again, and the first to be free
-    let place = one.place;
-    let gone = hooks.remove(place)?;
-    assert_eq!(rt; gone.ip, one.function.ip);
-    assert_eq!(rt; gone.original.len(), gone.detour.taken());
-    assert!(rt; holds(alloc, &hooks, slot, &["", two.trampoline])?);
+    is_removed(rt, hooks, one)?;
+    assert!(rt; holds(alloc, hooks, slot, &["", two.trampoline])?);
     assert_eq!(rt; hooks.live().len(), 1);
-    match hooks.remove(place) {
-        Ok(_) => return Err(Fail::new("a hook is removed twice")),
-        Err(why) => assert_eq!(rt; why, NotTaken { place }),
-    }
-    let again = install(&mut hooks, alloc, one.function)?;
-    assert_eq!(rt; again, Ok(place));
-    assert!(rt; holds(alloc, &hooks, slot, &[one.trampoline, two.trampoline])?);
+    none_is_removed(rt, hooks, one.place)?;
+    is_installed(rt, alloc, hooks, one)?;
+    assert!(rt; holds(alloc, hooks, slot, &[one.trampoline, two.trampoline])?);
     Ok(())
+}
+
+/// The two live hooks of a case are those that are wanted.
+fn both_are_live(rt: &impl Abort, alloc: Global, hooks: &Hooks, case: Case) -> Result<(), Fail> {
+    match hooks.live() {
+        [first, second] => {
+            is_hooked(rt, alloc, first, case.one)?;
+            is_hooked(rt, alloc, second, case.two)
+        }
+        _ => Err(Fail::new("two hooks are live")),
+    }
 }
 
 #[test]
 fn hooks_made_and_removed(rt: HostRuntime) -> Result<(), Fail> {
     for case in cases() {
         let alloc = rt.alloc();
-        let hooks = both_installed(&rt, alloc, case)?;
-        match hooks.live() {
-            [first, second] => {
-                is_hooked(&rt, alloc, first, case.one)?;
-                is_hooked(&rt, alloc, second, case.two)?;
-            }
-            _ => return Err(Fail::new("two hooks are live")),
-        }
-        removed_and_made_again(&rt, alloc, hooks, case)?;
+        let mut hooks = Hooks::make(alloc, case.bits, case.base, case.size, case.slot)?;
+        both_installed(&rt, alloc, &mut hooks, case)?;
+        both_are_live(&rt, alloc, &hooks, case)?;
+        removed_and_made_again(&rt, alloc, &mut hooks, case)?;
     }
+    Ok(())
+}
+
+/// That no hooks are made of such a range and slot.
+fn no_hooks(
+    rt: &impl Abort,
+    alloc: Global,
+    size: u64,
+    slot: u64,
+    refusal: MakeError,
+) -> Result<(), Fail> {
+    match Hooks::make(alloc, Bits::B32, 0xFFFF_FFD0, size, slot) {
+        Ok(_) => Err(Fail::new("there are hooks")),
+        Err(why) => {
+            assert_eq!(rt; why, refusal);
+            Ok(())
+        }
+    }
+}
+
+/// That a function is not hooked, and the three slots stay as they were.
+fn is_refused(
+    rt: &impl Abort,
+    alloc: Global,
+    hooks: &mut Hooks,
+    function: Function,
+    refusal: InstallError,
+) -> Result<(), Fail> {
+    assert_eq!(rt; install(hooks, alloc, function)?, Err(refusal));
+    assert!(rt; holds(alloc, hooks, 16, &["", "", ""])?);
     Ok(())
 }
 
@@ -248,10 +319,7 @@ fn hooks_refused(rt: HostRuntime) -> Result<(), Fail> {
         (64, 64, MakeError::Wraps { end: 0x1_0000_0010 }),
     ];
     for (size, slot, refusal) in sizes {
-        match Hooks::make(alloc, Bits::B32, 0xFFFF_FFD0, size, slot) {
-            Ok(_) => return Err(Fail::new("there are hooks")),
-            Err(why) => assert_eq!(rt; why, refusal),
-        }
+        no_hooks(&rt, alloc, size, slot, refusal)?;
     }
     let mut hooks = Hooks::make(alloc, Bits::B64, 0x9000, 48, 16)?;
     let near = Function {
@@ -278,8 +346,7 @@ fn hooks_refused(rt: HostRuntime) -> Result<(), Fail> {
         ),
     ];
     for (function, refusal) in functions {
-        assert_eq!(rt; install(&mut hooks, alloc, function)?, Err(refusal));
-        assert!(rt; holds(alloc, &hooks, 16, &["", "", ""])?);
+        is_refused(&rt, alloc, &mut hooks, function, refusal)?;
     }
     assert_eq!(rt; install(&mut hooks, alloc, near)?, Ok(0x9000));
     Ok(())

@@ -1,8 +1,9 @@
 //! Tables of functions, with the patch and the trampoline that each has, or why it has none.
 
 use decoder::DecodeError;
-use detour::{Detour, DetourError, JumpForm, StartTarget, detour};
+use detour::{Detour, DetourError, JumpForm, Parts, StartTarget, detour};
 use std::alloc::Global;
+use std::process::Abort;
 use std::test::Fail;
 use x86_values::Bits;
 
@@ -63,6 +64,33 @@ fn detour_of(alloc: Global, case: &Case) -> Result<Result<Detour, DetourError>, 
     Ok(detour(
         alloc, case.bits, case.ip, &code, case.to, case.place, case.start,
     ))
+}
+
+/// That a case has a detour of this form with this patch and trampoline, as hexadecimal digits. It answers the parts.
+fn is_made(
+    rt: &impl Abort,
+    alloc: Global,
+    case: &Case,
+    form: JumpForm,
+    patch: &str,
+    trampoline: &str,
+) -> Result<Parts, Fail> {
+    let made = detour_of(alloc, case)??;
+    assert_eq!(rt;
+        hex::encode(alloc, made.patch())?.as_str(),
+        patch,
+        "the patch of {}",
+        case.code
+    );
+    assert_eq!(rt;
+        hex::encode(alloc, made.trampoline())?.as_str(),
+        trampoline,
+        "the trampoline of {}",
+        case.code
+    );
+    assert!(rt; made.form() == form);
+    assert_eq!(rt; made.taken(), made.patch().len());
+    Ok(made.parts())
 }
 
 // Offsets of 32 bits count from the end of their instruction: from 1005 to 5000 there are 3FFB bytes, and from 900D back to 1008 there are -8005.
@@ -129,21 +157,7 @@ fn code_goes_to_the_trampoline_and_back(rt: HostRuntime) -> Result<(), Fail> {
         ),
     ];
     for (case, patch, trampoline) in cases {
-        let made = detour_of(rt.alloc(), &case)??;
-        assert_eq!(rt;
-            hex::encode(rt.alloc(), made.patch())?.as_str(),
-            patch,
-            "the patch of {}",
-            case.code
-        );
-        assert_eq!(rt;
-            hex::encode(rt.alloc(), made.trampoline())?.as_str(),
-            trampoline,
-            "the trampoline of {}",
-            case.code
-        );
-        assert!(rt; made.form() == JumpForm::Near);
-        assert_eq!(rt; made.taken(), made.patch().len());
+        is_made(&rt, rt.alloc(), &case, JumpForm::Near, patch, trampoline)?;
     }
     Ok(())
 }
@@ -157,18 +171,9 @@ fn far_replacements(rt: HostRuntime) -> Result<(), Fail> {
         to: 0x7FFF_0000_0000,
         ..near(code)
     };
-    let made = detour_of(rt.alloc(), &relay)??;
-    assert!(rt; made.form() == JumpForm::Relay);
-    assert_eq!(rt;
-        hex::encode(rt.alloc(), made.patch())?.as_str(),
-        "e908800000cccccc"
-    );
+    let patch = "e908800000cccccc";
     let trampoline = "554889e54883ec20e9fb7fffffff250000000000000000ff7f0000";
-    assert_eq!(rt;
-        hex::encode(rt.alloc(), made.trampoline())?.as_str(),
-        trampoline
-    );
-    let parts = made.parts();
+    let parts = is_made(&rt, rt.alloc(), &relay, JumpForm::Relay, patch, trampoline)?;
     assert_eq!(rt;
         (parts.jump_back, parts.slots, parts.relay),
         (Some(8), None, Some(13))
@@ -179,18 +184,16 @@ fn far_replacements(rt: HostRuntime) -> Result<(), Fail> {
         place: 0x7FFF_0000_1000,
         ..near(code)
     };
-    let made = detour_of(rt.alloc(), &absolute)??;
-    assert!(rt; made.form() == JumpForm::Absolute);
-    assert_eq!(rt;
-        hex::encode(rt.alloc(), made.patch())?.as_str(),
-        "ff250000000000000000fe7f0000"
-    );
+    let patch = "ff250000000000000000fe7f0000";
     let trampoline = "554889e54883ec2048897df831c0ff2504000000cccccccc0e10000000000000";
-    assert_eq!(rt;
-        hex::encode(rt.alloc(), made.trampoline())?.as_str(),
-        trampoline
-    );
-    let parts = made.parts();
+    let parts = is_made(
+        &rt,
+        rt.alloc(),
+        &absolute,
+        JumpForm::Absolute,
+        patch,
+        trampoline,
+    )?;
     assert_eq!(rt;
         (parts.jump_back, parts.slots, parts.relay),
         (Some(14), Some(24), None)

@@ -86,13 +86,17 @@ fn general_register(word: &str) -> Option<u8> {
 }
 
 /// A register of a class by what stands behind the letters of the class.
-fn numbered(word: &str, letters: &str, group: RegisterGroup) -> Option<(RegisterGroup, u8)> {
+fn register_by_number(
+    word: &str,
+    letters: &str,
+    group: RegisterGroup,
+) -> Option<(RegisterGroup, u8)> {
     let n = word.strip_prefix(letters)?.parse::<u8>().ok()?;
     Some((group, n))
 }
 
 /// A general register by a letter before its 16-bit name.
-fn lettered(word: &str, letter: &str, group: RegisterGroup) -> Option<(RegisterGroup, u8)> {
+fn register_by_name(word: &str, letter: &str, group: RegisterGroup) -> Option<(RegisterGroup, u8)> {
     let n = general_register(word.strip_prefix(letter)?)?;
     Some((group, n))
 }
@@ -108,23 +112,23 @@ fn register(word: &str) -> Option<(RegisterGroup, u8)> {
         "DS" => Some((RegisterGroup::Segment, 3)),
         "FS" => Some((RegisterGroup::Segment, 4)),
         "GS" => Some((RegisterGroup::Segment, 5)),
-        _ => lettered(word, "", RegisterGroup::R16)
-            .or(lettered(word, "E", RegisterGroup::R32))
-            .or(lettered(word, "R", RegisterGroup::R64))
-            .or(lettered(word, "r", RegisterGroup::Operand))
-            .or(lettered(word, "a", RegisterGroup::Address))
-            .or(lettered(word, "s", RegisterGroup::Stack))
-            .or(lettered(word, "w", RegisterGroup::Wide))
-            .or(numbered(word, "R", RegisterGroup::R64))
-            .or(numbered(word, "CR", RegisterGroup::Control))
-            .or(numbered(word, "ST", RegisterGroup::X87))
-            .or(numbered(word, "XMM", RegisterGroup::Xmm))
-            .or(numbered(word, "YMM", RegisterGroup::Ymm)),
+        _ => register_by_name(word, "", RegisterGroup::R16)
+            .or(register_by_name(word, "E", RegisterGroup::R32))
+            .or(register_by_name(word, "R", RegisterGroup::R64))
+            .or(register_by_name(word, "r", RegisterGroup::Operand))
+            .or(register_by_name(word, "a", RegisterGroup::Address))
+            .or(register_by_name(word, "s", RegisterGroup::Stack))
+            .or(register_by_name(word, "w", RegisterGroup::Wide))
+            .or(register_by_number(word, "R", RegisterGroup::R64))
+            .or(register_by_number(word, "CR", RegisterGroup::Control))
+            .or(register_by_number(word, "ST", RegisterGroup::X87))
+            .or(register_by_number(word, "XMM", RegisterGroup::Xmm))
+            .or(register_by_number(word, "YMM", RegisterGroup::Ymm)),
     }
 }
 
 /// The number of a row's operand size among three, or the one that there is.
-fn sized(sizes: &str, size: Size) -> Option<u16> {
+fn of_operand_size(sizes: &str, size: Size) -> Option<u16> {
     match sizes.split_once('/') {
         None => sizes.parse::<u16>().ok(),
         Some((first, rest)) => {
@@ -320,7 +324,7 @@ impl Told {
     {
         let row = row_of(code);
         if has_memory(&row) {
-            match sized(sizes, row.size) {
+            match of_operand_size(sizes, row.size) {
                 Some(size) => self.size = size,
                 None => return false,
             }

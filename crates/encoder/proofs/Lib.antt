@@ -1,3 +1,4 @@
+pub mod LegacyRows
 pub mod Bytes
 pub mod OverTable
 pub mod Causes

@@ -33,7 +33,7 @@ abbrev pub written : Result (ArrayVec ℕ) NoSpelling → Result (List ℕ) NoSp
 written (Ok bytes) = Ok bytes.items
 written (Err why) = Err why
 
--- the same of bytes that are written where they are to lie, and of why there are none
+-- the bytes that were written where they are to lie, or why there are none, as a list
 abbrev pub written_onto : Option NoSpelling → ArrayVec ℕ → Result (List ℕ) NoSpelling
 written_onto None bytes = Ok bytes.items
 written_onto (Some why) bytes = Err why

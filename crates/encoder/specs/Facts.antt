@@ -8,7 +8,7 @@ use Rattle.instruction_parts.specs.declared.spelling.Spelling.{Spelling}
 use Rattle.instruction_parts.specs.Bytes.{bytes_of}
 use Rattle.row_relation.specs.Spells.{Spells, IsSpelledBy, ReadsAs}
 use Rattle.plain_spelling.specs.PlainTail.{plain_spelling, plain_len}
-use Rattle.plain_spelling.specs.Expressible.{Suits, each_operand, row_exists, kind_suits, register_suits, address_suits, offered, immediate_suits, prefixes_suit, address_size_suits}
+use Rattle.plain_spelling.specs.Expressible.{Suits, each_operand, row_exists, kind_suits, register_suits, address_suits, displacement_offered, immediate_suits, prefixes_suit, address_size_suits}
 use Rattle.plain_laws.specs.Plain.{IsPlainlySpelled}
 use Rattle.opcode_rows.specs.Table.{table}
 use Rattle.encoder.specs.Encoding.{encoding}
@@ -32,7 +32,7 @@ pub record SuitsElsewhere (bits : Bits) (row : Row) (i : Instr) : Type 0 where
   pub kinds : each_operand (kind_suits row i) ≡ true
   pub registers : each_operand (register_suits bits row i) ≡ true
   pub addresses : each_operand (address_suits bits row i) ≡ true
-  pub displacements : each_operand (offered bits row i) ≡ true
+  pub displacements : each_operand (displacement_offered bits row i) ≡ true
   pub immediates : each_operand (immediate_suits bits row i) ≡ true
   pub prefixes : prefixes_suit row i ≡ true
   pub address_size : address_size_suits bits row i ≡ true

@@ -5,10 +5,11 @@ ghost use Rattle.std.specs.Prelude.{◌≡◌, ℕ, ◌≤◌, ◌<◌, ◌++◌
 ghost use Rattle.x86_values.specs.Wrapping.{wrapped};
 ghost use Rattle.instruction_parts.specs.Sizes as sizes;
 ghost use Rattle.instruction_parts.specs.Bytes.{bytes_of};
+ghost use Rattle.row_fit.specs.Fits.{reads_by, is_gather};
 ghost use Rattle.row_fit.specs.Sound.{sound};
 ghost use Rattle.row_relation.specs.Spells.{SpellsUnbounded};
 ghost use Rattle.plain_spelling.specs.PlainTail.{plain_spelling};
-ghost use Rattle.plain_spelling.specs.Expressible.{failure};
+ghost use Rattle.plain_spelling.specs.Expressible.{failure, is_pair as spec_pair};
 ghost use Rattle.plain_spelling.specs.Parts.{ArePartsOf};
 ghost use Rattle.plain_spelling.specs.Writable.{writable};
 ghost use Rattle.plain_laws.specs.Plain.{IsPlainlySpelled};
@@ -17,12 +18,13 @@ ghost use Rattle.opcode_rows.specs.Reading.{IsRead};
 ghost use Rattle.encoder.specs.Encoding.{encoding, encoded_by, written, written_onto, length_of, reading_of_bytes};
 
 use arrayvec::ArrayVec;
-use instruction_parts::sizes::exists_in;
+use instruction_parts::sizes::{exists_in, is_vex_row};
 use opcode_rows::{ROWS, row_of};
 pub use plain_spelling::NoSpelling;
-use plain_spelling::conditions::first_failed_condition;
-use plain_spelling::parts::{PlainParts, plain_parts};
+use plain_spelling::conditions::{first_failed_condition, first_failed_of, is_pair};
+use plain_spelling::parts::{PlainParts, legacy_parts, plain_parts};
 use prefixes::append_front;
+use row_fit::fits::reads_gather;
 use row_relation::append_plain_tail;
 use row_types::Row;
 use x86_values::{Bits, Instr, wrap};
@@ -30,8 +32,31 @@ use x86_values::{Bits, Instr, wrap};
 pub mod laws;
 
 /// Writes the encoding of an instruction of a row that exists in the mode, at an address of the mode, or answers why there is none.
+#[inline(never)]
+fn encode_any_row(
+    out: &mut ArrayVec<u8, 15>,
+    bits: Bits,
+    ip: u64,
+    row: &Row,
+    instr: &Instr,
+) -> Option<NoSpelling>
+    requires empty { out.old.items ≡ [] }
+    requires sound { IsTrue (sound row.now) }
+    requires writable { IsTrue (writable row.now) }
+    requires exists { IsTrue (sizes.exists_in bits row.now) }
+    ensures { written_onto result out.new ≡ encoded_by (failure bits ip row.now instr.now) (bytes_of row.now (plain_spelling bits ip row.now instr.now)) }
+{
+    // Four operands, as the proof has to know.
+    let [_first, _second, _third, _fourth] = instr.ops;
+    let parts = plain_parts(bits, ip, row, instr);
+    let pair = is_pair(row, instr);
+    write_parts(out, bits, row, instr, &parts, pair, reads_gather(row))
+}
+
+/// Writes the encoding of an instruction as [`encode_any_row`] does.
 ///
-/// It is a function of its own, so that the row and the parts are read where they lie.
+/// Most are of a legacy row in 64-bit mode and have two operands at most. For them it is built once more with that known, which saves the tests
+/// of the mode, of a VEX and of two operands.
 #[inline(never)]
 fn encode_row(
     out: &mut ArrayVec<u8, 15>,
@@ -48,11 +73,23 @@ fn encode_row(
 {
     // Four operands, as the proof has to know.
     let [_first, _second, _third, _fourth] = instr.ops;
-    write_parts(out, bits, row, instr, &plain_parts(bits, ip, row, instr))
+    match bits {
+        Bits::B64 if !is_vex_row(row) && is_pair(row, instr) => write_parts(
+            out,
+            Bits::B64,
+            row,
+            instr,
+            &legacy_parts(Bits::B64, ip, row, instr),
+            true,
+            // No legacy row is a gather.
+            false,
+        ),
+        _ => encode_any_row(out, bits, ip, row, instr),
+    }
 }
 
-/// Writes the encoding of an instruction of a row that exists in the mode, by the parts of its plain spelling, which say the address, or
-/// answers why there is none.
+/// Writes the encoding of an instruction of a row that exists in the mode, by the parts of its plain spelling, which say the address, by whether
+/// it has two operands at most, and by whether the row is a gather, or answers why there is none.
 #[inline(always)]
 fn write_parts(
     out: &mut ArrayVec<u8, 15>,
@@ -60,17 +97,21 @@ fn write_parts(
     row: &Row,
     instr: &Instr,
     parts: &PlainParts,
+    pair: bool,
+    gather: bool,
 ) -> Option<NoSpelling>
     requires empty { out.old.items ≡ [] }
     requires sound { IsTrue (sound row.now) }
     requires writable { IsTrue (writable row.now) }
     requires exists { IsTrue (sizes.exists_in bits row.now) }
     requires parts { ArePartsOf bits row.now instr.now parts.now }
+    requires pair { pair ≡ spec_pair row.now instr.now }
+    requires gather { gather ≡ reads_by is_gather row.now }
     ensures { written_onto result out.new ≡ encoded_by (failure bits parts.now.ip row.now instr.now) (bytes_of row.now (plain_spelling bits parts.now.ip row.now instr.now)) }
 {
     // Four operands, as the proof has to know.
     let [_first, _second, _third, _fourth] = instr.ops;
-    match first_failed_condition(bits, row, instr, parts) {
+    match first_failed_of(bits, row, instr, parts, pair, gather) {
         Some(why) => return Some(why),
         None => {}
     }
@@ -103,10 +144,10 @@ fn encode_by_row(bits: Bits, ip: u64, instr: &Instr) -> Result<ArrayVec<u8, 15>,
     ensures { written result ≡ encoding bits ip instr.now }
 {
     let mut bytes = ArrayVec::new();
-    match encode_onto(&mut bytes, bits, ip, instr) {
-        None => Ok(bytes),
-        Some(refusal) => Err(refusal),
+    if let Some(refusal) = encode_onto(&mut bytes, bits, ip, instr) {
+        return Err(refusal);
     }
+    Ok(bytes)
 }
 
 /// The bytes of the plain spelling of an instruction at an address, 1 to 15: the shortest that are read as it there.

@@ -8,7 +8,7 @@ abbrev pub IsGraphRefusal : List ℕ → CodeGraphError → Type 0
 IsGraphRefusal bytes (TooLarge len) = (1048576 < length bytes) × (len ≡ length bytes)
 IsGraphRefusal bytes Memory = length bytes ≤ 1048576
 
--- the same from several first offsets, of up to 16,777,216 bytes
+-- there are too many bytes for several first offsets, which take up to 16,777,216, or there is no memory for the graph of fewer
 abbrev pub IsGraphFromRefusal : List ℕ → CodeGraphError → Type 0
 IsGraphFromRefusal bytes (TooLarge len) = (16777216 < length bytes) × (len ≡ length bytes)
 IsGraphFromRefusal bytes Memory = length bytes ≤ 16777216

@@ -15,7 +15,7 @@ use Rattle.move_goals.specs.declared.items.Placed.{Placed}
 use Rattle.move_goals.specs.Items.{item_at, AreSpansOf}
 use Rattle.move_goals.specs.Plan.{plan_with}
 use Rattle.move_layout.specs.Laid.{images_end}
-use Rattle.block_encoder.specs.Facts.{SeatFacts}
+use Rattle.block_encoder.specs.Facts.{FragmentFacts}
 use Rattle.block_encoder.specs.Moved.{MovedLists, AreListsOf}
 use Rattle.block_encoder.proofs.Chosen.{choice-length}
 use Rattle.feddurzai_c.specs.Moving.{code_len}
@@ -32,14 +32,14 @@ none_there first count base f e =
     let same : f (first + count) ≡ f first = ap f (omega (arith, e)) in
     omega (arith, same)
 
-module _ (seats : SeatFacts) (bits : Bits) (items : List Placed) (spans : List BlockSpan) (goals : ℕ → Goal) (of : AreSpansOf items spans)
+module _ (fragments : FragmentFacts) (bits : Bits) (items : List Placed) (spans : List BlockSpan) (goals : ℕ → Goal) (of : AreSpansOf items spans)
     (layout : List ℕ) (is : IsLayout (plan_with bits spans items goals) layout) where
   -- the image of an item is as long as its form says
   image : (k : ℕ) → k < length items → image_length (plan_with bits spans items goals) layout k
       ≡ form_length bits (item_at items k).instr (chosen (plan_with bits spans items goals) layout k).form
   image k lt =
-      let choice = seats.choice-is bits spans items goals layout is k lt in
-      let some = seats.choice-below bits spans items goals layout is k lt in
+      let choice = fragments.choice-is bits spans items goals layout is k lt in
+      let some = fragments.choice-below bits spans items goals layout is k lt in
       let long = choice-length bits (item_at items k).instr (get_or layout k 0) some in
       ap (λ c. c.len) choice ∙ (long ∙ ap (λ c. form_length bits (item_at items k).instr c.form) (sym choice))
 
@@ -52,7 +52,7 @@ module _ (seats : SeatFacts) (bits : Bits) (items : List Placed) (spans : List B
       let span = span_at spans b in
       let last = first + span.count - 1 in
       let inside = block_within items spans of b lt in
-      let spans_are = seats.plan-spans bits spans items goals in
+      let spans_are = fragments.plan-spans bits spans items goals in
       let start = get_or m.starts last 0 in
       let form : Form = get_or m.forms last Itself in
       let length_of = total (image_length (plan_with bits spans items goals) layout) in

@@ -18,7 +18,7 @@ use Rattle.row_fit.specs.Fits.{kind_at}
 use Rattle.plain_spelling.specs.declared.NoSpelling.{NoSpelling}
 use Rattle.plain_spelling.specs.declared.NoSpelling.TheVariants as cause
 use Rattle.plain_spelling.specs.Forms.{is_absent, is_register, is_immediate, is_far, is_variant_of, operand_at}
-use Rattle.plain_spelling.specs.Expressible.{row_exists, kind_suits, register_suits, address_suits, offered, immediate_suits, target_suits, prefixes_suit, address_size_suits, is_short, first_failing, caused_at, caused_unless, each_operand, first_failed_condition, failure}
+use Rattle.plain_spelling.specs.Expressible.{row_exists, kind_suits, register_suits, address_suits, displacement_offered, immediate_suits, target_suits, prefixes_suit, address_size_suits, is_short, first_failing, caused_at, caused_unless, each_operand, first_failed_condition, failure}
 use Rattle.feddurzai_c.specs.Answers.{first_place, may_have_target, failing_operand}
 use Rattle.feddurzai_c.specs.Failing.{may_be_target, can_be_target, at_most_one_of, has_one_target, IsFirstFailing, FailsAlone, IsFailing}
 
@@ -270,8 +270,8 @@ address-else : (bits : Bits) (row : Row) (i : Instr) (n : ℕ) → is_memory (op
 unfolding address_suits
 address-else bits row i n h = no-memory _ (operand_at i n) h
 
-offered-else : (bits : Bits) (row : Row) (i : Instr) (n : ℕ) → is_memory (operand_at i n) ≡ false → offered bits row i n ≡ true
-unfolding offered
+offered-else : (bits : Bits) (row : Row) (i : Instr) (n : ℕ) → is_memory (operand_at i n) ≡ false → displacement_offered bits row i n ≡ true
+unfolding displacement_offered
 offered-else bits row i n h = no-memory _ (operand_at i n) h
 
 target-else : (bits : Bits) (ip : ℕ) (row : Row) (i : Instr) (n : ℕ) → may_have_target (operand_at i n) ≡ false → target_suits bits ip row i n ≡ true
@@ -296,9 +296,9 @@ module _ (row : Row) (i : Instr) (one : has_one_target row ≡ true) (kinds : ea
       alone-at (address_suits bits row i) _ _ _ _ memory-one (address-else bits row i 0) (address-else bits row i 1) (address-else bits row i 2)
       (address-else bits row i 3) h
 
-  offered-alone : (bits : Bits) → each_operand (offered bits row i) ≡ false → FailsAlone (offered bits row i) (failing_operand i cause.Displacement)
+  offered-alone : (bits : Bits) → each_operand (displacement_offered bits row i) ≡ false → FailsAlone (displacement_offered bits row i) (failing_operand i cause.Displacement)
   offered-alone bits h =
-      alone-at (offered bits row i) _ _ _ _ memory-one (offered-else bits row i 0) (offered-else bits row i 1) (offered-else bits row i 2)
+      alone-at (displacement_offered bits row i) _ _ _ _ memory-one (offered-else bits row i 0) (offered-else bits row i 1) (offered-else bits row i 2)
       (offered-else bits row i 3) h
 
   target-alone : (bits : Bits) (ip : ℕ) → each_operand (target_suits bits ip row i) ≡ false → FailsAlone (target_suits bits ip row i) (failing_operand i cause.Target)
@@ -352,13 +352,13 @@ failing-is bits ip row i w one h = elim (first-or (caused_unless (row_exists bit
     P = IsFailing bits ip row i
 
     behind-address : each_operand (kind_suits row i) ≡ true
-        → or_else (caused_unless (each_operand (offered bits row i)) cause.Displacement)
+        → or_else (caused_unless (each_operand (displacement_offered bits row i)) cause.Displacement)
         (or_else (caused_at cause.Immediate (first_failing (immediate_suits bits row i)))
         (or_else (caused_unless (each_operand (target_suits bits ip row i)) cause.Target)
         (or_else (caused_unless (prefixes_suit row i) cause.Prefix)
         (caused_unless (address_size_suits bits row i) cause.AddressSize)))) ≡ Some w → P w
-    behind-address kinds h = elim (first-or (caused_unless (each_operand (offered bits row i)) cause.Displacement) _ w h) [
-      | inl e ↦ (let f = unless-some (each_operand (offered bits row i)) cause.Displacement w e in subst P f.1 (offered-alone row i one kinds bits f.0))
+    behind-address kinds h = elim (first-or (caused_unless (each_operand (displacement_offered bits row i)) cause.Displacement) _ w h) [
+      | inl e ↦ (let f = unless-some (each_operand (displacement_offered bits row i)) cause.Displacement w e in subst P f.1 (offered-alone row i one kinds bits f.0))
       | inr b ↦ elim (first-or (caused_at cause.Immediate (first_failing (immediate_suits bits row i))) _ w b.1) [
         | inl e ↦ (let f = at-some cause.Immediate (first_failing (immediate_suits bits row i)) w e in subst P f.2 (first-of (immediate_suits bits row i) f.0 f.1))
         | inr c ↦ elim (first-or (caused_unless (each_operand (target_suits bits ip row i)) cause.Target) _ w c.1) [
@@ -374,7 +374,7 @@ failing-is bits ip row i w one h = elim (first-or (caused_unless (row_exists bit
     behind-kinds : each_operand (kind_suits row i) ≡ true
         → or_else (caused_at cause.Register (first_failing (register_suits bits row i)))
         (or_else (caused_unless (each_operand (address_suits bits row i)) cause.Memory)
-        (or_else (caused_unless (each_operand (offered bits row i)) cause.Displacement)
+        (or_else (caused_unless (each_operand (displacement_offered bits row i)) cause.Displacement)
         (or_else (caused_at cause.Immediate (first_failing (immediate_suits bits row i)))
         (or_else (caused_unless (each_operand (target_suits bits ip row i)) cause.Target)
         (or_else (caused_unless (prefixes_suit row i) cause.Prefix)

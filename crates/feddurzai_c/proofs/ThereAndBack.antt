@@ -1,5 +1,5 @@
 -- An instruction comes back from its flat struct.
-use Rattle.std.proofs.Common.{◌≡◌, ℕ, Bool, true, false, List, [], ◌∷◌, length, Option, Some, None, refl, ap, ◌∙◌, sym, subst, arith}
+use Rattle.std.proofs.Common.{◌≡◌, ℕ, Bool, true, false, List, [], ◌∷◌, length, slice_set, Option, Some, None, refl, ap, ◌∙◌, sym, subst, arith}
 use Rattle.x86_values.specs.declared.Bits.{Bits}
 use Rattle.x86_values.specs.declared.Bits.TheVariants.{B16, B32, B64}
 use Rattle.x86_values.specs.declared.Segment.{Segment}
@@ -16,6 +16,7 @@ use Rattle.x86_values.specs.declared.Operand.TheVariants.{Absent, Reg, Mem as Me
 use Rattle.x86_values.specs.declared.Instr.{Instr}
 use Rattle.x86_values.specs.Registers.{number}
 use Rattle.plain_spelling.specs.Forms.{operand_at}
+use Rattle.feddurzai_c.specs.declared.flat.FlatInstr.{FlatInstr}
 use Rattle.feddurzai_c.specs.Numbers.{class_number, disp_number, lock_number, rep_number, prefix_number, asize_number, segment_numbered, register_numbered, base_numbered, disp_numbered, lock_numbered, rep_numbered, prefix_numbered, asize_numbered}
 use Rattle.feddurzai_c.specs.Flat.{base_class, base_number, flat_operand, flat_instr}
 use Rattle.feddurzai_c.specs.Back.{register_operand, memory_of, operand_back, operands_of, operands_back, instr_of, instr_back}
@@ -135,6 +136,29 @@ four (a ∷ []) e = absurd (omega (arith, e))
 four (a ∷ b ∷ []) e = absurd (omega (arith, e))
 four (a ∷ b ∷ c ∷ []) e = absurd (omega (arith, e))
 four (a ∷ b ∷ c ∷ d ∷ f ∷ ops) e = absurd (omega (arith, e))
+
+-- four operands that are written one after another are all
+four_set : (xs : List Operand) (a b c d : Operand) → length xs ≡ 4 → slice_set (slice_set (slice_set (slice_set xs 0 a) 1 b) 2 c) 3 d ≡ a ∷ b ∷ c ∷ d ∷ []
+four_set xs a b c d h =
+    let (p, q, r, s, is) = four xs h in
+    let P : List Operand → Type 0 = λ ops. slice_set (slice_set (slice_set (slice_set ops 0 a) 1 b) 2 c) 3 d ≡ a ∷ b ∷ c ∷ d ∷ [] in
+    subst P (sym is) refl
+
+-- the instruction of a struct whose parts are each one
+pub instr_back_parts : (f : FlatInstr) (xs : List Operand) (a b c d : Operand) (lock : Bool) (rep : Rep) (seg : Option Segment) (asize : Option Bits) → length xs ≡ 4
+    → operand_back f.op0 ≡ Some a → operand_back f.op1 ≡ Some b → operand_back f.op2 ≡ Some c → operand_back f.op3 ≡ Some d
+    → lock_numbered f.lock ≡ Some lock → rep_numbered f.rep ≡ Some rep → prefix_numbered f.segment ≡ Some seg → asize_numbered f.asize ≡ Some asize
+    → instr_back f ≡ Some (record {
+      code = record { 0 = f.code };
+      lock = lock;
+      rep = rep;
+      seg = seg;
+      asize = asize;
+      ops = slice_set (slice_set (slice_set (slice_set xs 0 a) 1 b) 2 c) 3 d;
+    })
+unfolding instr_back operands_back
+instr_back_parts f xs a b c d lock rep seg asize four_of o0 o1 o2 o3 l r s z =
+    rw o0 (rw o1 (rw o2 (rw o3 (rw l (rw r (rw s (rw z (rw (four_set xs a b c d four_of) refl))))))))
 
 operands_back_flat : (i : Instr) (len : ℕ) → operands_back (flat_instr i len) ≡ Some (operand_at i 0 ∷ operand_at i 1 ∷ operand_at i 2 ∷ operand_at i 3 ∷ [])
 unfolding operands_back flat_instr

@@ -53,7 +53,7 @@ unfoldable pub text_within : ℕ → Result (List ℕ) Refusal → Result (List 
 text_within room (Ok text) = if nat_lt (length text) room then Ok text else Err Room
 text_within room (Err why) = Err why
 
--- the same with the text, which a byte 0 ends
+-- the room behind a call that gives a text: the text and the byte 0 that ends it at the front, or as it was
 abbrev pub with_text : List ℕ → Result (List ℕ) Refusal → List ℕ
 with_text old (Ok text) = text ++ (0 ∷ drop (length text + 1) old)
 with_text old (Err why) = old
@@ -86,7 +86,7 @@ pub record IsDecodedIn (bits : Bits) (ip : ℕ) (bytes : List ℕ) (old new : Fl
   pub left : new ≡ reading_left old reading
   pub back : IsReadBack reading new
 
--- the same by the number of a mode
+-- what the call says and leaves, where the number of the mode names one
 abbrev pub IsDecoded : Option Bits → ℕ → List ℕ → FlatInstr → FlatInstr → ℤ → Type 0
 IsDecoded None ip bytes old new answer = (answer ≡ refused Mode) × (new ≡ old)
 IsDecoded (Some bits) ip bytes old new answer = IsDecodedIn bits ip bytes old new answer
@@ -99,7 +99,7 @@ style_text Intel bits i = intel_text bits i
 style_text Att bits i = att_text bits i
 style_text Masm bits i = masm_text bits i
 
--- the same where there are a mode, a style and an instruction, of the form that its row asks for
+-- the text of an instruction, where there are a mode, a style and an instruction, of the form that its row asks for
 unfoldable pub text_of : Option Bits → Option Style → Option Instr → Result (List ℕ) Refusal
 text_of None style i = Err Mode
 text_of (Some bits) None i = Err Syntax
@@ -156,6 +156,11 @@ encoding_of (Some bits) ip (Some i) = encoding_told i (encoding bits ip i)
 abbrev pub sized_answer : ℕ → ℕ → FlatInstr → Result (List ℕ) Refusal
 sized_answer bits ip f = encoding_of (bits_numbered bits) ip (instr_back f)
 
+-- their number
+abbrev pub length_told : Result (List ℕ) Refusal → Result ℕ Refusal
+length_told (Ok bytes) = Ok (length bytes)
+length_told (Err why) = Err why
+
 -- a memory operand whose displacement has the width 255 leaves it to the library
 abbrev pub is_open : FlatOperand → Bool
 is_open op = op.kind == 2 && op.disp_bits == 255
@@ -183,12 +188,12 @@ unfoldable pub width_of : ℕ → ℕ → FlatInstr → ℕ
 width_of bits ip f = first_width (λ w. sized_answer bits ip (of_width w f)) (0 ∷ 8 ∷ 16 ∷ 32 ∷ []) 64
 
 -- the struct with that width
-abbrev pub sized : ℕ → ℕ → FlatInstr → FlatInstr
-sized bits ip f = of_width (width_of bits ip f) f
+abbrev pub with_displacement_size : ℕ → ℕ → FlatInstr → FlatInstr
+with_displacement_size bits ip f = of_width (width_of bits ip f) f
 
 -- the bytes of a struct, or why it has none
 abbrev pub encode_answer : ℕ → ℕ → FlatInstr → Result (List ℕ) Refusal
-encode_answer bits ip f = sized_answer bits ip (sized bits ip f)
+encode_answer bits ip f = sized_answer bits ip (with_displacement_size bits ip f)
 
 -- so many bytes at the front of a room are read as the instruction at the address, whatever stands behind them
 abbrev pub IsEncodedAt : Option Bits → ℕ → Option Instr → List ℕ → ℕ → Type 0

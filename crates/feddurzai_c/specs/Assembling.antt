@@ -22,7 +22,7 @@ IsAssemblyIn bits ip text (Ok bytes) = AssemblesTo bits ip text bytes
 IsAssemblyIn bits ip text (Err Text) = IsNoText bits ip text
 IsAssemblyIn bits ip text (Err _) = ⊥
 
--- the same by the number of a mode
+-- the bytes that a text stands for, where the number of the mode names one
 abbrev pub IsAssemblyBy : Option Bits → ℕ → List ℕ → Result (List ℕ) Refusal → Type 0
 IsAssemblyBy None ip text answer = answer ≡ Err Mode
 IsAssemblyBy (Some bits) ip text answer = IsAssemblyIn bits ip text answer
@@ -64,7 +64,7 @@ pub record IsTextReadIn (bits : Bits) (ip : ℕ) (text : List ℕ) (old new : Fl
   pub said_is : said ≡ text_said bits ip answer
   pub left : IsTextLeft bits ip answer old new
 
--- the same by the number of a mode
+-- what the call says and leaves, where the number of the mode names one
 abbrev pub IsTextReadBy : Option Bits → ℕ → List ℕ → FlatInstr → FlatInstr → ℤ → Type 0
 IsTextReadBy None ip text old new said = (said ≡ refused Mode) × (new ≡ old)
 IsTextReadBy (Some bits) ip text old new said = IsTextReadIn bits ip text old new said

@@ -12,6 +12,11 @@ use Rattle.feddurzai_c.specs.declared.flat.FlatOperand.{FlatOperand}
 use Rattle.feddurzai_c.specs.declared.flat.FlatInstr.{FlatInstr}
 use Rattle.feddurzai_c.specs.Numbers.{register_numbered, base_numbered, disp_numbered, lock_numbered, rep_numbered, prefix_numbered, asize_numbered}
 
+-- what stands at a place, where something was written to it
+abbrev pub placed : {T : Type 0} → Option (Unit {0}) → T → Option T
+placed None place = None
+placed (Some done) place = Some place
+
 -- ---- operands
 
 -- a register operand

@@ -85,7 +85,7 @@ place_at bits spans items m b = record {
 abbrev pub no_place : FlatPlace
 no_place = record { end = 0; code_bytes = 0; count = 0 }
 
--- the same of the first n
+-- what stands for the places of the first n blocks
 unfoldable pub places : Bits → List BlockSpan → List Placed → MovedLists → ℕ → List FlatPlace
 places bits spans items m n = map (place_at bits spans items m) (range_with_len 0 n)
 
@@ -169,7 +169,7 @@ IsBlocksAnswerIn bits bytes blocks (Err (TooFar b at target)) = AreMovedAs bits 
 IsBlocksAnswerIn bits bytes blocks (Err Mode) = ⊥
 IsBlocksAnswerIn bits bytes blocks (Err Room) = ⊥
 
--- the same by the number of a mode
+-- what moving several blocks answers, where the number of the mode names one
 abbrev pub IsBlocksAnswer : Option Bits → List ℕ → List FlatBlock → Result CodeBlocks BlocksRefusal → Type 0
 IsBlocksAnswer None bytes blocks answer = answer ≡ Err Mode
 IsBlocksAnswer (Some bits) bytes blocks answer = IsBlocksAnswerIn bits bytes blocks answer

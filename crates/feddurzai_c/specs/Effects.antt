@@ -80,8 +80,8 @@ memory_at ms n = flat_memory_use (slice_get ms n)
 -- ---- instructions
 
 -- what an instruction touches in a mode: its registers and memory, named and implied, its flags and its features
-unfoldable pub touched : Bits → Instr → FlatTouched
-touched bits i =
+unfoldable pub effects_of : Bits → Instr → FlatTouched
+effects_of bits i =
     let us = all_registers bits i in
     let ms = all_memory bits i in
     let code = i.code.0 in
@@ -99,11 +99,11 @@ touched bits i =
       register_count = length us;
     }
 
--- the same where there are a mode and an instruction, of the form that its row asks for
+-- what an instruction touches, where there are a mode and an instruction, of the form that its row asks for
 unfoldable pub touched_of : Option Bits → Option Instr → Result FlatTouched Refusal
 touched_of None i = Err Mode
 touched_of (Some bits) None = Err NoInstr
-touched_of (Some bits) (Some i) = if is_well_formed i then Ok (touched bits i) else Err Form
+touched_of (Some bits) (Some i) = if is_well_formed i then Ok (effects_of bits i) else Err Form
 
 -- what is said of an instruction
 abbrev pub touched_said : Result FlatTouched Refusal → ℤ
@@ -126,7 +126,7 @@ abbrev pub full_said : Option Register → ℤ
 full_said None = refused NoRegister
 full_said (Some r) = if is_named r then pos (register_code (full_register r)) else refused NoRegister
 
--- the same of a class and a number in it
+-- the code of the widest register that holds the register of a class and a number, or that there is none
 abbrev pub full_answer : ℕ → ℕ → ℤ
 full_answer class n = full_said (register_numbered class n)
 

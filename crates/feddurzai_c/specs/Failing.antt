@@ -9,7 +9,7 @@ use Rattle.instruction_parts.specs.Kinds.{method_of}
 use Rattle.row_fit.specs.Fits.{kind_at}
 use Rattle.plain_spelling.specs.declared.NoSpelling.{NoSpelling}
 use Rattle.plain_spelling.specs.declared.NoSpelling.TheVariants as cause
-use Rattle.plain_spelling.specs.Expressible.{kind_suits, register_suits, address_suits, offered, immediate_suits, target_suits}
+use Rattle.plain_spelling.specs.Expressible.{kind_suits, register_suits, address_suits, displacement_offered, immediate_suits, target_suits}
 use Rattle.feddurzai_c.specs.Answers.{failing_operand}
 
 -- ---- the rows
@@ -59,7 +59,7 @@ abbrev pub IsFailing : Bits → ℕ → Row → Instr → NoSpelling → Type 0
 IsFailing bits ip row i (cause.OperandKind n) = IsFirstFailing (kind_suits row i) (failing_operand i (cause.OperandKind n))
 IsFailing bits ip row i (cause.Register n) = IsFirstFailing (register_suits bits row i) (failing_operand i (cause.Register n))
 IsFailing bits ip row i cause.Memory = FailsAlone (address_suits bits row i) (failing_operand i cause.Memory)
-IsFailing bits ip row i cause.Displacement = FailsAlone (offered bits row i) (failing_operand i cause.Displacement)
+IsFailing bits ip row i cause.Displacement = FailsAlone (displacement_offered bits row i) (failing_operand i cause.Displacement)
 IsFailing bits ip row i (cause.Immediate n) = IsFirstFailing (immediate_suits bits row i) (failing_operand i (cause.Immediate n))
 IsFailing bits ip row i cause.Target = FailsAlone (target_suits bits ip row i) (failing_operand i cause.Target)
 IsFailing bits ip row i cause.Row = Unit {0}

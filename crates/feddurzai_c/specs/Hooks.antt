@@ -32,7 +32,7 @@ IsHookIn bits ip code to place start (Err Mode) = ⊥
 IsHookIn bits ip code to place start (Err Start) = ⊥
 IsHookIn bits ip code to place start (Err Room) = ⊥
 
--- the same by the numbers of a mode and of what becomes of the start
+-- what a detour answers, where the numbers of the mode and of what becomes of the start name one each
 abbrev pub IsHookAnswer : Option Bits → Option StartTarget → ℕ → List ℕ → ℕ → ℕ → Result DetourState HookRefusal → Type 0
 IsHookAnswer None start ip code to place answer = answer ≡ Err Mode
 IsHookAnswer (Some bits) None ip code to place answer = answer ≡ Err Start

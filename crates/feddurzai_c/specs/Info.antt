@@ -79,7 +79,7 @@ flat_info i =
       uses = use_at us 0 ∷ use_at us 1 ∷ use_at us 2 ∷ use_at us 3 ∷ use_at us 4 ∷ use_at us 5 ∷ use_at us 6 ∷ use_at us 7 ∷ [];
     }
 
--- the same where there is an instruction, of the form that its row asks for
+-- what is told of an instruction, where there is one, of the form that its row asks for
 unfoldable pub info_of : Option Instr → Result FlatInfo Refusal
 info_of None = Err NoInstr
 info_of (Some i) = if is_well_formed i then Ok (flat_info i) else Err Form

@@ -51,7 +51,7 @@ jump_bytes bits at target form =
     let i = jump_instr bits at target form in
     with_behind (behind_jump target form) (encoding_told i (encoding bits at i))
 
--- the same where there are a mode and a form
+-- the bytes of a jump, where there are a mode and a form
 abbrev pub jump_of : Option Bits → Option JumpForm → ℕ → ℕ → Result (List ℕ) Refusal
 jump_of None form at target = Err Mode
 jump_of (Some bits) None at target = Err NoJump

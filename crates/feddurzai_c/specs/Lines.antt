@@ -20,6 +20,11 @@ line_of style bits room (Read d) = if nat_lt (length (style_text style bits d.in
 line_of style bits room ReadTooShort = Err TooShort
 line_of style bits room ReadInvalid = Err Invalid
 
+-- a line whose instruction was written to a place
+abbrev pub line_at : Result (Unit {0}) Refusal → Decoded → Result Decoded Refusal
+line_at (Ok done) place = Ok place
+line_at (Err why) place = Err why
+
 -- the text of a line
 abbrev pub line_text : Style → Bits → Result Decoded Refusal → Result (List ℕ) Refusal
 line_text style bits (Ok d) = Ok (style_text style bits d.instr)
@@ -47,7 +52,7 @@ pub record IsLineIn (bits : Bits) (style : Style) (ip : ℕ) (bytes room room' :
   pub line_is : line ≡ line_of style bits (length room) reading
   pub text_is : room' ≡ with_text room (line_text style bits line)
 
--- the same by the numbers of a mode and a style
+-- the line of some bytes, where the numbers of the mode and of the style name one each
 abbrev pub IsLineBy : Option Bits → Option Style → ℕ → List ℕ → List ℕ → List ℕ → Result Decoded Refusal → Type 0
 IsLineBy None style ip bytes room room' line = (line ≡ Err Mode) × (room' ≡ room)
 IsLineBy (Some bits) None ip bytes room room' line = (line ≡ Err Syntax) × (room' ≡ room)
@@ -61,7 +66,7 @@ pub record IsLine (bits syntax ip : ℕ) (bytes : List ℕ) (old new : FlatInstr
   pub left : new ≡ line_left old line
   pub back : IsLineBack line new
 
--- the same without a struct
+-- what the call says and leaves in the room, where no struct is wanted
 pub record IsLineText (bits syntax ip : ℕ) (bytes room room' : List ℕ) (answer : ℤ) : Type 0 where
   pub line : Result Decoded Refusal
   pub is : IsLineBy (bits_numbered bits) (style_numbered syntax) ip bytes room room' line

@@ -52,7 +52,7 @@ pub record IsManyIn (bits : Bits) (ip : ℕ) (bytes : List ℕ) (structs structs
   pub count_is : count ≡ length items
   pub structs_are : structs' ≡ structs_of items ++ drop (length items) structs
 
--- the same by the number of a mode
+-- what the call says and leaves, where the number of the mode names one
 abbrev pub IsManyBy : Option Bits → ℕ → List ℕ → List FlatInstr → List FlatInstr → ℕ → ℕ → ℤ → Type 0
 IsManyBy None ip bytes structs structs' count count' answer = (answer ≡ refused Mode) × (structs' ≡ structs) × (count' ≡ count)
 IsManyBy (Some bits) ip bytes structs structs' count count' answer =

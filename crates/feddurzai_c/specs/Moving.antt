@@ -104,7 +104,7 @@ pub record AreMoved (targets : Targets) (bits : Bits) (items : List Placed) (new
   pub entries_are : m.entries.items ≡ entries items m.moved.starts m.moved.forms (length items)
   pub end : m.code_len ≡ code_len bits items 0 (length items) new m.moved.starts m.moved.forms
 
--- the same, or why they are not moved
+-- the moved block of some instructions, or why they are not moved
 abbrev pub IsItemsAnswer : Targets → Bits → List Placed → ℕ → Result MovedCode MoveRefusal → Type 0
 IsItemsAnswer targets bits items new (Ok m) = AreMoved targets bits items new m
 IsItemsAnswer targets bits items new (Err (TooMany count)) = IsRelocated targets bits items new (Err (error.TooMany count))
@@ -156,7 +156,7 @@ IsMoveAnswerIn targets bits old bytes new (Err (TooFar at target)) = IsMovedAs t
 IsMoveAnswerIn targets bits old bytes new (Err Mode) = ⊥
 IsMoveAnswerIn targets bits old bytes new (Err Room) = ⊥
 
--- the same by the number of a mode
+-- what moving some bytes answers, where the number of the mode names one
 abbrev pub IsMoveAnswer : Targets → Option Bits → ℕ → List ℕ → ℕ → Result MovedCode MoveRefusal → Type 0
 IsMoveAnswer targets None old bytes new answer = answer ≡ Err Mode
 IsMoveAnswer targets (Some bits) old bytes new answer = IsMoveAnswerIn targets bits old bytes new answer

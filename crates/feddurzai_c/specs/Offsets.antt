@@ -52,7 +52,7 @@ pub record AreOffsetsIn (bits : Bits) (bytes : List ℕ) (old new : FlatOffsets)
   pub answer_is : answer ≡ offsets_said offsets
   pub left : new ≡ offsets_left old offsets
 
--- the same by the number of a mode
+-- the parts of the instruction at the front of some bytes, where the number of the mode names one
 abbrev pub AreOffsetsOf : Option Bits → List ℕ → FlatOffsets → FlatOffsets → ℤ → Type 0
 AreOffsetsOf None bytes old new answer = (answer ≡ refused Mode) × (new ≡ old)
 AreOffsetsOf (Some bits) bytes old new answer = AreOffsetsIn bits bytes old new answer

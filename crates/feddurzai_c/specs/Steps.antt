@@ -29,7 +29,7 @@ pub record IsItemAt (bits : Bits) (ip : ℕ) (bytes : List ℕ) (item : Placed) 
   pub at : item.ip ≡ ip
   pub reads : IsRead bits ip bytes (Read (read_item item))
 
--- the same, or why none is read
+-- the instruction at the front of some bytes, with its address, or why none is read
 abbrev pub IsItem : Bits → ℕ → List ℕ → Result Placed DecodeError → Type 0
 IsItem bits ip bytes (Ok item) = IsItemAt bits ip bytes item
 IsItem bits ip bytes (Err e) = IsRead bits ip bytes (reading_of (Err e))
@@ -57,7 +57,7 @@ IsStepCodeIn bits ip bytes place (Err (BadCode e)) = IsRead bits ip bytes (readi
 IsStepCodeIn bits ip bytes place (Err (NotStood e)) = (item : Placed) × (IsItemAt bits ip bytes item × IsStood bits item place (Err e))
 IsStepCodeIn bits ip bytes place (Err Mode) = ⊥
 
--- the same by the number of a mode
+-- the code of a step, where the number of the mode names one
 abbrev pub IsStepCode : Option Bits → ℕ → List ℕ → ℕ → Result StepCode StepRefusal → Type 0
 IsStepCode None ip bytes place answer = answer ≡ Err Mode
 IsStepCode (Some bits) ip bytes place answer = IsStepCodeIn bits ip bytes place answer
@@ -122,7 +122,7 @@ pub record IsStepLenIn (bits : Bits) (ip : ℕ) (bytes : List ℕ) (base : ℕ) 
   pub is : IsItem bits ip bytes answer
   pub said_is : said ≡ len_said bits base answer
 
--- the same by the number of a mode
+-- how long the code of a step is at most, where the number of the mode names one
 abbrev pub IsStepLen : Option Bits → ℕ → List ℕ → ℕ → ℤ → Type 0
 IsStepLen None ip bytes base said = said ≡ refused why.Mode
 IsStepLen (Some bits) ip bytes base said = IsStepLenIn bits ip bytes base said

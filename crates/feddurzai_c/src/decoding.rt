@@ -8,15 +8,16 @@ use crate::flat::FlatInstr;
 use crate::flatten::flat_into;
 use crate::numbers::bits_numbered;
 use crate::refusal::{Refusal, refused};
-use decoder::{DecodeError, decode_in};
+use decoder::{DecodeError, UNREAD, decode_onto};
 use x86_values::Bits;
 
 /// Reads the instruction at the front of some bytes in a mode that is known, into a flat struct, and answers its length or the refusal.
 fn decode_into(bits: Bits, ip: u64, bytes: &[u8], instr: &mut FlatInstr) -> i32
     ensures { spec.IsDecodedIn bits ip bytes.now instr.old instr.new result }
 {
-    match decode_in(bits, ip, bytes) {
-        Ok(decoded) => {
+    let mut decoded = UNREAD;
+    match decode_onto(bits, ip, bytes, &mut decoded) {
+        Ok(()) => {
             flat_into(&decoded, instr);
             i32::from(decoded.len)
         }

@@ -113,10 +113,10 @@ fn memory_at(uses: &[MemoryUse], n: usize) -> FlatMemoryUse
 }
 
 /// What a well-formed instruction touches in a mode.
-#[tactic(auto, unfolding(crate::specs::Effects::touched))]
-fn touched(bits: Bits, instr: &Instr) -> FlatTouched
+#[tactic(auto, unfolding(crate::specs::Effects::effects_of))]
+fn effects_of(bits: Bits, instr: &Instr) -> FlatTouched
     requires { IsTrue (is_well_formed instr.now) }
-    ensures { result ≡ spec.touched bits instr.now }
+    ensures { result ≡ spec.effects_of bits instr.now }
 {
     well_formed_codes_are_in_the_table();
     let registers = all_registers(bits, instr);
@@ -155,7 +155,7 @@ fn touched_of(bits: u32, instr: &FlatInstr) -> Result<FlatTouched, Refusal>
         return Err(Refusal::Instr);
     };
     if well_formed(&instr) {
-        Ok(touched(bits, &instr))
+        Ok(effects_of(bits, &instr))
     } else {
         Err(Refusal::Form)
     }

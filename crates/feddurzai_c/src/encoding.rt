@@ -1,8 +1,9 @@
 //! Writing an instruction.
 
-ghost use Rattle.std.specs.Prelude.{◌≡◌, ℕ, ◌++◌, List, length, pos, IfOk, MatchResult, Ok, Err};
+ghost use Rattle.std.specs.Prelude.{◌≡◌, ℕ, length, pos, Some};
 ghost use Rattle.feddurzai_c.specs.Numbers.{bits_numbered};
 ghost use Rattle.feddurzai_c.specs.Back.{instr_back};
+ghost use Rattle.encoder.specs.Encoding.{encoding};
 ghost use Rattle.x86_values.specs.Operands.{is_memory};
 ghost use Rattle.feddurzai_c.specs.Answers as spec;
 
@@ -10,10 +11,10 @@ use crate::flat::{FlatInstr, FlatOperand};
 use crate::numbers::bits_numbered;
 use crate::refusal::{Refusal, refused};
 use crate::room::put_bytes;
-use crate::unflatten::instr_back;
-use arrayvec::ArrayVec;
+use crate::unflatten::instr_back_into;
+use decoder::UNREAD;
 use encoder::{NoSpelling, encode, encoded_len};
-use x86_values::{Instr, Operand};
+use x86_values::{Bits, Instr, Operand};
 
 /// The number of the first of four tests that passes, 0 where none does.
 fn first_place(a: bool, b: bool, c: bool, d: bool) -> u8
@@ -82,21 +83,21 @@ pub(crate) fn no_spelling(instr: &Instr, why: NoSpelling) -> Refusal
     }
 }
 
-/// The bytes of the instruction of a struct whose displacement has a width.
+/// How many bytes the instruction of a struct has, whose displacement has a width, or why it has none.
 #[tactic(auto, unfolding(crate::specs::Answers::encoding_of))]
-fn bytes_of(bits: u32, ip: u64, instr: &FlatInstr) -> Result<ArrayVec<u8, 15>, Refusal>
-    ensures answer { MatchResult result (λ bytes. spec.sized_answer bits ip instr.now ≡ Ok bytes.items) (λ why. spec.sized_answer bits ip instr.now ≡ Err why) }
-    ensures read_back { IfOk result (λ bytes. (rest : List ℕ) → spec.IsEncodedAt (bits_numbered bits) ip (instr_back instr.now) (bytes.items ++ rest) (length bytes.items)) }
+fn len_of(bits: u32, ip: u64, instr: &FlatInstr) -> Result<u8, Refusal>
+    ensures { result ≡ spec.length_told (spec.sized_answer bits ip instr.now) }
 {
     let Some(bits) = bits_numbered(bits) else {
         return Err(Refusal::Mode);
     };
-    let Some(instr) = instr_back(instr) else {
+    let mut read = UNREAD.instr;
+    let Some(()) = instr_back_into(instr, &mut read) else {
         return Err(Refusal::Instr);
     };
-    match encode(bits, ip, &instr) {
-        Ok(bytes) => Ok(bytes),
-        Err(why) => Err(no_spelling(&instr, why)),
+    match encoded_len(bits, ip, &read) {
+        Ok(len) => Ok(len),
+        Err(why) => Err(no_spelling(&read, why)),
     }
 }
 
@@ -140,7 +141,7 @@ fn has_width(bits: u32, ip: u64, f: &FlatInstr, width: u8) -> bool
     ensures { result ≡ spec.has_width (spec.sized_answer bits ip (spec.of_width width f.now)) }
 {
     let sized = of_width(width, f);
-    match bytes_of(bits, ip, &sized) {
+    match len_of(bits, ip, &sized) {
         Ok(_) => true,
         Err(Refusal::Spelling { why, .. }) => !matches!(why, NoSpelling::Displacement),
         Err(_) => true,
@@ -167,13 +168,45 @@ fn width_of(bits: u32, ip: u64, f: &FlatInstr) -> u8
 
 /// A struct whose displacement has a width: its own, or the shortest where that is left to the library.
 #[tactic(auto, using(crate::proofs::Widths::of_width_closed))]
-fn sized(bits: u32, ip: u64, f: &FlatInstr) -> FlatInstr
-    ensures { result ≡ spec.sized bits ip f.now }
+fn with_displacement_size(bits: u32, ip: u64, f: &FlatInstr) -> FlatInstr
+    ensures { result ≡ spec.with_displacement_size bits ip f.now }
 {
     if is_open(&f.op0) || is_open(&f.op1) || is_open(&f.op2) || is_open(&f.op3) {
         of_width(width_of(bits, ip, f), f)
     } else {
         *f
+    }
+}
+
+/// Writes the plain spelling of an instruction where the room holds it, and says how many bytes it has.
+#[inline(always)]
+#[tactic(auto, unfolding(crate::specs::Answers::bytes_within))]
+fn put_encoding(bits: Bits, ip: u64, instr: &Instr, out: &mut [u8]) -> i32
+    ensures said { result ≡ spec.said (spec.bytes_within (length out.old) (spec.encoding_told instr.now (encoding bits ip instr.now))) }
+    ensures left { out.new ≡ spec.with_bytes out.old (spec.bytes_within (length out.old) (spec.encoding_told instr.now (encoding bits ip instr.now))) }
+    ensures read_back { (n : ℕ) → result ≡ pos n → spec.IsEncodedAt (Some bits) ip (Some instr.now) out.new n }
+{
+    match &encode(bits, ip, instr) {
+        Ok(bytes) => put_bytes(out, bytes),
+        Err(why) => refused(no_spelling(instr, *why)),
+    }
+}
+
+/// Writes the bytes of a struct whose displacement gets a width first. Such a struct stands for no instruction before, so what stands for one need not
+/// come here.
+#[cold]
+#[inline(never)]
+#[tactic(auto, unfolding(crate::specs::Answers::bytes_within, crate::specs::Answers::encoding_of))]
+fn encode_sized(bits: u32, mode: Bits, ip: u64, f: &FlatInstr, out: &mut [u8]) -> i32
+    requires { bits_numbered bits ≡ Some mode }
+    ensures said { result ≡ spec.said (spec.bytes_within (length out.old) (spec.encode_answer bits ip f.now)) }
+    ensures left { out.new ≡ spec.with_bytes out.old (spec.bytes_within (length out.old) (spec.encode_answer bits ip f.now)) }
+    ensures read_back { (n : ℕ) → result ≡ pos n → spec.IsEncodedAt (Some mode) ip (instr_back (spec.with_displacement_size bits ip f.now)) out.new n }
+{
+    let mut read = UNREAD.instr;
+    match instr_back_into(&with_displacement_size(bits, ip, f), &mut read) {
+        Some(()) => put_encoding(mode, ip, &read, out),
+        None => refused(Refusal::Instr),
     }
 }
 
@@ -183,34 +216,20 @@ fn sized(bits: u32, ip: u64, f: &FlatInstr) -> FlatInstr
 /// width 255 gets the shortest width that its address has. The room is unchanged behind the bytes, and whole after a refusal: `Mode`, `Instr`, `Spelling`,
 /// `Room`, the first that stands. A `Spelling` says the first of the ten conditions of a plain spelling that fails, and the operand that fails it (Intel SDM
 /// volume 2, 2.1 to 2.3).
-#[tactic(auto, unfolding(crate::specs::Answers::bytes_within))]
+#[tactic(auto, unfolding(crate::specs::Answers::bytes_within, crate::specs::Answers::encoding_of))]
 #[unsafe(no_mangle)]
 pub extern "C" fn feddurzai_encode(bits: u32, ip: u64, instr: &FlatInstr, out: &mut [u8]) -> i32
     ensures said { result ≡ spec.said (spec.bytes_within (length out.old) (spec.encode_answer bits ip instr.now)) }
     ensures left { out.new ≡ spec.with_bytes out.old (spec.bytes_within (length out.old) (spec.encode_answer bits ip instr.now)) }
-    ensures read_back { (n : ℕ) → result ≡ pos n → spec.IsEncodedAt (bits_numbered bits) ip (instr_back (spec.sized bits ip instr.now)) out.new n }
+    ensures read_back { (n : ℕ) → result ≡ pos n → spec.IsEncodedAt (bits_numbered bits) ip (instr_back (spec.with_displacement_size bits ip instr.now)) out.new n }
 {
-    let instr = sized(bits, ip, instr);
-    match bytes_of(bits, ip, &instr) {
-        Ok(bytes) => put_bytes(out, &bytes),
-        Err(why) => refused(why),
-    }
-}
-
-/// How many bytes the instruction of a struct has, whose displacement has a width.
-#[tactic(auto, unfolding(crate::specs::Answers::encoding_of))]
-fn len_of(bits: u32, ip: u64, instr: &FlatInstr) -> i32
-    ensures { result ≡ spec.said (spec.sized_answer bits ip instr.now) }
-{
-    let Some(bits) = bits_numbered(bits) else {
+    let Some(mode) = bits_numbered(bits) else {
         return refused(Refusal::Mode);
     };
-    let Some(instr) = instr_back(instr) else {
-        return refused(Refusal::Instr);
-    };
-    match encoded_len(bits, ip, &instr) {
-        Ok(len) => i32::from(len),
-        Err(why) => refused(no_spelling(&instr, why)),
+    let mut read = UNREAD.instr;
+    match instr_back_into(instr, &mut read) {
+        Some(()) => put_encoding(mode, ip, &read, out),
+        None => encode_sized(bits, mode, ip, instr, out),
     }
 }
 
@@ -219,6 +238,8 @@ fn len_of(bits: u32, ip: u64, instr: &FlatInstr) -> i32
 pub extern "C" fn feddurzai_encoded_len(bits: u32, ip: u64, instr: &FlatInstr) -> i32
     ensures { result ≡ spec.said (spec.encode_answer bits ip instr.now) }
 {
-    let instr = sized(bits, ip, instr);
-    len_of(bits, ip, &instr)
+    match len_of(bits, ip, &with_displacement_size(bits, ip, instr)) {
+        Ok(len) => i32::from(len),
+        Err(why) => refused(why),
+    }
 }

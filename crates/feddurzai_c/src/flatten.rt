@@ -78,39 +78,39 @@ fn flat_memory(m: &Mem) -> FlatOperand
 }
 
 /// Writes an operand to its place in a struct.
-// Each arm writes the place: an operand that all arms hand on is put together from its parts again.
+// Each arm writes `out`: an operand that all arms hand on is put together from its parts again.
 #[inline(never)]
 #[tactic(auto, unfolding(crate::specs::Flat::flat_operand))]
-fn present_into(operand: &Operand, place: &mut FlatOperand)
-    ensures { place.new ≡ spec.flat_operand operand.now }
+fn present_into(operand: &Operand, out: &mut FlatOperand)
+    ensures { out.new ≡ spec.flat_operand operand.now }
 {
     match operand {
-        Operand::Absent => *place = ABSENT,
+        Operand::Absent => *out = ABSENT,
         Operand::Reg(register) => {
-            *place = FlatOperand {
+            *out = FlatOperand {
                 kind: 1,
                 reg_class: class_number(*register),
                 reg_number: register.number(),
                 ..ABSENT
             }
         }
-        Operand::Mem(m) => *place = flat_memory(m),
+        Operand::Mem(m) => *out = flat_memory(m),
         Operand::Imm(value) => {
-            *place = FlatOperand {
+            *out = FlatOperand {
                 value: *value,
                 kind: 3,
                 ..ABSENT
             }
         }
         Operand::Near(value) => {
-            *place = FlatOperand {
+            *out = FlatOperand {
                 value: *value,
                 kind: 4,
                 ..ABSENT
             }
         }
         Operand::Far { selector, offset } => {
-            *place = FlatOperand {
+            *out = FlatOperand {
                 offset: *offset,
                 selector: *selector,
                 kind: 5,
@@ -123,31 +123,32 @@ fn present_into(operand: &Operand, place: &mut FlatOperand)
 /// Writes an operand, where there is one, to its place in a struct.
 #[inline(always)]
 #[tactic(auto, unfolding(crate::specs::Flat::flat_operand))]
-fn operand_into(operand: &Operand, place: &mut FlatOperand)
-    ensures { place.new ≡ spec.flat_operand operand.now }
+fn operand_into(operand: &Operand, out: &mut FlatOperand)
+    ensures { out.new ≡ spec.flat_operand operand.now }
 {
     match operand {
-        Operand::Absent => *place = ABSENT,
-        _ => present_into(operand, place),
+        Operand::Absent => *out = ABSENT,
+        _ => present_into(operand, out),
     }
 }
 
 /// Writes an instruction and its length to a struct, from which the instruction comes back.
+#[inline(always)]
 #[tactic(auto, using(crate::proofs::ThereAndBack::instr_back_flat), unfolding(crate::specs::Flat::flat_instr))]
-pub(crate) fn flat_into(d: &Decoded, place: &mut FlatInstr)
-    ensures flat { place.new ≡ spec.flat_decoded d.now }
-    ensures back { instr_back place.new ≡ Some d.now.instr }
+pub(crate) fn flat_into(d: &Decoded, out: &mut FlatInstr)
+    ensures flat { out.new ≡ spec.flat_decoded d.now }
+    ensures back { instr_back out.new ≡ Some d.now.instr }
 {
-    operand_into(&d.instr.ops[0], &mut place.op0);
-    operand_into(&d.instr.ops[1], &mut place.op1);
-    operand_into(&d.instr.ops[2], &mut place.op2);
-    operand_into(&d.instr.ops[3], &mut place.op3);
-    place.code = d.instr.code.0;
-    place.len = d.len;
-    place.lock = lock_number(d.instr.lock);
-    place.rep = rep_number(d.instr.rep);
-    place.segment = prefix_number(d.instr.seg);
-    place.asize = asize_number(d.instr.asize);
+    operand_into(&d.instr.ops[0], &mut out.op0);
+    operand_into(&d.instr.ops[1], &mut out.op1);
+    operand_into(&d.instr.ops[2], &mut out.op2);
+    operand_into(&d.instr.ops[3], &mut out.op3);
+    out.code = d.instr.code.0;
+    out.len = d.len;
+    out.lock = lock_number(d.instr.lock);
+    out.rep = rep_number(d.instr.rep);
+    out.segment = prefix_number(d.instr.seg);
+    out.asize = asize_number(d.instr.asize);
 }
 
 /// An instruction and its length. The instruction comes back from the struct.

@@ -6,7 +6,7 @@ ghost use Rattle.feddurzai_c.specs.Flow as spec;
 
 use crate::numbers::bits_numbered;
 use crate::refusal::{Refusal, refused};
-use crate::room::told;
+use crate::room::count_answer;
 use flow_graph::{FlowError, FlowGraph, flow_graph_in};
 use std::alloc::Global;
 
@@ -52,7 +52,7 @@ fn put_graph(graph: &FlowGraph, starts: &mut [u32], leaders: &mut [u32]) -> i32
     }
     write_numbers(starts, graph.starts());
     write_numbers(leaders, graph.leaders());
-    told(count)
+    count_answer(count)
 }
 
 /// Follows control from the first byte of some code, which has the address `base`, and says how many offsets it reaches: their list in ascending

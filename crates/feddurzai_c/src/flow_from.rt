@@ -8,7 +8,7 @@ use crate::flow::write_numbers;
 use crate::info::flow_number;
 use crate::numbers::bits_numbered;
 use crate::refusal::{Refusal, refused};
-use crate::room::told;
+use crate::room::count_answer;
 use decoder::DecodeError;
 use flow_graph::{FlowError, FlowGraph, flow_graph_from};
 use operand_info::Flow;
@@ -78,7 +78,7 @@ fn put_graph(graph: &FlowGraph, starts: &mut [u32], leaders: &mut [u32], kinds: 
     write_numbers(starts, graph.starts());
     write_numbers(leaders, graph.leaders());
     write_kinds(kinds, graph.flows());
-    told(count)
+    count_answer(count)
 }
 
 /// Follows control from several first offsets of some code, whose first byte has the address `base`, and says how many offsets it reaches: their

@@ -13,6 +13,7 @@ use crate::numbers::bits_numbered;
 use crate::refusal::{Refusal, refused};
 use crate::room::put_bytes;
 use arrayvec::ArrayVec;
+use branch_forms::{CALL_REL16, CALL_RM64, JMP_REL8, JMP_REL16, JMP_RM64};
 use encoder::encode;
 use instruction_parts::append::append_few;
 use plain_spelling::numbers::append_low_bytes;
@@ -90,7 +91,7 @@ fn through_slot(code: u16, slot: u64) -> Instr
 
 /// The code of the branch of an operand size, where the codes of the three sizes stand one behind another.
 #[tactic(auto, unfolding(branch_forms::specs::Branches::size_number))]
-fn sized(first: u16, size: Bits) -> u16
+fn code_of_size(first: u16, size: Bits) -> u16
     requires { first ≤ 1000 }
     ensures { result ≡ first + branches.size_number size }
 {
@@ -107,11 +108,11 @@ fn jump_instr(bits: Bits, at: u64, target: u64, form: JumpForm) -> Instr
     ensures { result ≡ spec.jump_instr bits at target form }
 {
     match form {
-        JumpForm::ShortJump => branch_to(sized(629, bits), target),
-        JumpForm::NearJump => branch_to(sized(624, bits), target),
-        JumpForm::FarJump => through_slot(691, wrap(Bits::B64, u128::from(at) + 6)),
-        JumpForm::NearCall => branch_to(sized(621, bits), target),
-        JumpForm::FarCall => through_slot(685, wrap(Bits::B64, u128::from(at) + 8)),
+        JumpForm::ShortJump => branch_to(code_of_size(JMP_REL8, bits), target),
+        JumpForm::NearJump => branch_to(code_of_size(JMP_REL16, bits), target),
+        JumpForm::FarJump => through_slot(JMP_RM64, wrap(Bits::B64, u128::from(at) + 6)),
+        JumpForm::NearCall => branch_to(code_of_size(CALL_REL16, bits), target),
+        JumpForm::FarCall => through_slot(CALL_RM64, wrap(Bits::B64, u128::from(at) + 8)),
     }
 }
 

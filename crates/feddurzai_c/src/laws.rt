@@ -40,7 +40,7 @@ pub fn code_ends_with_its_images()
         → (b : ℕ) → b < length spans → (slice_index_or m.places.items b no_place).code_bytes
         ≡ (images_end (plan_for bits spans items) moved.moved.layout b - (span_at spans b).new_base) % 2 ^ 64 }
 {
-    block_encoder::laws::plans_seat_their_items();
+    block_encoder::laws::plans_lay_out_their_items();
 }
 
 /// The operand that `feddurzai_encode` tells with a cause fails the condition of that cause: it is the first that does. Of an address, a displacement and a

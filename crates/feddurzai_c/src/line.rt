@@ -9,13 +9,13 @@ use crate::flatten::flat_into;
 use crate::numbers::{bits_numbered, style_numbered};
 use crate::refusal::{Refusal, refused};
 use crate::room::write_text;
-use crate::texts::style_text;
-use decoder::{DecodeError, decode_in};
+use crate::texts::append_style_text;
+use decoder::{DecodeError, UNREAD, decode_onto};
 use text_parts::style::Style;
+use text_parts::text::Text;
 use x86_values::{Bits, Decoded};
 
-/// Reads an instruction and writes its text in a style, where the room holds it.
-// Built into its callers, which take the result apart: so it is not copied once more.
+/// Reads an instruction to a place and writes its text in a style, where the room holds it. After a refusal nothing is said of the place.
 #[inline(always)]
 #[tactic(auto, unfolding(crate::specs::Lines::line_of))]
 fn line_in(
@@ -23,34 +23,37 @@ fn line_in(
     style: Style,
     ip: u64,
     bytes: &[u8],
+    place: &mut Decoded,
     out: &mut [u8],
-) -> Result<Decoded, Refusal>
-    ensures { spec.IsLineIn bits style ip bytes.now out.old out.new result }
+) -> Result<(), Refusal>
+    ensures { spec.IsLineIn bits style ip bytes.now out.old out.new (spec.line_at result place.new) }
 {
-    match decode_in(bits, ip, bytes) {
-        Ok(decoded) => {
-            let text = style_text(style, bits, &decoded.instr);
+    match decode_onto(bits, ip, bytes, place) {
+        Ok(()) => {
+            let mut text = Text::new();
+            append_style_text(&mut text, style, bits, &place.instr);
             if text.len() >= out.len() {
                 return Err(Refusal::Room);
             }
             write_text(out, &text);
-            Ok(decoded)
+            Ok(())
         }
         Err(DecodeError::TooShort) => Err(Refusal::TooShort),
         Err(DecodeError::Invalid) => Err(Refusal::Invalid),
     }
 }
 
-/// Reads an instruction and writes its text, by the numbers of a mode and a style.
+/// Reads an instruction to a place and writes its text, by the numbers of a mode and a style.
 #[inline(always)]
 fn line_by(
     bits: u32,
     syntax: u32,
     ip: u64,
     bytes: &[u8],
+    place: &mut Decoded,
     out: &mut [u8],
-) -> Result<Decoded, Refusal>
-    ensures { spec.IsLineBy (bits_numbered bits) (style_numbered syntax) ip bytes.now out.old out.new result }
+) -> Result<(), Refusal>
+    ensures { spec.IsLineBy (bits_numbered bits) (style_numbered syntax) ip bytes.now out.old out.new (spec.line_at result place.new) }
 {
     let Some(bits) = bits_numbered(bits) else {
         return Err(Refusal::Mode);
@@ -58,7 +61,7 @@ fn line_by(
     let Some(style) = style_numbered(syntax) else {
         return Err(Refusal::Syntax);
     };
-    line_in(bits, style, ip, bytes, out)
+    line_in(bits, style, ip, bytes, place, out)
 }
 
 /// Reads the instruction at the front of some bytes into a struct, writes its text and a byte 0 behind it, and says its length, 1 to 15 bytes.
@@ -76,8 +79,9 @@ pub extern "C" fn feddurzai_line(
 ) -> i32
     ensures { spec.IsLine bits syntax ip bytes.now instr.old instr.new out.old out.new result }
 {
-    match line_by(bits, syntax, ip, bytes, out) {
-        Ok(decoded) => {
+    let mut decoded = UNREAD;
+    match line_by(bits, syntax, ip, bytes, &mut decoded, out) {
+        Ok(()) => {
             flat_into(&decoded, instr);
             i32::from(decoded.len)
         }
@@ -97,8 +101,9 @@ pub extern "C" fn feddurzai_line_text(
 ) -> i32
     ensures { spec.IsLineText bits syntax ip bytes.now out.old out.new result }
 {
-    match line_by(bits, syntax, ip, bytes, out) {
-        Ok(decoded) => i32::from(decoded.len),
+    let mut decoded = UNREAD;
+    match line_by(bits, syntax, ip, bytes, &mut decoded, out) {
+        Ok(()) => i32::from(decoded.len),
         Err(why) => refused(why),
     }
 }

@@ -9,7 +9,7 @@ use crate::flat::FlatInstr;
 use crate::flatten::{ABSENT, flat_decoded};
 use crate::numbers::bits_numbered;
 use crate::refusal::{Refusal, refused};
-use crate::room::told;
+use crate::room::count_answer;
 use decoder::DecodeError;
 use sweep_text::laws::items_stand_in_turn;
 use sweep_text::{item_len, read_at};
@@ -94,7 +94,7 @@ pub extern "C" fn feddurzai_decode_many(
         Some(bits) => {
             let swept = sweep_into(bits, ip, bytes, instrs);
             *count = swept.count;
-            told(swept.taken)
+            count_answer(swept.taken)
         }
     }
 }

@@ -143,7 +143,7 @@ pub(crate) fn entries_of(
 }
 
 /// Moves instructions as one block.
-fn relocated(
+fn relocate(
     alloc: Global,
     targets: Targets,
     bits: Bits,
@@ -171,7 +171,7 @@ fn move_items(
     requires order { first_disorder (one_span items.now new) items.now ≡ None }
     ensures { spec.IsItemsAnswer targets bits items.now new result }
 {
-    match relocated(alloc, targets, bits, items, new) {
+    match relocate(alloc, targets, bits, items, new) {
         Ok(moved) => match entries_of(alloc, items, moved.starts(), moved.forms()) {
             Ok(entries) => {
                 let count = items.len();

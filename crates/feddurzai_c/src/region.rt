@@ -8,7 +8,7 @@ ghost use Rattle.feddurzai_c.specs.RegionSearch.{IsRegion};
 
 use crate::flat::{FlatLive, FlatRegion};
 use crate::refusal::{Refusal, refused};
-use crate::region_search::{index_of, is_region, new_place, rounded};
+use crate::region_search::{index_of, is_region, new_place, round_up};
 
 /// The byte of INT3, which stands wherever no content does.
 const INT3: u8 = 0xcc;
@@ -51,7 +51,7 @@ fn reserve_in(region: &mut FlatRegion, blocks: &mut [FlatLive], len: u64, place:
     if count == blocks.len() {
         return refused(Refusal::Room);
     }
-    let needed = rounded(len);
+    let needed = round_up(len);
     let (live, _) = blocks.split_at(count);
     match new_place(region.base, end_of(region), live, needed) {
         None => refused(Refusal::Full),

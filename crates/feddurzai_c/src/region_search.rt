@@ -76,7 +76,7 @@ pub(crate) fn is_region(region: &FlatRegion, blocks: &[FlatLive]) -> bool
 
 /// A length rounded up to a multiple of the unit; one that rounds to no `u64` counts as the last multiple.
 #[tactic(auto, unfolding(code_region::specs::State::rounded))]
-pub(crate) fn rounded(len: u64) -> u64
+pub(crate) fn round_up(len: u64) -> u64
     ensures { result ≡ rounded_len len }
 {
     if len > LAST_UNIT {

@@ -6,7 +6,7 @@ ghost use Rattle.feddurzai_c.specs.Answers as spec;
 use crate::refusal::{Refusal, refused};
 
 /// A number of bytes as it is told.
-pub(crate) fn told(n: usize) -> i32
+pub(crate) fn count_answer(n: usize) -> i32
     requires { n < 2 ^ 31 }
     ensures { result ≡ pos n }
 {
@@ -32,7 +32,7 @@ pub(crate) fn put_bytes(out: &mut [u8], bytes: &[u8]) -> i32
         return refused(Refusal::Room);
     }
     write_front(out, bytes);
-    told(bytes.len())
+    count_answer(bytes.len())
 }
 
 /// Writes a text and the byte 0 that ends it at the front of a room that holds both.
@@ -55,5 +55,5 @@ pub(crate) fn put_text(out: &mut [u8], text: &[u8]) -> i32
         return refused(Refusal::Room);
     }
     write_text(out, text);
-    told(text.len())
+    count_answer(text.len())
 }

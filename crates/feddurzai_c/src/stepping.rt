@@ -9,7 +9,7 @@ ghost use Rattle.feddurzai_c.specs.Steps as spec;
 use crate::flat::FlatStep;
 use crate::numbers::bits_numbered;
 use crate::refusal::{Refusal, refused};
-use crate::room::{put_bytes, told};
+use crate::room::{count_answer, put_bytes};
 use block_encoder::{Moved, Placed};
 use decoder::{DecodeError, decode_in};
 use std::alloc::Global;
@@ -204,7 +204,7 @@ fn step_len_in(bits: Bits, ip: u64, bytes: &[u8], base: u64) -> i32
     ensures { spec.IsStepLenIn bits ip bytes.now base result }
 {
     match item_in(bits, ip, bytes) {
-        Ok(item) => told(step_len(bits, item, base) as usize),
+        Ok(item) => count_answer(step_len(bits, item, base) as usize),
         Err(why) => refused(code_refusal(why)),
     }
 }

@@ -9,79 +9,112 @@ use crate::numbers::{
     asize_numbered, base_numbered, disp_numbered, lock_numbered, prefix_numbered,
     register_numbered, rep_numbered,
 };
+use decoder::UNREAD;
 use x86_values::{Code, Instr, Mem, Operand};
 
-/// The register operand of a struct.
-fn register_back(f: &FlatOperand) -> Option<Operand>
-    ensures { result ≡ spec.register_operand (numbers.register_numbered f.now.reg_class f.now.reg_number) }
+/// Writes the register operand of a struct to `out`. Where it is none, nothing is said of what stands there.
+#[inline(always)]
+fn register_back_into(f: &FlatOperand, out: &mut Operand) -> Option<()>
+    ensures { spec.register_operand (numbers.register_numbered f.now.reg_class f.now.reg_number) ≡ spec.placed result out.new }
 {
-    Some(Operand::Reg(register_numbered(f.reg_class, f.reg_number)?))
+    *out = Operand::Reg(register_numbered(f.reg_class, f.reg_number)?);
+    Some(())
 }
 
-/// The address of a struct.
-fn memory_back(f: &FlatOperand) -> Option<Operand>
-    ensures { result ≡ spec.memory_of f.now.scale f.now.value (numbers.base_numbered f.now.reg_class f.now.reg_number)
-        (numbers.base_numbered f.now.index_class f.now.index_number) (numbers.disp_numbered f.now.disp_bits) }
+/// Writes the address of a struct to `out`. Where it is none, nothing is said of what stands there.
+#[inline(always)]
+fn memory_back_into(f: &FlatOperand, out: &mut Operand) -> Option<()>
+    ensures { spec.memory_of f.now.scale f.now.value (numbers.base_numbered f.now.reg_class f.now.reg_number)
+        (numbers.base_numbered f.now.index_class f.now.index_number) (numbers.disp_numbered f.now.disp_bits) ≡ spec.placed result out.new }
 {
     let base = base_numbered(f.reg_class, f.reg_number)?;
     let index = base_numbered(f.index_class, f.index_number)?;
     let disp_size = disp_numbered(f.disp_bits)?;
-    Some(Operand::Mem(Mem {
+    *out = Operand::Mem(Mem {
         base,
         index,
         scale: f.scale,
         disp_size,
         disp: f.value,
-    }))
+    });
+    Some(())
 }
 
-/// The operand of a struct, where its kind is one and the fields of this kind are in range; the others are not looked at.
+/// Writes the operand of a struct to `out`, where its kind is one and the fields of this kind are in range; the others are not looked at. Where it is
+/// none, nothing is said of what stands there.
+// Each arm writes `out`: an operand that all arms hand on is put together from its parts again.
+#[inline(never)]
 #[tactic(auto, unfolding(crate::specs::Back::operand_back))]
-fn operand_back(f: &FlatOperand) -> Option<Operand>
-    ensures { result ≡ spec.operand_back f.now }
+fn present_back_into(f: &FlatOperand, out: &mut Operand) -> Option<()>
+    ensures { spec.operand_back f.now ≡ spec.placed result out.new }
 {
     match f.kind {
-        0 => Some(Operand::Absent),
-        1 => register_back(f),
-        2 => memory_back(f),
-        3 => Some(Operand::Imm(f.value)),
-        4 => Some(Operand::Near(f.value)),
-        5 => Some(Operand::Far {
-            selector: f.selector,
-            offset: f.offset,
-        }),
+        0 => {
+            *out = Operand::Absent;
+            Some(())
+        }
+        1 => register_back_into(f, out),
+        2 => memory_back_into(f, out),
+        3 => {
+            *out = Operand::Imm(f.value);
+            Some(())
+        }
+        4 => {
+            *out = Operand::Near(f.value);
+            Some(())
+        }
+        5 => {
+            *out = Operand::Far {
+                selector: f.selector,
+                offset: f.offset,
+            };
+            Some(())
+        }
         _ => None,
     }
 }
 
-/// The operands of a struct.
-#[tactic(auto, unfolding(crate::specs::Back::operands_back))]
-fn operands_back(f: &FlatInstr) -> Option<[Operand; 4]>
-    ensures { result ≡ spec.operands_back f.now }
+/// Writes the operand of a struct to `out`, as [`present_back_into`] does. Most are absent, and these are passed over at once.
+#[inline(always)]
+#[tactic(auto, unfolding(crate::specs::Back::operand_back))]
+fn operand_back_into(f: &FlatOperand, out: &mut Operand) -> Option<()>
+    ensures { spec.operand_back f.now ≡ spec.placed result out.new }
 {
-    let a = operand_back(&f.op0)?;
-    let b = operand_back(&f.op1)?;
-    let c = operand_back(&f.op2)?;
-    let d = operand_back(&f.op3)?;
-    Some([a, b, c, d])
+    if f.kind == 0 {
+        *out = Operand::Absent;
+        Some(())
+    } else {
+        present_back_into(f, out)
+    }
 }
 
-/// The instruction of a struct, where each field is in range. Its length plays no part.
-#[tactic(auto, unfolding(crate::specs::Back::instr_back))]
+/// Writes the instruction of a struct to `out`, where each field is in range. Its length plays no part. Where it is none, nothing is said of what
+/// stands there.
+// Built into its callers, as a call of its own takes as long as what it does for an operand.
+#[inline(always)]
+#[tactic(auto, unfolding(crate::specs::Back::instr_back, crate::specs::Back::operands_back))]
+pub(crate) fn instr_back_into(f: &FlatInstr, out: &mut Instr) -> Option<()>
+    ensures { spec.instr_back f.now ≡ spec.placed result out.new }
+{
+    operand_back_into(&f.op0, &mut out.ops[0])?;
+    operand_back_into(&f.op1, &mut out.ops[1])?;
+    operand_back_into(&f.op2, &mut out.ops[2])?;
+    operand_back_into(&f.op3, &mut out.ops[3])?;
+    out.code = Code(f.code);
+    out.lock = lock_numbered(f.lock)?;
+    out.rep = rep_numbered(f.rep)?;
+    out.seg = prefix_numbered(f.segment)?;
+    out.asize = asize_numbered(f.asize)?;
+    Some(())
+}
+
+/// The instruction of a struct, where each field is in range.
 pub(crate) fn instr_back(f: &FlatInstr) -> Option<Instr>
     ensures { result ≡ spec.instr_back f.now }
 {
-    let ops = operands_back(f)?;
-    let lock = lock_numbered(f.lock)?;
-    let rep = rep_numbered(f.rep)?;
-    let seg = prefix_numbered(f.segment)?;
-    let asize = asize_numbered(f.asize)?;
-    Some(Instr {
-        code: Code(f.code),
-        lock,
-        rep,
-        seg,
-        asize,
-        ops,
-    })
+    let mut instr = UNREAD.instr;
+    match instr_back_into(f, &mut instr) {
+        Some(()) => Some(instr),
+        None => None,
+    }
 }

@@ -19,16 +19,21 @@ const OLD: u64 = 0x40_1000;
 
 const NEW: u64 = 0x7fff_0000_0000;
 
-/// Writes an instruction: its address, its text, where control goes, and its near target, or else the size of its memory operand.
+/// Writes where control goes from an instruction: its near target, or else the size of its memory operand.
+fn show_target(rt: &HostRuntime, item: &CodeItem) -> anyhow::Result<()> {
+    match near_target(&item.instr) {
+        Some(target) => println!(rt; " -> {target:x}")?,
+        None => println!(rt; " {}", memory_size_of_instr(&item.instr))?,
+    }
+    Ok(())
+}
+
+/// Writes an instruction: its address, its text, how control goes on, and where.
 fn show_item(rt: &HostRuntime, item: CodeItem) -> anyhow::Result<()> {
     let instr = item.instr;
     let text = Intel { bits: BITS, instr };
     print!(rt; "{:x}  {text:<34}{:?}", item.ip, flow_of_instr(&instr))?;
-    match near_target(&instr) {
-        Some(target) => println!(rt; " -> {target:x}")?,
-        None => println!(rt; " {}", memory_size_of_instr(&instr))?,
-    }
-    Ok(())
+    show_target(rt, &item)
 }
 
 /// Writes each instruction of the code.
@@ -55,13 +60,18 @@ fn show_places(rt: &HostRuntime, moved: &MovedCode) -> anyhow::Result<()> {
     Ok(())
 }
 
+/// Moves the code to a place in a region, and writes where its instructions went.
+fn move_into(rt: &HostRuntime, code: &[u8], region: &mut Region) -> anyhow::Result<()> {
+    let place = region.place(64)?;
+    let moved = move_code(rt.alloc(), BITS, OLD, code, place)?;
+    region.try_fill(place, moved.bytes())?;
+    show_places(rt, &moved)
+}
+
 /// Moves the code into a region, and writes where its instructions went, and the bytes.
 fn show_moved(rt: &HostRuntime, code: &[u8]) -> anyhow::Result<()> {
     let mut region = Region::make(rt.alloc(), NEW, 128, 8)?;
-    let place = region.place(64)?;
-    let moved = move_code(rt.alloc(), BITS, OLD, code, place)?;
-    show_places(rt, &moved)?;
-    region.try_fill(place, moved.bytes())?;
+    move_into(rt, code, &mut region)?;
     show_bytes(rt, region.image())
 }
 

@@ -16,7 +16,7 @@ pub record CodeBytes : Type 0 where
   pub base : ℕ
   pub bytes : List ℕ
 
--- the same of their parts
+-- some code, made of its mode, the address of its first byte, and its bytes
 abbrev pub code_bytes : Bits → ℕ → List ℕ → CodeBytes
 code_bytes bits base bytes = record { bits = bits; base = base; bytes = bytes }
 
@@ -68,7 +68,7 @@ pub record GoesToTarget (code : CodeBytes) (d : Decoded) (q : ℕ) : Type 0 wher
 abbrev pub Leads : CodeBytes → ℕ → Decoded → ℕ → Type 0
 Leads code p d q = GoesOn p d q ⊎ GoesToTarget code d q
 
--- the same of what is read at p: nothing else leads anywhere
+-- control may go to q from what is read at p: where no instruction is read it goes nowhere
 abbrev pub ReadingLeads : CodeBytes → ℕ → Reading → ℕ → Type 0
 ReadingLeads code p (Read d) q = Leads code p d q
 ReadingLeads code p TooShort q = ⊥

@@ -25,7 +25,7 @@ pub record IsFlowGraph (code : CodeBytes) (graph : Graph) : Type 0 where
   pub led : (k : ℕ) → k < length graph.starts → LeaderOf code (slice_index graph.leaders k) (slice_index graph.starts k)
   pub told : (k : ℕ) → k < length graph.starts → Tells code (slice_index graph.starts k) (told_at graph.flows k)
 
--- the same of what is reached from several first offsets
+-- the graph of what is reached from several first offsets: each once, in order, with the first offset of its basic block and its flow
 pub record IsFlowGraphFrom (code : CodeBytes) (entries : List ℕ) (graph : Graph) : Type 0 where
   pub len : length graph.leaders ≡ length graph.starts
   pub flows_len : length graph.flows ≡ length graph.starts

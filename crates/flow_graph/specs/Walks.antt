@@ -17,7 +17,7 @@ pub record IsTreated (code : CodeBytes) (order : List ℕ) (n p q : ℕ) : Type 
   pub offset : slice_index order place ≡ p
   pub successor : IsSuccessor code p q
 
--- the same, and the edge from p to the end of its instruction
+-- the edges from the first n offsets of the order, and the edge from p to the end of its instruction
 abbrev pub IsTreatedOrNext : CodeBytes → List ℕ → ℕ → ℕ → Exits → Edges
 IsTreatedOrNext code order n p exits r q =
     IsTreated code order n r q ⊎ ((r ≡ p) × (0 < exits.next) × (q ≡ p + exits.next))

@@ -6,11 +6,10 @@ ghost use Rattle.opcode_rows.specs.Sweep.{IsReadAt};
 ghost use Rattle.decoder.specs.Answer.{reading_of};
 
 use decoder::reading_laws::wrapped_addresses_read_alike;
-use decoder::{DecodeError, decode};
+use decoder::{DecodeError, decode_in};
 use x86_values::{Bits, Decoded, wrap};
 
 /// Reads the bytes that stand from an offset on, in code whose first byte has the address `base`. Addresses wrap in the mode.
-#[tactic(auto, unfolding(prefixes::specs::Answer::mode_of))]
 pub(crate) fn read_at(
     bits: Bits,
     base: u64,
@@ -23,9 +22,5 @@ pub(crate) fn read_at(
 {
     wrapped_addresses_read_alike();
     let ip = wrap(bits, u128::from(base) + offset as u128);
-    match bits {
-        Bits::B16 => decode::<16>(ip, bytes),
-        Bits::B32 => decode::<32>(ip, bytes),
-        Bits::B64 => decode::<64>(ip, bytes),
-    }
+    decode_in(bits, ip, bytes)
 }

@@ -1,13 +1,15 @@
 -- The first two look-ups of a walk: the kind, and the opcode byte.
 use Rattle.std.proofs.Common.{◌≡◌, ℕ, ◌<◌, Bool, true, ◌&&◌, List, [], length, slice_get, refl, ap, sym, ◌∙◌, lit<}
+use Rattle.std.proofs.lemmas.Bool.{and_parts}
+use Rattle.row_fields.specs.Candidates.{Cand, Coded, coded, of_number, at_opcode, cands, alive, keep, value_at}
+use Rattle.row_fields.proofs.Cands.{alive-cands, alive-keep, below-at}
 use Rattle.std.specs.Prelude.{Option, Some, None}
 use Rattle.std.proofs.lemmas.Option.{slice_get_within}
 use Rattle.x86_values.specs.declared.Bits.{Bits}
 use Rattle.x86_values.specs.declared.Bits.TheVariants.{B16, B32, B64}
 use Rattle.row_fields.specs.declared.Fields.{Fields}
 use Rattle.row_fields.specs.Holds.{codes_holding, map_number}
-use Rattle.row_fields.proofs.Masks.{values}
-use Rattle.row_fields.proofs.Cands.{Cand, Coded, coded, of_number, at_opcode, cands, alive, keep, value_at, alive-cands, alive-keep, and-left, and-right, below-at}
+use Rattle.row_fields.specs.Masks.{values}
 use Rattle.row_fields.proofs.Apart.{map_number-lt}
 use Rattle.opcode_rows.specs.Table.{table}
 use Rattle.handler_tables.specs.declared.node.Next.{Next}
@@ -34,16 +36,16 @@ cell-mode : (op : ℕ) (with without : Option Next) (cell : List Coded) (bits : 
     → both_ok bits with without (cands bits op cell) ≡ true
 unfolding cell_ok
 cell-mode op with without cell B16 h =
-    and-left (both_ok B16 with without (cands B16 op cell))
-    (both_ok B32 with without (cands B32 op cell) && both_ok B64 with without (cands B64 op cell)) h
+    (and_parts (both_ok B16 with without (cands B16 op cell))
+    (both_ok B32 with without (cands B32 op cell) && both_ok B64 with without (cands B64 op cell)) h).0
 cell-mode op with without cell B32 h =
-    and-left (both_ok B32 with without (cands B32 op cell)) (both_ok B64 with without (cands B64 op cell))
-    (and-right (both_ok B16 with without (cands B16 op cell))
-    (both_ok B32 with without (cands B32 op cell) && both_ok B64 with without (cands B64 op cell)) h)
+    (and_parts (both_ok B32 with without (cands B32 op cell)) (both_ok B64 with without (cands B64 op cell))
+    (and_parts (both_ok B16 with without (cands B16 op cell))
+    (both_ok B32 with without (cands B32 op cell) && both_ok B64 with without (cands B64 op cell)) h).1).0
 cell-mode op with without cell B64 h =
-    and-right (both_ok B32 with without (cands B32 op cell)) (both_ok B64 with without (cands B64 op cell))
-    (and-right (both_ok B16 with without (cands B16 op cell))
-    (both_ok B32 with without (cands B32 op cell) && both_ok B64 with without (cands B64 op cell)) h)
+    (and_parts (both_ok B32 with without (cands B32 op cell)) (both_ok B64 with without (cands B64 op cell))
+    (and_parts (both_ok B16 with without (cands B16 op cell))
+    (both_ok B32 with without (cands B32 op cell) && both_ok B64 with without (cands B64 op cell)) h).1).1
 
 absent-at : (bits : Bits) (f : Fields) → f.modrm ≡ None → value_at (values bits f) 0 ≡ 0
 unfolding values value_at
@@ -63,7 +65,7 @@ chosen bits f with without cs h same None e o p q =
     let b : Bool = entry_ok (ok 10 bits) (under without f.opcode) (keep 0 0 cs) in
     rw q (record {
       left = keep 0 0 cs;
-      right = and-right a b h;
+      right = (and_parts a b h).1;
       same = ap (λ v. alive (keep 0 v cs) (values bits f)) (sym (absent-at bits f e)) ∙ alive-keep 0 cs (values bits f) ∙ same;
     })
 chosen bits f with without cs h same (Some x) e o p q =
@@ -71,7 +73,7 @@ chosen bits f with without cs h same (Some x) e o p q =
     let b : Bool = entry_ok (ok 10 bits) (under without f.opcode) (keep 0 0 cs) in
     rw p (record {
       left = keep 0 1 cs;
-      right = and-left a b h;
+      right = (and_parts a b h).0;
       same = ap (λ v. alive (keep 0 v cs) (values bits f)) (sym (present-at bits f x e)) ∙ alive-keep 0 cs (values bits f) ∙ same;
     })
 

@@ -1,13 +1,15 @@
 -- What the test of the nested tables says of a walk.
 use Rattle.std.proofs.Common.{◌≡◌, ℕ, zero, suc, ◌+◌, ◌≤◌, Bool, true, List, [], ◌∷◌, slice_get, nat_le, refl, sym, ◌∙◌, arith, leb-true}
+use Rattle.std.proofs.lemmas.Bool.{and_parts}
+use Rattle.row_fields.specs.Candidates.{Cand, alive, keep, value_at}
+use Rattle.row_fields.proofs.Cands.{alive-keep, alive-is_empty, alive-is_one}
 use Rattle.std.specs.Prelude.{Option, Some, None}
 use Rattle.x86_values.specs.declared.Bits.{Bits}
 use Rattle.x86_values.specs.declared.Code.{Code}
 use Rattle.row_fields.specs.declared.Fields.{Fields}
 use Rattle.row_fields.specs.Holds.{codes_holding}
-use Rattle.row_fields.proofs.Masks.{values}
+use Rattle.row_fields.specs.Masks.{values}
 use Rattle.row_fields.specs.FieldNumbers.{size_number}
-use Rattle.row_fields.proofs.Cands.{Cand, alive, keep, value_at, alive-keep, alive-is_empty, alive-is_one, and-left, and-right}
 use Rattle.opcode_rows.specs.Table.{table}
 use Rattle.handler_tables.specs.declared.node.Next.{Next}
 use Rattle.handler_tables.specs.declared.node.Next.TheVariants.{Stop, Leaf, N2, N3, N4, N8, N256}
@@ -29,10 +31,10 @@ each-at go k v [] cs h i e at = cc
 each-at go k v (x ∷ es) cs h zero e at =
     let first : x ≡ e = cc in
     let n : v + 0 ≡ v = omega arith in
-    rw (n, ← first) (and-left (go x (keep k v cs)) (each_ok go k (suc v) es cs) h)
+    rw (n, ← first) (and_parts (go x (keep k v cs)) (each_ok go k (suc v) es cs) h).0
 each-at go k v (x ∷ es) cs h (suc i) e at =
     let n : v + suc i ≡ suc v + i = omega arith in
-    rw n (each-at go k (suc v) es cs (and-right (go x (keep k v cs)) (each_ok go k (suc v) es cs) h) i e at)
+    rw n (each-at go k (suc v) es cs (and_parts (go x (keep k v cs)) (each_ok go k (suc v) es cs) h).1 i e at)
 
 kept : (go : Next → List Cand → Bool) (bits : Bits) (k : ℕ) (es : List Next) (cs : List Cand) → each_ok go k 0 es cs ≡ true
     → (f : Fields) (e : Next) → slice_get es (value_at (values bits f) k) ≡ Some e → Goes go bits f cs e
@@ -87,7 +89,7 @@ module _ (go : Next → List Cand → Bool) (bits : Bits) (width : ℕ) where
   node-wide (Some y) None cs x h p = cc
   node-wide (Some y) (Some xs) cs x h p =
       let same : y ≡ x = cc in
-      rw (← same) (leb-true (width_of y) width (and-left (nat_le (width_of y) width) (split_ok go bits (mask_of y) (is_mode_split y) xs cs) h))
+      rw (← same) (leb-true (width_of y) width (and_parts (nat_le (width_of y) width) (split_ok go bits (mask_of y) (is_mode_split y) xs cs) h).0)
 
   node-goes : (s : Option Split) (es : Option (List Next)) (cs : List Cand) (x : Split) (xs : List Next) → node_ok go bits width s es cs ≡ true
       → s ≡ Some x → es ≡ Some xs → (f : Fields) (e : Next) → slice_get xs (field_at bits x f) ≡ Some e → Goes go bits f cs e
@@ -97,7 +99,7 @@ module _ (go : Next → List Cand → Bool) (bits : Bits) (width : ℕ) where
   node-goes (Some y) (Some ys) cs x xs h p q f e at =
       let same : y ≡ x = cc in
       let alike : ys ≡ xs = cc in
-      follows go bits y ys cs (and-right (nat_le (width_of y) width) (split_ok go bits (mask_of y) (is_mode_split y) ys cs) h) f e (rw (same, alike) at)
+      follows go bits y ys cs (and_parts (nat_le (width_of y) width) (split_ok go bits (mask_of y) (is_mode_split y) ys cs) h).1 f e (rw (same, alike) at)
 
 inner-ok : (n : ℕ) (bits : Bits) (e : Next) (cs : List Cand) → is_inner e ≡ true → ok (suc n) bits e cs ≡ true
     → node_ok (ok n bits) bits (node_width e) (split_at e) (entries_at e) cs ≡ true

@@ -41,7 +41,7 @@ pub(crate) fn field_of<const BITS: u32>(
     }
 }
 
-/// The same for a node of three entries, which mostly splits by the mode or the operand size: those are told at once.
+/// The number of the field by which a node of three entries splits: mostly the mode or the operand size, which are told before the others.
 #[inline(always)]
 #[tactic(auto, unfolding(unique_spelling::specs::FieldsOf::fields_of))]
 pub(crate) fn size_field_of<const BITS: u32>(

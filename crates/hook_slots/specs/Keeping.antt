@@ -46,7 +46,7 @@ pub record AreKept (bits : Bits) (slot : ℕ) (region : RegionState) (hooks : Li
   pub blocks : AreBlocksOf bits slot hooks region.live
   pub roomy : region.max_blocks ≤ room
 
--- the same of what is seen of hooks
+-- what is seen of live hooks is kept in their region
 abbrev pub AreKeptIn : HooksState → Type 0
 AreKeptIn state = AreKept state.bits state.slot state.region state.hooks state.region.max_blocks
 

@@ -2,27 +2,16 @@
 //! and behind it, or ` invalid`, the name, the registers, the memory, the six sets of flags and the features in numbers.
 #![tactic(auto)]
 
-ghost use Rattle.std.specs.Prelude.{IfOk, IsTrue};
+ghost use Rattle.std.specs.Prelude.{IsTrue};
 ghost use Rattle.opcode_rows.specs.Allowed.{is_well_formed};
 
-use decoder::{DecodeError, decode};
+use decoder::decode_in;
 use instruction_info::{
     MemoryUse, RegisterUse, all_memory, all_registers, flags_of, needed_features,
 };
 use opcode_rows::name;
 use operand_info::laws::well_formed_codes_are_in_the_table;
-use x86_values::{Bits, Decoded, Instr, Register};
-
-/// What is read in a mode.
-fn read(bits: Bits, bytes: &[u8]) -> Result<Decoded, DecodeError>
-    ensures { IfOk result (λ d. IsTrue (is_well_formed d.instr)) }
-{
-    match bits {
-        Bits::B16 => decode::<16>(0, bytes),
-        Bits::B32 => decode::<32>(0, bytes),
-        Bits::B64 => decode::<64>(0, bytes),
-    }
-}
+use x86_values::{Bits, Instr, Register};
 
 /// The mode that a word names, 64 where it names none.
 fn mode_of(word: &str) -> Bits {
@@ -88,7 +77,7 @@ fn main(rt: HostRuntime) -> anyhow::Result<()> {
             let bits = mode_of(mode);
             let bytes = hex::decode(rt.alloc(), digits)?;
             print!(rt; "{text}")?;
-            match read(bits, &bytes) {
+            match decode_in(bits, 0, &bytes) {
                 Ok(d) => tell(&rt, bits, &d.instr)?,
                 Err(_) => println!(rt; " invalid")?,
             }

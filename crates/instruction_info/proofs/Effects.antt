@@ -2,8 +2,7 @@
 use Rattle.std.proofs.Common.{◌≡◌, ℕ, zero, suc, ◌<◌, ◌≤◌, ◌+◌, Bool, true, ◌&&◌, List, [], ◌∷◌, slice_get, length, take, refl, ap, sym, ◌∙◌, arith}
 use Rattle.std.specs.Prelude.{Some, unwrap_or, nat_lt, nat_le}
 use Rattle.std.specs.List.{list_all}
-use Rattle.std.proofs.lemmas.Bool.{ltb-true, leb-true}
-use Rattle.row_fields.proofs.Cands.{and-left, and-right}
+use Rattle.std.proofs.lemmas.Bool.{ltb-true, leb-true, and_parts}
 use Rattle.instruction_info.specs.declared.effect.Effect.{Effect}
 use Rattle.instruction_info.specs.declared.generated_effects.TheConstants.{EFFECT_COUNT, REGISTER_COUNT, MEMORY_COUNT}
 use Rattle.instruction_info.specs.Effects.{indexes, effects, no_effect, effect_of, fits}
@@ -11,8 +10,8 @@ use Rattle.instruction_info.specs.Effects.{indexes, effects, no_effect, effect_o
 -- what passes on all of a list passes on what stands at a place
 pub all-at : {X : Type 0} (p : X → Bool) (xs : List X) (k : ℕ) (x : X) → list_all p xs ≡ true → slice_get xs k ≡ Some x → p x ≡ true
 all-at p [] k x h at = cc
-all-at p (y ∷ ys) zero x h at = let same : y ≡ x = cc in ap p (sym same) ∙ and-left (p y) (list_all p ys) h
-all-at p (y ∷ ys) (suc k) x h at = all-at p ys k x (and-right (p y) (list_all p ys) h) at
+all-at p (y ∷ ys) zero x h at = let same : y ≡ x = cc in ap p (sym same) ∙ (and_parts (p y) (list_all p ys) h).0
+all-at p (y ∷ ys) (suc k) x h at = all-at p ys k x (and_parts (p y) (list_all p ys) h).1 at
 
 -- what is taken of a list is no longer than asked
 pub take-few : {X : Type 0} (n : ℕ) (xs : List X) → length (take n xs) ≤ n
@@ -61,20 +60,20 @@ rest_fits e = nat_le e.registers 26 && memory_fits e
 
 pub registers-lie : (e : Effect) → fits e ≡ true → e.first_register + e.registers ≤ REGISTER_COUNT
 unfolding fits
-registers-lie e h = leb-true (e.first_register + e.registers) REGISTER_COUNT (and-left (registers_lie e) (rest_fits e) h)
+registers-lie e h = leb-true (e.first_register + e.registers) REGISTER_COUNT (and_parts (registers_lie e) (rest_fits e) h).0
 
 rest-fits : (e : Effect) → fits e ≡ true → rest_fits e ≡ true
 unfolding fits
-rest-fits e h = and-right (registers_lie e) (rest_fits e) h
+rest-fits e h = (and_parts (registers_lie e) (rest_fits e) h).1
 
 pub registers-few : (e : Effect) → fits e ≡ true → e.registers ≤ 26
-registers-few e h = leb-true e.registers 26 (and-left (nat_le e.registers 26) (memory_fits e) (rest-fits e h))
+registers-few e h = leb-true e.registers 26 (and_parts (nat_le e.registers 26) (memory_fits e) (rest-fits e h)).0
 
 memory-fits : (e : Effect) → fits e ≡ true → memory_fits e ≡ true
-memory-fits e h = and-right (nat_le e.registers 26) (memory_fits e) (rest-fits e h)
+memory-fits e h = (and_parts (nat_le e.registers 26) (memory_fits e) (rest-fits e h)).1
 
 pub memory-lies : (e : Effect) → fits e ≡ true → e.first_memory + e.memories ≤ MEMORY_COUNT
-memory-lies e h = leb-true (e.first_memory + e.memories) MEMORY_COUNT (and-left (memory_lies e) (nat_le e.memories 3) (memory-fits e h))
+memory-lies e h = leb-true (e.first_memory + e.memories) MEMORY_COUNT (and_parts (memory_lies e) (nat_le e.memories 3) (memory-fits e h)).0
 
 pub memory-few : (e : Effect) → fits e ≡ true → e.memories ≤ 3
-memory-few e h = leb-true e.memories 3 (and-right (memory_lies e) (nat_le e.memories 3) (memory-fits e h))
+memory-few e h = leb-true e.memories 3 (and_parts (memory_lies e) (nat_le e.memories 3) (memory-fits e h)).1

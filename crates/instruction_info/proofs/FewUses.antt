@@ -1,7 +1,7 @@
 -- An instruction has at most 32 uses of registers: those rows that imply more than 19 registers have one operand at the most, and imply no memory.
 use Rattle.std.proofs.Common.{◌≡◌, ℕ, ◌≤◌, ◌+◌, Bool, true, false, ◌&&◌, ◌||◌, List, [], ◌∷◌, ◌++◌, length, slice_get, refl, arith, length-append}
 use Rattle.std.specs.Prelude.{Option, Some, None, IsTrue, ◌==◌, nat_le}
-use Rattle.std.proofs.lemmas.Bool.{eqb-true, leb-true}
+use Rattle.std.proofs.lemmas.Bool.{eqb-true, leb-true, and_parts}
 use Rattle.x86_values.specs.declared.Bits.{Bits}
 use Rattle.x86_values.specs.declared.Register.{Register}
 use Rattle.x86_values.specs.declared.Operand.{Operand}
@@ -10,7 +10,6 @@ use Rattle.x86_values.specs.declared.Instr.{Instr}
 use Rattle.x86_values.specs.Operands.{is_absent}
 use Rattle.row_types.specs.declared.Row.{Row}
 use Rattle.row_types.specs.declared.Place.{Place}
-use Rattle.row_fields.proofs.Cands.{and-left, and-right}
 use Rattle.instruction_parts.specs.declared.kinds.Method.{Method}
 use Rattle.instruction_parts.specs.declared.kinds.Method.TheVariants as method
 use Rattle.instruction_parts.specs.Kinds.{method_of}
@@ -20,11 +19,10 @@ use Rattle.rows_integer.specs.Table.{table as integer_rows, flat_rows as integer
 use Rattle.rows_x87.specs.Table.{table as x87_rows, flat_rows as x87_flat}
 use Rattle.rows_sse.specs.Table.{table as sse_rows, flat_rows as sse_flat}
 use Rattle.rows_vex.specs.Table.{table as vex_rows, flat_rows as vex_flat}
-use Rattle.opcode_rows.specs.Table.{spots, rows_in, table, names, name_of}
+use Rattle.opcode_rows.specs.Table.{spots, rows_in, table, names}
 use Rattle.opcode_rows.specs.Allowed.{has_numbers, operand_is_formed, is_formed, is_formed_by, is_well_formed}
 use Rattle.operand_info.specs.declared.columns.Access.{Access}
 use Rattle.operand_info.specs.declared.columns.Access.TheVariants as operand
-use Rattle.operand_info.specs.declared.registers.RegUse.{RegUse}
 use Rattle.operand_info.specs.ByCode.{access_of}
 use Rattle.operand_info.specs.Operands.{operand_use, address_use, uses_of, uses_at, uses}
 use Rattle.instruction_info.specs.declared.effect.Effect.{Effect}
@@ -123,7 +121,7 @@ absent_by place method.One o h lacking = cc
 none_at : (row : Row) (i : Instr) (n : ℕ) → operand_is_formed row i n ≡ true → lacks row n ≡ true → length (uses_at i n) ≡ 0
 unfolding operand_is_formed uses_at
 none_at row i n formed lacking =
-    let variant = and-left (is_variant_of row.place (method_of (kind_at row n)) (operand_at i n)) (has_numbers (operand_at i n)) formed in
+    let variant = (and_parts (is_variant_of row.place (method_of (kind_at row n)) (operand_at i n)) (has_numbers (operand_at i n)) formed).0 in
     none_of (operand_at i n) (access_of i.code.0 n) (absent_by row.place (method_of (kind_at row n)) (operand_at i n) variant lacking)
 
 -- the sum of the uses of four operands
@@ -147,12 +145,12 @@ fewest_named row i formed one =
     let f1 = operand_is_formed row i 1 in
     let f2 = operand_is_formed row i 2 in
     let f3 = operand_is_formed row i 3 in
-    let rest = and-right f0 (f1 && (f2 && f3)) formed in
-    let last = and-right f1 (f2 && f3) rest in
-    let others = and-right (lacks row 1) (lacks row 2 && lacks row 3) one in
-    let second = none_at row i 1 (and-left f1 (f2 && f3) rest) (and-left (lacks row 1) (lacks row 2 && lacks row 3) one) in
-    let third = none_at row i 2 (and-left f2 f3 last) (and-left (lacks row 2) (lacks row 3) others) in
-    let fourth = none_at row i 3 (and-right f2 f3 last) (and-right (lacks row 2) (lacks row 3) others) in
+    let rest = (and_parts f0 (f1 && (f2 && f3)) formed).1 in
+    let last = (and_parts f1 (f2 && f3) rest).1 in
+    let others = (and_parts (lacks row 1) (lacks row 2 && lacks row 3) one).1 in
+    let second = none_at row i 1 (and_parts f1 (f2 && f3) rest).0 (and_parts (lacks row 1) (lacks row 2 && lacks row 3) one).0 in
+    let third = none_at row i 2 (and_parts f2 f3 last).0 (and_parts (lacks row 2) (lacks row 3) others).0 in
+    let fourth = none_at row i 3 (and_parts f2 f3 last).1 (and_parts (lacks row 2) (lacks row 3) others).1 in
     omega (arith, sum_at i, few_at i 0, second, third, fourth)
 
 -- ---- memory
@@ -190,8 +188,8 @@ total_of bits i row formed true small h =
     omega (arith, few_named i, few_memories bits i, memory-few e (effects_fit i.code.0), few_registers i.code.0, leb-true e.registers 19 small)
 total_of bits i row formed false small h =
     let e = effect_of i.code.0 in
-    let none = eqb-true e.memories 0 (and-left (e.memories == 0) (has_one row) h) in
-    let named = fewest_named row i formed (and-right (e.memories == 0) (has_one row) h) in
+    let none = eqb-true e.memories 0 (and_parts (e.memories == 0) (has_one row) h).0 in
+    let named = fewest_named row i formed (and_parts (e.memories == 0) (has_one row) h).1 in
     omega (arith, named, few_memories bits i, none, few_registers i.code.0, registers-few e (effects_fit i.code.0))
 
 total_by : (o : Option Row) (bits : Bits) (i : Instr) → slice_get table i.code.0 ≡ o → is_formed_by o i ≡ true → total bits i ≤ 31

@@ -3,12 +3,11 @@ use Rattle.std.proofs.Common.{◌≡◌, ℕ, zero, suc, ◌<◌, Bool, true, fa
 use Rattle.std.specs.Prelude.{Option, Some, None, not, IsTrue, ◌==◌, if◌then◌else◌, unwrap_or, take, bit_and, bit_or}
 use Rattle.std.specs.List.{list_all, list_any}
 use Rattle.std.proofs.lemmas.Option.{slice_get_within}
-use Rattle.std.proofs.lemmas.Bool.{eqb-true, and_from}
+use Rattle.std.proofs.lemmas.Bool.{eqb-true, and_from, and_parts}
 use Rattle.std.proofs.lemmas.List.{append_assoc}
 use Rattle.x86_values.specs.declared.Bits.{Bits}
 use Rattle.x86_values.specs.declared.Instr.{Instr}
 use Rattle.row_types.specs.declared.Row.{Row}
-use Rattle.row_fields.proofs.Cands.{and-left, and-right}
 use Rattle.rows_integer.specs.Table.{table as integer_rows, flat_rows as integer_flat}
 use Rattle.rows_x87.specs.Table.{table as x87_rows, flat_rows as x87_flat}
 use Rattle.rows_sse.specs.Table.{table as sse_rows, flat_rows as sse_flat}
@@ -34,8 +33,8 @@ use Rattle.instruction_info.specs.Laws.{tested_flags, is_calling, is_returning, 
 passes-or : {X : Type 0} (p : X → Bool) (xs : List X) (d : X) (k : ℕ) → list_all p xs ≡ true → p d ≡ true → p (unwrap_or (slice_get xs k) d) ≡ true
 passes-or p [] d zero h hd = hd
 passes-or p [] d (suc k) h hd = hd
-passes-or p (x ∷ xs) d zero h hd = and-left (p x) (list_all p xs) h
-passes-or p (x ∷ xs) d (suc k) h hd = passes-or p xs d k (and-right (p x) (list_all p xs) h) hd
+passes-or p (x ∷ xs) d zero h hd = (and_parts (p x) (list_all p xs) h).0
+passes-or p (x ∷ xs) d (suc k) h hd = passes-or p xs d k (and_parts (p x) (list_all p xs) h).1 hd
 
 pub each_effect : (p : Effect → Bool) → list_all p effects ≡ true → p no_effect ≡ true → (code : ℕ) → p (effect_of code) ≡ true
 unfolding effect_of
@@ -107,9 +106,9 @@ all_rows-at p (n ∷ ns) [] ks code row h lt lt' at = cc
 all_rows-at p (n ∷ ns) (r ∷ rs) [] code row h lt lt' at = absurd (omega arith)
 all_rows-at p (n ∷ ns) (r ∷ rs) (k ∷ ks) zero row h lt lt' at =
     let same : r ≡ row = cc in
-    ap (λ x. p n x (effect_numbered k)) (sym same) ∙ and-left (p n r (effect_numbered k)) (all_rows p ns rs ks) h
+    ap (λ x. p n x (effect_numbered k)) (sym same) ∙ (and_parts (p n r (effect_numbered k)) (all_rows p ns rs ks) h).0
 all_rows-at p (n ∷ ns) (r ∷ rs) (k ∷ ks) (suc code) row h lt lt' at =
-    all_rows-at p ns rs ks code row (and-right (p n r (effect_numbered k)) (all_rows p ns rs ks) h) (omega arith) (omega arith) at
+    all_rows-at p ns rs ks code row (and_parts (p n r (effect_numbered k)) (all_rows p ns rs ks) h).1 (omega arith) (omega arith) at
 
 length-names : length names ≡ ROWS
 unfolding names
@@ -127,7 +126,7 @@ each_row p h code row at =
     let lt = slice_get_within table code row at in
     all_rows-at p names table indexes code row h (omega (arith, lt, length-table, length-names)) (omega (arith, lt, length-table, length-indexes)) at
 
--- ---- conditions
+-- ---- the tests of all rows, in one pass over the table
 
 abbrev is_flags : Option ℕ → ℕ → Bool
 is_flags None read = true
@@ -135,18 +134,6 @@ is_flags (Some flags) read = read == flags
 
 abbrev reads_condition : List ℕ → Row → Effect → Bool
 reads_condition name row e = is_flags (tested_flags row) e.read
-
-all_read_condition : all_rows reads_condition names table indexes ≡ true
-unfolding all_rows tested_flags effects indexes names table rows_in spots integer_rows integer_flat x87_rows x87_flat sse_rows sse_flat vex_rows vex_flat
-all_read_condition = refl
-
-pub condition-read : (code flags : ℕ) (row : Row) → slice_get table code ≡ Some row → tested_flags row ≡ Some flags → flags_read code ≡ flags
-unfolding flags_read
-condition-read code flags row at tested =
-    let h = each_row reads_condition all_read_condition code row at in
-    eqb-true (effect_of code).read flags (ap (λ o. is_flags o (effect_of code).read) (sym tested) ∙ h)
-
--- ---- the stack
 
 abbrev pushes_if : Bool → Bool → Bool → Bool
 pushes_if false system pushes = true
@@ -159,13 +146,50 @@ call_pushes name row e = pushes_if (is_calling (flow_at name row)) (is_system_ca
 abbrev return_pops : List ℕ → Row → Effect → Bool
 return_pops name row e = pushes_if (is_returning (flow_at name row)) (is_system_return name) (list_any is_pop (memory_in e))
 
-all_calls_push : all_rows call_pushes names table indexes ≡ true
-unfolding all_rows flow_at is_jump is_call is_conditional is_return is_system_call is_interrupt is_undefined has_direct_target memory_list effects indexes names table rows_in spots integer_rows integer_flat x87_rows x87_flat sse_rows sse_flat vex_rows vex_flat
-all_calls_push = refl
+abbrev same : Bool → Bool → Bool
+same true b = b
+same false b = not b
 
-all_returns_pop : all_rows return_pops names table indexes ≡ true
-unfolding all_rows flow_at is_jump is_call is_conditional is_return is_system_call is_system_return is_interrupt is_undefined has_direct_target memory_list effects indexes names table rows_in spots integer_rows integer_flat x87_rows x87_flat sse_rows sse_flat vex_rows vex_flat
-all_returns_pop = refl
+abbrev repeats_strings : List ℕ → Row → Effect → Bool
+repeats_strings name row e = same e.repeats (is_string_row row)
+
+abbrev passes : List ℕ → Row → Effect → Bool
+passes name row e =
+    reads_condition name row e && (call_pushes name row e && (return_pops name row e && repeats_strings name row e))
+
+all_pass : all_rows passes names table indexes ≡ true
+unfolding all_rows tested_flags effects indexes names table rows_in spots integer_rows integer_flat x87_rows x87_flat sse_rows sse_flat vex_rows vex_flat flow_at is_jump is_call is_conditional is_return is_system_call is_interrupt is_undefined has_direct_target memory_list is_system_return is_string_row
+all_pass = refl
+
+record RowPasses (name : List ℕ) (row : Row) (e : Effect) : Type 0 where
+  condition : reads_condition name row e ≡ true
+  call : call_pushes name row e ≡ true
+  return_ : return_pops name row e ≡ true
+  string : repeats_strings name row e ≡ true
+
+row-passes : (code : ℕ) (row : Row) → slice_get table code ≡ Some row → RowPasses (name_of code) row (effect_of code)
+row-passes code row at =
+    let name = name_of code in
+    let e = effect_of code in
+    let h = each_row passes all_pass code row at in
+    let h1 = (and_parts (reads_condition name row e) (call_pushes name row e && (return_pops name row e && repeats_strings name row e)) h).1 in
+    let h2 = (and_parts (call_pushes name row e) (return_pops name row e && repeats_strings name row e) h1).1 in
+    record {
+      condition = (and_parts (reads_condition name row e) (call_pushes name row e && (return_pops name row e && repeats_strings name row e)) h).0;
+      call = (and_parts (call_pushes name row e) (return_pops name row e && repeats_strings name row e) h1).0;
+      return_ = (and_parts (return_pops name row e) (repeats_strings name row e) h2).0;
+      string = (and_parts (return_pops name row e) (repeats_strings name row e) h2).1;
+    }
+
+-- ---- conditions
+
+pub condition-read : (code flags : ℕ) (row : Row) → slice_get table code ≡ Some row → tested_flags row ≡ Some flags → flags_read code ≡ flags
+unfolding flags_read
+condition-read code flags row at tested =
+    let h = (row-passes code row at).condition in
+    eqb-true (effect_of code).read flags (ap (λ o. is_flags o (effect_of code).read) (sym tested) ∙ h)
+
+-- ---- the stack
 
 flow-row : (code : ℕ) (row : Row) → slice_get table code ≡ Some row → flow_of code ≡ flow_at (name_of code) row
 unfolding flow_of
@@ -179,18 +203,14 @@ pushes_if-true true false pushes h calls user = h
 pub call-pushes : (code : ℕ) (row : Row) → slice_get table code ≡ Some row → IsTrue (is_calling (flow_of code)) → is_system_call (name_of code) ≡ false → IsTrue (list_any is_push (memory_of code))
 unfolding memory_of
 call-pushes code row at calls user =
-    pushes_if-true _ _ _ (each_row call_pushes all_calls_push code row at) (ap (λ f. is_calling f) (sym (flow-row code row at)) ∙ calls) user
+    pushes_if-true _ _ _ (row-passes code row at).call (ap (λ f. is_calling f) (sym (flow-row code row at)) ∙ calls) user
 
 pub return-pops : (code : ℕ) (row : Row) → slice_get table code ≡ Some row → IsTrue (is_returning (flow_of code)) → is_system_return (name_of code) ≡ false → IsTrue (list_any is_pop (memory_of code))
 unfolding memory_of
 return-pops code row at returns user =
-    pushes_if-true _ _ _ (each_row return_pops all_returns_pop code row at) (ap (λ f. is_returning f) (sym (flow-row code row at)) ∙ returns) user
+    pushes_if-true _ _ _ (row-passes code row at).return_ (ap (λ f. is_returning f) (sym (flow-row code row at)) ∙ returns) user
 
 -- ---- strings
-
-abbrev same : Bool → Bool → Bool
-same true b = b
-same false b = not b
 
 same-true : (a b : Bool) → same a b ≡ true → a ≡ b
 same-true true true h = refl
@@ -198,15 +218,8 @@ same-true true false h = cc
 same-true false true h = cc
 same-true false false h = refl
 
-abbrev repeats_strings : List ℕ → Row → Effect → Bool
-repeats_strings name row e = same e.repeats (is_string_row row)
-
-all_repeat_strings : all_rows repeats_strings names table indexes ≡ true
-unfolding all_rows is_string_row effects indexes names table rows_in spots integer_rows integer_flat x87_rows x87_flat sse_rows sse_flat vex_rows vex_flat
-all_repeat_strings = refl
-
 pub string-repeats : (code : ℕ) (row : Row) → slice_get table code ≡ Some row → (effect_of code).repeats ≡ is_string_row row
-string-repeats code row at = same-true (effect_of code).repeats (is_string_row row) (each_row repeats_strings all_repeat_strings code row at)
+string-repeats code row at = same-true (effect_of code).repeats (is_string_row row) (row-passes code row at).string
 
 -- ---- features
 
@@ -220,8 +233,8 @@ first_need_none = refl
 passes-first : (p : ℕ → Bool) (xs : List ℕ) (n code : ℕ) → list_all p (take n xs) ≡ true → code < n → code < length xs → p (unwrap_or (slice_get xs code) 0) ≡ true
 passes-first p [] n code h lt lt' = absurd (omega arith)
 passes-first p (x ∷ xs) zero code h lt lt' = absurd (omega arith)
-passes-first p (x ∷ xs) (suc n) zero h lt lt' = and-left (p x) (list_all p (take n xs)) h
-passes-first p (x ∷ xs) (suc n) (suc code) h lt lt' = passes-first p xs n code (and-right (p x) (list_all p (take n xs)) h) (omega arith) (omega arith)
+passes-first p (x ∷ xs) (suc n) zero h lt lt' = (and_parts (p x) (list_all p (take n xs)) h).0
+passes-first p (x ∷ xs) (suc n) (suc code) h lt lt' = passes-first p xs n code (and_parts (p x) (list_all p (take n xs)) h).1 (omega arith) (omega arith)
 
 pub version1-needs : (code : ℕ) → code < VERSION1_ROWS → bit_and (features_of code) added_features ≡ 0
 unfolding features_of effect_of

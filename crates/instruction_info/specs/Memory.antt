@@ -39,7 +39,7 @@ overridden B64 _ default = default
 overridden B16 segment default = segment
 overridden B32 segment default = segment
 
--- the same of a prefix that may be absent
+-- the segment of an address: the default one where no prefix names another
 abbrev pub segment_by : Option Segment → Bits → Segment → Segment
 segment_by None bits default = default
 segment_by (Some segment) bits default = overridden bits segment default
@@ -59,7 +59,7 @@ segment_of_base (R32 n) = if is_stack_number n then Ss else Ds
 segment_of_base (R64 n) = if is_stack_number n then Ss else Ds
 segment_of_base _ = Ds
 
--- the same of a base that may be absent
+-- SS for an address whose base is rSP or rBP, else DS; an address without a base is in DS
 abbrev pub default_segment : Option Register → Segment
 default_segment None = Ds
 default_segment (Some r) = segment_of_base r
@@ -97,7 +97,7 @@ operand_memory s code m access = record {
   access = access;
 }
 
--- the same of an access that may be none
+-- the use of a memory operand with its access, if something is done to it
 abbrev pub used_if : Setting → ℕ → Mem → Option AccessKind → Option MemoryUse
 used_if s code m None = None
 used_if s code m (Some access) = Some (operand_memory s code m access)

@@ -29,7 +29,7 @@ size_named O64 = B64
 size_named W1 = B64
 size_named _ = B32
 
--- the same of a row that may be absent
+-- the operand size that a row asks for, or 32 where there is no row
 abbrev pub size_in : Option Row → Bits
 size_in None = B32
 size_in (Some row) = size_named row.size

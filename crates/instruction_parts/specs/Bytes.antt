@@ -105,7 +105,7 @@ state_from bits prefixes used vex map opcode = record {
   opcode = opcode;
 }
 
--- the same where a REX is the only prefix, or there is none
+-- the state behind a REX that is the only prefix, or behind none
 abbrev pub state_of_rex : Option ℕ → ℕ → Option Vex → Map → ℕ → PrefixState
 state_of_rex rex used vex map opcode = record {
   used = used;

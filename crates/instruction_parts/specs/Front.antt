@@ -131,7 +131,7 @@ unfoldable pub long_front : Bits → List ℕ → Front
 long_front bits bytes =
     let prefixes = prefix_run bits bytes in lead_front bits prefixes (drop (length prefixes) bytes)
 
--- the same within the 15 bytes of an instruction: a front is forbidden once 15 bytes hold no opcode byte (2.3.11)
+-- the front within the 15 bytes of an instruction: it is forbidden once 15 bytes hold no opcode byte (2.3.11)
 unfoldable pub within_15 : ℕ → Front → Front
 within_15 given Open = if nat_le 15 given then Forbidden else Open
 within_15 given Forbidden = Forbidden

@@ -38,7 +38,7 @@ fn spelled_map(map: Map, vex: Option<Vex>) -> Map
     }
 }
 
-/// What prefixes, VEX, map and opcode byte say, written to a place.
+/// What prefixes, VEX, map and opcode byte say, written to `out`.
 // Most instructions have no prefix or a REX alone: neither takes a pass over the prefixes.
 #[inline(always)]
 pub fn state_into(
@@ -48,17 +48,17 @@ pub fn state_into(
     vex: Option<Vex>,
     map: Map,
     opcode: u8,
-    place: &mut PrefixState,
+    out: &mut PrefixState,
 )
-    ensures { place.new ≡ spec.state_from bits prefixes.now used vex map opcode }
+    ensures { out.new ≡ spec.state_from bits prefixes.now used vex map opcode }
 {
     match prefixes.split_first() {
-        None => *place = state_of_rex(None, used, vex, map, opcode),
+        None => *out = state_of_rex(None, used, vex, map, opcode),
         Some((b, rest)) => {
             if rest.len() == 0 && is_64(bits) && is_rex(*b) {
-                *place = state_of_rex(Some(*b), used, vex, map, opcode);
+                *out = state_of_rex(Some(*b), used, vex, map, opcode);
             } else {
-                state_behind(bits, prefixes, used, vex, map, opcode, place);
+                state_behind(bits, prefixes, used, vex, map, opcode, out);
             }
         }
     }
@@ -83,7 +83,7 @@ fn state_of_rex(rex: Option<u8>, used: u8, vex: Option<Vex>, map: Map, opcode: u
     }
 }
 
-/// Writes the state of a front behind any prefixes to a place.
+/// Writes the state of a front behind any prefixes to `out`.
 #[inline(never)]
 #[tactic(auto, unfolding(crate::specs::Bytes::state_from))]
 fn state_behind(
@@ -93,11 +93,11 @@ fn state_behind(
     vex: Option<Vex>,
     map: Map,
     opcode: u8,
-    place: &mut PrefixState,
+    out: &mut PrefixState,
 )
-    ensures { place.new ≡ spec.state_from bits prefixes.now used vex map opcode }
+    ensures { out.new ≡ spec.state_from bits prefixes.now used vex map opcode }
 {
-    *place = PrefixState {
+    *out = PrefixState {
         size66: has_66(prefixes),
         addr67: has_67(prefixes),
         lock: has_lock(prefixes),

@@ -1,7 +1,7 @@
 -- An address of an instruction with a plain spelling is made from its text, its address size and its displacement size.
 use Rattle.std.proofs.Common.{◌≡◌, inl, inr, ℕ, ◌+◌, ◌-◌, ◌*◌, ◌%◌, ◌^◌, ◌<◌, Bool, true, false, ◌||◌, nat_le, nat_lt, Option, Some, None, is_some, is_none, refl, ap, sym, ◌∙◌, arith, if◌then◌else◌}
 use Rattle.std.specs.Prelude.{unwrap_or}
-use Rattle.std.proofs.lemmas.Bool.{leb-true, or_cases}
+use Rattle.std.proofs.lemmas.Bool.{leb-true, or_cases, and_parts, cases_Bool}
 use borrow.Author.Tests.{ltb-true}
 use Rattle.x86_values.specs.declared.Bits.{Bits}
 use Rattle.x86_values.specs.declared.Bits.TheVariants.{B16, B32, B64}
@@ -11,9 +11,8 @@ use Rattle.x86_values.specs.declared.DispSize.{DispSize}
 use Rattle.x86_values.specs.declared.DispSize.TheVariants.{D0, D8, D16, D32, D64}
 use Rattle.x86_values.specs.declared.Mem.{Mem}
 use Rattle.x86_values.specs.Wrapping.{width}
-use Rattle.instruction_parts.proofs.Tests.{either, and_left, and_right}
 use Rattle.plain_spelling.specs.Values.{is_extended_of}
-use Rattle.plain_spelling.proofs.AddressCases as same
+use Rattle.plain_form.proofs.AddressCases as same
 use Rattle.text_parts.specs.Addresses.{is_instruction_pointer, is_relative, is_absolute, is_negative, magnitude}
 use Rattle.intel_words.specs.declared.words.Inside.{Inside}
 use Rattle.intel_words.specs.declared.words.Inside.TheVariants.{Nothing, Lone}
@@ -26,27 +25,27 @@ use Rattle.intel_reader.specs.Candidate.{signed_number, displacement_from, addre
 pub of_no_bytes : (a : Bits) (x : ℕ) → is_extended_of 0 (width a) x ≡ true → x ≡ 0
 unfolding is_extended_of
 of_no_bytes B16 x h =
-    let below = ltb-true x (2 ^ 16) (and_left (nat_lt x (2 ^ 16)) _ h) in
-    elim (or_cases (nat_lt (2 * x) 1) (nat_le (2 * 2 ^ 16) (2 * x + 1)) (and_right (nat_lt x (2 ^ 16)) _ h)) [
+    let below = ltb-true x (2 ^ 16) (and_parts (nat_lt x (2 ^ 16)) _ h).0 in
+    elim (or_cases (nat_lt (2 * x) 1) (nat_le (2 * 2 ^ 16) (2 * x + 1)) (and_parts (nat_lt x (2 ^ 16)) _ h).1) [
       | inl low ↦ (let lt = ltb-true (2 * x) 1 low in omega arith)
       | inr high ↦ (let le = leb-true (2 * 2 ^ 16) (2 * x + 1) high in omega arith)
     ]
 of_no_bytes B32 x h =
-    let below = ltb-true x (2 ^ 32) (and_left (nat_lt x (2 ^ 32)) _ h) in
-    elim (or_cases (nat_lt (2 * x) 1) (nat_le (2 * 2 ^ 32) (2 * x + 1)) (and_right (nat_lt x (2 ^ 32)) _ h)) [
+    let below = ltb-true x (2 ^ 32) (and_parts (nat_lt x (2 ^ 32)) _ h).0 in
+    elim (or_cases (nat_lt (2 * x) 1) (nat_le (2 * 2 ^ 32) (2 * x + 1)) (and_parts (nat_lt x (2 ^ 32)) _ h).1) [
       | inl low ↦ (let lt = ltb-true (2 * x) 1 low in omega arith)
       | inr high ↦ (let le = leb-true (2 * 2 ^ 32) (2 * x + 1) high in omega arith)
     ]
 of_no_bytes B64 x h =
-    let below = ltb-true x (2 ^ 64) (and_left (nat_lt x (2 ^ 64)) _ h) in
-    elim (or_cases (nat_lt (2 * x) 1) (nat_le (2 * 2 ^ 64) (2 * x + 1)) (and_right (nat_lt x (2 ^ 64)) _ h)) [
+    let below = ltb-true x (2 ^ 64) (and_parts (nat_lt x (2 ^ 64)) _ h).0 in
+    elim (or_cases (nat_lt (2 * x) 1) (nat_le (2 * 2 ^ 64) (2 * x + 1)) (and_parts (nat_lt x (2 ^ 64)) _ h).1) [
       | inl low ↦ (let lt = ltb-true (2 * x) 1 low in omega arith)
       | inr high ↦ (let le = leb-true (2 * 2 ^ 64) (2 * x + 1) high in omega arith)
     ]
 
 pub of_width : (n w x : ℕ) → is_extended_of n w x ≡ true → x < 2 ^ w
 unfolding is_extended_of
-of_width n w x h = ltb-true x (2 ^ w) (and_left (nat_lt x (2 ^ w)) _ h)
+of_width n w x h = ltb-true x (2 ^ w) (and_parts (nat_lt x (2 ^ w)) _ h).0
 
 -- a number modulo a power is made from its sign and its distance from zero
 number_back : (a : Bits) (x : ℕ) → x < 2 ^ width a → signed_number a (is_negative a x) (magnitude a x) ≡ x
@@ -143,8 +142,8 @@ none_is (Some r) h = cc
 alone_back : (a : Bits) (m : Mem) → AddressIs a m → is_relative m ≡ false → is_absolute m ≡ true → address_from a m.disp_size (inside_of a m) ≡ m
 unfolding inside_of
 alone_back a m facts h k =
-    let base = none_is m.base (and_left (is_none m.base) (is_none m.index) k) in
-    let index = none_is m.index (and_right (is_none m.base) (is_none m.index) k) in
+    let base = none_is m.base (and_parts (is_none m.base) (is_none m.index) k).0 in
+    let index = none_is m.index (and_parts (is_none m.base) (is_none m.index) k).1 in
     rw h (rw k (lone_back a m m.disp_size refl (facts.displacement h).none base index (facts.scale.alone index)))
 
 sum_back : (a : Bits) (m : Mem) → AddressIs a m → is_relative m ≡ false → is_absolute m ≡ false → address_from a m.disp_size (inside_of a m) ≡ m
@@ -155,7 +154,7 @@ sum_back a m facts h k =
 -- **an address is made from its text, its address size and its displacement size**
 pub address_back : (a : Bits) (m : Mem) → AddressIs a m → address_from a m.disp_size (inside_of a m) ≡ m
 address_back a m facts =
-    elim (either (is_relative m)) [
+    elim (cases_Bool (is_relative m)) [
       | inl pointer ↦ relative_back a m facts pointer
-      | inr other ↦ (elim (either (is_absolute m)) [ inl alone ↦ alone_back a m facts other alone | inr beside ↦ sum_back a m facts other beside ])
+      | inr other ↦ (elim (cases_Bool (is_absolute m)) [ inl alone ↦ alone_back a m facts other alone | inr beside ↦ sum_back a m facts other beside ])
     ]

@@ -1,6 +1,6 @@
 -- What the conditions on an address come to at the address size of its instruction.
 use Rattle.std.proofs.Common.{◌≡◌, ℕ, ◌^◌, ◌<◌, Bool, true, false, ◌&&◌, ◌||◌, not, ◌==◌, Option, Some, None, is_some, is_none, refl, ap, sym, ◌∙◌, subst, arith}
-use Rattle.std.proofs.lemmas.Bool.{or_left, or_right}
+use Rattle.std.proofs.lemmas.Bool.{or_left, or_right, and_parts, eqb-true}
 use borrow.Author.Tests.{ltb-true}
 use Rattle.x86_values.specs.declared.Bits.{Bits}
 use Rattle.x86_values.specs.declared.Bits.TheVariants.{B16, B32, B64}
@@ -15,7 +15,6 @@ use Rattle.instruction_parts.specs.declared.kinds.Method.{Method}
 use Rattle.instruction_parts.specs.declared.kinds.Method.TheVariants as method
 use Rattle.instruction_parts.specs.declared.kinds.File.{File}
 use Rattle.instruction_parts.specs.Counting.{is_16, is_64}
-use Rattle.instruction_parts.proofs.Tests.{and_left, and_right, equal_from}
 use Rattle.plain_spelling.specs.Values.{is_extended_of}
 use Rattle.plain_spelling.specs.declared.addresses.AddressForm.{AddressForm}
 use Rattle.plain_spelling.specs.declared.addresses.AddressForm.TheVariants.{Relative, Alone, Short, Wide}
@@ -23,10 +22,10 @@ use Rattle.plain_spelling.specs.Addresses.{form_of, rm_of_short, has_address_siz
 use Rattle.plain_spelling.specs.Forms.{is_scale}
 use Rattle.plain_spelling.specs.Expressible.{size_agrees}
 use Rattle.x86_values.proofs.Compared.{same_bits-is}
-use Rattle.plain_spelling.proofs.AddressCases.{impossible, form-alone-index, form-short, agrees, written_is}
-use Rattle.plain_spelling.proofs.AddressForms.{shape_is, value_at}
-use Rattle.plain_fit.proofs.AddressShapes.{shape_shown}
-use Rattle.plain_fit.proofs.AddressGathers.{gather_is_wide, gather_shown, absolute_shown, absolute_is_alone}
+use Rattle.plain_form.proofs.AddressCases.{impossible, form-alone-index, form-short, agrees, written_is}
+use Rattle.plain_form.proofs.AddressForms.{shape_is, value_at}
+use Rattle.plain_form.proofs.FitAddressShapes.{shape_shown}
+use Rattle.plain_form.proofs.FitAddressGathers.{gather_is_wide, gather_shown, absolute_shown, absolute_is_alone}
 use Rattle.text_parts.specs.Addresses.{is_instruction_pointer, is_relative}
 use Rattle.intel_reader.proofs.AddressBack.{of_no_bytes, of_width, DisplacementIs, AddressIs}
 
@@ -105,9 +104,9 @@ beside_is a m beside value short alone shown =
 
 relative_is : (bits a : Bits) (m : Mem) (size : Bits) → form_of m.base m.index ≡ Relative size → is_shape bits m ≡ true → is_displacement a m ≡ true → AddressIs a m
 relative_is bits a m size e shape value =
-    let rest = and_right (is_64 bits) (is_none m.index && m.scale == 1) (shape_is bits m (Relative size) e shape) in
-    let index = none_is m.index (and_left (is_none m.index) (m.scale == 1) rest) in
-    let scale = equal_from m.scale 1 (and_right (is_none m.index) (m.scale == 1) rest) in
+    let rest = (and_parts (is_64 bits) (is_none m.index && m.scale == 1) (shape_is bits m (Relative size) e shape)).1 in
+    let index = none_is m.index (and_parts (is_none m.index) (m.scale == 1) rest).0 in
+    let scale = eqb-true m.scale 1 (and_parts (is_none m.index) (m.scale == 1) rest).1 in
     let pointer = relative_base m.base m.index size e in
     record {
       relative = λ h. (index, scale);
@@ -125,8 +124,8 @@ lone_is a m e scale value =
 
 short_is : (bits a : Bits) (m : Mem) (n : ℕ) → form_of m.base m.index ≡ Short n → is_shape bits m ≡ true → is_displacement a m ≡ true → AddressIs a m
 short_is bits a m n e shape value =
-    let rest = and_right (not (is_64 bits)) (is_some (rm_of_short n m.index) && m.scale == 1) (shape_is bits m (Short n) e shape) in
-    let scale = equal_from m.scale 1 (and_right (is_some (rm_of_short n m.index)) (m.scale == 1) rest) in
+    let rest = (and_parts (not (is_64 bits)) (is_some (rm_of_short n m.index) && m.scale == 1) (shape_is bits m (Short n) e shape)).1 in
+    let scale = eqb-true m.scale 1 (and_parts (is_some (rm_of_short n m.index)) (m.scale == 1) rest).1 in
     beside_is a m (short_base m.base m.index n e) (value_is a m (Short n) e value) (λ h. scale) (λ h. scale)
     (λ h. or_left (is_some m.base) (is_none m.index) (ap (λ (o : Option Register). is_some o) (form-short m.base m.index n e)))
 
@@ -140,23 +139,23 @@ flat_at bits m o =
 
 no_word_size : (bits a : Bits) → is_wide_size bits a ≡ true → a ≡ B16 → true ≡ false
 unfolding is_wide_size
-no_word_size bits B16 h e = sym (and_right (has_address_size bits B16) false h)
+no_word_size bits B16 h e = sym (and_parts (has_address_size bits B16) false h).1
 no_word_size bits B32 h e = cc
 no_word_size bits B64 h e = cc
 
 alone_scale : (index : Option Register) (scale : ℕ) → scale_suits index scale ≡ true → index ≡ None → scale ≡ 1
 unfolding scale_suits
-alone_scale None scale h e = equal_from scale 1 h
+alone_scale None scale h e = eqb-true scale 1 h
 alone_scale (Some r) scale h e = cc
 
 wide_from : (bits a : Bits) (m : Mem) (o : Option Bits) → flat_at bits m o ≡ true → agrees a o ≡ true → (is_wide_size bits a ≡ true) × (scale_suits m.index m.scale ≡ true)
 wide_from bits a m None h s = cc
 wide_from bits a m (Some z) h s =
     let same : z ≡ a = same_bits-is z a s in
-    let rest = and_right (is_wide_size bits z) (is_base bits z m.base && (is_index bits z m.index && scale_suits m.index m.scale)) h in
-    let last = and_right (is_base bits z m.base) (is_index bits z m.index && scale_suits m.index m.scale) rest in (
-      subst (λ (b : Bits). is_wide_size bits b ≡ true) same (and_left (is_wide_size bits z) (is_base bits z m.base && (is_index bits z m.index && scale_suits m.index m.scale)) h),
-      and_right (is_index bits z m.index) (scale_suits m.index m.scale) last,
+    let rest = (and_parts (is_wide_size bits z) (is_base bits z m.base && (is_index bits z m.index && scale_suits m.index m.scale)) h).1 in
+    let last = (and_parts (is_base bits z m.base) (is_index bits z m.index && scale_suits m.index m.scale) rest).1 in (
+      subst (λ (b : Bits). is_wide_size bits b ≡ true) same (and_parts (is_wide_size bits z) (is_base bits z m.base && (is_index bits z m.index && scale_suits m.index m.scale)) h).0,
+      (and_parts (is_index bits z m.index) (scale_suits m.index m.scale) last).1,
     )
 
 wide_shape : (bits a : Bits) (m : Mem) → is_wide_shape bits m ≡ true → agrees a (shown_size m) ≡ true → (is_wide_size bits a ≡ true) × (scale_suits m.index m.scale ≡ true)
@@ -183,8 +182,8 @@ gather_is : (bits a : Bits) (row : Row) (file : File) (m : Mem) → is_gather_sh
 unfolding is_gather_shape
 gather_is bits a row file m shape size value =
     let wide = gather_is_wide bits row file m shape in
-    let rest = and_right (is_gather_base bits m.base) (is_vector_index bits row file m.index && is_scale m.scale) shape in
-    let index = and_left (is_vector_index bits row file m.index) (is_scale m.scale) rest in
+    let rest = (and_parts (is_gather_base bits m.base) (is_vector_index bits row file m.index && is_scale m.scale) shape).1 in
+    let index = (and_parts (is_vector_index bits row file m.index) (is_scale m.scale) rest).0 in
     beside_is a m (wide_base m.base m.index wide) (value_is a m Wide wide value) (λ h. impossible (not_word a size h)) (λ h. impossible (index_there bits row file m.index index h))
     (λ h. impossible (not_word a size h))
 
@@ -194,7 +193,7 @@ value_at_size : (bits a : Bits) (how : Method) (m : Mem) → agrees a (shown_siz
 unfolding displacement_suits
 value_at_size bits a how m shows h =
     let k = subst (λ (z : Bits). (offers z how m (displacement_count m.disp_size) && is_displacement z m) ≡ true) (written_is bits a m shows) h in
-    and_right (offers a how m (displacement_count m.disp_size)) (is_displacement a m) k
+    (and_parts (offers a how m (displacement_count m.disp_size)) (is_displacement a m) k).1
 
 modrm_is : (bits a : Bits) (how : Method) (m : Mem) → is_shape bits m ≡ true → size_agrees a (MemOperand m) ≡ true → displacement_suits (written_size bits (Some a) m) how m ≡ true → AddressIs a m
 modrm_is bits a how m shape size disp = by_form (form_of m.base m.index) refl
@@ -207,14 +206,14 @@ modrm_is bits a how m shape size disp = by_form (form_of m.base m.index) refl
 
     by_form : (form : AddressForm) → form_of m.base m.index ≡ form → AddressIs a m
     by_form (Relative z) e = relative_is bits a m z e shape value
-    by_form Alone e = lone_is a m e (equal_from m.scale 1 (shape_is bits m Alone e shape)) value
+    by_form Alone e = lone_is a m e (eqb-true m.scale 1 (shape_is bits m Alone e shape)) value
     by_form (Short n) e = short_is bits a m n e shape value
     by_form Wide e = wide_is bits a m e shape shows value
 
 offset_is : (bits a : Bits) (how : Method) (m : Mem) → (is_none m.base && (is_none m.index && m.scale == 1)) ≡ true → displacement_suits (written_size bits (Some a) m) how m ≡ true → AddressIs a m
 offset_is bits a how m shape disp =
-    let rest = and_right (is_none m.base) (is_none m.index && m.scale == 1) shape in
-    lone_is a m (absolute_is_alone m shape) (equal_from m.scale 1 (and_right (is_none m.index) (m.scale == 1) rest)) (value_at_size bits a how m (absolute_shown a m shape) disp)
+    let rest = (and_parts (is_none m.base) (is_none m.index && m.scale == 1) shape).1 in
+    lone_is a m (absolute_is_alone m shape) (eqb-true m.scale 1 (and_parts (is_none m.index) (m.scale == 1) rest).1) (value_at_size bits a how m (absolute_shown a m shape) disp)
 
 -- **an address that meets the conditions at the address size of its instruction**
 pub address_is : (bits a : Bits) (row : Row) (how : Method) (file : File) (m : Mem) → shape_suits bits row how file m ≡ true → size_agrees a (MemOperand m) ≡ true

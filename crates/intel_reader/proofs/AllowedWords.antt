@@ -1,7 +1,7 @@
 -- What an instruction with a plain spelling says of the words of its text: no test of them sorts it out.
 use Rattle.std.proofs.Common.{◌≡◌, ℕ, zero, suc, ◌<◌, Bool, true, false, ◌&&◌, ◌||◌, List, Option, Some, None, refl, ap, sym, ◌∙◌, subst, arith, if◌then◌else◌, slice_get}
 use Rattle.std.specs.Prelude.{is_none, unwrap_or}
-use Rattle.std.proofs.lemmas.Bool.{or_parts, and_from}
+use Rattle.std.proofs.lemmas.Bool.{or_parts, and_from, and_parts}
 use Rattle.x86_values.specs.declared.Bits.{Bits}
 use Rattle.x86_values.specs.declared.Bits.TheVariants.{B64}
 use Rattle.x86_values.specs.declared.DispSize.{DispSize}
@@ -15,15 +15,14 @@ use Rattle.row_types.specs.declared.Row.{Row}
 use Rattle.instruction_parts.specs.declared.kinds.Method.{Method}
 use Rattle.instruction_parts.specs.Kinds.{method_of}
 use Rattle.instruction_parts.specs.Sizes.{has_address_mark}
-use Rattle.instruction_parts.proofs.Tests.{and_left, and_right}
 use Rattle.row_fit.specs.Fits.{kind_at}
 use Rattle.opcode_rows.specs.Table.{table}
 use Rattle.x86_values.specs.Comparing.{same_bits}
 use Rattle.plain_spelling.specs.Forms.{is_memory, operand_at}
 use Rattle.plain_spelling.specs.Addresses.{has_address_size, displacement_suits, shown_size, written_size}
-use Rattle.plain_spelling.specs.Expressible.{offered, told_size, size_agrees, has_memory_operand, is_size_of, address_size_suits}
+use Rattle.plain_spelling.specs.Expressible.{displacement_offered, told_size, size_agrees, has_memory_operand, is_size_of, address_size_suits}
 use Rattle.plain_spelling.proofs.Asked.{each-at}
-use Rattle.plain_fit.proofs.Given.{Given}
+use Rattle.plain_form.specs.Given.{Given}
 use Rattle.intel_words.specs.declared.words.IntelWords.{IntelWords}
 use Rattle.intel_words.specs.declared.words.OperandText.{OperandText}
 use Rattle.intel_words.specs.declared.words.OperandText.TheVariants.{Absent, Reg, Number, Far, Mem as Address}
@@ -104,8 +103,8 @@ size_of_made : (bits : Bits) (row : Row) (code : Code) (words : IntelWords) (asi
 unfolding is_size_of
 size_of_made bits row code words asize size a h =
     let one = λ (n : ℕ) (below : n < 4). agrees_at bits row code words asize size a n below in
-    let agree = and_left _ _ (and_right (has_address_size bits a) _ h) in
-    and_from _ _ (and_left (has_address_size bits a) _ h)
+    let agree = (and_parts _ _ (and_parts (has_address_size bits a) _ h).1).0 in
+    and_from _ _ (and_parts (has_address_size bits a) _ h).0
     (rw (← one 0 (omega arith), ← one 1 (omega arith), ← one 2 (omega arith), ← one 3 (omega arith)) agree)
 
 abbrev agree : Bits → IntelWords → Bits → Bool
@@ -155,14 +154,14 @@ offers_same near bits asize size how (Address t) = refl
 
 offers_at : (bits : Bits) (ip : ℕ) (row : Row) (code : Code) (words : IntelWords) (asize : Option Bits) (size : DispSize) (n : ℕ) → n < 4 → Given bits ip row (candidate bits row code words asize size)
     → text_offers bits asize size (method_of (kind_at row n)) (text_at words n) ≡ true
-unfolding offered
+unfolding displacement_offered
 offers_at bits ip row code words asize size n below g =
     let i : Instr = candidate bits row code words asize size in
     let how : Method = method_of (kind_at row n) in
     sym (offers_same (is_near_at row n) bits asize size how (text_at words n))
     ∙ ap (λ (op : Operand). elim op [ MemOperand m ↦ displacement_suits (written_size bits asize m) how m | _ ↦ true ]) (sym (made_at bits row code words asize size n below))
     ∙ ap (λ (o : Option Bits). elim (operand_at i n) [ MemOperand m ↦ displacement_suits (written_size bits o m) how m | _ ↦ true ]) (sym (asize_is bits row code words asize size))
-    ∙ each-at (offered bits row i) n below g.suits.displacements
+    ∙ each-at (displacement_offered bits row i) n below g.suits.displacements
 
 -- **a displacement size that the addresses do not offer has no such instruction**
 pub displacement_there : (bits : Bits) (ip : ℕ) (row : Row) (code : Code) (words : IntelWords) (asize : Option Bits) (size : DispSize) → Given bits ip row (candidate bits row code words asize size) → displacement_allowed bits row words asize size ≡ true

@@ -24,7 +24,7 @@ use Rattle.intel_text.specs.Text.{text as intel_text, text_of}
 use Rattle.intel_words.specs.declared.words.IntelWords.{IntelWords}
 use Rattle.intel_words.specs.Words.{words_of}
 use Rattle.intel_words.specs.Printable.{is_printable}
-use Rattle.plain_spelling.proofs.AddressCases.{impossible}
+use Rattle.plain_form.proofs.AddressCases.{impossible}
 use Rattle.intel_reader.specs.declared.choice.Found.{Found}
 use Rattle.intel_reader.specs.Assembled.{Assembly, IsCandidate, IsFirst, IsNoText}
 use Rattle.intel_reader.specs.Choice.{assembly_of, Leads, IsHeld, IsProgress}

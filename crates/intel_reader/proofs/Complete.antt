@@ -1,8 +1,7 @@
 -- Each code of the table lies in the bucket of its name.
 use Rattle.std.proofs.Common.{◌≡◌, inl, inr, ℕ, zero, suc, ◌+◌, ◌-◌, ◌*◌, ◌%◌, ◌<◌, ◌≤◌, Bool, true, false, ◌&&◌, ◌||◌, ◌==◌, List, [], ◌∷◌, length, get_or, drop, Option, Some, None, refl, ap, subst, arith, slice_get, eqb-true, add-one, drop-cons}
 use Rattle.std.specs.Prelude.{unwrap_or}
-use Rattle.std.proofs.lemmas.Bool.{or_cases}
-use Rattle.instruction_parts.proofs.Tests.{and_left, and_right}
+use Rattle.std.proofs.lemmas.Bool.{or_cases, and_parts}
 use Rattle.opcode_rows.specs.declared.generated_spots.TheConstants.{ROWS}
 use Rattle.std.proofs.lemmas.Option.{slice_get_within}
 use Rattle.row_types.specs.declared.Row.{Row}
@@ -68,10 +67,10 @@ unfolding all_stand
 stands-at [] from k h lt = absurd (omega arith)
 stands-at (n ∷ ns) from zero h lt =
     let e : from ≡ from + 0 = omega arith in
-    subst (λ (c : ℕ). in_bucket c n ≡ true) e (and_left (in_bucket from n) (all_stand ns (suc from)) h)
+    subst (λ (c : ℕ). in_bucket c n ≡ true) e (and_parts (in_bucket from n) (all_stand ns (suc from)) h).0
 stands-at (n ∷ ns) from (suc k) h lt =
     let e : suc from + k ≡ from + suc k = omega arith in
-    subst (λ (c : ℕ). in_bucket c (unwrap_or (slice_get ns k) []) ≡ true) e (stands-at ns (suc from) k (and_right (in_bucket from n) (all_stand ns (suc from)) h) (omega arith))
+    subst (λ (c : ℕ). in_bucket c (unwrap_or (slice_get ns k) []) ≡ true) e (stands-at ns (suc from) k (and_parts (in_bucket from n) (all_stand ns (suc from)) h).1 (omega arith))
 
 length-names : length names ≡ ROWS
 unfolding names

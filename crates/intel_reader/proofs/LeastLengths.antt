@@ -4,7 +4,7 @@ use Rattle.std.specs.Prelude.{unwrap_or}
 use Rattle.std.specs.Ordering.{is_gt}
 use Rattle.std.specs.declared.cmp.Ordering.TheVariants.{Less, Equal}
 use Rattle.std.specs.Cmp.{nat_cmp_is}
-use Rattle.std.proofs.lemmas.Bool.{or_cases}
+use Rattle.std.proofs.lemmas.Bool.{or_cases, and_parts}
 use borrow.Author.Tests.{ltb-true}
 use Rattle.x86_values.specs.declared.Bits.{Bits}
 use Rattle.x86_values.specs.declared.DispSize.{DispSize}
@@ -25,7 +25,6 @@ use Rattle.instruction_parts.specs.declared.spelling.Vex.{Vex}
 use Rattle.instruction_parts.specs.Bytes.{bit, bytes_of, lead_bytes, vex_bytes}
 use Rattle.instruction_parts.specs.Kinds.{method_of}
 use Rattle.instruction_parts.specs.Sizes.{is_vex_row}
-use Rattle.instruction_parts.proofs.Tests.{and_left, and_right}
 use Rattle.row_fit.specs.Fits.{kind_at, immediates_bytes}
 use Rattle.row_fit.specs.Sound.{has_modrm_rule}
 use Rattle.plain_spelling.specs.Addresses.{displacement_count}
@@ -33,8 +32,8 @@ use Rattle.plain_spelling.specs.Forms.{is_variant_of, operand_at}
 use Rattle.plain_spelling.specs.PlainFront.{asks_rex_w, asked_rex, asked_vex, asked_used, plain_front_of}
 use Rattle.plain_spelling.specs.PlainTail.{byte_count, plain_modrm, operand_displacement, address_operand, plain_len, plain_spelling}
 use Rattle.plain_spelling.proofs.Asked.{address_operand-at, reads_address}
-use Rattle.plain_fit.proofs.Given.{Given}
-use Rattle.plain_fit.proofs.Lengths.{plain_long}
+use Rattle.plain_form.specs.Given.{Given}
+use Rattle.plain_form.proofs.FitLengths.{plain_long}
 use Rattle.plain_laws.specs.Plain.{IsPlainlySpelled}
 use Rattle.plain_laws.proofs.Exact.{plain_from}
 use Rattle.opcode_rows.specs.Table.{table}
@@ -230,8 +229,8 @@ unfolding is_behind
 behind_led None b code least h le e = cc
 behind_led (Some f) b code least h le e = elim (or_cases (nat_lt (length f.bytes.items) least) _ h) [
   | inl lt ↦ (let below = ltb-true (length f.bytes.items) least lt in shorter (assembly_of f) b (omega (arith, below, le)))
-  | inr both ↦ (let same = eqb-true (length f.bytes.items) least (and_left (length f.bytes.items == least) (nat_lt f.instr.code.0 code) both) in
-      let lt = ltb-true f.instr.code.0 code (and_right (length f.bytes.items == least) (nat_lt f.instr.code.0 code) both) in
+  | inr both ↦ (let same = eqb-true (length f.bytes.items) least (and_parts (length f.bytes.items == least) (nat_lt f.instr.code.0 code) both).0 in
+      let lt = ltb-true f.instr.code.0 code (and_parts (length f.bytes.items == least) (nat_lt f.instr.code.0 code) both).1 in
       elim (less_or_same least (length b.bytes) le) [
         | inl below ↦ shorter (assembly_of f) b (omega (arith, same, below))
         | inr tied ↦ lesser (assembly_of f) b (same ∙ tied) (omega (arith, lt, e))

@@ -1,5 +1,6 @@
 -- What the conditions say of the operands of an instruction: which are near targets, and how large their numbers are.
 use Rattle.std.proofs.Common.{◌≡◌, ℕ, ◌-◌, ◌*◌, ◌^◌, ◌<◌, true, false, ◌&&◌, nat_lt, refl, sym, ◌∙◌, arith}
+use Rattle.std.proofs.lemmas.Bool.{and_parts, eqb-true}
 use borrow.Author.Tests.{ltb-true}
 use Rattle.x86_values.specs.declared.Bits.{Bits}
 use Rattle.x86_values.specs.declared.Bits.TheVariants.{B16, B32, B64}
@@ -12,11 +13,10 @@ use Rattle.row_types.specs.declared.OpKind.TheVariants.{Ap, Ib, Iw, Iv}
 use Rattle.instruction_parts.specs.declared.kinds.Method.{Method}
 use Rattle.instruction_parts.specs.declared.kinds.Method.TheVariants as method
 use Rattle.instruction_parts.specs.Kinds.{method_of, immediate_width}
-use Rattle.instruction_parts.proofs.Tests.{and_left, and_right, equal_from}
 use Rattle.row_fit.specs.Fits.{immediate_bytes}
 use Rattle.plain_spelling.specs.Forms.{is_allowed_in, is_variant_of}
 use Rattle.plain_spelling.specs.Expressible.{immediate_suits_how, near_reaches}
-use Rattle.plain_spelling.proofs.AddressCases.{impossible}
+use Rattle.plain_form.proofs.AddressCases.{impossible}
 use Rattle.intel_reader.specs.Candidate.{is_near_method}
 use Rattle.intel_reader.proofs.AddressBack.{of_width}
 
@@ -73,14 +73,14 @@ pub immediate_below : (size : Bits) (place : Place) (kind : OpKind) (how : Metho
 unfolding is_variant_of immediate_suits_how
 immediate_below size place kind method.AsWritten x e v h = written_below size kind x e h
 immediate_below size place kind method.Extended x e v h = within_64 size x (of_width (immediate_bytes size kind) (width size) x h)
-immediate_below size place kind method.One x e v h = let one = equal_from x 1 h in omega arith
+immediate_below size place kind method.One x e v h = let one = eqb-true x 1 h in omega arith
 immediate_below size place kind method.RegisterOrMemory x e v h = impossible (sym v ∙ allowed_immediate place x)
 immediate_below size place kind how x e v h = impossible (sym v)
 
 -- a near target is a number of 64 bits
 pub near_below : (size : Bits) (next n x : ℕ) → near_reaches size next n x ≡ true → x < 2 ^ 64
 unfolding near_reaches
-near_below size next n x h = within_64 size x (ltb-true x (2 ^ width size) (and_left (nat_lt x (2 ^ width size)) _ h))
+near_below size next n x h = within_64 size x (ltb-true x (2 ^ width size) (and_parts (nat_lt x (2 ^ width size)) _ h).0)
 
 -- a selector has 16 bits and an offset 32
 pub record FarIs (s o : ℕ) : Type 0 where
@@ -90,10 +90,10 @@ pub record FarIs (s o : ℕ) : Type 0 where
 far_by_kind : (size : Bits) (kind : OpKind) (s o : ℕ) → method_of kind ≡ method.Pointer → (nat_lt s (2 ^ 16) && nat_lt o (2 ^ (8 * (immediate_bytes size kind - 2)))) ≡ true → (s < 2 ^ 16) × (o < 2 ^ 32)
 unfolding method_of immediate_bytes immediate_width
 far_by_kind B16 Ap s o e h =
-    let low = ltb-true o (2 ^ 16) (and_right (nat_lt s (2 ^ 16)) (nat_lt o (2 ^ 16)) h) in
-    (ltb-true s (2 ^ 16) (and_left (nat_lt s (2 ^ 16)) (nat_lt o (2 ^ 16)) h), omega arith)
-far_by_kind B32 Ap s o e h = (ltb-true s (2 ^ 16) (and_left (nat_lt s (2 ^ 16)) (nat_lt o (2 ^ 32)) h), ltb-true o (2 ^ 32) (and_right (nat_lt s (2 ^ 16)) (nat_lt o (2 ^ 32)) h))
-far_by_kind B64 Ap s o e h = (ltb-true s (2 ^ 16) (and_left (nat_lt s (2 ^ 16)) (nat_lt o (2 ^ 32)) h), ltb-true o (2 ^ 32) (and_right (nat_lt s (2 ^ 16)) (nat_lt o (2 ^ 32)) h))
+    let low = ltb-true o (2 ^ 16) (and_parts (nat_lt s (2 ^ 16)) (nat_lt o (2 ^ 16)) h).1 in
+    (ltb-true s (2 ^ 16) (and_parts (nat_lt s (2 ^ 16)) (nat_lt o (2 ^ 16)) h).0, omega arith)
+far_by_kind B32 Ap s o e h = (ltb-true s (2 ^ 16) (and_parts (nat_lt s (2 ^ 16)) (nat_lt o (2 ^ 32)) h).0, ltb-true o (2 ^ 32) (and_parts (nat_lt s (2 ^ 16)) (nat_lt o (2 ^ 32)) h).1)
+far_by_kind B64 Ap s o e h = (ltb-true s (2 ^ 16) (and_parts (nat_lt s (2 ^ 16)) (nat_lt o (2 ^ 32)) h).0, ltb-true o (2 ^ 32) (and_parts (nat_lt s (2 ^ 16)) (nat_lt o (2 ^ 32)) h).1)
 far_by_kind size kind s o e h = impossible cc
 
 pub far_below : (size : Bits) (place : Place) (kind : OpKind) (how : Method) (s o : ℕ) → method_of kind ≡ how → is_variant_of place how (Far s o) ≡ true

@@ -20,7 +20,7 @@ use Rattle.opcode_rows.proofs.Formed.{well_formed-at}
 use Rattle.opcode_rows.proofs.Sound.{sound-row}
 use Rattle.plain_spelling.specs.Forms.{operand_at}
 use Rattle.plain_spelling.proofs.Failures.{failure-suits}
-use Rattle.plain_fit.proofs.Given.{Given}
+use Rattle.plain_form.specs.Given.{Given}
 use Rattle.plain_laws.specs.Plain.{IsPlainlySpelled}
 use Rattle.plain_laws.proofs.Exact.{given_fit}
 use Rattle.encoder.proofs.OverTable.{written_table, none_fails}

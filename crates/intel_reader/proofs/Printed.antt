@@ -2,7 +2,7 @@
 use Rattle.std.proofs.Common.{◌≡◌, ℕ, zero, suc, ◌^◌, ◌<◌, Bool, true, false, ◌&&◌, ◌||◌, not, nat_lt, List, [], ◌∷◌, length, Option, Some, refl, ap, sym, ◌∙◌, subst, arith, slice_get}
 use Rattle.std.specs.Prelude.{unwrap_or}
 use Rattle.std.specs.List.{list_all}
-use Rattle.std.proofs.lemmas.Bool.{lt-ltb, and_from}
+use Rattle.std.proofs.lemmas.Bool.{lt-ltb, and_from, and_parts}
 use Rattle.x86_values.specs.declared.Bits.{Bits}
 use Rattle.x86_values.specs.declared.Bits.TheVariants.{B16, B32, B64}
 use Rattle.x86_values.specs.declared.Mem.{Mem}
@@ -16,9 +16,7 @@ use Rattle.row_types.specs.declared.Place.TheVariants.{Any as AnyPlace, Memory a
 use Rattle.instruction_parts.specs.declared.kinds.Method.{Method}
 use Rattle.instruction_parts.specs.declared.kinds.Method.TheVariants as method
 use Rattle.instruction_parts.specs.Kinds.{method_of}
-use Rattle.instruction_parts.proofs.Tests.{and_left, and_right}
 use Rattle.row_fit.specs.Fits.{kind_at}
-use Rattle.row_fields.proofs.Cands.{and-left, and-right}
 use Rattle.rows_integer.specs.Table.{table as integer_rows, flat_rows as integer_flat}
 use Rattle.rows_x87.specs.Table.{table as x87_rows, flat_rows as x87_flat}
 use Rattle.rows_sse.specs.Table.{table as sse_rows, flat_rows as sse_flat}
@@ -33,8 +31,8 @@ use Rattle.plain_spelling.specs.Forms.{is_scale, is_allowed_in, is_variant_of, o
 use Rattle.plain_spelling.specs.PlainTail.{plain_size, plain_next}
 use Rattle.plain_spelling.specs.Expressible.{target_suits, near_reaches, address_reaches}
 use Rattle.plain_spelling.proofs.Asked.{each-at}
-use Rattle.plain_spelling.proofs.AddressCases.{impossible}
-use Rattle.plain_fit.proofs.Given.{Given}
+use Rattle.plain_form.proofs.AddressCases.{impossible}
+use Rattle.plain_form.specs.Given.{Given}
 use Rattle.row_fit.specs.Fits.{immediate_bytes}
 use Rattle.text_parts.specs.PrefixWords.{text_address_size}
 use Rattle.intel_words.specs.Scanning.{is_word_byte}
@@ -53,8 +51,8 @@ plain_names = refl
 
 all_at : (ns : List (List ℕ)) (k : ℕ) → list_all is_plain_name ns ≡ true → k < length ns → is_plain_name (unwrap_or (slice_get ns k) []) ≡ true
 all_at [] k h lt = absurd (omega arith)
-all_at (n ∷ ns) zero h lt = and-left (is_plain_name n) (list_all is_plain_name ns) h
-all_at (n ∷ ns) (suc k) h lt = all_at ns k (and-right (is_plain_name n) (list_all is_plain_name ns) h) (omega arith)
+all_at (n ∷ ns) zero h lt = (and_parts (is_plain_name n) (list_all is_plain_name ns) h).0
+all_at (n ∷ ns) (suc k) h lt = all_at ns k (and_parts (is_plain_name n) (list_all is_plain_name ns) h).1 (omega arith)
 
 length-names : length names ≡ ROWS
 unfolding names
@@ -130,10 +128,10 @@ shown_index B64 m k = refl
 address_printable : (a : Bits) (m : Mem) → AddressIs a m → has_numbers (MemOperand m) ≡ true → is_printable_address a m ≡ true
 unfolding is_printable_address has_numbers
 address_printable a m k h =
-    let registers = and_right (is_scale m.scale) (is_named_if m.base && is_named_if m.index) h in
-    and_from (is_named_if m.base) _ (and_left (is_named_if m.base) (is_named_if m.index) registers)
-    (and_from (is_named_if m.index) _ (and_right (is_named_if m.base) (is_named_if m.index) registers)
-    (and_from (nat_lt m.scale 10) _ (small_scale m.scale (and_left (is_scale m.scale) (is_named_if m.base && is_named_if m.index) h))
+    let registers = (and_parts (is_scale m.scale) (is_named_if m.base && is_named_if m.index) h).1 in
+    and_from (is_named_if m.base) _ (and_parts (is_named_if m.base) (is_named_if m.index) registers).0
+    (and_from (is_named_if m.index) _ (and_parts (is_named_if m.base) (is_named_if m.index) registers).1
+    (and_from (nat_lt m.scale 10) _ (small_scale m.scale (and_parts (is_scale m.scale) (is_named_if m.base && is_named_if m.index) h).0)
     (and_from (is_word_number m.disp) (index_is_shown a m) (word_number m.disp k.number) (shown_index a m k))))
 
 near_at : (bits : Bits) (ip : ℕ) (row : Row) (i : Instr) (n x : ℕ) → Given bits ip row i → n < 4 → operand_at i n ≡ Near x
@@ -165,7 +163,7 @@ by_operand bits ip row i n (MemOperand m) g below e h =
 
 formed_at : (row : Row) (i : Instr) (n : ℕ) → n < 4 → is_formed row i ≡ true → has_numbers (operand_at i n) ≡ true
 unfolding is_formed operand_is_formed
-formed_at row i n below h = and_right (is_variant_of row.place (method_of (kind_at row n)) (operand_at i n)) (has_numbers (operand_at i n)) (each-at (operand_is_formed row i) n below h)
+formed_at row i n below h = (and_parts (is_variant_of row.place (method_of (kind_at row n)) (operand_at i n)) (has_numbers (operand_at i n)) (each-at (operand_is_formed row i) n below h)).1
 
 -- **the words of an instruction with a plain spelling can be told apart**
 pub plain_is_printable : (bits : Bits) (ip : ℕ) (row : Row) (i : Instr) → slice_get table i.code.0 ≡ Some row → i.code.0 < ROWS → is_formed row i ≡ true → Given bits ip row i

@@ -32,13 +32,13 @@ use Rattle.plain_spelling.specs.Forms.{is_allowed_in, is_variant_of, operand_at}
 use Rattle.plain_spelling.specs.Expressible.{naming_number}
 use Rattle.plain_spelling.specs.PlainFront.{plain_front_of}
 use Rattle.plain_spelling.specs.PlainTail.{plain_size}
-use Rattle.plain_fit.proofs.Given.{Given}
-use Rattle.plain_fit.proofs.Registers.{says, register-at}
+use Rattle.plain_form.specs.Given.{Given}
+use Rattle.plain_form.proofs.FitRegisters.{says, register-at}
 use Rattle.intel_reader.specs.declared.operands.OperandClass.{OperandClass}
 use Rattle.intel_reader.specs.declared.operands.OperandClass.TheVariants as class
 use Rattle.intel_reader.specs.Operands.{class_of_register, sample, is_of_size, is_byte, is_xmm, is_other, names, has_number, has_fixed, is_named, register_suits, is_near, admits, takes, asked_flags, number_of}
 use Rattle.intel_reader.specs.Buckets.{order}
-use Rattle.plain_spelling.proofs.AddressCases.{impossible}
+use Rattle.plain_form.proofs.AddressCases.{impossible}
 use Rattle.intel_words.specs.declared.words.IntelWords.{IntelWords}
 use Rattle.intel_words.specs.declared.words.OperandText.{OperandText}
 use Rattle.intel_words.specs.declared.words.OperandText.TheVariants.{Absent, Reg, Number, Far, Mem as Address}

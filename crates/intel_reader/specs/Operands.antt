@@ -96,7 +96,7 @@ has_number number class.Dword = if number == 0 then false else true
 has_number number class.Qword = if number == 0 then false else true
 has_number number _ = true
 
--- the same of a kind, whose register may be free
+-- an operand of a kind has the register that the kind fixes, or its register is free
 unfoldable pub has_fixed : Method → ℕ → OperandClass → Bool
 has_fixed method.Fixed number c = has_number number c
 has_fixed _ number c = true
@@ -105,7 +105,7 @@ has_fixed _ number c = true
 unfoldable pub is_named : Row → File → OperandClass → Bool
 is_named row how c = names (plain_size B16 row) how c || (names (plain_size B32 row) how c || names (plain_size B64 row) how c)
 
--- the same of any operand, which may be no register
+-- the words of an operand suit its kind as far as they name a register
 unfoldable pub register_suits : Row → Method → File → ℕ → OperandClass → Bool
 register_suits row how which number class.Absent = true
 register_suits row how which number class.Number = true

@@ -90,7 +90,7 @@ text_offers bits asize size how (Address a) =
     let m : Mem = address_from (unwrap_or asize bits) size a.inside in displacement_suits (written_size bits asize m) how m
 text_offers bits asize size how _ = true
 
--- the same of operand n
+-- the address of operand n offers a displacement of this size
 abbrev pub nth_offers : Bits → Row → IntelWords → Option Bits → DispSize → ℕ → Bool
 nth_offers bits row words asize size n = text_offers bits asize size (method_of (kind_at row n)) (text_at words n)
 

@@ -88,7 +88,7 @@ fn is_behind(best: &Option<Found>, code: Code, least: u8) -> bool
 }
 
 /// The instruction with its bytes, where it has a plain spelling at the address and this text.
-fn tried(bits: Bits, ip: u64, text: &[u8], instr: Instr) -> Option<Found>
+fn candidate_of(bits: Bits, ip: u64, text: &[u8], instr: Instr) -> Option<Found>
     ensures candidate { IfSome result (λ f. IsCandidate bits ip text.now (assembly_of f)) }
     ensures found { (b : Assembly) → IsCandidate bits ip text.now b → instr ≡ b.instr → MatchOption result ⊥ (λ f. assembly_of f ≡ b) }
 {
@@ -131,7 +131,7 @@ fn with_candidate(
         return;
     }
     let instr = candidate(bits, row, code, words, asize, size);
-    match tried(bits, ip, text, instr) {
+    match candidate_of(bits, ip, text, instr) {
         None => {}
         Some(found) => keep_first(best, found),
     }

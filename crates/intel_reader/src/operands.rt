@@ -105,7 +105,13 @@ fn flag_of_mode(bits: Bits) -> u64
 }
 
 /// What [`takes`] asks of a row in a mode for operands of these four classes, as flags.
-pub fn asked(bits: Bits, a: OperandClass, b: OperandClass, c: OperandClass, d: OperandClass) -> u64
+pub fn flags_of_classes(
+    bits: Bits,
+    a: OperandClass,
+    b: OperandClass,
+    c: OperandClass,
+    d: OperandClass,
+) -> u64
     ensures { result ≡ spec.number_of (spec.asked_flags bits a b c d) }
 {
     let fourth = flag_of_class(d);
@@ -123,7 +129,7 @@ fn flags_of(code: Code) -> u64
     OPERANDS[code.0 as usize]
 }
 
-/// Whether the row of a code exists in a mode and takes operands of four classes, which [`asked`] made the flags of.
+/// Whether the row of a code exists in a mode and takes operands of four classes, which [`flags_of_classes`] made the flags of.
 fn takes(code: Code, asked: u64) -> bool
     requires { code.0 < ROWS }
     ensures { (bits : Bits) (a b c d : OperandClass) (row : Row) → asked ≡ spec.number_of (spec.asked_flags bits a b c d)
@@ -132,7 +138,7 @@ fn takes(code: Code, asked: u64) -> bool
     flags_of(code) & asked == asked
 }
 
-/// Whether the row whose code stands at an index exists in a mode and takes operands of four classes, which [`asked`] made the flags of; false where none
+/// Whether the row whose code stands at an index exists in a mode and takes operands of four classes, which [`flags_of_classes`] made the flags of; false where none
 /// stands there.
 pub fn takes_at(index: u16, asked: u64) -> bool
     ensures { (bits : Bits) (a b c d : OperandClass) (code : ℕ) (row : Row) → asked ≡ spec.number_of (spec.asked_flags bits a b c d)

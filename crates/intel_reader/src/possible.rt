@@ -5,7 +5,7 @@ ghost use Rattle.intel_reader.specs.Operands.{number_of};
 ghost use Rattle.intel_reader.specs.Possible as spec;
 
 use crate::candidate::address_from;
-use crate::operands::{OperandClass, asked, class_of_register};
+use crate::operands::{OperandClass, class_of_register, flags_of_classes};
 use instruction_parts::kinds::{Method, method_of_kind};
 use instruction_parts::sizes::has_address_mark;
 use intel_words::words::{IntelWords, OperandText};
@@ -32,7 +32,7 @@ fn class_of(text: &OperandText) -> OperandClass
 pub fn asked_by(bits: Bits, words: &IntelWords) -> u64
     ensures { result ≡ number_of (spec.asked_by bits words.now) }
 {
-    asked(
+    flags_of_classes(
         bits,
         class_of(&words.ops[0]),
         class_of(&words.ops[1]),

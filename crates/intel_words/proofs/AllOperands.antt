@@ -1,8 +1,8 @@
 -- The operands of a text are read one behind the other.
 use Rattle.std.proofs.Common.{◌≡◌, ℕ, Bool, true, false, List, [], ◌∷◌, ◌++◌, Option, Some, refl, ap, sym, ◌∙◌, append_assoc}
+use Rattle.std.proofs.lemmas.Bool.{and_parts}
 use Rattle.std.specs.Prelude.{◌||◌, not}
 use Rattle.std.specs.List.{list_all}
-use Rattle.instruction_parts.proofs.Tests.{and_left, and_right}
 use Rattle.x86_values.specs.declared.Bits.{Bits}
 use Rattle.x86_values.specs.declared.Operand.{Operand}
 use Rattle.x86_values.specs.declared.Operand.TheVariants.{Absent as NoOperand, Reg as RegOperand, Mem as MemOperand, Imm, Near, Far as FarOperand}
@@ -135,8 +135,8 @@ absent-3 bits row instr h = absent-text bits row instr 3 (nth_operand instr 3) h
 absent-2 : (bits : Bits) (row : Row) (instr : Instr) → are_in_front instr ≡ true → is_absent (nth_operand instr 2) ≡ true → from_2 bits row instr ≡ []
 unfolding are_in_front
 absent-2 bits row instr f h =
-    let f1 = and_right (not (is_absent (nth_operand instr 0)) || is_absent (nth_operand instr 1)) _ f in
-    let f2 = and_right (not (is_absent (nth_operand instr 1)) || is_absent (nth_operand instr 2)) _ f1 in
+    let f1 = (and_parts (not (is_absent (nth_operand instr 0)) || is_absent (nth_operand instr 1)) _ f).1 in
+    let f2 = (and_parts (not (is_absent (nth_operand instr 1)) || is_absent (nth_operand instr 2)) _ f1).1 in
     let next : is_absent (nth_operand instr 3) ≡ true = implied (is_absent (nth_operand instr 2)) (is_absent (nth_operand instr 3)) f2 h in
     joined-empty (operand_text bits row instr 2) (separator false (nth_operand instr 3)) (from_3 bits row instr)
     (absent-text bits row instr 2 (nth_operand instr 2) h) (absent-separator (nth_operand instr 3) next) (absent-3 bits row instr next)
@@ -144,8 +144,8 @@ absent-2 bits row instr f h =
 absent-1 : (bits : Bits) (row : Row) (instr : Instr) → are_in_front instr ≡ true → is_absent (nth_operand instr 1) ≡ true → from_1 bits row instr ≡ []
 unfolding are_in_front
 absent-1 bits row instr f h =
-    let f1 = and_right (not (is_absent (nth_operand instr 0)) || is_absent (nth_operand instr 1)) _ f in
-    let f2 = and_left (not (is_absent (nth_operand instr 1)) || is_absent (nth_operand instr 2)) _ f1 in
+    let f1 = (and_parts (not (is_absent (nth_operand instr 0)) || is_absent (nth_operand instr 1)) _ f).1 in
+    let f2 = (and_parts (not (is_absent (nth_operand instr 1)) || is_absent (nth_operand instr 2)) _ f1).0 in
     let next : is_absent (nth_operand instr 2) ≡ true = implied (is_absent (nth_operand instr 1)) (is_absent (nth_operand instr 2)) f2 h in
     joined-empty (operand_text bits row instr 1) (separator false (nth_operand instr 2)) (from_2 bits row instr)
     (absent-text bits row instr 1 (nth_operand instr 1) h) (absent-separator (nth_operand instr 2) next) (absent-2 bits row instr f next)
@@ -153,7 +153,7 @@ absent-1 bits row instr f h =
 absent-0 : (bits : Bits) (row : Row) (instr : Instr) → are_in_front instr ≡ true → is_absent (nth_operand instr 0) ≡ true → from_0 bits row instr ≡ []
 unfolding are_in_front
 absent-0 bits row instr f h =
-    let f2 = and_left (not (is_absent (nth_operand instr 0)) || is_absent (nth_operand instr 1)) _ f in
+    let f2 = (and_parts (not (is_absent (nth_operand instr 0)) || is_absent (nth_operand instr 1)) _ f).0 in
     let next : is_absent (nth_operand instr 1) ≡ true = implied (is_absent (nth_operand instr 0)) (is_absent (nth_operand instr 1)) f2 h in
     joined-empty (operand_text bits row instr 0) (separator false (nth_operand instr 1)) (from_1 bits row instr)
     (absent-text bits row instr 0 (nth_operand instr 0) h) (absent-separator (nth_operand instr 1) next) (absent-1 bits row instr f next)

@@ -2,8 +2,7 @@
 use Rattle.std.proofs.Common.{◌≡◌, ℕ, suc, ◌+◌, Bool, true, false, cond, List, [], ◌∷◌, ◌++◌, take, drop, refl, ap, ◌∙◌, append-nil, arith}
 use Rattle.std.specs.Prelude.{if◌then◌else◌}
 use Rattle.std.specs.List.{list_all, prefix_len}
-use Rattle.std.proofs.lemmas.Bool.{and_from}
-use Rattle.instruction_parts.proofs.Tests.{and_left, and_right}
+use Rattle.std.proofs.lemmas.Bool.{and_from, and_parts}
 use Rattle.intel_words.specs.Scanning.{front, back}
 
 -- ---- choices
@@ -46,8 +45,8 @@ pub front-append : (p : ℕ → Bool) (xs ys : List ℕ) → list_all p xs ≡ t
 unfolding front
 front-append p [] ys h = refl
 front-append p (c ∷ cs) ys h =
-    front-passes (p c) c (front p (cs ++ ys)) (cs ++ front p ys) (and_left (p c) (list_all p cs) h)
-    (front-append p cs ys (and_right (p c) (list_all p cs) h))
+    front-passes (p c) c (front p (cs ++ ys)) (cs ++ front p ys) (and_parts (p c) (list_all p cs) h).0
+    (front-append p cs ys (and_parts (p c) (list_all p cs) h).1)
 
 back-passes : (b : Bool) (r s t : List ℕ) → b ≡ true → r ≡ s → (if b then r else t) ≡ s
 back-passes true r s t h e = e
@@ -57,8 +56,8 @@ pub back-append : (p : ℕ → Bool) (xs ys : List ℕ) → list_all p xs ≡ tr
 unfolding back
 back-append p [] ys h = refl
 back-append p (c ∷ cs) ys h =
-    back-passes (p c) (back p (cs ++ ys)) (back p ys) (c ∷ (cs ++ ys)) (and_left (p c) (list_all p cs) h)
-    (back-append p cs ys (and_right (p c) (list_all p cs) h))
+    back-passes (p c) (back p (cs ++ ys)) (back p ys) (c ∷ (cs ++ ys)) (and_parts (p c) (list_all p cs) h).0
+    (back-append p cs ys (and_parts (p c) (list_all p cs) h).1)
 
 -- what passes ends where the text behind it begins with a byte that fails, or is empty
 pub front-ends : (p : ℕ → Bool) (xs ys : List ℕ) → list_all p xs ≡ true → front p ys ≡ [] → front p (xs ++ ys) ≡ xs
@@ -72,16 +71,16 @@ pub front-all : (p : ℕ → Bool) (xs : List ℕ) → list_all p xs ≡ true �
 unfolding front
 front-all p [] h = refl
 front-all p (c ∷ cs) h =
-    front-passes (p c) c (front p cs) cs (and_left (p c) (list_all p cs) h) (front-all p cs (and_right (p c) (list_all p cs) h))
+    front-passes (p c) c (front p cs) cs (and_parts (p c) (list_all p cs) h).0 (front-all p cs (and_parts (p c) (list_all p cs) h).1)
 
 pub back-all : (p : ℕ → Bool) (xs : List ℕ) → list_all p xs ≡ true → back p xs ≡ []
 unfolding back
 back-all p [] h = refl
 back-all p (c ∷ cs) h =
-    back-passes (p c) (back p cs) [] (c ∷ cs) (and_left (p c) (list_all p cs) h) (back-all p cs (and_right (p c) (list_all p cs) h))
+    back-passes (p c) (back p cs) [] (c ∷ cs) (and_parts (p c) (list_all p cs) h).0 (back-all p cs (and_parts (p c) (list_all p cs) h).1)
 
 -- two texts that pass
 pub all-both : (p : ℕ → Bool) (xs ys : List ℕ) → list_all p xs ≡ true → list_all p ys ≡ true → list_all p (xs ++ ys) ≡ true
 all-both p [] ys hx hy = hy
 all-both p (c ∷ cs) ys hx hy =
-    and_from (p c) (list_all p (cs ++ ys)) (and_left (p c) (list_all p cs) hx) (all-both p cs ys (and_right (p c) (list_all p cs) hx) hy)
+    and_from (p c) (list_all p (cs ++ ys)) (and_parts (p c) (list_all p cs) hx).0 (all-both p cs ys (and_parts (p c) (list_all p cs) hx).1 hy)

@@ -1,8 +1,8 @@
 -- The words in front of a name are read again.
 use Rattle.std.proofs.Common.{◌≡◌, ℕ, suc, ◌<◌, Bool, true, false, cond, List, [], ◌∷◌, ◌++◌, Option, Some, None, refl, ap, arith, lit<}
+use Rattle.std.proofs.lemmas.Bool.{and_parts}
 use Rattle.std.specs.Prelude.{◌||◌, not, is_some, if◌then◌else◌, codes}
 use Rattle.std.specs.List.{list_all}
-use Rattle.instruction_parts.proofs.Tests.{and_left, and_right}
 use Rattle.x86_values.specs.declared.Bits.{Bits}
 use Rattle.x86_values.specs.declared.Bits.TheVariants.{B16, B32, B64}
 use Rattle.x86_values.specs.declared.Segment.{Segment}
@@ -270,12 +270,12 @@ unfolding is_plain_name is_prefix_word rank
 plain-rank [] h = absurd cc
 plain-rank (c ∷ cs) h =
     rank-5 (is_lock (c ∷ cs)) (is_repeat (repeat_named (c ∷ cs))) (is_some (segment_named (c ∷ cs))) (is_some (size_behind 97 (c ∷ cs)))
-    (is_some (size_behind 111 (c ∷ cs))) (and_right (list_all is_word_byte (c ∷ cs)) _ h)
+    (is_some (size_behind 111 (c ∷ cs))) (and_parts (list_all is_word_byte (c ∷ cs)) _ h).1
 
 plain-bytes : (name : List ℕ) → is_plain_name name ≡ true → list_all is_word_byte name ≡ true
 unfolding is_plain_name
 plain-bytes [] h = refl
-plain-bytes (c ∷ cs) h = and_left (list_all is_word_byte (c ∷ cs)) _ h
+plain-bytes (c ∷ cs) h = (and_parts (list_all is_word_byte (c ∷ cs)) _ h).0
 
 pick-name : (jump : Bool) (size : Bits) (name : List ℕ) → is_plain_name name ≡ true → is_plain_name (if jump then counter_jump size else name) ≡ true
 unfolding counter_jump is_plain_name is_prefix_word rank is_lock repeat_named is_repeat segment_named segment_by size_behind size_by skip_if first rest front back is_word_byte

@@ -1,10 +1,9 @@
 -- What stands inside the brackets of an address is read again.
 use Rattle.std.proofs.Common.{◌≡◌, ℕ, ◌-◌, ◌*◌, ◌%◌, ◌^◌, ◌<◌, ◌≤◌, Bool, true, false, List, [], ◌∷◌, ◌++◌, option_map, Option, Some, None, refl, ap, ◌∙◌, append_assoc, arith, lit<, lit≤}
 use Rattle.std.specs.Prelude.{◌&&◌, ◌==◌, nat_lt, nat_le, is_none, if◌then◌else◌, codes}
-use Rattle.std.proofs.lemmas.Bool.{ltb-true}
+use Rattle.std.proofs.lemmas.Bool.{ltb-true, and_parts}
 use Rattle.std.proofs.lemmas.Bool.Decides.{nat_tests}
 use Rattle.std.proofs.Math.Nat.{mod-lt}
-use Rattle.instruction_parts.proofs.Tests.{and_left, and_right}
 use Rattle.x86_values.specs.declared.Bits.{Bits}
 use Rattle.x86_values.specs.declared.Bits.TheVariants.{B16, B32, B64}
 use Rattle.x86_values.specs.declared.Register.{Register}
@@ -337,14 +336,14 @@ pick-inside false false x y z u v w f g h = h refl
 pub inside-read : (asize : Bits) (m : Mem) → is_printable_address asize m ≡ true → inside_in (inside Intel asize m ++ codes "]") ≡ Some (inside_of asize m)
 unfolding inside inside_of is_printable_address is_word_number
 inside-read asize m h =
-    let hb : is_named_if m.base ≡ true = and_left (is_named_if m.base) _ h in
-    let h1 : (is_named_if m.index && (nat_lt m.scale 10 && (nat_lt m.disp (2 ^ 64) && index_is_shown asize m))) ≡ true = and_right (is_named_if m.base) _ h in
-    let hi : is_named_if m.index ≡ true = and_left (is_named_if m.index) _ h1 in
-    let h2 : (nat_lt m.scale 10 && (nat_lt m.disp (2 ^ 64) && index_is_shown asize m)) ≡ true = and_right (is_named_if m.index) _ h1 in
-    let hs : nat_lt m.scale 10 ≡ true = and_left (nat_lt m.scale 10) _ h2 in
-    let h3 : (nat_lt m.disp (2 ^ 64) && index_is_shown asize m) ≡ true = and_right (nat_lt m.scale 10) _ h2 in
-    let hd : nat_lt m.disp (2 ^ 64) ≡ true = and_left (nat_lt m.disp (2 ^ 64)) _ h3 in
-    let here : index_is_shown asize m ≡ true = and_right (nat_lt m.disp (2 ^ 64)) _ h3 in
+    let hb : is_named_if m.base ≡ true = (and_parts (is_named_if m.base) _ h).0 in
+    let h1 : (is_named_if m.index && (nat_lt m.scale 10 && (nat_lt m.disp (2 ^ 64) && index_is_shown asize m))) ≡ true = (and_parts (is_named_if m.base) _ h).1 in
+    let hi : is_named_if m.index ≡ true = (and_parts (is_named_if m.index) _ h1).0 in
+    let h2 : (nat_lt m.scale 10 && (nat_lt m.disp (2 ^ 64) && index_is_shown asize m)) ≡ true = (and_parts (is_named_if m.index) _ h1).1 in
+    let hs : nat_lt m.scale 10 ≡ true = (and_parts (nat_lt m.scale 10) _ h2).0 in
+    let h3 : (nat_lt m.disp (2 ^ 64) && index_is_shown asize m) ≡ true = (and_parts (nat_lt m.scale 10) _ h2).1 in
+    let hd : nat_lt m.disp (2 ^ 64) ≡ true = (and_parts (nat_lt m.disp (2 ^ 64)) _ h3).0 in
+    let here : index_is_shown asize m ≡ true = (and_parts (nat_lt m.disp (2 ^ 64)) _ h3).1 in
     let small : m.disp < 2 ^ 64 = ltb-true m.disp (2 ^ 64) hd in
     let scale_small : m.scale < 10 = ltb-true m.scale 10 hs in
     pick-inside (is_instruction_pointer m.base) (is_none m.base && is_none m.index) (relative_word Intel m.base ++ number Intel m.disp)

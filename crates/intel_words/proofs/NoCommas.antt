@@ -2,9 +2,8 @@
 use Rattle.std.proofs.Common.{◌≡◌, ℕ, ◌<◌, Bool, true, false, List, [], ◌∷◌, ◌++◌, Option, Some, None, refl, ap, ◌∙◌, arith}
 use Rattle.std.specs.Prelude.{nat_lt, if◌then◌else◌, codes}
 use Rattle.std.specs.List.{list_all}
-use Rattle.std.proofs.lemmas.Bool.{ltb-true, and_from}
+use Rattle.std.proofs.lemmas.Bool.{ltb-true, and_from, and_parts}
 use Rattle.std.proofs.lemmas.Bool.Decides.{nat_tests}
-use Rattle.instruction_parts.proofs.Tests.{and_left, and_right}
 use Rattle.x86_values.specs.declared.Bits.{Bits}
 use Rattle.x86_values.specs.declared.Bits.TheVariants.{B16, B32, B64}
 use Rattle.x86_values.specs.declared.Segment.{Segment}
@@ -44,8 +43,8 @@ byte-no-comma c h = grind (arith, nat_tests)
 word-no-comma : (xs : List ℕ) → list_all is_word_byte xs ≡ true → list_all is_no_comma xs ≡ true
 word-no-comma [] h = refl
 word-no-comma (c ∷ cs) h =
-    and_from (is_no_comma c) (list_all is_no_comma cs) (byte-no-comma c (and_left (is_word_byte c) (list_all is_word_byte cs) h))
-    (word-no-comma cs (and_right (is_word_byte c) (list_all is_word_byte cs) h))
+    and_from (is_no_comma c) (list_all is_no_comma cs) (byte-no-comma c (and_parts (is_word_byte c) (list_all is_word_byte cs) h).0)
+    (word-no-comma cs (and_parts (is_word_byte c) (list_all is_word_byte cs) h).1)
 
 number-plain : (n : ℕ) → list_all is_no_comma (number Intel n) ≡ true
 number-plain n = word-no-comma (number Intel n) (number-bytes n)
@@ -123,11 +122,11 @@ pick-plain false false x y z hx hy hz = hz
 inside-plain : (asize : Bits) (m : Mem) → is_printable_address asize m ≡ true → list_all is_no_comma (inside Intel asize m) ≡ true
 unfolding inside sum_text is_printable_address
 inside-plain asize m h =
-    let hb : is_named_if m.base ≡ true = and_left (is_named_if m.base) _ h in
-    let h1 = and_right (is_named_if m.base) _ h in
-    let hi : is_named_if m.index ≡ true = and_left (is_named_if m.index) _ h1 in
-    let h2 = and_right (is_named_if m.index) _ h1 in
-    let hs : nat_lt m.scale 10 ≡ true = and_left (nat_lt m.scale 10) _ h2 in
+    let hb : is_named_if m.base ≡ true = (and_parts (is_named_if m.base) _ h).0 in
+    let h1 = (and_parts (is_named_if m.base) _ h).1 in
+    let hi : is_named_if m.index ≡ true = (and_parts (is_named_if m.index) _ h1).0 in
+    let h2 = (and_parts (is_named_if m.index) _ h1).1 in
+    let hs : nat_lt m.scale 10 ≡ true = (and_parts (nat_lt m.scale 10) _ h2).0 in
     pick-plain (is_relative m) (is_absolute m) (relative_word Intel m.base ++ number Intel m.disp) (lone_displacement Intel m) (sum_text Intel asize m)
     (all-both is_no_comma (relative_word Intel m.base) (number Intel m.disp) (relative-plain m.base) (number-plain m.disp))
     (lone-plain m.base m.index m.scale m.disp_size m.disp)

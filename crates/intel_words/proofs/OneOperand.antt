@@ -2,9 +2,8 @@
 use Rattle.std.proofs.Common.{◌≡◌, ℕ, ◌^◌, ◌<◌, Bool, true, false, List, [], ◌∷◌, ◌++◌, option_map, Option, Some, None, refl, ap, ◌∙◌, arith}
 use Rattle.std.specs.Prelude.{◌==◌, nat_lt, nat_le, if◌then◌else◌, codes}
 use Rattle.std.specs.List.{list_all}
-use Rattle.std.proofs.lemmas.Bool.{ltb-true}
+use Rattle.std.proofs.lemmas.Bool.{ltb-true, and_parts}
 use Rattle.std.proofs.lemmas.Bool.Decides.{nat_tests}
-use Rattle.instruction_parts.proofs.Tests.{and_left, and_right}
 use Rattle.x86_values.specs.declared.Bits.{Bits}
 use Rattle.x86_values.specs.declared.Segment.{Segment}
 use Rattle.x86_values.specs.declared.Segment.TheVariants.{Es, Cs, Ss, Ds, Fs, Gs}
@@ -223,6 +222,6 @@ operand-read bits row instr n (RegOperand r) h = register-operand r h
 operand-read bits row instr n (Imm x) h = number-operand x (ltb-true x (2 ^ 64) h)
 operand-read bits row instr n (Near x) h = number-operand x (ltb-true x (2 ^ 64) h)
 operand-read bits row instr n (FarOperand selector offset) h =
-    far-operand selector offset (ltb-true selector (2 ^ 64) (and_left (nat_lt selector (2 ^ 64)) _ h))
-    (ltb-true offset (2 ^ 64) (and_right (nat_lt selector (2 ^ 64)) (nat_lt offset (2 ^ 64)) h))
+    far-operand selector offset (ltb-true selector (2 ^ 64) (and_parts (nat_lt selector (2 ^ 64)) _ h).0)
+    (ltb-true offset (2 ^ 64) (and_parts (nat_lt selector (2 ^ 64)) (nat_lt offset (2 ^ 64)) h).1)
 operand-read bits row instr n (MemOperand m) h = memory-operand bits row instr n m h

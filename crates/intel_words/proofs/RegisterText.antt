@@ -14,7 +14,7 @@ use Rattle.x86_values.specs.Named.{is_named}
 use Rattle.intel_words.specs.Scanning.{is_word_byte}
 use Rattle.intel_words.specs.Scanning.{first, rest}
 use Rattle.intel_words.specs.ReadNumbers.{decimal_digit, teen, decimal_in}
-use Rattle.intel_words.specs.ReadRegisters.{segment_by, segment_named, letter_number, word_number, below_8, pointer_byte, two_letters, lettered, e_named, from_8, sized_by, r_named, vector_number, register_from, register_named}
+use Rattle.intel_words.specs.ReadRegisters.{segment_by, segment_named, letter_number, word_number, below_8, pointer_byte, two_letters, register_of_letters, e_named, from_8, sized_by, r_named, vector_number, register_from, register_named}
 use Rattle.intel_words.proofs.Below.{agree-below}
 
 -- the register is read from its name, which has letters and digits alone and begins with a letter
@@ -53,7 +53,7 @@ record EachIsFound : Type 0 where
   ymm : AreFound Ymm 16
 
 each_is_found : EachIsFound
-unfolding word_name low_byte_name high_byte_name segment_name stack_name register_name sigil register decimal is_word_byte first rest decimal_digit teen decimal_in segment_by letter_number word_number below_8 pointer_byte two_letters lettered e_named from_8 sized_by r_named vector_number register_from register_named
+unfolding word_name low_byte_name high_byte_name segment_name stack_name register_name sigil register decimal is_word_byte first rest decimal_digit teen decimal_in segment_by letter_number word_number below_8 pointer_byte two_letters register_of_letters e_named from_8 sized_by r_named vector_number register_from register_named
 each_is_found = record { low8 = refl; high8 = refl; r16 = refl; r32 = refl; r64 = refl; cr = refl; dr = refl; st = refl; mm = refl; xmm = refl; ymm = refl }
 
 class-read : (class : ℕ → Register) (count n : ℕ) → AreFound class count → n < count → IsRead (class n)
@@ -62,7 +62,7 @@ class-read class count n e lt = is_read (class n) (agree-below (λ k. found (cla
 -- ---- the others
 
 segment-read : (s : Segment) → IsRead (Seg s)
-unfolding word_name low_byte_name high_byte_name segment_name stack_name register_name sigil register decimal is_word_byte first rest decimal_digit teen decimal_in segment_by letter_number word_number below_8 pointer_byte two_letters lettered e_named from_8 sized_by r_named vector_number register_from register_named
+unfolding word_name low_byte_name high_byte_name segment_name stack_name register_name sigil register decimal is_word_byte first rest decimal_digit teen decimal_in segment_by letter_number word_number below_8 pointer_byte two_letters register_of_letters e_named from_8 sized_by r_named vector_number register_from register_named
 segment-read Es = is_read (Seg Es) refl
 segment-read Cs = is_read (Seg Cs) refl
 segment-read Ss = is_read (Seg Ss) refl
@@ -71,7 +71,7 @@ segment-read Fs = is_read (Seg Fs) refl
 segment-read Gs = is_read (Seg Gs) refl
 
 pub register-read : (r : Register) → is_named r ≡ true → IsRead r
-unfolding is_named word_name low_byte_name high_byte_name segment_name stack_name register_name sigil register decimal is_word_byte first rest decimal_digit teen decimal_in segment_by letter_number word_number below_8 pointer_byte two_letters lettered e_named from_8 sized_by r_named vector_number register_from register_named
+unfolding is_named word_name low_byte_name high_byte_name segment_name stack_name register_name sigil register decimal is_word_byte first rest decimal_digit teen decimal_in segment_by letter_number word_number below_8 pointer_byte two_letters register_of_letters e_named from_8 sized_by r_named vector_number register_from register_named
 register-read (Low8 n) h = class-read Low8 16 n each_is_found.low8 (ltb-true n 16 h)
 register-read (High8 n) h = class-read High8 4 n each_is_found.high8 (ltb-true n 4 h)
 register-read (R16 n) h = class-read R16 16 n each_is_found.r16 (ltb-true n 16 h)

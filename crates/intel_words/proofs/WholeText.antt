@@ -1,7 +1,7 @@
 -- The whole text of an instruction is read again.
 use Rattle.std.proofs.Common.{◌≡◌, ℕ, Bool, true, List, [], ◌∷◌, ◌++◌, Option, Some, refl, ap, sym, ◌∙◌, append_assoc}
+use Rattle.std.proofs.lemmas.Bool.{and_parts}
 use Rattle.std.specs.Prelude.{codes}
-use Rattle.instruction_parts.proofs.Tests.{and_left, and_right}
 use Rattle.x86_values.specs.declared.Bits.{Bits}
 use Rattle.x86_values.specs.declared.Segment.{Segment}
 use Rattle.x86_values.specs.declared.Rep.{Rep}
@@ -78,16 +78,16 @@ grouped-read : (bits : Bits) (row : Row) (name : List ℕ) (instr : Instr) (text
     text ≡ from_lock bits row name instr → AreWords bits row name instr text
 unfolding is_printable
 grouped-read bits row name instr text h e0 =
-    let plain : is_plain_name name ≡ true = and_left (is_plain_name name) _ h in
-    let h1 = and_right (is_plain_name name) _ h in
-    let f : are_in_front instr ≡ true = and_left (are_in_front instr) _ h1 in
-    let h2 = and_right (are_in_front instr) _ h1 in
-    let p0 : nth_is_printable bits instr 0 ≡ true = and_left (nth_is_printable bits instr 0) _ h2 in
-    let h3 = and_right (nth_is_printable bits instr 0) _ h2 in
-    let p1 : nth_is_printable bits instr 1 ≡ true = and_left (nth_is_printable bits instr 1) _ h3 in
-    let h4 = and_right (nth_is_printable bits instr 1) _ h3 in
-    let p2 : nth_is_printable bits instr 2 ≡ true = and_left (nth_is_printable bits instr 2) _ h4 in
-    let p3 : nth_is_printable bits instr 3 ≡ true = and_right (nth_is_printable bits instr 2) _ h4 in
+    let plain : is_plain_name name ≡ true = (and_parts (is_plain_name name) _ h).0 in
+    let h1 = (and_parts (is_plain_name name) _ h).1 in
+    let f : are_in_front instr ≡ true = (and_parts (are_in_front instr) _ h1).0 in
+    let h2 = (and_parts (are_in_front instr) _ h1).1 in
+    let p0 : nth_is_printable bits instr 0 ≡ true = (and_parts (nth_is_printable bits instr 0) _ h2).0 in
+    let h3 = (and_parts (nth_is_printable bits instr 0) _ h2).1 in
+    let p1 : nth_is_printable bits instr 1 ≡ true = (and_parts (nth_is_printable bits instr 1) _ h3).0 in
+    let h4 = (and_parts (nth_is_printable bits instr 1) _ h3).1 in
+    let p2 : nth_is_printable bits instr 2 ≡ true = (and_parts (nth_is_printable bits instr 2) _ h4).0 in
+    let p3 : nth_is_printable bits instr 3 ≡ true = (and_parts (nth_is_printable bits instr 2) _ h4).1 in
     let t5 : List ℕ = from_name bits row name instr in
     let t4 : List ℕ = from_osize bits row name instr in
     let t3 : List ℕ = from_asize bits row name instr in

@@ -49,11 +49,11 @@ two_letters a b =
     else (if b == 115 then option_map Seg (segment_by a) else option_map R16 (word_number a b)))
 
 -- a name of letters alone without the e or r of a larger register
-unfoldable pub lettered : ℕ → List ℕ → Option Register
-lettered a [] = None
-lettered a (b ∷ []) = two_letters a b
-lettered a (b ∷ c ∷ []) = if c == 108 then pointer_byte (word_number a b) else None
-lettered a (b ∷ c ∷ d ∷ more) = None
+unfoldable pub register_of_letters : ℕ → List ℕ → Option Register
+register_of_letters a [] = None
+register_of_letters a (b ∷ []) = two_letters a b
+register_of_letters a (b ∷ c ∷ []) = if c == 108 then pointer_byte (word_number a b) else None
+register_of_letters a (b ∷ c ∷ d ∷ more) = None
 
 -- a name that begins with e
 unfoldable pub e_named : List ℕ → Option Register
@@ -96,7 +96,7 @@ register_from a more =
     else (if a == 115 && first more == 116 then option_map St (below_8 (decimal_in (rest more)))
     else (if a == 99 && first more == 114 then option_map Cr (decimal_in (rest more))
     else (if a == 100 && first more == 114 then option_map Dr (below_8 (decimal_in (rest more)))
-    else lettered a more)))))))
+    else register_of_letters a more)))))))
 
 -- the register of this name
 unfoldable pub register_named : List ℕ → Option Register

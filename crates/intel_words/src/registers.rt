@@ -127,9 +127,9 @@ fn two_letters(a: u8, b: u8) -> Option<Register>
 }
 
 /// A name of letters alone without the `e` or `r` of a larger register, behind its first letter.
-#[tactic(auto, unfolding(crate::specs::ReadRegisters::lettered))]
-fn lettered(a: u8, more: &[u8]) -> Option<Register>
-    ensures { result ≡ spec.lettered a more.now }
+#[tactic(auto, unfolding(crate::specs::ReadRegisters::register_of_letters))]
+fn register_of_letters(a: u8, more: &[u8]) -> Option<Register>
+    ensures { result ≡ spec.register_of_letters a more.now }
 {
     match more {
         [b] => two_letters(a, *b),
@@ -234,7 +234,7 @@ fn register_from(a: u8, more: &[u8]) -> Option<Register>
     } else if a == b'd' && first(more) == b'r' {
         below_8(decimal_in(rest(more))).map(Register::Dr)
     } else {
-        lettered(a, more)
+        register_of_letters(a, more)
     }
 }
 

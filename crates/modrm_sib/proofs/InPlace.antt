@@ -1,10 +1,10 @@
--- Answers whose instruction was written to a place.
+-- Answers whose instruction was written where the caller asked.
 use Rattle.std.proofs.Common.{◌≡◌, ℕ, IfOk, Option, Some, None, Result, Ok, Err, subst}
 use Rattle.std.specs.Prelude.{IfSome}
 use Rattle.x86_values.specs.declared.Decoded.{Decoded}
 use Rattle.modrm_sib.specs.Answer.{answer_in}
 
--- what holds of the instruction holds of the place
+-- what holds of the answer holds of what was written
 pub ok_in : (E : Type 0) (P : Decoded → Type 0) (r : Result (Unit {0}) E) (place : Decoded) → IfOk (answer_in r place) P → IfOk r (λ done. P place)
 ok_in E P (Ok done) place h = h
 ok_in E P (Err why) place h = tt

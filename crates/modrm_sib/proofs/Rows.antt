@@ -2,7 +2,7 @@
 use Rattle.std.proofs.Common.{◌≡◌, inl, inr, ℕ, ◌+◌, ◌<◌, ◌≤◌, Bool, true, false, ◌&&◌, ◌==◌, List, [], ◌∷◌, ◌++◌, length, drop, Option, Some, None, Result, Ok, Err, refl, ap, sym, ◌∙◌, subst, arith, append_assoc, length-append, if◌then◌else◌, nat_le, nat_lt, suc, get_or, rules, Fits, w8}
 use Rattle.std.specs.Prelude.{IfOk}
 use Rattle.std.proofs.lemmas.List.{append-nil}
-use Rattle.std.proofs.lemmas.Bool.{leb-true, leb-false, lt-ltb}
+use Rattle.std.proofs.lemmas.Bool.{leb-true, leb-false, lt-ltb, and_parts, cases_Bool}
 use Rattle.x86_values.specs.declared.Bits.{Bits}
 use Rattle.x86_values.specs.declared.Bits.TheVariants.{B16, B32, B64}
 use Rattle.x86_values.specs.declared.Code.{Code}
@@ -24,7 +24,6 @@ use Rattle.row_fit.proofs.FrontConverse.{same_state, front_converse}
 use Rattle.row_fit.proofs.FrontGrows.{front-extends}
 use Rattle.row_meaning.specs.Meaning.{meaning, tail, tail_of, instr_of, next_address}
 use Rattle.row_relation.specs.RowReading.{RowReads, RowReadsNothing, RowCanGoOn}
-use Rattle.instruction_parts.proofs.Tests.{either, and_left, and_right}
 use Rattle.modrm_sib.specs.declared.TailError.{TailError}
 use Rattle.modrm_sib.specs.declared.TailError.TheVariants.{Ended, Forbidden}
 use Rattle.modrm_sib.specs.Parts.{displacement_len}
@@ -36,12 +35,12 @@ use Rattle.modrm_sib.proofs.Tells.{Tells, ReadTail, NoTail, NeverTail, GoesOn, t
 
 within_known : (given : ℕ) (f : Front) (state : PrefixState) → within_15 given f ≡ Known state → (f ≡ Known state) × (state.used < 15)
 unfolding within_15
-within_known given Open state h = elim (either (nat_le 15 given)) [
+within_known given Open state h = elim (cases_Bool (nat_le 15 given)) [
   | inl full ↦ (let k : ForbiddenFront ≡ Known state = rw full at h in cc)
   | inr few ↦ (let k : Open ≡ Known state = rw few at h in cc)
 ]
 within_known given ForbiddenFront state h = cc
-within_known given (Known other) state h = elim (either (nat_le 15 other.used)) [
+within_known given (Known other) state h = elim (cases_Bool (nat_le 15 other.used)) [
   | inl full ↦ (let k : ForbiddenFront ≡ Known state = rw full at h in cc)
   | inr few ↦
       let k : Known other ≡ Known state = rw few at h in
@@ -165,8 +164,8 @@ short_at size row h =
     let a = nat_le (immediates_bytes B16 row) 8 in
     let b = nat_le (immediates_bytes B32 row) 8 in
     let c = nat_le (immediates_bytes B64 row) 8 in
-    let k = and_right a (b && c) h in
-    each size (leb-true (immediates_bytes B16 row) 8 (and_left a (b && c) h)) (leb-true (immediates_bytes B32 row) 8 (and_left b c k)) (leb-true (immediates_bytes B64 row) 8 (and_right b c k))
+    let k = (and_parts a (b && c) h).1 in
+    each size (leb-true (immediates_bytes B16 row) 8 (and_parts a (b && c) h).0) (leb-true (immediates_bytes B32 row) 8 (and_parts b c k).0) (leb-true (immediates_bytes B64 row) 8 (and_parts b c k).1)
   where
     each : (size : Bits) → immediates_bytes B16 row ≤ 8 → immediates_bytes B32 row ≤ 8 → immediates_bytes B64 row ≤ 8 → immediates_bytes size row ≤ 8
     each B16 x y z = x

@@ -1,5 +1,6 @@
 -- What a fitting tail is, and that it is what stands behind the front of a fitting spelling.
 use Rattle.std.proofs.Common.{◌≡◌, inl, inr, ℕ, ◌+◌, Bool, true, false, ◌&&◌, not, ◌==◌, List, [], ◌∷◌, ◌++◌, length, Option, Some, None, refl, ap, sym, ◌∙◌, subst, arith, append_assoc, length-append, if◌then◌else◌, is_some, is_none, nat_lt, eq-eqb}
+use Rattle.std.proofs.lemmas.Bool.{and_parts, cases_Bool, eqb-true, not-true}
 use Rattle.x86_values.specs.declared.Bits.{Bits}
 use Rattle.row_types.specs.declared.Map.{Map}
 use Rattle.row_types.specs.declared.Row.{Row}
@@ -13,7 +14,6 @@ use Rattle.instruction_parts.specs.Bytes.{bytes_of, front_bytes, tail_bytes, lea
 use Rattle.instruction_parts.specs.Front.{forbids_vex, long_front, Known}
 use Rattle.row_fit.specs.Fits.{fits, Fits, mode_fits, class_fits, sizes_fit, prefixes_fit, vex_fits, opcode_is_kept, is_opcode, opcode_allows, is_vex_of_mode, same_map, same_bool, opcode_and_modrm_fit, opcode_fits, modrm_rule_fits, place_fits, lengths_fit, address_fits, reads_mode, reads_by, is_offset, needs_sib, displacement_bytes, immediates_bytes, lock_fits, registers_fit, state_fits, tail_fits, are_bytes, vex_in_range, modrm_in_range, sib_in_range, fields_in_range}
 use Rattle.row_fit.specs.Sound.{has_modrm_rule}
-use Rattle.instruction_parts.proofs.Tests.{either, and_left, and_right, not_true, equal_from}
 use Rattle.row_fit.proofs.FitLaws.{all_conditions, modrm_stands, ranges_behind}
 use Rattle.row_fit.proofs.FrontLaws.{front_law}
 use Rattle.row_fit.proofs.FrontConverse.{same_state}
@@ -51,7 +51,7 @@ whole m sib disp imm behind = modrm_bytes m ++ (sib_bytes sib ++ (disp ++ (imm +
 
 same_from : (a b : Bool) → same_bool a b ≡ true → a ≡ b
 same_from true b h = sym h
-same_from false b h = sym (not_true b h)
+same_from false b h = sym (not-true b h)
 
 same_to : (a b : Bool) → a ≡ b → same_bool a b ≡ true
 same_to true b h = sym h
@@ -70,19 +70,19 @@ address_parts : (bits : Bits) (row : Row) (state : PrefixState) (m : Option ModR
 unfolding address_fits takes_sib displacement_len
 address_parts bits row state None sib d h =
     let n : ℕ = if reads_by is_offset row then size_bytes (state_address_size bits state) else 0 in
-    (none_is sib (and_left (is_none sib) (d == n) h), equal_from d n (and_right (is_none sib) (d == n) h))
+    (none_is sib (and_parts (is_none sib) (d == n) h).0, eqb-true d n (and_parts (is_none sib) (d == n) h).1)
 address_parts bits row state (Some m) sib d h =
     let asize = state_address_size bits state in
-    elim (either (reads_mode row)) [
+    elim (cases_Bool (reads_mode row)) [
       | inl reads ↦
           let k : (same_bool (is_some sib) (needs_sib asize m) && d == displacement_bytes asize m sib) ≡ true = rw reads at h in
           rw reads (
-            same_from (is_some sib) (needs_sib asize m) (and_left (same_bool (is_some sib) (needs_sib asize m)) (d == displacement_bytes asize m sib) k),
-            equal_from d (displacement_bytes asize m sib) (and_right (same_bool (is_some sib) (needs_sib asize m)) (d == displacement_bytes asize m sib) k),
+            same_from (is_some sib) (needs_sib asize m) (and_parts (same_bool (is_some sib) (needs_sib asize m)) (d == displacement_bytes asize m sib) k).0,
+            eqb-true d (displacement_bytes asize m sib) (and_parts (same_bool (is_some sib) (needs_sib asize m)) (d == displacement_bytes asize m sib) k).1,
           )
       | inr other ↦
           let k : (is_none sib && d == 0) ≡ true = rw other at h in
-          rw other (none_is sib (and_left (is_none sib) (d == 0) k), equal_from d 0 (and_right (is_none sib) (d == 0) k))
+          rw other (none_is sib (and_parts (is_none sib) (d == 0) k).0, eqb-true d 0 (and_parts (is_none sib) (d == 0) k).1)
     ]
 
 same_number : (n : ℕ) → (n == n) ≡ true
@@ -95,7 +95,7 @@ address_back bits row state None sib h =
     both (is_none sib) _ (is_none_from sib h) (same_number (if reads_by is_offset row then size_bytes (state_address_size bits state) else 0))
 address_back bits row state (Some m) sib h =
     let asize = state_address_size bits state in
-    elim (either (reads_mode row)) [
+    elim (cases_Bool (reads_mode row)) [
       | inl reads ↦
           let k : is_some sib ≡ needs_sib asize m = rw reads at h in
           rw reads (both (same_bool (is_some sib) (needs_sib asize m)) _ (same_to (is_some sib) (needs_sib asize m) k) (same_number (displacement_bytes asize m sib)))
@@ -110,15 +110,15 @@ address_back bits row state (Some m) sib h =
 lead_from : (bits : Bits) (row : Row) (ps : List ℕ) (used : ℕ) (vex : Option Vex) (o : ℕ) (m : Option ModRm) → vex_fits bits row ps vex o m ≡ true → lead_fits bits row (state_from bits ps used vex (spelled_map row.map vex) o) m ≡ true
 unfolding lead_fits vex_fits state_from opcode_is_kept
 lead_from bits row ps used None o m h =
-    let legacy = and_left (not (is_vex_row row)) (is_opcode bits row.map o && opcode_allows bits row.map o m) h in
-    let kept = and_right (not (is_vex_row row)) (is_opcode bits row.map o && opcode_allows bits row.map o m) h in
+    let legacy = (and_parts (not (is_vex_row row)) (is_opcode bits row.map o && opcode_allows bits row.map o m) h).0 in
+    let kept = (and_parts (not (is_vex_row row)) (is_opcode bits row.map o && opcode_allows bits row.map o m) h).1 in
     both (same_map row.map row.map) (not (is_vex_row row) && opcode_allows bits row.map o m) (same_map-refl row.map)
-    (both (not (is_vex_row row)) (opcode_allows bits row.map o m) legacy (and_right (is_opcode bits row.map o) (opcode_allows bits row.map o m) kept))
+    (both (not (is_vex_row row)) (opcode_allows bits row.map o m) legacy (and_parts (is_opcode bits row.map o) (opcode_allows bits row.map o m) kept).1)
 lead_from bits row ps used (Some v) o m h =
     let rest = not (forbids_vex bits ps) && is_vex_of_mode bits v in
     both (same_map v.map row.map) (is_vex_row row)
-    (and_left (same_map v.map row.map) rest (and_right (is_vex_row row) (same_map v.map row.map && rest) h))
-    (and_left (is_vex_row row) (same_map v.map row.map && rest) h)
+    (and_parts (same_map v.map row.map) rest (and_parts (is_vex_row row) (same_map v.map row.map && rest) h).1).0
+    (and_parts (is_vex_row row) (same_map v.map row.map && rest) h).0
 
 -- what the lead of a row says
 abbrev lead_test : Bits → Row → Option Vex → Map → ℕ → Option ModRm → Bool
@@ -128,7 +128,7 @@ lead_test bits row vex map o m =
 
 lead_map : (bits : Bits) (row : Row) (vex : Option Vex) (map : Map) (o : ℕ) (m : Option ModRm) → lead_test bits row vex map o m ≡ true → map ≡ row.map
 lead_map bits row vex map o m h =
-    same_map-is map row.map (and_left (same_map map row.map) (elim vex [ None ↦ not (is_vex_row row) && opcode_allows bits row.map o m | Some v ↦ is_vex_row row ]) h)
+    same_map-is map row.map (and_parts (same_map map row.map) (elim vex [ None ↦ not (is_vex_row row) && opcode_allows bits row.map o m | Some v ↦ is_vex_row row ]) h).0
 
 false_not : (b : Bool) → b ≡ false → not b ≡ true
 false_not b h = rw h refl
@@ -140,12 +140,12 @@ lead_back bits row ps None map o m rest h p =
     let legacy = not (is_vex_row row) in
     let allows = opcode_allows bits row.map o m in
     let one = subst (λ (x : Map). is_opcode bits x o ≡ true) (lead_map bits row None map o m h) p.is_one in
-    let k = and_right (same_map map row.map) (legacy && allows) h in
-    both legacy (is_opcode bits row.map o && allows) (and_left legacy allows k)
-    (both (is_opcode bits row.map o) allows one (and_right legacy allows k))
+    let k = (and_parts (same_map map row.map) (legacy && allows) h).1 in
+    both legacy (is_opcode bits row.map o && allows) (and_parts legacy allows k).0
+    (both (is_opcode bits row.map o) allows one (and_parts legacy allows k).1)
 lead_back bits row ps (Some v) map o m rest h p =
-    let same = subst (λ (x : Map). same_map x row.map ≡ true) (sym p.map_is) (and_left (same_map map row.map) (is_vex_row row) h) in
-    both (is_vex_row row) (same_map v.map row.map && (not (forbids_vex bits ps) && is_vex_of_mode bits v)) (and_right (same_map map row.map) (is_vex_row row) h)
+    let same = subst (λ (x : Map). same_map x row.map ≡ true) (sym p.map_is) (and_parts (same_map map row.map) (is_vex_row row) h).0 in
+    both (is_vex_row row) (same_map v.map row.map && (not (forbids_vex bits ps) && is_vex_of_mode bits v)) (and_parts (same_map map row.map) (is_vex_row row) h).1
     (both (same_map v.map row.map) (not (forbids_vex bits ps) && is_vex_of_mode bits v) same
     (both (not (forbids_vex bits ps)) (is_vex_of_mode bits v) (false_not (forbids_vex bits ps) p.is_allowed) p.is_of_mode))
 
@@ -176,15 +176,15 @@ parts_of bits row state m sib h =
     let o = opcode_and_modrm_fit row state.opcode m in
     let k = lock_fits row state m in
     let g = registers_fit bits row state m sib in
-    let h1 = and_right a (b && (o && (k && g))) h in
-    let h2 = and_right b (o && (k && g)) h1 in
-    let h3 = and_right o (k && g) h2 in
+    let h1 = (and_parts a (b && (o && (k && g))) h).1 in
+    let h2 = (and_parts b (o && (k && g)) h1).1 in
+    let h3 = (and_parts o (k && g) h2).1 in
     record {
-      state_fits = and_left a (b && (o && (k && g))) h;
-      lead = and_left b (o && (k && g)) h1;
-      opcode = and_left o (k && g) h2;
-      lock = and_left k g h3;
-      registers = and_right k g h3;
+      state_fits = (and_parts a (b && (o && (k && g))) h).0;
+      lead = (and_parts b (o && (k && g)) h1).0;
+      opcode = (and_parts o (k && g) h2).0;
+      lock = (and_parts k g h3).0;
+      registers = (and_parts k g h3).1;
     }
 
 parts_back : (bits : Bits) (row : Row) (state : PrefixState) (m : Option ModRm) (sib : Option Sib) → PartsFit bits row state m sib → parts_fit bits row state m sib ≡ true
@@ -200,8 +200,8 @@ parts_back bits row state m sib p =
 rule_of : (row : Row) (o : ℕ) (m : Option ModRm) → opcode_and_modrm_fit row o m ≡ true → is_some m ≡ has_modrm_rule row.modrm
 unfolding opcode_and_modrm_fit
 rule_of row o m h =
-    modrm_stands row.plus row.modrm m (and_left (modrm_rule_fits row.plus row.modrm m) (place_fits row m)
-    (and_right (opcode_fits row o) (modrm_rule_fits row.plus row.modrm m && place_fits row m) h))
+    modrm_stands row.plus row.modrm m (and_parts (modrm_rule_fits row.plus row.modrm m) (place_fits row m)
+    (and_parts (opcode_fits row o) (modrm_rule_fits row.plus row.modrm m && place_fits row m) h).1).0
 
 -- the ModRM of a fitting tail stands exactly where the row has one
 pub modrm_is : (bits : Bits) (row : Row) (state : PrefixState) (m : Option ModRm) (sib : Option Sib) → parts_fit bits row state m sib ≡ true → is_some m ≡ has_modrm_rule row.modrm
@@ -228,13 +228,13 @@ own_tail bits row s h =
     let state = state_of bits row s in
     let i = immediates_bytes (state_size bits row state) row in
     let address = address_fits (state_address_size bits state) row s.modrm s.sib (length s.disp.items) in
-    let a = address_parts bits row state s.modrm s.sib (length s.disp.items) (and_left address (length s.imm.items == i) f.lengths) in
+    let a = address_parts bits row state s.modrm s.sib (length s.disp.items) (and_parts address (length s.imm.items == i) f.lengths).0 in
     let b = ranges_behind s f.ranges in
     record {
       parts = parts_back bits row state s.modrm s.sib (fits_of_tail bits row s f);
       sib_is = a.0;
       disp_len = a.1;
-      imm_len = equal_from (length s.imm.items) i (and_right address (length s.imm.items == i) f.lengths);
+      imm_len = eqb-true (length s.imm.items) i (and_parts address (length s.imm.items == i) f.lengths).1;
       modrm_range = b.modrm;
       sib_range = b.sib;
       disp_bytes = b.disp;
@@ -307,18 +307,18 @@ tail_from bits row state m sib d i t =
 pub are_bytes-left : (xs ys : List ℕ) → are_bytes (xs ++ ys) ≡ true → are_bytes xs ≡ true
 are_bytes-left [] ys h = refl
 are_bytes-left (x ∷ xs) ys h =
-    both (nat_lt x 256) (are_bytes xs) (and_left (nat_lt x 256) (are_bytes (xs ++ ys)) h)
-    (are_bytes-left xs ys (and_right (nat_lt x 256) (are_bytes (xs ++ ys)) h))
+    both (nat_lt x 256) (are_bytes xs) (and_parts (nat_lt x 256) (are_bytes (xs ++ ys)) h).0
+    (are_bytes-left xs ys (and_parts (nat_lt x 256) (are_bytes (xs ++ ys)) h).1)
 
 pub are_bytes-right : (xs ys : List ℕ) → are_bytes (xs ++ ys) ≡ true → are_bytes ys ≡ true
 are_bytes-right [] ys h = h
-are_bytes-right (x ∷ xs) ys h = are_bytes-right xs ys (and_right (nat_lt x 256) (are_bytes (xs ++ ys)) h)
+are_bytes-right (x ∷ xs) ys h = are_bytes-right xs ys (and_parts (nat_lt x 256) (are_bytes (xs ++ ys)) h).1
 
 pub are_bytes-both : (xs ys : List ℕ) → are_bytes xs ≡ true → are_bytes ys ≡ true → are_bytes (xs ++ ys) ≡ true
 are_bytes-both [] ys hx hy = hy
 are_bytes-both (x ∷ xs) ys hx hy =
-    both (nat_lt x 256) (are_bytes (xs ++ ys)) (and_left (nat_lt x 256) (are_bytes xs) hx)
-    (are_bytes-both xs ys (and_right (nat_lt x 256) (are_bytes xs) hx) hy)
+    both (nat_lt x 256) (are_bytes (xs ++ ys)) (and_parts (nat_lt x 256) (are_bytes xs) hx).0
+    (are_bytes-both xs ys (and_parts (nat_lt x 256) (are_bytes xs) hx).1 hy)
 
 -- the parts of bytes whose front is known are bytes
 pub record PartBytes (prefixes : List ℕ) (opcode : ℕ) (rest : List ℕ) : Type 0 where
@@ -332,8 +332,8 @@ part_bytes prefixes lead opcode rest bytes h e =
     let last = are_bytes-right lead (opcode ∷ rest) (are_bytes-right prefixes (lead ++ (opcode ∷ rest)) k) in
     record {
       prefixes_are = are_bytes-left prefixes (lead ++ (opcode ∷ rest)) k;
-      opcode_is = and_left (nat_lt opcode 256) (are_bytes rest) last;
-      rest_are = and_right (nat_lt opcode 256) (are_bytes rest) last;
+      opcode_is = (and_parts (nat_lt opcode 256) (are_bytes rest) last).0;
+      rest_are = (and_parts (nat_lt opcode 256) (are_bytes rest) last).1;
     }
 
 -- ---- the spelling of a tail

@@ -1,9 +1,10 @@
 -- What an answer says of the bytes behind an opcode byte.
 use Rattle.std.proofs.Common.{◌≡◌, inl, inr, ℕ, zero, suc, ◌+◌, ◌-◌, ◌/◌, ◌%◌, ◌<◌, ◌≤◌, Bool, true, false, ◌&&◌, List, [], ◌∷◌, ◌++◌, length, take, drop, Option, Some, None, Result, Ok, Err, refl, ap, sym, ◌∙◌, subst, arith, append_assoc, length-append, is_some, nat_lt, nat_le, get_or}
+use Rattle.instruction_parts.proofs.Tests.{or_right}
 use Rattle.std.proofs.Math.ListN.{replicate}
 use Rattle.std.proofs.lemmas.List.{length-replicate, length-take-le, length-drop, take-append-drop}
 use Rattle.std.proofs.lemmas.List.Folds.{list_any_at}
-use Rattle.std.proofs.lemmas.Bool.{lt-ltb, leb-true, leb-false}
+use Rattle.std.proofs.lemmas.Bool.{lt-ltb, leb-true, leb-false, and_parts, cases_Bool}
 use Rattle.std.specs.List.{list_any, list_all}
 use borrow.Author.Tests.{ltb-true}
 use Rattle.x86_values.specs.declared.Bits.{Bits}
@@ -18,7 +19,6 @@ use Rattle.instruction_parts.specs.Bytes.{modrm_bytes, sib_bytes, modrm_byte, si
 use Rattle.row_fit.specs.Fits.{immediates_bytes, are_bytes, modrm_in_range, sib_in_range, registers_fit, gather_fits, index_number}
 use Rattle.row_fit.specs.Sound.{has_modrm_rule}
 use Rattle.row_meaning.specs.Meaning.{tail, instr_of, next_address}
-use Rattle.instruction_parts.proofs.Tests.{either, and_left, and_right, or_right}
 use Rattle.row_fit.proofs.TailLaws.{same_modrm_option, same_sib_option}
 use Rattle.modrm_sib.specs.declared.TailError.{TailError}
 use Rattle.modrm_sib.specs.declared.TailError.TheVariants.{Ended, Forbidden}
@@ -160,7 +160,7 @@ unfolding fitting_answer
 fitting_tells bits ip state code row m sib used bytes s parts r u =
     let d = displacement_len bits row state m sib in
     let i = immediates_bytes (state_size bits row state) row in
-    elim (either (nat_le (d + i) (length bytes))) [
+    elim (cases_Bool (nat_le (d + i) (length bytes))) [
       | inl enough ↦
           let room : d + i ≤ length bytes = leb-true (d + i) (length bytes) enough in
           let disp = take d bytes in
@@ -201,7 +201,7 @@ fitting_tells bits ip state code row m sib used bytes s parts r u =
 -- behind a ModRM and a SIB
 rest_tells : (bits : Bits) (ip : ℕ) (state : PrefixState) (code : Code) (row : Row) (m : Option ModRm) (sib : Option Sib) (used : ℕ) (bytes : List ℕ) → Settled bits row state m sib → are_bytes bytes ≡ true → used ≡ state.used + 1 + length (modrm_bytes m) + length (sib_bytes sib) → Tells bits ip state code row (modrm_bytes m ++ (sib_bytes sib ++ bytes)) (rest_answer bits ip state code row m sib used bytes)
 unfolding rest_answer
-rest_tells bits ip state code row m sib used bytes s r u = elim (either (parts_fit bits row state m sib)) [
+rest_tells bits ip state code row m sib used bytes s r u = elim (cases_Bool (parts_fit bits row state m sib)) [
   | inl fits ↦ rw fits (fitting_tells bits ip state code row m sib used bytes s fits r u)
   | inr other ↦ rw other (λ n t d i behind more fit e.
       let a = same_parts bits row state m sib bytes s n t d i behind more fit e in
@@ -224,9 +224,9 @@ record Found (p : ℕ → Bool) (bound : ℕ) : Type 0 where
 
 any-found : (p : ℕ → Bool) (bound : ℕ) (xs : List ℕ) → list_all (λ x. nat_lt x bound) xs ≡ true → list_any p xs ≡ true → Found p bound
 any-found p bound [] all h = cc
-any-found p bound (x ∷ xs) all h = elim (either (p x)) [
-  | inl here ↦ record { number = x; below = ltb-true x bound (and_left (nat_lt x bound) (list_all (λ x. nat_lt x bound) xs) all); passes = here }
-  | inr other ↦ any-found p bound xs (and_right (nat_lt x bound) (list_all (λ x. nat_lt x bound) xs) all) (or_right (p x) (list_any p xs) other h)
+any-found p bound (x ∷ xs) all h = elim (cases_Bool (p x)) [
+  | inl here ↦ record { number = x; below = ltb-true x bound (and_parts (nat_lt x bound) (list_all (λ x. nat_lt x bound) xs) all).0; passes = here }
+  | inr other ↦ any-found p bound xs (and_parts (nat_lt x bound) (list_all (λ x. nat_lt x bound) xs) all).1 (or_right (p x) (list_any p xs) other h)
 ]
 
 eight-at : (n : ℕ) → n < 8 → get_or (0 ∷ 1 ∷ 2 ∷ 3 ∷ 4 ∷ 5 ∷ 6 ∷ 7 ∷ []) n 0 ≡ n
@@ -260,7 +260,7 @@ index_decides bits row state m s = refl
 
 sib_fields : (s : Sib) → sib_in_range (Some s) ≡ true → s.index < 8
 unfolding sib_in_range
-sib_fields s h = ltb-true s.index 8 (and_left (nat_lt s.index 8) (nat_lt s.base 8) (and_right (nat_lt s.scale 4) (nat_lt s.index 8 && nat_lt s.base 8) h))
+sib_fields s h = ltb-true s.index 8 (and_parts (nat_lt s.index 8) (nat_lt s.base 8) (and_parts (nat_lt s.scale 4) (nat_lt s.index 8 && nat_lt s.base 8) h).1).0
 
 -- a fitting SIB is one of those that are tried
 sib_tried : (bits : Bits) (row : Row) (state : PrefixState) (m : ModRm) (sib : Option Sib) → is_some sib ≡ true → sib_in_range sib ≡ true → parts_fit bits row state (Some m) sib ≡ true → some_sib_fits bits row state m ≡ true
@@ -362,11 +362,11 @@ record ModRmRange (m : ModRm) : Type 0 where
 modrm_fields : (m : ModRm) → modrm_in_range (Some m) ≡ true → ModRmRange m
 unfolding modrm_in_range
 modrm_fields m h =
-    let r = and_right (nat_lt m.mode3 4) (nat_lt m.reg 8 && nat_lt m.rm 8) h in
+    let r = (and_parts (nat_lt m.mode3 4) (nat_lt m.reg 8 && nat_lt m.rm 8) h).1 in
     record {
-      mode3 = ltb-true m.mode3 4 (and_left (nat_lt m.mode3 4) (nat_lt m.reg 8 && nat_lt m.rm 8) h);
-      reg = ltb-true m.reg 8 (and_left (nat_lt m.reg 8) (nat_lt m.rm 8) r);
-      rm = ltb-true m.rm 8 (and_right (nat_lt m.reg 8) (nat_lt m.rm 8) r);
+      mode3 = ltb-true m.mode3 4 (and_parts (nat_lt m.mode3 4) (nat_lt m.reg 8 && nat_lt m.rm 8) h).0;
+      reg = ltb-true m.reg 8 (and_parts (nat_lt m.reg 8) (nat_lt m.rm 8) r).0;
+      rm = ltb-true m.rm 8 (and_parts (nat_lt m.reg 8) (nat_lt m.rm 8) r).1;
     }
 
 modrm_from : (mode3 reg rm : ℕ) → mode3 < 4 → reg < 8 → rm < 8 → modrm_in_range (Some (modrm_of mode3 reg rm)) ≡ true
@@ -392,7 +392,7 @@ none_of (Some s) h = cc
 -- the ModRM of a fitting tail can fit
 tail_can_fit : (bits : Bits) (row : Row) (state : PrefixState) (m : ModRm) (t : Option Sib) → is_some t ≡ takes_sib bits row state m → sib_in_range t ≡ true → parts_fit bits row state (Some m) t ≡ true → modrm_can_fit bits row state m ≡ true
 unfolding modrm_can_fit
-tail_can_fit bits row state m t stands r h = elim (either (takes_sib bits row state m)) [
+tail_can_fit bits row state m t stands r h = elim (cases_Bool (takes_sib bits row state m)) [
   | inl takes ↦ rw takes (sib_tried bits row state m t (stands ∙ takes) r h)
   | inr alone ↦ rw alone (subst (λ (x : Option Sib). parts_fit bits row state (Some m) x ≡ true) (none_of t (stands ∙ alone)) h)
 ]
@@ -405,7 +405,7 @@ modrm_of_tail bits row state (Some m) t some stands rm rs h =
 -- bytes that end in front of a ModRM that can fit go on
 modrm_goes_on : (bits : Bits) (row : Row) (state : PrefixState) (m : ModRm) → has_modrm_rule row.modrm ≡ true → modrm_in_range (Some m) ≡ true → modrm_can_fit bits row state m ≡ true → GoesOn bits row state []
 unfolding modrm_can_fit some_sib_fits
-modrm_goes_on bits row state m has r h = elim (either (takes_sib bits row state m)) [
+modrm_goes_on bits row state m has r h = elim (cases_Bool (takes_sib bits row state m)) [
   | inl takes ↦
       let k : some_sib_fits bits row state m ≡ true = rw takes at h in
       let f = any-found (λ index. parts_fit bits row state (Some m) (Some (sib_of 0 index 0))) 8 (0 ∷ 1 ∷ 2 ∷ 3 ∷ 4 ∷ 5 ∷ 6 ∷ 7 ∷ []) refl k in
@@ -442,10 +442,10 @@ modrm_end_tells bits ip state code row has =
 -- ---- part by part
 
 byte_head : (b : ℕ) (bytes : List ℕ) → are_bytes (b ∷ bytes) ≡ true → b < 256
-byte_head b bytes h = ltb-true b 256 (and_left (nat_lt b 256) (are_bytes bytes) h)
+byte_head b bytes h = ltb-true b 256 (and_parts (nat_lt b 256) (are_bytes bytes) h).0
 
 byte_tail : (b : ℕ) (bytes : List ℕ) → are_bytes (b ∷ bytes) ≡ true → are_bytes bytes ≡ true
-byte_tail b bytes h = and_right (nat_lt b 256) (are_bytes bytes) h
+byte_tail b bytes h = (and_parts (nat_lt b 256) (are_bytes bytes) h).1
 
 sib_tells : (bits : Bits) (ip : ℕ) (state : PrefixState) (code : Code) (row : Row) (m : ModRm) (used : ℕ) (bytes : List ℕ) → has_modrm_rule row.modrm ≡ true → takes_sib bits row state m ≡ true → modrm_in_range (Some m) ≡ true → are_bytes bytes ≡ true → used ≡ state.used + 1 + 1 → Tells bits ip state code row (modrm_byte m ∷ bytes) (sib_answer bits ip state code row m used bytes)
 unfolding sib_answer
@@ -459,7 +459,7 @@ sib_tells bits ip state code row m used (b ∷ bytes) has takes r rb u =
 
 behind_modrm_tells : (bits : Bits) (ip : ℕ) (state : PrefixState) (code : Code) (row : Row) (m : ModRm) (used : ℕ) (bytes : List ℕ) → has_modrm_rule row.modrm ≡ true → modrm_in_range (Some m) ≡ true → are_bytes bytes ≡ true → used ≡ state.used + 1 + 1 → Tells bits ip state code row (modrm_byte m ∷ bytes) (behind_modrm_answer bits ip state code row m used bytes)
 unfolding behind_modrm_answer
-behind_modrm_tells bits ip state code row m used bytes has r rb u = elim (either (takes_sib bits row state m)) [
+behind_modrm_tells bits ip state code row m used bytes has r rb u = elim (cases_Bool (takes_sib bits row state m)) [
   | inl takes ↦ rw takes (sib_tells bits ip state code row m used bytes has takes r rb u)
   | inr alone ↦ rw alone (rest_tells bits ip state code row (Some m) None used bytes (settled_alone bits row state m has alone r) rb (omega arith))
 ]
@@ -479,7 +479,7 @@ settled_none bits row state has = record { stands = sym has; sib_is = refl; modr
 -- **what the answer says of the bytes behind an opcode byte**
 pub tail_tells : (bits : Bits) (ip : ℕ) (state : PrefixState) (code : Code) (row : Row) (bytes : List ℕ) → are_bytes bytes ≡ true → Tells bits ip state code row bytes (tail_answer bits ip state code row bytes)
 unfolding tail_answer
-tail_tells bits ip state code row bytes rb = elim (either (has_modrm_rule row.modrm)) [
+tail_tells bits ip state code row bytes rb = elim (cases_Bool (has_modrm_rule row.modrm)) [
   | inl has ↦ rw has (modrm_tells bits ip state code row (state.used + 1) bytes has rb refl)
   | inr no_modrm ↦ rw no_modrm (rest_tells bits ip state code row None None (state.used + 1) bytes (settled_none bits row state no_modrm) rb (omega arith))
 ]

@@ -21,10 +21,10 @@ abbrev pub at_end : Bool → Result Decoded TailError
 at_end true = Err Ended
 at_end false = Err Forbidden
 
--- the answer whose instruction was written to a place
+-- the answer whose instruction was written where the caller asked
 abbrev pub answer_in : {E : Type 0} → Result (Unit {0}) E → Decoded → Result Decoded E
-answer_in (Ok done) place = Ok place
-answer_in (Err why) place = Err why
+answer_in (Ok done) out = Ok out
+answer_in (Err why) out = Err why
 
 -- the instruction of a state and a tail, and its length
 abbrev pub decoded : Bits → ℕ → PrefixState → Code → Row → Option ModRm → Option Sib → List ℕ → List ℕ → ℕ → Decoded

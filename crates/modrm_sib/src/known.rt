@@ -71,7 +71,7 @@ fn displacement_size(asize: Bits, m: ModRm, sib: Option<Sib>) -> usize
     }
 }
 
-/// Reads ModRM, and the SIB where it takes one, to their places, where none stands yet; None where the bytes end.
+/// Reads ModRM, and the SIB where it takes one, where none stands yet; None where the bytes end.
 #[inline(always)]
 #[tactic(auto, unfolding(crate::specs::Answer::tail_answer, crate::specs::Answer::modrm_answer, crate::specs::Answer::behind_modrm_answer, crate::specs::Answer::sib_answer, crate::specs::Parts::takes_sib, crate::specs::Parts::displacement_len))]
 fn parts_into<'a>(
@@ -130,7 +130,7 @@ fn parts_into<'a>(
     }
 }
 
-/// What stands behind the opcode byte of an instruction of at most 15 bytes; None where none does. The instruction is written to a place.
+/// What stands behind the opcode byte of an instruction of at most 15 bytes; None where none does. The instruction is written to `out`.
 // The parts are put where they are to stand: in a struct that is handed on they would be packed into one another.
 #[inline(always)]
 #[tactic(auto, unfolding(crate::specs::Answer::rest_answer, crate::specs::Answer::fitting_answer))]
@@ -143,7 +143,7 @@ pub(crate) fn read_known_tail(
     size: Bits,
     immediates: u8,
     bytes: &[u8],
-    place: &mut Decoded,
+    out: &mut Decoded,
 ) -> Option<()>
     requires sound { IsTrue (sound row.now) }
     requires one { IsTrue (has_one_immediate row.now) }
@@ -151,8 +151,8 @@ pub(crate) fn read_known_tail(
     requires size { size ≡ state_size bits row.now state.now }
     requires known { parts.TellsLengths bits row.now state.now immediates }
     requires fitting { parts.KnownToFit bits row.now state.now bytes.now }
-    ensures some { IfSome result (λ _. spec.tail_answer bits ip state.now code row.now bytes.now ≡ Ok place.new) }
-    ensures short { IfSome result (λ _. place.new.len ≤ 15) }
+    ensures some { IfSome result (λ _. spec.tail_answer bits ip state.now code row.now bytes.now ≡ Ok out.new) }
+    ensures short { IfSome result (λ _. out.new.len ≤ 15) }
     ensures none { IsNone result → spec.IsOver (spec.tail_answer bits ip state.now code row.now bytes.now) }
 {
     let mut behind = Behind {
@@ -181,8 +181,8 @@ pub(crate) fn read_known_tail(
                 l: row.l,
                 behind: &behind,
             };
-            given_instr_into(&given, code, row, state, &mut place.instr);
-            place.len = len as u8;
+            given_instr_into(&given, code, row, state, &mut out.instr);
+            out.len = len as u8;
             Some(())
         }
     }

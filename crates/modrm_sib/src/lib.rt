@@ -69,13 +69,13 @@ pub fn read_row(
     }
 }
 
-/// What stands in the place of an instruction before it is read.
+/// What stands for an instruction before it is read.
 pub const UNREAD: Decoded = Decoded {
     instr: operands::UNREAD,
     len: 0,
 };
 
-/// Reads the tail of a row as [`read_row`] does, and writes the instruction to a place. After an error nothing is said of what stands there.
+/// Reads the tail of a row as [`read_row`] does, and writes the instruction to `out`. After an error nothing is said of what stands there.
 ///
 /// `known` are the bytes of the row's immediates, where it is known to take the state with the ModRM that stands there: so that is not asked again.
 #[inline(always)]
@@ -87,26 +87,26 @@ pub fn read_row_into(
     row: &Row,
     known: Option<u8>,
     bytes: &[u8],
-    place: &mut Decoded,
+    out: &mut Decoded,
 ) -> Result<(), TailError>
     requires sound { IsTrue (sound row.now) }
     requires known { IfSome known (λ n. TellsLengths bits row.now state.now n) }
     requires fitting { IfSome known (λ _. KnownToFit bits row.now state.now (drop (state.now.used + 1) bytes.now)) }
     requires front { front_of bits bytes.now ≡ Known state.now }
-    ensures ok { IfOk result (λ _. RowReads bits ip code row.now bytes.now place.new) }
-    ensures len { IfOk result (λ _. (0 < place.new.len) × (place.new.len < 64) × (place.new.len ≤ length bytes.now)) }
+    ensures ok { IfOk result (λ _. RowReads bits ip code row.now bytes.now out.new) }
+    ensures len { IfOk result (λ _. (0 < out.new.len) × (out.new.len < 64) × (out.new.len ≤ length bytes.now)) }
     ensures ended { result ≡ Err TailError.Ended
         → RowReadsNothing bits row.now bytes.now × RowCanGoOn bits row.now bytes.now }
     ensures forbidden { result ≡ Err TailError.Forbidden
         → RowReadsNothing bits row.now bytes.now × (RowCanGoOn bits row.now bytes.now → ⊥) }
 {
     let (_, tail) = bytes.split_at(state.used as usize + 1);
-    read::read_tail(bits, ip, state, code, row, known, tail, place)
+    read::read_tail(bits, ip, state, code, row, known, tail, out)
 }
 
 /// Reads the tail of a row as [`read_row_into`] does, where the row is known to take the state with the ModRM that stands there, and at most one
 /// of its operands has bytes of the immediates. Answers None where the bytes begin with no instruction of the row of at most 15 bytes; then nothing is
-/// said of what stands in the place.
+/// said of what stands in `out`.
 ///
 /// `size` is the operand size of the row under the prefixes, and `immediates` the bytes of its immediates.
 #[inline(always)]
@@ -119,7 +119,7 @@ pub fn read_known_into(
     size: Bits,
     immediates: u8,
     bytes: &[u8],
-    place: &mut Decoded,
+    out: &mut Decoded,
 ) -> Option<()>
     requires sound { IsTrue (sound row.now) }
     requires one { IsTrue (has_one_immediate row.now) }
@@ -127,12 +127,12 @@ pub fn read_known_into(
     requires known { TellsLengths bits row.now state.now immediates }
     requires fitting { KnownToFit bits row.now state.now (drop (state.now.used + 1) bytes.now) }
     requires front { front_of bits bytes.now ≡ Known state.now }
-    ensures some { IfSome result (λ _. RowReads bits ip code row.now bytes.now place.new) }
-    ensures len { IfSome result (λ _. (0 < place.new.len) × (place.new.len ≤ 15) × (place.new.len ≤ length bytes.now)) }
+    ensures some { IfSome result (λ _. RowReads bits ip code row.now bytes.now out.new) }
+    ensures len { IfSome result (λ _. (0 < out.new.len) × (out.new.len ≤ 15) × (out.new.len ≤ length bytes.now)) }
     ensures none { IsNone result → ReadsNothingShort bits ip code row.now bytes.now }
 {
     let (_, tail) = bytes.split_at(state.used as usize + 1);
-    read_known_tail(bits, ip, state, code, row, size, immediates, tail, place)
+    read_known_tail(bits, ip, state, code, row, size, immediates, tail, out)
 }
 
 /// The instruction of a row whose front these bytes have, with its length in bytes.

@@ -78,7 +78,7 @@ fn read_rest(
     row: &Row,
     known: Option<u8>,
     head: &Head,
-    place: &mut Decoded,
+    out: &mut Decoded,
 ) -> Result<(), TailError>
     requires sound { IsTrue (sound row.now) }
     requires known { IfSome known (λ n. parts.TellsLengths bits row.now state.now n) }
@@ -86,7 +86,7 @@ fn read_rest(
     requires modrm { IsTrue (fits.modrm_in_range head.now.modrm) }
     requires sib { IsTrue (fits.sib_in_range head.now.sib) }
     requires few { head.now.used < 18 }
-    ensures { spec.answer_in result place.new
+    ensures { spec.answer_in result out.new
         ≡ spec.rest_answer bits ip state.now code row.now head.now.modrm head.now.sib head.now.used head.now.rest.now }
 {
     let Head {
@@ -115,8 +115,8 @@ fn read_rest(
         imm,
         next,
     };
-    instr_into(bits, code, row, state, &behind, &mut place.instr);
-    place.len = len;
+    instr_into(bits, code, row, state, &behind, &mut out.instr);
+    out.len = len;
     Ok(())
 }
 
@@ -213,16 +213,16 @@ pub(crate) fn read_tail(
     row: &Row,
     known: Option<u8>,
     bytes: &[u8],
-    place: &mut Decoded,
+    out: &mut Decoded,
 ) -> Result<(), TailError>
     requires sound { IsTrue (sound row.now) }
     requires few { state.now.used < 15 }
     requires known { IfSome known (λ n. parts.TellsLengths bits row.now state.now n) }
     requires fitting { IfSome known (λ _. parts.KnownToFit bits row.now state.now bytes.now) }
-    ensures { spec.answer_in result place.new ≡ spec.tail_answer bits ip state.now code row.now bytes.now }
+    ensures { spec.answer_in result out.new ≡ spec.tail_answer bits ip state.now code row.now bytes.now }
 {
     match head_of(bits, state, row, known, bytes) {
         Err(error) => Err(error),
-        Ok(head) => read_rest(bits, ip, state, code, row, known, &head, place),
+        Ok(head) => read_rest(bits, ip, state, code, row, known, &head, out),
     }
 }

@@ -1,5 +1,5 @@
 -- Which item of a block began at an address.
-use Rattle.std.proofs.Common.{◌≡◌, ℕ, ◌-◌, ◌<◌, ◌≤◌, true, false, ◌&&◌, List, length, Some, None, inl, inr, arith, refl, sym, ap, ◌∙◌}
+use Rattle.std.proofs.Common.{◌≡◌, ℕ, ◌-◌, ◌<◌, ◌≤◌, true, false, ◌&&◌, List, length, Some, None, inl, inr, arith, refl, sym, subst, ap, ◌∙◌}
 use Rattle.std.proofs.lemmas.Bool.{cases_lt, and_parts, false_from_ne_true, leb-true, ltb-true, le-leb, lt-ltb, eqb-true, eq-eqb}
 use Rattle.std.specs.Prelude.{nat_le, nat_lt}
 use Rattle.branch_sizes.specs.declared.plan.Goal.TheVariants.{Outside}
@@ -27,6 +27,25 @@ module _ (items : List Placed) (from to t : ℕ) where
         | inl l ↦ omega (arith, below j a l, e)
         | inr g ↦ omega (arith, above j (omega arith) b, e)
       ]))
+
+  -- none began there where the addresses ascend and the first of them is behind it
+  pub none_before : Ascend items from to → t < (item_at items from).ip → first_between items from to t ≡ None
+  none_before ascend behind =
+      none_between from from (omega arith) (λ j a l. absurd (omega arith))
+      (λ j a b. elim (cases_lt from j) [
+        | inl l ↦ omega (arith, behind, ascend.each from j (omega arith) l b)
+        | inr g ↦ let e : from ≡ j = omega arith in subst (λ i. t < (item_at items i).ip) e behind
+      ])
+
+  -- nor where the last of them is before it
+  pub none_behind : Ascend items from to → from < to → (item_at items (to - 1)).ip < t → first_between items from to t ≡ None
+  none_behind ascend some before =
+      none_between to to (omega arith)
+      (λ j a l. elim (cases_lt j (to - 1)) [
+        | inl less ↦ omega (arith, before, ascend.each j (to - 1) a less (omega arith))
+        | inr g ↦ let e : to - 1 ≡ j = omega arith in subst (λ i. (item_at items i).ip < t) e before
+      ])
+      (λ j a b. absurd (omega arith))
 
   -- one began there, and the addresses ascend
   pub one_between : Ascend items from to → to ≤ length items → (k : ℕ) → from ≤ k → k < to → (item_at items k).ip ≡ t

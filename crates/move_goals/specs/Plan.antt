@@ -29,7 +29,7 @@ plan_with bits spans items goals = plan_of spans (map (branch_with bits items go
 abbrev pub branch_at : Bits → List BlockSpan → List Placed → ℕ → Branch
 branch_at bits spans items = branch_with bits items (goal_at spans items)
 
--- the same of an item of a block whose items are those from a number on, below another
+-- item k of the plan of a block whose items are those from a number on, below another
 abbrev pub branch_between : Bits → List Placed → ℕ → ℕ → ℕ → Branch
 branch_between bits items from to k = record {
   choices = record { items = choices_of bits (item_at items k).instr };

@@ -41,6 +41,18 @@ fn item_between(items: &[Placed], from: usize, to: usize, target: u64) -> Option
     requires ascend { Ascend items.now from to }
     ensures { result ≡ first_between items.now from to target }
 {
+    if from == to {
+        return None;
+    }
+    // Most targets that no item has lie outside.
+    let first = items[from].ip;
+    if target < first {
+        return None;
+    }
+    let last = items[to - 1].ip;
+    if last < target {
+        return None;
+    }
     let mut low = from;
     let mut high = to;
     'halves: while low < high {

@@ -9,22 +9,22 @@ use Rattle.std.specs.Prelude.{◌==◌}
 use Rattle.branch_sizes.specs.Plan.{BlockPlan}
 use Rattle.branch_sizes.specs.Facts.{BlockFacts}
 use Rattle.branch_sizes.specs.Layout.{block_number, first_of_block, span_at, chosen, place}
-use Rattle.move_layout.specs.declared.layout.Seat.{Seat}
+use Rattle.move_layout.specs.declared.layout.Fragment.{Fragment}
 use Rattle.move_layout.specs.declared.layout.BlockEnd.{BlockEnd}
-use Rattle.move_layout.specs.Laid.{is_far_at, goal_address, far_goals, with_goal, slots_of, all_slots, images_end, new_end, slots_start, slot_address, seat_at, end_at, no_seat, no_end}
-use Rattle.move_layout.specs.Slots.{place_among, seat_over}
-use Rattle.move_layout.specs.Tables.{AreSeats, AreEnds}
+use Rattle.move_layout.specs.Laid.{is_far_at, goal_address, far_goals, with_goal, slots_of, all_slots, images_end, new_end, slots_start, slot_address, fragment_at, end_at, no_fragment, no_end}
+use Rattle.move_layout.specs.Slots.{place_among, fragment_over}
+use Rattle.move_layout.specs.Tables.{AreFragments, AreEnds}
 use Rattle.move_layout.proofs.Slotting.{stays_with, is_there, length-with_goal}
 
-pub push_seat : (p : BlockPlan) (layout : List ℕ) (n : ℕ) (seats more : List Seat) (s : Seat) → AreSeats p layout n seats
-    → more ≡ seats ++ s ∷ [] → s ≡ seat_at p layout n → AreSeats p layout (n + 1) more
-push_seat p layout n seats more s a e is = record {
-  len = omega (arith, ap length e, length-append seats (s ∷ []), a.len);
-  each = λ k lt. ap (λ xs. get_or xs k no_seat) e ∙ elim (cases_lt k n) [
-    | inl below ↦ get_or_append_left seats (s ∷ []) no_seat k (omega (arith, a.len)) ∙ a.each k below
+pub push_fragment : (p : BlockPlan) (layout : List ℕ) (n : ℕ) (fragments more : List Fragment) (s : Fragment) → AreFragments p layout n fragments
+    → more ≡ fragments ++ s ∷ [] → s ≡ fragment_at p layout n → AreFragments p layout (n + 1) more
+push_fragment p layout n fragments more s a e is = record {
+  len = omega (arith, ap length e, length-append fragments (s ∷ []), a.len);
+  each = λ k lt. ap (λ xs. get_or xs k no_fragment) e ∙ elim (cases_lt k n) [
+    | inl below ↦ get_or_append_left fragments (s ∷ []) no_fragment k (omega (arith, a.len)) ∙ a.each k below
     | inr ge ↦
         let at : n ≡ k = omega arith in
-        get_or_push seats s no_seat k (omega (arith, a.len)) ∙ (is ∙ ap (seat_at p layout) at)
+        get_or_push fragments s no_fragment k (omega (arith, a.len)) ∙ (is ∙ ap (fragment_at p layout) at)
   ];
 }
 
@@ -101,11 +101,11 @@ cond_same true x y z h = h refl
 cond_same false x y z h = refl
 
 -- item k, which is item i of block b, with the slots of the items up to it
-pub seat_is : (blocks : BlockFacts) (p : BlockPlan) (layout : List ℕ) (b i k start : ℕ) (goals : List ℕ) → b < length p.spans
+pub fragment_is : (blocks : BlockFacts) (p : BlockPlan) (layout : List ℕ) (b i k start : ℕ) (goals : List ℕ) → b < length p.spans
     → i < (span_at p.spans b).count → k ≡ first_of_block p.spans b + i → start ≡ slots_start p layout b
-    → goals ≡ far_goals p layout (first_of_block p.spans b) (i + 1) → seat_over p layout k start goals ≡ seat_at p layout k
-unfolding seat_at slot_address slots_of
-seat_is blocks p layout b i k start goals bl il e s g =
+    → goals ≡ far_goals p layout (first_of_block p.spans b) (i + 1) → fragment_over p layout k start goals ≡ fragment_at p layout k
+unfolding fragment_at slot_address slots_of
+fragment_is blocks p layout b i k start goals bl il e s g =
     ap (λ x. record {
       form = (chosen p layout k).form;
       len = (chosen p layout k).len;

@@ -1,4 +1,3 @@
-pub mod Choosing
 pub mod Slotting
 pub mod Standing
 pub mod Tabled

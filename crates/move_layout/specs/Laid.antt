@@ -8,7 +8,7 @@ use Rattle.branch_sizes.specs.declared.plan.Goal.TheVariants.{None as NoGoal, In
 use Rattle.branch_sizes.specs.declared.plan.Reach.TheVariants.{Always}
 use Rattle.branch_sizes.specs.Plan.{BlockPlan, item_at}
 use Rattle.branch_sizes.specs.Layout.{IsLeast, total, block_number, first_of_block, span_at, chosen, image_length, place}
-use Rattle.move_layout.specs.declared.layout.Seat.{Seat}
+use Rattle.move_layout.specs.declared.layout.Fragment.{Fragment}
 use Rattle.move_layout.specs.declared.layout.BlockEnd.{BlockEnd}
 use Rattle.move_layout.specs.declared.layout.Layout.{Layout}
 
@@ -84,8 +84,8 @@ slot_address p layout b goal = slots_start p layout b + 8 * position_or_len (λ 
 -- ---- what is known of each item and each block
 
 -- item k: its form, the length of its image, its place, its goal, and the address of its slot, 0 where it has none
-unfoldable pub seat_at : BlockPlan → List ℕ → ℕ → Seat
-seat_at p layout k = record {
+unfoldable pub fragment_at : BlockPlan → List ℕ → ℕ → Fragment
+fragment_at p layout k = record {
   form = (chosen p layout k).form;
   len = (chosen p layout k).len;
   reach = (chosen p layout k).reach;
@@ -102,9 +102,9 @@ end_at p layout b = record {
   end = new_end p layout b;
 }
 
--- what stands for a seat that is not there
-abbrev pub no_seat : Seat
-no_seat = record { form = Itself; len = 0; reach = Always; place = 0; goal = 0; slot = 0 }
+-- what stands for a fragment that is not there
+abbrev pub no_fragment : Fragment
+no_fragment = record { form = Itself; len = 0; reach = Always; place = 0; goal = 0; slot = 0 }
 
 -- and for an end
 abbrev pub no_end : BlockEnd
@@ -116,12 +116,12 @@ all_slots p layout n = flat_map (slots_of p layout) (range_with_len 0 n)
 
 -- what is known of all items and blocks in a layout
 pub record IsLaid (p : BlockPlan) (layout : List ℕ) (laid : Layout) : Type 0 where
-  pub seat_count : length laid.seats.items ≡ length p.items
-  pub seats : (k : ℕ) → k < length p.items → slice_index_or laid.seats.items k no_seat ≡ seat_at p layout k
+  pub fragment_count : length laid.fragments.items ≡ length p.items
+  pub fragments : (k : ℕ) → k < length p.items → slice_index_or laid.fragments.items k no_fragment ≡ fragment_at p layout k
   pub end_count : length laid.ends.items ≡ length p.spans
   pub ends : (b : ℕ) → b < length p.spans → slice_index_or laid.ends.items b no_end ≡ end_at p layout b
   pub slots : laid.slots.items ≡ all_slots p layout (length p.spans)
 
--- the same in the least layout
+-- what stands where in the least layout
 abbrev pub IsLaidLeast : BlockPlan → Layout → Type 0
 IsLaidLeast p laid = (layout : List ℕ) × IsLeast p layout × IsLaid p layout laid

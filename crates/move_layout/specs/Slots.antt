@@ -5,7 +5,7 @@ use Rattle.std.specs.Ordering.{nat_cmp}
 use Rattle.std.specs.BTreeMap.{BTreeMap, get}
 use Rattle.branch_sizes.specs.Plan.{BlockPlan}
 use Rattle.branch_sizes.specs.Layout.{chosen, place}
-use Rattle.move_layout.specs.declared.layout.Seat.{Seat}
+use Rattle.move_layout.specs.declared.layout.Fragment.{Fragment}
 use Rattle.move_layout.specs.Laid.{is_far_at, goal_address}
 
 -- where a goal first stands among some, their number if nowhere
@@ -21,8 +21,8 @@ pub record IsNumbering (numbers : BTreeMap ℕ ℕ) (goals : List ℕ) : Type 0 
   pub each : (q : ℕ) → get nat_cmp numbers q ≡ number_among goals q
 
 -- item k, where the slots begin at an address and have some goals
-abbrev pub seat_over : BlockPlan → List ℕ → ℕ → ℕ → List ℕ → Seat
-seat_over p layout k start goals = record {
+abbrev pub fragment_over : BlockPlan → List ℕ → ℕ → ℕ → List ℕ → Fragment
+fragment_over p layout k start goals = record {
   form = (chosen p layout k).form;
   len = (chosen p layout k).len;
   reach = (chosen p layout k).reach;

@@ -32,7 +32,7 @@ use Rattle.row_meaning.specs.Meaning as meant
 use Rattle.row_relation.specs.Spells.{Spells}
 use Rattle.plain_spelling.specs.Forms.{operand_at}
 use Rattle.plain_spelling.specs.Addresses.{form_of, written_size, offers, displacement_count, is_displacement, displacement_suits}
-use Rattle.plain_spelling.specs.Expressible.{offered}
+use Rattle.plain_spelling.specs.Expressible.{displacement_offered}
 use Rattle.opcode_rows.specs.Table.{table}
 use Rattle.operand_info.specs.Operands.{near_value, ip_value, first_value}
 use Rattle.encoder.specs.Facts.{SpelledFacts}
@@ -64,13 +64,13 @@ unfolding ip_value
 operand-below bits asize how (Memory m) x h e = memory-below (written_size bits asize m) how m x h e
 operand-below bits asize how _ x h e = cc
 
-offered-below : (bits : Bits) (row : Row) (i : Instr) (n x : ℕ) → offered bits row i n ≡ true → ip_value (operand_at i n) ≡ Some x → x < 2 ^ 64
-unfolding offered
+offered-below : (bits : Bits) (row : Row) (i : Instr) (n x : ℕ) → displacement_offered bits row i n ≡ true → ip_value (operand_at i n) ≡ Some x → x < 2 ^ 64
+unfolding displacement_offered
 offered-below bits row i n x h e = operand-below bits i.asize (method_of (kind_at row n)) (operand_at i n) x h e
 
-each-below : (bits : Bits) (row : Row) (i : Instr) (x : ℕ) → (offered bits row i 0 && (offered bits row i 1 && (offered bits row i 2 && offered bits row i 3))) ≡ true → first_value ip_value i ≡ Some x → x < 2 ^ 64
+each-below : (bits : Bits) (row : Row) (i : Instr) (x : ℕ) → (displacement_offered bits row i 0 && (displacement_offered bits row i 1 && (displacement_offered bits row i 2 && displacement_offered bits row i 3))) ≡ true → first_value ip_value i ≡ Some x → x < 2 ^ 64
 each-below bits row i x h e =
-    let o = λ (n : ℕ). offered bits row i n in
+    let o = λ (n : ℕ). displacement_offered bits row i n in
     let v = λ (n : ℕ). ip_value (operand_at i n) in
     let h1 = (and_parts (o 0) (o 1 && (o 2 && o 3)) h).1 in
     let h2 = (and_parts (o 1) (o 2 && o 3) h1).1 in

@@ -11,7 +11,7 @@ use Rattle.row_fit.specs.Fits.{kind_at, immediate_bytes}
 use Rattle.row_relation.specs.Spells.{Spells}
 use Rattle.plain_spelling.specs.Forms.{operand_at}
 use Rattle.plain_spelling.specs.PlainTail.{plain_spelling, plain_size, plain_len, plain_next}
-use Rattle.plain_spelling.specs.Expressible.{Suits, each_operand, kind_suits, register_suits, address_suits, offered, immediate_suits, target_suits}
+use Rattle.plain_spelling.specs.Expressible.{Suits, each_operand, kind_suits, register_suits, address_suits, displacement_offered, immediate_suits, target_suits}
 use Rattle.opcode_rows.specs.Table.{table}
 use Rattle.operand_info.specs.Operands.{near_value, first_value}
 use Rattle.encoder.specs.Encoding.{encoding}
@@ -28,8 +28,8 @@ use Rattle.moved_targets.proofs.Shared.{all_reached}
 
 -- ---- one operand
 
-offered_there : (bits : Bits) (row : Row) (i : Instr) (len place t n : ℕ) → Reached (operand_reach (operand_at i n)) len place t → t < 2 ^ 64 → offered bits row i n ≡ true → offered bits row (with_target t i) n ≡ true
-unfolding offered with_target
+offered_there : (bits : Bits) (row : Row) (i : Instr) (len place t n : ℕ) → Reached (operand_reach (operand_at i n)) len place t → t < 2 ^ 64 → displacement_offered bits row i n ≡ true → displacement_offered bits row (with_target t i) n ≡ true
+unfolding displacement_offered with_target
 offered_there bits row i len place t n reach below h =
     let how = method_of (kind_at row n) in
     ap (displacement_of_operand_suits bits i.asize how) (operand_at-with_target t i n) ∙ operand-offered bits i.asize how (operand_at i n) len place t reach below h
@@ -85,14 +85,14 @@ suits-elsewhere bits place t row i n none reach within below =
     let r = all_reached bits row i len place t n.address_size reach in
     let near = no_value near_value i none in
     let shape = each_of (address_suits bits row i) n.addresses in
-    let disp = each_of (offered bits row i) n.displacements in
+    let disp = each_of (displacement_offered bits row i) n.displacements in
     let a : Aim bits row i place t = record { within = within; below = below } in
     record {
       exists = n.exists;
       kinds = same_each (kind_suits row (with_target t i)) (kind_suits row i) (kind_suits-with_target t row i) ∙ n.kinds;
       registers = same_each (register_suits bits row (with_target t i)) (register_suits bits row i) (register_suits-with_target bits t row i) ∙ n.registers;
       addresses = same_each (address_suits bits row (with_target t i)) (address_suits bits row i) (address_suits-with_target bits t row i) ∙ n.addresses;
-      displacements = to_each (offered bits row (with_target t i))
+      displacements = to_each (displacement_offered bits row (with_target t i))
           (offered_there bits row i len place t 0 r.first below disp.first)
           (offered_there bits row i len place t 1 r.second below disp.second)
           (offered_there bits row i len place t 2 r.third below disp.third)

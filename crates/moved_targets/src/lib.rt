@@ -1,7 +1,8 @@
 //! Where an instruction is aimed, and the same instruction aimed elsewhere (Intel SDM volume 2, 2.2.1.6; CALL, JMP, Jcc).
 #![tactic(auto)]
 
-ghost use Rattle.std.specs.Prelude.{◌≡◌, ◌<◌};
+ghost use Rattle.std.specs.Prelude.{◌≡◌, ◌<◌, is_some};
+ghost use Rattle.operand_info.specs.Operands.{near_value, ip_value};
 ghost use Rattle.moved_targets.specs.Targets as spec;
 
 use branch_sizes::Reach;
@@ -15,13 +16,43 @@ pub mod laws;
 
 pub use independent::independent_bytes;
 
+/// Whether an operand is the target of a near branch.
+#[inline]
+#[tactic(auto, unfolding(operand_info::specs::Operands::near_value))]
+fn is_near(operand: &Operand) -> bool
+    ensures { result ≡ is_some (near_value operand.now) }
+{
+    matches!(operand, Operand::Near(_))
+}
+
+/// Whether an operand is an address at RIP or EIP.
+#[inline]
+#[tactic(auto, unfolding(operand_info::specs::Operands::ip_value))]
+fn is_at_ip(operand: &Operand) -> bool
+    ensures { result ≡ is_some (ip_value operand.now) }
+{
+    match operand {
+        Operand::Mem(m) => matches!(m.base, Some(Register::Rip | Register::Eip)),
+        _ => false,
+    }
+}
+
 /// The address that an instruction is aimed at: the target of a near branch, else the address of an operand at RIP or EIP. None where it
 /// has neither; far pointers and absolute addresses are no targets.
+///
+/// Most instructions hold neither, so that is asked first.
 #[tactic(auto, unfolding(crate::specs::Targets::target_of))]
 pub fn target_of(instr: &Instr) -> Option<u64>
     ensures { result ≡ spec.target_of instr.now }
 {
-    near_target(instr).or(ip_operand(instr))
+    let [first, second, third, fourth] = &instr.ops;
+    if is_near(first) || is_near(second) || is_near(third) || is_near(fourth) {
+        return near_target(instr);
+    }
+    if is_at_ip(first) || is_at_ip(second) || is_at_ip(third) || is_at_ip(fourth) {
+        return ip_operand(instr);
+    }
+    None
 }
 
 /// The operand with another target, where it is one.

@@ -91,7 +91,7 @@ fn code_that_is_refused_leaves_nothing(rt: HostRuntime) -> Result<(), Fail> {
     ] {
         let input = hex::decode(rt.alloc(), digits)?;
         let ran = run_command(rt.alloc(), command, &input)?;
-        assert_eq!(rt; ran.told()?, (number, "", line), "{command} {digits}");
+        assert_eq!(rt; ran.as_text()?, (number, "", line), "{command} {digits}");
     }
     Ok(())
 }
@@ -125,7 +125,7 @@ fn inputs_have_their_limits(rt: HostRuntime) -> Result<(), Fail> {
     ] {
         let input = vec![in rt.alloc(); byte; count]?;
         let ran = run_command(rt.alloc(), command, &input)?;
-        assert_eq!(rt; ran.told()?, (number, "", line), "{command} {count}");
+        assert_eq!(rt; ran.as_text()?, (number, "", line), "{command} {count}");
     }
     Ok(())
 }

@@ -139,7 +139,7 @@ fn maps_and_reached_offsets_have_their_lines(rt: HostRuntime) -> Result<(), Fail
     ] {
         let input = hex::decode(rt.alloc(), digits)?;
         let ran = run_command(rt.alloc(), command, &input)?;
-        assert_eq!(rt; ran.told()?, (0, lines, ""), "{command} {digits}");
+        assert_eq!(rt; ran.as_text()?, (0, lines, ""), "{command} {digits}");
     }
     Ok(())
 }
@@ -156,7 +156,7 @@ fn made_code_has_its_numbers(rt: HostRuntime) -> Result<(), Fail> {
         ("sample 00010000", most),
     ] {
         let ran = run_command(rt.alloc(), command, &[0x0f, 0x04])?;
-        assert_eq!(rt; ran.told()?, (0, lines, ""), "{command}");
+        assert_eq!(rt; ran.as_text()?, (0, lines, ""), "{command}");
     }
     Ok(())
 }

@@ -44,7 +44,7 @@ fn a_fault_of_a_port_leaves_what_it_should(rt: HostRuntime) -> Result<(), Fail> 
             is_slow: false,
         };
         let ran = run_between(rt.alloc(), command, &input, &ports)?;
-        assert_eq!(rt; ran.told()?, (number, out, err), "{command} {digits}");
+        assert_eq!(rt; ran.as_text()?, (number, out, err), "{command} {digits}");
     }
     Ok(())
 }

@@ -5,7 +5,7 @@ ghost use Rattle.moving_run.specs.Code.{taken, left_by};
 ghost use Rattle.moving_run.specs.Ends as end_spec;
 ghost use Rattle.moving_run.specs.Read as spec;
 
-use branch_sizes::BlockSpan;
+use branch_sizes::{BlockSpan, MOST_ITEMS};
 use command_words::BlockWords;
 use decoder::DecodeError;
 use move_goals::{Placed, passes};
@@ -14,9 +14,6 @@ use sweep_text::laws::items_stand_in_turn;
 use sweep_text::read_at;
 use thiserror::Error;
 use x86_values::Bits;
-
-/// How many instructions are moved together at most.
-pub const MOST: usize = 65_536;
 
 /// The instructions of the blocks.
 #[derive(Drop)]
@@ -94,7 +91,7 @@ fn keep(items: &mut Vec<Placed>, item: Placed) -> Result<(), AllocError>
     ensures kept { OnOk result (items.new.items ≡ spec.first_items (items.old.items ++ item ∷ [])) }
     ensures few { OnOk result (vec_len items.new ≤ 65536) }
 {
-    if items.len() < MOST {
+    if items.len() < MOST_ITEMS {
         items.push(item)?;
     }
     Ok(())

@@ -6,10 +6,11 @@ ghost use Rattle.run_parts.specs.Reads.{whole_limit, Takes, EndsAtFault};
 ghost use Rattle.run_parts.specs.Writing.{HoldsFront};
 ghost use Rattle.moving_run.specs.Moving as spec;
 
-use crate::code::{Code, CodeError, MOST, first_pass, read_code};
+use crate::code::{Code, CodeError, first_pass, read_code};
 use crate::laws::{inputs_have_one_answer, moved_blocks_are_read_back};
 use crate::map::write_map;
 use block_encoder::{MoveError, MovedBlocks, move_blocks};
+use branch_sizes::MOST_ITEMS;
 use branch_sizes::laws::blocks_have_all_items;
 use byte_ports::{Failed, Sink, Source};
 use command_words::BlockWords;
@@ -57,7 +58,7 @@ pub fn move_input(
         Err(CodeError::BadCode { offset, error }) => return Err(Status::BadCode { offset, error }),
         Err(CodeError::Memory) => return Err(Status::Memory),
     };
-    if count > MOST as u64 {
+    if count > MOST_ITEMS as u64 {
         return Err(Status::TooMany { count });
     }
     if let Some(end) = first_pass(bits, words, input) {

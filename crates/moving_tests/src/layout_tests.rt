@@ -6,7 +6,7 @@ ghost use Rattle.branch_sizes.specs.Plan.{is_fit_branch};
 
 use arrayvec::ArrayVec;
 use branch_sizes::{BlockSpan, Branch, Choice, Form, Goal, Plan, Reach};
-use move_layout::{BlockEnd, Layout, Seat, lay_out};
+use move_layout::{BlockEnd, Fragment, Layout, lay_out};
 use std::alloc::{AllocError, Global};
 use std::test::Fail;
 
@@ -27,8 +27,8 @@ fn item(form: Form, len: u8, goal: Goal) -> Branch
 }
 
 /// Where such an item stands.
-fn seat(form: Form, len: u8, place: u128, goal: u128, slot: u128) -> Seat {
-    Seat {
+fn fragment(form: Form, len: u8, place: u128, goal: u128, slot: u128) -> Fragment {
+    Fragment {
         form,
         len,
         reach: Reach::Always,
@@ -40,7 +40,7 @@ fn seat(form: Form, len: u8, place: u128, goal: u128, slot: u128) -> Seat {
 
 /// A far item and a second one from 0x1003 on.
 #[test]
-fn two_items_have_their_seats(rt: HostRuntime) -> Result<(), Fail> {
+fn two_items_have_their_fragments(rt: HostRuntime) -> Result<(), Fail> {
     let goal = 0x9000;
     for (form, to, second, slots, end) in [
         (Form::Far, Goal::Outside(0x9000), 0x9000, 1, 0x1018),
@@ -58,10 +58,10 @@ fn two_items_have_their_seats(rt: HostRuntime) -> Result<(), Fail> {
             _ => 0x1008 + 8 * slots,
         };
         assert_eq!(rt;
-            laid.seats.as_slice(),
+            laid.fragments.as_slice(),
             [
-                seat(Form::Far, 6, 0x1003, 0x9000, 0x1010),
-                seat(form, 6, 0x1009, second, slot),
+                fragment(Form::Far, 6, 0x1003, 0x9000, 0x1010),
+                fragment(form, 6, 0x1009, second, slot),
             ]
             .as_slice()
         );
@@ -105,11 +105,11 @@ fn blocks_have_their_ends(rt: HostRuntime) -> Result<(), Fail> {
     ]?;
     let laid = lay_out(rt.alloc(), &Plan::of_blocks(spans, items))?;
     assert_eq!(rt;
-        laid.seats.as_slice(),
+        laid.fragments.as_slice(),
         [
-            seat(Form::Itself, 3, 0x3000, 0, 0),
-            seat(Form::Far, 8, 0x4005, 0x9000, 0x4010),
-            seat(Form::Far, 6, 0x5008, 0x9000, 0x5010),
+            fragment(Form::Itself, 3, 0x3000, 0, 0),
+            fragment(Form::Far, 8, 0x4005, 0x9000, 0x4010),
+            fragment(Form::Far, 6, 0x5008, 0x9000, 0x5010),
         ]
         .as_slice()
     );
@@ -130,7 +130,7 @@ fn blocks_have_their_ends(rt: HostRuntime) -> Result<(), Fail> {
 #[test]
 fn no_item_ends_where_it_begins(rt: HostRuntime) -> Result<(), Fail> {
     let laid = lay_out(rt.alloc(), &Plan::new(0x1003, Vec::new(rt.alloc())))?;
-    assert_eq!(rt; laid.seats.len(), 0);
+    assert_eq!(rt; laid.fragments.len(), 0);
     let end = BlockEnd {
         images: 0x1003,
         slots: 0,
@@ -159,7 +159,7 @@ fn each_goal_has_its_slot(rt: HostRuntime) -> Result<(), Fail> {
     let items = far_items(rt.alloc(), 65536)?;
     let laid = lay_out(rt.alloc(), &Plan::new(0, items))?;
     assert_eq!(rt; laid.slots.len(), 65536);
-    let last = laid.seats.last().copied();
-    assert_eq!(rt; last, Some(seat(Form::Far, 6, 393210, 65535, 917496)));
+    let last = laid.fragments.last().copied();
+    assert_eq!(rt; last, Some(fragment(Form::Far, 6, 393210, 65535, 917496)));
     Ok(())
 }

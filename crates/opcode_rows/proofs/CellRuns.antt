@@ -1,15 +1,16 @@
 -- The rows of each cell are a run of codes.
 use Rattle.std.proofs.Common.{◌≡◌, ℕ, Bool, true, refl, List, is_some, ◌+◌, ◌<◌, ◌≤◌, length, ◌-◌, arith}
+use Rattle.row_fields.specs.Candidates.{coded, of_number, at_opcode, below, is_run}
+use Rattle.row_fields.proofs.Cands.{below-at}
 use Rattle.std.specs.Prelude.{Option, None, Some}
 use Rattle.std.proofs.lemmas.Option.{slice_get_within}
 use Rattle.row_types.specs.declared.RowKind.{RowKind}
 use Rattle.row_types.specs.declared.RowKind.TheVariants as kind
 use Rattle.row_types.specs.declared.Map.{Map}
-use Rattle.row_fields.proofs.Cands.{coded, of_number, at_opcode, below, below-at}
-use Rattle.row_fields.proofs.Cells.{is_run}
 use Rattle.row_lists.specs.declared.Span.{Span}
 use Rattle.row_lists.specs.Cells.{map_index, span_of, IsRunOf}
-use Rattle.row_lists.proofs.Runs.{run_at, line_runs, spans_fit, map_index-lt, length-cell, row-of_span, run-of_span}
+use Rattle.row_lists.specs.Runs.{run_at, line_runs, spans_fit}
+use Rattle.row_lists.proofs.Runs.{map_index-lt, length-cell, row-of_span, run-of_span}
 use Rattle.rows_integer.specs.Table.{table as integer_rows, flat_rows as integer_flat}
 use Rattle.rows_x87.specs.Table.{table as x87_rows, flat_rows as x87_flat}
 use Rattle.rows_sse.specs.Table.{table as sse_rows, flat_rows as sse_flat}

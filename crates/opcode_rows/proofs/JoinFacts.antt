@@ -1,9 +1,9 @@
 -- Each spot has its row.
 use Rattle.std.proofs.Common.{◌≡◌, ℕ, zero, suc, Bool, true, ◌&&◌, is_some, List, [], ◌∷◌, length, slice_get, ◌<◌, refl, ap, sym, ◌∙◌, arith}
+use Rattle.std.proofs.lemmas.Bool.{and_parts}
 use Rattle.std.specs.Prelude.{Option, Some, None}
 use Rattle.std.proofs.lemmas.Option.{slice_get_within}
 use Rattle.row_types.specs.declared.Row.{Row}
-use Rattle.row_fields.proofs.Cands.{and-left, and-right}
 use Rattle.rows_integer.specs.Table.{table as integer_rows, flat_rows as integer_flat}
 use Rattle.rows_x87.specs.Table.{table as x87_rows, flat_rows as x87_flat}
 use Rattle.rows_sse.specs.Table.{table as sse_rows, flat_rows as sse_flat}
@@ -37,19 +37,19 @@ unfolding all_there rows_in
 rows_in-get [] k s h at = cc
 rows_in-get (x ∷ ss) zero s h at =
     let same : x ≡ s = cc in
-    let k = some-known (slice_get (part_table x.part) x.at) (and-left (is_some (slice_get (part_table x.part) x.at)) (all_there ss) h) in
+    let k = some-known (slice_get (part_table x.part) x.at) (and_parts (is_some (slice_get (part_table x.part) x.at)) (all_there ss) h).0 in
     (k.0, ap (λ y. slice_get (part_table y.part) y.at) (sym same) ∙ k.1, item-front (slice_get (part_table x.part) x.at) k.0 (rows_in ss) k.1)
 rows_in-get (x ∷ ss) (suc k) s h at =
-    let here = some-known (slice_get (part_table x.part) x.at) (and-left (is_some (slice_get (part_table x.part) x.at)) (all_there ss) h) in
-    let t = rows_in-get ss k s (and-right (is_some (slice_get (part_table x.part) x.at)) (all_there ss) h) at in
+    let here = some-known (slice_get (part_table x.part) x.at) (and_parts (is_some (slice_get (part_table x.part) x.at)) (all_there ss) h).0 in
+    let t = rows_in-get ss k s (and_parts (is_some (slice_get (part_table x.part) x.at)) (all_there ss) h).1 at in
     (t.0, t.1, item-later (slice_get (part_table x.part) x.at) here.0 (rows_in ss) k here.1 ∙ t.2)
 
 length-rows_in : (ss : List Spot) → all_there ss ≡ true → length (rows_in ss) ≡ length ss
 unfolding all_there rows_in
 length-rows_in [] h = refl
 length-rows_in (x ∷ ss) h =
-    let here = some-known (slice_get (part_table x.part) x.at) (and-left (is_some (slice_get (part_table x.part) x.at)) (all_there ss) h) in
-    rw here.1 (ap suc (length-rows_in ss (and-right (is_some (slice_get (part_table x.part) x.at)) (all_there ss) h)))
+    let here = some-known (slice_get (part_table x.part) x.at) (and_parts (is_some (slice_get (part_table x.part) x.at)) (all_there ss) h).0 in
+    rw here.1 (ap suc (length-rows_in ss (and_parts (is_some (slice_get (part_table x.part) x.at)) (all_there ss) h).1))
 
 pub length-spots : length spots ≡ ROWS
 unfolding spots
@@ -74,8 +74,8 @@ unfolding all_rows
 all_rows-at p [] k r h at = cc
 all_rows-at p (x ∷ rs) zero r h at =
     let same : x ≡ r = cc in
-    ap p (sym same) ∙ and-left (p x) (all_rows p rs) h
-all_rows-at p (x ∷ rs) (suc k) r h at = all_rows-at p rs k r (and-right (p x) (all_rows p rs) h) at
+    ap p (sym same) ∙ (and_parts (p x) (all_rows p rs) h).0
+all_rows-at p (x ∷ rs) (suc k) r h at = all_rows-at p rs k r (and_parts (p x) (all_rows p rs) h).1 at
 
 slice_get-known : (ss : List Spot) (k : ℕ) → k < length ss → (s : Spot) × (slice_get ss k ≡ Some s)
 slice_get-known [] k lt = absurd (omega arith)

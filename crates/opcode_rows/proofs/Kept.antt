@@ -1,5 +1,6 @@
 -- The opcode bytes of every row are taken as opcode bytes.
 use Rattle.std.proofs.Common.{◌≡◌, ℕ, Bool, true, ◌&&◌, refl, slice_get}
+use Rattle.std.proofs.lemmas.Bool.{and_parts}
 use Rattle.std.specs.Prelude.{Some, IsTrue}
 use Rattle.x86_values.specs.declared.Bits.{Bits}
 use Rattle.x86_values.specs.declared.Bits.TheVariants.{B16, B32, B64}
@@ -7,7 +8,6 @@ use Rattle.row_types.specs.declared.Row.{Row}
 use Rattle.instruction_parts.specs.Counting.{is_segment, is_legacy_prefix, is_prefix}
 use Rattle.instruction_parts.specs.Sizes.{exists_in}
 use Rattle.row_fit.specs.Fits.{is_opcode}
-use Rattle.row_fields.proofs.Cands.{and-left, and-right}
 use Rattle.rows_integer.specs.Table.{table as integer_rows, flat_rows as integer_flat}
 use Rattle.rows_x87.specs.Table.{table as x87_rows, flat_rows as x87_flat}
 use Rattle.rows_sse.specs.Table.{table as sse_rows, flat_rows as sse_flat}
@@ -30,13 +30,13 @@ each-kept part.Vex = refl
 
 in_mode : (bits : Bits) (row : Row) → kept row ≡ true → IsTrue (opcodes_are_kept bits row)
 unfolding kept
-in_mode B16 row h = and-left (opcodes_are_kept B16 row) (opcodes_are_kept B32 row && opcodes_are_kept B64 row) h
+in_mode B16 row h = (and_parts (opcodes_are_kept B16 row) (opcodes_are_kept B32 row && opcodes_are_kept B64 row) h).0
 in_mode B32 row h =
-    and-left (opcodes_are_kept B32 row) (opcodes_are_kept B64 row)
-    (and-right (opcodes_are_kept B16 row) (opcodes_are_kept B32 row && opcodes_are_kept B64 row) h)
+    (and_parts (opcodes_are_kept B32 row) (opcodes_are_kept B64 row)
+    (and_parts (opcodes_are_kept B16 row) (opcodes_are_kept B32 row && opcodes_are_kept B64 row) h).1).0
 in_mode B64 row h =
-    and-right (opcodes_are_kept B32 row) (opcodes_are_kept B64 row)
-    (and-right (opcodes_are_kept B16 row) (opcodes_are_kept B32 row && opcodes_are_kept B64 row) h)
+    (and_parts (opcodes_are_kept B32 row) (opcodes_are_kept B64 row)
+    (and_parts (opcodes_are_kept B16 row) (opcodes_are_kept B32 row && opcodes_are_kept B64 row) h).1).1
 
 pub kept-row : (bits : Bits) (code : ℕ) (row : Row) → slice_get table code ≡ Some row → IsTrue (opcodes_are_kept bits row)
 kept-row bits code row at = in_mode bits row (in_each_part kept each-kept code row at)

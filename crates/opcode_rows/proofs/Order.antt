@@ -2,9 +2,8 @@
 use Rattle.std.proofs.Common.{◌≡◌, ℕ, zero, suc, Bool, true, false, ◌&&◌, List, [], ◌∷◌, length, take, drop, slice_get, ◌<◌, ◌≤◌, ◌+◌, ◌-◌, refl, ap, sym, ◌∙◌, arith, inl, inr, eqb-true}
 use Rattle.std.specs.Prelude.{Some, ◌==◌, nat_le}
 use Rattle.std.proofs.lemmas.Option.{slice_get_within}
-use Rattle.std.proofs.lemmas.Bool.{cases_lt, leb-true}
+use Rattle.std.proofs.lemmas.Bool.{cases_lt, leb-true, and_parts}
 use Rattle.row_types.specs.declared.Row.{Row}
-use Rattle.row_fields.proofs.Cands.{and-left, and-right}
 use Rattle.row_fields.proofs.Apart.{bool_cases}
 use Rattle.rows_integer.specs.Table.{table as integer_rows, flat_rows as integer_flat}
 use Rattle.rows_x87.specs.Table.{table as x87_rows, flat_rows as x87_flat}
@@ -98,13 +97,13 @@ front-at p n end at s ss h e =
     let same : s ≡ spot p at = cc in
     let b : Bool = is_part p s.part in
     let is : is_part p s.part ≡ true = ap (λ (x : Spot). is_part p x.part) same ∙ is_part-self p in
-    let at_n : s.at ≡ n = next-at b s.at n is (and-left (is_next b s.at n) (counts_up p (behind b n) end ss) h) in
+    let at_n : s.at ≡ n = next-at b s.at n is (and_parts (is_next b s.at n) (counts_up p (behind b n) end ss) h).0 in
     sym (ap (λ (x : Spot). x.at) same) ∙ at_n
 
 rest-counts_up : (p : Part) (n end : ℕ) (s : Spot) (ss : List Spot) → counts_up p n end (s ∷ ss) ≡ true → counts_up p (behind (is_part p s.part) n) end ss ≡ true
 unfolding counts_up
 rest-counts_up p n end s ss h =
-    let b : Bool = is_part p s.part in and-right (is_next b s.at n) (counts_up p (behind b n) end ss) h
+    let b : Bool = is_part p s.part in (and_parts (is_next b s.at n) (counts_up p (behind b n) end ss) h).1
 
 -- no index of the part lies below n
 counts_up-from : (p : Part) (n end : ℕ) (ss : List Spot) → counts_up p n end ss ≡ true → (k at : ℕ) → slice_get ss k ≡ Some (spot p at) → n ≤ at
@@ -134,7 +133,7 @@ front-is : (p : Part) (n end : ℕ) (s : Spot) (ss : List Spot) → counts_up p 
 unfolding counts_up
 front-is p n end s ss h is =
     let b : Bool = is_part p s.part in
-    let at_n : s.at ≡ n = next-at b s.at n is (and-left (is_next b s.at n) (counts_up p (behind b n) end ss) h) in
+    let at_n : s.at ≡ n = next-at b s.at n is (and_parts (is_next b s.at n) (counts_up p (behind b n) end ss) h).0 in
     ap (λ (q : Part). spot q s.at) (sym (is_part-same p s.part is)) ∙ ap (spot p) at_n
 
 counts_up-end : (p : Part) (n end : ℕ) → counts_up p n end [] ≡ true → n ≡ end
@@ -210,12 +209,12 @@ unfolding ascends
 ascends-from low [] h k r at = cc
 ascends-from low (x ∷ rs) h zero r at =
     let same : x ≡ r = cc in
-    let here = leb-true low (opcode_number x) (and-left (nat_le low (opcode_number x)) (ascends (opcode_number x) rs) h) in
+    let here = leb-true low (opcode_number x) (and_parts (nat_le low (opcode_number x)) (ascends (opcode_number x) rs) h).0 in
     let number : opcode_number x ≡ opcode_number r = ap (λ (y : Row). opcode_number y) same in
     rw (← number) here
 ascends-from low (x ∷ rs) h (suc k) r at =
-    let here = leb-true low (opcode_number x) (and-left (nat_le low (opcode_number x)) (ascends (opcode_number x) rs) h) in
-    let rest = ascends-from (opcode_number x) rs (and-right (nat_le low (opcode_number x)) (ascends (opcode_number x) rs) h) k r at in
+    let here = leb-true low (opcode_number x) (and_parts (nat_le low (opcode_number x)) (ascends (opcode_number x) rs) h).0 in
+    let rest = ascends-from (opcode_number x) rs (and_parts (nat_le low (opcode_number x)) (ascends (opcode_number x) rs) h).1 k r at in
     omega arith
 
 ascends-ordered : (low : ℕ) (rows : List Row) → ascends low rows ≡ true → (j k : ℕ) (q r : Row) → j < k →
@@ -225,11 +224,11 @@ ascends-ordered low [] h j k q r lt at at' = cc
 ascends-ordered low (x ∷ rs) h j zero q r lt at at' = absurd (omega arith)
 ascends-ordered low (x ∷ rs) h zero (suc k) q r lt at at' =
     let same : x ≡ q = cc in
-    let rest = ascends-from (opcode_number x) rs (and-right (nat_le low (opcode_number x)) (ascends (opcode_number x) rs) h) k r at' in
+    let rest = ascends-from (opcode_number x) rs (and_parts (nat_le low (opcode_number x)) (ascends (opcode_number x) rs) h).1 k r at' in
     let number : opcode_number x ≡ opcode_number q = ap (λ (y : Row). opcode_number y) same in
     rw (← number) rest
 ascends-ordered low (x ∷ rs) h (suc j) (suc k) q r lt at at' =
-    ascends-ordered (opcode_number x) rs (and-right (nat_le low (opcode_number x)) (ascends (opcode_number x) rs) h) j k q r (omega arith) at at'
+    ascends-ordered (opcode_number x) rs (and_parts (nat_le low (opcode_number x)) (ascends (opcode_number x) rs) h).1 j k q r (omega arith) at at'
 
 get-dropped : (n k : ℕ) (rows : List Row) (code : ℕ) (row : Row) → code ≡ n + k → slice_get rows code ≡ Some row → slice_get (drop n rows) k ≡ Some row
 get-dropped zero k rows code row e at = let is : k ≡ code = omega arith in ap (slice_get rows) is ∙ at

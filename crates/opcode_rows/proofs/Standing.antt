@@ -1,13 +1,11 @@
 -- Where a spelling fits a row, the row stands in the cell that its VEX, map and opcode byte name.
 use Rattle.std.proofs.Common.{◌≡◌, ℕ, true, false, not, ◌&&◌, Option, Some, None, is_some, List, refl, ap, sym, ◌∙◌, eq-eqb, ◌+◌, nat_le, nat_lt}
 use Rattle.std.specs.Prelude.{◌==◌}
-use Rattle.std.proofs.lemmas.Bool.{and_from}
+use Rattle.std.proofs.lemmas.Bool.{and_from, and_parts, eqb-true, not-true}
 use Rattle.x86_values.specs.declared.Bits.{Bits}
 use Rattle.row_types.specs.declared.Row.{Row}
 use Rattle.row_types.specs.declared.RowKind.{RowKind}
 use Rattle.row_types.specs.declared.RowKind.TheVariants as kind
-use Rattle.row_types.specs.declared.Map.{Map}
-use Rattle.row_types.specs.declared.Map.TheVariants as map
 use Rattle.row_types.specs.declared.Plus.{Plus}
 use Rattle.row_types.specs.declared.Plus.TheVariants as plus
 use Rattle.instruction_parts.specs.declared.spelling.Vex.{Vex}
@@ -16,7 +14,6 @@ use Rattle.instruction_parts.specs.declared.spelling.Spelling.{Spelling}
 use Rattle.instruction_parts.specs.Sizes.{is_vex_row}
 use Rattle.instruction_parts.specs.Bytes.{spelled_map, state_of, state_from}
 use Rattle.instruction_parts.specs.Front.{forbids_vex}
-use Rattle.instruction_parts.proofs.Tests.{and_left, and_right, not_true, equal_from}
 use Rattle.row_fit.specs.Fits.{fits, vex_fits, is_vex_of_mode, opcode_is_kept, same_map, opcode_fits, opcode_and_modrm_fit, modrm_rule_fits, place_fits}
 use Rattle.row_fit.proofs.SameMap.{same_map-is}
 use Rattle.row_fit.proofs.FitLaws.{all_conditions}
@@ -30,8 +27,8 @@ kind-vex kind.Vex = refl
 pub opcode-held : (p : Plus) (first o : ℕ)
     → (elim p [ plus.Register ↦ nat_le first o && nat_lt o (first + 8) | _ ↦ o == first ]) ≡ true → opcode_holds p first o ≡ true
 opcode-held plus.Register first o h = h
-opcode-held plus.No first o h = eq-eqb first o (sym (equal_from o first h))
-opcode-held plus.Stack first o h = eq-eqb first o (sym (equal_from o first h))
+opcode-held plus.No first o h = eq-eqb first o (sym (eqb-true o first h))
+opcode-held plus.Stack first o h = eq-eqb first o (sym (eqb-true o first h))
 
 -- the parts of a fitting start: a VEX stands exactly on VEX rows
 abbrev pub VexSays : Row → Option Vex → Type 0
@@ -40,11 +37,11 @@ VexSays row (Some v) = (is_vex_row row ≡ true) × (v.map ≡ row.map)
 
 pub vex-says : (bits : Bits) (row : Row) (ps : List ℕ) (vex : Option Vex) (o : ℕ) (m : Option ModRm) → vex_fits bits row ps vex o m ≡ true → VexSays row vex
 unfolding vex_fits
-vex-says bits row ps None o m h = not_true (is_vex_row row) (and_left (not (is_vex_row row)) (opcode_is_kept bits row.map o m) h)
+vex-says bits row ps None o m h = not-true (is_vex_row row) (and_parts (not (is_vex_row row)) (opcode_is_kept bits row.map o m) h).0
 vex-says bits row ps (Some v) o m h =
-    let rest = and_right (is_vex_row row) (same_map v.map row.map && (not (forbids_vex bits ps) && is_vex_of_mode bits v)) h in (
-      and_left (is_vex_row row) (same_map v.map row.map && (not (forbids_vex bits ps) && is_vex_of_mode bits v)) h,
-      same_map-is v.map row.map (and_left (same_map v.map row.map) (not (forbids_vex bits ps) && is_vex_of_mode bits v) rest),
+    let rest = (and_parts (is_vex_row row) (same_map v.map row.map && (not (forbids_vex bits ps) && is_vex_of_mode bits v)) h).1 in (
+      (and_parts (is_vex_row row) (same_map v.map row.map && (not (forbids_vex bits ps) && is_vex_of_mode bits v)) h).0,
+      same_map-is v.map row.map (and_parts (same_map v.map row.map) (not (forbids_vex bits ps) && is_vex_of_mode bits v) rest).0,
     )
 
 line-is : (row : Row) (vex : Option Vex) → VexSays row vex → map_number (is_vex row.kind) row.map ≡ map_number (is_some vex) (spelled_map row.map vex)
@@ -71,4 +68,4 @@ unfolding state_of state_from
 fitting-stands bits row s h =
     let f = all_conditions bits row s h in
     stands row s.vex s.opcode (vex-says bits row s.prefixes.items s.vex s.opcode s.modrm f.vex)
-    (and_left (opcode_fits row s.opcode) _ (opcode-parts row s.opcode s.modrm f.opcode))
+    (and_parts (opcode_fits row s.opcode) _ (opcode-parts row s.opcode s.modrm f.opcode)).0

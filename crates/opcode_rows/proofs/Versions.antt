@@ -1,7 +1,9 @@
 -- The rows of version 1 are those that were, the rows behind them stand in the cells that version 2 fills, and no others do.
 use Rattle.std.proofs.Common.{◌≡◌, ℕ, zero, suc, ◌+◌, ◌-◌, ◌<◌, ◌≤◌, Bool, true, false, not, ◌&&◌, ◌||◌, is_some, List, [], ◌∷◌, take, slice_get, refl, ap, sym, ◌∙◌, arith, inl, inr, eqb-true, leb-true, ltb-true, nat_le, nat_lt}
+use Rattle.row_fields.specs.Candidates.{below}
+use Rattle.row_fields.proofs.Cands.{below-at}
 use Rattle.std.specs.Prelude.{Option, Some, None, ◌==◌, ◌↔◌, IsTrue, if◌then◌else◌}
-use Rattle.std.proofs.lemmas.Bool.{cases_lt}
+use Rattle.std.proofs.lemmas.Bool.{cases_lt, and_parts}
 use Rattle.row_types.specs.declared.Row.{Row}
 use Rattle.row_types.specs.declared.RowKind.{RowKind}
 use Rattle.row_types.specs.declared.RowKind.TheVariants as kind
@@ -13,7 +15,6 @@ use Rattle.instruction_parts.specs.declared.spelling.Vex.{Vex}
 use Rattle.instruction_parts.specs.declared.spelling.PrefixState.{PrefixState}
 use Rattle.instruction_parts.specs.Bytes.{state_of}
 use Rattle.row_fields.specs.Holds.{is_vex, map_number, opcode_holds, stands_in}
-use Rattle.row_fields.proofs.Cands.{and-left, and-right, below, below-at}
 use Rattle.row_lists.specs.Cells.{stands_in_cell}
 use Rattle.version1_rows.specs.Table.{table as first_rows, names as first_names, legacy_rows as first_legacy, vex_rows as first_vex}
 use Rattle.rows_integer.specs.Table.{table as integer_rows, flat_rows as integer_flat}
@@ -97,10 +98,10 @@ parted-at zero (r ∷ rs) zero row h at =
     let is : r ≡ row = cc in
     record {
       before = λ lt. absurd (omega (arith, lt));
-      behind = λ le. ap (only true) (sym is) ∙ and-left (only true r) (parted zero rs) h;
+      behind = λ le. ap (only true) (sym is) ∙ (and_parts (only true r) (parted zero rs) h).0;
     }
 parted-at zero (r ∷ rs) (suc code) row h at =
-    let t = parted-at zero rs code row (and-right (only true r) (parted zero rs) h) at in
+    let t = parted-at zero rs code row (and_parts (only true r) (parted zero rs) h).1 at in
     record {
       before = λ lt. absurd (omega (arith, lt));
       behind = λ le. t.behind (omega arith);
@@ -108,11 +109,11 @@ parted-at zero (r ∷ rs) (suc code) row h at =
 parted-at (suc n) (r ∷ rs) zero row h at =
     let is : r ≡ row = cc in
     record {
-      before = λ lt. ap (only false) (sym is) ∙ and-left (only false r) (parted n rs) h;
+      before = λ lt. ap (only false) (sym is) ∙ (and_parts (only false r) (parted n rs) h).0;
       behind = λ le. absurd (omega (arith, le));
     }
 parted-at (suc n) (r ∷ rs) (suc code) row h at =
-    let t = parted-at n rs code row (and-right (only false r) (parted n rs) h) at in
+    let t = parted-at n rs code row (and_parts (only false r) (parted n rs) h).1 at in
     record {
       before = λ lt. t.before (omega (arith, lt));
       behind = λ le. t.behind (omega (arith, le));
@@ -132,8 +133,8 @@ held-only b plus.No number first op h held =
 held-only b plus.Stack number first op h held =
     same-true b (is_added_at number op) (ap (λ o. same b (is_added_at number o)) (sym (eqb-true first op held)) ∙ h)
 held-only b plus.Register number first op h held =
-    let low : first ≤ op = leb-true first op (and-left (nat_le first op) (nat_lt op (first + 8)) held) in
-    let high : op < first + 8 = ltb-true op (first + 8) (and-right (nat_le first op) (nat_lt op (first + 8)) held) in
+    let low : first ≤ op = leb-true first op (and_parts (nat_le first op) (nat_lt op (first + 8)) held).0 in
+    let high : op < first + 8 = ltb-true op (first + 8) (and_parts (nat_le first op) (nat_lt op (first + 8)) held).1 in
     let here : same b (is_added_at number (first + (op - first))) ≡ true =
     below-at 8 (λ i. same b (is_added_at number (first + i))) (op - first) h (omega (arith, low, high)) in
     let is : first + (op - first) ≡ op = omega (arith, low) in
@@ -144,9 +145,9 @@ unfolding only
 cell-only b row number op h at =
     let own : ℕ = map_number (is_vex row.kind) row.map in
     let is : map_number (is_vex row.kind) row.map ≡ number =
-    eqb-true (map_number (is_vex row.kind) row.map) number (and-left (own == number) (opcode_holds row.plus row.opcode op) at) in
+    eqb-true (map_number (is_vex row.kind) row.map) number (and_parts (own == number) (opcode_holds row.plus row.opcode op) at).0 in
     ap (λ n. is_added_at n op) (sym is)
-    ∙ held-only b row.plus (map_number (is_vex row.kind) row.map) row.opcode op h (and-right (own == number) (opcode_holds row.plus row.opcode op) at)
+    ∙ held-only b row.plus (map_number (is_vex row.kind) row.map) row.opcode op h (and_parts (own == number) (opcode_holds row.plus row.opcode op) at).1
 
 added-behind : (code : ℕ) (row : Row) (number op : ℕ) → slice_get table code ≡ Some row → stands_in row number op ≡ true → VERSION1_ROWS ≤ code
     → is_added_at number op ≡ true

@@ -1,10 +1,10 @@
 -- The names are words, and no row has two operands that can be memory or a far pointer.
 use Rattle.std.proofs.Common.{◌≡◌, ◌<◌, ◌≤◌, ℕ, zero, suc, true, ◌&&◌, Bool, refl, List, [], ◌∷◌, length, slice_get, arith, leb-true}
+use Rattle.std.proofs.lemmas.Bool.{and_parts}
 use Rattle.std.specs.Prelude.{Some, IsTrue, nat_le, nat_lt, unwrap_or}
 use Rattle.std.specs.List.{list_all}
 use Rattle.row_types.specs.declared.Row.{Row}
 use Rattle.instruction_parts.specs.Kinds.{method_of}
-use Rattle.row_fields.proofs.Cands.{and-left, and-right}
 use Rattle.rows_integer.specs.Table.{table as integer_rows, flat_rows as integer_flat}
 use Rattle.rows_x87.specs.Table.{table as x87_rows, flat_rows as x87_flat}
 use Rattle.rows_sse.specs.Table.{table as sse_rows, flat_rows as sse_flat}
@@ -44,8 +44,8 @@ length-names = refl
 all_names-at : (ns : List (List ℕ)) (k : ℕ) → all_names ns ≡ true → k < length ns → is_name (unwrap_or (slice_get ns k) []) ≡ true
 unfolding all_names
 all_names-at [] k h lt = absurd (omega arith)
-all_names-at (n ∷ ns) zero h lt = and-left (is_name n) (all_names ns) h
-all_names-at (n ∷ ns) (suc k) h lt = all_names-at ns k (and-right (is_name n) (all_names ns) h) (omega arith)
+all_names-at (n ∷ ns) zero h lt = (and_parts (is_name n) (all_names ns) h).0
+all_names-at (n ∷ ns) (suc k) h lt = all_names-at ns k (and_parts (is_name n) (all_names ns) h).1 (omega arith)
 
 pub name-is_name : (code : ℕ) → code < ROWS → IsTrue (is_name (name_of code))
 unfolding name_of
@@ -57,6 +57,6 @@ unfolding is_name
 name-short code lt =
     let n : List ℕ = name_of code in
     let rest : (nat_le (length n) 16 && list_all is_name_byte n) ≡ true =
-    and-right (nat_lt 0 (length n)) (nat_le (length n) 16 && list_all is_name_byte n) (name-is_name code lt)
+    (and_parts (nat_lt 0 (length n)) (nat_le (length n) 16 && list_all is_name_byte n) (name-is_name code lt)).1
     in
-    leb-true (length n) 16 (and-left (nat_le (length n) 16) (list_all is_name_byte n) rest)
+    leb-true (length n) 16 (and_parts (nat_le (length n) 16) (list_all is_name_byte n) rest).0

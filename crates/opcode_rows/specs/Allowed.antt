@@ -30,7 +30,7 @@ unfoldable pub is_formed : Row → Instr → Bool
 is_formed row i =
     operand_is_formed row i 0 && (operand_is_formed row i 1 && (operand_is_formed row i 2 && operand_is_formed row i 3))
 
--- the same of a row that may be absent
+-- the four operands have the form that a row asks for; none has where there is no row
 abbrev pub is_formed_by : Option Row → Instr → Bool
 is_formed_by None i = false
 is_formed_by (Some row) i = is_formed row i

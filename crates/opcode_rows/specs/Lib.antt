@@ -1,4 +1,5 @@
 pub mod Table
+pub mod NameLines
 pub mod Kept
 pub mod Words
 pub mod Allowed

@@ -15,7 +15,7 @@ use Rattle.opcode_rows.specs.declared.spot.Part.TheVariants as part
 use Rattle.opcode_rows.specs.declared.spot.Spot.{Spot}
 use Rattle.opcode_rows.specs.declared.generated_spots.TheConstants.{SPOTS}
 use Rattle.opcode_rows.specs.declared.generated_cells.TheConstants.{LEGACY_SPANS, VEX_SPANS}
-use Rattle.opcode_rows.specs.declared.generated_names.TheConstants.{NAMES, ADDED_NAMES}
+use Rattle.opcode_rows.specs.declared.generated_names.TheConstants.{NAMES_FROM_0, NAMES_FROM_512, NAMES_FROM_1024, NAMES_FROM_1536, ADDED_NAMES}
 
 -- the rows of a part
 abbrev pub part_table : Part → List Row
@@ -47,9 +47,18 @@ table = rows_in spots
 abbrev pub cell : RowKind → Map → ℕ → List Row
 cell kind m op = cell_of table kind m op
 
--- the names of the rows of version 1
-abbrev pub first_names : List (List ℕ)
-first_names = map (λ name. name.now) NAMES
+-- the names of the rows of version 1, 512 a list, and the last one the rest
+abbrev pub names_from_0 : List (List ℕ)
+names_from_0 = map (λ name. name.now) NAMES_FROM_0
+
+abbrev pub names_from_512 : List (List ℕ)
+names_from_512 = map (λ name. name.now) NAMES_FROM_512
+
+abbrev pub names_from_1024 : List (List ℕ)
+names_from_1024 = map (λ name. name.now) NAMES_FROM_1024
+
+abbrev pub names_from_1536 : List (List ℕ)
+names_from_1536 = map (λ name. name.now) NAMES_FROM_1536
 
 -- the names of the rows that version 2 adds
 abbrev pub added_names : List (List ℕ)
@@ -57,7 +66,7 @@ added_names = map (λ name. name.now) ADDED_NAMES
 
 -- the names, by code
 unfoldable pub names : List (List ℕ)
-names = first_names ++ added_names
+names = names_from_0 ++ (names_from_512 ++ (names_from_1024 ++ (names_from_1536 ++ added_names)))
 
 -- the name of a row by its code, as bytes
 unfoldable pub name_of : ℕ → List ℕ

@@ -10,19 +10,19 @@ mod generated_cells;
 mod generated_names;
 mod generated_spots;
 pub mod laws;
+mod names;
 mod spot;
 
 ghost use Rattle.std.specs.Prelude.{◌≡◌, ◌+◌, ◌<◌, ◌≤◌, ◌↔◌, length, map, slice_get, Some, IfSome, IsNone};
 ghost use Rattle.row_lists.specs.Cells.{map_index, span_of, IsRunOf};
 ghost use Rattle.opcode_rows.specs.Table.{part_table, spots, table, name_of, cell, spans_of};
-ghost use Rattle.opcode_rows.specs.Table as spec;
 
 pub use by_name::code_of;
 pub use form::well_formed;
 use generated_cells::{LEGACY_SPANS, VEX_SPANS};
-use generated_names::{ADDED_NAMES, NAMES};
+use generated_spots::SPOTS;
 pub use generated_spots::{ROWS, VERSION1_ROWS};
-use generated_spots::{ADDED_ROWS, SPOTS};
+use names::{early_name, later_name};
 use row_lists::{Span, span_in};
 use row_types::{Map, Row, RowKind};
 use spot::{Part, Spot};
@@ -47,7 +47,7 @@ pub fn row_of(code: Code) -> Row
     requires { code.0 < ROWS }
     ensures { slice_get table code.0 ≡ Some result }
 {
-    row_at(code)
+    common_row(spot_at(code.0))
 }
 
 /// The name of the row of a code below `ROWS`, in lower case: 1 to 16 letters and digits.
@@ -56,10 +56,10 @@ pub fn name(code: Code) -> &'static str
     ensures name { result.now ≡ name_of code.0 }
     ensures short { length result.now ≤ 16 }
 {
-    if code.0 < VERSION1_ROWS {
-        first_name(code.0)
+    if code.0 < 1536 {
+        early_name(code.0)
     } else {
-        added_name(code.0)
+        later_name(code.0)
     }
 }
 
@@ -94,39 +94,6 @@ fn row_at(code: Code) -> Row
     spot_row(spot_at(code.0))
 }
 
-/// The name of a row of version 1.
-fn first_name(code: u16) -> &'static str
-    requires { code < VERSION1_ROWS }
-    ensures { result.now ≡ name_of code }
-{
-    first_names()[code as usize]
-}
-
-/// The name of a row of version 2.
-fn added_name(code: u16) -> &'static str
-    requires behind { VERSION1_ROWS ≤ code }
-    requires within { code < ROWS }
-    ensures { result.now ≡ name_of code }
-{
-    added_names()[(code - VERSION1_ROWS) as usize]
-}
-
-/// The names of the rows of version 1, by code.
-fn first_names() -> &'static [&'static str; VERSION1_ROWS as usize]
-    ensures names { map (λ name. name.now) result.now ≡ spec.first_names }
-    ensures count { length result.now ≡ VERSION1_ROWS }
-{
-    &NAMES
-}
-
-/// The names of the rows of version 2, by code from `VERSION1_ROWS` on.
-fn added_names() -> &'static [&'static str; ADDED_ROWS as usize]
-    ensures names { map (λ name. name.now) result.now ≡ spec.added_names }
-    ensures count { length result.now ≡ ADDED_ROWS }
-{
-    &ADDED_NAMES
-}
-
 /// Where the row of a code lies.
 #[inline]
 fn spot_at(code: u16) -> Spot
@@ -147,6 +114,27 @@ fn spot_row(spot: Spot) -> Row
         Part::X87 => rows_x87::list().row_at(spot.at as usize),
         Part::Sse => rows_sse::list().row_at(spot.at as usize),
         Part::Vex => rows_vex::list().row_at(spot.at as usize),
+    }
+}
+
+/// The row that lies at a spot, by a call.
+#[inline(never)]
+fn any_row(spot: Spot) -> Row
+    requires { spot.at < length (part_table spot.part) }
+    ensures { slice_get (part_table spot.part) spot.at ≡ Some result }
+{
+    spot_row(spot)
+}
+
+/// The row that lies at a spot, where the integer rows, which most are, are asked for first.
+#[inline]
+fn common_row(spot: Spot) -> Row
+    requires { spot.at < length (part_table spot.part) }
+    ensures { slice_get (part_table spot.part) spot.at ≡ Some result }
+{
+    match spot.part {
+        Part::Integer => rows_integer::list().row_at(spot.at as usize),
+        _ => any_row(spot),
     }
 }
 

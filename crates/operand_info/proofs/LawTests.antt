@@ -1,10 +1,10 @@
 -- What every line of the constant table keeps to, each by computing over all lines and rows.
 use Rattle.std.proofs.Common.{◌≡◌, ℕ, zero, suc, ◌<◌, Bool, true, false, ◌&&◌, ◌||◌, List, [], ◌∷◌, slice_get, refl, ap, sym, ◌∙◌, arith}
+use Rattle.std.proofs.lemmas.Bool.{and_parts}
 use Rattle.std.specs.Prelude.{Some, not, IsTrue}
 use Rattle.row_types.specs.declared.Row.{Row}
 use Rattle.instruction_parts.specs.Kinds.{method_of}
 use Rattle.row_fit.specs.Fits.{kind_at}
-use Rattle.row_fields.proofs.Cands.{and-left, and-right}
 use Rattle.rows_integer.specs.Table.{table as integer_rows, flat_rows as integer_flat}
 use Rattle.rows_x87.specs.Table.{table as x87_rows, flat_rows as x87_flat}
 use Rattle.rows_sse.specs.Table.{table as sse_rows, flat_rows as sse_flat}
@@ -33,9 +33,9 @@ all_lines-at p (l ∷ lines) [] code line row h at-line at = cc
 all_lines-at p (l ∷ lines) (r ∷ rows) zero line row h at-line at =
     let same_line : l ≡ line = cc in
     let same_row : r ≡ row = cc in
-    ap (λ x. p x row) (sym same_line) ∙ (ap (λ x. p l x) (sym same_row) ∙ and-left (p l r) (all_lines p lines rows) h)
+    ap (λ x. p x row) (sym same_line) ∙ (ap (λ x. p l x) (sym same_row) ∙ (and_parts (p l r) (all_lines p lines rows) h).0)
 all_lines-at p (l ∷ lines) (r ∷ rows) (suc code) line row h at-line at =
-    all_lines-at p lines rows code line row (and-right (p l r) (all_lines p lines rows) h) at-line at
+    all_lines-at p lines rows code line row (and_parts (p l r) (all_lines p lines rows) h).1 at-line at
 
 -- ---- constants
 
@@ -82,16 +82,16 @@ unfolding reads_constants
 tested-0 code row at = tested code row at
 
 tested-1 : (code : ℕ) (row : Row) → slice_get table code ≡ Some row → tests_from_1 code row ≡ true
-tested-1 code row at = and-right (test_at code row 0) (tests_from_1 code row) (tested-0 code row at)
+tested-1 code row at = (and_parts (test_at code row 0) (tests_from_1 code row) (tested-0 code row at)).1
 
 tested-2 : (code : ℕ) (row : Row) → slice_get table code ≡ Some row → tests_from_2 code row ≡ true
-tested-2 code row at = and-right (test_at code row 1) (tests_from_2 code row) (tested-1 code row at)
+tested-2 code row at = (and_parts (test_at code row 1) (tests_from_2 code row) (tested-1 code row at)).1
 
 test_holds : (code n : ℕ) (row : Row) → slice_get table code ≡ Some row → n < 4 → test_at code row n ≡ true
-test_holds code zero row at lt = and-left (test_at code row 0) (tests_from_1 code row) (tested-0 code row at)
-test_holds code (suc zero) row at lt = and-left (test_at code row 1) (tests_from_2 code row) (tested-1 code row at)
-test_holds code (suc (suc zero)) row at lt = and-left (test_at code row 2) (test_at code row 3) (tested-2 code row at)
-test_holds code (suc (suc (suc zero))) row at lt = and-right (test_at code row 2) (test_at code row 3) (tested-2 code row at)
+test_holds code zero row at lt = (and_parts (test_at code row 0) (tests_from_1 code row) (tested-0 code row at)).0
+test_holds code (suc zero) row at lt = (and_parts (test_at code row 1) (tests_from_2 code row) (tested-1 code row at)).0
+test_holds code (suc (suc zero)) row at lt = (and_parts (test_at code row 2) (test_at code row 3) (tested-2 code row at)).0
+test_holds code (suc (suc (suc zero))) row at lt = (and_parts (test_at code row 2) (test_at code row 3) (tested-2 code row at)).1
 test_holds code (suc (suc (suc (suc n)))) row at lt = absurd (omega arith)
 
 pub constant-read : (code n : ℕ) (row : Row) → slice_get table code ≡ Some row → n < 4 → IsTrue (is_constant (method_of (kind_at row n))) → access_of code n ≡ Read

@@ -8,11 +8,11 @@ use x86_values::{Instr, Operand, Register};
 /// The target of a near branch.
 #[inline]
 #[tactic(auto, unfolding(crate::specs::Operands::near_value))]
-fn near_value(operand: Operand) -> Option<u64>
-    ensures { result ≡ spec.near_value operand }
+fn near_value(operand: &Operand) -> Option<u64>
+    ensures { result ≡ spec.near_value operand.now }
 {
     match operand {
-        Operand::Near(target) => Some(target),
+        Operand::Near(target) => Some(*target),
         _ => None,
     }
 }
@@ -20,8 +20,8 @@ fn near_value(operand: Operand) -> Option<u64>
 /// The address of a memory operand that RIP or EIP is the base of.
 #[inline]
 #[tactic(auto, unfolding(crate::specs::Operands::ip_value))]
-fn ip_value(operand: Operand) -> Option<u64>
-    ensures { result ≡ spec.ip_value operand }
+fn ip_value(operand: &Operand) -> Option<u64>
+    ensures { result ≡ spec.ip_value operand.now }
 {
     match operand {
         Operand::Mem(m) => match m.base {
@@ -33,17 +33,19 @@ fn ip_value(operand: Operand) -> Option<u64>
 }
 
 /// The absolute target of a near branch, the first `Near` operand; None exactly where there is none.
+#[inline]
 pub fn near_target(instr: &Instr) -> Option<u64>
     ensures { result ≡ spec.first_value spec.near_value instr.now }
 {
-    let [first, second, third, fourth] = instr.ops;
+    let [first, second, third, fourth] = &instr.ops;
     near_value(first).or(near_value(second).or(near_value(third).or(near_value(fourth))))
 }
 
 /// The absolute address of the memory operand that RIP or EIP is the base of (2.2.1.6); None exactly where there is none.
+#[inline]
 pub fn ip_operand(instr: &Instr) -> Option<u64>
     ensures { result ≡ spec.first_value spec.ip_value instr.now }
 {
-    let [first, second, third, fourth] = instr.ops;
+    let [first, second, third, fourth] = &instr.ops;
     ip_value(first).or(ip_value(second).or(ip_value(third).or(ip_value(fourth))))
 }

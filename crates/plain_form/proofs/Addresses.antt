@@ -1,7 +1,7 @@
 -- The fields of an address that is read are the plain ones of it exactly where its SIB is needed, and has no scale that is not read.
 use Rattle.std.proofs.Common.{◌≡◌, eq-eqb, inl, inr, ℕ, zero, suc, ◌%◌, ◌^◌, ◌<◌, Bool, true, false, ◌&&◌, ◌||◌, not, ◌==◌, List, length, Option, Some, None, is_some, refl, ap, sym, ◌∙◌, subst, arith, if◌then◌else◌}
 use Rattle.std.proofs.lemmas.Option.{same_Some}
-use Rattle.std.proofs.lemmas.Bool.{lt-ltb, not_from_false, not_from_true}
+use Rattle.std.proofs.lemmas.Bool.{lt-ltb, not_from_false, not_from_true, and_parts, cases_Bool, eqb-true}
 use Rattle.x86_values.specs.declared.Bits.{Bits}
 use Rattle.x86_values.specs.declared.Bits.TheVariants.{B16, B32, B64}
 use Rattle.x86_values.specs.declared.Register.{Register}
@@ -18,15 +18,14 @@ use Rattle.instruction_parts.specs.declared.spelling.Sib.{Sib}
 use Rattle.instruction_parts.specs.declared.spelling.PrefixState.{PrefixState}
 use Rattle.instruction_parts.specs.Counting.{is_16, is_64}
 use Rattle.instruction_parts.specs.Sizes.{bit_b, bit_x}
-use Rattle.instruction_parts.proofs.Tests.{either, and_left, and_right, equal_from}
 use Rattle.row_fit.specs.Fits.{with_high_bit, is_displacement_alone, displacement_bytes, needs_sib, index_number}
 use Rattle.row_meaning.specs.Meaning.{general_register, vector, register_of, displacement, disp_size_of, index_16, memory_16, ip_or_absolute, memory_with_sib, memory_wide, memory_of, sib_index}
 use Rattle.plain_spelling.specs.PlainFront.{register_number}
 use Rattle.plain_spelling.specs.declared.addresses.AddressFields.{AddressFields}
 use Rattle.plain_spelling.specs.Addresses.{form_of, displacement_count, mode_of_count, scale_field, base_bits, index_bits, plain_sib, wide_needs_sib, wide_fields, alone_fields, address_fields, or_zero, rm_of_short}
-use Rattle.plain_spelling.proofs.AddressCases.{address, impossible, memory_16-alone, memory_16-register, wide-alone, wide-register, sib_base-none, sib_base-some, sib_index-none, sib_index-some, number_of_general}
-use Rattle.plain_spelling.proofs.AddressForms.{IsVectorFile}
-use Rattle.plain_need.proofs.ReadShapes.{Reading, named, extended_low, with_parts, rm_is_four, sib_small}
+use Rattle.plain_form.proofs.AddressCases.{address, impossible, memory_16-alone, memory_16-register, wide-alone, wide-register, sib_base-none, sib_base-some, sib_index-none, sib_index-some, number_of_general}
+use Rattle.plain_form.proofs.AddressForms.{IsVectorFile}
+use Rattle.plain_form.proofs.NeedReadShapes.{Reading, named, extended_low, with_parts, rm_is_four, sib_small}
 
 -- ---- the fields as they are
 
@@ -120,10 +119,10 @@ short_16 bits k index disp size = refl
 
 alone_is : (m : ModRm) → is_displacement_alone B16 m None ≡ true → (m.mode3 ≡ 0) × (m.rm ≡ 6)
 unfolding is_displacement_alone
-alone_is m h = (equal_from m.mode3 0 (and_left (m.mode3 == 0) (m.rm == 6) h), equal_from m.rm 6 (and_right (m.mode3 == 0) (m.rm == 6) h))
+alone_is m h = (eqb-true m.mode3 0 (and_parts (m.mode3 == 0) (m.rm == 6) h).0, eqb-true m.rm 6 (and_parts (m.mode3 == 0) (m.rm == 6) h).1)
 
 plain_16 : (bits : Bits) (st : PrefixState) (m : ModRm) (d : List ℕ) → Reading bits B16 st m None d → address_fields bits B16 (memory_16 m d) ≡ fields m.mode3 m.rm None
-plain_16 bits st m d g = elim (either (is_displacement_alone B16 m None)) [
+plain_16 bits st m d g = elim (cases_Bool (is_displacement_alone B16 m None)) [
   | inl alone ↦ (let e = alone_is m alone in
       ap (λ (x : Mem). address_fields bits B16 x) (memory_16-alone m d alone) ∙ alone_16 bits (displacement B16 d) D16 ∙ same_fields 0 m.mode3 6 m.rm None None (sym e.0) (sym e.1) refl)
   | inr beside ↦ (let k = named m.rm g.rm in
@@ -159,10 +158,10 @@ if_there true a b h = refl
 if_there false a b h = impossible (sym h)
 
 plain_without : (bits asize : Bits) (st : PrefixState) (m : ModRm) (next : ℕ) (d : List ℕ) → is_16 asize ≡ false → Reading bits asize st m None d → address_fields bits asize (memory_wide bits asize st m None next d) ≡ fields m.mode3 m.rm None
-plain_without bits asize st m next d w g = elim (either (m.mode3 == 0 && m.rm == 5)) [
+plain_without bits asize st m next d w g = elim (cases_Bool (m.mode3 == 0 && m.rm == 5)) [
   | inl alone ↦
       ap (λ (x : Mem). address_fields bits asize x) (wide-alone bits asize st m next d alone) ∙ pointer_fields bits asize next d w
-      ∙ same_fields 0 m.mode3 5 m.rm None None (sym (equal_from m.mode3 0 (and_left (m.mode3 == 0) (m.rm == 5) alone))) (sym (equal_from m.rm 5 (and_right (m.mode3 == 0) (m.rm == 5) alone))) refl
+      ∙ same_fields 0 m.mode3 5 m.rm None None (sym (eqb-true m.mode3 0 (and_parts (m.mode3 == 0) (m.rm == 5) alone).0)) (sym (eqb-true m.rm 5 (and_parts (m.mode3 == 0) (m.rm == 5) alone).1)) refl
   | inr beside ↦ (let k = with_high_bit (bit_b bits st) m.rm in
       let low : k % 8 ≡ m.rm = extended_low (bit_b bits st) m.rm g.rm in
       let four : (k % 8 == 4) ≡ false = ap (λ (x : ℕ). x == 4) low ∙ rm_not_four asize m w g.mode3 g.sib_is in
@@ -221,8 +220,8 @@ index_is bits asize st m s d r disp size w g alone index =
     let small = sib_small s g.sib_range in
     let four = rm_is_four asize m (sym g.sib_is) in
     fields_index bits asize r (2 ^ s.scale) disp size
-    ∙ same_fields 0 m.mode3 4 m.rm _ (Some s) (sym (equal_from m.mode3 0 (and_left (m.mode3 == 0) (s.base == 5) alone))) (sym four)
-    (ap (λ (x : Sib). Some x) (same_sib _ s.scale _ s.index 5 s.base (scale_back s.scale small.scale) index (sym (equal_from s.base 5 (and_right (m.mode3 == 0) (s.base == 5) alone)))))
+    ∙ same_fields 0 m.mode3 4 m.rm _ (Some s) (sym (eqb-true m.mode3 0 (and_parts (m.mode3 == 0) (s.base == 5) alone).0)) (sym four)
+    (ap (λ (x : Sib). Some x) (same_sib _ s.scale _ s.index 5 s.base (scale_back s.scale small.scale) index (sym (eqb-true s.base 5 (and_parts (m.mode3 == 0) (s.base == 5) alone).1))))
 
 -- without an index
 or_left : (a b : Bool) → a ≡ false → (a || b) ≡ true → b ≡ true
@@ -252,15 +251,15 @@ neither_is : (bits asize : Bits) (st : PrefixState) (m : ModRm) (s : Sib) (d : L
     → SibIs bits asize m s false (address None None scale disp size)
 neither_is bits asize st m s d scale disp size w g alone none =
     let four = rm_is_four asize m (sym g.sib_is) in
-    let base : s.base ≡ 5 = equal_from s.base 5 (and_right (m.mode3 == 0) (s.base == 5) alone) in
+    let base : s.base ≡ 5 = eqb-true s.base 5 (and_parts (m.mode3 == 0) (s.base == 5) alone).1 in
     let no_four : (s.base == 4) ≡ false = ap (λ (n : ℕ). n == 4) base in
     let f = fields_neither bits asize scale disp size w in
     record {
       forth = λ needed scaled. (
-          let long : is_64 bits ≡ true = and_right (m.mode3 == 0 && s.base == 5) (is_64 bits) (or_left (s.base == 4) _ no_four needed) in
+          let long : is_64 bits ≡ true = (and_parts (m.mode3 == 0 && s.base == 5) (is_64 bits) (or_left (s.base == 4) _ no_four needed)).1 in
           f ∙ if_there (is_64 bits) _ _ long
-          ∙ same_fields 0 m.mode3 4 m.rm (Some (sib_with 0 4 5)) (Some s) (sym (equal_from m.mode3 0 (and_left (m.mode3 == 0) (s.base == 5) alone))) (sym four)
-          (ap (λ (x : Sib). Some x) (same_sib 0 s.scale 4 s.index 5 s.base (sym (equal_from s.scale 0 scaled)) (sym (index_four (bit_x st) s.index none)) (sym base))));
+          ∙ same_fields 0 m.mode3 4 m.rm (Some (sib_with 0 4 5)) (Some s) (sym (eqb-true m.mode3 0 (and_parts (m.mode3 == 0) (s.base == 5) alone).0)) (sym four)
+          (ap (λ (x : Sib). Some x) (same_sib 0 s.scale 4 s.index 5 s.base (sym (eqb-true s.scale 0 scaled)) (sym (index_four (bit_x st) s.index none)) (sym base))));
       back = λ h. back_neither bits m s (is_64 bits) alone (ap (λ (x : AddressFields). x.sib) (sym f) ∙ h) refl;
     }
 
@@ -286,7 +285,7 @@ base_is bits asize st m s d scale disp w g beside none =
           f
           ∙ same_fields _ m.mode3 _ m.rm _ (Some s) (mode_back bits asize st m (Some s) d g (alone_sib asize m s w four ∙ beside)) (if_there (k % 8 == 4) 4 (k % 8) (same ∙ is) ∙ sym four)
           (if_there (k % 8 == 4) _ None (same ∙ is)
-          ∙ ap (λ (x : Sib). Some x) (same_sib 0 s.scale 4 s.index (k % 8) s.base (sym (equal_from s.scale 0 scaled)) (sym (index_four (bit_x st) s.index none)) low)));
+          ∙ ap (λ (x : Sib). Some x) (same_sib 0 s.scale 4 s.index (k % 8) s.base (sym (eqb-true s.scale 0 scaled)) (sym (index_four (bit_x st) s.index none)) low)));
       back = λ h. back_base bits m s (k % 8 == 4) (k % 8) (sym same) (ap (λ (x : AddressFields). x.sib) (sym f) ∙ h);
     }
   where
@@ -310,14 +309,14 @@ pub sib_is : (bits asize : Bits) (st : PrefixState) (m : ModRm) (s : Sib) (d : L
 sib_is bits asize st m s d w g =
     let small = sib_small s g.sib_range in
     let j = with_high_bit (bit_x st) s.index in
-    elim (either (m.mode3 == 0 && s.base == 5)) [
+    elim (cases_Bool (m.mode3 == 0 && s.base == 5)) [
       | inl alone ↦
           (let base = sib_base-none bits asize st m s alone in
-          elim (either (j == 4)) [
+          elim (cases_Bool (j == 4)) [
             | inl none ↦
                 subst (λ (b : Bool). SibIs bits asize m s b (memory_with_sib bits asize st (sib_index asize st s) m s d)) (sym (not_from_true (j == 4) none))
-                (same_sib_is bits asize m s false _ _ (with_parts bits asize st (sib_index asize st s) None None m s d base (sib_index-none asize st s (equal_from j 4 none)))
-                (neither_is bits asize st m s d 1 _ _ w g alone (equal_from j 4 none)))
+                (same_sib_is bits asize m s false _ _ (with_parts bits asize st (sib_index asize st s) None None m s d base (sib_index-none asize st s (eqb-true j 4 none)))
+                (neither_is bits asize st m s d 1 _ _ w g alone (eqb-true j 4 none)))
             | inr other ↦
                 same_sib_is bits asize m s (names_index st s) _ _ (with_parts bits asize st (sib_index asize st s) None (Some (general_register asize j)) m s d base (sib_index-some asize st s other))
                 (with_index bits asize m s (names_index st s) _ (not_from_false (j == 4) other) (index_is bits asize st m s d (general_register asize j) _ _ w g alone (index_low asize (bit_x st) s.index small.index)))
@@ -325,11 +324,11 @@ sib_is bits asize st m s d w g =
       | inr beside ↦
           (let base = sib_base-some bits asize st m s beside in
           let k = with_high_bit (bit_b bits st) s.base in
-          elim (either (j == 4)) [
+          elim (cases_Bool (j == 4)) [
             | inl none ↦
                 subst (λ (b : Bool). SibIs bits asize m s b (memory_with_sib bits asize st (sib_index asize st s) m s d)) (sym (not_from_true (j == 4) none))
-                (same_sib_is bits asize m s false _ _ (with_parts bits asize st (sib_index asize st s) (Some (general_register asize k)) None m s d base (sib_index-none asize st s (equal_from j 4 none)))
-                (base_is bits asize st m s d 1 _ w g beside (equal_from j 4 none)))
+                (same_sib_is bits asize m s false _ _ (with_parts bits asize st (sib_index asize st s) (Some (general_register asize k)) None m s d base (sib_index-none asize st s (eqb-true j 4 none)))
+                (base_is bits asize st m s d 1 _ w g beside (eqb-true j 4 none)))
             | inr other ↦
                 same_sib_is bits asize m s (names_index st s) _ _ (with_parts bits asize st (sib_index asize st s) (Some (general_register asize k)) (Some (general_register asize j)) m s d base (sib_index-some asize st s other))
                 (with_index bits asize m s (names_index st s) _ (not_from_false (j == 4) other) (sum_is bits asize st m s d (general_register asize j) 0 _ w g beside (index_low asize (bit_x st) s.index small.index)))
@@ -359,7 +358,7 @@ gather_is bits asize row st file m s d w v g =
     let j = with_high_bit (bit_x st) s.index in
     let r = register_of bits row st file j in
     let index : register_number r % 8 ≡ s.index = ap (λ (x : ℕ). x % 8) (file_number bits row st file j v) ∙ extended_low (bit_x st) s.index small.index in
-    elim (either (m.mode3 == 0 && s.base == 5)) [
+    elim (cases_Bool (m.mode3 == 0 && s.base == 5)) [
       | inl alone ↦
           ap (λ (x : Mem). address_fields bits asize x) (with_parts bits asize st (Some r) None (Some r) m s d (sib_base-none bits asize st m s alone) refl)
           ∙ index_is bits asize st m s d r _ _ w g alone index

@@ -1,5 +1,6 @@
 -- What the operands of an instruction need of the bits R, X, B and of a REX is what the plain front asks for by them.
 use Rattle.std.proofs.Common.{◌≡◌, inl, inr, ℕ, ◌+◌, ◌≤◌, Bool, true, false, ◌&&◌, ◌||◌, nat_le, List, [], ◌∷◌, Option, Some, None, refl, ap, sym, ◌∙◌, subst, arith, if◌then◌else◌}
+use Rattle.std.proofs.lemmas.Bool.{cases_Bool}
 use Rattle.x86_values.specs.declared.Bits.{Bits}
 use Rattle.x86_values.specs.declared.Code.{Code}
 use Rattle.x86_values.specs.declared.Register.{Register}
@@ -13,14 +14,13 @@ use Rattle.instruction_parts.specs.declared.kinds.Method.TheVariants as method
 use Rattle.instruction_parts.specs.declared.spelling.Spelling.{Spelling}
 use Rattle.instruction_parts.specs.declared.spelling.PrefixState.{PrefixState}
 use Rattle.instruction_parts.specs.Kinds.{method_of}
-use Rattle.instruction_parts.proofs.Tests.{either}
 use Rattle.row_fit.specs.Sound.{Sound, reads_reg, reads_rm, reads_opcode}
 use Rattle.row_meaning.specs.Meaning.{Tail, instr_of, meaning}
 use Rattle.plain_spelling.specs.PlainFront.{register_number, number_or_zero, is_low_byte_of_rex, over_operands, base_or_register_number, number_in_reg, number_in_rm, number_in_index, asks_r, asks_x, asks_b, asks_low_byte}
-use Rattle.plain_need.proofs.Given.{Given}
-use Rattle.plain_need.proofs.Walking.{Hold, readers, readers_yes, readers_no, Silent, asked_none}
-use Rattle.plain_need.proofs.Asks.{each_read, one_of_b, apart, placed, silent_reg, silent_rm, silent_index}
-use Rattle.plain_need.proofs.Used.{read_is}
+use Rattle.plain_form.specs.GivenSpelling.{Given}
+use Rattle.plain_form.proofs.NeedWalking.{Hold, readers, readers_yes, readers_no, Silent, asked_none}
+use Rattle.plain_form.proofs.NeedAsks.{each_read, one_of_b, apart, placed, silent_reg, silent_rm, silent_index}
+use Rattle.plain_form.proofs.NeedUsed.{read_is}
 use Rattle.plain_form.specs.IsPlain.{meant_operands, any_operand, is_high_register, is_high, has_high_base, has_high_index, needs_r, needs_x, needs_b, names_low_byte}
 
 -- ---- a number of 8 or more among operands of which at most one has a number
@@ -62,7 +62,7 @@ another p q n m h e k =
 any_high : (p : Method → Operand → Bool) (q : Method → Bool) (f : Method → Operand → ℕ) (kinds : List OpKind) (ops : List Operand) → Tests p f → readers q kinds ≤ 1 → Hold (Silent q f) kinds ops → any_operand p kinds ops ≡ nat_le 8 (over_operands f kinds ops)
 any_high p q f [] ops t n h = refl
 any_high p q f (kind ∷ kinds) [] t n h = refl
-any_high p q f (kind ∷ kinds) (op ∷ ops) t n h = elim (either (q (method_of kind))) [
+any_high p q f (kind ∷ kinds) (op ∷ ops) t n h = elim (cases_Bool (q (method_of kind))) [
   | inl e ↦ (let rest = asked_none q f kinds ops (readers_yes q kind kinds e n) h.1 in
       this_one _ _ (f (method_of kind) op) _ (t (method_of kind) op) rest (none_high p f kinds ops t rest))
   | inr e ↦ another _ _ (f (method_of kind) op) _ (t (method_of kind) op) (h.0 e) (any_high p q f kinds ops t (readers_no q kind kinds 1 e n) h.1)

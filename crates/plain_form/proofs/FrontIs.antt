@@ -1,7 +1,7 @@
 -- The constructed front is plain: its prefixes, REX and VEX.
 use Rattle.std.proofs.Common.{◌≡◌, inl, inr, ℕ, ◌+◌, ◌*◌, ◌<◌, Bool, true, false, ◌&&◌, ◌||◌, not, nat_lt, List, Option, Some, None, refl, ap, sym, ◌∙◌, subst, if◌then◌else◌}
-use Rattle.plain_spelling.proofs.AddressCases.{if_yes, if_no}
-use Rattle.std.proofs.lemmas.Bool.{lt-ltb}
+use Rattle.plain_form.proofs.AddressCases.{if_yes, if_no}
+use Rattle.std.proofs.lemmas.Bool.{lt-ltb, cases_Bool}
 use Rattle.x86_values.specs.declared.Bits.{Bits}
 use Rattle.x86_values.specs.declared.Operand.{Operand}
 use Rattle.x86_values.specs.declared.Instr.{Instr}
@@ -14,23 +14,22 @@ use Rattle.instruction_parts.specs.declared.spelling.PrefixState.{PrefixState}
 use Rattle.instruction_parts.specs.Counting.{is_64, rex_bit}
 use Rattle.instruction_parts.specs.Sizes.{is_vex_row, shared_bit, bit_r, bit_x, bit_b}
 use Rattle.instruction_parts.specs.Bytes.{bit, state_of}
-use Rattle.instruction_parts.proofs.Tests.{either}
 use Rattle.row_fit.specs.Fits.{same_bool, same_map}
 use Rattle.row_fit.proofs.FitLaws.{all_conditions}
 use Rattle.row_meaning.specs.Meaning.{instr_of}
 use Rattle.plain_spelling.specs.PlainFront.{number_in_vvvv, asked, asks_r, asks_x, asks_b, asks_low_byte, asks_rex_w, asks_vex_w, asked_rex, asked_vex, plain_front_of}
 use Rattle.plain_spelling.specs.PlainTail.{prefixes_of, plain_spelling}
 use Rattle.plain_spelling.proofs.FrontRange.{vex_for, vex_of_vex, vex_of_legacy}
-use Rattle.plain_fit.proofs.Given as fit
-use Rattle.plain_fit.proofs.Numbers.{numbers_suit}
-use Rattle.plain_fit.proofs.FrontBits.{FrontBits, asked-small}
-use Rattle.plain_fit.proofs.Front.{PlainFrontFits, plain_front_fits}
-use Rattle.plain_fit.proofs.Places.{places_fit, rule_fits}
-use Rattle.plain_fit.proofs.Whole.{plain_fits, plain_means}
-use Rattle.plain_need.proofs.Given as need
-use Rattle.plain_need.proofs.States.{StateIs, state_is}
+use Rattle.plain_form.specs.Given as fit
+use Rattle.plain_form.proofs.FitNumbers.{numbers_suit}
+use Rattle.plain_form.proofs.FitFrontBits.{FrontBits, asked-small}
+use Rattle.plain_form.proofs.FitFront.{PlainFrontFits, plain_front_fits}
+use Rattle.plain_form.proofs.FitPlaces.{places_fit, rule_fits}
+use Rattle.plain_form.proofs.FitWhole.{plain_fits, plain_means}
+use Rattle.plain_form.specs.GivenSpelling as need
+use Rattle.plain_form.proofs.NeedStates.{StateIs, state_is}
 use Rattle.plain_spelling.proofs.PlainFrontLaws.{plain_rex_w}
-use Rattle.plain_need.proofs.Used.{read, read_is}
+use Rattle.plain_form.proofs.NeedUsed.{read, read_is}
 use Rattle.plain_form.specs.IsPlain.{needed_prefixes, only_if, needs_r, needs_x, needs_b, needs_w, names_low_byte, rex_is_needed, vex_is_short, l_is_needed, vvvv_is_read}
 use Rattle.plain_form.proofs.Prefixes.{Keeps, needed_are}
 use Rattle.plain_form.proofs.Bits.{NeedsAre}
@@ -115,9 +114,9 @@ only_false a b h = rw h refl
 pub b_plain : (bits : Bits) (row : Row) (i : Instr) → FrontBits bits row i → NeedsAre row i → StateIs bits row (plain_front_of bits row i) → only_if (needs_b row i.ops) (shared_bit (λ v. v.b) 0 (plain_front_of bits row i)) ≡ true
 b_plain bits row i f n st =
     let p = plain_front_of bits row i in
-    elim (either (is_vex_row row)) [
+    elim (cases_Bool (is_vex_row row)) [
       | inl vex ↦ only_same (shared_bit (λ v. v.b) 0 p) (needs_b row i.ops) (vex_bit p row i (front_vex bits row i ∙ vex_of_vex row i vex) ∙ sym n.b)
-      | inr legacy ↦ elim (either (is_64 bits)) [
+      | inr legacy ↦ elim (cases_Bool (is_64 bits)) [
         | inl long ↦ only_same (shared_bit (λ v. v.b) 0 p) (needs_b row i.ops) (and_true (is_64 bits) (shared_bit (λ v. v.b) 0 p) (asks_b row i) (sym (bit_b_is bits p) ∙ f.b) long ∙ sym n.b)
         | inr short ↦ only_false (shared_bit (λ v. v.b) 0 p) (needs_b row i.ops) (no_bit p (front_vex bits row i ∙ vex_of_legacy row i legacy) (st.rex_mode short))
       ]
@@ -137,7 +136,7 @@ pub w_plain : (bits : Bits) (row : Row) (i : Instr) → only_if (needs_w row) (s
 w_plain bits row i =
     let p = plain_front_of bits row i in
     let n = needs_w_is row in
-    elim (either (is_vex_row row)) [
+    elim (cases_Bool (is_vex_row row)) [
       | inl vex ↦ only_same (shared_bit (λ v. v.w) 3 p) (needs_w row) (vex_w p row i (front_vex bits row i ∙ vex_of_vex row i vex) ∙ sym (n ∙ if_yes (is_vex_row row) (asks_vex_w row) (asks_rex_w row) vex))
       | inr legacy ↦
           only_same (shared_bit (λ v. v.w) 3 p) (needs_w row)

@@ -1,5 +1,6 @@
 -- The front of a plain spelling is the plain front of what it means.
 use Rattle.std.proofs.Common.{◌≡◌, ◌⊎◌, inl, inr, ℕ, zero, suc, ◌+◌, ◌*◌, ◌/◌, ◌%◌, ◌<◌, Bool, true, false, ◌&&◌, ◌||◌, not, ◌==◌, nat_lt, Option, Some, None, is_some, refl, ap, sym, ◌∙◌, subst, arith, if◌then◌else◌, List, [], ◌∷◌, length, slice_index, ◌-◌}
+use Rattle.std.proofs.lemmas.Bool.{and_parts, cases_Bool, eqb-true, not-true}
 use Rattle.std.specs.List.{list_any}
 use borrow.Author.Tests.{ltb-true}
 use Rattle.x86_values.specs.declared.Bits.{Bits}
@@ -32,25 +33,24 @@ use Rattle.instruction_parts.specs.Kinds.{method_of, file_of}
 use Rattle.instruction_parts.specs.Counting.{is_64, is_rex, bit_of, rex_bit, kept_if, last_if, counting_rex}
 use Rattle.instruction_parts.specs.Sizes.{is_vex_row, state_size, shared_bit, bit_r, bit_x, bit_b, bit_w}
 use Rattle.instruction_parts.specs.Bytes.{bit, state_of}
-use Rattle.instruction_parts.proofs.Tests.{either, and_left, and_right, not_true, equal_from}
 use Rattle.row_fit.specs.Fits.{reads_by, is_vvvv, kind_at, same_bool, same_map, size_fits, w_fits, l_fits, sizes_fit, vvvv_fits, vvvv_number, takes_w_as_size, vex_class_fits, opcode_fits, opcode_and_modrm_fit}
 use Rattle.row_fit.specs.Sound.{Sound, kind_is_proper, vex_is_proper, legacy_is_proper, size_says_w, is_no_w, is_no_l, is_class_of_vex, is_size_of_vex}
 use Rattle.row_meaning.specs.Meaning.{Tail, operand_by, register_of, tail_of}
 use Rattle.plain_spelling.specs.Forms.{operand_at}
 use Rattle.plain_spelling.specs.PlainFront.{register_number, operand_number, number_in_vvvv, asked, asks_r, asks_x, asks_b, asks_low_byte, asks_rex_w, asks_vex_w, asked_rex, class_pp, asked_vex, asked_opcode, plain_front_of}
 use Rattle.plain_spelling.specs.PlainTail.{prefixes_of}
-use Rattle.plain_spelling.proofs.AddressCases.{impossible, if_yes, if_no}
+use Rattle.plain_form.proofs.AddressCases.{impossible, if_yes, if_no}
 use Rattle.plain_spelling.proofs.FrontRange.{vex_for, vex_of_vex, vex_of_legacy}
 use Rattle.plain_spelling.proofs.Asked.{asked_vvvv-at, asked_vvvv-none, four_kinds}
-use Rattle.plain_fit.proofs.Numbers.{kind_that_passes}
-use Rattle.plain_need.proofs.Given.{Given}
-use Rattle.plain_need.proofs.Asks.{differ}
-use Rattle.plain_need.proofs.Numbers.{number-general_register, number-vector}
-use Rattle.plain_need.proofs.States.{StateIs, state_is, state_vex, state_rex, state_opcode}
-use Rattle.plain_need.proofs.Front.{needs_rex_w, needs_rex, vex_proper, vex_says_w}
-use Rattle.plain_need.proofs.Used.{read_is, bits_of}
-use Rattle.plain_need.proofs.Variants.{read_at}
-use Rattle.plain_need.proofs.Suiting.{same_opcode_byte}
+use Rattle.plain_form.proofs.FitNumbers.{kind_that_passes}
+use Rattle.plain_form.specs.GivenSpelling.{Given}
+use Rattle.plain_form.proofs.NeedAsks.{differ}
+use Rattle.plain_form.proofs.NeedNumbers.{number-general_register, number-vector}
+use Rattle.plain_form.proofs.NeedStates.{StateIs, state_is, state_vex, state_rex, state_opcode}
+use Rattle.plain_form.proofs.NeedFront.{needs_rex_w, needs_rex, vex_proper, vex_says_w}
+use Rattle.plain_form.proofs.NeedUsed.{read_is, bits_of}
+use Rattle.plain_form.proofs.NeedVariants.{read_at}
+use Rattle.plain_form.proofs.NeedSuiting.{same_opcode_byte}
 use Rattle.plain_form.specs.IsPlain.{IsPlain, meant_operands, only_if, needs_r, needs_x, needs_b, needs_w, names_low_byte, rex_is_needed, vex_is_short, l_is_needed, vvvv_is_read}
 use Rattle.plain_form.proofs.Prefixes.{needed_are}
 use Rattle.plain_form.proofs.Bits.{needs_are, meant_are}
@@ -79,11 +79,11 @@ record BitsAre (row : Row) (st : PrefixState) (i : Instr) : Type 0 where
 
 bit_b_raw : (bits : Bits) (st : PrefixState) → bit_b bits st ≡ true → shared_bit (λ v. v.b) 0 st ≡ true
 unfolding bit_b
-bit_b_raw bits st h = and_right (is_64 bits) _ h
+bit_b_raw bits st h = (and_parts (is_64 bits) _ h).1
 
 bit_w_raw : (bits : Bits) (st : PrefixState) → bit_w bits st ≡ true → shared_bit (λ v. v.w) 3 st ≡ true
 unfolding bit_w
-bit_w_raw bits st h = and_right (is_64 bits) _ h
+bit_w_raw bits st h = (and_parts (is_64 bits) _ h).1
 
 legacy_w : (st : PrefixState) → st.vex ≡ None → shared_bit (λ v. v.w) 3 st ≡ rex_bit 3 st.rex
 legacy_w st e = rw e refl
@@ -135,7 +135,7 @@ unfolding needs_w asks_vex_w asks_rex_w
 needs_w_is row = refl
 
 w_raw : (bits : Bits) (row : Row) (st : PrefixState) → Sound row → StateIs bits row st → asks_w row ≡ true → shared_bit (λ v. v.w) 3 st ≡ true
-w_raw bits row st sound f a = elim (either (is_vex_row row)) [
+w_raw bits row st sound f a = elim (cases_Bool (is_vex_row row)) [
   | inl e ↦ vex_w_raw bits row st sound f e (sym (if_yes (is_vex_row row) (asks_vex_w row) (asks_rex_w row) e) ∙ a)
   | inr e ↦ rex_w_raw bits row st f e (sym (if_no (is_vex_row row) (asks_vex_w row) (asks_rex_w row) e) ∙ a)
 ]
@@ -181,7 +181,7 @@ last_is p xs v h = by_test (nat_lt 0 (length xs)) (slice_index xs (length xs - 1
     by_test t x h = by_kept (t && p x) refl h
       where
         by_kept : (k : Bool) → t && p x ≡ k → kept_if k x ≡ Some v → p v ≡ true
-        by_kept true e h = (let z : x ≡ v = cc in subst (λ (y : ℕ). p y ≡ true) z (and_right t (p x) e))
+        by_kept true e h = (let z : x ≡ v = cc in subst (λ (y : ℕ). p y ≡ true) z (and_parts t (p x) e).1)
         by_kept false e h = impossible (let z : true ≡ false = cc in z)
 
 rex_is_rex : (bits : Bits) (xs : List ℕ) (v : ℕ) → counting_rex bits xs ≡ Some v → is_rex v ≡ true
@@ -217,7 +217,7 @@ rex_by : (row : Row) (i : Instr) (rex : Option ℕ) (low : Bool) → is_vex_row 
 unfolding rex_is_needed
 rex_by row i None low l w r x b same asks is needed = none_rex (asked_rex row i) (λ h. (let z = asks h in differ false z refl))
 rex_by row i (Some v) low l w r x b same asks is needed =
-    let four : v / 16 ≡ 4 = equal_from (v / 16) 4 (is v refl) in
+    let four : v / 16 ≡ 4 = eqb-true (v / 16) 4 (is v refl) in
     let value = rex_value v four in
     let needs : (rex_bit 3 (Some v) || (rex_bit 2 (Some v) || (rex_bit 1 (Some v) || (rex_bit 0 (Some v) || names_low_byte i.ops)))) ≡ true = needed in
     let asked_is : (asks_rex_w row || (asks_r row i || (asks_x row i || (asks_b row i || asks_low_byte i.ops)))) ≡ true = rw (← w, ← r, ← x, ← b, ← same) needs in
@@ -243,7 +243,7 @@ rex_same bits ip code row s i g p =
     let k = bits_of bits ip code row s i g in
     let n = needs_are bits ip code row s i g in
     let b = bits_are bits ip code row s i g p in
-    elim (either (is_vex_row row)) [
+    elim (cases_Bool (is_vex_row row)) [
       | inl e ↦ f.vex_rex e ∙ sym (rex_of_vex row i e)
       | inr e ↦ (let none = f.legacy e in
           rex_by row i st.rex true e
@@ -276,21 +276,21 @@ l_by NoL v h k = no_l v.l k
     no_l : (b : Bool) → only_if false b ≡ true → b ≡ false
     no_l true h = impossible (sym h)
     no_l false h = refl
-l_by L128 v h k = not_true v.l h
+l_by L128 v h k = not-true v.l h
 l_by L256 v h k = h
 l_by Lig v h k = no_l v.l k
   where
     no_l : (b : Bool) → only_if false b ≡ true → b ≡ false
     no_l true h = impossible (sym h)
     no_l false h = refl
-l_by Lz v h k = not_true v.l h
+l_by Lz v h k = not-true v.l h
 
 pp_by : (class : Class) (v : Vex) → vex_class_fits class v ≡ true → v.pp ≡ class_pp class
 unfolding vex_class_fits class_pp
-pp_by Np v h = equal_from v.pp 0 h
-pp_by P66 v h = equal_from v.pp 1 h
-pp_by ClassF3 v h = equal_from v.pp 2 h
-pp_by ClassF2 v h = equal_from v.pp 3 h
+pp_by Np v h = eqb-true v.pp 0 h
+pp_by P66 v h = eqb-true v.pp 1 h
+pp_by ClassF3 v h = eqb-true v.pp 2 h
+pp_by ClassF2 v h = eqb-true v.pp 3 h
 pp_by AnyClass v h = impossible (sym h)
 pp_by Nfx v h = impossible (sym h)
 pp_by Nf3 v h = impossible (sym h)
@@ -328,14 +328,14 @@ unused_vvvv : (row : Row) (st : PrefixState) (v : Vex) → st.vex ≡ Some v →
 unfolding vvvv_fits
 unused_vvvv row st v e h none =
     let k : (v.vvvv == 0 || reads_by is_vvvv row) ≡ true = rw e at h in
-    equal_from v.vvvv 0 (or_left (v.vvvv == 0) (reads_by is_vvvv row) none k)
+    eqb-true v.vvvv 0 (or_left (v.vvvv == 0) (reads_by is_vvvv row) none k)
   where
     or_left : (a b : Bool) → b ≡ false → (a || b) ≡ true → a ≡ true
     or_left true b n h = refl
     or_left false b n h = impossible (sym h ∙ n)
 
 vvvv_same : (bits : Bits) (ip : ℕ) (code : Code) (row : Row) (s : Spelling) (i : Instr) (v : Vex) → Given bits ip code row s i → length i.ops ≡ 4 → (state_of bits row s).vex ≡ Some v → (is_64 bits || nat_lt v.vvvv 8) ≡ true → v.vvvv ≡ asked number_in_vvvv row i
-vvvv_same bits ip code row s i v g four e h = elim (either (reads_by is_vvvv row)) [
+vvvv_same bits ip code row s i v g four e h = elim (cases_Bool (reads_by is_vvvv row)) [
   | inr none ↦ unused_vvvv row (state_of bits row s) v e g.fitting.vvvv none ∙ sym (asked_vvvv-none row i none)
   | inl some ↦ (let k = kind_that_passes (λ kind. is_vvvv (method_of kind)) row.ops Absent some in
       let kinds = four_kinds row g.is_sound in
@@ -359,9 +359,9 @@ shared_vex st v field n e = rw e refl
 l_of_fit : (bits : Bits) (row : Row) (st : PrefixState) (v : Vex) → sizes_fit bits row st ≡ true → st.vex ≡ Some v → l_fits row.l v ≡ true
 unfolding sizes_fit
 l_of_fit bits row st v h e =
-    let k = and_right (size_fits bits row.size (state_size bits row st) (bit_w bits st)) _ h in
+    let k = (and_parts (size_fits bits row.size (state_size bits row st) (bit_w bits st)) _ h).1 in
     let z : (w_fits row v && l_fits row.l v) ≡ true = rw e at k in
-    and_right (w_fits row v) (l_fits row.l v) z
+    (and_parts (w_fits row v) (l_fits row.l v) z).1
 
 vex_short : (v : Vex) → vex_is_short (Some v) ≡ true → same_bool v.three (not (same_map v.map M0f && (not v.x && (not v.b && not v.w)))) ≡ true
 unfolding vex_is_short
@@ -385,7 +385,7 @@ vex_same bits ip code row s i g four p =
     let f = state_is bits row s g.fitting in
     let k = bits_are bits ip code row s i g p in
     let own = state_vex bits row s in
-    elim (either (is_vex_row row)) [
+    elim (cases_Bool (is_vex_row row)) [
       | inr e ↦ sym own ∙ f.legacy e ∙ sym (vex_of_legacy row i e)
       | inl e ↦ (let a = f.vex e in
           let v = a.v in
@@ -406,12 +406,12 @@ vex_same bits ip code row s i g four p =
 
 fit_opcode : (row : Row) (opcode : ℕ) (m : Option ModRm) → opcode_and_modrm_fit row opcode m ≡ true → opcode_fits row opcode ≡ true
 unfolding opcode_and_modrm_fit
-fit_opcode row opcode m h = and_left (opcode_fits row opcode) _ h
+fit_opcode row opcode m h = (and_parts (opcode_fits row opcode) _ h).0
 
 by_fit : (row : Row) (opcode : ℕ) (i : Instr) (plus : Plus) → row.plus ≡ plus → (plus ≡ PlusRegister → ⊥) → opcode_fits row opcode ≡ true → opcode ≡ asked_opcode row i
 unfolding opcode_fits asked_opcode
-by_fit row opcode i NoPlus e h k = rw e (equal_from opcode row.opcode (rw e at k))
-by_fit row opcode i PlusStack e h k = rw e (equal_from opcode row.opcode (rw e at k))
+by_fit row opcode i NoPlus e h k = rw e (eqb-true opcode row.opcode (rw e at k))
+by_fit row opcode i PlusStack e h k = rw e (eqb-true opcode row.opcode (rw e at k))
 by_fit row opcode i PlusRegister e h k = absurd (h refl)
 
 opcode_same : (bits : Bits) (ip : ℕ) (code : Code) (row : Row) (s : Spelling) (i : Instr) → Given bits ip code row s i → s.opcode ≡ asked_opcode row i

@@ -1,5 +1,6 @@
 -- Immediates that are read as the same operand are the same bytes.
 use Rattle.std.proofs.Common.{◌≡◌, ℕ, ◌-◌, ◌*◌, ◌/◌, ◌%◌, ◌≤◌, Bool, true, false, ◌||◌, ◌==◌, nat_lt, List, [], ◌∷◌, ◌++◌, length, take, drop, refl, ap, sym, ◌∙◌, arith, take-append-drop, length-take, length-drop, if◌then◌else◌}
+use Rattle.std.proofs.lemmas.Bool.{and_parts, eqb-true}
 use borrow.Author.Tests.{ltb-true}
 use Rattle.x86_values.specs.declared.Bits.{Bits}
 use Rattle.x86_values.specs.declared.Bits.TheVariants.{B16, B32, B64}
@@ -14,16 +15,15 @@ use Rattle.instruction_parts.specs.declared.spelling.PrefixState.{PrefixState}
 use Rattle.instruction_parts.specs.Kinds.{method_of, file_of, immediate_width}
 use Rattle.instruction_parts.specs.Counting.{is_64}
 use Rattle.instruction_parts.specs.Sizes.{state_size}
-use Rattle.instruction_parts.proofs.Tests.{and_left, and_right, equal_from}
 use Rattle.row_fit.specs.Fits.{are_bytes, immediate_bytes}
 use Rattle.row_fit.specs.Sound.{reads_last_byte}
 use Rattle.row_meaning.specs.Meaning.{Tail, operand_by, register_of, little_endian, target_of, near_target, far_pointer, last_byte_number}
 use Rattle.plain_spelling.specs.PlainFront.{register_number, operand_number}
-use Rattle.plain_spelling.proofs.AddressCases.{impossible}
-use Rattle.plain_spelling.proofs.Values.{width-le}
+use Rattle.plain_form.proofs.AddressCases.{impossible}
+use Rattle.plain_form.proofs.WrittenValues.{width-le}
 use Rattle.plain_spelling.proofs.ImmediateBytes.{BytesSuit}
-use Rattle.plain_need.proofs.Immediates.{bytes-take, bytes-drop}
-use Rattle.plain_need.proofs.Numbers.{number-vector}
+use Rattle.plain_form.proofs.NeedImmediates.{bytes-take, bytes-drop}
+use Rattle.plain_form.proofs.NeedNumbers.{number-vector}
 use Rattle.plain_form.specs.IsPlain.{last_byte_is_bare}
 use Rattle.plain_form.proofs.Values.{value_same, extended_same, target_same}
 
@@ -76,7 +76,7 @@ far_same a b n ha hb e =
 -- ---- a last byte
 
 bare_parts : (bits : Bits) (x : ℕ) (rest : List ℕ) → last_byte_is_bare bits (x ∷ rest) ≡ true → (x % 16 ≡ 0) × ((is_64 bits || nat_lt x 128) ≡ true)
-bare_parts bits x rest h = (equal_from (x % 16) 0 (and_left (x % 16 == 0) _ h), and_right (x % 16 == 0) _ h)
+bare_parts bits x rest h = (eqb-true (x % 16) 0 (and_parts (x % 16 == 0) _ h).0, (and_parts (x % 16 == 0) _ h).1)
 
 last_by : (long : Bool) (x y : ℕ) → x % 16 ≡ 0 → y % 16 ≡ 0 → (long || nat_lt x 128) ≡ true → (long || nat_lt y 128) ≡ true → (if long then x / 16 else x / 16 % 8) ≡ (if long then y / 16 else y / 16 % 8) → x ≡ y
 last_by true x y hx hy bx by_ e = omega arith

@@ -1,5 +1,6 @@
 -- A plain spelling is as long as the constructed one of what it means.
 use Rattle.std.proofs.Common.{◌≡◌, inl, inr, ℕ, ◌+◌, ◌<◌, Bool, true, false, ◌&&◌, ◌||◌, ◌==◌, List, ◌∷◌, ◌++◌, length, Option, Some, None, is_some, is_none, refl, ap, sym, ◌∙◌, subst, arith, if◌then◌else◌, length-append}
+use Rattle.std.proofs.lemmas.Bool.{and_parts, cases_Bool, eqb-true}
 use Rattle.x86_values.specs.declared.Bits.{Bits}
 use Rattle.x86_values.specs.declared.Bits.TheVariants.{B16, B32, B64}
 use Rattle.x86_values.specs.declared.Code.{Code}
@@ -20,25 +21,24 @@ use Rattle.instruction_parts.specs.declared.spelling.Sib.{Sib}
 use Rattle.instruction_parts.specs.declared.spelling.Spelling.{Spelling}
 use Rattle.instruction_parts.specs.Kinds.{method_of}
 use Rattle.instruction_parts.specs.Bytes.{modrm_bytes, sib_bytes, lead_bytes, front_bytes, tail_bytes, bytes_of}
-use Rattle.instruction_parts.proofs.Tests.{either, and_right, equal_from}
 use Rattle.row_fit.specs.Fits.{reads_by, reads_mode, is_offset, same_bool, needs_sib, is_displacement_alone, displacement_bytes, address_fits, immediate_bytes, immediates_bytes, kind_at}
 use Rattle.row_fit.specs.Sound.{reads_rm}
 use Rattle.plain_spelling.specs.Forms.{is_variant_of, is_register, is_memory, operand_at}
 use Rattle.plain_spelling.specs.PlainFront.{asked_vex, asked_opcode, plain_front_of}
 use Rattle.plain_spelling.specs.declared.addresses.AddressFields.{AddressFields}
 use Rattle.plain_spelling.specs.PlainTail.{prefixes_of, plain_sib_of, lone_mode, no_address, modrm_with, fields_of, plain_modrm, operand_displacement, address_operand, displacement_of_operand, plain_immediates, plain_size, plain_len, plain_next, plain_spelling}
-use Rattle.plain_spelling.proofs.AddressCases.{impossible}
+use Rattle.plain_form.proofs.AddressCases.{impossible}
 use Rattle.plain_spelling.proofs.Asked.{four_kinds, address_operand-at, address_operand-none, reads_address}
-use Rattle.plain_fit.proofs.Numbers.{kind_that_passes}
-use Rattle.plain_fit.proofs.Places.{modrm_none, modrm_any, modrm_digit, modrm_fixed, fixed_mode_is, register_in_rm}
-use Rattle.plain_fit.proofs.Registers.{memory_variant, variant-at}
-use Rattle.plain_fit.proofs.AddressBytes.{displacement_length}
-use Rattle.plain_fit.proofs.Immediates.{immediates-length}
-use Rattle.plain_fit.proofs.Lengths.{plain_long}
-use Rattle.plain_need.proofs.Given.{Given}
-use Rattle.plain_need.proofs.Immediates.{immediates-len}
-use Rattle.plain_need.proofs.Variants.{kinds_suit}
-use Rattle.plain_need.proofs.Addresses.{spelled_asize}
+use Rattle.plain_form.proofs.FitNumbers.{kind_that_passes}
+use Rattle.plain_form.proofs.FitPlaces.{modrm_none, modrm_any, modrm_digit, modrm_fixed, fixed_mode_is, register_in_rm}
+use Rattle.plain_form.proofs.FitRegisters.{memory_variant, variant-at}
+use Rattle.plain_form.proofs.FitAddressBytes.{displacement_length}
+use Rattle.plain_form.proofs.FitImmediates.{immediates-length}
+use Rattle.plain_form.proofs.FitLengths.{plain_long}
+use Rattle.plain_form.specs.GivenSpelling.{Given}
+use Rattle.plain_form.proofs.NeedImmediates.{immediates-len}
+use Rattle.plain_form.proofs.NeedVariants.{kinds_suit}
+use Rattle.plain_form.proofs.NeedAddresses.{spelled_asize}
 use Rattle.row_fit.specs.Fits.{fits}
 use Rattle.row_fit.specs.Sound.{Sound}
 use Rattle.row_fit.proofs.FitLaws.{all_conditions}
@@ -55,8 +55,8 @@ use Rattle.plain_form.proofs.TailSame.{TailSame, tail_same}
 -- ---- the displacement
 
 if_zero : (t : Bool) (n : ℕ) → n ≡ 0 → (given : ℕ) → (a b : Bool) → (if t then a && given == n else b && given == 0) ≡ true → given ≡ 0
-if_zero true n e given a b h = equal_from given n (and_right a (given == n) h) ∙ e
-if_zero false n e given a b h = equal_from given 0 (and_right b (given == 0) h)
+if_zero true n e given a b h = eqb-true given n (and_parts a (given == n) h).1 ∙ e
+if_zero false n e given a b h = eqb-true given 0 (and_parts b (given == 0) h).1
 
 given_zero : (asize : Bits) (row : Row) (m : ModRm) (sib : Option Sib) (given : ℕ) → displacement_bytes asize m sib ≡ 0 → address_fits asize row (Some m) sib given ≡ true → given ≡ 0
 unfolding address_fits
@@ -74,7 +74,7 @@ lone_bytes B64 m sib h k = rw (h, k) refl
 
 none_zero : (asize : Bits) (row : Row) (sib : Option Sib) (given : ℕ) → reads_by is_offset row ≡ false → address_fits asize row None sib given ≡ true → given ≡ 0
 unfolding address_fits
-none_zero asize row sib given e h = equal_from given 0 (let k : (is_none sib && given == 0) ≡ true = rw e at h in and_right (is_none sib) (given == 0) k)
+none_zero asize row sib given e h = eqb-true given 0 (let k : (is_none sib && given == 0) ≡ true = rw e at h in (and_parts (is_none sib) (given == 0) k).1)
 
 -- a spelling whose constructed ModRM says a register, or nothing
 by_place : (asize : Bits) (place : Place) (reg : ℕ) (sib : Option Sib) → displacement_bytes asize (modrm_with reg (no_address (lone_mode place) 0)) sib ≡ 0
@@ -131,14 +131,14 @@ pub displacement_same : (bits : Bits) (ip : ℕ) (code : Code) (row : Row) (s : 
 displacement_same bits ip code row s i g four t =
     let kinds = kinds_suit bits ip code row s i g in
     let four_of = four_kinds row g.is_sound in
-    elim (either (reads_by reads_rm row)) [
+    elim (cases_Bool (reads_by reads_rm row)) [
       | inl some ↦ (let k = kind_that_passes (λ kind. reads_rm (method_of kind)) row.ops Absent some in
           let below : k.0 < 4 = omega (arith, k.1, four_of) in
           let how = method_of (kind_at row k.0) in
           let v = variant_rm row.place how (operand_at i k.0) k.2 (variant-at row i k.0 kinds below) in
           ap operand_displacement (address_operand-at row i k.0 g.is_sound four below (rm_is_address how k.2)) ∙ of_rm bits ip code row s i k.0 (operand_at i k.0) g four t below k.2 refl v)
       | inr none ↦
-          elim (either (reads_by is_offset row)) [
+          elim (cases_Bool (reads_by is_offset row)) [
             | inl far ↦ (let k = kind_that_passes (λ kind. is_offset (method_of kind)) row.ops Absent far in
                 let below : k.0 < 4 = omega (arith, k.1, four_of) in
                 let how = method_of (kind_at row k.0) in

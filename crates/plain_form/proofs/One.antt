@@ -1,5 +1,6 @@
 -- **A fitting plain spelling that means an instruction is the constructed one.**
 use Rattle.std.proofs.Common.{◌≡◌, inl, inr, ℕ, zero, suc, ◌+◌, ◌<◌, Bool, true, false, ◌&&◌, ◌||◌, not, List, [], ◌∷◌, ◌++◌, length, take, drop, Option, refl, ap, sym, ◌∙◌, subst, arith, take-append-drop, length-drop, drop-drop}
+use Rattle.std.proofs.lemmas.Bool.{and_parts, cases_Bool}
 use Rattle.x86_values.specs.declared.Bits.{Bits}
 use Rattle.x86_values.specs.declared.Code.{Code}
 use Rattle.x86_values.specs.declared.Operand.{Operand}
@@ -16,7 +17,6 @@ use Rattle.instruction_parts.specs.declared.spelling.PrefixState.{PrefixState}
 use Rattle.instruction_parts.specs.Kinds.{method_of}
 use Rattle.instruction_parts.specs.Sizes.{state_size}
 use Rattle.instruction_parts.specs.Bytes.{lead_bytes, front_bytes, spelled_map, bytes_of, state_from, state_of}
-use Rattle.instruction_parts.proofs.Tests.{either, and_left, and_right}
 use Rattle.row_fit.specs.Fits.{reads_by, is_offset, immediate_bytes, kind_at}
 use Rattle.row_fit.specs.Sound.{reads_rm, reads_last_byte}
 use Rattle.row_meaning.specs.Meaning.{Tail, tail, tail_of, next_address, operand_by, own_immediate, immediates_before}
@@ -24,16 +24,16 @@ use Rattle.row_meaning.specs.Meaning as meant
 use Rattle.plain_spelling.specs.Forms.{is_memory, operand_at}
 use Rattle.plain_spelling.specs.Expressible.{Suits}
 use Rattle.plain_spelling.specs.PlainTail.{operand_displacement, address_operand, plain_size, plain_spelling}
-use Rattle.plain_spelling.proofs.AddressCases.{impossible}
+use Rattle.plain_form.proofs.AddressCases.{impossible}
 use Rattle.plain_spelling.proofs.Asked.{four_kinds, address_operand-at, address_operand-none, reads_address}
 use Rattle.plain_spelling.proofs.ImmediateBytes.{BytesSuit, bytes_suit}
-use Rattle.plain_fit.proofs.Numbers.{kind_that_passes}
-use Rattle.plain_fit.proofs.Given as fit
-use Rattle.plain_need.proofs.Given.{Given}
-use Rattle.plain_need.proofs.Whole.{needs_hold}
-use Rattle.plain_need.proofs.Immediates.{operand-meant, immediates-len, spelled_bytes, own-bytes, own-length-at}
-use Rattle.plain_need.proofs.ReadOperands.{TailReads}
-use Rattle.plain_need.proofs.ReadTails.{tail_reads}
+use Rattle.plain_form.proofs.FitNumbers.{kind_that_passes}
+use Rattle.plain_form.specs.Given as fit
+use Rattle.plain_form.specs.GivenSpelling.{Given}
+use Rattle.plain_form.proofs.NeedWhole.{needs_hold}
+use Rattle.plain_form.proofs.NeedImmediates.{operand-meant, immediates-len, spelled_bytes, own-bytes, own-length-at}
+use Rattle.plain_form.proofs.NeedReadOperands.{TailReads}
+use Rattle.plain_form.proofs.NeedReadTails.{tail_reads}
 use Rattle.plain_form.specs.IsPlain.{IsPlain, last_byte_is_bare, last_byte_is_read, immediates_are_read}
 use Rattle.plain_form.proofs.Alike.{IsAlike}
 use Rattle.plain_form.proofs.Lengths.{displacement_same, rm_is_address, offset_is_address, alike, length_same}
@@ -122,14 +122,14 @@ disp_one : (bits : Bits) (ip : ℕ) (code : Code) (row : Row) (s u : Spelling) (
 disp_one bits ip code row s u i g h four t a =
     let op = address_operand row i in
     let kinds = four_kinds row g.is_sound in
-    elim (either (is_memory op)) [
+    elim (cases_Bool (is_memory op)) [
       | inr other ↦ nothing s.disp.items u.disp.items a.disp_length (sym (displacement_same bits ip code row s i g four t) ∙ none_there op other)
-      | inl is ↦ elim (either (reads_by reads_rm row)) [
+      | inl is ↦ elim (cases_Bool (reads_by reads_rm row)) [
         | inl some ↦ (let k = kind_that_passes (λ kind. reads_rm (method_of kind)) row.ops Absent some in
             let below : k.0 < 4 = omega (arith, k.1, kinds) in
             let reads = rm_is_address (method_of (kind_at row k.0)) k.2 in
             disp_at bits ip code row s u i k.0 g h a below reads (sym (ap is_memory (address_operand-at row i k.0 g.is_sound four below reads)) ∙ is))
-        | inr none ↦ elim (either (reads_by is_offset row)) [
+        | inr none ↦ elim (cases_Bool (reads_by is_offset row)) [
           | inl far ↦ (let k = kind_that_passes (λ kind. is_offset (method_of kind)) row.ops Absent far in
               let below : k.0 < 4 = omega (arith, k.1, kinds) in
               let reads = offset_is_address (method_of (kind_at row k.0)) k.2 in
@@ -157,10 +157,10 @@ each_last bits row s n below h = at_n n below
     t k = last_byte_is_read bits row s k
 
     at_n : (k : ℕ) → k < 4 → last_byte_is_read bits row s k ≡ true
-    at_n zero k = and_left (t 0) (t 1 && (t 2 && t 3)) h
-    at_n (suc zero) k = and_left (t 1) (t 2 && t 3) (and_right (t 0) (t 1 && (t 2 && t 3)) h)
-    at_n (suc (suc zero)) k = and_left (t 2) (t 3) (and_right (t 1) (t 2 && t 3) (and_right (t 0) (t 1 && (t 2 && t 3)) h))
-    at_n (suc (suc (suc zero))) k = and_right (t 2) (t 3) (and_right (t 1) (t 2 && t 3) (and_right (t 0) (t 1 && (t 2 && t 3)) h))
+    at_n zero k = (and_parts (t 0) (t 1 && (t 2 && t 3)) h).0
+    at_n (suc zero) k = (and_parts (t 1) (t 2 && t 3) (and_parts (t 0) (t 1 && (t 2 && t 3)) h).1).0
+    at_n (suc (suc zero)) k = (and_parts (t 2) (t 3) (and_parts (t 1) (t 2 && t 3) (and_parts (t 0) (t 1 && (t 2 && t 3)) h).1).1).0
+    at_n (suc (suc (suc zero))) k = (and_parts (t 2) (t 3) (and_parts (t 1) (t 2 && t 3) (and_parts (t 0) (t 1 && (t 2 && t 3)) h).1).1).1
     at_n (suc (suc (suc (suc m)))) k = absurd (omega arith)
 
 own_one : (bits : Bits) (ip : ℕ) (code : Code) (row : Row) (s u : Spelling) (i : Instr) (n : ℕ) → Given bits ip code row s i → Given bits ip code row u i → IsPlain bits ip row s → IsPlain bits ip row u → IsAlike row s u → n < 4 → own_of bits row s s n ≡ own_of bits row s u n

@@ -1,5 +1,6 @@
 -- **The constructed spelling is plain.**
 use Rattle.std.proofs.Common.{◌≡◌, inl, inr, ℕ, ◌<◌, true, false, Option, Some, None, refl, ap, sym, ◌∙◌, subst, arith}
+use Rattle.std.proofs.lemmas.Bool.{cases_Bool}
 use Rattle.x86_values.specs.declared.Bits.{Bits}
 use Rattle.x86_values.specs.declared.Mem.{Mem}
 use Rattle.x86_values.specs.declared.Operand.{Operand}
@@ -15,20 +16,19 @@ use Rattle.instruction_parts.specs.declared.spelling.PrefixState.{PrefixState}
 use Rattle.instruction_parts.specs.Kinds.{method_of}
 use Rattle.instruction_parts.specs.Sizes.{shared_bit, bit_r, bit_x}
 use Rattle.instruction_parts.specs.Bytes.{state_of}
-use Rattle.instruction_parts.proofs.Tests.{either}
 use Rattle.row_fit.specs.Fits.{reads_by, kind_at}
 use Rattle.row_fit.specs.Sound.{reads_rm}
 use Rattle.plain_spelling.specs.Forms.{operand_at}
 use Rattle.plain_spelling.specs.PlainFront.{asked_rex, asked_vex, plain_front_of}
 use Rattle.plain_spelling.specs.Addresses.{address_fields, written_size}
 use Rattle.plain_spelling.specs.PlainTail.{modrm_with, rm_operand, rm_fields, fields_of, plain_modrm, plain_sib_of, plain_spelling}
-use Rattle.plain_spelling.proofs.AddressCases.{impossible}
+use Rattle.plain_form.proofs.AddressCases.{impossible}
 use Rattle.plain_spelling.proofs.Asked.{four_kinds, rm_operand-at, rm_operand-none}
-use Rattle.plain_fit.proofs.Given.{Given}
-use Rattle.plain_fit.proofs.Numbers.{numbers_suit, kind_that_passes}
-use Rattle.plain_fit.proofs.Places.{memory_in_rm}
-use Rattle.plain_need.proofs.States.{StateIs, state_is}
-use Rattle.plain_need.proofs.Addresses.{spelled_asize}
+use Rattle.plain_form.specs.Given.{Given}
+use Rattle.plain_form.proofs.FitNumbers.{numbers_suit, kind_that_passes}
+use Rattle.plain_form.proofs.FitPlaces.{memory_in_rm}
+use Rattle.plain_form.proofs.NeedStates.{StateIs, state_is}
+use Rattle.plain_form.proofs.NeedAddresses.{spelled_asize}
 use Rattle.plain_form.specs.IsPlain.{IsPlain, only_if, needs_r, needs_x, needs_b, needs_w, sib_is_needed, scale_is_read}
 use Rattle.plain_form.proofs.Bits.{needs_are, meant_are}
 use Rattle.plain_form.proofs.FrontIs.{front_fits, own_state, given_of, prefixes_plain, r_plain, x_plain, b_plain, w_plain, rex_plain, vex_plain, l_plain, vvvv_plain}
@@ -94,7 +94,7 @@ sib_holds bits ip row i g =
     let st = state_of bits row s in
     let own = own_sib bits ip row i in
     let none = λ (h : plain_sib_of bits row i ≡ None). without bits row st s.modrm s.sib (own.0 ∙ h) in
-    elim (either (reads_by reads_rm row)) [
+    elim (cases_Bool (reads_by reads_rm row)) [
       | inr never ↦ only_memory bits row i AbsentOperand (SibHolds bits row st s.modrm s.sib) (rm_operand-none row i never) (λ mem h. impossible (let z : true ≡ false = cc in z)) none
       | inl some ↦ (let k = kind_that_passes (λ kind. reads_rm (method_of kind)) row.ops Absent some in
           let four = four_kinds row g.is_sound in

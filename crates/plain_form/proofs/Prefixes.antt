@@ -19,8 +19,8 @@ use Rattle.row_fit.specs.Fits.{size_fits}
 use Rattle.row_meaning.specs.Meaning.{kept_repeat, kept_address_size}
 use Rattle.plain_spelling.specs.PlainFront.{asks_66, asks_67, asked_repeat, asked_rex, plain_front_of}
 use Rattle.plain_spelling.specs.PlainTail.{byte_if, segment_prefix, repeat_prefix, rex_prefix, prefixes_of}
-use Rattle.plain_need.proofs.States.{StateIs}
-use Rattle.plain_need.proofs.Front.{size_by}
+use Rattle.plain_form.proofs.NeedStates.{StateIs}
+use Rattle.plain_form.proofs.NeedFront.{size_by}
 use Rattle.plain_form.specs.IsPlain.{asks_for_word_or_dword, is_other_size, needs_66, needs_67, needed_repeat, needs_prefix, legacy_prefixes, those_of, rex_alone, needed_by}
 
 -- ---- the list of those that are needed

@@ -1,5 +1,6 @@
 -- What a fitting spelling has in r/m and SIB, by the operand that is read from it.
 use Rattle.std.proofs.Common.{◌≡◌, inl, inr, ℕ, ◌<◌, Bool, true, false, nat_lt, List, length, Option, Some, None, refl, ap, sym, ◌∙◌, subst, arith, if◌then◌else◌}
+use Rattle.std.proofs.lemmas.Bool.{cases_Bool}
 use Rattle.x86_values.specs.declared.Bits.{Bits}
 use Rattle.x86_values.specs.declared.Code.{Code}
 use Rattle.x86_values.specs.declared.Mem.{Mem}
@@ -19,23 +20,22 @@ use Rattle.instruction_parts.specs.declared.spelling.PrefixState.{PrefixState}
 use Rattle.instruction_parts.specs.Kinds.{method_of, file_of}
 use Rattle.instruction_parts.specs.Sizes.{state_size, state_address_size}
 use Rattle.instruction_parts.specs.Bytes.{state_of}
-use Rattle.instruction_parts.proofs.Tests.{either}
 use Rattle.row_fit.specs.Fits.{reads_by, is_gather, has_modrm, rm_number, index_number, is_memory_method, kind_at}
 use Rattle.row_fit.specs.Sound.{Sound, reads_rm}
 use Rattle.row_meaning.specs.Meaning.{Tail, tail_of, operand_by, own_immediate, memory_of, memory_operand, memory_with_sib, gather_memory, with_modrm, register_of}
 use Rattle.plain_spelling.specs.Forms.{operand_at, is_memory}
 use Rattle.plain_spelling.specs.Addresses.{address_fields, written_size, displacement_count}
-use Rattle.plain_spelling.proofs.AddressCases.{impossible, written_is}
-use Rattle.plain_spelling.proofs.AddressForms.{IsVectorFile, gather_file}
+use Rattle.plain_form.proofs.AddressCases.{impossible, written_is}
+use Rattle.plain_form.proofs.AddressForms.{IsVectorFile, gather_file}
 use Rattle.plain_spelling.proofs.Asked.{four_kinds, one_rm}
-use Rattle.plain_fit.proofs.Numbers.{kind_that_passes}
-use Rattle.plain_need.proofs.Given.{Given}
-use Rattle.plain_need.proofs.Used.{read_is}
-use Rattle.plain_need.proofs.Variants.{read_at, reads_at}
-use Rattle.plain_need.proofs.ReadShapes.{Reading}
-use Rattle.plain_need.proofs.ReadOperands.{MemoryFits, OperandFits, TailReads}
-use Rattle.plain_need.proofs.ReadTails.{tail_reads}
-use Rattle.plain_need.proofs.Addresses.{spelled_asize, fits_at, asize_of_memory}
+use Rattle.plain_form.proofs.FitNumbers.{kind_that_passes}
+use Rattle.plain_form.specs.GivenSpelling.{Given}
+use Rattle.plain_form.proofs.NeedUsed.{read_is}
+use Rattle.plain_form.proofs.NeedVariants.{read_at, reads_at}
+use Rattle.plain_form.proofs.NeedReadShapes.{Reading}
+use Rattle.plain_form.proofs.NeedReadOperands.{MemoryFits, OperandFits, TailReads}
+use Rattle.plain_form.proofs.NeedReadTails.{tail_reads}
+use Rattle.plain_form.proofs.NeedAddresses.{spelled_asize, fits_at, asize_of_memory}
 use Rattle.plain_form.specs.IsPlain.{has_index, sib_is_needed, scale_is_read}
 use Rattle.plain_form.proofs.Addresses.{fields, names_index, sib_needed, scale_needed, without_sib, with_sib, gather_is}
 
@@ -83,7 +83,7 @@ gathers bits row st m s e = rw e (refl, refl)
 
 -- a row of another operand in r/m is no gather
 no_gather : (row : Row) (n : ℕ) → Sound row → n < 4 → reads_rm (method_of (kind_at row n)) ≡ true → is_gather (method_of (kind_at row n)) ≡ false → reads_by is_gather row ≡ false
-no_gather row n sound below reads other = elim (either (reads_by is_gather row)) [
+no_gather row n sound below reads other = elim (cases_Bool (reads_by is_gather row)) [
   | inr none ↦ none
   | inl some ↦ (let k = kind_that_passes (λ kind. is_gather (method_of kind)) row.ops Absent some in
       let four = four_kinds row sound in
@@ -149,7 +149,7 @@ operand_is bits row st t kind method.AnyMode imm m k e r z g = tt
 operand_is bits row st t kind _ imm m k e r z g = impossible (sym r)
 
 gather_same : (row : Row) (n : ℕ) → Sound row → n < 4 → reads_rm (method_of (kind_at row n)) ≡ true → reads_by is_gather row ≡ is_gather (method_of (kind_at row n))
-gather_same row n sound below reads = elim (either (is_gather (method_of (kind_at row n)))) [
+gather_same row n sound below reads = elim (cases_Bool (is_gather (method_of (kind_at row n)))) [
   | inl some ↦ reads_at is_gather row n sound.four_operands below some ∙ sym some
   | inr none ↦ no_gather row n sound below reads none ∙ sym none
 ]

@@ -1,5 +1,6 @@
 -- The fields of ModRM and SIB of a plain spelling are the plain ones of what it means.
 use Rattle.std.proofs.Common.{◌≡◌, inl, inr, ℕ, zero, suc, ◌%◌, ◌<◌, Bool, true, false, ◌&&◌, ◌||◌, ◌==◌, nat_lt, List, length, Option, Some, None, is_some, is_none, refl, ap, sym, ◌∙◌, subst, arith, if◌then◌else◌}
+use Rattle.std.proofs.lemmas.Bool.{and_parts, cases_Bool, eqb-true}
 use Rattle.std.specs.List.{list_all}
 use borrow.Author.Tests.{ltb-true}
 use Rattle.x86_values.specs.declared.Bits.{Bits}
@@ -24,7 +25,6 @@ use Rattle.instruction_parts.specs.declared.spelling.PrefixState.{PrefixState}
 use Rattle.instruction_parts.specs.Kinds.{method_of, file_of}
 use Rattle.instruction_parts.specs.Sizes.{bit_b, state_size}
 use Rattle.instruction_parts.specs.Bytes.{state_of}
-use Rattle.instruction_parts.proofs.Tests.{either, and_left, and_right, equal_from}
 use Rattle.row_fit.specs.Fits.{reads_by, reads_mode, is_any_mode, has_modrm, with_high_bit, rm_number, needs_sib, same_bool, address_fits, lengths_fit, displacement_bytes, place_allows, place_of, place_fits, opcode_and_modrm_fit, opcode_fits, modrm_rule_fits, modrm_in_range, kind_at}
 use Rattle.row_fit.specs.Sound.{reads_rm}
 use Rattle.row_fit.proofs.FitLaws.{modrm_range}
@@ -33,17 +33,17 @@ use Rattle.plain_spelling.specs.Forms.{is_variant_of, is_allowed_in, is_register
 use Rattle.plain_spelling.specs.PlainFront.{register_number}
 use Rattle.plain_spelling.specs.Addresses.{address_fields}
 use Rattle.plain_spelling.specs.PlainTail.{lone_mode, rm_fields, fields_of}
-use Rattle.plain_spelling.proofs.AddressCases.{impossible}
+use Rattle.plain_form.proofs.AddressCases.{impossible}
 use Rattle.plain_spelling.proofs.Asked.{four_kinds, rm_operand-at}
-use Rattle.plain_fit.proofs.Numbers.{kind_that_passes}
-use Rattle.plain_fit.proofs.Registers.{variant-at}
-use Rattle.plain_need.proofs.Given.{Given}
-use Rattle.plain_need.proofs.Walking.{all_kinds}
-use Rattle.plain_need.proofs.Numbers.{number-general_register, number-vector, number-byte}
-use Rattle.plain_need.proofs.Used.{read_is}
-use Rattle.plain_need.proofs.Variants.{read_at, reads_at, kinds_suit}
-use Rattle.plain_need.proofs.ReadShapes.{extended_low}
-use Rattle.plain_need.proofs.Addresses.{spelled_asize}
+use Rattle.plain_form.proofs.FitNumbers.{kind_that_passes}
+use Rattle.plain_form.proofs.FitRegisters.{variant-at}
+use Rattle.plain_form.specs.GivenSpelling.{Given}
+use Rattle.plain_form.proofs.NeedWalking.{all_kinds}
+use Rattle.plain_form.proofs.NeedNumbers.{number-general_register, number-vector, number-byte}
+use Rattle.plain_form.proofs.NeedUsed.{read_is}
+use Rattle.plain_form.proofs.NeedVariants.{read_at, reads_at, kinds_suit}
+use Rattle.plain_form.proofs.NeedReadShapes.{extended_low}
+use Rattle.plain_form.proofs.NeedAddresses.{spelled_asize}
 use Rattle.plain_form.specs.IsPlain.{IsPlain, lone_is_zero, mode_is_register, sib_is_needed}
 use Rattle.plain_form.proofs.Addresses.{fields}
 use Rattle.plain_form.proofs.TailIs.{fields_none}
@@ -112,7 +112,7 @@ reg_read bits row st t kind method.RegisterOrMemory imm m e k r small mode place
     by_test false h = (rm_low bits row st kind m (ap reads_rm e) small, λ z. not_below m.mode3 h mode)
 reg_read bits row st t kind method.RegisterOnly imm m e k r small mode place =
     subst (λ (o : Option ModRm). RegIs m method.RegisterOnly (Reg (register_of bits row st (file_of kind) (rm_number bits st o)))) (sym k)
-    (rm_low bits row st kind m (ap reads_rm e) small, λ z. equal_from m.mode3 3 place)
+    (rm_low bits row st kind m (ap reads_rm e) small, λ z. eqb-true m.mode3 3 place)
 reg_read bits row st t kind method.AnyMode imm m e k r small mode place =
     subst (λ (o : Option ModRm). RegIs m method.AnyMode (Reg (register_of bits row st (file_of kind) (rm_number bits st o)))) (sym k)
     (rm_low bits row st kind m (ap reads_rm e) small, λ z. impossible z)
@@ -127,11 +127,11 @@ reg_read bits row st t kind _ imm m e k r small mode place = impossible (sym r)
 
 place_part : (row : Row) (m : ModRm) → place_fits row (Some m) ≡ true → list_all (λ kind. place_allows (place_of (method_of kind)) m) row.ops ≡ true
 unfolding place_fits
-place_part row m h = and_right (place_allows row.place m) _ h
+place_part row m h = (and_parts (place_allows row.place m) _ h).1
 
 fit_place : (row : Row) (opcode : ℕ) (m : Option ModRm) → opcode_and_modrm_fit row opcode m ≡ true → place_fits row m ≡ true
 unfolding opcode_and_modrm_fit
-fit_place row opcode m h = and_right (modrm_rule_fits row.plus row.modrm m) (place_fits row m) (and_right (opcode_fits row opcode) (modrm_rule_fits row.plus row.modrm m && place_fits row m) h)
+fit_place row opcode m h = (and_parts (modrm_rule_fits row.plus row.modrm m) (place_fits row m) (and_parts (opcode_fits row opcode) (modrm_rule_fits row.plus row.modrm m && place_fits row m) h).1).1
 
 -- the ranges of a ModRM
 pub record Small (m : ModRm) : Type 0 where
@@ -142,11 +142,11 @@ pub record Small (m : ModRm) : Type 0 where
 small_of : (m : ModRm) → modrm_in_range (Some m) ≡ true → Small m
 unfolding modrm_in_range
 small_of m h =
-    let rest = and_right (nat_lt m.mode3 4) (nat_lt m.reg 8 && nat_lt m.rm 8) h in
+    let rest = (and_parts (nat_lt m.mode3 4) (nat_lt m.reg 8 && nat_lt m.rm 8) h).1 in
     record {
-      mode3 = ltb-true m.mode3 4 (and_left (nat_lt m.mode3 4) _ h);
-      reg = ltb-true m.reg 8 (and_left (nat_lt m.reg 8) (nat_lt m.rm 8) rest);
-      rm = ltb-true m.rm 8 (and_right (nat_lt m.reg 8) (nat_lt m.rm 8) rest);
+      mode3 = ltb-true m.mode3 4 (and_parts (nat_lt m.mode3 4) _ h).0;
+      reg = ltb-true m.reg 8 (and_parts (nat_lt m.reg 8) (nat_lt m.rm 8) rest).0;
+      rm = ltb-true m.rm 8 (and_parts (nat_lt m.reg 8) (nat_lt m.rm 8) rest).1;
     }
 
 pub small_at : (bits : Bits) (ip : ℕ) (code : Code) (row : Row) (s : Spelling) (i : Instr) (m : ModRm) → Given bits ip code row s i → s.modrm ≡ Some m → Small m
@@ -168,7 +168,7 @@ register_at bits ip code row s i n m g below reads e =
 
 pub address_part : (bits : Bits) (ip : ℕ) (code : Code) (row : Row) (s : Spelling) (i : Instr) → Given bits ip code row s i → address_fits (spelled_asize bits row s) row s.modrm s.sib (length s.disp.items) ≡ true
 unfolding lengths_fit
-address_part bits ip code row s i g = and_left (address_fits (spelled_asize bits row s) row s.modrm s.sib (length s.disp.items)) _ g.fitting.lengths
+address_part bits ip code row s i g = (and_parts (address_fits (spelled_asize bits row s) row s.modrm s.sib (length s.disp.items)) _ g.fitting.lengths).0
 
 none_from : {T : Type 0} → (o : Option T) → is_some o ≡ false → o ≡ None
 none_from None h = refl
@@ -187,8 +187,8 @@ unfolding address_fits
 sib_without asize row m sib given h e = by_test (reads_mode row) h
   where
     by_test : (test : Bool) → (if test then same_bool (is_some sib) (needs_sib asize m) && given == displacement_bytes asize m sib else is_none sib && given == 0) ≡ true → sib ≡ None
-    by_test true h = none_from sib (same_false (is_some sib) (needs_sib asize m) (and_left (same_bool (is_some sib) (needs_sib asize m)) _ h) e)
-    by_test false h = is_none_from sib (and_left (is_none sib) _ h)
+    by_test true h = none_from sib (same_false (is_some sib) (needs_sib asize m) (and_parts (same_bool (is_some sib) (needs_sib asize m)) _ h).0 e)
+    by_test false h = is_none_from sib (and_parts (is_none sib) _ h).0
 
 pub needs_none : (asize : Bits) (m : ModRm) → m.mode3 ≡ 3 → needs_sib asize m ≡ false
 unfolding needs_sib
@@ -225,13 +225,13 @@ lone_part row m h none = by_place row.place (or_right (reads_by reads_rm row) _ 
     or_right false b n h = h
 
     by_place : (place : Place) → (m.mode3 == (elim place [ OnlyRegister ↦ 3 | _ ↦ 0 ]) && m.rm == 0) ≡ true → (m.mode3 ≡ lone_mode place) × (m.rm ≡ 0)
-    by_place OnlyRegister h = (equal_from m.mode3 3 (and_left (m.mode3 == 3) _ h), equal_from m.rm 0 (and_right (m.mode3 == 3) (m.rm == 0) h))
-    by_place AnyPlace h = (equal_from m.mode3 0 (and_left (m.mode3 == 0) _ h), equal_from m.rm 0 (and_right (m.mode3 == 0) (m.rm == 0) h))
-    by_place OnlyMemory h = (equal_from m.mode3 0 (and_left (m.mode3 == 0) _ h), equal_from m.rm 0 (and_right (m.mode3 == 0) (m.rm == 0) h))
+    by_place OnlyRegister h = (eqb-true m.mode3 3 (and_parts (m.mode3 == 3) _ h).0, eqb-true m.rm 0 (and_parts (m.mode3 == 3) (m.rm == 0) h).1)
+    by_place AnyPlace h = (eqb-true m.mode3 0 (and_parts (m.mode3 == 0) _ h).0, eqb-true m.rm 0 (and_parts (m.mode3 == 0) (m.rm == 0) h).1)
+    by_place OnlyMemory h = (eqb-true m.mode3 0 (and_parts (m.mode3 == 0) _ h).0, eqb-true m.rm 0 (and_parts (m.mode3 == 0) (m.rm == 0) h).1)
 
 any_mode_at : (row : Row) (m : Option ModRm) (x : ModRm) → m ≡ Some x → mode_is_register row m ≡ true → reads_mode row ≡ false → x.mode3 ≡ 3
 unfolding mode_is_register
-any_mode_at row m x e h none = (let k : (x.mode3 == 3) ≡ true = rw (none, e) at h in equal_from x.mode3 3 k)
+any_mode_at row m x e h none = (let k : (x.mode3 == 3) ≡ true = rw (none, e) at h in eqb-true x.mode3 3 k)
 
 any_mode_reads : (row : Row) → reads_by is_any_mode row ≡ true → reads_mode row ≡ false
 unfolding reads_mode
@@ -267,7 +267,7 @@ unfolding rm_fields
 fields_by bits ip code row s i n m (Reg r) g p below reads e k v =
     let a : RegIs m (method_of (kind_at row n)) (Reg r) = subst (λ (x : Operand). RegIs m (method_of (kind_at row n)) x) k (register_at bits ip code row s i n m g below reads e) in
     let how = is_any_mode (method_of (kind_at row n)) in
-    let mode : m.mode3 ≡ 3 = elim (either how) [
+    let mode : m.mode3 ≡ 3 = elim (cases_Bool how) [
       | inr other ↦ a.1 other
       | inl any ↦ any_mode_at row s.modrm m e p.mode (any_mode_reads row (reads_at is_any_mode row n g.is_sound.four_operands below any))
     ] in
@@ -285,7 +285,7 @@ fields_by bits ip code row s i n m (Far x y) g p below reads e k v = impossible 
 
 -- **the fields of a plain spelling are the plain ones**
 pub fields_are : (bits : Bits) (ip : ℕ) (code : Code) (row : Row) (s : Spelling) (i : Instr) (m : ModRm) → Given bits ip code row s i → length i.ops ≡ 4 → IsPlain bits ip row s → s.modrm ≡ Some m → lone_is_zero row (Some m) ≡ true → fields_of bits row i ≡ fields m.mode3 m.rm s.sib
-fields_are bits ip code row s i m g four p e lone = elim (either (reads_by reads_rm row)) [
+fields_are bits ip code row s i m g four p e lone = elim (cases_Bool (reads_by reads_rm row)) [
   | inr none ↦ (let l = lone_part row m lone none in
       let sib : s.sib ≡ None = sib_without (spelled_asize bits row s) row m s.sib (length s.disp.items) (subst (λ (o : Option ModRm). address_fits (spelled_asize bits row s) row o s.sib (length s.disp.items) ≡ true) e (address_part bits ip code row s i g)) (needs_no_four (spelled_asize bits row s) m l.1) in
       fields_none bits row i none ∙ same_fields _ m.mode3 0 m.rm None s.sib (sym l.0) (sym l.1) (sym sib))

@@ -1,6 +1,6 @@
 -- The constructed tail is plain: the fields of ModRM, and the last byte.
 use Rattle.std.proofs.Common.{◌≡◌, inl, inr, ℕ, ◌*◌, ◌%◌, ◌<◌, Bool, true, false, ◌&&◌, ◌||◌, not, ◌==◌, nat_lt, List, [], ◌∷◌, eq-eqb, Option, Some, refl, ap, sym, ◌∙◌, subst, arith}
-use Rattle.std.proofs.lemmas.Bool.{lt-ltb, not-false}
+use Rattle.std.proofs.lemmas.Bool.{lt-ltb, not-false, cases_Bool}
 use Rattle.x86_values.specs.declared.Bits.{Bits}
 use Rattle.x86_values.specs.declared.Register.{Register}
 use Rattle.x86_values.specs.declared.Operand.{Operand}
@@ -19,7 +19,6 @@ use Rattle.instruction_parts.specs.Kinds.{method_of}
 use Rattle.instruction_parts.specs.Counting.{is_64}
 use Rattle.instruction_parts.specs.Sizes.{state_size}
 use Rattle.instruction_parts.specs.Bytes.{state_of}
-use Rattle.instruction_parts.proofs.Tests.{either}
 use Rattle.row_fit.specs.Fits.{has_modrm, reg_field, reads_by, reads_mode, is_any_mode, kind_at, immediate_bytes}
 use Rattle.row_fit.specs.Sound.{reads_reg, reads_rm, reads_last_byte}
 use Rattle.row_meaning.specs.Meaning.{own_immediate}
@@ -29,12 +28,12 @@ use Rattle.plain_spelling.specs.Addresses.{register_count}
 use Rattle.plain_spelling.specs.declared.addresses.AddressFields.{AddressFields}
 use Rattle.plain_spelling.specs.PlainTail.{no_address, lone_mode, rm_fields, fields_of, modrm_with, plain_modrm, operand_immediate, immediate_at, plain_immediates, plain_size, plain_next, plain_spelling}
 use Rattle.plain_spelling.proofs.Asked.{asked_reg-none, rm_operand-none, four_kinds}
-use Rattle.plain_fit.proofs.Given.{Given}
-use Rattle.plain_fit.proofs.Numbers.{kind_that_passes, nameable-at}
-use Rattle.plain_fit.proofs.FrontBits.{FrontBits, asked-small}
-use Rattle.plain_fit.proofs.Places.{modrm_any, modrm_digit, register_in_rm}
-use Rattle.plain_fit.proofs.Registers.{register_variant, variant-at}
-use Rattle.plain_fit.proofs.Immediates.{own-immediate}
+use Rattle.plain_form.specs.Given.{Given}
+use Rattle.plain_form.proofs.FitNumbers.{kind_that_passes, nameable-at}
+use Rattle.plain_form.proofs.FitFrontBits.{FrontBits, asked-small}
+use Rattle.plain_form.proofs.FitPlaces.{modrm_any, modrm_digit, register_in_rm}
+use Rattle.plain_form.proofs.FitRegisters.{register_variant, variant-at}
+use Rattle.plain_form.proofs.FitImmediates.{own-immediate}
 use Rattle.plain_form.specs.IsPlain.{reg_is_read, lone_is_zero, rm_is_read, mode_is_register, last_byte_is_bare, last_byte_is_read, immediates_are_read}
 
 -- ---- reg
@@ -70,7 +69,7 @@ fields_none bits row i none = ap (λ (op : Operand). rm_fields bits i.asize row.
 
 lone_by : (bits : Bits) (row : Row) (i : Instr) (reg : ℕ) (m : Option ModRm) → m ≡ Some (modrm_with reg (fields_of bits row i)) → lone_is_zero row m ≡ true
 unfolding lone_is_zero
-lone_by bits row i reg m e = elim (either (reads_by reads_rm row)) [
+lone_by bits row i reg m e = elim (cases_Bool (reads_by reads_rm row)) [
   | inl some ↦ rw some refl
   | inr none ↦ (let k : m ≡ Some (modrm_with reg (no_address (lone_mode row.place) 0)) = e ∙ ap (λ (f : AddressFields). Some (modrm_with reg f)) (fields_none bits row i none) in
       rw (none, k) (lone_same row.place))
@@ -112,7 +111,7 @@ mode_by bits ip row i g any =
 
 pub mode_plain : (bits : Bits) (ip : ℕ) (row : Row) (i : Instr) → Given bits ip row i → mode_is_register row (plain_modrm bits row i) ≡ true
 unfolding mode_is_register
-mode_plain bits ip row i g = elim (either (reads_mode row)) [
+mode_plain bits ip row i g = elim (cases_Bool (reads_mode row)) [
   | inl reads ↦ rw reads refl
   | inr none ↦ rw none (mode_by bits ip row i g (not-false (reads_by is_any_mode row) (sym (reads_mode_is row) ∙ none)))
 ]
@@ -157,7 +156,7 @@ own_imm bits ip row i = refl
 
 last_at : (bits : Bits) (ip : ℕ) (row : Row) (i : Instr) (n : ℕ) → Given bits ip row i → n < 4 → state_of bits row (plain_spelling bits ip row i) ≡ plain_front_of bits row i → FrontBits bits row i → last_byte_is_read bits row (plain_spelling bits ip row i) n ≡ true
 unfolding last_byte_is_read
-last_at bits ip row i n g below e f = elim (either (reads_last_byte (method_of (kind_at row n)))) [
+last_at bits ip row i n g below e f = elim (cases_Bool (reads_last_byte (method_of (kind_at row n)))) [
   | inr none ↦ rw none refl
   | inl some ↦ (let z : state_size bits row (state_of bits row (plain_spelling bits ip row i)) ≡ plain_size bits row = ap (state_size bits row) e ∙ f.size in
       let k : last_byte_is_bare bits (own_immediate (state_size bits row (state_of bits row (plain_spelling bits ip row i))) row n (plain_spelling bits ip row i).imm.items) ≡ true =

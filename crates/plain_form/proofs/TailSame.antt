@@ -1,5 +1,6 @@
 -- ModRM and SIB of a plain spelling are the constructed ones of what it means.
 use Rattle.std.proofs.Common.{◌≡◌, inl, inr, ℕ, zero, suc, ◌+◌, ◌*◌, ◌/◌, ◌%◌, ◌<◌, Bool, true, false, ◌&&◌, ◌||◌, not, ◌==◌, List, length, Option, Some, None, is_none, refl, ap, sym, ◌∙◌, subst, arith}
+use Rattle.std.proofs.lemmas.Bool.{and_parts, cases_Bool, eqb-true}
 use Rattle.std.specs.List.{list_all}
 use borrow.Author.Tests.{ltb-true}
 use Rattle.x86_values.specs.declared.Bits.{Bits}
@@ -25,7 +26,6 @@ use Rattle.instruction_parts.specs.declared.spelling.PrefixState.{PrefixState}
 use Rattle.instruction_parts.specs.Kinds.{method_of, file_of}
 use Rattle.instruction_parts.specs.Sizes.{bit_r, state_size}
 use Rattle.instruction_parts.specs.Bytes.{state_of, modrm_byte}
-use Rattle.instruction_parts.proofs.Tests.{either, and_left, and_right, equal_from}
 use Rattle.row_fit.specs.Fits.{reads_by, with_high_bit, reg_number, address_fits, is_fixed_byte, modrm_rule_fits, register_fits, registers_fit, kind_at}
 use Rattle.row_fit.specs.Sound.{reads_reg, reads_rm}
 use Rattle.row_meaning.specs.Meaning.{Tail, tail_of, operand_by, own_immediate, register_of, segment_numbered}
@@ -34,18 +34,18 @@ use Rattle.plain_spelling.specs.PlainFront.{register_number, operand_number, bas
 use Rattle.plain_spelling.specs.declared.addresses.AddressFields.{AddressFields}
 use Rattle.plain_spelling.specs.PlainTail.{modrm_with, fixed_rm, plain_modrm, plain_sib_of}
 use Rattle.plain_spelling.specs.Writable.{rule_is_plain, is_register_only}
-use Rattle.plain_spelling.proofs.AddressCases.{impossible}
+use Rattle.plain_form.proofs.AddressCases.{impossible}
 use Rattle.plain_spelling.proofs.Asked.{four_kinds, asked_reg-at, asked_reg-none, asked_rm-at}
-use Rattle.plain_fit.proofs.Numbers.{kind_that_passes}
-use Rattle.plain_fit.proofs.Places.{modrm_none, modrm_any, modrm_digit, modrm_fixed, sib_any, sib_digit, fixed_mode_is, reads_b_of_rm}
-use Rattle.plain_fit.proofs.Registers.{register_variant, variant-at}
-use Rattle.plain_need.proofs.Given.{Given}
-use Rattle.plain_need.proofs.Walking.{all_kinds}
-use Rattle.plain_need.proofs.Used.{read_is}
-use Rattle.plain_need.proofs.Variants.{read_at, kinds_suit}
-use Rattle.plain_need.proofs.ReadShapes.{extended_low}
-use Rattle.plain_need.proofs.ReadTails.{rule_of}
-use Rattle.plain_need.proofs.Addresses.{spelled_asize}
+use Rattle.plain_form.proofs.FitNumbers.{kind_that_passes}
+use Rattle.plain_form.proofs.FitPlaces.{modrm_none, modrm_any, modrm_digit, modrm_fixed, sib_any, sib_digit, fixed_mode_is, reads_b_of_rm}
+use Rattle.plain_form.proofs.FitRegisters.{register_variant, variant-at}
+use Rattle.plain_form.specs.GivenSpelling.{Given}
+use Rattle.plain_form.proofs.NeedWalking.{all_kinds}
+use Rattle.plain_form.proofs.NeedUsed.{read_is}
+use Rattle.plain_form.proofs.NeedVariants.{read_at, kinds_suit}
+use Rattle.plain_form.proofs.NeedReadShapes.{extended_low}
+use Rattle.plain_form.proofs.NeedReadTails.{rule_of}
+use Rattle.plain_form.proofs.NeedAddresses.{spelled_asize}
 use Rattle.plain_form.specs.IsPlain.{IsPlain, reg_is_read, rm_is_read, lone_is_zero}
 use Rattle.plain_form.proofs.Addresses.{fields}
 use Rattle.plain_form.proofs.RmSame.{is_segment_file, low_kept, RegIs, register_at, Small, small_at, address_part, is_none_from, sib_without, needs_none, fields_are}
@@ -101,7 +101,7 @@ reg_operand bits row st t kind _ imm m e k r small f = impossible (sym r)
 
 registers_part : (bits : Bits) (row : Row) (st : PrefixState) (m : Option ModRm) (sib : Option Sib) → registers_fit bits row st m sib ≡ true → list_all (register_fits bits st m) row.ops ≡ true
 unfolding registers_fit
-registers_part bits row st m sib h = and_left (list_all (register_fits bits st m) row.ops) _ h
+registers_part bits row st m sib h = (and_parts (list_all (register_fits bits st m) row.ops) _ h).0
 
 reg_at : (bits : Bits) (ip : ℕ) (code : Code) (row : Row) (s : Spelling) (i : Instr) (n : ℕ) (m : ModRm) → Given bits ip code row s i → n < 4 → reads_reg (method_of (kind_at row n)) ≡ true → s.modrm ≡ Some m → operand_number (operand_at i n) % 8 ≡ m.reg
 reg_at bits ip code row s i n m g below reads e =
@@ -123,8 +123,8 @@ unfolding reg_is_read
 reg_read row m e h = rw e at h
 
 reg_same : (bits : Bits) (ip : ℕ) (code : Code) (row : Row) (s : Spelling) (i : Instr) (m : ModRm) → Given bits ip code row s i → length i.ops ≡ 4 → IsPlain bits ip row s → s.modrm ≡ Some m → row.modrm ≡ AnyModRm → asked number_in_reg row i % 8 ≡ m.reg
-reg_same bits ip code row s i m g four p e rule = elim (either (reads_by reads_reg row)) [
-  | inr none ↦ (let z = equal_from m.reg 0 (or_right (reads_by reads_reg row) (m.reg == 0) none (reg_read row m rule (subst (λ (o : Option ModRm). reg_is_read row o ≡ true) e p.reg))) in
+reg_same bits ip code row s i m g four p e rule = elim (cases_Bool (reads_by reads_reg row)) [
+  | inr none ↦ (let z = eqb-true m.reg 0 (or_right (reads_by reads_reg row) (m.reg == 0) none (reg_read row m rule (subst (λ (o : Option ModRm). reg_is_read row o ≡ true) e p.reg))) in
       ap (λ (x : ℕ). x % 8) (asked_reg-none row i none) ∙ sym z)
   | inl some ↦ (let k = kind_that_passes (λ kind. reads_reg (method_of kind)) row.ops Absent some in
       let kinds = four_kinds row g.is_sound in
@@ -181,20 +181,20 @@ of_digit bits ip code row s i d (Some m) g four p rule e h =
     let lone = subst (λ (x : Option ModRm). lone_is_zero row x ≡ true) e (lone_digit row s.modrm d rule p.rm) in
     let f = fields_are bits ip code row s i m g four p e lone in
     record {
-      modrm = e ∙ same_modrm m d _ s.sib (sym (equal_from m.reg d h)) f ∙ sym (modrm_digit bits row i d rule);
+      modrm = e ∙ same_modrm m d _ s.sib (sym (eqb-true m.reg d h)) f ∙ sym (modrm_digit bits row i d rule);
       sib = sym (sib_digit bits row i d rule ∙ ap (λ (x : AddressFields). x.sib) f);
     }
 
 -- a fixed byte
 of_byte : (m : ModRm) (b : ℕ) → Small m → (modrm_byte m == b) ≡ true → (m.mode3 ≡ b / 64) × (m.reg ≡ b / 8 % 8) × (m.rm ≡ b % 8)
 of_byte m b z h =
-    let e = equal_from (modrm_byte m) b h in
+    let e = eqb-true (modrm_byte m) b h in
     let h1 = z.mode3 in let h2 = z.reg in let h3 = z.rm in
     (omega arith, omega arith, omega arith)
 
 of_stack : (m : ModRm) (b : ℕ) → Small m → (m.mode3 * 64 + m.reg * 8 == b) ≡ true → (m.mode3 ≡ b / 64) × (m.reg ≡ b / 8 % 8)
 of_stack m b z h =
-    let e = equal_from (m.mode3 * 64 + m.reg * 8) b h in
+    let e = eqb-true (m.mode3 * 64 + m.reg * 8) b h in
     let h1 = z.mode3 in let h2 = z.reg in
     (omega arith, omega arith)
 
@@ -223,7 +223,7 @@ stack_reads row b h e k =
     let z : plain_rule (FixedByte b) PlusStack (reads_by reads_reg row) (reads_by is_register_only row) (reads_by reads_rm row) ≡ true =
     sym (ap (λ (r : ModRmRule). plain_rule r PlusStack (reads_by reads_reg row) (reads_by is_register_only row) (reads_by reads_rm row)) e)
     ∙ sym (ap (λ (p : Plus). plain_rule row.modrm p (reads_by reads_reg row) (reads_by is_register_only row) (reads_by reads_rm row)) k) ∙ sym (rule_is row) ∙ h in
-    and_right (not (reads_by reads_reg row)) (reads_by is_register_only row) z
+    (and_parts (not (reads_by reads_reg row)) (reads_by is_register_only row) z).1
 
 register_only_reads : (how : Method) → is_register_only how ≡ true → reads_rm how ≡ true
 register_only_reads method.RegisterOnly h = refl
@@ -276,7 +276,7 @@ of_fixed bits ip code row s i b (Some m) plus g four rule e k h = by_plus plus k
 -- without a ModRM
 no_sib : (asize : Bits) (row : Row) (sib : Option Sib) (given : ℕ) → address_fits asize row None sib given ≡ true → sib ≡ None
 unfolding address_fits
-no_sib asize row sib given h = is_none_from sib (and_left (is_none sib) _ h)
+no_sib asize row sib given h = is_none_from sib (and_parts (is_none sib) _ h).0
 
 of_none : (bits : Bits) (ip : ℕ) (code : Code) (row : Row) (s : Spelling) (i : Instr) → Given bits ip code row s i → row.modrm ≡ NoModRm → s.modrm ≡ None → TailSame bits row s i
 of_none bits ip code row s i g rule e = record {

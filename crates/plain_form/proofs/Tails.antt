@@ -1,5 +1,6 @@
 -- Tails that are read as the same operands have the same displacement and the same immediates.
 use Rattle.std.proofs.Common.{◌≡◌, inl, inr, ℕ, ◌*◌, ◌≤◌, Bool, true, false, ◌&&◌, ◌==◌, nat_lt, List, length, Option, Some, None, refl, ap, sym, ◌∙◌, subst, arith, if◌then◌else◌}
+use Rattle.std.proofs.lemmas.Bool.{cases_Bool}
 use Rattle.x86_values.specs.declared.Bits.{Bits}
 use Rattle.x86_values.specs.declared.Bits.TheVariants.{B16, B32, B64}
 use Rattle.x86_values.specs.declared.Mem.{Mem}
@@ -15,15 +16,14 @@ use Rattle.instruction_parts.specs.declared.spelling.Sib.{Sib}
 use Rattle.instruction_parts.specs.declared.spelling.PrefixState.{PrefixState}
 use Rattle.instruction_parts.specs.Kinds.{file_of}
 use Rattle.instruction_parts.specs.Sizes.{size_bytes, state_address_size}
-use Rattle.instruction_parts.proofs.Tests.{either}
 use Rattle.row_fit.specs.Fits.{are_bytes, has_modrm, rm_number, is_displacement_alone, displacement_bytes, is_memory_method}
 use Rattle.row_meaning.specs.Meaning.{tail, operand_by, register_of, displacement, memory_16, ip_or_absolute, memory_with_sib, memory_wide, memory_of, memory_absolute, memory_operand, gather_memory, with_modrm, target_of}
 use Rattle.plain_spelling.specs.Forms.{is_memory}
-use Rattle.plain_spelling.proofs.AddressCases.{impossible, wide-alone, wide-register}
+use Rattle.plain_form.proofs.AddressCases.{impossible, wide-alone, wide-register}
 use Rattle.plain_spelling.proofs.Asked.{reads_address}
-use Rattle.plain_spelling.proofs.Values.{width-le}
-use Rattle.plain_need.proofs.ReadShapes.{Reading}
-use Rattle.plain_need.proofs.ReadOperands.{TailReads}
+use Rattle.plain_form.proofs.WrittenValues.{width-le}
+use Rattle.plain_form.proofs.NeedReadShapes.{Reading}
+use Rattle.plain_form.proofs.NeedReadOperands.{TailReads}
 use Rattle.plain_form.proofs.Values.{extended_same, target_same}
 
 -- ---- an address
@@ -76,7 +76,7 @@ alone_same B64 asize next a b p e = by_target asize next a b p e
 wide_same : (bits asize : Bits) (st : PrefixState) (m : ModRm) (sib : Option Sib) (next : ℕ) (a b : List ℕ) → Pair asize a b → (memory_wide bits asize st m sib next a).disp ≡ (memory_wide bits asize st m sib next b).disp → a ≡ b
 unfolding memory_wide memory_with_sib
 wide_same bits asize st m (Some s) next a b p e = by_value asize a b p e
-wide_same bits asize st m None next a b p e = elim (either (m.mode3 == 0 && m.rm == 5)) [
+wide_same bits asize st m None next a b p e = elim (cases_Bool (m.mode3 == 0 && m.rm == 5)) [
   | inl alone ↦
       alone_same bits asize next a b p
       (sym (ap (λ (x : Mem). x.disp) (wide-alone bits asize st m next a alone)) ∙ e ∙ ap (λ (x : Mem). x.disp) (wide-alone bits asize st m next b alone))

@@ -1,14 +1,13 @@
 -- Bytes of one length that give the same value are the same bytes.
 use Rattle.std.proofs.Common.{◌≡◌, ◌⊎◌, inl, inr, ℕ, zero, suc, ◌+◌, ◌-◌, ◌*◌, ◌/◌, ◌%◌, ◌^◌, ◌<◌, ◌≤◌, Bool, true, false, nat_lt, List, [], ◌∷◌, length, refl, ap, sym, ◌∙◌, subst, arith, if◌then◌else◌}
-use Rattle.std.proofs.lemmas.Bool.{ltb-true, ltb-false}
+use Rattle.std.proofs.lemmas.Bool.{ltb-true, ltb-false, and_parts, cases_Bool}
 use Rattle.std.proofs.lemmas.Nat.{pow-add, pow_pos}
 use Rattle.std.proofs.Math.Nat.{mod-eq_of_lt, mod-lt, add-mul-mod_self_left, mul_comm, mul_assoc, suc-mul, div-add-mod, add-mod-mod, mod-add-mod}
 use Rattle.x86_values.specs.declared.Bits.{Bits}
 use Rattle.x86_values.specs.Wrapping.{width}
-use Rattle.instruction_parts.proofs.Tests.{either, and_left, and_right}
 use Rattle.row_fit.specs.Fits.{are_bytes}
 use Rattle.row_meaning.specs.Meaning.{little_endian, sign_extended, target_of}
-use Rattle.plain_spelling.proofs.Values.{little_endian-below}
+use Rattle.plain_form.proofs.WrittenValues.{little_endian-below}
 
 -- ---- as they are
 
@@ -24,10 +23,10 @@ value_same [] [] n ha hb h = refl
 value_same [] (y ∷ b) n ha hb h = absurd (omega arith)
 value_same (x ∷ a) [] n ha hb h = absurd (omega arith)
 value_same (x ∷ a) (y ∷ b) n ha hb h =
-    let hx : x < 256 = ltb-true x 256 (and_left (nat_lt x 256) _ ha) in
-    let hy : y < 256 = ltb-true y 256 (and_left (nat_lt y 256) _ hb) in
+    let hx : x < 256 = ltb-true x 256 (and_parts (nat_lt x 256) _ ha).0 in
+    let hy : y < 256 = ltb-true y 256 (and_parts (nat_lt y 256) _ hb).0 in
     let e = first_same x y (little_endian a) (little_endian b) hx hy h in
-    let rest = value_same a b (omega arith) (and_right (nat_lt x 256) (are_bytes a) ha) (and_right (nat_lt y 256) (are_bytes b) hb) (rest_same x y (little_endian a) (little_endian b) hx hy h) in
+    let rest = value_same a b (omega arith) (and_parts (nat_lt x 256) (are_bytes a) ha).1 (and_parts (nat_lt y 256) (are_bytes b) hb).1 (rest_same x y (little_endian a) (little_endian b) hx hy h) in
     ap (λ (z : ℕ). z ∷ a) e ∙ ap (λ (z : List ℕ). y ∷ z) rest
 
 -- ---- sign-extended
@@ -78,7 +77,7 @@ extended_same w a b n h hw ha hb e =
 -- ---- added to an address
 
 mod_once : (p z : ℕ) → z < p + p → (z % p ≡ z) ⊎ ((z % p + p ≡ z) × (p ≤ z))
-mod_once p z h = elim (either (nat_lt z p)) [
+mod_once p z h = elim (cases_Bool (nat_lt z p)) [
   | inl low ↦ inl (mod-eq_of_lt (ltb-true z p low))
   | inr high ↦ (let le : p ≤ z = ltb-false z p high in
       let parts : z ≡ (z - p) + p * 1 = omega arith in

@@ -53,7 +53,7 @@ abbrev pub is_high_register : Operand → Bool
 is_high_register (Reg r) = nat_le 8 (register_number r)
 is_high_register _ = false
 
--- the same of a register that may be absent
+-- a register that may be absent has a number that does not fit into three bits
 abbrev pub is_high : Option Register → Bool
 is_high None = false
 is_high (Some r) = nat_le 8 (register_number r)
@@ -141,7 +141,7 @@ needed_by bits row state m =
     (needed_repeat row (kept_repeat row.class state.rep))) legacy_prefixes
     ++ rex_alone state.rex
 
--- the same of a spelling
+-- the prefixes that a spelling needs, each once
 abbrev pub needed_prefixes : Bits → Row → Spelling → List ℕ
 needed_prefixes bits row s = needed_by bits row (state_of bits row s) s.modrm
 

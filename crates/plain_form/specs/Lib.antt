@@ -1,1 +1,3 @@
 pub mod IsPlain
+pub mod Given
+pub mod GivenSpelling

@@ -1,6 +1,6 @@
 -- Where the ten conditions hold there is a plain spelling, and nowhere else; no other spelling is shorter.
 use Rattle.std.proofs.Common.{◌≡◌, ℕ, ◌≤◌, ◌<◌, ◌^◌, Bool, true, false, ◌&&◌, ◌||◌, not, List, [], ◌∷◌, length, Option, Some, None, refl, ap, sym, ◌∙◌, subst, arith, slice_get, nat_le}
-use Rattle.std.proofs.lemmas.Bool.{le-leb, leb-true}
+use Rattle.std.proofs.lemmas.Bool.{le-leb, leb-true, and_parts}
 use Rattle.x86_values.specs.declared.Bits.{Bits}
 use Rattle.x86_values.specs.declared.Bits.TheVariants.{B16, B32, B64}
 use Rattle.x86_values.specs.declared.Code.{Code}
@@ -14,7 +14,6 @@ use Rattle.instruction_parts.specs.declared.spelling.Spelling.{Spelling}
 use Rattle.std.specs.List.{list_all}
 use Rattle.instruction_parts.specs.Sizes.{exists_in}
 use Rattle.instruction_parts.specs.Bytes.{bytes_of}
-use Rattle.instruction_parts.proofs.Tests.{and_left, and_right}
 use Rattle.row_fit.specs.Fits.{fits, kind_at, immediate_bytes}
 use Rattle.row_fit.specs.Sound.{Sound}
 use Rattle.row_fit.proofs.FitLaws.{all_conditions}
@@ -28,11 +27,11 @@ use Rattle.plain_spelling.specs.PlainTail.{plain_spelling, plain_len, plain_size
 use Rattle.plain_spelling.specs.Expressible.{Suits, each_operand, failure, target_suits, near_reaches, address_reaches, kind_suits}
 use Rattle.plain_spelling.specs.Values.{is_extended_of, distance}
 use Rattle.plain_spelling.specs.Writable.{writable, writable_in, Writable, has_plain_size, class_allows_size, opcode_is_plain, kind_is_told, lock_is_legacy, nop_is_bare, rule_is_plain, place_is_plain, gather_is_whole}
-use Rattle.plain_fit.proofs.Given as fit
-use Rattle.plain_fit.proofs.Lengths.{plain_long}
-use Rattle.plain_fit.proofs.Whole.{plain_fits, plain_means}
-use Rattle.plain_need.proofs.Given as need
-use Rattle.plain_need.proofs.Whole.{NeedsHold, needs_hold}
+use Rattle.plain_form.specs.Given as fit
+use Rattle.plain_form.proofs.FitLengths.{plain_long}
+use Rattle.plain_form.proofs.FitWhole.{plain_fits, plain_means}
+use Rattle.plain_form.specs.GivenSpelling as need
+use Rattle.plain_form.proofs.NeedWhole.{NeedsHold, needs_hold}
 use Rattle.plain_form.proofs.PlainIs.{plain_is}
 use Rattle.plain_form.proofs.Lengths.{length_same, four_of}
 use Rattle.plain_form.proofs.One.{one_plain}
@@ -47,9 +46,9 @@ or_right_not a b ha h = rw ha at h
 
 in_mode : (bits : Bits) (row : Row) → writable row ≡ true → writable_in bits row ≡ true
 unfolding writable
-in_mode B16 row h = and_left (writable_in B16 row) _ h
-in_mode B32 row h = and_left (writable_in B32 row) _ (and_right (writable_in B16 row) _ h)
-in_mode B64 row h = and_left (writable_in B64 row) _ (and_right (writable_in B32 row) _ (and_right (writable_in B16 row) _ h))
+in_mode B16 row h = (and_parts (writable_in B16 row) _ h).0
+in_mode B32 row h = (and_parts (writable_in B32 row) _ (and_parts (writable_in B16 row) _ h).1).0
+in_mode B64 row h = (and_parts (writable_in B64 row) _ (and_parts (writable_in B32 row) _ (and_parts (writable_in B16 row) _ h).1).1).0
 
 pub writable_row : (bits : Bits) (row : Row) → writable row ≡ true → exists_in bits row ≡ true → Writable bits row
 unfolding writable writable_in
@@ -65,22 +64,22 @@ writable_row bits row h e =
     let rule = rule_is_plain row in
     let place = place_is_plain row in
     let gather = gather_is_whole row in
-    let r1 = and_right (writable_in B16 row) (writable_in B32 row && (writable_in B64 row && (told && (lock && (nop && (rule && (place && gather))))))) h in
-    let r2 = and_right (writable_in B32 row) (writable_in B64 row && (told && (lock && (nop && (rule && (place && gather)))))) r1 in
-    let r3 = and_right (writable_in B64 row) (told && (lock && (nop && (rule && (place && gather))))) r2 in
-    let r4 = and_right told (lock && (nop && (rule && (place && gather)))) r3 in
-    let r5 = and_right lock (nop && (rule && (place && gather))) r4 in
-    let r6 = and_right nop (rule && (place && gather)) r5 in
+    let r1 = (and_parts (writable_in B16 row) (writable_in B32 row && (writable_in B64 row && (told && (lock && (nop && (rule && (place && gather))))))) h).1 in
+    let r2 = (and_parts (writable_in B32 row) (writable_in B64 row && (told && (lock && (nop && (rule && (place && gather)))))) r1).1 in
+    let r3 = (and_parts (writable_in B64 row) (told && (lock && (nop && (rule && (place && gather))))) r2).1 in
+    let r4 = (and_parts told (lock && (nop && (rule && (place && gather)))) r3).1 in
+    let r5 = (and_parts lock (nop && (rule && (place && gather))) r4).1 in
+    let r6 = (and_parts nop (rule && (place && gather)) r5).1 in
     record {
-      size = and_left size (class && opcode) m;
-      class = and_left class opcode (and_right size (class && opcode) m);
-      opcode = and_right class opcode (and_right size (class && opcode) m);
-      told = and_left told (lock && (nop && (rule && (place && gather)))) r3;
-      lock = and_left lock (nop && (rule && (place && gather))) r4;
-      nop = and_left nop (rule && (place && gather)) r5;
-      rule = and_left rule (place && gather) r6;
-      place = and_left place gather (and_right rule (place && gather) r6);
-      gather = and_right place gather (and_right rule (place && gather) r6);
+      size = (and_parts size (class && opcode) m).0;
+      class = (and_parts class opcode (and_parts size (class && opcode) m).1).0;
+      opcode = (and_parts class opcode (and_parts size (class && opcode) m).1).1;
+      told = (and_parts told (lock && (nop && (rule && (place && gather)))) r3).0;
+      lock = (and_parts lock (nop && (rule && (place && gather))) r4).0;
+      nop = (and_parts nop (rule && (place && gather)) r5).0;
+      rule = (and_parts rule (place && gather) r6).0;
+      place = (and_parts place gather (and_parts rule (place && gather) r6).1).0;
+      gather = (and_parts place gather (and_parts rule (place && gather) r6).1).1;
     }
 
 -- ---- from the conditions to the spelling

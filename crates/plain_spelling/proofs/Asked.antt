@@ -1,7 +1,7 @@
 -- A field of a sound row is asked for by the one operand that is read from it, and so is the displacement.
 use Rattle.std.proofs.Common.{◌≡◌, ◌⊎◌, inl, inr, ℕ, zero, suc, ◌+◌, ◌%◌, ◌<◌, ◌≤◌, Bool, true, false, ◌&&◌, ◌||◌, not, ◌==◌, List, [], ◌∷◌, length, refl, sym, ◌∙◌, arith, if◌then◌else◌, Option, Some, None, is_none}
 use Rattle.std.specs.Prelude.{slice_index_or}
-use Rattle.std.proofs.lemmas.Bool.{leb-true, or_parts}
+use Rattle.std.proofs.lemmas.Bool.{leb-true, or_parts, and_parts, cases_Bool, eqb-true, not-true}
 use Rattle.std.specs.List.{list_any}
 use Rattle.x86_values.specs.declared.Bits.{Bits}
 use Rattle.x86_values.specs.declared.Register.{Register}
@@ -25,7 +25,6 @@ use Rattle.instruction_parts.specs.Kinds.{method_of, file_of}
 use Rattle.instruction_parts.specs.Sizes.{is_vex_row}
 use Rattle.row_fit.specs.Fits.{kind_at, reads_by, is_offset, is_any_mode, is_vvvv}
 use Rattle.row_fit.specs.Sound.{Sound, count_where, at_most_one, reads_reg, reads_rm, reads_opcode, reads_last_byte, has_modrm_rule, is_any_place, plus_is_proper, operands_are_proper, operands_are_apart, has_four_operands}
-use Rattle.instruction_parts.proofs.Tests.{either, and_left, and_right, not_true, equal_from}
 use Rattle.plain_spelling.specs.Forms.{operand_at, is_variant_of}
 use Rattle.plain_spelling.specs.PlainFront.{over_operands, operand_number, base_or_register_number, operand_index_number, number_in_reg, number_in_rm, number_in_index, number_in_vvvv, number_in_opcode, asked, number_or_zero}
 use Rattle.plain_spelling.specs.Addresses.{displacement_count, shape_suits}
@@ -178,7 +177,7 @@ count-or_right p q (kind ∷ kinds) h =
     by_cases false true m n e k = omega arith
     by_cases false false m n e k = omega arith
 
--- at most one passes either, where at most one passes each and one of the tests passes none
+-- at most one passes cases_Bool, where at most one passes each and one of the tests passes none
 count-or : (p q : Method → Bool) (kinds : List OpKind) → (any_by p kinds ≡ false) ⊎ (any_by q kinds ≡ false) → count_by p kinds ≤ 1 → count_by q kinds ≤ 1 → count_by (or_test p q) kinds ≤ 1
 count-or p q kinds (inl none) hp hq = let e = count-or_right p q kinds none in omega arith
 count-or p q kinds (inr none) hp hq = let e = count-or_left p q kinds none in omega arith
@@ -194,7 +193,7 @@ any-or p q (kind ∷ kinds) hp hq =
 
 pub four_kinds : (row : Row) → Sound row → length row.ops ≡ 4
 unfolding has_four_operands
-four_kinds row s = equal_from (length row.ops) 4 s.four_operands
+four_kinds row s = eqb-true (length row.ops) 4 s.four_operands
 
 at_most : (p : Method → Bool) (row : Row) → at_most_one p row ≡ true → count_by p row.ops ≤ 1
 at_most p row h = leb-true (count_by p row.ops) 1 h
@@ -217,17 +216,17 @@ apart row s =
     let d = at_most_one reads_opcode row in
     let e = at_most_one reads_last_byte row in
     let f = at_most_one is_offset row in
-    let h1 = and_right a (b && (c && (d && (e && f)))) s.apart in
-    let h2 = and_right b (c && (d && (e && f))) h1 in
-    let h3 = and_right c (d && (e && f)) h2 in
-    let h4 = and_right d (e && f) h3 in
+    let h1 = (and_parts a (b && (c && (d && (e && f)))) s.apart).1 in
+    let h2 = (and_parts b (c && (d && (e && f))) h1).1 in
+    let h3 = (and_parts c (d && (e && f)) h2).1 in
+    let h4 = (and_parts d (e && f) h3).1 in
     record {
-      reg = at_most reads_reg row (and_left a (b && (c && (d && (e && f)))) s.apart);
-      rm = at_most reads_rm row (and_left b (c && (d && (e && f))) h1);
-      vvvv = at_most is_vvvv row (and_left c (d && (e && f)) h2);
-      opcode = at_most reads_opcode row (and_left d (e && f) h3);
-      last = at_most reads_last_byte row (and_left e f h4);
-      offset = at_most is_offset row (and_right e f h4);
+      reg = at_most reads_reg row (and_parts a (b && (c && (d && (e && f)))) s.apart).0;
+      rm = at_most reads_rm row (and_parts b (c && (d && (e && f))) h1).0;
+      vvvv = at_most is_vvvv row (and_parts c (d && (e && f)) h2).0;
+      opcode = at_most reads_opcode row (and_parts d (e && f) h3).0;
+      last = at_most reads_last_byte row (and_parts e f h4).0;
+      offset = at_most is_offset row (and_parts e f h4).1;
     }
 
 -- operands that read ModRM stand on rows that have one, an absolute address on rows that have none, a register of the opcode byte
@@ -256,8 +255,8 @@ implied true false e x = cc
 implied false false e x = cc
 
 by_plus : (plus : Plus) (o : Bool) → (elim plus [ PlusRegister ↦ o | _ ↦ not o ]) ≡ true → o ≡ adds_register plus
-by_plus NoPlus o h = not_true o h
-by_plus PlusStack o h = not_true o h
+by_plus NoPlus o h = not-true o h
+by_plus PlusStack o h = not-true o h
 by_plus PlusRegister o h = h
 
 pub proper : (row : Row) → Sound row → Proper row
@@ -273,23 +272,23 @@ proper row s =
     let one = (not a && not b) || h in
     let two = not o || not h in
     let four = not m || is_any_place row.place in
-    let h1 = and_left one (two && (e && four)) s.operands in
-    let h2 = and_right one (two && (e && four)) s.operands in
-    let h3 = and_right two (e && four) h2 in
+    let h1 = (and_parts one (two && (e && four)) s.operands).0 in
+    let h2 = (and_parts one (two && (e && four)) s.operands).1 in
+    let h3 = (and_parts two (e && four) h2).1 in
     record {
       reg = first_of_three a b h h1;
       rm = second_of_three a b h h1;
-      offset = λ x. not_true h (implied o (not h) (and_left two (e && four) h2) x);
-      opcode = by_plus row.plus q (and_left e four h3);
-      place = implied m (is_any_place row.place) (and_right e four h3);
+      offset = λ x. not-true h (implied o (not h) (and_parts two (e && four) h2).0 x);
+      opcode = by_plus row.plus q (and_parts e four h3).0;
+      place = implied m (is_any_place row.place) (and_parts e four h3).1;
     }
 
 plus_without_modrm : (plus : Plus) (vex has : Bool) (opcode : ℕ) (fixed : Bool) → (elim plus [ NoPlus ↦ true | PlusRegister ↦ not vex && (not has && opcode % 8 == 0) | PlusStack ↦ fixed ]) ≡ true → adds_register plus ≡ true → (vex ≡ false) × (has ≡ false) × (opcode % 8 ≡ 0)
 plus_without_modrm NoPlus vex has opcode fixed h e = cc
 plus_without_modrm PlusStack vex has opcode fixed h e = cc
 plus_without_modrm PlusRegister vex has opcode fixed h e =
-    let rest = and_right (not vex) (not has && opcode % 8 == 0) h in
-    (not_true vex (and_left (not vex) (not has && opcode % 8 == 0) h), not_true has (and_left (not has) (opcode % 8 == 0) rest), equal_from (opcode % 8) 0 (and_right (not has) (opcode % 8 == 0) rest))
+    let rest = (and_parts (not vex) (not has && opcode % 8 == 0) h).1 in
+    (not-true vex (and_parts (not vex) (not has && opcode % 8 == 0) h).0, not-true has (and_parts (not has) (opcode % 8 == 0) rest).0, eqb-true (opcode % 8) 0 (and_parts (not has) (opcode % 8 == 0) rest).1)
 
 -- an added register stands on a legacy row without ModRM, and its opcode byte is a multiple of 8
 pub plus_register : (row : Row) → Sound row → adds_register row.plus ≡ true → (is_vex_row row ≡ false) × (has_modrm_rule row.modrm ≡ false) × (row.opcode % 8 ≡ 0)
@@ -305,9 +304,9 @@ one_rm row k n s hk hn ek en =
 
 -- r/m and the opcode byte are not both read
 rm_or_opcode : (row : Row) → Sound row → (any_by reads_rm row.ops ≡ false) ⊎ (any_by reads_opcode row.ops ≡ false)
-rm_or_opcode row s = elim (either (reads_by reads_opcode row)) [
+rm_or_opcode row s = elim (cases_Bool (reads_by reads_opcode row)) [
   | inr none ↦ inr none
-  | inl opcode ↦ (elim (either (reads_by reads_rm row)) [
+  | inl opcode ↦ (elim (cases_Bool (reads_by reads_rm row)) [
     | inr none ↦ inl none
     | inl rm ↦
         let adds : adds_register row.plus ≡ true = sym (proper row s).opcode ∙ opcode in
@@ -319,9 +318,9 @@ rm_or_opcode row s = elim (either (reads_by reads_opcode row)) [
 
 -- nor r/m and an absolute address
 rm_or_offset : (row : Row) → Sound row → (any_by reads_rm row.ops ≡ false) ⊎ (any_by is_offset row.ops ≡ false)
-rm_or_offset row s = elim (either (reads_by is_offset row)) [
+rm_or_offset row s = elim (cases_Bool (reads_by is_offset row)) [
   | inr none ↦ inr none
-  | inl offset ↦ (elim (either (reads_by reads_rm row)) [
+  | inl offset ↦ (elim (cases_Bool (reads_by reads_rm row)) [
     | inr none ↦ inl none
     | inl rm ↦
         let without = (proper row s).offset offset in
@@ -473,10 +472,10 @@ address_operand-none row i h k = where-none reads_address row.ops i.ops (count_o
 -- ---- conditions on each operand
 
 pub each-at : (p : ℕ → Bool) (n : ℕ) → n < 4 → each_operand p ≡ true → p n ≡ true
-each-at p zero h e = and_left (p 0) (p 1 && (p 2 && p 3)) e
-each-at p (suc zero) h e = and_left (p 1) (p 2 && p 3) (and_right (p 0) (p 1 && (p 2 && p 3)) e)
-each-at p (suc (suc zero)) h e = and_left (p 2) (p 3) (and_right (p 1) (p 2 && p 3) (and_right (p 0) (p 1 && (p 2 && p 3)) e))
-each-at p (suc (suc (suc zero))) h e = and_right (p 2) (p 3) (and_right (p 1) (p 2 && p 3) (and_right (p 0) (p 1 && (p 2 && p 3)) e))
+each-at p zero h e = (and_parts (p 0) (p 1 && (p 2 && p 3)) e).0
+each-at p (suc zero) h e = (and_parts (p 1) (p 2 && p 3) (and_parts (p 0) (p 1 && (p 2 && p 3)) e).1).0
+each-at p (suc (suc zero)) h e = (and_parts (p 2) (p 3) (and_parts (p 1) (p 2 && p 3) (and_parts (p 0) (p 1 && (p 2 && p 3)) e).1).1).0
+each-at p (suc (suc (suc zero))) h e = (and_parts (p 2) (p 3) (and_parts (p 1) (p 2 && p 3) (and_parts (p 0) (p 1 && (p 2 && p 3)) e).1).1).1
 each-at p (suc (suc (suc (suc n)))) h e = absurd (omega arith)
 
 all_four : (a b c d : Bool) → a ≡ true → b ≡ true → c ≡ true → d ≡ true → (a && (b && (c && d))) ≡ true
@@ -497,7 +496,7 @@ index_outside bits row place method.MemoryOnly file m h k e = cc
 index_outside bits row place method.AnyMode file m h k e = cc
 index_outside bits row place method.Gather file m h k e = cc
 index_outside bits row place method.Offset file m h k e =
-    no_index m.index (and_left (is_none m.index) (m.scale == 1) (and_right (is_none m.base) (is_none m.index && m.scale == 1) e))
+    no_index m.index (and_parts (is_none m.index) (m.scale == 1) (and_parts (is_none m.base) (is_none m.index && m.scale == 1) e).1).0
 index_outside bits row place _ file m h k e = cc
 
 index_of_operand : (bits : Bits) (row : Row) (place : Place) (how : Method) (file : File) (op : Operand) → reads_rm how ≡ false → is_variant_of place how op ≡ true → (elim op [ MemOperand m ↦ shape_suits bits row how file m | _ ↦ true ]) ≡ true → operand_index_number op ≡ 0
@@ -535,7 +534,7 @@ displacement_shows _ op h = cc
 displacement_over : (kinds : List OpKind) (ops : List Operand) → count_by reads_address kinds ≤ 1 → over_operands displacement_read kinds ops ≡ operand_displacement (operand_where reads_address kinds ops)
 displacement_over [] ops c = refl
 displacement_over (kind ∷ kinds) [] c = refl
-displacement_over (kind ∷ kinds) (op ∷ ops) c = elim (either (reads_address (method_of kind))) [
+displacement_over (kind ∷ kinds) (op ∷ ops) c = elim (cases_Bool (reads_address (method_of kind))) [
   | inl e ↦
       let first = displacement_shows (method_of kind) op e in
       let rest = over-none reads_address displacement_read kinds ops (λ k below other. displacement_vanishes _ _ other) (count_first (reads_address (method_of kind)) (count_by reads_address kinds) e c) in

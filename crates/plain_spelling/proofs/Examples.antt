@@ -15,25 +15,15 @@ use Rattle.x86_values.specs.declared.Rep.{Rep}
 use Rattle.x86_values.specs.declared.Rep.TheVariants.{None as NoRep, F2 as RepF2}
 use Rattle.x86_values.specs.declared.Instr.{Instr}
 use Rattle.row_types.specs.declared.Row.{Row}
-use Rattle.row_types.specs.declared.RowKind.{RowKind}
 use Rattle.row_types.specs.declared.RowKind.TheVariants.{Legacy as LegacyRow, Vex as VexRow}
-use Rattle.row_types.specs.declared.Map.{Map}
 use Rattle.row_types.specs.declared.Map.TheVariants.{One as MapOne, M0f, M0f38}
-use Rattle.row_types.specs.declared.Class.{Class}
 use Rattle.row_types.specs.declared.Class.TheVariants.{Any as AnyClass, Np, P66}
-use Rattle.row_types.specs.declared.Plus.{Plus}
 use Rattle.row_types.specs.declared.Plus.TheVariants.{No as NoPlus}
-use Rattle.row_types.specs.declared.ModRmRule.{ModRmRule}
 use Rattle.row_types.specs.declared.ModRmRule.TheVariants.{No as NoModRm, Any as AnyModRm, Digit}
-use Rattle.row_types.specs.declared.Place.{Place}
 use Rattle.row_types.specs.declared.Place.TheVariants.{Any as AnyPlace, Memory as OnlyMemory}
-use Rattle.row_types.specs.declared.Size.{Size}
 use Rattle.row_types.specs.declared.Size.TheVariants.{None as NoSize, O16, O32, O64}
-use Rattle.row_types.specs.declared.WBit.{WBit}
 use Rattle.row_types.specs.declared.WBit.TheVariants.{None as NoW, W0, Wig}
-use Rattle.row_types.specs.declared.LBit.{LBit}
 use Rattle.row_types.specs.declared.LBit.TheVariants.{None as NoL, L128}
-use Rattle.row_types.specs.declared.OpKind.{OpKind}
 use Rattle.row_types.specs.declared.OpKind.TheVariants.{Eb as KEb, Ev as KEv, Gb as KGb, Gv as KGv, Vx as KVx, Hx as KHx, Wx as KWx, GatherL as KGatherL, Ibs as KIbs, Jb as KJb, Absent as KAbsent}
 use Rattle.plain_spelling.specs.declared.NoSpelling.{NoSpelling}
 use Rattle.plain_spelling.specs.declared.NoSpelling.TheVariants as cause
@@ -50,11 +40,11 @@ use Rattle.x86_values.specs.Comparing.{same_register}
 use Rattle.plain_spelling.specs.PlainFront.{register_number, is_low_byte_of_rex, number_in_reg, number_in_rm, number_in_index, number_in_vvvv, number_in_opcode, asks_r, asks_x, asks_b, asks_rex_w, asks_vex_w, asks_66, asks_67, asked_repeat, asked_rex, class_pp, asked_vex, asked_opcode, asked_used, plain_front_of}
 use Rattle.plain_spelling.specs.Addresses.{register_count, has_address_size, general_size, pointer_size, shown_size, written_size, form_of, rm_of_one, rm_of_two, rm_of_short, is_address_register, is_base, is_index, scale_suits, is_wide_size, is_wide_shape, is_shape, index_named, is_vector_index, is_gather_base, is_gather_shape, shape_suits, displacement_count, wide_offers, short_offers, form_offers, offers, is_displacement, displacement_suits, mode_of_count, scale_field, base_bits, index_bits, plain_sib, wide_needs_sib, wide_fields, alone_fields, address_fields}
 use Rattle.plain_spelling.specs.PlainTail.{prefixes_of, plain_size, rm_fields, fixed_rm, plain_modrm, plain_sib_of, displacement_of, operand_immediate, immediate_at, plain_immediates, plain_len, plain_next, plain_spelling}
-use Rattle.plain_spelling.specs.Expressible.{kind_suits, exists_in_mode, is_of_kind, is_not_nop, kind_allows, is_nameable, vector_in_reg, vector_in_index, vector_in_vvvv, gather_numbers_differ, register_suits, address_suits, offered, immediate_suits_how, immediate_suits, near_reaches, address_reaches, target_suits, lock_suits, repeat_suits, prefixes_suit, has_memory_operand, told_size, size_agrees, is_size_of, address_size_suits, first_failing, first_failed_condition, failure}
+use Rattle.plain_spelling.specs.Expressible.{kind_suits, exists_in_mode, is_of_kind, is_not_nop, kind_allows, is_nameable, vector_in_reg, vector_in_index, vector_in_vvvv, gather_numbers_differ, register_suits, address_suits, displacement_offered, immediate_suits_how, immediate_suits, near_reaches, address_reaches, target_suits, lock_suits, repeat_suits, prefixes_suit, has_memory_operand, told_size, size_agrees, is_size_of, address_size_suits, first_failing, first_failed_condition, failure}
 
 -- one name for all definitions that an example computes with: a proof that unfolds it computes with each of them
 unfoldable every_rule : Unit {0}
-unfolding forbids_vex failure first_failed_condition first_failing kind_suits is_variant_of is_allowed_in method_of exists_in file_of immediate_width fixed_number is_segment is_legacy_prefix is_prefix has_lock has_66 has_67 counting_repeat segment_named counting_segment counting_rex operand_size address_size bit_r bit_x bit_b bit_w state_size vex_last_byte vex_map_byte vex_bytes lead_bytes tail_bytes front_bytes bytes_of state_from state_of fits reads_mode reg_number rm_number vvvv_number index_number prefixes_fit legacy_class_fits vex_class_fits class_fits is_vex_of_mode is_opcode opcode_allows opcode_is_kept vex_fits opcode_fits modrm_rule_fits place_allows place_fits opcode_and_modrm_fit size_fits w_fits l_fits sizes_fit vvvv_fits needs_sib is_displacement_alone displacement_bytes address_fits immediate_bytes immediates_bytes lengths_fit is_memory_method lock_fits is_control_number register_fits destination_fits gather_fits nop_fits registers_fit vex_in_range modrm_in_range sib_in_range fields_in_range tail_fits state_fits meaning little_endian sign_extended segment_numbered general_register byte_register vector register_of disp_size_of base_16 index_16 memory_16 ip_or_absolute sib_base sib_index memory_with_sib memory_at_base memory_wide memory_of memory_absolute gather_memory last_byte_number near_target far_pointer memory_operand operand_by immediates_before own_immediate operand_at kept_repeat has_memory kept_address_size instr_of low_bytes is_extended_of distance same_register register_number is_low_byte_of_rex number_in_reg number_in_rm number_in_index number_in_vvvv number_in_opcode asks_r asks_x asks_b asks_rex_w asks_vex_w asks_66 asks_67 asked_repeat asked_rex class_pp asked_vex asked_opcode asked_used plain_front_of register_count has_address_size general_size pointer_size shown_size written_size form_of rm_of_one rm_of_two rm_of_short is_address_register is_base is_index scale_suits is_wide_size is_wide_shape is_shape index_named is_vector_index is_gather_base is_gather_shape shape_suits displacement_count wide_offers short_offers form_offers offers is_displacement displacement_suits mode_of_count scale_field base_bits index_bits plain_sib wide_needs_sib wide_fields alone_fields address_fields prefixes_of plain_size rm_fields fixed_rm plain_modrm plain_sib_of displacement_of operand_immediate immediate_at plain_immediates plain_len plain_next plain_spelling exists_in_mode is_of_kind is_not_nop kind_allows is_nameable gather_numbers_differ register_suits address_suits offered immediate_suits_how immediate_suits near_reaches address_reaches target_suits lock_suits repeat_suits prefixes_suit has_memory_operand told_size size_agrees is_size_of address_size_suits vector_in_index vector_in_reg vector_in_vvvv
+unfolding forbids_vex failure first_failed_condition first_failing kind_suits is_variant_of is_allowed_in method_of exists_in file_of immediate_width fixed_number is_segment is_legacy_prefix is_prefix has_lock has_66 has_67 counting_repeat segment_named counting_segment counting_rex operand_size address_size bit_r bit_x bit_b bit_w state_size vex_last_byte vex_map_byte vex_bytes lead_bytes tail_bytes front_bytes bytes_of state_from state_of fits reads_mode reg_number rm_number vvvv_number index_number prefixes_fit legacy_class_fits vex_class_fits class_fits is_vex_of_mode is_opcode opcode_allows opcode_is_kept vex_fits opcode_fits modrm_rule_fits place_allows place_fits opcode_and_modrm_fit size_fits w_fits l_fits sizes_fit vvvv_fits needs_sib is_displacement_alone displacement_bytes address_fits immediate_bytes immediates_bytes lengths_fit is_memory_method lock_fits is_control_number register_fits destination_fits gather_fits nop_fits registers_fit vex_in_range modrm_in_range sib_in_range fields_in_range tail_fits state_fits meaning little_endian sign_extended segment_numbered general_register byte_register vector register_of disp_size_of base_16 index_16 memory_16 ip_or_absolute sib_base sib_index memory_with_sib memory_at_base memory_wide memory_of memory_absolute gather_memory last_byte_number near_target far_pointer memory_operand operand_by immediates_before own_immediate operand_at kept_repeat has_memory kept_address_size instr_of low_bytes is_extended_of distance same_register register_number is_low_byte_of_rex number_in_reg number_in_rm number_in_index number_in_vvvv number_in_opcode asks_r asks_x asks_b asks_rex_w asks_vex_w asks_66 asks_67 asked_repeat asked_rex class_pp asked_vex asked_opcode asked_used plain_front_of register_count has_address_size general_size pointer_size shown_size written_size form_of rm_of_one rm_of_two rm_of_short is_address_register is_base is_index scale_suits is_wide_size is_wide_shape is_shape index_named is_vector_index is_gather_base is_gather_shape shape_suits displacement_count wide_offers short_offers form_offers offers is_displacement displacement_suits mode_of_count scale_field base_bits index_bits plain_sib wide_needs_sib wide_fields alone_fields address_fields prefixes_of plain_size rm_fields fixed_rm plain_modrm plain_sib_of displacement_of operand_immediate immediate_at plain_immediates plain_len plain_next plain_spelling exists_in_mode is_of_kind is_not_nop kind_allows is_nameable gather_numbers_differ register_suits address_suits displacement_offered immediate_suits_how immediate_suits near_reaches address_reaches target_suits lock_suits repeat_suits prefixes_suit has_memory_operand told_size size_agrees is_size_of address_size_suits vector_in_index vector_in_reg vector_in_vvvv
 every_rule = tt
 
 abbrev pub memory : Option Register → Option Register → ℕ → ℕ → DispSize → Operand

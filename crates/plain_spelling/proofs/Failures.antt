@@ -7,7 +7,7 @@ use Rattle.row_types.specs.declared.Row.{Row}
 use Rattle.instruction_parts.specs.Counting.{or_else}
 use Rattle.plain_spelling.specs.declared.NoSpelling.{NoSpelling}
 use Rattle.plain_spelling.specs.declared.NoSpelling.TheVariants as cause
-use Rattle.plain_spelling.specs.Expressible.{row_exists, kind_suits, register_suits, address_suits, offered, immediate_suits, target_suits, prefixes_suit, address_size_suits, is_short, gather_suits, named, operand_suits, tail_suits, first_failing, caused_at, caused_unless, each_operand, first_failed_condition, failure, Suits}
+use Rattle.plain_spelling.specs.Expressible.{row_exists, kind_suits, register_suits, address_suits, displacement_offered, immediate_suits, target_suits, prefixes_suit, address_size_suits, is_short, gather_suits, named, operand_suits, tail_suits, first_failing, caused_at, caused_unless, each_operand, first_failed_condition, failure, Suits}
 
 neither : (a b : Option NoSpelling) → or_else a b ≡ None → (a ≡ None) × (b ≡ None)
 neither None b h = (refl, h)
@@ -42,7 +42,7 @@ tail-suits bits ip row i there h =
     let a = neither (caused_at cause.OperandKind (first_failing (kind_suits row i))) _ h in
     let b = neither (caused_at cause.Register (first_failing (register_suits bits row i))) _ a.1 in
     let c = neither (caused_unless (each_operand (address_suits bits row i)) cause.Memory) _ b.1 in
-    let d = neither (caused_unless (each_operand (offered bits row i)) cause.Displacement) _ c.1 in
+    let d = neither (caused_unless (each_operand (displacement_offered bits row i)) cause.Displacement) _ c.1 in
     let e = neither (caused_at cause.Immediate (first_failing (immediate_suits bits row i))) _ d.1 in
     let f = neither (caused_unless (each_operand (target_suits bits ip row i)) cause.Target) _ e.1 in
     let g = neither (caused_unless (prefixes_suit row i) cause.Prefix) _ f.1 in
@@ -51,7 +51,7 @@ tail-suits bits ip row i there h =
       kinds = at-none cause.OperandKind (kind_suits row i) a.0;
       registers = at-none cause.Register (register_suits bits row i) b.0;
       addresses = unless-none (each_operand (address_suits bits row i)) cause.Memory c.0;
-      displacements = unless-none (each_operand (offered bits row i)) cause.Displacement d.0;
+      displacements = unless-none (each_operand (displacement_offered bits row i)) cause.Displacement d.0;
       immediates = at-none cause.Immediate (immediate_suits bits row i) e.0;
       targets = unless-none (each_operand (target_suits bits ip row i)) cause.Target f.0;
       prefixes = unless-none (prefixes_suit row i) cause.Prefix g.0;
@@ -94,7 +94,7 @@ suits-tail bits ip row i s =
     rw (at-all cause.OperandKind (kind_suits row i) s.kinds)
     (rw (at-all cause.Register (register_suits bits row i) s.registers)
     (rw (unless-all (each_operand (address_suits bits row i)) cause.Memory s.addresses)
-    (rw (unless-all (each_operand (offered bits row i)) cause.Displacement s.displacements)
+    (rw (unless-all (each_operand (displacement_offered bits row i)) cause.Displacement s.displacements)
     (rw (at-all cause.Immediate (immediate_suits bits row i) s.immediates)
     (rw (unless-all (each_operand (target_suits bits ip row i)) cause.Target s.targets)
     (rw (unless-all (prefixes_suit row i) cause.Prefix s.prefixes)
@@ -120,12 +120,12 @@ record OperandSuits (bits : Bits) (ip : ℕ) (row : Row) (i : Instr) (n : ℕ) :
   kind : kind_suits row i n ≡ true
   is_named : named bits row i n ≡ true
   address : address_suits bits row i n ≡ true
-  displacement : offered bits row i n ≡ true
+  displacement : displacement_offered bits row i n ≡ true
   immediate : immediate_suits bits row i n ≡ true
   target : target_suits bits ip row i n ≡ true
 
 six-split : (bits : Bits) (ip : ℕ) (row : Row) (i : Instr) (n : ℕ) (a b c d e f : Bool) → kind_suits row i n ≡ a → named bits row i n ≡ b → address_suits bits row i n ≡ c
-    → offered bits row i n ≡ d → immediate_suits bits row i n ≡ e → target_suits bits ip row i n ≡ f
+    → displacement_offered bits row i n ≡ d → immediate_suits bits row i n ≡ e → target_suits bits ip row i n ≡ f
     → (a && (b && (c && (d && (e && f))))) ≡ true → OperandSuits bits ip row i n
 six-split bits ip row i n true true true true true true ea eb ec ed ee ef h = record { kind = ea; is_named = eb; address = ec; displacement = ed; immediate = ee; target = ef }
 six-split bits ip row i n true true true true true false ea eb ec ed ee ef h = cc
@@ -156,7 +156,7 @@ tail-none bits ip row i h =
     rw (at-all cause.OperandKind (kind_suits row i) (four-join _ _ _ _ a.kind b.kind c.kind d.kind))
     (rw (at-all cause.Register (register_suits bits row i) (four-join _ _ _ _ (register-from bits row i 0 a.is_named p.1.0) (register-from bits row i 1 b.is_named refl) (register-from bits row i 2 c.is_named refl) (register-from bits row i 3 d.is_named refl)))
     (rw (unless-all (each_operand (address_suits bits row i)) cause.Memory (four-join _ _ _ _ a.address b.address c.address d.address))
-    (rw (unless-all (each_operand (offered bits row i)) cause.Displacement (four-join _ _ _ _ a.displacement b.displacement c.displacement d.displacement))
+    (rw (unless-all (each_operand (displacement_offered bits row i)) cause.Displacement (four-join _ _ _ _ a.displacement b.displacement c.displacement d.displacement))
     (rw (at-all cause.Immediate (immediate_suits bits row i) (four-join _ _ _ _ a.immediate b.immediate c.immediate d.immediate))
     (rw (unless-all (each_operand (target_suits bits ip row i)) cause.Target (four-join _ _ _ _ a.target b.target c.target d.target))
     (rw (unless-all (prefixes_suit row i) cause.Prefix p.1.1.0)

@@ -1,5 +1,5 @@
 -- Rows and states by their fields in order.
-use Rattle.std.proofs.Common.{ℕ, Bool, Option, List, [], ◌∷◌}
+use Rattle.std.proofs.Common.{ℕ, Bool, Option, [], ◌∷◌}
 use Rattle.x86_values.specs.declared.Segment.{Segment}
 use Rattle.x86_values.specs.declared.Rep.{Rep}
 use Rattle.row_types.specs.declared.RowKind.{RowKind}

@@ -1,13 +1,13 @@
 -- The VEX of a plain front has fields of its ranges, where the registers have numbers of the mode.
 use Rattle.std.proofs.Common.{◌≡◌, inl, inr, ℕ, suc, ◌<◌, Bool, true, false, ◌&&◌, ◌||◌, not, List, [], ◌∷◌, length, Some, None, refl, arith}
+use Rattle.instruction_parts.proofs.Tests.{or_right}
 use Rattle.std.specs.Prelude.{slice_index_or}
 use Rattle.std.specs.List.{list_any}
-use Rattle.std.proofs.lemmas.Bool.{lt-ltb}
+use Rattle.std.proofs.lemmas.Bool.{lt-ltb, and_parts, cases_Bool, eqb-true, not-true}
 use Rattle.x86_values.specs.declared.Bits.{Bits}
 use Rattle.x86_values.specs.declared.Instr.{Instr}
 use Rattle.row_types.specs.declared.Row.{Row}
-use Rattle.row_types.specs.declared.Map.{Map}
-use Rattle.row_types.specs.declared.Map.TheVariants.{One, M0f, M0f38, M0f3a}
+use Rattle.row_types.specs.declared.Map.TheVariants.{M0f}
 use Rattle.row_types.specs.declared.Class.{Class}
 use Rattle.row_types.specs.declared.Class.TheVariants.{Any as AnyClass, Np, Nfx, Nf3, P66, F3 as ClassF3, F2 as ClassF2}
 use Rattle.row_types.specs.declared.LBit.TheVariants.{L256}
@@ -18,7 +18,6 @@ use Rattle.instruction_parts.specs.Kinds.{method_of, file_of}
 use Rattle.instruction_parts.specs.Sizes.{is_vex_row}
 use Rattle.row_fit.specs.Fits.{is_map_one, same_map, reads_by, vex_in_range, is_vvvv}
 use Rattle.row_fit.specs.Sound.{Sound, kind_is_proper, vex_is_proper, is_no_w, is_no_l, is_class_of_vex, is_size_of_vex, size_says_w, is_fixed_rule, is_byte_file, has_four_operands}
-use Rattle.instruction_parts.proofs.Tests.{either, and_left, and_right, not_true, or_right, equal_from}
 use Rattle.plain_spelling.specs.PlainFront.{number_in_vvvv, asked, asks_r, asks_x, asks_b, asks_vex_w, asked_vex, class_pp, plain_front_of, byte_front}
 use Rattle.plain_spelling.specs.Expressible.{each_operand, register_suits}
 use Rattle.plain_spelling.proofs.Asked.{asked_vvvv-at, asked_vvvv-none}
@@ -60,14 +59,14 @@ vex_row_from : (row : Row) → vex_is_proper row ≡ true → VexRow row
 unfolding vex_is_proper
 vex_row_from row h =
     let bytes = not (list_any (λ kind. is_byte_file (file_of kind)) row.ops) in
-    let h1 = and_right (not (is_no_w row.w)) (not (is_no_l row.l) && (is_class_of_vex row.class && (is_size_of_vex row.size && (size_says_w row.size row.w && (not (is_map_one row.map) && (not (is_fixed_rule row.modrm) && bytes)))))) h in
-    let h2 = and_right (not (is_no_l row.l)) (is_class_of_vex row.class && (is_size_of_vex row.size && (size_says_w row.size row.w && (not (is_map_one row.map) && (not (is_fixed_rule row.modrm) && bytes))))) h1 in
-    let h3 = and_right (is_class_of_vex row.class) (is_size_of_vex row.size && (size_says_w row.size row.w && (not (is_map_one row.map) && (not (is_fixed_rule row.modrm) && bytes)))) h2 in
-    let h4 = and_right (is_size_of_vex row.size) (size_says_w row.size row.w && (not (is_map_one row.map) && (not (is_fixed_rule row.modrm) && bytes))) h3 in
-    let h5 = and_right (size_says_w row.size row.w) (not (is_map_one row.map) && (not (is_fixed_rule row.modrm) && bytes)) h4 in
+    let h1 = (and_parts (not (is_no_w row.w)) (not (is_no_l row.l) && (is_class_of_vex row.class && (is_size_of_vex row.size && (size_says_w row.size row.w && (not (is_map_one row.map) && (not (is_fixed_rule row.modrm) && bytes)))))) h).1 in
+    let h2 = (and_parts (not (is_no_l row.l)) (is_class_of_vex row.class && (is_size_of_vex row.size && (size_says_w row.size row.w && (not (is_map_one row.map) && (not (is_fixed_rule row.modrm) && bytes))))) h1).1 in
+    let h3 = (and_parts (is_class_of_vex row.class) (is_size_of_vex row.size && (size_says_w row.size row.w && (not (is_map_one row.map) && (not (is_fixed_rule row.modrm) && bytes)))) h2).1 in
+    let h4 = (and_parts (is_size_of_vex row.size) (size_says_w row.size row.w && (not (is_map_one row.map) && (not (is_fixed_rule row.modrm) && bytes))) h3).1 in
+    let h5 = (and_parts (size_says_w row.size row.w) (not (is_map_one row.map) && (not (is_fixed_rule row.modrm) && bytes)) h4).1 in
     record {
-      class = and_left (is_class_of_vex row.class) (is_size_of_vex row.size && (size_says_w row.size row.w && (not (is_map_one row.map) && (not (is_fixed_rule row.modrm) && bytes)))) h2;
-      map = not_true (is_map_one row.map) (and_left (not (is_map_one row.map)) (not (is_fixed_rule row.modrm) && bytes) h5);
+      class = (and_parts (is_class_of_vex row.class) (is_size_of_vex row.size && (size_says_w row.size row.w && (not (is_map_one row.map) && (not (is_fixed_rule row.modrm) && bytes)))) h2).0;
+      map = not-true (is_map_one row.map) (and_parts (not (is_map_one row.map)) (not (is_fixed_rule row.modrm) && bytes) h5).0;
     }
 
 pub vex_row : (row : Row) → Sound row → is_vex_row row ≡ true → VexRow row
@@ -106,7 +105,7 @@ no_vex_in_range = refl
 
 -- **the VEX that the instruction asks for has fields of its ranges**
 pub asked_vex-range : (row : Row) (i : Instr) → Sound row → asked number_in_vvvv row i < 16 → vex_in_range (asked_vex row i) ≡ true
-asked_vex-range row i s small = elim (either (is_vex_row row)) [
+asked_vex-range row i s small = elim (cases_Bool (is_vex_row row)) [
   | inl vex ↦ rw (vex_of_vex row i vex) (vex_for-range row i s small vex)
   | inr legacy ↦ rw (vex_of_legacy row i legacy) no_vex_in_range
 ]
@@ -115,7 +114,7 @@ asked_vex-range row i s small = elim (either (is_vex_row row)) [
 
 some_kind : (p : OpKind → Bool) (kinds : List OpKind) → list_any p kinds ≡ true → (n : ℕ) × (n < length kinds) × (p (slice_index_or kinds n Absent) ≡ true)
 some_kind p [] h = cc
-some_kind p (kind ∷ kinds) h = elim (either (p kind)) [
+some_kind p (kind ∷ kinds) h = elim (cases_Bool (p kind)) [
   | inl here ↦ (0, omega arith, here)
   | inr other ↦
       let rest = some_kind p kinds (or_right (p kind) (list_any p kinds) other h) in
@@ -124,11 +123,11 @@ some_kind p (kind ∷ kinds) h = elim (either (p kind)) [
 
 four_kinds_of : (row : Row) → Sound row → length row.ops ≡ 4
 unfolding has_four_operands
-four_kinds_of row s = equal_from (length row.ops) 4 s.four_operands
+four_kinds_of row s = eqb-true (length row.ops) 4 s.four_operands
 
 -- **where each register operand can be named, vvvv has a number of the mode**
 pub vvvv-small : (bits : Bits) (row : Row) (i : Instr) → Sound row → length i.ops ≡ 4 → each_operand (register_suits bits row i) ≡ true → asked number_in_vvvv row i < 16
-vvvv-small bits row i s four h = elim (either (reads_by is_vvvv row)) [
+vvvv-small bits row i s four h = elim (cases_Bool (reads_by is_vvvv row)) [
   | inl reads ↦
       let some = some_kind (λ kind. is_vvvv (method_of kind)) row.ops reads in
       let whole = four_kinds_of row s in

@@ -1,7 +1,7 @@
 -- Where the immediates of a plain spelling have room, and which numbers its registers have.
 use Rattle.std.proofs.Common.{◌≡◌, ℕ, suc, ◌*◌, ◌<◌, ◌≤◌, true, List, [], ◌∷◌, length, arith}
 use Rattle.std.specs.Prelude.{slice_index_or}
-use Rattle.std.proofs.lemmas.Bool.{leb-true}
+use Rattle.std.proofs.lemmas.Bool.{leb-true, and_parts}
 use borrow.Author.Tests.{ltb-true}
 use Rattle.x86_values.specs.declared.Bits.{Bits}
 use Rattle.x86_values.specs.declared.Bits.TheVariants.{B16, B32, B64}
@@ -14,7 +14,6 @@ use Rattle.row_types.specs.declared.OpKind.{OpKind}
 use Rattle.instruction_parts.specs.declared.kinds.Method.{Method}
 use Rattle.instruction_parts.specs.declared.kinds.Method.TheVariants.{Vvvv}
 use Rattle.instruction_parts.specs.Kinds.{method_of}
-use Rattle.instruction_parts.proofs.Tests.{and_left, and_right}
 use Rattle.row_fit.specs.Fits.{immediates_bytes}
 use Rattle.row_fit.specs.Sound.{sound, immediates_are_short}
 use Rattle.row_fit.proofs.SoundLaws.{sound_conditions}
@@ -27,9 +26,9 @@ use Rattle.plain_spelling.proofs.Asked.{four_kinds, each-at}
 -- the immediates of a sound row have at most eight bytes at every size
 pub immediates-short : (size : Bits) (row : Row) → sound row ≡ true → immediates_bytes size row ≤ 8
 unfolding immediates_are_short
-immediates-short B16 row h = leb-true _ 8 (and_left _ _ (sound_conditions row h).immediates)
-immediates-short B32 row h = leb-true _ 8 (and_left _ _ (and_right _ _ (sound_conditions row h).immediates))
-immediates-short B64 row h = leb-true _ 8 (and_right _ _ (and_right _ _ (sound_conditions row h).immediates))
+immediates-short B16 row h = leb-true _ 8 (and_parts _ _ (sound_conditions row h).immediates).0
+immediates-short B32 row h = leb-true _ 8 (and_parts _ _ (and_parts _ _ (sound_conditions row h).immediates).1).0
+immediates-short B64 row h = leb-true _ 8 (and_parts _ _ (and_parts _ _ (sound_conditions row h).immediates).1).1
 
 -- a mode has at most sixteen numbers
 count-le : (bits : Bits) → register_count bits ≤ 16
@@ -41,7 +40,7 @@ count-le B32 = omega arith
 nameable-below : (bits : Bits) (row : Row) (i : Instr) (n : ℕ) (r : Register) → is_nameable bits row i n r ≡ true → register_number r < 16
 unfolding is_nameable
 nameable-below bits row i n r h =
-    let below = ltb-true (register_number r) (register_count bits) (and_left _ _ (and_right (exists_in_mode bits r) _ h)) in
+    let below = ltb-true (register_number r) (register_count bits) (and_parts _ _ (and_parts (exists_in_mode bits r) _ h).1).0 in
     let most = count-le bits in
     omega (arith, below, most)
 
@@ -53,7 +52,7 @@ suited-below bits row i n _ h = omega arith
 pub number-below : (bits : Bits) (row : Row) (i : Instr) → each_operand (register_suits bits row i) ≡ true → (n : ℕ) → n < 4 → operand_number (operand_at i n) < 16
 unfolding register_suits
 number-below bits row i h n lt =
-    suited-below bits row i n (operand_at i n) (and_left _ (gather_suits row i n) (each-at (register_suits bits row i) n lt h))
+    suited-below bits row i n (operand_at i n) (and_parts _ (gather_suits row i n) (each-at (register_suits bits row i) n lt h)).0
 
 -- the number in vvvv adds up over the operands
 vvvv-most : (kinds : List OpKind) (ops : List Operand) → ((n : ℕ) → n < length kinds → operand_number (slice_index_or ops n AbsentOperand) < 16)

@@ -1,5 +1,6 @@
 -- The plain front in bytes: its opcode byte and its length, where a vvvv of at most 255 makes no difference, and the operand size under it.
 use Rattle.std.proofs.Common.{◌≡◌, ℕ, ◌+◌, ◌<◌, ◌*◌, Bool, true, false, ◌&&◌, ◌||◌, not, Option, length, refl, ap, sym, ◌∙◌, inl, inr, arith, min, if◌then◌else◌}
+use Rattle.std.proofs.lemmas.Bool.{and_parts, cases_Bool}
 use Rattle.std.specs.Prelude.{Some, None, is_some, cond}
 use borrow.Author.Tests.{ltb-true}
 use Rattle.x86_values.specs.declared.Bits.{Bits}
@@ -13,7 +14,6 @@ use Rattle.instruction_parts.specs.declared.spelling.Vex.{Vex}
 use Rattle.instruction_parts.specs.Bytes.{bit, vex_bytes, lead_bytes}
 use Rattle.instruction_parts.specs.Counting.{rex_bit}
 use Rattle.instruction_parts.specs.Sizes.{is_vex_row, operand_size, state_size, bit_w}
-use Rattle.instruction_parts.proofs.Tests.{either, and_right}
 use Rattle.row_fit.specs.Sound.{sound, opcodes_are_bytes}
 use Rattle.row_fit.proofs.SoundLaws.{sound_conditions}
 use Rattle.row_meaning.specs.Meaning.{general_register, size_by_w, register_of}
@@ -23,12 +23,12 @@ use Rattle.plain_spelling.specs.PlainTail.{plain_size}
 -- the eight opcode bytes of a row that adds a register are bytes
 pub opcode_room : (row : Row) → sound row ≡ true → row.plus ≡ PlusRegister → row.opcode + 7 < 256
 unfolding opcodes_are_bytes
-opcode_room row h e = ltb-true _ 256 (and_right _ _ (rw e at (sound_conditions row h).opcodes))
+opcode_room row h e = ltb-true _ 256 (and_parts _ _ (rw e at (sound_conditions row h).opcodes)).1
 
 -- the length of a VEX
 vex_len : (v : Vex) → length (vex_bytes v) ≡ cond v.three 3 2
 unfolding vex_bytes
-vex_len v = elim (either v.three) [ inl e ↦ rw e refl | inr e ↦ rw e refl ]
+vex_len v = elim (cases_Bool v.three) [ inl e ↦ rw e refl | inr e ↦ rw e refl ]
 
 lead_alike : (map : Map) (vex : Bool) (s t : Vex) → s.three ≡ t.three → length (lead_bytes map (cond vex (Some s) None)) ≡ length (lead_bytes map (cond vex (Some t) None))
 unfolding lead_bytes
@@ -58,7 +58,7 @@ byte_front-exact bits row i h =
 -- W is read alike from both
 w_with : (bits : Bits) (row : Row) (i : Instr) → bit_w bits (byte_front bits row i) ≡ bit_w bits (plain_front_of bits row i)
 unfolding byte_front plain_front_of asked_vex bit_w
-w_with bits row i = elim (either (is_vex_row row)) [ inl e ↦ rw e refl | inr e ↦ rw e refl ]
+w_with bits row i = elim (cases_Bool (is_vex_row row)) [ inl e ↦ rw e refl | inr e ↦ rw e refl ]
 
 -- and so are the registers that the kinds name
 pub byte_front-names : (bits : Bits) (row : Row) (i : Instr) (file : File) (n : ℕ) → register_of bits row (byte_front bits row i) file n ≡ register_of bits row (plain_front_of bits row i) file n

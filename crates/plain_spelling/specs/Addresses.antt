@@ -48,7 +48,7 @@ general_size (R32 _) = Some B32
 general_size (R64 _) = Some B64
 general_size _ = None
 
--- the same of one that may be absent
+-- the size of a general register that may be absent
 abbrev pub general_size_if : Option Register → Option Bits
 general_size_if None = None
 general_size_if (Some r) = general_size r
@@ -101,6 +101,11 @@ rm_of_short base (Some (R16 index)) = rm_of_two base index
 rm_of_short base (Some _) = None
 
 -- ---- shapes
+
+-- a general register of 64 bits, and no index
+abbrev pub is_sole_base : Option Register → Option Register → Bool
+is_sole_base (Some (R64 n)) None = true
+is_sole_base _ _ = false
 
 -- a general register of an address size, with a number of the mode
 unfoldable pub is_address_register : Bits → Bits → Register → Bool
@@ -217,6 +222,18 @@ is_displacement asize m =
 -- the displacement is one that the shape offers, and a value of its size
 unfoldable pub displacement_suits : Bits → Method → Mem → Bool
 displacement_suits asize how m = offers asize how m (displacement_count m.disp_size) && is_displacement asize m
+
+-- memory that ModRM says, and no gather
+abbrev pub is_by_modrm : Method → Bool
+is_by_modrm method.RegisterOrMemory = true
+is_by_modrm method.MemoryOnly = true
+is_by_modrm _ = false
+
+-- a base of 64 bits with a number of the mode, which stands alone in 64-bit mode with a displacement that it offers
+unfoldable pub is_based : Bits → Mem → Bool
+is_based bits m =
+    is_64 bits && (is_sole_base m.base m.index && (is_base bits B64 m.base && (m.scale == 1
+    && (wide_offers m.base (displacement_count m.disp_size) && is_extended_of (displacement_count m.disp_size) 64 m.disp))))
 
 -- ---- the plain fields
 

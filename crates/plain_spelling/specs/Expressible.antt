@@ -5,14 +5,14 @@ use Rattle.x86_values.specs.declared.Register.{Register}
 use Rattle.x86_values.specs.declared.Register.TheVariants.{Low8, Xmm, Ymm}
 use Rattle.x86_values.specs.declared.Mem.{Mem}
 use Rattle.x86_values.specs.declared.Operand.{Operand}
-use Rattle.x86_values.specs.declared.Operand.TheVariants.{Reg, Mem as MemOperand, Imm, Near, Far}
+use Rattle.x86_values.specs.declared.Operand.TheVariants.{Absent, Reg, Mem as MemOperand, Imm, Near, Far}
 use Rattle.x86_values.specs.declared.Instr.{Instr}
 use Rattle.x86_values.specs.Wrapping.{width}
 use Rattle.row_types.specs.declared.Row.{Row}
 use Rattle.row_types.specs.declared.Class.TheVariants.{Any as AnyClass, Nf3}
 use Rattle.row_types.specs.declared.Plus.TheVariants.{Register as PlusRegister}
 use Rattle.row_types.specs.declared.OpKind.{OpKind}
-use Rattle.row_types.specs.declared.OpKind.TheVariants.{Sw, Cn, Dn}
+use Rattle.row_types.specs.declared.OpKind.TheVariants.{Ev, Gv, Rv, Sw, Cn, Dn}
 use Rattle.instruction_parts.specs.declared.kinds.Method.{Method}
 use Rattle.instruction_parts.specs.declared.kinds.Method.TheVariants as method
 use Rattle.instruction_parts.specs.Kinds.{method_of, file_of, fixed_number}
@@ -23,11 +23,11 @@ use Rattle.row_meaning.specs.Meaning.{register_of}
 use Rattle.plain_spelling.specs.declared.NoSpelling.{NoSpelling}
 use Rattle.plain_spelling.specs.declared.NoSpelling.TheVariants as cause
 use Rattle.plain_spelling.specs.Values.{is_extended_of, distance}
-use Rattle.plain_spelling.specs.Forms.{is_variant_of, is_memory, operand_at}
+use Rattle.plain_spelling.specs.Forms.{is_variant_of, is_absent, is_memory, operand_at}
 use Rattle.x86_values.specs.Comparing.{same_bits, same_register}
 use Rattle.plain_spelling.specs.PlainFront.{register_number, number_in_reg, number_in_vvvv, number_in_index, asked, asked_opcode, plain_front_of}
 use Rattle.plain_spelling.specs.declared.addresses.AddressForm.TheVariants.{Relative}
-use Rattle.plain_spelling.specs.Addresses.{form_of, register_count, has_address_size, pointer_size, shown_size, written_size, shape_suits, displacement_suits}
+use Rattle.plain_spelling.specs.Addresses.{form_of, register_count, has_address_size, is_address_register, pointer_size, shown_size, written_size, shape_suits, displacement_suits}
 use Rattle.plain_spelling.specs.PlainTail.{plain_size, plain_len, plain_next}
 
 -- ---- 1. the row exists in the mode
@@ -78,6 +78,17 @@ unfoldable pub is_nameable : Bits → Row → Instr → ℕ → Register → Boo
 is_nameable bits row i n r =
     exists_in_mode bits r && (nat_lt (register_number r) (register_count bits)
     && (is_of_kind bits row i (kind_at row n) r && (is_not_nop row (method_of (kind_at row n)) r && kind_allows bits n (kind_at row n) r)))
+
+-- the kind names general registers of operand size, and asks no more of them
+abbrev pub names_any_sized : OpKind → Bool
+names_any_sized Ev = true
+names_any_sized Gv = true
+names_any_sized Rv = true
+names_any_sized _ = false
+
+-- a general register of the operand size with a number of the mode, of which the kind names any: a register that can be named by its kind
+unfoldable pub is_sized_register : Bits → Bits → OpKind → Register → Bool
+is_sized_register bits size kind r = names_any_sized kind && is_address_register bits size r
 
 -- XMM0 to XMM15 or YMM0 to YMM15
 abbrev pub is_vector_register : Register → Bool
@@ -142,8 +153,8 @@ address_suits bits row i n =
 -- ---- 5. the shape offers the displacement
 
 -- operand n, where it is memory, has a displacement that its shape offers
-unfoldable pub offered : Bits → Row → Instr → ℕ → Bool
-offered bits row i n =
+unfoldable pub displacement_offered : Bits → Row → Instr → ℕ → Bool
+displacement_offered bits row i n =
     elim (operand_at i n) [ MemOperand m ↦ displacement_suits (written_size bits i.asize m) (method_of (kind_at row n)) m | _ ↦ true ]
 
 -- ---- 6. each immediate is a value of its written size
@@ -268,7 +279,7 @@ first_failed_condition bits ip row i =
     or_else (caused_at cause.OperandKind (first_failing (kind_suits row i)))
     (or_else (caused_at cause.Register (first_failing (register_suits bits row i)))
     (or_else (caused_unless (each_operand (address_suits bits row i)) cause.Memory)
-    (or_else (caused_unless (each_operand (offered bits row i)) cause.Displacement)
+    (or_else (caused_unless (each_operand (displacement_offered bits row i)) cause.Displacement)
     (or_else (caused_at cause.Immediate (first_failing (immediate_suits bits row i)))
     (or_else (caused_unless (each_operand (target_suits bits ip row i)) cause.Target)
     (or_else (caused_unless (prefixes_suit row i) cause.Prefix)
@@ -281,8 +292,14 @@ named bits row i n = elim (operand_at i n) [ Reg r ↦ is_nameable bits row i n 
 -- an operand meets the conditions 2 to 7 by itself
 unfoldable pub operand_suits : Bits → ℕ → Row → Instr → ℕ → Bool
 operand_suits bits ip row i n =
-    kind_suits row i n && (named bits row i n && (address_suits bits row i n && (offered bits row i n
+    kind_suits row i n && (named bits row i n && (address_suits bits row i n && (displacement_offered bits row i n
     && (immediate_suits bits row i n && target_suits bits ip row i n))))
+
+-- the operands 2 and 3 are absent, as their kinds ask
+unfoldable pub is_pair : Row → Instr → Bool
+is_pair row i =
+    is_variant_of row.place (method_of (kind_at row 2)) Absent && (is_variant_of row.place (method_of (kind_at row 3)) Absent
+    && (is_absent (operand_at i 2) && is_absent (operand_at i 3)))
 
 -- the conditions 2 to 9 hold
 unfoldable pub tail_suits : Bits → ℕ → Row → Instr → Bool
@@ -296,7 +313,7 @@ failure bits ip row i =
     or_else (caused_unless (row_exists bits row) cause.Row)
     (or_else (first_failed_condition bits ip row i) (caused_unless (is_short bits row i) cause.Length))
 
--- the same of a row that may be absent
+-- the first that fails of all ten; where no row has the code of the instruction, the condition on its row
 abbrev pub failure_of : Bits → ℕ → Option Row → Instr → Option NoSpelling
 failure_of bits ip None i = Some cause.Row
 failure_of bits ip (Some row) i = failure bits ip row i
@@ -307,7 +324,7 @@ pub record Suits (bits : Bits) (ip : ℕ) (row : Row) (i : Instr) : Type 0 where
   pub kinds : each_operand (kind_suits row i) ≡ true
   pub registers : each_operand (register_suits bits row i) ≡ true
   pub addresses : each_operand (address_suits bits row i) ≡ true
-  pub displacements : each_operand (offered bits row i) ≡ true
+  pub displacements : each_operand (displacement_offered bits row i) ≡ true
   pub immediates : each_operand (immediate_suits bits row i) ≡ true
   pub targets : each_operand (target_suits bits ip row i) ≡ true
   pub prefixes : prefixes_suit row i ≡ true

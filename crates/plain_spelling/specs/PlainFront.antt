@@ -75,7 +75,7 @@ unfoldable pub number_in_reg : Method → Operand → ℕ
 number_in_reg ModRmReg op = operand_number op
 number_in_reg _ op = 0
 
--- the same of r/m, of the SIB's base and of the register in the opcode byte
+-- what an operand asks of r/m, of the SIB's base and of the register in the opcode byte
 unfoldable pub number_in_rm : Method → Operand → ℕ
 number_in_rm RegisterOrMemory op = base_or_register_number op
 number_in_rm RegisterOnly op = base_or_register_number op
@@ -85,16 +85,16 @@ number_in_rm Gather op = base_or_register_number op
 number_in_rm OpcodeLow op = base_or_register_number op
 number_in_rm _ op = 0
 
--- the same of the SIB's index
+-- what an operand asks of the SIB's index
 unfoldable pub number_in_index : Method → Operand → ℕ
 number_in_index method op = operand_index_number op
 
--- the same of vvvv
+-- what an operand that is read from vvvv asks of it
 unfoldable pub number_in_vvvv : Method → Operand → ℕ
 number_in_vvvv Vvvv op = operand_number op
 number_in_vvvv _ op = 0
 
--- the same of the opcode byte
+-- what an operand that is read from the opcode byte asks of it
 unfoldable pub number_in_opcode : Method → Operand → ℕ
 number_in_opcode OpcodeLow op = operand_number op
 number_in_opcode _ op = 0
@@ -213,6 +213,6 @@ plain_front_of bits row i = record {
   opcode = asked_opcode row i;
 }
 
--- the same with a vvvv of at most 255, which is the plain front wherever the registers have numbers of the mode
+-- the front with a vvvv of at most 255, which is the plain front wherever the registers have numbers of the mode
 unfoldable pub byte_front : Bits → Row → Instr → PrefixState
 byte_front bits row i = record (plain_front_of bits row i) { vex = vex_with row i (min 255 (asked number_in_vvvv row i)) }

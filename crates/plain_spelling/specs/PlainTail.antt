@@ -113,7 +113,7 @@ rm_fields bits asize place (Reg r) = no_address 3 (register_number r % 8)
 rm_fields bits asize place (MemOperand m) = address_fields bits (written_size bits asize m) m
 rm_fields bits asize place _ = no_address (lone_mode place) 0
 
--- the same of an instruction
+-- mod, rm and SIB of the operand of an instruction that stands in r/m
 abbrev pub fields_of : Bits → Row → Instr → AddressFields
 fields_of bits row i = rm_fields bits i.asize row.place (rm_operand row i)
 
@@ -199,7 +199,7 @@ operand_immediate size next method.Pointer n op = pointer_of n op
 operand_immediate size next method.LastByte n op = last_byte_of op
 operand_immediate size next _ n op = []
 
--- the same of operand n of an instruction
+-- the immediate bytes of operand n of an instruction
 unfoldable pub immediate_at : Bits → Row → Instr → ℕ → ℕ → List ℕ
 immediate_at size row i next n =
     operand_immediate size next (method_of (kind_at row n)) (immediate_bytes size (kind_at row n)) (operand_at i n)
@@ -248,6 +248,6 @@ plain_spelling bits ip row i =
       imm = listed (plain_immediates (plain_size bits row) row i next);
     }
 
--- the same from the opcode byte on: without prefixes and without a VEX
+-- the plain spelling from the opcode byte on: without prefixes and without a VEX
 unfoldable pub plain_tail : Bits → ℕ → Row → Instr → Spelling
 plain_tail bits ip row i = record (plain_spelling bits ip row i) { prefixes = listed []; vex = None }

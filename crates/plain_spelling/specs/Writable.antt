@@ -181,7 +181,7 @@ writable row =
     writable_in B16 row && (writable_in B32 row && (writable_in B64 row && (list_all (kind_is_told row) row.ops
     && (lock_is_legacy row && (nop_is_bare row && (rule_is_plain row && (place_is_plain row && gather_is_whole row)))))))
 
--- the same as a fact, in a mode in which the row exists
+-- what it is for a row to have plain spellings in a mode in which it exists, with a name for each condition
 pub record Writable (bits : Bits) (row : Row) : Type 0 where
   pub size : has_plain_size bits row ≡ true
   pub class : class_allows_size bits row ≡ true

@@ -63,6 +63,7 @@ pub fn has_address_size(bits: Bits, asize: Bits) -> bool
 }
 
 /// The size of a general register; the others have none.
+#[inline(always)]
 #[tactic(auto, unfolding(crate::specs::Addresses::general_size))]
 fn general_size(register: Register) -> Option<Bits>
     ensures { result ≡ spec.general_size register }
@@ -124,6 +125,7 @@ pub fn told_size(memory: Mem) -> Option<Bits>
 }
 
 /// The address size that an address is written with: what its general registers show, else what the instruction says, else the mode's.
+#[inline(always)]
 #[tactic(auto, unfolding(crate::specs::Addresses::written_size))]
 pub fn written_size(bits: Bits, asize: Option<Bits>, memory: Mem) -> Bits
     ensures { result ≡ spec.written_size bits asize memory }
@@ -207,8 +209,9 @@ fn rm_of_short(base: u8, index: Option<Register>) -> Option<u8>
 }
 
 /// Whether a register is a general one of an address size, with a number of the mode.
+#[inline(always)]
 #[tactic(auto, unfolding(crate::specs::Addresses::is_address_register))]
-fn is_address_register(bits: Bits, asize: Bits, register: Register) -> bool
+pub fn is_address_register(bits: Bits, asize: Bits, register: Register) -> bool
     ensures { result ≡ spec.is_address_register bits asize register }
 {
     (match general_size(register) {
@@ -447,6 +450,45 @@ pub fn displacement_suits(asize: Bits, method: Method, memory: Mem) -> bool
 {
     offers(asize, method, memory, displacement_count(memory.disp_size))
         && is_displacement(asize, memory)
+}
+
+/// Whether an operand that is read so is memory by ModRM, and no gather, where it is memory.
+#[inline(always)]
+pub fn is_by_modrm(method: Method) -> bool
+    ensures { result ≡ spec.is_by_modrm method }
+{
+    match method {
+        Method::RegisterOrMemory | Method::MemoryOnly => true,
+        _ => false,
+    }
+}
+
+/// Whether the base is a general register of 64 bits, and there is no index.
+#[inline(always)]
+fn is_sole_base(base: Option<Register>, index: Option<Register>) -> bool
+    ensures { result ≡ spec.is_sole_base base index }
+{
+    match (base, index) {
+        (Some(Register::R64(_)), None) => true,
+        _ => false,
+    }
+}
+
+/// Whether a base of 64 bits stands alone in 64-bit mode, with a displacement that it offers.
+///
+/// Most addresses are such, and this one test says all that is asked of them.
+#[inline(always)]
+#[tactic(auto, unfolding(crate::specs::Addresses::is_based))]
+pub fn is_based(bits: Bits, memory: &Mem) -> bool
+    ensures { result ≡ spec.is_based bits memory.now }
+{
+    let count = displacement_count(memory.disp_size);
+    is_64(bits)
+        && is_sole_base(memory.base, memory.index)
+        && is_base(bits, Bits::B64, memory.base)
+        && memory.scale == 1
+        && wide_offers(memory.base, count)
+        && is_extended_of(count, Bits::B64, memory.disp)
 }
 
 /// The field mod by the bytes of a displacement beside a register: none, one, or the full length (2.1.5).

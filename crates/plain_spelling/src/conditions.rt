@@ -4,7 +4,7 @@ ghost use Rattle.std.specs.Prelude.{◌≡◌, ◌<◌, ◌≤◌, ◌&&◌, not
 ghost use Rattle.x86_values.specs.declared.Operand.TheVariants.{Absent};
 ghost use Rattle.row_types.specs.declared.Place.{Place};
 ghost use Rattle.row_types.specs.declared.Plus.TheVariants.{Register as PlusRegister};
-ghost use Rattle.instruction_parts.specs.Kinds.{method_of};
+ghost use Rattle.instruction_parts.specs.Kinds.{method_of, file_of};
 ghost use Rattle.plain_spelling.specs.Forms.{is_variant_of};
 ghost use Rattle.instruction_parts.specs.Sizes as sizes;
 ghost use Rattle.row_fit.specs.Fits as fits;
@@ -12,15 +12,18 @@ ghost use Rattle.row_meaning.specs.Meaning as meaning;
 ghost use Rattle.plain_spelling.specs.PlainFront as front;
 ghost use Rattle.plain_spelling.specs.PlainTail as tail;
 ghost use Rattle.plain_spelling.specs.Parts.{ArePartsOf};
+ghost use Rattle.plain_spelling.specs.Addresses as addresses;
 ghost use Rattle.plain_spelling.specs.Expressible as spec;
 ghost use Rattle.plain_spelling.specs.declared.NoSpelling.TheVariants as cause;
 
 use crate::NoSpelling;
+use crate::address_sizes::address_size_suits;
 use crate::addresses::{
-    AddressForm, displacement_suits, form_of, has_address_size, register_count, shape_suits,
-    told_size, written_size,
+    AddressForm, displacement_suits, form_of, has_address_size, is_address_register, is_based,
+    is_by_modrm, register_count, shape_suits, told_size, written_size,
 };
-use crate::forms::{is_memory, is_variant_of, operand_at};
+use crate::forms::{is_absent, is_memory, is_variant_of, operand_at};
+use crate::gathers::{gather_numbers_differ, gather_suits};
 use crate::numbers::{distance, is_below_bytes, is_extended_of, is_of_width};
 use crate::parts::{PlainParts, immediate_len};
 use crate::registers::{numbers_asked, register_number};
@@ -144,6 +147,28 @@ fn kind_allows(bits: Bits, n: usize, kind: OpKind, register: Register) -> bool
     }
 }
 
+/// Whether a kind names general registers of operand size, and asks no more of them.
+#[inline(always)]
+fn names_any_sized(kind: OpKind) -> bool
+    ensures { result ≡ spec.names_any_sized kind }
+{
+    match kind {
+        OpKind::Ev | OpKind::Gv | OpKind::Rv => true,
+        _ => false,
+    }
+}
+
+/// Whether a register is a general one of the operand size with a number of the mode, and the kind names any such.
+///
+/// Most register operands are, so it is built into its callers, and saves them the tests of the others.
+#[inline(always)]
+#[tactic(auto, unfolding(crate::specs::Expressible::is_sized_register))]
+fn is_sized_register(bits: Bits, size: Bits, kind: OpKind, register: Register) -> bool
+    ensures { result ≡ spec.is_sized_register bits size kind register }
+{
+    names_any_sized(kind) && is_address_register(bits, size, register)
+}
+
 /// Whether the register can be named as operand n.
 #[inline(never)]
 #[tactic(auto, unfolding(crate::specs::Expressible::is_nameable))]
@@ -169,121 +194,24 @@ fn is_nameable(
         && kind_allows(bits, n, kind, register)
 }
 
-/// Whether a register is XMM or YMM.
-fn is_vector_register(register: Register) -> bool
-    ensures { result ≡ spec.is_vector_register register }
-{
-    match register {
-        Register::Xmm(_) | Register::Ymm(_) => true,
-        _ => false,
-    }
-}
-
-/// Whether the operand is a vector register that is read from ModRM.reg.
-#[tactic(auto, unfolding(crate::specs::Expressible::vector_in_reg))]
-fn vector_in_reg(method: Method, operand: Operand) -> bool
-    ensures { result ≡ spec.vector_in_reg method operand }
-{
-    match (method, operand) {
-        (Method::ModRmReg, Operand::Reg(register)) => is_vector_register(register),
-        _ => false,
-    }
-}
-
-/// Whether the operand is an address of a gather whose index is a vector register.
-#[tactic(auto, unfolding(crate::specs::Expressible::vector_in_index))]
-fn vector_in_index(method: Method, operand: Operand) -> bool
-    ensures { result ≡ spec.vector_in_index method operand }
-{
-    match (method, operand) {
-        (Method::Gather, Operand::Mem(memory)) => match memory.index {
-            None => false,
-            Some(register) => is_vector_register(register),
-        },
-        _ => false,
-    }
-}
-
-/// Whether the operand is a vector register that is read from vvvv.
-#[tactic(auto, unfolding(crate::specs::Expressible::vector_in_vvvv))]
-fn vector_in_vvvv(method: Method, operand: Operand) -> bool
-    ensures { result ≡ spec.vector_in_vvvv method operand }
-{
-    match (method, operand) {
-        (Method::Vvvv, Operand::Reg(register)) => is_vector_register(register),
-        _ => false,
-    }
-}
-
-/// A number, where its register is a vector register.
-fn number_if(is_vector: bool, number: u16) -> Option<u16>
-    ensures { result ≡ (if is_vector then Some number else None) }
-{
-    if is_vector { Some(number) } else { None }
-}
-
-/// The number of a gather's destination, where that is a vector register.
-fn destination_number(row: &Row, instr: &Instr) -> Option<u16>
-    ensures { result ≡ spec.asked_vector spec.vector_in_reg front.number_in_reg row.now instr.now }
-{
-    let is_vector = vector_in_reg(method_of_kind(kind_at(row, 0)), operand_at(instr, 0))
-        || vector_in_reg(method_of_kind(kind_at(row, 1)), operand_at(instr, 1))
-        || vector_in_reg(method_of_kind(kind_at(row, 2)), operand_at(instr, 2))
-        || vector_in_reg(method_of_kind(kind_at(row, 3)), operand_at(instr, 3));
-    number_if(is_vector, numbers_asked(row, instr).reg)
-}
-
-/// The number of a gather's index, where that is a vector register.
-fn index_number(row: &Row, instr: &Instr) -> Option<u16>
-    ensures { result ≡ spec.asked_vector spec.vector_in_index front.number_in_index row.now instr.now }
-{
-    let is_vector = vector_in_index(method_of_kind(kind_at(row, 0)), operand_at(instr, 0))
-        || vector_in_index(method_of_kind(kind_at(row, 1)), operand_at(instr, 1))
-        || vector_in_index(method_of_kind(kind_at(row, 2)), operand_at(instr, 2))
-        || vector_in_index(method_of_kind(kind_at(row, 3)), operand_at(instr, 3));
-    number_if(is_vector, numbers_asked(row, instr).index)
-}
-
-/// The number of a gather's mask, where that is a vector register.
-fn mask_number(row: &Row, instr: &Instr) -> Option<u16>
-    ensures { result ≡ spec.asked_vector spec.vector_in_vvvv front.number_in_vvvv row.now instr.now }
-{
-    let is_vector = vector_in_vvvv(method_of_kind(kind_at(row, 0)), operand_at(instr, 0))
-        || vector_in_vvvv(method_of_kind(kind_at(row, 1)), operand_at(instr, 1))
-        || vector_in_vvvv(method_of_kind(kind_at(row, 2)), operand_at(instr, 2))
-        || vector_in_vvvv(method_of_kind(kind_at(row, 3)), operand_at(instr, 3));
-    number_if(is_vector, numbers_asked(row, instr).vvvv)
-}
-
-/// Whether of two numbers one is absent, or they differ.
-fn differ(first: Option<u16>, second: Option<u16>) -> bool
-    ensures { result ≡ spec.differ first second }
-{
-    match (first, second) {
-        (Some(m), Some(n)) => m != n,
-        _ => true,
-    }
-}
-
-/// Of a gather's destination, index and mask those that are vector registers have numbers that differ pairwise (2.3.12).
-#[cold]
-#[inline(never)]
-#[tactic(auto, unfolding(crate::specs::Expressible::gather_numbers_differ))]
-fn gather_numbers_differ(row: &Row, instr: &Instr) -> bool
-    ensures { result ≡ spec.gather_numbers_differ row.now instr.now }
-{
-    let destination = destination_number(row, instr);
-    let index = index_number(row, instr);
-    let mask = mask_number(row, instr);
-    differ(destination, index) && differ(destination, mask) && differ(index, mask)
-}
-
-/// The rule on a gather's numbers, which counts with operand 0.
+/// Whether the register can be named as operand n, by the parts of the plain spelling.
+///
+/// The front is copied, so that the parts need not lie in memory where no operand comes here.
 #[inline(always)]
-fn gather_suits(row: &Row, instr: &Instr, n: usize) -> bool
-    ensures { result ≡ spec.gather_suits row.now instr.now n }
+fn is_nameable_under(
+    bits: Bits,
+    row: &Row,
+    instr: &Instr,
+    parts: &PlainParts,
+    n: usize,
+    register: Register,
+) -> bool
+    requires place { n < 4 }
+    requires parts { ArePartsOf bits row.now instr.now parts.now }
+    ensures { result ≡ spec.is_nameable bits row.now instr.now n register }
 {
-    !(n == 0) || !reads_gather(row) || gather_numbers_differ(row, instr)
+    let state = parts.state;
+    is_nameable(bits, row, instr, &state, parts.size, n, register)
 }
 
 /// Whether operand n, where it is a register, is one that its kind can name.
@@ -327,10 +255,10 @@ fn address_suits(bits: Bits, row: &Row, instr: &Instr, n: usize) -> bool
 // ---- 5. the shape offers the displacement
 
 /// Whether operand n, where it is memory, has a displacement that its shape offers.
-#[tactic(auto, unfolding(crate::specs::Expressible::offered))]
-fn offered(bits: Bits, row: &Row, instr: &Instr, n: usize) -> bool
+#[tactic(auto, unfolding(crate::specs::Expressible::displacement_offered))]
+fn displacement_offered(bits: Bits, row: &Row, instr: &Instr, n: usize) -> bool
     requires { n < 4 }
-    ensures { result ≡ spec.offered bits row.now instr.now n }
+    ensures { result ≡ spec.displacement_offered bits row.now instr.now n }
 {
     match operand_at(instr, n) {
         Operand::Mem(memory) => displacement_suits(
@@ -464,64 +392,7 @@ fn prefixes_suit(row: &Row, instr: &Instr, opcode: u8) -> bool
     lock_suits(row, instr) && repeat_suits(row, instr, opcode)
 }
 
-// ---- 9. the address size is that of the operand, and one of the mode
-
-/// Whether some operand is memory.
-#[inline(always)]
-#[tactic(auto, unfolding(crate::specs::Expressible::has_memory_operand))]
-fn has_memory_operand(instr: &Instr) -> bool
-    ensures { result ≡ spec.has_memory_operand instr.now }
-{
-    is_memory(operand_at(instr, 0))
-        || is_memory(operand_at(instr, 1))
-        || is_memory(operand_at(instr, 2))
-        || is_memory(operand_at(instr, 3))
-}
-
-/// An address size agrees with what an operand shows.
-#[inline(always)]
-#[tactic(auto, unfolding(crate::specs::Expressible::size_agrees))]
-fn size_agrees(asize: Bits, operand: Operand) -> bool
-    ensures { result ≡ spec.size_agrees asize operand }
-{
-    match operand {
-        Operand::Mem(memory) => match told_size(memory) {
-            None => true,
-            Some(size) => same_bits(size, asize),
-        },
-        _ => true,
-    }
-}
-
-/// An address size of the mode that agrees with all operands, and not 16 on a gather.
-#[inline(never)]
-#[tactic(auto, unfolding(crate::specs::Expressible::is_size_of))]
-fn is_size_of(bits: Bits, row: &Row, instr: &Instr, asize: Bits) -> bool
-    ensures { result ≡ spec.is_size_of bits row.now instr.now asize }
-{
-    has_address_size(bits, asize)
-        && (size_agrees(asize, operand_at(instr, 0))
-            && size_agrees(asize, operand_at(instr, 1))
-            && size_agrees(asize, operand_at(instr, 2))
-            && size_agrees(asize, operand_at(instr, 3)))
-        && !(is_16(asize) && reads_gather(row))
-}
-
-/// An address size stands exactly where an operand is memory or the row uses one without.
-#[inline(always)]
-#[tactic(auto, unfolding(crate::specs::Expressible::address_size_suits))]
-fn address_size_suits(bits: Bits, row: &Row, instr: &Instr) -> bool
-    ensures { result ≡ spec.address_size_suits bits row.now instr.now }
-{
-    if has_memory_operand(instr) || has_address_mark(row) {
-        match instr.asize {
-            None => false,
-            Some(asize) => is_size_of(bits, row, instr, asize),
-        }
-    } else {
-        instr.asize.is_none()
-    }
-}
+// ---- 9. the address size: crate::address_sizes
 
 // ---- all of them, in order
 
@@ -604,12 +475,12 @@ fn memory_failure(bits: Bits, row: &Row, instr: &Instr) -> Option<NoSpelling>
 
 /// The cause where condition 5 fails, for any operand: a displacement that its address does not have. It names no operand.
 fn displacement_failure(bits: Bits, row: &Row, instr: &Instr) -> Option<NoSpelling>
-    ensures { result ≡ spec.caused_unless (spec.each_operand (spec.offered bits row.now instr.now)) cause.Displacement }
+    ensures { result ≡ spec.caused_unless (spec.each_operand (spec.displacement_offered bits row.now instr.now)) cause.Displacement }
 {
-    let all = offered(bits, row, instr, 0)
-        && offered(bits, row, instr, 1)
-        && offered(bits, row, instr, 2)
-        && offered(bits, row, instr, 3);
+    let all = displacement_offered(bits, row, instr, 0)
+        && displacement_offered(bits, row, instr, 1)
+        && displacement_offered(bits, row, instr, 2)
+        && displacement_offered(bits, row, instr, 3);
     caused_unless(all, NoSpelling::Displacement)
 }
 
@@ -700,13 +571,54 @@ fn first_failure(bits: Bits, row: &Row, instr: &Instr, parts: &PlainParts) -> Op
     }
 }
 
+/// The same, by a copy of the parts, which so need not lie in memory where all conditions hold. It is made field by field, without what lies
+/// between them.
+#[inline(always)]
+fn first_failure_by(bits: Bits, row: &Row, instr: &Instr, parts: &PlainParts) -> Option<NoSpelling>
+    requires { ArePartsOf bits row.now instr.now parts.now }
+    ensures { result ≡ spec.first_failed_condition bits parts.now.ip row.now instr.now }
+{
+    let copy = PlainParts {
+        ip: parts.ip,
+        state: parts.state,
+        addressing: parts.addressing,
+        size: parts.size,
+        displacement: parts.displacement,
+        immediates: parts.immediates,
+        len: parts.len,
+        next: parts.next,
+    };
+    first_failure(bits, row, instr, &copy)
+}
+
 // ---- whether all of them hold, each operand gone over once
+
+/// Whether an address meets the conditions 4, 5 and 7 by itself, as an operand of a kind before the next address.
+#[inline(never)]
+fn memory_suits(
+    bits: Bits,
+    row: &Row,
+    asize: Option<Bits>,
+    next: u64,
+    kind: OpKind,
+    memory: Mem,
+) -> bool
+    ensures { result ≡ (addresses.shape_suits bits row.now (method_of kind) (file_of kind) memory && (addresses.displacement_suits (addresses.written_size bits asize memory) (method_of kind) memory && spec.address_reaches next memory)) }
+{
+    let method = method_of_kind(kind);
+    if is_by_modrm(method) && is_based(bits, &memory) {
+        return true;
+    }
+    shape_suits(bits, row, method, file_of_kind(kind), memory)
+        && displacement_suits(written_size(bits, asize, memory), method, memory)
+        && address_reaches(next, memory)
+}
 
 /// Whether an operand that is there meets the conditions 2 to 7 by itself.
 ///
 /// It is built into its callers, so that an operand costs no more than one call, of the tests of its variant.
 #[inline(always)]
-#[tactic(auto, unfolding(crate::specs::Expressible::kind_suits, crate::specs::Expressible::named, crate::specs::Expressible::address_suits, crate::specs::Expressible::offered, crate::specs::Expressible::immediate_suits, crate::specs::Expressible::target_suits, crate::specs::Expressible::operand_suits))]
+#[tactic(auto, unfolding(crate::specs::Expressible::kind_suits, crate::specs::Expressible::named, crate::specs::Expressible::address_suits, crate::specs::Expressible::displacement_offered, crate::specs::Expressible::immediate_suits, crate::specs::Expressible::target_suits, crate::specs::Expressible::operand_suits))]
 fn present_suits(bits: Bits, row: &Row, instr: &Instr, parts: &PlainParts, n: usize) -> bool
     requires place { n < 4 }
     requires parts { ArePartsOf bits row.now instr.now parts.now }
@@ -720,20 +632,11 @@ fn present_suits(bits: Bits, row: &Row, instr: &Instr, parts: &PlainParts, n: us
     }
     match operand {
         Operand::Absent => true,
-        Operand::Reg(register) => is_nameable(
-            bits,
-            row,
-            instr,
-            &parts.state,
-            parts.size,
-            n,
-            register,
-        ),
-        Operand::Mem(memory) => {
-            shape_suits(bits, row, method, file_of_kind(kind), memory)
-                && displacement_suits(written_size(bits, instr.asize, memory), method, memory)
-                && address_reaches(parts.next, memory)
+        Operand::Reg(register) => {
+            is_sized_register(bits, parts.size, kind, register)
+                || is_nameable_under(bits, row, instr, parts, n, register)
         }
+        Operand::Mem(memory) => { memory_suits(bits, row, instr.asize, parts.next, kind, memory) }
         Operand::Near(target) => {
             near_reaches(
                 parts.size,
@@ -760,7 +663,7 @@ fn is_absent_kind(kind: OpKind) -> bool
 
 /// Whether an operand meets the conditions 2 to 7 by itself: one that is absent has no more to meet than its kind.
 #[inline(always)]
-#[tactic(auto, unfolding(crate::specs::Expressible::kind_suits, crate::specs::Expressible::named, crate::specs::Expressible::address_suits, crate::specs::Expressible::offered, crate::specs::Expressible::immediate_suits, crate::specs::Expressible::target_suits, crate::specs::Expressible::operand_suits))]
+#[tactic(auto, unfolding(crate::specs::Expressible::kind_suits, crate::specs::Expressible::named, crate::specs::Expressible::address_suits, crate::specs::Expressible::displacement_offered, crate::specs::Expressible::immediate_suits, crate::specs::Expressible::target_suits, crate::specs::Expressible::operand_suits))]
 fn operand_suits(bits: Bits, row: &Row, instr: &Instr, parts: &PlainParts, n: usize) -> bool
     requires place { n < 4 }
     requires parts { ArePartsOf bits row.now instr.now parts.now }
@@ -772,26 +675,59 @@ fn operand_suits(bits: Bits, row: &Row, instr: &Instr, parts: &PlainParts, n: us
     }
 }
 
-/// Whether the conditions 2 to 9 hold.
-#[inline]
+/// Whether the operands 2 and 3 are absent, as their kinds ask. Few rows have more than two.
+#[inline(always)]
+#[tactic(auto, unfolding(crate::specs::Expressible::is_pair))]
+pub fn is_pair(row: &Row, instr: &Instr) -> bool
+    ensures { result ≡ spec.is_pair row.now instr.now }
+{
+    is_absent_kind(kind_at(row, 2))
+        && is_absent_kind(kind_at(row, 3))
+        && is_absent(operand_at(instr, 2))
+        && is_absent(operand_at(instr, 3))
+}
+
+/// Whether the operands 2 and 3 meet the conditions 2 to 7 by themselves, by whether they are absent as their kinds ask.
+#[inline(always)]
+fn last_suit(bits: Bits, row: &Row, instr: &Instr, parts: &PlainParts, pair: bool) -> bool
+    requires parts { ArePartsOf bits row.now instr.now parts.now }
+    requires pair { pair ≡ spec.is_pair row.now instr.now }
+    ensures { result ≡ (spec.operand_suits bits parts.now.ip row.now instr.now 2 && spec.operand_suits bits parts.now.ip row.now instr.now 3) }
+{
+    if pair {
+        true
+    } else {
+        operand_suits(bits, row, instr, parts, 2) && operand_suits(bits, row, instr, parts, 3)
+    }
+}
+
+/// Whether the conditions 2 to 9 hold, by whether the operands are a pair and the row is a gather.
+#[inline(always)]
 #[tactic(auto, unfolding(crate::specs::Expressible::tail_suits, crate::specs::PlainFront::byte_front, crate::specs::PlainFront::plain_front_of))]
-fn tail_suits(bits: Bits, row: &Row, instr: &Instr, parts: &PlainParts) -> bool
-    requires { ArePartsOf bits row.now instr.now parts.now }
+fn tail_suits(
+    bits: Bits,
+    row: &Row,
+    instr: &Instr,
+    parts: &PlainParts,
+    pair: bool,
+    gather: bool,
+) -> bool
+    requires parts { ArePartsOf bits row.now instr.now parts.now }
+    requires pair { pair ≡ spec.is_pair row.now instr.now }
+    requires gather { gather ≡ fits.reads_by fits.is_gather row.now }
     ensures { result ≡ spec.tail_suits bits parts.now.ip row.now instr.now }
 {
     operand_suits(bits, row, instr, parts, 0)
         && operand_suits(bits, row, instr, parts, 1)
-        && operand_suits(bits, row, instr, parts, 2)
-        && operand_suits(bits, row, instr, parts, 3)
-        && gather_suits(row, instr, 0)
+        && last_suit(bits, row, instr, parts, pair)
+        && (!gather || gather_numbers_differ(row, instr))
         && prefixes_suit(row, instr, parts.state.opcode)
         && address_size_suits(bits, row, instr)
 }
 
 /// The first that fails of the conditions 2 to 9 on an instruction of a row, None where all hold. `parts` are those of its plain spelling at
 /// the address at which it is to stand.
-///
-/// Mostly all hold, which one test of each operand shows; only else the conditions are tested in their order.
+#[inline(always)]
 pub fn first_failed_condition(
     bits: Bits,
     row: &Row,
@@ -801,9 +737,37 @@ pub fn first_failed_condition(
     requires { ArePartsOf bits row.now instr.now parts.now }
     ensures { result ≡ spec.first_failed_condition bits parts.now.ip row.now instr.now }
 {
-    if tail_suits(bits, row, instr, parts) {
+    first_failed_of(
+        bits,
+        row,
+        instr,
+        parts,
+        is_pair(row, instr),
+        reads_gather(row),
+    )
+}
+
+/// What [`first_failed_condition`] answers, by whether the operands 2 and 3 are absent as their kinds ask, and by whether the row is a gather. A
+/// caller that knows both saves their tests.
+///
+/// Mostly all hold, which one test of each operand shows; only else the conditions are tested in their order.
+#[inline(always)]
+pub fn first_failed_of(
+    bits: Bits,
+    row: &Row,
+    instr: &Instr,
+    parts: &PlainParts,
+    pair: bool,
+    gather: bool,
+) -> Option<NoSpelling>
+    requires parts { ArePartsOf bits row.now instr.now parts.now }
+    requires pair { pair ≡ spec.is_pair row.now instr.now }
+    requires gather { gather ≡ fits.reads_by fits.is_gather row.now }
+    ensures { result ≡ spec.first_failed_condition bits parts.now.ip row.now instr.now }
+{
+    if tail_suits(bits, row, instr, parts, pair, gather) {
         None
     } else {
-        first_failure(bits, row, instr, parts)
+        first_failure_by(bits, row, instr, parts)
     }
 }

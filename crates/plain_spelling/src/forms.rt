@@ -16,6 +16,14 @@ pub fn operand_at(instr: &Instr, n: usize) -> Operand
     instr.ops[n]
 }
 
+/// Whether an operand is absent.
+#[inline]
+pub fn is_absent(operand: Operand) -> bool
+    ensures { result ≡ spec.is_absent operand }
+{
+    matches!(operand, Operand::Absent)
+}
+
 /// Whether an operand is a register.
 #[inline]
 pub fn is_register(operand: Operand) -> bool

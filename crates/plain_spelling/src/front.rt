@@ -2,6 +2,7 @@
 
 ghost use Rattle.std.specs.Prelude.{◌≡◌, ◌<◌, min, IsTrue};
 ghost use Rattle.instruction_parts.specs.Bytes as bytes;
+ghost use Rattle.instruction_parts.specs.Sizes as sizes;
 ghost use Rattle.row_fit.specs.Sound.{sound};
 ghost use Rattle.plain_spelling.specs.PlainFront as spec;
 ghost use Rattle.plain_spelling.specs.Expressible.{each_operand, register_suits};
@@ -49,11 +50,20 @@ fn asks_vex_w(row: &Row) -> bool
 }
 
 /// 66: for the class, or for an operand size of 16 or 32 that is not the row's default in the mode.
-#[tactic(auto, unfolding(crate::specs::PlainFront::asks_66))]
 pub fn asks_66(bits: Bits, row: &Row) -> bool
     ensures { result ≡ spec.asks_66 bits row.now }
 {
-    !is_vex_row(row)
+    asks_66_of(bits, row, is_vex_row(row))
+}
+
+/// The same, by whether the row is a VEX row.
+#[inline(always)]
+#[tactic(auto, unfolding(crate::specs::PlainFront::asks_66))]
+pub(crate) fn asks_66_of(bits: Bits, row: &Row, is_vex: bool) -> bool
+    requires { is_vex ≡ sizes.is_vex_row row.now }
+    ensures { result ≡ spec.asks_66 bits row.now }
+{
+    !is_vex
         && match row.class {
             Class::P66 => true,
             _ => match row.size {
@@ -77,11 +87,13 @@ fn asks_67(bits: Bits, asize: Option<Bits>) -> bool
 }
 
 /// F2 or F3: for the class of a legacy row, else for the repeat prefix that the instruction keeps.
+#[inline]
 #[tactic(auto, unfolding(crate::specs::PlainFront::asked_repeat))]
-fn asked_repeat(row: &Row, instr: &Instr) -> Rep
+fn asked_repeat(row: &Row, instr: &Instr, is_vex: bool) -> Rep
+    requires { is_vex ≡ sizes.is_vex_row row.now }
     ensures { result ≡ spec.asked_repeat row.now instr.now }
 {
-    if is_vex_row(row) {
+    if is_vex {
         instr.rep
     } else {
         match row.class {
@@ -95,15 +107,16 @@ fn asked_repeat(row: &Row, instr: &Instr) -> Rep
 /// The REX of a legacy row, where something needs one: `w` is what the row asks of W, and the numbers say what is asked of R, X and B.
 #[inline(always)]
 #[tactic(auto, unfolding(crate::specs::PlainFront::asked_rex, crate::specs::PlainFront::asks_r, crate::specs::PlainFront::asks_x, crate::specs::PlainFront::asks_b))]
-fn asked_rex(row: &Row, instr: &Instr, asked: &Asked, w: bool) -> Option<u8>
+fn asked_rex(row: &Row, instr: &Instr, asked: &Asked, w: bool, is_vex: bool) -> Option<u8>
     requires asked { AreAskedOf row.now instr.now asked.now }
     requires w { w ≡ spec.asks_rex_w row.now }
+    requires vex { is_vex ≡ sizes.is_vex_row row.now }
     ensures { result ≡ spec.asked_rex row.now instr.now }
 {
     let r = 8 <= asked.reg;
     let x = 8 <= asked.index;
     let b = 8 <= asked.rm;
-    if !is_vex_row(row) && (w || r || x || b || asks_low_byte(instr)) {
+    if !is_vex && (w || r || x || b || asks_low_byte(instr)) {
         Some(0x40 + (bit(w) * 8 + (bit(r) * 4 + (bit(x) * 2 + bit(b)))))
     } else {
         None
@@ -215,7 +228,7 @@ pub fn front_asked(
     ensures small { result.used < 16 }
 {
     let vex = byte_vex(row, instr, asked);
-    front_with(bits, row, instr, asked, w, size66, vex)
+    front_with(bits, row, instr, asked, w, size66, is_vex_row(row), vex)
 }
 
 /// The front of the plain spelling by what is asked and by its VEX. A caller that knows the row as a legacy one gives None, which is nothing to copy.
@@ -228,20 +241,22 @@ pub(crate) fn front_with(
     asked: &Asked,
     w: bool,
     size66: bool,
+    is_vex: bool,
     vex: Option<Vex>,
 ) -> PrefixState
     requires sound { IsTrue (sound row.now) }
     requires asked { AreAskedOf row.now instr.now asked.now }
     requires w { w ≡ spec.asks_rex_w row.now }
     requires size66 { size66 ≡ spec.asks_66 bits row.now }
+    requires is_vex { is_vex ≡ sizes.is_vex_row row.now }
     requires vex { vex ≡ spec.vex_with row.now instr.now (min 255 (spec.asked spec.number_in_vvvv row.now instr.now)) }
     ensures value { result ≡ spec.byte_front bits row.now instr.now }
     ensures exact { IsTrue (each_operand (register_suits bits row.now instr.now)) → result ≡ spec.plain_front_of bits row.now instr.now }
     ensures small { result.used < 16 }
 {
     let addr67 = asks_67(bits, instr.asize);
-    let rep = asked_repeat(row, instr);
-    let rex = asked_rex(row, instr, asked, w);
+    let rep = asked_repeat(row, instr, is_vex);
+    let rex = asked_rex(row, instr, asked, w, is_vex);
     PrefixState {
         used: bit(instr.lock)
             + (count_repeat(rep)
@@ -262,11 +277,22 @@ pub(crate) fn front_with(
 
 /// The operand size under the plain prefixes, that of the row, by what the row asks of W of a REX and of 66.
 #[inline]
-#[tactic(auto, unfolding(crate::specs::PlainTail::plain_size))]
 pub fn plain_size(bits: Bits, row: &Row, w: bool, size66: bool) -> Bits
     requires w { w ≡ spec.asks_rex_w row.now }
     requires size66 { size66 ≡ spec.asks_66 bits row.now }
     ensures { result ≡ tail.plain_size bits row.now }
 {
-    operand_size(bits, row, if is_vex_row(row) { false } else { w }, size66)
+    plain_size_of(bits, row, w, size66, is_vex_row(row))
+}
+
+/// The same, by whether the row is a VEX row too.
+#[inline(always)]
+#[tactic(auto, unfolding(crate::specs::PlainTail::plain_size))]
+pub(crate) fn plain_size_of(bits: Bits, row: &Row, w: bool, size66: bool, is_vex: bool) -> Bits
+    requires w { w ≡ spec.asks_rex_w row.now }
+    requires size66 { size66 ≡ spec.asks_66 bits row.now }
+    requires vex { is_vex ≡ sizes.is_vex_row row.now }
+    ensures { result ≡ tail.plain_size bits row.now }
+{
+    operand_size(bits, row, if is_vex { false } else { w }, size66)
 }

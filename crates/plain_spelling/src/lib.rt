@@ -1,10 +1,12 @@
 //! The plain spelling of an instruction, and why an instruction has none (Intel SDM volume 2, 2.1 to 2.3).
 #![tactic(auto)]
 
+mod address_sizes;
 pub mod addresses;
 pub mod conditions;
 pub mod forms;
 pub mod front;
+mod gathers;
 pub mod numbers;
 pub mod parts;
 pub mod registers;

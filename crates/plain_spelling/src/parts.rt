@@ -1,15 +1,16 @@
 //! What the plain spelling of an instruction is made of, computed once.
 
-ghost use Rattle.std.specs.Prelude.{◌≡◌, ◌<◌, ◌≤◌, ◌+◌, min, IsTrue};
+ghost use Rattle.std.specs.Prelude.{◌≡◌, ◌<◌, ◌≤◌, ◌+◌, min, IsTrue, false};
 ghost use Rattle.x86_values.specs.declared.Bits.TheVariants.{B16, B32, B64};
 ghost use Rattle.row_fit.specs.Fits.{immediate_bytes as bytes_of_kind, immediates_bytes as bytes_of_row};
+ghost use Rattle.instruction_parts.specs.Sizes as sizes;
 ghost use Rattle.row_fit.specs.Sound.{sound};
 ghost use Rattle.plain_spelling.specs.PlainFront as front;
 ghost use Rattle.plain_spelling.specs.PlainTail as spec;
 ghost use Rattle.plain_spelling.specs.Parts.{ArePartsOf};
 ghost use Rattle.plain_spelling.specs.Asked.{AreAskedOf};
 
-use crate::front::{asks_66, asks_rex_w, byte_vex, front_with, plain_size};
+use crate::front::{asks_66_of, asks_rex_w, byte_vex, front_with, plain_size_of};
 use crate::registers::{Asked, numbers_asked};
 use crate::tail::{Addressing, plain_addressing};
 use instruction_parts::sizes::is_vex_row;
@@ -159,7 +160,8 @@ fn plain_len(
     used + (1 + (modrm + (sib + (displacement + immediates))))
 }
 
-/// The parts of the plain spelling of an instruction of a row at an address, by the numbers that it asks and by the VEX of its front.
+/// The parts of the plain spelling of an instruction of a row at an address, by the numbers that it asks, by whether the row is a VEX row, and by
+/// the VEX of its front.
 #[inline(always)]
 #[tactic(auto, unfolding(crate::specs::PlainTail::plain_next, crate::specs::PlainFront::byte_front, crate::specs::PlainFront::plain_front_of))]
 fn parts_with(
@@ -168,23 +170,25 @@ fn parts_with(
     row: &Row,
     instr: &Instr,
     asked: &Asked,
+    is_vex: bool,
     vex: Option<Vex>,
 ) -> PlainParts
     requires sound { IsTrue (sound row.now) }
     requires asked { AreAskedOf row.now instr.now asked.now }
+    requires is_vex { is_vex ≡ sizes.is_vex_row row.now }
     requires vex { vex ≡ front.vex_with row.now instr.now (min 255 (front.asked front.number_in_vvvv row.now instr.now)) }
     ensures parts { ArePartsOf bits row.now instr.now result }
     ensures ip { result.ip ≡ ip }
     ensures small { result.len < 64 }
 {
     let w = asks_rex_w(row);
-    let size66 = asks_66(bits, row);
+    let size66 = asks_66_of(bits, row, is_vex);
     let addressing = plain_addressing(bits, row, instr, asked);
-    let size = plain_size(bits, row, w, size66);
+    let size = plain_size_of(bits, row, w, size66, is_vex);
     let displacement = displacement_len(row, instr, asked);
     let immediates = immediates_len(size, row);
     // Last, since its many fields would else be kept through the calls above.
-    let state = front_with(bits, row, instr, asked, w, size66, vex);
+    let state = front_with(bits, row, instr, asked, w, size66, is_vex, vex);
     let used = state.used;
     let len = plain_len(bits, row, instr, used, addressing, displacement, immediates);
     let next = wrap(bits, ip as u128 + len as u128);
@@ -210,12 +214,25 @@ fn vex_parts(bits: Bits, ip: u64, row: &Row, instr: &Instr) -> PlainParts
 {
     let asked = numbers_asked(row, instr);
     let vex = byte_vex(row, instr, &asked);
-    parts_with(bits, ip, row, instr, &asked, vex)
+    parts_with(bits, ip, row, instr, &asked, is_vex_row(row), vex)
+}
+
+/// The parts of the plain spelling of an instruction of a legacy row at an address.
+///
+/// It is built into its callers, where the parts then lie once.
+#[inline(always)]
+pub fn legacy_parts(bits: Bits, ip: u64, row: &Row, instr: &Instr) -> PlainParts
+    requires sound { IsTrue (sound row.now) }
+    requires legacy { sizes.is_vex_row row.now ≡ false }
+    ensures parts { ArePartsOf bits row.now instr.now result }
+    ensures ip { result.ip ≡ ip }
+    ensures small { result.len < 64 }
+{
+    let asked = numbers_asked(row, instr);
+    parts_with(bits, ip, row, instr, &asked, false, None)
 }
 
 /// The parts of the plain spelling of an instruction of a row at an address.
-///
-/// It is built into its callers, where the parts then lie once.
 #[inline(always)]
 pub fn plain_parts(bits: Bits, ip: u64, row: &Row, instr: &Instr) -> PlainParts
     requires { IsTrue (sound row.now) }
@@ -226,7 +243,6 @@ pub fn plain_parts(bits: Bits, ip: u64, row: &Row, instr: &Instr) -> PlainParts
     if is_vex_row(row) {
         vex_parts(bits, ip, row, instr)
     } else {
-        let asked = numbers_asked(row, instr);
-        parts_with(bits, ip, row, instr, &asked, None)
+        legacy_parts(bits, ip, row, instr)
     }
 }

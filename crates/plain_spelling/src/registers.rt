@@ -7,7 +7,6 @@ ghost use Rattle.plain_spelling.specs.PlainFront as spec;
 ghost use Rattle.plain_spelling.specs.Asked.{AreBelow, AreWith, AreAskedOf};
 
 use crate::addresses::displacement_count;
-use crate::forms::operand_at;
 use instruction_parts::kinds::{Method, method_of_kind};
 use row_types::{OpKind, Row};
 use x86_values::{Instr, Mem, Operand, Register};
@@ -134,14 +133,14 @@ fn with_memory(method: Method, memory: Mem, rest: Asked) -> Asked
     }
 }
 
-/// The numbers, with those that one more operand asks.
+/// The numbers, with those that one more operand asks, which is read where it lies.
 #[inline(always)]
 #[tactic(auto, unfolding(crate::specs::PlainFront::number_in_reg, crate::specs::PlainFront::number_in_rm, crate::specs::PlainFront::number_in_index, crate::specs::PlainFront::number_in_vvvv, crate::specs::PlainFront::number_in_opcode, crate::specs::PlainTail::displacement_read))]
-fn with_operand(kind: OpKind, operand: Operand, rest: Asked) -> Asked
+fn with_operand(kind: OpKind, operand: &Operand, rest: Asked) -> Asked
     requires { AreBelow 60000 rest }
-    ensures added { AreWith (method_of kind) operand rest result }
+    ensures added { AreWith (method_of kind) operand.now rest result }
 {
-    match operand {
+    match *operand {
         Operand::Reg(register) => with_register(method_of_kind(kind), register, rest),
         Operand::Mem(memory) => with_memory(method_of_kind(kind), memory, rest),
         _ => rest,
@@ -163,27 +162,32 @@ pub fn numbers_asked(row: &Row, instr: &Instr) -> Asked
         opcode: 0,
         displacement: 0,
     };
-    let fourth = with_operand(k3, operand_at(instr, 3), none);
-    let third = with_operand(k2, operand_at(instr, 2), fourth);
-    let second = with_operand(k1, operand_at(instr, 1), third);
-    with_operand(k0, operand_at(instr, 0), second)
+    let fourth = with_operand(k3, &instr.ops[3], none);
+    let third = with_operand(k2, &instr.ops[2], fourth);
+    let second = with_operand(k1, &instr.ops[1], third);
+    with_operand(k0, &instr.ops[0], second)
 }
 
 /// Whether an operand is SPL, BPL, SIL or DIL.
 #[tactic(auto, unfolding(crate::specs::PlainFront::is_low_byte_of_rex))]
-fn is_low_byte_of_rex(operand: Operand) -> bool
-    ensures { result ≡ spec.is_low_byte_of_rex operand }
+fn is_low_byte_of_rex(operand: &Operand) -> bool
+    ensures { result ≡ spec.is_low_byte_of_rex operand.now }
 {
-    match operand {
+    match *operand {
         Operand::Reg(Register::Low8(n)) => 4 <= n && n < 8,
         _ => false,
     }
 }
 
 /// Whether some operand is SPL, BPL, SIL or DIL, which only a REX can name.
+#[inline(always)]
 pub fn asks_low_byte(instr: &Instr) -> bool
     ensures { result ≡ spec.asks_low_byte instr.now.ops }
 {
-    let [a, b, c, d] = instr.ops;
-    is_low_byte_of_rex(a) || is_low_byte_of_rex(b) || is_low_byte_of_rex(c) || is_low_byte_of_rex(d)
+    // Four operands, as the proof has to know; each is read where it lies.
+    let [_first, _second, _third, _fourth] = instr.ops;
+    is_low_byte_of_rex(&instr.ops[0])
+        || is_low_byte_of_rex(&instr.ops[1])
+        || is_low_byte_of_rex(&instr.ops[2])
+        || is_low_byte_of_rex(&instr.ops[3])
 }

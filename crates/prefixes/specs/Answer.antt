@@ -19,7 +19,7 @@ answer_within_15 given (Ok state) = if nat_le 15 state.used then Err ForbiddenEr
 answer_within_15 given (Err Ended) = if nat_le 15 given then Err ForbiddenError else Err Ended
 answer_within_15 given (Err ForbiddenError) = Err ForbiddenError
 
--- the answer whose front was written to a place
+-- the answer whose front was written where the caller asked
 abbrev pub answer_in : Result (Unit {0}) PrefixError → PrefixState → Result PrefixState PrefixError
-answer_in (Ok done) place = Ok place
-answer_in (Err why) place = Err why
+answer_in (Ok done) out = Ok out
+answer_in (Err why) out = Err why

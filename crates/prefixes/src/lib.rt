@@ -110,11 +110,11 @@ fn opcode_front(
     vex: Option<Vex>,
     map: Map,
     bytes: &[u8],
-    place: &mut PrefixState,
+    out: &mut PrefixState,
 ) -> Result<(), PrefixError>
     requires few { length prefixes.now < 16 }
     requires lead { lead < 4 }
-    ensures { answer_in result place.new ≡ answer_of (front.opcode_front bits prefixes.now lead vex map bytes.now) }
+    ensures { answer_in result out.new ≡ answer_of (front.opcode_front bits prefixes.now lead vex map bytes.now) }
 {
     match bytes.split_first() {
         None => Err(PrefixError::Ended),
@@ -126,7 +126,7 @@ fn opcode_front(
                 vex,
                 map,
                 *opcode,
-                place,
+                out,
             );
             Ok(())
         }
@@ -139,10 +139,10 @@ fn short_vex_front(
     bits: Bits,
     prefixes: &[u8],
     bytes: &[u8],
-    place: &mut PrefixState,
+    out: &mut PrefixState,
 ) -> Result<(), PrefixError>
     requires { length prefixes.now < 16 }
-    ensures { answer_in result place.new ≡ answer_of (front.short_vex_front bits prefixes.now bytes.now) }
+    ensures { answer_in result out.new ≡ answer_of (front.short_vex_front bits prefixes.now bytes.now) }
 {
     match bytes.split_first() {
         None => Err(PrefixError::Ended),
@@ -153,7 +153,7 @@ fn short_vex_front(
             Some(short_vex(*b)),
             Map::M0f,
             rest,
-            place,
+            out,
         ),
     }
 }
@@ -166,10 +166,10 @@ fn third_byte_front(
     b: u8,
     map: Option<Map>,
     bytes: &[u8],
-    place: &mut PrefixState,
+    out: &mut PrefixState,
 ) -> Result<(), PrefixError>
     requires { length prefixes.now < 16 }
-    ensures { answer_in result place.new ≡ answer_of (front.third_byte_front bits prefixes.now b map bytes.now) }
+    ensures { answer_in result out.new ≡ answer_of (front.third_byte_front bits prefixes.now b map bytes.now) }
 {
     match map {
         None => Err(PrefixError::Forbidden),
@@ -183,7 +183,7 @@ fn third_byte_front(
                     Some(long_vex(map, b, *c)),
                     map,
                     rest,
-                    place,
+                    out,
                 )
             }
         },
@@ -196,14 +196,14 @@ fn long_vex_front(
     bits: Bits,
     prefixes: &[u8],
     bytes: &[u8],
-    place: &mut PrefixState,
+    out: &mut PrefixState,
 ) -> Result<(), PrefixError>
     requires { length prefixes.now < 16 }
-    ensures { answer_in result place.new ≡ answer_of (front.long_vex_front bits prefixes.now bytes.now) }
+    ensures { answer_in result out.new ≡ answer_of (front.long_vex_front bits prefixes.now bytes.now) }
 {
     match bytes.split_first() {
         None => Err(PrefixError::Ended),
-        Some((b, rest)) => third_byte_front(bits, prefixes, *b, map_numbered(*b % 32), rest, place),
+        Some((b, rest)) => third_byte_front(bits, prefixes, *b, map_numbered(*b % 32), rest, out),
     }
 }
 
@@ -214,17 +214,17 @@ fn vex_front(
     prefixes: &[u8],
     lead: u8,
     bytes: &[u8],
-    place: &mut PrefixState,
+    out: &mut PrefixState,
 ) -> Result<(), PrefixError>
     requires { length prefixes.now < 16 }
-    ensures { answer_in result place.new ≡ answer_of (front.vex_front bits prefixes.now lead bytes.now) }
+    ensures { answer_in result out.new ≡ answer_of (front.vex_front bits prefixes.now lead bytes.now) }
 {
     if forbids_vex(bits, prefixes) {
         Err(PrefixError::Forbidden)
     } else if lead == 0xC5 {
-        short_vex_front(bits, prefixes, bytes, place)
+        short_vex_front(bits, prefixes, bytes, out)
     } else {
-        long_vex_front(bits, prefixes, bytes, place)
+        long_vex_front(bits, prefixes, bytes, out)
     }
 }
 
@@ -235,22 +235,22 @@ fn escape_front(
     bits: Bits,
     prefixes: &[u8],
     bytes: &[u8],
-    place: &mut PrefixState,
+    out: &mut PrefixState,
 ) -> Result<(), PrefixError>
     requires { length prefixes.now < 16 }
-    ensures { answer_in result place.new ≡ answer_of (front.escape_front bits prefixes.now bytes.now) }
+    ensures { answer_in result out.new ≡ answer_of (front.escape_front bits prefixes.now bytes.now) }
 {
     match bytes.split_first() {
         None => Err(PrefixError::Ended),
         Some((b, rest)) => {
             if *b == 0x38 {
-                opcode_front(bits, prefixes, 2, None, Map::M0f38, rest, place)
+                opcode_front(bits, prefixes, 2, None, Map::M0f38, rest, out)
             } else if *b == 0x3A {
-                opcode_front(bits, prefixes, 2, None, Map::M0f3a, rest, place)
+                opcode_front(bits, prefixes, 2, None, Map::M0f3a, rest, out)
             } else if *b == 0x0F {
                 Err(PrefixError::Forbidden)
             } else {
-                opcode_front(bits, prefixes, 1, None, Map::M0f, bytes, place)
+                opcode_front(bits, prefixes, 1, None, Map::M0f, bytes, out)
             }
         }
     }
@@ -265,21 +265,21 @@ fn vex_or_opcode_front(
     lead: u8,
     bytes: &[u8],
     whole: &[u8],
-    place: &mut PrefixState,
+    out: &mut PrefixState,
 ) -> Result<(), PrefixError>
     requires few { length prefixes.now < 16 }
     requires whole { whole.now ≡ lead ∷ bytes.now }
-    ensures { answer_in result place.new ≡ answer_of (front.vex_or_opcode_front bits prefixes.now lead bytes.now) }
+    ensures { answer_in result out.new ≡ answer_of (front.vex_or_opcode_front bits prefixes.now lead bytes.now) }
 {
     match bits {
-        Bits::B64 => vex_front(bits, prefixes, lead, bytes, place),
+        Bits::B64 => vex_front(bits, prefixes, lead, bytes, out),
         _ => match bytes.split_first() {
             None => Err(PrefixError::Ended),
             Some((b, _)) => {
                 if *b / 64 == 3 {
-                    vex_front(bits, prefixes, lead, bytes, place)
+                    vex_front(bits, prefixes, lead, bytes, out)
                 } else {
-                    opcode_front(bits, prefixes, 0, None, Map::One, whole, place)
+                    opcode_front(bits, prefixes, 0, None, Map::One, whole, out)
                 }
             }
         },
@@ -293,22 +293,22 @@ fn lead_front(
     bits: Bits,
     prefixes: &[u8],
     bytes: &[u8],
-    place: &mut PrefixState,
+    out: &mut PrefixState,
 ) -> Result<(), PrefixError>
     requires { length prefixes.now < 16 }
-    ensures { answer_in result place.new ≡ answer_of (front.lead_front bits prefixes.now bytes.now) }
+    ensures { answer_in result out.new ≡ answer_of (front.lead_front bits prefixes.now bytes.now) }
 {
     match bytes.split_first() {
         None => Err(PrefixError::Ended),
         Some((b, rest)) => {
             if *b == 0xC4 || *b == 0xC5 {
-                vex_or_opcode_front(bits, prefixes, *b, rest, bytes, place)
+                vex_or_opcode_front(bits, prefixes, *b, rest, bytes, out)
             } else if *b == 0x0F {
-                escape_front(bits, prefixes, rest, place)
+                escape_front(bits, prefixes, rest, out)
             } else if is_64(bits) && *b == 0x62 {
                 Err(PrefixError::Forbidden)
             } else {
-                opcode_front(bits, prefixes, 0, None, Map::One, bytes, place)
+                opcode_front(bits, prefixes, 0, None, Map::One, bytes, out)
             }
         }
     }
@@ -316,26 +316,25 @@ fn lead_front(
 
 /// The front of bytes of any length, given the length of their run of prefixes.
 #[inline(always)]
-fn long_front(
-    bits: Bits,
-    bytes: &[u8],
-    n: usize,
-    place: &mut PrefixState,
-) -> Result<(), PrefixError>
+fn long_front(bits: Bits, bytes: &[u8], n: usize, out: &mut PrefixState) -> Result<(), PrefixError>
     requires run { n ≡ length (front.prefix_run bits bytes.now) }
     requires few { n < 15 }
     requires within { n ≤ length bytes.now }
-    ensures { answer_in result place.new ≡ answer_of (front.long_front bits bytes.now) }
+    ensures { answer_in result out.new ≡ answer_of (front.long_front bits bytes.now) }
 {
     let (prefixes, rest) = bytes.split_at(n);
-    lead_front(bits, prefixes, rest, place)
+    lead_front(bits, prefixes, rest, out)
 }
 
 /// A front is forbidden once 15 bytes were read without an opcode byte; `used` stand before it, where there is one.
 #[inline(always)]
-fn bounded(given: usize, used: u8, answer: Result<(), PrefixError>) -> Result<(), PrefixError>
-    ensures { (place : PrefixState) → place.used ≡ used
-        → answer_in result place ≡ answer_within_15 given (answer_in answer place) }
+fn within_15_bytes(
+    given: usize,
+    used: u8,
+    answer: Result<(), PrefixError>,
+) -> Result<(), PrefixError>
+    ensures { (out : PrefixState) → out.used ≡ used
+        → answer_in result out ≡ answer_within_15 given (answer_in answer out) }
 {
     match answer {
         Ok(()) => {
@@ -356,7 +355,7 @@ fn bounded(given: usize, used: u8, answer: Result<(), PrefixError>) -> Result<()
     }
 }
 
-/// What stands in the place of a front before it is read.
+/// What stands for a front before it is read.
 pub const NO_FRONT: PrefixState = PrefixState {
     used: 0,
     size66: false,
@@ -400,47 +399,47 @@ fn front_behind(
     bits: Bits,
     bytes: &[u8],
     n: usize,
-    place: &mut PrefixState,
+    out: &mut PrefixState,
 ) -> Result<(), PrefixError>
     requires run { n ≡ length (front.prefix_run bits bytes.now) }
     requires few { n < 15 }
-    ensures { answer_in result place.new ≡ answer_of (front.front_of bits bytes.now) }
+    ensures { answer_in result out.new ≡ answer_of (front.front_of bits bytes.now) }
 {
-    let answer = long_front(bits, bytes, n, place);
-    bounded(bytes.len(), place.used, answer)
+    let answer = long_front(bits, bytes, n, out);
+    within_15_bytes(bytes.len(), out.used, answer)
 }
 
 /// The front of bytes behind any prefixes.
 #[inline(never)]
-fn front_of_run(bits: Bits, bytes: &[u8], place: &mut PrefixState) -> Result<(), PrefixError>
-    ensures { answer_in result place.new ≡ answer_of (front.front_of bits bytes.now) }
+fn front_of_run(bits: Bits, bytes: &[u8], out: &mut PrefixState) -> Result<(), PrefixError>
+    ensures { answer_in result out.new ≡ answer_of (front.front_of bits bytes.now) }
 {
     let n = bounded_run_len(bits, bytes);
     if n >= 15 {
         Err(PrefixError::Forbidden)
     } else {
-        front_behind(bits, bytes, n, place)
+        front_behind(bits, bytes, n, out)
     }
 }
 
-/// Reads the front as [`read_front`] does, and writes it to a place: as a value it is copied at each call that it comes through.
+/// Reads the front as [`read_front`] does, and writes it to `out`: as a value it is copied at each call that it comes through.
 // Most instructions have no prefix or a REX alone: neither takes a pass over the prefixes.
 #[inline(always)]
-pub fn read_front_into(bits: Bits, bytes: &[u8], place: &mut PrefixState) -> Result<(), PrefixError>
-    ensures { answer_in result place.new ≡ answer_of (front.front_of bits bytes.now) }
+pub fn read_front_into(bits: Bits, bytes: &[u8], out: &mut PrefixState) -> Result<(), PrefixError>
+    ensures { answer_in result out.new ≡ answer_of (front.front_of bits bytes.now) }
 {
     if let Some((first, rest)) = bytes.split_first() {
         if is_64(bits) && is_rex(*first) {
             if let Some((second, _)) = rest.split_first() {
                 if !is_prefix_byte(bits, *second) {
-                    return front_behind(bits, bytes, 1, place);
+                    return front_behind(bits, bytes, 1, out);
                 }
             }
         } else if !is_prefix_byte(bits, *first) {
-            return front_behind(bits, bytes, 0, place);
+            return front_behind(bits, bytes, 0, out);
         }
     }
-    front_of_run(bits, bytes, place)
+    front_of_run(bits, bytes, out)
 }
 
 /// The front of the bytes in the mode `BITS`, which is 16, 32 or 64: what they say up to and with their opcode byte.

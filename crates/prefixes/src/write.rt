@@ -90,6 +90,7 @@ fn append_prefixes(out: &mut ArrayVec<u8, 15>, state: &PrefixState)
 }
 
 /// Appends the bytes before the opcode byte of a plain front, behind at most six others: what [`write_prefixes`] answers.
+#[inline(always)]
 #[tactic(auto, unfolding(crate::specs::Written::front_written))]
 pub fn append_front(out: &mut ArrayVec<u8, 15>, row: &Row, state: &PrefixState)
     requires vex { IsTrue (vex_in_range state.now.vex) }

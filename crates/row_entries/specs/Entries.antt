@@ -60,15 +60,15 @@ abbrev pub with_fixed : ℕ → Plus → ℕ → Option Head
 with_fixed opcode p modrm = Some (record { opcode = opcode; plus = p; rule = Some (rule.Fixed modrm) })
 
 -- a fixed ModRM byte, `.C8`
-abbrev pub fixed : ℕ → Plus → ℕ → ℕ → ℕ → Option Head
-fixed opcode p point a b = if point == 46 then byte a b >>= with_fixed opcode p else None
+abbrev pub fixed_modrm : ℕ → Plus → ℕ → ℕ → ℕ → Option Head
+fixed_modrm opcode p point a b = if point == 46 then byte a b >>= with_fixed opcode p else None
 
 -- what stands behind the opcode byte
 abbrev pub head_behind : ℕ → List ℕ → Option Head
 head_behind opcode [] = Some (record { opcode = opcode; plus = plus.No; rule = None })
 head_behind opcode (a ∷ b ∷ []) = added_or_digit opcode a b
-head_behind opcode (point ∷ a ∷ b ∷ []) = fixed opcode plus.No point a b
-head_behind opcode (point ∷ a ∷ b ∷ p ∷ i ∷ []) = if p == 43 && i == 105 then fixed opcode plus.Stack point a b else None
+head_behind opcode (point ∷ a ∷ b ∷ []) = fixed_modrm opcode plus.No point a b
+head_behind opcode (point ∷ a ∷ b ∷ p ∷ i ∷ []) = if p == 43 && i == 105 then fixed_modrm opcode plus.Stack point a b else None
 head_behind opcode _ = None
 
 -- the first word of an entry

@@ -121,16 +121,16 @@ unfoldable pub goes_by_w : Entry → Bool
 goes_by_w e = is_by_w_mark e.sizes || (any_has e.ops trait.ByW && not (goes_by_size e))
 
 -- a row of one size, in these modes, that says no W
-abbrev pub sized : Size → ℕ → Variant
-sized s m = record { size = s; w = bit.None; modes = m }
+abbrev pub variant_of_size : Size → ℕ → Variant
+variant_of_size s m = record { size = s; w = bit.None; modes = m }
 
 -- no row: it exists in no mode
 abbrev pub nothing : Variant
-nothing = sized size.None 0
+nothing = variant_of_size size.None 0
 
 -- three rows by operand size
 abbrev pub by_sizes : ℕ → ℕ → ℕ → List Variant
-by_sizes small middle large = sized size.O16 small ∷ sized size.O32 middle ∷ sized size.O64 large ∷ []
+by_sizes small middle large = variant_of_size size.O16 small ∷ variant_of_size size.O32 middle ∷ variant_of_size size.O64 large ∷ []
 
 -- three rows
 abbrev pub three : Variant → Variant → Variant → Option (List Variant)
@@ -138,9 +138,9 @@ three a b c = Some (a ∷ b ∷ c ∷ [])
 
 -- where neither W nor a default size of 64 bits decides: by the mark of sizes, or as the operands and names say
 abbrev pub by_mark : Modes → Sizes → Bool → Option (List Variant)
-by_mark m sizes.By16 implied = three (sized size.O16 (all_modes m)) (sized size.O32or64 (all_modes m)) nothing
-by_mark m sizes.O32O64 implied = three (sized size.O32 (all_modes m)) (sized size.O64 (only_64 m)) nothing
-by_mark m sizes.O16O32 implied = three (sized size.O16 (all_modes m)) (sized size.O32 (all_modes m)) nothing
+by_mark m sizes.By16 implied = three (variant_of_size size.O16 (all_modes m)) (variant_of_size size.O32or64 (all_modes m)) nothing
+by_mark m sizes.O32O64 implied = three (variant_of_size size.O32 (all_modes m)) (variant_of_size size.O64 (only_64 m)) nothing
+by_mark m sizes.O16O32 implied = three (variant_of_size size.O16 (all_modes m)) (variant_of_size size.O32 (all_modes m)) nothing
 by_mark m sizes.All implied = Some (by_sizes (all_modes m) (all_modes m) (only_64 m))
 by_mark m _ implied =
     if implied then Some (by_sizes (all_modes m) (all_modes m) (only_64 m)) else None
@@ -159,14 +159,14 @@ by_operand_size e =
 -- where no mark says W 0 or W 1
 abbrev pub by_w_or_size : Entry → Option (List Variant)
 by_w_or_size e =
-    if goes_by_w e then three (sized size.W0 (all_modes e.modes)) (sized size.W1 (only_64 e.modes)) nothing else by_operand_size e
+    if goes_by_w e then three (variant_of_size size.W0 (all_modes e.modes)) (variant_of_size size.W1 (only_64 e.modes)) nothing else by_operand_size e
 
 -- the rows of an entry that goes by the operand size, or by a W that is its operand size; none where it has one size
 unfoldable pub sizes_of : Entry → Option (List Variant)
 sizes_of e =
     elim e.sizes [
-      | sizes.W0 ↦ three (sized size.W0 (all_modes e.modes)) nothing nothing
-      | sizes.W1 ↦ three (sized size.W1 (only_64 e.modes)) nothing nothing
+      | sizes.W0 ↦ three (variant_of_size size.W0 (all_modes e.modes)) nothing nothing
+      | sizes.W1 ↦ three (variant_of_size size.W1 (only_64 e.modes)) nothing nothing
       | _ ↦ by_w_or_size e
     ]
 
@@ -196,9 +196,9 @@ by_vex_w w.Both m = by_notation bit.W0 m ∷ by_notation bit.W1 m ∷ nothing �
 -- of the rows by size those of a legacy entry, or else the one row
 abbrev pub legacy_variants : Entry → Option (List Variant) → List Variant
 legacy_variants e (Some rows) = rows
-legacy_variants e None = sized size.None (all_modes e.modes) ∷ nothing ∷ nothing ∷ []
+legacy_variants e None = variant_of_size size.None (all_modes e.modes) ∷ nothing ∷ nothing ∷ []
 
--- the same of a VEX entry
+-- of the rows by size those of a VEX entry, with a W of their own, or else its rows by W
 abbrev pub vex_variants : Entry → Option (List Variant) → List Variant
 vex_variants e (Some rows) = map with_own_w rows
 vex_variants e None = by_vex_w e.w (all_modes e.modes)

@@ -132,8 +132,8 @@ fn added_or_digit(opcode: u8, a: u8, b: u8) -> Option<Head>
 }
 
 /// A fixed ModRM byte, `.C8`.
-fn fixed(opcode: u8, plus: Plus, point: u8, a: u8, b: u8) -> Option<Head>
-    ensures { result ≡ spec.fixed opcode plus point a b }
+fn fixed_modrm(opcode: u8, plus: Plus, point: u8, a: u8, b: u8) -> Option<Head>
+    ensures { result ≡ spec.fixed_modrm opcode plus point a b }
 {
     if point == b'.' {
         let modrm = byte(a, b)?;
@@ -158,9 +158,9 @@ fn head_behind(opcode: u8, text: &[u8]) -> Option<Head>
             rule: None,
         }),
         [a, b] => added_or_digit(opcode, *a, *b),
-        [point, a, b] => fixed(opcode, Plus::No, *point, *a, *b),
+        [point, a, b] => fixed_modrm(opcode, Plus::No, *point, *a, *b),
         [point, a, b, plus, i] => if *plus == b'+' && *i == b'i' {
-            fixed(opcode, Plus::Stack, *point, *a, *b)
+            fixed_modrm(opcode, Plus::Stack, *point, *a, *b)
         } else {
             None
         },
@@ -276,28 +276,37 @@ fn with_w(e: Entry, size: Sizes, w: VexW) -> Entry
     }
 }
 
+/// The entry with the place of its ModRM.rm.
+fn with_place(e: Entry, place: Place) -> Entry
+    ensures { result ≡ record e { place = place } }
+{
+    Entry { place, ..e }
+}
+
+/// The entry with the modes that it exists in.
+fn with_modes(e: Entry, modes: Modes) -> Entry
+    ensures { result ≡ record e { modes = modes } }
+{
+    Entry { modes, ..e }
+}
+
+/// The entry with its operand sizes.
+fn with_sizes(e: Entry, sizes: Sizes) -> Entry
+    ensures { result ≡ record e { sizes = sizes } }
+{
+    Entry { sizes, ..e }
+}
+
 /// The entry with a mark.
 #[tactic(auto, unfolding(crate::specs::Entries::with_mark))]
 fn with_mark(e: Entry, mark: Mark) -> Option<Entry>
     ensures { result ≡ spec.with_mark e mark }
 {
     match mark {
-        Mark::Memory => Some(Entry {
-            place: Place::Memory,
-            ..e
-        }),
-        Mark::Register => Some(Entry {
-            place: Place::Register,
-            ..e
-        }),
-        Mark::Outside64 => Some(Entry {
-            modes: Modes::Outside64,
-            ..e
-        }),
-        Mark::Only64 => Some(Entry {
-            modes: Modes::Only64,
-            ..e
-        }),
+        Mark::Memory => Some(with_place(e, Place::Memory)),
+        Mark::Register => Some(with_place(e, Place::Register)),
+        Mark::Outside64 => Some(with_modes(e, Modes::Outside64)),
+        Mark::Only64 => Some(with_modes(e, Modes::Only64)),
         Mark::Caret => Some(Entry { caret: true, ..e }),
         Mark::Bang => Some(Entry { bang: true, ..e }),
         Mark::Lockable => Some(Entry {
@@ -306,26 +315,11 @@ fn with_mark(e: Entry, mark: Mark) -> Option<Entry>
         }),
         Mark::Address => Some(Entry { address: true, ..e }),
         Mark::Sized => Some(Entry { sized: true, ..e }),
-        Mark::By16 => Some(Entry {
-            sizes: Sizes::By16,
-            ..e
-        }),
-        Mark::ByW => Some(Entry {
-            sizes: Sizes::ByW,
-            ..e
-        }),
-        Mark::O16O32 => Some(Entry {
-            sizes: Sizes::O16O32,
-            ..e
-        }),
-        Mark::O32O64 => Some(Entry {
-            sizes: Sizes::O32O64,
-            ..e
-        }),
-        Mark::AllSizes => Some(Entry {
-            sizes: Sizes::All,
-            ..e
-        }),
+        Mark::By16 => Some(with_sizes(e, Sizes::By16)),
+        Mark::ByW => Some(with_sizes(e, Sizes::ByW)),
+        Mark::O16O32 => Some(with_sizes(e, Sizes::O16O32)),
+        Mark::O32O64 => Some(with_sizes(e, Sizes::O32O64)),
+        Mark::AllSizes => Some(with_sizes(e, Sizes::All)),
         Mark::W0 => Some(with_w(e, Sizes::W0, VexW::W0)),
         Mark::W1 => Some(with_w(e, Sizes::W1, VexW::W1)),
         Mark::BothW => with_vex_mark(e, VexW::Both, e.l),

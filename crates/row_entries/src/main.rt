@@ -13,7 +13,7 @@ mod variants;
 mod words;
 
 use anyhow::{Result, bail};
-use merging::merged;
+use merging::merge;
 use opcode_rows::{ROWS, name};
 use row_types::RowKind;
 use rows::{NamedRow, NoRows, Section, add_rows};
@@ -82,27 +82,54 @@ fn tell_difference(rows: &[NamedRow], at: u16) -> Result<()> {
     }
 }
 
-/// Reads the files of entries and compares their rows with those of the table.
-fn main(rt: HostRuntime) -> Result<()> {
-    let alloc = rt.alloc();
+/// The texts of the files.
+fn texts_of(rt: &HostRuntime, alloc: Global) -> Result<Vec<String>> {
     let mut texts = Vec::new(alloc);
     for (file, _) in FILES {
-        texts.push(fs::read_to_string(&rt, file)?)?;
+        texts.push(fs::read_to_string(rt, file)?)?;
     }
-    let mut all = Vec::new(alloc);
+    Ok(texts)
+}
+
+/// Some rows with those of a file, whose text is given. It prints how many entries and rows the file has, and counts the entries.
+fn with_file<'a>(
+    rt: &HostRuntime,
+    all: &[NamedRow<'a>],
+    (file, kind): (&str, RowKind),
+    text: &'a str,
+    entries: &mut usize,
+) -> Result<Vec<NamedRow<'a>>> {
+    let rows = rows_of(rt.alloc(), file, kind, text)?;
+    let found = entries_of(&rows);
+    let count = rows.len();
+    println!(rt; "{file}: {found} entries, {count} rows")?;
+    *entries = entries.wrapping_add(found);
+    Ok(merge(rt.alloc(), all, &rows)?)
+}
+
+/// The rows of all files, whose texts are given, in the order of the table, and how many entries they come from.
+fn all_rows<'a>(rt: &HostRuntime, texts: &'a [String]) -> Result<(Vec<NamedRow<'a>>, usize)> {
+    let mut all = Vec::new(rt.alloc());
     let mut entries: usize = 0;
-    for ((file, kind), text) in FILES.iter().zip(texts.iter()) {
-        let rows = rows_of(alloc, file, *kind, text.as_str())?;
-        let found = entries_of(&rows);
-        let count = rows.len();
-        println!(rt; "{file}: {found} entries, {count} rows")?;
-        entries = entries.wrapping_add(found);
-        all = merged(alloc, &all, &rows)?;
+    for (file, text) in FILES.iter().zip(texts.iter()) {
+        all = with_file(rt, &all, *file, text.as_str(), &mut entries)?;
     }
-    match compare(&all) {
-        Ok(()) => {}
-        Err(at) => tell_difference(&all, at)?,
+    Ok((all, entries))
+}
+
+/// Compares the rows with those of the table.
+fn agree(rows: &[NamedRow]) -> Result<()> {
+    match compare(rows) {
+        Ok(()) => Ok(()),
+        Err(at) => tell_difference(rows, at),
     }
+}
+
+/// Reads the files of entries and compares their rows with those of the table.
+fn main(rt: HostRuntime) -> Result<()> {
+    let texts = texts_of(&rt, rt.alloc())?;
+    let (all, entries) = all_rows(&rt, &texts)?;
+    agree(&all)?;
     let count = all.len();
     println!(rt; "{entries} entries agree with the {count} rows of the table")?;
     Ok(())

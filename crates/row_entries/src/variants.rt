@@ -163,8 +163,8 @@ fn is_by_w_mark(sizes: Sizes) -> bool
 }
 
 /// A size in its modes.
-fn sized(size: Size, modes: u8) -> Variant
-    ensures { result ≡ spec.sized size modes }
+fn variant_of_size(size: Size, modes: u8) -> Variant
+    ensures { result ≡ spec.variant_of_size size modes }
 {
     Variant {
         size,
@@ -177,7 +177,7 @@ fn sized(size: Size, modes: u8) -> Variant
 fn nothing() -> Variant
     ensures { result ≡ spec.nothing }
 {
-    sized(Size::None, 0)
+    variant_of_size(Size::None, 0)
 }
 
 /// Three rows by operand size.
@@ -185,9 +185,9 @@ fn by_sizes(small: u8, middle: u8, large: u8) -> [Variant; 3]
     ensures { result ≡ spec.by_sizes small middle large }
 {
     [
-        sized(Size::O16, small),
-        sized(Size::O32, middle),
-        sized(Size::O64, large),
+        variant_of_size(Size::O16, small),
+        variant_of_size(Size::O32, middle),
+        variant_of_size(Size::O64, large),
     ]
 }
 
@@ -197,13 +197,21 @@ fn by_mark(modes: Modes, sizes: Sizes, implied: bool) -> Option<[Variant; 3]>
 {
     let all = all_modes(modes);
     match sizes {
-        Sizes::By16 => Some([sized(Size::O16, all), sized(Size::O32or64, all), nothing()]),
-        Sizes::O32O64 => Some([
-            sized(Size::O32, all),
-            sized(Size::O64, only_64(modes)),
+        Sizes::By16 => Some([
+            variant_of_size(Size::O16, all),
+            variant_of_size(Size::O32or64, all),
             nothing(),
         ]),
-        Sizes::O16O32 => Some([sized(Size::O16, all), sized(Size::O32, all), nothing()]),
+        Sizes::O32O64 => Some([
+            variant_of_size(Size::O32, all),
+            variant_of_size(Size::O64, only_64(modes)),
+            nothing(),
+        ]),
+        Sizes::O16O32 => Some([
+            variant_of_size(Size::O16, all),
+            variant_of_size(Size::O32, all),
+            nothing(),
+        ]),
         Sizes::All => Some(by_sizes(all, all, only_64(modes))),
         _ => if implied {
             Some(by_sizes(all, all, only_64(modes)))
@@ -242,12 +250,20 @@ fn sizes_of(e: &Entry) -> Option<[Variant; 3]>
     ensures { result ≡ spec.sizes_of e.now }
 {
     match e.sizes {
-        Sizes::W0 => Some([sized(Size::W0, all_modes(e.modes)), nothing(), nothing()]),
-        Sizes::W1 => Some([sized(Size::W1, only_64(e.modes)), nothing(), nothing()]),
+        Sizes::W0 => Some([
+            variant_of_size(Size::W0, all_modes(e.modes)),
+            nothing(),
+            nothing(),
+        ]),
+        Sizes::W1 => Some([
+            variant_of_size(Size::W1, only_64(e.modes)),
+            nothing(),
+            nothing(),
+        ]),
         _ => if goes_by_w(e) {
             Some([
-                sized(Size::W0, all_modes(e.modes)),
-                sized(Size::W1, only_64(e.modes)),
+                variant_of_size(Size::W0, all_modes(e.modes)),
+                variant_of_size(Size::W1, only_64(e.modes)),
                 nothing(),
             ])
         } else {
@@ -320,7 +336,11 @@ pub fn variants(e: &Entry) -> [Variant; 3]
     match e.kind {
         RowKind::Legacy => match sizes_of(e) {
             Some(rows) => rows,
-            None => [sized(Size::None, all_modes(e.modes)), nothing(), nothing()],
+            None => [
+                variant_of_size(Size::None, all_modes(e.modes)),
+                nothing(),
+                nothing(),
+            ],
         },
         RowKind::Vex => match sizes_of(e) {
             Some(rows) => with_own_ws(rows),

@@ -1,5 +1,8 @@
 -- Rows of one cell that no values meet together.
 use Rattle.std.proofs.Common.{◌≡◌, ℕ, zero, suc, ◌<◌, ◌≤◌, Bool, true, false, not, ◌&&◌, ◌||◌, List, [], ◌∷◌, length, refl, sym, ◌∙◌, arith, inl, inr, eqb-true, eq-eqb, lit<}
+use Rattle.std.proofs.lemmas.Bool.{and_parts}
+use Rattle.row_fields.specs.Candidates.{Cand, Coded, coded, of_number, at_opcode, cands, alive, below}
+use Rattle.row_fields.proofs.Cands.{alive-cands, below-at}
 use Rattle.std.specs.Prelude.{◌==◌, ◌⊎◌}
 use Rattle.row_types.specs.declared.Row.{Row}
 use Rattle.row_types.specs.declared.Map.{Map}
@@ -8,8 +11,7 @@ use Rattle.x86_values.specs.declared.Bits.{Bits}
 use Rattle.x86_values.specs.declared.Bits.TheVariants.{B16, B32, B64}
 use Rattle.row_fields.specs.declared.Fields.{Fields}
 use Rattle.row_fields.specs.Holds.{map_number, codes_holding}
-use Rattle.row_fields.proofs.Masks.{Mask, free, only, oneof, nth, allows, meets, values}
-use Rattle.row_fields.proofs.Cands.{Cand, Coded, coded, of_number, at_opcode, cands, alive, alive-cands, and-left, and-right, below, below-at}
+use Rattle.row_fields.specs.Masks.{Mask, free, only, oneof, nth, allows, meets, values}
 
 unfoldable pub disjoint : List Bool → List Bool → Bool
 disjoint [] ys = true
@@ -78,13 +80,13 @@ masks_apart-meets [] ns vs h p q = cc
 masks_apart-meets (m ∷ ms) [] vs h p q = cc
 masks_apart-meets (m ∷ ms) (n ∷ ns) [] h p q =
     elim (or-either (mask_apart m n) (masks_apart ms ns) h) [
-      | inl a ↦ mask_apart-allows m n 0 a (and-left (allows m 0) (meets ms []) p) (and-left (allows n 0) (meets ns []) q)
-      | inr a ↦ masks_apart-meets ms ns [] a (and-right (allows m 0) (meets ms []) p) (and-right (allows n 0) (meets ns []) q)
+      | inl a ↦ mask_apart-allows m n 0 a (and_parts (allows m 0) (meets ms []) p).0 (and_parts (allows n 0) (meets ns []) q).0
+      | inr a ↦ masks_apart-meets ms ns [] a (and_parts (allows m 0) (meets ms []) p).1 (and_parts (allows n 0) (meets ns []) q).1
     ]
 masks_apart-meets (m ∷ ms) (n ∷ ns) (v ∷ vs) h p q =
     elim (or-either (mask_apart m n) (masks_apart ms ns) h) [
-      | inl a ↦ mask_apart-allows m n v a (and-left (allows m v) (meets ms vs) p) (and-left (allows n v) (meets ns vs) q)
-      | inr a ↦ masks_apart-meets ms ns vs a (and-right (allows m v) (meets ms vs) p) (and-right (allows n v) (meets ns vs) q)
+      | inl a ↦ mask_apart-allows m n v a (and_parts (allows m v) (meets ms vs) p).0 (and_parts (allows n v) (meets ns vs) q).0
+      | inr a ↦ masks_apart-meets ms ns vs a (and_parts (allows m v) (meets ms vs) p).1 (and_parts (allows n v) (meets ns vs) q).1
     ]
 
 pub bool_cases : (b : Bool) → (b ≡ true) ⊎ (b ≡ false)
@@ -97,8 +99,8 @@ unfolding apart_from alive
 apart_from-alive c [] vs h p = refl
 apart_from-alive c (d ∷ ds) vs h p =
     elim (bool_cases (meets d.masks vs)) [
-      | inl q ↦ absurd (masks_apart-meets c.masks d.masks vs (and-left (masks_apart c.masks d.masks) (apart_from c ds) h) p q)
-      | inr q ↦ rw q (apart_from-alive c ds vs (and-right (masks_apart c.masks d.masks) (apart_from c ds) h) p)
+      | inl q ↦ absurd (masks_apart-meets c.masks d.masks vs (and_parts (masks_apart c.masks d.masks) (apart_from c ds) h).0 p q)
+      | inr q ↦ rw q (apart_from-alive c ds vs (and_parts (masks_apart c.masks d.masks) (apart_from c ds) h).1 p)
     ]
 
 pub alive-all_apart : (cs : List Cand) (vs : List ℕ) → all_apart cs ≡ true → length (alive cs vs) ≤ 1
@@ -106,8 +108,8 @@ unfolding all_apart alive
 alive-all_apart [] vs h = omega arith
 alive-all_apart (c ∷ cs) vs h =
     elim (bool_cases (meets c.masks vs)) [
-      | inl q ↦ rw q (rw (apart_from-alive c cs vs (and-left (apart_from c cs) (all_apart cs) h) q) (omega arith))
-      | inr q ↦ rw q (alive-all_apart cs vs (and-right (apart_from c cs) (all_apart cs) h))
+      | inl q ↦ rw q (rw (apart_from-alive c cs vs (and_parts (apart_from c cs) (all_apart cs) h).0 q) (omega arith))
+      | inr q ↦ rw q (alive-all_apart cs vs (and_parts (apart_from c cs) (all_apart cs) h).1)
     ]
 
 -- The test over a table: every cell in every mode.
@@ -137,13 +139,13 @@ map_number-lt true map.M0f3a = lit< tt
 cell_apart-mode : (op : ℕ) (cell : List Coded) (bits : Bits) → cell_apart op cell ≡ true → all_apart (cands bits op cell) ≡ true
 unfolding cell_apart
 cell_apart-mode op cell B16 h =
-    and-left (all_apart (cands B16 op cell)) (all_apart (cands B32 op cell) && all_apart (cands B64 op cell)) h
+    (and_parts (all_apart (cands B16 op cell)) (all_apart (cands B32 op cell) && all_apart (cands B64 op cell)) h).0
 cell_apart-mode op cell B32 h =
-    and-left (all_apart (cands B32 op cell)) (all_apart (cands B64 op cell))
-    (and-right (all_apart (cands B16 op cell)) (all_apart (cands B32 op cell) && all_apart (cands B64 op cell)) h)
+    (and_parts (all_apart (cands B32 op cell)) (all_apart (cands B64 op cell))
+    (and_parts (all_apart (cands B16 op cell)) (all_apart (cands B32 op cell) && all_apart (cands B64 op cell)) h).1).0
 cell_apart-mode op cell B64 h =
-    and-right (all_apart (cands B32 op cell)) (all_apart (cands B64 op cell))
-    (and-right (all_apart (cands B16 op cell)) (all_apart (cands B32 op cell) && all_apart (cands B64 op cell)) h)
+    (and_parts (all_apart (cands B32 op cell)) (all_apart (cands B64 op cell))
+    (and_parts (all_apart (cands B16 op cell)) (all_apart (cands B32 op cell) && all_apart (cands B64 op cell)) h).1).1
 
 -- where the test says yes, at most one row holds, in each mode and on all fields
 pub at_most_one : (rows : List Row) → table_apart rows ≡ true → (bits : Bits) (f : Fields) → f.opcode < 256

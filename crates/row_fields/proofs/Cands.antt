@@ -1,46 +1,15 @@
 -- The rows of a cell as candidates, each a code with the masks that are not yet known to be met.
 use Rattle.std.proofs.Common.{◌≡◌, ℕ, zero, suc, ◌<◌, Bool, true, false, ◌&&◌, List, [], ◌∷◌, refl, ap, sym, ◌∙◌, arith, inl, inr, eqb-true}
-use Rattle.std.proofs.lemmas.Bool.{cases_lt}
+use Rattle.std.proofs.lemmas.Bool.{cases_lt, and_parts}
 use Rattle.std.specs.Prelude.{◌==◌}
 use Rattle.row_types.specs.declared.Row.{Row}
 use Rattle.x86_values.specs.declared.Bits.{Bits}
 use Rattle.instruction_parts.specs.Sizes.{exists_in}
 use Rattle.row_fields.specs.declared.Fields.{Fields}
 use Rattle.row_fields.specs.Holds.{holds, keep_if, codes_holding, is_vex, opcode_holds, map_number}
-use Rattle.row_fields.proofs.Masks.{Mask, free, only, oneof, allows, meets, masks, values}
+use Rattle.row_fields.specs.Masks.{Mask, free, only, oneof, allows, meets, masks, values}
 use Rattle.row_fields.proofs.MaskLemmas.{holds-masks}
-
-pub record Coded : Type 0 where
-  pub code : ℕ
-  pub row : Row
-
-pub record Cand : Type 0 where
-  pub code : ℕ
-  pub masks : List Mask
-
-unfoldable pub coded : ℕ → List Row → List Coded
-coded first [] = []
-coded first (r ∷ rs) = record { code = first; row = r } ∷ coded (suc first) rs
-
--- the rows of a kind and map
-unfoldable pub of_number : ℕ → List Coded → List Coded
-of_number number [] = []
-of_number number (c ∷ cs) = keep_if (map_number (is_vex c.row.kind) c.row.map == number) c (of_number number cs)
-
-unfoldable pub at_opcode : ℕ → List Coded → List Coded
-at_opcode op [] = []
-at_opcode op (c ∷ cs) = keep_if (opcode_holds c.row.plus c.row.opcode op) c (at_opcode op cs)
-
--- those that exist in the mode
-unfoldable pub cands : Bits → ℕ → List Coded → List Cand
-cands bits op [] = []
-cands bits op (c ∷ cs) = keep_if (exists_in bits c.row) (record { code = c.code; masks = masks bits op c.row }) (cands bits op cs)
-
--- the codes of the candidates whose masks the values meet
-unfoldable pub alive : List Cand → List ℕ → List ℕ
-unfolding meets
-alive [] vs = []
-alive (c ∷ cs) vs = keep_if (meets c.masks vs) c.code (alive cs vs)
+use Rattle.row_fields.specs.Candidates.{Coded, Cand, coded, of_number, at_opcode, cands, alive, mask_at, value_at, clear, keep, is_empty, is_free, all_free, is_one, below}
 
 pub at_opcode-keep_if : (op : ℕ) (b : Bool) (c : Coded) (cs : List Coded)
     → at_opcode op (keep_if b c cs) ≡ keep_if (b && opcode_holds c.row.plus c.row.opcode op) c (at_opcode op cs)
@@ -87,27 +56,6 @@ alive-cands bits first (r ∷ rs) f =
 
 -- Splits.
 
-unfoldable pub mask_at : List Mask → ℕ → Mask
-mask_at [] k = free
-mask_at (m ∷ ms) zero = m
-mask_at (m ∷ ms) (suc k) = mask_at ms k
-
-unfoldable pub value_at : List ℕ → ℕ → ℕ
-value_at [] k = 0
-value_at (v ∷ vs) zero = v
-value_at (v ∷ vs) (suc k) = value_at vs k
-
-unfoldable pub clear : List Mask → ℕ → List Mask
-clear [] k = []
-clear (m ∷ ms) zero = free ∷ ms
-clear (m ∷ ms) (suc k) = m ∷ clear ms k
-
--- the candidates that allow a value, which is then known
-unfoldable pub keep : ℕ → ℕ → List Cand → List Cand
-unfolding mask_at clear allows
-keep k v [] = []
-keep k v (c ∷ cs) = keep_if (allows (mask_at c.masks k) v) (record { code = c.code; masks = clear c.masks k }) (keep k v cs)
-
 and-swap : (a b c : Bool) → (a && (b && c)) ≡ (b && (a && c))
 and-swap true b c = refl
 and-swap false true c = refl
@@ -134,26 +82,6 @@ alive-keep k (c ∷ cs) vs =
 
 -- Ends.
 
-unfoldable pub is_empty : List Cand → Bool
-is_empty [] = true
-is_empty (c ∷ cs) = false
-
-unfoldable pub is_free : Mask → Bool
-is_free free = true
-is_free _ = false
-
-unfoldable pub all_free : List Mask → Bool
-unfolding is_free
-all_free [] = true
-all_free (m ∷ ms) = is_free m && all_free ms
-
--- one candidate is left, with this code, and nothing more is asked
-unfoldable pub is_one : ℕ → List Cand → Bool
-unfolding all_free
-is_one code [] = false
-is_one code (c ∷ []) = (c.code == code) && all_free c.masks
-is_one code (c ∷ d ∷ cs) = false
-
 pub alive-is_empty : (cs : List Cand) (vs : List ℕ) → is_empty cs ≡ true → alive cs vs ≡ []
 unfolding is_empty alive
 alive-is_empty [] vs h = refl
@@ -167,33 +95,21 @@ meets-all_free (free ∷ ms) (v ∷ vs) h = meets-all_free ms vs h
 meets-all_free (only n ∷ ms) vs h = cc
 meets-all_free (oneof bs ∷ ms) vs h = cc
 
-pub and-left : (a b : Bool) → (a && b) ≡ true → a ≡ true
-and-left true b h = refl
-and-left false b h = h
-
-pub and-right : (a b : Bool) → (a && b) ≡ true → b ≡ true
-and-right true b h = h
-and-right false b h = cc
-
 pub alive-is_one : (code : ℕ) (cs : List Cand) (vs : List ℕ) → is_one code cs ≡ true → alive cs vs ≡ code ∷ []
 unfolding is_one alive
 alive-is_one code [] vs h = cc
 alive-is_one code (c ∷ []) vs h =
-    let same : c.code ≡ code = eqb-true c.code code (and-left (c.code == code) (all_free c.masks) h) in
-    rw (meets-all_free c.masks vs (and-right (c.code == code) (all_free c.masks) h)) (ap (λ x. x ∷ []) same)
+    let same : c.code ≡ code = eqb-true c.code code (and_parts (c.code == code) (all_free c.masks) h).0 in
+    rw (meets-all_free c.masks vs (and_parts (c.code == code) (all_free c.masks) h).1) (ap (λ x. x ∷ []) same)
 alive-is_one code (c ∷ d ∷ cs) vs h = cc
 
 -- Tests of each number below another.
-
-unfoldable pub below : ℕ → (ℕ → Bool) → Bool
-below zero p = true
-below (suc n) p = p n && below n p
 
 pub below-at : (n : ℕ) (p : ℕ → Bool) (k : ℕ) → below n p ≡ true → k < n → p k ≡ true
 unfolding below
 below-at zero p k h lt = absurd (omega arith)
 below-at (suc n) p k h lt =
     elim (cases_lt k n) [
-      | inl l ↦ below-at n p k (and-right (p n) (below n p) h) l
-      | inr g ↦ (let e : k ≡ n = omega arith in rw e (and-left (p n) (below n p) h))
+      | inl l ↦ below-at n p k (and_parts (p n) (below n p) h).1 l
+      | inr g ↦ (let e : k ≡ n = omega arith in rw e (and_parts (p n) (below n p) h).0)
     ]

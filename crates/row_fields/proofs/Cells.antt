@@ -1,23 +1,21 @@
 -- The rows of a cell as a run of codes.
 use Rattle.std.proofs.Common.{◌≡◌, ℕ, zero, suc, pred, ◌+◌, ◌<◌, Bool, true, false, ◌&&◌, List, [], ◌∷◌, length, map, slice_get, refl, ap, sym, ◌∙◌, arith, inl, inr, eqb-true, nat_lt, ltb-true}
+use Rattle.std.proofs.lemmas.Bool.{and_parts}
+use Rattle.row_fields.specs.Candidates.{Coded, coded, of_number, at_opcode}
+use Rattle.row_fields.proofs.Cands.{at_opcode-keep_if}
 use Rattle.std.specs.Prelude.{◌==◌, Some}
 use Rattle.row_types.specs.declared.Row.{Row}
 use Rattle.row_fields.specs.Holds.{keep_if, stands_in, is_vex, opcode_holds, map_number, rows_at}
-use Rattle.row_fields.proofs.Cands.{Coded, coded, of_number, at_opcode, at_opcode-keep_if, and-left, and-right}
 use Rattle.row_fields.proofs.Apart.{bool_cases}
-
--- the codes are these, one after the other
-unfoldable pub is_run : ℕ → ℕ → List Coded → Bool
-is_run first count [] = count == 0
-is_run first count (c ∷ cs) = (nat_lt 0 count && (c.code == first)) && is_run (suc first) (pred count) cs
+use Rattle.row_fields.specs.Candidates.{is_run}
 
 pub length-is_run : (first count : ℕ) (cs : List Coded) → is_run first count cs ≡ true → length cs ≡ count
 unfolding is_run
 length-is_run first count [] h = sym (eqb-true count 0 h)
 length-is_run first count (c ∷ cs) h =
     let here : Bool = nat_lt 0 count && (c.code == first) in
-    let rest : length cs ≡ pred count = length-is_run (suc first) (pred count) cs (and-right here (is_run (suc first) (pred count) cs) h) in
-    let some : 0 < count = ltb-true 0 count (and-left (nat_lt 0 count) (c.code == first) (and-left here (is_run (suc first) (pred count) cs) h)) in
+    let rest : length cs ≡ pred count = length-is_run (suc first) (pred count) cs (and_parts here (is_run (suc first) (pred count) cs) h).1 in
+    let some : 0 < count = ltb-true 0 count (and_parts (nat_lt 0 count) (c.code == first) (and_parts here (is_run (suc first) (pred count) cs) h).0).0 in
     omega (arith, rest, some)
 
 pub code-is_run : (first count : ℕ) (cs : List Coded) → is_run first count cs ≡ true → (i : ℕ) (c : Coded) → slice_get cs i ≡ Some c → c.code ≡ first + i
@@ -26,11 +24,11 @@ code-is_run first count [] h i c at = cc
 code-is_run first count (x ∷ cs) h zero c at =
     let here : Bool = nat_lt 0 count && (x.code == first) in
     let same : x ≡ c = cc in
-    let is : x.code ≡ first = eqb-true x.code first (and-right (nat_lt 0 count) (x.code == first) (and-left here (is_run (suc first) (pred count) cs) h)) in
+    let is : x.code ≡ first = eqb-true x.code first (and_parts (nat_lt 0 count) (x.code == first) (and_parts here (is_run (suc first) (pred count) cs) h).0).1 in
     rw (← same) (omega (arith, is))
 code-is_run first count (x ∷ cs) h (suc i) c at =
     let here : Bool = nat_lt 0 count && (x.code == first) in
-    let rest : c.code ≡ suc first + i = code-is_run (suc first) (pred count) cs (and-right here (is_run (suc first) (pred count) cs) h) i c at in
+    let rest : c.code ≡ suc first + i = code-is_run (suc first) (pred count) cs (and_parts here (is_run (suc first) (pred count) cs) h).1 i c at in
     omega (arith, rest)
 
 map-keep_if : (b : Bool) (c : Coded) (cs : List Coded) → map (λ x. x.row) (keep_if b c cs) ≡ keep_if b c.row (map (λ x. x.row) cs)

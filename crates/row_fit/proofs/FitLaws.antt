@@ -1,5 +1,6 @@
 -- The eleven conditions of a fitting spelling, each by its name.
 use Rattle.std.proofs.Common.{◌≡◌, true, false, ◌&&◌, ◌==◌, nat_lt, length, Option, Some, None, is_some, is_none, refl}
+use Rattle.std.proofs.lemmas.Bool.{and_parts, eqb-true}
 use Rattle.x86_values.specs.declared.Bits.{Bits}
 use Rattle.row_types.specs.declared.Row.{Row}
 use Rattle.row_types.specs.declared.Plus.{Plus}
@@ -11,7 +12,6 @@ use Rattle.instruction_parts.specs.Sizes.{state_size, state_address_size}
 use Rattle.instruction_parts.specs.Bytes.{state_of, state_from}
 use Rattle.row_fit.specs.Fits.{fits, Fits, mode_fits, prefixes_fit, class_fits, vex_fits, opcode_and_modrm_fit, modrm_rule_fits, sizes_fit, vvvv_fits, lengths_fit, lock_fits, registers_fit, fields_in_range, state_fits, tail_fits, vex_in_range, modrm_in_range, sib_in_range, are_bytes, address_fits, immediates_bytes}
 use Rattle.row_fit.specs.Sound.{has_modrm_rule}
-use Rattle.instruction_parts.proofs.Tests.{and_left, and_right, equal_from}
 
 -- a fitting spelling meets each condition
 pub all_conditions : (bits : Bits) (row : Row) (s : Spelling) → fits bits row s ≡ true → Fits bits row s
@@ -32,27 +32,27 @@ all_conditions bits row s h =
     let g = registers_fit bits row state s.modrm s.sib in
     let t = tail_fits bits row state s.modrm s.sib disp imm in
     let r = fields_in_range s in
-    let hs = and_left (mode && (class && (sizes && vvvv))) (p && (v && (t && r))) h in
-    let hs1 = and_right mode (class && (sizes && vvvv)) hs in
-    let hs2 = and_right class (sizes && vvvv) hs1 in
-    let h1 = and_right (mode && (class && (sizes && vvvv))) (p && (v && (t && r))) h in
-    let h2 = and_right p (v && (t && r)) h1 in
-    let h3 = and_right v (t && r) h2 in
-    let ht = and_left t r h3 in
-    let ht1 = and_right o (l && (k && g)) ht in
-    let ht2 = and_right l (k && g) ht1 in
+    let hs = (and_parts (mode && (class && (sizes && vvvv))) (p && (v && (t && r))) h).0 in
+    let hs1 = (and_parts mode (class && (sizes && vvvv)) hs).1 in
+    let hs2 = (and_parts class (sizes && vvvv) hs1).1 in
+    let h1 = (and_parts (mode && (class && (sizes && vvvv))) (p && (v && (t && r))) h).1 in
+    let h2 = (and_parts p (v && (t && r)) h1).1 in
+    let h3 = (and_parts v (t && r) h2).1 in
+    let ht = (and_parts t r h3).0 in
+    let ht1 = (and_parts o (l && (k && g)) ht).1 in
+    let ht2 = (and_parts l (k && g) ht1).1 in
     record {
-      mode = and_left mode (class && (sizes && vvvv)) hs;
-      prefixes = and_left p (v && (t && r)) h1;
-      class = and_left class (sizes && vvvv) hs1;
-      vex = and_left v (t && r) h2;
-      opcode = and_left o (l && (k && g)) ht;
-      sizes = and_left sizes vvvv hs2;
-      vvvv = and_right sizes vvvv hs2;
-      lengths = and_left l (k && g) ht1;
-      lock = and_left k g ht2;
-      registers = and_right k g ht2;
-      ranges = and_right t r h3;
+      mode = (and_parts mode (class && (sizes && vvvv)) hs).0;
+      prefixes = (and_parts p (v && (t && r)) h1).0;
+      class = (and_parts class (sizes && vvvv) hs1).0;
+      vex = (and_parts v (t && r) h2).0;
+      opcode = (and_parts o (l && (k && g)) ht).0;
+      sizes = (and_parts sizes vvvv hs2).0;
+      vvvv = (and_parts sizes vvvv hs2).1;
+      lengths = (and_parts l (k && g) ht1).0;
+      lock = (and_parts k g ht2).0;
+      registers = (and_parts k g ht2).1;
+      ranges = (and_parts t r h3).1;
     }
 
 no_modrm : (m : Option ModRm) → is_none m ≡ true → is_some m ≡ false
@@ -84,15 +84,15 @@ ranges_behind s h =
     let disp = are_bytes s.disp.items in
     let imm = are_bytes s.imm.items in
     let r1 = m && (sib && (disp && imm)) in
-    let h2 = and_right (are_bytes s.prefixes.items) (vex_in_range s.vex && (nat_lt s.opcode 256 && r1)) h in
-    let h3 = and_right (nat_lt s.opcode 256) r1 (and_right (vex_in_range s.vex) (nat_lt s.opcode 256 && r1) h2) in
-    let h4 = and_right m (sib && (disp && imm)) h3 in
-    let h5 = and_right sib (disp && imm) h4 in
+    let h2 = (and_parts (are_bytes s.prefixes.items) (vex_in_range s.vex && (nat_lt s.opcode 256 && r1)) h).1 in
+    let h3 = (and_parts (nat_lt s.opcode 256) r1 (and_parts (vex_in_range s.vex) (nat_lt s.opcode 256 && r1) h2).1).1 in
+    let h4 = (and_parts m (sib && (disp && imm)) h3).1 in
+    let h5 = (and_parts sib (disp && imm) h4).1 in
     record {
-      modrm = and_left m (sib && (disp && imm)) h3;
-      sib = and_left sib (disp && imm) h4;
-      disp = and_left disp imm h5;
-      imm = and_right disp imm h5;
+      modrm = (and_parts m (sib && (disp && imm)) h3).0;
+      sib = (and_parts sib (disp && imm) h4).0;
+      disp = (and_parts disp imm h5).0;
+      imm = (and_parts disp imm h5).1;
     }
 
 pub modrm_range : (s : Spelling) → fields_in_range s ≡ true → modrm_in_range s.modrm ≡ true
@@ -106,5 +106,5 @@ pub immediates_length : (bits : Bits) (row : Row) (s : Spelling) → lengths_fit
 unfolding lengths_fit
 immediates_length bits row s h =
     let state = state_of bits row s in
-    equal_from (length s.imm.items) (immediates_bytes (state_size bits row state) row)
-    (and_right (address_fits (state_address_size bits state) row s.modrm s.sib (length s.disp.items)) (length s.imm.items == immediates_bytes (state_size bits row state) row) h)
+    eqb-true (length s.imm.items) (immediates_bytes (state_size bits row state) row)
+    (and_parts (address_fits (state_address_size bits state) row s.modrm s.sib (length s.disp.items)) (length s.imm.items == immediates_bytes (state_size bits row state) row) h).1

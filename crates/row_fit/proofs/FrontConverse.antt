@@ -1,5 +1,6 @@
 -- Bytes whose front is known are prefixes, a VEX or escape bytes, the opcode byte, and a rest.
 use Rattle.std.proofs.Common.{◌≡◌, ◌⊎◌, inl, inr, ℕ, zero, suc, ◌+◌, ◌-◌, ◌*◌, ◌/◌, ◌%◌, ◌<◌, Bool, true, false, ◌&&◌, ◌||◌, not, ◌==◌, nat_lt, List, [], ◌∷◌, ◌++◌, length, drop, Option, Some, None, refl, ap, sym, ◌∙◌, subst, arith, if◌then◌else◌}
+use Rattle.instruction_parts.proofs.Tests.{or_right}
 use Rattle.std.specs.List.{list_all}
 use Rattle.x86_values.specs.declared.Bits.{Bits}
 use Rattle.x86_values.specs.declared.Bits.TheVariants.{B16, B32, B64}
@@ -13,9 +14,8 @@ use Rattle.instruction_parts.specs.Front.{Front, Forbidden, Known, prefix_run, f
 use Rattle.row_fit.specs.Fits.{are_bytes, is_map_one, is_opcode, is_vex_of_mode, vex_in_range}
 use Rattle.row_fit.specs.FrontParts.{Parted, LeadIsProper, OpcodeAlone, VexAhead, is_far_load}
 use borrow.Author.Tests.{ltb-true}
-use Rattle.std.proofs.lemmas.Bool.{lt-ltb}
+use Rattle.std.proofs.lemmas.Bool.{lt-ltb, and_parts, cases_Bool, eqb-true}
 use Rattle.std.proofs.Math.Seq.{drop-append-add}
-use Rattle.instruction_parts.proofs.Tests.{either, and_left, and_right, or_right, equal_from}
 use Rattle.row_fit.proofs.FrontLaws.{c4_is_no_prefix, c5_is_no_prefix}
 
 -- what stands behind the prefixes of a known front
@@ -87,9 +87,9 @@ proper_one bits b rest h1 h2 h3 h4 = alone bits One b rest (rw h1 (rw h2 (rw h3 
 -- C4 or C5 outside 64-bit mode
 far_load_is_opcode : (bits : Bits) (b : ℕ) → is_64 bits ≡ false → is_vex_lead b ≡ true → is_opcode bits One b ≡ true
 unfolding is_opcode
-far_load_is_opcode bits b mode lead = elim (either (b == 0xC4)) [
-  | inl yes1 ↦ subst (λ (x : ℕ). is_opcode bits One x ≡ true) (sym (equal_from b 0xC4 yes1)) (rw (c4_is_no_prefix bits) (rw mode refl))
-  | inr no1 ↦ subst (λ (x : ℕ). is_opcode bits One x ≡ true) (sym (equal_from b 0xC5 (or_right (b == 0xC4) (b == 0xC5) no1 lead))) (rw (c5_is_no_prefix bits) (rw mode refl))
+far_load_is_opcode bits b mode lead = elim (cases_Bool (b == 0xC4)) [
+  | inl yes1 ↦ subst (λ (x : ℕ). is_opcode bits One x ≡ true) (sym (eqb-true b 0xC4 yes1)) (rw (c4_is_no_prefix bits) (rw mode refl))
+  | inr no1 ↦ subst (λ (x : ℕ). is_opcode bits One x ≡ true) (sym (eqb-true b 0xC5 (or_right (b == 0xC4) (b == 0xC5) no1 lead))) (rw (c5_is_no_prefix bits) (rw mode refl))
 ]
 
 proper_far_load : (bits : Bits) (b m : ℕ) (rest : List ℕ) → is_64 bits ≡ false → is_vex_lead b ≡ true → top_two_set m ≡ false → OpcodeAlone bits One b (m ∷ rest)
@@ -103,9 +103,9 @@ escape_front-led : (bits : Bits) (ps bytes : List ℕ) (f : PrefixState) → esc
 unfolding escape_front lead_bytes
 escape_front-led bits ps [] f h = cc
 escape_front-led bits ps (b ∷ bytes) f h = elim (if_known (b == 0x38) _ _ f h) [
-  | inl yes1 ↦ opcode_front-led bits ps 2 None M0f38 bytes (0x0F ∷ (b ∷ bytes)) f yes1.1 refl (ap (λ x. 0x0F ∷ (x ∷ bytes)) (equal_from b 0x38 yes1.0)) (proper_0f38 bits ps bytes)
+  | inl yes1 ↦ opcode_front-led bits ps 2 None M0f38 bytes (0x0F ∷ (b ∷ bytes)) f yes1.1 refl (ap (λ x. 0x0F ∷ (x ∷ bytes)) (eqb-true b 0x38 yes1.0)) (proper_0f38 bits ps bytes)
   | inr no1 ↦ elim (if_known (b == 0x3A) _ _ f no1.1) [
-    | inl yes2 ↦ opcode_front-led bits ps 2 None M0f3a bytes (0x0F ∷ (b ∷ bytes)) f yes2.1 refl (ap (λ x. 0x0F ∷ (x ∷ bytes)) (equal_from b 0x3A yes2.0)) (proper_0f3a bits ps bytes)
+    | inl yes2 ↦ opcode_front-led bits ps 2 None M0f3a bytes (0x0F ∷ (b ∷ bytes)) f yes2.1 refl (ap (λ x. 0x0F ∷ (x ∷ bytes)) (eqb-true b 0x3A yes2.0)) (proper_0f3a bits ps bytes)
     | inr no2 ↦ (let no3 = else_known (b == 0x0F) _ f no2.1 in opcode_front-led bits ps 1 None M0f (b ∷ bytes) (0x0F ∷ (b ∷ bytes)) f no3.1 refl refl (proper_0f bits b bytes no3.0 no1.0 no2.0))
   ]
 ]
@@ -152,11 +152,11 @@ some_map a b h = cc
 map_number-back : (n : ℕ) (map : Map) → map_numbered n ≡ Some map → map_number map ≡ n
 unfolding map_numbered
 map_number-back n map h = elim (if_some (n == 1) _ _ map h) [
-  | inl yes1 ↦ ap map_number (sym (some_map M0f map yes1.1)) ∙ sym (equal_from n 1 yes1.0)
+  | inl yes1 ↦ ap map_number (sym (some_map M0f map yes1.1)) ∙ sym (eqb-true n 1 yes1.0)
   | inr no1 ↦ elim (if_some (n == 2) _ _ map no1.1) [
-    | inl yes2 ↦ ap map_number (sym (some_map M0f38 map yes2.1)) ∙ sym (equal_from n 2 yes2.0)
+    | inl yes2 ↦ ap map_number (sym (some_map M0f38 map yes2.1)) ∙ sym (eqb-true n 2 yes2.0)
     | inr no2 ↦ elim (if_some (n == 3) _ _ map no2.1) [
-      | inl yes3 ↦ ap map_number (sym (some_map M0f3a map yes3.1)) ∙ sym (equal_from n 3 yes3.0)
+      | inl yes3 ↦ ap map_number (sym (some_map M0f3a map yes3.1)) ∙ sym (eqb-true n 3 yes3.0)
       | inr no3 ↦ (let e : None ≡ Some map = no3.1 in cc)
     ]
   ]
@@ -174,10 +174,10 @@ long_vex-bytes map b c hb hc hm =
     ∙ ap (λ n. 0xC4 ∷ b ∷ n ∷ []) (last_parts c _ _ hc t l)
 
 byte_head : (b : ℕ) (bytes : List ℕ) → are_bytes (b ∷ bytes) ≡ true → b < 256
-byte_head b bytes h = ltb-true b 256 (and_left (nat_lt b 256) (are_bytes bytes) h)
+byte_head b bytes h = ltb-true b 256 (and_parts (nat_lt b 256) (are_bytes bytes) h).0
 
 byte_tail : (b : ℕ) (bytes : List ℕ) → are_bytes (b ∷ bytes) ≡ true → are_bytes bytes ≡ true
-byte_tail b bytes h = and_right (nat_lt b 256) (are_bytes bytes) h
+byte_tail b bytes h = (and_parts (nat_lt b 256) (are_bytes bytes) h).1
 
 -- ---- the ranges of a VEX that was read
 
@@ -216,14 +216,14 @@ short_vex-of_mode : (bits : Bits) (b : ℕ) → b < 256 → TopOf bits b → is_
 unfolding is_vex_of_mode short_vex
 short_vex-of_mode bits b h (inl mode) = rw mode refl
 short_vex-of_mode bits b h (inr top) =
-    let e = equal_from (b / 64) 3 top in
+    let e = eqb-true (b / 64) 3 top in
     rw (top_bit b h e) (rw (lt-ltb (15 - b / 8 % 16) 8 (low_vvvv b h e)) (or_true (is_64 bits)))
 
 long_vex-of_mode : (bits : Bits) (map : Map) (b c : ℕ) → b < 256 → TopOf bits b → is_vex_of_mode bits (long_vex map b c) ≡ true
 unfolding is_vex_of_mode long_vex
 long_vex-of_mode bits map b c h (inl mode) = rw mode refl
 long_vex-of_mode bits map b c h (inr top) =
-    let e = equal_from (b / 64) 3 top in
+    let e = eqb-true (b / 64) 3 top in
     rw (top_bit b h e) (rw (next_bit b h e) (or_true (is_64 bits)))
 
 short_vex-ahead : (bits : Bits) (ps : List ℕ) (b : ℕ) → b < 256 → forbids_vex bits ps ≡ false → TopOf bits b → VexAhead bits ps (short_vex b) M0f
@@ -296,9 +296,9 @@ unfolding vex_front
 vex_front-led bits ps lead bytes f l r top h =
     let passed = else_known (forbids_vex bits ps) _ f h in
     elim (if_known (lead == 0xC5) _ _ f passed.1) [
-      | inl yes1 ↦ (let e = equal_from lead 0xC5 yes1.0 in subst (λ (x : ℕ). Led bits ps (x ∷ bytes) f) (sym e) (short_vex_front-led bits ps bytes f r passed.0 top yes1.1))
+      | inl yes1 ↦ (let e = eqb-true lead 0xC5 yes1.0 in subst (λ (x : ℕ). Led bits ps (x ∷ bytes) f) (sym e) (short_vex_front-led bits ps bytes f r passed.0 top yes1.1))
       | inr no1 ↦
-          let e = equal_from lead 0xC4 (or_left (lead == 0xC4) (lead == 0xC5) no1.0 l) in
+          let e = eqb-true lead 0xC4 (or_left (lead == 0xC4) (lead == 0xC5) no1.0 l) in
           subst (λ (x : ℕ). Led bits ps (x ∷ bytes) f) (sym e) (long_vex_front-led bits ps bytes f r passed.0 top no1.1)
     ]
   where
@@ -340,7 +340,7 @@ lead_front-led bits ps [] f r stops h = cc
 lead_front-led bits ps (b ∷ bytes) f r stops h = elim (if_known (is_vex_lead b) _ _ f h) [
   | inl yes1 ↦ vex_or_opcode_front-led bits ps b bytes f yes1.0 (byte_tail b bytes r) yes1.1
   | inr no1 ↦ elim (if_known (b == 0x0F) _ _ f no1.1) [
-    | inl yes2 ↦ (let e = equal_from b 0x0F yes2.0 in subst (λ (x : ℕ). Led bits ps (x ∷ bytes) f) (sym e) (escape_front-led bits ps bytes f yes2.1))
+    | inl yes2 ↦ (let e = eqb-true b 0x0F yes2.0 in subst (λ (x : ℕ). Led bits ps (x ∷ bytes) f) (sym e) (escape_front-led bits ps bytes f yes2.1))
     | inr no2 ↦ (let no3 = else_known (is_64 bits && b == 0x62) _ f no2.1 in one_led bits ps (b ∷ bytes) f no3.1 (proper_one bits b bytes stops no2.0 no3.0 no1.0))
   ]
 ]

@@ -1,5 +1,7 @@
 -- The front of a spelling's bytes, whatever stands behind them, is the state of the spelling.
 use Rattle.std.proofs.Common.{◌≡◌, ◌⊎◌, inl, inr, ℕ, ◌+◌, ◌-◌, ◌*◌, ◌/◌, ◌%◌, ◌<◌, Bool, true, false, ◌&&◌, ◌||◌, not, ◌==◌, nat_lt, List, [], ◌∷◌, ◌++◌, length, Option, Some, None, refl, ap, sym, ◌∙◌, arith, append_assoc, length-append, if◌then◌else◌}
+use Rattle.std.proofs.lemmas.Bool.{and_parts, cases_Bool, not-true}
+use Rattle.instruction_parts.proofs.Tests.{or_right}
 use Rattle.std.proofs.Math.Seq.{drop-append_seam}
 use Rattle.std.specs.List.{list_all}
 use Rattle.x86_values.specs.declared.Bits.{Bits}
@@ -16,7 +18,6 @@ use Rattle.instruction_parts.specs.Front.{Known, prefix_run, forbids_vex, top_tw
 use Rattle.instruction_parts.specs.Sizes.{is_vex_row}
 use Rattle.row_fit.specs.Fits.{prefixes_fit, tail_fits, state_fits, sib_in_range, are_bytes, fits, is_opcode, opcode_allows, opcode_is_kept, vex_fits, has_memory_mode, has_reg_zero, is_vex_of_mode, vex_in_range, modrm_in_range, fields_in_range, same_map, is_map_one}
 use borrow.Author.Tests.{ltb-true}
-use Rattle.instruction_parts.proofs.Tests.{either, and_left, and_right, not_true, or_right}
 use Rattle.row_fit.proofs.SameMap.{same_map-is}
 
 -- prefixes in front of a byte that is none are the run
@@ -24,8 +25,8 @@ pub prefix_run-append : (bits : Bits) (ps : List ℕ) (b : ℕ) (more : List ℕ
 unfolding prefix_run
 prefix_run-append bits [] b more all stop = rw stop
 prefix_run-append bits (x ∷ ps) b more all stop =
-    let here : is_prefix bits x ≡ true = and_left (is_prefix bits x) (list_all (is_prefix bits) ps) all in
-    let rest = prefix_run-append bits ps b more (and_right (is_prefix bits x) (list_all (is_prefix bits) ps) all) stop in
+    let here : is_prefix bits x ≡ true = (and_parts (is_prefix bits x) (list_all (is_prefix bits) ps) all).0 in
+    let rest = prefix_run-append bits ps b more (and_parts (is_prefix bits x) (list_all (is_prefix bits) ps) all).1 stop in
     rw here (ap (λ xs. x ∷ xs) rest)
 
 pub long_front-run : (bits : Bits) (ps : List ℕ) (b : ℕ) (more : List ℕ) → list_all (is_prefix bits) ps ≡ true → is_prefix bits b ≡ false → long_front bits (ps ++ (b ∷ more)) ≡ lead_front bits ps (b ∷ more)
@@ -39,9 +40,9 @@ long_front-run bits ps b more all stop =
 pub lead_front-one : (bits : Bits) (ps : List ℕ) (b : ℕ) (more : List ℕ) → is_opcode bits One b ≡ true → is_vex_lead b ≡ false → lead_front bits ps (b ∷ more) ≡ Known (state_from bits ps (length ps + 0) None One b)
 unfolding lead_front opcode_front is_opcode
 lead_front-one bits ps b more ok lead =
-    let rest = and_right (not (is_prefix bits b)) (not (b == 0x0F) && not (is_64 bits && b == 0x62)) ok in
-    let no_escape : (b == 0x0F) ≡ false = not_true (b == 0x0F) (and_left (not (b == 0x0F)) (not (is_64 bits && b == 0x62)) rest) in
-    let no_62 : (is_64 bits && b == 0x62) ≡ false = not_true (is_64 bits && b == 0x62) (and_right (not (b == 0x0F)) (not (is_64 bits && b == 0x62)) rest) in
+    let rest = (and_parts (not (is_prefix bits b)) (not (b == 0x0F) && not (is_64 bits && b == 0x62)) ok).1 in
+    let no_escape : (b == 0x0F) ≡ false = not-true (b == 0x0F) (and_parts (not (b == 0x0F)) (not (is_64 bits && b == 0x62)) rest).0 in
+    let no_62 : (is_64 bits && b == 0x62) ≡ false = not-true (is_64 bits && b == 0x62) (and_parts (not (b == 0x0F)) (not (is_64 bits && b == 0x62)) rest).1 in
     rw lead (rw no_escape (rw no_62))
 
 -- LES and LDS, whose ModRM says memory
@@ -55,10 +56,10 @@ lead_front-les B64 ps b m more mode lead top = cc
 pub lead_front-0f : (bits : Bits) (ps : List ℕ) (b : ℕ) (more : List ℕ) → is_opcode bits M0f b ≡ true → lead_front bits ps (0x0F ∷ (b ∷ more)) ≡ Known (state_from bits ps (length ps + 1) None M0f b)
 unfolding lead_front opcode_front escape_front is_opcode
 lead_front-0f bits ps b more ok =
-    let no_escape : (b == 0x0F) ≡ false = not_true (b == 0x0F) (and_left (not (b == 0x0F)) (not (b == 0x38) && not (b == 0x3A)) ok) in
-    let rest = and_right (not (b == 0x0F)) (not (b == 0x38) && not (b == 0x3A)) ok in
-    let no_38 : (b == 0x38) ≡ false = not_true (b == 0x38) (and_left (not (b == 0x38)) (not (b == 0x3A)) rest) in
-    let no_3a : (b == 0x3A) ≡ false = not_true (b == 0x3A) (and_right (not (b == 0x38)) (not (b == 0x3A)) rest) in
+    let no_escape : (b == 0x0F) ≡ false = not-true (b == 0x0F) (and_parts (not (b == 0x0F)) (not (b == 0x38) && not (b == 0x3A)) ok).0 in
+    let rest = (and_parts (not (b == 0x0F)) (not (b == 0x38) && not (b == 0x3A)) ok).1 in
+    let no_38 : (b == 0x38) ≡ false = not-true (b == 0x38) (and_parts (not (b == 0x38)) (not (b == 0x3A)) rest).0 in
+    let no_3a : (b == 0x3A) ≡ false = not-true (b == 0x3A) (and_parts (not (b == 0x38)) (not (b == 0x3A)) rest).1 in
     rw no_38 (rw no_3a (rw no_escape))
 
 -- an opcode byte behind 0F 38 and 0F 3A
@@ -223,44 +224,44 @@ vex_range : (v : Vex) → vex_in_range (Some v) ≡ true → VexRange v
 unfolding vex_in_range
 vex_range v h =
     let two = not v.x && (not v.b && (not v.w && same_map v.map M0f)) in
-    let h1 = and_right (nat_lt v.vvvv 16) (nat_lt v.pp 4 && (not (is_map_one v.map) && (v.three || two))) h in
-    let h2 = and_right (nat_lt v.pp 4) (not (is_map_one v.map) && (v.three || two)) h1 in
-    let h3 = and_right (not (is_map_one v.map)) (v.three || two) h2 in
+    let h1 = (and_parts (nat_lt v.vvvv 16) (nat_lt v.pp 4 && (not (is_map_one v.map) && (v.three || two))) h).1 in
+    let h2 = (and_parts (nat_lt v.pp 4) (not (is_map_one v.map) && (v.three || two)) h1).1 in
+    let h3 = (and_parts (not (is_map_one v.map)) (v.three || two) h2).1 in
     record {
-      vvvv = lt_from v.vvvv 16 (and_left (nat_lt v.vvvv 16) (nat_lt v.pp 4 && (not (is_map_one v.map) && (v.three || two))) h);
-      pp = lt_from v.pp 4 (and_left (nat_lt v.pp 4) (not (is_map_one v.map) && (v.three || two)) h1);
-      map = not_true (is_map_one v.map) (and_left (not (is_map_one v.map)) (v.three || two) h2);
+      vvvv = lt_from v.vvvv 16 (and_parts (nat_lt v.vvvv 16) (nat_lt v.pp 4 && (not (is_map_one v.map) && (v.three || two))) h).0;
+      pp = lt_from v.pp 4 (and_parts (nat_lt v.pp 4) (not (is_map_one v.map) && (v.three || two)) h1).0;
+      map = not-true (is_map_one v.map) (and_parts (not (is_map_one v.map)) (v.three || two) h2).0;
       two = λ three.
           let t = or_right v.three two three h3 in
-          let t1 = and_right (not v.x) (not v.b && (not v.w && same_map v.map M0f)) t in
-          let t2 = and_right (not v.b) (not v.w && same_map v.map M0f) t1 in (
-            not_true v.x (and_left (not v.x) (not v.b && (not v.w && same_map v.map M0f)) t),
-            not_true v.b (and_left (not v.b) (not v.w && same_map v.map M0f) t1),
-            not_true v.w (and_left (not v.w) (same_map v.map M0f) t2),
-            same_map-is v.map M0f (and_right (not v.w) (same_map v.map M0f) t2),
+          let t1 = (and_parts (not v.x) (not v.b && (not v.w && same_map v.map M0f)) t).1 in
+          let t2 = (and_parts (not v.b) (not v.w && same_map v.map M0f) t1).1 in (
+            not-true v.x (and_parts (not v.x) (not v.b && (not v.w && same_map v.map M0f)) t).0,
+            not-true v.b (and_parts (not v.b) (not v.w && same_map v.map M0f) t1).0,
+            not-true v.w (and_parts (not v.w) (same_map v.map M0f) t2).0,
+            same_map-is v.map M0f (and_parts (not v.w) (same_map v.map M0f) t2).1,
           );
     }
 
 -- outside 64-bit mode the byte behind C5 begins with 11
 short_top : (bits : Bits) (v : Vex) → VexRange v → v.three ≡ false → is_vex_of_mode bits v ≡ true → (is_64 bits ≡ true) ⊎ (top_two_set (vex_last_byte (inverted_bit v.r) v) ≡ true)
 unfolding is_vex_of_mode
-short_top bits v range three h = elim (either (is_64 bits)) [
+short_top bits v range three h = elim (cases_Bool (is_64 bits)) [
   | inl is ↦ inl is
   | inr other ↦
       let rest = or_right (is_64 bits) (not v.r && (if v.three then not v.x else nat_lt v.vvvv 8)) other h in
-      let low : nat_lt v.vvvv 8 ≡ true = rw three at (and_right (not v.r) (if v.three then not v.x else nat_lt v.vvvv 8) rest) in
-      inr (top_set (vex_last_byte (inverted_bit v.r) v) (top_of_short v (not_true v.r (and_left (not v.r) (if v.three then not v.x else nat_lt v.vvvv 8) rest)) (lt_from v.vvvv 8 low) range.pp))
+      let low : nat_lt v.vvvv 8 ≡ true = rw three at (and_parts (not v.r) (if v.three then not v.x else nat_lt v.vvvv 8) rest).1 in
+      inr (top_set (vex_last_byte (inverted_bit v.r) v) (top_of_short v (not-true v.r (and_parts (not v.r) (if v.three then not v.x else nat_lt v.vvvv 8) rest).0) (lt_from v.vvvv 8 low) range.pp))
 ]
 
 -- the same of the byte behind C4
 long_top : (bits : Bits) (v : Vex) → v.three ≡ true → is_vex_of_mode bits v ≡ true → (is_64 bits ≡ true) ⊎ (top_two_set (vex_map_byte v) ≡ true)
 unfolding is_vex_of_mode
-long_top bits v three h = elim (either (is_64 bits)) [
+long_top bits v three h = elim (cases_Bool (is_64 bits)) [
   | inl is ↦ inl is
   | inr other ↦
       let rest = or_right (is_64 bits) (not v.r && (if v.three then not v.x else nat_lt v.vvvv 8)) other h in
-      let x : not v.x ≡ true = rw three at (and_right (not v.r) (if v.three then not v.x else nat_lt v.vvvv 8) rest) in
-      inr (top_set (vex_map_byte v) (top_of_long v (not_true v.r (and_left (not v.r) (if v.three then not v.x else nat_lt v.vvvv 8) rest)) (not_true v.x x)))
+      let x : not v.x ≡ true = rw three at (and_parts (not v.r) (if v.three then not v.x else nat_lt v.vvvv 8) rest).1 in
+      inr (top_set (vex_map_byte v) (top_of_long v (not-true v.r (and_parts (not v.r) (if v.three then not v.x else nat_lt v.vvvv 8) rest).0) (not-true v.x x)))
 ]
 
 map_of_byte : (v : Vex) → vex_map_byte v % 32 ≡ map_number v.map
@@ -274,7 +275,7 @@ map_back map b h one = rw h (map_numbered-back map one)
 pub vex_law : (bits : Bits) (ps : List ℕ) (v : Vex) (o : ℕ) (more : List ℕ) → list_all (is_prefix bits) ps ≡ true → forbids_vex bits ps ≡ false → is_vex_of_mode bits v ≡ true → vex_in_range (Some v) ≡ true → long_front bits (ps ++ (vex_bytes v ++ (o ∷ more))) ≡ Known (state_from bits ps (length ps + length (vex_bytes v)) (Some v) v.map o)
 vex_law bits ps v o more all forbids mode in_range =
     let range = vex_range v in_range in
-    elim (either v.three) [
+    elim (cases_Bool v.three) [
       | inl three ↦
           let last = vex_last_byte (bit v.w) v in
           rw (vex_bytes-long v three)
@@ -299,7 +300,7 @@ vex_law bits ps v o more all forbids mode in_range =
 opcode_is_no_prefix : (bits : Bits) (o : ℕ) → is_opcode bits One o ≡ true → is_prefix bits o ≡ false
 unfolding is_opcode
 opcode_is_no_prefix bits o ok =
-    not_true (is_prefix bits o) (and_left (not (is_prefix bits o)) (not (o == 0x0F) && not (is_64 bits && o == 0x62)) ok)
+    not-true (is_prefix bits o) (and_parts (not (is_prefix bits o)) (not (o == 0x0F) && not (is_64 bits && o == 0x62)) ok).0
 
 memory_top : (m : ModRm) → m.mode3 < 3 → m.reg < 8 → m.rm < 8 → top_two_set (modrm_byte m) ≡ false
 memory_top m h1 h2 h3 = grind (arith)
@@ -308,23 +309,23 @@ les_law : (bits : Bits) (ps : List ℕ) (o : ℕ) (m : Option ModRm) (more : Lis
 unfolding modrm_in_range
 les_law bits ps o None more lead mode memory range = cc
 les_law bits ps o (Some m) more lead mode memory range =
-    let r = and_right (nat_lt m.mode3 4) (nat_lt m.reg 8 && nat_lt m.rm 8) range in
+    let r = (and_parts (nat_lt m.mode3 4) (nat_lt m.reg 8 && nat_lt m.rm 8) range).1 in
     lead_front-les bits ps o (modrm_byte m) more mode lead
-    (memory_top m (lt_from m.mode3 3 memory) (lt_from m.reg 8 (and_left (nat_lt m.reg 8) (nat_lt m.rm 8) r)) (lt_from m.rm 8 (and_right (nat_lt m.reg 8) (nat_lt m.rm 8) r)))
+    (memory_top m (lt_from m.mode3 3 memory) (lt_from m.reg 8 (and_parts (nat_lt m.reg 8) (nat_lt m.rm 8) r).0) (lt_from m.rm 8 (and_parts (nat_lt m.reg 8) (nat_lt m.rm 8) r).1))
 
 -- C4 and C5 as an opcode byte stand outside 64-bit mode, with memory
 les_allowed : (bits : Bits) (o : ℕ) (m : Option ModRm) → is_vex_lead o ≡ true → opcode_allows bits One o m ≡ true → (is_64 bits ≡ false) × (has_memory_mode m ≡ true)
 unfolding opcode_allows
 les_allowed bits o m lead allows =
     let rest = (not (o == 0x62) || has_memory_mode m) && (not (o == 0x8F) || has_reg_zero m) in
-    let first = and_left (not (is_vex_lead o) || (not (is_64 bits) && has_memory_mode m)) rest allows in
+    let first = (and_parts (not (is_vex_lead o) || (not (is_64 bits) && has_memory_mode m)) rest allows).0 in
     let both : (not (is_64 bits) && has_memory_mode m) ≡ true = rw lead at first in
-    (not_true (is_64 bits) (and_left (not (is_64 bits)) (has_memory_mode m) both), and_right (not (is_64 bits)) (has_memory_mode m) both)
+    (not-true (is_64 bits) (and_parts (not (is_64 bits)) (has_memory_mode m) both).0, (and_parts (not (is_64 bits)) (has_memory_mode m) both).1)
 
 map_one_law : (bits : Bits) (ps : List ℕ) (o : ℕ) (m : Option ModRm) (more : List ℕ) → list_all (is_prefix bits) ps ≡ true → is_opcode bits One o ≡ true → opcode_allows bits One o m ≡ true → modrm_in_range m ≡ true → long_front bits (ps ++ (o ∷ (modrm_bytes m ++ more))) ≡ Known (state_from bits ps (length ps + 0) None One o)
 map_one_law bits ps o m more all ok allows range =
     long_front-run bits ps o (modrm_bytes m ++ more) all (opcode_is_no_prefix bits o ok)
-    ∙ elim (either (is_vex_lead o)) [
+    ∙ elim (cases_Bool (is_vex_lead o)) [
       | inl lead ↦ (let a = les_allowed bits o m lead allows in les_law bits ps o m more lead a.0 a.1 range)
       | inr lead ↦ lead_front-one bits ps o (modrm_bytes m ++ more) ok lead
     ]
@@ -333,10 +334,10 @@ map_one_law bits ps o m more all ok allows range =
 pub legacy_law : (bits : Bits) (ps : List ℕ) (map : Map) (o : ℕ) (m : Option ModRm) (more : List ℕ) → list_all (is_prefix bits) ps ≡ true → opcode_is_kept bits map o m ≡ true → modrm_in_range m ≡ true → long_front bits (ps ++ (escape_bytes map ++ (o ∷ (modrm_bytes m ++ more)))) ≡ Known (state_from bits ps (length ps + length (escape_bytes map)) None map o)
 unfolding opcode_is_kept
 legacy_law bits ps One o m more all kept range =
-    map_one_law bits ps o m more all (and_left (is_opcode bits One o) (opcode_allows bits One o m) kept) (and_right (is_opcode bits One o) (opcode_allows bits One o m) kept) range
+    map_one_law bits ps o m more all (and_parts (is_opcode bits One o) (opcode_allows bits One o m) kept).0 (and_parts (is_opcode bits One o) (opcode_allows bits One o m) kept).1 range
 legacy_law bits ps M0f o m more all kept range =
     long_front-run bits ps 0x0F (o ∷ (modrm_bytes m ++ more)) all (escape_is_no_prefix bits)
-    ∙ lead_front-0f bits ps o (modrm_bytes m ++ more) (and_left (is_opcode bits M0f o) (opcode_allows bits M0f o m) kept)
+    ∙ lead_front-0f bits ps o (modrm_bytes m ++ more) (and_parts (is_opcode bits M0f o) (opcode_allows bits M0f o m) kept).0
 legacy_law bits ps M0f38 o m more all kept range =
     long_front-run bits ps 0x0F (0x38 ∷ (o ∷ (modrm_bytes m ++ more))) all (escape_is_no_prefix bits)
     ∙ lead_front-0f38 bits ps o (modrm_bytes m ++ more)
@@ -349,13 +350,13 @@ legacy_law bits ps M0f3a o m more all kept range =
 parts_law : (bits : Bits) (row : Row) (ps : List ℕ) (vex : Option Vex) (o : ℕ) (m : Option ModRm) (more : List ℕ) → list_all (is_prefix bits) ps ≡ true → vex_fits bits row ps vex o m ≡ true → vex_in_range vex ≡ true → modrm_in_range m ≡ true → long_front bits (ps ++ (lead_bytes row.map vex ++ (o ∷ (modrm_bytes m ++ more)))) ≡ Known (state_from bits ps (length ps + length (lead_bytes row.map vex)) vex (spelled_map row.map vex) o)
 unfolding vex_fits lead_bytes
 parts_law bits row ps None o m more all h vr mr =
-    legacy_law bits ps row.map o m more all (and_right (not (is_vex_row row)) (opcode_is_kept bits row.map o m) h) mr
+    legacy_law bits ps row.map o m more all (and_parts (not (is_vex_row row)) (opcode_is_kept bits row.map o m) h).1 mr
 parts_law bits row ps (Some v) o m more all h vr mr =
-    let h1 = and_right (is_vex_row row) (same_map v.map row.map && (not (forbids_vex bits ps) && is_vex_of_mode bits v)) h in
-    let h2 = and_right (same_map v.map row.map) (not (forbids_vex bits ps) && is_vex_of_mode bits v) h1 in
+    let h1 = (and_parts (is_vex_row row) (same_map v.map row.map && (not (forbids_vex bits ps) && is_vex_of_mode bits v)) h).1 in
+    let h2 = (and_parts (same_map v.map row.map) (not (forbids_vex bits ps) && is_vex_of_mode bits v) h1).1 in
     vex_law bits ps v o (modrm_bytes m ++ more) all
-    (not_true (forbids_vex bits ps) (and_left (not (forbids_vex bits ps)) (is_vex_of_mode bits v) h2))
-    (and_right (not (forbids_vex bits ps)) (is_vex_of_mode bits v) h2) vr
+    (not-true (forbids_vex bits ps) (and_parts (not (forbids_vex bits ps)) (is_vex_of_mode bits v) h2).0)
+    (and_parts (not (forbids_vex bits ps)) (is_vex_of_mode bits v) h2).1 vr
 
 -- the parts of a fitting spelling that the front rests on
 pub record FrontFits (bits : Bits) (row : Row) (s : Spelling) : Type 0 where
@@ -372,18 +373,18 @@ front_fits bits row s h =
     let v = vex_fits bits row s.prefixes.items s.vex s.opcode s.modrm in
     let t = tail_fits bits row state s.modrm s.sib (length s.disp.items) (length s.imm.items) in
     let r = fields_in_range s in
-    let h1 = and_right (state_fits bits row state) (p && (v && (t && r))) h in
-    let h2 = and_right p (v && (t && r)) h1 in
-    let hr = and_right t r (and_right v (t && r) h2) in
+    let h1 = (and_parts (state_fits bits row state) (p && (v && (t && r))) h).1 in
+    let h2 = (and_parts p (v && (t && r)) h1).1 in
+    let hr = (and_parts t r (and_parts v (t && r) h2).1).1 in
     let r1 = modrm_in_range s.modrm && (sib_in_range s.sib && (are_bytes s.disp.items && are_bytes s.imm.items)) in
     let r2 = nat_lt s.opcode 256 && r1 in
-    let r3 = and_right (are_bytes s.prefixes.items) (vex_in_range s.vex && r2) hr in
-    let r4 = and_right (nat_lt s.opcode 256) r1 (and_right (vex_in_range s.vex) r2 r3) in
+    let r3 = (and_parts (are_bytes s.prefixes.items) (vex_in_range s.vex && r2) hr).1 in
+    let r4 = (and_parts (nat_lt s.opcode 256) r1 (and_parts (vex_in_range s.vex) r2 r3).1).1 in
     record {
-      prefixes = and_left p (v && (t && r)) h1;
-      vex = and_left v (t && r) h2;
-      vex_range = and_left (vex_in_range s.vex) r2 r3;
-      modrm_range = and_left (modrm_in_range s.modrm) (sib_in_range s.sib && (are_bytes s.disp.items && are_bytes s.imm.items)) r4;
+      prefixes = (and_parts p (v && (t && r)) h1).0;
+      vex = (and_parts v (t && r) h2).0;
+      vex_range = (and_parts (vex_in_range s.vex) r2 r3).0;
+      modrm_range = (and_parts (modrm_in_range s.modrm) (sib_in_range s.sib && (are_bytes s.disp.items && are_bytes s.imm.items)) r4).0;
     }
 
 -- the bytes of a spelling with others behind them, parted behind ModRM
@@ -403,7 +404,7 @@ front_law bits row s rest h =
 legacy_run : (bits : Bits) (ps : List ℕ) (map : Map) (o : ℕ) (m : Option ModRm) (tail : List ℕ) → list_all (is_prefix bits) ps ≡ true → opcode_is_kept bits map o m ≡ true → prefix_run bits (ps ++ (escape_bytes map ++ (o ∷ tail))) ≡ ps
 unfolding opcode_is_kept
 legacy_run bits ps One o m tail all kept =
-    prefix_run-append bits ps o tail all (opcode_is_no_prefix bits o (and_left (is_opcode bits One o) (opcode_allows bits One o m) kept))
+    prefix_run-append bits ps o tail all (opcode_is_no_prefix bits o (and_parts (is_opcode bits One o) (opcode_allows bits One o m) kept).0)
 legacy_run bits ps M0f o m tail all kept = prefix_run-append bits ps 0x0F (o ∷ tail) all (escape_is_no_prefix bits)
 legacy_run bits ps M0f38 o m tail all kept = prefix_run-append bits ps 0x0F (0x38 ∷ (o ∷ tail)) all (escape_is_no_prefix bits)
 legacy_run bits ps M0f3a o m tail all kept = prefix_run-append bits ps 0x0F (0x3A ∷ (o ∷ tail)) all (escape_is_no_prefix bits)
@@ -412,8 +413,8 @@ legacy_run bits ps M0f3a o m tail all kept = prefix_run-append bits ps 0x0F (0x3
 pub run_law : (bits : Bits) (row : Row) (ps : List ℕ) (vex : Option Vex) (o : ℕ) (m : Option ModRm) (tail : List ℕ) → list_all (is_prefix bits) ps ≡ true → vex_fits bits row ps vex o m ≡ true → prefix_run bits (ps ++ (lead_bytes row.map vex ++ (o ∷ tail))) ≡ ps
 unfolding vex_fits lead_bytes
 run_law bits row ps None o m tail all h =
-    legacy_run bits ps row.map o m tail all (and_right (not (is_vex_row row)) (opcode_is_kept bits row.map o m) h)
-run_law bits row ps (Some v) o m tail all h = elim (either v.three) [
+    legacy_run bits ps row.map o m tail all (and_parts (not (is_vex_row row)) (opcode_is_kept bits row.map o m) h).1
+run_law bits row ps (Some v) o m tail all h = elim (cases_Bool v.three) [
   | inl three ↦ rw (vex_bytes-long v three) (prefix_run-append bits ps 0xC4 (vex_map_byte v ∷ (vex_last_byte (bit v.w) v ∷ (o ∷ tail))) all (c4_is_no_prefix bits))
   | inr three ↦ rw (vex_bytes-short v three) (prefix_run-append bits ps 0xC5 (vex_last_byte (inverted_bit v.r) v ∷ (o ∷ tail)) all (c5_is_no_prefix bits))
 ]

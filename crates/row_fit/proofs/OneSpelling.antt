@@ -1,5 +1,6 @@
 -- Bytes have at most one spelling of a row.
 use Rattle.std.proofs.Common.{◌≡◌, ℕ, true, ◌&&◌, ◌==◌, List, ◌∷◌, ◌++◌, length, Option, ap, sym, ◌∙◌, subst, append_assoc, is_some}
+use Rattle.std.proofs.lemmas.Bool.{and_parts, eqb-true}
 use Rattle.x86_values.specs.declared.Bits.{Bits}
 use Rattle.row_types.specs.declared.Row.{Row}
 use Rattle.instruction_parts.specs.declared.spelling.Vex.{Vex}
@@ -11,7 +12,6 @@ use Rattle.instruction_parts.specs.Sizes.{state_size, state_address_size}
 use Rattle.instruction_parts.specs.Bytes.{bytes_of, front_bytes, tail_bytes, lead_bytes, modrm_bytes, sib_bytes, state_of, state_from}
 use Rattle.instruction_parts.specs.Front.{prefix_run, long_front}
 use Rattle.row_fit.specs.Fits.{fits, Fits, prefixes_fit, opcode_and_modrm_fit, opcode_fits, modrm_rule_fits, place_fits, lengths_fit, address_fits, immediates_bytes, modrm_in_range, sib_in_range}
-use Rattle.instruction_parts.proofs.Tests.{and_left, and_right, equal_from}
 use Rattle.row_fit.proofs.FitLaws.{all_conditions, modrm_stands, modrm_range, sib_range}
 use Rattle.row_fit.proofs.FrontLaws.{front_law, run_law}
 use Rattle.row_fit.proofs.FrontConverse.{same_state}
@@ -30,10 +30,10 @@ unfolding lengths_fit
 same_tail bits row state m n s t d e i j more others alike ls lt hm hn hs ht h =
     let asize = state_address_size bits state in
     let size = immediates_bytes (state_size bits row state) row in
-    let at1 = and_left (address_fits asize row m s (length d)) (length i == size) ls in
-    let at = and_left (address_fits asize row n t (length e)) (length j == size) lt in
-    let il = equal_from (length i) size (and_right (address_fits asize row m s (length d)) (length i == size) ls) in
-    let jl = equal_from (length j) size (and_right (address_fits asize row n t (length e)) (length j == size) lt) in
+    let at1 = (and_parts (address_fits asize row m s (length d)) (length i == size) ls).0 in
+    let at = (and_parts (address_fits asize row n t (length e)) (length j == size) lt).0 in
+    let il = eqb-true (length i) size (and_parts (address_fits asize row m s (length d)) (length i == size) ls).1 in
+    let jl = eqb-true (length j) size (and_parts (address_fits asize row n t (length e)) (length j == size) lt).1 in
     let first = same_modrm_option m n _ _ alike hm hn h in
     let at2 = subst (λ (x : Option ModRm). address_fits asize row x t (length e) ≡ true) (sym first.0) at in
     let second = same_sib_option s t _ _ (sib_alike asize row m s t (length d) (length e) at1 at2) hs ht first.1 in
@@ -70,7 +70,7 @@ prefixes_are bits row s rest f =
 rule_fits : (row : Row) (o : ℕ) (m : Option ModRm) → opcode_and_modrm_fit row o m ≡ true → modrm_rule_fits row.plus row.modrm m ≡ true
 unfolding opcode_and_modrm_fit
 rule_fits row o m h =
-    and_left (modrm_rule_fits row.plus row.modrm m) (place_fits row m) (and_right (opcode_fits row o) (modrm_rule_fits row.plus row.modrm m && place_fits row m) h)
+    (and_parts (modrm_rule_fits row.plus row.modrm m) (place_fits row m) (and_parts (opcode_fits row o) (modrm_rule_fits row.plus row.modrm m && place_fits row m) h).1).0
 
 state_vex : (bits : Bits) (row : Row) (s t : Spelling) → state_of bits row s ≡ state_of bits row t → s.vex ≡ t.vex
 unfolding state_of state_from

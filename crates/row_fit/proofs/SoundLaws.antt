@@ -1,6 +1,7 @@
 -- What a sound row meets: each condition by its name, and an opcode byte that is no prefix and no escape byte.
 use Rattle.std.proofs.Common.{◌≡◌, inl, inr, ℕ, zero, suc, ◌+◌, ◌-◌, ◌<◌, ◌≤◌, Bool, true, false, ◌&&◌, ◌||◌, not, ◌==◌, nat_le, nat_lt, List, [], ◌∷◌, length, get_or, refl, ap, sym, ◌∙◌, subst, arith, if◌then◌else◌}
-use Rattle.std.proofs.lemmas.Bool.{leb-true}
+use Rattle.instruction_parts.proofs.Tests.{or_right}
+use Rattle.std.proofs.lemmas.Bool.{leb-true, and_parts, cases_Bool, eqb-true, not-true}
 use Rattle.std.proofs.lemmas.List.Folds.{list_all_at}
 use Rattle.std.specs.List.{list_any, list_all}
 use Rattle.x86_values.specs.declared.Bits.{Bits}
@@ -15,14 +16,13 @@ use Rattle.instruction_parts.specs.Sizes.{exists_in, is_vex_row}
 use Rattle.row_fit.specs.Fits.{opcode_fits, reads_by, is_vvvv, is_map_one}
 use Rattle.row_fit.specs.Sound.{sound, Sound, has_four_operands, opcodes_are_bytes, kind_is_proper, reads_last_byte, rule_in_range, plus_is_proper, vex_is_proper, legacy_is_proper, opcode_is_proper, opcodes_of, is_no_w, is_no_l, opcode_is_no_prefix, opcode_is_no_prefix_in, operands_are_proper, operands_are_apart, immediates_are_short, begins_nothing}
 use borrow.Author.Tests.{ltb-true}
-use Rattle.instruction_parts.proofs.Tests.{either, and_left, and_right, not_true, or_right, equal_from}
 
 or_none : (a b : Bool) → (a || b) ≡ false → (a ≡ false) × (b ≡ false)
 or_none true b h = cc
 or_none false b h = (refl, h)
 
 pub all_at : (p : ℕ → Bool) (xs : List ℕ) (i : ℕ) → i < length xs → list_all p xs ≡ true → p (get_or xs i 0) ≡ true
-all_at p xs i h all = elim (either (p (get_or xs i 0))) [
+all_at p xs i h all = elim (cases_Bool (p (get_or xs i 0))) [
   | inl yes1 ↦ yes1
   | inr no1 ↦ (let e = list_all_at p xs i 0 h no1 in cc)
 ]
@@ -49,8 +49,8 @@ eight_at r (suc (suc (suc (suc (suc (suc (suc (suc k)))))))) h = absurd (omega a
 
 among_eight : (r o : ℕ) → (nat_le r o && nat_lt o (r + 8)) ≡ true → (o - r < 8) × (r + (o - r) ≡ o)
 among_eight r o h =
-    let low : r ≤ o = leb-true r o (and_left (nat_le r o) (nat_lt o (r + 8)) h) in
-    let high : o < r + 8 = ltb-true o (r + 8) (and_right (nat_le r o) (nat_lt o (r + 8)) h) in
+    let low : r ≤ o = leb-true r o (and_parts (nat_le r o) (nat_lt o (r + 8)) h).0 in
+    let high : o < r + 8 = ltb-true o (r + 8) (and_parts (nat_le r o) (nat_lt o (r + 8)) h).1 in
     (omega arith, omega arith)
 
 -- the opcode byte of a fitting spelling is one of the row's
@@ -61,8 +61,8 @@ opcode_among row o h = by_plus row.plus row.opcode o h
     by_plus : (plus : Plus) (r o : ℕ)
         → (elim plus [ PlusRegister ↦ nat_le r o && nat_lt o (r + 8) | _ ↦ o == r ]) ≡ true
         → (let xs : List ℕ = elim plus [ PlusRegister ↦ eight r | _ ↦ r ∷ [] ] in (i : ℕ) × (i < length xs) × (get_or xs i 0 ≡ o))
-    by_plus NoPlus r o h = (0, omega arith, sym (equal_from o r h))
-    by_plus PlusStack r o h = (0, omega arith, sym (equal_from o r h))
+    by_plus NoPlus r o h = (0, omega arith, sym (eqb-true o r h))
+    by_plus PlusStack r o h = (0, omega arith, sym (eqb-true o r h))
     by_plus PlusRegister r o h =
         let e = among_eight r o h in
         (o - r, e.0, eight_at r (o - r) e.0 ∙ e.1)
@@ -80,23 +80,23 @@ sound_conditions row h =
     let g = operands_are_proper row in
     let i = operands_are_apart row in
     let k = immediates_are_short row in
-    let h1 = and_right a (b && (c && (d && (e && (f && (g && (i && k))))))) h in
-    let h2 = and_right b (c && (d && (e && (f && (g && (i && k)))))) h1 in
-    let h3 = and_right c (d && (e && (f && (g && (i && k))))) h2 in
-    let h4 = and_right d (e && (f && (g && (i && k)))) h3 in
-    let h5 = and_right e (f && (g && (i && k))) h4 in
-    let h6 = and_right f (g && (i && k)) h5 in
-    let h7 = and_right g (i && k) h6 in
+    let h1 = (and_parts a (b && (c && (d && (e && (f && (g && (i && k))))))) h).1 in
+    let h2 = (and_parts b (c && (d && (e && (f && (g && (i && k)))))) h1).1 in
+    let h3 = (and_parts c (d && (e && (f && (g && (i && k))))) h2).1 in
+    let h4 = (and_parts d (e && (f && (g && (i && k)))) h3).1 in
+    let h5 = (and_parts e (f && (g && (i && k))) h4).1 in
+    let h6 = (and_parts f (g && (i && k)) h5).1 in
+    let h7 = (and_parts g (i && k) h6).1 in
     record {
-      four_operands = and_left a (b && (c && (d && (e && (f && (g && (i && k))))))) h;
-      opcodes = and_left b (c && (d && (e && (f && (g && (i && k)))))) h1;
-      rule = and_left c (d && (e && (f && (g && (i && k))))) h2;
-      plus = and_left d (e && (f && (g && (i && k)))) h3;
-      kind = and_left e (f && (g && (i && k))) h4;
-      no_prefix = and_left f (g && (i && k)) h5;
-      operands = and_left g (i && k) h6;
-      apart = and_left i k h7;
-      immediates = and_right i k h7;
+      four_operands = (and_parts a (b && (c && (d && (e && (f && (g && (i && k))))))) h).0;
+      opcodes = (and_parts b (c && (d && (e && (f && (g && (i && k)))))) h1).0;
+      rule = (and_parts c (d && (e && (f && (g && (i && k))))) h2).0;
+      plus = (and_parts d (e && (f && (g && (i && k)))) h3).0;
+      kind = (and_parts e (f && (g && (i && k))) h4).0;
+      no_prefix = (and_parts f (g && (i && k)) h5).0;
+      operands = (and_parts g (i && k) h6).0;
+      apart = (and_parts i k h7).0;
+      immediates = (and_parts i k h7).1;
     }
 
 if_false : (t a b : Bool) → t ≡ false → (if t then a else b) ≡ true → b ≡ true
@@ -110,7 +110,7 @@ legacy_opcodes row legacy h =
     let no_vvvv = not (reads_by is_vvvv row) && not (reads_by reads_last_byte row) in
     let opcodes = list_all (opcode_is_proper row.map) (opcodes_of row) in
     let l = if_false (is_vex_row row) (vex_is_proper row) (legacy_is_proper row) legacy h in
-    and_left opcodes no_vvvv (and_right (is_no_l row.l) (opcodes && no_vvvv) (and_right (is_no_w row.w) (is_no_l row.l && (opcodes && no_vvvv)) l))
+    (and_parts opcodes no_vvvv (and_parts (is_no_l row.l) (opcodes && no_vvvv) (and_parts (is_no_w row.w) (is_no_l row.l && (opcodes && no_vvvv)) l).1).1).0
 
 -- what holds in each mode holds in a mode
 each_mode : (p : Bits → Bool) (bits : Bits) → p B16 ≡ true → p B32 ≡ true → p B64 ≡ true → p bits ≡ true
@@ -125,18 +125,18 @@ no_prefix_of_mode bits row one h here =
     let b = opcode_is_no_prefix_in B32 row in
     let c = opcode_is_no_prefix_in B64 row in
     let all = or_right (not (is_map_one row.map)) (a && (b && c)) (ap not one) h in
-    not_true (list_any (is_prefix bits) (opcodes_of row))
+    not-true (list_any (is_prefix bits) (opcodes_of row))
     (or_right (not (exists_in bits row)) (not (list_any (is_prefix bits) (opcodes_of row))) (ap not here)
-    (each_mode (λ m. opcode_is_no_prefix_in m row) bits (and_left a (b && c) all) (and_left b c (and_right a (b && c) all)) (and_right b c (and_right a (b && c) all))))
+    (each_mode (λ m. opcode_is_no_prefix_in m row) bits (and_parts a (b && c) all).0 (and_parts b c (and_parts a (b && c) all).1).0 (and_parts b c (and_parts a (b && c) all).1).1))
 
 begins_nothing_from : (bits : Bits) (map : Map) (o : ℕ) → opcode_is_proper map o ≡ true → (is_map_one map ≡ true → is_prefix bits o ≡ false) → begins_nothing bits map o ≡ true
 unfolding begins_nothing opcode_is_proper
 begins_nothing_from bits One o h p =
-    let all = not_true ((((o == 0x0F) || (o == 0x66)) || (o == 0xF2)) || (o == 0xF3)) h in
+    let all = not-true ((((o == 0x0F) || (o == 0x66)) || (o == 0xF2)) || (o == 0xF3)) h in
     let first = or_none ((o == 0x0F) || (o == 0x66)) (o == 0xF2) (or_none (((o == 0x0F) || (o == 0x66)) || (o == 0xF2)) (o == 0xF3) all).0 in
     rw (p refl) (rw (or_none (o == 0x0F) (o == 0x66) first.0).0 refl)
 begins_nothing_from bits M0f o h p =
-    let all = or_none (o == 0x38) (o == 0x3A) (not_true ((o == 0x38) || (o == 0x3A)) h) in
+    let all = or_none (o == 0x38) (o == 0x3A) (not-true ((o == 0x38) || (o == 0x3A)) h) in
     rw all.0 (rw all.1 refl)
 begins_nothing_from bits M0f38 o h p = refl
 begins_nothing_from bits M0f3a o h p = refl

@@ -1,5 +1,6 @@
 -- Front and row fix what stands behind the opcode byte.
 use Rattle.std.proofs.Common.{◌≡◌, inl, inr, ℕ, ◌+◌, ◌*◌, ◌<◌, Bool, true, false, ◌&&◌, ◌==◌, nat_lt, List, [], ◌∷◌, ◌++◌, length, Option, Some, None, refl, ap, sym, ◌∙◌, arith, if◌then◌else◌, is_some, is_none}
+use Rattle.std.proofs.lemmas.Bool.{and_parts, cases_Bool, eqb-true, not-true}
 use Rattle.x86_values.specs.declared.Bits.{Bits}
 use Rattle.row_types.specs.declared.Row.{Row}
 use Rattle.instruction_parts.specs.declared.spelling.ModRm.{ModRm}
@@ -8,7 +9,6 @@ use Rattle.instruction_parts.specs.Bytes.{modrm_byte, sib_byte, modrm_bytes, sib
 use Rattle.row_fit.specs.Fits.{modrm_in_range, sib_in_range, same_bool, address_fits, reads_mode, reads_by, is_offset, needs_sib, displacement_bytes}
 use Rattle.instruction_parts.specs.Sizes.{size_bytes}
 use borrow.Author.Tests.{ltb-true}
-use Rattle.instruction_parts.proofs.Tests.{either, and_left, and_right, not_true, equal_from}
 
 -- lists of one length that begin the same list are equal
 pub cancel_front : (xs ys more others : List ℕ) → length xs ≡ length ys → xs ++ more ≡ ys ++ others → (xs ≡ ys) × (more ≡ others)
@@ -27,14 +27,14 @@ same_modrm a b c x y z hb hc hy hz h = (omega arith, omega arith, omega arith)
 modrm_fields : (m : ModRm) → modrm_in_range (Some m) ≡ true → (m.reg < 8) × (m.rm < 8)
 unfolding modrm_in_range
 modrm_fields m h =
-    let r = and_right (nat_lt m.mode3 4) (nat_lt m.reg 8 && nat_lt m.rm 8) h in
-    (ltb-true m.reg 8 (and_left (nat_lt m.reg 8) (nat_lt m.rm 8) r), ltb-true m.rm 8 (and_right (nat_lt m.reg 8) (nat_lt m.rm 8) r))
+    let r = (and_parts (nat_lt m.mode3 4) (nat_lt m.reg 8 && nat_lt m.rm 8) h).1 in
+    (ltb-true m.reg 8 (and_parts (nat_lt m.reg 8) (nat_lt m.rm 8) r).0, ltb-true m.rm 8 (and_parts (nat_lt m.reg 8) (nat_lt m.rm 8) r).1)
 
 sib_fields : (s : Sib) → sib_in_range (Some s) ≡ true → (s.index < 8) × (s.base < 8)
 unfolding sib_in_range
 sib_fields s h =
-    let r = and_right (nat_lt s.scale 4) (nat_lt s.index 8 && nat_lt s.base 8) h in
-    (ltb-true s.index 8 (and_left (nat_lt s.index 8) (nat_lt s.base 8) r), ltb-true s.base 8 (and_right (nat_lt s.index 8) (nat_lt s.base 8) r))
+    let r = (and_parts (nat_lt s.scale 4) (nat_lt s.index 8 && nat_lt s.base 8) h).1 in
+    (ltb-true s.index 8 (and_parts (nat_lt s.index 8) (nat_lt s.base 8) r).0, ltb-true s.base 8 (and_parts (nat_lt s.index 8) (nat_lt s.base 8) r).1)
 
 modrm_of : ℕ → ℕ → ℕ → ModRm
 modrm_of mode3 reg rm = record { mode3 = mode3; reg = reg; rm = rm }
@@ -78,7 +78,7 @@ same_sib_option (Some m) (Some n) more others s hm hn h =
 
 same_from : (a b : Bool) → same_bool a b ≡ true → a ≡ b
 same_from true b h = sym h
-same_from false b h = sym (not_true b h)
+same_from false b h = sym (not-true b h)
 
 none_is : (o : Option Sib) → is_none o ≡ true → is_some o ≡ false
 none_is None h = refl
@@ -88,14 +88,14 @@ none_is (Some s) h = cc
 pub sib_alike : (asize : Bits) (row : Row) (m : Option ModRm) (s t : Option Sib) (d e : ℕ) → address_fits asize row m s d ≡ true → address_fits asize row m t e ≡ true → is_some s ≡ is_some t
 unfolding address_fits
 sib_alike asize row None s t d e hs ht =
-    none_is s (and_left (is_none s) (d == (if reads_by is_offset row then size_bytes asize else 0)) hs)
-    ∙ sym (none_is t (and_left (is_none t) (e == (if reads_by is_offset row then size_bytes asize else 0)) ht))
-sib_alike asize row (Some m) s t d e hs ht = elim (either (reads_mode row)) [
+    none_is s (and_parts (is_none s) (d == (if reads_by is_offset row then size_bytes asize else 0)) hs).0
+    ∙ sym (none_is t (and_parts (is_none t) (e == (if reads_by is_offset row then size_bytes asize else 0)) ht).0)
+sib_alike asize row (Some m) s t d e hs ht = elim (cases_Bool (reads_mode row)) [
   | inl reads ↦
-      same_from (is_some s) (needs_sib asize m) (and_left (same_bool (is_some s) (needs_sib asize m)) (d == displacement_bytes asize m s) (rw reads at hs))
-      ∙ sym (same_from (is_some t) (needs_sib asize m) (and_left (same_bool (is_some t) (needs_sib asize m)) (e == displacement_bytes asize m t) (rw reads at ht)))
+      same_from (is_some s) (needs_sib asize m) (and_parts (same_bool (is_some s) (needs_sib asize m)) (d == displacement_bytes asize m s) (rw reads at hs)).0
+      ∙ sym (same_from (is_some t) (needs_sib asize m) (and_parts (same_bool (is_some t) (needs_sib asize m)) (e == displacement_bytes asize m t) (rw reads at ht)).0)
   | inr other ↦
-      none_is s (and_left (is_none s) (d == 0) (rw other at hs)) ∙ sym (none_is t (and_left (is_none t) (e == 0) (rw other at ht)))
+      none_is s (and_parts (is_none s) (d == 0) (rw other at hs)).0 ∙ sym (none_is t (and_parts (is_none t) (e == 0) (rw other at ht)).0)
 ]
 
 -- under one ModRM and SIB the displacement has one length
@@ -103,10 +103,10 @@ pub displacement_alike : (asize : Bits) (row : Row) (m : Option ModRm) (s : Opti
 unfolding address_fits
 displacement_alike asize row None s d e hd he =
     let n : ℕ = if reads_by is_offset row then size_bytes asize else 0 in
-    equal_from d n (and_right (is_none s) (d == n) hd) ∙ sym (equal_from e n (and_right (is_none s) (e == n) he))
-displacement_alike asize row (Some m) s d e hd he = elim (either (reads_mode row)) [
+    eqb-true d n (and_parts (is_none s) (d == n) hd).1 ∙ sym (eqb-true e n (and_parts (is_none s) (e == n) he).1)
+displacement_alike asize row (Some m) s d e hd he = elim (cases_Bool (reads_mode row)) [
   | inl reads ↦
-      equal_from d _ (and_right (same_bool (is_some s) (needs_sib asize m)) (d == displacement_bytes asize m s) (rw reads at hd))
-      ∙ sym (equal_from e _ (and_right (same_bool (is_some s) (needs_sib asize m)) (e == displacement_bytes asize m s) (rw reads at he)))
-  | inr other ↦ equal_from d 0 (and_right (is_none s) (d == 0) (rw other at hd)) ∙ sym (equal_from e 0 (and_right (is_none s) (e == 0) (rw other at he)))
+      eqb-true d _ (and_parts (same_bool (is_some s) (needs_sib asize m)) (d == displacement_bytes asize m s) (rw reads at hd)).1
+      ∙ sym (eqb-true e _ (and_parts (same_bool (is_some s) (needs_sib asize m)) (e == displacement_bytes asize m s) (rw reads at he)).1)
+  | inr other ↦ eqb-true d 0 (and_parts (is_none s) (d == 0) (rw other at hd)).1 ∙ sym (eqb-true e 0 (and_parts (is_none s) (e == 0) (rw other at he)).1)
 ]

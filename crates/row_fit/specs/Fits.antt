@@ -475,7 +475,7 @@ fits bits row s =
     && (tail_fits bits row state s.modrm s.sib (length s.disp.items) (length s.imm.items)
     && fields_in_range s)))
 
--- the same as a fact, with a name for each condition
+-- what it is for a spelling to fit a row in a mode, with a name for each condition
 pub record Fits (bits : Bits) (row : Row) (s : Spelling) : Type 0 where
   pub mode : IsTrue (mode_fits bits row)
   pub prefixes : IsTrue (prefixes_fit bits s.prefixes.items)

@@ -159,7 +159,7 @@ unfoldable pub opcode_is_no_prefix_in : Bits → Row → Bool
 opcode_is_no_prefix_in bits row =
     not (exists_in bits row) || not (list_any (is_prefix bits) (opcodes_of row))
 
--- the same in each mode
+-- in each mode in which a row of the one-byte map exists, its opcode byte is no prefix
 unfoldable pub opcode_is_no_prefix : Row → Bool
 opcode_is_no_prefix row =
     not (is_map_one row.map)
@@ -211,7 +211,7 @@ sound row =
     && (kind_is_proper row && (opcode_is_no_prefix row && (operands_are_proper row && (operands_are_apart row
     && immediates_are_short row)))))))
 
--- the same as a fact, with a name for each condition
+-- what it is for a row to be sound, with a name for each condition
 pub record Sound (row : Row) : Type 0 where
   pub four_operands : IsTrue (has_four_operands row)
   pub opcodes : IsTrue (opcodes_are_bytes row)

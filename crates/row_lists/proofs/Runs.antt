@@ -1,5 +1,7 @@
 -- A computed test that spans say where the rows of each cell lie, and what follows from it.
 use Rattle.std.proofs.Common.{◌≡◌, ℕ, Bool, true, false, zero, suc, ◌+◌, ◌-◌, refl, ap, sym, ◌∙◌, arith, List, [], ◌∷◌, ◌<◌, map, length, slice_get, option_map, inl, inr, lit<}
+use Rattle.row_fields.specs.Candidates.{Coded, coded, of_number, at_opcode, below, is_run}
+use Rattle.row_fields.proofs.Cands.{at_opcode-keep_if, below-at}
 use Rattle.std.specs.Prelude.{Option, Some, None, ◌==◌}
 use Rattle.std.proofs.lemmas.Option.{slice_get-map, slice_get_within}
 use Rattle.std.proofs.lemmas.List.{length-map}
@@ -9,32 +11,11 @@ use Rattle.row_types.specs.declared.RowKind.TheVariants as kind
 use Rattle.row_types.specs.declared.Map.{Map}
 use Rattle.row_types.specs.declared.Map.TheVariants.{One, M0f, M0f38, M0f3a}
 use Rattle.row_fields.specs.Holds.{is_vex, map_number, keep_if, stands_in}
-use Rattle.row_fields.proofs.Cands.{Coded, coded, of_number, at_opcode, at_opcode-keep_if, below, below-at}
-use Rattle.row_fields.proofs.Cells.{is_run, length-is_run, code-is_run, rows-of_cell, table-at_code}
+use Rattle.row_fields.proofs.Cells.{length-is_run, code-is_run, rows-of_cell, table-at_code}
 use Rattle.row_fields.proofs.Apart.{bool_cases}
 use Rattle.row_lists.specs.declared.Span.{Span}
 use Rattle.row_lists.specs.Cells.{map_index, line_number, cell_of, span_of, IsRunOf}
-
-unfoldable pub run_at : Option Span → List Coded → Bool
-unfolding is_run
-run_at None cs = false
-run_at (Some s) cs = is_run s.first s.count cs
-
-unfoldable pub line_runs : List (List Span) → ℕ → List Coded → Bool
-unfolding below run_at at_opcode span_of
-line_runs spans line rows = below 256 (λ op. run_at (span_of spans line op) (at_opcode op rows))
-
--- the first number of a kind's maps
-abbrev pub first_number : RowKind → ℕ
-first_number kind.Legacy = 0
-first_number kind.Vex = 4
-
--- the spans of a kind say where its rows lie
-unfoldable pub spans_fit : RowKind → List (List Span) → List Row → Bool
-unfolding below line_runs of_number coded
-spans_fit k spans rows =
-    let cs : List Coded = coded 0 rows in
-    below 4 (λ line. line_runs spans line (of_number (first_number k + line) cs))
+use Rattle.row_lists.specs.Runs.{run_at, line_runs, first_number, spans_fit, coded_cell}
 
 pub map_index-lt : (m : Map) → map_index m < 4
 map_index-lt One = lit< tt
@@ -51,10 +32,6 @@ line_number-is kind.Vex One = refl
 line_number-is kind.Vex M0f = refl
 line_number-is kind.Vex M0f38 = refl
 line_number-is kind.Vex M0f3a = refl
-
--- the rows of a cell with their indices
-abbrev pub coded_cell : List Row → RowKind → Map → ℕ → List Coded
-coded_cell rows k m op = at_opcode op (of_number (line_number k m) (coded 0 rows))
 
 span-is_run : (k : RowKind) (m : Map) (op : ℕ) (spans : List (List Span)) (rows : List Row) (s : Span)
     → spans_fit k spans rows ≡ true → op < 256 → span_of spans (map_index m) op ≡ Some s

@@ -1,15 +1,17 @@
 -- Spans that pass the computed test say where the rows of each cell lie.
 use Rattle.std.proofs.Common.{◌≡◌, ℕ, ◌+◌, ◌<◌, Bool, true, List, [], length, get_or, slice_get, refl, sym, subst, ◌∙◌}
+use Rattle.row_fields.specs.Candidates.{Coded, coded, of_number, at_opcode}
+use Rattle.row_fields.proofs.Cands.{below-at}
 use Rattle.std.proofs.lemmas.Option.{slice_get-get_or, slice_get_within}
 use Rattle.std.specs.Prelude.{Option, None, Some}
 use Rattle.row_types.specs.declared.Row.{Row}
 use Rattle.row_types.specs.declared.RowKind.{RowKind}
 use Rattle.row_types.specs.declared.Map.{Map}
-use Rattle.row_fields.proofs.Cands.{Coded, coded, of_number, at_opcode, below-at}
 use Rattle.row_lists.specs.declared.Span.{Span}
 use Rattle.row_lists.specs.Cells.{map_index, cell_of, span_of}
 use Rattle.row_lists.specs.Spans.{IsSpanOf, AreSpansOf}
-use Rattle.row_lists.proofs.Runs.{run_at, line_runs, first_number, spans_fit, map_index-lt, length-cell, row-of_span}
+use Rattle.row_lists.specs.Runs.{run_at, line_runs, first_number, spans_fit}
+use Rattle.row_lists.proofs.Runs.{map_index-lt, length-cell, row-of_span}
 
 run-there : (o : Option Span) (cs : List Coded) → run_at o cs ≡ true → (s : Span) × (o ≡ Some s)
 unfolding run_at

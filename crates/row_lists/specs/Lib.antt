@@ -1,3 +1,4 @@
 pub mod Flat
 pub mod Cells
 pub mod Spans
+pub mod Runs

@@ -27,16 +27,16 @@ pub struct Given<'a> {
     pub behind: &'a Behind<'a>,
 }
 
-/// An operand of any kind, whose own bytes are all those of the immediates, written to a place. It answers whether the operand is memory.
+/// An operand of any kind, whose own bytes are all those of the immediates, written to `out`. It answers whether the operand is memory.
 #[inline(never)]
-fn any_given_into(given: &Given, state: &PrefixState, kind: OpKind, place: &mut Operand) -> bool
+fn any_given_into(given: &Given, state: &PrefixState, kind: OpKind, out: &mut Operand) -> bool
     requires modrm { IsTrue (fits.modrm_in_range given.now.behind.now.modrm) }
     requires sib { IsTrue (fits.sib_in_range given.now.behind.now.sib) }
     requires disp { length given.now.behind.now.disp.now ≤ 8 }
     requires imm { length given.now.behind.now.imm.now ≤ 8 }
     requires pointer { method_of kind ≡ PointerMethod → length given.now.behind.now.imm.now ≤ 6 }
     ensures operand { (row : Row) → spec.HasSizes given.now.bits state.now given.now.size given.now.l row
-        → place.new ≡ spec.operand_by given.now.bits row state.now
+        → out.new ≡ spec.operand_by given.now.bits row state.now
         (spec.tail given.now.behind.now.modrm given.now.behind.now.sib given.now.behind.now.disp.now given.now.behind.now.next)
         kind (method_of kind) given.now.behind.now.imm.now }
     ensures memory { result ≡ fits.is_memory_method (method_of kind) given.now.behind.now.modrm }
@@ -44,21 +44,22 @@ fn any_given_into(given: &Given, state: &PrefixState, kind: OpKind, place: &mut 
     let method = method_of_kind(kind);
     let behind = given.behind;
     operand_into(
-        given.bits, given.size, given.l, state, behind, kind, method, behind.imm, place,
+        given.bits, given.size, given.l, state, behind, kind, method, behind.imm, out,
     )
 }
 
-/// The same, where registers and memory by ModRM, which most operands are, are told from others first.
+/// Writes the operand of a kind to where it is to stand, and says whether it is memory. Registers and memory by ModRM, which most operands are, are told
+/// from others first.
 #[inline(never)]
 #[tactic(auto, unfolding(crate::specs::Meaning::operand_by, row_fit::specs::Fits::is_memory_method))]
-fn given_into(given: &Given, state: &PrefixState, kind: OpKind, place: &mut Operand) -> bool
+fn given_into(given: &Given, state: &PrefixState, kind: OpKind, out: &mut Operand) -> bool
     requires modrm { IsTrue (fits.modrm_in_range given.now.behind.now.modrm) }
     requires sib { IsTrue (fits.sib_in_range given.now.behind.now.sib) }
     requires disp { length given.now.behind.now.disp.now ≤ 8 }
     requires imm { length given.now.behind.now.imm.now ≤ 8 }
     requires pointer { method_of kind ≡ PointerMethod → length given.now.behind.now.imm.now ≤ 6 }
     ensures operand { (row : Row) → spec.HasSizes given.now.bits state.now given.now.size given.now.l row
-        → place.new ≡ spec.operand_by given.now.bits row state.now
+        → out.new ≡ spec.operand_by given.now.bits row state.now
         (spec.tail given.now.behind.now.modrm given.now.behind.now.sib given.now.behind.now.disp.now given.now.behind.now.next)
         kind (method_of kind) given.now.behind.now.imm.now }
     ensures memory { result ≡ fits.is_memory_method (method_of kind) given.now.behind.now.modrm }
@@ -66,28 +67,28 @@ fn given_into(given: &Given, state: &PrefixState, kind: OpKind, place: &mut Oper
     match method_of_kind(kind) {
         Method::ModRmReg => {
             let n = reg_number_u8(state, given.behind.modrm);
-            register_into(given.bits, given.size, given.l, state, kind, n, place);
+            register_into(given.bits, given.size, given.l, state, kind, n, out);
             false
         }
         Method::RegisterOrMemory => {
             if mode_is_memory(given.behind.modrm) {
-                memory_into(given.bits, state, given.behind, place);
+                memory_into(given.bits, state, given.behind, out);
                 true
             } else {
                 let n = rm_number_u8(given.bits, state, given.behind.modrm);
-                register_into(given.bits, given.size, given.l, state, kind, n, place);
+                register_into(given.bits, given.size, given.l, state, kind, n, out);
                 false
             }
         }
         Method::MemoryOnly => {
-            memory_into(given.bits, state, given.behind, place);
+            memory_into(given.bits, state, given.behind, out);
             true
         }
-        _ => any_given_into(given, state, kind, place),
+        _ => any_given_into(given, state, kind, out),
     }
 }
 
-/// Operand n, written to a place. It answers whether the operand is memory.
+/// Operand n, written to `out`. It answers whether the operand is memory.
 #[inline(always)]
 #[tactic(auto, unfolding(instruction_parts::specs::Kinds::method_of, row_fit::specs::Fits::is_memory_method))]
 fn given_operand_into(
@@ -96,7 +97,7 @@ fn given_operand_into(
     state: &PrefixState,
     n: usize,
     kind: OpKind,
-    place: &mut Operand,
+    out: &mut Operand,
 ) -> bool
     requires size { spec.HasSizes given.now.bits state.now given.now.size given.now.l row.now }
     requires one { IsTrue (has_one_immediate row.now) }
@@ -107,30 +108,24 @@ fn given_operand_into(
     requires whole { length given.now.behind.now.imm.now ≡ fits.immediates_bytes given.now.size row.now }
     requires number { n < 4 }
     requires kind { kind ≡ fits.kind_at row.now n }
-    ensures operand { place.new ≡ spec.operand_at given.now.bits row.now state.now
+    ensures operand { out.new ≡ spec.operand_at given.now.bits row.now state.now
         (spec.tail given.now.behind.now.modrm given.now.behind.now.sib given.now.behind.now.disp.now given.now.behind.now.next) given.now.behind.now.imm.now n }
     ensures memory { result ≡ fits.is_memory_method (method_of kind) given.now.behind.now.modrm }
 {
     match kind {
         OpKind::Absent => {
-            *place = Operand::Absent;
+            *out = Operand::Absent;
             false
         }
-        _ => given_into(given, state, kind, place),
+        _ => given_into(given, state, kind, out),
     }
 }
 
-/// What a state, a tail and its immediates mean, written to a place, as [`instr_into`](crate::operands::instr_into) does. Of the row's operands
+/// What a state, a tail and its immediates mean, written to `out`, as [`instr_into`](crate::operands::instr_into) does. Of the row's operands
 /// at most one has bytes of the immediates, and the operand size and L that are given are those of the row.
 #[inline(always)]
 #[tactic(auto, unfolding(crate::specs::Meaning::instr_of))]
-pub fn given_instr_into(
-    given: &Given,
-    code: Code,
-    row: &Row,
-    state: &PrefixState,
-    place: &mut Instr,
-)
+pub fn given_instr_into(given: &Given, code: Code, row: &Row, state: &PrefixState, out: &mut Instr)
     requires size { spec.HasSizes given.now.bits state.now given.now.size given.now.l row.now }
     requires one { IsTrue (has_one_immediate row.now) }
     requires modrm { IsTrue (fits.modrm_in_range given.now.behind.now.modrm) }
@@ -138,18 +133,18 @@ pub fn given_instr_into(
     requires disp { length given.now.behind.now.disp.now ≤ 8 }
     requires imm { length given.now.behind.now.imm.now ≤ 8 }
     requires whole { length given.now.behind.now.imm.now ≡ fits.immediates_bytes given.now.size row.now }
-    ensures { place.new ≡ spec.instr_of given.now.bits code row.now state.now
+    ensures { out.new ≡ spec.instr_of given.now.bits code row.now state.now
         (spec.tail given.now.behind.now.modrm given.now.behind.now.sib given.now.behind.now.disp.now given.now.behind.now.next) given.now.behind.now.imm.now }
 {
     let [first_kind, second_kind, third_kind, fourth_kind] = row.ops;
-    let first = given_operand_into(given, row, state, 0, first_kind, &mut place.ops[0]);
-    let second = given_operand_into(given, row, state, 1, second_kind, &mut place.ops[1]);
-    let third = given_operand_into(given, row, state, 2, third_kind, &mut place.ops[2]);
-    let fourth = given_operand_into(given, row, state, 3, fourth_kind, &mut place.ops[3]);
-    place.code = code;
-    place.lock = state.lock;
-    place.rep = kept_repeat(row.class, state.rep);
-    place.seg = state.seg;
+    let first = given_operand_into(given, row, state, 0, first_kind, &mut out.ops[0]);
+    let second = given_operand_into(given, row, state, 1, second_kind, &mut out.ops[1]);
+    let third = given_operand_into(given, row, state, 2, third_kind, &mut out.ops[2]);
+    let fourth = given_operand_into(given, row, state, 3, fourth_kind, &mut out.ops[3]);
+    out.code = code;
+    out.lock = state.lock;
+    out.rep = kept_repeat(row.class, state.rep);
+    out.seg = state.seg;
     let memory = any_of(first, second, third, fourth);
-    place.asize = kept_address_size(given.bits, row, state, memory);
+    out.asize = kept_address_size(given.bits, row, state, memory);
 }

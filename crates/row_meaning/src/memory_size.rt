@@ -3,11 +3,11 @@
 ghost use Rattle.std.specs.Prelude.{◌≡◌, ◌<◌, IsTrue};
 ghost use Rattle.row_meaning.specs.MemorySize as spec;
 ghost use Rattle.row_fit.specs.Sound.{sound};
-ghost use Rattle.instruction_parts.specs.Kinds.{IsShort};
+ghost use Rattle.instruction_parts.specs.Kinds.{IsShort, memory_width};
 
 use instruction_parts::kinds::{Width, memory_width_of_kind};
 use row_fit::tail_fits::kind_at;
-use row_types::{LBit, Place, Row, Size, WBit};
+use row_types::{LBit, OpKind, Place, Row, Size, WBit};
 
 /// The operand size that a row has in bytes.
 #[tactic(auto, unfolding(crate::specs::MemorySize::row_size_bytes))]
@@ -73,14 +73,27 @@ fn width_in_row(row: &Row, width: Width) -> u8
     }
 }
 
-/// The bytes that operand n has in memory.
-#[tactic(auto, unfolding(crate::specs::MemorySize::size_at))]
+/// The bytes that an operand of a kind has in memory, in a row.
+#[inline(never)]
+fn size_of_kind(row: &Row, kind: OpKind) -> u8
+    ensures value { result ≡ spec.width_in_row row.now (memory_width kind) }
+    ensures small { result < 33 }
+{
+    width_in_row(row, memory_width_of_kind(kind))
+}
+
+/// The bytes that operand n has in memory. Nothing is called for one that is absent.
+#[inline(always)]
+#[tactic(auto, unfolding(crate::specs::MemorySize::size_at, crate::specs::MemorySize::width_in_row, instruction_parts::specs::Kinds::memory_width))]
 fn size_at(row: &Row, n: usize) -> u8
     requires { n < 4 }
     ensures value { result ≡ spec.size_at row.now n }
     ensures small { result < 33 }
 {
-    width_in_row(row, memory_width_of_kind(kind_at(row, n)))
+    match kind_at(row, n) {
+        OpKind::Absent => 0,
+        kind => size_of_kind(row, kind),
+    }
 }
 
 /// The size in bytes of the row's memory operand, 0 where there is none.

@@ -175,19 +175,19 @@ fn memory_of(
     }
 }
 
-/// The operand that is memory by ModRM, written to a place.
+/// The operand that is memory by ModRM, written to `out`.
 #[inline(never)]
 #[tactic(auto, unfolding(crate::specs::Meaning::memory_operand, row_fit::specs::Fits::modrm_in_range))]
-pub(crate) fn memory_into(bits: Bits, state: &PrefixState, behind: &Behind, place: &mut Operand)
+pub(crate) fn memory_into(bits: Bits, state: &PrefixState, behind: &Behind, out: &mut Operand)
     requires modrm { IsTrue (fits.modrm_in_range behind.now.modrm) }
     requires sib { IsTrue (fits.sib_in_range behind.now.sib) }
     requires disp { length behind.now.disp.now ≤ 8 }
-    ensures { place.new ≡ spec.memory_operand bits state.now behind.now.modrm behind.now.sib behind.now.disp.now behind.now.next }
+    ensures { out.new ≡ spec.memory_operand bits state.now behind.now.modrm behind.now.sib behind.now.disp.now behind.now.next }
 {
     match behind.modrm {
-        None => *place = Operand::Absent,
+        None => *out = Operand::Absent,
         Some(m) => {
-            *place = Operand::Mem(memory_of(
+            *out = Operand::Mem(memory_of(
                 bits,
                 state_address_size(bits, state),
                 state,
@@ -331,7 +331,7 @@ pub struct Behind<'a> {
     pub next: u64,
 }
 
-/// The register of a number that an operand of the kind names, written to a place.
+/// The register of a number that an operand of the kind names, written to `out`.
 #[inline(always)]
 pub(crate) fn register_into(
     bits: Bits,
@@ -340,17 +340,17 @@ pub(crate) fn register_into(
     state: &PrefixState,
     kind: OpKind,
     n: u8,
-    place: &mut Operand,
+    out: &mut Operand,
 )
     ensures { (row : Row) → spec.HasSizes bits state.now size l row
-        → place.new ≡ Reg (spec.register_of bits row state.now (file_of kind) n) }
+        → out.new ≡ Reg (spec.register_of bits row state.now (file_of kind) n) }
 {
-    *place = Operand::Reg(register_of_size(bits, size, l, state, file_of_kind(kind), n));
+    *out = Operand::Reg(register_of_size(bits, size, l, state, file_of_kind(kind), n));
 }
 
-/// An operand by how it is read, written to a place; `imm` are the bytes of the immediates that are its own. It answers whether the operand is
+/// An operand by how it is read, written to `out`; `imm` are the bytes of the immediates that are its own. It answers whether the operand is
 /// memory.
-// Each arm writes the place: an operand that all arms hand on is put together from its parts again.
+// Each arm writes `out`: an operand that all arms hand on is put together from its parts again.
 #[inline(always)]
 #[tactic(auto, unfolding(crate::specs::Meaning::operand_by, row_fit::specs::Fits::is_memory_method))]
 pub(crate) fn operand_into(
@@ -362,63 +362,63 @@ pub(crate) fn operand_into(
     kind: OpKind,
     method: Method,
     imm: &[u8],
-    place: &mut Operand,
+    out: &mut Operand,
 ) -> bool
     requires modrm { IsTrue (fits.modrm_in_range behind.now.modrm) }
     requires sib { IsTrue (fits.sib_in_range behind.now.sib) }
     requires disp { length behind.now.disp.now ≤ 8 }
     requires imm { length imm.now ≤ 8 }
     requires pointer { method ≡ PointerMethod → length imm.now ≤ 6 }
-    ensures operand { (row : Row) → spec.HasSizes bits state.now size l row → place.new ≡ spec.operand_by bits row state.now
+    ensures operand { (row : Row) → spec.HasSizes bits state.now size l row → out.new ≡ spec.operand_by bits row state.now
         (spec.tail behind.now.modrm behind.now.sib behind.now.disp.now behind.now.next) kind method imm.now }
     ensures memory { result ≡ fits.is_memory_method method behind.now.modrm }
 {
     match method {
         Method::Nothing => {
-            *place = Operand::Absent;
+            *out = Operand::Absent;
             false
         }
         Method::ModRmReg => {
             let n = reg_number_u8(state, behind.modrm);
-            register_into(bits, size, l, state, kind, n, place);
+            register_into(bits, size, l, state, kind, n, out);
             false
         }
         Method::RegisterOrMemory => {
             if mode_is_memory(behind.modrm) {
-                memory_into(bits, state, behind, place);
+                memory_into(bits, state, behind, out);
                 true
             } else {
                 let n = rm_number_u8(bits, state, behind.modrm);
-                register_into(bits, size, l, state, kind, n, place);
+                register_into(bits, size, l, state, kind, n, out);
                 false
             }
         }
         Method::RegisterOnly | Method::AnyMode => {
             let n = rm_number_u8(bits, state, behind.modrm);
-            register_into(bits, size, l, state, kind, n, place);
+            register_into(bits, size, l, state, kind, n, out);
             false
         }
         Method::MemoryOnly => {
-            memory_into(bits, state, behind, place);
+            memory_into(bits, state, behind, out);
             true
         }
         Method::OpcodeLow => {
             let n = number_u8(with_high_bit(bit_b(bits, state), state.opcode % 8));
-            register_into(bits, size, l, state, kind, n, place);
+            register_into(bits, size, l, state, kind, n, out);
             false
         }
         Method::Vvvv => {
             let n = vvvv_number(bits, state);
-            register_into(bits, size, l, state, kind, n, place);
+            register_into(bits, size, l, state, kind, n, out);
             false
         }
         Method::LastByte => {
             let n = last_byte_number(bits, imm);
-            register_into(bits, size, l, state, kind, n, place);
+            register_into(bits, size, l, state, kind, n, out);
             false
         }
         Method::Gather => {
-            *place = gather_operand(
+            *out = gather_operand(
                 bits,
                 size,
                 l,
@@ -431,32 +431,32 @@ pub(crate) fn operand_into(
             true
         }
         Method::Offset => {
-            *place = Operand::Mem(memory_absolute(state_address_size(bits, state), behind.disp));
+            *out = Operand::Mem(memory_absolute(state_address_size(bits, state), behind.disp));
             true
         }
         Method::AsWritten => {
-            *place = Operand::Imm(little_endian(imm));
+            *out = Operand::Imm(little_endian(imm));
             false
         }
         Method::Extended => {
-            *place = Operand::Imm(sign_extended(size, imm));
+            *out = Operand::Imm(sign_extended(size, imm));
             false
         }
         Method::Near => {
-            *place = near_target(size, behind.next, imm);
+            *out = near_target(size, behind.next, imm);
             false
         }
         Method::Pointer => {
-            *place = far_pointer(imm);
+            *out = far_pointer(imm);
             false
         }
         Method::Fixed => {
             let n = fixed_number_of_kind(kind);
-            register_into(bits, size, l, state, kind, n, place);
+            register_into(bits, size, l, state, kind, n, out);
             false
         }
         Method::One => {
-            *place = Operand::Imm(1);
+            *out = Operand::Imm(1);
             false
         }
     }
@@ -545,7 +545,7 @@ fn immediate_of<'a>(size: Bits, row: &Row, n: usize, kind: OpKind, imm: &'a [u8]
     }
 }
 
-/// An operand of a kind, where there is one, written to a place; `own` are its own bytes of the immediates. It answers whether the operand is
+/// An operand of a kind, where there is one, written to `out`; `own` are its own bytes of the immediates. It answers whether the operand is
 /// memory.
 // Of the row it gets what it needs, so that the row need not stand in memory.
 #[inline(never)]
@@ -557,22 +557,22 @@ fn present_into(
     behind: &Behind,
     kind: OpKind,
     own: &[u8],
-    place: &mut Operand,
+    out: &mut Operand,
 ) -> bool
     requires modrm { IsTrue (fits.modrm_in_range behind.now.modrm) }
     requires sib { IsTrue (fits.sib_in_range behind.now.sib) }
     requires disp { length behind.now.disp.now ≤ 8 }
     requires own { length own.now ≤ 8 }
     requires pointer { method_of kind ≡ PointerMethod → length own.now ≤ 6 }
-    ensures operand { (row : Row) → spec.HasSizes bits state.now size l row → place.new ≡ spec.operand_by bits row state.now
+    ensures operand { (row : Row) → spec.HasSizes bits state.now size l row → out.new ≡ spec.operand_by bits row state.now
         (spec.tail behind.now.modrm behind.now.sib behind.now.disp.now behind.now.next) kind (method_of kind) own.now }
     ensures memory { result ≡ fits.is_memory_method (method_of kind) behind.now.modrm }
 {
     let method = method_of_kind(kind);
-    operand_into(bits, size, l, state, behind, kind, method, own, place)
+    operand_into(bits, size, l, state, behind, kind, method, own, out)
 }
 
-/// Operand n, written to a place. It answers whether the operand is memory.
+/// Operand n, written to `out`. It answers whether the operand is memory.
 #[inline(always)]
 #[tactic(auto, unfolding(crate::specs::Meaning::operand_at, instruction_parts::specs::Kinds::method_of, row_fit::specs::Fits::is_memory_method))]
 fn operand_at_into(
@@ -583,7 +583,7 @@ fn operand_at_into(
     behind: &Behind,
     n: usize,
     kind: OpKind,
-    place: &mut Operand,
+    out: &mut Operand,
 ) -> bool
     requires size { size ≡ state_size bits row.now state.now }
     requires modrm { IsTrue (fits.modrm_in_range behind.now.modrm) }
@@ -593,18 +593,18 @@ fn operand_at_into(
     requires whole { length behind.now.imm.now ≡ fits.immediates_bytes size row.now }
     requires number { n < 4 }
     requires kind { kind ≡ fits.kind_at row.now n }
-    ensures operand { place.new ≡ spec.operand_at bits row.now state.now
+    ensures operand { out.new ≡ spec.operand_at bits row.now state.now
         (spec.tail behind.now.modrm behind.now.sib behind.now.disp.now behind.now.next) behind.now.imm.now n }
     ensures memory { result ≡ fits.is_memory_method (method_of kind) behind.now.modrm }
 {
     match kind {
         OpKind::Absent => {
-            *place = Operand::Absent;
+            *out = Operand::Absent;
             false
         }
         _ => {
             let own = immediate_of(size, row, n, kind, behind.imm);
-            present_into(bits, size, row.l, state, behind, kind, own, place)
+            present_into(bits, size, row.l, state, behind, kind, own, out)
         }
     }
 }
@@ -645,7 +645,7 @@ pub(crate) fn kept_address_size(
     }
 }
 
-/// What stands in the place of an instruction before it is read.
+/// What stands for an instruction before it is read.
 pub const UNREAD: Instr = Instr {
     code: Code(0),
     lock: false,
@@ -655,7 +655,7 @@ pub const UNREAD: Instr = Instr {
     ops: [Operand::Absent; 4],
 };
 
-/// What a state, a tail and its immediates mean, written to a place. An instruction as a value is copied at each call that it comes
+/// What a state, a tail and its immediates mean, written to `out`. An instruction as a value is copied at each call that it comes
 /// through.
 #[inline(always)]
 #[tactic(auto, unfolding(crate::specs::Meaning::instr_of))]
@@ -665,14 +665,14 @@ pub fn instr_into(
     row: &Row,
     state: &PrefixState,
     behind: &Behind,
-    place: &mut Instr,
+    out: &mut Instr,
 )
     requires modrm { IsTrue (fits.modrm_in_range behind.now.modrm) }
     requires sib { IsTrue (fits.sib_in_range behind.now.sib) }
     requires disp { length behind.now.disp.now ≤ 8 }
     requires imm { length behind.now.imm.now ≤ 8 }
     requires whole { length behind.now.imm.now ≡ fits.immediates_bytes (state_size bits row.now state.now) row.now }
-    ensures { place.new ≡ spec.instr_of bits code row.now state.now
+    ensures { out.new ≡ spec.instr_of bits code row.now state.now
         (spec.tail behind.now.modrm behind.now.sib behind.now.disp.now behind.now.next) behind.now.imm.now }
 {
     let size = state_size(bits, row, state);
@@ -685,7 +685,7 @@ pub fn instr_into(
         behind,
         0,
         first_kind,
-        &mut place.ops[0],
+        &mut out.ops[0],
     );
     let second = operand_at_into(
         bits,
@@ -695,7 +695,7 @@ pub fn instr_into(
         behind,
         1,
         second_kind,
-        &mut place.ops[1],
+        &mut out.ops[1],
     );
     let third = operand_at_into(
         bits,
@@ -705,7 +705,7 @@ pub fn instr_into(
         behind,
         2,
         third_kind,
-        &mut place.ops[2],
+        &mut out.ops[2],
     );
     let fourth = operand_at_into(
         bits,
@@ -715,13 +715,13 @@ pub fn instr_into(
         behind,
         3,
         fourth_kind,
-        &mut place.ops[3],
+        &mut out.ops[3],
     );
-    place.code = code;
-    place.lock = state.lock;
-    place.rep = kept_repeat(row.class, state.rep);
-    place.seg = state.seg;
-    place.asize = kept_address_size(bits, row, state, any_of(first, second, third, fourth));
+    out.code = code;
+    out.lock = state.lock;
+    out.rep = kept_repeat(row.class, state.rep);
+    out.seg = state.seg;
+    out.asize = kept_address_size(bits, row, state, any_of(first, second, third, fourth));
 }
 
 /// The length of a spelling of the row.

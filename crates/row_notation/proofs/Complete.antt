@@ -1,8 +1,7 @@
 -- The notation of each proper shape is a text of the languages.
 use Rattle.std.proofs.Common.{◌≡◌, inl, inr, ℕ, ◌+◌, ◌*◌, ◌/◌, ◌%◌, ◌<◌, List, [], ◌∷◌, ◌++◌, refl, sym, ap, ◌∙◌, subst, arith, Bool, true, false, ◌&&◌, ◌||◌, not, ◌==◌, nat_lt, nat_le, Some}
-use Rattle.std.proofs.lemmas.Bool.{eqb-true, and_from}
+use Rattle.std.proofs.lemmas.Bool.{eqb-true, and_from, and_parts}
 use Rattle.std.proofs.lemmas.List.{append-nil}
-use Rattle.instruction_parts.proofs.Tests.{and_left, and_right}
 use Rattle.row_types.specs.declared.RowKind.{RowKind}
 use Rattle.row_types.specs.declared.RowKind.TheVariants.{Legacy, Vex}
 use Rattle.row_types.specs.declared.Map.{Map}
@@ -282,12 +281,12 @@ vex-complete m c b l w r st i small range stack fixed has_l has_w vex_class own 
 pub from-legacy : (s : RowShape) → is_legacy_proper s ≡ true → (is_no_l s.l ≡ true) × (is_no_w s.w ≡ true) × (imm_allowed Legacy s.imm ≡ true) × (is_opcode_of_map s.map s.opcode ≡ true)
 unfolding is_legacy_proper
 from-legacy s h =
-    let r1 = and_right (is_no_l s.l) (is_no_w s.w && (not (is_four_bits s.imm) && is_opcode_of_map s.map s.opcode)) h in
-    let r2 = and_right (is_no_w s.w) (not (is_four_bits s.imm) && is_opcode_of_map s.map s.opcode) r1 in (
-      and_left (is_no_l s.l) (is_no_w s.w && (not (is_four_bits s.imm) && is_opcode_of_map s.map s.opcode)) h,
-      and_left (is_no_w s.w) (not (is_four_bits s.imm) && is_opcode_of_map s.map s.opcode) r1,
-      and_left (not (is_four_bits s.imm)) (is_opcode_of_map s.map s.opcode) r2,
-      and_right (not (is_four_bits s.imm)) (is_opcode_of_map s.map s.opcode) r2,
+    let r1 = (and_parts (is_no_l s.l) (is_no_w s.w && (not (is_four_bits s.imm) && is_opcode_of_map s.map s.opcode)) h).1 in
+    let r2 = (and_parts (is_no_w s.w) (not (is_four_bits s.imm) && is_opcode_of_map s.map s.opcode) r1).1 in (
+      (and_parts (is_no_l s.l) (is_no_w s.w && (not (is_four_bits s.imm) && is_opcode_of_map s.map s.opcode)) h).0,
+      (and_parts (is_no_w s.w) (not (is_four_bits s.imm) && is_opcode_of_map s.map s.opcode) r1).0,
+      (and_parts (not (is_four_bits s.imm)) (is_opcode_of_map s.map s.opcode) r2).0,
+      (and_parts (not (is_four_bits s.imm)) (is_opcode_of_map s.map s.opcode) r2).1,
     )
 
 -- the parts of a proper VEX shape
@@ -308,19 +307,19 @@ from-vex s h =
     let t4 : Bool = is_no_size_word s.size_word && t5 in
     let t3 : Bool = is_vex_class s.class && t4 in
     let t2 : Bool = not (is_no_w s.w) && t3 in
-    let r2 = and_right (not (is_no_l s.l)) t2 h in
-    let r3 = and_right (not (is_no_w s.w)) t3 r2 in
-    let r4 = and_right (is_vex_class s.class) t4 r3 in
-    let r5 = and_right (is_no_size_word s.size_word) t5 r4 in
-    let r6 = and_right (is_no_plus_word s.plus_word) t6 r5 in
+    let r2 = (and_parts (not (is_no_l s.l)) t2 h).1 in
+    let r3 = (and_parts (not (is_no_w s.w)) t3 r2).1 in
+    let r4 = (and_parts (is_vex_class s.class) t4 r3).1 in
+    let r5 = (and_parts (is_no_size_word s.size_word) t5 r4).1 in
+    let r6 = (and_parts (is_no_plus_word s.plus_word) t6 r5).1 in
     record {
-      has_l = and_left (not (is_no_l s.l)) t2 h;
-      has_w = and_left (not (is_no_w s.w)) t3 r2;
-      vex_class = and_left (is_vex_class s.class) t4 r3;
-      size = and_left (is_no_size_word s.size_word) t5 r4;
-      plus = and_left (is_no_plus_word s.plus_word) t6 r5;
-      fixed = and_left (not (is_fixed s.modrm)) (not (is_map_one s.map)) r6;
-      own = and_right (not (is_fixed s.modrm)) (not (is_map_one s.map)) r6;
+      has_l = (and_parts (not (is_no_l s.l)) t2 h).0;
+      has_w = (and_parts (not (is_no_w s.w)) t3 r2).0;
+      vex_class = (and_parts (is_vex_class s.class) t4 r3).0;
+      size = (and_parts (is_no_size_word s.size_word) t5 r4).0;
+      plus = (and_parts (is_no_plus_word s.plus_word) t6 r5).0;
+      fixed = (and_parts (not (is_fixed s.modrm)) (not (is_map_one s.map)) r6).0;
+      own = (and_parts (not (is_fixed s.modrm)) (not (is_map_one s.map)) r6).1;
     }
 
 pub no-l : (l : LBit) → is_no_l l ≡ true → l ≡ lbit.None
@@ -377,11 +376,11 @@ complete-proper s h =
     let kind-test : Bool = elim s.kind as (λ _. Bool) [ Legacy ↦ is_legacy_proper s | Vex ↦ is_vex_proper s ] in
     let t2 : Bool = is_stack_proper s.modrm s.stack && kind-test in
     let t1 : Bool = is_rule_in_range s.modrm && t2 in
-    let r1 = and_right (nat_lt s.opcode 256) t1 h in
-    let r2 = and_right (is_rule_in_range s.modrm) t2 r1 in
+    let r1 = (and_parts (nat_lt s.opcode 256) t1 h).1 in
+    let r2 = (and_parts (is_rule_in_range s.modrm) t2 r1).1 in
     complete-by s.kind s.map s.class s.size_word s.opcode s.plus_word s.l s.w s.modrm s.stack s.imm
-    (small-opcode s.opcode (and_left (nat_lt s.opcode 256) t1 h)) (and_left (is_rule_in_range s.modrm) t2 r1)
-    (and_left (is_stack_proper s.modrm s.stack) kind-test r2) (and_right (is_stack_proper s.modrm s.stack) kind-test r2)
+    (small-opcode s.opcode (and_parts (nat_lt s.opcode 256) t1 h).0) (and_parts (is_rule_in_range s.modrm) t2 r1).0
+    (and_parts (is_stack_proper s.modrm s.stack) kind-test r2).0 (and_parts (is_stack_proper s.modrm s.stack) kind-test r2).1
 
 -- a shape's text is a text of the languages
 pub complete : (text : List ℕ) (s : RowShape) → IsTextOf text s → all_texts text s

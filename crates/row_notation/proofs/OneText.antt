@@ -1,7 +1,6 @@
 -- No text belongs to two shapes: what each part of a text begins with tells the word that stands there.
 use Rattle.std.proofs.Common.{◌≡◌, ℕ, ◌+◌, ◌*◌, ◌/◌, ◌%◌, ◌<◌, ◌≤◌, List, [], ◌∷◌, ◌++◌, refl, sym, ap, ◌∙◌, arith, Bool, true, false, ◌&&◌, not, ◌==◌, nat_lt, nat_le, codes, if◌then◌else◌, lit<}
-use Rattle.std.proofs.lemmas.Bool.{eqb-true}
-use Rattle.instruction_parts.proofs.Tests.{and_left, and_right}
+use Rattle.std.proofs.lemmas.Bool.{eqb-true, and_parts}
 use Rattle.row_types.specs.declared.RowKind.{RowKind}
 use Rattle.row_types.specs.declared.RowKind.TheVariants.{Legacy, Vex}
 use Rattle.row_types.specs.declared.Map.{Map}
@@ -253,8 +252,8 @@ two-digits b x y hb hx hy other = by-test (digit_text (b / 16) == digit_text x &
     by-test : (test : Bool) → (digit_text (b / 16) == digit_text x && digit_text (b % 16) == digit_text y) ≡ test → test ≡ false
     by-test false e = refl
     by-test true e =
-        let h : b / 16 ≡ x = same-digit (b / 16) x (high-small b hb) hx (eqb-true _ _ (and_left (digit_text (b / 16) == digit_text x) (digit_text (b % 16) == digit_text y) e)) in
-        let l : b % 16 ≡ y = same-digit (b % 16) y (low-small b) hy (eqb-true _ _ (and_right (digit_text (b / 16) == digit_text x) (digit_text (b % 16) == digit_text y) e)) in
+        let h : b / 16 ≡ x = same-digit (b / 16) x (high-small b hb) hx (eqb-true _ _ (and_parts (digit_text (b / 16) == digit_text x) (digit_text (b % 16) == digit_text y) e).0) in
+        let l : b % 16 ≡ y = same-digit (b % 16) y (low-small b) hy (eqb-true _ _ (and_parts (digit_text (b / 16) == digit_text x) (digit_text (b % 16) == digit_text y) e).1) in
         absurd (other (sym (whole-byte b) ∙ ap (λ v. v * 16 + b % 16) h ∙ ap (λ v. x * 16 + v) l))
 
 not-opcode : (m : Map) (b c : ℕ) → is_opcode_of_map m b ≡ true → is_opcode_of_map m c ≡ false → b ≡ c → ⊥
@@ -431,11 +430,11 @@ proper-parts s h =
     let kind-test : Bool = elim s.kind as (λ _. Bool) [ Legacy ↦ is_legacy_proper s | Vex ↦ is_vex_proper s ] in
     let t2 : Bool = is_stack_proper s.modrm s.stack && kind-test in
     let t1 : Bool = is_rule_in_range s.modrm && t2 in
-    let r1 = and_right (nat_lt s.opcode 256) t1 h in
-    let r2 = and_right (is_rule_in_range s.modrm) t2 r1 in
+    let r1 = (and_parts (nat_lt s.opcode 256) t1 h).1 in
+    let r2 = (and_parts (is_rule_in_range s.modrm) t2 r1).1 in
     record {
-      opcode = small-opcode s.opcode (and_left (nat_lt s.opcode 256) t1 h);
-      tail = record { in_range = and_left (is_rule_in_range s.modrm) t2 r1; stack_proper = and_left (is_stack_proper s.modrm s.stack) kind-test r2 };
+      opcode = small-opcode s.opcode (and_parts (nat_lt s.opcode 256) t1 h).0;
+      tail = record { in_range = (and_parts (is_rule_in_range s.modrm) t2 r1).0; stack_proper = (and_parts (is_stack_proper s.modrm s.stack) kind-test r2).0 };
     }
 
 kind-parts : (s : RowShape) → is_proper s ≡ true → (elim s.kind as (λ _. Bool) [ Legacy ↦ is_legacy_proper s | Vex ↦ is_vex_proper s ]) ≡ true
@@ -444,7 +443,7 @@ kind-parts s h =
     let kind-test : Bool = elim s.kind as (λ _. Bool) [ Legacy ↦ is_legacy_proper s | Vex ↦ is_vex_proper s ] in
     let t2 : Bool = is_stack_proper s.modrm s.stack && kind-test in
     let t1 : Bool = is_rule_in_range s.modrm && t2 in
-    and_right (is_stack_proper s.modrm s.stack) kind-test (and_right (is_rule_in_range s.modrm) t2 (and_right (nat_lt s.opcode 256) t1 h))
+    (and_parts (is_stack_proper s.modrm s.stack) kind-test (and_parts (is_rule_in_range s.modrm) t2 (and_parts (nat_lt s.opcode 256) t1 h).1).1).1
 
 legacy-words : (s : RowShape) → legacy_text s ≡ class_text s.class ++ size_part s.size_word s.map s.opcode s.plus_word (tail_of_shape s)
 unfolding legacy_text opcode_part modrm_part

@@ -1,8 +1,7 @@
 -- The texts of the languages are the notations of proper shapes, and the other way round.
 use Rattle.std.proofs.Common.{◌≡◌, inl, inr, ℕ, zero, suc, ◌+◌, ◌*◌, ◌/◌, ◌%◌, ◌<◌, ◌≤◌, List, [], ◌∷◌, ◌++◌, refl, sym, ap, ◌∙◌, subst, arith, Bool, true, false, ◌&&◌, not, nat_lt, codes, eq-eqb, Option, Some, None}
 use Rattle.std.proofs.lemmas.List.{append-nil}
-use Rattle.std.proofs.lemmas.Bool.{and_from}
-use Rattle.instruction_parts.proofs.Tests.{and_left, and_right}
+use Rattle.std.proofs.lemmas.Bool.{and_from, and_parts}
 use Rattle.row_types.specs.declared.RowKind.{RowKind}
 use Rattle.row_types.specs.declared.RowKind.TheVariants.{Legacy, Vex}
 use Rattle.row_types.specs.declared.Map.{Map}
@@ -52,8 +51,8 @@ all_pass p (v ∷ vs) = p v && all_pass p vs
 -- the value that was chosen passes what all do
 pub chosen : {V : Type 0} → (p : V → Bool) (vs : List V) (L : V → Language) (text : List ℕ) (s : RowShape) → all_pass p vs ≡ true → one_of vs L text s → (v : V) × (p v ≡ true) × L v text s
 chosen p [] L text s e h = absurd h
-chosen p (v ∷ vs) L text s e (inl h) = (v, and_left (p v) (all_pass p vs) e, h)
-chosen p (v ∷ vs) L text s e (inr h) = chosen p vs L text s (and_right (p v) (all_pass p vs) e) h
+chosen p (v ∷ vs) L text s e (inl h) = (v, (and_parts (p v) (all_pass p vs) e).0, h)
+chosen p (v ∷ vs) L text s e (inr h) = chosen p vs L text s (and_parts (p v) (all_pass p vs) e).1 h
 
 -- the value at a place of a list
 abbrev pub nth : {V : Type 0} → List V → ℕ → Option V
@@ -252,7 +251,7 @@ pub record FromOpcode (k : RowKind) (m : Map) (c : Class) (z : SizeWord) (l : LB
 
 opcode-kind : (k : RowKind) (m : Map) (c : Class) (z : SizeWord) (l : LBit) (w : WBit) (high low : ℕ)
     → opcode_digit (full k m c z 0 added.None l w rule.No false imm.None) high low ≡ true → opcode_allowed k m (high * 16 + low) ≡ true
-opcode-kind Legacy m c z l w high low e = and_right (nat_lt low 16) (is_opcode_of_map m (high * 16 + low)) e
+opcode-kind Legacy m c z l w high low e = (and_parts (nat_lt low 16) (is_opcode_of_map m (high * 16 + low)) e).1
 opcode-kind Vex m c z l w high low e = refl
 
 opcode-sound : (k : RowKind) (m : Map) (c : Class) (z : SizeWord) (l : LBit) (w : WBit) (text : List ℕ) (s : RowShape)

@@ -99,16 +99,16 @@ imm_word_of s op.Lx = imm.Is4
 imm_word_of s _ = imm.None
 
 -- two words together: a word of two bytes and one of one byte are one word, as ENTER has them
-abbrev pub joined : ImmWord → ImmWord → ImmWord
-joined imm.None b = b
-joined imm.Iw imm.Ib = imm.IwIb
-joined a _ = a
+abbrev pub join_words : ImmWord → ImmWord → ImmWord
+join_words imm.None b = b
+join_words imm.Iw imm.Ib = imm.IwIb
+join_words a _ = a
 
 -- the word of all immediates of the row
 unfoldable pub imm_word : Row → ImmWord
 imm_word row =
-    joined (imm_word_of row.size (kind_of row 0)) (joined (imm_word_of row.size (kind_of row 1))
-    (joined (imm_word_of row.size (kind_of row 2)) (imm_word_of row.size (kind_of row 3))))
+    join_words (imm_word_of row.size (kind_of row 0)) (join_words (imm_word_of row.size (kind_of row 1))
+    (join_words (imm_word_of row.size (kind_of row 2)) (imm_word_of row.size (kind_of row 3))))
 
 -- the row adds a stack number to its ModRM byte
 abbrev pub adds_stack : Row → Bool

@@ -134,8 +134,8 @@ fn imm_word_of(size: Size, kind: OpKind) -> ImmWord
 }
 
 /// Two words together.
-fn joined(a: ImmWord, b: ImmWord) -> ImmWord
-    ensures { result ≡ spec.joined a b }
+fn join_words(a: ImmWord, b: ImmWord) -> ImmWord
+    ensures { result ≡ spec.join_words a b }
 {
     match (a, b) {
         (ImmWord::None, b) => b,
@@ -156,8 +156,8 @@ fn imm_word_at(row: &Row, n: usize) -> ImmWord
 fn imm_word(row: &Row) -> ImmWord
     ensures { result ≡ spec.imm_word row.now }
 {
-    let later = joined(imm_word_at(row, 2), imm_word_at(row, 3));
-    joined(imm_word_at(row, 0), joined(imm_word_at(row, 1), later))
+    let later = join_words(imm_word_at(row, 2), imm_word_at(row, 3));
+    join_words(imm_word_at(row, 0), join_words(imm_word_at(row, 1), later))
 }
 
 /// Whether a row adds a stack number to its ModRM byte.

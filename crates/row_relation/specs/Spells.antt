@@ -21,7 +21,7 @@ abbrev pub SpellsUnbounded : List Row → Bits → ℕ → List ℕ → Instr �
 SpellsUnbounded table bits ip bytes i =
     (row : Row) × (slice_get table i.code.0 ≡ Some row) × ((s : Spelling) × IsSpelledBy bits ip bytes i row s)
 
--- the same within 15 bytes
+-- some row of the table has a spelling with these bytes, at most 15, that means the instruction
 abbrev pub Spells : List Row → Bits → ℕ → List ℕ → Instr → Type 0
 Spells table bits ip bytes i = (length bytes ≤ 15) × SpellsUnbounded table bits ip bytes i
 

@@ -107,7 +107,11 @@ pub fn append_lead(out: &mut ArrayVec<u8, 15>, map: Map, vex: Option<Vex>)
     ensures { out.new.items ≡ out.old.items ++ spec.lead_bytes map vex }
 {
     match vex {
-        None => append_few(out, escape_bytes(map)),
+        // Mostly there is no escape byte, which is seen before the bytes are looked up.
+        None => match map {
+            Map::One => {}
+            _ => append_few(out, escape_bytes(map)),
+        },
         Some(v) => append_vex(out, v),
     }
 }
@@ -174,7 +178,7 @@ pub fn append_tail(out: &mut ArrayVec<u8, 15>, s: &Spelling)
 }
 
 /// Appends the displacement before the next address, of so many bytes: mostly there is none, and then the operand is not looked for.
-#[inline]
+#[inline(always)]
 fn append_displacement_if(
     out: &mut ArrayVec<u8, 15>,
     count: u8,
@@ -193,7 +197,7 @@ fn append_displacement_if(
 }
 
 /// Appends the immediates, of so many bytes together: mostly there is none.
-#[inline]
+#[inline(always)]
 fn append_immediates_if(
     out: &mut ArrayVec<u8, 15>,
     count: u8,
@@ -213,6 +217,7 @@ fn append_immediates_if(
 }
 
 /// Appends the opcode byte of the plain spelling of an instruction and what stands behind it, by the parts of the plain spelling (2.1).
+#[inline(always)]
 #[tactic(auto, unfolding(instruction_parts::specs::Bytes::modrm_bytes, instruction_parts::specs::Bytes::sib_bytes))]
 pub fn append_plain_tail(out: &mut ArrayVec<u8, 15>, row: &Row, instr: &Instr, parts: &PlainParts)
     requires room { array_vec_len out.old + tail_count row.now instr.now parts.now ≤ 15 }

@@ -1,10 +1,9 @@
 -- What is computed of the table.
 use Rattle.std.proofs.Common.{◌≡◌, true, refl, length}
+use Rattle.row_fields.specs.Candidates.{coded, of_number, at_opcode, below, is_run}
 use Rattle.row_types.specs.declared.RowKind.TheVariants.{Vex}
-use Rattle.row_fields.proofs.Cands.{coded, of_number, at_opcode, below}
-use Rattle.row_fields.proofs.Cells.{is_run}
 use Rattle.row_lists.specs.Cells.{span_of}
-use Rattle.row_lists.proofs.Runs.{run_at, line_runs, spans_fit}
+use Rattle.row_lists.specs.Runs.{run_at, line_runs, spans_fit}
 use Rattle.rows_vex.specs.declared.generated_table.TheConstants.{ROWS}
 use Rattle.rows_vex.specs.Table.{flat_rows, table, spans}
 

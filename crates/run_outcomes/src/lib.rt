@@ -44,7 +44,7 @@ pub struct Outcome {
 
 impl Outcome {
     /// The number of the status and what both outputs took, as text.
-    pub fn told(&self) -> Result<(u8, &str, &str), Utf8Error> {
+    pub fn as_text(&self) -> Result<(u8, &str, &str), Utf8Error> {
         Ok((self.number, from_utf8(&self.out)?, from_utf8(&self.err)?))
     }
 }
@@ -67,6 +67,17 @@ fn at(call: u64) -> ArrayVec<u64, 8> {
     calls
 }
 
+/// The number of the status that the program's call answers between a source and two outputs.
+fn number_of<S: Source>(
+    alloc: Global,
+    words: &[&str],
+    source: &mut S,
+    out: &mut FailAt<MemSink>,
+    err: &mut FailAt<MemSink>,
+) -> u8 {
+    status_number(&run(alloc, words, source, out, err))
+}
+
 /// What a command gives where its input comes from a source.
 fn outcome_of<S: Source + Drop>(
     alloc: Global,
@@ -78,8 +89,7 @@ fn outcome_of<S: Source + Drop>(
     let mut source = FailAt::new(source, at(ports.pull));
     let mut out = FailAt::new(MemSink::new(alloc, ports.room)?, at(ports.put));
     let mut err = FailAt::new(MemSink::new(alloc, 80)?, at(ports.say));
-    let status = run(alloc, &words, &mut source, &mut out, &mut err);
-    let number = status_number(&status);
+    let number = number_of(alloc, &words, &mut source, &mut out, &mut err);
     let out = out.inner().bytes().to_vec(alloc);
     let err = err.inner().bytes().to_vec(alloc);
     Ok(Outcome {

@@ -71,7 +71,7 @@ fn append_number(text: &mut Text, number: u64, back: &[u8])
 }
 
 /// A text, a number in decimal and a text behind it.
-fn numbered(front: &[u8], number: u64, back: &[u8]) -> Text
+fn with_number(front: &[u8], number: u64, back: &[u8]) -> Text
     requires front { length front.now ≤ 20 }
     requires back { length back.now ≤ 30 }
     ensures items { result.items ≡ front.now ++ decimal number ++ back.now }
@@ -116,7 +116,7 @@ fn wraps_line(end: u128) -> Text
 fn too_far_line(at: u64, target: u64) -> Text
     ensures { result.items ≡ codes "instruction " ++ decimal at ++ codes " cannot reach 0x" ++ hexadecimal target ++ codes "\n" }
 {
-    let mut text = numbered(b"instruction ", at, b" cannot reach 0x");
+    let mut text = with_number(b"instruction ", at, b" cannot reach 0x");
     append_hexadecimal_number(&mut text, u128::from(target), b"\n");
     text
 }
@@ -125,7 +125,7 @@ fn too_far_line(at: u64, target: u64) -> Text
 fn region_full_line(len: u64, largest: u64) -> Text
     ensures { result.items ≡ codes "region full: need " ++ decimal len ++ codes ", largest " ++ decimal largest ++ codes "\n" }
 {
-    let mut text = numbered(b"region full: need ", len, b", largest ");
+    let mut text = with_number(b"region full: need ", len, b", largest ");
     append_number(&mut text, largest, b"\n");
     text
 }
@@ -149,18 +149,18 @@ pub fn status_line(status: &Status) -> Text
 {
     match status {
         Status::Done => plain(b""),
-        Status::Usage { word } => numbered(b"usage: word ", *word, b"\n"),
+        Status::Usage { word } => with_number(b"usage: word ", *word, b"\n"),
         Status::BadCode { offset, error } => {
-            numbered(b"bad code at ", *offset, bad_code_end(*error))
+            with_number(b"bad code at ", *offset, bad_code_end(*error))
         }
         Status::ReadFault => plain(b"read fault\n"),
         Status::WriteFault => plain(b"write fault\n"),
         Status::Memory => plain(b"out of memory\n"),
-        Status::TooLarge { limit } => numbered(b"input over ", *limit, b" bytes\n"),
+        Status::TooLarge { limit } => with_number(b"input over ", *limit, b" bytes\n"),
         Status::Wraps { end } => wraps_line(*end),
         Status::TooFar { at, target } => too_far_line(*at, *target),
         Status::RegionFull { len, largest } => region_full_line(*len, *largest),
-        Status::TooMany { count } => numbered(b"", *count, b" instructions are too many\n"),
-        Status::BadText { line } => numbered(b"bad text in line ", *line, b"\n"),
+        Status::TooMany { count } => with_number(b"", *count, b" instructions are too many\n"),
+        Status::BadText { line } => with_number(b"bad text in line ", *line, b"\n"),
     }
 }

@@ -23,10 +23,10 @@ use Rattle.move_goals.specs.Items.{AreSpansOf, ArePlaced, item_at, one_span, fir
 use Rattle.move_goals.specs.Goals.{is_in_block_of, begins_at, own_item, other_item, goal_among, goal_of_target, goal_of, goal_at}
 use Rattle.move_goals.specs.Plan.{plan_with, plan_for}
 use Rattle.move_goals.specs.Facts.{FirstFacts, PlanFacts}
-use Rattle.move_layout.specs.Laid.{goal_value, goal_address, slots_of, images_end, slots_start, new_end, seat_at}
+use Rattle.move_layout.specs.Laid.{goal_value, goal_address, slots_of, images_end, slots_start, new_end, fragment_at}
 use Rattle.move_layout.specs.Facts.{SlotFacts}
-use Rattle.block_encoder.specs.Moved.{IsReached, seat_reach, first_new_pass}
-use Rattle.block_encoder.specs.Facts.{SeatFacts, ReachFacts}
+use Rattle.block_encoder.specs.Moved.{IsReached, fragment_reach, first_new_pass}
+use Rattle.block_encoder.specs.Facts.{FragmentFacts, ReachFacts}
 use Rattle.sample_run.specs.Made.{IsAimedLow, nowhere, near, by_rip}
 use Rattle.sample_run.specs.Sample.{moved_base}
 
@@ -51,7 +51,7 @@ one_end : (end : ℕ → ℕ) → end 0 ≤ 2 ^ 64 → first_passing B64 end 1 �
 one_end end le =
     ap (λ (b : Bool). elim (if◌then◌else◌ {A = Option ℕ} b (Some 0) None) as (λ (o : Option ℕ). Option ℕ) [ Some b ↦ Some (end b) | None ↦ None ]) (le-ltb (2 ^ 64) (end 0) le)
 
-module _ (totals : TotalFacts) (lengths : LengthFacts) (first : FirstFacts) (plans : PlanFacts) (slots : SlotFacts) (seats : SeatFacts) (reach : ReachFacts)
+module _ (totals : TotalFacts) (lengths : LengthFacts) (first : FirstFacts) (plans : PlanFacts) (slots : SlotFacts) (fragments : FragmentFacts) (reach : ReachFacts)
     (items : List Placed) (few : length items ≤ 65536) (placed : ArePlaced B64 items) where
   -- the block takes all items
   takes-all : AreSpansOf items (one_span items moved_base)
@@ -130,32 +130,32 @@ module _ (totals : TotalFacts) (lengths : LengthFacts) (first : FirstFacts) (pla
           let p = plan_for B64 (one_span items moved_base) items in
           let spans = one_span items moved_base in
           let G : Option ℕ → Type 0 = λ o. goal_value p layout (goal_of spans items k o) ≤ 2 ^ 30 in
-          subst (λ b. goal_value p layout b.goal ≤ 2 ^ 30) (sym (seats.plan-item B64 spans items (goal_at spans items) k lt))
+          subst (λ b. goal_value p layout b.goal ≤ 2 ^ 30) (sym (fragments.plan-item B64 spans items (goal_at spans items) k lt))
           (subst G (sym target) (target_low k t low))
 
-      seat_goal : (seat_at (plan_for B64 (one_span items moved_base) items) layout k).goal ≡ goal_address (plan_for B64 (one_span items moved_base) items) layout k
-      unfolding seat_at
-      seat_goal = refl
+      fragment_goal : (fragment_at (plan_for B64 (one_span items moved_base) items) layout k).goal ≡ goal_address (plan_for B64 (one_span items moved_base) items) layout k
+      unfolding fragment_at
+      fragment_goal = refl
 
       module _ (least : IsLeast (plan_for B64 (one_span items moved_base) items) layout) where
-        seat_own : first_value near_value (item_at items k).instr ≡ None → (seat_at (plan_for B64 (one_span items moved_base) items) layout k).form ≡ Itself
-        unfolding seat_at
-        seat_own none =
+        fragment_own : first_value near_value (item_at items k).instr ≡ None → (fragment_at (plan_for B64 (one_span items moved_base) items) layout k).form ≡ Itself
+        unfolding fragment_at
+        fragment_own none =
             let spans = one_span items moved_base in
-            ap (λ (c : Choice). c.form) (seats.choice-is B64 spans items (goal_at spans items) layout least.closed.is_layout k lt)
+            ap (λ (c : Choice). c.form) (fragments.choice-is B64 spans items (goal_at spans items) layout least.closed.is_layout k lt)
             ∙ own_form (item_at items k).instr (get_or layout k 0) none
 
         -- what is no branch is reached where its operand is
         by_operand : (by : Reach) → first_value near_value (item_at items k).instr ≡ None → target_reach (item_at items k).instr ≡ by
-            → Reaches by (seat_at (plan_for B64 (one_span items moved_base) items) layout k).len (seat_at (plan_for B64 (one_span items moved_base) items) layout k).place
-            (seat_at (plan_for B64 (one_span items moved_base) items) layout k).goal
+            → Reaches by (fragment_at (plan_for B64 (one_span items moved_base) items) layout k).len (fragment_at (plan_for B64 (one_span items moved_base) items) layout k).place
+            (fragment_at (plan_for B64 (one_span items moved_base) items) layout k).goal
             → IsReached B64 items (plan_for B64 (one_span items moved_base) items) layout k
         by_operand by none is h =
             let spans = one_span items moved_base in
-            let seat = seat_at (plan_for B64 spans items) layout k in
-            let own = seat_own none in
-            let R : Reach → Type 0 = λ r. Reaches r seat.len seat.place seat.goal in
-            let F : Form → Type 0 = λ f. Reaches (seat_reach (item_at items k).instr f seat.reach) seat.len seat.place seat.goal in
+            let fragment = fragment_at (plan_for B64 spans items) layout k in
+            let own = fragment_own none in
+            let R : Reach → Type 0 = λ r. Reaches r fragment.len fragment.place fragment.goal in
+            let F : Form → Type 0 = λ f. Reaches (fragment_reach (item_at items k).instr f fragment.reach) fragment.len fragment.place fragment.goal in
             reach.other-reached B64 items spans takes-all placed few layout least ends-inside k lt own (subst F (sym own) (subst R (sym is) h))
 
         -- **an item that is aimed low is reached**
@@ -166,6 +166,6 @@ module _ (totals : TotalFacts) (lengths : LengthFacts) (first : FirstFacts) (pla
             let spans = one_span items moved_base in
             let goal = goal-low t low target in
             let end = place-low k lt in
-            let at = seats.seat-place B64 spans items (goal_at spans items) layout least.closed.is_layout k lt in
-            let len = seats.seat-image_length B64 spans items (goal_at spans items) layout least.closed.is_layout k lt in
-            by_operand Signed32 none is (omega (arith, at, len, seat_goal), omega (arith, at, len, seat_goal))
+            let at = fragments.fragment-place B64 spans items (goal_at spans items) layout least.closed.is_layout k lt in
+            let len = fragments.fragment-image_length B64 spans items (goal_at spans items) layout least.closed.is_layout k lt in
+            by_operand Signed32 none is (omega (arith, at, len, fragment_goal), omega (arith, at, len, fragment_goal))

@@ -25,7 +25,7 @@ use Rattle.sample_run.specs.Made.{IsAimedLow, IsMade, HasInstructions}
 use Rattle.branch_sizes.specs.Facts.{LengthFacts, TotalFacts}
 use Rattle.move_goals.specs.Facts.{FirstFacts, PlanFacts}
 use Rattle.move_layout.specs.Facts.{SlotFacts}
-use Rattle.block_encoder.specs.Facts.{SeatFacts, ReachFacts}
+use Rattle.block_encoder.specs.Facts.{FragmentFacts, ReachFacts}
 use Rattle.sample_run.specs.Sample.{moved_base}
 use Rattle.sample_run.specs.Facts.{made_block}
 use Rattle.sample_run.proofs.Reaching.{ends-inside, with_target-reached}
@@ -59,7 +59,7 @@ aimed_at (item ∷ items) all (suc k) lt =
 
 -- ---- its block
 
-module _ (totals : TotalFacts) (lengths : LengthFacts) (first : FirstFacts) (plans : PlanFacts) (slots : SlotFacts) (seats : SeatFacts) (reach : ReachFacts)
+module _ (totals : TotalFacts) (lengths : LengthFacts) (first : FirstFacts) (plans : PlanFacts) (slots : SlotFacts) (fragments : FragmentFacts) (reach : ReachFacts)
     (one : OneSweepFacts) (inputs : InputFacts) (placed_facts : PlacedFacts) (n : ℕ) (made : HasInstructions n) (few : n ≤ 65536) where
   swept : AreSwept B64 made_block (code_of n) (made.items ∷ [])
   swept = (made.sweep, are_instructions made.items made.made, tt)
@@ -110,10 +110,10 @@ module _ (totals : TotalFacts) (lengths : LengthFacts) (first : FirstFacts) (pla
   unrefused (error.TooMany count) no_memory in_order h = let few = few_items in omega (arith, h.0)
   unrefused (error.Wraps end) no_memory in_order (inl h) = some_none _ end h.passes old_inside
   unrefused (error.Wraps end) no_memory in_order (inr h) =
-      some_none _ end h.passes (ends-inside totals lengths first plans slots seats reach (placed_in code_base made.items) few_items well_placed h.layout)
+      some_none _ end h.passes (ends-inside totals lengths first plans slots fragments reach (placed_in code_base made.items) few_items well_placed h.layout)
   unrefused (error.TooFar at target) no_memory in_order h =
       let far = h.first in
-      far.unreached (with_target-reached totals lengths first plans slots seats reach (placed_in code_base made.items) few_items well_placed h.layout at far.within h.least
+      far.unreached (with_target-reached totals lengths first plans slots fragments reach (placed_in code_base made.items) few_items well_placed h.layout at far.within h.least
       (aimed_at made.items made.made at (omega (arith, far.within, count_is))))
 
   code_unrefused : (why : MoveError) → (why ≡ error.Memory → ⊥) → ((at : ℕ) → why ≡ error.OldOrder at → ⊥) → RefusesCode B64 made_block (code_of n) why → ⊥

@@ -6,7 +6,7 @@ ghost use Rattle.sample_run.specs.Sample.{IsSample, summary_text};
 ghost use Rattle.sample_run.specs.Facts.{MadeFacts};
 ghost use Rattle.sample_run.specs.Made.{HasInstructions};
 
-use block_encoder::laws::{items_reach_their_goals, plans_seat_their_items};
+use block_encoder::laws::{items_reach_their_goals, plans_lay_out_their_items};
 use branch_sizes::laws::{images_are_short, least_is_unique, totals_rise};
 use move_goals::laws::{first_numbers_pass, plans_are_well_formed};
 use move_layout::laws::far_forms_have_slots;
@@ -37,7 +37,7 @@ pub fn made_code_reaches_its_targets()
     first_numbers_pass();
     plans_are_well_formed();
     far_forms_have_slots();
-    plans_seat_their_items();
+    plans_lay_out_their_items();
     items_reach_their_goals();
     sweeps_agree();
     inputs_are_read_in_one_way();

@@ -19,7 +19,7 @@ use Rattle.plain_spelling.specs.Values.{is_extended_of, distance}
 use Rattle.plain_spelling.specs.Forms.{is_variant_of}
 use Rattle.plain_spelling.specs.PlainFront.{asks_rex_w, asks_66}
 use Rattle.plain_spelling.specs.PlainTail.{plain_size, plain_next, plain_spelling}
-use Rattle.plain_spelling.specs.Expressible.{Suits, kind_suits, register_suits, address_suits, offered, immediate_suits, immediate_suits_how, near_reaches, target_suits, lock_suits, repeat_suits, prefixes_suit, has_memory_operand, address_size_suits}
+use Rattle.plain_spelling.specs.Expressible.{Suits, kind_suits, register_suits, address_suits, displacement_offered, immediate_suits, immediate_suits_how, near_reaches, target_suits, lock_suits, repeat_suits, prefixes_suit, has_memory_operand, address_size_suits}
 use Rattle.opcode_rows.specs.Table.{table}
 use Rattle.operand_info.specs.Operands.{near_value, ip_value, first_value}
 use Rattle.encoder.specs.Encoding.{encoding}
@@ -39,9 +39,9 @@ use Rattle.branch_forms.specs.Rows.{offset_row}
 use Rattle.move_goals.specs.declared.items.Placed.{Placed}
 use Rattle.move_goals.specs.Items.{IsPlaced, ArePlaced, item_at, one_span}
 use Rattle.move_goals.specs.Plan.{kept_goal, kept_goals, plan_outside}
-use Rattle.move_layout.specs.Laid.{goal_value, goal_address, seat_at}
+use Rattle.move_layout.specs.Laid.{goal_value, goal_address, fragment_at}
 use Rattle.block_encoder.specs.Bytes.{in_front, bytes_from}
-use Rattle.block_encoder.specs.Moved.{seat_reach, IsReached, first_new_pass}
+use Rattle.block_encoder.specs.Moved.{fragment_reach, IsReached, first_new_pass}
 use Rattle.step_slots.specs.Block.{jump_to}
 use Rattle.step_slots.specs.LawsBelow.{LawsBelow}
 
@@ -63,7 +63,7 @@ unfolding is_extended_of distance
 all_near-32 next t = rw (lt-ltb ((t + (2 ^ 64 - next)) % 2 ^ 32) (2 ^ 32) (omega arith)) refl
 
 suits-16 : (t ip : ℕ) → t < 2 ^ 16 → Suits B16 ip (offset_row One 0xE9 Jz 20 B16) (branch_to (near_code Jump B16) None t)
-unfolding branch_to exists_in kind_suits is_variant_of method_of register_suits address_suits offered immediate_suits immediate_suits_how target_suits near_reaches plain_size operand_size immediate_bytes immediate_width prefixes_suit lock_suits repeat_suits address_size_suits has_memory_operand asks_rex_w asks_66
+unfolding branch_to exists_in kind_suits is_variant_of method_of register_suits address_suits displacement_offered immediate_suits immediate_suits_how target_suits near_reaches plain_size operand_size immediate_bytes immediate_width prefixes_suit lock_suits repeat_suits address_size_suits has_memory_operand asks_rex_w asks_66
 suits-16 t ip below = record {
   exists = refl;
   kinds = refl;
@@ -79,7 +79,7 @@ suits-16 t ip below = record {
 }
 
 suits-32 : (t ip : ℕ) → t < 2 ^ 32 → Suits B32 ip (offset_row One 0xE9 Jz 20 B32) (branch_to (near_code Jump B32) None t)
-unfolding branch_to exists_in kind_suits is_variant_of method_of register_suits address_suits offered immediate_suits immediate_suits_how target_suits near_reaches plain_size operand_size immediate_bytes immediate_width prefixes_suit lock_suits repeat_suits address_size_suits has_memory_operand asks_rex_w asks_66
+unfolding branch_to exists_in kind_suits is_variant_of method_of register_suits address_suits displacement_offered immediate_suits immediate_suits_how target_suits near_reaches plain_size operand_size immediate_bytes immediate_width prefixes_suit lock_suits repeat_suits address_size_suits has_memory_operand asks_rex_w asks_66
 suits-32 t ip below = record {
   exists = refl;
   kinds = refl;
@@ -226,18 +226,18 @@ module _ (laws : LawsBelow) where
         → ((len at : ℕ) → Reaches (form_reach bits (back_branch bits) (jump_to bits t).asize NearForm) len at t)
         → IsEncodedIn bits (place (plan_outside bits items new_base) layout k) (jump_to bits t)
         → IsReached bits items (plan_outside bits items new_base) layout k
-    unfolding seat_at
+    unfolding fragment_at
     one-reached choices reaches encoded =
         let p = plan_outside bits items new_base in
         let at = place p layout k in
         let goal = goal_address p layout k in
-        let slot = (seat_at p layout k).slot in
+        let slot = (fragment_at p layout k).slot in
         let c = branch_choice bits (jump_to bits t) (back_branch bits) NearForm in
         let all : choices_of bits (item_at items k).instr ≡ c ∷ [] = ap (choices_of bits) is ∙ choices in
         let below : get_or layout k 0 < length (c ∷ []) =
-        subst (λ (cs : List Choice). get_or layout k 0 < length cs) all (laws.seats.choice-below bits (one_span items new_base) items (kept_goals items) layout l k lt) in
+        subst (λ (cs : List Choice). get_or layout k 0 < length cs) all (laws.fragments.choice-below bits (one_span items new_base) items (kept_goals items) layout l k lt) in
         let chosen_is : chosen p layout k ≡ c =
-        laws.seats.choice-is bits (one_span items new_base) items (kept_goals items) layout l k lt
+        laws.fragments.choice-is bits (one_span items new_base) items (kept_goals items) layout l k lt
         ∙ (ap (λ (cs : List Choice). get_or cs (get_or layout k 0) no_choice) all ∙ first_of_one c (get_or layout k 0) below) in
         let there : Reaches c.reach c.len at goal = subst (λ (g : ℕ). Reaches c.reach c.len at g) (sym jump-goal) (reaches c.len at) in
         let image : image_of bits (item_at items k).instr NearForm at goal slot ≡ jump_to bits t ∷ [] =
@@ -245,7 +245,7 @@ module _ (laws : LawsBelow) where
         ∙ (jump-image bits t at goal slot ∙ ap (λ (g : ℕ). jump_to bits g ∷ []) jump-goal) in
         let written : IsSome (bytes_from bits at (image_of bits (item_at items k).instr NearForm at goal slot)) =
         subst (λ (is : List Instr). IsSome (bytes_from bits at is)) (sym image) (one-some bits at (jump_to bits t) encoded) in
-        subst (λ (d : Choice). Reaches (seat_reach (item_at items k).instr d.form d.reach) d.len at goal
+        subst (λ (d : Choice). Reaches (fragment_reach (item_at items k).instr d.form d.reach) d.len at goal
         × IsSome (bytes_from bits at (image_of bits (item_at items k).instr d.form at goal slot))) (sym chosen_is) (there, written)
 
   jump-choices-16 : (t : ℕ) → choices_of B16 (jump_to B16 t) ≡ branch_choice B16 (jump_to B16 t) (back_branch B16) NearForm ∷ []

@@ -80,7 +80,7 @@ fn move_refusal(why: MoveError) -> StepError
 }
 
 /// A length rounded up to a multiple of 16.
-fn rounded(len: u64) -> u64
+fn round_up(len: u64) -> u64
     requires { len ≤ 53 }
     ensures { result ≡ rounded_len len }
 {
@@ -107,7 +107,7 @@ pub(crate) fn step_block(
     let len = last_len(bits, &items, base);
     let place = match region.place(len) {
         Ok(place) => place,
-        Err(why) => return Err(place_refusal(why, rounded(len))),
+        Err(why) => return Err(place_refusal(why, round_up(len))),
     };
     match move_outside(alloc, bits, &items, place) {
         Ok(moved) => {

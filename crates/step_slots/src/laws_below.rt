@@ -12,7 +12,7 @@ pub(crate) fn laws_below()
     branch_forms::laws::codes_have_their_rows();
     branch_forms::laws::pieces_have_their_lengths();
     move_goals::laws::plans_are_well_formed();
-    block_encoder::laws::plans_seat_their_items();
+    block_encoder::laws::plans_lay_out_their_items();
     block_encoder::laws::items_reach_their_goals();
     block_encoder::laws::last_forms_bound_the_length();
     code_region::laws::sound_regions_keep_their_laws();

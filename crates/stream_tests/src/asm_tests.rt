@@ -57,7 +57,7 @@ fn the_first_line_that_is_no_text_is_told(rt: HostRuntime) -> Result<(), Fail> {
     ] {
         let line = format!(in rt.alloc(); "bad text in line {at}\n")?;
         let ran = run_command(rt.alloc(), "asm 64 0", lines.as_bytes())?;
-        assert_eq!(rt; ran.told()?, (11, "", line.as_str()), "{lines}");
+        assert_eq!(rt; ran.as_text()?, (11, "", line.as_str()), "{lines}");
     }
     Ok(())
 }

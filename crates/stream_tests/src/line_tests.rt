@@ -24,7 +24,7 @@ fn texts_of(alloc: Global, bits: &str, listing: &str) -> Result<String, AllocErr
 fn texts_told(alloc: Global, command: &str, digits: &str) -> Result<(u8, String), Fail> {
     let input = hex::decode(alloc, digits)?;
     let ran = run_command(alloc, command, &input)?;
-    let (number, out, err) = ran.told()?;
+    let (number, out, err) = ran.as_text()?;
     let bits = command.split(' ').nth(1).unwrap_or("no mode");
     let mut found = texts_of(alloc, bits, out)?;
     found.push_str(err)?;
@@ -243,7 +243,7 @@ fn streams_have_their_lines(rt: HostRuntime) -> Result<(), Fail> {
     ] {
         let input = hex::decode(rt.alloc(), digits)?;
         let ran = run_command(rt.alloc(), command, &input)?;
-        assert_eq!(rt; ran.told()?, (0, lines, ""), "{command} {digits}");
+        assert_eq!(rt; ran.as_text()?, (0, lines, ""), "{command} {digits}");
     }
     Ok(())
 }
@@ -264,7 +264,7 @@ fn bad_code_ends_a_stream(rt: HostRuntime) -> Result<(), Fail> {
     ] {
         let input = hex::decode(rt.alloc(), digits)?;
         let ran = run_command(rt.alloc(), command, &input)?;
-        assert_eq!(rt; ran.told()?, (2, lines, told), "{command} {digits}");
+        assert_eq!(rt; ran.as_text()?, (2, lines, told), "{command} {digits}");
     }
     Ok(())
 }

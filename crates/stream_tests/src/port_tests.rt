@@ -63,7 +63,7 @@ fn a_fault_of_a_port_leaves_what_it_should(rt: HostRuntime) -> Result<(), Fail> 
             is_slow: false,
         };
         let ran = run_between(rt.alloc(), command, &input, &ports)?;
-        assert_eq!(rt; ran.told()?, (number, out, err), "{command} {digits}");
+        assert_eq!(rt; ran.as_text()?, (number, out, err), "{command} {digits}");
     }
     Ok(())
 }
@@ -96,7 +96,7 @@ fn lines_are_written_before_more_is_read(rt: HostRuntime) -> Result<(), Fail> {
             ..WHOLE
         };
         let ran = run_between(rt.alloc(), command, &input, &ports)?;
-        assert_eq!(rt; ran.told()?, (number, out, err), "{command} at {pull}");
+        assert_eq!(rt; ran.as_text()?, (number, out, err), "{command} at {pull}");
     }
     Ok(())
 }

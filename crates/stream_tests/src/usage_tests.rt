@@ -82,7 +82,7 @@ fn a_wrong_word_is_named(rt: HostRuntime) -> Result<(), Fail> {
     ] {
         let line = format!(in rt.alloc(); "usage: word {word}\n")?;
         let ran = run_command(rt.alloc(), command, &[0x90])?;
-        assert_eq!(rt; ran.told()?, (1, "", line.as_str()), "{command}");
+        assert_eq!(rt; ran.as_text()?, (1, "", line.as_str()), "{command}");
     }
     Ok(())
 }
@@ -96,9 +96,9 @@ fn at_most_sixteen_blocks_are_taken(rt: HostRuntime) -> Result<(), Fail> {
         command.push_str(" 16")?;
     }
     let ran = run_command(rt.alloc(), &command, &[])?;
-    assert_eq!(rt; ran.told()?, (0, "", ""));
+    assert_eq!(rt; ran.as_text()?, (0, "", ""));
     command.push_str(" 16")?;
     let ran = run_command(rt.alloc(), &command, &[])?;
-    assert_eq!(rt; ran.told()?, (1, "", "usage: word 50\n"));
+    assert_eq!(rt; ran.as_text()?, (1, "", "usage: word 50\n"));
     Ok(())
 }

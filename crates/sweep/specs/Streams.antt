@@ -51,7 +51,7 @@ pub record Sees (left left' : Option (List ℕ)) (seen : List ℕ) : Type 0 wher
   pub within : length taken ≤ code_limit + 1
   pub seen_is : seen ≡ take code_limit taken
 
--- the same where no byte past the limit was taken
+-- the bytes that count, where no byte past the limit was taken: all that were taken of the source
 pub record Reads (left left' : Option (List ℕ)) (seen : List ℕ) : Type 0 where
   pub read : left ≡ with_front seen left'
   pub within : length seen ≤ code_limit

@@ -7,10 +7,10 @@ ghost use Rattle.sweep.specs.Steps.{TakesStep, HandlesItems, HandlesFront};
 
 use crate::window::WINDOW_LEN;
 use byte_ports::{Failed, Sink};
-use decoder::DecodeError;
+use decoder::{DecodeError, UNREAD};
 use run_parts::laws::{held_texts_arrive, puts_join};
 use run_parts::{make_room, put_all};
-use sweep_text::{Chunk, Lines, append_line, item_len, read_at, stop_of};
+use sweep_text::{Chunk, Lines, append_line, item_len, read_onto, stop_of};
 use x86_values::Bits;
 
 /// The most bytes of an instruction (Intel SDM volume 2, 2.3.11).
@@ -53,7 +53,8 @@ fn write_item<K: Sink>(
     ensures last { OnErr result (PutsToFault K.put_gives out.old out.new) }
     ensures cause { HasCause (K.faults out.old) (K.faults out.new) result }
 {
-    let reading = read_at(bits, base, at, rest);
+    let mut reading = Ok(UNREAD);
+    read_onto(bits, base, at, rest, &mut reading);
     if let Some(error) = stop_of(lines, &reading) {
         return Ok(Step::Stop { error });
     }

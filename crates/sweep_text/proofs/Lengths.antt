@@ -33,3 +33,9 @@ unfolding byte_column
 column_is bytes digits e =
     ap (λ (xs : List ℕ). xs ++ drop (2 * length bytes) (replicate 30 32)) e
     ∙ ap (λ (xs : List ℕ). encode_lower bytes ++ xs) (drop-replicate (2 * length bytes) 30 32)
+
+-- the parts of what an instruction does, appended one behind another, are its text
+pub info_parts : (out flow first second third fourth memory target operand : List ℕ) →
+    (((((((out ++ flow) ++ first) ++ second) ++ third) ++ fourth) ++ memory) ++ target) ++ operand
+    ≡ out ++ (((((((flow ++ first) ++ second) ++ third) ++ fourth) ++ memory) ++ target) ++ operand)
+info_parts out flow first second third fourth memory target operand = simp append_assoc

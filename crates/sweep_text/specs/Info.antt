@@ -38,7 +38,7 @@ unfoldable pub access_word : Operand → Access → List ℕ
 access_word Absent access = []
 access_word _ access = access_name access
 
--- the same of operand n of an instruction
+-- the access of operand n of an instruction, nothing where it has no such operand
 unfoldable pub operand_word : Instr → ℕ → List ℕ
 operand_word i n = access_word (operand_at i n) (access_of i.code.0 n)
 

@@ -42,6 +42,6 @@ abbrev pub spelling_text : Result (List ℕ) NoSpelling → List ℕ
 spelling_text (Ok bytes) = encode_lower bytes
 spelling_text (Err why) = cause_text why
 
--- the same of the plain spelling of an instruction at an address, which wraps in the mode
+-- the bytes of the plain spelling of an instruction at an address, which wraps in the mode, in hexadecimal digits, or why there is none
 unfoldable pub recode_text : Bits → ℕ → Instr → List ℕ
 recode_text bits address i = spelling_text (encoding bits (wrapped bits address) i)

@@ -13,6 +13,6 @@ mod texts;
 pub use info::flow_name;
 pub use line::{CHUNK_LEN, Chunk, LINE_LEN, append_address};
 pub use lines::{Lines, append_line, stop_of};
-pub use reading::{item_len, read_at};
+pub use reading::{item_len, read_at, read_onto};
 pub use text_parts::style::Style;
 pub use text_parts::text::append;

@@ -12,7 +12,7 @@ use crate::texts::{append_instr_text, append_single_byte};
 use arrayvec::ArrayVec;
 use decoder::DecodeError;
 use text_parts::style::Style;
-use text_parts::text::{TEXT_LEN, append};
+use text_parts::text::{TEXT_LEN, append, append_few};
 use x86_values::{Bits, Decoded, wrap};
 
 /// How many bytes of text are held before they are written.
@@ -44,6 +44,7 @@ pub(crate) fn append_bytes<const N: usize>(out: &mut ArrayVec<u8, N>, bytes: &[u
 }
 
 /// Appends the address of an offset in code whose first byte has the address `base`: 4, 8 or 16 hexadecimal digits, as the mode has. It wraps in the mode.
+#[inline(always)]
 #[tactic(auto, unfolding(crate::specs::Listing::address_text))]
 pub fn append_address(out: &mut Chunk, bits: Bits, base: u64, offset: usize)
     requires { array_vec_len out.old + 16 ≤ CHUNK_LEN }
@@ -98,6 +99,7 @@ fn append_text(
 ///
 /// `base` is the address of the first byte of the code, `offset` how far the item stands behind it, `bytes` the bytes
 /// of the item, and `reading` what is read at its front; its text is written in the style `syntax`.
+#[inline(always)]
 #[tactic(auto, using(crate::proofs::Lengths::line_parts), unfolding(crate::specs::Listing::item_line))]
 pub(crate) fn append_item_line(
     out: &mut Chunk,
@@ -116,9 +118,9 @@ pub(crate) fn append_item_line(
         ++ spec.item_line bits base syntax (record { offset = offset; bytes = bytes.now; reading = reading_of reading.now }) }
 {
     append_address(out, bits, base, offset);
-    append(out, b" ");
+    append_few(out, b" ");
     append_column(out, bytes);
-    append(out, b" ");
+    append_few(out, b" ");
     append_text(out, bits, syntax, bytes, reading);
-    append(out, b"\n");
+    append_few(out, b"\n");
 }

@@ -8,13 +8,13 @@ ghost use Rattle.sweep_text.specs.Info.{info_text};
 ghost use Rattle.sweep_text.specs.Recode.{recode_text};
 ghost use Rattle.sweep_text.specs.Lines as spec;
 
-use crate::info::info_text;
+use crate::info::append_info;
 use crate::line::{CHUNK_LEN, Chunk, LINE_LEN, append_address, append_item_line};
-use crate::recode::recode_text;
+use crate::recode::append_recoded;
 use decoder::DecodeError;
 use operand_info::laws::well_formed_codes_are_in_the_table;
 use text_parts::style::Style;
-use text_parts::text::{TEXT_LEN, append};
+use text_parts::text::append_few;
 use x86_values::{Bits, Decoded, Instr};
 
 /// What a command writes of the items of a sweep, a line each.
@@ -46,34 +46,26 @@ pub fn stop_of(lines: Lines, reading: &Result<Decoded, DecodeError>) -> Option<D
     }
 }
 
-/// Appends the line of an instruction with what is told of it.
-#[tactic(auto, using(crate::proofs::Lengths::two_parts), unfolding(crate::specs::Lines::instr_line))]
-fn append_instr_line(out: &mut Chunk, bits: Bits, base: u64, offset: usize, told: &[u8])
-    requires told { length told.now ≤ TEXT_LEN }
-    requires room { array_vec_len out.old + LINE_LEN ≤ CHUNK_LEN }
-    ensures { out.new.items ≡ out.old.items ++ spec.instr_line bits base offset told.now }
-{
-    append_address(out, bits, base, offset);
-    append(out, b" ");
-    append(out, told);
-    append(out, b"\n");
-}
-
 /// Appends the line of an instruction with what it does. It is not made part of its caller, which would set aside the places of
 /// its texts for each line of a listing too.
 #[inline(never)]
+#[tactic(auto, using(crate::proofs::Lengths::two_parts), unfolding(crate::specs::Lines::instr_line))]
 fn append_info_line(out: &mut Chunk, bits: Bits, base: u64, offset: usize, instr: &Instr)
     requires well { IsTrue (is_well_formed instr.now) }
     requires room { array_vec_len out.old + LINE_LEN ≤ CHUNK_LEN }
     ensures { out.new.items ≡ out.old.items ++ spec.instr_line bits base offset (info_text instr.now) }
 {
     well_formed_codes_are_in_the_table();
-    append_instr_line(out, bits, base, offset, &info_text(instr));
+    append_address(out, bits, base, offset);
+    append_few(out, b" ");
+    append_info(out, instr);
+    append_few(out, b"\n");
 }
 
 /// Appends the line of an instruction with its spelling in the mode `to`, as far behind the address `new_base`; apart from its
 /// caller like the other.
 #[inline(never)]
+#[tactic(auto, using(crate::proofs::Lengths::two_parts), unfolding(crate::specs::Lines::instr_line))]
 fn append_recode_line(
     out: &mut Chunk,
     bits: Bits,
@@ -87,14 +79,17 @@ fn append_recode_line(
     ensures { out.new.items ≡ out.old.items
         ++ spec.instr_line bits base offset (recode_text to (new_base + offset) instr.now) }
 {
-    let told = recode_text(to, new_base, offset, instr);
-    append_instr_line(out, bits, base, offset, &told);
+    append_address(out, bits, base, offset);
+    append_few(out, b" ");
+    append_recoded(out, to, new_base, offset, instr);
+    append_few(out, b"\n");
 }
 
 /// Appends the line of an item, nothing where the command has none.
 ///
 /// `base` is the address of the first byte of the code, `offset` how far the item stands behind it, `bytes` the bytes
 /// of the item, and `reading` what is read at its front.
+#[inline(always)]
 pub fn append_line(
     out: &mut Chunk,
     bits: Bits,

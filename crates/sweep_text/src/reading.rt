@@ -7,12 +7,12 @@ ghost use Rattle.opcode_rows.specs.Sweep as spec;
 ghost use Rattle.sweep_text.specs.Sweeping.{TakesSome};
 
 use decoder::reading_laws::wrapped_addresses_read_alike;
-use decoder::{DecodeError, decode};
+use decoder::{DecodeError, UNREAD, decode_in, decode_onto};
 use x86_values::{Bits, Decoded, wrap};
 
 /// Reads the bytes from an offset on, of code whose first byte has the address `base`. Addresses wrap in the mode.
 #[inline]
-#[tactic(auto, using(crate::proofs::Covering::takes_some), unfolding(prefixes::specs::Answer::mode_of))]
+#[tactic(auto, using(crate::proofs::Covering::takes_some))]
 pub fn read_at(bits: Bits, base: u64, offset: usize, bytes: &[u8]) -> Result<Decoded, DecodeError>
     ensures reading { spec.IsReadAt bits base offset bytes.now (reading_of result) }
     ensures length { IfOk result (λ d. (0 < d.len) × (d.len ≤ 15) × (d.len ≤ length bytes.now)) }
@@ -21,10 +21,33 @@ pub fn read_at(bits: Bits, base: u64, offset: usize, bytes: &[u8]) -> Result<Dec
 {
     wrapped_addresses_read_alike();
     let ip = wrap(bits, u128::from(base) + offset as u128);
-    match bits {
-        Bits::B16 => decode::<16>(ip, bytes),
-        Bits::B32 => decode::<32>(ip, bytes),
-        Bits::B64 => decode::<64>(ip, bytes),
+    decode_in(bits, ip, bytes)
+}
+
+/// Reads as [`read_at`], and makes the answer where it is wanted, so that no instruction is copied.
+#[inline(always)]
+#[tactic(auto, using(crate::proofs::Covering::takes_some))]
+pub fn read_onto(
+    bits: Bits,
+    base: u64,
+    offset: usize,
+    bytes: &[u8],
+    out: &mut Result<Decoded, DecodeError>,
+)
+    ensures reading { spec.IsReadAt bits base offset bytes.now (reading_of out.new) }
+    ensures length { IfOk out.new (λ d. (0 < d.len) × (d.len ≤ 15) × (d.len ≤ length bytes.now)) }
+    ensures well { IfOk out.new (λ d. IsTrue (is_well_formed d.instr)) }
+    ensures takes { 0 < length bytes.now → TakesSome (reading_of out.new) (length bytes.now) }
+{
+    wrapped_addresses_read_alike();
+    let address = wrap(bits, u128::from(base) + offset as u128);
+    *out = Ok(UNREAD);
+    match out {
+        Ok(place) => match decode_onto(bits, address, bytes, place) {
+            Ok(()) => {}
+            Err(error) => *out = Err(error),
+        },
+        Err(_) => {}
     }
 }
 

@@ -1,16 +1,16 @@
 //! What recoding tells of an instruction: the bytes of its plain spelling, or the first condition that it fails.
 
-ghost use Rattle.std.specs.Prelude.{◌≡◌, ◌≤◌, ◌+◌, ◌++◌, length, decimal};
+ghost use Rattle.std.specs.Prelude.{◌≡◌, ◌≤◌, ◌+◌, ◌++◌, decimal};
 ghost use Rattle.arrayvec.specs.ArrayVec.{array_vec_len};
 ghost use Rattle.x86_values.specs.Wrapping.{wrapped};
 ghost use Rattle.encoder.specs.Encoding.{written};
 ghost use Rattle.sweep_text.specs.Recode as spec;
 
-use crate::line::append_bytes;
+use crate::line::{CHUNK_LEN, Chunk, append_bytes};
 use arrayvec::ArrayVec;
 use encoder::{NoSpelling, encode};
 use itoa::Buffer;
-use text_parts::text::{TEXT_LEN, Text, append};
+use text_parts::text::{TEXT_LEN, append};
 use x86_values::{Bits, Instr, wrap};
 
 /// The number of a cause: the conditions are counted from 1.
@@ -47,9 +47,10 @@ fn cause_operand(why: NoSpelling) -> Option<u8>
 
 /// Appends the number of an operand behind a space, where there is one.
 #[tactic(auto, unfolding(crate::specs::Recode::operand_number))]
-fn append_operand(out: &mut Text, operand: Option<u8>)
-    requires { array_vec_len out.old + 4 ≤ TEXT_LEN }
-    ensures { out.new.items ≡ out.old.items ++ spec.operand_number operand }
+fn append_operand(out: &mut Chunk, operand: Option<u8>)
+    requires { array_vec_len out.old + 4 ≤ CHUNK_LEN }
+    ensures items { out.new.items ≡ out.old.items ++ spec.operand_number operand }
+    ensures len { array_vec_len out.new ≤ array_vec_len out.old + 4 }
 {
     if let Some(operand) = operand {
         append(out, b" ");
@@ -57,40 +58,39 @@ fn append_operand(out: &mut Text, operand: Option<u8>)
     }
 }
 
-/// Why there is no spelling: a sign, the number of the cause, and that of the operand that it names.
+/// Appends why there is no spelling: a sign, the number of the cause, and that of the operand that it names.
+#[inline(never)]
 #[tactic(auto, unfolding(crate::specs::Recode::cause_text))]
-fn cause_text(why: NoSpelling) -> Text
-    ensures { result.items ≡ spec.cause_text why }
+fn append_cause(out: &mut Chunk, why: NoSpelling)
+    requires { array_vec_len out.old + TEXT_LEN ≤ CHUNK_LEN }
+    ensures items { out.new.items ≡ out.old.items ++ spec.cause_text why }
+    ensures len { array_vec_len out.new ≤ array_vec_len out.old + TEXT_LEN }
 {
-    let mut text = Text::new();
-    append(&mut text, b"! ");
-    append(
-        &mut text,
-        Buffer::new().format(cause_number(why)).as_bytes(),
-    );
-    append_operand(&mut text, cause_operand(why));
-    text
+    append(out, b"! ");
+    append(out, Buffer::new().format(cause_number(why)).as_bytes());
+    append_operand(out, cause_operand(why));
 }
 
-/// The bytes of a spelling in hexadecimal digits, or why there is none.
-fn spelling_text(spelling: &Result<ArrayVec<u8, 15>, NoSpelling>) -> Text
-    ensures { result.items ≡ spec.spelling_text (written spelling.now) }
+/// Appends the bytes of a spelling in hexadecimal digits, or why there is none.
+#[inline]
+fn append_spelling(out: &mut Chunk, spelling: &Result<ArrayVec<u8, 15>, NoSpelling>)
+    requires { array_vec_len out.old + TEXT_LEN ≤ CHUNK_LEN }
+    ensures items { out.new.items ≡ out.old.items ++ spec.spelling_text (written spelling.now) }
+    ensures len { array_vec_len out.new ≤ array_vec_len out.old + TEXT_LEN }
 {
     match spelling {
-        Ok(bytes) => {
-            let mut text = Text::new();
-            append_bytes(&mut text, bytes);
-            text
-        }
-        Err(why) => cause_text(*why),
+        Ok(bytes) => append_bytes(out, bytes),
+        Err(why) => append_cause(out, *why),
     }
 }
 
-/// The bytes of the plain spelling of an instruction at an offset from an address, which wraps in the mode, or why there is none.
+/// Appends the bytes of the plain spelling of an instruction at an offset from an address, which wraps in the mode, or why there is none.
 #[tactic(auto, unfolding(crate::specs::Recode::recode_text))]
-pub(crate) fn recode_text(bits: Bits, base: u64, offset: usize, instr: &Instr) -> Text
-    ensures { result.items ≡ spec.recode_text bits (base + offset) instr.now }
+pub(crate) fn append_recoded(out: &mut Chunk, bits: Bits, base: u64, offset: usize, instr: &Instr)
+    requires { array_vec_len out.old + TEXT_LEN ≤ CHUNK_LEN }
+    ensures items { out.new.items ≡ out.old.items ++ spec.recode_text bits (base + offset) instr.now }
+    ensures len { array_vec_len out.new ≤ array_vec_len out.old + TEXT_LEN }
 {
     let address = wrap(bits, u128::from(base) + offset as u128);
-    spelling_text(&encode(bits, address, instr))
+    append_spelling(out, &encode(bits, address, instr));
 }

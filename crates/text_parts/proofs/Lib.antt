@@ -2,6 +2,7 @@ pub mod Digits
 pub mod DigitPairs
 pub mod DigitValues
 pub mod Bounds
+pub mod ByteDigits
 pub mod AddressBounds
 pub mod LayoutBounds
 pub mod Samples

@@ -27,7 +27,7 @@ fn append_name<const N: usize>(out: &mut ArrayVec<u8, N>, style: Style, name: &[
     requires { array_vec_len out.old + length (name.now ++ spec.behind_size style name.now) ≤ N }
     ensures { out.new.items ≡ out.old.items ++ (name.now ++ spec.behind_size style name.now) }
 {
-    append(out, name);
+    append_few(out, name);
     match name {
         [] => {}
         _ => match style {
@@ -97,40 +97,19 @@ fn append_size_word<const N: usize>(out: &mut ArrayVec<u8, N>, style: Style, row
     }
 }
 
-/// Operand `n`.
-#[inline]
-pub fn nth_operand(instr: &Instr, n: usize) -> Operand
-    requires { n < 4 }
-    ensures { result ≡ spec.nth_operand instr.now n }
-{
-    instr.ops[n]
-}
-
 /// Operand `n`, where it stands.
 #[inline]
-fn operand_at(instr: &Instr, n: usize) -> &Operand
+pub fn operand_at(instr: &Instr, n: usize) -> &Operand
     requires { n < 4 }
     ensures { result.now ≡ spec.nth_operand instr.now n }
 {
     &instr.ops[n]
 }
 
-/// What stands in front of an operand.
-#[inline]
-#[tactic(auto, unfolding(crate::specs::Layout::separator))]
-pub fn separator(first: bool, op: Operand) -> &'static [u8]
-    ensures { result.now ≡ spec.separator first op }
-{
-    match op {
-        Operand::Absent => b"",
-        _ => if first { b" " } else { b", " },
-    }
-}
-
 /// Appends what stands in front of an operand.
 #[inline]
 #[tactic(auto, unfolding(crate::specs::Layout::separator))]
-fn append_separator<const N: usize>(out: &mut ArrayVec<u8, N>, first: bool, op: &Operand)
+pub fn append_separator<const N: usize>(out: &mut ArrayVec<u8, N>, first: bool, op: &Operand)
     requires { array_vec_len out.old + length (spec.separator first op.now) ≤ N }
     ensures { out.new.items ≡ out.old.items ++ spec.separator first op.now }
 {

@@ -97,14 +97,96 @@ fn append_last_digits<const N: usize>(out: &mut ArrayVec<u8, N>, count: u32, n: 
     append_last_bytes(out, count / 2, n);
 }
 
-/// Appends a number in hexadecimal without leading zeros.
+/// Appends a number of one byte in hexadecimal without a leading zero.
 #[inline]
+fn append_byte<const N: usize>(out: &mut ArrayVec<u8, N>, n: u8)
+    requires { array_vec_len out.old + length (spec.hexadecimal n) ≤ N }
+    ensures { out.new.items ≡ out.old.items ++ spec.hexadecimal n }
+{
+    let [high, low] = digit_pair(n);
+    if 16 <= n {
+        out.push(high);
+        out.push(low);
+    } else {
+        out.push(low);
+    }
+}
+
+/// Appends the two digits of the last byte of a number.
+#[inline]
+fn append_last_byte<const N: usize>(out: &mut ArrayVec<u8, N>, n: u64)
+    requires { array_vec_len out.old + 2 ≤ N }
+    ensures { out.new.items ≡ out.old.items ++ spec.last_digits 2 n }
+{
+    let [high, low] = digit_pair(byte_at(n, 0));
+    out.push(high);
+    out.push(low);
+}
+
+/// Appends a number of two bytes in hexadecimal without leading zeros.
+#[inline]
+fn append_two_bytes<const N: usize>(out: &mut ArrayVec<u8, N>, n: u64)
+    requires some { 256 ≤ n }
+    requires few { n < 65536 }
+    requires room { array_vec_len out.old + length (spec.hexadecimal n) ≤ N }
+    ensures { out.new.items ≡ out.old.items ++ spec.hexadecimal n }
+{
+    append_byte(out, (n / 256) as u8);
+    append_last_byte(out, n);
+}
+
+/// Appends a number of three bytes in hexadecimal without leading zeros.
+#[inline]
+fn append_three_bytes<const N: usize>(out: &mut ArrayVec<u8, N>, n: u64)
+    requires some { 65536 ≤ n }
+    requires few { n < 16777216 }
+    requires room { array_vec_len out.old + length (spec.hexadecimal n) ≤ N }
+    ensures { out.new.items ≡ out.old.items ++ spec.hexadecimal n }
+{
+    append_two_bytes(out, n / 256);
+    append_last_byte(out, n);
+}
+
+/// Appends a number of sixteen digits in hexadecimal.
+#[inline]
+fn append_eight_bytes<const N: usize>(out: &mut ArrayVec<u8, N>, n: u64)
+    requires some { 2 ^ 60 ≤ n }
+    requires room { array_vec_len out.old + length (spec.hexadecimal n) ≤ N }
+    ensures { out.new.items ≡ out.old.items ++ spec.hexadecimal n }
+{
+    append_last_bytes(out, 8, n);
+}
+
+/// Appends a number of any width in hexadecimal without leading zeros. Most of those that are wide are below zero as signed numbers, with all
+/// sixteen digits.
+#[inline(never)]
 #[tactic(auto, unfolding(crate::specs::Numbers::hexadecimal))]
+fn append_any<const N: usize>(out: &mut ArrayVec<u8, N>, n: u64)
+    requires { array_vec_len out.old + length (spec.hexadecimal n) ≤ N }
+    ensures { out.new.items ≡ out.old.items ++ spec.hexadecimal n }
+{
+    if n < 0x1000_0000_0000_0000 {
+        append_last_digits(out, digit_count(n), n);
+    } else {
+        append_eight_bytes(out, n);
+    }
+}
+
+/// Appends a number in hexadecimal without leading zeros. Most are of one byte, and few of more than three.
+#[inline]
 pub fn append_hexadecimal<const N: usize>(out: &mut ArrayVec<u8, N>, n: u64)
     requires { array_vec_len out.old + length (spec.hexadecimal n) ≤ N }
     ensures { out.new.items ≡ out.old.items ++ spec.hexadecimal n }
 {
-    append_last_digits(out, digit_count(n), n);
+    if n < 256 {
+        append_byte(out, n as u8);
+    } else if n < 0x1_0000 {
+        append_two_bytes(out, n);
+    } else if n < 0x100_0000 {
+        append_three_bytes(out, n);
+    } else {
+        append_any(out, n);
+    }
 }
 
 /// The 0 in front of a number that would begin with a letter.

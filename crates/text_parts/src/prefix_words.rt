@@ -76,6 +76,7 @@ pub fn size_digits(size: Bits) -> &'static [u8]
 }
 
 /// Appends a letter with a size, as `a32`.
+#[inline(never)]
 #[tactic(auto, unfolding(crate::specs::PrefixWords::sized_word))]
 fn append_sized_word<const N: usize>(out: &mut ArrayVec<u8, N>, letter: &[u8], size: Bits)
     requires { array_vec_len out.old + length (spec.sized_word letter.now size) ≤ N }
@@ -228,6 +229,7 @@ fn append_operand_size_word<const N: usize>(out: &mut ArrayVec<u8, N>, bits: Bit
 }
 
 /// Appends the words of the prefixes, in their order.
+#[inline(always)]
 #[tactic(auto, unfolding(crate::specs::PrefixWords::prefix_words))]
 pub fn append_prefix_words<const N: usize>(
     out: &mut ArrayVec<u8, N>,

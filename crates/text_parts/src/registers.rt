@@ -13,18 +13,18 @@ use x86_values::{Register, Segment};
 /// The name of one of the first eight general registers of 16 bits.
 #[inline]
 #[tactic(auto, unfolding(crate::specs::Registers::word_name))]
-fn word_name(n: u8) -> &'static [u8]
-    ensures { result.now ≡ spec.word_name n }
+fn word_name(n: u8) -> [u8; 2]
+    ensures { result ≡ spec.word_name n }
 {
     match n {
-        0 => b"ax",
-        1 => b"cx",
-        2 => b"dx",
-        3 => b"bx",
-        4 => b"sp",
-        5 => b"bp",
-        6 => b"si",
-        _ => b"di",
+        0 => *b"ax",
+        1 => *b"cx",
+        2 => *b"dx",
+        3 => *b"bx",
+        4 => *b"sp",
+        5 => *b"bp",
+        6 => *b"si",
+        _ => *b"di",
     }
 }
 
@@ -95,7 +95,7 @@ fn append_general<const N: usize>(out: &mut ArrayVec<u8, N>, front: &[u8], n: u8
 {
     if n < 8 {
         append_few(out, front);
-        append_few(out, word_name(n));
+        append_few(out, &word_name(n));
     } else {
         append_numbered(out, b"r", n, letter);
     }

@@ -1,7 +1,7 @@
 -- At most one operand of a well-formed instruction is memory or a far pointer.
 use Rattle.std.proofs.Common.{◌≡◌, ℕ, ◌+◌, ◌≤◌, ◌<◌, Bool, true, Option, Some, None, refl, slice_get, arith}
 use Rattle.std.specs.Prelude.{if◌then◌else◌, IsTrue, nat_le}
-use Rattle.std.proofs.lemmas.Bool.{leb-true, le-leb}
+use Rattle.std.proofs.lemmas.Bool.{leb-true, le-leb, and_parts}
 use Rattle.std.proofs.lemmas.Option.{slice_get_within}
 use Rattle.x86_values.specs.declared.Instr.{Instr}
 use Rattle.x86_values.specs.declared.Operand.{Operand}
@@ -12,7 +12,6 @@ use Rattle.instruction_parts.specs.declared.kinds.Method.{Method}
 use Rattle.instruction_parts.specs.declared.kinds.Method.TheVariants as method
 use Rattle.instruction_parts.specs.Kinds.{method_of}
 use Rattle.row_fit.specs.Fits.{kind_at}
-use Rattle.row_fields.proofs.Cands.{and-left, and-right}
 use Rattle.rows_integer.specs.Table.{table as integer_rows, flat_rows as integer_flat}
 use Rattle.rows_x87.specs.Table.{table as x87_rows, flat_rows as x87_flat}
 use Rattle.rows_sse.specs.Table.{table as sse_rows, flat_rows as sse_flat}
@@ -103,17 +102,17 @@ operand-short : (row : Row) (i : Instr) (n : ℕ) → operand_is_formed row i n 
 unfolding operand_is_formed
 operand-short row i n h =
     variant-short row.place (method_of (kind_at row n)) (operand_at i n)
-    (and-left (is_variant_of row.place (method_of (kind_at row n)) (operand_at i n)) (has_numbers (operand_at i n)) h)
+    (and_parts (is_variant_of row.place (method_of (kind_at row n)) (operand_at i n)) (has_numbers (operand_at i n)) h).0
 
 formed-one : (row : Row) (i : Instr) → is_formed row i ≡ true → most (method_of (kind_at row 0)) + (most (method_of (kind_at row 1)) + (most (method_of (kind_at row 2)) + most (method_of (kind_at row 3)))) ≤ 1 → IsTrue (has_one_long i)
 unfolding is_formed has_one_long
 formed-one row i h few =
-    let rest = and-right (operand_is_formed row i 0) _ h in
-    let rest' = and-right (operand_is_formed row i 1) _ rest in
-    let b0 = operand-short row i 0 (and-left (operand_is_formed row i 0) _ h) in
-    let b1 = operand-short row i 1 (and-left (operand_is_formed row i 1) _ rest) in
-    let b2 = operand-short row i 2 (and-left (operand_is_formed row i 2) _ rest') in
-    let b3 = operand-short row i 3 (and-right (operand_is_formed row i 2) _ rest') in
+    let rest = (and_parts (operand_is_formed row i 0) _ h).1 in
+    let rest' = (and_parts (operand_is_formed row i 1) _ rest).1 in
+    let b0 = operand-short row i 0 (and_parts (operand_is_formed row i 0) _ h).0 in
+    let b1 = operand-short row i 1 (and_parts (operand_is_formed row i 1) _ rest).0 in
+    let b2 = operand-short row i 2 (and_parts (operand_is_formed row i 2) _ rest').0 in
+    let b3 = operand-short row i 3 (and_parts (operand_is_formed row i 2) _ rest').1 in
     le-leb _ 1 (omega (arith, few, b0, b1, b2, b3))
 
 pub one_long : (i : Instr) → IsTrue (is_well_formed i) → IsTrue (has_one_long i)

@@ -1,8 +1,7 @@
 -- Each name of the table is short.
 use Rattle.std.proofs.Common.{◌≡◌, ℕ, zero, suc, ◌≤◌, Bool, true, ◌&&◌, List, [], ◌∷◌, length, slice_get, refl, arith}
 use Rattle.std.specs.Prelude.{nat_le, unwrap_or}
-use Rattle.std.proofs.lemmas.Bool.{leb-true}
-use Rattle.row_fields.proofs.Cands.{and-left, and-right}
+use Rattle.std.proofs.lemmas.Bool.{leb-true, and_parts}
 use Rattle.opcode_rows.specs.Table.{names, name_of}
 
 -- each of these texts has at most 20 bytes
@@ -17,8 +16,8 @@ names-short = refl
 short-at : (xs : List (List ℕ)) (k : ℕ) → all_short xs ≡ true → length (unwrap_or (slice_get xs k) []) ≤ 20
 unfolding all_short
 short-at [] k h = omega arith
-short-at (x ∷ xs) zero h = leb-true (length x) 20 (and-left (nat_le (length x) 20) (all_short xs) h)
-short-at (x ∷ xs) (suc k) h = short-at xs k (and-right (nat_le (length x) 20) (all_short xs) h)
+short-at (x ∷ xs) zero h = leb-true (length x) 20 (and_parts (nat_le (length x) 20) (all_short xs) h).0
+short-at (x ∷ xs) (suc k) h = short-at xs k (and_parts (nat_le (length x) 20) (all_short xs) h).1
 
 pub name_of-le : (code : ℕ) → length (name_of code) ≤ 20
 unfolding name_of

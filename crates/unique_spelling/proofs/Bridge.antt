@@ -1,7 +1,7 @@
 -- Where a spelling fits a row, the row's conditions hold on its nine fields.
 use Rattle.std.proofs.Common.{◌≡◌, ℕ, ◌<◌, Bool, true, false, not, ◌&&◌, ◌||◌, Option, Some, None, is_some, List, refl, ap, sym, ◌∙◌, subst, nat_lt, length, if◌then◌else◌, inl, inr}
 use Rattle.std.specs.Prelude.{◌==◌, ◌⊎◌}
-use Rattle.std.proofs.lemmas.Bool.{and_from, cases_Bool}
+use Rattle.std.proofs.lemmas.Bool.{and_from, cases_Bool, and_parts}
 use Rattle.x86_values.specs.declared.Bits.{Bits}
 use Rattle.row_types.specs.declared.Row.{Row}
 use Rattle.row_types.specs.declared.Map.{Map}
@@ -18,7 +18,6 @@ use Rattle.instruction_parts.specs.declared.spelling.PrefixState.{PrefixState}
 use Rattle.instruction_parts.specs.Counting.{is_64, rex_bit, counting_rex, counting_repeat, has_66}
 use Rattle.instruction_parts.specs.Sizes.{exists_in, is_vex_row, operand_size, bit_b, bit_w, state_size}
 use Rattle.instruction_parts.specs.Bytes.{front_bytes, modrm_byte, state_of, state_from, spelled_map}
-use Rattle.instruction_parts.proofs.Tests.{and_left, and_right}
 use Rattle.row_fit.specs.Fits.{fits, class_fits, opcode_and_modrm_fit, opcode_fits, modrm_rule_fits, place_fits, place_allows, sizes_fit, size_fits, w_fits, l_fits, registers_fit, destination_fits, gather_fits, reads_by, is_gather, is_nop_byte, nop_fits, is_map_one, is_repeat_f3, modrm_in_range, fields_in_range, vex_in_range, are_bytes}
 use borrow.Author.Tests.{ltb-true}
 use Rattle.row_fit.specs.Sound.{sound, kind_is_proper, legacy_is_proper, vex_is_proper, is_no_w, is_no_l, is_size_of_vex, rule_in_range}
@@ -55,12 +54,12 @@ nop_asks p c r f = elim p [ plus.Register ↦ r && f | _ ↦ elim c [ class.F3 �
 
 asks-f3 : (p : Plus) (c : Class) (r f : Bool) (prefix : ℕ) → (f ≡ true → not (prefix == 2) ≡ true) → nop_asks p c r f ≡ true
     → not ((true && adds_register p) && (prefix == 2)) ≡ true
-asks-f3 plus.Register c r f prefix means h = means (and_right r f h)
+asks-f3 plus.Register c r f prefix means h = means (and_parts r f h).1
 asks-f3 plus.No c r f prefix means h = refl
 asks-f3 plus.Stack c r f prefix means h = refl
 
 asks-b : (p : Plus) (c : Class) (r f : Bool) → nop_asks p c r f ≡ true → rex_b_at_90 p c r ≡ true
-asks-b plus.Register c r f h = and_left r f h
+asks-b plus.Register c r f h = (and_parts r f h).0
 asks-b plus.No class.F3 r f h = refl
 asks-b plus.No class.Any r f h = h
 asks-b plus.No class.Np r f h = h
@@ -104,11 +103,11 @@ record Said (bits : Bits) (row : Row) (ps : List ℕ) (vex : Option Vex) (o : �
 
 no_w_of : (row : Row) → legacy_is_proper row ≡ true → (is_no_w row.w ≡ true) × (is_no_l row.l ≡ true)
 unfolding legacy_is_proper
-no_w_of row h = (and_left (is_no_w row.w) _ h, and_left (is_no_l row.l) _ (and_right (is_no_w row.w) _ h))
+no_w_of row h = ((and_parts (is_no_w row.w) _ h).0, (and_parts (is_no_l row.l) _ (and_parts (is_no_w row.w) _ h).1).0)
 
 size_of_vex : (row : Row) → vex_is_proper row ≡ true → is_size_of_vex row.size ≡ true
 unfolding vex_is_proper
-size_of_vex row h = and_left (is_size_of_vex row.size) _ (and_right _ _ (and_right (not (is_no_l row.l)) _ (and_right (not (is_no_w row.w)) _ h)))
+size_of_vex row h = (and_parts (is_size_of_vex row.size) _ (and_parts _ _ (and_parts (not (is_no_l row.l)) _ (and_parts (not (is_no_w row.w)) _ h).1).1).1).0
 
 if-true : {A : Type 0} (b : Bool) (x y : A) → b ≡ true → (if b then x else y) ≡ x
 if-true b x y e = rw e refl
@@ -134,7 +133,7 @@ said-legacy bits row ps used map o legacy proper class sizes nop =
     let rex : Option ℕ = counting_rex bits ps in
     let plain : (is_64 bits && rex_bit 3 rex) ≡ rex_bit 3 rex = rex-64 bits ps 3 in
     let sized : size_fits bits row.size (operand_size bits row (rex_bit 3 rex) (has_66 ps)) (is_64 bits && rex_bit 3 rex) ≡ true =
-    and_left (size_fits bits row.size (operand_size bits row (rex_bit 3 rex) (has_66 ps)) (is_64 bits && rex_bit 3 rex)) true sizes in
+    (and_parts (size_fits bits row.size (operand_size bits row (rex_bit 3 rex) (has_66 ps)) (is_64 bits && rex_bit 3 rex)) true sizes).0 in
     record {
       class_is = sym (legacy-class row.class (state_from bits ps used None map o)) ∙ class;
       size_is =
@@ -159,16 +158,16 @@ said-vex : (bits : Bits) (row : Row) (ps : List ℕ) (v : Vex) (used : ℕ) (map
 unfolding class_fits sizes_fit state_from state_size bit_w size_holds w_holds w_fits
 said-vex bits row ps v used map o is proper class sizes =
     let size : Bits = operand_size bits row (rex_bit 3 (counting_rex bits ps)) (has_66 ps) in
-    let fields : (w_fits row v && l_fits row.l v) ≡ true = and_right (size_fits bits row.size size (is_64 bits && v.w)) (w_fits row v && l_fits row.l v) sizes in
+    let fields : (w_fits row v && l_fits row.l v) ≡ true = (and_parts (size_fits bits row.size size (is_64 bits && v.w)) (w_fits row v && l_fits row.l v) sizes).1 in
     let sized : size_fits bits row.size size (is_64 bits && v.w) ≡ true =
-    and_left (size_fits bits row.size size (is_64 bits && v.w)) (w_fits row v && l_fits row.l v) sizes in
+    (and_parts (size_fits bits row.size size (is_64 bits && v.w)) (w_fits row v && l_fits row.l v) sizes).0 in
     record {
       class_is = vex-class row.class v class;
       size_is = size-of_vex row.size (operand_size bits row (is_64 bits && v.w) (v.pp == 1)) (size_of_vex row (proper-vex row proper is));
       w_is = and_from (w_as_size row.size (is_64 bits && v.w)) (w_allows row.size row.w v.w)
           (w-as_size bits row.size size (is_64 bits && v.w) sized)
-          (w-of_vex row.size row.w v.w (and_left (w_fits row v) (l_fits row.l v) fields));
-      l_is = l-of_vex row.l v (and_right (w_fits row v) (l_fits row.l v) fields);
+          (w-of_vex row.size row.w v.w (and_parts (w_fits row v) (l_fits row.l v) fields).0);
+      l_is = l-of_vex row.l v (and_parts (w_fits row v) (l_fits row.l v) fields).1;
       nop_is = nop-elsewhere row o (rex_bit 0 (counting_rex bits ps)) (prefix_of (repeat_of_pp v.pp) (v.pp == 1)) (vex-elsewhere row o is);
     }
 
@@ -190,13 +189,13 @@ byte-meets : (row : Row) (o : ℕ) (m : Option ModRm) (next : Option ℕ) → ru
     → opcode_and_modrm_fit row o m ≡ true → NextIs m next → ByteMeets row.modrm row.plus row.place (is_some next) (byte_of next)
 unfolding opcode_and_modrm_fit place_fits
 byte-meets row o None next range fields h is =
-    without row.plus row.modrm (and_left (modrm_rule_fits row.plus row.modrm None) true (and_right (opcode_fits row o) _ h)) row.place (is_some next) (byte_of next)
+    without row.plus row.modrm (and_parts (modrm_rule_fits row.plus row.modrm None) true (and_parts (opcode_fits row o) _ h).1).0 row.place (is_some next) (byte_of next)
 byte-meets row o (Some m) next range fields h is =
-    let later = and_right (opcode_fits row o) (modrm_rule_fits row.plus row.modrm (Some m) && place_fits row (Some m)) h in
+    let later = (and_parts (opcode_fits row o) (modrm_rule_fits row.plus row.modrm (Some m) && place_fits row (Some m)) h).1 in
     subst (λ n. ByteMeets row.modrm row.plus row.place (is_some n) (byte_of n)) (sym is)
     (byte-met row.plus row.modrm row.place m range fields
-    (and_left (modrm_rule_fits row.plus row.modrm (Some m)) (place_fits row (Some m)) later)
-    (and_left (place_allows row.place m) _ (and_right (modrm_rule_fits row.plus row.modrm (Some m)) (place_fits row (Some m)) later)))
+    (and_parts (modrm_rule_fits row.plus row.modrm (Some m)) (place_fits row (Some m)) later).0
+    (and_parts (place_allows row.place m) _ (and_parts (modrm_rule_fits row.plus row.modrm (Some m)) (place_fits row (Some m)) later).1).0)
 
 -- ---- all of them
 
@@ -229,8 +228,8 @@ nop-of : (bits : Bits) (row : Row) (state : PrefixState) (s : Spelling) → regi
 unfolding registers_fit
 nop-of bits row state s h e =
     or_left_false (is_nop_byte row state.opcode) (nop_fits bits row state)
-    (and_right (not (reads_by is_gather row) || gather_fits bits state s.modrm s.sib) (not (is_nop_byte row state.opcode) || nop_fits bits row state)
-    (and_right (destination_fits row s.modrm) _ (and_right _ _ h))) e
+    (and_parts (not (reads_by is_gather row) || gather_fits bits state s.modrm s.sib) (not (is_nop_byte row state.opcode) || nop_fits bits row state)
+    (and_parts (destination_fits row s.modrm) _ (and_parts _ _ h).1).1).1 e
 
 -- where a spelling fits a sound row, the row's conditions hold on its fields, if the next byte is its ModRM
 pub fit-holds : (bits : Bits) (row : Row) (s : Spelling) (next : Option ℕ) → sound row ≡ true → fits bits row s ≡ true → NextIs s.modrm next
@@ -241,7 +240,7 @@ fit-holds bits row s next sure h is =
     let parts = sound_conditions row sure in
     let says = vex-says bits row s.prefixes.items s.vex s.opcode s.modrm f.vex in
     joined bits row s.prefixes.items s.vex (length (front_bytes row s)) s.opcode next says f.mode
-    (and_left (opcode_fits row s.opcode) _ (opcode-parts row s.opcode s.modrm f.opcode))
+    (and_parts (opcode_fits row s.opcode) _ (opcode-parts row s.opcode s.modrm f.opcode)).0
     (said bits row s.prefixes.items s.vex (length (front_bytes row s)) (spelled_map row.map s.vex) s.opcode says parts.kind f.class f.sizes
     (nop-of bits row (state_of bits row s) s f.registers))
     (byte-meets row s.opcode s.modrm next parts.rule (modrm_range s f.ranges) f.opcode is)
@@ -251,4 +250,4 @@ pub opcode-lt : (bits : Bits) (row : Row) (s : Spelling) (next : Option ℕ) →
 unfolding fields_of state_of state_from fields_in_range
 opcode-lt bits row s next h =
     let f = all_conditions bits row s h in
-    ltb-true s.opcode 256 (and_left (nat_lt s.opcode 256) _ (and_right (vex_in_range s.vex) _ (and_right (are_bytes s.prefixes.items) _ f.ranges)))
+    ltb-true s.opcode 256 (and_parts (nat_lt s.opcode 256) _ (and_parts (vex_in_range s.vex) _ (and_parts (are_bytes s.prefixes.items) _ f.ranges).1).1).0

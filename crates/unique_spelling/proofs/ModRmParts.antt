@@ -1,5 +1,6 @@
 -- What the conditions on ModRM say of its byte.
 use Rattle.std.proofs.Common.{◌≡◌, ℕ, ◌+◌, ◌*◌, ◌/◌, ◌%◌, ◌<◌, ◌≤◌, Bool, true, false, not, ◌&&◌, Some, refl, ap, ◌∙◌, arith, eq-eqb, nat_le, nat_lt, leb-true}
+use Rattle.std.proofs.lemmas.Bool.{and_parts, eqb-true}
 use Rattle.std.specs.Prelude.{◌==◌}
 use Rattle.row_types.specs.declared.Plus.{Plus}
 use Rattle.row_types.specs.declared.Plus.TheVariants as plus
@@ -9,7 +10,6 @@ use Rattle.row_types.specs.declared.Place.{Place}
 use Rattle.row_types.specs.declared.Place.TheVariants as place
 use Rattle.instruction_parts.specs.declared.spelling.ModRm.{ModRm}
 use Rattle.instruction_parts.specs.Bytes.{modrm_byte}
-use Rattle.instruction_parts.proofs.Tests.{and_left, and_right, equal_from}
 use Rattle.row_fit.specs.Fits.{modrm_rule_fits, place_allows, modrm_in_range}
 use Rattle.row_fit.specs.Sound.{rule_in_range}
 use Rattle.row_fields.specs.Holds.{byte_holds, place_holds, reg_holds, rm_holds}
@@ -40,7 +40,7 @@ less_is_not n h = by_cases (n == 3) refl
   where
     by_cases : (b : Bool) → (n == 3) ≡ b → not b ≡ true
     by_cases false e = refl
-    by_cases true e = let lt : n < 3 = ltb-true n 3 h in let is : n ≡ 3 = equal_from n 3 e in absurd (omega (arith, lt, is))
+    by_cases true e = let lt : n < 3 = ltb-true n 3 h in let is : n ≡ 3 = eqb-true n 3 e in absurd (omega (arith, lt, is))
 
 place-met : (x : Place) (m : ModRm) (n : ℕ) → n ≡ m.mode3 → place_allows x m ≡ true → place_holds rule.Any x (n == 3) ≡ true
 unfolding place_allows
@@ -55,7 +55,7 @@ place-digit place.Register d b h = h
 
 fixed-range : (b : ℕ) → rule_in_range (rule.Fixed b) ≡ true → (192 ≤ b) × (b < 256)
 unfolding rule_in_range
-fixed-range b h = (leb-true 192 b (and_left (nat_le 192 b) (nat_lt b 256) h), ltb-true b 256 (and_right (nat_le 192 b) (nat_lt b 256) h))
+fixed-range b h = (leb-true 192 b (and_parts (nat_le 192 b) (nat_lt b 256) h).0, ltb-true b 256 (and_parts (nat_le 192 b) (nat_lt b 256) h).1)
 
 whole-byte : (p : Plus) (x : Place) (m : ModRm) (b : ℕ) → m.mode3 < 4 → m.reg < 8 → m.rm < 8 → 192 ≤ b → b < 256 → modrm_byte m ≡ b
     → rm_holds (rule.Fixed b) p (modrm_byte m % 8) ≡ true → ByteMeets (rule.Fixed b) p x true (modrm_byte m)
@@ -84,16 +84,16 @@ unfolding modrm_rule_fits modrm_in_range
 byte-met p r x m range fields h at = by_rule p r range h
   where
     hm : m.mode3 < 4
-    hm = ltb-true m.mode3 4 (and_left (nat_lt m.mode3 4) (nat_lt m.reg 8 && nat_lt m.rm 8) fields)
+    hm = ltb-true m.mode3 4 (and_parts (nat_lt m.mode3 4) (nat_lt m.reg 8 && nat_lt m.rm 8) fields).0
 
     later : (nat_lt m.reg 8 && nat_lt m.rm 8) ≡ true
-    later = and_right (nat_lt m.mode3 4) (nat_lt m.reg 8 && nat_lt m.rm 8) fields
+    later = (and_parts (nat_lt m.mode3 4) (nat_lt m.reg 8 && nat_lt m.rm 8) fields).1
 
     hr : m.reg < 8
-    hr = ltb-true m.reg 8 (and_left (nat_lt m.reg 8) (nat_lt m.rm 8) later)
+    hr = ltb-true m.reg 8 (and_parts (nat_lt m.reg 8) (nat_lt m.rm 8) later).0
 
     hs : m.rm < 8
-    hs = ltb-true m.rm 8 (and_right (nat_lt m.reg 8) (nat_lt m.rm 8) later)
+    hs = ltb-true m.rm 8 (and_parts (nat_lt m.reg 8) (nat_lt m.rm 8) later).1
 
     placed : place_holds rule.Any x (modrm_byte m / 64 == 3) ≡ true
     placed = place-met x m (modrm_byte m / 64) (mode-of m hm hr hs) at
@@ -110,12 +110,12 @@ byte-met p r x m range fields h at = by_rule p r range h
         }
     by_rule plus.No (rule.Fixed b) range h =
         let lim = fixed-range b range in
-        let e : modrm_byte m ≡ b = equal_from (modrm_byte m) b h in
+        let e : modrm_byte m ≡ b = eqb-true (modrm_byte m) b h in
         whole-byte plus.No x m b hm hr hs lim.0 lim.1 e (eq-eqb (modrm_byte m % 8) (b % 8) (ap (λ n. n % 8) e))
     by_rule plus.Register (rule.Fixed b) range h =
         let lim = fixed-range b range in
-        let e : modrm_byte m ≡ b = equal_from (modrm_byte m) b h in
+        let e : modrm_byte m ≡ b = eqb-true (modrm_byte m) b h in
         whole-byte plus.Register x m b hm hr hs lim.0 lim.1 e (eq-eqb (modrm_byte m % 8) (b % 8) (ap (λ n. n % 8) e))
     by_rule plus.Stack (rule.Fixed b) range h =
         let lim = fixed-range b range in
-        stack-byte x m b hm hr hs lim.0 lim.1 (equal_from (m.mode3 * 64 + m.reg * 8) b h)
+        stack-byte x m b hm hr hs lim.0 lim.1 (eqb-true (m.mode3 * 64 + m.reg * 8) b h)

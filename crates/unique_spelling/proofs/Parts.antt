@@ -1,5 +1,6 @@
 -- What each condition of a fit says of the fields: class, place in the table, sizes, W and L.
 use Rattle.std.proofs.Common.{◌≡◌, ℕ, ◌+◌, List, Bool, true, false, not, ◌&&◌, ◌||◌, refl, ap, ◌∙◌, nat_lt}
+use Rattle.std.proofs.lemmas.Bool.{eqb-true}
 use Rattle.std.specs.Prelude.{◌==◌}
 use Rattle.x86_values.specs.declared.Bits.{Bits}
 use Rattle.x86_values.specs.declared.Bits.TheVariants.{B16, B32, B64}
@@ -20,7 +21,6 @@ use Rattle.row_types.specs.declared.LBit.TheVariants as l
 use Rattle.instruction_parts.specs.declared.spelling.Vex.{Vex}
 use Rattle.instruction_parts.specs.declared.spelling.PrefixState.{PrefixState}
 use Rattle.instruction_parts.specs.Counting.{is_64, rex_bit, counting_rex}
-use Rattle.instruction_parts.proofs.Tests.{equal_from}
 use Rattle.row_fit.specs.Fits.{is_map_one, is_no_repeat, is_repeat_f3, is_repeat_f2, legacy_class_fits, vex_class_fits, size_fits, takes_w_as_size, l_fits}
 use Rattle.row_fit.specs.Sound.{is_no_w, is_no_l, is_size_of_vex}
 use Rattle.row_fields.specs.Holds.{is_vex, map_number, prefix_of, class_allows, size_allows, w_as_size, w_allows, l_holds}
@@ -103,12 +103,12 @@ with_pp c pp n e h = ap (λ x. class_allows c (prefix_of_pp x)) e ∙ h
 pub vex-class : (c : Class) (v : Vex) → vex_class_fits c v ≡ true → class_allows c (prefix_of_pp v.pp) ≡ true
 unfolding vex_class_fits
 vex-class class.Any v h = cc
-vex-class class.Np v h = with_pp class.Np v.pp 0 (equal_from v.pp 0 h) refl
+vex-class class.Np v h = with_pp class.Np v.pp 0 (eqb-true v.pp 0 h) refl
 vex-class class.Nfx v h = cc
 vex-class class.Nf3 v h = cc
-vex-class class.P66 v h = with_pp class.P66 v.pp 1 (equal_from v.pp 1 h) refl
-vex-class class.F3 v h = with_pp class.F3 v.pp 2 (equal_from v.pp 2 h) refl
-vex-class class.F2 v h = with_pp class.F2 v.pp 3 (equal_from v.pp 3 h) refl
+vex-class class.P66 v h = with_pp class.P66 v.pp 1 (eqb-true v.pp 1 h) refl
+vex-class class.F3 v h = with_pp class.F3 v.pp 2 (eqb-true v.pp 2 h) refl
+vex-class class.F2 v h = with_pp class.F2 v.pp 3 (eqb-true v.pp 3 h) refl
 
 -- ---- sizes
 

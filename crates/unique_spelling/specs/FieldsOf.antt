@@ -21,7 +21,7 @@ abbrev pub repeat_of : Option Vex → Rep → Rep
 repeat_of None rep = rep
 repeat_of (Some v) rep = repeat_of_pp v.pp
 
--- the same of 66
+-- the operand-size prefix: that of pp behind a VEX, else the counting one
 abbrev pub size66_of : Option Vex → Bool → Bool
 size66_of None size66 = size66
 size66_of (Some v) size66 = v.pp == 1

@@ -20,7 +20,7 @@ is_named (Ymm n) = nat_lt n 16
 is_named Eip = true
 is_named Rip = true
 
--- the same of a register that may be absent
+-- a register that may be absent is one of the manual's, or there is none
 unfoldable pub is_named_if : Option Register → Bool
 is_named_if None = true
 is_named_if (Some r) = is_named r

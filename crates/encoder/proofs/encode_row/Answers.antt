@@ -1,14 +1,9 @@
-use Rattle.std.proofs.Common.{◌∙◌, ℕ, ap}
-use Rattle.instruction_parts.specs.Bytes.{bytes_of}
-use Rattle.plain_spelling.specs.PlainTail.{plain_spelling}
-use Rattle.plain_spelling.specs.Expressible.{failure}
-use Rattle.encoder.specs.Encoding.{encoded_by}
+use Rattle.std.proofs.Common.{◌≡◌, false}
+use Rattle.instruction_parts.specs.Sizes.{is_vex_row}
+use Rattle.encoder.proofs.LegacyRows.{legacy-no-gather}
 use Rattle.encoder.proofs.encode_row.Goals as goal
 
-pub returns : goal.returns
-returns c =
-    let row = c.args.row.now in
-    let i = c.args.instr.now in
-    let bits = c.args.bits in
-    c.write_parts.ensures
-    ∙ ap (λ (ip : ℕ). encoded_by (failure bits ip row i) (bytes_of row (plain_spelling bits ip row i))) c.plain_parts.ensures.ip
+pub write_parts-requires-clause-gather : goal.write_parts-requires-clause-gather
+write_parts-requires-clause-gather c =
+    let legacy : is_vex_row c.args.row.now ≡ false = cc in
+    legacy-no-gather c.args.bits c.args.row.now c.requires.writable c.requires.exists legacy

@@ -13,7 +13,7 @@ returns-in-Some c =
     let row = c.args.row.now in
     let i = c.args.instr.now in
     let bits = c.args.bits in
-    let h = sym c.first_failed_condition.ensures ∙ c.in-Some.is in
+    let h = sym c.first_failed_of.ensures ∙ c.in-Some.is in
     ap (λ why. encoded_by why (bytes_of row (plain_spelling bits c.args.parts.now.ip row i))) (sym (tail_fails bits c.args.parts.now.ip row i c.in-Some.why c.requires.exists h))
 
 pub returns-then-parts-gt15 : goal.returns-then-parts-gt15
@@ -21,7 +21,7 @@ returns-then-parts-gt15 c =
     let row = c.args.row.now in
     let i = c.args.instr.now in
     let bits = c.args.bits in
-    let h = sym c.first_failed_condition.ensures ∙ c.in-None.is in
+    let h = sym c.first_failed_of.ensures ∙ c.in-None.is in
     let long : 15 < plain_len bits row i = subst (λ (n : ℕ). 15 < n) c.requires.parts.len c.if-parts-gt15.true in
     ap (λ why. encoded_by why (bytes_of row (plain_spelling bits c.args.parts.now.ip row i))) (sym (length_fails bits c.args.parts.now.ip row i c.requires.exists h long))
 
@@ -29,7 +29,7 @@ pub append_front-requires-clause-vex : goal.append_front-requires-clause-vex
 append_front-requires-clause-vex c =
     let four : length c.args.instr.now.ops ≡ 4 = search rules in
     written-vex c.args.bits c.args.parts.now.ip c.args.row.now c.args.instr.now c.args.parts.now
-    (parts_written c.args.bits c.args.parts.now.ip c.args.row.now c.args.instr.now c.args.parts.now c.requires.sound c.requires.writable c.requires.exists four refl c.requires.parts (sym c.first_failed_condition.ensures ∙ c.in-None.is) c.if-parts-gt15.false)
+    (parts_written c.args.bits c.args.parts.now.ip c.args.row.now c.args.instr.now c.args.parts.now c.requires.sound c.requires.writable c.requires.exists four refl c.requires.parts (sym c.first_failed_of.ensures ∙ c.in-None.is) c.if-parts-gt15.false)
 
 pub append_front-requires-clause-room : goal.append_front-requires-clause-room
 append_front-requires-clause-room c =
@@ -40,26 +40,26 @@ pub append_plain_tail-requires-clause-modrm : goal.append_plain_tail-requires-cl
 append_plain_tail-requires-clause-modrm c =
     let four : length c.args.instr.now.ops ≡ 4 = search rules in
     written-modrm c.args.bits c.args.parts.now.ip c.args.row.now c.args.instr.now c.args.parts.now
-    (parts_written c.args.bits c.args.parts.now.ip c.args.row.now c.args.instr.now c.args.parts.now c.requires.sound c.requires.writable c.requires.exists four refl c.requires.parts (sym c.first_failed_condition.ensures ∙ c.in-None.is) c.if-parts-gt15.false)
+    (parts_written c.args.bits c.args.parts.now.ip c.args.row.now c.args.instr.now c.args.parts.now c.requires.sound c.requires.writable c.requires.exists four refl c.requires.parts (sym c.first_failed_of.ensures ∙ c.in-None.is) c.if-parts-gt15.false)
 
 pub append_plain_tail-requires-clause-sib : goal.append_plain_tail-requires-clause-sib
 append_plain_tail-requires-clause-sib c =
     let four : length c.args.instr.now.ops ≡ 4 = search rules in
     written-sib c.args.bits c.args.parts.now.ip c.args.row.now c.args.instr.now c.args.parts.now
-    (parts_written c.args.bits c.args.parts.now.ip c.args.row.now c.args.instr.now c.args.parts.now c.requires.sound c.requires.writable c.requires.exists four refl c.requires.parts (sym c.first_failed_condition.ensures ∙ c.in-None.is) c.if-parts-gt15.false)
+    (parts_written c.args.bits c.args.parts.now.ip c.args.row.now c.args.instr.now c.args.parts.now c.requires.sound c.requires.writable c.requires.exists four refl c.requires.parts (sym c.first_failed_of.ensures ∙ c.in-None.is) c.if-parts-gt15.false)
 
 pub append_plain_tail-requires-clause-numbers : goal.append_plain_tail-requires-clause-numbers
 append_plain_tail-requires-clause-numbers c =
     let four : length c.args.instr.now.ops ≡ 4 = search rules in
     written-numbers c.args.bits c.args.parts.now.ip c.args.row.now c.args.instr.now c.args.parts.now
-    (parts_written c.args.bits c.args.parts.now.ip c.args.row.now c.args.instr.now c.args.parts.now c.requires.sound c.requires.writable c.requires.exists four refl c.requires.parts (sym c.first_failed_condition.ensures ∙ c.in-None.is) c.if-parts-gt15.false)
+    (parts_written c.args.bits c.args.parts.now.ip c.args.row.now c.args.instr.now c.args.parts.now c.requires.sound c.requires.writable c.requires.exists four refl c.requires.parts (sym c.first_failed_of.ensures ∙ c.in-None.is) c.if-parts-gt15.false)
 
 pub append_plain_tail-requires-clause-room : goal.append_plain_tail-requires-clause-room
 append_plain_tail-requires-clause-room c =
     let four : length c.args.instr.now.ops ≡ 4 = search rules in
     let front = c.append_front.ensures ∙ ap (λ (xs : List ℕ). xs ++ front_written c.args.row.now c.args.parts.now.state) c.requires.empty in
     written-room c.args.bits c.args.parts.now.ip c.args.row.now c.args.instr.now c.args.parts.now _
-    (parts_written c.args.bits c.args.parts.now.ip c.args.row.now c.args.instr.now c.args.parts.now c.requires.sound c.requires.writable c.requires.exists four refl c.requires.parts (sym c.first_failed_condition.ensures ∙ c.in-None.is) c.if-parts-gt15.false)
+    (parts_written c.args.bits c.args.parts.now.ip c.args.row.now c.args.instr.now c.args.parts.now c.requires.sound c.requires.writable c.requires.exists four refl c.requires.parts (sym c.first_failed_of.ensures ∙ c.in-None.is) c.if-parts-gt15.false)
     front
 
 pub returns : goal.returns
@@ -69,7 +69,7 @@ returns c =
     let bits = c.args.bits in
     let ip = c.args.parts.now.ip in
     let four : length i.ops ≡ 4 = search rules in
-    let w = parts_written c.args.bits c.args.parts.now.ip c.args.row.now c.args.instr.now c.args.parts.now c.requires.sound c.requires.writable c.requires.exists four refl c.requires.parts (sym c.first_failed_condition.ensures ∙ c.in-None.is) c.if-parts-gt15.false in
+    let w = parts_written c.args.bits c.args.parts.now.ip c.args.row.now c.args.instr.now c.args.parts.now c.requires.sound c.requires.writable c.requires.exists four refl c.requires.parts (sym c.first_failed_of.ensures ∙ c.in-None.is) c.if-parts-gt15.false in
     let front = c.append_front.ensures ∙ ap (λ (xs : List ℕ). xs ++ front_written row c.args.parts.now.state) c.requires.empty in
     let bytes = c.append_plain_tail.ensures ∙ written-bytes bits ip row i c.args.parts.now _ w front in
     let short : plain_len bits row i ≤ 15 = subst (λ (n : ℕ). n ≤ 15) c.requires.parts.len c.if-parts-gt15.false in

@@ -19,14 +19,14 @@ returns-clause-some c =
     let answer = tail_answer c.args.bits c.args.ip c.args.state.now c.args.code c.args.row.now c.split_at.result.1.now in
     let a = answer_of_row c.args.bits c.args.ip c.args.code c.args.row.now c.args.bytes.now c.args.state.now _ answer
     (bytes_from_type c.args.bytes.now c.type_inv.bytes) c.requires.sound c.requires.front c.split_at.ensures.back refl in
-    some_in c.read_known_tail.result (answer ≡ Ok c.read_known_tail.new.place)
-    (RowReads c.args.bits c.args.ip c.args.code c.args.row.now c.args.bytes.now c.read_known_tail.new.place)
-    (λ e. (answered_read c.args.bits c.args.ip c.args.code c.args.row.now c.args.bytes.now answer c.read_known_tail.new.place a e).0)
+    some_in c.read_known_tail.result (answer ≡ Ok c.read_known_tail.new.out)
+    (RowReads c.args.bits c.args.ip c.args.code c.args.row.now c.args.bytes.now c.read_known_tail.new.out)
+    (λ e. (answered_read c.args.bits c.args.ip c.args.code c.args.row.now c.args.bytes.now answer c.read_known_tail.new.out a e).0)
     c.read_known_tail.ensures.some
 
 pub returns-clause-len : goal.returns-clause-len
 returns-clause-len c =
-    let place = c.read_known_tail.new.place in
+    let place = c.read_known_tail.new.out in
     let answer = tail_answer c.args.bits c.args.ip c.args.state.now c.args.code c.args.row.now c.split_at.result.1.now in
     let a = answer_of_row c.args.bits c.args.ip c.args.code c.args.row.now c.args.bytes.now c.args.state.now _ answer
     (bytes_from_type c.args.bytes.now c.type_inv.bytes) c.requires.sound c.requires.front c.split_at.ensures.back refl in

@@ -7,7 +7,7 @@ use Rattle.prefixes.proofs.front_behind.Goals as goal
 pub returns : goal.returns
 unfolding front_of
 returns c =
-    c.bounded.ensures c.long_front-answer.new.place refl ∙ ap (answer_within_15 (length c.args.bytes.now)) c.long_front-answer.ensures
+    c.within_15_bytes.ensures c.long_front-answer.new.out refl ∙ ap (answer_within_15 (length c.args.bytes.now)) c.long_front-answer.ensures
     ∙ sym (answer_of-within_15 (length c.args.bytes.now) (long_front c.args.bits c.args.bytes.now))
 
 pub long_front-answer-requires-clause-within : goal.long_front-answer-requires-clause-within

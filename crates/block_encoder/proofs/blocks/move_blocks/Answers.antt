@@ -9,11 +9,11 @@ use Rattle.block_encoder.proofs.blocks.move_blocks.Goals as goal
 
 pub move_with_ready-requires-clause-plan : goal.move_with_ready-requires-clause-plan
 move_with_ready-requires-clause-plan c =
-    ap (λ (p : BlockPlan). length p.items) c.in-Ok-plan_with_ready.ensures
+    ap (λ (p : BlockPlan). length p.items) c.in_ok-plan.ensures
     ∙ plan-count c.args.bits c.args.spans.now c.args.items.now (goal_at c.args.spans.now c.args.items.now)
 
 pub returns : goal.returns
 returns c =
     let sound : IsOldSound c.args.bits c.args.items.now c.args.spans.now =
     record { few = search rules; order = search rules; ends = search rules } in
-    answer_is c.args.bits c.args.items.now c.args.spans.now sound c.in-Ok-plan_with_ready.plan c.in-Ok-plan_with_ready.ensures c.move_with_ready.result c.move_with_ready.ensures
+    answer_is c.args.bits c.args.items.now c.args.spans.now sound c.in_ok-plan.plan c.in_ok-plan.ensures c.move_with_ready.result c.move_with_ready.ensures

@@ -9,7 +9,7 @@ use Rattle.block_encoder.proofs.outside.move_outside.Goals as goal
 
 pub move_by_plan-requires : goal.move_by_plan-requires
 move_by_plan-requires c =
-    ap (λ (p : BlockPlan). length p.items) c.in-Ok.ensures
+    ap (λ (p : BlockPlan). length p.items) c.in_ok-plan.ensures
     ∙ plan-count c.args.bits (one_span c.args.items.now c.args.new_base) c.args.items.now (kept_goals c.args.items.now)
 
 pub returns : goal.returns
@@ -17,4 +17,4 @@ returns c =
     let few : length c.args.items.now ≤ 65536 = search rules in
     subst (IsOutsideAnswer c.args.bits c.args.items.now c.args.new_base) (sym c.one_block.ensures)
     (outside_answer c.args.bits c.args.items.now c.args.new_base few c.move_by_plan.result
-    (subst (λ (p : BlockPlan). IsPlanAnswer c.args.bits c.args.items.now p c.move_by_plan.result) c.in-Ok.ensures c.move_by_plan.ensures))
+    (subst (λ (p : BlockPlan). IsPlanAnswer c.args.bits c.args.items.now p c.move_by_plan.result) c.in_ok-plan.ensures c.move_by_plan.ensures))

@@ -14,7 +14,7 @@ index-requires c =
     c.loop-b.b c.loop.counter c.loop.bytes.items c.loop.starts.items c.loop.forms.items c.loop-b.slots.items c.loop-b.ends.items
     (c.loop.invariant.written c.requires.laid.0 c.requires.laid.2) bl
     (omega (arith, c.loop-test.true, c.loop.invariant.count_is)) c.len-k.result (c.len-k.ensures ∙ c.loop.starts.ok.0) in
-    omega (arith, f.in_seats, c.args.laid.now.seats.ok.0)
+    omega (arith, f.in_fragments, c.args.laid.now.fragments.ok.0)
 
 pub offset_bounds-items-k : goal.offset_bounds-items-k
 offset_bounds-items-k c =
@@ -52,14 +52,14 @@ bounds-branches-k c =
     (omega (arith, c.loop-test.true, c.loop.invariant.count_is)) c.len-k.result (c.len-k.ensures ∙ c.loop.starts.ok.0) in
     omega (arith, f.in_plan, ap length c.items-branches.ensures)
 
-pub write_item-requires-clause-seat : goal.write_item-requires-clause-seat
-write_item-requires-clause-seat c =
+pub write_item-requires-clause-fragment : goal.write_item-requires-clause-fragment
+write_item-requires-clause-fragment c =
     let bl : c.loop-b.b < length c.args.plan.now.spans = omega (arith, c.loop-b-test.true, ap length c.spans-spans.ensures.spans) in
     let f = item_facts c.laws_below.ensures c.args.bits c.args.items.now c.args.plan.now c.args.laid.now c.spans-spans.ensures.plan c.requires.plan c.requires.laid c.requires.ends
     c.loop-b.b c.loop.counter c.loop.bytes.items c.loop.starts.items c.loop.forms.items c.loop-b.slots.items c.loop-b.ends.items
     (c.loop.invariant.written c.requires.laid.0 c.requires.laid.2) bl
     (omega (arith, c.loop-test.true, c.loop.invariant.count_is)) c.len-k.result (c.len-k.ensures ∙ c.loop.starts.ok.0) in
-    f.seat_for c.index.result.now c.index-branches-k.result c.index.ensures (rw c.items-branches.ensures at c.index-branches-k.is)
+    f.fragment_for c.index.result.now c.index-branches-k.result c.index.ensures (rw c.items-branches.ensures at c.index-branches-k.is)
 
 pub write_item-requires-clause-ready : goal.write_item-requires-clause-ready
 write_item-requires-clause-ready c =
@@ -80,14 +80,14 @@ returns-in_err-write_item c =
     (c.loop.invariant.written c.requires.laid.0 c.requires.laid.2) bl c.len-k.result f c.index.result.now c.index.ensures
     c.loop.bytes.items c.write_item.new.bytes.items c.in_err-write_item.field-0.0 c.in_err-write_item.ensures)
 
-pub overflow_cast-seat : goal.overflow_cast-seat
-overflow_cast-seat c =
+pub overflow_cast-fragment : goal.overflow_cast-fragment
+overflow_cast-fragment c =
     let bl : c.loop-b.b < length c.args.plan.now.spans = omega (arith, c.loop-b-test.true, ap length c.spans-spans.ensures.spans) in
     let f = item_facts c.laws_below.ensures c.args.bits c.args.items.now c.args.plan.now c.args.laid.now c.spans-spans.ensures.plan c.requires.plan c.requires.laid c.requires.ends
     c.loop-b.b c.loop.counter c.loop.bytes.items c.loop.starts.items c.loop.forms.items c.loop-b.slots.items c.loop-b.ends.items
     (c.loop.invariant.written c.requires.laid.0 c.requires.laid.2) bl
     (omega (arith, c.loop-test.true, c.loop.invariant.count_is)) c.len-k.result (c.len-k.ensures ∙ c.loop.starts.ok.0) in
-    let s = f.seat_for c.index.result.now c.index-branches-k.result c.index.ensures (rw c.items-branches.ensures at c.index-branches-k.is) in
+    let s = f.fragment_for c.index.result.now c.index-branches-k.result c.index.ensures (rw c.items-branches.ensures at c.index-branches-k.is) in
     omega (arith, s.place)
 
 pub loop-preserved : goal.loop-preserved
@@ -102,7 +102,7 @@ loop-preserved c =
       written = λ layout is.
           item_step c.args.bits c.args.items.now c.args.plan.now layout c.loop-b.b c.loop.counter
           c.loop.bytes.items c.loop.starts.items c.loop.forms.items c.loop-b.slots.items c.loop-b.ends.items (c.loop.invariant.written layout is)
-          c.len-k.result f.at c.index.result.now (f.seat_is c.index.result.now c.index.ensures ∙ is.seats c.len-k.result f.in_plan)
+          c.len-k.result f.at c.index.result.now (f.fragment_is c.index.result.now c.index.ensures ∙ is.fragments c.len-k.result f.in_plan)
           c.write_item.new.bytes.items c.push.new.self.items c.push-in-loop.new.self.items
           c.in_ok-write_item.ensures.0 c.in_ok-write_item.ensures.1 c.in_ok-push.ensures.items c.in_ok-push-2.ensures.items;
     }

@@ -29,8 +29,8 @@ returns-in_err-grow_and_note-2-clause-grows c =
     grows_twice p _ _ _ (grows_twice p _ _ _ c.suspects.invariant.grows c.queue.invariant.grows)
     c.grow_and_note-in-suspects.ensures.grows
 
-pub returns-in_default-passed-clause-grows : goal.returns-in_default-passed-clause-grows
-returns-in_default-passed-clause-grows c =
+pub returns-in_default-over_limit-clause-grows : goal.returns-in_default-over_limit-clause-grows
+returns-in_default-over_limit-clause-grows c =
     grows_twice (plan_in c.args.tables.now) _ _ _ c.suspects.invariant.grows c.queue.invariant.grows
 
 pub returns-then-not-branch-clause-grows : goal.returns-then-not-branch-clause-grows

@@ -20,16 +20,16 @@ reads_nothing bits row bytes r Forbidden is ended forbidden = (forbidden is).0
 pub read_row_into-requires-clause-sound : goal.read_row_into-requires-clause-sound
 read_row_into-requires-clause-sound g c = sound-row _ _ c.row-row.ensures.row
 
-pub returns-then-place-le-LONGEST-clause-some : goal.returns-then-place-le-LONGEST-clause-some
-returns-then-place-le-LONGEST-clause-some g c = λ row there.
-    subst (λ (r : Row). RowReads c.args.bits c.args.ip c.args.code r c.args.bytes.now c.read_row_into.new.place)
+pub returns-then-out-le-LONGEST-clause-some : goal.returns-then-out-le-LONGEST-clause-some
+returns-then-out-le-LONGEST-clause-some g c = λ row there.
+    subst (λ (r : Row). RowReads c.args.bits c.args.ip c.args.code r c.args.bytes.now c.read_row_into.new.out)
     (same_some c.row-row.result row (sym c.row-row.ensures.row ∙ there)) c.in-Ok.ensures.ok
 
-pub returns-else-place-le-LONGEST-clause-none : goal.returns-else-place-le-LONGEST-clause-none
-returns-else-place-le-LONGEST-clause-none g c = λ none row there.
+pub returns-else-out-le-LONGEST-clause-none : goal.returns-else-out-le-LONGEST-clause-none
+returns-else-out-le-LONGEST-clause-none g c = λ none row there.
     subst (λ (r : Row). RowIsLate c.args.bits r c.args.bytes.now) (same_some c.row-row.result row (sym c.row-row.ensures.row ∙ there))
-    (late_by_length c.args.bits c.args.ip c.args.code c.row-row.result c.args.bytes.now c.read_row_into.new.place c.in-Ok.ensures.ok
-    c.if-place-le-LONGEST.false)
+    (late_by_length c.args.bits c.args.ip c.args.code c.row-row.result c.args.bytes.now c.read_row_into.new.out c.in-Ok.ensures.ok
+    c.if-out-le-LONGEST.false)
 
 pub returns-in-Err-clause-none : goal.returns-in-Err-clause-none
 returns-in-Err-clause-none g c = λ none row there.

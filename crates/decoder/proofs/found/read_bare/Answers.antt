@@ -40,7 +40,7 @@ read_known_into-requires g c =
 
 pub returns-in-Some-clause-some : goal.returns-in-Some-clause-some
 returns-in-Some-clause-some g c = λ row there.
-    subst (λ (r : Row). RowReads c.args.bits c.args.ip c.args.code r c.args.bytes.now c.read_known_into.new.place)
+    subst (λ (r : Row). RowReads c.args.bits c.args.ip c.args.code r c.args.bytes.now c.read_known_into.new.out)
     (same_some c.row-row.result row (sym c.row-row.ensures.row ∙ there)) c.in-Some.ensures.some
 
 pub returns-in-None-clause-none : goal.returns-in-None-clause-none

@@ -47,15 +47,15 @@ returns-in-Some-read_by_code-clause-reading g c =
     let bytes = c.args.bytes.now in
     let code = c.in-Some.code in
     let only = c.in-Some.ensures.row in
-    reads table bits c.args.ip code only.row bytes c.read_by_code.new.place only.there
-    (subst (λ (b : Bits). RowReads b c.args.ip code only.row bytes c.read_by_code.new.place) c.mode_of-bits.ensures
+    reads table bits c.args.ip code only.row bytes c.read_by_code.new.out only.there
+    (subst (λ (b : Bits). RowReads b c.args.ip code only.row bytes c.read_by_code.new.out) c.mode_of-bits.ensures
     (c.in-Some-read_by_code.ensures.some only.row only.there))
     c.in-Some-read_by_code.ensures.len.1
 
 pub returns-in-Some-read_by_code-clause-form : goal.returns-in-Some-read_by_code-clause-form
 returns-in-Some-read_by_code-clause-form g c =
     let only = c.in-Some.ensures.row in
-    read_is_well_formed c.mode_of-bits.result c.args.ip _ only.row c.args.bytes.now c.read_by_code.new.place only.there
+    read_is_well_formed c.mode_of-bits.result c.args.ip _ only.row c.args.bytes.now c.read_by_code.new.out only.there
     (sound-row _ _ only.there) (c.in-Some-read_by_code.ensures.some only.row only.there)
 
 pub returns-in-None-read_by_code-clause-reading : goal.returns-in-None-read_by_code-clause-reading

@@ -41,7 +41,7 @@ pub returns-in-Ok-clause-alone : goal.returns-in-Ok-clause-alone
 returns-in-Ok-clause-alone g c =
     let bits = mode_of g.row.BITS in
     let bytes = c.args.bytes.now in
-    let answer = answer_in c.read_known.result c.read_known.new.place in
+    let answer = answer_in c.read_known.result c.read_known.new.out in
     let address : c.wrap.result ≡ wrapped bits c.args.ip =
     c.wrap.ensures ∙ ap (λ (b : Bits). wrapped b c.from.result) c.mode_of-bits.ensures ∙ ap (wrapped bits) c.from.ensures in
     only_reading bits c.args.ip bytes answer

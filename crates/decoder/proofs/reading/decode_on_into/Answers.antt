@@ -21,24 +21,24 @@ mode_64 = refl
 
 pub returns-in-B16-clause-reading : goal.returns-in-B16-clause-reading
 returns-in-B16-clause-reading g c =
-    subst (λ (b : Bits). IsRead b c.args.ip c.args.bytes.now (reading_of (answer_in c.decode_into.result c.decode_into.new.place))) (mode_16 ∙ sym c.in-B16.is) c.decode_into.ensures.reading
+    subst (λ (b : Bits). IsRead b c.args.ip c.args.bytes.now (reading_of (answer_in c.decode_into.result c.decode_into.new.out))) (mode_16 ∙ sym c.in-B16.is) c.decode_into.ensures.reading
 
 pub returns-in-B16-clause-alone : goal.returns-in-B16-clause-alone
 returns-in-B16-clause-alone g c =
-    subst (λ (b : Bits). IfOk (answer_in c.decode_into.result c.decode_into.new.place) (λ d. IsOnlyReading b c.args.ip c.args.bytes.now d)) (mode_16 ∙ sym c.in-B16.is) c.decode_into.ensures.alone
+    subst (λ (b : Bits). IfOk (answer_in c.decode_into.result c.decode_into.new.out) (λ d. IsOnlyReading b c.args.ip c.args.bytes.now d)) (mode_16 ∙ sym c.in-B16.is) c.decode_into.ensures.alone
 
 pub returns-in-B32-clause-reading : goal.returns-in-B32-clause-reading
 returns-in-B32-clause-reading g c =
-    subst (λ (b : Bits). IsRead b c.args.ip c.args.bytes.now (reading_of (answer_in c.decode_into-in-B32.result c.decode_into-in-B32.new.place))) (mode_32 ∙ sym c.in-B32.is) c.decode_into-in-B32.ensures.reading
+    subst (λ (b : Bits). IsRead b c.args.ip c.args.bytes.now (reading_of (answer_in c.decode_into-in-B32.result c.decode_into-in-B32.new.out))) (mode_32 ∙ sym c.in-B32.is) c.decode_into-in-B32.ensures.reading
 
 pub returns-in-B32-clause-alone : goal.returns-in-B32-clause-alone
 returns-in-B32-clause-alone g c =
-    subst (λ (b : Bits). IfOk (answer_in c.decode_into-in-B32.result c.decode_into-in-B32.new.place) (λ d. IsOnlyReading b c.args.ip c.args.bytes.now d)) (mode_32 ∙ sym c.in-B32.is) c.decode_into-in-B32.ensures.alone
+    subst (λ (b : Bits). IfOk (answer_in c.decode_into-in-B32.result c.decode_into-in-B32.new.out) (λ d. IsOnlyReading b c.args.ip c.args.bytes.now d)) (mode_32 ∙ sym c.in-B32.is) c.decode_into-in-B32.ensures.alone
 
 pub returns-clause-reading : goal.returns-clause-reading
 returns-clause-reading g c =
-    subst (λ (b : Bits). IsRead b c.args.ip c.args.bytes.now (reading_of (answer_in c.decode_into-in-B64.result c.decode_into-in-B64.new.place))) (mode_64 ∙ sym c.in-B64.is) c.decode_into-in-B64.ensures.reading
+    subst (λ (b : Bits). IsRead b c.args.ip c.args.bytes.now (reading_of (answer_in c.decode_into-in-B64.result c.decode_into-in-B64.new.out))) (mode_64 ∙ sym c.in-B64.is) c.decode_into-in-B64.ensures.reading
 
 pub returns-clause-alone : goal.returns-clause-alone
 returns-clause-alone g c =
-    subst (λ (b : Bits). IfOk (answer_in c.decode_into-in-B64.result c.decode_into-in-B64.new.place) (λ d. IsOnlyReading b c.args.ip c.args.bytes.now d)) (mode_64 ∙ sym c.in-B64.is) c.decode_into-in-B64.ensures.alone
+    subst (λ (b : Bits). IfOk (answer_in c.decode_into-in-B64.result c.decode_into-in-B64.new.out) (λ d. IsOnlyReading b c.args.ip c.args.bytes.now d)) (mode_64 ∙ sym c.in-B64.is) c.decode_into-in-B64.ensures.alone

@@ -1,41 +1,41 @@
 use Rattle.std.proofs.Common.{◌≡◌, ◌+◌, ◌++◌, length, arith, sym, subst, ap, ◌∙◌}
 use Rattle.branch_sizes.specs.Layout.{first_of_block}
-use Rattle.move_layout.specs.Laid.{far_goals, with_goal, is_far_at, goal_address, next_eighth, slots_of, slots_start, seat_at}
-use Rattle.move_layout.specs.Tables.{plan_in, AreSeats}
+use Rattle.move_layout.specs.Laid.{far_goals, with_goal, is_far_at, goal_address, next_eighth, slots_of, slots_start, fragment_at}
+use Rattle.move_layout.specs.Tables.{plan_in, AreFragments}
 use Rattle.move_layout.proofs.Standing.{item-below}
-use Rattle.move_layout.proofs.Blocks.{push_seat, far_more, seat_is, end_is}
+use Rattle.move_layout.proofs.Blocks.{push_fragment, far_more, fragment_is, end_is}
 use Rattle.move_layout.proofs.layout.lay_block.Goals as goal
 
-pub seat_of-requires-clause-item : goal.seat_of-requires-clause-item
-seat_of-requires-clause-item c =
+pub fragment_of-requires-clause-item : goal.fragment_of-requires-clause-item
+fragment_of-requires-clause-item c =
     item-below c.blocks_have_all_items.ensures c.totals_rise.ensures (plan_in c.args.tables.now) c.args.tables.now.plan c.args.tables.now.layout.now c.args.b c.items.counter c.len-in-items.result
-    c.requires.block c.items-test.true (omega (arith, c.len-in-items.ensures, c.items.invariant.seats.len))
+    c.requires.block c.items-test.true (omega (arith, c.len-in-items.ensures, c.items.invariant.fragments.len))
 
 pub items-preserved : goal.items-preserved
 items-preserved c =
     let t = c.args.tables.now in
     let p = plan_in t in
     let first = first_of_block t.spans.now c.args.b in
-    let at : c.len-in-items.result ≡ first + c.items.counter = omega (arith, c.len-in-items.ensures, c.items.invariant.seats.len) in
+    let at : c.len-in-items.result ≡ first + c.items.counter = omega (arith, c.len-in-items.ensures, c.items.invariant.fragments.len) in
     let start : c.next_multiple_of_8-start.result ≡ slots_start p t.layout.now c.args.b =
     c.next_multiple_of_8-start.ensures.value ∙ ap next_eighth c.images_end_of-images.ensures.value in
-    let goals : c.seat_of.new.goals.items ≡ far_goals p t.layout.now first (c.items.counter + 1) =
-    c.in_ok-seat.ensures.goals
+    let goals : c.fragment_of.new.goals.items ≡ far_goals p t.layout.now first (c.items.counter + 1) =
+    c.in_ok-fragment.ensures.goals
     ∙ (ap (λ xs. with_goal xs (is_far_at p t.layout.now c.len-in-items.result) (goal_address p t.layout.now c.len-in-items.result)) c.items.invariant.goals
     ∙ sym (far_more p t.layout.now first c.items.counter c.len-in-items.result at)) in
-    let seat : c.in_ok-seat.seat ≡ seat_at p t.layout.now (first + c.items.counter) =
-    (c.in_ok-seat.ensures.seat
-    ∙ seat_is c.blocks_have_all_items.ensures p t.layout.now c.args.b c.items.counter c.len-in-items.result c.next_multiple_of_8-start.result c.seat_of.new.goals.items
+    let fragment : c.in_ok-fragment.fragment ≡ fragment_at p t.layout.now (first + c.items.counter) =
+    (c.in_ok-fragment.ensures.fragment
+    ∙ fragment_is c.blocks_have_all_items.ensures p t.layout.now c.args.b c.items.counter c.len-in-items.result c.next_multiple_of_8-start.result c.fragment_of.new.goals.items
     c.requires.block c.items-test.true at start goals)
-    ∙ ap (seat_at p t.layout.now) at in
+    ∙ ap (fragment_at p t.layout.now) at in
     let one : first + c.items.counter + 1 ≡ first + (c.items.counter + 1) = omega arith in
     record {
       count_is = c.items.invariant.count_is;
-      numbering = c.in_ok-seat.ensures.numbering;
+      numbering = c.in_ok-fragment.ensures.numbering;
       goals = goals;
-      seats = subst (λ n. AreSeats p t.layout.now n c.push.new.self.items) one
-          (push_seat p t.layout.now (first + c.items.counter) c.items.seats.items c.push.new.self.items c.in_ok-seat.seat
-          c.items.invariant.seats c.in_ok-push.ensures.items seat);
+      fragments = subst (λ n. AreFragments p t.layout.now n c.push.new.self.items) one
+          (push_fragment p t.layout.now (first + c.items.counter) c.items.fragments.items c.push.new.self.items c.in_ok-fragment.fragment
+          c.items.invariant.fragments c.in_ok-push.ensures.items fragment);
     }
 
 pub returns-clause-slots : goal.returns-clause-slots

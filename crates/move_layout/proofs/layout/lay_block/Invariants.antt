@@ -2,7 +2,7 @@ use Rattle.std.proofs.Common.{◌≡◌, ◌+◌}
 use Rattle.branch_sizes.specs.Layout.{first_of_block, span_at}
 use Rattle.move_layout.specs.Laid.{far_goals}
 use Rattle.move_layout.specs.Slots.{IsNumbering}
-use Rattle.move_layout.specs.Tables.{plan_in, AreSeats}
+use Rattle.move_layout.specs.Tables.{plan_in, AreFragments}
 use Rattle.move_layout.proofs.layout.lay_block.Given as goal
 
 abbrev pub invariant-items : goal.invariant-items
@@ -13,5 +13,5 @@ invariant-items l =
       count_is : l.end ≡ (span_at l.tables.spans.now l.b).count;
       numbering : IsNumbering l.numbers l.goals.items;
       goals : l.goals.items ≡ far_goals p l.tables.layout.now first l.counter;
-      seats : AreSeats p l.tables.layout.now (first + l.counter) l.seats.items;
+      fragments : AreFragments p l.tables.layout.now (first + l.counter) l.fragments.items;
     }

@@ -6,10 +6,10 @@ pub returns-in_ok-push-clause-kept : goal.returns-in_ok-push-clause-kept
 returns-in_ok-push-clause-kept c =
     let old = c.args.items.now in
     c.in_ok-push.ensures.items
-    ∙ sym (first_items-few _ (omega (arith, length-append old.items (c.args.item ∷ []), c.if-len-lt-MOST.true, c.len.ensures, old.ok)))
+    ∙ sym (first_items-few _ (omega (arith, length-append old.items (c.args.item ∷ []), c.if-len-lt-MOST_ITEMS.true, c.len.ensures, old.ok)))
 
-pub returns-else-len-lt-MOST-clause-kept : goal.returns-else-len-lt-MOST-clause-kept
-returns-else-len-lt-MOST-clause-kept c =
+pub returns-else-len-lt-MOST_ITEMS-clause-kept : goal.returns-else-len-lt-MOST_ITEMS-clause-kept
+returns-else-len-lt-MOST_ITEMS-clause-kept c =
     let old = c.args.items.now in
-    sym (first_items-full old.items (c.args.item ∷ []) (omega (arith, c.if-len-lt-MOST.false, c.len.ensures, old.ok))
+    sym (first_items-full old.items (c.args.item ∷ []) (omega (arith, c.if-len-lt-MOST_ITEMS.false, c.len.ensures, old.ok))
     ∙ first_items-few old.items (omega (arith, c.requires, old.ok)))

@@ -1,4 +1,4 @@
-use Rattle.std.proofs.Common.{◌≤◌, arith}
+use Rattle.std.proofs.Common.{arith}
 use Rattle.std.proofs.Math.Facts.{Fits-of_lt}
 use Rattle.row_fit.proofs.SoundLaws.{sound_conditions}
 use Rattle.plain_spelling.specs.PlainTail.{address_operand}

@@ -7,16 +7,16 @@ use Rattle.sweep.proofs.ready.write_item.Goals as goal
 
 pub returns-in-Some-clause-ok : goal.returns-in-Some-clause-ok
 returns-in-Some-clause-ok g c =
-    let takes = c.read_at-reading.ensures.takes c.requires.some in
+    let takes = c.read_onto.ensures.takes c.requires.some in
     record {
       item = record {
         offset = c.args.at;
-        bytes = take (item_len (reading_of c.read_at-reading.result)) c.args.rest.now;
-        reading = reading_of c.read_at-reading.result;
+        bytes = take (item_len (reading_of c.read_onto.new.out)) c.args.rest.now;
+        reading = reading_of c.read_onto.new.out;
       };
       is_at = record {
         offset_is = refl;
-        reads = c.read_at-reading.ensures.reading;
+        reads = c.read_onto.ensures.reading;
         within = takes.within;
         some = takes.some;
         bytes_are = refl;
@@ -28,16 +28,16 @@ returns-in-Some-clause-ok g c =
 
 pub returns-clause-ok : goal.returns-clause-ok
 returns-clause-ok g c =
-    let takes = c.read_at-reading.ensures.takes c.requires.some in
+    let takes = c.read_onto.ensures.takes c.requires.some in
     record {
       item = record {
         offset = c.args.at;
         bytes = take c.item_len-count.result c.args.rest.now;
-        reading = reading_of c.read_at-reading.result;
+        reading = reading_of c.read_onto.new.out;
       };
       is_at = record {
         offset_is = refl;
-        reads = c.read_at-reading.ensures.reading;
+        reads = c.read_onto.ensures.reading;
         within = takes.within;
         some = takes.some;
         bytes_are = ap (λ (n : ℕ). take n c.args.rest.now) c.item_len-count.ensures;

@@ -1,5 +1,0 @@
-use Rattle.std.proofs.Common.{refl}
-use Rattle.opcode_rows.proofs.first_names.Goals as goal
-
-pub returns-clause-names : goal.returns-clause-names
-returns-clause-names c = refl
