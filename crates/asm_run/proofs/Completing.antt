@@ -6,7 +6,7 @@ use Rattle.run_parts.specs.declared.status.Status.TheVariants.{Done, ReadFault, 
 use Rattle.run_parts.specs.Facts.{ReadFacts}
 use Rattle.run_parts.specs.Reads.{whole_limit, ReadsAll, IsUnread}
 use Rattle.asm_run.specs.Assembling.{IsTextAnswer, IsTextRefusal, AssemblesAs, CompletesAssembling}
-use Rattle.asm_run.specs.Facts.{AnswerFacts}
+use Rattle.asm_run.specs.Facts.{AssemblyAnswerFacts}
 
 module _ (bits : Bits) (base : ℕ) where
   -- a source that was not read whole, after which nothing was written
@@ -25,7 +25,7 @@ module _ (bits : Bits) (base : ℕ) where
   refusal bytes left left' held held' source_rose out_rose (BadText line) reads kept h = ((bytes, (reads, h)), kept)
   refusal bytes left left' held held' source_rose out_rose _ reads kept h = absurd h
 
-  module _ (facts : ReadFacts) (answers : AnswerFacts) where
+  module _ (facts : ReadFacts) (answers : AssemblyAnswerFacts) where
     -- an answer for all bytes
     answered : (bytes : List ℕ) (left' : Option (List ℕ)) (read : List ℕ) (status : Status) → ReadsAll whole_limit (Some bytes) left' read →
         IsTextAnswer bits base read status → CompletesAssembling bits base (Some bytes) status

@@ -4,34 +4,34 @@ use Rattle.std.specs.Prelude.{nat_eq}
 use Rattle.std.proofs.Math.Seq.{take-length, drop-length}
 use Rattle.std.proofs.lemmas.List.{drop-drop}
 use Rattle.std.proofs.lemmas.Bool.Decides.{nat_tests}
-use Rattle.asm_run.specs.Lines.{joined, lines_in}
+use Rattle.asm_run.specs.Lines.{with_byte_in_front, lines_in}
 
 -- the first so many bytes hold no line feed
 abbrev pub IsUnended : List ℕ → ℕ → Type 0
 IsUnended bytes k = (j : ℕ) → j < k → (get_or bytes j 0 ≡ 10 → ⊥)
 
 -- a byte that is no line feed belongs to the first line
-one_more : (c : ℕ) (bytes : List ℕ) → (c ≡ 10 → ⊥) → lines_in (c ∷ bytes) ≡ joined c (lines_in bytes)
+one_more : (c : ℕ) (bytes : List ℕ) → (c ≡ 10 → ⊥) → lines_in (c ∷ bytes) ≡ with_byte_in_front c (lines_in bytes)
 unfolding lines_in
 one_more c bytes other = let e : nat_eq c 10 ≡ false = grind (arith, nat_tests) in rw e
 
 -- the first line that a line feed ends
 pub first_ended : (bytes : List ℕ) (k : ℕ) → k < length bytes → IsUnended bytes k → get_or bytes k 0 ≡ 10 →
     lines_in bytes ≡ take k bytes ∷ lines_in (drop (suc k) bytes)
-unfolding lines_in joined
+unfolding lines_in with_byte_in_front
 first_ended [] k lt none is = absurd (omega arith)
 first_ended (c ∷ bytes) zero lt none is = let e : c ≡ 10 = is in rw e
 first_ended (c ∷ bytes) (suc k) lt none is =
     let head = one_more c bytes (none 0 (omega arith)) in
     let rest = first_ended bytes k (omega arith) (λ j below. none (suc j) (omega arith)) is in
-    head ∙ ap (joined c) rest
+    head ∙ ap (with_byte_in_front c) rest
 
 -- the last line, which no line feed ends
 pub first_open : (c : ℕ) (bytes : List ℕ) → IsUnended (c ∷ bytes) (length (c ∷ bytes)) → lines_in (c ∷ bytes) ≡ (c ∷ bytes) ∷ []
-unfolding lines_in joined
+unfolding lines_in with_byte_in_front
 first_open c [] none = one_more c [] (none 0 (omega arith))
 first_open c (d ∷ bytes) none =
-    one_more c (d ∷ bytes) (none 0 (omega arith)) ∙ ap (joined c) (first_open d bytes (λ j below. none (suc j) (omega arith)))
+    one_more c (d ∷ bytes) (none 0 (omega arith)) ∙ ap (with_byte_in_front c) (first_open d bytes (λ j below. none (suc j) (omega arith)))
 
 -- ---- cutting bytes
 

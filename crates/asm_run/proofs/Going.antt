@@ -1,7 +1,7 @@
 -- One line more.
 use Rattle.std.proofs.Common.{◌≡◌, ◌⊎◌, ℕ, suc, ◌+◌, ◌≤◌, List, [], ◌∷◌, ◌++◌, length, refl, sym, ap, ◌∙◌, subst, arith, append_assoc, append-nil, length-append}
 use Rattle.x86_values.specs.declared.Bits.{Bits}
-use Rattle.x86_values.specs.Wrapping.{wrapped}
+use Rattle.x86_values.specs.Wrapping.{modulo_width}
 use Rattle.asm_run.specs.Lines.{lines_in, IsCodeOfLine, IsCodeOfLines, IsBadLine}
 
 -- the code of lines and that of lines behind them
@@ -40,10 +40,10 @@ gone_start bits base text rest number code rest_is none empty = record {
 module _ (bits : Bits) (base : ℕ) (text rest line behind : List ℕ) (number : ℕ) (code : List ℕ) where
   -- one more
   pub gone_step : (front after : List ℕ) (len : ℕ) → len ≡ length code → IsGone bits base text rest number code → lines_in rest ≡ line ∷ lines_in behind →
-      length behind + 1 ≤ length rest → IsCodeOfLine bits (wrapped bits (base + len)) line front → after ≡ code ++ front →
+      length behind + 1 ≤ length rest → IsCodeOfLine bits (modulo_width bits (base + len)) line front → after ≡ code ++ front →
       IsGone bits base text behind (number + 1) after
   gone_step front after len long h cut less told after_is =
-      let is = subst (λ (n : ℕ). IsCodeOfLine bits (wrapped bits (base + n)) line front) long told in
+      let is = subst (λ (n : ℕ). IsCodeOfLine bits (modulo_width bits (base + n)) line front) long told in
       let one : IsCodeOfLines bits (base + length code) (line ∷ []) front = (front, ([], (is, (refl, sym (append-nil front))))) in
       let joined = lines_joined bits base h.before (line ∷ []) code front h.is_code one in
       let few = h.few in
@@ -57,7 +57,7 @@ module _ (bits : Bits) (base : ℕ) (text rest line behind : List ℕ) (number :
 
   -- a bad one
   pub gone_bad : (len : ℕ) → len ≡ length code → IsGone bits base text rest number code → lines_in rest ≡ line ∷ lines_in behind →
-      ((bytes : List ℕ) → IsCodeOfLine bits (wrapped bits (base + len)) line bytes → ⊥) →
+      ((bytes : List ℕ) → IsCodeOfLine bits (modulo_width bits (base + len)) line bytes → ⊥) →
       IsBadLine bits base (lines_in text) (number + 1)
   gone_bad len long h cut none = record {
     before = h.before;
@@ -66,7 +66,7 @@ module _ (bits : Bits) (base : ℕ) (text rest line behind : List ℕ) (number :
     are = h.are ∙ ap (λ (l : List (List ℕ)). h.before ++ l) cut;
     code = code;
     is_code = h.is_code;
-    neither = subst (λ (n : ℕ). (bytes : List ℕ) → IsCodeOfLine bits (wrapped bits (base + n)) line bytes → ⊥) long none;
+    neither = subst (λ (n : ℕ). (bytes : List ℕ) → IsCodeOfLine bits (modulo_width bits (base + n)) line bytes → ⊥) long none;
     number_is = ap (λ (n : ℕ). n + 1) h.number_is;
   }
 

@@ -15,7 +15,7 @@ use Rattle.opcode_rows.specs.declared.generated_spots.TheConstants.{ROWS}
 use Rattle.opcode_rows.specs.Table.{table, names, name_of}
 use Rattle.text_parts.specs.declared.style.Style.TheVariants.{Intel}
 use Rattle.text_parts.specs.Registers.{segment_name}
-use Rattle.text_parts.specs.PrefixWords.{has_memory, lock_word, repeat_word, segment_word, size_digits, sized_word, needs_address_word, address_word, is_sized, named_size, differs, usual_size, operand_size_word, prefix_words, is_counter_jump, counter_jump, text_address_size, name_text}
+use Rattle.text_parts.specs.PrefixWords.{shows_memory, lock_word, repeat_word, segment_word, size_digits, sized_word, needs_address_word, address_word, is_sized, named_size, differs, usual_size, operand_size_word, prefix_words, is_counter_jump, counter_jump, text_address_size, name_text}
 use Rattle.text_parts.specs.Layout.{operand_part, bracket_layout}
 use Rattle.text_rows.specs.AtRow.{at_row, at_code}
 use Rattle.intel_text.specs.Text.{text_of, text}
@@ -88,7 +88,7 @@ segment_passes_if (Some s) = name_passes s
 
 segment_passes : (i : Instr) → Passes (segment_word i)
 unfolding segment_word
-segment_passes i = passes_if (has_memory i) [] _ passes_nothing (segment_passes_if i.seg)
+segment_passes i = passes_if (shows_memory i) [] _ passes_nothing (segment_passes_if i.seg)
 
 a_passes : (size : Bits) → Passes (sized_word (codes "a") size)
 unfolding sized_word size_digits is_other

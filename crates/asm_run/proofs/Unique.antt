@@ -10,11 +10,11 @@ use Rattle.std.proofs.lemmas.Map.Lookups.{exact_bytes}
 use Rattle.std.specs.Cmp.{IsTotalOrder}
 use Rattle.x86_values.specs.declared.Bits.{Bits}
 use Rattle.x86_values.specs.declared.Instr.{Instr}
-use Rattle.x86_values.specs.Wrapping.{wrapped}
+use Rattle.x86_values.specs.Wrapping.{modulo_width}
 use Rattle.opcode_rows.specs.declared.generated_spots.TheConstants.{ROWS}
 use Rattle.opcode_rows.specs.Table.{table}
 use Rattle.intel_text.specs.Text.{text as text_of}
-use Rattle.intel_reader.specs.Assembled.{Assembly, rank, IsCandidate, IsFirst, AssemblesTo, IsNoText}
+use Rattle.intel_reader.specs.Assembled.{Assembly, compare_assemblies, IsCandidate, IsFirst, AssemblesTo, IsNoText}
 use Rattle.run_parts.specs.declared.status.Status.{Status}
 use Rattle.run_parts.specs.declared.status.Status.TheVariants.{Done, BadText}
 use Rattle.asm_run.specs.Lines.{IsByteLine, IsCodeOfLine, IsCodeOfLines, IsBadLine, lines_in}
@@ -24,7 +24,7 @@ use Rattle.asm_run.proofs.NoByteText.{starts_db, text_other}
 
 -- ---- one line
 
-rank_total : IsTotalOrder rank
+rank_total : IsTotalOrder compare_assemblies
 rank_total =
     then_total (on_total (λ (a : Assembly). length a.bytes) nat_cmp_total)
     (then_total (on_total (λ (a : Assembly). a.instr.code.0) nat_cmp_total) (on_texts (λ (a : Assembly). a.bytes)))
@@ -42,7 +42,7 @@ last_equal Equal p e = e
 last_equal Greater p e = cc
 
 -- what ranks alike has the same bytes
-rank_bytes : (a b : Assembly) → rank a b ≡ Equal → a.bytes ≡ b.bytes
+rank_bytes : (a b : Assembly) → compare_assemblies a b ≡ Equal → a.bytes ≡ b.bytes
 rank_bytes a b e =
     exact_bytes a.bytes b.bytes
     (last_equal (nat_cmp a.instr.code.0 b.instr.code.0) _ (last_equal (nat_cmp (length a.bytes) (length b.bytes)) _ e))
@@ -59,7 +59,7 @@ module _ (counted : length table ≡ ROWS) (bits : Bits) where
   text_unique ip text xs ys h k =
       let a : Assembly = record { instr = h.0; bytes = xs } in
       let b : Assembly = record { instr = k.0; bytes = ys } in
-      rank_bytes a b (neither_greater (rank a b) (rank b a) (rank_total.antisymm a b) (h.1.first b k.1.candidate) (k.1.first a h.1.candidate))
+      rank_bytes a b (neither_greater (compare_assemblies a b) (compare_assemblies b a) (rank_total.antisymm a b) (h.1.first b k.1.candidate) (k.1.first a h.1.candidate))
 
   -- the text of an instruction is not the line of a byte
   text_or_byte : (ip : ℕ) (line xs ys : List ℕ) → AssemblesTo bits ip line xs → IsByteLine line ys → ⊥
@@ -83,7 +83,7 @@ module _ (counted : length table ≡ ROWS) (bits : Bits) where
   pub lines_unique : (ip : ℕ) (lines : List (List ℕ)) (xs ys : List ℕ) → IsCodeOfLines bits ip lines xs → IsCodeOfLines bits ip lines ys → xs ≡ ys
   lines_unique ip [] xs ys h k = h ∙ sym k
   lines_unique ip (line ∷ lines) xs ys h k =
-      let first : h.0 ≡ k.0 = line_unique (wrapped bits ip) line h.0 k.0 h.1.1.0 k.1.1.0 in
+      let first : h.0 ≡ k.0 = line_unique (modulo_width bits ip) line h.0 k.0 h.1.1.0 k.1.1.0 in
       let there = subst (λ (f : List ℕ). IsCodeOfLines bits (ip + length f) lines h.1.0) first h.1.1.1.0 in
       let rest : h.1.0 ≡ k.1.0 = lines_unique (ip + length k.0) lines h.1.0 k.1.0 there k.1.1.1.0 in
       h.1.1.1.1 ∙ (ap (λ (f : List ℕ). f ++ h.1.0) first ∙ (ap (λ (b : List ℕ). k.0 ++ b) rest ∙ sym k.1.1.1.1))

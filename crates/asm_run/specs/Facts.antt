@@ -5,5 +5,5 @@ use Rattle.run_parts.specs.declared.status.Status.{Status}
 use Rattle.asm_run.specs.Assembling.{IsTextAnswer}
 
 -- a text has one answer
-pub record AnswerFacts : Type 0 where
+pub record AssemblyAnswerFacts : Type 0 where
   pub answer_unique : (bits : Bits) (base : ℕ) (text : List ℕ) (a b : Status) → IsTextAnswer bits base text a → IsTextAnswer bits base text b → a ≡ b

@@ -1,7 +1,7 @@
 -- The lines of a text, and the bytes that they stand for.
 use Rattle.std.specs.Prelude.{◌≡◌, ◌⊎◌, ℕ, ◌+◌, ◌<◌, ◌==◌, if◌then◌else◌, List, [], ◌∷◌, ◌++◌, length}
 use Rattle.x86_values.specs.declared.Bits.{Bits}
-use Rattle.x86_values.specs.Wrapping.{wrapped}
+use Rattle.x86_values.specs.Wrapping.{modulo_width}
 use Rattle.text_parts.specs.declared.style.Style.TheVariants.{Intel}
 use Rattle.sweep_text.specs.Listing.{single_byte_text}
 use Rattle.intel_reader.specs.Assembled.{AssemblesTo}
@@ -9,14 +9,14 @@ use Rattle.intel_reader.specs.Assembled.{AssemblesTo}
 -- ---- the lines
 
 -- a byte in front of the first line of some lines
-unfoldable pub joined : ℕ → List (List ℕ) → List (List ℕ)
-joined c [] = (c ∷ []) ∷ []
-joined c (line ∷ lines) = (c ∷ line) ∷ lines
+unfoldable pub with_byte_in_front : ℕ → List (List ℕ) → List (List ℕ)
+with_byte_in_front c [] = (c ∷ []) ∷ []
+with_byte_in_front c (line ∷ lines) = (c ∷ line) ∷ lines
 
 -- the lines of some bytes, each ended by a line feed, which is no part of it; bytes behind the last line feed are one more line
 unfoldable pub lines_in : List ℕ → List (List ℕ)
 lines_in [] = []
-lines_in (c ∷ bytes) = if c == 10 then [] ∷ lines_in bytes else joined c (lines_in bytes)
+lines_in (c ∷ bytes) = if c == 10 then [] ∷ lines_in bytes else with_byte_in_front c (lines_in bytes)
 
 -- ---- their bytes
 
@@ -35,7 +35,7 @@ IsCodeOfLine bits ip line bytes = AssemblesTo bits ip line bytes ⊎ IsByteLine 
 abbrev pub IsCodeOfLines : Bits → ℕ → List (List ℕ) → List ℕ → Type 0
 IsCodeOfLines bits ip [] bytes = bytes ≡ []
 IsCodeOfLines bits ip (line ∷ lines) bytes =
-    (front : List ℕ) × ((back : List ℕ) × (IsCodeOfLine bits (wrapped bits ip) line front
+    (front : List ℕ) × ((back : List ℕ) × (IsCodeOfLine bits (modulo_width bits ip) line front
     × (IsCodeOfLines bits (ip + length front) lines back × (bytes ≡ front ++ back))))
 
 -- the line of this number, counted from 1, is the first that stands for no bytes
@@ -46,5 +46,5 @@ pub record IsBadLine (bits : Bits) (base : ℕ) (lines : List (List ℕ)) (numbe
   pub are : lines ≡ before ++ bad ∷ behind
   pub code : List ℕ
   pub is_code : IsCodeOfLines bits base before code
-  pub neither : (bytes : List ℕ) → IsCodeOfLine bits (wrapped bits (base + length code)) bad bytes → ⊥
+  pub neither : (bytes : List ℕ) → IsCodeOfLine bits (modulo_width bits (base + length code)) bad bytes → ⊥
   pub number_is : number ≡ length before + 1

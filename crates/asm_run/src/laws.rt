@@ -1,13 +1,13 @@
 //! What holds of all texts of code.
 
-ghost use Rattle.asm_run.specs.Facts.{AnswerFacts};
+ghost use Rattle.asm_run.specs.Facts.{AssemblyAnswerFacts};
 
 use opcode_rows::laws::rows_are_counted;
 
 /// A text has one answer: its bytes, or the number of its first bad line.
 #[inline]
 pub fn texts_have_one_answer()
-    ensures { AnswerFacts }
+    ensures { AssemblyAnswerFacts }
 {
     rows_are_counted();
 }

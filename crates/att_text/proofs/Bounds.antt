@@ -16,7 +16,7 @@ use Rattle.text_parts.specs.declared.style.Style.TheVariants.{Att}
 use Rattle.text_parts.specs.Numbers.{number}
 use Rattle.text_parts.specs.Registers.{register, segment_override}
 use Rattle.text_parts.specs.Addresses.{is_relative, is_absolute, signed_displacement, base_text}
-use Rattle.text_parts.specs.PrefixWords.{has_memory, prefix_words, name_text, text_address_size}
+use Rattle.text_parts.specs.PrefixWords.{shows_memory, prefix_words, name_text, text_address_size}
 use Rattle.text_parts.specs.Layout.{nth_operand, separator, is_long, long_at, has_one_long}
 use Rattle.text_parts.proofs.Bounds.{short_if, short_append, number-le, register-le, segment_override-le}
 use Rattle.text_parts.proofs.AddressBounds.{signed_displacement-le, lone_displacement-le, base_text-le, scale_text-le, unless_absent}
@@ -75,7 +75,7 @@ att_name-le bits row name instr h =
     short_if (is_zero_extension name) _ _ 21 (extension-le (codes "movz") row (omega arith))
     (short_if (is_sign_extension name) _ _ 21 (extension-le (codes "movs") row (omega arith))
     (short_append (name_text bits name instr) _ 20 1 (name_text-le bits name instr h)
-    (short_if (has_memory instr) _ _ 1 (memory_letter-le row name) (omega arith))))
+    (short_if (shows_memory instr) _ _ 1 (memory_letter-le row name) (omega arith))))
 
 -- ---- operands
 

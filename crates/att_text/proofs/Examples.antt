@@ -3,7 +3,7 @@ use Rattle.std.proofs.Common.{◌≡◌, [], ◌∷◌, map, refl}
 use Rattle.std.specs.Prelude.{codes}
 use Rattle.text_parts.proofs.Samples.{samples, every_part}
 use Rattle.instruction_parts.specs.Kinds.{file_of}
-use Rattle.att_text.specs.Names.{is_x87, is_vector_file, is_vector_kind, is_integer, size_letter, integer_letter, float_letter, operand_letter, is_packed_decimal, x87_letter, memory_letter, is_zero_extension, is_sign_extension, extension_letters, att_name}
+use Rattle.att_text.specs.Names.{is_x87, is_xmm_or_ymm, is_vector_kind, is_integer, size_letter, integer_letter, float_letter, operand_letter, is_packed_decimal, x87_letter, memory_letter, is_zero_extension, is_sign_extension, extension_letters, att_name}
 use Rattle.att_text.specs.Operands.{att_index, att_registers, att_relative, att_address, att_memory, att_operand, holds_target, is_branch_name, star, is_last, att_part}
 use Rattle.att_text.specs.Text.{text_of}
 
@@ -40,5 +40,5 @@ examples : map (λ s. text_of s.bits s.row s.name s.instr) samples ≡
     ∷ codes "fbld 0x1000"
     ∷ codes "imull $0x1f, 0x7f(%r13,%r14,2), %r9d"
     ∷ []
-unfolding samples every_part text_of file_of is_x87 is_vector_file is_vector_kind is_integer size_letter integer_letter float_letter operand_letter is_packed_decimal x87_letter memory_letter is_zero_extension is_sign_extension extension_letters att_name att_index att_registers att_relative att_address att_memory att_operand holds_target is_branch_name star is_last att_part
+unfolding samples every_part text_of file_of is_x87 is_xmm_or_ymm is_vector_kind is_integer size_letter integer_letter float_letter operand_letter is_packed_decimal x87_letter memory_letter is_zero_extension is_sign_extension extension_letters att_name att_index att_registers att_relative att_address att_memory att_operand holds_target is_branch_name star is_last att_part
 examples = refl

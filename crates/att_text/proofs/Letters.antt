@@ -7,10 +7,10 @@ use Rattle.rows_integer.specs.Table.{table as integer_rows, flat_rows as integer
 use Rattle.rows_x87.specs.Table.{table as x87_rows, flat_rows as x87_flat}
 use Rattle.rows_sse.specs.Table.{table as sse_rows, flat_rows as sse_flat}
 use Rattle.rows_vex.specs.Table.{table as vex_rows, flat_rows as vex_flat}
-use Rattle.att_text.specs.Names.{is_x87, is_vector_file, is_vector_kind, is_integer, has_no_letter_by_size}
+use Rattle.att_text.specs.Names.{is_x87, is_xmm_or_ymm, is_vector_kind, is_integer, has_no_letter_by_size}
 
 pub integer-letters : list_all is_integer integer_rows ≡ true
-unfolding is_integer is_x87 is_vector_kind is_vector_file file_of integer_rows integer_flat
+unfolding is_integer is_x87 is_vector_kind is_xmm_or_ymm file_of integer_rows integer_flat
 integer-letters = refl
 
 pub x87-letters : list_all is_x87 x87_rows ≡ true
@@ -18,9 +18,9 @@ unfolding is_x87 x87_rows x87_flat
 x87-letters = refl
 
 pub sse-letters : list_all has_no_letter_by_size sse_rows ≡ true
-unfolding has_no_letter_by_size is_integer is_x87 is_vector_kind is_vector_file file_of memory_width row_size_bytes has_w vector_bytes width_in_row size_at memory_size sse_rows sse_flat
+unfolding has_no_letter_by_size is_integer is_x87 is_vector_kind is_xmm_or_ymm file_of memory_width row_size_bytes has_w vector_bytes width_in_row size_at memory_size sse_rows sse_flat
 sse-letters = refl
 
 pub vex-letters : list_all has_no_letter_by_size vex_rows ≡ true
-unfolding has_no_letter_by_size is_integer is_x87 is_vector_kind is_vector_file file_of memory_width row_size_bytes has_w vector_bytes width_in_row size_at memory_size vex_rows vex_flat
+unfolding has_no_letter_by_size is_integer is_x87 is_vector_kind is_xmm_or_ymm file_of memory_width row_size_bytes has_w vector_bytes width_in_row size_at memory_size vex_rows vex_flat
 vex-letters = refl

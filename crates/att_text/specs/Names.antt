@@ -13,7 +13,7 @@ use Rattle.instruction_parts.specs.declared.kinds.File.TheVariants.{Mmx, Xmm, Ve
 use Rattle.instruction_parts.specs.Kinds.{file_of}
 use Rattle.instruction_parts.specs.Sizes.{is_vex_row}
 use Rattle.row_meaning.specs.MemorySize.{memory_size}
-use Rattle.text_parts.specs.PrefixWords.{has_memory, name_text}
+use Rattle.text_parts.specs.PrefixWords.{shows_memory, name_text}
 
 -- ---- kinds of rows
 
@@ -22,15 +22,15 @@ unfoldable pub is_x87 : Row → Bool
 is_x87 row = not (is_vex_row row) && (elim row.map [ One ↦ row.opcode / 8 == 27 | _ ↦ false ])
 
 -- MMX and vector registers
-unfoldable pub is_vector_file : File → Bool
-is_vector_file Mmx = true
-is_vector_file Xmm = true
-is_vector_file Vector = true
-is_vector_file _ = false
+unfoldable pub is_xmm_or_ymm : File → Bool
+is_xmm_or_ymm Mmx = true
+is_xmm_or_ymm Xmm = true
+is_xmm_or_ymm Vector = true
+is_xmm_or_ymm _ = false
 
 -- the kind of an operand names an MMX or a vector register
 unfoldable pub is_vector_kind : OpKind → Bool
-is_vector_kind kind = is_vector_file (file_of kind)
+is_vector_kind kind = is_xmm_or_ymm (file_of kind)
 
 -- a legacy row that is neither x87 nor MMX nor SSE
 unfoldable pub is_integer : Row → Bool
@@ -94,7 +94,7 @@ unfoldable pub att_name : Bits → Row → List ℕ → Instr → List ℕ
 att_name bits row name instr =
     if is_zero_extension name then codes "movz" ++ extension_letters row
     else (if is_sign_extension name then codes "movs" ++ extension_letters row
-    else (name_text bits name instr ++ (if has_memory instr then memory_letter row name else [])))
+    else (name_text bits name instr ++ (if shows_memory instr then memory_letter row name else [])))
 
 -- ---- rows without letters
 

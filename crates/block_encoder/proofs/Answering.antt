@@ -12,7 +12,7 @@ use Rattle.block_encoder.specs.declared.error.MoveError.TheVariants.{Memory, Too
 use Rattle.block_encoder.specs.Moved.{MovedLists, IsOldSound, IsAnswer}
 use Rattle.block_encoder.specs.ByPlan.{IsPassBy, IsPlanAnswer, IsOutsideAnswer}
 use Rattle.block_encoder.specs.Written.{first_end_past}
-use Rattle.block_encoder.specs.LawsBelow.{LawsBelow}
+use Rattle.block_encoder.specs.LawsBelow.{MovedLawsBelow}
 use Rattle.block_encoder.proofs.Fragments.{same_pass}
 
 module _ (bits : Bits) (items : List Placed) (spans : List BlockSpan) (old : IsOldSound bits items spans) where
@@ -39,7 +39,7 @@ outside_answer bits items new_base few (Err (OldOrder n)) h = (few, h)
 outside_answer bits items new_base few (Err (Wraps end)) h = (few, h)
 outside_answer bits items new_base few (Err (TooFar at target)) h = (few, h)
 
-module _ (laws : LawsBelow) where
+module _ (laws : MovedLawsBelow) where
   -- a new end passes the address space
   pub new_pass : (bits : Bits) (p : BlockPlan) (laid : Layout) → IsLaidLeast p laid → (end : ℕ) → first_end_past bits laid.ends.items ≡ Some end
       → IsPassBy bits p end

@@ -4,20 +4,20 @@ use Rattle.std.proofs.lemmas.List.{append-nil, append_assoc}
 use Rattle.arrayvec.specs.ArrayVec.{ArrayVec}
 use Rattle.x86_values.specs.declared.Bits.{Bits}
 use Rattle.x86_values.specs.declared.Instr.{Instr}
-use Rattle.x86_values.specs.Wrapping.{wrapped}
+use Rattle.x86_values.specs.Wrapping.{modulo_width}
 use Rattle.plain_spelling.specs.declared.NoSpelling.{NoSpelling}
-use Rattle.encoder.specs.Encoding.{encoding, written}
+use Rattle.encoder.specs.Encoding.{encoding, answer_bytes}
 use Rattle.block_encoder.specs.Bytes.{in_front, bytes_from}
 use Rattle.block_encoder.specs.Written.{IsPieceAppended, AreAppended}
 
 -- an encoding rests on the address of the mode alone
-encoding_wraps : ((b : Bits) (x : ℕ) → wrapped b (wrapped b x) ≡ wrapped b x) → (bits : Bits) (at : ℕ) (i : Instr) → encoding bits (wrapped bits at) i ≡ encoding bits at i
+encoding_wraps : ((b : Bits) (x : ℕ) → modulo_width b (modulo_width b x) ≡ modulo_width b x) → (bits : Bits) (at : ℕ) (i : Instr) → encoding bits (modulo_width bits at) i ≡ encoding bits at i
 unfolding encoding
 encoding_wraps twice bits at i = rw (twice bits at) refl
 
 -- what was written at the wrapped address is the encoding at the address
-pub written_at : ((b : Bits) (x : ℕ) → wrapped b (wrapped b x) ≡ wrapped b x) → (bits : Bits) (at ip : ℕ) (i : Instr) (r : Result (ArrayVec ℕ) NoSpelling) → ip ≡ wrapped bits at
-    → written r ≡ encoding bits ip i → written r ≡ encoding bits at i
+pub written_at : ((b : Bits) (x : ℕ) → modulo_width b (modulo_width b x) ≡ modulo_width b x) → (bits : Bits) (at ip : ℕ) (i : Instr) (r : Result (ArrayVec ℕ) NoSpelling) → ip ≡ modulo_width bits at
+    → answer_bytes r ≡ encoding bits ip i → answer_bytes r ≡ encoding bits at i
 written_at twice bits at ip i r e w = w ∙ (ap (λ (n : ℕ). encoding bits n i) e ∙ encoding_wraps twice bits at i)
 
 pub piece_ok : (e : Result (List ℕ) NoSpelling) (piece old new : List ℕ) (at n : ℕ) → Ok piece ≡ e → new ≡ old ++ piece

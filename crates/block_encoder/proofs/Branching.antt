@@ -8,7 +8,7 @@ use Rattle.std.proofs.lemmas.List.{get_or-map, length-map}
 use Rattle.x86_values.specs.declared.Bits.{Bits}
 use Rattle.x86_values.specs.declared.Bits.TheVariants.{B64}
 use Rattle.x86_values.specs.declared.Instr.{Instr}
-use Rattle.x86_values.specs.Wrapping.{wrapped}
+use Rattle.x86_values.specs.Wrapping.{modulo_width}
 use Rattle.operand_info.specs.Operands.{near_value, ip_value, first_value}
 use Rattle.branch_sizes.specs.declared.plan.BlockSpan.{BlockSpan}
 use Rattle.branch_sizes.specs.declared.plan.Choice.{Choice}
@@ -30,10 +30,10 @@ use Rattle.move_goals.specs.declared.items.Placed.{Placed}
 use Rattle.move_goals.specs.Items.{AreSpansOf, ArePlaced, item_at}
 use Rattle.move_goals.specs.Goals.{own_item, other_item, goal_among, goal_of_target, goal_of, goal_at}
 use Rattle.move_goals.specs.Plan.{plan_with, plan_for}
-use Rattle.move_layout.specs.Laid.{is_far, is_far_at, goal_value, goal_address, images_end, new_end, fragment_at}
+use Rattle.move_layout.specs.Laid.{has_far_form, is_far_at, goal_value, goal_address, images_end, new_end, fragment_at}
 use Rattle.block_encoder.specs.Bytes.{bytes_from}
 use Rattle.block_encoder.specs.Moved.{fragment_reach, IsReached, first_new_pass}
-use Rattle.block_encoder.specs.LawsBelow.{LawsBelow}
+use Rattle.block_encoder.specs.LawsBelow.{MovedLawsBelow}
 use Rattle.block_encoder.proofs.Places.{place-first, place-last, place-next, place-rises, place-is}
 use Rattle.block_encoder.proofs.Inside.{end_within, image-within}
 use Rattle.block_encoder.proofs.Chosen.{is_own, plan-item, plan-count, choice-is, choice-below, fragment-own}
@@ -115,7 +115,7 @@ images_small : (p : BlockPlan) (layout : List ℕ) (b : ℕ) → total (image_le
 unfolding images_end
 images_small p layout b h = omega (arith, h)
 
-module _ (laws : LawsBelow) where
+module _ (laws : MovedLawsBelow) where
   -- ---- items
 
   module _ (items : List Placed) (spans : List BlockSpan) (goals : ℕ → Goal) (s : AreSpansOf items spans) (placed : ArePlaced B64 items) (few : length items ≤ 65536)
@@ -233,7 +233,7 @@ module _ (laws : LawsBelow) where
           (omega (arith, ends, len))
           goal-small
           (subst (λ (n : ℕ). Reaches (form_reach B64 (sized action short) instr.asize form) n at goal) (sym (image-length form at goal slot)) there)
-          (λ far. subst (λ (n : ℕ). IsSlotNear at n slot) len (slot_near (ap (λ (c : Choice). is_far c.form) is ∙ far)))
+          (λ far. subst (λ (n : ℕ). IsSlotNear at n slot) len (slot_near (ap (λ (c : Choice). has_far_form c.form) is ∙ far)))
 
       -- **the branch has its bytes**
       branch-reached : IsReached B64 items (plan_with B64 spans items goals) layout k
@@ -256,7 +256,7 @@ module _ (laws : LawsBelow) where
     pub branch-reached-in_64 : (t : ℕ) → first_value near_value (item_at items k).instr ≡ Some t → IsReached B64 items (plan_with B64 spans items goals) layout k
     branch-reached-in_64 t near =
         let i = placed k lt in
-        let old = wrapped B64 (item_at items k).ip in
+        let old = modulo_width B64 (item_at items k).ip in
         let b = branched laws B64 old i.bytes (item_at items k).instr t i.spelled near in
         let mode = mode-fits laws old i.bytes (item_at items k).instr b.0 i.spelled b.1 in
         let is : b.0 ≡ sized b.0.action b.0.is_short = ap (λ (size : Bits). with_size b.0.action b.0.is_short size) mode.0 in

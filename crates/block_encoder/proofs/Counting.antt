@@ -21,7 +21,7 @@ use Rattle.branch_forms.specs.declared.branch.Action.{Action}
 use Rattle.branch_forms.specs.declared.branch.Action.TheVariants.{Jump, Call, Condition, Count}
 use Rattle.branch_forms.specs.declared.branch.RelativeBranch.{RelativeBranch}
 use Rattle.branch_forms.specs.Branches.{size_of, short_action, near_action, branch_in, branch_of, is_pair, in_range}
-use Rattle.block_encoder.specs.LawsBelow.{LawsBelow}
+use Rattle.block_encoder.specs.LawsBelow.{MovedLawsBelow}
 use Rattle.block_encoder.proofs.Formed.{CountFits}
 
 -- a row on a counter has the mark of an address size
@@ -82,7 +82,7 @@ count_fits row i b Jump a e h suits = tt
 count_fits row i b Call a e h suits = tt
 count_fits row i b (Condition n) a e h suits = tt
 
-module _ (laws : LawsBelow) where
+module _ (laws : MovedLawsBelow) where
   -- **a branch on a counter in 64-bit mode has an address size of the mode**
   pub counter-fits : (ip : ℕ) (bytes : List ℕ) (i : Instr) (b : RelativeBranch) → Spells table B64 ip bytes i → branch_of i ≡ Some b → CountFits b.action i.asize
   counter-fits ip bytes i b (short, (row, at, (s, e))) h =

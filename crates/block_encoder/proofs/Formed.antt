@@ -5,7 +5,7 @@ use Rattle.std.proofs.lemmas.Bool.{ltb-true}
 use Rattle.x86_values.specs.declared.Bits.{Bits}
 use Rattle.x86_values.specs.declared.Bits.TheVariants.{B32, B64}
 use Rattle.x86_values.specs.declared.Instr.{Instr}
-use Rattle.x86_values.specs.Wrapping.{wrapped}
+use Rattle.x86_values.specs.Wrapping.{modulo_width}
 use Rattle.row_types.specs.declared.Map.TheVariants.{One, M0f}
 use Rattle.plain_spelling.specs.declared.NoSpelling.{NoSpelling}
 use Rattle.plain_spelling.specs.Values.{is_extended_of, distance}
@@ -20,9 +20,9 @@ use Rattle.branch_forms.specs.Branches.{in_range, short_code, near_code, far_cod
 use Rattle.branch_forms.specs.Images.{branch_to, through_slot, counter_size, short_branch, skip, bridge_jump, bridge_inner, bridge, far_image, branch_image, pieces_length}
 use Rattle.branch_forms.specs.Choices.{near_reach, bridge_reach, form_reach}
 use Rattle.branch_forms.specs.Lengths.{address_byte}
-use Rattle.move_layout.specs.Laid.{is_far}
+use Rattle.move_layout.specs.Laid.{has_far_form}
 use Rattle.block_encoder.specs.Bytes.{in_front, bytes_from}
-use Rattle.block_encoder.specs.LawsBelow.{LawsBelow}
+use Rattle.block_encoder.specs.LawsBelow.{MovedLawsBelow}
 use Rattle.block_encoder.proofs.Sweeping.{one_spelled}
 use Rattle.block_encoder.proofs.Spelled.{IsEncoded, no_size, count_size, short-encoded, near-encoded, slot-encoded}
 
@@ -37,7 +37,7 @@ CountFits _ asize = Unit {0}
 
 -- an address at a signed distance of n bytes from the end
 abbrev IsNear : ℕ → ℕ → ℕ → ℕ → Type 0
-IsNear n at len t = is_extended_of n 64 (distance B64 (wrapped B64 (wrapped B64 at + len)) t) ≡ true
+IsNear n at len t = is_extended_of n 64 (distance B64 (modulo_width B64 (modulo_width B64 at + len)) t) ≡ true
 
 -- ---- spellings one behind another
 
@@ -59,7 +59,7 @@ abbrev pub is_counting : Action → Bool
 is_counting (Count n) = true
 is_counting _ = false
 
-wrapped-small : (n : ℕ) → wrapped B64 n < 2 ^ 64
+wrapped-small : (n : ℕ) → modulo_width B64 n < 2 ^ 64
 wrapped-small n = omega arith
 
 -- a slot at a signed distance from the end of the image
@@ -104,7 +104,7 @@ bridge_range Call false form (inl e) h range = let k = rw e at h in cc
 bridge_range Call false form (inr e) h range = let k = rw e at h in cc
 bridge_range (Condition n) short form e h range = range
 
-module _ (laws : LawsBelow) where
+module _ (laws : MovedLawsBelow) where
   more-some : (at : ℕ) (i : Instr) (is : List Instr) → IsEncoded at i → IsSome (bytes_from B64 (at + plain_length B64 i) is) → IsSome (bytes_from B64 at (i ∷ is))
   unfolding bytes_from
   more-some at i is (bytes, h) more =
@@ -188,16 +188,16 @@ module _ (laws : LawsBelow) where
       let b = sized action short in
       let one = plain_length B64 (short_branch b asize 0) in
       let two = plain_length B64 (skip B64 0) in
-      let onto = wrapped B64 (at + (one + two)) in
-      let over = wrapped B64 (at + (one + two) + plain_length B64 last) in
+      let onto = modulo_width B64 (at + (one + two)) in
+      let over = modulo_width B64 (at + (one + two) + plain_length B64 last) in
       let size = short-size action short asize 0 range counts in
       let skips = skip-size 0 in
       let len1 : plain_length B64 (short_branch b asize onto) ≡ one = laws.pieces.short-length B64 b asize onto in
       let len2 : plain_length B64 (skip B64 over) ≡ two = laws.pieces.skip-length B64 over in
       let near1 : IsNear 1 at one onto =
-      subst (λ (n : ℕ). IsNear 1 at one (wrapped B64 n)) (omega arith) (laws.distances.over-reached at one two (omega (arith, size)) (omega (arith, within)) (omega (arith, skips))) in
+      subst (λ (n : ℕ). IsNear 1 at one (modulo_width B64 n)) (omega arith) (laws.distances.over-reached at one two (omega (arith, size)) (omega (arith, within)) (omega (arith, skips))) in
       let near2 : IsNear 1 (at + one) two over =
-      subst (λ (n : ℕ). IsNear 1 (at + one) two (wrapped B64 n)) (omega arith) (laws.distances.over-reached (at + one) two (plain_length B64 last) (omega (arith, skips)) (omega (arith, within)) few) in
+      subst (λ (n : ℕ). IsNear 1 (at + one) two (modulo_width B64 n)) (omega arith) (laws.distances.over-reached (at + one) two (plain_length B64 last) (omega (arith, skips)) (omega (arith, within)) few) in
       let first = short-piece action short asize onto at range counts (wrapped-small (at + (one + two))) (subst (λ (n : ℕ). IsNear 1 at n onto) (sym len1) near1) in
       let second = skip-piece over (at + one) (wrapped-small (at + (one + two) + plain_length B64 last)) (subst (λ (n : ℕ). IsNear 1 (at + one) n over) (sym len2) near2) in
       let third : IsSome (bytes_from B64 (at + one + two) (last ∷ [])) =
@@ -226,7 +226,7 @@ module _ (laws : LawsBelow) where
       let last = through_slot (far_code Jump) slot in
       let len = laws.pieces.slot_jump-length B64 slot in
       let one = plain_length B64 (branch_to code None 0) in
-      let over = wrapped B64 (at + one + plain_length B64 last) in
+      let over = modulo_width B64 (at + one + plain_length B64 last) in
       let long = laws.pieces.short_condition-length B64 B64 (opposite_condition n) lt 0 in
       let same = laws.pieces.branch_to-length B64 code None over in
       let near = laws.distances.over-reached at one (plain_length B64 last) (omega (arith, long)) (omega (arith, within, same)) (omega (arith, len)) in
@@ -242,7 +242,7 @@ module _ (laws : LawsBelow) where
   unfolding bridge bridge_inner
   bridge-size b asize at last =
       let inner = plain_length B64 (short_branch b asize 0) + plain_length B64 (skip B64 0) in
-      omega (arith, laws.pieces.short-length B64 b asize (wrapped B64 (at + inner)), laws.pieces.skip-length B64 (wrapped B64 (at + inner + plain_length B64 last)))
+      omega (arith, laws.pieces.short-length B64 b asize (modulo_width B64 (at + inner)), laws.pieces.skip-length B64 (modulo_width B64 (at + inner + plain_length B64 last)))
 
   jump-near : (action : Action) (short : Bool) (goal at : ℕ) → goal < 2 ^ 64 → IsNear 4 at (plain_length B64 (bridge_jump (sized action short) goal)) goal → IsEncoded at (bridge_jump (sized action short) goal)
   unfolding bridge_jump
@@ -287,7 +287,7 @@ module _ (laws : LawsBelow) where
   pub form-spelled : (i : Instr) (action : Action) (short : Bool) (form : Form) (at goal slot : ℕ) → in_range action short ≡ true → CountFits action i.asize
       → form_fits action short form ≡ true → at + pieces_length B64 (branch_image B64 i (sized action short) form at goal slot) ≤ 2 ^ 64 → goal < 2 ^ 64
       → Reaches (form_reach B64 (sized action short) i.asize form) (pieces_length B64 (branch_image B64 i (sized action short) form at goal slot)) at goal
-      → (is_far form ≡ true → IsSlotNear at (pieces_length B64 (branch_image B64 i (sized action short) form at goal slot)) slot)
+      → (has_far_form form ≡ true → IsSlotNear at (pieces_length B64 (branch_image B64 i (sized action short) form at goal slot)) slot)
       → IsSome (bytes_from B64 at (branch_image B64 i (sized action short) form at goal slot))
   unfolding branch_image form_reach near_reach bridge_reach
   form-spelled i (Count n) short Itself at goal slot range counts fits within below reach far = cc

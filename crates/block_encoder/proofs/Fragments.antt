@@ -13,7 +13,7 @@ use Rattle.move_layout.specs.declared.layout.Layout.{Layout}
 use Rattle.move_layout.specs.Laid.{IsLaid, is_far_at, goal_value, goal_address, has_number, far_goals, slots_of, all_slots, new_end, slot_address, fragment_at, no_end}
 use Rattle.block_encoder.specs.Moved.{first_new_pass}
 use Rattle.block_encoder.specs.Written.{IsGoalAddress, IsFragmentOf, first_end_past}
-use Rattle.block_encoder.specs.LawsBelow.{LawsBelow}
+use Rattle.block_encoder.specs.LawsBelow.{MovedLawsBelow}
 use Rattle.block_encoder.proofs.Inside.{end_within, width-most}
 use Rattle.block_encoder.proofs.Writing.{flat_more}
 
@@ -99,7 +99,7 @@ module _ (p : BlockPlan) (layout : List ℕ) (b : ℕ) (lt : b < length p.spans)
       → n ≡ length (slots_of p layout b) → take n (drop m all) ≡ slots_of p layout b
   slots_part all m n e a c = part_is (all_slots p layout b) (slots_of p layout b) all_parts.0 all m n (e ∙ all_parts.1) a c
 
-module _ (laws : LawsBelow) where
+module _ (laws : MovedLawsBelow) where
   -- where none of some ends passes the address space each is at most 2 to the power of 64
   ends_fit : (bits : Bits) (end : ℕ → ℕ) (n : ℕ) → first_passing bits end n ≡ None → (b : ℕ) → b < n → end b ≤ 2 ^ 64
   ends_fit bits end n none b lt = omega (arith, end_within laws bits end n none b lt, width-most bits)

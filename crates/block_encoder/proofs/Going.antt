@@ -4,7 +4,7 @@ use Rattle.std.specs.Option.{option_or}
 use Rattle.std.proofs.lemmas.Bool.{cond-true}
 use Rattle.x86_values.specs.declared.Bits.{Bits}
 use Rattle.x86_values.specs.declared.Instr.{Instr}
-use Rattle.x86_values.specs.Wrapping.{wrapped}
+use Rattle.x86_values.specs.Wrapping.{modulo_width}
 use Rattle.row_relation.specs.Spells.{Spells}
 use Rattle.opcode_rows.specs.Table.{table}
 use Rattle.operand_info.specs.Operands.{near_value, ip_value, first_value}
@@ -23,10 +23,10 @@ use Rattle.branch_forms.specs.Images.{branch_to, through_slot, counter_size, sho
 use Rattle.move_goals.specs.declared.items.Placed.{Placed}
 use Rattle.move_goals.specs.Items.{ArePlaced, no_instr, item_at}
 use Rattle.move_goals.specs.Plan.{plan_with}
-use Rattle.move_layout.specs.Laid.{is_far, is_far_at, goal_address, slot_address, fragment_at}
+use Rattle.move_layout.specs.Laid.{has_far_form, is_far_at, goal_address, slot_address, fragment_at}
 use Rattle.block_encoder.specs.Bytes.{image_at}
 use Rattle.block_encoder.specs.Aims.{last_instr}
-use Rattle.block_encoder.specs.LawsBelow.{LawsBelow}
+use Rattle.block_encoder.specs.LawsBelow.{MovedLawsBelow}
 use Rattle.block_encoder.proofs.Pieces.{spelled-four}
 use Rattle.block_encoder.proofs.Chosen.{is_own, fragment-own}
 
@@ -59,7 +59,7 @@ unfolding bridge
 bridge-last bits b asize at last = refl
 
 -- a branch of a form that is not far goes to the goal
-branch-near : (bits : Bits) (i : Instr) (b : RelativeBranch) (form : Form) (at goal slot : ℕ) → is_own form ≡ false → is_far form ≡ false → first_value near_value (last_instr (branch_image bits i b form at goal slot)) ≡ Some goal
+branch-near : (bits : Bits) (i : Instr) (b : RelativeBranch) (form : Form) (at goal slot : ℕ) → is_own form ≡ false → has_far_form form ≡ false → first_value near_value (last_instr (branch_image bits i b form at goal slot)) ≡ Some goal
 unfolding branch_image
 branch-near bits i b Itself at goal slot h far = cc
 branch-near bits i b Short at goal slot h far = near-short b i.asize goal
@@ -76,7 +76,7 @@ far-slot bits b at (Condition n) slot = ip-slot (far_code Jump) slot
 far-slot bits b at (Count n) slot = ip-slot (far_code (Count n)) slot
 
 -- one of a far form goes through the slot
-branch-far : (bits : Bits) (i : Instr) (b : RelativeBranch) (form : Form) (at goal slot : ℕ) → is_far form ≡ true → first_value ip_value (last_instr (branch_image bits i b form at goal slot)) ≡ Some slot
+branch-far : (bits : Bits) (i : Instr) (b : RelativeBranch) (form : Form) (at goal slot : ℕ) → has_far_form form ≡ true → first_value ip_value (last_instr (branch_image bits i b form at goal slot)) ≡ Some slot
 unfolding branch_image
 branch-far bits i b Far at goal slot far = far-slot bits b at b.action slot
 branch-far bits i b FarBridge at goal slot far = ap (first_value ip_value) (bridge-last bits b i.asize at (through_slot (far_code Jump) slot)) ∙ ip-slot (far_code Jump) slot
@@ -86,7 +86,7 @@ branch-far bits i b _ at goal slot far = cc
 
 -- the n-th instruction goes to the place behind the next one
 abbrev GoesOver : Bits → ℕ → List Instr → ℕ → Type 0
-GoesOver bits at is n = first_value near_value (get_or is n no_instr) ≡ Some (wrapped bits (at + pieces_length bits (take (n + 2) is)))
+GoesOver bits at is n = first_value near_value (get_or is n no_instr) ≡ Some (modulo_width bits (at + pieces_length bits (take (n + 2) is)))
 
 -- ---- the image of an instruction
 
@@ -121,23 +121,23 @@ pub slot-is : (p : BlockPlan) (layout : List ℕ) (k : ℕ) → is_far_at p layo
 unfolding fragment_at
 slot-is p layout k far = cond-true (is_far_at p layout k) (slot_address p layout (block_number p.spans k) (goal_address p layout k)) 0 far
 
-module _ (laws : LawsBelow) where
+module _ (laws : MovedLawsBelow) where
   -- ---- over the next one
 
   bridge-over : (bits : Bits) (b : RelativeBranch) (asize : Option Bits) (at : ℕ) (last : Instr) (n : ℕ) → n + 1 < length (bridge bits b asize at last) → GoesOver bits at (bridge bits b asize at last) n
   unfolding bridge bridge_inner
   bridge-over bits b asize at last zero lt =
       let inner = plain_length bits (short_branch b asize 0) + plain_length bits (skip bits 0) in
-      let onto = wrapped bits (at + inner) in
-      let over = wrapped bits (at + inner + plain_length bits last) in
+      let onto = modulo_width bits (at + inner) in
+      let over = modulo_width bits (at + inner + plain_length bits last) in
       near-short b asize onto
-      ∙ ap (λ (m : ℕ). Some (wrapped bits m)) (omega (arith, laws.pieces.short-length bits b asize onto, laws.pieces.skip-length bits over))
+      ∙ ap (λ (m : ℕ). Some (modulo_width bits m)) (omega (arith, laws.pieces.short-length bits b asize onto, laws.pieces.skip-length bits over))
   bridge-over bits b asize at last (suc zero) lt =
       let inner = plain_length bits (short_branch b asize 0) + plain_length bits (skip bits 0) in
-      let onto = wrapped bits (at + inner) in
-      let over = wrapped bits (at + inner + plain_length bits last) in
+      let onto = modulo_width bits (at + inner) in
+      let over = modulo_width bits (at + inner + plain_length bits last) in
       near-skip bits over
-      ∙ ap (λ (m : ℕ). Some (wrapped bits m)) (omega (arith, laws.pieces.short-length bits b asize onto, laws.pieces.skip-length bits over))
+      ∙ ap (λ (m : ℕ). Some (modulo_width bits m)) (omega (arith, laws.pieces.short-length bits b asize onto, laws.pieces.skip-length bits over))
   bridge-over bits b asize at last (suc (suc n)) lt = absurd (omega arith)
 
   far-over : (bits : Bits) (b : RelativeBranch) (at : ℕ) (action : Action) (slot n : ℕ) → n + 1 < length (far_image bits b at action slot) → GoesOver bits at (far_image bits b at action slot) n
@@ -147,9 +147,9 @@ module _ (laws : LawsBelow) where
   far-over bits b at (Count c) slot n lt = absurd (omega arith)
   far-over bits b at (Condition c) slot zero lt =
       let code = short_code (Condition (opposite_condition c)) b.size in
-      let over = wrapped bits (at + plain_length bits (branch_to code None 0) + plain_length bits (through_slot (far_code Jump) slot)) in
+      let over = modulo_width bits (at + plain_length bits (branch_to code None 0) + plain_length bits (through_slot (far_code Jump) slot)) in
       near-branch_to code None over
-      ∙ ap (λ (m : ℕ). Some (wrapped bits m)) (omega (arith, laws.pieces.branch_to-length bits code None over))
+      ∙ ap (λ (m : ℕ). Some (modulo_width bits m)) (omega (arith, laws.pieces.branch_to-length bits code None over))
   far-over bits b at (Condition c) slot (suc n) lt = absurd (omega arith)
 
   branch-over : (bits : Bits) (i : Instr) (b : RelativeBranch) (form : Form) (at goal slot n : ℕ) → n + 1 < length (branch_image bits i b form at goal slot) → GoesOver bits at (branch_image bits i b form at goal slot) n
@@ -192,7 +192,7 @@ module _ (laws : LawsBelow) where
     -- **each instruction of an image but the last goes over the next one**
     pub goes-over : (n : ℕ) → n + 1 < length (image_at bits items (plan_with bits spans items goals) layout k)
         → first_value near_value (get_or (image_at bits items (plan_with bits spans items goals) layout k) n no_instr)
-        ≡ Some (wrapped bits (place (plan_with bits spans items goals) layout k + pieces_length bits (take (n + 2) (image_at bits items (plan_with bits spans items goals) layout k))))
+        ≡ Some (modulo_width bits (place (plan_with bits spans items goals) layout k + pieces_length bits (take (n + 2) (image_at bits items (plan_with bits spans items goals) layout k))))
     unfolding fragment_at
     goes-over n lt =
         image-over bits (item_at items k).instr (chosen (plan_with bits spans items goals) layout k).form (place (plan_with bits spans items goals) layout k)
@@ -211,7 +211,7 @@ module _ (laws : LawsBelow) where
       pub goes-nowhere : target_of (item_at items k).instr ≡ None → image_at bits items (plan_with bits spans items goals) layout k ≡ (item_at items k).instr ∷ []
       goes-nowhere none =
           let i = placed k lt in
-          let four = spelled-four bits (wrapped bits (item_at items k).ip) i.bytes (item_at items k).instr i.spelled in
+          let four = spelled-four bits (modulo_width bits (item_at items k).ip) i.bytes (item_at items k).instr i.spelled in
           image-is
           ∙ untargeted-image bits (item_at items k).instr (chosen (plan_with bits spans items goals) layout k).form (place (plan_with bits spans items goals) layout k)
           (goal_address (plan_with bits spans items goals) layout k) (fragment_at (plan_with bits spans items goals) layout k).slot
@@ -225,7 +225,7 @@ module _ (laws : LawsBelow) where
       unfolding image_of
       image-branch t some =
           let i = placed k lt in
-          let b = branched bits (wrapped bits (item_at items k).ip) i.bytes (item_at items k).instr t i.spelled some in (
+          let b = branched bits (modulo_width bits (item_at items k).ip) i.bytes (item_at items k).instr t i.spelled some in (
             b.0,
             b.1,
             image-is ∙ ap (λ (o : Option RelativeBranch). image_by bits (item_at items k).instr o (chosen (plan_with bits spans items goals) layout k).form (place (plan_with bits spans items goals) layout k)

@@ -10,7 +10,7 @@ use Rattle.branch_sizes.specs.Layout.{block_number, first_of_block, span_at, ima
 use Rattle.move_goals.specs.Items.{passes, first_below, first_passing}
 use Rattle.move_layout.specs.Laid.{slots_of, images_end, new_end}
 use Rattle.block_encoder.specs.Moved.{first_new_pass}
-use Rattle.block_encoder.specs.LawsBelow.{LawsBelow}
+use Rattle.block_encoder.specs.LawsBelow.{MovedLawsBelow}
 use Rattle.block_encoder.proofs.Places.{place-last, place-next, place-rises, place-is}
 
 -- ---- ends
@@ -32,7 +32,7 @@ width-most B16 = omega arith
 width-most B32 = omega arith
 width-most B64 = omega arith
 
-module _ (laws : LawsBelow) where
+module _ (laws : MovedLawsBelow) where
   pub end_within : (bits : Bits) (end : ℕ → ℕ) (n : ℕ) → first_passing bits end n ≡ None → (b : ℕ) → b < n → end b ≤ 2 ^ width bits
   end_within bits end n h b lt =
       let none = no_first end (first_below (λ b. passes bits (end b)) n) h in

@@ -3,7 +3,7 @@ use Rattle.std.proofs.Common.{◌≡◌, ℕ, ◌+◌, ◌<◌, ◌≤◌, List,
 use Rattle.std.specs.Prelude.{IsSome, unwrap_or}
 use Rattle.std.specs.List.{flat_map, range_with_len}
 use Rattle.x86_values.specs.declared.Bits.{Bits}
-use Rattle.x86_values.specs.Wrapping.{wrapped}
+use Rattle.x86_values.specs.Wrapping.{modulo_width}
 use Rattle.branch_sizes.specs.declared.plan.BlockSpan.{BlockSpan}
 use Rattle.branch_sizes.specs.declared.plan.Goal.{Goal}
 use Rattle.branch_sizes.specs.Layout.{IsLayout, first_of_block, span_at, image_length, place}
@@ -13,7 +13,7 @@ use Rattle.move_goals.specs.Plan.{plan_with}
 use Rattle.move_layout.specs.Laid.{fragment_at}
 use Rattle.block_encoder.specs.Bytes.{bytes_from, image_at, image_bytes, bytes_at, block_images}
 use Rattle.block_encoder.specs.Read.{image_instrs, IsReadAsImages}
-use Rattle.block_encoder.specs.LawsBelow.{LawsBelow}
+use Rattle.block_encoder.specs.LawsBelow.{MovedLawsBelow}
 use Rattle.block_encoder.proofs.Sweeping.{HaveFour, StandAt, spellings-length, spellings-sweep, images-joined, images-have_four}
 use Rattle.block_encoder.proofs.Pieces.{spelled-four, image-four}
 use Rattle.block_encoder.proofs.Places.{place_in, place-first, place-next, place-is, in_block-below}
@@ -23,7 +23,7 @@ some_or : (o : Option (List ℕ)) → IsSome o → o ≡ Some (unwrap_or o [])
 some_or None h = cc
 some_or (Some x) h = refl
 
-module _ (laws : LawsBelow) where
+module _ (laws : MovedLawsBelow) where
   module _ (bits : Bits) (items : List Placed) (spans : List BlockSpan) (goals : ℕ → Goal) (layout : List ℕ) (l : IsLayout (plan_with bits spans items goals) layout) where
     -- ---- one image
 
@@ -64,7 +64,7 @@ module _ (laws : LawsBelow) where
           let i = placed k (item-below k from below) in
           let fragment = fragment_at (plan_with bits spans items goals) layout k in
           image-four bits (item_at items k).instr fragment.form fragment.place fragment.goal fragment.slot
-          (spelled-four bits (wrapped bits (item_at items k).ip) i.bytes (item_at items k).instr i.spelled)
+          (spelled-four bits (modulo_width bits (item_at items k).ip) i.bytes (item_at items k).instr i.spelled)
 
       -- **the images of a block are read as their instructions**
       pub block-read : IsReadAsImages bits items (plan_with bits spans items goals) layout b

@@ -21,12 +21,12 @@ use Rattle.branch_forms.specs.Choices.{branch_forms, branch_choice, choices_by, 
 use Rattle.move_goals.specs.declared.items.Placed.{Placed}
 use Rattle.move_goals.specs.Items.{ArePlaced, item_at, one_span}
 use Rattle.move_goals.specs.Plan.{plan_with, kept_goal, kept_goals, plan_outside}
-use Rattle.move_layout.specs.Laid.{is_far, is_far_at, goal_value, goal_address, with_goal, has_number, far_goals, slots_of, next_eighth, images_end, new_end}
+use Rattle.move_layout.specs.Laid.{has_far_form, is_far_at, goal_value, goal_address, with_goal, has_number, far_goals, slots_of, next_eighth, images_end, new_end}
 use Rattle.block_encoder.specs.Bytes.{block_bytes, bytes_of_blocks}
 use Rattle.block_encoder.specs.Moved.{MovedLists}
 use Rattle.block_encoder.specs.ByPlan.{IsMovedBy}
 use Rattle.block_encoder.specs.Last.{last_number, last_choice, last_layout, last_len}
-use Rattle.block_encoder.specs.LawsBelow.{LawsBelow}
+use Rattle.block_encoder.specs.LawsBelow.{MovedLawsBelow}
 use Rattle.block_encoder.proofs.Chosen.{plan-count, plan-item, choice-is, choice-below}
 use Rattle.block_encoder.proofs.Standing.{block-length}
 
@@ -34,8 +34,8 @@ use Rattle.block_encoder.proofs.Standing.{block-length}
 
 -- where a form of a branch is far, its last one is
 forms-far : (bits : Bits) (action : Action) (short : Bool) (f : ℕ) → f < length (branch_forms bits action short)
-    → is_far (get_or (branch_forms bits action short) f Itself) ≡ true
-    → is_far (get_or (branch_forms bits action short) (length (branch_forms bits action short) - 1) Itself) ≡ true
+    → has_far_form (get_or (branch_forms bits action short) f Itself) ≡ true
+    → has_far_form (get_or (branch_forms bits action short) (length (branch_forms bits action short) - 1) Itself) ≡ true
 unfolding branch_forms
 forms-far B64 (Count n) short f lt far = refl
 forms-far B64 Jump true f lt far = refl
@@ -86,8 +86,8 @@ form-of : (bits : Bits) (i : Instr) (b : RelativeBranch) (f : ℕ) → f < lengt
     → (get_or (map (branch_choice bits i b) (branch_forms bits b.action b.is_short)) f no_choice).form ≡ get_or (branch_forms bits b.action b.is_short) f Itself
 form-of bits i b f lt = ap (λ (c : Choice). c.form) (get_or-map (branch_choice bits i b) (branch_forms bits b.action b.is_short) f Itself no_choice lt)
 
-far_by : (bits : Bits) (i : Instr) (o : Option RelativeBranch) (f : ℕ) → f < length (choices_by bits i o) → is_far (get_or (choices_by bits i o) f no_choice).form ≡ true
-    → is_far (get_or (choices_by bits i o) (length (choices_by bits i o) - 1) no_choice).form ≡ true
+far_by : (bits : Bits) (i : Instr) (o : Option RelativeBranch) (f : ℕ) → f < length (choices_by bits i o) → has_far_form (get_or (choices_by bits i o) f no_choice).form ≡ true
+    → has_far_form (get_or (choices_by bits i o) (length (choices_by bits i o) - 1) no_choice).form ≡ true
 far_by bits i None zero lt far = cc
 far_by bits i None (suc f) lt far = absurd (omega arith)
 far_by bits i (Some b) f lt far =
@@ -96,12 +96,12 @@ far_by bits i (Some b) f lt far =
     let below : f < length forms = omega (arith, lt, len) in
     let last : length (map (branch_choice bits i b) forms) - 1 < length forms = omega (arith, len, below) in
     let same : length forms - 1 ≡ length (map (branch_choice bits i b) forms) - 1 = omega (arith, len) in
-    ap is_far (form-of bits i b (length (map (branch_choice bits i b) forms) - 1) last)
-    ∙ subst (λ (n : ℕ). is_far (get_or forms n Itself) ≡ true) same
-    (forms-far bits b.action b.is_short f below (sym (ap is_far (form-of bits i b f below)) ∙ far))
+    ap has_far_form (form-of bits i b (length (map (branch_choice bits i b) forms) - 1) last)
+    ∙ subst (λ (n : ℕ). has_far_form (get_or forms n Itself) ≡ true) same
+    (forms-far bits b.action b.is_short f below (sym (ap has_far_form (form-of bits i b f below)) ∙ far))
 
-far-last : (bits : Bits) (i : Instr) (f : ℕ) → f < length (choices_of bits i) → is_far (get_or (choices_of bits i) f no_choice).form ≡ true
-    → is_far (last_choice bits i).form ≡ true
+far-last : (bits : Bits) (i : Instr) (f : ℕ) → f < length (choices_of bits i) → has_far_form (get_or (choices_of bits i) f no_choice).form ≡ true
+    → has_far_form (last_choice bits i).form ≡ true
 unfolding choices_of
 far-last bits i f lt far = far_by bits i (branch_of i) f lt far
 
@@ -185,7 +185,7 @@ one_block-bytes : (bits : Bits) (items : List Placed) (new_base : ℕ) (layout :
 unfolding plan_with
 one_block-bytes bits items new_base layout = append-nil (block_bytes bits items (plan_outside bits items new_base) layout 0)
 
-module _ (laws : LawsBelow) where
+module _ (laws : MovedLawsBelow) where
   module _ (bits : Bits) (items : List Placed) (new_base : ℕ) where
     -- the block of all items ends there
     pub one_end : (layout : List ℕ) → new_end (plan_outside bits items new_base) layout 0
@@ -250,7 +250,7 @@ module _ (laws : LawsBelow) where
     pub goals-next : (k : ℕ) → k < length items
         → far_goals (plan_outside bits items new_base) (last_layout (plan_outside bits items new_base)) 0 (k + 1)
         ≡ with_goal (far_goals (plan_outside bits items new_base) (last_layout (plan_outside bits items new_base)) 0 k)
-        (is_far (last_choice bits (item_at items k).instr).form) (unwrap_or (target_of (item_at items k).instr) 0)
+        (has_far_form (last_choice bits (item_at items k).instr).form) (unwrap_or (target_of (item_at items k).instr) 0)
     goals-next k lt =
         let p = plan_outside bits items new_base in
         let l = last_layout p in
@@ -258,8 +258,8 @@ module _ (laws : LawsBelow) where
         let step : far_goals p l 0 (k + 1) ≡ with_goal goals (is_far_at p l (0 + k)) (goal_address p l (0 + k)) = rw add-one refl in
         let here : with_goal goals (is_far_at p l (0 + k)) (goal_address p l (0 + k)) ≡ with_goal goals (is_far_at p l k) (goal_address p l k) =
         ap (λ (n : ℕ). with_goal goals (is_far_at p l n) (goal_address p l n)) (zero-add k) in
-        step ∙ (here ∙ (ap (λ (f : Bool). with_goal goals f (goal_address p l k)) (ap (λ (c : Choice). is_far c.form) (last-chosen k lt))
-        ∙ ap (with_goal goals (is_far (last_choice bits (item_at items k).instr).form)) (kept-address k lt l)))
+        step ∙ (here ∙ (ap (λ (f : Bool). with_goal goals f (goal_address p l k)) (ap (λ (c : Choice). has_far_form c.form) (last-chosen k lt))
+        ∙ ap (with_goal goals (has_far_form (last_choice bits (item_at items k).instr).form)) (kept-address k lt l)))
 
     module _ (placed : ArePlaced bits items) (few : length items ≤ 2) where
       fit : IsWellFormed (plan_outside bits items new_base)
@@ -328,9 +328,9 @@ module _ (laws : LawsBelow) where
         far-rises k lt far =
             let instr = (item_at items k).instr in
             let l = least.closed.is_layout in
-            ap (λ (c : Choice). is_far c.form) (last-chosen k lt)
+            ap (λ (c : Choice). has_far_form c.form) (last-chosen k lt)
             ∙ far-last bits instr (get_or layout k 0) (choice-below bits (one_span items new_base) items (kept_goals items) layout l k lt)
-            (sym (ap (λ (c : Choice). is_far c.form) (choice-is bits (one_span items new_base) items (kept_goals items) layout l k lt)) ∙ far)
+            (sym (ap (λ (c : Choice). has_far_form c.form) (choice-is bits (one_span items new_base) items (kept_goals items) layout l k lt)) ∙ far)
 
         images-rise : total (image_length (plan_outside bits items new_base) layout) (length items)
             ≤ total (image_length (plan_outside bits items new_base) (last_layout (plan_outside bits items new_base))) (length items)
@@ -409,7 +409,7 @@ module _ (laws : LawsBelow) where
         far-congr p q (last_layout p) (last_layout q) (length items)
         (λ k lt.
         let l : 0 + k < length items = omega arith in
-        ap (λ (c : Choice). is_far c.form) (last-chosen bits items to (0 + k) l ∙ sym (last-chosen bits items at (0 + k) l)))
+        ap (λ (c : Choice). has_far_form c.form) (last-chosen bits items to (0 + k) l ∙ sym (last-chosen bits items at (0 + k) l)))
         (λ k lt.
         let l : 0 + k < length items = omega arith in
         kept-address bits items to (0 + k) l (last_layout p) ∙ sym (kept-address bits items at (0 + k) l (last_layout q)))

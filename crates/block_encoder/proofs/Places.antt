@@ -5,7 +5,7 @@ use Rattle.branch_sizes.specs.declared.plan.BlockSpan.{BlockSpan}
 use Rattle.branch_sizes.specs.Plan.{BlockPlan}
 use Rattle.branch_sizes.specs.Layout.{total, first_of_block, span_at, image_length, place}
 use Rattle.move_layout.specs.Laid.{images_end}
-use Rattle.block_encoder.specs.LawsBelow.{LawsBelow}
+use Rattle.block_encoder.specs.LawsBelow.{MovedLawsBelow}
 
 module _ (p : BlockPlan) (layout : List ℕ) (b : ℕ) where
   -- the place of an item by its block; behind the last one the end of the images
@@ -20,7 +20,7 @@ module _ (p : BlockPlan) (layout : List ℕ) (b : ℕ) where
   unfolding place_in images_end
   place-last = refl
 
-module _ (laws : LawsBelow) where
+module _ (laws : MovedLawsBelow) where
   module _ (p : BlockPlan) (layout : List ℕ) (b : ℕ) where
     -- **the next item stands behind the image**
     pub place-next : (k : ℕ) → first_of_block p.spans b ≤ k → place_in p layout b (k + 1) ≡ place_in p layout b k + image_length p layout k

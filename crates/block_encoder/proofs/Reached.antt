@@ -3,7 +3,7 @@ use Rattle.std.proofs.Common.{◌≡◌, ℕ, ◌+◌, ◌^◌, ◌<◌, ◌≤�
 use Rattle.std.specs.Prelude.{IsSome, not, ◌&&◌}
 use Rattle.x86_values.specs.declared.Bits.{Bits}
 use Rattle.x86_values.specs.declared.Instr.{Instr}
-use Rattle.x86_values.specs.Wrapping.{width, wrapped}
+use Rattle.x86_values.specs.Wrapping.{width, modulo_width}
 use Rattle.branch_sizes.specs.declared.plan.BlockSpan.{BlockSpan}
 use Rattle.branch_sizes.specs.declared.plan.Form.{Form}
 use Rattle.branch_sizes.specs.declared.plan.Form.TheVariants.{Itself}
@@ -20,7 +20,7 @@ use Rattle.move_goals.specs.Plan.{plan_with, plan_for}
 use Rattle.move_layout.specs.Laid.{goal_value, goal_address, fragment_at}
 use Rattle.block_encoder.specs.Bytes.{bytes_from}
 use Rattle.block_encoder.specs.Moved.{fragment_reach, IsReached, first_new_pass}
-use Rattle.block_encoder.specs.LawsBelow.{LawsBelow}
+use Rattle.block_encoder.specs.LawsBelow.{MovedLawsBelow}
 use Rattle.block_encoder.proofs.Sweeping.{one_spelled}
 use Rattle.block_encoder.proofs.Inside.{width-most, image-within}
 use Rattle.block_encoder.proofs.Chosen.{plan-item, choice-is, choice-below, fragment-length, fragment-no_branch, fragment-place, fragment-image_length}
@@ -30,7 +30,7 @@ other_image : (bits : Bits) (i : Instr) (form : Form) (at goal slot : ℕ) → b
 unfolding image_of
 other_image bits i form at goal slot none = ap (λ (b : Option RelativeBranch). image_by bits i b form at goal slot) none
 
-module _ (laws : LawsBelow) where
+module _ (laws : MovedLawsBelow) where
   -- ---- goals
 
   module _ (bits : Bits) (items : List Placed) (spans : List BlockSpan) (s : AreSpansOf items spans) (placed : ArePlaced bits items)
@@ -39,7 +39,7 @@ module _ (laws : LawsBelow) where
     some_byte : (k : ℕ) → k < length items → 1 ≤ image_length (plan_for bits spans items) layout k
     some_byte k lt =
         let i = placed k lt in
-        let fit = laws.forms.spelled-fit bits (wrapped bits (item_at items k).ip) i.bytes (item_at items k).instr i.spelled in
+        let fit = laws.forms.spelled-fit bits (modulo_width bits (item_at items k).ip) i.bytes (item_at items k).instr i.spelled in
         let low = laws.lengths.length_at_least 1 (choices_of bits (item_at items k).instr) (get_or layout k 0) fit.2 (choice-below bits spans items (goal_at spans items) layout l k lt) in
         omega (arith, low, ap (λ c. c.len) (choice-is bits spans items (goal_at spans items) layout l k lt))
 
@@ -76,7 +76,7 @@ module _ (laws : LawsBelow) where
           let i = placed k lt in
           subst (λ b. goal_value (plan_for bits spans items) layout b.goal < 2 ^ 64) (sym (plan-item bits spans items (goal_at spans items) k lt))
           (by_target (target_of (item_at items k).instr)
-          (λ t e. laws.targets.target-below bits (wrapped bits (item_at items k).ip) i.bytes (item_at items k).instr t i.spelled e))
+          (λ t e. laws.targets.target-below bits (modulo_width bits (item_at items k).ip) i.bytes (item_at items k).instr t i.spelled e))
 
       fragment_goal : (fragment_at (plan_for bits spans items) layout k).goal ≡ goal_address (plan_for bits spans items) layout k
       unfolding fragment_at
@@ -90,7 +90,7 @@ module _ (laws : LawsBelow) where
           let fragment = fragment_at (plan_for bits spans items) layout k in
           let instr = (item_at items k).instr in
           let i = placed k lt in
-          let old = wrapped bits (item_at items k).ip in
+          let old = modulo_width bits (item_at items k).ip in
           let no_branch = fragment-no_branch bits spans items (goal_at spans items) layout l k lt own in
           let none = laws.forms.no_branch-no_near bits old i.bytes instr i.spelled no_branch in
           let len : fragment.len ≡ plain_length bits instr = fragment-length bits spans items (goal_at spans items) layout l k lt ∙ laws.forms.other-length bits instr fragment.form no_branch in

@@ -5,7 +5,7 @@ use Rattle.std.proofs.Math.Seq.{drop-append_seam}
 use Rattle.std.proofs.lemmas.List.{length-take-le}
 use Rattle.x86_values.specs.declared.Bits.{Bits}
 use Rattle.x86_values.specs.declared.Instr.{Instr}
-use Rattle.x86_values.specs.Wrapping.{wrapped}
+use Rattle.x86_values.specs.Wrapping.{modulo_width}
 use Rattle.instruction_parts.specs.Bytes.{bytes_of}
 use Rattle.row_relation.specs.Spells.{ReadsAs}
 use Rattle.plain_spelling.specs.PlainTail.{plain_spelling}
@@ -23,7 +23,7 @@ use Rattle.move_layout.specs.Laid.{fragment_at}
 use Rattle.block_encoder.specs.Bytes.{bytes_from, fragment_image, fragment_bytes}
 use Rattle.block_encoder.specs.Moved.{IsReached}
 use Rattle.block_encoder.specs.Read.{AreRead, IsReadToGoal}
-use Rattle.block_encoder.specs.LawsBelow.{LawsBelow}
+use Rattle.block_encoder.specs.LawsBelow.{MovedLawsBelow}
 use Rattle.block_encoder.proofs.Sweeping.{HaveFour, parted, cons-spelled}
 use Rattle.block_encoder.proofs.Pieces.{spelled-four, image-four}
 use Rattle.block_encoder.proofs.Chosen.{fragment-own}
@@ -45,7 +45,7 @@ no_bytes : (bits : Bits) (at : ℕ) → bytes_from bits at [] ≡ Some []
 unfolding bytes_from
 no_bytes bits at = refl
 
-module _ (laws : LawsBelow) where
+module _ (laws : MovedLawsBelow) where
   -- **plain spellings one behind another are read as their instructions**
   encoded-read : (bits : Bits) (at : ℕ) (is : List Instr) (all : List ℕ) → HaveFour is → bytes_from bits at is ≡ Some all → AreRead bits at all is
   encoded-read bits at [] all four h = none_left bits at all h
@@ -53,24 +53,24 @@ module _ (laws : LawsBelow) where
       let p = parted bits at i is all h in
       let plain = laws.encodings.encoded-plain bits at i p.bytes four.0 p.first in
       let len : length p.bytes ≡ plain_length bits i = laws.targets.encoding-length bits at i p.bytes p.first in
-      let reads : ReadsAs table bits (wrapped bits at) (p.bytes ++ p.rest) i (length p.bytes) =
-      laws.encodings.plain-reads bits (wrapped bits at) p.bytes p.rest i plain in
+      let reads : ReadsAs table bits (modulo_width bits at) (p.bytes ++ p.rest) i (length p.bytes) =
+      laws.encodings.plain-reads bits (modulo_width bits at) p.bytes p.rest i plain in
       let dropped : drop (length p.bytes) all ≡ p.rest = ap (drop (length p.bytes)) p.all_are ∙ drop-append_seam p.bytes p.rest in
       let more = encoded-read bits (at + length p.bytes) is p.rest four.1 p.others in (
-        subst (λ (n : ℕ). ReadsAs table bits (wrapped bits at) all i n) len
-            (subst (λ (bytes : List ℕ). ReadsAs table bits (wrapped bits at) bytes i (length p.bytes)) (sym p.all_are) reads),
+        subst (λ (n : ℕ). ReadsAs table bits (modulo_width bits at) all i n) len
+            (subst (λ (bytes : List ℕ). ReadsAs table bits (modulo_width bits at) bytes i (length p.bytes)) (sym p.all_are) reads),
         subst (λ (n : ℕ). AreRead bits (at + n) (drop n all) is) len
             (subst (λ (bytes : List ℕ). AreRead bits (at + length p.bytes) bytes is) (sym dropped) more),
       )
 
   -- what is read there, as long as its plain spelling, has an encoding there
-  read-one : (bits : Bits) (at : ℕ) (i : Instr) (bytes : List ℕ) → ReadsAs table bits (wrapped bits at) bytes i (plain_length bits i)
+  read-one : (bits : Bits) (at : ℕ) (i : Instr) (bytes : List ℕ) → ReadsAs table bits (modulo_width bits at) bytes i (plain_length bits i)
       → (plain : List ℕ) × (encoding bits at i ≡ Ok plain)
   read-one bits at i bytes (le, (short, (row, is_row, (s, e)))) =
       let n = plain_length bits i in
       let len = laws.targets.plain_length-row bits i row is_row in
       let taken : length (take n bytes) ≡ n = length-take-le n bytes le in (
-        bytes_of row (plain_spelling bits (wrapped bits at) row i),
+        bytes_of row (plain_spelling bits (modulo_width bits at) row i),
         laws.spelled.spelled-encoded bits at (take n bytes) i row s is_row e (omega (arith, len, taken)) short,
       )
 
@@ -98,7 +98,7 @@ module _ (laws : LawsBelow) where
         let fragment = fragment_at (plan_with bits spans items goals) layout k in
         let i = placed k lt in
         let instr = (item_at items k).instr in
-        let four = image-four bits instr fragment.form fragment.place fragment.goal fragment.slot (spelled-four bits (wrapped bits (item_at items k).ip) i.bytes instr i.spelled) in
+        let four = image-four bits instr fragment.form fragment.place fragment.goal fragment.slot (spelled-four bits (modulo_width bits (item_at items k).ip) i.bytes instr i.spelled) in
         let some = some-known (fragment_bytes bits instr fragment) reached.1 in
         record {
           bytes = some.0;
@@ -115,7 +115,7 @@ module _ (laws : LawsBelow) where
         let fragment = fragment_at (plan_with bits spans items goals) layout k in
         let i = placed k lt in
         let instr = (item_at items k).instr in
-        let b = branched laws bits (wrapped bits (item_at items k).ip) i.bytes instr t i.spelled branch in
+        let b = branched laws bits (modulo_width bits (item_at items k).ip) i.bytes instr t i.spelled branch in
         let own = fragment-own bits spans items goals layout l k lt b.0 b.1 in
         let found = read-encoded bits fragment.place (fragment_image bits instr fragment) there.bytes there.read in
         (branch_reach instr fragment.form fragment.reach fragment.len fragment.place fragment.goal own reaches, known-some (fragment_bytes bits instr fragment) found.0 found.1)

@@ -4,7 +4,7 @@ use Rattle.std.proofs.lemmas.Bool.{lt-ltb}
 use Rattle.x86_values.specs.declared.Bits.{Bits}
 use Rattle.x86_values.specs.declared.Bits.TheVariants.{B32, B64}
 use Rattle.x86_values.specs.declared.Instr.{Instr}
-use Rattle.x86_values.specs.Wrapping.{wrapped}
+use Rattle.x86_values.specs.Wrapping.{modulo_width}
 use Rattle.row_types.specs.declared.Row.{Row}
 use Rattle.row_types.specs.declared.Map.{Map}
 use Rattle.row_types.specs.declared.OpKind.TheVariants.{Jb, Jz}
@@ -22,7 +22,7 @@ use Rattle.encoder.specs.Encoding.{encoding}
 use Rattle.moved_targets.specs.Targets.{plain_length}
 use Rattle.branch_forms.specs.Images.{branch_to, through_slot}
 use Rattle.branch_forms.specs.Rows.{offset_row, memory_row}
-use Rattle.block_encoder.specs.LawsBelow.{LawsBelow}
+use Rattle.block_encoder.specs.LawsBelow.{MovedLawsBelow}
 
 only_first : (a b : Bool) → a ≡ true → b ≡ true → ((a && b) && (true && (true && true))) ≡ true
 only_first a b p q = rw (p, q) refl
@@ -122,48 +122,48 @@ through_slot-code : (code slot : ℕ) → (through_slot code slot).code.0 ≡ co
 unfolding through_slot
 through_slot-code code slot = refl
 
-module _ (laws : LawsBelow) where
-  row-encoded : (at : ℕ) (row : Row) (i : Instr) → slice_get table i.code.0 ≡ Some row → Suits B64 (wrapped B64 at) row i → plain_length B64 i ≤ 15 → IsEncoded at i
+module _ (laws : MovedLawsBelow) where
+  row-encoded : (at : ℕ) (row : Row) (i : Instr) → slice_get table i.code.0 ≡ Some row → Suits B64 (modulo_width B64 at) row i → plain_length B64 i ≤ 15 → IsEncoded at i
   row-encoded at row i there suits short =
       let l = laws.targets.plain_length-row B64 i row there in
-      (bytes_of row (plain_spelling B64 (wrapped B64 at) row i), laws.encodings.suits-encoded B64 at row i there suits (omega (arith, l, short)))
+      (bytes_of row (plain_spelling B64 (modulo_width B64 at) row i), laws.encodings.suits-encoded B64 at row i there suits (omega (arith, l, short)))
 
   -- the address behind the instruction
-  next_is : (at : ℕ) (row : Row) (i : Instr) → slice_get table i.code.0 ≡ Some row → plain_next B64 (wrapped B64 at) row i ≡ wrapped B64 (wrapped B64 at + plain_length B64 i)
+  next_is : (at : ℕ) (row : Row) (i : Instr) → slice_get table i.code.0 ≡ Some row → plain_next B64 (modulo_width B64 at) row i ≡ modulo_width B64 (modulo_width B64 at + plain_length B64 i)
   unfolding plain_next
-  next_is at row i there = ap (λ (n : ℕ). wrapped B64 (wrapped B64 at + n)) (sym (laws.targets.plain_length-row B64 i row there))
+  next_is at row i there = ap (λ (n : ℕ). modulo_width B64 (modulo_width B64 at + n)) (sym (laws.targets.plain_length-row B64 i row there))
 
   pub short-encoded : (map : Map) (counts : Bool) (opcode code : ℕ) (asize : Option Bits) (t at : ℕ) → slice_get table code ≡ Some (offset_row map opcode Jb (marks_of counts) B64)
       → address_size_suits B64 (offset_row map opcode Jb (marks_of counts) B64) (branch_to code asize t) ≡ true → plain_length B64 (branch_to code asize t) ≤ 15 → t < 2 ^ 64
-      → is_extended_of 1 64 (distance B64 (wrapped B64 (wrapped B64 at + plain_length B64 (branch_to code asize t))) t) ≡ true
+      → is_extended_of 1 64 (distance B64 (modulo_width B64 (modulo_width B64 at + plain_length B64 (branch_to code asize t))) t) ≡ true
       → IsEncoded at (branch_to code asize t)
   short-encoded map counts opcode code asize t at there sized short below near =
       let row = offset_row map opcode Jb (marks_of counts) B64 in
       let here = ap (slice_get table) (branch_to-code code asize t) ∙ there in
       row-encoded at row (branch_to code asize t) here
-      (short-suits map counts opcode code asize t (wrapped B64 at) sized below (ap (λ (n : ℕ). is_extended_of 1 64 (distance B64 n t)) (next_is at row (branch_to code asize t) here) ∙ near))
+      (short-suits map counts opcode code asize t (modulo_width B64 at) sized below (ap (λ (n : ℕ). is_extended_of 1 64 (distance B64 n t)) (next_is at row (branch_to code asize t) here) ∙ near))
       short
 
   pub near-encoded : (map : Map) (opcode code t at : ℕ) → slice_get table code ≡ Some (offset_row map opcode Jz 20 B64)
       → plain_length B64 (branch_to code None t) ≤ 15 → t < 2 ^ 64
-      → is_extended_of 4 64 (distance B64 (wrapped B64 (wrapped B64 at + plain_length B64 (branch_to code None t))) t) ≡ true
+      → is_extended_of 4 64 (distance B64 (modulo_width B64 (modulo_width B64 at + plain_length B64 (branch_to code None t))) t) ≡ true
       → IsEncoded at (branch_to code None t)
   near-encoded map opcode code t at there short below near =
       let row = offset_row map opcode Jz 20 B64 in
       let here = ap (slice_get table) (branch_to-code code None t) ∙ there in
       row-encoded at row (branch_to code None t) here
-      (near-suits map opcode code t (wrapped B64 at) below (ap (λ (n : ℕ). is_extended_of 4 64 (distance B64 n t)) (next_is at row (branch_to code None t) here) ∙ near))
+      (near-suits map opcode code t (modulo_width B64 at) below (ap (λ (n : ℕ). is_extended_of 4 64 (distance B64 n t)) (next_is at row (branch_to code None t) here) ∙ near))
       short
 
   -- ---- through a slot
 
   pub slot-encoded : (digit code slot at : ℕ) → slice_get table code ≡ Some (memory_row digit)
       → plain_length B64 (through_slot code slot) ≤ 15 → slot < 2 ^ 64
-      → is_extended_of 4 64 (distance B64 (wrapped B64 (wrapped B64 at + plain_length B64 (through_slot code slot))) slot) ≡ true
+      → is_extended_of 4 64 (distance B64 (modulo_width B64 (modulo_width B64 at + plain_length B64 (through_slot code slot))) slot) ≡ true
       → IsEncoded at (through_slot code slot)
   slot-encoded digit code slot at there short below near =
       let row = memory_row digit in
       let here = ap (slice_get table) (through_slot-code code slot) ∙ there in
       row-encoded at row (through_slot code slot) here
-      (slot-suits digit code slot (wrapped B64 at) below (ap (λ (n : ℕ). is_extended_of 4 64 (distance B64 n slot)) (next_is at row (through_slot code slot) here) ∙ near))
+      (slot-suits digit code slot (modulo_width B64 at) below (ap (λ (n : ℕ). is_extended_of 4 64 (distance B64 n slot)) (next_is at row (through_slot code slot) here) ∙ near))
       short

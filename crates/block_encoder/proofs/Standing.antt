@@ -17,7 +17,7 @@ use Rattle.move_layout.specs.Laid.{slots_of, images_end, slots_start, new_end, s
 use Rattle.move_layout.specs.Slots.{place_among}
 use Rattle.block_encoder.specs.Bytes.{image_bytes, bytes_at, block_images, gap_bytes, slot_bytes, block_bytes}
 use Rattle.block_encoder.specs.Aims.{StandsAtPlace, HasSlot}
-use Rattle.block_encoder.specs.LawsBelow.{LawsBelow}
+use Rattle.block_encoder.specs.LawsBelow.{MovedLawsBelow}
 use Rattle.block_encoder.proofs.Places.{place_in, place-first, place-last, place-next, place-rises, place-is, in_block-below}
 use Rattle.block_encoder.proofs.Joined.{bytes-length}
 
@@ -105,7 +105,7 @@ drop_both a b c n =
     let e : length a + length b + n ≡ length a + (length b + n) = omega arith in
     ap (λ (m : ℕ). drop m (a ++ (b ++ c))) e ∙ (drop-append-add a (b ++ c) (length b + n) ∙ drop-append-add b c n)
 
-module _ (laws : LawsBelow) where
+module _ (laws : MovedLawsBelow) where
   -- ---- a block
 
   module _ (bits : Bits) (items : List Placed) (spans : List BlockSpan) (goals : ℕ → Goal) (layout : List ℕ) (l : IsLayout (plan_with bits spans items goals) layout)

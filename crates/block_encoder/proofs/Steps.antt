@@ -20,7 +20,7 @@ use Rattle.block_encoder.specs.Moved.{MovedLists, IsFragmentReached, IsReached, 
 use Rattle.block_encoder.specs.ByPlan.{IsMovedBy, IsPlanAnswer}
 use Rattle.block_encoder.specs.Written.{IsItemWritten, IsFragmentOf, gap_behind, first_end_past}
 use Rattle.block_encoder.specs.Bytes.{slot_bytes}
-use Rattle.block_encoder.specs.LawsBelow.{LawsBelow}
+use Rattle.block_encoder.specs.LawsBelow.{MovedLawsBelow}
 use Rattle.block_encoder.proofs.Fragments.{end_fits, fragment_of, slots_below, slots_within, slots_part, same_pass}
 use Rattle.block_encoder.proofs.Writing.{AreWritten, item_stops, block_step, all_written}
 
@@ -51,7 +51,7 @@ fragment_goal_is : (p : BlockPlan) (layout : List ℕ) (k : ℕ) (fragment : Fra
 unfolding fragment_at
 fragment_goal_is p layout k fragment is = ap (λ (s : Fragment). s.goal) is
 
-module _ (laws : LawsBelow) where
+module _ (laws : MovedLawsBelow) where
   -- there are no more slots than items
   all_few : (p : BlockPlan) (layout : List ℕ) (b : ℕ) → length (all_slots p layout b) ≤ first_of_block p.spans b
   all_few p layout zero = omega arith

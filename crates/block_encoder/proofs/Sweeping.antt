@@ -5,7 +5,7 @@ use Rattle.std.specs.Prelude.{IsSome, is_some}
 use Rattle.std.proofs.Math.Seq.{take-append_seam, drop-append_seam}
 use Rattle.x86_values.specs.declared.Bits.{Bits}
 use Rattle.x86_values.specs.declared.Instr.{Instr}
-use Rattle.x86_values.specs.Wrapping.{wrapped}
+use Rattle.x86_values.specs.Wrapping.{modulo_width}
 use Rattle.row_types.specs.declared.Row.{Row}
 use Rattle.plain_spelling.specs.declared.NoSpelling.{NoSpelling}
 use Rattle.plain_spelling.specs.declared.NoSpelling.TheVariants as cause
@@ -15,7 +15,7 @@ use Rattle.encoder.specs.Encoding.{encoding}
 use Rattle.branch_forms.specs.Images.{pieces_length}
 use Rattle.block_encoder.specs.Bytes.{in_front, bytes_from}
 use Rattle.block_encoder.specs.Read.{read_item, read_items}
-use Rattle.block_encoder.specs.LawsBelow.{LawsBelow}
+use Rattle.block_encoder.specs.LawsBelow.{MovedLawsBelow}
 
 -- each of some instructions has four operands
 abbrev pub HaveFour : List Instr → Type 0
@@ -109,7 +109,7 @@ images-have_four image first (suc n) h =
     have_four-append (image first) (flat_map image (range_with_len (first + 1) n)) (h first (omega arith) (omega arith))
     (images-have_four image (first + 1) n (λ k a b. h k (omega arith) (omega arith)))
 
-module _ (laws : LawsBelow) where
+module _ (laws : MovedLawsBelow) where
   -- it has a byte
   some_bytes : (bits : Bits) (at : ℕ) (i : Instr) (bytes : List ℕ) → encoding bits at i ≡ Ok bytes → 0 < length bytes
   some_bytes bits at i bytes h = by_row (slice_get table i.code.0) refl
@@ -123,7 +123,7 @@ module _ (laws : LawsBelow) where
   unfolding IsReadAt
   spelled_item bits base offset i bytes rest four h = record {
     offset_is = refl;
-    reads = laws.encodings.plain-reads bits (wrapped bits (base + offset)) bytes rest i (laws.encodings.encoded-plain bits (base + offset) i bytes four h);
+    reads = laws.encodings.plain-reads bits (modulo_width bits (base + offset)) bytes rest i (laws.encodings.encoded-plain bits (base + offset) i bytes four h);
     within = omega (arith, length-append bytes rest);
     some = some_bytes bits (base + offset) i bytes h;
     bytes_are = sym (take-append_seam bytes rest);

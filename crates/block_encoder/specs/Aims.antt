@@ -2,7 +2,7 @@
 use Rattle.std.specs.Prelude.{◌≡◌, ℕ, ◌+◌, ◌-◌, ◌%◌, ◌<◌, ◌≤◌, true, false, List, [], ◌∷◌, None, Some, length, take, drop, slice_index_or}
 use Rattle.x86_values.specs.declared.Bits.{Bits}
 use Rattle.x86_values.specs.declared.Instr.{Instr}
-use Rattle.x86_values.specs.Wrapping.{wrapped}
+use Rattle.x86_values.specs.Wrapping.{modulo_width}
 use Rattle.plain_spelling.specs.Values.{low_bytes}
 use Rattle.operand_info.specs.Operands.{near_value, ip_value, first_value}
 use Rattle.branch_sizes.specs.Plan.{BlockPlan}
@@ -50,4 +50,4 @@ pub record GoesToGoal (bits : Bits) (items : List Placed) (p : BlockPlan) (layou
   pub slot : is_far_at p layout k ≡ true → HasSlot bits items p layout b (goal_address p layout k)
   pub over : (n : ℕ) → n + 1 < length (image_at bits items p layout k)
       → first_value near_value (slice_index_or (image_at bits items p layout k) n no_instr)
-      ≡ Some (wrapped bits (place p layout k + pieces_length bits (take (n + 2) (image_at bits items p layout k))))
+      ≡ Some (modulo_width bits (place p layout k + pieces_length bits (take (n + 2) (image_at bits items p layout k))))

@@ -2,7 +2,7 @@
 use Rattle.std.specs.Prelude.{◌≡◌, ◌⊎◌, ℕ, ◌+◌, ◌-◌, ◌*◌, ◌%◌, ◌^◌, ◌<◌, ◌≤◌, true, false, List, [], ◌∷◌, length, take, slice_get, slice_index_or, unwrap_or, Some, None, Ok}
 use Rattle.x86_values.specs.declared.Bits.{Bits}
 use Rattle.x86_values.specs.declared.Bits.TheVariants.{B64}
-use Rattle.x86_values.specs.Wrapping.{wrapped}
+use Rattle.x86_values.specs.Wrapping.{modulo_width}
 use Rattle.row_types.specs.declared.Map.{Map}
 use Rattle.row_types.specs.declared.OpKind.TheVariants.{Jz}
 use Rattle.plain_spelling.specs.Values.{is_extended_of, distance}
@@ -87,7 +87,7 @@ pub record MovedFacts : Type 0 where
   pub over : (bits : Bits) (items : List Placed) (spans : List BlockSpan) (goals : ℕ → Goal) (layout : List ℕ) (k n : ℕ)
       → n + 1 < length (image_at bits items (plan_with bits spans items goals) layout k)
       → first_value near_value (slice_index_or (image_at bits items (plan_with bits spans items goals) layout k) n no_instr)
-      ≡ Some (wrapped bits (place (plan_with bits spans items goals) layout k
+      ≡ Some (modulo_width bits (place (plan_with bits spans items goals) layout k
       + pieces_length bits (take (n + 2) (image_at bits items (plan_with bits spans items goals) layout k))))
 
 -- which items reach their goals in the least layout
@@ -113,7 +113,7 @@ pub record ReachFacts : Type 0 where
   -- a branch with an offset of 32 bits is encoded where that holds the distance
   pub near-encoded : (map : Map) (opcode code t at : ℕ) → slice_get table code ≡ Some (offset_row map opcode Jz 20 B64)
       → plain_length B64 (branch_to code None t) ≤ 15 → t < 2 ^ 64
-      → is_extended_of 4 64 (distance B64 (wrapped B64 (wrapped B64 at + plain_length B64 (branch_to code None t))) t) ≡ true
+      → is_extended_of 4 64 (distance B64 (modulo_width B64 (modulo_width B64 at + plain_length B64 (branch_to code None t))) t) ≡ true
       → (bytes : List ℕ) × (encoding B64 at (branch_to code None t) ≡ Ok bytes)
   -- a number of 64 bits that is a signed one of n bytes, of which half the range is h
   pub signed : (n h x : ℕ) → 2 ^ (8 * n) ≡ 2 * h → x < 2 ^ 64 → (x < h) ⊎ (2 ^ 64 ≤ x + h) → is_extended_of n 64 x ≡ true

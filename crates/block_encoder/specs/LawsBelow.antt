@@ -12,7 +12,7 @@ use Rattle.move_goals.specs.Facts.{FirstFacts, PlanFacts}
 use Rattle.move_layout.specs.Facts.{EndFacts, SlotFacts}
 
 -- the table, encodings, what is spelled, layouts, targets, forms and goals
-pub record LawsBelow : Type 0 where
+pub record MovedLawsBelow : Type 0 where
   -- what holds of each row of each part holds of each row of the table
   pub rows : (test : Row → Bool) → ((part : Part) → IsTrue (list_all test (part_table part)))
       → (code : ℕ) (row : Row) → slice_get table code ≡ Some row → IsTrue (test row)

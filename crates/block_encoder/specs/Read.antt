@@ -3,7 +3,7 @@ use Rattle.std.specs.Prelude.{◌≡◌, ℕ, ◌+◌, true, false, List, [], �
 use Rattle.std.specs.List.{flat_map, range_with_len}
 use Rattle.x86_values.specs.declared.Bits.{Bits}
 use Rattle.x86_values.specs.declared.Instr.{Instr}
-use Rattle.x86_values.specs.Wrapping.{wrapped}
+use Rattle.x86_values.specs.Wrapping.{modulo_width}
 use Rattle.row_relation.specs.Spells.{Read, ReadsAs}
 use Rattle.opcode_rows.specs.Table.{table}
 use Rattle.opcode_rows.specs.Sweep.{Item, IsSweep}
@@ -14,7 +14,7 @@ use Rattle.branch_sizes.specs.Layout.{first_of_block, span_at}
 use Rattle.moved_targets.specs.Targets.{plain_length}
 use Rattle.move_goals.specs.declared.items.Placed.{Placed}
 use Rattle.move_layout.specs.declared.layout.Fragment.{Fragment}
-use Rattle.move_layout.specs.Laid.{is_far}
+use Rattle.move_layout.specs.Laid.{has_far_form}
 use Rattle.block_encoder.specs.Bytes.{image_at, block_images, fragment_image}
 use Rattle.block_encoder.specs.Aims.{last_instr}
 
@@ -46,7 +46,7 @@ IsReadAsImages bits items p layout b =
 abbrev pub AreRead : Bits → ℕ → List ℕ → List Instr → Type 0
 AreRead bits at bytes [] = bytes ≡ []
 AreRead bits at bytes (i ∷ is) =
-    ReadsAs table bits (wrapped bits at) bytes i (plain_length bits i)
+    ReadsAs table bits (modulo_width bits at) bytes i (plain_length bits i)
     × AreRead bits (at + plain_length bits i) (drop (plain_length bits i) bytes) is
 
 -- reading the image of a relative branch at its place gives the goal: some bytes are read there as its instructions, of which the last one goes to the
@@ -54,5 +54,5 @@ AreRead bits at bytes (i ∷ is) =
 pub record IsReadToGoal (bits : Bits) (i : Instr) (fragment : Fragment) : Type 0 where
   pub bytes : List ℕ
   pub read : AreRead bits fragment.place bytes (fragment_image bits i fragment)
-  pub near : is_far fragment.form ≡ false → first_value near_value (last_instr (fragment_image bits i fragment)) ≡ Some fragment.goal
-  pub far : is_far fragment.form ≡ true → first_value ip_value (last_instr (fragment_image bits i fragment)) ≡ Some fragment.slot
+  pub near : has_far_form fragment.form ≡ false → first_value near_value (last_instr (fragment_image bits i fragment)) ≡ Some fragment.goal
+  pub far : has_far_form fragment.form ≡ true → first_value ip_value (last_instr (fragment_image bits i fragment)) ≡ Some fragment.slot

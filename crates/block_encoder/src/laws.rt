@@ -3,7 +3,7 @@
 ghost use Rattle.std.specs.Prelude.{◌≡◌, ◌↔◌, ◌<◌, ◌≤◌, ◌+◌, ℕ, true, false, List, [], ◌∷◌, None, Some, length, take, slice_index_or};
 ghost use Rattle.x86_values.specs.declared.Bits.{Bits};
 ghost use Rattle.x86_values.specs.declared.Bits.TheVariants.{B64};
-ghost use Rattle.x86_values.specs.Wrapping.{wrapped};
+ghost use Rattle.x86_values.specs.Wrapping.{modulo_width};
 ghost use Rattle.operand_info.specs.Operands.{near_value, ip_value, first_value};
 ghost use Rattle.branch_sizes.specs.declared.plan.BlockSpan.{BlockSpan};
 ghost use Rattle.branch_sizes.specs.declared.plan.Form.TheVariants.{Itself};
@@ -67,7 +67,7 @@ pub fn images_go_to_their_goals()
     ensures over { (bits : Bits) (items : List Placed) (spans : List BlockSpan) (goals : ℕ → Goal) (layout : List ℕ) (k n : ℕ)
         → n + 1 < length (image_at bits items (plan_with bits spans items goals) layout k)
         → first_value near_value (slice_index_or (image_at bits items (plan_with bits spans items goals) layout k) n no_instr)
-        ≡ Some (wrapped bits (place (plan_with bits spans items goals) layout k
+        ≡ Some (modulo_width bits (place (plan_with bits spans items goals) layout k
         + pieces_length bits (take (n + 2) (image_at bits items (plan_with bits spans items goals) layout k)))) }
 {
     laws_below();

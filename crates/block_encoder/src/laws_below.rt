@@ -1,11 +1,11 @@
 //! What the laws of the crates below say, for the proofs of this crate.
 
-ghost use Rattle.block_encoder.specs.LawsBelow.{LawsBelow};
+ghost use Rattle.block_encoder.specs.LawsBelow.{MovedLawsBelow};
 
 /// The laws of the crates below as one fact. It does nothing.
 #[inline]
 pub(crate) fn laws_below()
-    ensures { LawsBelow }
+    ensures { MovedLawsBelow }
 {
     opcode_rows::laws::rows_are_of_the_parts();
     encoder::laws::encodings_are_plain();

@@ -20,7 +20,7 @@ use Rattle.moved_targets.specs.Targets.{plain_length}
 use Rattle.branch_forms.specs.declared.branch.Action.{Action}
 use Rattle.branch_forms.specs.declared.branch.Action.TheVariants.{Jump, Call, Condition, Count}
 use Rattle.branch_forms.specs.declared.branch.RelativeBranch.{RelativeBranch}
-use Rattle.branch_forms.specs.LawsBelow.{LawsBelow}
+use Rattle.branch_forms.specs.LawsBelow.{FormLawsBelow}
 use Rattle.branch_forms.specs.Branches.{branch_of, is_pair, in_range, far_code, opposite_condition}
 use Rattle.branch_forms.specs.Images.{counter_size, short_branch, skip, bridge_jump, bridge_inner, through_slot, form_length}
 use Rattle.branch_forms.specs.Lengths.{size_byte, address_byte, offset_bytes}
@@ -190,7 +190,7 @@ abbrev pub AreFit : List Choice → Type 0
 AreFit cs =
     (0 < length cs) × (length cs ≤ 3) × IsTrue (lengths_rise_from 1 cs) × IsTrue (list_all (λ c. is_fit_reach c.reach) cs) × IsTrue (forms_differ cs)
 
-module _ (laws : LawsBelow) where
+module _ (laws : FormLawsBelow) where
   -- ---- the choices of a branch
 
   -- two forms in every mode and one more in 64-bit mode

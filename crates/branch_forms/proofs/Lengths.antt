@@ -3,7 +3,7 @@ use Rattle.std.proofs.Common.{◌≡◌, ℕ, ◌+◌, ap, sym, ◌∙◌, arith
 use Rattle.std.specs.Prelude.{Option, Some, None}
 use Rattle.x86_values.specs.declared.Bits.{Bits}
 use Rattle.x86_values.specs.declared.Instr.{Instr}
-use Rattle.x86_values.specs.Wrapping.{wrapped}
+use Rattle.x86_values.specs.Wrapping.{modulo_width}
 use Rattle.branch_sizes.specs.declared.plan.Form.{Form}
 use Rattle.branch_sizes.specs.declared.plan.Form.TheVariants.{Itself, Short, Near as NearForm, Far, Bridge, FarBridge}
 use Rattle.moved_targets.specs.Targets.{with_target, aimed_operand, aimed_base, plain_length}
@@ -11,7 +11,7 @@ use Rattle.branch_forms.specs.declared.branch.Action.{Action}
 use Rattle.branch_forms.specs.declared.branch.Action.TheVariants.{Jump, Call, Condition, Count}
 use Rattle.branch_forms.specs.declared.branch.RelativeBranch.{RelativeBranch}
 use Rattle.branch_forms.specs.Branches.{branch_of, short_code, near_code, far_code, opposite_condition}
-use Rattle.branch_forms.specs.LawsBelow.{LawsBelow}
+use Rattle.branch_forms.specs.LawsBelow.{FormLawsBelow}
 use Rattle.branch_forms.specs.Images.{branch_to, through_slot, counter_size, short_branch, skip, bridge_jump, bridge_inner, bridge, far_image, branch_image, image_by, image_of, pieces_length, form_length}
 
 -- the length of the far image of a branch
@@ -28,7 +28,7 @@ form_size bits i b Far = far_size bits b b.action
 form_size bits i b Bridge = bridge_inner bits b i.asize + plain_length bits (bridge_jump b 0)
 form_size bits i b FarBridge = bridge_inner bits b i.asize + plain_length bits (through_slot (far_code Jump) 0)
 
-module _ (laws : LawsBelow) where
+module _ (laws : FormLawsBelow) where
   -- ---- single instructions
 
   pub branch_to-length : (bits : Bits) (code : ℕ) (asize : Option Bits) (t : ℕ) → plain_length bits (branch_to code asize t) ≡ plain_length bits (branch_to code asize 0)
@@ -59,8 +59,8 @@ module _ (laws : LawsBelow) where
       let inner = plain_length bits (short_branch b asize 0) + plain_length bits (skip bits 0) in
       omega (
         arith,
-        short-length bits b asize (wrapped bits (place + inner)),
-        skip-length bits (wrapped bits (place + inner + plain_length bits last)),
+        short-length bits b asize (modulo_width bits (place + inner)),
+        skip-length bits (modulo_width bits (place + inner + plain_length bits last)),
       )
 
   far-length : (bits : Bits) (b : RelativeBranch) (place slot : ℕ) (action : Action) → pieces_length bits (far_image bits b place action slot) ≡ far_size bits b action
@@ -73,7 +73,7 @@ module _ (laws : LawsBelow) where
       omega (
         arith,
         slot-length bits (far_code Jump) slot,
-        branch_to-length bits over None (wrapped bits (place + plain_length bits (branch_to over None 0) + last)),
+        branch_to-length bits over None (modulo_width bits (place + plain_length bits (branch_to over None 0) + last)),
       )
   far-length bits b place slot (Count n) = omega (arith, slot-length bits (far_code (Count n)) slot)
 

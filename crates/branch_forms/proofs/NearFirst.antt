@@ -28,7 +28,7 @@ use Rattle.opcode_rows.specs.declared.spot.Part.TheVariants as part
 use Rattle.opcode_rows.specs.Table.{part_table, table}
 use Rattle.operand_info.specs.Operands.{near_value, first_value}
 use Rattle.branch_forms.specs.declared.branch.RelativeBranch.{RelativeBranch}
-use Rattle.branch_forms.specs.LawsBelow.{LawsBelow}
+use Rattle.branch_forms.specs.LawsBelow.{FormLawsBelow}
 use Rattle.branch_forms.specs.Branches.{size_of, short_action, near_action, branch_in, branch_of}
 
 -- ---- the table
@@ -68,7 +68,7 @@ each-first part.X87 = x87-first
 each-first part.Sse = sse-first
 each-first part.Vex = vex-first
 
-first-row : LawsBelow → (code : ℕ) (row : Row) → slice_get table code ≡ Some row → offset_first row ≡ true
+first-row : FormLawsBelow → (code : ℕ) (row : Row) → slice_get table code ≡ Some row → offset_first row ≡ true
 first-row laws code row at = laws.rows offset_first each-first code row at
 
 -- ---- operands
@@ -131,7 +131,7 @@ row-no_near row i kinds first none =
     (no_near-at row i 3 (and_parts (k 2) (k 3) k2).1 (not_true (is_offset_at row 3) (and_parts (o 2) (o 3) o1).1))
 
 -- **what is spelled and is no relative branch has no near target**
-pub no_branch-no_near : (laws : LawsBelow) (bits : Bits) (ip : ℕ) (bytes : List ℕ) (i : Instr) → Spells table bits ip bytes i → branch_of i ≡ None → first_value near_value i ≡ None
+pub no_branch-no_near : (laws : FormLawsBelow) (bits : Bits) (ip : ℕ) (bytes : List ℕ) (i : Instr) → Spells table bits ip bytes i → branch_of i ≡ None → first_value near_value i ≡ None
 no_branch-no_near laws bits ip bytes i (short, (row, at, (s, e))) h =
     let need = laws.spelled.spelled-suits bits ip bytes i row s at e in
     elim (by_branch i row (first_value near_value i) refl at h) [

@@ -17,7 +17,7 @@ use Rattle.opcode_rows.specs.declared.spot.Part.TheVariants as part
 use Rattle.opcode_rows.specs.Table.{part_table, table}
 use Rattle.operand_info.specs.Operands.{near_value, first_value}
 use Rattle.branch_forms.specs.declared.branch.RelativeBranch.{RelativeBranch}
-use Rattle.branch_forms.specs.LawsBelow.{LawsBelow}
+use Rattle.branch_forms.specs.LawsBelow.{FormLawsBelow}
 use Rattle.branch_forms.specs.Branches.{size_of, short_action, near_action, branch_in, branch_by, branch_of, is_pair, in_range}
 
 -- a row that exists in a mode has an operand size of it
@@ -91,7 +91,7 @@ unfolding branch_of
 branch-in-row i row b at h =
     ap branch_by (sym at) ∙ if-some (is_some (first_value near_value i)) (branch_by (slice_get table i.code.0)) b h
 
-module _ (laws : LawsBelow) where
+module _ (laws : FormLawsBelow) where
   fit-by : (i : Instr) (row : Row) (b : RelativeBranch) → slice_get table i.code.0 ≡ Some row → branch_of i ≡ Some b → (in_range b.action b.is_short && is_sized row b.size) ≡ true
   unfolding is_fit_row
   fit-by i row b at h = ap (is_fit_by row) (sym (branch-in-row i row b at h)) ∙ laws.rows is_fit_row each-fit i.code.0 row at

@@ -13,14 +13,14 @@ use Rattle.branch_forms.specs.declared.branch.Action.TheVariants.{Jump, Call, Co
 use Rattle.branch_forms.specs.declared.branch.RelativeBranch.{RelativeBranch}
 use Rattle.branch_forms.specs.Branches.{branch_of, in_range, short_code, near_code, far_code, opposite_condition}
 use Rattle.branch_forms.specs.Images.{branch_to, through_slot, counter_size, short_branch, skip, bridge_jump, bridge_inner, form_length}
-use Rattle.branch_forms.specs.LawsBelow.{LawsBelow}
+use Rattle.branch_forms.specs.LawsBelow.{FormLawsBelow}
 use Rattle.branch_forms.specs.Lengths.{near_bytes, short_bytes, slot_bytes}
 use Rattle.branch_forms.proofs.Lengths.{far_size, form_size, branch-length}
 use Rattle.branch_forms.proofs.Offsets.{row-of-branch, branch-range}
 use Rattle.branch_forms.proofs.Pieces.{short_jump-length, short_condition-length, short_count-length, near_jump-length, near_call-length, near_condition-length, slot_call-length, slot_jump-length, opposite_condition-small}
 
 -- a branch has one of the conditions and counters
-pub is-in-range : LawsBelow → (i : Instr) (b : RelativeBranch) → branch_of i ≡ Some b → in_range b.action b.is_short ≡ true
+pub is-in-range : FormLawsBelow → (i : Instr) (b : RelativeBranch) → branch_of i ≡ Some b → in_range b.action b.is_short ≡ true
 is-in-range laws i b h = let r = row-of-branch i b h in branch-range laws i r.0 b r.1 h
 
 -- ---- the codes that stand for others
@@ -119,6 +119,6 @@ pub short-told : (bits : Bits) (i : Instr) (b : RelativeBranch) (asize : Option 
 short-told bits i b asize n e is = is ∙ ap (λ x. short_bytes bits b.action b.size x) e
 
 -- a length that is that of a form
-pub sized : LawsBelow → (bits : Bits) (i : Instr) (b : RelativeBranch) (form given : Form) (n : ℕ) → branch_of i ≡ Some b → form ≡ given → n ≡ form_size bits i b given
+pub sized : FormLawsBelow → (bits : Bits) (i : Instr) (b : RelativeBranch) (form given : Form) (n : ℕ) → branch_of i ≡ Some b → form ≡ given → n ≡ form_size bits i b given
     → n ≡ form_length bits i form
 sized laws bits i b form given n h e s = s ∙ (ap (λ f. form_size bits i b f) (sym e) ∙ sym (branch-length laws bits i b form h))

@@ -9,7 +9,7 @@ use Rattle.x86_values.specs.declared.Operand.{Operand}
 use Rattle.x86_values.specs.declared.Operand.TheVariants.{Absent, Mem as Memory, Near}
 use Rattle.x86_values.specs.declared.Rep.TheVariants.{None as NoRep}
 use Rattle.x86_values.specs.declared.Instr.{Instr}
-use Rattle.x86_values.specs.Wrapping.{wrapped}
+use Rattle.x86_values.specs.Wrapping.{modulo_width}
 use Rattle.branch_sizes.specs.declared.plan.Form.{Form}
 use Rattle.branch_sizes.specs.declared.plan.Form.TheVariants.{Itself, Short, Near as NearForm, Far, Bridge, FarBridge}
 use Rattle.moved_targets.specs.Targets.{with_target, plain_length}
@@ -78,14 +78,14 @@ bridge_inner bits b asize = plain_length bits (short_branch b asize 0) + plain_l
 unfoldable pub bridge : Bits → RelativeBranch → Option Bits → ℕ → Instr → List Instr
 bridge bits b asize place last =
     let inner = bridge_inner bits b asize in
-    short_branch b asize (wrapped bits (place + inner)) ∷ skip bits (wrapped bits (place + inner + plain_length bits last)) ∷ last ∷ []
+    short_branch b asize (modulo_width bits (place + inner)) ∷ skip bits (modulo_width bits (place + inner + plain_length bits last)) ∷ last ∷ []
 
 -- a far branch goes through a slot; one on a condition goes over that on the other condition
 unfoldable pub far_image : Bits → RelativeBranch → ℕ → Action → ℕ → List Instr
 far_image bits b place (Condition n) slot =
     let last = through_slot (far_code Jump) slot in
     let over = short_code (Condition (opposite_condition n)) b.size in
-    branch_to over None (wrapped bits (place + plain_length bits (branch_to over None 0) + plain_length bits last)) ∷ last ∷ []
+    branch_to over None (modulo_width bits (place + plain_length bits (branch_to over None 0) + plain_length bits last)) ∷ last ∷ []
 far_image bits b place action slot = through_slot (far_code action) slot ∷ []
 
 -- the image of a relative branch in a form at a place, with its goal and the address of its slot

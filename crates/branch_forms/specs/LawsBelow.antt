@@ -8,7 +8,7 @@ use Rattle.encoder.specs.Facts.{SpelledFacts}
 use Rattle.moved_targets.specs.Facts.{TargetFacts}
 
 -- the table, what is spelled, and targets
-pub record LawsBelow : Type 0 where
+pub record FormLawsBelow : Type 0 where
   -- what holds of each row of each part holds of each row of the table
   pub rows : (test : Row → Bool) → ((part : Part) → IsTrue (list_all test (part_table part)))
       → (code : ℕ) (row : Row) → slice_get table code ≡ Some row → IsTrue (test row)

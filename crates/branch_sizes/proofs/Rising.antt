@@ -8,7 +8,7 @@ use Rattle.branch_sizes.specs.declared.plan.Choice.{Choice}
 use Rattle.branch_sizes.specs.declared.plan.Branch.{Branch}
 use Rattle.branch_sizes.specs.Plan.{BlockPlan, item_at, choices_at, no_choice, no_branch, lengths_rise_from, is_fit_branch, IsWellFormed}
 use Rattle.branch_sizes.specs.Layout.{IsLayout, AtMost, image_length, first_layout}
-use Rattle.branch_sizes.specs.Facts.{IsFit}
+use Rattle.branch_sizes.specs.Facts.{IsBranchFit}
 
 pub passes_at : {X : Type 0} (p : X → Bool) (xs : List X) (k : ℕ) (d : X) → list_all p xs ≡ true → k < length xs → p (get_or xs k d) ≡ true
 passes_at p [] k d h lt = absurd (omega arith)
@@ -46,7 +46,7 @@ length_rises low (c ∷ cs) (suc e) zero h le lt = absurd (omega arith)
 length_rises low (c ∷ cs) (suc e) (suc f) h le lt =
     length_rises c.len cs e f (rest_rises low c cs h).2 (omega arith) (omega arith)
 
-fit_branch : (count : ℕ) (b : Branch) → is_fit_branch count b ≡ true → IsFit count b
+fit_branch : (count : ℕ) (b : Branch) → is_fit_branch count b ≡ true → IsBranchFit count b
 fit_branch count b h =
     let u = and_parts _ _ h in
     let n = and_parts _ _ u.0 in
@@ -61,7 +61,7 @@ fit_branch count b h =
       differ = (and_parts _ _ x.1).1;
     }
 
-pub fit_item : (p : BlockPlan) → IsWellFormed p → (k : ℕ) → k < length p.items → IsFit (length p.items) (item_at p k)
+pub fit_item : (p : BlockPlan) → IsWellFormed p → (k : ℕ) → k < length p.items → IsBranchFit (length p.items) (item_at p k)
 fit_item p w k lt = fit_branch (length p.items) (item_at p k) (passes_at (is_fit_branch (length p.items)) p.items k no_branch w.fit lt)
 
 -- past the end there is no image

@@ -9,7 +9,7 @@ use Rattle.branch_sizes.specs.Plan.{BlockPlan, IsWellFormed, item_at, no_choice,
 use Rattle.branch_sizes.specs.Layout.{IsLayout, AtMost, total, block_number, first_of_block, span_at, image_length, forms_of}
 
 -- an item of a plan of so many
-pub record IsFit (count : ℕ) (b : Branch) : Type 0 where
+pub record IsBranchFit (count : ℕ) (b : Branch) : Type 0 where
   pub some : 0 < length b.choices.items
   pub few : length b.choices.items ≤ 3
   pub rises : lengths_rise_from 1 b.choices.items ≡ true
@@ -37,7 +37,7 @@ pub record BlockFacts : Type 0 where
 
 -- the lengths of images in a layout
 pub record LengthFacts : Type 0 where
-  pub fit_item : (p : BlockPlan) → IsWellFormed p → (k : ℕ) → k < length p.items → IsFit (length p.items) (item_at p k)
+  pub fit_item : (p : BlockPlan) → IsWellFormed p → (k : ℕ) → k < length p.items → IsBranchFit (length p.items) (item_at p k)
   -- an image has at most 15 bytes, and none is longer in a lower layout
   pub image_short : (p : BlockPlan) → IsWellFormed p → (layout : List ℕ) (k : ℕ) → image_length p layout k ≤ 15
   pub image_rises : (p : BlockPlan) → IsWellFormed p → (a c : List ℕ) → AtMost a c → IsLayout p c → (k : ℕ) → image_length p a k ≤ image_length p c k

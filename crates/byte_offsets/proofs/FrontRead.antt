@@ -5,7 +5,7 @@ use Rattle.std.proofs.lemmas.Bool.{lt-leb}
 use Rattle.std.proofs.lemmas.List.{length-take-le}
 use Rattle.x86_values.specs.declared.Bits.{Bits}
 use Rattle.x86_values.specs.declared.Decoded.{Decoded}
-use Rattle.x86_values.specs.Wrapping.{wrapped}
+use Rattle.x86_values.specs.Wrapping.{modulo_width}
 use Rattle.row_types.specs.declared.Row.{Row}
 use Rattle.instruction_parts.specs.declared.spelling.Spelling.{Spelling}
 use Rattle.instruction_parts.specs.declared.spelling.PrefixState.{PrefixState}
@@ -41,7 +41,7 @@ pub record ReadFrom (bits : Bits) (ip : ℕ) (bytes : List ℕ) (d : Decoded) : 
   pub row : Row
   pub row_is : slice_get table d.instr.code.0 ≡ Some row
   pub spelling : Spelling
-  pub spelled : IsSpelledBy bits (wrapped bits ip) (take d.len bytes) d.instr row spelling
+  pub spelled : IsSpelledBy bits (modulo_width bits ip) (take d.len bytes) d.instr row spelling
   pub bytes_are : bytes ≡ bytes_of row spelling ++ drop d.len bytes
   pub len_is : length (bytes_of row spelling) ≡ d.len
   pub short : length (bytes_of row spelling) ≤ 15

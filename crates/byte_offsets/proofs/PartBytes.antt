@@ -13,7 +13,7 @@ use Rattle.row_fit.specs.Fits.{Fits, kind_at, immediate_bytes, immediates_bytes,
 use Rattle.row_meaning.specs.Meaning.{immediates_before, own_immediate}
 use Rattle.byte_offsets.specs.declared.layout.Lengths.{Lengths}
 use Rattle.byte_offsets.specs.Offsets.{own_part, offsets_by, lengths_of, offsets_of}
-use Rattle.byte_offsets.specs.PartBytes.{no_part, bytes_at, HoldParts}
+use Rattle.byte_offsets.specs.PartBytes.{no_part, part_bytes, HoldParts}
 
 -- the bytes between others
 between : (bytes before own behind : List ℕ) (at len : ℕ) → bytes ≡ before ++ (own ++ behind) → at ≡ length before → len ≡ length own
@@ -89,13 +89,13 @@ module _ (bits : Bits) (row : Row) (s : Spelling) (bytes rest : List ℕ) (f : F
   abbrev size : Bits
   size = state_size bits row (state_of bits row s)
 
-  own-bytes : (n : ℕ) → n < 4 → bytes_at bytes (slice_index_or (offsets_of bits row s).immediates n no_part) ≡ own_immediate size row n s.imm.items
+  own-bytes : (n : ℕ) → n < 4 → part_bytes bytes (slice_index_or (offsets_of bits row s).immediates n no_part) ≡ own_immediate size row n s.imm.items
   unfolding own_immediate
   own-bytes n lt =
       let all = immediates-all bits row s f in
       let before = P ++ L ++ O ++ M ++ S ++ D in
       let at : length P + length L + 1 + length M + length S + length D ≡ length before = simp length-append refl in
-      ap (bytes_at bytes) (told-own (lengths_of row s) size row n lt)
+      ap (part_bytes bytes) (told-own (lengths_of row s) size row n lt)
       ∙ within bytes before I rest _ (immediates_before size row n) (immediate_bytes size (kind_at row n)) (whole ∙ simp append_assoc) at
       (omega (arith, all, immediates-inside size row n lt))
 

@@ -2,7 +2,7 @@
 use Rattle.std.specs.Prelude.{◌≡◌, ℕ, ◌+◌, List, [], ◌∷◌, length, take, Some, slice_get, Result, Ok, Err}
 use Rattle.x86_values.specs.declared.Bits.{Bits}
 use Rattle.x86_values.specs.declared.Decoded.{Decoded}
-use Rattle.x86_values.specs.Wrapping.{wrapped}
+use Rattle.x86_values.specs.Wrapping.{modulo_width}
 use Rattle.row_types.specs.declared.Row.{Row}
 use Rattle.instruction_parts.specs.declared.spelling.Spelling.{Spelling}
 use Rattle.instruction_parts.specs.Bytes.{lead_bytes, modrm_bytes, sib_bytes, state_of}
@@ -67,7 +67,7 @@ pub record AreOffsets (bits : Bits) (ip : ℕ) (bytes : List ℕ) (offsets : Byt
   pub row : Row
   pub row_is : slice_get table decoded.instr.code.0 ≡ Some row
   pub spelling : Spelling
-  pub spelled : IsSpelledBy bits (wrapped bits ip) (take decoded.len bytes) decoded.instr row spelling
+  pub spelled : IsSpelledBy bits (modulo_width bits ip) (take decoded.len bytes) decoded.instr row spelling
   pub offsets_are : offsets ≡ offsets_of bits row spelling
   pub len_is : offsets.len ≡ decoded.len
   pub hold : HoldParts bits row spelling bytes offsets

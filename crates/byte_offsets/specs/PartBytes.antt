@@ -14,17 +14,17 @@ abbrev pub no_part : Part
 no_part = record { at = 0; len = 0 }
 
 -- the bytes of a part of some bytes
-abbrev pub bytes_at : List ℕ → Part → List ℕ
-bytes_at bytes p = take p.len (drop p.at bytes)
+abbrev pub part_bytes : List ℕ → Part → List ℕ
+part_bytes bytes p = take p.len (drop p.at bytes)
 
 -- Each part that is told has the bytes of that part of the spelling: prefixes with REX, VEX or escape bytes, the opcode byte, ModRM, SIB, the
 -- displacement, and of each operand the bytes that its immediate is read from, the lowest first (2.1, figure 2-1)
 pub record HoldParts (bits : Bits) (row : Row) (s : Spelling) (bytes : List ℕ) (offsets : ByteOffsets) : Type 0 where
-  pub prefixes : bytes_at bytes offsets.prefixes ≡ s.prefixes.items
-  pub lead : bytes_at bytes offsets.lead ≡ lead_bytes row.map s.vex
-  pub opcode : bytes_at bytes offsets.opcode ≡ s.opcode ∷ []
-  pub modrm : bytes_at bytes offsets.modrm ≡ modrm_bytes s.modrm
-  pub sib : bytes_at bytes offsets.sib ≡ sib_bytes s.sib
-  pub displacement : bytes_at bytes offsets.displacement ≡ s.disp.items
-  pub immediates : (n : ℕ) → n < 4 → bytes_at bytes (slice_index_or offsets.immediates n no_part)
+  pub prefixes : part_bytes bytes offsets.prefixes ≡ s.prefixes.items
+  pub lead : part_bytes bytes offsets.lead ≡ lead_bytes row.map s.vex
+  pub opcode : part_bytes bytes offsets.opcode ≡ s.opcode ∷ []
+  pub modrm : part_bytes bytes offsets.modrm ≡ modrm_bytes s.modrm
+  pub sib : part_bytes bytes offsets.sib ≡ sib_bytes s.sib
+  pub displacement : part_bytes bytes offsets.displacement ≡ s.disp.items
+  pub immediates : (n : ℕ) → n < 4 → part_bytes bytes (slice_index_or offsets.immediates n no_part)
       ≡ own_immediate (state_size bits row (state_of bits row s)) row n s.imm.items

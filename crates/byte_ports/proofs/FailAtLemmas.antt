@@ -2,7 +2,7 @@
 use Rattle.std.proofs.Common.{◌≡◌, ℕ, ◌+◌, ◌<◌, ◌≤◌, List, [], ◌∷◌, Bool, true, false, ◌&&◌, ◌||◌, ◌==◌, nat_lt, nat_le, if◌then◌else◌, Result, arith, min, inl, inr, refl}
 use Rattle.std.specs.List.{list_any}
 use Rattle.std.proofs.lemmas.Bool.Decides.{nat_tests}
-use Rattle.byte_ports.specs.Ports.{last_count, counted, Rose, HasCause}
+use Rattle.byte_ports.specs.Ports.{last_count, next_count, Rose, HasCause}
 use Rattle.byte_ports.specs.FailAt.{fails_next, listed_so_far, faults_with}
 
 -- one number counts for later calls too
@@ -42,17 +42,17 @@ fails_next-lt : (calls : List ℕ) (made : ℕ) → fails_next calls made ≡ tr
 unfolding fails_next
 fails_next-lt calls made h = grind (arith, nat_tests)
 
-counted-next : (made : ℕ) → made < last_count → counted made ≡ made + 1
+counted-next : (made : ℕ) → made < last_count → next_count made ≡ made + 1
 counted-next made h = omega arith
 
 counted-ge : (calls : List ℕ) (made : ℕ) → made ≤ last_count →
-    listed_so_far calls made ≤ listed_so_far calls (counted made)
+    listed_so_far calls made ≤ listed_so_far calls (next_count made)
 counted-ge calls made h = at (nat_lt made last_count) refl
   where
-    at : (b : Bool) → nat_lt made last_count ≡ b → listed_so_far calls made ≤ listed_so_far calls (counted made)
+    at : (b : Bool) → nat_lt made last_count ≡ b → listed_so_far calls made ≤ listed_so_far calls (next_count made)
     at true e = let lt : made < last_count = grind (arith, nat_tests) in rw (counted-next made lt) (listed-le calls made)
     at false e =
-        let same : counted made ≡ made = grind (arith, nat_tests) in
+        let same : next_count made ≡ made = grind (arith, nat_tests) in
         rw same (omega arith)
 
 -- a count that rose has risen as far as a counter goes
@@ -72,7 +72,7 @@ carried before now own own' r le = elim r [
 
 -- at a listed call the count of faults rises
 pub listed_call_counts : {T E : Type 0} (inner : ℕ) (calls : List ℕ) (made made' : ℕ) (result : Result T E) →
-    made' ≡ counted made → fails_next calls made ≡ true →
+    made' ≡ next_count made → fails_next calls made ≡ true →
     HasCause (faults_with inner calls made) (faults_with inner calls made') result
 unfolding faults_with
 listed_call_counts inner calls made made' result e h =
@@ -83,7 +83,7 @@ listed_call_counts inner calls made made' result e h =
 
 -- at any other call the inner port's faults are counted
 pub inner_call_counts : {T E : Type 0} (before now : ℕ) (calls : List ℕ) (made made' : ℕ) (result : Result T E) →
-    made' ≡ counted made → made ≤ made' → HasCause before now result →
+    made' ≡ next_count made → made ≤ made' → HasCause before now result →
     HasCause (faults_with before calls made) (faults_with now calls made') result
 unfolding faults_with
 inner_call_counts before now calls made made' result e rises cause =
@@ -92,5 +92,5 @@ inner_call_counts before now calls made made' result e rises cause =
     let later = cause.later in
     rw e record {
       later = omega arith;
-      failed = λ err. carried before now (listed_so_far calls made) (listed_so_far calls (counted made)) (cause.failed err) more;
+      failed = λ err. carried before now (listed_so_far calls made) (listed_so_far calls (next_count made)) (cause.failed err) more;
     }

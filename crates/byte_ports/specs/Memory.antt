@@ -1,7 +1,7 @@
 -- What the ports in memory answer to each call, and what they are after it.
 use Rattle.std.specs.Prelude.{◌≡◌, ◌<◌, ◌+◌, ◌-◌, ◌%◌, ◌^◌, ℕ, List, ◌++◌, length, take, drop, min, sum, Result, Ok, Err}
 use Rattle.byte_ports.specs.declared.failed.Failed.{Failed}
-use Rattle.byte_ports.specs.Ports.{counted}
+use Rattle.byte_ports.specs.Ports.{next_count}
 
 -- what a sink in memory holds: its bytes, how many more it has room for, and how often it failed
 pub record Held : Type 0 where
@@ -25,7 +25,7 @@ PutsWithinRoom old piece (Ok n) new =
 PutsWithinRoom old piece (Err _) new =
     (0 < length piece)
     × (old.free ≡ 0)
-    × (new ≡ record { bytes = old.bytes; free = old.free; faults = counted old.faults })
+    × (new ≡ record { bytes = old.bytes; free = old.free; faults = next_count old.faults })
 
 -- what a sink that only counts knows: the number of the bytes and their sum, each modulo 2^64
 pub record Counts : Type 0 where

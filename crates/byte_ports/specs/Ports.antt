@@ -6,8 +6,8 @@ unfoldable pub last_count : ℕ
 last_count = 2 ^ 64 - 1
 
 -- one more, but never past the last value
-abbrev pub counted : ℕ → ℕ
-counted n = min (n + 1) last_count
+abbrev pub next_count : ℕ → ℕ
+next_count n = min (n + 1) last_count
 
 -- a count of faults rose in a call: it is higher than before, or stands at its last value as the call ends
 abbrev pub Rose : ℕ → ℕ → Type 0

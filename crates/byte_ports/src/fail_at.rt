@@ -1,6 +1,6 @@
 // A port that fails at listed calls.
 ghost use Rattle.std.specs.Prelude.{◌≡◌, ◌≤◌, Err, MatchBool};
-ghost use Rattle.byte_ports.specs.Ports.{counted};
+ghost use Rattle.byte_ports.specs.Ports.{next_count};
 ghost use Rattle.byte_ports.specs.FailAt.{fails_next, faults_with};
 
 use crate::failed::Failed;
@@ -45,7 +45,7 @@ impl<P> FailAt<P> {
 #[tactic(auto, unfolding(crate::specs::FailAt::fails_next, crate::specs::Ports::last_count))]
 fn is_next_listed(calls: &[u64], made: &mut u64) -> bool
     ensures answer { result ≡ fails_next calls.now made.old }
-    ensures counted { made.new ≡ counted made.old }
+    ensures counted { made.new ≡ next_count made.old }
     ensures later { made.old ≤ made.new }
 {
     if *made == u64::MAX {
@@ -63,7 +63,7 @@ impl<S: Source> Source for FailAt<S> {
     ghost pull_gives = { λ f buffer result g filled. MatchBool (fails_next f.calls.items f.made)
         ((result ≡ Err record {}) × (g.inner ≡ f.inner) × (filled ≡ buffer))
         (S.pull_gives f.inner buffer result g.inner filled)
-        × (g.calls.items ≡ f.calls.items) × (g.made ≡ counted f.made) };
+        × (g.calls.items ≡ f.calls.items) × (g.made ≡ next_count f.made) };
 
     fn pull(&mut self, into: &mut [u8]) -> Result<usize, Failed> {
         if is_next_listed(&self.calls, &mut self.made) {
@@ -81,7 +81,7 @@ impl<K: Sink> Sink for FailAt<K> {
     ghost put_gives = { λ f piece result g. MatchBool (fails_next f.calls.items f.made)
         ((result ≡ Err record {}) × (g.inner ≡ f.inner))
         (K.put_gives f.inner piece result g.inner)
-        × (g.calls.items ≡ f.calls.items) × (g.made ≡ counted f.made) };
+        × (g.calls.items ≡ f.calls.items) × (g.made ≡ next_count f.made) };
 
     fn put(&mut self, piece: &[u8]) -> Result<usize, Failed> {
         if is_next_listed(&self.calls, &mut self.made) {

@@ -4,7 +4,7 @@ use Rattle.std.specs.Prelude.{map, IsTrue, Err}
 use Rattle.std.proofs.lemmas.List.{map-append, drop_all}
 use Rattle.x86_values.specs.declared.Bits.{Bits}
 use Rattle.x86_values.specs.declared.Decoded.{Decoded}
-use Rattle.x86_values.specs.Wrapping.{wrapped}
+use Rattle.x86_values.specs.Wrapping.{modulo_width}
 use Rattle.row_relation.specs.Spells.{Read, Spells, IsReading}
 use Rattle.opcode_rows.specs.Table.{table}
 use Rattle.opcode_rows.specs.Reading.{IsRead}
@@ -19,7 +19,7 @@ use Rattle.code_items.proofs.Formed.{formed-more}
 
 -- a number that is wrapped twice is wrapped once
 abbrev pub WrapsOnce : Type 0
-WrapsOnce = (bits : Bits) (x : ℕ) → wrapped bits (wrapped bits x) ≡ wrapped bits x
+WrapsOnce = (bits : Bits) (x : ℕ) → modulo_width bits (modulo_width bits x) ≡ modulo_width bits x
 
 -- ---- one more instruction
 
@@ -51,7 +51,7 @@ so_far-start bits base bytes kept none =
     }
 
 pub so_far-step : WrapsOnce → (bits : Bits) (base : ℕ) (bytes : List ℕ) (at address : ℕ) (kept kept' : List Placed) (d : Decoded) (p : Placed) →
-    ReadSoFar bits base bytes at kept → address ≡ wrapped bits (base + at) → kept' ≡ kept ++ p ∷ [] →
+    ReadSoFar bits base bytes at kept → address ≡ modulo_width bits (base + at) → kept' ≡ kept ++ p ∷ [] →
     p ≡ record { ip = address; len = d.len; instr = d.instr } → 0 < d.len → d.len ≤ 15 → d.len ≤ length (drop at bytes) →
     IsRead bits address (drop at bytes) (Read d) → IsTrue (is_well_formed d.instr) → ReadSoFar bits base bytes (at + d.len) kept'
 so_far-step once bits base bytes at address kept kept' d p far there more_are is some few inside reads formed =
@@ -62,7 +62,7 @@ so_far-step once bits base bytes at address kept kept' d p far there more_are is
       some = omega arith;
       few = few;
       within = inside;
-      reads = (reads.0, subst S (ap (wrapped bits) there ∙ once bits (base + at)) reads.1);
+      reads = (reads.0, subst S (ap (modulo_width bits) there ∙ once bits (base + at)) reads.1);
     } in
     let more = one_more bits base bytes far.items (base + at) (drop at bytes) item far.reads first in
     let behind : base + at + d.len ≡ base + (at + d.len) = omega arith in
@@ -98,7 +98,7 @@ so_far-all bits base bytes at kept far over =
 
 -- no instruction is read behind those that were
 pub so_far-stops : WrapsOnce → (bits : Bits) (base : ℕ) (bytes : List ℕ) (at address : ℕ) (kept : List Placed) (e : DecodeError) →
-    ReadSoFar bits base bytes at kept → address ≡ wrapped bits (base + at) → at < length bytes → IsRead bits address (drop at bytes) (reading_of (Err e)) →
+    ReadSoFar bits base bytes at kept → address ≡ modulo_width bits (base + at) → at < length bytes → IsRead bits address (drop at bytes) (reading_of (Err e)) →
     StopsAt bits base bytes at e
 so_far-stops once bits base bytes at address kept e far there more reads =
     let R : ℕ → Type 0 = λ n. IsReading table bits n (drop at bytes) (reading_of (Err e)) in
@@ -107,7 +107,7 @@ so_far-stops once bits base bytes at address kept e far there more reads =
       rest = drop at bytes;
       before = far.reads;
       some = omega (arith, length-drop at bytes);
-      reads = subst R (ap (wrapped bits) there ∙ once bits (base + at)) reads;
+      reads = subst R (ap (modulo_width bits) there ∙ once bits (base + at)) reads;
     }
 
 -- ---- each is well placed
@@ -117,7 +117,7 @@ pub are_placed : WrapsOnce → (bits : Bits) (ip : ℕ) (bytes : List ℕ) (item
 are_placed once bits ip bytes [] ip' rest h k lt = absurd (omega arith)
 are_placed once bits ip bytes (p ∷ ps) ip' rest h zero lt =
     let S : ℕ → Type 0 = λ n. Spells table bits n (take p.len bytes) p.instr in
-    let e : wrapped bits (wrapped bits p.ip) ≡ wrapped bits ip = once bits p.ip ∙ ap (wrapped bits) h.0.address in
+    let e : modulo_width bits (modulo_width bits p.ip) ≡ modulo_width bits ip = once bits p.ip ∙ ap (modulo_width bits) h.0.address in
     record {
       some = h.0.some;
       few = h.0.few;

@@ -2,7 +2,7 @@
 use Rattle.std.specs.Prelude.{◌≡◌, ℕ, ◌+◌, ◌<◌, ◌≤◌, ◌==◌, if◌then◌else◌, List, [], ◌∷◌, length, drop, map, Option, Some, None, Err}
 use Rattle.x86_values.specs.declared.Bits.{Bits}
 use Rattle.x86_values.specs.declared.Decoded.{Decoded}
-use Rattle.x86_values.specs.Wrapping.{wrapped}
+use Rattle.x86_values.specs.Wrapping.{modulo_width}
 use Rattle.row_relation.specs.Spells.{Read}
 use Rattle.opcode_rows.specs.Reading.{IsRead}
 use Rattle.decoder.specs.declared.DecodeError.{DecodeError}
@@ -46,7 +46,7 @@ pub record StopsAt (bits : Bits) (ip : ℕ) (bytes : List ℕ) (at : ℕ) (e : D
 
 -- an item with its address in the mode
 abbrev pub wrapped_item : Bits → Placed → Placed
-wrapped_item bits p = record p { ip = wrapped bits p.ip }
+wrapped_item bits p = record p { ip = modulo_width bits p.ip }
 
 -- the list has all instructions of the code, with their addresses in the mode
 pub record HasItems (bits : Bits) (ip : ℕ) (bytes : List ℕ) (list : ItemList) : Type 0 where

@@ -5,7 +5,7 @@ use Rattle.code_region.specs.declared.commands.Command.TheVariants.{Fill}
 use Rattle.code_region.specs.declared.commands.Reply.TheVariants.{Filled, NotLive, TooLong}
 use Rattle.code_region.specs.declared.refusals.FillError.TheVariants.{NotLive as NotLiveError, TooLong as TooLongError}
 use Rattle.code_region.specs.State.{LiveBlock, RegionState, len_of, live_block}
-use Rattle.code_region.specs.Filling.{can_fill, fill_answer, filled}
+use Rattle.code_region.specs.Filling.{can_fill, fill_answer, after_fill}
 use Rattle.code_region.specs.Running.{reply_of, after}
 
 some_len : (found : Option LiveBlock) (limit : ℕ) → option_map len_of found ≡ Some limit → (block : LiveBlock) × (found ≡ Some block) × (block.len ≡ limit)
@@ -55,7 +55,7 @@ reply-filled state place byte count limit e fits =
     rw (block.1, block.2, le-leb count limit fits) refl
 
 pub after-filled : (state : RegionState) (place byte count limit : ℕ) → option_map len_of (live_block state place) ≡ Some limit → count ≤ limit →
-    filled state place (replicate count byte) ≡ after state (Fill place byte count)
+    after_fill state place (replicate count byte) ≡ after state (Fill place byte count)
 unfolding after can_fill
 after-filled state place byte count limit e fits =
     let block = some_len (live_block state place) limit e in

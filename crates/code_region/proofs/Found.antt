@@ -5,10 +5,10 @@ use Rattle.std.proofs.lemmas.List.{length-replicate, get_or_read}
 use Rattle.std.proofs.lemmas.List.Edits.{length-remove}
 use Rattle.code_region.specs.declared.gaps.Span.{Span}
 use Rattle.code_region.specs.State.{LiveBlock, RegionState, int3, len_of, live_block}
-use Rattle.code_region.specs.Releasing.{release_of, release_answer, released}
-use Rattle.code_region.specs.Filling.{holds, can_fill, filled}
-use Rattle.code_region.specs.Keeping.{AreApart, IsQuietAround, block_of, state_of, IsKept, overwritten}
-use Rattle.code_region.specs.Searching.{span_at, nowhere, IsAt, IsNowhere}
+use Rattle.code_region.specs.Releasing.{release_of, release_answer, after_release}
+use Rattle.code_region.specs.Filling.{block_holds, can_fill, after_fill}
+use Rattle.code_region.specs.Keeping.{AreApart, IsQuietAround, block_of, region_state_of, IsKept, overwritten}
+use Rattle.code_region.specs.Searching.{gap_span_at, nowhere, IsAt, IsNowhere}
 use Rattle.code_region.proofs.Apart.{AreApart-at, AreApart-raise}
 use Rattle.code_region.proofs.Views.{find-view, find-nowhere}
 use Rattle.code_region.proofs.Overwrites.{length-overwritten}
@@ -31,15 +31,15 @@ nowhere-same base place spans spans' e none = let P : List Span → Type 0 = λ 
 
 -- the live block at an address
 pub live_block-at : (base max_blocks capacity : ℕ) (bytes : List ℕ) (spans : List Span) (state : RegionState) (place index : ℕ) →
-    state_of base max_blocks bytes spans ≡ state → IsKept base max_blocks bytes spans capacity → IsAt base place spans index →
-    live_block state place ≡ Some (block_of base bytes (span_at spans index))
+    region_state_of base max_blocks bytes spans ≡ state → IsKept base max_blocks bytes spans capacity → IsAt base place spans index →
+    live_block state place ≡ Some (block_of base bytes (gap_span_at spans index))
 unfolding live_block
 live_block-at base max_blocks capacity bytes spans state place index e kept at =
-    let P : RegionState → Type 0 = λ s. live_block s place ≡ Some (block_of base bytes (span_at spans index)) in
+    let P : RegionState → Type 0 = λ s. live_block s place ≡ Some (block_of base bytes (gap_span_at spans index)) in
     subst P e (find-view base place 0 (length bytes) bytes spans index kept.apart at.inside at.starts)
 
 pub live_block-nowhere : (base max_blocks : ℕ) (bytes : List ℕ) (spans : List Span) (state : RegionState) (place : ℕ) →
-    state_of base max_blocks bytes spans ≡ state → IsNowhere base place spans → live_block state place ≡ None
+    region_state_of base max_blocks bytes spans ≡ state → IsNowhere base place spans → live_block state place ≡ None
 unfolding live_block
 live_block-nowhere base max_blocks bytes spans state place e none =
     let P : RegionState → Type 0 = λ s. live_block s place ≡ None in
@@ -58,10 +58,10 @@ abbrev with_live : ℕ → ℕ → ℕ → List LiveBlock → RegionState
 with_live base max_blocks size live = record { base = base; size = size; max_blocks = max_blocks; live = live }
 
 pub released-nowhere : (base max_blocks : ℕ) (bytes : List ℕ) (spans : List Span) (state : RegionState) (place : ℕ) →
-    state_of base max_blocks bytes spans ≡ state → IsNowhere base place spans → state ≡ released state place
-unfolding released
+    region_state_of base max_blocks bytes spans ≡ state → IsNowhere base place spans → state ≡ after_release state place
+unfolding after_release
 released-nowhere base max_blocks bytes spans state place e none =
-    let P : RegionState → Type 0 = λ s. s ≡ released s place in
+    let P : RegionState → Type 0 = λ s. s ≡ after_release s place in
     subst P e (ap (with_live base max_blocks (length bytes)) (sym (filter-nowhere base place bytes spans none)))
 
 pub answer-nowhere : (state : RegionState) (place : ℕ) → live_block state place ≡ None → Err (record { place = place }) ≡ release_answer state place
@@ -83,31 +83,31 @@ found-inside base max_blocks capacity place index bytes spans span kept at read 
 -- what a release leaves
 removes : (base max_blocks capacity place index : ℕ) (bytes : List ℕ) (spans : List Span) → IsKept base max_blocks bytes spans capacity →
     IsAt base place spans index →
-    Removes base place (span_at spans index).start bytes (replicate (span_at spans index).len int3) 0 (length bytes) spans index
+    Removes base place (gap_span_at spans index).start bytes (replicate (gap_span_at spans index).len int3) 0 (length bytes) spans index
 removes base max_blocks capacity place index bytes spans kept at =
-    span-remove base place (span_at spans index).start bytes (replicate (span_at spans index).len int3) 0 (length bytes) spans index (omega arith)
+    span-remove base place (gap_span_at spans index).start bytes (replicate (gap_span_at spans index).len int3) 0 (length bytes) spans index (omega arith)
     kept.apart kept.quiet at.inside at.starts refl refl
 
 -- a region without one of its stretches, whose bytes are INT3
 pub record IsWithout (base max_blocks capacity place : ℕ) (bytes : List ℕ) (spans : List Span) (index : ℕ) (state : RegionState) : Type 0 where
-  pub kept : IsKept base max_blocks (overwritten bytes (span_at spans index).start (replicate (span_at spans index).len int3)) (remove spans index) capacity
-  pub view : state_of base max_blocks (overwritten bytes (span_at spans index).start (replicate (span_at spans index).len int3)) (remove spans index) ≡ released state place
+  pub kept : IsKept base max_blocks (overwritten bytes (gap_span_at spans index).start (replicate (gap_span_at spans index).len int3)) (remove spans index) capacity
+  pub view : region_state_of base max_blocks (overwritten bytes (gap_span_at spans index).start (replicate (gap_span_at spans index).len int3)) (remove spans index) ≡ after_release state place
 
 pub without-found : (base max_blocks capacity place index : ℕ) (bytes : List ℕ) (spans : List Span) (state : RegionState) →
-    state_of base max_blocks bytes spans ≡ state → IsKept base max_blocks bytes spans capacity → IsAt base place spans index →
+    region_state_of base max_blocks bytes spans ≡ state → IsKept base max_blocks bytes spans capacity → IsAt base place spans index →
     IsWithout base max_blocks capacity place bytes spans index state
-unfolding released
+unfolding after_release
 without-found base max_blocks capacity place index bytes spans state e kept at =
-    let start = (span_at spans index).start in
-    let xs = replicate (span_at spans index).len int3 in
+    let start = (gap_span_at spans index).start in
+    let xs = replicate (gap_span_at spans index).len int3 in
     let here = AreApart-at 0 (length bytes) spans index kept.apart at.inside in
-    let n : length xs ≡ (span_at spans index).len = length-replicate (span_at spans index).len int3 in
+    let n : length xs ≡ (gap_span_at spans index).len = length-replicate (gap_span_at spans index).len int3 in
     let l = length-overwritten bytes start xs (omega arith) in
     let left = removes base max_blocks capacity place index bytes spans kept at in
     let m = length-remove spans index at.inside in
     let A : ℕ → Type 0 = λ limit. AreApart 0 limit (remove spans index) in
     let Q : ℕ → Type 0 = λ limit. IsQuietAround (overwritten bytes start xs) 0 limit (remove spans index) in
-    let P : RegionState → Type 0 = λ s. state_of base max_blocks (overwritten bytes start xs) (remove spans index) ≡ released s place in
+    let P : RegionState → Type 0 = λ s. region_state_of base max_blocks (overwritten bytes start xs) (remove spans index) ≡ after_release s place in
     record {
       kept = record {
         small = rw l kept.small;
@@ -124,13 +124,13 @@ without-found base max_blocks capacity place index bytes spans state e kept at =
 pub without-same : (base max_blocks capacity more place index : ℕ) (bytes bytes' : List ℕ) (spans spans' : List Span) (state : RegionState) (span : Span) →
     IsWithout base max_blocks capacity place bytes spans index state → index < length spans → span ≡ get_or spans index span →
     bytes' ≡ overwritten bytes span.start (replicate span.len int3) → spans' ≡ remove spans index → capacity ≤ more →
-    IsKept base max_blocks bytes' spans' more × (state_of base max_blocks bytes' spans' ≡ released state place)
+    IsKept base max_blocks bytes' spans' more × (region_state_of base max_blocks bytes' spans' ≡ after_release state place)
 without-same base max_blocks capacity more place index bytes bytes' spans spans' state span without h read b s grows =
     let at = get_or_read spans index span h read nowhere in
-    let here : bytes' ≡ overwritten bytes (span_at spans index).start (replicate (span_at spans index).len int3) =
+    let here : bytes' ≡ overwritten bytes (gap_span_at spans index).start (replicate (gap_span_at spans index).len int3) =
     b ∙ ap (λ (x : Span). overwritten bytes x.start (replicate x.len int3)) at in
     let K : List ℕ → Type 0 = λ xs. IsKept base max_blocks xs spans' more in
-    let L : List Span → Type 0 = λ xs. IsKept base max_blocks (overwritten bytes (span_at spans index).start (replicate (span_at spans index).len int3)) xs more in
+    let L : List Span → Type 0 = λ xs. IsKept base max_blocks (overwritten bytes (gap_span_at spans index).start (replicate (gap_span_at spans index).len int3)) xs more in
     let k = without.kept in (
       subst K (sym here) (subst L (sym s) (record {
         small = k.small;
@@ -140,8 +140,8 @@ without-same base max_blocks capacity more place index bytes bytes' spans spans'
         few = k.few;
         roomy = (let r = k.roomy in omega arith);
       })),
-      ap (λ xs. state_of base max_blocks xs spans') here ∙
-          ap (λ xs. state_of base max_blocks (overwritten bytes (span_at spans index).start (replicate (span_at spans index).len int3)) xs) s ∙ without.view,
+      ap (λ xs. region_state_of base max_blocks xs spans') here ∙
+          ap (λ xs. region_state_of base max_blocks (overwritten bytes (gap_span_at spans index).start (replicate (gap_span_at spans index).len int3)) xs) s ∙ without.view,
     )
 
 -- what a fill needs
@@ -149,18 +149,18 @@ pub can_fill-some : (state : RegionState) (place count : ℕ) (block : LiveBlock
     IsTrue (can_fill state place count) → count ≤ block.len
 unfolding can_fill
 can_fill-some state place count block e h =
-    let P : Option LiveBlock → Type 0 = λ found. IsTrue (holds found count) in
+    let P : Option LiveBlock → Type 0 = λ found. IsTrue (block_holds found count) in
     leb-true count block.len (subst P e h)
 
 pub can_fill-none : (state : RegionState) (place count : ℕ) → live_block state place ≡ None → IsTrue (can_fill state place count) → ⊥
 unfolding can_fill
 can_fill-none state place count e h =
-    let P : Option LiveBlock → Type 0 = λ found. IsTrue (holds found count) in
+    let P : Option LiveBlock → Type 0 = λ found. IsTrue (block_holds found count) in
     let no : false ≡ true = subst P e h in cc
 
 -- what fits the live block fits the stretch that was found
 pub fits-found : (base max_blocks capacity place index count : ℕ) (bytes : List ℕ) (spans : List Span) (state : RegionState) (span : Span) →
-    state_of base max_blocks bytes spans ≡ state → IsKept base max_blocks bytes spans capacity → IsAt base place spans index →
+    region_state_of base max_blocks bytes spans ≡ state → IsKept base max_blocks bytes spans capacity → IsAt base place spans index →
     span ≡ get_or spans index span → IsTrue (can_fill state place count) → count ≤ span.len
 fits-found base max_blocks capacity place index count bytes spans state span e kept at read h =
     let P : Span → Type 0 = λ x. count ≤ x.len in
@@ -169,11 +169,11 @@ fits-found base max_blocks capacity place index count bytes spans state span e k
 
 -- what a fill leaves
 refilled-found : (base max_blocks capacity place index : ℕ) (bytes bytes' content : List ℕ) (spans : List Span) (state : RegionState) (span : Span) →
-    state_of base max_blocks bytes spans ≡ state → IsKept base max_blocks bytes spans capacity → IsAt base place spans index →
+    region_state_of base max_blocks bytes spans ≡ state → IsKept base max_blocks bytes spans capacity → IsAt base place spans index →
     span ≡ get_or spans index span → IsTrue (can_fill state place (length content)) →
     bytes' ≡ overwritten bytes span.start (content ++ replicate (span.len - length content) int3) →
-    IsKept base max_blocks bytes' spans capacity × (state_of base max_blocks bytes' spans ≡ filled state place content)
-unfolding filled
+    IsKept base max_blocks bytes' spans capacity × (region_state_of base max_blocks bytes' spans ≡ after_fill state place content)
+unfolding after_fill
 refilled-found base max_blocks capacity place index bytes bytes' content spans state span e kept at read can b =
     let fits = fits-found base max_blocks capacity place index (length content) bytes spans state span e kept at read can in
     let same = get_or_read spans index span at.inside read nowhere in
@@ -184,15 +184,15 @@ refilled-found base max_blocks capacity place index bytes bytes' content spans s
     let n : length xs ≡ span.len = omega (arith, length-append content rest) in
     let l = ap length b ∙ length-overwritten bytes span.start xs (omega arith) in
     let S : Span → Type 0 = λ x. Refills base place x.start bytes content (content ++ replicate (x.len - length content) int3) 0 (length bytes) spans in
-    let there : length (content ++ replicate ((span_at spans index).len - length content) int3) ≡ (span_at spans index).len =
+    let there : length (content ++ replicate ((gap_span_at spans index).len - length content) int3) ≡ (gap_span_at spans index).len =
     (let T : Span → Type 0 = λ x. length (content ++ replicate (x.len - length content) int3) ≡ x.len in subst T same n) in
-    let left = subst S (sym same) (span-refill base place (span_at spans index).start bytes content
-    (content ++ replicate ((span_at spans index).len - length content) int3) 0 (length bytes) spans index (omega arith)
+    let left = subst S (sym same) (span-refill base place (gap_span_at spans index).start bytes content
+    (content ++ replicate ((gap_span_at spans index).len - length content) int3) 0 (length bytes) spans index (omega arith)
     kept.apart kept.quiet at.inside at.starts refl there refl) in
     let A : ℕ → Type 0 = λ limit. AreApart 0 limit spans in
     let Q : ℕ → Type 0 = λ limit. IsQuietAround bytes' 0 limit spans in
     let B : List ℕ → Type 0 = λ ys. IsQuietAround ys 0 (length bytes) spans in
-    let P : RegionState → Type 0 = λ s. state_of base max_blocks bytes' spans ≡ filled s place content in (
+    let P : RegionState → Type 0 = λ s. region_state_of base max_blocks bytes' spans ≡ after_fill s place content in (
       record {
         small = rw l kept.small;
         inside = rw l kept.inside;
@@ -208,17 +208,17 @@ refilled-found base max_blocks capacity place index bytes bytes' content spans s
 
 -- the same, where bytes and stretches are equal
 pub refilled-same : (base max_blocks capacity place index : ℕ) (bytes old new bytes' content : List ℕ) (spans spans' : List Span) (state : RegionState) (span : Span) →
-    state_of base max_blocks bytes spans ≡ state → IsKept base max_blocks bytes spans capacity → spans' ≡ spans → IsAt base place spans' index →
+    region_state_of base max_blocks bytes spans ≡ state → IsKept base max_blocks bytes spans capacity → spans' ≡ spans → IsAt base place spans' index →
     span ≡ get_or spans index span → IsTrue (can_fill state place (length content)) → old ≡ bytes →
     new ≡ overwritten old span.start (content ++ replicate (span.len - length content) int3) → bytes' ≡ new →
-    IsKept base max_blocks bytes' spans capacity × (state_of base max_blocks bytes' spans ≡ filled state place content)
+    IsKept base max_blocks bytes' spans capacity × (region_state_of base max_blocks bytes' spans ≡ after_fill state place content)
 refilled-same base max_blocks capacity place index bytes old new bytes' content spans spans' state span e kept s at read can o n b =
     refilled-found base max_blocks capacity place index bytes bytes' content spans state span e kept (at-same base place spans' spans index s at) read can
     (b ∙ n ∙ ap (λ xs. overwritten xs span.start (content ++ replicate (span.len - length content) int3)) o)
 
 -- the length of the stretch that was found
 pub len-found : (base max_blocks capacity place index : ℕ) (bytes : List ℕ) (spans : List Span) (state : RegionState) (span : Span) →
-    state_of base max_blocks bytes spans ≡ state → IsKept base max_blocks bytes spans capacity → IsAt base place spans index →
+    region_state_of base max_blocks bytes spans ≡ state → IsKept base max_blocks bytes spans capacity → IsAt base place spans index →
     span ≡ get_or spans index span → Some span.len ≡ option_map len_of (live_block state place)
 len-found base max_blocks capacity place index bytes spans state span e kept at read =
     ap (λ (x : Span). Some x.len) (get_or_read spans index span at.inside read nowhere) ∙

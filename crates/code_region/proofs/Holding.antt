@@ -4,7 +4,7 @@ use Rattle.std.specs.Prelude.{All}
 use Rattle.std.proofs.lemmas.Bool.{cases_lt}
 use Rattle.std.proofs.lemmas.List.{length-replicate, get_or-replicate, get_or_append_left, get_or-append_right}
 use Rattle.std.proofs.Math.Seq.{take-append_seam, drop-append-add}
-use Rattle.code_region.specs.State.{LiveBlock, RegionState, int3, image_between, image_of}
+use Rattle.code_region.specs.State.{LiveBlock, RegionState, int3, image_between, region_image}
 use Rattle.code_region.specs.Keeping.{AreLaid, IsSound}
 use Rattle.code_region.specs.Laws.{HoldsContents}
 use Rattle.code_region.proofs.Sound.{AreLaid-le}
@@ -71,8 +71,8 @@ quiet-at from limit (block ∷ live) k laid h free =
     ]
 
 -- **each live block has its content at its place, and every other byte is INT3**
-pub sound-holds : (state : RegionState) → IsSound state → HoldsContents state (image_of state)
-unfolding image_of
+pub sound-holds : (state : RegionState) → IsSound state → HoldsContents state (region_image state)
+unfolding region_image
 sound-holds state sound = record {
   contents = λ k d h. content-at state.base (state.base + state.size) state.live k d sound h;
   elsewhere = λ k h free. quiet-at state.base (state.base + state.size) state.live k sound (omega arith) free;

@@ -6,7 +6,7 @@ use Rattle.std.proofs.lemmas.List.Edits.{length-insert, length-remove}
 use Rattle.code_region.specs.declared.gaps.Span.{Span}
 use Rattle.code_region.specs.Gaps.{gaps_between, first_gap, longest}
 use Rattle.code_region.specs.Keeping.{AreApart, AreJoined, IsTight}
-use Rattle.code_region.specs.Searching.{end_from, span_at, nowhere}
+use Rattle.code_region.specs.Searching.{end_from, gap_span_at, nowhere}
 
 -- a search may begin behind the joined stretches
 pub record Starts (from limit needed packed : ℕ) (spans : List Span) : Type 0 where
@@ -41,11 +41,11 @@ joined-take from (suc n) (span ∷ spans) joined = (joined.0, joined-take (span.
 
 -- the next stretch has no gap before it
 pub joined-more : (from limit index : ℕ) (spans : List Span) → AreJoined 0 (take index spans) → index < length spans → end_from 0 (take index spans) ≡ from →
-    from ≤ (span_at spans index).start → (span_at spans index).start - from ≡ 0 → AreJoined 0 (take (index + 1) spans)
+    from ≤ (gap_span_at spans index).start → (gap_span_at spans index).start - from ≡ 0 → AreJoined 0 (take (index + 1) spans)
 joined-more from limit index spans joined h front above none =
     let P : List Span → Type 0 = λ xs. AreJoined 0 xs in
-    let e : (span_at spans index).start ≡ end_from 0 (take index spans) = omega arith in
-    subst P (sym (take_more spans index nowhere h)) (joined-push 0 (take index spans) (span_at spans index) joined e)
+    let e : (gap_span_at spans index).start ≡ end_from 0 (take index spans) = omega arith in
+    subst P (sym (take_more spans index nowhere h)) (joined-push 0 (take index spans) (gap_span_at spans index) joined e)
 
 -- how many are joined with one more stretch
 pub tight-insert : (packed index largest start result : ℕ) (spans : List Span) (span : Span) → IsTight packed spans → packed ≤ index → index ≤ length spans →

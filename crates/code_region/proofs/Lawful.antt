@@ -1,9 +1,9 @@
 -- The laws over whole runs, from soundness.
 use Rattle.std.proofs.Common.{◌≡◌, ℕ, zero, suc, ◌+◌, ◌≤◌, ◌<◌, List, [], ◌∷◌, length, get_or, filter, find, not, arith, ◌∙◌, ap, subst, refl, Some, Ok, nat_eq, nat_lt, inl, inr}
 use Rattle.std.proofs.lemmas.Bool.{cases_Bool, eq-eqb}
-use Rattle.code_region.specs.State.{LiveBlock, RegionState, rounded, live_block, image_of}
-use Rattle.code_region.specs.Placing.{place_answer, with_block, unfilled, placed_as, placed}
-use Rattle.code_region.specs.Releasing.{release_of, release_answer, released}
+use Rattle.code_region.specs.State.{LiveBlock, RegionState, len_in_units, live_block, region_image}
+use Rattle.code_region.specs.Placing.{place_answer, with_block, unfilled_block, placed_as, after_place}
+use Rattle.code_region.specs.Releasing.{release_of, release_answer, after_release}
 use Rattle.code_region.specs.Keeping.{AreLaid, IsSound}
 use Rattle.code_region.specs.Laws.{AreInside, AreDisjoint, Restores}
 use Rattle.code_region.proofs.Sound.{AreLaid-le, answer-fits}
@@ -59,19 +59,19 @@ filter-with_block block place (other ∷ live) e =
     ]
 
 pub sound-restores : (state : RegionState) (len place : ℕ) → IsSound state → place_answer state len ≡ Ok place → Restores state len place
-unfolding placed released release_answer live_block
+unfolding after_place after_release release_answer live_block
 sound-restores state len place sound e =
     let fits = answer-fits state len place sound e in
-    let block = unfilled place (rounded len) in
+    let block = unfilled_block place (len_in_units len) in
     let found = find-with_block block place state.live refl in
     let with_live : List LiveBlock → RegionState = λ live. record state { live = live } in
     let P : ℕ → Type 0 = λ p. filter (λ b. not (nat_eq b.place p)) state.live ≡ state.live in
     let fresh = subst P fits.2 fits.1.fresh in
-    let back : released (placed state len) place ≡ state =
-    ap (λ a. released (placed_as a state len) place) e ∙ ap with_live (filter-with_block block place state.live refl ∙ fresh) in
+    let back : after_release (after_place state len) place ≡ state =
+    ap (λ a. after_release (placed_as a state len) place) e ∙ ap with_live (filter-with_block block place state.live refl ∙ fresh) in
     record {
       succeeds = ap (λ a. release_answer (placed_as a state len) place) e ∙ ap (λ f. release_of f place) found.1;
       blocks = back;
-      bytes = ap image_of back;
+      bytes = ap region_image back;
       again = ap (λ s. place_answer s len) back ∙ e;
     }

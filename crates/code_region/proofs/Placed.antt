@@ -8,16 +8,16 @@ use Rattle.code_region.specs.declared.gaps.Span.{Span}
 use Rattle.code_region.specs.declared.refusals.PlaceError.{PlaceError}
 use Rattle.code_region.specs.declared.refusals.PlaceError.TheVariants.{Empty, TooManyBlocks, Full}
 use Rattle.code_region.specs.Gaps.{gaps_between, first_gap, longest}
-use Rattle.code_region.specs.State.{LiveBlock, RegionState, rounded}
-use Rattle.code_region.specs.Placing.{front_of, place_answer, placed_as, placed, unfilled, with_block}
-use Rattle.code_region.specs.Keeping.{block_of, state_of, IsKept}
-use Rattle.code_region.specs.Searching.{IsFit, IsFull}
+use Rattle.code_region.specs.State.{LiveBlock, RegionState, len_in_units}
+use Rattle.code_region.specs.Placing.{place_in_gap, place_answer, placed_as, after_place, unfilled_block, with_block}
+use Rattle.code_region.specs.Keeping.{block_of, region_state_of, IsKept}
+use Rattle.code_region.specs.Searching.{IsGapFit, IsFull}
 use Rattle.code_region.proofs.Views.{moved, gaps_of-view, first_gap-moved, longest-moved, quiet-replicate}
 use Rattle.code_region.proofs.Inserting.{Inserts, gap-insert}
 
 -- a refusal changes nothing
-pub placed-refused : (state : RegionState) (len : ℕ) (refusal : PlaceError) → Err refusal ≡ place_answer state len → state ≡ placed state len
-unfolding placed
+pub placed-refused : (state : RegionState) (len : ℕ) (refusal : PlaceError) → Err refusal ≡ place_answer state len → state ≡ after_place state len
+unfolding after_place
 placed-refused state len refusal e = ap (λ answer. placed_as answer state len) e
 
 pub answer-empty : (state : RegionState) (len : ℕ) → len ≡ 0 → Err Empty ≡ place_answer state len
@@ -25,23 +25,23 @@ unfolding place_answer
 answer-empty state len e = rw (eq-eqb len 0 e) refl
 
 -- no length but 0 rounds to 0
-pub rounded-some : (len needed : ℕ) → needed ≡ rounded len → (len ≡ 0 → ⊥) → 0 < needed
-unfolding rounded
+pub rounded-some : (len needed : ℕ) → needed ≡ len_in_units len → (len ≡ 0 → ⊥) → 0 < needed
+unfolding len_in_units
 rounded-some len needed e some = grind (arith, nat_tests)
 
 -- the answer where a block has room, by the gap that was found
 answer-open : (base max_blocks : ℕ) (bytes : List ℕ) (spans : List Span) (len needed : ℕ) (found : Option Span) (largest : ℕ) →
-    (len ≡ 0 → ⊥) → (length spans ≡ max_blocks → ⊥) → needed ≡ rounded len →
+    (len ≡ 0 → ⊥) → (length spans ≡ max_blocks → ⊥) → needed ≡ len_in_units len →
     first_gap needed (gaps_between 0 (length bytes) spans) ≡ found → longest (gaps_between 0 (length bytes) spans) ≡ largest →
-    place_answer (state_of base max_blocks bytes spans) len ≡ front_of (option_map (moved base) found) needed largest
+    place_answer (region_state_of base max_blocks bytes spans) len ≡ place_in_gap (option_map (moved base) found) needed largest
 unfolding place_answer
 answer-open base max_blocks bytes spans len needed found largest some room e first long =
     let gaps = gaps_of-view base max_blocks bytes spans in
-    let f = ap (λ g. first_gap (rounded len) g) gaps ∙ first_gap-moved base (rounded len) (gaps_between 0 (length bytes) spans) in
+    let f = ap (λ g. first_gap (len_in_units len) g) gaps ∙ first_gap-moved base (len_in_units len) (gaps_between 0 (length bytes) spans) in
     let l = ap longest gaps ∙ longest-moved base (gaps_between 0 (length bytes) spans) ∙ long in
     rw (ne_eqb len 0 some, length-map spans (block_of base bytes), ne_eqb (length spans) max_blocks room, f, l, ← e, first) refl
 
-pub answer-many : (base max_blocks : ℕ) (bytes : List ℕ) (spans : List Span) (state : RegionState) (len : ℕ) → state_of base max_blocks bytes spans ≡ state →
+pub answer-many : (base max_blocks : ℕ) (bytes : List ℕ) (spans : List Span) (state : RegionState) (len : ℕ) → region_state_of base max_blocks bytes spans ≡ state →
     (len ≡ 0 → ⊥) → length spans ≡ max_blocks → Err (TooManyBlocks max_blocks) ≡ place_answer state len
 unfolding place_answer
 answer-many base max_blocks bytes spans state len e some full =
@@ -49,14 +49,14 @@ answer-many base max_blocks bytes spans state len e some full =
     subst P e (rw (ne_eqb len 0 some, length-map spans (block_of base bytes), eq-eqb (length spans) max_blocks full) refl)
 
 pub answer-found : (base max_blocks : ℕ) (bytes : List ℕ) (spans : List Span) (state : RegionState) (len needed index start packed : ℕ) →
-    state_of base max_blocks bytes spans ≡ state → (len ≡ 0 → ⊥) → (length spans ≡ max_blocks → ⊥) → needed ≡ rounded len →
-    IsFit (length bytes) spans needed index start packed → Ok (base + start) ≡ place_answer state len
+    region_state_of base max_blocks bytes spans ≡ state → (len ≡ 0 → ⊥) → (length spans ≡ max_blocks → ⊥) → needed ≡ len_in_units len →
+    IsGapFit (length bytes) spans needed index start packed → Ok (base + start) ≡ place_answer state len
 answer-found base max_blocks bytes spans state len needed index start packed e some room r fit =
     let P : RegionState → Type 0 = λ s. Ok (base + start) ≡ place_answer s len in
     subst P e (sym (answer-open base max_blocks bytes spans len needed _ _ some room r fit.first refl))
 
 pub answer-full : (base max_blocks : ℕ) (bytes : List ℕ) (spans : List Span) (state : RegionState) (len needed largest : ℕ) →
-    state_of base max_blocks bytes spans ≡ state → (len ≡ 0 → ⊥) → (length spans ≡ max_blocks → ⊥) → needed ≡ rounded len →
+    region_state_of base max_blocks bytes spans ≡ state → (len ≡ 0 → ⊥) → (length spans ≡ max_blocks → ⊥) → needed ≡ len_in_units len →
     IsFull (length bytes) spans needed largest → Err (Full needed largest) ≡ place_answer state len
 answer-full base max_blocks bytes spans state len needed largest e some room r full =
     let P : RegionState → Type 0 = λ s. Err (Full needed largest) ≡ place_answer s len in
@@ -64,10 +64,10 @@ answer-full base max_blocks bytes spans state len needed largest e some room r f
 
 -- the same search, where bounds and stretches are equal
 pub fit-same : (limit limit' : ℕ) (spans spans' : List Span) (needed index start packed : ℕ) → limit ≡ limit' → spans ≡ spans' →
-    IsFit limit spans needed index start packed → IsFit limit' spans' needed index start packed
+    IsGapFit limit spans needed index start packed → IsGapFit limit' spans' needed index start packed
 fit-same limit limit' spans spans' needed index start packed e f fit =
-    let P : ℕ → Type 0 = λ n. IsFit n spans' needed index start packed in
-    let Q : List Span → Type 0 = λ xs. IsFit limit xs needed index start packed in
+    let P : ℕ → Type 0 = λ n. IsGapFit n spans' needed index start packed in
+    let Q : List Span → Type 0 = λ xs. IsGapFit limit xs needed index start packed in
     subst P e (subst Q f fit)
 
 pub full-same : (limit limit' : ℕ) (spans spans' : List Span) (needed largest : ℕ) → limit ≡ limit' → spans ≡ spans' →
@@ -79,13 +79,13 @@ full-same limit limit' spans spans' needed largest e f full =
 
 -- what the stretch of that gap leaves
 pub fit-inserts : (base max_blocks : ℕ) (bytes : List ℕ) (spans : List Span) (capacity needed index start packed : ℕ) → IsKept base max_blocks bytes spans capacity →
-    0 < needed → IsFit (length bytes) spans needed index start packed → Inserts base bytes 0 (length bytes) spans index (record { start = start; len = needed })
+    0 < needed → IsGapFit (length bytes) spans needed index start packed → Inserts base bytes 0 (length bytes) spans index (record { start = start; len = needed })
 fit-inserts base max_blocks bytes spans capacity needed index start packed kept some fit =
     gap-insert base bytes 0 (length bytes) spans index (record { start = start; len = needed }) kept.apart kept.quiet
     (record { inside = fit.inside; front = fit.front; some = some; fits = fit.fits })
 
 pub kept-insert : (base max_blocks : ℕ) (bytes : List ℕ) (spans : List Span) (capacity more needed index start packed : ℕ) → IsKept base max_blocks bytes spans capacity →
-    0 < needed → (length spans ≡ max_blocks → ⊥) → capacity ≤ more → IsFit (length bytes) spans needed index start packed →
+    0 < needed → (length spans ≡ max_blocks → ⊥) → capacity ≤ more → IsGapFit (length bytes) spans needed index start packed →
     IsKept base max_blocks bytes (insert spans index (record { start = start; len = needed })) more
 kept-insert base max_blocks bytes spans capacity more needed index start packed kept some room grows fit =
     let inserts = fit-inserts base max_blocks bytes spans capacity needed index start packed kept some fit in
@@ -101,18 +101,18 @@ kept-insert base max_blocks bytes spans capacity more needed index start packed 
     }
 
 pub state-insert : (base max_blocks : ℕ) (bytes : List ℕ) (spans : List Span) (state : RegionState) (capacity len needed index start packed : ℕ) →
-    state_of base max_blocks bytes spans ≡ state → IsKept base max_blocks bytes spans capacity → (len ≡ 0 → ⊥) → (length spans ≡ max_blocks → ⊥) →
-    needed ≡ rounded len → IsFit (length bytes) spans needed index start packed →
-    state_of base max_blocks bytes (insert spans index (record { start = start; len = needed })) ≡ placed state len
-unfolding placed
+    region_state_of base max_blocks bytes spans ≡ state → IsKept base max_blocks bytes spans capacity → (len ≡ 0 → ⊥) → (length spans ≡ max_blocks → ⊥) →
+    needed ≡ len_in_units len → IsGapFit (length bytes) spans needed index start packed →
+    region_state_of base max_blocks bytes (insert spans index (record { start = start; len = needed })) ≡ after_place state len
+unfolding after_place
 state-insert base max_blocks bytes spans state capacity len needed index start packed e kept some room r fit =
     let one : Span = record { start = start; len = needed } in
     let inserts = fit-inserts base max_blocks bytes spans capacity needed index start packed kept (rounded-some len needed r some) fit in
-    let answer = answer-found base max_blocks bytes spans (state_of base max_blocks bytes spans) len needed index start packed refl some room r fit in
+    let answer = answer-found base max_blocks bytes spans (region_state_of base max_blocks bytes spans) len needed index start packed refl some room r fit in
     let still = quiet-replicate bytes start needed inserts.inside inserts.within in
     let with_content : List ℕ → LiveBlock = λ content. record { place = base + start; len = needed; content = content } in
     let with_live : List LiveBlock → RegionState = λ live. record { base = base; size = length bytes; max_blocks = max_blocks; live = live } in
-    let P : RegionState → Type 0 = λ s. state_of base max_blocks bytes (insert spans index one) ≡ placed_as (place_answer s len) s len in
+    let P : RegionState → Type 0 = λ s. region_state_of base max_blocks bytes (insert spans index one) ≡ placed_as (place_answer s len) s len in
     let live = sym inserts.blocks ∙ ap (λ content. with_block (with_content content) (map (block_of base bytes) spans)) still in
-    let Q : ℕ → Type 0 = λ n. map (block_of base bytes) (insert spans index one) ≡ with_block (unfilled (base + start) n) (map (block_of base bytes) spans) in
-    subst P e (ap with_live (subst Q r live) ∙ ap (λ a. placed_as a (state_of base max_blocks bytes spans) len) answer)
+    let Q : ℕ → Type 0 = λ n. map (block_of base bytes) (insert spans index one) ≡ with_block (unfilled_block (base + start) n) (map (block_of base bytes) spans) in
+    subst P e (ap with_live (subst Q r live) ∙ ap (λ a. placed_as a (region_state_of base max_blocks bytes spans) len) answer)

@@ -6,7 +6,7 @@ use Rattle.code_region.specs.declared.gaps.Span.{Span}
 use Rattle.code_region.specs.State.{LiveBlock, int3}
 use Rattle.code_region.specs.Filling.{with_content}
 use Rattle.code_region.specs.Keeping.{AreApart, IsQuiet, IsQuietAround, block_of, overwritten}
-use Rattle.code_region.specs.Searching.{span_at}
+use Rattle.code_region.specs.Searching.{gap_span_at}
 use Rattle.code_region.proofs.Apart.{AreApart-le, AreApart-at}
 use Rattle.code_region.proofs.Overwrites.{part-below, part-above, part-at, byte-below, byte-above, byte-at}
 
@@ -74,7 +74,7 @@ pub record Removes (base place start : ℕ) (bytes xs : List ℕ) (from limit : 
 
 pub span-remove : (base place start : ℕ) (bytes xs : List ℕ) (from limit : ℕ) (spans : List Span) (index : ℕ) → limit ≤ length bytes →
     AreApart from limit spans → IsQuietAround bytes from limit spans → index < length spans →
-    base + start ≡ place → (span_at spans index).start ≡ start → xs ≡ replicate (span_at spans index).len int3 →
+    base + start ≡ place → (gap_span_at spans index).start ≡ start → xs ≡ replicate (gap_span_at spans index).len int3 →
     Removes base place start bytes xs from limit spans index
 span-remove base place start bytes xs from limit [] index h apart quiet below p s x = absurd (omega arith)
 span-remove base place start bytes xs from limit (span ∷ spans) zero h apart quiet below p s x =
@@ -116,8 +116,8 @@ pub record Refills (base place start : ℕ) (bytes content xs : List ℕ) (from 
 
 pub span-refill : (base place start : ℕ) (bytes content xs : List ℕ) (from limit : ℕ) (spans : List Span) (index : ℕ) → limit ≤ length bytes →
     AreApart from limit spans → IsQuietAround bytes from limit spans → index < length spans →
-    base + start ≡ place → (span_at spans index).start ≡ start → length xs ≡ (span_at spans index).len →
-    xs ≡ content ++ replicate ((span_at spans index).len - length content) int3 →
+    base + start ≡ place → (gap_span_at spans index).start ≡ start → length xs ≡ (gap_span_at spans index).len →
+    xs ≡ content ++ replicate ((gap_span_at spans index).len - length content) int3 →
     Refills base place start bytes content xs from limit spans
 span-refill base place start bytes content xs from limit [] index h apart quiet below p s l x = absurd (omega arith)
 span-refill base place start bytes content xs from limit (span ∷ spans) zero h apart quiet below p s l x =

@@ -7,11 +7,11 @@ use Rattle.code_region.specs.declared.commands.Command.{Command}
 use Rattle.code_region.specs.declared.commands.Command.TheVariants.{Place, Release, Fill}
 use Rattle.code_region.specs.declared.refusals.PlaceError.{PlaceError}
 use Rattle.code_region.specs.Gaps.{gaps_between, first_gap, longest}
-use Rattle.code_region.specs.State.{LiveBlock, RegionState, int3, span_of, rounded, gaps_of, live_block}
-use Rattle.code_region.specs.Opening.{opened}
-use Rattle.code_region.specs.Placing.{front_of, place_answer, with_block, unfilled, placed_as, placed}
-use Rattle.code_region.specs.Releasing.{released}
-use Rattle.code_region.specs.Filling.{with_content, holds, can_fill, filled}
+use Rattle.code_region.specs.State.{LiveBlock, RegionState, int3, span_of, len_in_units, gaps_of, live_block}
+use Rattle.code_region.specs.Opening.{empty_region}
+use Rattle.code_region.specs.Placing.{place_in_gap, place_answer, with_block, unfilled_block, placed_as, after_place}
+use Rattle.code_region.specs.Releasing.{after_release}
+use Rattle.code_region.specs.Filling.{with_content, block_holds, can_fill, after_fill}
 use Rattle.code_region.specs.Running.{filled_if, after, run}
 use Rattle.code_region.specs.Keeping.{AreLaid, IsSound}
 use Rattle.code_region.proofs.Placed.{rounded-some}
@@ -46,7 +46,7 @@ fill-behind place from limit bytes (block ∷ live) h laid =
 -- a block put at the front of the first gap that is long enough
 pub record Fits (from limit len : ℕ) (live : List LiveBlock) (gap : Span) : Type 0 where
   pub above : from ≤ gap.start
-  pub laid : AreLaid from limit (with_block (unfilled gap.start len) live)
+  pub laid : AreLaid from limit (with_block (unfilled_block gap.start len) live)
   pub fresh : filter (λ block. not (nat_eq block.place gap.start)) live ≡ live
 
 pub gap-fits : (from limit len : ℕ) (live : List LiveBlock) (gap : Span) → 0 < len → AreLaid from limit live →
@@ -81,7 +81,7 @@ gap-fits from limit len (block ∷ live) gap some laid e =
           let P : Span → Type 0 = λ x. Fits from limit len (block ∷ live) x in
           let l = leb-true len (block.place - from) enough in
           let t : nat_lt from block.place ≡ true = lt-ltb from block.place (omega arith) in
-          let L : Bool → Type 0 = λ b. AreLaid from limit (if b then (unfilled from len ∷ block ∷ live) else (block ∷ with_block (unfilled from len) live)) in
+          let L : Bool → Type 0 = λ b. AreLaid from limit (if b then (unfilled_block from len ∷ block ∷ live) else (block ∷ with_block (unfilled_block from len) live)) in
           subst P h (record {
             above = omega arith;
             laid = subst L (sym t) (omega arith, some, length-replicate len int3, (omega arith, laid.1, laid.2, laid.3));
@@ -96,7 +96,7 @@ gap-fits from limit len (block ∷ live) gap some laid e =
           let p = laid.0 in
           let q = laid.1 in
           let t : nat_lt gap.start block.place ≡ false = le-ltb gap.start block.place (omega arith) in
-          let L : Bool → Type 0 = λ b. AreLaid from limit (if b then (unfilled gap.start len ∷ block ∷ live) else (block ∷ with_block (unfilled gap.start len) live)) in
+          let L : Bool → Type 0 = λ b. AreLaid from limit (if b then (unfilled_block gap.start len ∷ block ∷ live) else (block ∷ with_block (unfilled_block gap.start len) live)) in
           let other : block.place ≡ gap.start → ⊥ = λ same. absurd (omega arith) in
           record {
             above = omega arith;
@@ -107,11 +107,11 @@ gap-fits from limit len (block ∷ live) gap some laid e =
 
 -- what a request that is answered with a place found
 pub record Finds (state : RegionState) (len place : ℕ) (gap : Span) : Type 0 where
-  pub some : 0 < rounded len
-  pub first : first_gap (rounded len) (gaps_of state) ≡ Some gap
+  pub some : 0 < len_in_units len
+  pub first : first_gap (len_in_units len) (gaps_of state) ≡ Some gap
   pub front : gap.start ≡ place
 
-front-finds : (found : Option Span) (len largest place : ℕ) → front_of found len largest ≡ Ok place → (gap : Span) × (found ≡ Some gap) × (gap.start ≡ place)
+front-finds : (found : Option Span) (len largest place : ℕ) → place_in_gap found len largest ≡ Ok place → (gap : Span) × (found ≡ Some gap) × (gap.start ≡ place)
 front-finds None len largest place e = absurd cc
 front-finds (Some gap) len largest place e = (gap, refl, cc)
 
@@ -124,10 +124,10 @@ answer-finds state len place e =
         | inl all_live ↦ (let f = rw (some_len, all_live) at e in absurd cc)
         | inr room ↦ (
             let f = rw (some_len, room) at e in
-            let found = front-finds (first_gap (rounded len) (gaps_of state)) (rounded len) (longest (gaps_of state)) place f in (
+            let found = front-finds (first_gap (len_in_units len) (gaps_of state)) (len_in_units len) (longest (gaps_of state)) place f in (
               found.0,
               record {
-                some = rounded-some len (rounded len) refl (eqb-false len 0 some_len);
+                some = rounded-some len (len_in_units len) refl (eqb-false len 0 some_len);
                 first = found.1;
                 front = found.2;
               },
@@ -137,19 +137,19 @@ answer-finds state len place e =
 
 -- a place that is handed out, in a sound region
 pub answer-fits : (state : RegionState) (len place : ℕ) → IsSound state → place_answer state len ≡ Ok place →
-    (gap : Span) × Fits state.base (state.base + state.size) (rounded len) state.live gap × (gap.start ≡ place)
+    (gap : Span) × Fits state.base (state.base + state.size) (len_in_units len) state.live gap × (gap.start ≡ place)
 unfolding gaps_of
 answer-fits state len place sound e =
     let found = answer-finds state len place e in
     let f = found.1 in
-    (found.0, gap-fits state.base (state.base + state.size) (rounded len) state.live found.0 f.some sound f.first, f.front)
+    (found.0, gap-fits state.base (state.base + state.size) (len_in_units len) state.live found.0 f.some sound f.first, f.front)
 
 -- each command leaves a sound region
 pub placed-sound : (state : RegionState) (len : ℕ) (answer : Result ℕ PlaceError) → IsSound state → place_answer state len ≡ answer →
     IsSound (placed_as answer state len)
 placed-sound state len (Ok place) sound e =
     let fits = answer-fits state len place sound e in
-    let P : ℕ → Type 0 = λ p. AreLaid state.base (state.base + state.size) (with_block (unfilled p (rounded len)) state.live) in
+    let P : ℕ → Type 0 = λ p. AreLaid state.base (state.base + state.size) (with_block (unfilled_block p (len_in_units len)) state.live) in
     subst P fits.2 fits.1.laid
 placed-sound state len (Err refusal) sound e = sound
 
@@ -164,7 +164,7 @@ filter-laid p from limit (block ∷ live) laid =
     ]
 
 pub fill-laid : (place from limit : ℕ) (bytes : List ℕ) (live : List LiveBlock) → AreLaid from limit live →
-    IsTrue (holds (find (λ block. nat_eq block.place place) live) (length bytes)) →
+    IsTrue (block_holds (find (λ block. nat_eq block.place place) live) (length bytes)) →
     AreLaid from limit (map (λ block. if nat_eq block.place place then with_content bytes block else block) live)
 fill-laid place from limit bytes [] laid h = laid
 fill-laid place from limit bytes (block ∷ live) laid h =
@@ -181,20 +181,20 @@ fill-laid place from limit bytes (block ∷ live) laid h =
           let Q : LiveBlock → Type 0 = λ b. AreLaid from limit (b ∷ map (λ block. if nat_eq block.place place then with_content bytes block else block) live) in
           rw here (laid.0, laid.1, omega arith, subst P (sym same) laid.3))
       | inr other ↦ (
-          let there : IsTrue (holds (find (λ block. nat_eq block.place place) live) (length bytes)) = rw other at h in
+          let there : IsTrue (block_holds (find (λ block. nat_eq block.place place) live) (length bytes)) = rw other at h in
           rw other (laid.0, laid.1, laid.2, fill-laid place (block.place + block.len) limit bytes live laid.3 there))
     ]
 
 filled_if-sound : (state : RegionState) (place byte count : ℕ) (b : Bool) → can_fill state place count ≡ b → IsSound state →
     IsSound (filled_if b state place byte count)
-unfolding filled can_fill live_block
+unfolding after_fill can_fill live_block
 filled_if-sound state place byte count true e sound =
-    let P : ℕ → Type 0 = λ n. IsTrue (holds (find (λ block. nat_eq block.place place) state.live) n) in
+    let P : ℕ → Type 0 = λ n. IsTrue (block_holds (find (λ block. nat_eq block.place place) state.live) n) in
     fill-laid place state.base (state.base + state.size) (replicate count byte) state.live sound (subst P (sym (length-replicate count byte)) e)
 filled_if-sound state place byte count false e sound = sound
 
 pub after-sound : (state : RegionState) (command : Command) → IsSound state → IsSound (after state command)
-unfolding after placed released
+unfolding after after_place after_release
 after-sound state (Place len) sound = placed-sound state len (place_answer state len) sound refl
 after-sound state (Release place) sound = filter-laid _ state.base (state.base + state.size) state.live sound
 after-sound state (Fill place byte count) sound = filled_if-sound state place byte count (can_fill state place count) refl sound
@@ -204,21 +204,21 @@ run-sound state [] sound = sound
 run-sound state (command ∷ commands) sound = run-sound (after state command) commands (after-sound state command sound)
 
 -- a region that begins is sound
-pub opened-sound : (base size max_blocks : ℕ) → IsSound (opened base size max_blocks)
+pub opened-sound : (base size max_blocks : ℕ) → IsSound (empty_region base size max_blocks)
 opened-sound base size max_blocks = omega arith
 
 -- ---- by the calls
 
-pub place-sound : (state : RegionState) (len : ℕ) → IsSound state → IsSound (placed state len)
-unfolding placed
+pub place-sound : (state : RegionState) (len : ℕ) → IsSound state → IsSound (after_place state len)
+unfolding after_place
 place-sound state len sound = placed-sound state len (place_answer state len) sound refl
 
-pub released-sound : (state : RegionState) (place : ℕ) → IsSound state → IsSound (released state place)
-unfolding released
+pub released-sound : (state : RegionState) (place : ℕ) → IsSound state → IsSound (after_release state place)
+unfolding after_release
 released-sound state place sound = filter-laid _ state.base (state.base + state.size) state.live sound
 
-pub filled-sound : (state : RegionState) (place : ℕ) (bytes : List ℕ) → IsSound state → IsTrue (can_fill state place (length bytes)) → IsSound (filled state place bytes)
-unfolding filled can_fill live_block
+pub filled-sound : (state : RegionState) (place : ℕ) (bytes : List ℕ) → IsSound state → IsTrue (can_fill state place (length bytes)) → IsSound (after_fill state place bytes)
+unfolding after_fill can_fill live_block
 filled-sound state place bytes sound fits = fill-laid place state.base (state.base + state.size) bytes state.live sound fits
 
 -- ---- a place that is handed out
@@ -266,8 +266,8 @@ put-inside from limit block (other ∷ live) laid =
     ]
 
 -- **the new block ends inside the region**
-pub place-inside : (state : RegionState) (len place : ℕ) → IsSound state → place_answer state len ≡ Ok place → place + rounded len ≤ state.base + state.size
+pub place-inside : (state : RegionState) (len place : ℕ) → IsSound state → place_answer state len ≡ Ok place → place + len_in_units len ≤ state.base + state.size
 place-inside state len place sound e =
     let fits = answer-fits state len place sound e in
-    let P : ℕ → Type 0 = λ p. AreLaid state.base (state.base + state.size) (with_block (unfilled p (rounded len)) state.live) in
-    put-inside state.base (state.base + state.size) (unfilled place (rounded len)) state.live (subst P fits.2 fits.1.laid)
+    let P : ℕ → Type 0 = λ p. AreLaid state.base (state.base + state.size) (with_block (unfilled_block p (len_in_units len)) state.live) in
+    put-inside state.base (state.base + state.size) (unfilled_block place (len_in_units len)) state.live (subst P fits.2 fits.1.laid)

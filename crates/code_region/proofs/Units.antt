@@ -6,11 +6,11 @@ use Rattle.code_region.specs.declared.commands.Command.{Command}
 use Rattle.code_region.specs.declared.commands.Command.TheVariants.{Place, Release, Fill}
 use Rattle.code_region.specs.declared.refusals.PlaceError.{PlaceError}
 use Rattle.code_region.specs.Gaps.{gaps_between, first_gap}
-use Rattle.code_region.specs.State.{LiveBlock, RegionState, span_of, rounded, gaps_of}
-use Rattle.code_region.specs.Opening.{opened}
-use Rattle.code_region.specs.Placing.{place_answer, with_block, unfilled, placed_as, placed}
-use Rattle.code_region.specs.Releasing.{released}
-use Rattle.code_region.specs.Filling.{with_content, can_fill, filled}
+use Rattle.code_region.specs.State.{LiveBlock, RegionState, span_of, len_in_units, gaps_of}
+use Rattle.code_region.specs.Opening.{empty_region}
+use Rattle.code_region.specs.Placing.{place_answer, with_block, unfilled_block, placed_as, after_place}
+use Rattle.code_region.specs.Releasing.{after_release}
+use Rattle.code_region.specs.Filling.{with_content, can_fill, after_fill}
 use Rattle.code_region.specs.Running.{filled_if, after, run}
 use Rattle.code_region.specs.Keeping.{AreLaid, IsSound}
 use Rattle.code_region.specs.Laws.{AreInUnits}
@@ -29,8 +29,8 @@ units-all base [] k d u h = absurd (omega arith)
 units-all base (block ∷ live) zero d u h = u.0
 units-all base (block ∷ live) (suc k) d u h = units-all base live k d u.1 (omega arith)
 
-pub rounded-units : (len : ℕ) → rounded len % 16 ≡ 0
-unfolding rounded
+pub rounded-units : (len : ℕ) → len_in_units len % 16 ≡ 0
+unfolding len_in_units
 rounded-units len = by_bound (nat_le len (2 ^ 64 - 16))
   where
     by_bound : (b : Bool) → (if b then (len + 15) / 16 * 16 else (2 ^ 64 - 16)) % 16 ≡ 0
@@ -73,7 +73,7 @@ place-units state len place sound u e =
     let found = answer-finds state len place e in
     let zero_units : (state.base - state.base) % 16 ≡ 0 = omega arith in
     subst (λ (p : ℕ). (state.base ≤ p) × ((p - state.base) % 16 ≡ 0)) found.1.front
-    (gap-units state.base state.base (state.base + state.size) (rounded len) state.live found.0 (omega arith) zero_units sound u found.1.first)
+    (gap-units state.base state.base (state.base + state.size) (len_in_units len) state.live found.0 (omega arith) zero_units sound u found.1.first)
 
 with_block-units : (base : ℕ) (block : LiveBlock) (live : List LiveBlock) → IsUnits base block → AreUnits base live → AreUnits base (with_block block live)
 with_block-units base block [] b u = (b, tt)
@@ -87,7 +87,7 @@ with_block-units base block (other ∷ live) b u =
 placed-units : (state : RegionState) (len : ℕ) (answer : Result ℕ PlaceError) → IsSound state → AreUnits state.base state.live → place_answer state len ≡ answer
     → AreUnits state.base (placed_as answer state len).live
 placed-units state len (Ok place) sound u e =
-    with_block-units state.base (unfilled place (rounded len)) state.live ((place-units state len place sound u e).1, rounded-units len) u
+    with_block-units state.base (unfilled_block place (len_in_units len)) state.live ((place-units state len place sound u e).1, rounded-units len) u
 placed-units state len (Err why) sound u e = u
 
 filter-units : (base : ℕ) (p : LiveBlock → Bool) (live : List LiveBlock) → AreUnits base live → AreUnits base (filter p live)
@@ -108,12 +108,12 @@ fill-units base place bytes (block ∷ live) u = (by_test (nat_eq block.place pl
     by_test false = u.0
 
 filled_if-units : (state : RegionState) (place byte count : ℕ) (b : Bool) → AreUnits state.base state.live → AreUnits state.base (filled_if b state place byte count).live
-unfolding filled
+unfolding after_fill
 filled_if-units state place byte count true u = fill-units state.base place (replicate count byte) state.live u
 filled_if-units state place byte count false u = u
 
 after-units : (state : RegionState) (command : Command) → IsSound state → AreUnits state.base state.live → AreUnits state.base (after state command).live
-unfolding after placed released
+unfolding after after_place after_release
 after-units state (Place len) sound u = placed-units state len (place_answer state len) sound u refl
 after-units state (Release place) sound u = filter-units state.base _ state.live u
 after-units state (Fill place byte count) sound u = filled_if-units state place byte count (can_fill state place count) u
@@ -123,12 +123,12 @@ placed-base state len (Ok place) = refl
 placed-base state len (Err why) = refl
 
 filled_if-base : (state : RegionState) (place byte count : ℕ) (b : Bool) → (filled_if b state place byte count).base ≡ state.base
-unfolding filled
+unfolding after_fill
 filled_if-base state place byte count true = refl
 filled_if-base state place byte count false = refl
 
 after-base : (state : RegionState) (command : Command) → (after state command).base ≡ state.base
-unfolding after placed released
+unfolding after after_place after_release
 after-base state (Place len) = placed-base state len (place_answer state len)
 after-base state (Release place) = refl
 after-base state (Fill place byte count) = filled_if-base state place byte count (can_fill state place count)
@@ -148,22 +148,22 @@ all-units base (block ∷ live) h = (h 0 block (omega arith), all-units base liv
 in_units : (base : ℕ) (state : RegionState) → state.base ≡ base → AreUnits base state.live → AreInUnits state
 in_units base state e u = λ k d h. units-all state.base state.live k d (subst (λ (b : ℕ). AreUnits b state.live) (sym e) u) h
 
-pub opened-in_units : (base size max_blocks : ℕ) → AreInUnits (opened base size max_blocks)
-opened-in_units base size max_blocks = in_units base (opened base size max_blocks) refl tt
+pub opened-in_units : (base size max_blocks : ℕ) → AreInUnits (empty_region base size max_blocks)
+opened-in_units base size max_blocks = in_units base (empty_region base size max_blocks) refl tt
 
-pub placed-in_units : (state : RegionState) (len : ℕ) → IsSound state → AreInUnits state → AreInUnits (placed state len)
-unfolding placed
+pub placed-in_units : (state : RegionState) (len : ℕ) → IsSound state → AreInUnits state → AreInUnits (after_place state len)
+unfolding after_place
 placed-in_units state len sound u =
-    in_units state.base (placed state len) (placed-base state len (place_answer state len))
+    in_units state.base (after_place state len) (placed-base state len (place_answer state len))
     (placed-units state len (place_answer state len) sound (all-units state.base state.live u) refl)
 
-pub released-in_units : (state : RegionState) (place : ℕ) → AreInUnits state → AreInUnits (released state place)
-unfolding released
-released-in_units state place u = in_units state.base (released state place) refl (filter-units state.base _ state.live (all-units state.base state.live u))
+pub released-in_units : (state : RegionState) (place : ℕ) → AreInUnits state → AreInUnits (after_release state place)
+unfolding after_release
+released-in_units state place u = in_units state.base (after_release state place) refl (filter-units state.base _ state.live (all-units state.base state.live u))
 
-pub filled-in_units : (state : RegionState) (place : ℕ) (bytes : List ℕ) → AreInUnits state → AreInUnits (filled state place bytes)
-unfolding filled
-filled-in_units state place bytes u = in_units state.base (filled state place bytes) refl (fill-units state.base place bytes state.live (all-units state.base state.live u))
+pub filled-in_units : (state : RegionState) (place : ℕ) (bytes : List ℕ) → AreInUnits state → AreInUnits (after_fill state place bytes)
+unfolding after_fill
+filled-in_units state place bytes u = in_units state.base (after_fill state place bytes) refl (fill-units state.base place bytes state.live (all-units state.base state.live u))
 
 -- **blocks that stand in units do so after any list of commands**
 pub run-in_units : (state : RegionState) (commands : List Command) → IsSound state → AreInUnits state → AreInUnits (run state commands)

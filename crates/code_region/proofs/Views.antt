@@ -4,9 +4,9 @@ use Rattle.std.proofs.lemmas.Bool.{ne_eqb, eq-eqb}
 use Rattle.std.proofs.lemmas.List.{take-append-drop, take_rest, length-replicate, get_or-replicate, get_or_default, get_or_read, length-map, same_lists}
 use Rattle.code_region.specs.declared.gaps.Span.{Span}
 use Rattle.code_region.specs.Gaps.{gaps_between, first_gap, longest}
-use Rattle.code_region.specs.State.{RegionState, int3, span_of, place_and_len, gaps_of, image_between, image_of}
-use Rattle.code_region.specs.Keeping.{AreApart, AreLaid, IsSound, IsQuiet, IsQuietAround, block_of, state_of}
-use Rattle.code_region.specs.Searching.{span_at, nowhere, IsNowhere}
+use Rattle.code_region.specs.State.{RegionState, int3, span_of, place_and_len, gaps_of, image_between, region_image}
+use Rattle.code_region.specs.Keeping.{AreApart, AreLaid, IsSound, IsQuiet, IsQuietAround, block_of, region_state_of}
+use Rattle.code_region.specs.Searching.{gap_span_at, nowhere, IsNowhere}
 use Rattle.code_region.proofs.Apart.{AreApart-le, AreApart-at}
 
 -- a stretch, in addresses
@@ -26,7 +26,7 @@ gaps-view base from limit bytes (span ∷ spans) =
     rw (e, f, rest) refl
 
 pub gaps_of-view : (base max_blocks : ℕ) (bytes : List ℕ) (spans : List Span) →
-    gaps_of (state_of base max_blocks bytes spans) ≡ map (moved base) (gaps_between 0 (length bytes) spans)
+    gaps_of (region_state_of base max_blocks bytes spans) ≡ map (moved base) (gaps_between 0 (length bytes) spans)
 unfolding gaps_of
 gaps_of-view base max_blocks bytes spans =
     let P : ℕ → Type 0 = λ n. gaps_between n (base + length bytes) (map span_of (map (block_of base bytes) spans)) ≡ map (moved base) (gaps_between 0 (length bytes) spans) in
@@ -45,8 +45,8 @@ longest-moved base (gap ∷ gaps) = ap (λ n. max gap.len n) (longest-moved base
 
 -- the block that starts at an address
 pub find-view : (base place from limit : ℕ) (bytes : List ℕ) (spans : List Span) (i : ℕ) → AreApart from limit spans → i < length spans →
-    base + (span_at spans i).start ≡ place →
-    find (λ block. nat_eq block.place place) (map (block_of base bytes) spans) ≡ Some (block_of base bytes (span_at spans i))
+    base + (gap_span_at spans i).start ≡ place →
+    find (λ block. nat_eq block.place place) (map (block_of base bytes) spans) ≡ Some (block_of base bytes (gap_span_at spans i))
 find-view base place from limit bytes [] i apart h e = absurd (omega arith)
 find-view base place from limit bytes (span ∷ spans) zero apart h e = rw (eq-eqb (base + span.start) place e) refl
 find-view base place from limit bytes (span ∷ spans) (suc i) apart h e =
@@ -92,8 +92,8 @@ image-view base from bytes (span ∷ spans) apart quiet =
 
 -- the image of all bytes
 pub image_of-view : (base max_blocks : ℕ) (bytes : List ℕ) (spans : List Span) → AreApart 0 (length bytes) spans → IsQuietAround bytes 0 (length bytes) spans →
-    image_of (state_of base max_blocks bytes spans) ≡ bytes
-unfolding image_of
+    region_image (region_state_of base max_blocks bytes spans) ≡ bytes
+unfolding region_image
 image_of-view base max_blocks bytes spans apart quiet =
     let P : ℕ → Type 0 = λ n. image_between n (base + length bytes) (map (block_of base bytes) spans) ≡ bytes in
     let e : base + 0 ≡ base = omega arith in
@@ -110,7 +110,7 @@ laid-view base from limit bytes (span ∷ spans) h apart =
     let l : length (take span.len (drop span.start bytes)) ≡ span.len = length-take-le span.len (drop span.start bytes) (omega (arith, length-drop span.start bytes)) in
     (omega arith, apart.1, l, subst (λ n. AreLaid n (base + limit) (map (block_of base bytes) spans)) e rest)
 
-pub sound-view : (base max_blocks : ℕ) (bytes : List ℕ) (spans : List Span) → AreApart 0 (length bytes) spans → IsSound (state_of base max_blocks bytes spans)
+pub sound-view : (base max_blocks : ℕ) (bytes : List ℕ) (spans : List Span) → AreApart 0 (length bytes) spans → IsSound (region_state_of base max_blocks bytes spans)
 sound-view base max_blocks bytes spans apart =
     let P : ℕ → Type 0 = λ n. AreLaid n (base + length bytes) (map (block_of base bytes) spans) in
     let e : base + 0 ≡ base = omega arith in
@@ -118,13 +118,13 @@ sound-view base max_blocks bytes spans apart =
 
 -- the address and the length at an index
 pub slice_get-view : (base : ℕ) (bytes : List ℕ) (spans : List Span) (i : ℕ) → i < length spans →
-    slice_get (map place_and_len (map (block_of base bytes) spans)) i ≡ Some (place_and_len (block_of base bytes (span_at spans i)))
+    slice_get (map place_and_len (map (block_of base bytes) spans)) i ≡ Some (place_and_len (block_of base bytes (gap_span_at spans i)))
 slice_get-view base bytes [] i h = absurd (omega arith)
 slice_get-view base bytes (span ∷ spans) zero h = refl
 slice_get-view base bytes (span ∷ spans) (suc i) h = slice_get-view base bytes spans i (omega arith)
 
 -- the stretch at an index below the number of live blocks
-pub index-view : (base max_blocks : ℕ) (bytes : List ℕ) (spans : List Span) (state : RegionState) (i : ℕ) → state_of base max_blocks bytes spans ≡ state →
+pub index-view : (base max_blocks : ℕ) (bytes : List ℕ) (spans : List Span) (state : RegionState) (i : ℕ) → region_state_of base max_blocks bytes spans ≡ state →
     i < length state.live → i < length spans
 index-view base max_blocks bytes spans state i e h =
     let P : RegionState → Type 0 = λ s. i < length s.live in
@@ -134,7 +134,7 @@ index-view base max_blocks bytes spans state i e h =
 
 -- its address and length
 pub place_and_len-view : (base max_blocks : ℕ) (bytes : List ℕ) (spans : List Span) (state : RegionState) (i : ℕ) (span : Span) →
-    state_of base max_blocks bytes spans ≡ state → i < length spans → span ≡ get_or spans i span →
+    region_state_of base max_blocks bytes spans ≡ state → i < length spans → span ≡ get_or spans i span →
     slice_get (map place_and_len state.live) i ≡ Some (base + span.start, span.len)
 place_and_len-view base max_blocks bytes spans state i span e h read =
     let P : RegionState → Type 0 = λ s. slice_get (map place_and_len s.live) i ≡ Some (base + span.start, span.len) in

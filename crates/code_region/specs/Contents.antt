@@ -4,6 +4,6 @@ use Rattle.code_region.specs.declared.contents.Content.{Content}
 use Rattle.code_region.specs.declared.contents.Content.TheVariants.{Bytes, Repeated}
 
 -- the bytes that a content stands for
-abbrev pub bytes_of : Content → List ℕ
-bytes_of (Bytes bytes) = bytes.now
-bytes_of (Repeated byte count) = replicate count byte
+abbrev pub content_bytes : Content → List ℕ
+content_bytes (Bytes bytes) = bytes.now
+content_bytes (Repeated byte count) = replicate count byte

@@ -9,13 +9,13 @@ abbrev pub with_content : List ℕ → LiveBlock → LiveBlock
 with_content bytes block = record block { content = bytes ++ replicate (block.len - length bytes) int3 }
 
 -- so many bytes fit the block, if there is one
-abbrev pub holds : Option LiveBlock → ℕ → Bool
-holds (Some block) count = nat_le count block.len
-holds None count = false
+abbrev pub block_holds : Option LiveBlock → ℕ → Bool
+block_holds (Some block) count = nat_le count block.len
+block_holds None count = false
 
 -- a live block starts at the address, and so many bytes fit it
 unfoldable pub can_fill : RegionState → ℕ → ℕ → Bool
-can_fill state place count = holds (live_block state place) count
+can_fill state place count = block_holds (live_block state place) count
 
 -- a fill is refused where no live block starts at the address, and else where the bytes are more than the block has
 abbrev pub fill_answer : Option LiveBlock → ℕ → ℕ → Result (Unit {0}) FillError
@@ -23,7 +23,7 @@ fill_answer None place count = Err (NotLive place)
 fill_answer (Some block) place count = if nat_le count block.len then Ok tt else Err (TooLong block.len)
 
 -- the region after the bytes are written at the front of the block that starts at the address
-unfoldable pub filled : RegionState → ℕ → List ℕ → RegionState
-filled state place bytes = record state {
+unfoldable pub after_fill : RegionState → ℕ → List ℕ → RegionState
+after_fill state place bytes = record state {
   live = map (λ block. if block.place == place then with_content bytes block else block) state.live;
 }

@@ -47,8 +47,8 @@ block_of base bytes span = record {
 }
 
 -- the region that bytes at an address and stretches of them stand for
-abbrev pub state_of : ℕ → ℕ → List ℕ → List Span → RegionState
-state_of base max_blocks bytes spans = record {
+abbrev pub region_state_of : ℕ → ℕ → List ℕ → List Span → RegionState
+region_state_of base max_blocks bytes spans = record {
   base = base;
   size = length bytes;
   max_blocks = max_blocks;

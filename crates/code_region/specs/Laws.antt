@@ -1,8 +1,8 @@
 -- Laws over whole runs.
 use Rattle.std.specs.Prelude.{◌≡◌, ◌⊎◌, ℕ, ◌+◌, ◌-◌, ◌%◌, ◌<◌, ◌≤◌, List, All, AllPairs, Ok, slice_index_or, take, drop}
-use Rattle.code_region.specs.State.{RegionState, int3, image_of}
-use Rattle.code_region.specs.Placing.{place_answer, placed}
-use Rattle.code_region.specs.Releasing.{release_answer, released}
+use Rattle.code_region.specs.State.{RegionState, int3, region_image}
+use Rattle.code_region.specs.Placing.{place_answer, after_place}
+use Rattle.code_region.specs.Releasing.{release_answer, after_release}
 
 -- each live block is inside the region
 abbrev pub AreInside : RegionState → Type 0
@@ -15,10 +15,10 @@ AreDisjoint state = AllPairs (λ block later. block.place + block.len ≤ later.
 
 -- a place that is handed out and released at once leaves blocks and bytes as they were, and is handed out again
 pub record Restores (state : RegionState) (len place : ℕ) : Type 0 where
-  pub succeeds : release_answer (placed state len) place ≡ Ok tt
-  pub blocks : released (placed state len) place ≡ state
-  pub bytes : image_of (released (placed state len) place) ≡ image_of state
-  pub again : place_answer (released (placed state len) place) len ≡ Ok place
+  pub succeeds : release_answer (after_place state len) place ≡ Ok tt
+  pub blocks : after_release (after_place state len) place ≡ state
+  pub bytes : region_image (after_release (after_place state len) place) ≡ region_image state
+  pub again : place_answer (after_release (after_place state len) place) len ≡ Ok place
 
 -- each live block stands a multiple of 16 bytes behind the base, and takes a multiple of 16 bytes
 abbrev pub AreInUnits : RegionState → Type 0

@@ -20,5 +20,5 @@ open_refusal base size max_blocks =
     else (if nat_lt (2 ^ 64) (base + size) then Some (Wraps (base + size)) else None))
 
 -- a region with no live block
-abbrev pub opened : ℕ → ℕ → ℕ → RegionState
-opened base size max_blocks = record { base = base; size = size; max_blocks = max_blocks; live = [] }
+abbrev pub empty_region : ℕ → ℕ → ℕ → RegionState
+empty_region base size max_blocks = record { base = base; size = size; max_blocks = max_blocks; live = [] }

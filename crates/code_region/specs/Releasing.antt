@@ -13,5 +13,5 @@ unfoldable pub release_answer : RegionState → ℕ → Result (Unit {0}) NotTak
 release_answer state place = release_of (live_block state place) place
 
 -- the region without the block that starts at the address
-unfoldable pub released : RegionState → ℕ → RegionState
-released state place = record state { live = filter (λ block. not (block.place == place)) state.live }
+unfoldable pub after_release : RegionState → ℕ → RegionState
+after_release state place = record state { live = filter (λ block. not (block.place == place)) state.live }

@@ -8,9 +8,9 @@ use Rattle.code_region.specs.declared.commands.Command.TheVariants.{Place, Relea
 use Rattle.code_region.specs.declared.commands.Reply.{Reply}
 use Rattle.code_region.specs.declared.commands.Reply.TheVariants.{Placed, Empty, TooManyBlocks, Full, Released, NotTaken as NotTakenReply, Filled, NotLive, TooLong}
 use Rattle.code_region.specs.State.{LiveBlock, RegionState, live_block}
-use Rattle.code_region.specs.Placing.{place_answer, placed}
-use Rattle.code_region.specs.Releasing.{release_answer, released}
-use Rattle.code_region.specs.Filling.{can_fill, filled}
+use Rattle.code_region.specs.Placing.{place_answer, after_place}
+use Rattle.code_region.specs.Releasing.{release_answer, after_release}
+use Rattle.code_region.specs.Filling.{can_fill, after_fill}
 
 -- the reply that says what a request for a place answered
 abbrev pub place_reply : Result ℕ PlaceError → Reply
@@ -37,13 +37,13 @@ reply_of state (Fill place byte count) = fill_reply (live_block state place) pla
 
 -- a fill that can be made is made
 abbrev pub filled_if : Bool → RegionState → ℕ → ℕ → ℕ → RegionState
-filled_if true state place byte count = filled state place (replicate count byte)
+filled_if true state place byte count = after_fill state place (replicate count byte)
 filled_if false state place byte count = state
 
 -- the region after one command
 unfoldable pub after : RegionState → Command → RegionState
-after state (Place len) = placed state len
-after state (Release place) = released state place
+after state (Place len) = after_place state len
+after state (Release place) = after_release state place
 after state (Fill place byte count) = filled_if (can_fill state place count) state place byte count
 
 -- the region after the commands, in order

@@ -18,7 +18,7 @@ next_start limit (span ∷ spans) = span.start
 
 -- the gap before the stretch of this index is the first that has so many bytes, and it starts at this offset;
 -- with a stretch there, so many of the first ones have no gap before them
-pub record IsFit (limit : ℕ) (spans : List Span) (needed index start packed : ℕ) : Type 0 where
+pub record IsGapFit (limit : ℕ) (spans : List Span) (needed index start packed : ℕ) : Type 0 where
   pub inside : index ≤ length spans
   pub front : end_from 0 (take index spans) ≡ start
   pub fits : start + needed ≤ next_start limit (drop index spans)
@@ -32,7 +32,7 @@ pub record IsFull (limit : ℕ) (spans : List Span) (needed largest : ℕ) : Typ
 
 -- what a search answers
 abbrev pub IsSearched : ℕ → List Span → ℕ → Search → Type 0
-IsSearched limit spans needed (Found index start packed) = IsFit limit spans needed index start packed
+IsSearched limit spans needed (Found index start packed) = IsGapFit limit spans needed index start packed
 IsSearched limit spans needed (Missing largest) = IsFull limit spans needed largest
 
 -- a stretch of no bytes at the start, for an index past the end
@@ -40,14 +40,14 @@ abbrev pub nowhere : Span
 nowhere = record { start = 0; len = 0 }
 
 -- the stretch of an index
-abbrev pub span_at : List Span → ℕ → Span
-span_at spans index = slice_index_or spans index nowhere
+abbrev pub gap_span_at : List Span → ℕ → Span
+gap_span_at spans index = slice_index_or spans index nowhere
 
 -- the stretch of this index starts at the address
 pub record IsAt (base place : ℕ) (spans : List Span) (index : ℕ) : Type 0 where
   pub inside : index < length spans
-  pub starts : base + (span_at spans index).start ≡ place
+  pub starts : base + (gap_span_at spans index).start ≡ place
 
 -- no stretch starts at the address
 abbrev pub IsNowhere : ℕ → ℕ → List Span → Type 0
-IsNowhere base place spans = (index : ℕ) → index < length spans → base + (span_at spans index).start ≢ place
+IsNowhere base place spans = (index : ℕ) → index < length spans → base + (gap_span_at spans index).start ≢ place

@@ -21,8 +21,8 @@ abbrev pub int3 : ℕ
 int3 = 0xCC
 
 -- a length rounded up to a multiple of 16; one above 2 ^ 64 - 16 counts as 2 ^ 64 - 16
-unfoldable pub rounded : ℕ → ℕ
-rounded len = if nat_le len (2 ^ 64 - 16) then (len + 15) / 16 * 16 else (2 ^ 64 - 16)
+unfoldable pub len_in_units : ℕ → ℕ
+len_in_units len = if nat_le len (2 ^ 64 - 16) then (len + 15) / 16 * 16 else (2 ^ 64 - 16)
 
 -- the addresses that a block takes
 abbrev pub span_of : LiveBlock → Span
@@ -51,5 +51,5 @@ image_between from limit (block ∷ blocks) =
     replicate (block.place - from) int3 ++ (block.content ++ image_between (block.place + block.len) limit blocks)
 
 -- all bytes of the region
-unfoldable pub image_of : RegionState → List ℕ
-image_of state = image_between state.base (state.base + state.size) state.live
+unfoldable pub region_image : RegionState → List ℕ
+region_image state = image_between state.base (state.base + state.size) state.live

@@ -1,12 +1,12 @@
 //! The region: its bytes, and the live blocks in it.
 
 ghost use Rattle.std.specs.Prelude.{◌≡◌, ◌⊎◌, ◌<◌, ◌≤◌, IsTrue, IfSome, IfOk, IfErr, OnOk, OnErr, Ok, Err, Some, None, insert, length, map, option_map, slice_get, vec_len, vec_capacity};
-ghost use Rattle.code_region.specs.State.{rounded, live_block, image_of, place_and_len, len_of};
-ghost use Rattle.code_region.specs.Opening.{open_refusal, opened};
-ghost use Rattle.code_region.specs.Placing.{place_answer, placed};
-ghost use Rattle.code_region.specs.Releasing.{release_answer, released};
-ghost use Rattle.code_region.specs.Filling.{can_fill, fill_answer, filled};
-ghost use Rattle.code_region.specs.Contents.{bytes_of};
+ghost use Rattle.code_region.specs.State.{len_in_units, live_block, region_image, place_and_len, len_of};
+ghost use Rattle.code_region.specs.Opening.{open_refusal, empty_region};
+ghost use Rattle.code_region.specs.Placing.{place_answer, after_place};
+ghost use Rattle.code_region.specs.Releasing.{release_answer, after_release};
+ghost use Rattle.code_region.specs.Filling.{can_fill, fill_answer, after_fill};
+ghost use Rattle.code_region.specs.Contents.{content_bytes};
 ghost use Rattle.code_region.specs.Running.{reply_of, after};
 ghost use Rattle.code_region.specs.Keeping.{IsSound};
 
@@ -44,12 +44,12 @@ pub struct Region {
 
 impl Model for Region {
     ghost use Rattle.code_region.specs.State.{RegionState};
-    ghost use Rattle.code_region.specs.Keeping.{state_of, IsKept, IsTight};
+    ghost use Rattle.code_region.specs.Keeping.{region_state_of, IsKept, IsTight};
     ghost use Rattle.std.specs.Prelude.{vec_capacity};
 
     ghost Value = { RegionState };
 
-    ghost view = { λ r. state_of r.base r.max_blocks r.bytes.items r.spans.items };
+    ghost view = { λ r. region_state_of r.base r.max_blocks r.bytes.items r.spans.items };
 
     ghost invariant = { λ r. IsKept r.base r.max_blocks r.bytes.items r.spans.items (vec_capacity r.spans) × IsTight r.packed r.spans.items };
 }
@@ -74,7 +74,7 @@ fn refusal_of(base: u64, size: u64, max_blocks: u64) -> Option<OpenError>
 /// A length rounded up to a multiple of the unit; one that rounds to no `u64` counts as the last multiple.
 #[inline]
 fn round_up(len: u64) -> u64
-    ensures { result ≡ rounded len }
+    ensures { result ≡ len_in_units len }
 {
     if len > LAST_UNIT {
         LAST_UNIT
@@ -104,7 +104,7 @@ impl Region {
     pub fn make(alloc: Global, base: u64, size: u64, max_blocks: u64) -> Result<Region, OpenError>
         ensures refused { IfSome (open_refusal base size max_blocks) (λ refusal. result ≡ Err refusal) }
         ensures cause { IfErr result (λ error. (open_refusal base size max_blocks ≡ Some error) ⊎ (error ≡ OpenError.Memory)) }
-        ensures ok { IfOk result (λ region. region ≡ opened base size max_blocks) }
+        ensures ok { IfOk result (λ region. region ≡ empty_region base size max_blocks) }
     {
         if let Some(refusal) = refusal_of(base, size, max_blocks) {
             return Err(refusal);
@@ -131,7 +131,7 @@ impl Region {
     /// of the rounded length.
     pub fn place(&mut self, len: u64) -> Result<u64, PlaceError>
         ensures answer { result ≡ place_answer self.old len }
-        ensures state { self.new ≡ placed self.old len }
+        ensures state { self.new ≡ after_place self.old len }
         ensures refused { OnErr result (self.new ≡ self.old) }
     {
         if len == 0 {
@@ -169,7 +169,7 @@ impl Region {
     /// Refused, with nothing changed, exactly where no live block starts there.
     pub fn release(&mut self, place: u64) -> Result<(), NotTaken>
         ensures answer { result ≡ release_answer self.old place }
-        ensures state { self.new ≡ released self.old place }
+        ensures state { self.new ≡ after_release self.old place }
         ensures refused { OnErr result (self.new ≡ self.old) }
     {
         let Some(index) = find_place(&self.spans, self.base, place) else {
@@ -186,7 +186,7 @@ impl Region {
     /// A live block starts there, and the bytes are no more than its rounded length.
     pub fn fill(&mut self, place: u64, bytes: &[u8])
         requires { IsTrue (can_fill self.old place (length bytes.now)) }
-        ensures { self.new ≡ filled self.old place bytes.now }
+        ensures { self.new ≡ after_fill self.old place bytes.now }
     {
         self.set_content(place, Content::Bytes(bytes));
     }
@@ -196,7 +196,7 @@ impl Region {
     /// Refused with nothing changed: first where no live block starts there, then where the bytes are more than its rounded length.
     pub fn try_fill(&mut self, place: u64, bytes: &[u8]) -> Result<(), FillError>
         ensures answer { result ≡ fill_answer (live_block self.old place) place (length bytes.now) }
-        ensures ok { OnOk result (self.new ≡ filled self.old place bytes.now) }
+        ensures ok { OnOk result (self.new ≡ after_fill self.old place bytes.now) }
         ensures refused { OnErr result (self.new ≡ self.old) }
     {
         match self.block_len(place) {
@@ -211,8 +211,8 @@ impl Region {
 
     /// Writes `content` at the front of the live block that starts at `place`, and CC over the rest of the block.
     fn set_content(&mut self, place: u64, content: Content<'_>)
-        requires { IsTrue (can_fill self.old place (length (bytes_of content))) }
-        ensures { self.new ≡ filled self.old place (bytes_of content.entry) }
+        requires { IsTrue (can_fill self.old place (length (content_bytes content))) }
+        ensures { self.new ≡ after_fill self.old place (content_bytes content.entry) }
     {
         match find_place(&self.spans, self.base, place) {
             Some(index) => {
@@ -267,7 +267,7 @@ impl Region {
 
     /// The bytes of the region: the contents of the live blocks, and CC elsewhere.
     pub fn image(&self) -> &[u8]
-        ensures { result.now ≡ image_of self.now }
+        ensures { result.now ≡ region_image self.now }
     {
         &self.bytes
     }

@@ -3,7 +3,7 @@
 ghost use Rattle.std.specs.Prelude.{◌≡◌, ◌+◌, ◌-◌, ◌≤◌, ◌++◌, length, replicate};
 ghost use Rattle.code_region.specs.Keeping.{overwritten};
 ghost use Rattle.code_region.specs.State.{int3};
-ghost use Rattle.code_region.specs.Contents.{bytes_of};
+ghost use Rattle.code_region.specs.Contents.{content_bytes};
 
 /// The byte of INT3, which stands wherever no content does.
 pub const INT3: u8 = 0xCC;
@@ -48,8 +48,8 @@ fn repeat(image: &mut [u8], start: usize, len: usize, byte: u8, count: usize)
 /// Writes `content` at `start`, and INT3 over the rest of the `len` bytes from there.
 pub fn write(image: &mut [u8], start: usize, len: usize, content: Content<'_>)
     requires inside { start + len ≤ length image.old }
-    requires fits { length (bytes_of content) ≤ len }
-    ensures { image.new ≡ overwritten image.old start (bytes_of content.entry ++ replicate (len - length (bytes_of content.entry)) int3) }
+    requires fits { length (content_bytes content) ≤ len }
+    ensures { image.new ≡ overwritten image.old start (content_bytes content.entry ++ replicate (len - length (content_bytes content.entry)) int3) }
 {
     match content {
         Content::Bytes(bytes) => copy(image, start, len, bytes),

@@ -2,12 +2,12 @@
 
 ghost use Rattle.std.specs.Prelude.{◌≡◌, ℕ, List, length, Ok, IsTrue};
 ghost use Rattle.code_region.specs.declared.commands.Command.{Command};
-ghost use Rattle.code_region.specs.Opening.{opened};
-ghost use Rattle.code_region.specs.Placing.{place_answer, placed};
-ghost use Rattle.code_region.specs.Releasing.{released};
-ghost use Rattle.code_region.specs.Filling.{can_fill, filled};
+ghost use Rattle.code_region.specs.Opening.{empty_region};
+ghost use Rattle.code_region.specs.Placing.{place_answer, after_place};
+ghost use Rattle.code_region.specs.Releasing.{after_release};
+ghost use Rattle.code_region.specs.Filling.{can_fill, after_fill};
 ghost use Rattle.code_region.specs.Running.{run};
-ghost use Rattle.code_region.specs.State.{RegionState, image_of};
+ghost use Rattle.code_region.specs.State.{RegionState, region_image};
 ghost use Rattle.code_region.specs.Keeping.{IsSound};
 ghost use Rattle.code_region.specs.Facts.{PlaceFacts, RegionFacts};
 ghost use Rattle.code_region.specs.Laws.{AreInside, AreDisjoint, AreInUnits, HoldsContents, Restores};
@@ -15,10 +15,10 @@ ghost use Rattle.code_region.specs.Laws.{AreInside, AreDisjoint, AreInUnits, Hol
 /// A region is sound as it begins, and stays so with each request for a place, each release and each fill, whatever the bytes: so also after any list
 /// of commands.
 pub fn regions_stay_sound()
-    ensures opened { (base size max_blocks : ℕ) → IsSound (opened base size max_blocks) }
-    ensures placed { (state : RegionState) (len : ℕ) → IsSound state → IsSound (placed state len) }
-    ensures released { (state : RegionState) (place : ℕ) → IsSound state → IsSound (released state place) }
-    ensures filled { (state : RegionState) (place : ℕ) (bytes : List ℕ) → IsSound state → IsTrue (can_fill state place (length bytes)) → IsSound (filled state place bytes) }
+    ensures opened { (base size max_blocks : ℕ) → IsSound (empty_region base size max_blocks) }
+    ensures placed { (state : RegionState) (len : ℕ) → IsSound state → IsSound (after_place state len) }
+    ensures released { (state : RegionState) (place : ℕ) → IsSound state → IsSound (after_release state place) }
+    ensures filled { (state : RegionState) (place : ℕ) (bytes : List ℕ) → IsSound state → IsTrue (can_fill state place (length bytes)) → IsSound (after_fill state place bytes) }
     ensures run { (state : RegionState) (commands : List Command) → IsSound state → IsSound (run state commands) }
 {}
 
@@ -35,16 +35,16 @@ pub fn live_blocks_stay_disjoint()
 /// Each live block stands a multiple of 16 bytes behind the base, and takes a multiple of 16 bytes: this holds of a region as it begins, and stays so with
 /// each request for a place, each release, each fill and each list of commands.
 pub fn live_blocks_stay_in_units()
-    ensures opened { (base size max_blocks : ℕ) → AreInUnits (opened base size max_blocks) }
-    ensures placed { (state : RegionState) (len : ℕ) → IsSound state → AreInUnits state → AreInUnits (placed state len) }
-    ensures released { (state : RegionState) (place : ℕ) → AreInUnits state → AreInUnits (released state place) }
-    ensures filled { (state : RegionState) (place : ℕ) (bytes : List ℕ) → AreInUnits state → AreInUnits (filled state place bytes) }
+    ensures opened { (base size max_blocks : ℕ) → AreInUnits (empty_region base size max_blocks) }
+    ensures placed { (state : RegionState) (len : ℕ) → IsSound state → AreInUnits state → AreInUnits (after_place state len) }
+    ensures released { (state : RegionState) (place : ℕ) → AreInUnits state → AreInUnits (after_release state place) }
+    ensures filled { (state : RegionState) (place : ℕ) (bytes : List ℕ) → AreInUnits state → AreInUnits (after_fill state place bytes) }
     ensures run { (state : RegionState) (commands : List Command) → IsSound state → AreInUnits state → AreInUnits (run state commands) }
 {}
 
 /// The image of a sound region has the content of each live block at its place, and INT3 elsewhere.
 pub fn image_holds_contents()
-    ensures { (state : RegionState) → IsSound state → HoldsContents state (image_of state) }
+    ensures { (state : RegionState) → IsSound state → HoldsContents state (region_image state) }
 {}
 
 /// In a sound region, a place that is handed out and released at once leaves blocks and bytes as they were,

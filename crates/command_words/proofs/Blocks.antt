@@ -7,7 +7,7 @@ use Rattle.x86_values.specs.declared.Bits.{Bits}
 use Rattle.command_words.specs.declared.commands.Command.{Command}
 use Rattle.command_words.specs.declared.commands.Command.TheVariants.{Blocks, Wrong}
 use Rattle.command_words.specs.declared.commands.BlockWords.{BlockWords}
-use Rattle.command_words.specs.Words.{texts, number_named, address_in, block_len, block_new, block_old, block_at, blocks_from}
+use Rattle.command_words.specs.Words.{texts, number_word, address_within, block_len, block_new, block_old, block_at, blocks_from}
 
 -- ---- the texts of the words behind some
 
@@ -45,14 +45,14 @@ unfolding block_old
 old-words bits None words block n read some = absurd cc
 old-words bits (Some old) [] block n read some = absurd cc
 old-words bits (Some old) (new ∷ words) block n read some =
-    omega (arith, new-words old (address_in bits (number_named new)) words block n read some)
+    omega (arith, new-words old (address_within bits (number_word new)) words block n read some)
 
 three-words : (bits : Bits) (words : List (List ℕ)) (block : BlockWords) (n : ℕ) → block_at bits words ≡ Ok block → block.len ≡ Some n →
     3 ≤ length words
 unfolding block_at
 three-words bits [] block n read some = absurd cc
 three-words bits (old ∷ words) block n read some =
-    omega (arith, old-words bits (address_in bits (number_named old)) words block n read some)
+    omega (arith, old-words bits (address_within bits (number_word old)) words block n read some)
 
 -- the same of the three words behind those of some blocks
 pub three_more : (bits : Bits) (words : List (Bor (List ℕ))) (count : ℕ) (block : BlockWords) → 3 * count ≤ length words →
@@ -73,18 +73,18 @@ new-before : (old : ℕ) (new : Option ℕ) (words : List (List ℕ)) (before : 
 unfolding block_new
 new-before old None words before read = let one : 1 ≡ before = cc in omega arith
 new-before old (Some new) [] before read = absurd cc
-new-before old (Some new) (len ∷ words) before read = len-before old new (number_named len) before read
+new-before old (Some new) (len ∷ words) before read = len-before old new (number_word len) before read
 
 old-before : (bits : Bits) (old : Option ℕ) (words : List (List ℕ)) (before : ℕ) → block_old bits old words ≡ Err before → before ≤ 2
 unfolding block_old
 old-before bits None words before read = let none : 0 ≡ before = cc in omega arith
 old-before bits (Some old) [] before read = let one : 1 ≡ before = cc in omega arith
-old-before bits (Some old) (new ∷ words) before read = new-before old (address_in bits (number_named new)) words before read
+old-before bits (Some old) (new ∷ words) before read = new-before old (address_within bits (number_word new)) words before read
 
 pub two_before : (bits : Bits) (words : List (List ℕ)) (before : ℕ) → block_at bits words ≡ Err before → before ≤ 2
 unfolding block_at
 two_before bits [] before read = let none : 0 ≡ before = cc in omega arith
-two_before bits (old ∷ words) before read = old-before bits (address_in bits (number_named old)) words before read
+two_before bits (old ∷ words) before read = old-before bits (address_within bits (number_word old)) words before read
 
 -- ---- one more block
 

@@ -13,9 +13,9 @@ use Rattle.command_words.specs.declared.commands.Command.TheVariants.{Help, Vers
 use Rattle.command_words.specs.declared.commands.BlockWords.{BlockWords}
 use Rattle.command_words.specs.declared.commands.Through.{Through}
 use Rattle.command_words.specs.declared.commands.Through.TheVariants.{List as ThroughList, Info as ThroughInfo, Recode as ThroughRecode, Flow as ThroughFlow, Asm as ThroughAsm, Move as ThroughMove, Map as ThroughMap, Slots as ThroughSlots}
-use Rattle.command_words.specs.Counts.{count_of}
+use Rattle.command_words.specs.Counts.{count_word}
 use Rattle.command_words.specs.Ranges.{Range, is_range, range_of}
-use Rattle.command_words.specs.Words.{same_text, mode_named, syntax_named, number_named, address_in, at_end, list_end, list_style, recode_base, recode_bits, recode_words, new_end, new_words, move_end, map_end, range_in, slots_size, slots_region, slots_words, code_end, code_base, code_bits, code_words, block_len, block_new, block_old, block_at, blocks_from, blocks_bits, blocks_words, count_in, sample_count, sample_words, command_of}
+use Rattle.command_words.specs.Words.{same_text, mode_named, syntax_named, number_word, address_within, with_no_more_words, list_end, list_style, recode_base, recode_bits, recode_words, new_end_word, new_words, move_end, map_end, range_in, slots_size, slots_region, slots_words, code_end, code_base, code_bits, code_words, block_len, block_new, block_old, block_at, blocks_from, blocks_bits, blocks_words, count_within, sample_count, sample_words, command_of}
 use Rattle.command_words.proofs.Blocks.{step-wrong, step-last, step-more}
 use Rattle.command_words.proofs.FirstWrong.{Words, Allowed, Begins, Sound, Refuses, Behind, never, open-by, next, last, sound-less, by_option}
 
@@ -29,22 +29,22 @@ style_there : syntax_named (codes "intel") ≡ Some IntelStyle
 unfolding syntax_named
 style_there = refl
 
-zero_there : number_named (codes "0") ≡ Some 0
-unfolding number_named digits_from digit_value upper_value
+zero_there : number_word (codes "0") ≡ Some 0
+unfolding number_word digits_from digit_value upper_value
 zero_there = refl
 
-address_there : (bits : Bits) → address_in bits (number_named (codes "0")) ≡ Some 0
-unfolding address_in
-address_there B16 = ap (address_in B16) zero_there
-address_there B32 = ap (address_in B32) zero_there
-address_there B64 = ap (address_in B64) zero_there
+address_there : (bits : Bits) → address_within bits (number_word (codes "0")) ≡ Some 0
+unfolding address_within
+address_there B16 = ap (address_within B16) zero_there
+address_there B32 = ap (address_within B32) zero_there
+address_there B64 = ap (address_within B64) zero_there
 
-count_there : count_in (number_named (codes "1")) ≡ Some 1
-unfolding number_named digits_from digit_value upper_value count_in count_of
+count_there : count_within (number_word (codes "1")) ≡ Some 1
+unfolding number_word digits_from digit_value upper_value count_within count_word
 count_there = refl
 
-sixteen_there : number_named (codes "10") ≡ Some 16
-unfolding number_named digits_from digit_value upper_value
+sixteen_there : number_word (codes "10") ≡ Some 16
+unfolding number_word digits_from digit_value upper_value
 sixteen_there = refl
 
 -- a parser that goes on with what a word stands for
@@ -53,13 +53,13 @@ open-with {A = A} o a g e b = subst (λ (x : Option A). Begins (g x) []) (sym e)
 
 -- ---- a command, and no more words
 
-end_open : (n : ℕ) (c : Command) → ((k : ℕ) → c ≡ Wrong k → ⊥) → Begins (λ ws. at_end ws (suc n) c) []
-unfolding at_end
+end_open : (n : ℕ) (c : Command) → ((k : ℕ) → c ≡ Wrong k → ⊥) → Begins (λ ws. with_no_more_words ws (suc n) c) []
+unfolding with_no_more_words
 end_open n c allowed = ([], allowed)
 
-end_sound : (n : ℕ) (c : Command) → ((k : ℕ) → c ≡ Wrong k → ⊥) → Sound n (λ ws. at_end ws (suc n) c) never
-unfolding at_end
-end_sound n c allowed = last n (λ ws. at_end ws (suc n) c) never allowed (λ w ws. refl)
+end_sound : (n : ℕ) (c : Command) → ((k : ℕ) → c ≡ Wrong k → ⊥) → Sound n (λ ws. with_no_more_words ws (suc n) c) never
+unfolding with_no_more_words
+end_sound n c allowed = last n (λ ws. with_no_more_words ws (suc n) c) never allowed (λ w ws. refl)
 
 -- ---- list
 
@@ -91,14 +91,14 @@ base_behind bits base to (Some new) = inl (end_sound 5 (Recode bits base to new)
 recode_bits_open : (bits : Bits) (base : ℕ) (to : Bits) → Begins (recode_bits bits base (Some to)) []
 unfolding recode_bits recode_base
 recode_bits_open bits base to =
-    open-by 4 (recode_bits bits base (Some to)) (λ w ws. recode_base bits base to (address_in to (number_named w)) ws) (λ w ws. refl) (codes "0")
-    (open-with (address_in to (number_named (codes "0"))) 0 (recode_base bits base to) (address_there to) (end_open 5 (Recode bits base to 0) (λ k e. cc)))
+    open-by 4 (recode_bits bits base (Some to)) (λ w ws. recode_base bits base to (address_within to (number_word w)) ws) (λ w ws. refl) (codes "0")
+    (open-with (address_within to (number_word (codes "0"))) 0 (recode_base bits base to) (address_there to) (end_open 5 (Recode bits base to 0) (λ k e. cc)))
 
 recode_bits_sound : (bits : Bits) (base : ℕ) (to : Bits) → Sound 4 (recode_bits bits base (Some to)) never
 unfolding recode_bits
 recode_bits_sound bits base to =
-    next 4 (recode_bits bits base (Some to)) (λ w ws. recode_base bits base to (address_in to (number_named w)) ws) (λ w ws. refl) never
-    (recode_bits_open bits base to) (λ k e. let five : Wrong 5 ≡ Wrong k = e in cc) (λ w. base_behind bits base to (address_in to (number_named w)))
+    next 4 (recode_bits bits base (Some to)) (λ w ws. recode_base bits base to (address_within to (number_word w)) ws) (λ w ws. refl) never
+    (recode_bits_open bits base to) (λ k e. let five : Wrong 5 ≡ Wrong k = e in cc) (λ w. base_behind bits base to (address_within to (number_word w)))
 
 bits_behind : (bits : Bits) (base : ℕ) (o : Option Bits) → Behind 4 (recode_bits bits base o) never
 unfolding recode_bits
@@ -121,21 +121,21 @@ recode_sound bits base =
 
 module _ (c : Result ℕ ℕ → Command) (bits : Bits) (ok : (new k : ℕ) → c (Ok new) ≡ Wrong k → ⊥) (err : (k : ℕ) → c (Err k) ≡ Wrong k) where
   new_open : Begins (λ ws. c (new_words bits ws)) []
-  unfolding new_words new_end
+  unfolding new_words new_end_word
   new_open =
-      open-by 3 (λ ws. c (new_words bits ws)) (λ w ws. c (new_end (address_in bits (number_named w)) ws)) (λ w ws. refl) (codes "0")
-      (open-with (address_in bits (number_named (codes "0"))) 0 (λ o ws. c (new_end o ws)) (address_there bits) ([], ok 0))
+      open-by 3 (λ ws. c (new_words bits ws)) (λ w ws. c (new_end_word (address_within bits (number_word w)) ws)) (λ w ws. refl) (codes "0")
+      (open-with (address_within bits (number_word (codes "0"))) 0 (λ o ws. c (new_end_word o ws)) (address_there bits) ([], ok 0))
 
-  new_behind : (o : Option ℕ) → Behind 4 (λ ws. c (new_end o ws)) never
-  unfolding new_end
+  new_behind : (o : Option ℕ) → Behind 4 (λ ws. c (new_end_word o ws)) never
+  unfolding new_end_word
   new_behind None = inr (λ ws. err 4)
-  new_behind (Some new) = inl (last 4 (λ ws. c (new_end (Some new) ws)) never (ok new) (λ w ws. err 5))
+  new_behind (Some new) = inl (last 4 (λ ws. c (new_end_word (Some new) ws)) never (ok new) (λ w ws. err 5))
 
   new_sound : Sound 3 (λ ws. c (new_words bits ws)) never
   unfolding new_words
   new_sound =
-      next 3 (λ ws. c (new_words bits ws)) (λ w ws. c (new_end (address_in bits (number_named w)) ws)) (λ w ws. refl) never new_open
-      (λ k e. let four : Wrong 4 ≡ Wrong k = sym (err 4) ∙ e in cc) (λ w. new_behind (address_in bits (number_named w)))
+      next 3 (λ ws. c (new_words bits ws)) (λ w ws. c (new_end_word (address_within bits (number_word w)) ws)) (λ w ws. refl) never new_open
+      (λ k e. let four : Wrong 4 ≡ Wrong k = sym (err 4) ∙ e in cc) (λ w. new_behind (address_within bits (number_word w)))
 
 -- ---- slots
 
@@ -146,7 +146,7 @@ IsFull bits base = 2 ^ width bits < base + 16
 -- the words behind `slots BITS OLD` begin with such a REGION
 abbrev pub FullRegion : Bits → Words → Type 0
 FullRegion bits [] = ⊥
-FullRegion bits (region ∷ words) = (base : ℕ) × ((address_in bits (number_named region) ≡ Some base) × IsFull bits base)
+FullRegion bits (region ∷ words) = (base : ℕ) × ((address_within bits (number_word region) ≡ Some base) × IsFull bits base)
 
 range_there : (bits : Bits) (base : ℕ) → base + 16 ≤ 2 ^ width bits → range_of bits base 16 ≡ Some (record { bits = bits; base = base; size = 16 })
 unfolding range_of
@@ -161,21 +161,21 @@ size_behind bits old (Some range) = inl (end_sound 5 (Slots old range) (λ k e. 
 region_open : (bits : Bits) (old base : ℕ) → base + 16 ≤ 2 ^ width bits → Begins (slots_region bits old (Some base)) []
 unfolding slots_region slots_size range_in
 region_open bits old base room =
-    open-by 4 (slots_region bits old (Some base)) (λ w ws. slots_size old (range_in bits base (number_named w)) ws) (λ w ws. refl) (codes "10")
-    (open-with (range_in bits base (number_named (codes "10"))) (record { bits = bits; base = base; size = 16 }) (slots_size old)
+    open-by 4 (slots_region bits old (Some base)) (λ w ws. slots_size old (range_in bits base (number_word w)) ws) (λ w ws. refl) (codes "10")
+    (open-with (range_in bits base (number_word (codes "10"))) (record { bits = bits; base = base; size = 16 }) (slots_size old)
     (ap (range_in bits base) sixteen_there ∙ range_there bits base room)
     (end_open 5 (Slots old (record { bits = bits; base = base; size = 16 })) (λ k e. cc)))
 
 region_sound : (bits : Bits) (old base : ℕ) → base + 16 ≤ 2 ^ width bits → Sound 4 (slots_region bits old (Some base)) never
 unfolding slots_region
 region_sound bits old base room =
-    next 4 (slots_region bits old (Some base)) (λ w ws. slots_size old (range_in bits base (number_named w)) ws) (λ w ws. refl) never
-    (region_open bits old base room) (λ k e. let five : Wrong 5 ≡ Wrong k = e in cc) (λ w. size_behind bits old (range_in bits base (number_named w)))
+    next 4 (slots_region bits old (Some base)) (λ w ws. slots_size old (range_in bits base (number_word w)) ws) (λ w ws. refl) never
+    (region_open bits old base room) (λ k e. let five : Wrong 5 ≡ Wrong k = e in cc) (λ w. size_behind bits old (range_in bits base (number_word w)))
 
-region_behind : (bits : Bits) (old : ℕ) (region : List ℕ) → Behind 4 (slots_region bits old (address_in bits (number_named region))) (λ ws. FullRegion bits (region ∷ ws))
+region_behind : (bits : Bits) (old : ℕ) (region : List ℕ) → Behind 4 (slots_region bits old (address_within bits (number_word region))) (λ ws. FullRegion bits (region ∷ ws))
 unfolding slots_region
 region_behind bits old region =
-    by_option 4 (address_in bits (number_named region)) (slots_region bits old) (λ ws. FullRegion bits (region ∷ ws)) (λ ws. refl)
+    by_option 4 (address_within bits (number_word region)) (slots_region bits old) (λ ws. FullRegion bits (region ∷ ws)) (λ ws. refl)
     (λ base e. elim (cases_lt (2 ^ width bits) (base + 16)) [
       | inl full ↦ inl (λ ws k fine refused. absurd (fine (base, (e, full))))
       | inr room ↦ inl (sound-less 4 (slots_region bits old (Some base)) never (λ ws. FullRegion bits (region ∷ ws)) (λ ws b. absurd b) (region_sound bits old base room))
@@ -184,8 +184,8 @@ region_behind bits old region =
 slots_open : (bits : Bits) (old : ℕ) → Begins (slots_words bits old) []
 unfolding slots_words
 slots_open bits old =
-    open-by 3 (slots_words bits old) (λ w ws. slots_region bits old (address_in bits (number_named w)) ws) (λ w ws. refl) (codes "0")
-    (open-with (address_in bits (number_named (codes "0"))) 0 (slots_region bits old) (address_there bits) (region_open bits old 0 (room bits)))
+    open-by 3 (slots_words bits old) (λ w ws. slots_region bits old (address_within bits (number_word w)) ws) (λ w ws. refl) (codes "0")
+    (open-with (address_within bits (number_word (codes "0"))) 0 (slots_region bits old) (address_there bits) (region_open bits old 0 (room bits)))
   where
     room : (bits : Bits) → 0 + 16 ≤ 2 ^ width bits
     room B16 = lit≤ tt
@@ -195,7 +195,7 @@ slots_open bits old =
 slots_sound : (bits : Bits) (old : ℕ) → Sound 3 (slots_words bits old) (FullRegion bits)
 unfolding slots_words
 slots_sound bits old =
-    next 3 (slots_words bits old) (λ w ws. slots_region bits old (address_in bits (number_named w)) ws) (λ w ws. refl) (FullRegion bits) (slots_open bits old)
+    next 3 (slots_words bits old) (λ w ws. slots_region bits old (address_within bits (number_word w)) ws) (λ w ws. refl) (FullRegion bits) (slots_open bits old)
     (λ k e. let four : Wrong 4 ≡ Wrong k = e in cc) (λ w. region_behind bits old w)
 
 -- ---- the words behind BITS BASE
@@ -236,7 +236,7 @@ code_end_sound ThroughSlots bits base = slots_sound bits base
 
 abbrev pub FullBase : Through → Bits → Words → Type 0
 FullBase through bits [] = ⊥
-FullBase through bits (old ∷ words) = (start : ℕ) × ((address_in bits (number_named old) ≡ Some start) × FullBehind through bits words)
+FullBase through bits (old ∷ words) = (start : ℕ) × ((address_within bits (number_word old) ≡ Some start) × FullBehind through bits words)
 
 abbrev pub FullBits : Through → Words → Type 0
 FullBits through [] = ⊥
@@ -245,21 +245,21 @@ FullBits through (mode ∷ words) = (bits : Bits) × ((mode_named mode ≡ Some 
 base_open : (through : Through) (bits : Bits) → Begins (code_bits through (Some bits)) []
 unfolding code_bits code_base
 base_open through bits =
-    open-by 2 (code_bits through (Some bits)) (λ w ws. code_base through bits (address_in bits (number_named w)) ws) (λ w ws. refl) (codes "0")
-    (open-with (address_in bits (number_named (codes "0"))) 0 (code_base through bits) (address_there bits) (end_open-of through bits 0))
+    open-by 2 (code_bits through (Some bits)) (λ w ws. code_base through bits (address_within bits (number_word w)) ws) (λ w ws. refl) (codes "0")
+    (open-with (address_within bits (number_word (codes "0"))) 0 (code_base through bits) (address_there bits) (end_open-of through bits 0))
 
 base_behind-of : (through : Through) (bits : Bits) (old : List ℕ) →
-    Behind 3 (code_base through bits (address_in bits (number_named old))) (λ ws. FullBase through bits (old ∷ ws))
+    Behind 3 (code_base through bits (address_within bits (number_word old))) (λ ws. FullBase through bits (old ∷ ws))
 unfolding code_base
 base_behind-of through bits old =
-    by_option 3 (address_in bits (number_named old)) (code_base through bits) (λ ws. FullBase through bits (old ∷ ws)) (λ ws. refl)
+    by_option 3 (address_within bits (number_word old)) (code_base through bits) (λ ws. FullBase through bits (old ∷ ws)) (λ ws. refl)
     (λ base e. inl (sound-less 3 (code_end through bits base) (FullBehind through bits) (λ ws. FullBase through bits (old ∷ ws)) (λ ws b. (base, (e, b)))
     (code_end_sound through bits base)))
 
 base_sound : (through : Through) (bits : Bits) → Sound 2 (code_bits through (Some bits)) (FullBase through bits)
 unfolding code_bits
 base_sound through bits =
-    next 2 (code_bits through (Some bits)) (λ w ws. code_base through bits (address_in bits (number_named w)) ws) (λ w ws. refl) (FullBase through bits)
+    next 2 (code_bits through (Some bits)) (λ w ws. code_base through bits (address_within bits (number_word w)) ws) (λ w ws. refl) (FullBase through bits)
     (base_open through bits) (λ k e. let three : Wrong 3 ≡ Wrong k = e in cc) (λ w. base_behind-of through bits w)
 
 code_open : (through : Through) → Begins (code_words through) []
@@ -291,14 +291,14 @@ count_behind (Some count) = inl (end_sound 2 (Sample count) (λ k e. cc))
 sample_open : Begins sample_words []
 unfolding sample_words sample_count
 sample_open =
-    open-by 1 sample_words (λ w ws. sample_count (count_in (number_named w)) ws) (λ w ws. refl) (codes "1")
-    (open-with (count_in (number_named (codes "1"))) 1 sample_count count_there (end_open 2 (Sample 1) (λ k e. cc)))
+    open-by 1 sample_words (λ w ws. sample_count (count_within (number_word w)) ws) (λ w ws. refl) (codes "1")
+    (open-with (count_within (number_word (codes "1"))) 1 sample_count count_there (end_open 2 (Sample 1) (λ k e. cc)))
 
 sample_sound : Sound 1 sample_words never
 unfolding sample_words
 sample_sound =
-    next 1 sample_words (λ w ws. sample_count (count_in (number_named w)) ws) (λ w ws. refl) never sample_open
-    (λ k e. let two : Wrong 2 ≡ Wrong k = e in cc) (λ w. count_behind (count_in (number_named w)))
+    next 1 sample_words (λ w ws. sample_count (count_within (number_word w)) ws) (λ w ws. refl) never sample_open
+    (λ k e. let two : Wrong 2 ≡ Wrong k = e in cc) (λ w. count_behind (count_within (number_word w)))
 
 -- ---- blocks
 
@@ -328,9 +328,9 @@ module _ (room : ℕ) (bits : Bits) (blocks : List BlockWords) (words : Words) w
   block_stepped (Ok block) read = len_stepped block block.len refl read
 
 stepped : (room : ℕ) (bits : Bits) (blocks : List BlockWords) (w : List ℕ) (ws : Words) →
-    blocks_from (suc room) bits blocks (w ∷ ws) ≡ block_step room bits blocks (block_old bits (address_in bits (number_named w)) ws) (drop 2 ws)
+    blocks_from (suc room) bits blocks (w ∷ ws) ≡ block_step room bits blocks (block_old bits (address_within bits (number_word w)) ws) (drop 2 ws)
 unfolding block_at
-stepped room bits blocks w ws = block_stepped room bits blocks (w ∷ ws) (block_old bits (address_in bits (number_named w)) ws) refl
+stepped room bits blocks w ws = block_stepped room bits blocks (w ∷ ws) (block_old bits (address_within bits (number_word w)) ws) refl
 
 -- no word of a block
 none_stepped : (room : ℕ) (bits : Bits) (blocks : List BlockWords) → blocks_from (suc room) bits blocks [] ≡ Wrong (3 + 3 * length blocks + 0)
@@ -362,15 +362,15 @@ module _ (room : ℕ) (bits : Bits) (blocks : List BlockWords) where
   new_block_behind more old None = inr (λ ws. wrong_as (3 + 3 * length blocks + 1) (suc (suc n)) (omega arith))
   new_block_behind more old (Some new) =
       inl (next (suc (suc n)) (λ ws. block_step room bits blocks (block_new old (Some new) ws) (drop 1 ws))
-      (λ w ws. block_step room bits blocks (block_len old new (number_named w)) ws) (λ w ws. refl) never (new_block_open old new)
-      (λ k e. absurd cc) (λ w. len_behind more old new (number_named w)))
+      (λ w ws. block_step room bits blocks (block_len old new (number_word w)) ws) (λ w ws. refl) never (new_block_open old new)
+      (λ k e. absurd cc) (λ w. len_behind more old new (number_word w)))
 
   old_block_open : (old : ℕ) → Begins (λ ws. block_step room bits blocks (block_old bits (Some old) ws) (drop 2 ws)) []
   unfolding block_old
   old_block_open old =
       open-by (suc n) (λ ws. block_step room bits blocks (block_old bits (Some old) ws) (drop 2 ws))
-      (λ w ws. block_step room bits blocks (block_new old (address_in bits (number_named w)) ws) (drop 1 ws)) (λ w ws. refl) (codes "0")
-      (open-with (address_in bits (number_named (codes "0"))) 0 (λ o ws. block_step room bits blocks (block_new old o ws) (drop 1 ws)) (address_there bits)
+      (λ w ws. block_step room bits blocks (block_new old (address_within bits (number_word w)) ws) (drop 1 ws)) (λ w ws. refl) (codes "0")
+      (open-with (address_within bits (number_word (codes "0"))) 0 (λ o ws. block_step room bits blocks (block_new old o ws) (drop 1 ws)) (address_there bits)
       (new_block_open old 0))
 
   old_block_behind : More → (o : Option ℕ) → Behind (suc n) (λ ws. block_step room bits blocks (block_old bits o ws) (drop 2 ws)) never
@@ -378,23 +378,23 @@ module _ (room : ℕ) (bits : Bits) (blocks : List BlockWords) where
   old_block_behind more None = inr (λ ws. wrong_as (3 + 3 * length blocks + 0) (suc n) (omega arith))
   old_block_behind more (Some old) =
       inl (next (suc n) (λ ws. block_step room bits blocks (block_old bits (Some old) ws) (drop 2 ws))
-      (λ w ws. block_step room bits blocks (block_new old (address_in bits (number_named w)) ws) (drop 1 ws)) (λ w ws. refl) never (old_block_open old)
+      (λ w ws. block_step room bits blocks (block_new old (address_within bits (number_word w)) ws) (drop 1 ws)) (λ w ws. refl) never (old_block_open old)
       (λ k e. let there : Wrong (3 + 3 * length blocks + 1) ≡ Wrong k = e in omega (arith, wrong_number (3 + 3 * length blocks + 1) k there))
-      (λ w. new_block_behind more old (address_in bits (number_named w))))
+      (λ w. new_block_behind more old (address_within bits (number_word w))))
 
   blocks_open-more : Begins (blocks_from (suc room) bits blocks) []
   blocks_open-more =
-      open-by n (blocks_from (suc room) bits blocks) (λ w ws. block_step room bits blocks (block_old bits (address_in bits (number_named w)) ws) (drop 2 ws))
+      open-by n (blocks_from (suc room) bits blocks) (λ w ws. block_step room bits blocks (block_old bits (address_within bits (number_word w)) ws) (drop 2 ws))
       (stepped room bits blocks) (codes "0")
-      (open-with (address_in bits (number_named (codes "0"))) 0 (λ o ws. block_step room bits blocks (block_old bits o ws) (drop 2 ws)) (address_there bits)
+      (open-with (address_within bits (number_word (codes "0"))) 0 (λ o ws. block_step room bits blocks (block_old bits o ws) (drop 2 ws)) (address_there bits)
       (old_block_open 0))
 
   blocks_next : More → Sound n (blocks_from (suc room) bits blocks) never
   blocks_next more =
-      next n (blocks_from (suc room) bits blocks) (λ w ws. block_step room bits blocks (block_old bits (address_in bits (number_named w)) ws) (drop 2 ws))
+      next n (blocks_from (suc room) bits blocks) (λ w ws. block_step room bits blocks (block_old bits (address_within bits (number_word w)) ws) (drop 2 ws))
       (stepped room bits blocks) never blocks_open-more
       (λ k e. omega (arith, wrong_number (3 + 3 * length blocks + 0) k (sym (none_stepped room bits blocks) ∙ e)))
-      (λ w. old_block_behind more (address_in bits (number_named w)))
+      (λ w. old_block_behind more (address_within bits (number_word w)))
 
 blocks_more : (room : ℕ) (bits : Bits) (blocks : List BlockWords) → room + length blocks ≡ 16 → Behind (2 + 3 * length blocks) (blocks_from room bits blocks) never
 unfolding blocks_from
@@ -470,14 +470,14 @@ name_behind name =
     either_of (same_text name (codes "map")) _ _ (FullOf name) (λ e. code_of name ThroughMap (none_left ThroughMap (λ bits ws b. b))) (λ e6.
     either_of (same_text name (codes "slots")) _ _ (FullOf name) (λ e. slots_of name e) (λ e7.
     either_of (same_text name (codes "blocks")) _ _ (FullOf name) (λ e. whole_of name blocks_words blocks_words_sound) (λ e8.
-    either_of (same_text name (codes "rows")) _ _ (FullOf name) (λ e. whole_of name (λ ws. at_end ws 2 Rows) (end_sound 1 Rows (λ k e. cc))) (λ e9.
+    either_of (same_text name (codes "rows")) _ _ (FullOf name) (λ e. whole_of name (λ ws. with_no_more_words ws 2 Rows) (end_sound 1 Rows (λ k e. cc))) (λ e9.
     either_of (same_text name (codes "sample")) _ _ (FullOf name) (λ e. whole_of name sample_words sample_sound) (λ e10.
-    either_of (same_text name (codes "--help")) _ _ (FullOf name) (λ e. whole_of name (λ ws. at_end ws 2 Help) (end_sound 1 Help (λ k e. cc))) (λ e11.
-    either_of (same_text name (codes "--version")) _ _ (FullOf name) (λ e. whole_of name (λ ws. at_end ws 2 Version) (end_sound 1 Version (λ k e. cc)))
+    either_of (same_text name (codes "--help")) _ _ (FullOf name) (λ e. whole_of name (λ ws. with_no_more_words ws 2 Help) (end_sound 1 Help (λ k e. cc))) (λ e11.
+    either_of (same_text name (codes "--version")) _ _ (FullOf name) (λ e. whole_of name (λ ws. with_no_more_words ws 2 Version) (end_sound 1 Version (λ k e. cc)))
     (λ e12. inr (λ ws. refl))))))))))))))
 
 command_open : Begins command_of []
-unfolding command_of at_end
+unfolding command_of with_no_more_words
 command_open = (codes "rows" ∷ [], λ k e. cc)
 
 -- **a refusal names the first wrong word**

@@ -9,7 +9,7 @@ use Rattle.command_words.specs.declared.commands.Command.{Command}
 use Rattle.command_words.specs.declared.commands.Command.TheVariants.{Wrong}
 use Rattle.command_words.specs.declared.commands.Through.TheVariants.{Slots as ThroughSlots}
 use Rattle.command_words.specs.Ranges.{Range, is_range, range_of}
-use Rattle.command_words.specs.Words.{same_text, mode_named, number_named, address_in, range_in, slots_size, slots_region, slots_words, code_end, code_base, code_bits, code_words, command_of}
+use Rattle.command_words.specs.Words.{same_text, mode_named, number_word, address_within, range_in, slots_size, slots_region, slots_words, code_end, code_base, code_bits, code_words, command_of}
 use Rattle.command_words.specs.Refused.{IsFirstWrong, HasNoRoom}
 use Rattle.command_words.proofs.FirstWrong.{Words, Allowed, First, one_first, first_not_allowed, refused_or_not}
 use Rattle.command_words.proofs.CommandLines.{Full, command_sound}
@@ -52,17 +52,17 @@ no_size bits base (Some size) full =
 region_refused : (bits : Bits) (old base : ℕ) (words : Words) → 2 ^ width bits < base + 16 → slots_region bits old (Some base) words ≡ Wrong 5
 unfolding slots_region slots_size
 region_refused bits old base [] full = refl
-region_refused bits old base (size ∷ words) full = ap (λ (o : Option Range). slots_size old o words) (no_size bits base (number_named size) full)
+region_refused bits old base (size ∷ words) full = ap (λ (o : Option Range). slots_size old o words) (no_size bits base (number_word size) full)
 
-words_refused : (bits : Bits) (old region : List ℕ) (words : Words) (start base : ℕ) → address_in bits (number_named old) ≡ Some start →
-    address_in bits (number_named region) ≡ Some base → 2 ^ width bits < base + 16 → code_bits ThroughSlots (Some bits) (old ∷ region ∷ words) ≡ Wrong 5
+words_refused : (bits : Bits) (old region : List ℕ) (words : Words) (start base : ℕ) → address_within bits (number_word old) ≡ Some start →
+    address_within bits (number_word region) ≡ Some base → 2 ^ width bits < base + 16 → code_bits ThroughSlots (Some bits) (old ∷ region ∷ words) ≡ Wrong 5
 unfolding code_bits code_base code_end slots_words
 words_refused bits old region words start base is_start is_base full =
     ap (λ (o : Option ℕ). code_base ThroughSlots bits o (region ∷ words)) is_start
     ∙ (ap (λ (o : Option ℕ). slots_region bits start o words) is_base ∙ region_refused bits start base words full)
 
 slots_refused : (mode old region : List ℕ) (words : Words) (bits : Bits) (start base : ℕ) → mode_named mode ≡ Some bits →
-    address_in bits (number_named old) ≡ Some start → address_in bits (number_named region) ≡ Some base → 2 ^ width bits < base + 16 →
+    address_within bits (number_word old) ≡ Some start → address_within bits (number_word region) ≡ Some base → 2 ^ width bits < base + 16 →
     code_words ThroughSlots (mode ∷ old ∷ region ∷ words) ≡ Wrong 5
 unfolding code_words
 slots_refused mode old region words bits start base is_mode is_start is_base full =

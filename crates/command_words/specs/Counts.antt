@@ -7,5 +7,5 @@ pub record IsCount (count : ℕ) : Type 0 where
   pub few : count ≤ 65536
 
 -- the number, where it is one
-unfoldable pub count_of : ℕ → Option ℕ
-count_of count = if not (count == 0) && nat_le count 65536 then Some count else None
+unfoldable pub count_word : ℕ → Option ℕ
+count_word count = if not (count == 0) && nat_le count 65536 then Some count else None

@@ -3,7 +3,7 @@ use Rattle.std.specs.Prelude.{◌≡◌, ◌⊎◌, ℕ, suc, ◌+◌, ◌^◌, 
 use Rattle.x86_values.specs.declared.Bits.{Bits}
 use Rattle.x86_values.specs.Wrapping.{width}
 use Rattle.command_words.specs.declared.commands.Command.TheVariants.{Wrong}
-use Rattle.command_words.specs.Words.{same_text, mode_named, number_named, address_in, command_of}
+use Rattle.command_words.specs.Words.{same_text, mode_named, number_word, address_within, command_of}
 
 -- the words are an allowed command line
 abbrev pub AreAllowed : List (List ℕ) → Type 0
@@ -27,6 +27,6 @@ abbrev pub HasNoRoom : List (List ℕ) → Type 0
 HasNoRoom (name ∷ mode ∷ old ∷ region ∷ words) =
     IsTrue (same_text name (codes "slots"))
     × ((bits : Bits) × ((mode_named mode ≡ Some bits)
-    × ((start : ℕ) × ((address_in bits (number_named old) ≡ Some start)
-    × ((base : ℕ) × ((address_in bits (number_named region) ≡ Some base) × (2 ^ width bits < base + 16)))))))
+    × ((start : ℕ) × ((address_within bits (number_word old) ≡ Some start)
+    × ((base : ℕ) × ((address_within bits (number_word region) ≡ Some base) × (2 ^ width bits < base + 16)))))))
 HasNoRoom _ = ⊥

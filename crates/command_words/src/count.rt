@@ -1,7 +1,7 @@
 //! How many instructions are made.
 
 ghost use Rattle.std.specs.Prelude.{◌≡◌, ◌≤◌};
-ghost use Rattle.command_words.specs.Counts.{count_of};
+ghost use Rattle.command_words.specs.Counts.{count_word};
 
 use std::marker::Model;
 
@@ -28,7 +28,7 @@ impl SampleCount {
     /// The number, where it is 1 to 65,536.
     #[tactic(auto, unfolding(crate::specs::Counts::count_of))]
     pub fn new(count: u64) -> Option<SampleCount>
-        ensures { result ≡ count_of count }
+        ensures { result ≡ count_word count }
     {
         if count != 0 && count <= 65_536 {
             Some(SampleCount {

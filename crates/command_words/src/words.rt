@@ -55,7 +55,7 @@ fn syntax_named(word: &str) -> Option<Style>
 /// The number that a word of 1 to 16 hexadecimal digits of either case names.
 #[tactic(auto, unfolding(crate::specs::Words::number_named))]
 fn number_named(word: &str) -> Option<u64>
-    ensures { result ≡ spec.number_named word.now }
+    ensures { result ≡ spec.number_word word.now }
 {
     let digits = word.as_bytes();
     if !digits.is_empty() && digits.len() <= 16 {
@@ -80,7 +80,7 @@ fn is_address(bits: Bits, n: u64) -> bool
 /// The number, where it is an address of the mode.
 #[tactic(auto, unfolding(crate::specs::Words::address_in))]
 fn address_in(bits: Bits, number: Option<u64>) -> Option<u64>
-    ensures { result ≡ spec.address_in bits number }
+    ensures { result ≡ spec.address_within bits number }
 {
     match number {
         Some(n) if is_address(bits, n) => Some(n),
@@ -91,7 +91,7 @@ fn address_in(bits: Bits, number: Option<u64>) -> Option<u64>
 /// The command, where no word is left behind it; else the word of this number is one too many.
 #[tactic(auto, unfolding(crate::specs::Words::at_end))]
 fn at_end(words: &[&str], word: u64, command: Command) -> Command
-    ensures { result ≡ spec.at_end (spec.texts words.now) word command }
+    ensures { result ≡ spec.with_no_more_words (spec.texts words.now) word command }
 {
     match words {
         [] => command,
@@ -177,7 +177,7 @@ fn recode_words(bits: Bits, base: u64, words: &[&str]) -> Command
 /// many.
 #[tactic(auto, unfolding(crate::specs::Words::new_end))]
 fn new_end(new: Option<u64>, words: &[&str]) -> Result<u64, u64>
-    ensures { result ≡ spec.new_end new (spec.texts words.now) }
+    ensures { result ≡ spec.new_end_word new (spec.texts words.now) }
 {
     match new {
         None => Err(4),
@@ -429,7 +429,7 @@ fn blocks_words(words: &[&str]) -> Command
 /// The number of instructions to make, where it is one.
 #[tactic(auto, unfolding(crate::specs::Words::count_in))]
 fn count_in(count: Option<u64>) -> Option<SampleCount>
-    ensures { result ≡ spec.count_in count }
+    ensures { result ≡ spec.count_within count }
 {
     SampleCount::new(count?)
 }

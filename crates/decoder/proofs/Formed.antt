@@ -38,7 +38,8 @@ use Rattle.row_fit.proofs.FitLaws.{all_conditions, modrm_range, sib_range}
 use Rattle.row_meaning.specs.Meaning.{Tail, tail_of, register_of, memory_of, memory_operand, with_modrm, gather_memory, last_byte_number, near_target, far_pointer, operand_by, immediates_before, own_immediate, operand_at, instr_of, meaning}
 use Rattle.row_relation.specs.RowReading.{RowReads}
 use Rattle.opcode_rows.specs.Table.{table}
-use Rattle.plain_spelling.specs.Forms.{is_register, is_memory, is_allowed_in, is_variant_of}
+use Rattle.x86_values.specs.Operands.{is_memory}
+use Rattle.plain_spelling.specs.Forms.{is_register, is_allowed_in, is_variant_of}
 use Rattle.opcode_rows.specs.Allowed.{has_numbers, is_named, is_named_if, operand_is_formed, is_formed, is_well_formed}
 use Rattle.opcode_rows.proofs.Formed.{well_formed-at}
 use Rattle.decoder.proofs.ReadingLaws.{meaning_code}

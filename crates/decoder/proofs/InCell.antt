@@ -13,7 +13,7 @@ use Rattle.row_fields.specs.Holds.{is_vex, map_number, opcode_holds, stands_in, 
 use Rattle.row_lists.specs.Cells.{stands_in_cell, cell_of, IsRunOf}
 use Rattle.opcode_rows.specs.Table.{table, cell}
 use Rattle.opcode_rows.proofs.CellRuns.{run-cell}
-use Rattle.decoder.specs.Cells.{IsPlaced, CellIs, cell_count}
+use Rattle.decoder.specs.Cells.{IsInCell, CellIs, cell_count}
 
 eqb_self : (n : ℕ) → (n == n) ≡ true
 eqb_self n = grind arith
@@ -39,7 +39,7 @@ both_hold : (a b : Bool) → a ≡ true → b ≡ true → (a && b) ≡ true
 both_hold a b ha hb = rw (ha, hb)
 
 -- a row with the kind, the map and the opcode byte of a state stands at their cell
-pub stands_by_state : (state : PrefixState) (row : Row) → IsPlaced state row → stands_in row (map_number (is_some state.vex) state.map) state.opcode ≡ true
+pub stands_by_state : (state : PrefixState) (row : Row) → IsInCell state row → stands_in row (map_number (is_some state.vex) state.map) state.opcode ≡ true
 stands_by_state state row p =
     let kinds : is_vex row.kind ≡ is_some state.vex = kind_is_vex row ∙ p.kind in
     let same : map_number (is_vex row.kind) row.map ≡ map_number (is_some state.vex) state.map =
@@ -48,7 +48,7 @@ stands_by_state state row p =
     ap (λ n. n == map_number (is_some state.vex) state.map) same ∙ eqb_self (map_number (is_some state.vex) state.map) in
     both_hold _ _ lines (opcode_stands row state.opcode p.opcode)
 
-in_cell : (kind : RowKind) (state : PrefixState) (row : Row) → is_vex kind ≡ is_some state.vex → IsPlaced state row → stands_in_cell kind state.map state.opcode row ≡ true
+in_cell : (kind : RowKind) (state : PrefixState) (row : Row) → is_vex kind ≡ is_some state.vex → IsInCell state row → stands_in_cell kind state.map state.opcode row ≡ true
 in_cell kind state row k p =
     ap (λ b. stands_in row (map_number b state.map) state.opcode) k ∙ stands_by_state state row p
 

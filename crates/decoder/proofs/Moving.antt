@@ -2,7 +2,7 @@
 use Rattle.std.proofs.Common.{◌≡◌, ℕ, ◌<◌, true, List, [], ◌∷◌, length, Result, Ok, Err, refl, ap, ◌∙◌, subst, arith, inl}
 use Rattle.x86_values.specs.declared.Bits.{Bits}
 use Rattle.x86_values.specs.declared.Decoded.{Decoded}
-use Rattle.x86_values.specs.Wrapping.{wrapped}
+use Rattle.x86_values.specs.Wrapping.{modulo_width}
 use Rattle.x86_values.proofs.Wrapped.{twice}
 use Rattle.row_types.specs.declared.Row.{Row}
 use Rattle.instruction_parts.specs.Front.{prefix_run, lead_front, long_front, within_15, front_of, is_open}
@@ -12,10 +12,10 @@ use Rattle.decoder.specs.declared.DecodeError.TheVariants.{Invalid, TooShort}
 use Rattle.decoder.specs.Answer.{reading_of}
 
 -- a reading of the rest, at its wrapped address
-pub reading_at : (table : List Row) (bits : Bits) (address x : ℕ) (rest bytes : List ℕ) (r : Reading) → address ≡ wrapped bits x → rest ≡ bytes → IsReading table bits (wrapped bits address) rest r → IsReading table bits (wrapped bits x) bytes r
+pub reading_at : (table : List Row) (bits : Bits) (address x : ℕ) (rest bytes : List ℕ) (r : Reading) → address ≡ modulo_width bits x → rest ≡ bytes → IsReading table bits (modulo_width bits address) rest r → IsReading table bits (modulo_width bits x) bytes r
 reading_at table bits address x rest bytes r a e h =
-    let same : wrapped bits address ≡ wrapped bits x = ap (wrapped bits) a ∙ twice bits x in
-    subst (λ (n : ℕ). IsReading table bits n bytes r) same (subst (λ (xs : List ℕ). IsReading table bits (wrapped bits address) xs r) e h)
+    let same : modulo_width bits address ≡ modulo_width bits x = ap (modulo_width bits) a ∙ twice bits x in
+    subst (λ (n : ℕ). IsReading table bits n bytes r) same (subst (λ (xs : List ℕ). IsReading table bits (modulo_width bits address) xs r) e h)
 
 no_bytes_are_open : (bits : Bits) → is_open (front_of bits []) ≡ true
 unfolding front_of long_front prefix_run lead_front within_15

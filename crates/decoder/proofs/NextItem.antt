@@ -1,6 +1,6 @@
 -- The item at the front of some bytes.
 use Rattle.std.proofs.Common.{◌≡◌, ◌<◌, ◌≤◌, ◌+◌, ℕ, ap, sym, refl, arith, ◌∙◌, length, take, drop}
-use Rattle.x86_values.specs.Wrapping.{wrapped}
+use Rattle.x86_values.specs.Wrapping.{modulo_width}
 use Rattle.opcode_rows.specs.Table.{table}
 use Rattle.opcode_rows.specs.Reading.{IsRead}
 use Rattle.decoder.specs.declared.items.Item.{Item}
@@ -10,10 +10,10 @@ use Rattle.decoder.specs.Items.{item_len, IsNext}
 use Rattle.decoder.proofs.Moving.{reading_at}
 
 -- an item of so many bytes is next: what is read at the wrapped address, those bytes, and the rest
-pub next_item : (before : Items) (item : Item) (after : Items) (len : ℕ) → item.ip ≡ wrapped before.bits before.ip
+pub next_item : (before : Items) (item : Item) (after : Items) (len : ℕ) → item.ip ≡ modulo_width before.bits before.ip
     → IsRead before.bits item.ip before.bytes.now (reading_of item.reading) → item_len item.reading ≡ len → 0 < len
     → len ≤ length before.bytes.now → item.bytes.now ≡ take len before.bytes.now → after.bits ≡ before.bits
-    → after.ip ≡ wrapped before.bits (item.ip + len) → after.bytes.now ≡ drop len before.bytes.now → IsNext before item after
+    → after.ip ≡ modulo_width before.bits (item.ip + len) → after.bytes.now ≡ drop len before.bytes.now → IsNext before item after
 next_item before item after len address read n some within front mode moved back = record {
   address = address;
   reading =
@@ -22,6 +22,6 @@ next_item before item after len address read n some within front mode moved back
   within = omega (arith, n, within);
   bytes = front ∙ ap (λ k. take k before.bytes.now) (sym n);
   mode = mode;
-  moved = moved ∙ ap (λ k. wrapped before.bits (item.ip + k)) (sym n);
+  moved = moved ∙ ap (λ k. modulo_width before.bits (item.ip + k)) (sym n);
   rest = back ∙ ap (λ k. drop k before.bytes.now) (sym n);
 }

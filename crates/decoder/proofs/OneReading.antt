@@ -4,7 +4,7 @@ use Rattle.x86_values.specs.declared.Bits.{Bits}
 use Rattle.x86_values.specs.declared.Code.{Code}
 use Rattle.x86_values.specs.declared.Instr.{Instr}
 use Rattle.x86_values.specs.declared.Decoded.{Decoded}
-use Rattle.x86_values.specs.Wrapping.{wrapped}
+use Rattle.x86_values.specs.Wrapping.{modulo_width}
 use Rattle.row_types.specs.declared.Row.{Row}
 use Rattle.instruction_parts.specs.declared.spelling.Spelling.{Spelling}
 use Rattle.instruction_parts.specs.Bytes.{bytes_of}
@@ -47,7 +47,7 @@ one_reading bits ip bytes i k n m ri rk =
 -- an answer that is a reading is the only one
 pub only_reading : (bits : Bits) (ip : ℕ) (bytes : List ℕ) (answer : Result Decoded DecodeError) → IsRead bits ip bytes (reading_of answer) → IfOk answer (λ d. IsOnlyReading bits ip bytes d)
 only_reading bits ip bytes (Ok d) h = λ i n r.
-    let same = one_reading bits (wrapped bits ip) bytes i d.instr n d.len r h in (same.instr, same.len)
+    let same = one_reading bits (modulo_width bits ip) bytes i d.instr n d.len r h in (same.instr, same.len)
 only_reading bits ip bytes (Err e) h = tt
 
 read_same : (d e : Decoded) → e.instr ≡ d.instr → e.len ≡ d.len → Read d ≡ Read e

@@ -12,7 +12,7 @@ use Rattle.row_fit.specs.Fits.{fits, vex_fits, opcode_is_kept, opcode_fits, opco
 use Rattle.instruction_parts.specs.Front.{forbids_vex}
 use Rattle.row_fit.proofs.FitLaws.{all_conditions}
 use Rattle.row_fit.proofs.SameMap.{same_map-is}
-use Rattle.decoder.specs.Cells.{IsPlaced}
+use Rattle.decoder.specs.Cells.{IsInCell}
 
 vex_placed : (bits : Bits) (row : Row) (prefixes : List ℕ) (vex : Option Vex) (opcode : ℕ) (m : Option ModRm) → vex_fits bits row prefixes vex opcode m ≡ true → (is_vex_row row ≡ is_some vex) × (spelled_map row.map vex ≡ row.map)
 unfolding vex_fits
@@ -30,7 +30,7 @@ opcode_placed row opcode m h =
     (and_parts (opcode_fits row opcode) (modrm_rule_fits row.plus row.modrm m && place_fits row m) h).0
 
 -- **the row of a fitting spelling stands where its state says**
-pub placed : (bits : Bits) (row : Row) (s : Spelling) → fits bits row s ≡ true → IsPlaced (state_of bits row s) row
+pub placed : (bits : Bits) (row : Row) (s : Spelling) → fits bits row s ≡ true → IsInCell (state_of bits row s) row
 unfolding state_of state_from
 placed bits row s h =
     let f = all_conditions bits row s h in

@@ -16,7 +16,7 @@ use Rattle.row_fit.proofs.FrontGrows.{front-extends}
 use Rattle.row_relation.specs.Spells.{SpellsNothing, IsTooShort, IsInvalid}
 use Rattle.row_relation.specs.RowReading.{RowReads, RowReadsNothing, RowCanGoOn}
 use Rattle.modrm_sib.specs.Answer.{ReadsNothingShort}
-use Rattle.decoder.specs.Cells.{IsPlaced, CellIs, RowIsLate, RowStops, Scanned}
+use Rattle.decoder.specs.Cells.{IsInCell, CellIs, RowIsLate, RowStops, Scanned}
 use Rattle.decoder.proofs.Placed.{placed}
 use Rattle.decoder.proofs.Fronts.{known_is}
 use Rattle.decoder.proofs.ReadingLaws.{reads, IsAtFront, at_front, IsBegun, begun, begins, is_closed}
@@ -97,10 +97,10 @@ scanned_goes table bits bytes first goes_on code row there nothing can h = recor
 
 -- ---- the whole cell
 
-placed_by : (bits : Bits) (bytes : List ℕ) (state : PrefixState) (row : Row) (s : Spelling) → long_front bits bytes ≡ Known state → long_front bits bytes ≡ Known (state_of bits row s) → IsTrue (fits bits row s) → IsPlaced state row
+placed_by : (bits : Bits) (bytes : List ℕ) (state : PrefixState) (row : Row) (s : Spelling) → long_front bits bytes ≡ Known state → long_front bits bytes ≡ Known (state_of bits row s) → IsTrue (fits bits row s) → IsInCell state row
 placed_by bits bytes state row s h front fit =
     let same : state_of bits row s ≡ state = cc in
-    subst (λ (f : PrefixState). IsPlaced f row) same (placed bits row s fit)
+    subst (λ (f : PrefixState). IsInCell f row) same (placed bits row s fit)
 
 cell_spells_nothing : (table : List Row) (bits : Bits) (ip : ℕ) (bytes : List ℕ) (state : PrefixState) (first end : ℕ) (goes_on : Bool) (i : Instr) (n : ℕ) → long_front bits bytes ≡ Known state → CellIs table state first end → Scanned table bits bytes first end goes_on → IsAtFront table bits ip bytes i n → ⊥
 cell_spells_nothing table bits ip bytes state first end goes_on i n h cell scanned a =

@@ -3,7 +3,7 @@ use Rattle.std.specs.Prelude.{◌≡◌, ℕ, List, Result, Ok, Err}
 use Rattle.x86_values.specs.declared.Bits.{Bits}
 use Rattle.x86_values.specs.declared.Instr.{Instr}
 use Rattle.x86_values.specs.declared.Decoded.{Decoded}
-use Rattle.x86_values.specs.Wrapping.{wrapped}
+use Rattle.x86_values.specs.Wrapping.{modulo_width}
 use Rattle.row_relation.specs.Spells.{Reading, Read, TooShort, Invalid, ReadsAs}
 use Rattle.opcode_rows.specs.Table.{table}
 use Rattle.decoder.specs.declared.DecodeError.{DecodeError}
@@ -23,4 +23,4 @@ length_of (Err e) = 0
 -- the first bytes spell no other instruction, and none with another length
 abbrev pub IsOnlyReading : Bits → ℕ → List ℕ → Decoded → Type 0
 IsOnlyReading bits ip bytes d =
-    (i : Instr) (n : ℕ) → ReadsAs table bits (wrapped bits ip) bytes i n → (i ≡ d.instr) × (n ≡ d.len)
+    (i : Instr) (n : ℕ) → ReadsAs table bits (modulo_width bits ip) bytes i n → (i ≡ d.instr) × (n ≡ d.len)

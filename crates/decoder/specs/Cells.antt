@@ -16,7 +16,7 @@ use Rattle.row_relation.specs.RowReading.{RowCanGoOn}
 -- ---- where a row stands
 
 -- the row has the kind, the map and the opcode byte of the state
-pub record IsPlaced (state : PrefixState) (row : Row) : Type 0 where
+pub record IsInCell (state : PrefixState) (row : Row) : Type 0 where
   pub kind : is_vex_row row ≡ is_some state.vex
   pub map : state.map ≡ row.map
   pub opcode : opcode_fits row state.opcode ≡ true
@@ -24,7 +24,7 @@ pub record IsPlaced (state : PrefixState) (row : Row) : Type 0 where
 -- each row that stands where the state says has a code from first on, up to end
 abbrev pub CellIs : List Row → PrefixState → ℕ → ℕ → Type 0
 CellIs table state first end =
-    (k : ℕ) (row : Row) → slice_get table k ≡ Some row → IsPlaced state row → (first ≤ k) × (k < end)
+    (k : ℕ) (row : Row) → slice_get table k ≡ Some row → IsInCell state row → (first ≤ k) × (k < end)
 
 -- how many rows stand where the state says
 unfoldable pub cell_count : PrefixState → ℕ

@@ -1,7 +1,7 @@
 -- The items of some bytes, one behind another: an instruction, or a single byte where none is read.
 use Rattle.std.specs.Prelude.{◌≡◌, ℕ, ◌+◌, ◌<◌, ◌≤◌, [], length, take, drop, Option, Some, None, Result, Ok, Err}
 use Rattle.x86_values.specs.declared.Decoded.{Decoded}
-use Rattle.x86_values.specs.Wrapping.{wrapped}
+use Rattle.x86_values.specs.Wrapping.{modulo_width}
 use Rattle.opcode_rows.specs.Reading.{IsRead}
 use Rattle.decoder.specs.declared.DecodeError.{DecodeError}
 use Rattle.decoder.specs.declared.items.Item.{Item}
@@ -15,13 +15,13 @@ item_len (Err _) = 1
 
 -- the item at the front of what was left, and what is left behind it
 pub record IsNext (before : Items) (item : Item) (after : Items) : Type 0 where
-  pub address : item.ip ≡ wrapped before.bits before.ip
+  pub address : item.ip ≡ modulo_width before.bits before.ip
   pub reading : IsRead before.bits before.ip before.bytes.now (reading_of item.reading)
   pub some : 0 < item_len item.reading
   pub within : item_len item.reading ≤ length before.bytes.now
   pub bytes : item.bytes.now ≡ take (item_len item.reading) before.bytes.now
   pub mode : after.bits ≡ before.bits
-  pub moved : after.ip ≡ wrapped before.bits (item.ip + item_len item.reading)
+  pub moved : after.ip ≡ modulo_width before.bits (item.ip + item_len item.reading)
   pub rest : after.bytes.now ≡ drop (item_len item.reading) before.bytes.now
 
 -- the items end with the bytes

@@ -1,7 +1,7 @@
 -- Some bytes are read in one way alone, and alike at addresses that wrap to one.
 use Rattle.std.specs.Prelude.{◌≡◌, ℕ, ◌+◌, List}
 use Rattle.x86_values.specs.declared.Bits.{Bits}
-use Rattle.x86_values.specs.Wrapping.{wrapped}
+use Rattle.x86_values.specs.Wrapping.{modulo_width}
 use Rattle.row_relation.specs.Spells.{Reading}
 use Rattle.opcode_rows.specs.Reading.{IsRead}
 use Rattle.opcode_rows.specs.Sweep.{IsReadAt}
@@ -14,5 +14,5 @@ pub record OneReadingFacts : Type 0 where
 -- what is read at an address that is wrapped already
 pub record WrappedFacts : Type 0 where
   -- is read at the offset that it stands for
-  pub read_at_wrapped : (bits : Bits) (base offset ip : ℕ) (bytes : List ℕ) (reading : Reading) → ip ≡ wrapped bits (base + offset) →
+  pub read_at_wrapped : (bits : Bits) (base offset ip : ℕ) (bytes : List ℕ) (reading : Reading) → ip ≡ modulo_width bits (base + offset) →
       IsRead bits ip bytes reading → IsReadAt bits base offset bytes reading

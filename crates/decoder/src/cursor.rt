@@ -1,7 +1,7 @@
 //! Reading instructions one behind another.
 
 ghost use Rattle.std.specs.Prelude.{◌≡◌, ◌+◌, ◌<◌, ◌≤◌, ◌↔◌, List, length, drop, IsTrue, IfOk, Err};
-ghost use Rattle.x86_values.specs.Wrapping.{wrapped};
+ghost use Rattle.x86_values.specs.Wrapping.{modulo_width};
 ghost use Rattle.prefixes.specs.Answer.{is_mode, mode_of};
 ghost use Rattle.opcode_rows.specs.Allowed.{is_well_formed};
 ghost use Rattle.opcode_rows.specs.Reading.{IsRead};
@@ -54,7 +54,7 @@ impl<'a, const BITS: u32> Decoder<'a, BITS> {
     /// The address of the next byte that is read: `ip` of the first byte and the position modulo 2 to the number of bits of the mode.
     #[inline]
     pub fn ip(&self) -> u64
-        ensures { result ≡ wrapped (mode_of BITS) (self.now.ip + self.now.position) }
+        ensures { result ≡ modulo_width (mode_of BITS) (self.now.ip + self.now.position) }
     {
         let address = self.position as u128 + u128::from(self.ip);
         wrap(mode_of::<BITS>(), address)

@@ -7,7 +7,7 @@ use Rattle.std.proofs.lemmas.List.Sums.{sum_by_push, sum_by-cons}
 use Rattle.std.proofs.Math.Seq.{take-append_seam}
 use Rattle.x86_values.specs.declared.Bits.{Bits}
 use Rattle.x86_values.specs.declared.Decoded.{Decoded}
-use Rattle.x86_values.specs.Wrapping.{wrapped}
+use Rattle.x86_values.specs.Wrapping.{modulo_width}
 use Rattle.row_relation.specs.Spells.{Read}
 use Rattle.opcode_rows.specs.Allowed.{is_well_formed}
 use Rattle.opcode_rows.specs.declared.generated_spots.TheConstants.{ROWS}
@@ -15,12 +15,12 @@ use Rattle.opcode_rows.specs.Reading.{IsRead}
 use Rattle.opcode_rows.specs.Sweep.{IsReadAt}
 use Rattle.move_goals.specs.declared.items.Placed.{Placed}
 use Rattle.move_goals.specs.Items.{IsPlaced, item_at}
-use Rattle.detour.specs.LawsBelow.{LawsBelow}
+use Rattle.detour.specs.LawsBelow.{DetourLawsBelow}
 use Rattle.detour.specs.Reading.{IsItemOf, IsFront}
-use Rattle.detour.specs.Taken.{bytes_in, offset_at, reading_of_item, AreReadFrom}
+use Rattle.detour.specs.Taken.{taken_bytes, offset_at, reading_of_item, AreReadFrom}
 
 -- what is decoded at an offset of some code is an instruction of it
-pub item_of : (laws : LawsBelow) (bits : Bits) (ip : ℕ) (code : List ℕ) (offset at : ℕ) (d : Decoded) → at ≡ wrapped bits (ip + offset)
+pub item_of : (laws : DetourLawsBelow) (bits : Bits) (ip : ℕ) (code : List ℕ) (offset at : ℕ) (d : Decoded) → at ≡ modulo_width bits (ip + offset)
     → IsRead bits at (drop offset code) (Read d) → 0 < d.len → d.len ≤ 15 → d.len ≤ length (drop offset code) → offset ≤ length code
     → IsTrue (is_well_formed d.instr) → IsItemOf bits ip code offset (record { ip = at; len = d.len; instr = d.instr })
 item_of laws bits ip code offset at d is reads some few within inside well =
@@ -42,11 +42,11 @@ each_more P (q ∷ items) p h last (suc k) lt = each_more P items p (λ j below.
 
 -- one more is read behind the others
 read_more : (bits : Bits) (ip : ℕ) (code : List ℕ) (offset : ℕ) (items : List Placed) (p : Placed) → AreReadFrom bits ip code offset items
-    → (at : ℕ) → at ≡ offset + bytes_in items → p.ip ≡ wrapped bits (ip + at) → IsReadAt bits ip at (drop at code) (reading_of_item p)
+    → (at : ℕ) → at ≡ offset + taken_bytes items → p.ip ≡ modulo_width bits (ip + at) → IsReadAt bits ip at (drop at code) (reading_of_item p)
     → AreReadFrom bits ip code offset (items ++ p ∷ [])
 read_more bits ip code offset [] p h at e address reads =
     let same : at ≡ offset = omega (arith, e) in
-    ((subst (λ (n : ℕ). p.ip ≡ wrapped bits (ip + n)) same address, subst (λ (n : ℕ). IsReadAt bits ip n (drop n code) (reading_of_item p)) same reads), tt)
+    ((subst (λ (n : ℕ). p.ip ≡ modulo_width bits (ip + n)) same address, subst (λ (n : ℕ). IsReadAt bits ip n (drop n code) (reading_of_item p)) same reads), tt)
 read_more bits ip code offset (q ∷ items) p h at e address reads =
     let sum = sum_by-cons (λ (x : Placed). x.len) q items in
     (h.0, read_more bits ip code (offset + q.len) items p h.1 at (omega (arith, e, sum)) address reads)
@@ -61,7 +61,7 @@ front_none bits ip code = record {
 }
 
 -- **one more of some first instructions**
-pub front_more : (bits : Bits) (ip : ℕ) (code : List ℕ) (items : List Placed) (p : Placed) → IsFront bits ip code items → (at : ℕ) → at ≡ bytes_in items
+pub front_more : (bits : Bits) (ip : ℕ) (code : List ℕ) (items : List Placed) (p : Placed) → IsFront bits ip code items → (at : ℕ) → at ≡ taken_bytes items
     → IsItemOf bits ip code at p → IsFront bits ip code (items ++ p ∷ [])
 front_more bits ip code items p front at e item =
     let sum = sum_by_push (λ (x : Placed). x.len) items p in
@@ -75,12 +75,12 @@ front_more bits ip code items p front at e item =
     }
 
 -- they were fewer bytes than are needed before each of them
-pub fewest_more : (items : List Placed) (p : Placed) (need : ℕ) → ((k : ℕ) → k < length items → offset_at items k < need) → bytes_in items < need
+pub fewest_more : (items : List Placed) (p : Placed) (need : ℕ) → ((k : ℕ) → k < length items → offset_at items k < need) → taken_bytes items < need
     → (k : ℕ) → k < length (items ++ p ∷ []) → offset_at (items ++ p ∷ []) k < need
 fewest_more items p need before below k lt =
     elim (cases_lt k (length items)) [
-      | inl less ↦ subst (λ (front : List Placed). bytes_in front < need) (sym (take-append-le k items (p ∷ []) (omega arith))) (before k less)
+      | inl less ↦ subst (λ (front : List Placed). taken_bytes front < need) (sym (take-append-le k items (p ∷ []) (omega arith))) (before k less)
       | inr not_less ↦
           let e : length items ≡ k = omega (arith, lt, not_less, length-append items (p ∷ [])) in
-          subst (λ (n : ℕ). offset_at (items ++ p ∷ []) n < need) e (subst (λ (front : List Placed). bytes_in front < need) (sym (take-append_seam items (p ∷ []))) below)
+          subst (λ (n : ℕ). offset_at (items ++ p ∷ []) n < need) e (subst (λ (front : List Placed). taken_bytes front < need) (sym (take-append_seam items (p ∷ []))) below)
     ]

@@ -4,7 +4,7 @@ use Rattle.std.proofs.lemmas.Bool.{lt-ltb}
 use Rattle.x86_values.specs.declared.Bits.{Bits}
 use Rattle.x86_values.specs.declared.Bits.TheVariants.{B16, B32, B64}
 use Rattle.x86_values.specs.declared.Instr.{Instr}
-use Rattle.x86_values.specs.Wrapping.{width, wrapped}
+use Rattle.x86_values.specs.Wrapping.{width, modulo_width}
 use Rattle.row_types.specs.declared.Row.{Row}
 use Rattle.row_types.specs.declared.Map.TheVariants.{One}
 use Rattle.row_types.specs.declared.OpKind.TheVariants.{Jz}
@@ -25,8 +25,8 @@ use Rattle.branch_forms.specs.Branches.{near_code}
 use Rattle.branch_forms.specs.Images.{branch_to}
 use Rattle.branch_forms.specs.Rows.{offset_row}
 use Rattle.move_goals.specs.Items.{IsPlaced}
-use Rattle.detour.specs.Jumps.{jump_to, IsNearJump, IsOutOfReach}
-use Rattle.detour.specs.LawsBelow.{LawsBelow}
+use Rattle.detour.specs.Jumps.{near_jump_to, IsNearJump, IsOutOfReach}
+use Rattle.detour.specs.LawsBelow.{DetourLawsBelow}
 
 first_two : (a b : Bool) → a ≡ true → b ≡ true → ((a && b) && (true && (true && true))) ≡ true
 first_two a b p q = rw (p, q) refl
@@ -84,44 +84,44 @@ branch_to-code bits t = refl
 back_by : (t n : ℕ) → t < 2 ^ 64 → n ≡ 5 → 2 ^ 64 ≤ (t + (2 ^ 64 - (t % 2 ^ 64 + n) % 2 ^ 64)) % 2 ^ 64 + 2 ^ 31
 back_by t n below e = omega (arith, below, e)
 
-pub jump-four : (bits : Bits) (t : ℕ) → length (jump_to bits t).ops ≡ 4
-unfolding jump_to branch_to
+pub jump-four : (bits : Bits) (t : ℕ) → length (near_jump_to bits t).ops ≡ 4
+unfolding near_jump_to branch_to
 jump-four bits t = refl
 
-module _ (laws : LawsBelow) where
-  jump-size : (bits : Bits) (t : ℕ) → (1 ≤ plain_length bits (jump_to bits t)) × (plain_length bits (jump_to bits t) ≤ 15)
-  unfolding jump_to
+module _ (laws : DetourLawsBelow) where
+  jump-size : (bits : Bits) (t : ℕ) → (1 ≤ plain_length bits (near_jump_to bits t)) × (plain_length bits (near_jump_to bits t) ≤ 15)
+  unfolding near_jump_to
   jump-size B16 t = let e = laws.pieces.near_jump-length B16 B16 t in (omega (arith, e), omega (arith, e))
   jump-size B32 t = let e = laws.pieces.near_jump-length B32 B32 t in (omega (arith, e), omega (arith, e))
   jump-size B64 t = let e = laws.pieces.near_jump-length B64 B64 t in (omega (arith, e), omega (arith, e))
 
   -- the near jump of 64-bit mode has five bytes
   pub near-five : (at t : ℕ) (bytes : List ℕ) → IsNearJump B64 at t bytes → length bytes ≡ 5
-  unfolding jump_to
+  unfolding near_jump_to
   near-five at t bytes e =
       let l = laws.pieces.near_jump-length B64 B64 t in
       let n = laws.targets.encoding-length B64 at (branch_to (near_code Jump B64) None t) bytes e in omega (arith, l, n)
 
-  row-encoded : (bits : Bits) (at : ℕ) (row : Row) (i : Instr) → slice_get table i.code.0 ≡ Some row → Suits bits (wrapped bits at) row i → plain_length bits i ≤ 15
+  row-encoded : (bits : Bits) (at : ℕ) (row : Row) (i : Instr) → slice_get table i.code.0 ≡ Some row → Suits bits (modulo_width bits at) row i → plain_length bits i ≤ 15
       → IsEncodedIn bits at i
   row-encoded bits at row i there suits short =
       let l = laws.targets.plain_length-row bits i row there in
-      (bytes_of row (plain_spelling bits (wrapped bits at) row i), laws.encodings.suits-encoded bits at row i there suits (omega (arith, l, short)))
+      (bytes_of row (plain_spelling bits (modulo_width bits at) row i), laws.encodings.suits-encoded bits at row i there suits (omega (arith, l, short)))
 
-  jump-encoded-16 : (at t : ℕ) → t < 2 ^ 16 → IsEncodedIn B16 at (jump_to B16 t)
-  unfolding jump_to
+  jump-encoded-16 : (at t : ℕ) → t < 2 ^ 16 → IsEncodedIn B16 at (near_jump_to B16 t)
+  unfolding near_jump_to
   jump-encoded-16 at t below =
       row-encoded B16 at (offset_row One 0xE9 Jz 20 B16) (branch_to (near_code Jump B16) None t) (ap (slice_get table) (branch_to-code B16 t) ∙ laws.codes.near-jump B16)
-      (suits-16 t (wrapped B16 at) below) (let e = laws.pieces.near_jump-length B16 B16 t in omega (arith, e))
+      (suits-16 t (modulo_width B16 at) below) (let e = laws.pieces.near_jump-length B16 B16 t in omega (arith, e))
 
-  jump-encoded-32 : (at t : ℕ) → t < 2 ^ 32 → IsEncodedIn B32 at (jump_to B32 t)
-  unfolding jump_to
+  jump-encoded-32 : (at t : ℕ) → t < 2 ^ 32 → IsEncodedIn B32 at (near_jump_to B32 t)
+  unfolding near_jump_to
   jump-encoded-32 at t below =
       row-encoded B32 at (offset_row One 0xE9 Jz 20 B32) (branch_to (near_code Jump B32) None t) (ap (slice_get table) (branch_to-code B32 t) ∙ laws.codes.near-jump B32)
-      (suits-32 t (wrapped B32 at) below) (let e = laws.pieces.near_jump-length B32 B32 t in omega (arith, e))
+      (suits-32 t (modulo_width B32 at) below) (let e = laws.pieces.near_jump-length B32 B32 t in omega (arith, e))
 
-  jump-encoded-64 : (t : ℕ) → t < 2 ^ 64 → IsEncodedIn B64 t (jump_to B64 t)
-  unfolding jump_to distance
+  jump-encoded-64 : (t : ℕ) → t < 2 ^ 64 → IsEncodedIn B64 t (near_jump_to B64 t)
+  unfolding near_jump_to distance
   jump-encoded-64 t below =
       let e = laws.pieces.near_jump-length B64 B64 t in
       let len : plain_length B64 (branch_to (near_code Jump B64) None t) ≡ 5 = omega (arith, e) in
@@ -129,14 +129,14 @@ module _ (laws : LawsBelow) where
       laws.reach.near-encoded One 0xE9 (near_code Jump B64) t t (laws.codes.near-jump B64) (omega (arith, len)) below
       (laws.reach.signed 4 (2 ^ 31) ((t + (2 ^ 64 - (t % 2 ^ 64 + n) % 2 ^ 64)) % 2 ^ 64) refl (omega arith) (inr (back_by t n below len)))
 
-  encoded-there : (bits : Bits) (t : ℕ) → t < 2 ^ width bits → IsEncodedIn bits t (jump_to bits t)
+  encoded-there : (bits : Bits) (t : ℕ) → t < 2 ^ width bits → IsEncodedIn bits t (near_jump_to bits t)
   encoded-there B16 t below = jump-encoded-16 t t below
   encoded-there B32 t below = jump-encoded-32 t t below
   encoded-there B64 t below = jump-encoded-64 t below
 
   -- **the jump as one that stands at its target is well placed**
-  pub jump-placed : (bits : Bits) (t len : ℕ) → t < 2 ^ width bits → len ≡ plain_length bits (jump_to bits t)
-      → IsPlaced bits (record { ip = t; len = len; instr = jump_to bits t })
+  pub jump-placed : (bits : Bits) (t len : ℕ) → t < 2 ^ width bits → len ≡ plain_length bits (near_jump_to bits t)
+      → IsPlaced bits (record { ip = t; len = len; instr = near_jump_to bits t })
   jump-placed bits t len below is =
       let e = encoded-there bits t below in
       let size = jump-size bits t in
@@ -144,7 +144,7 @@ module _ (laws : LawsBelow) where
         some = omega (arith, is, size.0);
         few = omega (arith, is, size.1);
         bytes = e.0;
-        spelled = laws.encodings.plain-spells bits (wrapped bits t) e.0 (jump_to bits t) (laws.encodings.encoded-plain bits t (jump_to bits t) e.0 (jump-four bits t) e.1);
+        spelled = laws.encodings.plain-spells bits (modulo_width bits t) e.0 (near_jump_to bits t) (laws.encodings.encoded-plain bits t (near_jump_to bits t) e.0 (jump-four bits t) e.1);
       }
 
   -- **only in 64-bit mode can an address be out of reach**

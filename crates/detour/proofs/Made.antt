@@ -15,16 +15,16 @@ use Rattle.detour.specs.declared.parts.JumpForm.{JumpForm}
 use Rattle.detour.specs.declared.parts.JumpForm.TheVariants.{Near, Relay, Absolute}
 use Rattle.detour.specs.declared.start.StartTarget.{StartTarget}
 use Rattle.detour.specs.declared.taken.Taken.{Taken}
-use Rattle.detour.specs.Taken.{AreTaken, bytes_in, first_code_behind}
+use Rattle.detour.specs.Taken.{AreTaken, taken_bytes, first_code_behind}
 use Rattle.detour.specs.Jumps.{IsOutOfReach}
 use Rattle.detour.specs.Entries.{IsNotEntered}
-use Rattle.detour.specs.LawsBelow.{LawsBelow}
+use Rattle.detour.specs.LawsBelow.{DetourLawsBelow}
 use Rattle.detour.specs.ReadBack.{IsPatchRead, IsRelayRead}
 use Rattle.detour.proofs.ReadBack.{patch_read, relay_read, trampoline_read}
 use Rattle.move_goals.specs.Items.{ArePlaced}
 use Rattle.detour.specs.Trampoline.{block_items, trampoline_plan}
 use Rattle.detour.specs.Detours.{IsTakenAnswer, IsRelay, IsRelayBehind, JumpParts, DetourState, IsJumpOf, IsAnswerTo, patch_of}
-use Rattle.detour.specs.Made.{refusal_of, IsFarJumpOf, IsLaid}
+use Rattle.detour.specs.Made.{detour_error_of, IsFarJumpOf, IsDetourLaid}
 
 -- ---- the relay
 
@@ -82,7 +82,7 @@ far_first bits ip code to place start long far relay tried Absolute bytes by h =
 abbrev parts_of_jump : Jump → JumpParts
 parts_of_jump jump = record { form = jump.form; bytes = jump.bytes.items; relay = jump.relay }
 
-module _ (laws : LawsBelow) (bits : Bits) (ip : ℕ) (code : List ℕ) (to place : ℕ) (start : StartTarget) (jump : Jump)
+module _ (laws : DetourLawsBelow) (bits : Bits) (ip : ℕ) (code : List ℕ) (to place : ℕ) (start : StartTarget) (jump : Jump)
     (first : IsJumpOf bits ip code to place start jump.form jump.bytes.items jump.relay) where
   -- nothing is taken
   pub refused_untaken : (why : DetourError) → IsTakenAnswer bits ip code (length jump.bytes.items) (Err why) → IsAnswerTo bits ip code to place start (Err why)
@@ -95,10 +95,10 @@ module _ (laws : LawsBelow) (bits : Bits) (ip : ℕ) (code : List ℕ) (to place
   refused_untaken (TooFar at target) h = absurd h
 
   module _ (t : Taken) (are : AreTaken bits ip code (length jump.bytes.items) t.items.items) (whole : first_code_behind t.items.items ≡ None)
-      (len : t.len ≡ bytes_in t.items.items) (placed : ArePlaced bits t.items.items) (closed : IsNotEntered (code_bytes bits ip code) t.items.items) where
+      (len : t.len ≡ taken_bytes t.items.items) (placed : ArePlaced bits t.items.items) (closed : IsNotEntered (code_bytes bits ip code) t.items.items) where
     -- it is not moved
     unmoved_refused : (why : MoveError) → IsPlanAnswer bits (block_items bits ip t.items.items) (trampoline_plan bits ip t.items.items place start) (Err why)
-        → IsAnswerTo bits ip code to place start (Err (refusal_of why))
+        → IsAnswerTo bits ip code to place start (Err (detour_error_of why))
     unmoved_refused move_error.Memory h = tt
     unmoved_refused (move_error.TooMany count) h = absurd h
     unmoved_refused (move_error.OldOrder at) h = absurd h
@@ -108,9 +108,9 @@ module _ (laws : LawsBelow) (bits : Bits) (ip : ℕ) (code : List ℕ) (to place
         record { jump = parts_of_jump jump; first = first; items = t.items.items; are_taken = are; whole = whole; closed = closed; refused = h }
 
     -- **what is laid of it is the answer**
-    pub laid_answer : (r : Result DetourState DetourError) → IsLaid bits ip to place start jump t r → IsAnswerTo bits ip code to place start r
+    pub laid_answer : (r : Result DetourState DetourError) → IsDetourLaid bits ip to place start jump t r → IsAnswerTo bits ip code to place start r
     laid_answer (Ok d) h =
-        let patch : d.patch ≡ patch_of jump.bytes.items (bytes_in t.items.items) = subst (λ (n : ℕ). d.patch ≡ patch_of jump.bytes.items n) len h.1.1.patch in
+        let patch : d.patch ≡ patch_of jump.bytes.items (taken_bytes t.items.items) = subst (λ (n : ℕ). d.patch ≡ patch_of jump.bytes.items n) len h.1.1.patch in
         record {
           jump = parts_of_jump jump;
           first = first;
@@ -126,7 +126,7 @@ module _ (laws : LawsBelow) (bits : Bits) (ip : ℕ) (code : List ℕ) (to place
           trampoline = h.1.1.trampoline;
           parts = h.1.1.parts;
           patch_read = subst (λ (bs : List ℕ). IsPatchRead bits ip to jump.form jump.bytes.items jump.relay bs) (sym patch)
-              (patch_read laws bits ip code to place start jump.form jump.bytes.items jump.relay first (bytes_in t.items.items));
+              (patch_read laws bits ip code to place start jump.form jump.bytes.items jump.relay first (taken_bytes t.items.items));
           trampoline_read = trampoline_read laws bits ip t.items.items place start placed h.0 h.1.0;
           relay_read = subst (λ (bs : List ℕ). IsRelayRead to place (length h.0.bytes) jump.relay bs) (sym h.1.1.trampoline)
               (relay_read laws bits ip code to place start jump.form jump.bytes.items jump.relay first t.items.items are h.0 h.1.0);

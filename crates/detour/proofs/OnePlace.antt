@@ -14,11 +14,11 @@ use Rattle.block_encoder.specs.declared.error.MoveError.TheVariants as move_erro
 use Rattle.block_encoder.specs.Bytes.{bytes_of_blocks}
 use Rattle.block_encoder.specs.Moved.{MovedLists}
 use Rattle.block_encoder.specs.ByPlan.{IsMovedBy, IsPlanAnswer}
-use Rattle.detour.specs.LawsBelow.{LawsBelow}
+use Rattle.detour.specs.LawsBelow.{DetourLawsBelow}
 use Rattle.detour.specs.declared.error.DetourError.{DetourError}
 use Rattle.detour.specs.declared.error.DetourError.TheVariants.{Memory, BadCode, TooSmall, Ends, Entered, Wraps, TooFar}
 use Rattle.detour.specs.declared.start.StartTarget.{StartTarget}
-use Rattle.detour.specs.Taken.{AreReadFrom, AreTaken, bytes_in, offset_at, reading_of_item}
+use Rattle.detour.specs.Taken.{AreReadFrom, AreTaken, taken_bytes, offset_at, reading_of_item}
 use Rattle.detour.specs.Trampoline.{IsTrampoline, block_items, trampoline_plan}
 use Rattle.detour.specs.Detours.{IsTakenAnswer, IsRelayOf, IsRelayBehind, relay_behind}
 
@@ -41,14 +41,14 @@ behind_there : (place len address : ℕ) → Some address ≡ relay_behind place
 unfolding relay_behind
 behind_there place len address e = if_some (nat_le (place + len + 14) (2 ^ 64)) (place + len) address e
 
-module _ (laws : LawsBelow) (bits : Bits) where
+module _ (laws : DetourLawsBelow) (bits : Bits) where
   one_reading : (ip offset : ℕ) (bytes : List ℕ) (a b : Reading) → IsReadAt bits ip offset bytes a → IsReadAt bits ip offset bytes b → a ≡ b
   unfolding IsReadAt
   one_reading ip offset bytes a b h k = laws.readings.reading_same bits (ip + offset) bytes a b h k
 
   -- as few instructions as have so many bytes are the same ones
   one_front : (ip : ℕ) (code : List ℕ) (need offset : ℕ) (a b : List Placed) → AreReadFrom bits ip code offset a → AreReadFrom bits ip code offset b
-      → need ≤ bytes_in a → need ≤ bytes_in b → ((k : ℕ) → k < length a → offset_at a k < need) → ((k : ℕ) → k < length b → offset_at b k < need) → a ≡ b
+      → need ≤ taken_bytes a → need ≤ taken_bytes b → ((k : ℕ) → k < length a → offset_at a k < need) → ((k : ℕ) → k < length b → offset_at b k < need) → a ≡ b
   one_front ip code need offset [] [] reads others enough enough' fewest fewest' = refl
   one_front ip code need offset [] (q ∷ b) reads others enough enough' fewest fewest' = let first = fewest' 0 (omega arith) in absurd (omega (arith, first, enough))
   one_front ip code need offset (p ∷ a) [] reads others enough enough' fewest fewest' = let first = fewest 0 (omega arith) in absurd (omega (arith, first, enough'))

@@ -9,7 +9,7 @@ use Rattle.x86_values.specs.declared.Bits.{Bits}
 use Rattle.x86_values.specs.declared.Bits.TheVariants.{B16, B32, B64}
 use Rattle.x86_values.specs.declared.Instr.{Instr}
 use Rattle.std.proofs.lemmas.List.{append-nil, length-append, length-take-le}
-use Rattle.x86_values.specs.Wrapping.{width, wrapped}
+use Rattle.x86_values.specs.Wrapping.{width, modulo_width}
 use Rattle.opcode_rows.specs.Table.{table}
 use Rattle.operand_info.specs.Operands.{near_value, ip_value, first_value}
 use Rattle.branch_sizes.specs.declared.plan.Branch.{Branch}
@@ -21,11 +21,11 @@ use Rattle.move_goals.specs.declared.items.Placed.{Placed}
 use Rattle.move_goals.specs.Items.{IsPlaced, ArePlaced, item_at, first_below, one_span}
 use Rattle.move_goals.specs.Goals.{begins_at}
 use Rattle.move_goals.specs.Plan.{branch_with, kept_goal}
-use Rattle.detour.specs.LawsBelow.{LawsBelow}
+use Rattle.detour.specs.LawsBelow.{DetourLawsBelow}
 use Rattle.detour.specs.declared.start.StartTarget.{StartTarget}
 use Rattle.detour.specs.declared.start.StartTarget.TheVariants.{Moved, Hooked}
-use Rattle.detour.specs.Trampoline.{back_address, jump_back, back_items, block_items, goal_among, moved_goal, goal_at, plan_at}
-use Rattle.detour.specs.Taken.{bytes_in, first_end, moved_count}
+use Rattle.detour.specs.Trampoline.{address_behind_taken, jump_back, back_items, block_items, trampoline_goal_among, moved_goal, trampoline_goal_at, plan_at}
+use Rattle.detour.specs.Taken.{taken_bytes, first_end, moved_count}
 use Rattle.detour.proofs.Front.{each_more}
 use Rattle.detour.proofs.Jumping.{jump-placed}
 
@@ -45,7 +45,7 @@ one_more f xs ys k x old last is =
 
 -- ---- the goals are items or addresses
 
-among_fit : (start : StartTarget) (count n : ℕ) (own : Option ℕ) (t : ℕ) → ((j : ℕ) → own ≡ Some j → j < count) → is_fit_goal count n (goal_among start own t) ≡ true
+among_fit : (start : StartTarget) (count n : ℕ) (own : Option ℕ) (t : ℕ) → ((j : ℕ) → own ≡ Some j → j < count) → is_fit_goal count n (trampoline_goal_among start own t) ≡ true
 among_fit start count n None t below = refl
 among_fit Moved count n (Some zero) t below = lt-ltb 0 count (below 0 refl)
 among_fit Hooked count n (Some zero) t below = refl
@@ -68,7 +68,7 @@ kept_fit : (bits : Bits) (count : ℕ) (i : Instr) (target : Option ℕ) → tar
 kept_fit bits count i None is = eq-eqb (length (choices_of bits i)) 1 (one_choice bits i is)
 kept_fit bits count i (Some t) is = refl
 
-module _ (laws : LawsBelow) (bits : Bits) (items : List Placed) (count : ℕ) (start : StartTarget) (within : count ≤ length items) where
+module _ (laws : DetourLawsBelow) (bits : Bits) (items : List Placed) (count : ℕ) (start : StartTarget) (within : count ≤ length items) where
   moved_fit : (i : Instr) (target : Option ℕ) → target_of i ≡ target
       → is_fit_goal (length items) (length (choices_of bits i)) (moved_goal start items count target) ≡ true
   moved_fit i None is = kept_fit bits (length items) i None is
@@ -76,7 +76,7 @@ module _ (laws : LawsBelow) (bits : Bits) (items : List Placed) (count : ℕ) (s
       among_fit start (length items) (length (choices_of bits i)) (first_below (begins_at items t) count) t
       (λ j e. let b = (laws.firsts.some_below (begins_at items t) count j e).0 in omega (arith, b, within))
 
-  goal_fit : (k : ℕ) → is_fit_goal (length items) (length (choices_of bits (item_at items k).instr)) (goal_at start items count k) ≡ true
+  goal_fit : (k : ℕ) → is_fit_goal (length items) (length (choices_of bits (item_at items k).instr)) (trampoline_goal_at start items count k) ≡ true
   goal_fit k =
       elim (cases_Bool (nat_lt k count)) [
         | inl moved ↦ rw moved (moved_fit (item_at items k).instr (target_of (item_at items k).instr) refl)
@@ -84,20 +84,20 @@ module _ (laws : LawsBelow) (bits : Bits) (items : List Placed) (count : ℕ) (s
       ]
 
   module _ (placed : ArePlaced bits items) where
-    fit_item : (k : ℕ) → k < length items → is_fit_branch (length items) (branch_with bits items (goal_at start items count) k) ≡ true
+    fit_item : (k : ℕ) → k < length items → is_fit_branch (length items) (branch_with bits items (trampoline_goal_at start items count) k) ≡ true
     fit_item k lt =
         let p = placed k lt in
         let i = (item_at items k).instr in
         let cs = choices_of bits i in
-        let h = laws.forms.spelled-fit bits (wrapped bits (item_at items k).ip) p.bytes i p.spelled in
+        let h = laws.forms.spelled-fit bits (modulo_width bits (item_at items k).ip) p.bytes i p.spelled in
         and_from _ _ (and_from _ _ (lt-ltb 0 (length cs) h.0) (le-leb (length cs) 3 h.1))
         (and_from _ _ h.2 (and_from _ _ h.3 (and_from _ _ (goal_fit k) h.4)))
 
     -- **the items of the plan are fit**
-    pub items_fit : (branches : List Branch) → branches ≡ map (branch_with bits items (goal_at start items count)) (range_with_len 0 (length items))
+    pub items_fit : (branches : List Branch) → branches ≡ map (branch_with bits items (trampoline_goal_at start items count)) (range_with_len 0 (length items))
         → IsTrue (list_all (is_fit_branch (length branches)) branches)
     items_fit branches are =
-        let f = branch_with bits items (goal_at start items count) in
+        let f = branch_with bits items (trampoline_goal_at start items count) in
         let len : length (map f (range_with_len 0 (length items))) ≡ length items = length-map-range_with_len f 0 (length items) in
         subst (λ (bs : List Branch). IsTrue (list_all (is_fit_branch (length bs)) bs)) (sym are)
         (subst (λ n. list_all (is_fit_branch n) (map f (range_with_len 0 (length items))) ≡ true) (sym len)
@@ -127,7 +127,7 @@ block_few bits ip items within =
 pub block_some : (bits : Bits) (ip : ℕ) (items : List Placed) → first_end items ≡ None → 0 < length (block_items bits ip items)
 unfolding block_items
 block_some bits ip items goes =
-    let one : length (back_items bits ip items) ≡ 1 = ap (λ (e : Option ℕ). length (if is_some e then [] else jump_back bits (back_address bits ip items) ∷ [])) goes in
+    let one : length (back_items bits ip items) ≡ 1 = ap (λ (e : Option ℕ). length (if is_some e then [] else jump_back bits (address_behind_taken bits ip items) ∷ [])) goes in
     omega (arith, length-append (take (moved_count items) items) (back_items bits ip items), one)
 
 -- they are well placed
@@ -146,19 +146,19 @@ placed_with : (bits : Bits) (items : List Placed) (e : Option ℕ) (p : Placed) 
 placed_with bits items (Some k) p placed last = subst (λ (xs : List Placed). ArePlaced bits xs) (sym (append-nil items)) placed
 placed_with bits items None p placed last = each_more (IsPlaced bits) items p placed last
 
-below_width : (bits : Bits) (x : ℕ) → wrapped bits x < 2 ^ width bits
+below_width : (bits : Bits) (x : ℕ) → modulo_width bits x < 2 ^ width bits
 below_width B16 x = omega arith
 below_width B32 x = omega arith
 below_width B64 x = omega arith
 
-module _ (laws : LawsBelow) where
+module _ (laws : DetourLawsBelow) where
   pub block_placed : (bits : Bits) (ip : ℕ) (items : List Placed) → ArePlaced bits items → ArePlaced bits (block_items bits ip items)
   unfolding block_items
   block_placed bits ip items placed =
-      placed_with bits (take (moved_count items) items) (first_end items) (jump_back bits (back_address bits ip items)) (placed_take bits items (moved_count items) placed)
-      (jump-placed laws bits (back_address bits ip items) (jump_back bits (back_address bits ip items)).len (below_width bits (ip + bytes_in items)) refl)
+      placed_with bits (take (moved_count items) items) (first_end items) (jump_back bits (address_behind_taken bits ip items)) (placed_take bits items (moved_count items) placed)
+      (jump-placed laws bits (address_behind_taken bits ip items) (jump_back bits (address_behind_taken bits ip items)).len (below_width bits (ip + taken_bytes items)) refl)
 
   -- the plan has as many items
   pub plan_count : (bits : Bits) (items : List Placed) (count place : ℕ) (start : StartTarget) → length (plan_at bits items count place start).items ≡ length items
   unfolding plan_at
-  plan_count bits items count place start = laws.fragments.plan-count bits (one_span items place) items (goal_at start items count)
+  plan_count bits items count place start = laws.fragments.plan-count bits (one_span items place) items (trampoline_goal_at start items count)

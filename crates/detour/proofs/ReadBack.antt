@@ -4,20 +4,20 @@ use Rattle.std.specs.Prelude.{IfSome}
 use Rattle.std.proofs.Math.Seq.{drop-append_seam}
 use Rattle.std.proofs.lemmas.Bool.{lt-ltb}
 use Rattle.x86_values.specs.declared.Bits.{Bits}
-use Rattle.x86_values.specs.Wrapping.{wrapped}
+use Rattle.x86_values.specs.Wrapping.{modulo_width}
 use Rattle.opcode_rows.specs.Reading.{IsRead}
 use Rattle.branch_sizes.specs.Layout.{block_number}
 use Rattle.move_goals.specs.declared.items.Placed.{Placed}
 use Rattle.move_goals.specs.Items.{ArePlaced, one_span}
 use Rattle.block_encoder.specs.Aims.{StandsAtPlace, GoesToGoal}
 use Rattle.block_encoder.specs.Moved.{MovedLists}
-use Rattle.detour.specs.LawsBelow.{LawsBelow}
+use Rattle.detour.specs.LawsBelow.{DetourLawsBelow}
 use Rattle.detour.specs.declared.parts.JumpForm.{JumpForm}
 use Rattle.detour.specs.declared.parts.JumpForm.TheVariants.{Near, Relay, Absolute}
 use Rattle.detour.specs.declared.start.StartTarget.{StartTarget}
-use Rattle.detour.specs.Jumps.{jump_to, IsNearJump, absolute_jump}
+use Rattle.detour.specs.Jumps.{near_jump_to, IsNearJump, absolute_jump}
 use Rattle.detour.specs.Taken.{AreTaken, moved_count}
-use Rattle.detour.specs.Trampoline.{IsTrampoline, block_items, goal_at, plan_at, trampoline_plan}
+use Rattle.detour.specs.Trampoline.{IsTrampoline, block_items, trampoline_goal_at, plan_at, trampoline_plan}
 use Rattle.detour.specs.ReadBack.{jump_reading, IsAbsoluteRead, IsRelayRead, IsPatchRead, IsTrampolineRead}
 use Rattle.detour.specs.Detours.{IsJumpOf, patch_of, relay_bytes}
 use Rattle.detour.proofs.Jumping.{jump-four, near-five}
@@ -28,11 +28,11 @@ use Rattle.detour.proofs.Planned.{block_placed}
 in_first : (items : List Placed) (place k : ℕ) → k < length items → block_number (one_span items place) k ≡ 0
 in_first items place k lt = rw (lt-ltb k (length items) lt) refl
 
-module _ (laws : LawsBelow) where
+module _ (laws : DetourLawsBelow) where
   near_read : (bits : Bits) (at target : ℕ) (bytes rest : List ℕ) → IsNearJump bits at target bytes → IsRead bits at (bytes ++ rest) (jump_reading bits target bytes)
   near_read bits at target bytes rest e =
-      laws.encodings.plain-reads bits (wrapped bits at) bytes rest (jump_to bits target)
-      (laws.encodings.encoded-plain bits at (jump_to bits target) bytes (jump-four bits target) e)
+      laws.encodings.plain-reads bits (modulo_width bits at) bytes rest (near_jump_to bits target)
+      (laws.encodings.encoded-plain bits at (near_jump_to bits target) bytes (jump-four bits target) e)
 
   -- **the patch is read as the near jump**
   pub patch_read : (bits : Bits) (ip : ℕ) (code : List ℕ) (to place : ℕ) (start : StartTarget) (form : JumpForm) (bytes : List ℕ) (relay : Option ℕ)
@@ -78,7 +78,7 @@ module _ (laws : LawsBelow) where
   unfolding plan_at
   trampoline_read bits ip items place start placed m moved =
       let bs = block_items bits ip items in
-      let goals = goal_at start bs (moved_count items) in
+      let goals = trampoline_goal_at start bs (moved_count items) in
       let spans = one_span bs place in
       let of = laws.plans.one_span-of bs place in
       let well : ArePlaced bits bs = block_placed laws bits ip items placed in

@@ -2,7 +2,7 @@
 use Rattle.std.proofs.Common.{◌≡◌, ℕ, ◌+◌, ◌^◌, ◌<◌, Bool, true, ◌&&◌, List, [], ◌∷◌, ◌++◌, length, Some, Ok, nat_lt, slice_get, refl, sym, ap, ◌∙◌, arith}
 use Rattle.std.proofs.lemmas.Bool.{lt-ltb}
 use Rattle.x86_values.specs.declared.Bits.TheVariants.{B64}
-use Rattle.x86_values.specs.Wrapping.{wrapped}
+use Rattle.x86_values.specs.Wrapping.{modulo_width}
 use Rattle.instruction_parts.specs.Bytes.{lead_bytes, tail_bytes, front_bytes, bytes_of}
 use Rattle.instruction_parts.specs.Kinds.{method_of, file_of, immediate_width}
 use Rattle.instruction_parts.specs.Sizes.{exists_in, operand_size}
@@ -20,7 +20,7 @@ use Rattle.branch_forms.specs.declared.branch.Action.TheVariants.{Jump}
 use Rattle.branch_forms.specs.Branches.{far_code}
 use Rattle.branch_forms.specs.Images.{through_slot}
 use Rattle.branch_forms.specs.Rows.{memory_row}
-use Rattle.detour.specs.LawsBelow.{LawsBelow}
+use Rattle.detour.specs.LawsBelow.{DetourLawsBelow}
 use Rattle.detour.specs.Jumps.{absolute_jump}
 use Rattle.detour.specs.ReadBack.{through_reading, IsAbsoluteRead}
 
@@ -70,9 +70,9 @@ through-code : (slot : ℕ) → (through_slot (far_code Jump) slot).code.0 ≡ f
 unfolding through_slot
 through-code slot = refl
 
-module _ (laws : LawsBelow) (at : ℕ) where
+module _ (laws : DetourLawsBelow) (at : ℕ) where
   slot : ℕ
-  slot = wrapped B64 (at + 6)
+  slot = modulo_width B64 (at + 6)
 
   here : slice_get table (through_slot (far_code Jump) slot).code.0 ≡ Some (memory_row 4)
   here = ap (slice_get table) (through-code slot) ∙ laws.codes.far-jump
@@ -81,29 +81,29 @@ module _ (laws : LawsBelow) (at : ℕ) where
   size = sym (laws.targets.plain_length-row B64 (through_slot (far_code Jump) slot) (memory_row 4) here) ∙ laws.pieces.slot_jump-length B64 slot
 
   -- the address behind it is that of the slot
-  next-is : plain_next B64 (wrapped B64 at) (memory_row 4) (through_slot (far_code Jump) slot) ≡ slot
+  next-is : plain_next B64 (modulo_width B64 at) (memory_row 4) (through_slot (far_code Jump) slot) ≡ slot
   unfolding plain_next slot
-  next-is = ap (λ (n : ℕ). wrapped B64 (wrapped B64 at + n)) size ∙ omega arith
+  next-is = ap (λ (n : ℕ). modulo_width B64 (modulo_width B64 at + n)) size ∙ omega arith
 
-  gone : distance B64 (plain_next B64 (wrapped B64 at) (memory_row 4) (through_slot (far_code Jump) slot)) slot ≡ 0
+  gone : distance B64 (plain_next B64 (modulo_width B64 at) (memory_row 4) (through_slot (far_code Jump) slot)) slot ≡ 0
   unfolding slot
   gone = ap (λ (n : ℕ). distance B64 n slot) next-is ∙ no-distance slot (omega arith)
 
-  bytes-are : bytes_of (memory_row 4) (plain_spelling B64 (wrapped B64 at) (memory_row 4) (through_slot (far_code Jump) slot)) ≡ 0xFF ∷ 0x25 ∷ 0 ∷ 0 ∷ 0 ∷ 0 ∷ []
-  bytes-are = through-bytes slot (wrapped B64 at) ∙ (ap (λ (n : ℕ). 0xFF ∷ 0x25 ∷ low_bytes 4 n) gone ∙ ap (λ (bs : List ℕ). 0xFF ∷ 0x25 ∷ bs) zero-bytes)
+  bytes-are : bytes_of (memory_row 4) (plain_spelling B64 (modulo_width B64 at) (memory_row 4) (through_slot (far_code Jump) slot)) ≡ 0xFF ∷ 0x25 ∷ 0 ∷ 0 ∷ 0 ∷ 0 ∷ []
+  bytes-are = through-bytes slot (modulo_width B64 at) ∙ (ap (λ (n : ℕ). 0xFF ∷ 0x25 ∷ low_bytes 4 n) gone ∙ ap (λ (bs : List ℕ). 0xFF ∷ 0x25 ∷ bs) zero-bytes)
 
   encoded : encoding B64 at (through_slot (far_code Jump) slot) ≡ Ok (0xFF ∷ 0x25 ∷ 0 ∷ 0 ∷ 0 ∷ 0 ∷ [])
   unfolding slot
   encoded =
       laws.encodings.suits-encoded B64 at (memory_row 4) (through_slot (far_code Jump) slot) here
-      (through-suits slot (wrapped B64 at) (omega arith) (ap (is_extended_of 4 64) gone ∙ zero-extended)) (omega (arith, size))
+      (through-suits slot (modulo_width B64 at) (omega arith) (ap (is_extended_of 4 64) gone ∙ zero-extended)) (omega (arith, size))
       ∙ ap (λ (bs : List ℕ). Ok bs) bytes-are
 
   -- whatever stands behind them, they are read as the jump through what follows
   through-read : (rest : List ℕ) → IsRead B64 at (0xFF ∷ 0x25 ∷ 0 ∷ 0 ∷ 0 ∷ 0 ∷ rest) (through_reading at)
   unfolding slot
   through-read rest =
-      laws.encodings.plain-reads B64 (wrapped B64 at) (0xFF ∷ 0x25 ∷ 0 ∷ 0 ∷ 0 ∷ 0 ∷ []) rest (through_slot (far_code Jump) slot)
+      laws.encodings.plain-reads B64 (modulo_width B64 at) (0xFF ∷ 0x25 ∷ 0 ∷ 0 ∷ 0 ∷ 0 ∷ []) rest (through_slot (far_code Jump) slot)
       (laws.encodings.encoded-plain B64 at (through_slot (far_code Jump) slot) (0xFF ∷ 0x25 ∷ 0 ∷ 0 ∷ 0 ∷ 0 ∷ []) (through-four slot) encoded)
 
   -- **so is the jump with its address behind it**

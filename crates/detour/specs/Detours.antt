@@ -2,7 +2,7 @@
 use Rattle.std.specs.Prelude.{◌≡◌, ℕ, ◌+◌, ◌-◌, ◌*◌, ◌^◌, nat_le, nat_lt, is_some, if◌then◌else◌, List, [], ◌++◌, length, replicate, slice_index_or, Option, Some, None, IfSome, Result, Ok, Err}
 use Rattle.x86_values.specs.declared.Bits.{Bits}
 use Rattle.x86_values.specs.declared.Bits.TheVariants.{B64}
-use Rattle.x86_values.specs.Wrapping.{wrapped}
+use Rattle.x86_values.specs.Wrapping.{modulo_width}
 use Rattle.flow_graph.specs.Control.{code_bytes}
 use Rattle.move_goals.specs.declared.items.Placed.{Placed}
 use Rattle.block_encoder.specs.declared.error.MoveError.{MoveError}
@@ -15,7 +15,7 @@ use Rattle.detour.specs.declared.parts.JumpForm.{JumpForm}
 use Rattle.detour.specs.declared.parts.JumpForm.TheVariants.{Near, Relay, Absolute}
 use Rattle.detour.specs.declared.parts.Parts.{Parts}
 use Rattle.detour.specs.declared.start.StartTarget.{StartTarget}
-use Rattle.detour.specs.Taken.{AreTaken, IsBadCode, IsTooSmall, IsCodeBehind, bytes_in, first_end, first_code_behind}
+use Rattle.detour.specs.Taken.{AreTaken, IsBadCode, IsTooSmall, IsCodeBehind, taken_bytes, first_end, first_code_behind}
 use Rattle.detour.specs.Jumps.{IsNearJump, IsOutOfReach, absolute_jump}
 use Rattle.detour.specs.Entries.{IsFirstEntry, IsNotEntered}
 use Rattle.detour.specs.Trampoline.{IsTrampoline, block_items, trampoline_plan}
@@ -118,8 +118,8 @@ pub record IsDetour (bits : Bits) (ip : ℕ) (code : List ℕ) (to place : ℕ) 
   pub moved : MovedLists
   pub block : IsTrampoline bits ip items place start moved
   pub form : d.form ≡ jump.form
-  pub taken : d.taken ≡ bytes_in items
-  pub patch : d.patch ≡ patch_of jump.bytes (bytes_in items)
+  pub taken : d.taken ≡ taken_bytes items
+  pub patch : d.patch ≡ patch_of jump.bytes (taken_bytes items)
   pub trampoline : d.trampoline ≡ moved.bytes ++ relay_bytes jump.relay to
   pub parts : d.parts ≡ parts_of items place moved jump.relay
   pub patch_read : IsPatchRead bits ip to jump.form jump.bytes jump.relay d.patch
@@ -161,4 +161,4 @@ IsAnswerTo bits ip code to place start (Err why) = IsNotTaken bits ip code to pl
 
 -- the answer: the address of the replacement is taken modulo 2 to the number of bits of the mode
 abbrev pub IsDetourAnswer : Bits → ℕ → List ℕ → ℕ → ℕ → StartTarget → Result DetourState DetourError → Type 0
-IsDetourAnswer bits ip code to place start answer = IsAnswerTo bits ip code (wrapped bits to) place start answer
+IsDetourAnswer bits ip code to place start answer = IsAnswerTo bits ip code (modulo_width bits to) place start answer

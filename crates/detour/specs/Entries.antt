@@ -3,7 +3,7 @@ use Rattle.std.specs.Prelude.{◌≡◌, ◌⊎◌, ℕ, ◌+◌, ◌<◌, ◌�
 use Rattle.flow_graph.specs.Control.{CodeBytes, IsSuccessor}
 use Rattle.flow_graph.specs.Reached.{Reaches}
 use Rattle.move_goals.specs.declared.items.Placed.{Placed}
-use Rattle.detour.specs.Taken.{bytes_in, offset_at, moved_count}
+use Rattle.detour.specs.Taken.{taken_bytes, offset_at, moved_count}
 
 -- one of the moved instructions begins at an offset
 abbrev pub IsMovedStart : List Placed → ℕ → Type 0
@@ -13,8 +13,8 @@ IsMovedStart items q = (k : ℕ) × ((k < moved_count items) × (offset_at items
 -- which is moved with it.
 pub record IsEntry (items : List Placed) (p q : ℕ) : Type 0 where
   pub behind : 0 < q
-  pub within : q < bytes_in items
-  pub from : (bytes_in items ≤ p) ⊎ (IsMovedStart items p × (IsMovedStart items q → ⊥))
+  pub within : q < taken_bytes items
+  pub from : (taken_bytes items ≤ p) ⊎ (IsMovedStart items p × (IsMovedStart items q → ⊥))
 
 -- control may go so from a reached offset
 pub record Enters (code : CodeBytes) (items : List Placed) (p q : ℕ) : Type 0 where

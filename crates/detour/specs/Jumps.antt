@@ -10,12 +10,12 @@ use Rattle.branch_forms.specs.Branches.{near_code}
 use Rattle.branch_forms.specs.Images.{branch_to}
 
 -- a JMP with an offset of the mode's own operand size
-unfoldable pub jump_to : Bits → ℕ → Instr
-jump_to bits target = branch_to (near_code Jump bits) None target
+unfoldable pub near_jump_to : Bits → ℕ → Instr
+near_jump_to bits target = branch_to (near_code Jump bits) None target
 
 -- these are the bytes of the near jump from an address to another, which it reaches
 abbrev pub IsNearJump : Bits → ℕ → ℕ → List ℕ → Type 0
-IsNearJump bits at target bytes = encoding bits at (jump_to bits target) ≡ Ok bytes
+IsNearJump bits at target bytes = encoding bits at (near_jump_to bits target) ≡ Ok bytes
 
 -- a near jump does not reach
 abbrev pub IsOutOfReach : Bits → ℕ → ℕ → Type 0

@@ -13,7 +13,7 @@ use Rattle.move_goals.specs.Facts.{FirstFacts, PlanFacts}
 use Rattle.block_encoder.specs.Facts.{FragmentFacts, MovedFacts, ReachFacts}
 
 -- codes, encodings, readings, layouts, targets, forms, goals, fragments, moved blocks and reach
-pub record LawsBelow : Type 0 where
+pub record DetourLawsBelow : Type 0 where
   pub in_table : (i : Instr) → IsTrue (is_well_formed i) → i.code.0 < ROWS
   pub encodings : EncodingFacts
   pub readings : OneReadingFacts

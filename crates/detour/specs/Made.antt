@@ -12,21 +12,21 @@ use Rattle.detour.specs.declared.making.Jump.{Jump}
 use Rattle.detour.specs.declared.parts.JumpForm.{JumpForm}
 use Rattle.detour.specs.declared.parts.JumpForm.TheVariants.{Near, Relay, Absolute}
 use Rattle.detour.specs.declared.start.StartTarget.{StartTarget}
-use Rattle.detour.specs.Reading.{IsFit}
+use Rattle.detour.specs.Reading.{IsTakenFit}
 use Rattle.detour.specs.Jumps.{IsNearJump, IsOutOfReach, absolute_jump}
 use Rattle.detour.specs.Trampoline.{IsTrampoline, block_items, trampoline_plan}
 use Rattle.detour.specs.Detours.{IsTakenAnswer, DetourState, patch_of, relay_bytes, parts_of}
 
 -- what is taken, of at least the bytes of the jump, or why nothing is
 abbrev pub IsWholeTaken : Bits → ℕ → List ℕ → ℕ → Result Taken DetourError → Type 0
-IsWholeTaken bits ip code need (Ok t) = (IsFit bits t × (need ≤ t.len)) × IsTakenAnswer bits ip code need (Ok t.items.items)
+IsWholeTaken bits ip code need (Ok t) = (IsTakenFit bits t × (need ≤ t.len)) × IsTakenAnswer bits ip code need (Ok t.items.items)
 IsWholeTaken bits ip code need (Err why) = IsTakenAnswer bits ip code need (Err why)
 
 -- the refusal of a moving
-abbrev pub refusal_of : MoveError → DetourError
-refusal_of (move_error.Wraps end) = Wraps end
-refusal_of (move_error.TooFar at target) = TooFar at target
-refusal_of why = Memory
+abbrev pub detour_error_of : MoveError → DetourError
+detour_error_of (move_error.Wraps end) = Wraps end
+detour_error_of (move_error.TooFar at target) = TooFar at target
+detour_error_of why = Memory
 
 -- the jump to a relay that is reached, else the one that is followed by its address
 abbrev pub IsFarJumpOf : Bits → ℕ → ℕ → Option ℕ → JumpForm → List ℕ → Option ℕ → Type 0
@@ -50,8 +50,8 @@ abbrev pub IsLaidBy : Bits → ℕ → ℕ → ℕ → StartTarget → Jump → 
 IsLaidBy bits ip to place start jump t d =
     (m : MovedLists) × (IsTrampoline bits ip t.items.items place start m × IsPutTogether to place jump t m d)
 
-abbrev pub IsLaid : Bits → ℕ → ℕ → ℕ → StartTarget → Jump → Taken → Result DetourState DetourError → Type 0
-IsLaid bits ip to place start jump t (Ok d) = IsLaidBy bits ip to place start jump t d
-IsLaid bits ip to place start jump t (Err why) =
-    (why ≡ Memory) ⊎ ((cause : MoveError) × ((why ≡ refusal_of cause)
+abbrev pub IsDetourLaid : Bits → ℕ → ℕ → ℕ → StartTarget → Jump → Taken → Result DetourState DetourError → Type 0
+IsDetourLaid bits ip to place start jump t (Ok d) = IsLaidBy bits ip to place start jump t d
+IsDetourLaid bits ip to place start jump t (Err why) =
+    (why ≡ Memory) ⊎ ((cause : MoveError) × ((why ≡ detour_error_of cause)
     × IsPlanAnswer bits (block_items bits ip t.items.items) (trampoline_plan bits ip t.items.items place start) (Err cause)))

@@ -2,7 +2,7 @@
 use Rattle.std.specs.Prelude.{◌≡◌, ℕ, ◌+◌, ◌<◌, List, take, drop, length, Option, IfSome}
 use Rattle.x86_values.specs.declared.Bits.{Bits}
 use Rattle.x86_values.specs.declared.Bits.TheVariants.{B64}
-use Rattle.x86_values.specs.Wrapping.{wrapped}
+use Rattle.x86_values.specs.Wrapping.{modulo_width}
 use Rattle.plain_spelling.specs.Values.{low_bytes}
 use Rattle.row_relation.specs.Spells.{Reading, Read}
 use Rattle.opcode_rows.specs.Reading.{IsRead}
@@ -15,16 +15,16 @@ use Rattle.block_encoder.specs.Read.{IsReadAsImages}
 use Rattle.detour.specs.declared.parts.JumpForm.{JumpForm}
 use Rattle.detour.specs.declared.parts.JumpForm.TheVariants.{Near, Relay, Absolute}
 use Rattle.detour.specs.declared.start.StartTarget.{StartTarget}
-use Rattle.detour.specs.Jumps.{jump_to}
+use Rattle.detour.specs.Jumps.{near_jump_to}
 use Rattle.detour.specs.Trampoline.{block_items, trampoline_plan}
 
 -- a near jump to an address, as long as some bytes
 abbrev pub jump_reading : Bits → ℕ → List ℕ → Reading
-jump_reading bits target bytes = Read (record { instr = jump_to bits target; len = length bytes })
+jump_reading bits target bytes = Read (record { instr = near_jump_to bits target; len = length bytes })
 
 -- six bytes at an address of 64-bit mode that are a jump through the memory behind them
 abbrev pub through_reading : ℕ → Reading
-through_reading at = Read (record { instr = through_slot (far_code Jump) (wrapped B64 (at + 6)); len = 6 })
+through_reading at = Read (record { instr = through_slot (far_code Jump) (modulo_width B64 (at + 6)); len = 6 })
 
 -- some bytes at an address are read as the jump through the eight bytes behind its six, which have the address where it ends, the lowest byte first
 pub record IsAbsoluteRead (at to : ℕ) (bytes : List ℕ) : Type 0 where

@@ -1,7 +1,7 @@
 -- What the reading of a function's first instructions gives.
 use Rattle.std.specs.Prelude.{◌≡◌, ℕ, ◌+◌, ◌<◌, ◌≤◌, List, drop, length, Result, Ok, Err}
 use Rattle.x86_values.specs.declared.Bits.{Bits}
-use Rattle.x86_values.specs.Wrapping.{wrapped}
+use Rattle.x86_values.specs.Wrapping.{modulo_width}
 use Rattle.opcode_rows.specs.declared.generated_spots.TheConstants.{ROWS}
 use Rattle.opcode_rows.specs.Sweep.{IsReadAt}
 use Rattle.decoder.specs.Answer.{reading_of}
@@ -10,11 +10,11 @@ use Rattle.move_goals.specs.Items.{IsPlaced, ArePlaced, item_at}
 use Rattle.detour.specs.declared.error.DetourError.{DetourError}
 use Rattle.detour.specs.declared.error.DetourError.TheVariants.{Memory, BadCode, TooSmall}
 use Rattle.detour.specs.declared.taken.Taken.{Taken}
-use Rattle.detour.specs.Taken.{reading_of_item, bytes_in, AreReadFrom, AreTaken, IsBadCode, IsTooSmall}
+use Rattle.detour.specs.Taken.{reading_of_item, taken_bytes, AreReadFrom, AreTaken, IsBadCode, IsTooSmall}
 
 -- an instruction is read at an offset, and ends in the code
 pub record IsItemOf (bits : Bits) (ip : ℕ) (code : List ℕ) (offset : ℕ) (p : Placed) : Type 0 where
-  pub address : p.ip ≡ wrapped bits (ip + offset)
+  pub address : p.ip ≡ modulo_width bits (ip + offset)
   pub reads : IsReadAt bits ip offset (drop offset code) (reading_of_item p)
   pub within : offset + p.len ≤ length code
   pub placed : IsPlaced bits p
@@ -33,25 +33,25 @@ AreCoded items = (k : ℕ) → k < length items → (item_at items k).instr.code
 -- the first instructions of some code, well placed and of the table
 pub record IsFront (bits : Bits) (ip : ℕ) (code : List ℕ) (items : List Placed) : Type 0 where
   pub read : AreReadFrom bits ip code 0 items
-  pub within : bytes_in items ≤ length code
+  pub within : taken_bytes items ≤ length code
   pub placed : ArePlaced bits items
   pub coded : AreCoded items
   -- each has a byte at least
-  pub few : length items ≤ bytes_in items
+  pub few : length items ≤ taken_bytes items
 
 -- what is known of what is taken: its bytes, and that it is few
 pub record IsFrontTaken (bits : Bits) (ip : ℕ) (code : List ℕ) (need : ℕ) (t : Taken) : Type 0 where
   pub front : IsFront bits ip code t.items.items
   pub taken : AreTaken bits ip code need t.items.items
-  pub len : t.len ≡ bytes_in t.items.items
+  pub len : t.len ≡ taken_bytes t.items.items
   pub short : t.len < need + 15
 
 -- what is taken, as the calls that go on with it ask: well placed instructions of the table, few, and how many bytes they have
-pub record IsFit (bits : Bits) (t : Taken) : Type 0 where
+pub record IsTakenFit (bits : Bits) (t : Taken) : Type 0 where
   pub coded : AreCoded t.items.items
   pub placed : ArePlaced bits t.items.items
   pub few : length t.items.items ≤ 30
-  pub len : t.len ≡ bytes_in t.items.items
+  pub len : t.len ≡ taken_bytes t.items.items
 
 -- what is taken, or why nothing is
 abbrev pub IsFrontAnswer : Bits → ℕ → List ℕ → ℕ → Result Taken DetourError → Type 0

@@ -1,7 +1,7 @@
 -- The instructions that a detour takes from the front of a function: as few as have the bytes of the jump.
 use Rattle.std.specs.Prelude.{◌≡◌, ℕ, ◌+◌, ◌<◌, ◌≤◌, nat_le, Bool, not, ◌&&◌, ◌||◌, List, [], ◌∷◌, length, take, drop, sum_by, bytes_eq, Option, Some, None, Err}
 use Rattle.x86_values.specs.declared.Bits.{Bits}
-use Rattle.x86_values.specs.Wrapping.{wrapped}
+use Rattle.x86_values.specs.Wrapping.{modulo_width}
 use Rattle.row_relation.specs.Spells.{Reading, Read}
 use Rattle.opcode_rows.specs.Sweep.{IsReadAt}
 use Rattle.opcode_rows.specs.Table.{name_of}
@@ -13,12 +13,12 @@ use Rattle.move_goals.specs.declared.items.Placed.{Placed}
 use Rattle.move_goals.specs.Items.{first_below, item_at}
 
 -- how many bytes some instructions have
-abbrev pub bytes_in : List Placed → ℕ
-bytes_in items = sum_by (λ p. p.len) items
+abbrev pub taken_bytes : List Placed → ℕ
+taken_bytes items = sum_by (λ p. p.len) items
 
 -- the offset at which instruction k of those from the first byte on begins
 abbrev pub offset_at : List Placed → ℕ → ℕ
-offset_at items k = bytes_in (take k items)
+offset_at items k = taken_bytes (take k items)
 
 -- an instruction as it is read
 abbrev pub reading_of_item : Placed → Reading
@@ -28,21 +28,21 @@ reading_of_item p = Read (record { instr = p.instr; len = p.len })
 abbrev pub AreReadFrom : Bits → ℕ → List ℕ → ℕ → List Placed → Type 0
 AreReadFrom bits ip code offset [] = Unit {0}
 AreReadFrom bits ip code offset (p ∷ ps) =
-    ((p.ip ≡ wrapped bits (ip + offset)) × IsReadAt bits ip offset (drop offset code) (reading_of_item p))
+    ((p.ip ≡ modulo_width bits (ip + offset)) × IsReadAt bits ip offset (drop offset code) (reading_of_item p))
     × AreReadFrom bits ip code (offset + p.len) ps
 
 -- the first instructions of some code, as few as have a number of bytes
 pub record AreTaken (bits : Bits) (ip : ℕ) (code : List ℕ) (need : ℕ) (items : List Placed) : Type 0 where
   pub read : AreReadFrom bits ip code 0 items
-  pub enough : need ≤ bytes_in items
+  pub enough : need ≤ taken_bytes items
   pub fewest : (k : ℕ) → k < length items → offset_at items k < need
-  pub within : bytes_in items ≤ length code
+  pub within : taken_bytes items ≤ length code
 
 -- at an offset in the part to be taken no instruction begins, behind those that are read before it
 pub record IsBadCode (bits : Bits) (ip : ℕ) (code : List ℕ) (need at : ℕ) (error : DecodeError) : Type 0 where
   pub items : List Placed
   pub read : AreReadFrom bits ip code 0 items
-  pub offset : at ≡ bytes_in items
+  pub offset : at ≡ taken_bytes items
   pub to_take : at < need
   pub within : at < length code
   pub none : IsReadAt bits ip at (drop at code) (reading_of (Err error))
@@ -51,7 +51,7 @@ pub record IsBadCode (bits : Bits) (ip : ℕ) (code : List ℕ) (need at : ℕ) 
 pub record IsTooSmall (bits : Bits) (ip : ℕ) (code : List ℕ) (len need : ℕ) : Type 0 where
   pub items : List Placed
   pub read : AreReadFrom bits ip code 0 items
-  pub all : bytes_in items ≡ length code
+  pub all : taken_bytes items ≡ length code
   pub len_is : len ≡ length code
   pub short : len < need
 

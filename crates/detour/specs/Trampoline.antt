@@ -1,7 +1,7 @@
 -- The trampoline of a detour: the moved instructions, and the jump back, by a plan of their own.
 use Rattle.std.specs.Prelude.{ℕ, zero, suc, ◌+◌, nat_lt, is_some, if◌then◌else◌, List, [], ◌∷◌, ◌++◌, take, Option, Some, None}
 use Rattle.x86_values.specs.declared.Bits.{Bits}
-use Rattle.x86_values.specs.Wrapping.{wrapped}
+use Rattle.x86_values.specs.Wrapping.{modulo_width}
 use Rattle.branch_sizes.specs.declared.plan.Goal.{Goal}
 use Rattle.branch_sizes.specs.declared.plan.Goal.TheVariants.{Inside, Outside}
 use Rattle.branch_sizes.specs.Plan.{BlockPlan}
@@ -14,18 +14,18 @@ use Rattle.block_encoder.specs.Moved.{MovedLists}
 use Rattle.block_encoder.specs.ByPlan.{IsMovedBy}
 use Rattle.detour.specs.declared.start.StartTarget.{StartTarget}
 use Rattle.detour.specs.declared.start.StartTarget.TheVariants.{Moved, Hooked}
-use Rattle.detour.specs.Jumps.{jump_to}
-use Rattle.detour.specs.Taken.{bytes_in, moved_count, first_end}
+use Rattle.detour.specs.Jumps.{near_jump_to}
+use Rattle.detour.specs.Taken.{taken_bytes, moved_count, first_end}
 
 -- ---- the instructions
 
 -- the address behind what is taken, modulo 2 to the number of bits of the mode
-abbrev pub back_address : Bits → ℕ → List Placed → ℕ
-back_address bits ip items = wrapped bits (ip + bytes_in items)
+abbrev pub address_behind_taken : Bits → ℕ → List Placed → ℕ
+address_behind_taken bits ip items = modulo_width bits (ip + taken_bytes items)
 
 -- the jump there, as one that stands there
 abbrev pub jump_back : Bits → ℕ → Placed
-jump_back bits back = record { ip = back; len = plain_length bits (jump_to bits back); instr = jump_to bits back }
+jump_back bits back = record { ip = back; len = plain_length bits (near_jump_to bits back); instr = near_jump_to bits back }
 
 -- the moved instructions: those taken, up to the first behind which control never goes on
 abbrev pub moved_items : List Placed → List Placed
@@ -33,7 +33,7 @@ moved_items items = take (moved_count items) items
 
 -- the jump back behind them, if control goes on there
 abbrev pub back_items : Bits → ℕ → List Placed → List Placed
-back_items bits ip items = if is_some (first_end items) then [] else jump_back bits (back_address bits ip items) ∷ []
+back_items bits ip items = if is_some (first_end items) then [] else jump_back bits (address_behind_taken bits ip items) ∷ []
 
 -- the instructions of the trampoline
 unfoldable pub block_items : Bits → ℕ → List Placed → List Placed
@@ -47,29 +47,29 @@ start_goal Moved t = Inside 0
 start_goal Hooked t = Outside t
 
 -- a target where a moved instruction begins goes with it, the start of the function as that is asked; every other stays
-abbrev pub goal_among : StartTarget → Option ℕ → ℕ → Goal
-goal_among start None t = Outside t
-goal_among start (Some zero) t = start_goal start t
-goal_among start (Some (suc j)) t = Inside (suc j)
+abbrev pub trampoline_goal_among : StartTarget → Option ℕ → ℕ → Goal
+trampoline_goal_among start None t = Outside t
+trampoline_goal_among start (Some zero) t = start_goal start t
+trampoline_goal_among start (Some (suc j)) t = Inside (suc j)
 
 -- the goal of a target of a moved instruction
-abbrev pub goal_of_target : StartTarget → List Placed → ℕ → ℕ → Goal
-goal_of_target start items count t = goal_among start (first_below (begins_at items t) count) t
+abbrev pub trampoline_goal : StartTarget → List Placed → ℕ → ℕ → Goal
+trampoline_goal start items count t = trampoline_goal_among start (first_below (begins_at items t) count) t
 
 -- the goal of one of the first `count` instructions, which are moved, by its target
 abbrev pub moved_goal : StartTarget → List Placed → ℕ → Option ℕ → Goal
 moved_goal start items count None = kept_goal None
-moved_goal start items count (Some t) = goal_of_target start items count t
+moved_goal start items count (Some t) = trampoline_goal start items count t
 
 -- the goal of instruction k of the trampoline: the jump back behind the moved ones goes to its own target
-abbrev pub goal_at : StartTarget → List Placed → ℕ → ℕ → Goal
-goal_at start items count k =
+abbrev pub trampoline_goal_at : StartTarget → List Placed → ℕ → ℕ → Goal
+trampoline_goal_at start items count k =
     if nat_lt k count then moved_goal start items count (target_of (item_at items k).instr)
     else kept_goal (target_of (item_at items k).instr)
 
 -- the plan of the trampoline at a place, of instructions of which so many are moved
 unfoldable pub plan_at : Bits → List Placed → ℕ → ℕ → StartTarget → BlockPlan
-plan_at bits items count place start = plan_with bits (one_span items place) items (goal_at start items count)
+plan_at bits items count place start = plan_with bits (one_span items place) items (trampoline_goal_at start items count)
 
 -- the plan of what is taken
 abbrev pub trampoline_plan : Bits → ℕ → List Placed → ℕ → StartTarget → BlockPlan

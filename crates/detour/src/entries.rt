@@ -2,8 +2,8 @@
 
 ghost use Rattle.std.specs.Prelude.{◌≡◌, ◌<◌, ◌≤◌, ◌↔◌, length, IsTrue, IfOk};
 ghost use Rattle.flow_graph.specs.Control.{code_bytes};
-ghost use Rattle.detour.specs.Reading.{AreCoded, IsFit};
-ghost use Rattle.detour.specs.Taken.{bytes_in};
+ghost use Rattle.detour.specs.Reading.{AreCoded, IsTakenFit};
+ghost use Rattle.detour.specs.Taken.{taken_bytes};
 ghost use Rattle.detour.specs.Entries.{IsMovedStart, IsEntry, IsNextEntry, IsTargetEntry, IsEntryFrom, IsEntryAnswer};
 
 use crate::taken::{Taken, moved_count, offset_at};
@@ -31,7 +31,7 @@ fn is_moved_start(items: &[Placed], q: usize) -> bool
 fn enters(taken: &Taken, p: usize, q: usize) -> bool
     requires coded { AreCoded taken.now.items.items }
     requires few { length taken.now.items.items ≤ 65536 }
-    requires len { taken.now.len ≡ bytes_in taken.now.items.items }
+    requires len { taken.now.len ≡ taken_bytes taken.now.items.items }
     ensures { IsTrue result ↔ IsEntry taken.now.items.items p q }
 {
     if q == 0 || q >= taken.len {
@@ -47,7 +47,7 @@ fn enters(taken: &Taken, p: usize, q: usize) -> bool
 fn entered_next(taken: &Taken, p: usize, next: u8) -> Option<usize>
     requires coded { AreCoded taken.now.items.items }
     requires few { length taken.now.items.items ≤ 65536 }
-    requires len { taken.now.len ≡ bytes_in taken.now.items.items }
+    requires len { taken.now.len ≡ taken_bytes taken.now.items.items }
     requires inside { p ≤ 1048576 }
     ensures { IsNextEntry taken.now.items.items p next result }
 {
@@ -66,7 +66,7 @@ fn entered_next(taken: &Taken, p: usize, next: u8) -> Option<usize>
 fn entered_target(taken: &Taken, p: usize, target: Option<usize>) -> Option<usize>
     requires coded { AreCoded taken.now.items.items }
     requires few { length taken.now.items.items ≤ 65536 }
-    requires len { taken.now.len ≡ bytes_in taken.now.items.items }
+    requires len { taken.now.len ≡ taken_bytes taken.now.items.items }
     ensures { IsTargetEntry taken.now.items.items p target result }
 {
     match target {
@@ -79,7 +79,7 @@ fn entered_target(taken: &Taken, p: usize, target: Option<usize>) -> Option<usiz
 fn entry_from(bits: Bits, ip: u64, code: &[u8], taken: &Taken, p: usize) -> Option<usize>
     requires inside { p < length code.now }
     requires size { length code.now ≤ 1048576 }
-    requires fit { IsFit bits taken.now }
+    requires fit { IsTakenFit bits taken.now }
     ensures { IsEntryFrom (code_bytes bits ip code.now) taken.now.items.items p result }
 {
     let exits = exits_at(bits, ip, code, p);
@@ -98,7 +98,7 @@ pub(crate) fn first_entry(
     taken: &Taken,
 ) -> Result<Option<(u32, usize)>, FlowError>
     requires size { length code.now ≤ 1048576 }
-    requires fit { IsFit bits taken.now }
+    requires fit { IsTakenFit bits taken.now }
     ensures { IfOk result (λ entry. IsEntryAnswer (code_bytes bits ip code.now) taken.now.items.items entry) }
 {
     let graph = flow_graph_in(alloc, bits, ip, code)?;

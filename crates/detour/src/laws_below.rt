@@ -1,11 +1,11 @@
 //! What the laws of the crates below say, for the proofs of this crate.
 
-ghost use Rattle.detour.specs.LawsBelow.{LawsBelow};
+ghost use Rattle.detour.specs.LawsBelow.{DetourLawsBelow};
 
 /// The laws of the crates below as one fact. It does nothing.
 #[inline]
 pub(crate) fn laws_below()
-    ensures { LawsBelow }
+    ensures { DetourLawsBelow }
 {
     operand_info::laws::well_formed_codes_are_in_the_table();
     encoder::laws::encodings_are_plain();

@@ -6,9 +6,9 @@ ghost use Rattle.detour.specs.declared.error.DetourError.TheVariants.{Memory};
 ghost use Rattle.detour.specs.Detours as spec;
 ghost use Rattle.detour.specs.Detours.{IsRelay, IsRelayBehind, IsJumpOf, IsAnswerTo, IsDetourAnswer, relay_bytes};
 ghost use Rattle.block_encoder.specs.declared.error.MoveError.TheVariants as move_error;
-ghost use Rattle.detour.specs.Made.{IsWholeTaken, IsFarJump, IsPutTogether, IsLaid, refusal_of};
-ghost use Rattle.detour.specs.Reading.{AreCoded, IsFit};
-ghost use Rattle.detour.specs.Taken.{bytes_in};
+ghost use Rattle.detour.specs.Made.{IsWholeTaken, IsFarJump, IsPutTogether, IsDetourLaid, detour_error_of};
+ghost use Rattle.detour.specs.Reading.{AreCoded, IsTakenFit};
+ghost use Rattle.detour.specs.Taken.{taken_bytes};
 ghost use Rattle.detour.specs.Taken as taken_spec;
 
 use crate::entries::first_entry;
@@ -28,7 +28,7 @@ use x86_values::{Bits, wrap};
 
 /// The refusal of a moving.
 fn move_refusal(why: MoveError) -> DetourError
-    ensures { result ≡ refusal_of why }
+    ensures { result ≡ detour_error_of why }
 {
     match why {
         MoveError::Wraps { end } => DetourError::Wraps { end },
@@ -101,7 +101,7 @@ fn relay_of(
     place: u64,
     start: StartTarget,
 ) -> Result<Option<u64>, DetourError>
-    requires { IsFit bits taken.now }
+    requires { IsTakenFit bits taken.now }
     ensures relay { IfOk result (λ relay. IsRelayBehind bits ip place start (Ok taken.now.items.items) relay) }
     ensures refused { IfErr result (λ why. why ≡ Memory) }
 {
@@ -254,7 +254,7 @@ fn put_together(
     moved: &MovedBlocks,
 ) -> Result<Detour, DetourError>
     requires coded { AreCoded taken.now.items.items }
-    requires len { taken.now.len ≡ bytes_in taken.now.items.items }
+    requires len { taken.now.len ≡ taken_bytes taken.now.items.items }
     requires fits { length jump.now.bytes.items ≤ taken.now.len }
     requires back { taken_spec.first_end taken.now.items.items ≡ None → 0 < length moved.now.starts }
     ensures parts { IfOk result (λ d. IsPutTogether to place jump.now taken.now moved.now d) }
@@ -287,9 +287,9 @@ fn lay_detour(
     jump: &Jump,
     taken: &Taken,
 ) -> Result<Detour, DetourError>
-    requires fit { IsFit bits taken.now }
+    requires fit { IsTakenFit bits taken.now }
     requires fits { length jump.now.bytes.items ≤ taken.now.len }
-    ensures { IsLaid bits ip to place start jump.now taken.now result }
+    ensures { IsDetourLaid bits ip to place start jump.now taken.now result }
 {
     match lay_trampoline(alloc, bits, ip, taken, place, start) {
         Ok(moved) => put_together(alloc, to, place, jump, taken, &moved),

@@ -5,7 +5,7 @@ ghost use Rattle.move_goals.specs.Items.{ArePlaced, first_below};
 ghost use Rattle.move_goals.specs.Goals.{begins_at};
 ghost use Rattle.move_goals.specs.Plan.{branch_with};
 ghost use Rattle.block_encoder.specs.ByPlan.{IsPlanAnswer};
-ghost use Rattle.detour.specs.Reading.{IsFit};
+ghost use Rattle.detour.specs.Reading.{IsTakenFit};
 ghost use Rattle.detour.specs.Trampoline as spec;
 
 use crate::jumps::jump_back;
@@ -23,7 +23,7 @@ use x86_values::{Bits, wrap};
 /// The instructions of the trampoline: those that are moved, and the jump back if control goes on behind them.
 #[tactic(auto, unfolding(crate::specs::Trampoline::block_items))]
 fn block_items(alloc: Global, bits: Bits, ip: u64, taken: &Taken) -> Result<Vec<Placed>, AllocError>
-    requires { IsFit bits taken.now }
+    requires { IsTakenFit bits taken.now }
     ensures { IfOk result (λ items. items.items ≡ spec.block_items bits ip taken.now.items.items) }
 {
     let count = moved_count(&taken.items);
@@ -65,7 +65,7 @@ fn start_goal(start: StartTarget, target: u64) -> Goal
 fn goal_of_target(start: StartTarget, items: &[Placed], count: usize, target: u64) -> Goal
     requires within { count ≤ length items.now }
     requires few { length items.now ≤ 65536 }
-    ensures { result ≡ spec.goal_of_target start items.now count target }
+    ensures { result ≡ spec.trampoline_goal start items.now count target }
 {
     match item_at(items, count, target) {
         None => Goal::Outside(target),
@@ -79,7 +79,7 @@ fn goal_at(start: StartTarget, items: &[Placed], count: usize, k: usize) -> Goal
     requires within { count ≤ length items.now }
     requires few { length items.now ≤ 65536 }
     requires item { k < length items.now }
-    ensures { result ≡ spec.goal_at start items.now count k }
+    ensures { result ≡ spec.trampoline_goal_at start items.now count k }
 {
     match target_of(&items[k].instr) {
         None => Goal::None,
@@ -93,7 +93,7 @@ fn branch_at(bits: Bits, items: &[Placed], count: usize, start: StartTarget, k: 
     requires within { count ≤ length items.now }
     requires few { length items.now ≤ 65536 }
     requires item { k < length items.now }
-    ensures { result ≡ branch_with bits items.now (spec.goal_at start items.now count) k }
+    ensures { result ≡ branch_with bits items.now (spec.trampoline_goal_at start items.now count) k }
 {
     let goal = goal_at(start, items, count, k);
     Branch {
@@ -133,7 +133,7 @@ pub(crate) fn lay_trampoline(
     place: u64,
     start: StartTarget,
 ) -> Result<MovedBlocks, MoveError>
-    requires { IsFit bits taken.now }
+    requires { IsTakenFit bits taken.now }
     ensures { IsPlanAnswer bits (spec.block_items bits ip taken.now.items.items) (spec.trampoline_plan bits ip taken.now.items.items place start) result }
 {
     laws_below();

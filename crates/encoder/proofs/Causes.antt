@@ -3,7 +3,7 @@ use Rattle.std.proofs.Common.{◌≡◌, ℕ, ◌≤◌, ◌<◌, true, false, L
 use Rattle.std.proofs.lemmas.Bool.{le-leb, lt-leb}
 use Rattle.x86_values.specs.declared.Bits.{Bits}
 use Rattle.x86_values.specs.declared.Instr.{Instr}
-use Rattle.x86_values.specs.Wrapping.{wrapped}
+use Rattle.x86_values.specs.Wrapping.{modulo_width}
 use Rattle.row_types.specs.declared.Row.{Row}
 use Rattle.arrayvec.specs.ArrayVec.{ArrayVec}
 use Rattle.instruction_parts.specs.Sizes.{exists_in}
@@ -17,7 +17,7 @@ use Rattle.plain_laws.specs.Plain.{IsPlainlySpelled}
 use Rattle.plain_laws.proofs.Exact.{plain_from}
 use Rattle.plain_laws.proofs.ReadBack.{plain_reads}
 use Rattle.opcode_rows.specs.Table.{table}
-use Rattle.encoder.specs.Encoding.{encoding, encoded_by, plain_bytes, written}
+use Rattle.encoder.specs.Encoding.{encoding, encoded_by, plain_bytes, answer_bytes}
 use Rattle.encoder.proofs.OverTable.{written_table, none_fails, shortest}
 
 -- ---- the row
@@ -26,7 +26,7 @@ pub without_row : (bits : Bits) (ip : ℕ) (i : Instr) → slice_get table i.cod
 unfolding encoding
 without_row bits ip i at = rw at refl
 
-pub by_row : (bits : Bits) (ip : ℕ) (row : Row) (i : Instr) → slice_get table i.code.0 ≡ Some row → encoded_by (failure bits (wrapped bits ip) row i) (bytes_of row (plain_spelling bits (wrapped bits ip) row i)) ≡ encoding bits ip i
+pub by_row : (bits : Bits) (ip : ℕ) (row : Row) (i : Instr) → slice_get table i.code.0 ≡ Some row → encoded_by (failure bits (modulo_width bits ip) row i) (bytes_of row (plain_spelling bits (modulo_width bits ip) row i)) ≡ encoding bits ip i
 unfolding encoding
 by_row bits ip row i at = rw at refl
 
@@ -65,35 +65,35 @@ plain_of bits ip i None bytes at four h e = cc
 plain_of bits ip i (Some row) bytes at four h e =
     subst (λ (b : List ℕ). IsPlainlySpelled table bits ip b i) (sym e) (plain_from table bits ip row i written_table at four h)
 
-encoding_is : (bits : Bits) (ip : ℕ) (i : Instr) → encoding bits ip i ≡ encoded_by (failure_of bits (wrapped bits ip) (slice_get table i.code.0) i) (plain_bytes bits (wrapped bits ip) (slice_get table i.code.0) i)
+encoding_is : (bits : Bits) (ip : ℕ) (i : Instr) → encoding bits ip i ≡ encoded_by (failure_of bits (modulo_width bits ip) (slice_get table i.code.0) i) (plain_bytes bits (modulo_width bits ip) (slice_get table i.code.0) i)
 unfolding encoding
 encoding_is bits ip i = refl
 
-pub plain_bytes_are : (bits : Bits) (ip : ℕ) (i : Instr) (bytes : List ℕ) → length i.ops ≡ 4 → Ok bytes ≡ encoding bits ip i → IsPlainlySpelled table bits (wrapped bits ip) bytes i
+pub plain_bytes_are : (bits : Bits) (ip : ℕ) (i : Instr) (bytes : List ℕ) → length i.ops ≡ 4 → Ok bytes ≡ encoding bits ip i → IsPlainlySpelled table bits (modulo_width bits ip) bytes i
 plain_bytes_are bits ip i bytes four h =
     let row = slice_get table i.code.0 in
-    let k = no_failure (failure_of bits (wrapped bits ip) row i) (plain_bytes bits (wrapped bits ip) row i) bytes (h ∙ encoding_is bits ip i) in
-    plain_of bits (wrapped bits ip) i row bytes refl four k.0 k.1
+    let k = no_failure (failure_of bits (modulo_width bits ip) row i) (plain_bytes bits (modulo_width bits ip) row i) bytes (h ∙ encoding_is bits ip i) in
+    plain_of bits (modulo_width bits ip) i row bytes refl four k.0 k.1
 
 -- **bytes that are an encoding are plainly spelled**
-pub plain_ok : (bits : Bits) (ip : ℕ) (i : Instr) (r : Result (ArrayVec ℕ) NoSpelling) → length i.ops ≡ 4 → written r ≡ encoding bits ip i → IfOk r (λ bytes. IsPlainlySpelled table bits (wrapped bits ip) bytes.items i)
+pub plain_ok : (bits : Bits) (ip : ℕ) (i : Instr) (r : Result (ArrayVec ℕ) NoSpelling) → length i.ops ≡ 4 → answer_bytes r ≡ encoding bits ip i → IfOk r (λ bytes. IsPlainlySpelled table bits (modulo_width bits ip) bytes.items i)
 plain_ok bits ip i (Ok bytes) four h = plain_bytes_are bits ip i bytes.items four h
 plain_ok bits ip i (Err why) four h = tt
 
 -- **where an encoding is refused there is no plain spelling**
-pub plain_err : (bits : Bits) (ip : ℕ) (i : Instr) (r : Result (ArrayVec ℕ) NoSpelling) → written r ≡ encoding bits ip i → IsErr r → (bytes : List ℕ) → IsPlainlySpelled table bits (wrapped bits ip) bytes i → ⊥
+pub plain_err : (bits : Bits) (ip : ℕ) (i : Instr) (r : Result (ArrayVec ℕ) NoSpelling) → answer_bytes r ≡ encoding bits ip i → IsErr r → (bytes : List ℕ) → IsPlainlySpelled table bits (modulo_width bits ip) bytes i → ⊥
 plain_err bits ip i (Ok b) h e bytes p = absurd (let k : false ≡ true = e in cc)
 plain_err bits ip i (Err why) h e bytes p =
     let row = slice_get table i.code.0 in
-    let k = some_failure (failure_of bits (wrapped bits ip) row i) (plain_bytes bits (wrapped bits ip) row i) why (h ∙ encoding_is bits ip i) (none_fails bits (wrapped bits ip) bytes i row refl p) in
+    let k = some_failure (failure_of bits (modulo_width bits ip) row i) (plain_bytes bits (modulo_width bits ip) row i) why (h ∙ encoding_is bits ip i) (none_fails bits (modulo_width bits ip) bytes i row refl p) in
     absurd (let z : true ≡ false = k in cc)
 
 -- **an encoding is read back**
-pub read_ok : (bits : Bits) (ip : ℕ) (i : Instr) (r : Result (ArrayVec ℕ) NoSpelling) → length i.ops ≡ 4 → written r ≡ encoding bits ip i → IfOk r (λ bytes. (rest : List ℕ) → ReadsAs table bits (wrapped bits ip) (bytes.items ++ rest) i (length bytes.items))
-read_ok bits ip i (Ok bytes) four h = λ rest. plain_reads table bits (wrapped bits ip) bytes.items rest i (plain_bytes_are bits ip i bytes.items four h)
+pub read_ok : (bits : Bits) (ip : ℕ) (i : Instr) (r : Result (ArrayVec ℕ) NoSpelling) → length i.ops ≡ 4 → answer_bytes r ≡ encoding bits ip i → IfOk r (λ bytes. (rest : List ℕ) → ReadsAs table bits (modulo_width bits ip) (bytes.items ++ rest) i (length bytes.items))
+read_ok bits ip i (Ok bytes) four h = λ rest. plain_reads table bits (modulo_width bits ip) bytes.items rest i (plain_bytes_are bits ip i bytes.items four h)
 read_ok bits ip i (Err why) four h = tt
 
 -- **an encoding is the shortest spelling**
-pub shortest_ok : (bits : Bits) (ip : ℕ) (i : Instr) (r : Result (ArrayVec ℕ) NoSpelling) → length i.ops ≡ 4 → written r ≡ encoding bits ip i → IfOk r (λ bytes. (others : List ℕ) → SpellsUnbounded table bits (wrapped bits ip) others i → length bytes.items ≤ length others)
-shortest_ok bits ip i (Ok bytes) four h = λ others s. shortest bits (wrapped bits ip) bytes.items others i (plain_bytes_are bits ip i bytes.items four h) s
+pub shortest_ok : (bits : Bits) (ip : ℕ) (i : Instr) (r : Result (ArrayVec ℕ) NoSpelling) → length i.ops ≡ 4 → answer_bytes r ≡ encoding bits ip i → IfOk r (λ bytes. (others : List ℕ) → SpellsUnbounded table bits (modulo_width bits ip) others i → length bytes.items ≤ length others)
+shortest_ok bits ip i (Ok bytes) four h = λ others s. shortest bits (modulo_width bits ip) bytes.items others i (plain_bytes_are bits ip i bytes.items four h) s
 shortest_ok bits ip i (Err why) four h = tt

@@ -2,7 +2,7 @@
 use Rattle.std.proofs.Common.{◌≡◌, ℕ, ◌≤◌, List, length, Option, Some, None, Ok, slice_get, refl, ap, sym, ◌∙◌, arith}
 use Rattle.x86_values.specs.declared.Bits.{Bits}
 use Rattle.x86_values.specs.declared.Instr.{Instr}
-use Rattle.x86_values.specs.Wrapping.{wrapped}
+use Rattle.x86_values.specs.Wrapping.{modulo_width}
 use Rattle.row_types.specs.declared.Row.{Row}
 use Rattle.instruction_parts.specs.declared.spelling.Spelling.{Spelling}
 use Rattle.instruction_parts.specs.Bytes.{bytes_of}
@@ -73,11 +73,11 @@ all_suit bits ip row s i n same = record {
 
 -- **what as many bytes as those of the plain spelling spell has that as its encoding**
 pub spelled-encoded : (bits : Bits) (ip : ℕ) (bytes : List ℕ) (i : Instr) (row : Row) (s : Spelling) → slice_get table i.code.0 ≡ Some row
-    → IsSpelledBy bits (wrapped bits ip) bytes i row s → plain_len bits row i ≡ length bytes → length bytes ≤ 15
-    → encoding bits ip i ≡ Ok (bytes_of row (plain_spelling bits (wrapped bits ip) row i))
+    → IsSpelledBy bits (modulo_width bits ip) bytes i row s → plain_len bits row i ≡ length bytes → length bytes ≤ 15
+    → encoding bits ip i ≡ Ok (bytes_of row (plain_spelling bits (modulo_width bits ip) row i))
 spelled-encoded bits ip bytes i row s at e same short =
-    let n = needs bits (wrapped bits ip) bytes i row s at e in
-    suits-encoded bits ip row i at (all_suit bits (wrapped bits ip) row s i n (same ∙ sym (ap length e.bytes_are))) (omega (arith, same, short))
+    let n = needs bits (modulo_width bits ip) bytes i row s at e in
+    suits-encoded bits ip row i at (all_suit bits (modulo_width bits ip) row s i n (same ∙ sym (ap length e.bytes_are))) (omega (arith, same, short))
 
 -- ---- an encoding
 
@@ -97,5 +97,5 @@ pub encoding-row : (bits : Bits) (ip : ℕ) (i : Instr) (bytes : List ℕ) → e
 unfolding encoding
 encoding-row bits ip i bytes h =
     let row = slice_get table i.code.0 in
-    let k = no_failure (failure_of bits (wrapped bits ip) row i) (plain_bytes bits (wrapped bits ip) row i) bytes h in
-    by_row bits (wrapped bits ip) i row bytes refl k.0 k.1
+    let k = no_failure (failure_of bits (modulo_width bits ip) row i) (plain_bytes bits (modulo_width bits ip) row i) bytes h in
+    by_row bits (modulo_width bits ip) i row bytes refl k.0 k.1

@@ -3,7 +3,7 @@ use Rattle.std.specs.Prelude.{ℕ, List, [], length, Option, Some, None, Result,
 use Rattle.arrayvec.specs.ArrayVec.{ArrayVec}
 use Rattle.x86_values.specs.declared.Bits.{Bits}
 use Rattle.x86_values.specs.declared.Instr.{Instr}
-use Rattle.x86_values.specs.Wrapping.{wrapped}
+use Rattle.x86_values.specs.Wrapping.{modulo_width}
 use Rattle.row_types.specs.declared.Row.{Row}
 use Rattle.instruction_parts.specs.Bytes.{bytes_of}
 use Rattle.row_relation.specs.Spells.{Reading, Read}
@@ -26,12 +26,12 @@ encoded_by (Some why) bytes = Err why
 unfoldable pub encoding : Bits → ℕ → Instr → Result (List ℕ) NoSpelling
 encoding bits ip i =
     let row = slice_get table i.code.0 in
-    encoded_by (failure_of bits (wrapped bits ip) row i) (plain_bytes bits (wrapped bits ip) row i)
+    encoded_by (failure_of bits (modulo_width bits ip) row i) (plain_bytes bits (modulo_width bits ip) row i)
 
 -- the bytes of an answer as a list
-abbrev pub written : Result (ArrayVec ℕ) NoSpelling → Result (List ℕ) NoSpelling
-written (Ok bytes) = Ok bytes.items
-written (Err why) = Err why
+abbrev pub answer_bytes : Result (ArrayVec ℕ) NoSpelling → Result (List ℕ) NoSpelling
+answer_bytes (Ok bytes) = Ok bytes.items
+answer_bytes (Err why) = Err why
 
 -- the bytes that were written where they are to lie, or why there are none, as a list
 abbrev pub written_onto : Option NoSpelling → ArrayVec ℕ → Result (List ℕ) NoSpelling

@@ -2,7 +2,7 @@
 use Rattle.std.specs.Prelude.{◌≡◌, ℕ, ◌≤◌, true, List, ◌++◌, length, Some, Ok, slice_get}
 use Rattle.x86_values.specs.declared.Bits.{Bits}
 use Rattle.x86_values.specs.declared.Instr.{Instr}
-use Rattle.x86_values.specs.Wrapping.{wrapped}
+use Rattle.x86_values.specs.Wrapping.{modulo_width}
 use Rattle.row_types.specs.declared.Row.{Row}
 use Rattle.instruction_parts.specs.declared.spelling.Spelling.{Spelling}
 use Rattle.instruction_parts.specs.Bytes.{bytes_of}
@@ -16,11 +16,11 @@ use Rattle.encoder.specs.Encoding.{encoding}
 -- encodings, what is plainly spelled, and what is read
 pub record EncodingFacts : Type 0 where
   -- what meets the conditions of the row of its code, with a plain spelling of at most 15 bytes, has that as its encoding
-  pub suits-encoded : (bits : Bits) (ip : ℕ) (row : Row) (i : Instr) → slice_get table i.code.0 ≡ Some row → Suits bits (wrapped bits ip) row i
-      → plain_len bits row i ≤ 15 → encoding bits ip i ≡ Ok (bytes_of row (plain_spelling bits (wrapped bits ip) row i))
+  pub suits-encoded : (bits : Bits) (ip : ℕ) (row : Row) (i : Instr) → slice_get table i.code.0 ≡ Some row → Suits bits (modulo_width bits ip) row i
+      → plain_len bits row i ≤ 15 → encoding bits ip i ≡ Ok (bytes_of row (plain_spelling bits (modulo_width bits ip) row i))
   -- an encoding is plainly spelled
   pub encoded-plain : (bits : Bits) (ip : ℕ) (i : Instr) (bytes : List ℕ) → length i.ops ≡ 4 → encoding bits ip i ≡ Ok bytes
-      → IsPlainlySpelled table bits (wrapped bits ip) bytes i
+      → IsPlainlySpelled table bits (modulo_width bits ip) bytes i
   -- what is plainly spelled is spelled, and is read as the instruction whatever stands behind it
   pub plain-spells : (bits : Bits) (ip : ℕ) (bytes : List ℕ) (i : Instr) → IsPlainlySpelled table bits ip bytes i → Spells table bits ip bytes i
   pub plain-reads : (bits : Bits) (ip : ℕ) (bytes rest : List ℕ) (i : Instr) → IsPlainlySpelled table bits ip bytes i
@@ -46,8 +46,8 @@ pub record SpelledFacts : Type 0 where
       → IsSpelledBy bits ip bytes i row s → plain_len bits row i ≤ length bytes
   -- what as many bytes as those of the plain spelling spell has that as its encoding
   pub spelled-encoded : (bits : Bits) (ip : ℕ) (bytes : List ℕ) (i : Instr) (row : Row) (s : Spelling) → slice_get table i.code.0 ≡ Some row
-      → IsSpelledBy bits (wrapped bits ip) bytes i row s → plain_len bits row i ≡ length bytes → length bytes ≤ 15
-      → encoding bits ip i ≡ Ok (bytes_of row (plain_spelling bits (wrapped bits ip) row i))
+      → IsSpelledBy bits (modulo_width bits ip) bytes i row s → plain_len bits row i ≡ length bytes → length bytes ≤ 15
+      → encoding bits ip i ≡ Ok (bytes_of row (plain_spelling bits (modulo_width bits ip) row i))
   -- an encoding is one by the row of the code, and as long as the plain spelling
   pub encoding-row : (bits : Bits) (ip : ℕ) (i : Instr) (bytes : List ℕ) → encoding bits ip i ≡ Ok bytes
       → (row : Row) × (slice_get table i.code.0 ≡ Some row) × (length bytes ≡ plain_len bits row i)

@@ -2,7 +2,7 @@
 #![tactic(auto)]
 
 ghost use Rattle.std.specs.Prelude.{◌≡◌, ℕ, ◌≤◌, ◌<◌, ◌++◌, List, length, [], IfOk, IsErr, IfSome, IsNone, IsTrue, slice_get, Some};
-ghost use Rattle.x86_values.specs.Wrapping.{wrapped};
+ghost use Rattle.x86_values.specs.Wrapping.{modulo_width};
 ghost use Rattle.instruction_parts.specs.Sizes as sizes;
 ghost use Rattle.instruction_parts.specs.Bytes.{bytes_of};
 ghost use Rattle.row_fit.specs.Fits.{reads_by, is_gather};
@@ -15,7 +15,7 @@ ghost use Rattle.plain_spelling.specs.Writable.{writable};
 ghost use Rattle.plain_laws.specs.Plain.{IsPlainlySpelled};
 ghost use Rattle.opcode_rows.specs.Table.{table};
 ghost use Rattle.opcode_rows.specs.Reading.{IsRead};
-ghost use Rattle.encoder.specs.Encoding.{encoding, encoded_by, written, written_onto, length_of, reading_of_bytes};
+ghost use Rattle.encoder.specs.Encoding.{encoding, encoded_by, answer_bytes, written_onto, length_of, reading_of_bytes};
 
 use arrayvec::ArrayVec;
 use instruction_parts::sizes::{exists_in, is_vex_row};
@@ -141,7 +141,7 @@ fn encode_onto(out: &mut ArrayVec<u8, 15>, bits: Bits, ip: u64, instr: &Instr) -
 /// The encoding of an instruction at an address: its bytes are written once, where the answer is made of them.
 #[inline(never)]
 fn encode_by_row(bits: Bits, ip: u64, instr: &Instr) -> Result<ArrayVec<u8, 15>, NoSpelling>
-    ensures { written result ≡ encoding bits ip instr.now }
+    ensures { answer_bytes result ≡ encoding bits ip instr.now }
 {
     let mut bytes = ArrayVec::new();
     if let Some(refusal) = encode_onto(&mut bytes, bits, ip, instr) {
@@ -158,17 +158,17 @@ fn encode_by_row(bits: Bits, ip: u64, instr: &Instr) -> Result<ArrayVec<u8, 15>,
 /// An instruction is refused exactly where it has no plain spelling of at most 15 bytes, with the first condition that fails (Intel
 /// SDM volume 2, 2.1 to 2.3).
 pub fn encode(bits: Bits, ip: u64, instr: &Instr) -> Result<ArrayVec<u8, 15>, NoSpelling>
-    ensures encoding { written result ≡ encoding bits ip instr.now }
+    ensures encoding { answer_bytes result ≡ encoding bits ip instr.now }
 
     // The bytes are those of a fitting spelling that is plain and means the instruction; where they are refused there is none.
-    ensures plain { IfOk result (λ bytes. IsPlainlySpelled table bits (wrapped bits ip) bytes.items instr.now) }
-    ensures refused { IsErr result → (bytes : List ℕ) → IsPlainlySpelled table bits (wrapped bits ip) bytes instr.now → ⊥ }
+    ensures plain { IfOk result (λ bytes. IsPlainlySpelled table bits (modulo_width bits ip) bytes.items instr.now) }
+    ensures refused { IsErr result → (bytes : List ℕ) → IsPlainlySpelled table bits (modulo_width bits ip) bytes instr.now → ⊥ }
 
     // Whatever follows them, they are read as the instruction.
     ensures read_back { IfOk result (λ bytes. (rest : List ℕ) → IsRead bits ip (bytes.items ++ rest) (reading_of_bytes instr.now bytes.items)) }
 
     // No bytes that spell the instruction there are fewer.
-    ensures shortest { IfOk result (λ bytes. (others : List ℕ) → SpellsUnbounded table bits (wrapped bits ip) others instr.now → length bytes.items ≤ length others) }
+    ensures shortest { IfOk result (λ bytes. (others : List ℕ) → SpellsUnbounded table bits (modulo_width bits ip) others instr.now → length bytes.items ≤ length others) }
 {
     // Four operands, as the proof has to know.
     let [_first, _second, _third, _fourth] = instr.ops;

@@ -11,7 +11,7 @@ use Rattle.feddurzai_c.specs.declared.flat.FlatBlock.{FlatBlock}
 use Rattle.feddurzai_c.specs.declared.moved_blocks.CodeBlocks.{CodeBlocks}
 use Rattle.feddurzai_c.specs.declared.moved_blocks.BlocksRefusal.{BlocksRefusal}
 use Rattle.feddurzai_c.specs.declared.moved_blocks.BlocksRefusal.TheVariants.{Mode, TooLarge, Outside, OldEnd, BadCode, Memory, TooMany, Wraps, TooFar, Room}
-use Rattle.feddurzai_c.specs.Blocks.{AreFew, AreBlocksRead, IsUnread, IsBlocksAnswerOf, IsBlocksAnswerIn, IsTooFarIn, number_in}
+use Rattle.feddurzai_c.specs.Blocks.{AreFew, AreBlocksRead, IsBlockUnread, IsBlocksAnswerOf, IsBlocksAnswerIn, IsTooFarIn, number_in_block}
 
 -- blocks that are read are moved or refused
 pub answer_of_read : (bits : Bits) (bytes : List ℕ) (blocks : List FlatBlock) (spans : List BlockSpan) (items : List Placed) (answer : Result CodeBlocks BlocksRefusal) →
@@ -29,7 +29,7 @@ answer_of_read bits bytes blocks spans items (Err (BadCode b at e)) few read is 
 answer_of_read bits bytes blocks spans items (Err Room) few read is = absurd is
 
 -- a block that is not read is why nothing is moved
-pub answer_of_unread : (bits : Bits) (bytes : List ℕ) (blocks : List FlatBlock) (why : BlocksRefusal) → AreFew blocks → IsUnread bits bytes blocks why →
+pub answer_of_unread : (bits : Bits) (bytes : List ℕ) (blocks : List FlatBlock) (why : BlocksRefusal) → AreFew blocks → IsBlockUnread bits bytes blocks why →
     IsBlocksAnswerIn bits bytes blocks (Err why)
 answer_of_unread bits bytes blocks (Outside b) few h = (few, h)
 answer_of_unread bits bytes blocks (OldEnd b end) few h = (few, h)
@@ -44,8 +44,8 @@ answer_of_unread bits bytes blocks Room few h = absurd h.is
 
 -- an instruction that does not reach its target, by its block and its number there
 pub too_far_in : (bits : Bits) (spans : List BlockSpan) (items : List Placed) (k target : ℕ) (why : BlocksRefusal) → IsRefused bits items spans (error.TooFar k target) →
-    why ≡ TooFar (block_number spans k) (number_in spans k) target → IsBlocksAnswerOf bits spans items (Err why)
+    why ≡ TooFar (block_number spans k) (number_in_block spans k) target → IsBlocksAnswerOf bits spans items (Err why)
 too_far_in bits spans items k target why far e =
     let P : BlocksRefusal → Type 0 = λ r. IsBlocksAnswerOf bits spans items (Err r) in
-    let there : IsTooFarIn bits spans items (block_number spans k) (number_in spans k) target = record { k = k; far = far; block_is = refl; at_is = refl } in
+    let there : IsTooFarIn bits spans items (block_number spans k) (number_in_block spans k) target = record { k = k; far = far; block_is = refl; at_is = refl } in
     subst P (sym e) there

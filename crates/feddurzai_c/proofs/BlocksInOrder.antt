@@ -13,53 +13,53 @@ use Rattle.move_goals.specs.declared.items.Placed.{Placed}
 use Rattle.move_goals.specs.Items.{item_at, no_item, old_end, IsPlaced, ArePlaced, AreSpansOf, begins_block, is_in_order, first_disorder}
 use Rattle.move_goals.proofs.First.{first_below_none}
 use Rattle.feddurzai_c.specs.declared.flat.FlatBlock.{FlatBlock}
-use Rattle.feddurzai_c.specs.Moving.{ReadsUpTo}
-use Rattle.feddurzai_c.specs.Blocks.{block_at, no_block, code_of, IsBlockRead, span_of, AreBlocksRead, AreFew}
+use Rattle.feddurzai_c.specs.Moving.{AreReadUpTo}
+use Rattle.feddurzai_c.specs.Blocks.{flat_block_at, no_block, block_code, IsBlockRead, block_span, AreBlocksRead, AreFew}
 use Rattle.feddurzai_c.proofs.ItemsInOrder.{are_placed, follows}
 
 -- ---- one more block
 
 pub one_more_block : (bits : Bits) (bytes : List ℕ) (blocks : List FlatBlock) (spans : List BlockSpan) (items : List Placed) (block : FlatBlock) (front : List Placed) →
     AreBlocksRead bits bytes blocks spans items → IsBlockRead bits bytes block front →
-    AreBlocksRead bits bytes (blocks ++ block ∷ []) (spans ++ span_of block front ∷ []) (items ++ front)
+    AreBlocksRead bits bytes (blocks ++ block ∷ []) (spans ++ block_span block front ∷ []) (items ++ front)
 one_more_block bits bytes [] spans items block front h read =
-    (front, [], [], ap (λ (xs : List Placed). xs ++ front) h.1 ∙ sym (append-nil front), ap (λ (xs : List BlockSpan). xs ++ span_of block front ∷ []) h.0, read, (refl, refl))
+    (front, [], [], ap (λ (xs : List Placed). xs ++ front) h.1 ∙ sym (append-nil front), ap (λ (xs : List BlockSpan). xs ++ block_span block front ∷ []) h.0, read, (refl, refl))
 one_more_block bits bytes (c ∷ cs) spans items block front (first, rest, others, items_are, spans_are, is, more) read = (
   first,
   rest ++ front,
-  others ++ span_of block front ∷ [],
+  others ++ block_span block front ∷ [],
   ap (λ (xs : List Placed). xs ++ front) items_are ∙ append_assoc first rest front,
-  ap (λ (xs : List BlockSpan). xs ++ span_of block front ∷ []) spans_are,
+  ap (λ (xs : List BlockSpan). xs ++ block_span block front ∷ []) spans_are,
   is,
   one_more_block bits bytes cs others rest block front more read,
 )
 
 -- the same where the blocks so far are the first of some blocks
 pub one_more_of : (bits : Bits) (bytes : List ℕ) (blocks : List FlatBlock) (b : ℕ) (spans : List BlockSpan) (items front : List Placed) → b < length blocks →
-    AreBlocksRead bits bytes (take b blocks) spans items → IsBlockRead bits bytes (block_at blocks b) front →
-    AreBlocksRead bits bytes (take (b + 1) blocks) (spans ++ span_of (block_at blocks b) front ∷ []) (items ++ front)
+    AreBlocksRead bits bytes (take b blocks) spans items → IsBlockRead bits bytes (flat_block_at blocks b) front →
+    AreBlocksRead bits bytes (take (b + 1) blocks) (spans ++ block_span (flat_block_at blocks b) front ∷ []) (items ++ front)
 one_more_of bits bytes blocks b spans items front lt h read =
-    let R : List FlatBlock → Type 0 = λ xs. AreBlocksRead bits bytes xs (spans ++ span_of (block_at blocks b) front ∷ []) (items ++ front) in
-    subst R (sym (take_more blocks b no_block lt)) (one_more_block bits bytes (take b blocks) spans items (block_at blocks b) front h read)
+    let R : List FlatBlock → Type 0 = λ xs. AreBlocksRead bits bytes xs (spans ++ block_span (flat_block_at blocks b) front ∷ []) (items ++ front) in
+    subst R (sym (take_more blocks b no_block lt)) (one_more_block bits bytes (take b blocks) spans items (flat_block_at blocks b) front h read)
 
 -- ---- how many instructions
 
-few_items : (bits : Bits) (ip : ℕ) (bytes : List ℕ) (items : List Placed) (ip' : ℕ) (rest : List ℕ) → ReadsUpTo bits ip bytes items ip' rest → length items ≤ length bytes
+few_items : (bits : Bits) (ip : ℕ) (bytes : List ℕ) (items : List Placed) (ip' : ℕ) (rest : List ℕ) → AreReadUpTo bits ip bytes items ip' rest → length items ≤ length bytes
 few_items bits ip bytes [] ip' rest h = omega arith
 few_items bits ip bytes (p ∷ ps) ip' rest h =
     omega (arith, few_items bits (ip + p.len) (drop p.len bytes) ps ip' rest h.4, length-drop p.len bytes, h.1, h.3.0)
 
 -- a block has no more instructions than bytes
-pub few_in_block : (bits : Bits) (bytes : List ℕ) (block : FlatBlock) (items : List Placed) → IsBlockRead bits bytes block items → length items ≤ length (code_of bytes block)
-few_in_block bits bytes block items h = few_items bits block.old_ip (code_of bytes block) items h.read.0 [] h.read.1
+pub few_in_block : (bits : Bits) (bytes : List ℕ) (block : FlatBlock) (items : List Placed) → IsBlockRead bits bytes block items → length items ≤ length (block_code bytes block)
+few_in_block bits bytes block items h = few_items bits block.old_ip (block_code bytes block) items h.read.0 [] h.read.1
 
 -- so it has few where the blocks are short together
 pub few_in_blocks : (bits : Bits) (bytes : List ℕ) (blocks : List FlatBlock) (b : ℕ) (items : List Placed) → AreFew blocks → b < length blocks →
-    IsBlockRead bits bytes (block_at blocks b) items → length items ≤ 1048576
+    IsBlockRead bits bytes (flat_block_at blocks b) items → length items ≤ 1048576
 few_in_blocks bits bytes blocks b items few lt h =
-    let block = block_at blocks b in
+    let block = flat_block_at blocks b in
     let inside : block.offset + block.len ≤ length bytes = h.within in
-    let size : length (code_of bytes block) ≡ block.len = length-take-le block.len (drop block.offset bytes) (omega (arith, length-drop block.offset bytes, inside)) in
+    let size : length (block_code bytes block) ≡ block.len = length-take-le block.len (drop block.offset bytes) (omega (arith, length-drop block.offset bytes, inside)) in
     omega (arith, few_in_block bits bytes block items h, size, get_or-le-sum_by (λ (x : FlatBlock). x.len) blocks b no_block lt, few.short)
 
 -- ---- the spans take all items
@@ -75,7 +75,7 @@ counted : (bits : Bits) (bytes : List ℕ) (blocks : List FlatBlock) (spans : Li
 counted bits bytes [] spans items h = ap (λ (xs : List BlockSpan). sum_by (λ (s : BlockSpan). s.count) xs) h.0 ∙ sym (ap length h.1)
 counted bits bytes (c ∷ cs) spans items (first, rest, others, items_are, spans_are, is, more) =
     ap (λ (xs : List BlockSpan). sum_by (λ (s : BlockSpan). s.count) xs) spans_are
-    ∙ (sum_by-cons (λ (s : BlockSpan). s.count) (span_of c first) others
+    ∙ (sum_by-cons (λ (s : BlockSpan). s.count) (block_span c first) others
     ∙ (ap (λ (n : ℕ). length first + n) (counted bits bytes cs others rest more)
     ∙ (sym (length-append first rest) ∙ sym (ap length items_are))))
 
@@ -104,7 +104,7 @@ placed_of_read bits bytes [] spans items h =
 placed_of_read bits bytes (c ∷ cs) spans items (first, rest, others, items_are, spans_are, is, more) =
     let P : List Placed → Type 0 = λ xs. ArePlaced bits xs in
     subst P (sym items_are) (placed_in bits first rest
-    (are_placed bits c.old_ip (code_of bytes c) first is.read.0 [] is.read.1)
+    (are_placed bits c.old_ip (block_code bytes c) first is.read.0 [] is.read.1)
     (placed_of_read bits bytes cs others rest more))
 
 -- ---- and in order
@@ -196,8 +196,8 @@ in_order_of_read bits bytes [] spans items h =
 in_order_of_read bits bytes (c ∷ cs) spans items (first, rest, others, items_are, spans_are, is, more) =
     let P : List Placed → Type 0 = λ xs. InOrder spans xs in
     let Q : List BlockSpan → Type 0 = λ ss. InOrder ss (first ++ rest) in
-    let chain = follows bits c.old_ip (code_of bytes c) first is.read.0 [] is.read.1 in
-    subst P (sym items_are) (subst Q (sym spans_are) (joined_order (span_of c first) others first rest refl chain (in_order_of_read bits bytes cs others rest more)))
+    let chain = follows bits c.old_ip (block_code bytes c) first is.read.0 [] is.read.1 in
+    subst P (sym items_are) (subst Q (sym spans_are) (joined_order (block_span c first) others first rest refl chain (in_order_of_read bits bytes cs others rest more)))
 
 pub no_disorder_of_read : (bits : Bits) (bytes : List ℕ) (blocks : List FlatBlock) (spans : List BlockSpan) (items : List Placed) → AreBlocksRead bits bytes blocks spans items →
     first_disorder spans items ≡ None

@@ -5,14 +5,14 @@ use Rattle.x86_values.specs.declared.Bits.{Bits}
 use Rattle.x86_values.specs.declared.Bits.TheVariants.{B16, B32, B64}
 use Rattle.x86_values.specs.Wrapping.{width}
 use Rattle.move_goals.specs.Items.{passes}
-use Rattle.feddurzai_c.specs.Moving.{code_end}
+use Rattle.feddurzai_c.specs.Moving.{moved_end}
 
 width-most : (bits : Bits) → 2 ^ width bits ≤ 2 ^ 64
 width-most B16 = omega arith
 width-most B32 = omega arith
 width-most B64 = omega arith
 
-pub ends-inside : (bits : Bits) (old : ℕ) (bytes : List ℕ) (new : ℕ) → old < 2 ^ 64 → passes bits (code_end old bytes new) ≡ false → old + length bytes ≤ 2 ^ 64
+pub ends-inside : (bits : Bits) (old : ℕ) (bytes : List ℕ) (new : ℕ) → old < 2 ^ 64 → passes bits (moved_end old bytes new) ≡ false → old + length bytes ≤ 2 ^ 64
 ends-inside bits old bytes new low inside =
     elim (cases_Bool (nat_eq (length bytes) 0)) [
       | inl none ↦ omega (arith, eqb-true (length bytes) 0 none, low)

@@ -6,7 +6,7 @@ use Rattle.x86_values.specs.declared.Bits.{Bits}
 use Rattle.x86_values.specs.declared.Mem.{Mem}
 use Rattle.x86_values.specs.declared.Operand.{Operand}
 use Rattle.x86_values.specs.declared.Operand.TheVariants.{Absent, Reg, Mem as MemOperand, Imm, Near, Far}
-use Rattle.x86_values.specs.Operands.{is_memory}
+use Rattle.x86_values.specs.Operands.{is_memory, is_absent}
 use Rattle.x86_values.specs.declared.Instr.{Instr}
 use Rattle.row_types.specs.declared.Row.{Row}
 use Rattle.row_types.specs.declared.Place.{Place}
@@ -17,7 +17,7 @@ use Rattle.instruction_parts.specs.Counting.{or_else}
 use Rattle.row_fit.specs.Fits.{kind_at}
 use Rattle.plain_spelling.specs.declared.NoSpelling.{NoSpelling}
 use Rattle.plain_spelling.specs.declared.NoSpelling.TheVariants as cause
-use Rattle.plain_spelling.specs.Forms.{is_absent, is_register, is_immediate, is_far, is_variant_of, operand_at}
+use Rattle.plain_spelling.specs.Forms.{is_register, is_immediate, is_far, is_variant_of, operand_at}
 use Rattle.plain_spelling.specs.Expressible.{row_exists, kind_suits, register_suits, address_suits, displacement_offered, immediate_suits, target_suits, prefixes_suit, address_size_suits, is_short, first_failing, caused_at, caused_unless, each_operand, first_failed_condition, failure}
 use Rattle.feddurzai_c.specs.Answers.{first_place, may_have_target, failing_operand}
 use Rattle.feddurzai_c.specs.Failing.{may_be_target, can_be_target, at_most_one_of, has_one_target, IsFirstFailing, FailsAlone, IsFailing}

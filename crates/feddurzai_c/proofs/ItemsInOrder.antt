@@ -4,7 +4,7 @@ use Rattle.std.specs.Prelude.{◌==◌}
 use Rattle.std.proofs.lemmas.Bool.{eq-eqb, or_left, or_right}
 use Rattle.x86_values.specs.declared.Bits.{Bits}
 use Rattle.x86_values.specs.declared.Decoded.{Decoded}
-use Rattle.x86_values.specs.Wrapping.{wrapped}
+use Rattle.x86_values.specs.Wrapping.{modulo_width}
 use Rattle.row_relation.specs.Spells.{Read, Spells}
 use Rattle.opcode_rows.specs.Table.{table}
 use Rattle.opcode_rows.specs.Reading.{IsRead}
@@ -14,28 +14,28 @@ use Rattle.branch_sizes.proofs.Totals.{first_le}
 use Rattle.move_goals.specs.declared.items.Placed.{Placed}
 use Rattle.move_goals.specs.Items.{item_at, old_end, ArePlaced, one_span, begins_block, is_in_order, first_disorder}
 use Rattle.move_goals.proofs.First.{first_below_none}
-use Rattle.feddurzai_c.specs.Moving.{read_item, ReadsUpTo}
+use Rattle.feddurzai_c.specs.Moving.{decoded_item, AreReadUpTo}
 
 -- ---- one more instruction
 
 pub one_more : (bits : Bits) (ip : ℕ) (bytes : List ℕ) (items : List Placed) (ip' : ℕ) (rest : List ℕ) (p : Placed) →
-    ReadsUpTo bits ip bytes items ip' rest → p.ip ≡ ip' → 1 ≤ p.len → p.len ≤ 15 → IsRead bits ip' rest (Read (read_item p)) →
-    ReadsUpTo bits ip bytes (items ++ p ∷ []) (ip' + p.len) (drop p.len rest)
+    AreReadUpTo bits ip bytes items ip' rest → p.ip ≡ ip' → 1 ≤ p.len → p.len ≤ 15 → IsRead bits ip' rest (Read (decoded_item p)) →
+    AreReadUpTo bits ip bytes (items ++ p ∷ []) (ip' + p.len) (drop p.len rest)
 one_more bits ip bytes [] ip' rest p h e some few reads =
-    let R : ℕ → Type 0 = λ n. IsRead bits n bytes (Read (read_item p)) in
-    let R' : List ℕ → Type 0 = λ xs. IsRead bits ip' xs (Read (read_item p)) in
+    let R : ℕ → Type 0 = λ n. IsRead bits n bytes (Read (decoded_item p)) in
+    let R' : List ℕ → Type 0 = λ xs. IsRead bits ip' xs (Read (decoded_item p)) in
     (e ∙ h.0, some, few, subst R h.0 (subst R' h.1 reads), (ap (λ (n : ℕ). n + p.len) h.0, ap (drop p.len) h.1))
 one_more bits ip bytes (q ∷ qs) ip' rest p h e some few reads =
     (h.0, h.1, h.2, h.3, one_more bits (ip + q.len) (drop q.len bytes) qs ip' rest p h.4 e some few reads)
 
 -- some first instructions of the code were read, and its rest stands at this offset
 pub record ReadSoFar (bits : Bits) (base : ℕ) (bytes : List ℕ) (at : ℕ) (items : List Placed) : Type 0 where
-  pub reads : ReadsUpTo bits base bytes items (base + at) (drop at bytes)
+  pub reads : AreReadUpTo bits base bytes items (base + at) (drop at bytes)
   pub within : at ≤ length bytes
 
 pub so_far-start : (bits : Bits) (base : ℕ) (bytes : List ℕ) (items : List Placed) → items ≡ [] → ReadSoFar bits base bytes 0 items
 so_far-start bits base bytes items none =
-    let R : List Placed → Type 0 = λ xs. ReadsUpTo bits base bytes xs (base + 0) (drop 0 bytes) in
+    let R : List Placed → Type 0 = λ xs. AreReadUpTo bits base bytes xs (base + 0) (drop 0 bytes) in
     record {
       reads = subst R (sym none) (omega arith, refl);
       within = omega arith;
@@ -48,9 +48,9 @@ so_far-step bits base bytes at items items' d p far e is some few within reads =
     let item : Placed = record { ip = base + at; len = d.len; instr = d.instr } in
     let more = one_more bits base bytes items (base + at) (drop at bytes) item far.reads refl (omega arith) few reads in
     let there : base + at + d.len ≡ base + (at + d.len) = omega arith in
-    let R : ℕ → Type 0 = λ n. ReadsUpTo bits base bytes (items ++ item ∷ []) n (drop d.len (drop at bytes)) in
-    let R' : List ℕ → Type 0 = λ xs. ReadsUpTo bits base bytes (items ++ item ∷ []) (base + (at + d.len)) xs in
-    let R'' : List Placed → Type 0 = λ xs. ReadsUpTo bits base bytes xs (base + (at + d.len)) (drop (at + d.len) bytes) in
+    let R : ℕ → Type 0 = λ n. AreReadUpTo bits base bytes (items ++ item ∷ []) n (drop d.len (drop at bytes)) in
+    let R' : List ℕ → Type 0 = λ xs. AreReadUpTo bits base bytes (items ++ item ∷ []) (base + (at + d.len)) xs in
+    let R'' : List Placed → Type 0 = λ xs. AreReadUpTo bits base bytes xs (base + (at + d.len)) (drop (at + d.len) bytes) in
     let size = length-drop at bytes in
     let before = far.within in
     record {
@@ -60,10 +60,10 @@ so_far-step bits base bytes at items items' d p far e is some few within reads =
 
 -- ---- each is well placed
 
-pub are_placed : (bits : Bits) (ip : ℕ) (bytes : List ℕ) (items : List Placed) (ip' : ℕ) (rest : List ℕ) → ReadsUpTo bits ip bytes items ip' rest → ArePlaced bits items
+pub are_placed : (bits : Bits) (ip : ℕ) (bytes : List ℕ) (items : List Placed) (ip' : ℕ) (rest : List ℕ) → AreReadUpTo bits ip bytes items ip' rest → ArePlaced bits items
 are_placed bits ip bytes [] ip' rest h k lt = absurd (omega arith)
 are_placed bits ip bytes (p ∷ ps) ip' rest h zero lt =
-    let S : ℕ → Type 0 = λ n. Spells table bits (wrapped bits n) (take p.len bytes) p.instr in
+    let S : ℕ → Type 0 = λ n. Spells table bits (modulo_width bits n) (take p.len bytes) p.instr in
     record {
       some = h.1;
       few = h.2;
@@ -74,7 +74,7 @@ are_placed bits ip bytes (p ∷ ps) ip' rest h (suc k) lt = are_placed bits (ip 
 
 -- ---- and in order
 
-pub follows : (bits : Bits) (ip : ℕ) (bytes : List ℕ) (items : List Placed) (ip' : ℕ) (rest : List ℕ) → ReadsUpTo bits ip bytes items ip' rest →
+pub follows : (bits : Bits) (ip : ℕ) (bytes : List ℕ) (items : List Placed) (ip' : ℕ) (rest : List ℕ) → AreReadUpTo bits ip bytes items ip' rest →
     (j : ℕ) → suc j < length items → (item_at items (suc j)).ip ≡ old_end (item_at items j)
 follows bits ip bytes [] ip' rest h j lt = absurd (omega arith)
 follows bits ip bytes (p ∷ []) ip' rest h j lt = absurd (omega arith)
@@ -94,7 +94,7 @@ in_order spans items chain (suc j) lt =
     ((item_at items (suc j)).ip == old_end (item_at items (suc j - 1)))
     (eq-eqb _ _ (chain j lt ∙ ap (λ (i : ℕ). old_end (item_at items i)) (sym before)))
 
-pub no_disorder : (bits : Bits) (ip : ℕ) (bytes : List ℕ) (items : List Placed) (ip' : ℕ) (rest : List ℕ) → ReadsUpTo bits ip bytes items ip' rest →
+pub no_disorder : (bits : Bits) (ip : ℕ) (bytes : List ℕ) (items : List Placed) (ip' : ℕ) (rest : List ℕ) → AreReadUpTo bits ip bytes items ip' rest →
     (new : ℕ) → first_disorder (one_span items new) items ≡ None
 unfolding first_disorder
 no_disorder bits ip bytes items ip' rest h new =

@@ -3,7 +3,7 @@ use Rattle.std.proofs.Common.{◌≡◌, ℕ, true, List, Option, Some, None, Er
 use Rattle.std.specs.Prelude.{IsTrue}
 use Rattle.x86_values.specs.declared.Bits.{Bits}
 use Rattle.x86_values.specs.declared.Instr.{Instr}
-use Rattle.x86_values.specs.Wrapping.{wrapped}
+use Rattle.x86_values.specs.Wrapping.{modulo_width}
 use Rattle.row_types.specs.declared.Row.{Row}
 use Rattle.instruction_parts.specs.Kinds.{method_of}
 use Rattle.plain_spelling.specs.declared.NoSpelling.{NoSpelling}
@@ -37,7 +37,7 @@ refused-by None bytes w h = cc
 refused-by (Some x) bytes w h = cc
 
 pub told-fails : (bits : Bits) (ip : ℕ) (row : Row) (i : Instr) (w : NoSpelling) → slice_get table i.code.0 ≡ Some row → encoding bits ip i ≡ Err w
-    → IsFailing bits (wrapped bits ip) row i w
+    → IsFailing bits (modulo_width bits ip) row i w
 told-fails bits ip row i w at h =
-    failing-is bits (wrapped bits ip) row i w (one-row i.code.0 row at)
-    (refused-by (failure bits (wrapped bits ip) row i) _ w (by_row bits ip row i at ∙ h))
+    failing-is bits (modulo_width bits ip) row i w (one-row i.code.0 row at)
+    (refused-by (failure bits (modulo_width bits ip) row i) _ w (by_row bits ip row i at ∙ h))

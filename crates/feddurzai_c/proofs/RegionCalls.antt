@@ -9,17 +9,17 @@ use Rattle.code_region.specs.declared.refusals.PlaceError.{PlaceError}
 use Rattle.code_region.specs.declared.refusals.PlaceError.TheVariants.{Empty, TooManyBlocks, Full}
 use Rattle.code_region.specs.Opening.{open_refusal}
 use Rattle.code_region.specs.Gaps.{longest}
-use Rattle.code_region.specs.State.{LiveBlock, RegionState, int3, rounded, gaps_of, live_block}
-use Rattle.code_region.specs.Placing.{front_of, with_block, unfilled, place_answer, placed, placed_as}
-use Rattle.code_region.specs.Releasing.{release_of, release_answer, released}
+use Rattle.code_region.specs.State.{LiveBlock, RegionState, int3, len_in_units, gaps_of, live_block}
+use Rattle.code_region.specs.Placing.{place_in_gap, with_block, unfilled_block, place_answer, after_place, placed_as}
+use Rattle.code_region.specs.Releasing.{release_of, release_answer, after_release}
 use Rattle.code_region.specs.declared.refusals.FillError.{FillError}
 use Rattle.code_region.specs.declared.refusals.FillError.TheVariants as fill
 use Rattle.code_region.specs.Filling.{with_content, fill_answer}
 use Rattle.code_region.specs.Keeping.{overwritten}
 use Rattle.feddurzai_c.specs.declared.flat.FlatRegion.{FlatRegion}
 use Rattle.feddurzai_c.specs.declared.flat.FlatLive.{FlatLive}
-use Rattle.feddurzai_c.specs.Regions.{are_laid, live_of, is_region, block_of, region_of, IsLeft, place_said, place_left, IsPlacedIn, IsReservedIn, release_said, IsReleasedIn, fill_said, image_left, IsFilledIn}
-use Rattle.feddurzai_c.specs.RegionSearch.{gap_of, IsStart, IsNewPlace, IsFull, no_live, IsRegion, StartsAt, StartsNowhere}
+use Rattle.feddurzai_c.specs.Regions.{are_laid, live_of, is_region, live_block_of, region_of, IsLeft, place_said, place_left, IsPlacedIn, IsReservedIn, release_said, IsReleasedIn, fill_said, image_left, IsFilledIn}
+use Rattle.feddurzai_c.specs.RegionSearch.{gap_of, IsStart, IsNewPlace, IsRegionFull, no_live, IsRegion, StartsAt, StartsNowhere}
 
 -- ---- which numbers are a region
 
@@ -39,18 +39,18 @@ region_is region blocks h =
     }
 
 -- a length that is not 0 is rounded to one that is not
-pub rounded-some : (len : ℕ) → 0 < len → 0 < rounded len
-unfolding rounded
+pub rounded-some : (len : ℕ) → 0 < len → 0 < len_in_units len
+unfolding len_in_units
 rounded-some len some = cond_both (nat_le len (2 ^ 64 - 16)) ((len + 15) / 16 * 16) (2 ^ 64 - 16) (λ (n : ℕ). 0 < n) (λ e. omega arith) (λ e. omega arith)
 
 -- how many blocks are live
-pub live_count : (region : FlatRegion) (blocks : List FlatLive) → IsRegion region blocks → length (map block_of (live_of region blocks)) ≡ region.count
-live_count region blocks is = length-map (live_of region blocks) block_of ∙ length-take-le region.count blocks is.few
+pub live_count : (region : FlatRegion) (blocks : List FlatLive) → IsRegion region blocks → length (map live_block_of (live_of region blocks)) ≡ region.count
+live_count region blocks is = length-map (live_of region blocks) live_block_of ∙ length-take-le region.count blocks is.few
 
 -- ---- a place
 
 -- the front of a gap that starts at an address
-front_start : (g : Option Span) (place len largest : ℕ) → IsStart g place → front_of g len largest ≡ Ok place
+front_start : (g : Option Span) (place len largest : ℕ) → IsStart g place → place_in_gap g len largest ≡ Ok place
 front_start None place len largest h = absurd h
 front_start (Some gap) place len largest h = ap Ok h
 
@@ -63,27 +63,27 @@ module _ (region : FlatRegion) (blocks : List FlatLive) (is : IsRegion region bl
   unfolding place_answer
   many-answer some e =
       cond-false (len == 0) _ _ (ne_eqb len 0 some)
-      ∙ cond-true (length (map block_of (live_of region blocks)) == length blocks) _ _ (eq-eqb (length (map block_of (live_of region blocks))) (length blocks) (live_count region blocks is ∙ e))
+      ∙ cond-true (length (map live_block_of (live_of region blocks)) == length blocks) _ _ (eq-eqb (length (map live_block_of (live_of region blocks))) (length blocks) (live_count region blocks is ∙ e))
 
   front : (len ≡ 0 → ⊥) → (region.count ≡ length blocks → ⊥) → place_answer (region_of region blocks) len
-      ≡ front_of (gap_of region.base (region.base + region.size) (rounded len) (live_of region blocks)) (rounded len) (longest (gaps_of (region_of region blocks)))
+      ≡ place_in_gap (gap_of region.base (region.base + region.size) (len_in_units len) (live_of region blocks)) (len_in_units len) (longest (gaps_of (region_of region blocks)))
   unfolding place_answer gaps_of
   front some few =
-      let more : length (map block_of (live_of region blocks)) ≡ length blocks → ⊥ =
-      λ (e : length (map block_of (live_of region blocks)) ≡ length blocks). few (sym (live_count region blocks is) ∙ e) in
+      let more : length (map live_block_of (live_of region blocks)) ≡ length blocks → ⊥ =
+      λ (e : length (map live_block_of (live_of region blocks)) ≡ length blocks). few (sym (live_count region blocks is) ∙ e) in
       cond-false (len == 0) _ _ (ne_eqb len 0 some)
-      ∙ cond-false (length (map block_of (live_of region blocks)) == length blocks) _ _ (ne_eqb (length (map block_of (live_of region blocks))) (length blocks) more)
+      ∙ cond-false (length (map live_block_of (live_of region blocks)) == length blocks) _ _ (ne_eqb (length (map live_block_of (live_of region blocks))) (length blocks) more)
 
-  pub full-answer : (len ≡ 0 → ⊥) → (region.count ≡ length blocks → ⊥) → IsFull region.base (region.base + region.size) (rounded len) (live_of region blocks) →
-      place_answer (region_of region blocks) len ≡ Err (Full (rounded len) (longest (gaps_of (region_of region blocks))))
+  pub full-answer : (len ≡ 0 → ⊥) → (region.count ≡ length blocks → ⊥) → IsRegionFull region.base (region.base + region.size) (len_in_units len) (live_of region blocks) →
+      place_answer (region_of region blocks) len ≡ Err (Full (len_in_units len) (longest (gaps_of (region_of region blocks))))
   full-answer some few full =
-      front some few ∙ ap (λ (g : Option Span). front_of g (rounded len) (longest (gaps_of (region_of region blocks)))) full
+      front some few ∙ ap (λ (g : Option Span). place_in_gap g (len_in_units len) (longest (gaps_of (region_of region blocks)))) full
 
   pub new-answer : (len ≡ 0 → ⊥) → (region.count ≡ length blocks → ⊥) → (index place : ℕ) →
-      IsNewPlace region.base (region.base + region.size) (rounded len) (live_of region blocks) index place →
+      IsNewPlace region.base (region.base + region.size) (len_in_units len) (live_of region blocks) index place →
       place_answer (region_of region blocks) len ≡ Ok place
   new-answer some few index place new =
-      front some few ∙ front_start (gap_of region.base (region.base + region.size) (rounded len) (live_of region blocks)) place (rounded len) (longest (gaps_of (region_of region blocks))) new.start
+      front some few ∙ front_start (gap_of region.base (region.base + region.size) (len_in_units len) (live_of region blocks)) place (len_in_units len) (longest (gaps_of (region_of region blocks))) new.start
 
 -- a refusal leaves all as it was
 pub refused-in : (region : FlatRegion) (blocks : List FlatLive) (len old : ℕ) (e : PlaceError) (said : ℤ) → place_answer (region_of region blocks) len ≡ Err e →
@@ -140,15 +140,15 @@ taken-is old count index lt le =
 
 -- other live blocks at the front of an array that is as long, and behind them the same
 pub left-by : (region : FlatRegion) (blocks blocks' live : List FlatLive) (n : ℕ) (state : RegionState) → blocks' ≡ live ++ drop n blocks → length live ≡ n →
-    length blocks' ≡ length blocks → record { base = region.base; size = region.size; max_blocks = length blocks; live = map block_of live } ≡ state →
+    length blocks' ≡ length blocks → record { base = region.base; size = region.size; max_blocks = length blocks; live = map live_block_of live } ≡ state →
     IsLeft region (record { base = region.base; size = region.size; count = n }) blocks blocks' state
 left-by region blocks blocks' live n state is count same e =
     let front : take n blocks' ≡ live =
     ap (take n) is ∙ (ap (λ (k : ℕ). take k (live ++ drop n blocks)) (sym count) ∙ take-append_seam live (drop n blocks)) in
     let back : drop n blocks' ≡ drop n blocks =
     ap (drop n) is ∙ (ap (λ (k : ℕ). drop k (live ++ drop n blocks)) (sym count) ∙ drop-append_seam live (drop n blocks)) in
-    let size : n ≡ length (map block_of live) = sym count ∙ sym (length-map live block_of) in
-    let R : ℕ → List FlatLive → RegionState = λ k bs. record { base = region.base; size = region.size; max_blocks = k; live = map block_of bs } in
+    let size : n ≡ length (map live_block_of live) = sym count ∙ sym (length-map live live_block_of) in
+    let R : ℕ → List FlatLive → RegionState = λ k bs. record { base = region.base; size = region.size; max_blocks = k; live = map live_block_of bs } in
     record {
       base = refl;
       size = refl;
@@ -161,31 +161,31 @@ left-by region blocks blocks' live n state is count same e =
 
 -- the region with it
 placed_by : (region : FlatRegion) (blocks : List FlatLive) (len place : ℕ) → place_answer (region_of region blocks) len ≡ Ok place →
-    placed (region_of region blocks) len ≡ record (region_of region blocks) { live = with_block (unfilled place (rounded len)) (map block_of (live_of region blocks)) }
-unfolding placed
+    after_place (region_of region blocks) len ≡ record (region_of region blocks) { live = with_block (unfilled_block place (len_in_units len)) (map live_block_of (live_of region blocks)) }
+unfolding after_place
 placed_by region blocks len place answer = ap (λ (a : Result ℕ PlaceError). placed_as a (region_of region blocks) len) answer
 
 pub placed-in : (region : FlatRegion) (blocks blocks' : List FlatLive) (len index place : ℕ) (said : ℤ) → IsRegion region blocks → (len ≡ 0 → ⊥) → region.count < length blocks →
-    IsNewPlace region.base (region.base + region.size) (rounded len) (live_of region blocks) index place → said ≡ pos 0 →
-    (block : FlatLive) → block ≡ record { place = place; len = rounded len } →
+    IsNewPlace region.base (region.base + region.size) (len_in_units len) (live_of region blocks) index place → said ≡ pos 0 →
+    (block : FlatLive) → block ≡ record { place = place; len = len_in_units len } →
     blocks' ≡ (take index (live_of region blocks) ++ block ∷ drop index (live_of region blocks)) ++ drop (region.count + 1) blocks → length blocks' ≡ length blocks → (old : ℕ) →
     IsReservedIn region (record { base = region.base; size = region.size; count = region.count + 1 }) blocks blocks' len old place said
 placed-in region blocks blocks' len index place said is some few new told block block_is array same old =
     let live = live_of region blocks in
-    let b : FlatLive = record { place = place; len = rounded len } in
+    let b : FlatLive = record { place = place; len = len_in_units len } in
     let more = take index live ++ b ∷ drop index live in
     let answer : place_answer (region_of region blocks) len ≡ Ok place =
     new-answer region blocks is len some (λ (e : region.count ≡ length blocks). omega (arith, e, few)) index place new in
     let count : length more ≡ region.count + 1 =
     omega (arith, length-append (take index live) (b ∷ drop index live), length-take-le index live new.within, length-drop index live, length-take-le region.count blocks is.few, new.within) in
-    let listed : map block_of more ≡ with_block (block_of b) (map block_of live) =
-    map-append block_of (take index live) (b ∷ drop index live) ∙ sym (new.order (rounded len)) in
+    let listed : map live_block_of more ≡ with_block (live_block_of b) (map live_block_of live) =
+    map-append live_block_of (take index live) (b ∷ drop index live) ∙ sym (new.order (len_in_units len)) in
     let L : Result ℕ PlaceError → Type 0 = λ a. IsPlacedIn a region (record { base = region.base; size = region.size; count = region.count + 1 }) blocks blocks' len in
     let S : List LiveBlock → RegionState = λ xs. record { base = region.base; size = region.size; max_blocks = length blocks; live = xs } in
     record {
       said_is = told ∙ sym (ap place_said answer);
       place_is = sym (ap (place_left old) answer);
-      left = subst L (sym answer) (left-by region blocks blocks' more (region.count + 1) (placed (region_of region blocks) len)
+      left = subst L (sym answer) (left-by region blocks blocks' more (region.count + 1) (after_place (region_of region blocks) len)
           (array ∙ ap (λ (x : FlatLive). (take index live ++ x ∷ drop index live) ++ drop (region.count + 1) blocks) block_is) count same
           (ap S listed ∙ sym (placed_by region blocks len place answer)));
     }
@@ -194,7 +194,7 @@ placed-in region blocks blocks' len index place said is some few new told block 
 
 pub not-released : (region : FlatRegion) (blocks : List FlatLive) (place : ℕ) (said : ℤ) → IsRegion region blocks → StartsNowhere place (live_of region blocks) →
     said ≡ release_said (Err (record { place = place })) → IsReleasedIn region region blocks blocks place said
-unfolding release_answer released live_block
+unfolding release_answer after_release live_block
 not-released region blocks place said is none told =
     let S : List LiveBlock → RegionState = λ xs. record { base = region.base; size = region.size; max_blocks = length blocks; live = xs } in
     record {
@@ -212,7 +212,7 @@ pub released-in : (region : FlatRegion) (blocks blocks' : List FlatLive) (place 
     said ≡ pos 0 →
     blocks' ≡ (take index (live_of region blocks) ++ drop (index + 1) (live_of region blocks)) ++ drop (region.count - 1) blocks → length blocks' ≡ length blocks →
     IsReleasedIn region (record { base = region.base; size = region.size; count = region.count - 1 }) blocks blocks' place said
-unfolding release_answer released live_block
+unfolding release_answer after_release live_block
 released-in region blocks blocks' place index said is at told array same =
     let live = live_of region blocks in
     let fewer = take index live ++ drop (index + 1) live in
@@ -222,7 +222,7 @@ released-in region blocks blocks' place index said is at told array same =
     let S : List LiveBlock → RegionState = λ xs. record { base = region.base; size = region.size; max_blocks = length blocks; live = xs } in
     record {
       said_is = told ∙ sym (ap (λ (o : Option LiveBlock). release_said (release_of o place)) at.found);
-      left = left-by region blocks blocks' fewer (region.count - 1) (released (region_of region blocks) place) array count same (sym (ap S at.others));
+      left = left-by region blocks blocks' fewer (region.count - 1) (after_release (region_of region blocks) place) array count same (sym (ap S at.others));
     }
 
 -- ---- the bytes of a block
@@ -245,7 +245,7 @@ too-long region blocks place index bytes image said at more told =
       said_is = told ∙ sym (ap (λ (o : Option LiveBlock). fill_said (fill_answer o place (length bytes))) at.found
           ∙ ap (λ (r : Result (Unit {0}) FillError). fill_said r) (cond-false (nat_le (length bytes) b.len) (Ok tt) (Err (fill.TooLong b.len)) no));
       image_is = sym (ap (λ (o : Option LiveBlock). image_left region.base image o bytes) at.found
-          ∙ cond-false (nat_le (length bytes) b.len) (overwritten image (b.place - region.base) (with_content bytes (block_of b)).content) image no);
+          ∙ cond-false (nat_le (length bytes) b.len) (overwritten image (b.place - region.base) (with_content bytes (live_block_of b)).content) image no);
     }
 
 pub filled-in : (region : FlatRegion) (blocks : List FlatLive) (place index : ℕ) (bytes image image' : List ℕ) (said : ℤ) → StartsAt place (live_of region blocks) index →
@@ -260,5 +260,5 @@ filled-in region blocks place index bytes image image' said at few told is =
       said_is = told ∙ sym (ap (λ (o : Option LiveBlock). fill_said (fill_answer o place (length bytes))) at.found
           ∙ ap (λ (r : Result (Unit {0}) FillError). fill_said r) (cond-true (nat_le (length bytes) b.len) (Ok tt) (Err (fill.TooLong b.len)) yes));
       image_is = is ∙ sym (ap (λ (o : Option LiveBlock). image_left region.base image o bytes) at.found
-          ∙ cond-true (nat_le (length bytes) b.len) (overwritten image (b.place - region.base) (with_content bytes (block_of b)).content) image yes);
+          ∙ cond-true (nat_le (length bytes) b.len) (overwritten image (b.place - region.base) (with_content bytes (live_block_of b)).content) image yes);
     }

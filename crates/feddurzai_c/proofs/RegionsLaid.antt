@@ -8,8 +8,8 @@ use Rattle.code_region.specs.declared.gaps.Span.{Span}
 use Rattle.code_region.specs.State.{LiveBlock}
 use Rattle.code_region.specs.Placing.{with_block}
 use Rattle.feddurzai_c.specs.declared.flat.FlatLive.{FlatLive}
-use Rattle.feddurzai_c.specs.Regions.{are_laid, block_of}
-use Rattle.feddurzai_c.specs.RegionSearch.{blocks_of, gap_of, IsStart, IsNewPlace, IsFull, no_live, found_at, without, StartsAt, StartsNowhere}
+use Rattle.feddurzai_c.specs.Regions.{are_laid, live_block_of}
+use Rattle.feddurzai_c.specs.RegionSearch.{blocks_of, gap_of, IsStart, IsNewPlace, IsRegionFull, no_live, found_at, without, StartsAt, StartsNowhere}
 
 -- ---- one block
 
@@ -47,8 +47,8 @@ from_here live k lt =
     drop-cons live k no_live lt ∙ ap (λ (n : ℕ). here ∷ drop n live) (sym (add-one k))
 
 -- and those before the next are those before it and that one
-up_to_here : (live : List FlatLive) (k : ℕ) → k < length live → blocks_of (take (k + 1) live) ≡ blocks_of (take k live) ++ block_of (get_or live k no_live) ∷ []
-up_to_here live k lt = ap blocks_of (take_more live k no_live lt) ∙ map-append block_of (take k live) (get_or live k no_live ∷ [])
+up_to_here : (live : List FlatLive) (k : ℕ) → k < length live → blocks_of (take (k + 1) live) ≡ blocks_of (take k live) ++ live_block_of (get_or live k no_live) ∷ []
+up_to_here live k lt = ap blocks_of (take_more live k no_live lt) ∙ map-append live_block_of (take k live) (get_or live k no_live ∷ [])
 
 -- ---- the search for a gap
 
@@ -57,7 +57,7 @@ pub record SearchedTo (base limit needed : ℕ) (live : List FlatLive) (k from :
   pub within : k ≤ length live
   pub laid : are_laid from limit (drop k live) ≡ true
   pub gaps : gap_of base limit needed live ≡ gap_of from limit needed (drop k live)
-  pub order : (b : FlatLive) → from ≤ b.place → with_block (block_of b) (blocks_of live) ≡ blocks_of (take k live) ++ with_block (block_of b) (blocks_of (drop k live))
+  pub order : (b : FlatLive) → from ≤ b.place → with_block (live_block_of b) (blocks_of live) ≡ blocks_of (take k live) ++ with_block (live_block_of b) (blocks_of (drop k live))
 
 pub searched-start : (base limit needed : ℕ) (live : List FlatLive) → are_laid base limit live ≡ true → SearchedTo base limit needed live 0 base
 searched-start base limit needed live h = record {
@@ -82,12 +82,12 @@ long_gap from limit needed b bs le =
     cond-true (nat_le needed gap.len) (Some gap) (gap_of (b.place + b.len) limit needed bs) (le-leb needed (b.place - from) le)
 
 -- a block behind the first of some
-behind_first : (b c : FlatLive) (cs : List FlatLive) → c.place ≤ b.place → with_block (block_of b) (blocks_of (c ∷ cs)) ≡ block_of c ∷ with_block (block_of b) (blocks_of cs)
-behind_first b c cs le = cond-false (nat_lt b.place c.place) (block_of b ∷ blocks_of (c ∷ cs)) (block_of c ∷ with_block (block_of b) (blocks_of cs)) (le-ltb b.place c.place le)
+behind_first : (b c : FlatLive) (cs : List FlatLive) → c.place ≤ b.place → with_block (live_block_of b) (blocks_of (c ∷ cs)) ≡ live_block_of c ∷ with_block (live_block_of b) (blocks_of cs)
+behind_first b c cs le = cond-false (nat_lt b.place c.place) (live_block_of b ∷ blocks_of (c ∷ cs)) (live_block_of c ∷ with_block (live_block_of b) (blocks_of cs)) (le-ltb b.place c.place le)
 
 -- and one before it
-before_first : (b c : FlatLive) (cs : List FlatLive) → b.place < c.place → with_block (block_of b) (blocks_of (c ∷ cs)) ≡ block_of b ∷ blocks_of (c ∷ cs)
-before_first b c cs lt = cond-true (nat_lt b.place c.place) (block_of b ∷ blocks_of (c ∷ cs)) (block_of c ∷ with_block (block_of b) (blocks_of cs)) (lt-ltb b.place c.place lt)
+before_first : (b c : FlatLive) (cs : List FlatLive) → b.place < c.place → with_block (live_block_of b) (blocks_of (c ∷ cs)) ≡ live_block_of b ∷ blocks_of (c ∷ cs)
+before_first b c cs lt = cond-true (nat_lt b.place c.place) (live_block_of b ∷ blocks_of (c ∷ cs)) (live_block_of c ∷ with_block (live_block_of b) (blocks_of cs)) (lt-ltb b.place c.place lt)
 
 -- the block that is come to
 laid_here : (base limit needed : ℕ) (live : List FlatLive) (k from : ℕ) → SearchedTo base limit needed live k from → k < length live →
@@ -118,10 +118,10 @@ searched-step base limit needed live k from s lt short =
       gaps = s.gaps ∙ (ap (λ (bs : List FlatLive). gap_of from limit needed bs) (from_here live k lt) ∙ short_gap from limit needed c cs (omega (arith, laid.0)));
       order = λ (b : FlatLive) (le : c.place + c.len ≤ b.place).
           s.order b (omega (arith, laid.0, le))
-          ∙ (ap (λ (bs : List FlatLive). blocks_of (take k live) ++ with_block (block_of b) (blocks_of bs)) (from_here live k lt)
+          ∙ (ap (λ (bs : List FlatLive). blocks_of (take k live) ++ with_block (live_block_of b) (blocks_of bs)) (from_here live k lt)
           ∙ (ap (λ (xs : List LiveBlock). blocks_of (take k live) ++ xs) (behind_first b c cs (omega (arith, le)))
-          ∙ (sym (append_assoc (blocks_of (take k live)) (block_of c ∷ []) (with_block (block_of b) (blocks_of cs)))
-          ∙ ap (λ (xs : List LiveBlock). xs ++ with_block (block_of b) (blocks_of cs)) (sym (up_to_here live k lt)))));
+          ∙ (sym (append_assoc (blocks_of (take k live)) (live_block_of c ∷ []) (with_block (live_block_of b) (blocks_of cs)))
+          ∙ ap (λ (xs : List LiveBlock). xs ++ with_block (live_block_of b) (blocks_of cs)) (sym (up_to_here live k lt)))));
     }
 
 pub searched-found : (base limit needed : ℕ) (live : List FlatLive) (k from : ℕ) → SearchedTo base limit needed live k from → k < length live → 0 < needed →
@@ -138,9 +138,9 @@ searched-found base limit needed live k from s lt some long =
       order = λ (len : ℕ).
           let b : FlatLive = record { place = from; len = len } in
           s.order b (omega arith)
-          ∙ (ap (λ (bs : List FlatLive). blocks_of (take k live) ++ with_block (block_of b) (blocks_of bs)) (from_here live k lt)
+          ∙ (ap (λ (bs : List FlatLive). blocks_of (take k live) ++ with_block (live_block_of b) (blocks_of bs)) (from_here live k lt)
           ∙ (ap (λ (xs : List LiveBlock). blocks_of (take k live) ++ xs) (before_first b c cs (omega (arith, some, long)))
-          ∙ ap (λ (bs : List FlatLive). blocks_of (take k live) ++ block_of b ∷ blocks_of bs) (sym (from_here live k lt))));
+          ∙ ap (λ (bs : List FlatLive). blocks_of (take k live) ++ live_block_of b ∷ blocks_of bs) (sym (from_here live k lt))));
     }
 
 -- behind the last block
@@ -164,15 +164,15 @@ searched-last base limit needed live k from s ge long =
       start = subst S (sym is) refl;
       order = λ (len : ℕ).
           let b : FlatLive = record { place = from; len = len } in
-          let there : with_block (block_of b) (blocks_of live) ≡ blocks_of (take k live) ++ block_of b ∷ blocks_of (drop k live) =
+          let there : with_block (live_block_of b) (blocks_of live) ≡ blocks_of (take k live) ++ live_block_of b ∷ blocks_of (drop k live) =
           s.order b (omega arith)
-          ∙ (ap (λ (bs : List FlatLive). blocks_of (take k live) ++ with_block (block_of b) (blocks_of bs)) end
-          ∙ ap (λ (bs : List FlatLive). blocks_of (take k live) ++ block_of b ∷ blocks_of bs) (sym end)) in
-          there ∙ ap (λ (n : ℕ). blocks_of (take n live) ++ block_of b ∷ blocks_of (drop n live)) at;
+          ∙ (ap (λ (bs : List FlatLive). blocks_of (take k live) ++ with_block (live_block_of b) (blocks_of bs)) end
+          ∙ ap (λ (bs : List FlatLive). blocks_of (take k live) ++ live_block_of b ∷ blocks_of bs) (sym end)) in
+          there ∙ ap (λ (n : ℕ). blocks_of (take n live) ++ live_block_of b ∷ blocks_of (drop n live)) at;
     }
 
 pub searched-full : (base limit needed : ℕ) (live : List FlatLive) (k from : ℕ) → SearchedTo base limit needed live k from → length live ≤ k →
-    limit < from + needed → IsFull base limit needed live
+    limit < from + needed → IsRegionFull base limit needed live
 searched-full base limit needed live k from s ge short =
     let gap : Span = record { start = from; len = limit - from } in
     let within : from ≤ limit = laid_within from limit (drop k live) s.laid in
@@ -199,9 +199,9 @@ passed-start base limit place live h = record {
 }
 
 -- a block elsewhere stays
-kept : (place : ℕ) (c : FlatLive) (cs : List FlatLive) → (c.place ≡ place → ⊥) → without place (blocks_of (c ∷ cs)) ≡ block_of c ∷ without place (blocks_of cs)
+kept : (place : ℕ) (c : FlatLive) (cs : List FlatLive) → (c.place ≡ place → ⊥) → without place (blocks_of (c ∷ cs)) ≡ live_block_of c ∷ without place (blocks_of cs)
 kept place c cs ne =
-    cond-true (not (c.place == place)) (block_of c ∷ without place (blocks_of cs)) (without place (blocks_of cs)) (ap not (ne_eqb c.place place ne))
+    cond-true (not (c.place == place)) (live_block_of c ∷ without place (blocks_of cs)) (without place (blocks_of cs)) (ap not (ne_eqb c.place place ne))
 
 passed_laid : (limit place : ℕ) (live : List FlatLive) (k : ℕ) → (s : PassedTo limit place live k) → k < length live →
     are_laid ((get_or live k no_live).place + (get_or live k no_live).len) limit (drop (k + 1) live) ≡ true
@@ -219,11 +219,11 @@ passed-step limit place live k s lt ne =
       from = c.place + c.len;
       laid = passed_laid limit place live k s lt;
       found = s.found ∙ (ap (λ (bs : List FlatLive). found_at place (blocks_of bs)) (from_here live k lt)
-          ∙ cond-false (c.place == place) (Some (block_of c)) (found_at place (blocks_of cs)) (ne_eqb c.place place ne));
+          ∙ cond-false (c.place == place) (Some (live_block_of c)) (found_at place (blocks_of cs)) (ne_eqb c.place place ne));
       others = s.others
           ∙ (ap (λ (bs : List FlatLive). blocks_of (take k live) ++ without place (blocks_of bs)) (from_here live k lt)
           ∙ (ap (λ (xs : List LiveBlock). blocks_of (take k live) ++ xs) (kept place c cs ne)
-          ∙ (sym (append_assoc (blocks_of (take k live)) (block_of c ∷ []) (without place (blocks_of cs)))
+          ∙ (sym (append_assoc (blocks_of (take k live)) (live_block_of c ∷ []) (without place (blocks_of cs)))
           ∙ ap (λ (xs : List LiveBlock). xs ++ without place (blocks_of cs)) (sym (up_to_here live k lt)))));
     }
 
@@ -233,7 +233,7 @@ all_kept from limit place [] h lt = refl
 all_kept from limit place (b ∷ bs) h lt =
     let f = laid_front from limit b bs h in
     let ne : b.place ≡ place → ⊥ = λ (e : b.place ≡ place). omega (arith, e, f.0, lt) in
-    kept place b bs ne ∙ ap (λ (xs : List LiveBlock). block_of b ∷ xs) (all_kept (b.place + b.len) limit place bs f.2 (omega (arith, f.0, f.1, lt)))
+    kept place b bs ne ∙ ap (λ (xs : List LiveBlock). live_block_of b ∷ xs) (all_kept (b.place + b.len) limit place bs f.2 (omega (arith, f.0, f.1, lt)))
 
 pub passed-found : (limit place : ℕ) (live : List FlatLive) (k : ℕ) → PassedTo limit place live k → k < length live →
     (get_or live k no_live).place ≡ place → StartsAt place live k
@@ -246,13 +246,13 @@ passed-found limit place live k s lt e =
     record {
       within = lt;
       found = s.found ∙ (ap (λ (bs : List FlatLive). found_at place (blocks_of bs)) (from_here live k lt)
-          ∙ cond-true (c.place == place) (Some (block_of c)) (found_at place (blocks_of cs)) here);
+          ∙ cond-true (c.place == place) (Some (live_block_of c)) (found_at place (blocks_of cs)) here);
       others = s.others
           ∙ (ap (λ (bs : List FlatLive). blocks_of (take k live) ++ without place (blocks_of bs)) (from_here live k lt)
           ∙ (ap (λ (xs : List LiveBlock). blocks_of (take k live) ++ xs)
-          (cond-false (not (c.place == place)) (block_of c ∷ without place (blocks_of cs)) (without place (blocks_of cs)) (ap not here)
+          (cond-false (not (c.place == place)) (live_block_of c ∷ without place (blocks_of cs)) (without place (blocks_of cs)) (ap not here)
           ∙ all_kept (c.place + c.len) limit place cs laid.2 (omega (arith, e, laid.1)))
-          ∙ sym (map-append block_of (take k live) cs)));
+          ∙ sym (map-append live_block_of (take k live) cs)));
     }
 
 pub passed-all : (limit place : ℕ) (live : List FlatLive) (k : ℕ) → PassedTo limit place live k → length live ≤ k → StartsNowhere place live

@@ -17,14 +17,14 @@ use Rattle.x86_values.specs.declared.Instr.{Instr}
 use Rattle.x86_values.specs.Registers.{number}
 use Rattle.plain_spelling.specs.Forms.{operand_at}
 use Rattle.feddurzai_c.specs.declared.flat.FlatInstr.{FlatInstr}
-use Rattle.feddurzai_c.specs.Numbers.{class_number, disp_number, lock_number, rep_number, prefix_number, asize_number, segment_numbered, register_numbered, base_numbered, disp_numbered, lock_numbered, rep_numbered, prefix_numbered, asize_numbered}
+use Rattle.feddurzai_c.specs.Numbers.{class_number, disp_number, lock_number, rep_number, prefix_number, asize_number, segment_register, register_numbered, base_numbered, disp_numbered, lock_numbered, rep_numbered, prefix_numbered, asize_numbered}
 use Rattle.feddurzai_c.specs.Flat.{base_class, base_number, flat_operand, flat_instr}
-use Rattle.feddurzai_c.specs.Back.{register_operand, memory_of, operand_back, operands_of, operands_back, instr_of, instr_back}
+use Rattle.feddurzai_c.specs.Back.{register_operand, memory_from_fields, operand_back, operands_of, operands_back, instr_from_fields, instr_back}
 
 -- ---- words
 
 register_back : (r : Register) → register_numbered (class_number r) (number r) ≡ Some r
-unfolding register_numbered segment_numbered
+unfolding register_numbered segment_register
 register_back (Low8 n) = refl
 register_back (High8 n) = refl
 register_back (R16 n) = refl
@@ -46,7 +46,7 @@ register_back Eip = refl
 register_back Rip = refl
 
 base_back : (r : Option Register) → base_numbered (base_class r) (base_number r) ≡ Some r
-unfolding base_numbered register_numbered segment_numbered
+unfolding base_numbered register_numbered segment_register
 base_back None = refl
 base_back (Some (Low8 n)) = refl
 base_back (Some (High8 n)) = refl
@@ -107,15 +107,15 @@ asize_back (Some B64) = refl
 -- ---- operands
 
 memory_back : (m : Mem) →
-    memory_of m.scale m.disp (base_numbered (base_class m.base) (base_number m.base)) (base_numbered (base_class m.index) (base_number m.index))
+    memory_from_fields m.scale m.disp (base_numbered (base_class m.base) (base_number m.base)) (base_numbered (base_class m.index) (base_number m.index))
     (disp_numbered (disp_number m.disp_size)) ≡ Some (Memory m)
 memory_back m =
     let base = base_numbered (base_class m.base) (base_number m.base) in
     let index = base_numbered (base_class m.index) (base_number m.index) in
     let size = disp_numbered (disp_number m.disp_size) in
-    ap (λ (b : Option (Option Register)). memory_of m.scale m.disp b index size) (base_back m.base)
-    ∙ (ap (λ (x : Option (Option Register)). memory_of m.scale m.disp (Some m.base) x size) (base_back m.index)
-    ∙ ap (λ (d : Option DispSize). memory_of m.scale m.disp (Some m.base) (Some m.index) d) (disp_back m.disp_size))
+    ap (λ (b : Option (Option Register)). memory_from_fields m.scale m.disp b index size) (base_back m.base)
+    ∙ (ap (λ (x : Option (Option Register)). memory_from_fields m.scale m.disp (Some m.base) x size) (base_back m.index)
+    ∙ ap (λ (d : Option DispSize). memory_from_fields m.scale m.disp (Some m.base) (Some m.index) d) (disp_back m.disp_size))
 
 pub operand_back_flat : (o : Operand) → operand_back (flat_operand o) ≡ Some o
 unfolding operand_back flat_operand
@@ -188,8 +188,8 @@ instr_back_flat i len e =
     let seg = prefix_numbered (prefix_number i.seg) in
     let asize = asize_numbered (asize_number i.asize) in
     let code = i.code.0 in
-    ap (λ (x : Option (List Operand)). instr_of code x lock rep seg asize) (operands_back_flat i len ∙ ap Some (operands_are i e))
-    ∙ (ap (λ (x : Option Bool). instr_of code (Some i.ops) x rep seg asize) (lock_back i.lock)
-    ∙ (ap (λ (x : Option Rep). instr_of code (Some i.ops) (Some i.lock) x seg asize) (rep_back i.rep)
-    ∙ (ap (λ (x : Option (Option Segment)). instr_of code (Some i.ops) (Some i.lock) (Some i.rep) x asize) (prefix_back i.seg)
-    ∙ ap (λ (x : Option (Option Bits)). instr_of code (Some i.ops) (Some i.lock) (Some i.rep) (Some i.seg) x) (asize_back i.asize))))
+    ap (λ (x : Option (List Operand)). instr_from_fields code x lock rep seg asize) (operands_back_flat i len ∙ ap Some (operands_are i e))
+    ∙ (ap (λ (x : Option Bool). instr_from_fields code (Some i.ops) x rep seg asize) (lock_back i.lock)
+    ∙ (ap (λ (x : Option Rep). instr_from_fields code (Some i.ops) (Some i.lock) x seg asize) (rep_back i.rep)
+    ∙ (ap (λ (x : Option (Option Segment)). instr_from_fields code (Some i.ops) (Some i.lock) (Some i.rep) x asize) (prefix_back i.seg)
+    ∙ ap (λ (x : Option (Option Bits)). instr_from_fields code (Some i.ops) (Some i.lock) (Some i.rep) (Some i.seg) x) (asize_back i.asize))))

@@ -11,14 +11,14 @@ use Rattle.encoder.specs.Encoding.{encoding}
 use Rattle.feddurzai_c.specs.declared.flat.FlatOperand.{FlatOperand}
 use Rattle.feddurzai_c.specs.declared.flat.FlatInstr.{FlatInstr}
 use Rattle.feddurzai_c.specs.Numbers.{bits_numbered, disp_numbered, lock_numbered, rep_numbered, prefix_numbered, asize_numbered}
-use Rattle.feddurzai_c.specs.Back.{memory_of, operand_back, operands_of, operands_back, instr_of, instr_back}
-use Rattle.feddurzai_c.specs.Answers.{encoding_of, encoding_told, is_open, with_width, of_width, width_of, with_displacement_size, encode_answer}
+use Rattle.feddurzai_c.specs.Back.{memory_from_fields, operand_back, operands_of, operands_back, instr_from_fields, instr_back}
+use Rattle.feddurzai_c.specs.Answers.{encoding_of, encoding_told, has_open_width, with_width, of_width, open_width, with_displacement_size, encode_answer}
 
-closed : (w : ℕ) (op : FlatOperand) → is_open op ≡ false → with_width w op ≡ op
-closed w op h = cond-false (is_open op) (record op { disp_bits = w }) op h
+closed : (w : ℕ) (op : FlatOperand) → has_open_width op ≡ false → with_width w op ≡ op
+closed w op h = cond-false (has_open_width op) (record op { disp_bits = w }) op h
 
 -- such a struct stays as it is, whatever the width
-pub of_width_closed : (w : ℕ) (f : FlatInstr) → is_open f.op0 ≡ false → is_open f.op1 ≡ false → is_open f.op2 ≡ false → is_open f.op3 ≡ false → of_width w f ≡ f
+pub of_width_closed : (w : ℕ) (f : FlatInstr) → has_open_width f.op0 ≡ false → has_open_width f.op1 ≡ false → has_open_width f.op2 ≡ false → has_open_width f.op3 ≡ false → of_width w f ≡ f
 unfolding of_width
 of_width_closed w f a b c d =
     ap (λ (x : FlatOperand). record f { op0 = x; op1 = with_width w f.op1; op2 = with_width w f.op2; op3 = with_width w f.op3 }) (closed w f.op0 a)
@@ -29,7 +29,7 @@ of_width_closed w f a b c d =
 -- ---- what stands for an instruction leaves no width
 
 -- an address whose displacement has no width is none
-no_width : (scale disp : ℕ) (base index : Option (Option Register)) → memory_of scale disp base index None ≡ None
+no_width : (scale disp : ℕ) (base index : Option (Option Register)) → memory_from_fields scale disp base index None ≡ None
 no_width scale disp None index = refl
 no_width scale disp (Some base) None = refl
 no_width scale disp (Some base) (Some index) = refl
@@ -39,15 +39,15 @@ unfolding operand_back disp_numbered
 at_255 op kind bits = rw kind (rw bits (no_width op.scale op.value _ _))
 
 -- an operand that leaves its width is none
-open_is_none : (op : FlatOperand) → is_open op ≡ true → operand_back op ≡ None
+open_is_none : (op : FlatOperand) → has_open_width op ≡ true → operand_back op ≡ None
 open_is_none op h = at_255 op (grind arith) (grind arith)
 
 not_open : (b : Bool) → (b ≡ true → ⊥) → b ≡ false
 not_open false h = refl
 not_open true h = absurd (h refl)
 
-some_is_closed : (op : FlatOperand) (o : Operand) → operand_back op ≡ Some o → is_open op ≡ false
-some_is_closed op o h = not_open (is_open op) (λ t. absurd (cc (h, open_is_none op t)))
+some_is_closed : (op : FlatOperand) (o : Operand) → operand_back op ≡ Some o → has_open_width op ≡ false
+some_is_closed op o h = not_open (has_open_width op) (λ t. absurd (cc (h, open_is_none op t)))
 
 -- four operands that are together are each one
 record Each (a b c d : Option Operand) : Type 0 where
@@ -68,7 +68,7 @@ each (Some a) (Some b) None d ops h = cc
 each (Some a) (Some b) (Some c) None ops h = cc
 
 ops_of : (code : ℕ) (ops : Option (List Operand)) (lock : Option Bool) (rep : Option Rep) (seg : Option (Option Segment)) (asize : Option (Option Bits)) (i : Instr)
-    → instr_of code ops lock rep seg asize ≡ Some i → (xs : List Operand) × (ops ≡ Some xs)
+    → instr_from_fields code ops lock rep seg asize ≡ Some i → (xs : List Operand) × (ops ≡ Some xs)
 ops_of code (Some xs) lock rep seg asize i h = (xs, refl)
 ops_of code None lock rep seg asize i h = cc
 
@@ -82,7 +82,7 @@ each_back f i h =
 sized_same : (bits ip : ℕ) (f : FlatInstr) (i : Instr) → instr_back f ≡ Some i → with_displacement_size bits ip f ≡ f
 sized_same bits ip f i h =
     let e = each_back f i h in
-    of_width_closed (width_of bits ip f) f (some_is_closed f.op0 e.o0 e.is0) (some_is_closed f.op1 e.o1 e.is1) (some_is_closed f.op2 e.o2 e.is2) (some_is_closed f.op3 e.o3 e.is3)
+    of_width_closed (open_width bits ip f) f (some_is_closed f.op0 e.o0 e.is0) (some_is_closed f.op1 e.o1 e.is1) (some_is_closed f.op2 e.o2 e.is2) (some_is_closed f.op3 e.o3 e.is3)
 
 -- the bytes of such a struct are those of its instruction
 pub encode_answer_is : (bits ip : ℕ) (f : FlatInstr) (mode : Bits) (i : Instr) → bits_numbered bits ≡ Some mode → instr_back f ≡ Some i

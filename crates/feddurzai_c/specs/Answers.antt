@@ -26,7 +26,7 @@ use Rattle.feddurzai_c.specs.declared.refusal.Refusal.{Refusal}
 use Rattle.feddurzai_c.specs.declared.refusal.Refusal.TheVariants.{Mode, Syntax, Code, Instr as NoInstr, Form, Room, Invalid, TooShort, Name, Spelling}
 use Rattle.feddurzai_c.specs.declared.flat.FlatOperand.{FlatOperand}
 use Rattle.feddurzai_c.specs.declared.flat.FlatInstr.{FlatInstr}
-use Rattle.feddurzai_c.specs.Refusals.{refused}
+use Rattle.feddurzai_c.specs.Refusals.{refusal_status}
 use Rattle.feddurzai_c.specs.Numbers.{bits_numbered, style_numbered}
 use Rattle.feddurzai_c.specs.Flat.{flat_decoded}
 use Rattle.feddurzai_c.specs.Back.{instr_back}
@@ -34,9 +34,9 @@ use Rattle.feddurzai_c.specs.Back.{instr_back}
 -- ---- bytes and texts in a caller's room
 
 -- how many bytes, or the refusal
-abbrev pub said : Result (List ℕ) Refusal → ℤ
-said (Ok bytes) = pos (length bytes)
-said (Err why) = refused why
+abbrev pub count_or_refusal : Result (List ℕ) Refusal → ℤ
+count_or_refusal (Ok bytes) = pos (length bytes)
+count_or_refusal (Err why) = refusal_status why
 
 -- bytes that the room holds
 unfoldable pub bytes_within : ℕ → Result (List ℕ) Refusal → Result (List ℕ) Refusal
@@ -63,8 +63,8 @@ with_text old (Err why) = old
 -- the length of the instruction, or the refusal
 abbrev pub reading_said : Reading → ℤ
 reading_said (Read d) = pos d.len
-reading_said ReadTooShort = refused TooShort
-reading_said ReadInvalid = refused Invalid
+reading_said ReadTooShort = refusal_status TooShort
+reading_said ReadInvalid = refusal_status Invalid
 
 -- the struct has the instruction, or is unchanged
 abbrev pub reading_left : FlatInstr → Reading → FlatInstr
@@ -88,7 +88,7 @@ pub record IsDecodedIn (bits : Bits) (ip : ℕ) (bytes : List ℕ) (old new : Fl
 
 -- what the call says and leaves, where the number of the mode names one
 abbrev pub IsDecoded : Option Bits → ℕ → List ℕ → FlatInstr → FlatInstr → ℤ → Type 0
-IsDecoded None ip bytes old new answer = (answer ≡ refused Mode) × (new ≡ old)
+IsDecoded None ip bytes old new answer = (answer ≡ refusal_status Mode) × (new ≡ old)
 IsDecoded (Some bits) ip bytes old new answer = IsDecodedIn bits ip bytes old new answer
 
 -- ---- texts
@@ -100,15 +100,15 @@ style_text Att bits i = att_text bits i
 style_text Masm bits i = masm_text bits i
 
 -- the text of an instruction, where there are a mode, a style and an instruction, of the form that its row asks for
-unfoldable pub text_of : Option Bits → Option Style → Option Instr → Result (List ℕ) Refusal
-text_of None style i = Err Mode
-text_of (Some bits) None i = Err Syntax
-text_of (Some bits) (Some style) None = Err NoInstr
-text_of (Some bits) (Some style) (Some i) = if is_well_formed i then Ok (style_text style bits i) else Err Form
+unfoldable pub instr_text_of : Option Bits → Option Style → Option Instr → Result (List ℕ) Refusal
+instr_text_of None style i = Err Mode
+instr_text_of (Some bits) None i = Err Syntax
+instr_text_of (Some bits) (Some style) None = Err NoInstr
+instr_text_of (Some bits) (Some style) (Some i) = if is_well_formed i then Ok (style_text style bits i) else Err Form
 
 -- the text of a struct, or why it has none
 abbrev pub text_answer : ℕ → ℕ → FlatInstr → Result (List ℕ) Refusal
-text_answer bits syntax f = text_of (bits_numbered bits) (style_numbered syntax) (instr_back f)
+text_answer bits syntax f = instr_text_of (bits_numbered bits) (style_numbered syntax) (instr_back f)
 
 -- ---- encoding
 
@@ -162,12 +162,12 @@ length_told (Ok bytes) = Ok (length bytes)
 length_told (Err why) = Err why
 
 -- a memory operand whose displacement has the width 255 leaves it to the library
-abbrev pub is_open : FlatOperand → Bool
-is_open op = op.kind == 2 && op.disp_bits == 255
+abbrev pub has_open_width : FlatOperand → Bool
+has_open_width op = op.kind == 2 && op.disp_bits == 255
 
 -- an operand, with this width where it is left to the library
 abbrev pub with_width : ℕ → FlatOperand → FlatOperand
-with_width w op = if is_open op then record op { disp_bits = w } else op
+with_width w op = if has_open_width op then record op { disp_bits = w } else op
 
 -- a struct with such operands
 unfoldable pub of_width : ℕ → FlatInstr → FlatInstr
@@ -184,12 +184,12 @@ first_width answer [] last = last
 first_width answer (w ∷ ws) last = if has_width (answer w) then w else first_width answer ws last
 
 -- the width of a displacement that is left to the library, in bits: the shortest that the address has (2.1.5)
-unfoldable pub width_of : ℕ → ℕ → FlatInstr → ℕ
-width_of bits ip f = first_width (λ w. sized_answer bits ip (of_width w f)) (0 ∷ 8 ∷ 16 ∷ 32 ∷ []) 64
+unfoldable pub open_width : ℕ → ℕ → FlatInstr → ℕ
+open_width bits ip f = first_width (λ w. sized_answer bits ip (of_width w f)) (0 ∷ 8 ∷ 16 ∷ 32 ∷ []) 64
 
 -- the struct with that width
 abbrev pub with_displacement_size : ℕ → ℕ → FlatInstr → FlatInstr
-with_displacement_size bits ip f = of_width (width_of bits ip f) f
+with_displacement_size bits ip f = of_width (open_width bits ip f) f
 
 -- the bytes of a struct, or why it has none
 abbrev pub encode_answer : ℕ → ℕ → FlatInstr → Result (List ℕ) Refusal
@@ -218,7 +218,7 @@ pub record IsNthNamed (name : List ℕ) (n code : ℕ) : Type 0 where
   pub order : rows_named_before name code ≡ n
 
 -- its code; refused exactly where there are no more than n, or the name is no text
-abbrev pub IsCodeOf : List ℕ → ℕ → ℤ → Type 0
-IsCodeOf name n answer =
+abbrev pub IsCodeNamed : List ℕ → ℕ → ℤ → Type 0
+IsCodeNamed name n answer =
     ((code : ℕ) × (IsNthNamed name n code × (answer ≡ pos code)))
-    ⊎ ((answer ≡ refused Name) × (IsUtf8 name → rows_named name ≤ n))
+    ⊎ ((answer ≡ refusal_status Name) × (IsUtf8 name → rows_named name ≤ n))

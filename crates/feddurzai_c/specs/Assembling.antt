@@ -8,7 +8,7 @@ use Rattle.intel_reader.specs.Assembled.{IsAssembled, AssemblesTo, IsNoText}
 use Rattle.feddurzai_c.specs.declared.refusal.Refusal.{Refusal}
 use Rattle.feddurzai_c.specs.declared.refusal.Refusal.TheVariants.{Mode, Text}
 use Rattle.feddurzai_c.specs.declared.flat.FlatInstr.{FlatInstr}
-use Rattle.feddurzai_c.specs.Refusals.{refused}
+use Rattle.feddurzai_c.specs.Refusals.{refusal_status}
 use Rattle.feddurzai_c.specs.Numbers.{bits_numbered}
 use Rattle.feddurzai_c.specs.Flat.{flat_instr}
 use Rattle.feddurzai_c.specs.Back.{instr_back}
@@ -31,7 +31,7 @@ IsAssemblyBy (Some bits) ip text answer = IsAssemblyIn bits ip text answer
 pub record IsAssembly (bits ip : ℕ) (text out out' : List ℕ) (said : ℤ) : Type 0 where
   pub answer : Result (List ℕ) Refusal
   pub is : IsAssemblyBy (bits_numbered bits) ip text answer
-  pub said_is : said ≡ answers.said (answers.bytes_within (length out) answer)
+  pub said_is : said ≡ answers.count_or_refusal (answers.bytes_within (length out) answer)
   pub left : out' ≡ answers.with_bytes out (answers.bytes_within (length out) answer)
 
 -- ---- instructions
@@ -55,7 +55,7 @@ IsTextLeft bits ip (Err why) old new = new ≡ old
 -- what is said: how many bytes the encoding has, or the refusal
 abbrev pub text_said : Bits → ℕ → Result Instr Refusal → ℤ
 text_said bits ip (Ok i) = pos (length_or_zero (encoding bits ip i))
-text_said bits ip (Err why) = refused why
+text_said bits ip (Err why) = refusal_status why
 
 -- what the call says and leaves in a mode
 pub record IsTextReadIn (bits : Bits) (ip : ℕ) (text : List ℕ) (old new : FlatInstr) (said : ℤ) : Type 0 where
@@ -66,7 +66,7 @@ pub record IsTextReadIn (bits : Bits) (ip : ℕ) (text : List ℕ) (old new : Fl
 
 -- what the call says and leaves, where the number of the mode names one
 abbrev pub IsTextReadBy : Option Bits → ℕ → List ℕ → FlatInstr → FlatInstr → ℤ → Type 0
-IsTextReadBy None ip text old new said = (said ≡ refused Mode) × (new ≡ old)
+IsTextReadBy None ip text old new said = (said ≡ refusal_status Mode) × (new ≡ old)
 IsTextReadBy (Some bits) ip text old new said = IsTextReadIn bits ip text old new said
 
 -- what the call says and leaves

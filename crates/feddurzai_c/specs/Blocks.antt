@@ -20,9 +20,9 @@ use Rattle.feddurzai_c.specs.declared.moved_blocks.BlocksRefusal.{BlocksRefusal}
 use Rattle.feddurzai_c.specs.declared.moved_blocks.BlocksRefusal.TheVariants.{Mode, TooLarge, Outside, OldEnd, BadCode, Memory, TooMany, Wraps, TooFar, Room}
 use Rattle.feddurzai_c.specs.declared.moved.MoveRefusal.{MoveRefusal}
 use Rattle.feddurzai_c.specs.declared.moved.MoveRefusal.TheVariants.{BadCode as NotRead}
-use Rattle.feddurzai_c.specs.Refusals.{refused}
+use Rattle.feddurzai_c.specs.Refusals.{refusal_status}
 use Rattle.feddurzai_c.specs.Numbers.{bits_numbered}
-use Rattle.feddurzai_c.specs.Moving.{AreItemsOf, StopsAt, code_end, code_len, entries}
+use Rattle.feddurzai_c.specs.Moving.{AreInstructionsOf, ReadingStopsAt, moved_end, code_len, entries}
 
 -- ---- the instructions of the blocks
 
@@ -31,12 +31,12 @@ abbrev pub no_block : FlatBlock
 no_block = record { old_ip = 0; new_ip = 0; offset = 0; len = 0 }
 
 -- block b
-abbrev pub block_at : List FlatBlock → ℕ → FlatBlock
-block_at blocks b = slice_index_or blocks b no_block
+abbrev pub flat_block_at : List FlatBlock → ℕ → FlatBlock
+flat_block_at blocks b = slice_index_or blocks b no_block
 
 -- the bytes of a block
-abbrev pub code_of : List ℕ → FlatBlock → List ℕ
-code_of bytes block = take block.len (drop block.offset bytes)
+abbrev pub block_code : List ℕ → FlatBlock → List ℕ
+block_code bytes block = take block.len (drop block.offset bytes)
 
 -- a block lies inside the bytes
 abbrev pub IsWithin : List ℕ → FlatBlock → Type 0
@@ -44,24 +44,24 @@ IsWithin bytes block = block.offset + block.len ≤ length bytes
 
 -- the address behind a block where it stood; no bytes are an empty block, whose old end is its new base
 abbrev pub old_end_of : List ℕ → FlatBlock → ℕ
-old_end_of bytes block = code_end block.old_ip (code_of bytes block) block.new_ip
+old_end_of bytes block = moved_end block.old_ip (block_code bytes block) block.new_ip
 
 -- these are all instructions of a block, which lies inside the bytes and ends inside the address space of the mode
 pub record IsBlockRead (bits : Bits) (bytes : List ℕ) (block : FlatBlock) (items : List Placed) : Type 0 where
   pub within : IsWithin bytes block
   pub inside : passes bits (old_end_of bytes block) ≡ false
-  pub read : AreItemsOf bits block.old_ip (code_of bytes block) items
+  pub read : AreInstructionsOf bits block.old_ip (block_code bytes block) items
 
 -- so many instructions move together to the new address of a block
-abbrev pub span_of : FlatBlock → List Placed → BlockSpan
-span_of block items = record { count = length items; new_base = block.new_ip }
+abbrev pub block_span : FlatBlock → List Placed → BlockSpan
+block_span block items = record { count = length items; new_base = block.new_ip }
 
 -- the blocks are read one by one: their instructions one behind another, and a span for each of them
 abbrev pub AreBlocksRead : Bits → List ℕ → List FlatBlock → List BlockSpan → List Placed → Type 0
 AreBlocksRead bits bytes [] spans items = (spans ≡ []) × (items ≡ [])
 AreBlocksRead bits bytes (block ∷ blocks) spans items =
     (front : List Placed) × (rest : List Placed) × (others : List BlockSpan)
-    × (items ≡ front ++ rest) × (spans ≡ span_of block front ∷ others)
+    × (items ≡ front ++ rest) × (spans ≡ block_span block front ∷ others)
     × IsBlockRead bits bytes block front × AreBlocksRead bits bytes blocks others rest
 
 -- the blocks before this one are read
@@ -96,16 +96,16 @@ pub record AreBlocksMoved (bits : Bits) (spans : List BlockSpan) (items : List P
   pub places_are : m.places.items ≡ places bits spans items m.moved (length spans)
 
 -- the number that an instruction has in its block
-abbrev pub number_in : List BlockSpan → ℕ → ℕ
-number_in [] k = k
-number_in (s ∷ ss) k = if nat_lt k s.count then k else number_in ss (k - s.count)
+abbrev pub number_in_block : List BlockSpan → ℕ → ℕ
+number_in_block [] k = k
+number_in_block (s ∷ ss) k = if nat_lt k s.count then k else number_in_block ss (k - s.count)
 
 -- instruction k of all does not reach its target: its block, and its number there
 pub record IsTooFarIn (bits : Bits) (spans : List BlockSpan) (items : List Placed) (block at target : ℕ) : Type 0 where
   pub k : ℕ
   pub far : IsRefused bits items spans (error.TooFar k target)
   pub block_is : block ≡ block_number spans k
-  pub at_is : at ≡ number_in spans k
+  pub at_is : at ≡ number_in_block spans k
 
 -- the moved blocks, or why they are not moved
 abbrev pub IsBlocksAnswerOf : Bits → List BlockSpan → List Placed → Result CodeBlocks BlocksRefusal → Type 0
@@ -140,7 +140,7 @@ abbrev pub IsBlockRefusal : Bits → List ℕ → FlatBlock → ℕ → BlocksRe
 IsBlockRefusal bits bytes block b (Outside n) = (n ≡ b) × (length bytes < block.offset + block.len)
 IsBlockRefusal bits bytes block b (OldEnd n end) = (n ≡ b) × IsWithin bytes block × (end ≡ old_end_of bytes block) × (passes bits end ≡ true)
 IsBlockRefusal bits bytes block b (BadCode n at e) =
-    (n ≡ b) × IsWithin bytes block × (passes bits (old_end_of bytes block) ≡ false) × StopsAt bits block.old_ip (code_of bytes block) at e
+    (n ≡ b) × IsWithin bytes block × (passes bits (old_end_of bytes block) ≡ false) × ReadingStopsAt bits block.old_ip (block_code bytes block) at e
 IsBlockRefusal bits bytes block b Memory = Unit {0}
 IsBlockRefusal bits bytes block b why = ⊥
 
@@ -150,18 +150,18 @@ read_refusal (NotRead at e) b = BadCode b at e
 read_refusal why b = Memory
 
 -- the first block that is not read, and why
-pub record IsUnread (bits : Bits) (bytes : List ℕ) (blocks : List FlatBlock) (why : BlocksRefusal) : Type 0 where
+pub record IsBlockUnread (bits : Bits) (bytes : List ℕ) (blocks : List FlatBlock) (why : BlocksRefusal) : Type 0 where
   pub b : ℕ
   pub before : AreReadBefore bits bytes blocks b
-  pub is : IsBlockRefusal bits bytes (block_at blocks b) b why
+  pub is : IsBlockRefusal bits bytes (flat_block_at blocks b) b why
 
 -- the moved blocks, or why they are not moved
 abbrev pub IsBlocksAnswerIn : Bits → List ℕ → List FlatBlock → Result CodeBlocks BlocksRefusal → Type 0
 IsBlocksAnswerIn bits bytes blocks (Ok m) = AreMovedAs bits bytes blocks (Ok m)
 IsBlocksAnswerIn bits bytes blocks (Err TooLarge) = (65536 < length blocks) ⊎ (1048576 < total_len blocks)
-IsBlocksAnswerIn bits bytes blocks (Err (Outside b)) = AreFew blocks × IsUnread bits bytes blocks (Outside b)
-IsBlocksAnswerIn bits bytes blocks (Err (OldEnd b end)) = AreFew blocks × IsUnread bits bytes blocks (OldEnd b end)
-IsBlocksAnswerIn bits bytes blocks (Err (BadCode b at e)) = AreFew blocks × IsUnread bits bytes blocks (BadCode b at e)
+IsBlocksAnswerIn bits bytes blocks (Err (Outside b)) = AreFew blocks × IsBlockUnread bits bytes blocks (Outside b)
+IsBlocksAnswerIn bits bytes blocks (Err (OldEnd b end)) = AreFew blocks × IsBlockUnread bits bytes blocks (OldEnd b end)
+IsBlocksAnswerIn bits bytes blocks (Err (BadCode b at e)) = AreFew blocks × IsBlockUnread bits bytes blocks (BadCode b at e)
 IsBlocksAnswerIn bits bytes blocks (Err Memory) = AreFew blocks
 IsBlocksAnswerIn bits bytes blocks (Err (TooMany count)) = AreMovedAs bits bytes blocks (Err (TooMany count))
 IsBlocksAnswerIn bits bytes blocks (Err (Wraps end)) = AreMovedAs bits bytes blocks (Err (Wraps end))
@@ -199,7 +199,7 @@ blocks_refusal Room = why.Room
 -- what the call says
 abbrev pub blocks_said : Result CodeBlocks BlocksRefusal → ℤ
 blocks_said (Ok m) = pos 0
-blocks_said (Err e) = refused (blocks_refusal e)
+blocks_said (Err e) = refusal_status (blocks_refusal e)
 
 -- the room of the bytes begins with the moved ones, and is unchanged behind them and after a refusal
 abbrev pub bytes_left : List ℕ → Result CodeBlocks BlocksRefusal → List ℕ

@@ -19,26 +19,26 @@ use Rattle.feddurzai_c.specs.declared.refusal.Refusal.TheVariants.{Mode, Instr a
 use Rattle.feddurzai_c.specs.declared.flat.FlatUse.{FlatUse}
 use Rattle.feddurzai_c.specs.declared.flat.FlatMemoryUse.{FlatMemoryUse}
 use Rattle.feddurzai_c.specs.declared.flat.FlatTouched.{FlatTouched}
-use Rattle.feddurzai_c.specs.Refusals.{refused}
+use Rattle.feddurzai_c.specs.Refusals.{refusal_status}
 use Rattle.feddurzai_c.specs.Numbers.{class_number, prefix_number, register_numbered}
 use Rattle.feddurzai_c.specs.Flat.{base_class, base_number}
 
 -- ---- uses
 
 -- what is done, in bits: 1 read, 2 written, 4 read under a condition, 8 written under a condition
-abbrev pub kind_number : AccessKind → ℕ
-kind_number Read = 1
-kind_number Write = 2
-kind_number ReadWrite = 3
-kind_number ConditionalRead = 4
-kind_number ConditionalWrite = 8
-kind_number ConditionalReadWrite = 12
-kind_number ReadConditionalWrite = 9
+abbrev pub access_kind_number : AccessKind → ℕ
+access_kind_number Read = 1
+access_kind_number Write = 2
+access_kind_number ReadWrite = 3
+access_kind_number ConditionalRead = 4
+access_kind_number ConditionalWrite = 8
+access_kind_number ConditionalReadWrite = 12
+access_kind_number ReadConditionalWrite = 9
 
 -- a register with what is done to it, zeros where there is none
 abbrev pub flat_register : Option RegisterUse → FlatUse
 flat_register None = record { reg_class = 0; reg_number = 0; access = 0 }
-flat_register (Some u) = record { reg_class = class_number u.reg; reg_number = number u.reg; access = kind_number u.access }
+flat_register (Some u) = record { reg_class = class_number u.reg; reg_number = number u.reg; access = access_kind_number u.access }
 
 -- register n of some
 unfoldable pub register_at : List RegisterUse → ℕ → FlatUse
@@ -70,7 +70,7 @@ flat_memory_use (Some m) = record {
   index_class = base_class m.index;
   index_number = base_number m.index;
   scale = m.scale;
-  access = kind_number m.access;
+  access = access_kind_number m.access;
 }
 
 -- memory n of some
@@ -108,7 +108,7 @@ touched_of (Some bits) (Some i) = if is_well_formed i then Ok (effects_of bits i
 -- what is said of an instruction
 abbrev pub touched_said : Result FlatTouched Refusal → ℤ
 touched_said (Ok told) = pos 0
-touched_said (Err why) = refused why
+touched_said (Err why) = refusal_status why
 
 -- what the struct has then: it is unchanged after a refusal
 abbrev pub touched_left : FlatTouched → Result FlatTouched Refusal → FlatTouched
@@ -123,8 +123,8 @@ register_code r = 256 * class_number r + number r
 
 -- the widest register that holds a register, or that there is no such register
 abbrev pub full_said : Option Register → ℤ
-full_said None = refused NoRegister
-full_said (Some r) = if is_named r then pos (register_code (full_register r)) else refused NoRegister
+full_said None = refusal_status NoRegister
+full_said (Some r) = if is_named r then pos (register_code (full_register r)) else refusal_status NoRegister
 
 -- the code of the widest register that holds the register of a class and a number, or that there is none
 abbrev pub full_answer : ℕ → ℕ → ℤ

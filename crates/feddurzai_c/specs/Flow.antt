@@ -5,7 +5,7 @@ use Rattle.flow_graph.specs.Control.{code_bytes}
 use Rattle.flow_graph.specs.Graphs.{Graph, IsFlowGraph}
 use Rattle.feddurzai_c.specs.declared.refusal.Refusal.{Refusal}
 use Rattle.feddurzai_c.specs.declared.refusal.Refusal.TheVariants.{Mode, Room, Memory, TooLarge}
-use Rattle.feddurzai_c.specs.Refusals.{refused}
+use Rattle.feddurzai_c.specs.Refusals.{refusal_status}
 use Rattle.feddurzai_c.specs.Numbers.{bits_numbered}
 
 -- what control reaches in a mode that there may be
@@ -29,7 +29,7 @@ graph_within room other (Err why) = Err why
 -- how many offsets are reached, or the refusal
 abbrev pub graph_said : Result Graph Refusal → ℤ
 graph_said (Ok graph) = pos (length graph.starts)
-graph_said (Err why) = refused why
+graph_said (Err why) = refusal_status why
 
 -- the room of the starts begins with them, and is unchanged behind them and after a refusal
 abbrev pub starts_left : List ℕ → Result Graph Refusal → List ℕ

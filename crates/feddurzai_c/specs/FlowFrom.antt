@@ -26,10 +26,10 @@ IsGraphFromAnswer mode base bytes entries (Err Memory) = IsSome mode × (length 
 IsGraphFromAnswer mode base bytes entries (Err _) = ⊥
 
 -- the number of what is read at a start: the flow of the instruction, or why none is
-abbrev pub kind_number : Result Flow DecodeError → ℕ
-kind_number (Ok flow) = flow_number flow
-kind_number (Err TooShortError) = 254
-kind_number (Err InvalidError) = 255
+abbrev pub flow_kind_number : Result Flow DecodeError → ℕ
+flow_kind_number (Ok flow) = flow_number flow
+flow_kind_number (Err TooShortError) = 254
+flow_kind_number (Err InvalidError) = 255
 
 -- all three rooms hold the lists of the graph
 unfoldable pub graph_within : ℕ → ℕ → ℕ → Result Graph Refusal → Result Graph Refusal
@@ -49,7 +49,7 @@ leaders_left old graph = one.leaders_left old graph
 
 -- the room of the kinds begins with those of the starts, and is unchanged behind them and after a refusal
 abbrev pub kinds_left : List ℕ → Result Graph Refusal → List ℕ
-kinds_left old (Ok graph) = map kind_number graph.flows ++ drop (length graph.flows) old
+kinds_left old (Ok graph) = map flow_kind_number graph.flows ++ drop (length graph.flows) old
 kinds_left old (Err why) = old
 
 -- what the call says and leaves

@@ -14,7 +14,7 @@ use Rattle.feddurzai_c.specs.declared.refusal.Refusal.TheVariants as why
 use Rattle.feddurzai_c.specs.declared.flat.FlatDetour.{FlatDetour}
 use Rattle.feddurzai_c.specs.declared.hooks.HookRefusal.{HookRefusal}
 use Rattle.feddurzai_c.specs.declared.hooks.HookRefusal.TheVariants.{Mode, Start, TooLarge, Room, NoDetour}
-use Rattle.feddurzai_c.specs.Refusals.{refused}
+use Rattle.feddurzai_c.specs.Refusals.{refusal_status}
 use Rattle.feddurzai_c.specs.Numbers.{bits_numbered}
 
 -- ---- the answer
@@ -33,10 +33,10 @@ IsHookIn bits ip code to place start (Err Start) = ⊥
 IsHookIn bits ip code to place start (Err Room) = ⊥
 
 -- what a detour answers, where the numbers of the mode and of what becomes of the start name one each
-abbrev pub IsHookAnswer : Option Bits → Option StartTarget → ℕ → List ℕ → ℕ → ℕ → Result DetourState HookRefusal → Type 0
-IsHookAnswer None start ip code to place answer = answer ≡ Err Mode
-IsHookAnswer (Some bits) None ip code to place answer = answer ≡ Err Start
-IsHookAnswer (Some bits) (Some start) ip code to place answer = IsHookIn bits ip code to place start answer
+abbrev pub IsDetourAnswerBy : Option Bits → Option StartTarget → ℕ → List ℕ → ℕ → ℕ → Result DetourState HookRefusal → Type 0
+IsDetourAnswerBy None start ip code to place answer = answer ≡ Err Mode
+IsDetourAnswerBy (Some bits) None ip code to place answer = answer ≡ Err Start
+IsDetourAnswerBy (Some bits) (Some start) ip code to place answer = IsHookIn bits ip code to place start answer
 
 -- ---- what is said and left
 
@@ -67,7 +67,7 @@ hook_refusal (NoDetour cause) = detour_refusal cause
 -- what the call says
 abbrev pub hook_said : Result DetourState HookRefusal → ℤ
 hook_said (Ok d) = pos 0
-hook_said (Err e) = refused (hook_refusal e)
+hook_said (Err e) = refusal_status (hook_refusal e)
 
 -- the room of the patch begins with it, and is unchanged behind it and after a refusal
 abbrev pub patch_left : List ℕ → Result DetourState HookRefusal → List ℕ
@@ -128,9 +128,9 @@ hook_report (Ok d) = detour_report d
 hook_report (Err e) = refusal_report e
 
 -- what the call says and leaves
-pub record IsHook (bits ip : ℕ) (code : List ℕ) (to place start : ℕ) (patch patch' trampoline trampoline' : List ℕ) (report : FlatDetour) (said : ℤ) : Type 0 where
+pub record IsDetourCall (bits ip : ℕ) (code : List ℕ) (to place start : ℕ) (patch patch' trampoline trampoline' : List ℕ) (report : FlatDetour) (said : ℤ) : Type 0 where
   pub answer : Result DetourState HookRefusal
-  pub is : IsHookAnswer (bits_numbered bits) (start_numbered start) ip code to place answer
+  pub is : IsDetourAnswerBy (bits_numbered bits) (start_numbered start) ip code to place answer
   pub said_is : said ≡ hook_said (hook_within (length patch) (length trampoline) answer)
   pub patch_is : patch' ≡ patch_left patch (hook_within (length patch) (length trampoline) answer)
   pub trampoline_is : trampoline' ≡ trampoline_left trampoline (hook_within (length patch) (length trampoline) answer)

@@ -3,7 +3,7 @@ use Rattle.std.specs.Prelude.{ℕ, ℤ, pos, List, [], ◌∷◌, length, slice_
 use Rattle.x86_values.specs.declared.Instr.{Instr}
 use Rattle.x86_values.specs.Registers.{number}
 use Rattle.opcode_rows.specs.Allowed.{is_well_formed}
-use Rattle.text_parts.specs.PrefixWords.{has_memory}
+use Rattle.text_parts.specs.PrefixWords.{shows_memory}
 use Rattle.operand_info.specs.declared.columns.Flow.{Flow}
 use Rattle.operand_info.specs.declared.columns.Flow.TheVariants.{Next, UnconditionalBranch, IndirectBranch, ConditionalBranch, Return, Call, IndirectCall, Interrupt, Exception}
 use Rattle.operand_info.specs.declared.columns.Access.{Access}
@@ -15,7 +15,7 @@ use Rattle.feddurzai_c.specs.declared.refusal.Refusal.{Refusal}
 use Rattle.feddurzai_c.specs.declared.refusal.Refusal.TheVariants.{Instr as NoInstr, Form}
 use Rattle.feddurzai_c.specs.declared.flat.FlatUse.{FlatUse}
 use Rattle.feddurzai_c.specs.declared.flat.FlatInfo.{FlatInfo}
-use Rattle.feddurzai_c.specs.Refusals.{refused}
+use Rattle.feddurzai_c.specs.Refusals.{refusal_status}
 use Rattle.feddurzai_c.specs.Numbers.{class_number}
 
 -- how control goes on, by its number
@@ -58,7 +58,7 @@ use_at us n = flat_use (slice_get us n)
 
 -- the bytes of the memory operand of an instruction: by its row, and 0 where no operand is memory
 unfoldable pub memory_bytes : Instr → ℕ
-memory_bytes i = if has_memory i then memory_size i.code.0 else 0
+memory_bytes i = if shows_memory i then memory_size i.code.0 else 0
 
 -- what an instruction does, by the columns of its row and by its operands
 unfoldable pub flat_info : Instr → FlatInfo
@@ -87,7 +87,7 @@ info_of (Some i) = if is_well_formed i then Ok (flat_info i) else Err Form
 -- what is said of an instruction
 abbrev pub info_said : Result FlatInfo Refusal → ℤ
 info_said (Ok told) = pos 0
-info_said (Err why) = refused why
+info_said (Err why) = refusal_status why
 
 -- what the struct has then: it is unchanged after a refusal
 abbrev pub info_left : FlatInfo → Result FlatInfo Refusal → FlatInfo

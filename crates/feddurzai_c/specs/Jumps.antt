@@ -3,7 +3,7 @@ use Rattle.std.specs.Prelude.{ℕ, ◌+◌, ◌==◌, if◌then◌else◌, List,
 use Rattle.x86_values.specs.declared.Bits.{Bits}
 use Rattle.x86_values.specs.declared.Bits.TheVariants.{B64}
 use Rattle.x86_values.specs.declared.Instr.{Instr}
-use Rattle.x86_values.specs.Wrapping.{wrapped}
+use Rattle.x86_values.specs.Wrapping.{modulo_width}
 use Rattle.plain_spelling.specs.Values.{low_bytes}
 use Rattle.encoder.specs.Encoding.{encoding}
 use Rattle.branch_forms.specs.declared.branch.Action.TheVariants.{Jump as ToJump, Call as ToCall}
@@ -30,9 +30,9 @@ jump_numbered n =
 unfoldable pub jump_instr : Bits → ℕ → ℕ → JumpForm → Instr
 jump_instr bits at target ShortJump = branch_to (short_code ToJump bits) None target
 jump_instr bits at target NearJump = branch_to (near_code ToJump bits) None target
-jump_instr bits at target FarJump = through_slot (far_code ToJump) (wrapped B64 (at + 6))
+jump_instr bits at target FarJump = through_slot (far_code ToJump) (modulo_width B64 (at + 6))
 jump_instr bits at target NearCall = branch_to (near_code ToCall bits) None target
-jump_instr bits at target FarCall = through_slot (far_code ToCall) (wrapped B64 (at + 8))
+jump_instr bits at target FarCall = through_slot (far_code ToCall) (modulo_width B64 (at + 8))
 
 -- what stands behind it: of a far form the target in 8 bytes, the lowest first; a call that comes back goes over these by a short jump
 unfoldable pub behind_jump : ℕ → JumpForm → List ℕ

@@ -8,22 +8,22 @@ use Rattle.text_parts.specs.declared.style.Style.{Style}
 use Rattle.feddurzai_c.specs.declared.refusal.Refusal.{Refusal}
 use Rattle.feddurzai_c.specs.declared.refusal.Refusal.TheVariants.{Mode, Syntax, Room, Invalid, TooShort}
 use Rattle.feddurzai_c.specs.declared.flat.FlatInstr.{FlatInstr}
-use Rattle.feddurzai_c.specs.Refusals.{refused}
+use Rattle.feddurzai_c.specs.Refusals.{refusal_status}
 use Rattle.feddurzai_c.specs.Numbers.{bits_numbered, style_numbered}
 use Rattle.feddurzai_c.specs.Flat.{flat_decoded}
 use Rattle.feddurzai_c.specs.Back.{instr_back}
 use Rattle.feddurzai_c.specs.Answers.{style_text, with_text}
 
 -- the instruction of a line: the one that is read, where a room of so many bytes holds its text and the byte 0 that ends it; else why there is no line
-unfoldable pub line_of : Style → Bits → ℕ → Reading → Result Decoded Refusal
-line_of style bits room (Read d) = if nat_lt (length (style_text style bits d.instr)) room then Ok d else Err Room
-line_of style bits room ReadTooShort = Err TooShort
-line_of style bits room ReadInvalid = Err Invalid
+unfoldable pub text_line_of : Style → Bits → ℕ → Reading → Result Decoded Refusal
+text_line_of style bits room (Read d) = if nat_lt (length (style_text style bits d.instr)) room then Ok d else Err Room
+text_line_of style bits room ReadTooShort = Err TooShort
+text_line_of style bits room ReadInvalid = Err Invalid
 
 -- a line whose instruction was written to a place
-abbrev pub line_at : Result (Unit {0}) Refusal → Decoded → Result Decoded Refusal
-line_at (Ok done) place = Ok place
-line_at (Err why) place = Err why
+abbrev pub line_text_at : Result (Unit {0}) Refusal → Decoded → Result Decoded Refusal
+line_text_at (Ok done) place = Ok place
+line_text_at (Err why) place = Err why
 
 -- the text of a line
 abbrev pub line_text : Style → Bits → Result Decoded Refusal → Result (List ℕ) Refusal
@@ -33,7 +33,7 @@ line_text style bits (Err why) = Err why
 -- what is said of a line: the length of its instruction, or the refusal
 abbrev pub line_said : Result Decoded Refusal → ℤ
 line_said (Ok d) = pos d.len
-line_said (Err why) = refused why
+line_said (Err why) = refusal_status why
 
 -- the struct has its instruction, or is unchanged
 abbrev pub line_left : FlatInstr → Result Decoded Refusal → FlatInstr
@@ -49,7 +49,7 @@ IsLineBack (Err why) f = Unit {0}
 pub record IsLineIn (bits : Bits) (style : Style) (ip : ℕ) (bytes room room' : List ℕ) (line : Result Decoded Refusal) : Type 0 where
   pub reading : Reading
   pub reads : IsRead bits ip bytes reading
-  pub line_is : line ≡ line_of style bits (length room) reading
+  pub line_is : line ≡ text_line_of style bits (length room) reading
   pub text_is : room' ≡ with_text room (line_text style bits line)
 
 -- the line of some bytes, where the numbers of the mode and of the style name one each

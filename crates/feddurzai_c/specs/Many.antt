@@ -5,7 +5,7 @@ use Rattle.row_relation.specs.Spells.{Reading, Read, TooShort, Invalid}
 use Rattle.opcode_rows.specs.Sweep.{Item, Sweeps}
 use Rattle.feddurzai_c.specs.declared.refusal.Refusal.TheVariants.{Mode}
 use Rattle.feddurzai_c.specs.declared.flat.FlatInstr.{FlatInstr}
-use Rattle.feddurzai_c.specs.Refusals.{refused}
+use Rattle.feddurzai_c.specs.Refusals.{refusal_status}
 use Rattle.feddurzai_c.specs.Numbers.{bits_numbered}
 use Rattle.feddurzai_c.specs.Flat.{bare_operand, flat_decoded}
 
@@ -54,7 +54,7 @@ pub record IsManyIn (bits : Bits) (ip : ℕ) (bytes : List ℕ) (structs structs
 
 -- what the call says and leaves, where the number of the mode names one
 abbrev pub IsManyBy : Option Bits → ℕ → List ℕ → List FlatInstr → List FlatInstr → ℕ → ℕ → ℤ → Type 0
-IsManyBy None ip bytes structs structs' count count' answer = (answer ≡ refused Mode) × (structs' ≡ structs) × (count' ≡ count)
+IsManyBy None ip bytes structs structs' count count' answer = (answer ≡ refusal_status Mode) × (structs' ≡ structs) × (count' ≡ count)
 IsManyBy (Some bits) ip bytes structs structs' count count' answer =
     (taken : ℕ) × (answer ≡ pos taken) × IsManyIn bits ip bytes structs structs' count' taken
 

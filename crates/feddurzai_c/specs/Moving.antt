@@ -26,30 +26,30 @@ use Rattle.feddurzai_c.specs.declared.moved.Targets.{Targets}
 use Rattle.feddurzai_c.specs.declared.moved.Targets.TheVariants.{Follow, Stay}
 use Rattle.feddurzai_c.specs.declared.moved.MoveRefusal.{MoveRefusal}
 use Rattle.feddurzai_c.specs.declared.moved.MoveRefusal.TheVariants.{Mode, TooLarge, BadCode, Memory, TooMany, Wraps, TooFar, Room}
-use Rattle.feddurzai_c.specs.Refusals.{refused}
+use Rattle.feddurzai_c.specs.Refusals.{refusal_status}
 use Rattle.feddurzai_c.specs.Numbers.{bits_numbered}
 
 -- ---- the instructions of some code
 
 -- the item that is read there
-abbrev pub read_item : Placed → Decoded
-read_item p = record { instr = p.instr; len = p.len }
+abbrev pub decoded_item : Placed → Decoded
+decoded_item p = record { instr = p.instr; len = p.len }
 
 -- these items are read one behind the other from an address and some bytes on, and an address and bytes are left
-abbrev pub ReadsUpTo : Bits → ℕ → List ℕ → List Placed → ℕ → List ℕ → Type 0
-ReadsUpTo bits ip bytes [] ip' rest = (ip' ≡ ip) × (rest ≡ bytes)
-ReadsUpTo bits ip bytes (p ∷ ps) ip' rest =
-    (p.ip ≡ ip) × (1 ≤ p.len) × (p.len ≤ 15) × IsRead bits ip bytes (Read (read_item p)) × ReadsUpTo bits (ip + p.len) (drop p.len bytes) ps ip' rest
+abbrev pub AreReadUpTo : Bits → ℕ → List ℕ → List Placed → ℕ → List ℕ → Type 0
+AreReadUpTo bits ip bytes [] ip' rest = (ip' ≡ ip) × (rest ≡ bytes)
+AreReadUpTo bits ip bytes (p ∷ ps) ip' rest =
+    (p.ip ≡ ip) × (1 ≤ p.len) × (p.len ≤ 15) × IsRead bits ip bytes (Read (decoded_item p)) × AreReadUpTo bits (ip + p.len) (drop p.len bytes) ps ip' rest
 
 -- they are all instructions of the code
-abbrev pub AreItemsOf : Bits → ℕ → List ℕ → List Placed → Type 0
-AreItemsOf bits ip bytes items = (end : ℕ) × ReadsUpTo bits ip bytes items end []
+abbrev pub AreInstructionsOf : Bits → ℕ → List ℕ → List Placed → Type 0
+AreInstructionsOf bits ip bytes items = (end : ℕ) × AreReadUpTo bits ip bytes items end []
 
 -- at this offset of the code none is read
-pub record StopsAt (bits : Bits) (ip : ℕ) (bytes : List ℕ) (at : ℕ) (e : DecodeError) : Type 0 where
+pub record ReadingStopsAt (bits : Bits) (ip : ℕ) (bytes : List ℕ) (at : ℕ) (e : DecodeError) : Type 0 where
   pub items : List Placed
   pub rest : List ℕ
-  pub before : ReadsUpTo bits ip bytes items (ip + at) rest
+  pub before : AreReadUpTo bits ip bytes items (ip + at) rest
   pub some : 0 < length rest
   pub reads : IsRead bits (ip + at) rest (reading_of (Err e))
 
@@ -117,41 +117,41 @@ IsItemsAnswer targets bits items new (Err (BadCode at e)) = ⊥
 IsItemsAnswer targets bits items new (Err Room) = ⊥
 
 -- why the instructions of some code are not read
-abbrev pub IsReadRefusal : Bits → ℕ → List ℕ → MoveRefusal → Type 0
-IsReadRefusal bits old bytes (BadCode at e) = StopsAt bits old bytes at e
-IsReadRefusal bits old bytes Memory = Unit {0}
-IsReadRefusal bits old bytes _ = ⊥
+abbrev pub IsSourceRefusal : Bits → ℕ → List ℕ → MoveRefusal → Type 0
+IsSourceRefusal bits old bytes (BadCode at e) = ReadingStopsAt bits old bytes at e
+IsSourceRefusal bits old bytes Memory = Unit {0}
+IsSourceRefusal bits old bytes _ = ⊥
 
 -- the address behind the old code; no bytes are an empty block, whose old end is its new base
-abbrev pub code_end : ℕ → List ℕ → ℕ → ℕ
-code_end old bytes new = if length bytes == 0 then new else (old + length bytes)
+abbrev pub moved_end : ℕ → List ℕ → ℕ → ℕ
+moved_end old bytes new = if length bytes == 0 then new else (old + length bytes)
 
 -- the code is short, and ends inside the address space of the mode
 pub record IsTaken (bits : Bits) (old : ℕ) (bytes : List ℕ) (new : ℕ) : Type 0 where
   pub short : length bytes ≤ 1048576
-  pub inside : passes bits (code_end old bytes new) ≡ false
+  pub inside : passes bits (moved_end old bytes new) ≡ false
 
 -- its instructions are read and moved, or their moving is refused
 pub record IsMovedAs (targets : Targets) (bits : Bits) (old : ℕ) (bytes : List ℕ) (new : ℕ) (answer : Result MovedCode MoveRefusal) : Type 0 where
   pub taken : IsTaken bits old bytes new
   pub items : List Placed
-  pub read : AreItemsOf bits old bytes items
+  pub read : AreInstructionsOf bits old bytes items
   pub is : IsItemsAnswer targets bits items new answer
 
 -- the code ends past the address space
-pub record IsOldPass (bits : Bits) (old : ℕ) (bytes : List ℕ) (new end : ℕ) : Type 0 where
+pub record IsSourcePass (bits : Bits) (old : ℕ) (bytes : List ℕ) (new end : ℕ) : Type 0 where
   pub short : length bytes ≤ 1048576
-  pub end_is : end ≡ code_end old bytes new
+  pub end_is : end ≡ moved_end old bytes new
   pub passes_space : passes bits end ≡ true
 
 -- the moved code, or why it is not moved
 abbrev pub IsMoveAnswerIn : Targets → Bits → ℕ → List ℕ → ℕ → Result MovedCode MoveRefusal → Type 0
 IsMoveAnswerIn targets bits old bytes new (Ok m) = IsMovedAs targets bits old bytes new (Ok m)
 IsMoveAnswerIn targets bits old bytes new (Err TooLarge) = 1048576 < length bytes
-IsMoveAnswerIn targets bits old bytes new (Err (BadCode at e)) = IsTaken bits old bytes new × StopsAt bits old bytes at e
+IsMoveAnswerIn targets bits old bytes new (Err (BadCode at e)) = IsTaken bits old bytes new × ReadingStopsAt bits old bytes at e
 IsMoveAnswerIn targets bits old bytes new (Err Memory) = IsTaken bits old bytes new
 IsMoveAnswerIn targets bits old bytes new (Err (TooMany count)) = IsMovedAs targets bits old bytes new (Err (TooMany count))
-IsMoveAnswerIn targets bits old bytes new (Err (Wraps end)) = IsOldPass bits old bytes new end ⊎ IsMovedAs targets bits old bytes new (Err (Wraps end))
+IsMoveAnswerIn targets bits old bytes new (Err (Wraps end)) = IsSourcePass bits old bytes new end ⊎ IsMovedAs targets bits old bytes new (Err (Wraps end))
 IsMoveAnswerIn targets bits old bytes new (Err (TooFar at target)) = IsMovedAs targets bits old bytes new (Err (TooFar at target))
 IsMoveAnswerIn targets bits old bytes new (Err Mode) = ⊥
 IsMoveAnswerIn targets bits old bytes new (Err Room) = ⊥
@@ -183,7 +183,7 @@ refusal_of Room = why.Room
 -- what the call says
 abbrev pub moved_said : Result MovedCode MoveRefusal → ℤ
 moved_said (Ok m) = pos 0
-moved_said (Err e) = refused (refusal_of e)
+moved_said (Err e) = refusal_status (refusal_of e)
 
 -- the room of the bytes begins with the moved ones, and is unchanged behind them and after a refusal
 abbrev pub bytes_left : List ℕ → Result MovedCode MoveRefusal → List ℕ

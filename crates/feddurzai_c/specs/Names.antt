@@ -11,20 +11,20 @@ use Rattle.feddurzai_c.specs.declared.refusal.Refusal.TheVariants.{Syntax, Regis
 use Rattle.feddurzai_c.specs.Numbers.{style_numbered, register_numbered, prefix_numbered}
 
 -- the text of a register that there may not be, in a style that there may not be
-unfoldable pub register_of : Option Style → Option Register → Result (List ℕ) Refusal
-register_of None r = Err Syntax
-register_of (Some style) None = Err NoRegister
-register_of (Some style) (Some r) = if is_named r then Ok (register style r) else Err NoRegister
+unfoldable pub shown_register : Option Style → Option Register → Result (List ℕ) Refusal
+shown_register None r = Err Syntax
+shown_register (Some style) None = Err NoRegister
+shown_register (Some style) (Some r) = if is_named r then Ok (register style r) else Err NoRegister
 
 -- the text of the register of a class and a number
 abbrev pub register_answer : ℕ → ℕ → ℕ → Result (List ℕ) Refusal
-register_answer syntax class n = register_of (style_numbered syntax) (register_numbered class n)
+register_answer syntax class n = shown_register (style_numbered syntax) (register_numbered class n)
 
 -- the segment register that a prefix names
-abbrev pub segment_of : Option (Option Segment) → Option Register
-segment_of (Some (Some s)) = Some (Seg s)
-segment_of _ = None
+abbrev pub segment_shown : Option (Option Segment) → Option Register
+segment_shown (Some (Some s)) = Some (Seg s)
+segment_shown _ = None
 
 -- the text of the segment register of a prefix
 abbrev pub segment_answer : ℕ → ℕ → Result (List ℕ) Refusal
-segment_answer syntax prefix = register_of (style_numbered syntax) (segment_of (prefix_numbered prefix))
+segment_answer syntax prefix = shown_register (style_numbered syntax) (segment_shown (prefix_numbered prefix))

@@ -132,8 +132,8 @@ class_number Eip = 13
 class_number Rip = 14
 
 -- a segment register by its encoded number
-unfoldable pub segment_numbered : ℕ → Option Register
-segment_numbered n =
+unfoldable pub segment_register : ℕ → Option Register
+segment_register n =
     if n == 0 then Some (Seg Es)
     else (if n == 1 then Some (Seg Cs)
     else (if n == 2 then Some (Seg Ss)
@@ -149,7 +149,7 @@ register_numbered class n =
     else (if class == 3 then Some (R16 n)
     else (if class == 4 then Some (R32 n)
     else (if class == 5 then Some (R64 n)
-    else (if class == 6 then segment_numbered n
+    else (if class == 6 then segment_register n
     else (if class == 7 then Some (Cr n)
     else (if class == 8 then Some (Dr n)
     else (if class == 9 then Some (St n)

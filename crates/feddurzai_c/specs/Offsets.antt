@@ -9,15 +9,15 @@ use Rattle.byte_offsets.specs.Offsets.{part, IsOffsetsAnswer}
 use Rattle.feddurzai_c.specs.declared.refusal.Refusal.TheVariants.{Mode, Invalid, TooShort}
 use Rattle.feddurzai_c.specs.declared.flat.FlatPart.{FlatPart}
 use Rattle.feddurzai_c.specs.declared.flat.FlatOffsets.{FlatOffsets}
-use Rattle.feddurzai_c.specs.Refusals.{refused}
+use Rattle.feddurzai_c.specs.Refusals.{refusal_status}
 
 -- a part: its offset and its length
 abbrev pub flat_part : Part → FlatPart
 flat_part p = record { at = p.at; len = p.len }
 
 -- the part of the n-th of four operands
-abbrev pub own_part : List Part → ℕ → FlatPart
-own_part parts n = flat_part (slice_index_or parts n (part 0 0))
+abbrev pub flat_own_part : List Part → ℕ → FlatPart
+flat_own_part parts n = flat_part (slice_index_or parts n (part 0 0))
 
 -- all parts
 unfoldable pub flat_offsets : ByteOffsets → FlatOffsets
@@ -28,17 +28,17 @@ flat_offsets o = record {
   modrm = flat_part o.modrm;
   sib = flat_part o.sib;
   displacement = flat_part o.displacement;
-  immediate0 = own_part o.immediates 0;
-  immediate1 = own_part o.immediates 1;
-  immediate2 = own_part o.immediates 2;
-  immediate3 = own_part o.immediates 3;
+  immediate0 = flat_own_part o.immediates 0;
+  immediate1 = flat_own_part o.immediates 1;
+  immediate2 = flat_own_part o.immediates 2;
+  immediate3 = flat_own_part o.immediates 3;
 }
 
 -- how many bytes the instruction has, or why there is none
 abbrev pub offsets_said : Result ByteOffsets DecodeError → ℤ
 offsets_said (Ok o) = pos o.len
-offsets_said (Err TooShortError) = refused TooShort
-offsets_said (Err InvalidError) = refused Invalid
+offsets_said (Err TooShortError) = refusal_status TooShort
+offsets_said (Err InvalidError) = refusal_status Invalid
 
 -- what stands in the struct then
 abbrev pub offsets_left : FlatOffsets → Result ByteOffsets DecodeError → FlatOffsets
@@ -54,5 +54,5 @@ pub record AreOffsetsIn (bits : Bits) (bytes : List ℕ) (old new : FlatOffsets)
 
 -- the parts of the instruction at the front of some bytes, where the number of the mode names one
 abbrev pub AreOffsetsOf : Option Bits → List ℕ → FlatOffsets → FlatOffsets → ℤ → Type 0
-AreOffsetsOf None bytes old new answer = (answer ≡ refused Mode) × (new ≡ old)
+AreOffsetsOf None bytes old new answer = (answer ≡ refusal_status Mode) × (new ≡ old)
 AreOffsetsOf (Some bits) bytes old new answer = AreOffsetsIn bits bytes old new answer

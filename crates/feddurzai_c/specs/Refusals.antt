@@ -49,5 +49,5 @@ refusal_number NotLive = 27
 refusal_number (Spelling why operand) = condition_number why + operand
 
 -- a refusal is told by its number below zero
-abbrev pub refused : Refusal → ℤ
-refused why = neg_ℤ (pos (refusal_number why))
+abbrev pub refusal_status : Refusal → ℤ
+refusal_status why = neg_ℤ (pos (refusal_number why))

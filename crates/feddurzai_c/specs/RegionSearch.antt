@@ -6,11 +6,11 @@ use Rattle.code_region.specs.State.{LiveBlock, span_of}
 use Rattle.code_region.specs.Placing.{with_block}
 use Rattle.feddurzai_c.specs.declared.flat.FlatRegion.{FlatRegion}
 use Rattle.feddurzai_c.specs.declared.flat.FlatLive.{FlatLive}
-use Rattle.feddurzai_c.specs.Regions.{are_laid, live_of, block_of}
+use Rattle.feddurzai_c.specs.Regions.{are_laid, live_of, live_block_of}
 
 -- the blocks of some entries of the array
 abbrev pub blocks_of : List FlatLive → List LiveBlock
-blocks_of live = map block_of live
+blocks_of live = map live_block_of live
 
 -- the first gap of so many bytes that they leave
 abbrev pub gap_of : ℕ → ℕ → ℕ → List FlatLive → Option Span
@@ -26,11 +26,11 @@ pub record IsNewPlace (base limit needed : ℕ) (live : List FlatLive) (index pl
   pub within : index ≤ length live
   pub start : IsStart (gap_of base limit needed live) place
   pub order : (len : ℕ) → let new : FlatLive = record { place = place; len = len } in
-      with_block (block_of new) (blocks_of live) ≡ blocks_of (take index live) ++ block_of new ∷ blocks_of (drop index live)
+      with_block (live_block_of new) (blocks_of live) ≡ blocks_of (take index live) ++ live_block_of new ∷ blocks_of (drop index live)
 
 -- no gap has so many bytes
-abbrev pub IsFull : ℕ → ℕ → ℕ → List FlatLive → Type 0
-IsFull base limit needed live = gap_of base limit needed live ≡ None
+abbrev pub IsRegionFull : ℕ → ℕ → ℕ → List FlatLive → Type 0
+IsRegionFull base limit needed live = gap_of base limit needed live ≡ None
 
 -- what stands for a block that is not there
 abbrev pub no_live : FlatLive
@@ -46,7 +46,7 @@ without place blocks = filter (λ block. not (block.place == place)) blocks
 -- the block of this number starts at an address, and no other does
 pub record StartsAt (place : ℕ) (live : List FlatLive) (k : ℕ) : Type 0 where
   pub within : k < length live
-  pub found : found_at place (blocks_of live) ≡ Some (block_of (slice_index_or live k no_live))
+  pub found : found_at place (blocks_of live) ≡ Some (live_block_of (slice_index_or live k no_live))
   pub others : without place (blocks_of live) ≡ blocks_of (take k live ++ drop (k + 1) live)
 
 -- none does

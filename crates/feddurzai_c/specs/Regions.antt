@@ -7,14 +7,14 @@ use Rattle.code_region.specs.declared.refusals.FillError.{FillError}
 use Rattle.code_region.specs.declared.refusals.FillError.TheVariants as fill
 use Rattle.code_region.specs.State.{LiveBlock, RegionState, live_block}
 use Rattle.code_region.specs.Opening.{open_refusal}
-use Rattle.code_region.specs.Placing.{unfilled, place_answer, placed}
-use Rattle.code_region.specs.Releasing.{release_answer, released}
+use Rattle.code_region.specs.Placing.{unfilled_block, place_answer, after_place}
+use Rattle.code_region.specs.Releasing.{release_answer, after_release}
 use Rattle.code_region.specs.Filling.{with_content, fill_answer}
 use Rattle.code_region.specs.Keeping.{overwritten}
 use Rattle.feddurzai_c.specs.declared.refusal.Refusal.TheVariants as why
 use Rattle.feddurzai_c.specs.declared.flat.FlatRegion.{FlatRegion}
 use Rattle.feddurzai_c.specs.declared.flat.FlatLive.{FlatLive}
-use Rattle.feddurzai_c.specs.Refusals.{refused}
+use Rattle.feddurzai_c.specs.Refusals.{refusal_status}
 
 -- ---- which numbers are a region
 
@@ -34,8 +34,8 @@ is_region region blocks =
     && (nat_le region.count (length blocks) && are_laid region.base (region.base + region.size) (live_of region blocks))
 
 -- a live block, whose bytes play no part where a place is handed out or released
-abbrev pub block_of : FlatLive → LiveBlock
-block_of b = unfilled b.place b.len
+abbrev pub live_block_of : FlatLive → LiveBlock
+live_block_of b = unfilled_block b.place b.len
 
 -- the region that the numbers and the array stand for
 abbrev pub region_of : FlatRegion → List FlatLive → RegionState
@@ -43,7 +43,7 @@ region_of region blocks = record {
   base = region.base;
   size = region.size;
   max_blocks = length blocks;
-  live = map block_of (live_of region blocks);
+  live = map live_block_of (live_of region blocks);
 }
 
 -- the numbers and the array after a call stand for a region; behind its live blocks the array is as it was
@@ -64,9 +64,9 @@ pub record IsUnchanged (region region' : FlatRegion) (blocks blocks' : List Flat
 -- what the call says: no place for no bytes, where all blocks of the room are live, or where no gap is long enough
 abbrev pub place_said : Result ℕ PlaceError → ℤ
 place_said (Ok p) = pos 0
-place_said (Err place.Empty) = refused why.Empty
-place_said (Err (place.TooManyBlocks max)) = refused why.Room
-place_said (Err (place.Full len largest)) = refused why.Full
+place_said (Err place.Empty) = refusal_status why.Empty
+place_said (Err (place.TooManyBlocks max)) = refusal_status why.Room
+place_said (Err (place.Full len largest)) = refusal_status why.Full
 
 -- the place, unchanged after a refusal
 abbrev pub place_left : ℕ → Result ℕ PlaceError → ℕ
@@ -75,7 +75,7 @@ place_left old (Err e) = old
 
 -- the numbers and the array with one more live block, or as they were
 abbrev pub IsPlacedIn : Result ℕ PlaceError → FlatRegion → FlatRegion → List FlatLive → List FlatLive → ℕ → Type 0
-IsPlacedIn (Ok p) region region' blocks blocks' len = IsLeft region region' blocks blocks' (placed (region_of region blocks) len)
+IsPlacedIn (Ok p) region region' blocks blocks' len = IsLeft region region' blocks blocks' (after_place (region_of region blocks) len)
 IsPlacedIn (Err e) region region' blocks blocks' len = IsUnchanged region region' blocks blocks'
 
 -- a request for a place in what is a region: the front of the first gap, by address, that has the rounded length
@@ -86,7 +86,7 @@ pub record IsReservedIn (region region' : FlatRegion) (blocks blocks' : List Fla
 
 -- the numbers and the array are no region, and nothing changed
 pub record IsNoRegion (region region' : FlatRegion) (blocks blocks' : List FlatLive) (said : ℤ) : Type 0 where
-  pub said_is : said ≡ refused why.Region
+  pub said_is : said ≡ refusal_status why.Region
   pub same : IsUnchanged region region' blocks blocks'
 
 -- what a request for a place says and leaves
@@ -101,12 +101,12 @@ IsReserve region region' blocks blocks' len old new said =
 -- what the call says
 abbrev pub release_said : Result (Unit {0}) NotTaken → ℤ
 release_said (Ok done) = pos 0
-release_said (Err e) = refused why.NotLive
+release_said (Err e) = refusal_status why.NotLive
 
 -- a release in what is a region; where no live block starts there nothing changes
 pub record IsReleasedIn (region region' : FlatRegion) (blocks blocks' : List FlatLive) (place : ℕ) (said : ℤ) : Type 0 where
   pub said_is : said ≡ release_said (release_answer (region_of region blocks) place)
-  pub left : IsLeft region region' blocks blocks' (released (region_of region blocks) place)
+  pub left : IsLeft region region' blocks blocks' (after_release (region_of region blocks) place)
 
 -- what a release says and leaves
 abbrev pub IsRelease : FlatRegion → FlatRegion → List FlatLive → List FlatLive → ℕ → ℤ → Type 0
@@ -120,8 +120,8 @@ IsRelease region region' blocks blocks' place said =
 -- what the call says
 abbrev pub fill_said : Result (Unit {0}) FillError → ℤ
 fill_said (Ok done) = pos 0
-fill_said (Err (fill.NotLive p)) = refused why.NotLive
-fill_said (Err (fill.TooLong limit)) = refused why.Room
+fill_said (Err (fill.NotLive p)) = refusal_status why.NotLive
+fill_said (Err (fill.TooLong limit)) = refusal_status why.Room
 
 -- the bytes of the region from its base on, with some at the front of a live block and INT3 over its rest, where both are so
 abbrev pub image_left : ℕ → List ℕ → Option LiveBlock → List ℕ → List ℕ
@@ -140,5 +140,5 @@ IsFill region blocks place bytes image image' said =
     MatchBool (is_region region blocks)
     (MatchBool (nat_le region.size (length image))
     (IsFilledIn region blocks place bytes image image' said)
-    ((said ≡ refused why.Room) × (image' ≡ image)))
-    ((said ≡ refused why.Region) × (image' ≡ image))
+    ((said ≡ refusal_status why.Room) × (image' ≡ image)))
+    ((said ≡ refusal_status why.Region) × (image' ≡ image))

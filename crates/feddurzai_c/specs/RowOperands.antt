@@ -101,12 +101,12 @@ kind_in None n = kind.Absent
 kind_in (Some row) n = slice_index_or row.ops n kind.Absent
 
 -- the kind of operand n of the row of a code
-unfoldable pub kind_at : ℕ → ℕ → OpKind
-kind_at code n = kind_in (slice_get table code) n
+unfoldable pub row_kind_at : ℕ → ℕ → OpKind
+row_kind_at code n = kind_in (slice_get table code) n
 
 -- its word: a row has four operands, some of them absent
 unfoldable pub kind_answer : ℕ → ℕ → Result (List ℕ) Refusal
-kind_answer code n = if nat_lt code ROWS then (if nat_lt n 4 then Ok (kind_word (kind_at code n)) else Err Name) else Err Code
+kind_answer code n = if nat_lt code ROWS then (if nat_lt n 4 then Ok (kind_word (row_kind_at code n)) else Err Name) else Err Code
 
 -- what the number of an access has then: it is unchanged after a refusal
 abbrev pub access_left : ℕ → Result (List ℕ) Refusal → ℕ → ℕ

@@ -9,7 +9,7 @@ use Rattle.decoder.specs.Answer.{reading_of}
 use Rattle.move_goals.specs.declared.items.Placed.{Placed}
 use Rattle.block_encoder.specs.Moved.{MovedLists}
 use Rattle.step_slots.specs.declared.standing.StandError.TheVariants.{Memory as NoMemory, Wraps as EndWraps, TooFar as OutOfReach}
-use Rattle.step_slots.specs.Block.{reserved}
+use Rattle.step_slots.specs.Block.{reserved_room}
 use Rattle.step_slots.specs.Standing.{IsStood, FitsReserved}
 use Rattle.feddurzai_c.specs.declared.refusal.Refusal.{Refusal}
 use Rattle.feddurzai_c.specs.declared.refusal.Refusal.TheVariants as why
@@ -17,21 +17,21 @@ use Rattle.feddurzai_c.specs.declared.flat.FlatStep.{FlatStep}
 use Rattle.feddurzai_c.specs.declared.stepping.StepCode.{StepCode}
 use Rattle.feddurzai_c.specs.declared.stepping.StepRefusal.{StepRefusal}
 use Rattle.feddurzai_c.specs.declared.stepping.StepRefusal.TheVariants.{Mode, BadCode, NotStood}
-use Rattle.feddurzai_c.specs.Refusals.{refused}
+use Rattle.feddurzai_c.specs.Refusals.{refusal_status}
 use Rattle.feddurzai_c.specs.Numbers.{bits_numbered}
-use Rattle.feddurzai_c.specs.Moving.{read_item}
+use Rattle.feddurzai_c.specs.Moving.{decoded_item}
 use Rattle.feddurzai_c.specs.Answers as answers
 
 -- ---- the instruction
 
 -- the instruction that is read at the front of some bytes, with its address
-pub record IsItemAt (bits : Bits) (ip : ℕ) (bytes : List ℕ) (item : Placed) : Type 0 where
+pub record IsStepItemAt (bits : Bits) (ip : ℕ) (bytes : List ℕ) (item : Placed) : Type 0 where
   pub at : item.ip ≡ ip
-  pub reads : IsRead bits ip bytes (Read (read_item item))
+  pub reads : IsRead bits ip bytes (Read (decoded_item item))
 
 -- the instruction at the front of some bytes, with its address, or why none is read
 abbrev pub IsItem : Bits → ℕ → List ℕ → Result Placed DecodeError → Type 0
-IsItem bits ip bytes (Ok item) = IsItemAt bits ip bytes item
+IsItem bits ip bytes (Ok item) = IsStepItemAt bits ip bytes item
 IsItem bits ip bytes (Err e) = IsRead bits ip bytes (reading_of (Err e))
 
 -- ---- its code
@@ -44,7 +44,7 @@ pub record IsShortStep (code : StepCode) : Type 0 where
 -- The code is the block of the instruction that is read, at the place: the one of a step slot there. It has no more bytes than are reserved for it.
 pub record IsSteppedBy (bits : Bits) (ip : ℕ) (bytes : List ℕ) (place : ℕ) (code : StepCode) : Type 0 where
   pub item : Placed
-  pub reads : IsItemAt bits ip bytes item
+  pub reads : IsStepItemAt bits ip bytes item
   pub stood : IsStood bits item place (Ok code.moved)
   pub len : code.len ≡ item.len
   pub fits : FitsReserved bits item place code.moved.bytes
@@ -54,7 +54,7 @@ pub record IsSteppedBy (bits : Bits) (ip : ℕ) (bytes : List ℕ) (place : ℕ)
 abbrev pub IsStepCodeIn : Bits → ℕ → List ℕ → ℕ → Result StepCode StepRefusal → Type 0
 IsStepCodeIn bits ip bytes place (Ok code) = IsSteppedBy bits ip bytes place code
 IsStepCodeIn bits ip bytes place (Err (BadCode e)) = IsRead bits ip bytes (reading_of (Err e))
-IsStepCodeIn bits ip bytes place (Err (NotStood e)) = (item : Placed) × (IsItemAt bits ip bytes item × IsStood bits item place (Err e))
+IsStepCodeIn bits ip bytes place (Err (NotStood e)) = (item : Placed) × (IsStepItemAt bits ip bytes item × IsStood bits item place (Err e))
 IsStepCodeIn bits ip bytes place (Err Mode) = ⊥
 
 -- the code of a step, where the number of the mode names one
@@ -105,7 +105,7 @@ step_report place (Err e) = refusal_report e
 pub record IsStep (bits ip : ℕ) (bytes : List ℕ) (place : ℕ) (out out' : List ℕ) (report : FlatStep) (said : ℤ) : Type 0 where
   pub answer : Result StepCode StepRefusal
   pub is : IsStepCode (bits_numbered bits) ip bytes place answer
-  pub said_is : said ≡ answers.said (answers.bytes_within (length out) (step_bytes answer))
+  pub said_is : said ≡ answers.count_or_refusal (answers.bytes_within (length out) (step_bytes answer))
   pub left : out' ≡ answers.with_bytes out (answers.bytes_within (length out) (step_bytes answer))
   pub report_is : report ≡ step_report place answer
 
@@ -113,8 +113,8 @@ pub record IsStep (bits ip : ℕ) (bytes : List ℕ) (place : ℕ) (out out' : L
 
 -- the number that is reserved for an instruction in a region with a base, or why none is read
 abbrev pub len_said : Bits → ℕ → Result Placed DecodeError → ℤ
-len_said bits base (Ok item) = pos (reserved bits base item)
-len_said bits base (Err e) = refused (code_refusal e)
+len_said bits base (Ok item) = pos (reserved_room bits base item)
+len_said bits base (Err e) = refusal_status (code_refusal e)
 
 -- what the call says in a mode
 pub record IsStepLenIn (bits : Bits) (ip : ℕ) (bytes : List ℕ) (base : ℕ) (said : ℤ) : Type 0 where
@@ -124,5 +124,5 @@ pub record IsStepLenIn (bits : Bits) (ip : ℕ) (bytes : List ℕ) (base : ℕ) 
 
 -- how long the code of a step is at most, where the number of the mode names one
 abbrev pub IsStepLen : Option Bits → ℕ → List ℕ → ℕ → ℤ → Type 0
-IsStepLen None ip bytes base said = said ≡ refused why.Mode
+IsStepLen None ip bytes base said = said ≡ refusal_status why.Mode
 IsStepLen (Some bits) ip bytes base said = IsStepLenIn bits ip bytes base said

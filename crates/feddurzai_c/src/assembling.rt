@@ -10,7 +10,7 @@ ghost use Rattle.feddurzai_c.specs.Numbers.{bits_numbered};
 use crate::flat::FlatInstr;
 use crate::flatten::flat_decoded;
 use crate::numbers::bits_numbered;
-use crate::refusal::{Refusal, refused};
+use crate::refusal::{Refusal, refusal_status};
 use crate::room::put_bytes;
 use arrayvec::ArrayVec;
 use encoder::encoded_len;
@@ -43,7 +43,7 @@ pub extern "C" fn feddurzai_assemble(bits: u32, ip: u64, text: &[u8], out: &mut 
 {
     match bytes_of(bits, ip, text) {
         Ok(bytes) => put_bytes(out, &bytes),
-        Err(why) => refused(why),
+        Err(why) => refusal_status(why),
     }
 }
 
@@ -77,7 +77,7 @@ fn read_into(bits: Bits, ip: u64, text: &[u8], instr: &mut FlatInstr) -> i32
             *instr = flat_encoded(bits, ip, read);
             i32::from(instr.len)
         }
-        Err(TextError::NoInstruction) => refused(Refusal::Text),
+        Err(TextError::NoInstruction) => refusal_status(Refusal::Text),
     }
 }
 
@@ -94,7 +94,7 @@ pub extern "C" fn feddurzai_read_intel(
     ensures { spec.IsTextRead bits ip text.now instr.old instr.new result }
 {
     match bits_numbered(bits) {
-        None => refused(Refusal::Mode),
+        None => refusal_status(Refusal::Mode),
         Some(bits) => read_into(bits, ip, text, instr),
     }
 }

@@ -21,7 +21,7 @@ pub(crate) struct InBlock {
 /// The block of the instruction of this number, and its number there.
 pub(crate) fn block_of(spans: &[BlockSpan], k: u64) -> InBlock
     ensures block { result.block ≡ block_number spans.now k }
-    ensures at { result.at ≡ spec.number_in spans.now k }
+    ensures at { result.at ≡ spec.number_in_block spans.now k }
 {
     let mut at = k;
     'each: for b in 0..spans.len() {

@@ -6,7 +6,7 @@ ghost use Rattle.feddurzai_c.specs.Blocks as spec;
 use crate::flat::{FlatBlock, FlatBlocks, FlatMoved, FlatPlace};
 use crate::moved_blocks::{BlocksRefusal, CodeBlocks, moved_blocks};
 use crate::moving::write_entries;
-use crate::refusal::{Refusal, refused};
+use crate::refusal::{Refusal, refusal_status};
 use crate::room::write_front;
 use decoder::DecodeError;
 use std::alloc::Global;
@@ -117,14 +117,14 @@ fn put_blocks(
                 || m.places.len() > places.len()
                 || m.entries.len() > map.len()
             {
-                return refused(Refusal::Room);
+                return refusal_status(Refusal::Room);
             }
             write_front(out, bytes);
             write_places(places, &m.places);
             write_entries(map, &m.entries);
             0
         }
-        Err(why) => refused(blocks_refusal(*why)),
+        Err(why) => refusal_status(blocks_refusal(*why)),
     }
 }
 

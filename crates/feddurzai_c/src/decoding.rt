@@ -7,7 +7,7 @@ ghost use Rattle.feddurzai_c.specs.Answers as spec;
 use crate::flat::FlatInstr;
 use crate::flatten::flat_into;
 use crate::numbers::bits_numbered;
-use crate::refusal::{Refusal, refused};
+use crate::refusal::{Refusal, refusal_status};
 use decoder::{DecodeError, UNREAD, decode_onto};
 use x86_values::Bits;
 
@@ -21,8 +21,8 @@ fn decode_into(bits: Bits, ip: u64, bytes: &[u8], instr: &mut FlatInstr) -> i32
             flat_into(&decoded, instr);
             i32::from(decoded.len)
         }
-        Err(DecodeError::TooShort) => refused(Refusal::TooShort),
-        Err(DecodeError::Invalid) => refused(Refusal::Invalid),
+        Err(DecodeError::TooShort) => refusal_status(Refusal::TooShort),
+        Err(DecodeError::Invalid) => refusal_status(Refusal::Invalid),
     }
 }
 
@@ -35,7 +35,7 @@ pub extern "C" fn feddurzai_decode(bits: u32, ip: u64, bytes: &[u8], instr: &mut
     ensures { spec.IsDecoded (bits_numbered bits) ip bytes.now instr.old instr.new result }
 {
     match bits_numbered(bits) {
-        None => refused(Refusal::Mode),
+        None => refusal_status(Refusal::Mode),
         Some(bits) => decode_into(bits, ip, bytes, instr),
     }
 }

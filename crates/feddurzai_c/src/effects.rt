@@ -11,7 +11,7 @@ ghost use Rattle.feddurzai_c.specs.Numbers.{bits_numbered};
 use crate::flat::{FlatInstr, FlatMemoryUse, FlatTouched, FlatUse};
 use crate::flatten::{base_class, base_number};
 use crate::numbers::{bits_numbered, class_number, prefix_number, register_numbered};
-use crate::refusal::{Refusal, refused};
+use crate::refusal::{Refusal, refusal_status};
 use crate::room::put_text;
 use crate::unflatten::instr_back;
 use bitflags::Flags;
@@ -25,7 +25,7 @@ use x86_values::{Bits, Instr, Register};
 
 /// What is done, in bits: 1 read, 2 written, 4 and 8 the same under a condition.
 fn kind_number(access: AccessKind) -> u8
-    ensures { result ≡ spec.kind_number access }
+    ensures { result ≡ spec.access_kind_number access }
 {
     match access {
         AccessKind::Read => 1,
@@ -177,7 +177,7 @@ pub extern "C" fn feddurzai_effects(bits: u32, instr: &FlatInstr, effects: &mut 
             *effects = told;
             0
         }
-        Err(why) => refused(why),
+        Err(why) => refusal_status(why),
     }
 }
 
@@ -198,7 +198,7 @@ pub extern "C" fn feddurzai_full_register(reg_class: u8, reg_number: u8) -> i32
 {
     match register_numbered(reg_class, reg_number) {
         Some(register) if register.is_named() => register_code(full_register(register)),
-        _ => refused(Refusal::Register),
+        _ => refusal_status(Refusal::Register),
     }
 }
 
@@ -220,11 +220,11 @@ fn feature_name(bit: u32) -> Result<&'static str, Refusal>
 #[tactic(auto, unfolding(crate::specs::Answers::text_within))]
 #[unsafe(no_mangle)]
 pub extern "C" fn feddurzai_feature_name(bit: u32, out: &mut [u8]) -> i32
-    ensures said { result ≡ said.said (said.text_within (length out.old) (spec.feature_answer bit)) }
+    ensures said { result ≡ said.count_or_refusal (said.text_within (length out.old) (spec.feature_answer bit)) }
     ensures left { out.new ≡ said.with_text out.old (said.text_within (length out.old) (spec.feature_answer bit)) }
 {
     match feature_name(bit) {
         Ok(name) => put_text(out, name.as_bytes()),
-        Err(why) => refused(why),
+        Err(why) => refusal_status(why),
     }
 }

@@ -9,7 +9,7 @@ ghost use Rattle.feddurzai_c.specs.Answers as spec;
 
 use crate::flat::{FlatInstr, FlatOperand};
 use crate::numbers::bits_numbered;
-use crate::refusal::{Refusal, refused};
+use crate::refusal::{Refusal, refusal_status};
 use crate::room::put_bytes;
 use crate::unflatten::instr_back_into;
 use decoder::UNREAD;
@@ -103,7 +103,7 @@ fn len_of(bits: u32, ip: u64, instr: &FlatInstr) -> Result<u8, Refusal>
 
 /// Whether the width of an operand's displacement is left to the library.
 fn is_open(op: &FlatOperand) -> bool
-    ensures { result ≡ spec.is_open op.now }
+    ensures { result ≡ spec.has_open_width op.now }
 {
     op.kind == 2 && op.disp_bits == 255
 }
@@ -151,7 +151,7 @@ fn has_width(bits: u32, ip: u64, f: &FlatInstr, width: u8) -> bool
 /// The shortest width of a displacement that the address of a struct has, in bits.
 #[tactic(auto, unfolding(crate::specs::Answers::width_of))]
 fn width_of(bits: u32, ip: u64, f: &FlatInstr) -> u8
-    ensures { result ≡ spec.width_of bits ip f.now }
+    ensures { result ≡ spec.open_width bits ip f.now }
 {
     if has_width(bits, ip, f, 0) {
         0
@@ -182,13 +182,13 @@ fn with_displacement_size(bits: u32, ip: u64, f: &FlatInstr) -> FlatInstr
 #[inline(always)]
 #[tactic(auto, unfolding(crate::specs::Answers::bytes_within))]
 fn put_encoding(bits: Bits, ip: u64, instr: &Instr, out: &mut [u8]) -> i32
-    ensures said { result ≡ spec.said (spec.bytes_within (length out.old) (spec.encoding_told instr.now (encoding bits ip instr.now))) }
+    ensures said { result ≡ spec.count_or_refusal (spec.bytes_within (length out.old) (spec.encoding_told instr.now (encoding bits ip instr.now))) }
     ensures left { out.new ≡ spec.with_bytes out.old (spec.bytes_within (length out.old) (spec.encoding_told instr.now (encoding bits ip instr.now))) }
     ensures read_back { (n : ℕ) → result ≡ pos n → spec.IsEncodedAt (Some bits) ip (Some instr.now) out.new n }
 {
     match &encode(bits, ip, instr) {
         Ok(bytes) => put_bytes(out, bytes),
-        Err(why) => refused(no_spelling(instr, *why)),
+        Err(why) => refusal_status(no_spelling(instr, *why)),
     }
 }
 
@@ -199,14 +199,14 @@ fn put_encoding(bits: Bits, ip: u64, instr: &Instr, out: &mut [u8]) -> i32
 #[tactic(auto, unfolding(crate::specs::Answers::bytes_within, crate::specs::Answers::encoding_of))]
 fn encode_sized(bits: u32, mode: Bits, ip: u64, f: &FlatInstr, out: &mut [u8]) -> i32
     requires { bits_numbered bits ≡ Some mode }
-    ensures said { result ≡ spec.said (spec.bytes_within (length out.old) (spec.encode_answer bits ip f.now)) }
+    ensures said { result ≡ spec.count_or_refusal (spec.bytes_within (length out.old) (spec.encode_answer bits ip f.now)) }
     ensures left { out.new ≡ spec.with_bytes out.old (spec.bytes_within (length out.old) (spec.encode_answer bits ip f.now)) }
     ensures read_back { (n : ℕ) → result ≡ pos n → spec.IsEncodedAt (Some mode) ip (instr_back (spec.with_displacement_size bits ip f.now)) out.new n }
 {
     let mut read = UNREAD.instr;
     match instr_back_into(&with_displacement_size(bits, ip, f), &mut read) {
         Some(()) => put_encoding(mode, ip, &read, out),
-        None => refused(Refusal::Instr),
+        None => refusal_status(Refusal::Instr),
     }
 }
 
@@ -219,12 +219,12 @@ fn encode_sized(bits: u32, mode: Bits, ip: u64, f: &FlatInstr, out: &mut [u8]) -
 #[tactic(auto, unfolding(crate::specs::Answers::bytes_within, crate::specs::Answers::encoding_of))]
 #[unsafe(no_mangle)]
 pub extern "C" fn feddurzai_encode(bits: u32, ip: u64, instr: &FlatInstr, out: &mut [u8]) -> i32
-    ensures said { result ≡ spec.said (spec.bytes_within (length out.old) (spec.encode_answer bits ip instr.now)) }
+    ensures said { result ≡ spec.count_or_refusal (spec.bytes_within (length out.old) (spec.encode_answer bits ip instr.now)) }
     ensures left { out.new ≡ spec.with_bytes out.old (spec.bytes_within (length out.old) (spec.encode_answer bits ip instr.now)) }
     ensures read_back { (n : ℕ) → result ≡ pos n → spec.IsEncodedAt (bits_numbered bits) ip (instr_back (spec.with_displacement_size bits ip instr.now)) out.new n }
 {
     let Some(mode) = bits_numbered(bits) else {
-        return refused(Refusal::Mode);
+        return refusal_status(Refusal::Mode);
     };
     let mut read = UNREAD.instr;
     match instr_back_into(instr, &mut read) {
@@ -236,10 +236,10 @@ pub extern "C" fn feddurzai_encode(bits: u32, ip: u64, instr: &FlatInstr, out: &
 /// How many bytes the plain (shortest) spelling of an instruction at an address has: 1 to 15. The refusals are those of `feddurzai_encode`, but for `Room`.
 #[unsafe(no_mangle)]
 pub extern "C" fn feddurzai_encoded_len(bits: u32, ip: u64, instr: &FlatInstr) -> i32
-    ensures { result ≡ spec.said (spec.encode_answer bits ip instr.now) }
+    ensures { result ≡ spec.count_or_refusal (spec.encode_answer bits ip instr.now) }
 {
     match len_of(bits, ip, &with_displacement_size(bits, ip, instr)) {
         Ok(len) => i32::from(len),
-        Err(why) => refused(why),
+        Err(why) => refusal_status(why),
     }
 }

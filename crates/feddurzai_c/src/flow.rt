@@ -5,7 +5,7 @@ ghost use Rattle.feddurzai_c.specs.Numbers.{bits_numbered};
 ghost use Rattle.feddurzai_c.specs.Flow as spec;
 
 use crate::numbers::bits_numbered;
-use crate::refusal::{Refusal, refused};
+use crate::refusal::{Refusal, refusal_status};
 use crate::room::count_answer;
 use flow_graph::{FlowError, FlowGraph, flow_graph_in};
 use std::alloc::Global;
@@ -48,7 +48,7 @@ fn put_graph(graph: &FlowGraph, starts: &mut [u32], leaders: &mut [u32]) -> i32
 {
     let count = graph.starts().len();
     if count > starts.len() || count > leaders.len() {
-        return refused(Refusal::Room);
+        return refusal_status(Refusal::Room);
     }
     write_numbers(starts, graph.starts());
     write_numbers(leaders, graph.leaders());
@@ -75,6 +75,6 @@ pub extern "C" fn feddurzai_flow(
 {
     match graph_of(alloc, bits, base, bytes) {
         Ok(graph) => put_graph(&graph, starts, leaders),
-        Err(why) => refused(why),
+        Err(why) => refusal_status(why),
     }
 }

@@ -7,7 +7,7 @@ ghost use Rattle.feddurzai_c.specs.FlowFrom as spec;
 use crate::flow::write_numbers;
 use crate::info::flow_number;
 use crate::numbers::bits_numbered;
-use crate::refusal::{Refusal, refused};
+use crate::refusal::{Refusal, refusal_status};
 use crate::room::count_answer;
 use decoder::DecodeError;
 use flow_graph::{FlowError, FlowGraph, flow_graph_from};
@@ -41,7 +41,7 @@ fn graph_from(
 
 /// The flow of the instruction at a start, or the number that says why none is read: 0xfe for `TooShort` and 0xff for `Invalid`.
 fn kind_number(flow: Result<Flow, DecodeError>) -> u8
-    ensures { result ≡ spec.kind_number flow }
+    ensures { result ≡ spec.flow_kind_number flow }
 {
     match flow {
         Ok(flow) => flow_number(flow),
@@ -53,7 +53,7 @@ fn kind_number(flow: Result<Flow, DecodeError>) -> u8
 /// Writes what is read at the starts at the front of a room.
 fn write_kinds(out: &mut [u8], flows: &[Result<Flow, DecodeError>])
     requires { length flows.now ≤ length out.old }
-    ensures { out.new ≡ map spec.kind_number flows.now ++ drop (length flows.now) out.old }
+    ensures { out.new ≡ map spec.flow_kind_number flows.now ++ drop (length flows.now) out.old }
 {
     'kinds: for k in 0..flows.len() {
         out[k] = kind_number(flows[k]);
@@ -73,7 +73,7 @@ fn put_graph(graph: &FlowGraph, starts: &mut [u32], leaders: &mut [u32], kinds: 
 {
     let count = graph.starts().len();
     if count > starts.len() || count > leaders.len() || count > kinds.len() {
-        return refused(Refusal::Room);
+        return refusal_status(Refusal::Room);
     }
     write_numbers(starts, graph.starts());
     write_numbers(leaders, graph.leaders());
@@ -104,6 +104,6 @@ pub extern "C" fn feddurzai_flow_from(
 {
     match graph_from(alloc, bits, base, bytes, entries) {
         Ok(graph) => put_graph(&graph, starts, leaders, kinds),
-        Err(why) => refused(why),
+        Err(why) => refusal_status(why),
     }
 }

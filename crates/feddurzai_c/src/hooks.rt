@@ -6,7 +6,7 @@ ghost use Rattle.feddurzai_c.specs.Hooks as spec;
 
 use crate::flat::FlatDetour;
 use crate::numbers::bits_numbered;
-use crate::refusal::{Refusal, refused};
+use crate::refusal::{Refusal, refusal_status};
 use crate::room::write_front;
 use decoder::DecodeError;
 use detour::{Detour, DetourError, JumpForm, StartTarget, detour};
@@ -193,7 +193,7 @@ fn hook_of(
     place: u64,
     start: u32,
 ) -> Result<Detour, HookRefusal>
-    ensures { spec.IsHookAnswer (bits_numbered bits) (spec.start_numbered start) ip code.now to place result }
+    ensures { spec.IsDetourAnswerBy (bits_numbered bits) (spec.start_numbered start) ip code.now to place result }
 {
     let Some(bits) = bits_numbered(bits) else {
         return Err(HookRefusal::Mode);
@@ -220,13 +220,13 @@ fn put_hook(answer: &Result<Detour, HookRefusal>, patch: &mut [u8], trampoline: 
     match answer {
         Ok(made) => {
             if made.patch().len() > patch.len() || made.trampoline().len() > trampoline.len() {
-                return refused(Refusal::Room);
+                return refusal_status(Refusal::Room);
             }
             write_front(patch, made.patch());
             write_front(trampoline, made.trampoline());
             0
         }
-        Err(why) => refused(hook_refusal(*why)),
+        Err(why) => refusal_status(hook_refusal(*why)),
     }
 }
 
@@ -258,7 +258,7 @@ pub extern "C" fn feddurzai_detour(
     trampoline: &mut [u8],
     report: &mut FlatDetour,
 ) -> i32
-    ensures { spec.IsHook bits ip code.now to place start patch.old patch.new trampoline.old trampoline.new report.new result }
+    ensures { spec.IsDetourCall bits ip code.now to place start patch.old patch.new trampoline.old trampoline.new report.new result }
 {
     let answer = hook_of(alloc, bits, ip, code, to, place, start);
     *report = hook_report(&answer);

@@ -7,7 +7,7 @@ ghost use Rattle.feddurzai_c.specs.Back.{instr_back};
 
 use crate::flat::{FlatInfo, FlatInstr, FlatUse};
 use crate::numbers::class_number;
-use crate::refusal::{Refusal, refused};
+use crate::refusal::{Refusal, refusal_status};
 use crate::unflatten::instr_back;
 use opcode_rows::{ROWS, well_formed};
 use operand_info::{
@@ -164,6 +164,6 @@ pub extern "C" fn feddurzai_info(instr: &FlatInstr, info: &mut FlatInfo) -> i32
             *info = told;
             0
         }
-        Err(why) => refused(why),
+        Err(why) => refusal_status(why),
     }
 }

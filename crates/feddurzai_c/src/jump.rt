@@ -10,7 +10,7 @@ ghost use Rattle.feddurzai_c.specs.Jumps as spec;
 
 use crate::encoding::no_spelling;
 use crate::numbers::bits_numbered;
-use crate::refusal::{Refusal, refused};
+use crate::refusal::{Refusal, refusal_status};
 use crate::room::put_bytes;
 use arrayvec::ArrayVec;
 use branch_forms::{CALL_REL16, CALL_RM64, JMP_REL8, JMP_REL16, JMP_RM64};
@@ -178,11 +178,11 @@ fn jump_of(bits: u32, at: u64, target: u64, form: u32) -> Result<JumpBytes, Refu
 #[tactic(auto, unfolding(crate::specs::Answers::bytes_within))]
 #[unsafe(no_mangle)]
 pub extern "C" fn feddurzai_jump(bits: u32, at: u64, target: u64, form: u32, out: &mut [u8]) -> i32
-    ensures said { result ≡ said.said (said.bytes_within (length out.old) (spec.jump_answer bits at target form)) }
+    ensures said { result ≡ said.count_or_refusal (said.bytes_within (length out.old) (spec.jump_answer bits at target form)) }
     ensures left { out.new ≡ said.with_bytes out.old (said.bytes_within (length out.old) (spec.jump_answer bits at target form)) }
 {
     match jump_of(bits, at, target, form) {
         Ok(bytes) => put_bytes(out, &bytes),
-        Err(why) => refused(why),
+        Err(why) => refusal_status(why),
     }
 }

@@ -2,7 +2,7 @@
 
 ghost use Rattle.std.specs.Prelude.{◌≡◌, ℕ, ◌-◌, ◌%◌, ◌^◌, ◌<◌, List, length, slice_get, slice_index_or, Some, Err};
 ghost use Rattle.x86_values.specs.declared.Bits.{Bits};
-ghost use Rattle.x86_values.specs.Wrapping.{wrapped};
+ghost use Rattle.x86_values.specs.Wrapping.{modulo_width};
 ghost use Rattle.row_types.specs.declared.Row.{Row};
 ghost use Rattle.plain_spelling.specs.declared.NoSpelling.{NoSpelling};
 ghost use Rattle.opcode_rows.specs.Table.{table};
@@ -47,5 +47,5 @@ pub fn code_ends_with_its_images()
 /// target it is the only one, since no row has two operands that can be memory or a near target.
 pub fn told_operands_fail()
     ensures { (bits : Bits) (ip : ℕ) (row : Row) (i : Instr) (why : NoSpelling) → slice_get table i.code.0 ≡ Some row → encoding bits ip i ≡ Err why
-        → IsFailing bits (wrapped bits ip) row i why }
+        → IsFailing bits (modulo_width bits ip) row i why }
 {}

@@ -7,7 +7,7 @@ ghost use Rattle.feddurzai_c.specs.Lines as spec;
 use crate::flat::FlatInstr;
 use crate::flatten::flat_into;
 use crate::numbers::{bits_numbered, style_numbered};
-use crate::refusal::{Refusal, refused};
+use crate::refusal::{Refusal, refusal_status};
 use crate::room::write_text;
 use crate::texts::append_style_text;
 use decoder::{DecodeError, UNREAD, decode_onto};
@@ -26,7 +26,7 @@ fn line_in(
     place: &mut Decoded,
     out: &mut [u8],
 ) -> Result<(), Refusal>
-    ensures { spec.IsLineIn bits style ip bytes.now out.old out.new (spec.line_at result place.new) }
+    ensures { spec.IsLineIn bits style ip bytes.now out.old out.new (spec.line_text_at result place.new) }
 {
     match decode_onto(bits, ip, bytes, place) {
         Ok(()) => {
@@ -53,7 +53,7 @@ fn line_by(
     place: &mut Decoded,
     out: &mut [u8],
 ) -> Result<(), Refusal>
-    ensures { spec.IsLineBy (bits_numbered bits) (style_numbered syntax) ip bytes.now out.old out.new (spec.line_at result place.new) }
+    ensures { spec.IsLineBy (bits_numbered bits) (style_numbered syntax) ip bytes.now out.old out.new (spec.line_text_at result place.new) }
 {
     let Some(bits) = bits_numbered(bits) else {
         return Err(Refusal::Mode);
@@ -85,7 +85,7 @@ pub extern "C" fn feddurzai_line(
             flat_into(&decoded, instr);
             i32::from(decoded.len)
         }
-        Err(why) => refused(why),
+        Err(why) => refusal_status(why),
     }
 }
 
@@ -104,6 +104,6 @@ pub extern "C" fn feddurzai_line_text(
     let mut decoded = UNREAD;
     match line_by(bits, syntax, ip, bytes, &mut decoded, out) {
         Ok(()) => i32::from(decoded.len),
-        Err(why) => refused(why),
+        Err(why) => refusal_status(why),
     }
 }

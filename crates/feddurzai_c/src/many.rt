@@ -8,7 +8,7 @@ ghost use Rattle.feddurzai_c.specs.Many as spec;
 use crate::flat::FlatInstr;
 use crate::flatten::{ABSENT, flat_decoded};
 use crate::numbers::bits_numbered;
-use crate::refusal::{Refusal, refused};
+use crate::refusal::{Refusal, refusal_status};
 use crate::room::count_answer;
 use decoder::DecodeError;
 use sweep_text::laws::items_stand_in_turn;
@@ -90,7 +90,7 @@ pub extern "C" fn feddurzai_decode_many(
     ensures { spec.IsMany bits ip bytes.now instrs.old instrs.new count.old count.new result }
 {
     match bits_numbered(bits) {
-        None => refused(Refusal::Mode),
+        None => refusal_status(Refusal::Mode),
         Some(bits) => {
             let swept = sweep_into(bits, ip, bytes, instrs);
             *count = swept.count;

@@ -77,7 +77,7 @@ pub(crate) fn read_items(
     bytes: &[u8],
 ) -> Result<Vec<Placed>, MoveRefusal>
     requires { base + length bytes.now ≤ 2 ^ 64 }
-    ensures { MatchResult result (λ items. spec.AreItemsOf bits base bytes.now items.items) (λ why. spec.IsReadRefusal bits base bytes.now why) }
+    ensures { MatchResult result (λ items. spec.AreInstructionsOf bits base bytes.now items.items) (λ why. spec.IsSourceRefusal bits base bytes.now why) }
 {
     let mut items = Vec::new(alloc);
     let mut at: usize = 0;
@@ -194,7 +194,7 @@ fn move_items(
 
 /// The address behind the old code. No bytes are an empty block, whose old end is its new base.
 pub(crate) fn code_end(old: u64, bytes: &[u8], new: u64) -> u128
-    ensures { result ≡ spec.code_end old bytes.now new }
+    ensures { result ≡ spec.moved_end old bytes.now new }
 {
     if bytes.is_empty() {
         return u128::from(new);

@@ -3,7 +3,7 @@
 ghost use Rattle.std.specs.Prelude.{◌≡◌, ◌+◌, ◌≤◌, ◌^◌, ◌<◌, length, None, IfOk, MatchResult};
 ghost use Rattle.branch_sizes.specs.Layout.{block_number};
 ghost use Rattle.move_goals.specs.Items.{ArePlaced, AreSpansOf, first_disorder};
-ghost use Rattle.feddurzai_c.specs.Moving.{IsReadRefusal};
+ghost use Rattle.feddurzai_c.specs.Moving.{IsSourceRefusal};
 ghost use Rattle.feddurzai_c.specs.Blocks as spec;
 ghost use Rattle.feddurzai_c.specs.Numbers.{bits_numbered};
 
@@ -133,7 +133,7 @@ fn read_blocks(
     blocks: &[FlatBlock],
 ) -> Result<ReadBlocks, BlocksRefusal>
     requires { spec.AreFew blocks.now }
-    ensures { MatchResult result (λ r. spec.AreBlocksRead bits bytes.now blocks.now r.spans.items r.items.items) (λ why. spec.IsUnread bits bytes.now blocks.now why) }
+    ensures { MatchResult result (λ r. spec.AreBlocksRead bits bytes.now blocks.now r.spans.items r.items.items) (λ why. spec.IsBlockUnread bits bytes.now blocks.now why) }
 {
     let mut items = Vec::new(alloc);
     let mut spans = Vec::new(alloc);
@@ -161,7 +161,7 @@ fn read_blocks(
 
 /// The refusal of an instruction that does not reach its target.
 fn too_far(spans: &[BlockSpan], k: u64, target: u64) -> BlocksRefusal
-    ensures { result ≡ BlocksRefusal.TooFar (block_number spans.now k) (spec.number_in spans.now k) target }
+    ensures { result ≡ BlocksRefusal.TooFar (block_number spans.now k) (spec.number_in_block spans.now k) target }
 {
     let InBlock { block, at } = block_of(spans, k);
     BlocksRefusal::TooFar { block, at, target }

@@ -5,7 +5,7 @@ ghost use Rattle.feddurzai_c.specs.Moving as spec;
 
 use crate::flat::{FlatMove, FlatMoved};
 use crate::moved::{MoveRefusal, MovedCode, Targets, moved_code};
-use crate::refusal::{Refusal, refused};
+use crate::refusal::{Refusal, refusal_status};
 use crate::room::write_front;
 use block_encoder::Moved;
 use decoder::DecodeError;
@@ -103,13 +103,13 @@ fn put_moved(answer: &Result<MovedCode, MoveRefusal>, out: &mut [u8], map: &mut 
         Ok(m) => {
             let bytes = m.moved.bytes();
             if bytes.len() > out.len() || m.entries.len() > map.len() {
-                return refused(Refusal::Room);
+                return refusal_status(Refusal::Room);
             }
             write_front(out, bytes);
             write_entries(map, &m.entries);
             0
         }
-        Err(why) => refused(refusal_of(*why)),
+        Err(why) => refusal_status(refusal_of(*why)),
     }
 }
 

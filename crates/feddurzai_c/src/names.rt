@@ -6,7 +6,7 @@ ghost use Rattle.feddurzai_c.specs.Names as spec;
 ghost use Rattle.feddurzai_c.specs.Numbers.{prefix_numbered, style_numbered};
 
 use crate::numbers::{prefix_numbered, register_numbered, style_numbered};
-use crate::refusal::{Refusal, refused};
+use crate::refusal::{Refusal, refusal_status};
 use crate::room::put_text;
 use text_parts::registers;
 use text_parts::text::Text;
@@ -15,7 +15,7 @@ use x86_values::Register;
 /// The text of a register that there may not be.
 #[tactic(auto, unfolding(crate::specs::Names::register_of))]
 fn text_of(syntax: u32, register: Option<Register>) -> Result<Text, Refusal>
-    ensures { MatchResult result (λ text. spec.register_of (style_numbered syntax) register ≡ Ok text.items) (λ why. spec.register_of (style_numbered syntax) register ≡ Err why) }
+    ensures { MatchResult result (λ text. spec.shown_register (style_numbered syntax) register ≡ Ok text.items) (λ why. spec.shown_register (style_numbered syntax) register ≡ Err why) }
 {
     let Some(style) = style_numbered(syntax) else {
         return Err(Refusal::Syntax);
@@ -32,7 +32,7 @@ fn text_of(syntax: u32, register: Option<Register>) -> Result<Text, Refusal>
 
 /// The segment register that a prefix names.
 fn segment_of(prefix: u8) -> Option<Register>
-    ensures { result ≡ spec.segment_of (prefix_numbered prefix) }
+    ensures { result ≡ spec.segment_shown (prefix_numbered prefix) }
 {
     match prefix_numbered(prefix) {
         Some(Some(segment)) => Some(Register::Seg(segment)),
@@ -52,12 +52,12 @@ pub extern "C" fn feddurzai_register_text(
     reg_number: u8,
     out: &mut [u8],
 ) -> i32
-    ensures said { result ≡ said.said (said.text_within (length out.old) (spec.register_answer syntax reg_class reg_number)) }
+    ensures said { result ≡ said.count_or_refusal (said.text_within (length out.old) (spec.register_answer syntax reg_class reg_number)) }
     ensures left { out.new ≡ said.with_text out.old (said.text_within (length out.old) (spec.register_answer syntax reg_class reg_number)) }
 {
     match text_of(syntax, register_numbered(reg_class, reg_number)) {
         Ok(text) => put_text(out, &text),
-        Err(why) => refused(why),
+        Err(why) => refusal_status(why),
     }
 }
 
@@ -68,11 +68,11 @@ pub extern "C" fn feddurzai_register_text(
 #[tactic(auto, unfolding(crate::specs::Answers::text_within))]
 #[unsafe(no_mangle)]
 pub extern "C" fn feddurzai_segment_text(syntax: u32, segment: u8, out: &mut [u8]) -> i32
-    ensures said { result ≡ said.said (said.text_within (length out.old) (spec.segment_answer syntax segment)) }
+    ensures said { result ≡ said.count_or_refusal (said.text_within (length out.old) (spec.segment_answer syntax segment)) }
     ensures left { out.new ≡ said.with_text out.old (said.text_within (length out.old) (spec.segment_answer syntax segment)) }
 {
     match text_of(syntax, segment_of(segment)) {
         Ok(text) => put_text(out, &text),
-        Err(why) => refused(why),
+        Err(why) => refusal_status(why),
     }
 }

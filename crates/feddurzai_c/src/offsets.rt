@@ -6,7 +6,7 @@ ghost use Rattle.feddurzai_c.specs.Offsets as spec;
 
 use crate::flat::{FlatOffsets, FlatPart};
 use crate::numbers::bits_numbered;
-use crate::refusal::{Refusal, refused};
+use crate::refusal::{Refusal, refusal_status};
 use byte_offsets::{ByteOffsets, Part, offsets};
 use decoder::DecodeError;
 use x86_values::Bits;
@@ -50,8 +50,8 @@ fn offsets_into(bits: Bits, bytes: &[u8], parts: &mut FlatOffsets) -> i32
             *parts = flat_offsets(&found);
             i32::from(found.len)
         }
-        Err(DecodeError::TooShort) => refused(Refusal::TooShort),
-        Err(DecodeError::Invalid) => refused(Refusal::Invalid),
+        Err(DecodeError::TooShort) => refusal_status(Refusal::TooShort),
+        Err(DecodeError::Invalid) => refusal_status(Refusal::Invalid),
     }
 }
 
@@ -63,7 +63,7 @@ pub extern "C" fn feddurzai_offsets(bits: u32, bytes: &[u8], parts: &mut FlatOff
     ensures { spec.AreOffsetsOf (bits_numbered bits) bytes.now parts.old parts.new result }
 {
     match bits_numbered(bits) {
-        None => refused(Refusal::Mode),
+        None => refusal_status(Refusal::Mode),
         Some(bits) => offsets_into(bits, bytes, parts),
     }
 }

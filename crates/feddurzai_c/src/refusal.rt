@@ -119,8 +119,8 @@ fn refusal_number(why: Refusal) -> u16
 }
 
 /// A refusal as it is told: its number, below zero.
-pub(crate) fn refused(why: Refusal) -> i32
-    ensures { result ≡ spec.refused why }
+pub(crate) fn refusal_status(why: Refusal) -> i32
+    ensures { result ≡ spec.refusal_status why }
 {
     -i32::from(refusal_number(why))
 }

@@ -7,7 +7,7 @@ ghost use Rattle.feddurzai_c.specs.Regions as spec;
 ghost use Rattle.feddurzai_c.specs.RegionSearch.{IsRegion};
 
 use crate::flat::{FlatLive, FlatRegion};
-use crate::refusal::{Refusal, refused};
+use crate::refusal::{Refusal, refusal_status};
 use crate::region_search::{index_of, is_region, new_place, round_up};
 
 /// The byte of INT3, which stands wherever no content does.
@@ -45,16 +45,16 @@ fn reserve_in(region: &mut FlatRegion, blocks: &mut [FlatLive], len: u64, place:
     ensures { spec.IsReservedIn region.old region.new blocks.old blocks.new len place.old place.new result }
 {
     if len == 0 {
-        return refused(Refusal::Empty);
+        return refusal_status(Refusal::Empty);
     }
     let count = region.count as usize;
     if count == blocks.len() {
-        return refused(Refusal::Room);
+        return refusal_status(Refusal::Room);
     }
     let needed = round_up(len);
     let (live, _) = blocks.split_at(count);
     match new_place(region.base, end_of(region), live, needed) {
-        None => refused(Refusal::Full),
+        None => refusal_status(Refusal::Full),
         Some(new) => {
             let block = FlatLive {
                 place: new.place,
@@ -84,7 +84,7 @@ pub extern "C" fn feddurzai_region_reserve(
     ensures { spec.IsReserve region.old region.new blocks.old blocks.new len place.old place.new result }
 {
     if !is_region(region, blocks) {
-        return refused(Refusal::Region);
+        return refusal_status(Refusal::Region);
     }
     reserve_in(region, blocks, len, place)
 }
@@ -97,7 +97,7 @@ fn release_in(region: &mut FlatRegion, blocks: &mut [FlatLive], place: u64) -> i
     let count = region.count as usize;
     let (live, _) = blocks.split_at(count);
     match index_of(region.base, end_of(region), live, place) {
-        None => refused(Refusal::NotLive),
+        None => refusal_status(Refusal::NotLive),
         Some(index) => {
             take_block(blocks, count, index);
             region.count -= 1;
@@ -118,7 +118,7 @@ pub extern "C" fn feddurzai_region_release(
     ensures { spec.IsRelease region.old region.new blocks.old blocks.new place result }
 {
     if !is_region(region, blocks) {
-        return refused(Refusal::Region);
+        return refusal_status(Refusal::Region);
     }
     release_in(region, blocks, place)
 }
@@ -155,11 +155,11 @@ fn fill_in(
 {
     let (live, _) = blocks.split_at(region.count as usize);
     let Some(index) = index_of(region.base, end_of(region), live, place) else {
-        return refused(Refusal::NotLive);
+        return refusal_status(Refusal::NotLive);
     };
     let block = live[index];
     if bytes.len() as u64 > block.len {
-        return refused(Refusal::Room);
+        return refusal_status(Refusal::Room);
     }
     let start = block.place - region.base;
     write_block(image, start as usize, block.len as usize, bytes);
@@ -182,10 +182,10 @@ pub extern "C" fn feddurzai_region_fill(
     ensures { spec.IsFill region.now blocks.now place bytes.now image.old image.new result }
 {
     if !is_region(region, blocks) {
-        return refused(Refusal::Region);
+        return refusal_status(Refusal::Region);
     }
     if region.size > image.len() as u64 {
-        return refused(Refusal::Room);
+        return refusal_status(Refusal::Room);
     }
     fill_in(region, blocks, place, bytes, image)
 }

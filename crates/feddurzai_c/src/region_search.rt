@@ -2,7 +2,7 @@
 
 ghost use Rattle.std.specs.Prelude.{◌≡◌, ◌+◌, ◌<◌, ◌≤◌, ◌^◌, IsTrue, is_none, IfSome, IfNone, length};
 ghost use Rattle.code_region.specs.Opening.{open_refusal};
-ghost use Rattle.code_region.specs.State.{rounded as rounded_len};
+ghost use Rattle.code_region.specs.State.{len_in_units};
 ghost use Rattle.feddurzai_c.specs.Regions as spec;
 ghost use Rattle.feddurzai_c.specs.RegionSearch as search_spec;
 
@@ -77,7 +77,7 @@ pub(crate) fn is_region(region: &FlatRegion, blocks: &[FlatLive]) -> bool
 /// A length rounded up to a multiple of the unit; one that rounds to no `u64` counts as the last multiple.
 #[tactic(auto, unfolding(code_region::specs::State::rounded))]
 pub(crate) fn round_up(len: u64) -> u64
-    ensures { result ≡ rounded_len len }
+    ensures { result ≡ len_in_units len }
 {
     if len > LAST_UNIT {
         LAST_UNIT
@@ -92,7 +92,7 @@ pub(crate) fn new_place(base: u64, limit: u128, live: &[FlatLive], needed: u64) 
     requires end { limit ≤ 2 ^ 64 }
     requires some { 0 < needed }
     ensures found { IfSome result (λ new. search_spec.IsNewPlace base limit needed live.now new.index new.place) }
-    ensures none { IfNone result (search_spec.IsFull base limit needed live.now) }
+    ensures none { IfNone result (search_spec.IsRegionFull base limit needed live.now) }
 {
     let mut from = u128::from(base);
     'live: for k in 0..live.len() {

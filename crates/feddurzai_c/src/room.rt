@@ -3,7 +3,7 @@
 ghost use Rattle.std.specs.Prelude.{◌≡◌, ◌+◌, ◌<◌, ◌≤◌, ◌∷◌, ◌++◌, ◌^◌, length, drop, pos, Ok, Err};
 ghost use Rattle.feddurzai_c.specs.Answers as spec;
 
-use crate::refusal::{Refusal, refused};
+use crate::refusal::{Refusal, refusal_status};
 
 /// A number of bytes as it is told.
 pub(crate) fn count_answer(n: usize) -> i32
@@ -25,11 +25,11 @@ pub(crate) fn write_front(out: &mut [u8], bytes: &[u8])
 #[tactic(auto, unfolding(crate::specs::Answers::bytes_within))]
 pub(crate) fn put_bytes(out: &mut [u8], bytes: &[u8]) -> i32
     requires { length bytes.now < 2 ^ 31 }
-    ensures said { result ≡ spec.said (spec.bytes_within (length out.old) (Ok bytes.now)) }
+    ensures said { result ≡ spec.count_or_refusal (spec.bytes_within (length out.old) (Ok bytes.now)) }
     ensures left { out.new ≡ spec.with_bytes out.old (spec.bytes_within (length out.old) (Ok bytes.now)) }
 {
     if bytes.len() > out.len() {
-        return refused(Refusal::Room);
+        return refusal_status(Refusal::Room);
     }
     write_front(out, bytes);
     count_answer(bytes.len())
@@ -48,11 +48,11 @@ pub(crate) fn write_text(out: &mut [u8], text: &[u8])
 #[tactic(auto, unfolding(crate::specs::Answers::text_within))]
 pub(crate) fn put_text(out: &mut [u8], text: &[u8]) -> i32
     requires { length text.now < 2 ^ 31 }
-    ensures said { result ≡ spec.said (spec.text_within (length out.old) (Ok text.now)) }
+    ensures said { result ≡ spec.count_or_refusal (spec.text_within (length out.old) (Ok text.now)) }
     ensures left { out.new ≡ spec.with_text out.old (spec.text_within (length out.old) (Ok text.now)) }
 {
     if text.len() >= out.len() {
-        return refused(Refusal::Room);
+        return refusal_status(Refusal::Room);
     }
     write_text(out, text);
     count_answer(text.len())

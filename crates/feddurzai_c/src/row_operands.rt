@@ -7,7 +7,7 @@ ghost use Rattle.feddurzai_c.specs.Info.{access_number};
 ghost use Rattle.feddurzai_c.specs.RowOperands as spec;
 
 use crate::info::access_number;
-use crate::refusal::{Refusal, refused};
+use crate::refusal::{Refusal, refusal_status};
 use crate::room::put_text;
 use crate::rows::code_numbered;
 use opcode_rows::{ROWS, row_of};
@@ -112,7 +112,7 @@ fn kind_word(kind: OpKind) -> &'static [u8]
 #[tactic(auto, unfolding(crate::specs::RowOperands::kind_at))]
 fn kind_at(code: Code, n: usize) -> OpKind
     requires { code.0 < ROWS }
-    ensures { result ≡ spec.kind_at code.0 n }
+    ensures { result ≡ spec.row_kind_at code.0 n }
 {
     row_of(code).ops.get(n).copied().unwrap_or(OpKind::Absent)
 }
@@ -158,7 +158,7 @@ pub extern "C" fn feddurzai_row_operand(
     access: &mut u8,
     kind: &mut [u8],
 ) -> i32
-    ensures said { result ≡ said.said (said.text_within (length kind.old) (spec.kind_answer code index)) }
+    ensures said { result ≡ said.count_or_refusal (said.text_within (length kind.old) (spec.kind_answer code index)) }
     ensures left { kind.new ≡ said.with_text kind.old (said.text_within (length kind.old) (spec.kind_answer code index)) }
     ensures access { access.new ≡ spec.access_left access.old (said.text_within (length kind.old) (spec.kind_answer code index)) (access_number (access_of code index)) }
 {
@@ -169,6 +169,6 @@ pub extern "C" fn feddurzai_row_operand(
             }
             put_text(kind, told.word)
         }
-        Err(why) => refused(why),
+        Err(why) => refusal_status(why),
     }
 }

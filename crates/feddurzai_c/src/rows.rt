@@ -3,7 +3,7 @@
 ghost use Rattle.std.specs.Prelude.{◌≡◌, ◌<◌, length, IfSome, IsNone, ◌↔◌, ◌≤◌};
 ghost use Rattle.feddurzai_c.specs.Answers as spec;
 
-use crate::refusal::{Refusal, refused};
+use crate::refusal::{Refusal, refusal_status};
 use crate::room::put_text;
 use opcode_rows::ROWS;
 use row_lines::notation_of;
@@ -28,11 +28,11 @@ pub(crate) fn code_numbered(n: u32) -> Option<Code>
 #[tactic(auto, unfolding(crate::specs::Answers::name_answer, crate::specs::Answers::text_within))]
 #[unsafe(no_mangle)]
 pub extern "C" fn feddurzai_name(code: u32, out: &mut [u8]) -> i32
-    ensures said { result ≡ spec.said (spec.text_within (length out.old) (spec.name_answer code)) }
+    ensures said { result ≡ spec.count_or_refusal (spec.text_within (length out.old) (spec.name_answer code)) }
     ensures left { out.new ≡ spec.with_text out.old (spec.text_within (length out.old) (spec.name_answer code)) }
 {
     match code_numbered(code) {
-        None => refused(Refusal::Code),
+        None => refusal_status(Refusal::Code),
         Some(code) => put_text(out, opcode_rows::name(code).as_bytes()),
     }
 }
@@ -44,11 +44,11 @@ pub extern "C" fn feddurzai_name(code: u32, out: &mut [u8]) -> i32
 #[tactic(auto, unfolding(crate::specs::Answers::notation_answer, crate::specs::Answers::text_within))]
 #[unsafe(no_mangle)]
 pub extern "C" fn feddurzai_notation(code: u32, out: &mut [u8]) -> i32
-    ensures said { result ≡ spec.said (spec.text_within (length out.old) (spec.notation_answer code)) }
+    ensures said { result ≡ spec.count_or_refusal (spec.text_within (length out.old) (spec.notation_answer code)) }
     ensures left { out.new ≡ spec.with_text out.old (spec.text_within (length out.old) (spec.notation_answer code)) }
 {
     match code_numbered(code) {
-        None => refused(Refusal::Code),
+        None => refusal_status(Refusal::Code),
         Some(code) => put_text(out, &notation_of(code)),
     }
 }
@@ -58,13 +58,13 @@ pub extern "C" fn feddurzai_notation(code: u32, out: &mut [u8]) -> i32
 /// `Name` exactly where the name has no more than `n` rows, or is no UTF-8.
 #[unsafe(no_mangle)]
 pub extern "C" fn feddurzai_code_of(name: &[u8], n: usize) -> i32
-    ensures { spec.IsCodeOf name.now n result }
+    ensures { spec.IsCodeNamed name.now n result }
 {
     let Ok(name) = from_utf8(name) else {
-        return refused(Refusal::Name);
+        return refusal_status(Refusal::Name);
     };
     match opcode_rows::code_of(name, n) {
         Some(code) => i32::from(code.0),
-        None => refused(Refusal::Name),
+        None => refusal_status(Refusal::Name),
     }
 }

@@ -8,7 +8,7 @@ ghost use Rattle.feddurzai_c.specs.Steps as spec;
 
 use crate::flat::FlatStep;
 use crate::numbers::bits_numbered;
-use crate::refusal::{Refusal, refused};
+use crate::refusal::{Refusal, refusal_status};
 use crate::room::{count_answer, put_bytes};
 use block_encoder::{Moved, Placed};
 use decoder::{DecodeError, decode_in};
@@ -165,12 +165,12 @@ fn report_of(answer: &Result<StepCode, StepRefusal>, place: u64) -> FlatStep
 #[tactic(auto, unfolding(crate::specs::Answers::bytes_within))]
 fn put_step(answer: &Result<StepCode, StepRefusal>, out: &mut [u8]) -> i32
     requires { IfOk answer.now (λ code. spec.IsShortStep code) }
-    ensures said { result ≡ answers.said (answers.bytes_within (length out.old) (spec.step_bytes answer.now)) }
+    ensures said { result ≡ answers.count_or_refusal (answers.bytes_within (length out.old) (spec.step_bytes answer.now)) }
     ensures left { out.new ≡ answers.with_bytes out.old (answers.bytes_within (length out.old) (spec.step_bytes answer.now)) }
 {
     match answer {
         Ok(code) => put_bytes(out, code.moved.bytes()),
-        Err(why) => refused(step_refusal(*why)),
+        Err(why) => refusal_status(step_refusal(*why)),
     }
 }
 
@@ -205,7 +205,7 @@ fn step_len_in(bits: Bits, ip: u64, bytes: &[u8], base: u64) -> i32
 {
     match item_in(bits, ip, bytes) {
         Ok(item) => count_answer(step_len(bits, item, base) as usize),
-        Err(why) => refused(code_refusal(why)),
+        Err(why) => refusal_status(code_refusal(why)),
     }
 }
 
@@ -216,7 +216,7 @@ pub extern "C" fn feddurzai_step_len(bits: u32, ip: u64, bytes: &[u8], base: u64
     ensures { spec.IsStepLen (bits_numbered bits) ip bytes.now base result }
 {
     match bits_numbered(bits) {
-        None => refused(Refusal::Mode),
+        None => refusal_status(Refusal::Mode),
         Some(bits) => step_len_in(bits, ip, bytes, base),
     }
 }

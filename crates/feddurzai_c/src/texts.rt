@@ -6,7 +6,7 @@ ghost use Rattle.feddurzai_c.specs.Answers as spec;
 
 use crate::flat::FlatInstr;
 use crate::numbers::{bits_numbered, style_numbered};
-use crate::refusal::{Refusal, refused};
+use crate::refusal::{Refusal, refusal_status};
 use crate::room::put_text;
 use crate::unflatten::instr_back_into;
 use decoder::UNREAD;
@@ -44,7 +44,7 @@ pub(crate) fn append_style_text(out: &mut Text, style: Style, bits: Bits, instr:
 #[inline(always)]
 fn put_style_text(style: Style, bits: Bits, instr: &Instr, out: &mut [u8]) -> i32
     requires { IsTrue (is_well_formed instr.now) }
-    ensures said { result ≡ spec.said (spec.text_within (length out.old) (Ok (spec.style_text style bits instr.now))) }
+    ensures said { result ≡ spec.count_or_refusal (spec.text_within (length out.old) (Ok (spec.style_text style bits instr.now))) }
     ensures left { out.new ≡ spec.with_text out.old (spec.text_within (length out.old) (Ok (spec.style_text style bits instr.now))) }
 {
     let mut text = Text::new();
@@ -59,19 +59,19 @@ fn put_style_text(style: Style, bits: Bits, instr: &Instr, out: &mut [u8]) -> i3
 #[tactic(auto, unfolding(crate::specs::Answers::text_of, crate::specs::Answers::text_within))]
 #[unsafe(no_mangle)]
 pub extern "C" fn feddurzai_text(bits: u32, syntax: u32, instr: &FlatInstr, out: &mut [u8]) -> i32
-    ensures said { result ≡ spec.said (spec.text_within (length out.old) (spec.text_answer bits syntax instr.now)) }
+    ensures said { result ≡ spec.count_or_refusal (spec.text_within (length out.old) (spec.text_answer bits syntax instr.now)) }
     ensures left { out.new ≡ spec.with_text out.old (spec.text_within (length out.old) (spec.text_answer bits syntax instr.now)) }
 {
     let Some(bits) = bits_numbered(bits) else {
-        return refused(Refusal::Mode);
+        return refusal_status(Refusal::Mode);
     };
     let Some(style) = style_numbered(syntax) else {
-        return refused(Refusal::Syntax);
+        return refusal_status(Refusal::Syntax);
     };
     let mut read = UNREAD.instr;
     match instr_back_into(instr, &mut read) {
-        None => refused(Refusal::Instr),
+        None => refusal_status(Refusal::Instr),
         Some(()) if well_formed(&read) => put_style_text(style, bits, &read, out),
-        Some(()) => refused(Refusal::Form),
+        Some(()) => refusal_status(Refusal::Form),
     }
 }

@@ -15,7 +15,7 @@ use x86_values::{Code, Instr, Mem, Operand};
 /// Writes the register operand of a struct to `out`. Where it is none, nothing is said of what stands there.
 #[inline(always)]
 fn register_back_into(f: &FlatOperand, out: &mut Operand) -> Option<()>
-    ensures { spec.register_operand (numbers.register_numbered f.now.reg_class f.now.reg_number) ≡ spec.placed result out.new }
+    ensures { spec.register_operand (numbers.register_numbered f.now.reg_class f.now.reg_number) ≡ spec.written_value result out.new }
 {
     *out = Operand::Reg(register_numbered(f.reg_class, f.reg_number)?);
     Some(())
@@ -24,8 +24,8 @@ fn register_back_into(f: &FlatOperand, out: &mut Operand) -> Option<()>
 /// Writes the address of a struct to `out`. Where it is none, nothing is said of what stands there.
 #[inline(always)]
 fn memory_back_into(f: &FlatOperand, out: &mut Operand) -> Option<()>
-    ensures { spec.memory_of f.now.scale f.now.value (numbers.base_numbered f.now.reg_class f.now.reg_number)
-        (numbers.base_numbered f.now.index_class f.now.index_number) (numbers.disp_numbered f.now.disp_bits) ≡ spec.placed result out.new }
+    ensures { spec.memory_from_fields f.now.scale f.now.value (numbers.base_numbered f.now.reg_class f.now.reg_number)
+        (numbers.base_numbered f.now.index_class f.now.index_number) (numbers.disp_numbered f.now.disp_bits) ≡ spec.written_value result out.new }
 {
     let base = base_numbered(f.reg_class, f.reg_number)?;
     let index = base_numbered(f.index_class, f.index_number)?;
@@ -46,7 +46,7 @@ fn memory_back_into(f: &FlatOperand, out: &mut Operand) -> Option<()>
 #[inline(never)]
 #[tactic(auto, unfolding(crate::specs::Back::operand_back))]
 fn present_back_into(f: &FlatOperand, out: &mut Operand) -> Option<()>
-    ensures { spec.operand_back f.now ≡ spec.placed result out.new }
+    ensures { spec.operand_back f.now ≡ spec.written_value result out.new }
 {
     match f.kind {
         0 => {
@@ -78,7 +78,7 @@ fn present_back_into(f: &FlatOperand, out: &mut Operand) -> Option<()>
 #[inline(always)]
 #[tactic(auto, unfolding(crate::specs::Back::operand_back))]
 fn operand_back_into(f: &FlatOperand, out: &mut Operand) -> Option<()>
-    ensures { spec.operand_back f.now ≡ spec.placed result out.new }
+    ensures { spec.operand_back f.now ≡ spec.written_value result out.new }
 {
     if f.kind == 0 {
         *out = Operand::Absent;
@@ -94,7 +94,7 @@ fn operand_back_into(f: &FlatOperand, out: &mut Operand) -> Option<()>
 #[inline(always)]
 #[tactic(auto, unfolding(crate::specs::Back::instr_back, crate::specs::Back::operands_back))]
 pub(crate) fn instr_back_into(f: &FlatInstr, out: &mut Instr) -> Option<()>
-    ensures { spec.instr_back f.now ≡ spec.placed result out.new }
+    ensures { spec.instr_back f.now ≡ spec.written_value result out.new }
 {
     operand_back_into(&f.op0, &mut out.ops[0])?;
     operand_back_into(&f.op1, &mut out.ops[1])?;

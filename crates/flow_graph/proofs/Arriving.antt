@@ -4,7 +4,7 @@ use Rattle.std.specs.List.{Contains}
 use Rattle.std.proofs.lemmas.Bool.{cases_eq}
 use Rattle.flow_graph.specs.Control.{CodeBytes, IsSuccessor, EndsAt}
 use Rattle.flow_graph.specs.ReachedFrom.{ReachesFrom, step, FollowsFrom}
-use Rattle.flow_graph.specs.Marks.{marked, queued}
+use Rattle.flow_graph.specs.Marks.{marks_after, order_after}
 use Rattle.flow_graph.specs.Walks.{Edges, FollowsSoFar, IsOrder, IsWalk}
 use Rattle.flow_graph.proofs.Ordering.{if_zero, if_some, at_same, at_other, stays, each_new, order_more, order_again}
 
@@ -196,18 +196,18 @@ module _ (code : CodeBytes) (entries marks order : List ℕ) (gone : Edges) (w :
     }
 
   pub arrives : (first : ℕ) → IsFirstMark code entries p q first →
-      IsWalk code entries (marked marks q first) (queued marks order q) (WithEdge gone p q)
+      IsWalk code entries (marks_after marks q first) (order_after marks order q) (WithEdge gone p q)
   arrives first right =
       elim (cases_eq (get_or marks q 0) 0) [
         | inl e ↦
             let m = if_zero (get_or marks q 0) first 1 e in
             let o = if_zero (get_or marks q 0) (order ++ q ∷ []) order e in
-            subst (λ xs. IsWalk code entries (marked marks q first) xs (WithEdge gone p q)) (sym o)
+            subst (λ xs. IsWalk code entries (marks_after marks q first) xs (WithEdge gone p q)) (sym o)
             (subst (λ n. IsWalk code entries (set marks q n) (order ++ q ∷ []) (WithEdge gone p q)) (sym m) (walk_new e first right))
         | inr ne ↦
             let h : 0 < get_or marks q 0 = omega arith in
             let m = if_some (get_or marks q 0) first 1 h in
             let o = if_some (get_or marks q 0) (order ++ q ∷ []) order h in
-            subst (λ xs. IsWalk code entries (marked marks q first) xs (WithEdge gone p q)) (sym o)
+            subst (λ xs. IsWalk code entries (marks_after marks q first) xs (WithEdge gone p q)) (sym o)
             (subst (λ n. IsWalk code entries (set marks q n) order (WithEdge gone p q)) (sym m) (walk_again h))
       ]

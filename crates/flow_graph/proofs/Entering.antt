@@ -5,8 +5,8 @@ use Rattle.std.specs.List.{count_by, Contains}
 use Rattle.std.proofs.lemmas.Bool.{cases_lt, cases_eq, lt-ltb, le-ltb}
 use Rattle.std.proofs.lemmas.List.{length-replicate, get_or_default}
 use Rattle.std.proofs.lemmas.List.Sums.{sum_by-cons}
-use Rattle.flow_graph.specs.Marks.{marked, queued}
-use Rattle.flow_graph.specs.Walks.{entered_marks, entered_order, IsOrder, IsEntered}
+use Rattle.flow_graph.specs.Marks.{marks_after, order_after}
+use Rattle.flow_graph.specs.Walks.{entered_marks, entered_order, IsOrder, IsStarted}
 use Rattle.flow_graph.proofs.Ordering.{if_zero, if_some, at_same, at_other, stays, order_more, order_again}
 
 zero_at : (n k : ℕ) → get_or {A = ℕ} (replicate n 0) k 0 ≡ 0
@@ -20,10 +20,10 @@ count_zeros (suc n) =
     let e = sum_by-cons (λ m. cond (eqb m 0) 1 0) 0 (replicate n 0) in omega (arith, e, count_zeros n)
 
 -- **nothing is marked before the first**
-pub enters_none : (entries : List ℕ) (count : ℕ) (marks order : List ℕ) → marks ≡ replicate count 0 → order ≡ [] → IsEntered entries count 0 marks order
+pub enters_none : (entries : List ℕ) (count : ℕ) (marks order : List ℕ) → marks ≡ replicate count 0 → order ≡ [] → IsStarted entries count 0 marks order
 enters_none entries count marks order m o =
-    subst (λ xs. IsEntered entries count 0 xs order) (sym m)
-    (subst (IsEntered entries count 0 (replicate count 0)) (sym o) (record {
+    subst (λ xs. IsStarted entries count 0 xs order) (sym m)
+    (subst (IsStarted entries count 0 (replicate count 0)) (sym o) (record {
       len = length-replicate {A = ℕ} count 0;
       once = record {
         unmarked = omega (arith, count_zeros count, length-replicate {A = ℕ} count 0);
@@ -35,7 +35,7 @@ enters_none entries count marks order m o =
       only = λ q h. absurd (omega (arith, zero_at count q));
     }))
 
-module _ (entries : List ℕ) (count n : ℕ) (marks order : List ℕ) (w : IsEntered entries count n marks order) (q : ℕ) (there : n < length entries)
+module _ (entries : List ℕ) (count n : ℕ) (marks order : List ℕ) (w : IsStarted entries count n marks order) (q : ℕ) (there : n < length entries)
     (is : q ≡ get_or entries n 0) where
   one : 0 < 1
   one = omega arith
@@ -66,29 +66,29 @@ module _ (entries : List ℕ) (count n : ℕ) (marks order : List ℕ) (w : IsEn
           | inr ne ↦ let old = w.only t (omega (arith, other t ne)) in (other t ne ∙ old.0, old.1, old.2)
         ]
 
-    entered_by : (longer : List ℕ) → IsOrder (set marks q 1) longer → IsEntered entries count (n + 1) (set marks q 1) longer
+    entered_by : (longer : List ℕ) → IsOrder (set marks q 1) longer → IsStarted entries count (n + 1) (set marks q 1) longer
     entered_by longer once = record { len = length-set marks q 1 ∙ w.len; once = once; entry = entry_more; only = only_more }
 
-    entered_inside : IsEntered entries count (n + 1) (marked marks q 1) (queued marks order q)
+    entered_inside : IsStarted entries count (n + 1) (marks_after marks q 1) (order_after marks order q)
     entered_inside =
         elim (cases_eq (get_or marks q 0) 0) [
           | inl e ↦
               let o = if_zero (get_or marks q 0) (order ++ q ∷ []) order e in
               let m = if_zero (get_or marks q 0) 1 1 e in
-              subst (λ xs. IsEntered entries count (n + 1) (marked marks q 1) xs) (sym o)
-              (subst (λ x. IsEntered entries count (n + 1) (set marks q x) (order ++ q ∷ [])) (sym m)
+              subst (λ xs. IsStarted entries count (n + 1) (marks_after marks q 1) xs) (sym o)
+              (subst (λ x. IsStarted entries count (n + 1) (set marks q x) (order ++ q ∷ [])) (sym m)
               (entered_by (order ++ q ∷ []) (order_more marks order w.once q inside 1 one e)))
           | inr ne ↦
               let h : 0 < get_or marks q 0 = omega arith in
               let o = if_some (get_or marks q 0) (order ++ q ∷ []) order h in
               let m = if_some (get_or marks q 0) 1 1 h in
-              subst (λ xs. IsEntered entries count (n + 1) (marked marks q 1) xs) (sym o)
-              (subst (λ x. IsEntered entries count (n + 1) (set marks q x) order) (sym m)
+              subst (λ xs. IsStarted entries count (n + 1) (marks_after marks q 1) xs) (sym o)
+              (subst (λ x. IsStarted entries count (n + 1) (set marks q x) order) (sym m)
               (entered_by order (order_again marks order w.once q inside 1 one h)))
         ]
 
   -- an offset at which there is no byte adds nothing
-  entered_outside : length marks ≤ q → IsEntered entries count (n + 1) marks order
+  entered_outside : length marks ≤ q → IsStarted entries count (n + 1) marks order
   entered_outside far = record { len = w.len; once = w.once; entry = entry; only = w.only }
     where
       entry : (k : ℕ) → k < n + 1 → get_or entries k 0 < count → 0 < get_or marks (get_or entries k 0) 0
@@ -102,13 +102,13 @@ module _ (entries : List ℕ) (count n : ℕ) (marks order : List ℕ) (w : IsEn
 
   -- **one first offset more**
   pub enters_more : (marks' order' : List ℕ) → marks' ≡ entered_marks marks q → order' ≡ entered_order marks order q →
-      IsEntered entries count (n + 1) marks' order'
+      IsStarted entries count (n + 1) marks' order'
   enters_more marks' order' m o =
-      subst (λ xs. IsEntered entries count (n + 1) xs order') (sym m)
-      (subst (IsEntered entries count (n + 1) (entered_marks marks q)) (sym o) (elim (cases_lt q (length marks)) [
+      subst (λ xs. IsStarted entries count (n + 1) xs order') (sym m)
+      (subst (IsStarted entries count (n + 1) (entered_marks marks q)) (sym o) (elim (cases_lt q (length marks)) [
         | inl inside ↦ subst Next (sym (lt-ltb q (length marks) inside)) (entered_inside inside)
         | inr far ↦ subst Next (sym (le-ltb q (length marks) far)) (entered_outside far)
       ]))
     where
       Next : Bool → Type 0
-      Next b = IsEntered entries count (n + 1) (if b then marked marks q 1 else marks) (if b then queued marks order q else order)
+      Next b = IsStarted entries count (n + 1) (if b then marks_after marks q 1 else marks) (if b then order_after marks order q else order)

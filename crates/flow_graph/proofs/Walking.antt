@@ -8,8 +8,8 @@ use Rattle.flow_graph.specs.declared.exits.Exits.{Exits}
 use Rattle.flow_graph.specs.Control.{CodeBytes, IsSuccessor, EndsAt}
 use Rattle.flow_graph.specs.Exits.{IsExit, AreExits}
 use Rattle.flow_graph.specs.ReachedFrom.{ReachesFrom, start, step, FollowsFrom}
-use Rattle.flow_graph.specs.Marks.{marked, queued, AreMarks, FollowsByMark}
-use Rattle.flow_graph.specs.Walks.{Edges, IsTreated, IsTreatedOrNext, mark_of_end, next_marks, next_order, IsEntered, FollowsSoFar, IsWalk, Extends}
+use Rattle.flow_graph.specs.Marks.{marks_after, order_after, AreMarks, FollowsByMark}
+use Rattle.flow_graph.specs.Walks.{Edges, IsTreated, IsTreatedOrNext, mark_of_end, next_marks, next_order, IsStarted, FollowsSoFar, IsWalk, Extends}
 use Rattle.flow_graph.proofs.Ordering.{if_zero, if_some}
 use Rattle.flow_graph.proofs.Arriving.{WithEdge, IsFirstMark, no_follower, follower, arrives}
 
@@ -47,7 +47,7 @@ nothing_treated code order p q t = let e = t.early in omega arith
 
 -- **a walk that stands at all first offsets is one**
 module _ (code : CodeBytes) (entries : List ℕ) (count : ℕ) (e : count ≡ length code.bytes) (marks order : List ℕ)
-    (w : IsEntered entries count (length entries) marks order) where
+    (w : IsStarted entries count (length entries) marks order) where
   entry_marked : (q : ℕ) → Contains entries q → q < length code.bytes → get_or marks q 0 ≡ 1
   entry_marked q has h =
       let at : get_or entries has.0 0 ≡ q = get_or_default entries has.0 0 q has.1 ∙ has.2 in
@@ -107,10 +107,10 @@ module _ (code : CodeBytes) (entries order : List ℕ) (turn p : ℕ) (here : p 
 
   -- an arrival at the end of the instruction
   goes_to_end : (marks : List ℕ) → IsWalk code entries marks order (IsTreated code order turn) → 0 < exits.next →
-      IsWalk code entries (marked marks (p + exits.next) (mark_of_end exits.target exits.next)) (queued marks order (p + exits.next)) (IsTreatedOrNext code order turn p exits)
+      IsWalk code entries (marks_after marks (p + exits.next) (mark_of_end exits.target exits.next)) (order_after marks order (p + exits.next)) (IsTreatedOrNext code order turn p exits)
   goes_to_end marks w some =
       let q : ℕ = p + exits.next in
-      walk_by code entries (marked marks q (mark_of_end exits.target exits.next)) (queued marks order q) (WithEdge (IsTreated code order turn) p q)
+      walk_by code entries (marks_after marks q (mark_of_end exits.target exits.next)) (order_after marks order q) (WithEdge (IsTreated code order turn) p q)
       (IsTreatedOrNext code order turn p exits) there back
       (arrives code entries marks order (IsTreated code order turn) w p q (subst (ReachesFrom code entries) (sym here) (w.reached turn before)) (right.next some).0
       (not_treated marks w q) (mark_of_end exits.target exits.next) (end_mark exits.target refl some))
@@ -137,8 +137,8 @@ module _ (code : CodeBytes) (entries order : List ℕ) (turn p : ℕ) (here : p 
       IsWalk code entries (next_marks marks p exits) (next_order marks order p exits) (IsTreatedOrNext code order turn p exits)
   goes_next marks w =
       let Next : Bool → Type 0 =
-      λ b. IsWalk code entries (if b then marked marks (p + exits.next) (mark_of_end exits.target exits.next) else marks)
-      (if b then queued marks order (p + exits.next) else order) (IsTreatedOrNext code order turn p exits) in
+      λ b. IsWalk code entries (if b then marks_after marks (p + exits.next) (mark_of_end exits.target exits.next) else marks)
+      (if b then order_after marks order (p + exits.next) else order) (IsTreatedOrNext code order turn p exits) in
       elim (cases_lt 0 exits.next) [
         | inl some ↦ subst Next (sym (lt-ltb 0 exits.next some)) (goes_to_end marks w some)
         | inr none ↦ subst Next (sym (le-ltb 0 exits.next none)) (stays_here marks w none)
@@ -198,7 +198,7 @@ extends_on a b c first second =
     record { longer = omega arith; same = λ k h. second.same k (omega arith) ∙ first.same k h }
 
 -- the order is longer by what was arrived at
-extends_queued : (marks order : List ℕ) (q : ℕ) → Extends order (queued marks order q)
+extends_queued : (marks order : List ℕ) (q : ℕ) → Extends order (order_after marks order q)
 extends_queued marks order q =
     elim (cases_eq (get_or marks q 0) 0) [
       | inl e ↦
@@ -218,13 +218,13 @@ extends_next marks order p exits =
     ]
   where
     Next : Bool → Type 0
-    Next b = Extends order (if b then queued marks order (p + exits.next) else order)
+    Next b = Extends order (if b then order_after marks order (p + exits.next) else order)
 
 pub extends_without_target : (marks order : List ℕ) (p : ℕ) (exits : Exits) (order1 : List ℕ) → order1 ≡ next_order marks order p exits → Extends order order1
 extends_without_target marks order p exits order1 e = subst (Extends order) (sym e) (extends_next marks order p exits)
 
 pub extends_with_target : (marks order : List ℕ) (p : ℕ) (exits : Exits) (marks1 order1 order2 : List ℕ) (target : ℕ) →
-    order1 ≡ next_order marks order p exits → order2 ≡ queued marks1 order1 target → Extends order order2
+    order1 ≡ next_order marks order p exits → order2 ≡ order_after marks1 order1 target → Extends order order2
 extends_with_target marks order p exits marks1 order1 order2 target first second =
     extends_on order order1 order2 (extends_without_target marks order p exits order1 first)
     (subst (Extends order1) (sym second) (extends_queued marks1 order1 target))
@@ -244,10 +244,10 @@ module _ (code : CodeBytes) (entries order : List ℕ) (turn p : ℕ) (here : p 
     (right : AreExits code p exits) (marks : List ℕ) (w : IsWalk code entries marks order (IsTreated code order turn)) where
   goes_to_target : (target : ℕ) → exits.target ≡ Some target → (marks1 longer : List ℕ) → Extends order longer →
       IsWalk code entries marks1 longer (IsTreatedOrNext code order turn p exits) →
-      IsWalk code entries (marked marks1 target 1) (queued marks1 longer target) (IsTreated code (queued marks1 longer target) (turn + 1))
+      IsWalk code entries (marks_after marks1 target 1) (order_after marks1 longer target) (IsTreated code (order_after marks1 longer target) (turn + 1))
   goes_to_target target e marks1 longer more w1 =
-      walk_by code entries (marked marks1 target 1) (queued marks1 longer target) (WithEdge (IsTreatedOrNext code order turn p exits) p target)
-      (IsTreated code (queued marks1 longer target) (turn + 1)) there back
+      walk_by code entries (marks_after marks1 target 1) (order_after marks1 longer target) (WithEdge (IsTreatedOrNext code order turn p exits) p target)
+      (IsTreated code (order_after marks1 longer target) (turn + 1)) there back
       (arrives code entries marks1 longer (IsTreatedOrNext code order turn p exits) w1 p target
       (subst (ReachesFrom code entries) (sym here) (w.reached turn before)) (right.target target e).0 fresh 1
       (no_follower refl (λ f. (right.target target e).1 f.ends)))
@@ -256,13 +256,13 @@ module _ (code : CodeBytes) (entries order : List ℕ) (turn p : ℕ) (here : p 
       fresh (inl g) = not_treated code entries order turn p here before exits right marks w target g
       fresh (inr g) = (right.target target e).1 (subst (EndsAt code p) (sym g.2) (right.next g.1).1)
 
-      all : Extends order (queued marks1 longer target)
-      all = extends_on order longer (queued marks1 longer target) more (extends_queued marks1 longer target)
+      all : Extends order (order_after marks1 longer target)
+      all = extends_on order longer (order_after marks1 longer target) more (extends_queued marks1 longer target)
 
-      there : (r t : ℕ) → WithEdge (IsTreatedOrNext code order turn p exits) p target r t → IsTreated code (queued marks1 longer target) (turn + 1) r t
-      there r t (inl g) = next_kept code entries order turn p here before exits right (queued marks1 longer target) all r t g
+      there : (r t : ℕ) → WithEdge (IsTreatedOrNext code order turn p exits) p target r t → IsTreated code (order_after marks1 longer target) (turn + 1) r t
+      there r t (inl g) = next_kept code entries order turn p here before exits right (order_after marks1 longer target) all r t g
       there r t (inr g) =
-          own code entries order turn p here before exits right (queued marks1 longer target) all r t g.0
+          own code entries order turn p here before exits right (order_after marks1 longer target) all r t g.0
           (subst (IsSuccessor code p) (sym g.1) (right.target target e).0)
 
       same_target : (x y : ℕ) → Some x ≡ Some y → x ≡ y
@@ -273,12 +273,12 @@ module _ (code : CodeBytes) (entries order : List ℕ) (turn p : ℕ) (here : p 
       back_from r t (inr (i, inl h)) = inl (inr (i, h.0, h.1))
       back_from r t (inr (i, inr h)) = inr (i, same_target t target (sym h ∙ e))
 
-      back : (r t : ℕ) → IsTreated code (queued marks1 longer target) (turn + 1) r t → WithEdge (IsTreatedOrNext code order turn p exits) p target r t
-      back r t g = back_from r t (parted code entries order turn p here before exits right (queued marks1 longer target) all r t g)
+      back : (r t : ℕ) → IsTreated code (order_after marks1 longer target) (turn + 1) r t → WithEdge (IsTreatedOrNext code order turn p exits) p target r t
+      back r t g = back_from r t (parted code entries order turn p here before exits right (order_after marks1 longer target) all r t g)
 
   -- **the walk behind a turn**, by its two arrivals
   pub turns_with_target : (target : ℕ) → exits.target ≡ Some target → (marks1 order1 marks2 order2 : List ℕ) → marks1 ≡ next_marks marks p exits →
-      order1 ≡ next_order marks order p exits → marks2 ≡ marked marks1 target 1 → order2 ≡ queued marks1 order1 target →
+      order1 ≡ next_order marks order p exits → marks2 ≡ marks_after marks1 target 1 → order2 ≡ order_after marks1 order1 target →
       IsWalk code entries marks2 order2 (IsTreated code order2 (turn + 1))
   turns_with_target target e marks1 order1 marks2 order2 m1 o1 m2 o2 =
       let first : IsWalk code entries marks1 order1 (IsTreatedOrNext code order turn p exits) =
@@ -286,7 +286,7 @@ module _ (code : CodeBytes) (entries order : List ℕ) (turn p : ℕ) (here : p 
       (subst (λ xs. IsWalk code entries (next_marks marks p exits) xs (IsTreatedOrNext code order turn p exits)) (sym o1)
       (goes_next code entries order turn p here before exits right marks w)) in
       let more : Extends order order1 = subst (Extends order) (sym o1) (extends_next marks order p exits) in
-      walk_after code entries (marked marks1 target 1) (queued marks1 order1 target) marks2 order2 (turn + 1) m2 o2
+      walk_after code entries (marks_after marks1 target 1) (order_after marks1 order1 target) marks2 order2 (turn + 1) m2 o2
       (goes_to_target target e marks1 order1 more first)
 
   pub turns_without_target : exits.target ≡ None → (marks1 order1 : List ℕ) → marks1 ≡ next_marks marks p exits →

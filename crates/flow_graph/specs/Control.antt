@@ -25,8 +25,8 @@ abbrev pub IsReadIn : CodeBytes → ℕ → Reading → Type 0
 IsReadIn code offset reading = IsReadAt code.bits code.base offset (drop offset code.bytes) reading
 
 -- how far an address stands behind the first byte, in the mode
-abbrev pub offset_of : CodeBytes → ℕ → ℕ
-offset_of code target = distance code.bits code.base target
+abbrev pub code_offset : CodeBytes → ℕ → ℕ
+code_offset code target = distance code.bits code.base target
 
 -- control may go on behind the instruction
 unfoldable pub goes_on : Flow → Bool
@@ -62,7 +62,7 @@ pub record GoesToTarget (code : CodeBytes) (d : Decoded) (q : ℕ) : Type 0 wher
   pub flow : IsTrue (goes_to_target (flow_of d.instr.code.0))
   pub target : ℕ
   pub near : first_value near_value d.instr ≡ Some target
-  pub offset : q ≡ offset_of code target
+  pub offset : q ≡ code_offset code target
 
 -- control may go to q from an instruction at p, whether there is a byte or not
 abbrev pub Leads : CodeBytes → ℕ → Decoded → ℕ → Type 0

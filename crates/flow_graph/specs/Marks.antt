@@ -6,12 +6,12 @@ use Rattle.flow_graph.specs.Control.{CodeBytes}
 use Rattle.flow_graph.specs.ReachedFrom.{ReachesFrom, FollowsFrom}
 
 -- an arrival at q marks it by the first mark, and by 1 where another came before
-abbrev pub marked : List ℕ → ℕ → ℕ → List ℕ
-marked marks q first = slice_set marks q (if slice_index marks q == 0 then first else 1)
+abbrev pub marks_after : List ℕ → ℕ → ℕ → List ℕ
+marks_after marks q first = slice_set marks q (if slice_index marks q == 0 then first else 1)
 
 -- the first arrival at q puts it at the end of the order
-abbrev pub queued : List ℕ → List ℕ → ℕ → List ℕ
-queued marks order q = if slice_index marks q == 0 then order ++ q ∷ [] else order
+abbrev pub order_after : List ℕ → List ℕ → ℕ → List ℕ
+order_after marks order q = if slice_index marks q == 0 then order ++ q ∷ [] else order
 
 -- by its mark, q follows an instruction at p
 abbrev pub FollowsByMark : List ℕ → ℕ → ℕ → Type 0
@@ -39,6 +39,6 @@ pub record AreMarkedBelow (marks : List ℕ) (n : ℕ) (starts leaders : List �
   pub len : length leaders ≡ length starts
   pub ascending : IsStrictlyIncreasing starts
   pub below : (k : ℕ) → k < length starts → slice_index starts k < n
-  pub marked : (k : ℕ) → k < length starts → 0 < slice_index marks (slice_index starts k)
+  pub marks_after : (k : ℕ) → k < length starts → 0 < slice_index marks (slice_index starts k)
   pub complete : (q : ℕ) → q < n → 0 < slice_index marks q → Contains starts q
   pub led : (k : ℕ) → k < length starts → LeaderByMarks marks (slice_index leaders k) (slice_index starts k)

@@ -3,7 +3,7 @@ use Rattle.std.specs.Prelude.{◌≡◌, ℕ, ◌+◌, ◌<◌, ◌≤◌, List,
 use Rattle.std.specs.List.{count_by, Contains}
 use Rattle.flow_graph.specs.declared.exits.Exits.{Exits}
 use Rattle.flow_graph.specs.Control.{CodeBytes, IsSuccessor, EndsAt}
-use Rattle.flow_graph.specs.Marks.{marked, queued}
+use Rattle.flow_graph.specs.Marks.{marks_after, order_after}
 use Rattle.flow_graph.specs.ReachedFrom.{ReachesFrom, FollowsFrom}
 
 -- some edges from offset to offset
@@ -30,11 +30,11 @@ mark_of_end (Some target) n = 1
 -- the marks behind the edge from p to the end of its instruction, if there is one
 abbrev pub next_marks : List ℕ → ℕ → Exits → List ℕ
 next_marks marks p exits =
-    if nat_lt 0 exits.next then marked marks (p + exits.next) (mark_of_end exits.target exits.next) else marks
+    if nat_lt 0 exits.next then marks_after marks (p + exits.next) (mark_of_end exits.target exits.next) else marks
 
 -- the order behind it
 abbrev pub next_order : List ℕ → List ℕ → ℕ → Exits → List ℕ
-next_order marks order p exits = if nat_lt 0 exits.next then queued marks order (p + exits.next) else order
+next_order marks order p exits = if nat_lt 0 exits.next then order_after marks order (p + exits.next) else order
 
 -- of the edges gone along, one alone leads to q, from p, whose instruction ends there and leads nowhere else
 pub record FollowsSoFar (code : CodeBytes) (gone : Edges) (p q : ℕ) : Type 0 where
@@ -49,7 +49,7 @@ pub record IsWalk (code : CodeBytes) (entries marks order : List ℕ) (gone : Ed
   pub unmarked : count_by (λ m. m == 0) marks + length order ≡ length marks
   pub entry : (q : ℕ) → Contains entries q → q < length code.bytes → slice_index marks q ≡ 1
   pub reached : (k : ℕ) → k < length order → ReachesFrom code entries (slice_index order k)
-  pub marked : (k : ℕ) → k < length order → 0 < slice_index marks (slice_index order k)
+  pub marks_after : (k : ℕ) → k < length order → 0 < slice_index marks (slice_index order k)
   pub listed : (q : ℕ) → 0 < slice_index marks q → (k : ℕ) × (k < length order) × (slice_index order k ≡ q)
   pub apart : (i j : ℕ) → i < length order → j < length order → slice_index order i ≡ slice_index order j → i ≡ j
   pub sound : (p q : ℕ) → gone p q → ReachesFrom code entries p × IsSuccessor code p q
@@ -59,21 +59,21 @@ pub record IsWalk (code : CodeBytes) (entries marks order : List ℕ) (gone : Ed
 
 -- the marks behind a first offset, if there is a byte
 abbrev pub entered_marks : List ℕ → ℕ → List ℕ
-entered_marks marks q = if nat_lt q (length marks) then marked marks q 1 else marks
+entered_marks marks q = if nat_lt q (length marks) then marks_after marks q 1 else marks
 
 -- the order behind it
 abbrev pub entered_order : List ℕ → List ℕ → ℕ → List ℕ
-entered_order marks order q = if nat_lt q (length marks) then queued marks order q else order
+entered_order marks order q = if nat_lt q (length marks) then order_after marks order q else order
 
 -- the order has each marked offset once
 pub record IsOrder (marks order : List ℕ) : Type 0 where
   pub unmarked : count_by (λ m. m == 0) marks + length order ≡ length marks
-  pub marked : (k : ℕ) → k < length order → 0 < slice_index marks (slice_index order k)
+  pub marks_after : (k : ℕ) → k < length order → 0 < slice_index marks (slice_index order k)
   pub listed : (q : ℕ) → 0 < slice_index marks q → (k : ℕ) × (k < length order) × (slice_index order k ≡ q)
   pub apart : (i j : ℕ) → i < length order → j < length order → slice_index order i ≡ slice_index order j → i ≡ j
 
 -- the first n of the first offsets are marked, as far as there are bytes, by 1, and no other offset is
-pub record IsEntered (entries : List ℕ) (count n : ℕ) (marks order : List ℕ) : Type 0 where
+pub record IsStarted (entries : List ℕ) (count n : ℕ) (marks order : List ℕ) : Type 0 where
   pub len : length marks ≡ count
   pub once : IsOrder marks order
   pub entry : (k : ℕ) → k < n → slice_index entries k < count → 0 < slice_index marks (slice_index entries k)

@@ -2,10 +2,10 @@
 
 ghost use Rattle.std.specs.Prelude.{◌≡◌, ◌+◌, ◌<◌, ◌≤◌, ℕ, List, length, slice_index, IfOk, OnOk};
 ghost use Rattle.flow_graph.specs.Control.{code_bytes};
-ghost use Rattle.flow_graph.specs.Marks.{marked, queued, AreMarks};
+ghost use Rattle.flow_graph.specs.Marks.{marks_after, order_after, AreMarks};
 ghost use Rattle.flow_graph.specs.Told.{AreTold, MarkedAreTold};
 ghost use Rattle.flow_graph.specs.Walks as spec;
-ghost use Rattle.flow_graph.specs.Walks.{entered_marks, entered_order, next_marks, next_order, IsEntered, IsTreated, IsWalk};
+ghost use Rattle.flow_graph.specs.Walks.{entered_marks, entered_order, next_marks, next_order, IsStarted, IsTreated, IsWalk};
 
 use crate::exits::{Exits, stop_at};
 use decoder::DecodeError;
@@ -41,7 +41,7 @@ impl Walk {
     /// A walk that stands at the first offsets, in their order.
     fn start(alloc: Global, count: usize, entries: &[u32]) -> Result<Walk, AllocError>
         requires few { count ≤ 16777216 }
-        ensures entered { IfOk result (λ walk. IsEntered entries.now count (length entries.now) walk.marks.items walk.order.items) }
+        ensures entered { IfOk result (λ walk. IsStarted entries.now count (length entries.now) walk.marks.items walk.order.items) }
         ensures flows { IfOk result (λ walk. length walk.flows.items ≡ count) }
     {
         let mut walk = Walk {
@@ -59,8 +59,8 @@ impl Walk {
     fn arrive(&mut self, offset: usize, first: u8) -> Result<(), AllocError>
         requires inside { offset < length self.old.marks.items }
         requires few { length self.old.marks.items ≤ 16777216 }
-        ensures marks { OnOk result (self.new.marks.items ≡ marked self.old.marks.items offset first) }
-        ensures order { OnOk result (self.new.order.items ≡ queued self.old.marks.items self.old.order.items offset) }
+        ensures marks { OnOk result (self.new.marks.items ≡ marks_after self.old.marks.items offset first) }
+        ensures order { OnOk result (self.new.order.items ≡ order_after self.old.marks.items self.old.order.items offset) }
         ensures flows { OnOk result (self.new.flows.items ≡ self.old.flows.items) }
     {
         if self.marks[offset] == 0 {

@@ -10,15 +10,15 @@ use Rattle.flow_graph.specs.Control.{CodeBytes, IsReadIn, code_bytes}
 use Rattle.flow_graph.specs.Told.{told_at}
 use Rattle.flow_graph.specs.Graphs.{Graph, IsFlowGraph}
 use Rattle.run_parts.specs.Facts.{HeldFacts}
-use Rattle.run_parts.specs.Writing.{HoldsFront, Moves, Held}
-use Rattle.flow_run.specs.Lines.{Stop, flow_word, flow_line, line_of, lines_of, AreStops}
+use Rattle.run_parts.specs.Writing.{HoldsFront, Moves, HeldText}
+use Rattle.flow_run.specs.Lines.{Stop, flow_word, flow_line, stop_line, stop_lines, AreStops}
 use Rattle.flow_run.specs.Flowing.{WritesFlow, WritesFlowFront}
 
 -- the first so many offsets have their lines: those went to the sink or are held back
 pub record Progress (code : CodeBytes) (graph : Graph) (count : ℕ) (start held : Option (List ℕ)) (pending : List ℕ) : Type 0 where
   pub stops : List Stop
   pub are_stops : AreStops code graph count stops
-  pub told : Held start held pending (lines_of code stops)
+  pub told : HeldText start held pending (stop_lines code stops)
 
 -- one more number of a list
 one_more : (f : Stop → ℕ) (stops : List Stop) (stop : Stop) (xs : List ℕ) (k : ℕ) → k < length xs → map f stops ≡ take k xs → f stop ≡ get_or xs k 0 →
@@ -53,10 +53,10 @@ module _ (f : HeldFacts) where
       let len = is.len in
       let t = is.told k lt in
       let stop = stop_of (get_or graph.starts k 0) (get_or graph.leaders k 0) t.reading in
-      let moves : Moves held held' before after (line_of code stop) =
+      let moves : Moves held held' before after (stop_line code stop) =
       subst (λ told. Moves held held' before after (flow_line code.bits code.base (get_or graph.starts k 0) (get_or graph.leaders k 0) (flow_word told))) t.is w in
       let IsRead : Stop → Type 0 = λ (s : Stop). IsReadIn code s.start s.reading in
-      let more : lines_of code p.stops ++ line_of code stop ≡ lines_of code (p.stops ++ stop ∷ []) = flat_map_more (line_of code) [] p.stops stop in
+      let more : stop_lines code p.stops ++ stop_line code stop ≡ stop_lines code (p.stops ++ stop ∷ []) = flat_map_more (stop_line code) [] p.stops stop in
       record {
         stops = p.stops ++ stop ∷ [];
         are_stops = record {
@@ -64,7 +64,7 @@ module _ (f : HeldFacts) where
           leaders = one_more (λ (s : Stop). s.leader) p.stops stop graph.leaders k (omega arith) p.are_stops.leaders refl;
           reads = All-append IsRead p.stops (stop ∷ []) p.are_stops.reads (All-cons IsRead stop [] t.reads (All-nil IsRead));
         };
-        told = subst (λ (xs : List ℕ). Held start held' after xs) more (f.held-step start held held' before after (lines_of code p.stops) (line_of code stop) p.told moves);
+        told = subst (λ (xs : List ℕ). HeldText start held' after xs) more (f.held-step start held held' before after (stop_lines code p.stops) (stop_line code stop) p.told moves);
       }
 
   -- all lines
@@ -78,7 +78,7 @@ module _ (f : HeldFacts) where
         is_graph = is;
         stops = p.stops;
         are_stops = subst (λ (n : ℕ). AreStops code graph n p.stops) all p.are_stops;
-        written = f.held-end start held held' pending (lines_of code p.stops) p.told whole;
+        written = f.held-end start held held' pending (stop_lines code p.stops) p.told whole;
       }
 
   -- a failure while lines are held back
@@ -91,5 +91,5 @@ module _ (f : HeldFacts) where
     count = count;
     stops = p.stops;
     are_stops = p.are_stops;
-    written = f.held-failed start held held' pending (lines_of (code_bytes bits base bytes) p.stops) p.told front;
+    written = f.held-failed start held held' pending (stop_lines (code_bytes bits base bytes) p.stops) p.told front;
   }

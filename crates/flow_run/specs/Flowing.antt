@@ -8,7 +8,7 @@ use Rattle.run_parts.specs.declared.status.Status.{Status}
 use Rattle.run_parts.specs.declared.status.Status.TheVariants.{Done, ReadFault, WriteFault, Memory, TooLarge}
 use Rattle.run_parts.specs.Reads.{whole_limit, ReadsAll, ReadsTooMany}
 use Rattle.run_parts.specs.Writing.{HoldsFront}
-use Rattle.flow_run.specs.Lines.{Stop, AreStops, lines_of}
+use Rattle.flow_run.specs.Lines.{Stop, AreStops, stop_lines}
 
 -- the lines of all reached offsets of some code were written
 pub record WritesFlow (bits : Bits) (base : ℕ) (bytes : List ℕ) (held held' : Option (List ℕ)) : Type 0 where
@@ -16,7 +16,7 @@ pub record WritesFlow (bits : Bits) (base : ℕ) (bytes : List ℕ) (held held' 
   pub is_graph : IsFlowGraph (code_bytes bits base bytes) graph
   pub stops : List Stop
   pub are_stops : AreStops (code_bytes bits base bytes) graph (length graph.starts) stops
-  pub written : held' ≡ with_back held (lines_of (code_bytes bits base bytes) stops)
+  pub written : held' ≡ with_back held (stop_lines (code_bytes bits base bytes) stops)
 
 -- the front of them was written: first bytes of the lines of first reached offsets
 pub record WritesFlowFront (bits : Bits) (base : ℕ) (bytes : List ℕ) (held held' : Option (List ℕ)) : Type 0 where
@@ -25,7 +25,7 @@ pub record WritesFlowFront (bits : Bits) (base : ℕ) (bytes : List ℕ) (held h
   pub count : ℕ
   pub stops : List Stop
   pub are_stops : AreStops (code_bytes bits base bytes) graph count stops
-  pub written : HoldsFront held held' (lines_of (code_bytes bits base bytes) stops)
+  pub written : HoldsFront held held' (stop_lines (code_bytes bits base bytes) stops)
 
 -- the command by its status: when each may come, and what was written then
 abbrev pub FlowsAs : Bits → ℕ → Option (List ℕ) → Option (List ℕ) → Option (List ℕ) → Option (List ℕ) → Type 0 → Type 0 → Status → Type 0

@@ -30,12 +30,12 @@ flow_line bits base start leader word =
     address_text bits base start ++ (32 ∷ (address_text bits base leader ++ (32 ∷ (word ++ 10 ∷ []))))
 
 -- the line of a reached offset
-abbrev pub line_of : CodeBytes → Stop → List ℕ
-line_of code stop = flow_line code.bits code.base stop.start stop.leader (flow_word (told_of stop.reading))
+abbrev pub stop_line : CodeBytes → Stop → List ℕ
+stop_line code stop = flow_line code.bits code.base stop.start stop.leader (flow_word (told_of stop.reading))
 
 -- the lines of some reached offsets, one behind another
-abbrev pub lines_of : CodeBytes → List Stop → List ℕ
-lines_of code stops = flat_map (line_of code) stops
+abbrev pub stop_lines : CodeBytes → List Stop → List ℕ
+stop_lines code stops = flat_map (stop_line code) stops
 
 -- the first so many reached offsets of a graph, each with its leader and with what is read there
 pub record AreStops (code : CodeBytes) (graph : Graph) (count : ℕ) (stops : List Stop) : Type 0 where

@@ -1,7 +1,7 @@
 -- The first two look-ups of a walk: the kind, and the opcode byte.
 use Rattle.std.proofs.Common.{◌≡◌, ℕ, ◌<◌, Bool, true, ◌&&◌, List, [], length, slice_get, refl, ap, sym, ◌∙◌, lit<}
 use Rattle.std.proofs.lemmas.Bool.{and_parts}
-use Rattle.row_fields.specs.Candidates.{Cand, Coded, coded, of_number, at_opcode, cands, alive, keep, value_at}
+use Rattle.row_fields.specs.Candidates.{Cand, Coded, rows_with_codes, of_number, at_opcode, cands, alive, keep, value_at}
 use Rattle.row_fields.proofs.Cands.{alive-cands, alive-keep, below-at}
 use Rattle.std.specs.Prelude.{Option, Some, None}
 use Rattle.std.proofs.lemmas.Option.{slice_get_within}
@@ -82,10 +82,10 @@ pub start : (bits : Bits) (f : Fields) → f.opcode < 256
 unfolding tables_ok kind_ok
 start bits f lt =
     let number : ℕ = map_number f.vex f.map in
-    let rows : List Coded = of_number number (coded 0 table) in
+    let rows : List Coded = of_number number (rows_with_codes 0 table) in
     let cell : List Coded = at_opcode f.opcode rows in
     let of_kind : kind_ok (root_entry 0 number) (root_entry 1 number) rows ≡ true =
-    below-at 8 (λ n. kind_ok (root_entry 0 n) (root_entry 1 n) (of_number n (coded 0 table))) number tables_fit (map_number-lt f.vex f.map) in
+    below-at 8 (λ n. kind_ok (root_entry 0 n) (root_entry 1 n) (of_number n (rows_with_codes 0 table))) number tables_fit (map_number-lt f.vex f.map) in
     let of_cell : cell_ok f.opcode (under (root_entry 0 number) f.opcode) (under (root_entry 1 number) f.opcode) cell ≡ true =
     below-at 256 (λ op. cell_ok op (under (root_entry 0 number) op) (under (root_entry 1 number) op) (at_opcode op rows)) f.opcode of_kind lt in
     chosen bits f (root_entry 0 number) (root_entry 1 number) (cands bits f.opcode cell)

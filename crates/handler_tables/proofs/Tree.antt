@@ -1,6 +1,6 @@
 -- A test of the nested tables against the rows: each node is right for the candidates that are left on its way.
 use Rattle.std.proofs.Common.{ℕ, zero, suc, Bool, true, false, ◌&&◌, List, [], ◌∷◌, slice_get, nat_le}
-use Rattle.row_fields.specs.Candidates.{Cand, Coded, coded, of_number, at_opcode, cands, keep, is_empty, is_one, below}
+use Rattle.row_fields.specs.Candidates.{Cand, Coded, rows_with_codes, of_number, at_opcode, cands, keep, is_empty, is_one, below}
 use Rattle.std.specs.Prelude.{Option, Some, None}
 use Rattle.x86_values.specs.declared.Bits.{Bits}
 use Rattle.x86_values.specs.declared.Bits.TheVariants.{B16, B32, B64}
@@ -131,5 +131,5 @@ root_entry root number = get_in (slice_get nodes8 root) number
 
 -- the roots are the nodes 0, with a ModRM byte, and 1, without one
 unfoldable pub tables_ok : List Row → Bool
-unfolding below kind_ok root_entry of_number coded
-tables_ok rows = below 8 (λ number. kind_ok (root_entry 0 number) (root_entry 1 number) (of_number number (coded 0 rows)))
+unfolding below kind_ok root_entry of_number rows_with_codes
+tables_ok rows = below 8 (λ number. kind_ok (root_entry 0 number) (root_entry 1 number) (of_number number (rows_with_codes 0 rows)))

@@ -4,12 +4,12 @@ use Rattle.std.specs.Prelude.{IsTrue}
 use Rattle.std.proofs.Math.Nat.{div-mul-le_self}
 use Rattle.std.proofs.lemmas.Bool.{cases_Bool, eqb-true, eqb-false, ltb-true, ltb-false}
 use Rattle.x86_values.specs.declared.Bits.{Bits}
-use Rattle.code_region.specs.State.{LiveBlock, RegionState, int3, rounded, image_of}
+use Rattle.code_region.specs.State.{LiveBlock, RegionState, int3, len_in_units, region_image}
 use Rattle.code_region.specs.declared.refusals.NotTaken.{NotTaken}
 use Rattle.code_region.specs.declared.refusals.PlaceError.{PlaceError}
-use Rattle.code_region.specs.Opening.{opened}
-use Rattle.code_region.specs.Placing.{place_answer, with_block, unfilled, placed}
-use Rattle.code_region.specs.Releasing.{release_answer, released}
+use Rattle.code_region.specs.Opening.{empty_region}
+use Rattle.code_region.specs.Placing.{place_answer, with_block, unfilled_block, after_place}
+use Rattle.code_region.specs.Releasing.{release_answer, after_release}
 use Rattle.code_region.specs.Filling.{with_content, can_fill}
 use Rattle.code_region.specs.Keeping.{IsSound}
 use Rattle.code_region.specs.Laws.{HoldsContents}
@@ -20,7 +20,7 @@ use Rattle.hook_slots.specs.declared.refusals.InstallError.TheVariants.{Memory, 
 use Rattle.hook_slots.specs.State.{HooksState, no_hooks, with_hook, hook_at}
 use Rattle.hook_slots.specs.Opening.{make_refusal}
 use Rattle.hook_slots.specs.Installing.{IsHookPlaced, place_refusal, hooks_after, IsInstalled}
-use Rattle.hook_slots.specs.Removing.{remove_of, remove_answer, without_hook, removed}
+use Rattle.hook_slots.specs.Removing.{remove_of, remove_answer, without_hook, after_removal}
 use Rattle.hook_slots.specs.declared.commands.HookCommand.{HookCommand}
 use Rattle.hook_slots.specs.declared.commands.HookCommand.TheVariants.{Install, Remove}
 use Rattle.hook_slots.specs.declared.commands.HookReply.{HookReply}
@@ -46,15 +46,15 @@ no_block = record { place = 0; len = 0; content = [] }
 
 module _ (laws : LawsBelow) (slot : ℕ) (region : RegionState) (sound : IsSound region) (spaced : AreSpaced slot region) where
   -- a trampoline that has no more bytes than a slot is filled in
-  pub slot-can_fill : (place : ℕ) → place_answer region slot ≡ Ok place → (n : ℕ) → n ≤ slot → IsTrue (can_fill (placed region slot) place n)
+  pub slot-can_fill : (place : ℕ) → place_answer region slot ≡ Ok place → (n : ℕ) → n ≤ slot → IsTrue (can_fill (after_place region slot) place n)
   slot-can_fill place e n le =
       let same = rounded-slot slot spaced.is_slot in
       placed-can_fill laws region slot place sound e n (omega (arith, le, same))
 
   -- a place that is given back leaves the region as it was
-  pub given-back : (place : ℕ) → place_answer region slot ≡ Ok place → (now : RegionState) → now ≡ placed region slot → (new : RegionState) → new ≡ released now place → new ≡ region
+  pub given-back : (place : ℕ) → place_answer region slot ≡ Ok place → (now : RegionState) → now ≡ after_place region slot → (new : RegionState) → new ≡ after_release now place → new ≡ region
   given-back place e now is new same =
-      same ∙ (ap (λ (r : RegionState). released r place) is ∙ (laws.regions.restores region slot place sound e).blocks)
+      same ∙ (ap (λ (r : RegionState). after_release r place) is ∙ (laws.regions.restores region slot place sound e).blocks)
 
 -- no place is handed out where each slot has a hook
 pub full-placed : (bits : Bits) (slot : ℕ) (region : RegionState) (sound : IsSound region) (spaced : AreSpaced slot region) (ip : ℕ) (code : List ℕ) (to : ℕ)
@@ -89,15 +89,15 @@ module _ (laws : LawsBelow) (bits : Bits) (slot : ℕ) (region : RegionState) (h
     bytes = hook.detour.trampoline
 
     block : LiveBlock
-    block = with_content bytes (unfilled hook.place (rounded slot))
+    block = with_content bytes (unfilled_block hook.place (len_in_units slot))
 
     now : RegionState
     now = record region { live = with_block block region.live }
 
-    same_slot : rounded slot ≡ slot
+    same_slot : len_in_units slot ≡ slot
     same_slot = rounded-slot slot kept.spaced.is_slot
 
-    fits : length bytes ≤ rounded slot
+    fits : length bytes ≤ len_in_units slot
     unfolding bytes
     fits = let le = made.0.1.1 in let same = same_slot in omega (arith, le, same)
 
@@ -156,8 +156,8 @@ module _ (laws : LawsBelow) (bits : Bits) (slot : ℕ) (region : RegionState) (h
     install-max = ap (λ (r : RegionState). r.max_blocks) is_now
 
   -- a removal
-  pub remove-kept : (place : ℕ) → AreKept bits slot (released region place) (without_hook place hooks) room
-  unfolding released
+  pub remove-kept : (place : ℕ) → AreKept bits slot (after_release region place) (without_hook place hooks) room
+  unfolding after_release
   remove-kept place =
       let fewer = without-shorter place region.live in
       let few = kept.spaced.few in
@@ -178,12 +178,12 @@ module _ (laws : LawsBelow) (bits : Bits) (slot : ℕ) (region : RegionState) (h
       let found = release-found region place e in
       blocks-stand bits slot place found.0 hooks region.live kept.blocks found.1
 
-  pub remove-made : (place : ℕ) (new : RegionState) → new ≡ released region place → (left : List Hook) → left ≡ without_hook place hooks
+  pub remove-made : (place : ℕ) (new : RegionState) → new ≡ after_release region place → (left : List Hook) → left ≡ without_hook place hooks
       → (more : ℕ) → more ≡ room → AreKept bits slot new left more
   remove-made place new is left same more full =
       subst (λ (r : RegionState). AreKept bits slot r left more) (sym is)
-      (subst (λ (xs : List Hook). AreKept bits slot (released region place) xs more) (sym same)
-      (subst (λ (n : ℕ). AreKept bits slot (released region place) (without_hook place hooks) n) (sym full) (remove-kept place)))
+      (subst (λ (xs : List Hook). AreKept bits slot (after_release region place) xs more) (sym same)
+      (subst (λ (n : ℕ). AreKept bits slot (after_release region place) (without_hook place hooks) n) (sym full) (remove-kept place)))
 
   remove-none : (place : ℕ) (why : NotTaken) → release_answer region place ≡ Err why → hook_at place hooks ≡ None
   remove-none place why e = blocks-found bits slot place hooks region.live kept.blocks (release-none region place why e)
@@ -201,11 +201,11 @@ module _ (laws : LawsBelow) (bits : Bits) (slot : ℕ) (region : RegionState) (h
         let wrapped_why : NotTaken → Result Hook NotTaken = λ w. Err w in
         subst P seen (subst Q (sym (remove-none place why e)) (ap wrapped_why (release-why region place why e)))
 
-    pub refused-state : (new : RegionState) → new ≡ released region place → record { bits = bits; slot = slot; region = new; hooks = hooks } ≡ removed now place
+    pub refused-state : (new : RegionState) → new ≡ after_release region place → record { bits = bits; slot = slot; region = new; hooks = hooks } ≡ after_removal now place
     refused-state new is =
         let with_region : RegionState → HooksState = λ (r : RegionState). record { bits = bits; slot = slot; region = r; hooks = hooks } in
-        let with_hooks : List Hook → HooksState = λ (xs : List Hook). record { bits = bits; slot = slot; region = released region place; hooks = xs } in
-        ap with_region is ∙ (ap with_hooks (sym (remove-same place why e)) ∙ ap (λ (s : HooksState). removed s place) seen)
+        let with_hooks : List Hook → HooksState = λ (xs : List Hook). record { bits = bits; slot = slot; region = after_release region place; hooks = xs } in
+        ap with_region is ∙ (ap with_hooks (sym (remove-same place why e)) ∙ ap (λ (s : HooksState). after_removal s place) seen)
 
 -- ---- what is seen
 
@@ -233,13 +233,13 @@ module _ (laws : LawsBelow) (state : HooksState) (room : ℕ) (kept : AreKept st
   pub kept-detours : AreDetours state
   kept-detours = λ k d lt. (block-at k d no_block lt).is_detour
 
-  pub kept-holds : HoldsHooks state (image_of state.region)
+  pub kept-holds : HoldsHooks state (region_image state.region)
   kept-holds = record {
     trampolines = λ k d lt.
         let is = block-at k d no_block lt in
         let there = holds.contents k no_block (omega (arith, count, lt)) in
-        ap (λ (n : ℕ). take n (drop ((get_or state.hooks k d).place - state.region.base) (image_of state.region))) (sym is.len)
-        ∙ (ap (λ (n : ℕ). take (get_or state.region.live k no_block).len (drop (n - state.region.base) (image_of state.region))) (sym is.place)
+        ap (λ (n : ℕ). take n (drop ((get_or state.hooks k d).place - state.region.base) (region_image state.region))) (sym is.len)
+        ∙ (ap (λ (n : ℕ). take (get_or state.region.live k no_block).len (drop (n - state.region.base) (region_image state.region))) (sym is.place)
         ∙ (there ∙ is.content));
     elsewhere = λ k lt free.
         holds.elsewhere k lt (λ j d jl.
@@ -255,7 +255,7 @@ module _ (laws : LawsBelow) (state : HooksState) (room : ℕ) (kept : AreKept st
       one_of [] k lt = absurd (omega arith)
       one_of (hook ∷ hooks) k lt = hook
 
-      holds : HoldsContents state.region (image_of state.region)
+      holds : HoldsContents state.region (region_image state.region)
       holds = laws.regions.contents state.region kept.sound
 
 -- ---- no hooks
@@ -292,11 +292,11 @@ slot-good bits base size slot none =
     positive ne = below 0 slot (λ e. ne (sym e)) (omega arith)
 
 pub kept-made : (laws : LawsBelow) (bits : Bits) (base size slot : ℕ) → make_refusal bits base size slot ≡ None → (region : RegionState)
-    → region ≡ opened base size (size / slot) → (hooks : List Hook) → hooks ≡ [] → (room : ℕ) → size / slot ≤ room → AreKept bits slot region hooks room
+    → region ≡ empty_region base size (size / slot) → (hooks : List Hook) → hooks ≡ [] → (room : ℕ) → size / slot ≤ room → AreKept bits slot region hooks room
 kept-made laws bits base size slot none region is hooks no_hooks room roomy =
     let fit = div-mul-le_self size slot in
     subst (λ (r : RegionState). AreKept bits slot r hooks room) (sym is)
-    (subst (λ (xs : List Hook). AreKept bits slot (opened base size (size / slot)) xs room) (sym no_hooks) (record {
+    (subst (λ (xs : List Hook). AreKept bits slot (empty_region base size (size / slot)) xs room) (sym no_hooks) (record {
       sound = laws.regions.opened-sound base size (size / slot);
       spaced = record {
         is_slot = slot-good bits base size slot none;
@@ -312,11 +312,11 @@ kept-made laws bits base size slot none region is hooks no_hooks room roomy =
 
 pub made-kept : (laws : LawsBelow) (bits : Bits) (base size slot : ℕ) → make_refusal bits base size slot ≡ None → AreKeptIn (no_hooks bits base size slot)
 made-kept laws bits base size slot none =
-    kept-made laws bits base size slot none (opened base size (size / slot)) refl [] refl (size / slot) (omega arith)
+    kept-made laws bits base size slot none (empty_region base size (size / slot)) refl [] refl (size / slot) (omega arith)
 
 module _ (laws : LawsBelow) (old : HooksState) (kept : AreKeptIn old) where
-  pub removed-kept : (place : ℕ) → AreKeptIn (removed old place)
-  unfolding released
+  pub removed-kept : (place : ℕ) → AreKeptIn (after_removal old place)
+  unfolding after_release
   removed-kept place = remove-kept laws old.bits old.slot old.region old.hooks old.region.max_blocks kept place
 
   unchanged : (region : RegionState) → region ≡ old.region → (hooks : List Hook) → hooks ≡ old.hooks → AreKept old.bits old.slot region hooks region.max_blocks

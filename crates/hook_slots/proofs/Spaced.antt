@@ -6,15 +6,15 @@ use Rattle.std.proofs.lemmas.Bool.{cases_Bool, eqb-true, eqb-false, le-leb, leb-
 use Rattle.code_region.specs.declared.gaps.Span.{Span}
 use Rattle.code_region.specs.declared.refusals.PlaceError.{PlaceError}
 use Rattle.code_region.specs.declared.refusals.PlaceError.TheVariants.{TooManyBlocks}
-use Rattle.code_region.specs.State.{LiveBlock, RegionState, rounded, span_of, gaps_of}
+use Rattle.code_region.specs.State.{LiveBlock, RegionState, len_in_units, span_of, gaps_of}
 use Rattle.code_region.specs.Gaps.{gaps_between, first_gap, longest}
-use Rattle.code_region.specs.Placing.{front_of, place_answer, with_block}
+use Rattle.code_region.specs.Placing.{place_in_gap, place_answer, with_block}
 use Rattle.code_region.specs.Keeping.{AreLaid, IsSound}
 use Rattle.hook_slots.specs.Keeping.{IsSlot, AreSlots, AreSpaced}
 
 -- a slot takes what it has
-pub rounded-slot : (slot : ℕ) → IsSlot slot → rounded slot ≡ slot
-unfolding rounded
+pub rounded-slot : (slot : ℕ) → IsSlot slot → len_in_units slot ≡ slot
+unfolding len_in_units
 rounded-slot slot is =
     let units = is.units in
     let small = is.small in
@@ -141,7 +141,7 @@ module _ (slot : ℕ) (region : RegionState) (spaced : AreSpaced slot region) (s
   first = omega arith
 
   -- no gap has room for a slot only where there are as many blocks as slots
-  never-short : (length region.live ≡ region.max_blocks → ⊥) → first_gap (rounded slot) (gaps_of region) ≡ None → ⊥
+  never-short : (length region.live ≡ region.max_blocks → ⊥) → first_gap (len_in_units slot) (gaps_of region) ≡ None → ⊥
   unfolding gaps_of
   never-short room none =
       let some = spaced.is_slot.some in
@@ -172,15 +172,15 @@ module _ (slot : ℕ) (region : RegionState) (spaced : AreSpaced slot region) (s
           | inl full ↦ (let f = rw (some, full) at e in (same why f, eqb-true (length region.live) region.max_blocks full))
           | inr room ↦ (
               let f = rw (some, room) at e in
-              absurd (by_gap (first_gap (rounded slot) (gaps_of region)) refl (eqb-false (length region.live) region.max_blocks room) why f))
+              absurd (by_gap (first_gap (len_in_units slot) (gaps_of region)) refl (eqb-false (length region.live) region.max_blocks room) why f))
         ]
       ]
     where
       same : (w : PlaceError) → refused (TooManyBlocks region.max_blocks) ≡ refused w → w ≡ TooManyBlocks region.max_blocks
       same w f = sym (ap why_of f)
 
-      by_gap : (o : Option Span) → first_gap (rounded slot) (gaps_of region) ≡ o → (length region.live ≡ region.max_blocks → ⊥) → (w : PlaceError)
-          → front_of o (rounded slot) (longest (gaps_of region)) ≡ Err w → ⊥
+      by_gap : (o : Option Span) → first_gap (len_in_units slot) (gaps_of region) ≡ o → (length region.live ≡ region.max_blocks → ⊥) → (w : PlaceError)
+          → place_in_gap o (len_in_units slot) (longest (gaps_of region)) ≡ Err w → ⊥
       by_gap None is room w f = never-short room is
       by_gap (Some gap) is room w f = cc
 
@@ -194,14 +194,14 @@ module _ (slot : ℕ) (region : RegionState) (spaced : AreSpaced slot region) (s
           | inl full ↦ (let f = rw (some, full) at e in absurd cc)
           | inr room ↦ (
               let f = rw (some, room) at e in
-              by_gap (first_gap (rounded slot) gaps) refl f)
+              by_gap (first_gap (len_in_units slot) gaps) refl f)
         ]
       ]
     where
       gaps : List Span
       gaps = gaps_between region.base (region.base + region.size) (map span_of region.live)
 
-      by_gap : (o : Option Span) → first_gap (rounded slot) gaps ≡ o → front_of o (rounded slot) (longest gaps) ≡ Ok place → (i : ℕ) × (place ≡ region.base + i * slot)
+      by_gap : (o : Option Span) → first_gap (len_in_units slot) gaps ≡ o → place_in_gap o (len_in_units slot) (longest gaps) ≡ Ok place → (i : ℕ) × (place ≡ region.base + i * slot)
       by_gap None is f = absurd cc
       by_gap (Some gap) is f =
           let found : first_gap slot gaps ≡ Some gap = subst (λ (n : ℕ). first_gap n gaps ≡ Some gap) (rounded-slot slot spaced.is_slot) is in

@@ -1,7 +1,7 @@
 -- What holds of all hooks.
 use Rattle.std.specs.Prelude.{◌≡◌, ℕ, List, None, Result}
 use Rattle.x86_values.specs.declared.Bits.{Bits}
-use Rattle.code_region.specs.State.{image_of}
+use Rattle.code_region.specs.State.{region_image}
 use Rattle.detour.specs.declared.start.StartTarget.{StartTarget}
 use Rattle.hook_slots.specs.declared.refusals.InstallError.{InstallError}
 use Rattle.hook_slots.specs.declared.commands.HookCommand.{HookCommand}
@@ -9,7 +9,7 @@ use Rattle.hook_slots.specs.declared.commands.HookReply.{HookReply}
 use Rattle.hook_slots.specs.State.{HooksState, no_hooks}
 use Rattle.hook_slots.specs.Opening.{make_refusal}
 use Rattle.hook_slots.specs.Installing.{IsInstalled}
-use Rattle.hook_slots.specs.Removing.{removed}
+use Rattle.hook_slots.specs.Removing.{after_removal}
 use Rattle.hook_slots.specs.Running.{IsRun}
 use Rattle.hook_slots.specs.Holding.{AreApart, AreDetours, HoldsHooks}
 use Rattle.hook_slots.specs.Keeping.{AreKeptIn}
@@ -19,10 +19,10 @@ pub record KeptFacts : Type 0 where
   pub kept-made : (bits : Bits) (base size slot : ℕ) → make_refusal bits base size slot ≡ None → AreKeptIn (no_hooks bits base size slot)
   pub kept-installed : (old : HooksState) (ip : ℕ) (code : List ℕ) (to : ℕ) (start : StartTarget) (answer : Result ℕ InstallError) (new : HooksState)
       → AreKeptIn old → IsInstalled old ip code to start answer new → AreKeptIn new
-  pub kept-removed : (old : HooksState) (place : ℕ) → AreKeptIn old → AreKeptIn (removed old place)
+  pub kept-removed : (old : HooksState) (place : ℕ) → AreKeptIn old → AreKeptIn (after_removal old place)
   pub apart : (state : HooksState) → AreKeptIn state → AreApart state
   pub detours : (state : HooksState) → AreKeptIn state → AreDetours state
-  pub holds : (state : HooksState) → AreKeptIn state → HoldsHooks state (image_of state.region)
+  pub holds : (state : HooksState) → AreKeptIn state → HoldsHooks state (region_image state.region)
 
 -- after any list of commands, from none on: trampolines are disjoint, each place holds its detour's bytes, and everything else is INT3
 pub record RunFacts : Type 0 where
@@ -31,4 +31,4 @@ pub record RunFacts : Type 0 where
   pub run-detours : (bits : Bits) (base size slot : ℕ) → make_refusal bits base size slot ≡ None → (commands : List HookCommand) (replies : List HookReply)
       (state : HooksState) → IsRun (no_hooks bits base size slot) commands replies state → AreDetours state
   pub run-holds : (bits : Bits) (base size slot : ℕ) → make_refusal bits base size slot ≡ None → (commands : List HookCommand) (replies : List HookReply)
-      (state : HooksState) → IsRun (no_hooks bits base size slot) commands replies state → HoldsHooks state (image_of state.region)
+      (state : HooksState) → IsRun (no_hooks bits base size slot) commands replies state → HoldsHooks state (region_image state.region)

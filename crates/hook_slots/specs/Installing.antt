@@ -4,8 +4,8 @@ use Rattle.x86_values.specs.declared.Bits.{Bits}
 use Rattle.code_region.specs.declared.refusals.PlaceError.{PlaceError}
 use Rattle.code_region.specs.declared.refusals.PlaceError.TheVariants as place_error
 use Rattle.code_region.specs.State.{RegionState}
-use Rattle.code_region.specs.Placing.{place_answer, placed}
-use Rattle.code_region.specs.Filling.{filled}
+use Rattle.code_region.specs.Placing.{place_answer, after_place}
+use Rattle.code_region.specs.Filling.{after_fill}
 use Rattle.detour.specs.declared.error.DetourError.{DetourError}
 use Rattle.detour.specs.declared.error.DetourError.TheVariants as detour_error
 use Rattle.detour.specs.declared.start.StartTarget.{StartTarget}
@@ -29,9 +29,9 @@ pub record IsHookOf (bits : Bits) (ip : ℕ) (code : List ℕ) (to : ℕ) (start
   pub is : IsHook bits code hook
 
 -- why a function is not hooked, by why it has no detour
-abbrev pub detour_refusal : DetourError → InstallError
-detour_refusal detour_error.Memory = Memory
-detour_refusal why = NoDetour why
+abbrev pub install_refusal : DetourError → InstallError
+install_refusal detour_error.Memory = Memory
+install_refusal why = NoDetour why
 
 -- a detour has more bytes in its trampoline than a slot
 abbrev pub IsTooLong : Bits → ℕ → ℕ → List ℕ → ℕ → StartTarget → ℕ → ℕ → Type 0
@@ -68,16 +68,16 @@ IsRefusedAt bits slot old ip code to start why =
 abbrev pub IsHookPlaced : Bits → ℕ → RegionState → ℕ → List ℕ → ℕ → StartTarget → Result Hook InstallError → RegionState → Type 0
 IsHookPlaced bits slot old ip code to start (Ok hook) new =
     ((place_answer old slot ≡ Ok hook.place) × IsHookAnswer bits slot ip code to start hook.place (Ok hook))
-    × (new ≡ filled (placed old slot) hook.place hook.detour.trampoline)
+    × (new ≡ after_fill (after_place old slot) hook.place hook.detour.trampoline)
 IsHookPlaced bits slot old ip code to start (Err (Full max)) new = ((length old.live ≡ max) × (old.max_blocks ≡ max)) × (new ≡ old)
 IsHookPlaced bits slot old ip code to start (Err (NoDetour why)) new = IsRefusedAt bits slot old ip code to start (NoDetour why) × (new ≡ old)
 IsHookPlaced bits slot old ip code to start (Err (TooLong len size)) new = IsRefusedAt bits slot old ip code to start (TooLong len size) × (new ≡ old)
 IsHookPlaced bits slot old ip code to start (Err Memory) new = new ≡ old
 
 -- the place of a hook that was made
-abbrev pub place_of : Result Hook InstallError → Result ℕ InstallError
-place_of (Ok hook) = Ok hook.place
-place_of (Err why) = Err why
+abbrev pub install_place : Result Hook InstallError → Result ℕ InstallError
+install_place (Ok hook) = Ok hook.place
+install_place (Err why) = Err why
 
 -- the hooks after that
 abbrev pub hooks_after : Result Hook InstallError → List Hook → List Hook
@@ -89,6 +89,6 @@ pub record IsInstalled (old : HooksState) (ip : ℕ) (code : List ℕ) (to : ℕ
   pub bits : new.bits ≡ old.bits
   pub slot : new.slot ≡ old.slot
   pub made : Result Hook InstallError
-  pub answer : said ≡ place_of made
+  pub answer : said ≡ install_place made
   pub region : IsHookPlaced old.bits old.slot old.region ip code to start made new.region
   pub hooks : new.hooks ≡ hooks_after made old.hooks

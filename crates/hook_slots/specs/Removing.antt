@@ -1,7 +1,7 @@
 -- What a removal answers, and the hooks after it.
 use Rattle.std.specs.Prelude.{ℕ, ◌==◌, not, List, filter, Option, Some, None, Result, Ok, Err}
 use Rattle.code_region.specs.declared.refusals.NotTaken.{NotTaken}
-use Rattle.code_region.specs.Releasing.{released}
+use Rattle.code_region.specs.Releasing.{after_release}
 use Rattle.hook_slots.specs.declared.making.Hook.{Hook}
 use Rattle.hook_slots.specs.State.{HooksState, hook_at}
 
@@ -19,5 +19,5 @@ abbrev pub without_hook : ℕ → List Hook → List Hook
 without_hook place hooks = filter (λ hook. not (hook.place == place)) hooks
 
 -- a removal releases the slot
-abbrev pub removed : HooksState → ℕ → HooksState
-removed state place = record state { region = released state.region place; hooks = without_hook place state.hooks }
+abbrev pub after_removal : HooksState → ℕ → HooksState
+after_removal state place = record state { region = after_release state.region place; hooks = without_hook place state.hooks }

@@ -9,7 +9,7 @@ use Rattle.hook_slots.specs.declared.commands.HookReply.{HookReply}
 use Rattle.hook_slots.specs.declared.commands.HookReply.TheVariants.{Installed, Refused, Removed, NotTaken as NotTakenReply}
 use Rattle.hook_slots.specs.State.{HooksState}
 use Rattle.hook_slots.specs.Installing.{IsInstalled}
-use Rattle.hook_slots.specs.Removing.{remove_answer, removed}
+use Rattle.hook_slots.specs.Removing.{remove_answer, after_removal}
 
 -- a function to be hooked has at most 1,048,576 bytes
 abbrev pub IsFit : HookCommand → Type 0
@@ -30,7 +30,7 @@ remove_reply (Err why) = NotTakenReply why.place
 abbrev pub IsDone : HooksState → HookCommand → HookReply → HooksState → Type 0
 IsDone old (Install ip code to start) reply new =
     (answer : Result ℕ InstallError) × ((reply ≡ install_reply answer) × IsInstalled old ip code.now to start answer new)
-IsDone old (Remove place) reply new = (reply ≡ remove_reply (remove_answer old place)) × (new ≡ removed old place)
+IsDone old (Remove place) reply new = (reply ≡ remove_reply (remove_answer old place)) × (new ≡ after_removal old place)
 
 -- the commands in order
 abbrev pub IsRun : HooksState → List HookCommand → List HookReply → HooksState → Type 0

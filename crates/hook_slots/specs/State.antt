@@ -2,7 +2,7 @@
 use Rattle.std.specs.Prelude.{ℕ, ◌/◌, ◌==◌, nat_lt, if◌then◌else◌, List, [], ◌∷◌, Option, find}
 use Rattle.x86_values.specs.declared.Bits.{Bits}
 use Rattle.code_region.specs.State.{RegionState}
-use Rattle.code_region.specs.Opening.{opened}
+use Rattle.code_region.specs.Opening.{empty_region}
 use Rattle.hook_slots.specs.declared.making.Hook.{Hook}
 
 -- the mode, the size of a slot, the region, and the live hooks by address
@@ -14,7 +14,7 @@ pub record HooksState : Type 0 where
 
 -- no live hook, and as many slots as the range has room for
 abbrev pub no_hooks : Bits → ℕ → ℕ → ℕ → HooksState
-no_hooks bits base size slot = record { bits = bits; slot = slot; region = opened base size (size / slot); hooks = [] }
+no_hooks bits base size slot = record { bits = bits; slot = slot; region = empty_region base size (size / slot); hooks = [] }
 
 -- the hooks with one more, by address
 abbrev pub with_hook : Hook → List Hook → List Hook

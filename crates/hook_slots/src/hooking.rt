@@ -1,11 +1,11 @@
 //! Hooks that are live.
 
 ghost use Rattle.std.specs.Prelude.{◌≡◌, ◌⊎◌, ◌≤◌, All, IfSome, IfOk, IfErr, OnErr, Err, Some, length};
-ghost use Rattle.code_region.specs.State.{image_of};
+ghost use Rattle.code_region.specs.State.{region_image};
 ghost use Rattle.hook_slots.specs.State.{no_hooks, hook_at};
 ghost use Rattle.hook_slots.specs.Opening.{make_refusal};
 ghost use Rattle.hook_slots.specs.Installing.{IsInstalled};
-ghost use Rattle.hook_slots.specs.Removing.{remove_answer, removed};
+ghost use Rattle.hook_slots.specs.Removing.{remove_answer, after_removal};
 ghost use Rattle.hook_slots.specs.Holding.{AreApart, AreDetours, HoldsHooks};
 
 use crate::laws_below::laws_below;
@@ -153,7 +153,7 @@ impl Hooks {
     /// Refused, with nothing changed, exactly where no trampoline of a live hook starts there.
     pub fn remove(&mut self, place: u64) -> Result<Hook, NotTaken>
         ensures answer { result ≡ remove_answer self.old place }
-        ensures state { self.new ≡ removed self.old place }
+        ensures state { self.new ≡ after_removal self.old place }
         ensures refused { OnErr result (self.new ≡ self.old) }
     {
         laws_below();
@@ -175,7 +175,7 @@ impl Hooks {
 
     /// The bytes of the range: the trampolines of the live hooks, and CC elsewhere.
     pub fn image(&self) -> &[u8]
-        ensures value { result.now ≡ image_of self.now.region }
+        ensures value { result.now ≡ region_image self.now.region }
         ensures hooks { HoldsHooks self.now result.now }
     {
         laws_below();

@@ -3,7 +3,7 @@
 ghost use Rattle.std.specs.Prelude.{◌≡◌, ◌<◌, ◌≤◌, Ok, IfOk, IfErr, length, take};
 ghost use Rattle.code_region.specs.Keeping.{IsSound};
 ghost use Rattle.detour.specs.Detours.{IsDetourAnswer};
-ghost use Rattle.hook_slots.specs.Installing.{IsHookAnswer, IsHookPlaced, IsForSlots, detour_refusal as detour_refusal_of, place_refusal as place_refusal_of};
+ghost use Rattle.hook_slots.specs.Installing.{IsHookAnswer, IsHookPlaced, IsForSlots, install_refusal, place_refusal as place_refusal_of};
 ghost use Rattle.hook_slots.specs.Keeping.{AreSpaced};
 
 use crate::laws_below::laws_below;
@@ -41,7 +41,7 @@ fn copy_of(alloc: Global, bytes: &[u8]) -> Result<Vec<u8>, AllocError>
 
 /// Why a function is not hooked, by why there is no detour.
 fn detour_refusal(why: DetourError) -> InstallError
-    ensures { result ≡ detour_refusal_of why }
+    ensures { result ≡ install_refusal why }
 {
     match why {
         DetourError::Memory => InstallError::Memory,

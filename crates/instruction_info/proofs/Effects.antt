@@ -5,7 +5,7 @@ use Rattle.std.specs.List.{list_all}
 use Rattle.std.proofs.lemmas.Bool.{ltb-true, leb-true, and_parts}
 use Rattle.instruction_info.specs.declared.effect.Effect.{Effect}
 use Rattle.instruction_info.specs.declared.generated_effects.TheConstants.{EFFECT_COUNT, REGISTER_COUNT, MEMORY_COUNT}
-use Rattle.instruction_info.specs.Effects.{indexes, effects, no_effect, effect_of, fits}
+use Rattle.instruction_info.specs.Effects.{indexes, effects, no_effect, effect_of, effect_fits}
 
 -- what passes on all of a list passes on what stands at a place
 pub all-at : {X : Type 0} (p : X → Bool) (xs : List X) (k : ℕ) (x : X) → list_all p xs ≡ true → slice_get xs k ≡ Some x → p x ≡ true
@@ -38,12 +38,12 @@ effect-known code k e at here =
 
 -- ---- effects
 
-effects_fit : list_all fits effects ≡ true
-unfolding effects fits
+effects_fit : list_all effect_fits effects ≡ true
+unfolding effects effect_fits
 effects_fit = refl
 
-pub effect-fits : (k : ℕ) (e : Effect) → slice_get effects k ≡ Some e → fits e ≡ true
-effect-fits k e at = all-at fits effects k e effects_fit at
+pub effect-fits : (k : ℕ) (e : Effect) → slice_get effects k ≡ Some e → effect_fits e ≡ true
+effect-fits k e at = all-at effect_fits effects k e effects_fit at
 
 -- the parts of the test
 abbrev registers_lie : Effect → Bool
@@ -58,22 +58,22 @@ memory_fits e = memory_lies e && nat_le e.memories 3
 abbrev rest_fits : Effect → Bool
 rest_fits e = nat_le e.registers 26 && memory_fits e
 
-pub registers-lie : (e : Effect) → fits e ≡ true → e.first_register + e.registers ≤ REGISTER_COUNT
-unfolding fits
+pub registers-lie : (e : Effect) → effect_fits e ≡ true → e.first_register + e.registers ≤ REGISTER_COUNT
+unfolding effect_fits
 registers-lie e h = leb-true (e.first_register + e.registers) REGISTER_COUNT (and_parts (registers_lie e) (rest_fits e) h).0
 
-rest-fits : (e : Effect) → fits e ≡ true → rest_fits e ≡ true
-unfolding fits
+rest-fits : (e : Effect) → effect_fits e ≡ true → rest_fits e ≡ true
+unfolding effect_fits
 rest-fits e h = (and_parts (registers_lie e) (rest_fits e) h).1
 
-pub registers-few : (e : Effect) → fits e ≡ true → e.registers ≤ 26
+pub registers-few : (e : Effect) → effect_fits e ≡ true → e.registers ≤ 26
 registers-few e h = leb-true e.registers 26 (and_parts (nat_le e.registers 26) (memory_fits e) (rest-fits e h)).0
 
-memory-fits : (e : Effect) → fits e ≡ true → memory_fits e ≡ true
+memory-fits : (e : Effect) → effect_fits e ≡ true → memory_fits e ≡ true
 memory-fits e h = (and_parts (nat_le e.registers 26) (memory_fits e) (rest-fits e h)).1
 
-pub memory-lies : (e : Effect) → fits e ≡ true → e.first_memory + e.memories ≤ MEMORY_COUNT
+pub memory-lies : (e : Effect) → effect_fits e ≡ true → e.first_memory + e.memories ≤ MEMORY_COUNT
 memory-lies e h = leb-true (e.first_memory + e.memories) MEMORY_COUNT (and_parts (memory_lies e) (nat_le e.memories 3) (memory-fits e h)).0
 
-pub memory-few : (e : Effect) → fits e ≡ true → e.memories ≤ 3
+pub memory-few : (e : Effect) → effect_fits e ≡ true → e.memories ≤ 3
 memory-few e h = leb-true e.memories 3 (and_parts (memory_lies e) (nat_le e.memories 3) (memory-fits e h)).1

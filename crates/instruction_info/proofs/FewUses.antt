@@ -29,9 +29,9 @@ use Rattle.instruction_info.specs.declared.effect.Effect.{Effect}
 use Rattle.instruction_info.specs.declared.effect.ImpliedMemory.{ImpliedMemory}
 use Rattle.instruction_info.specs.declared.memory.MemoryUse.{MemoryUse}
 use Rattle.instruction_info.specs.declared.setting.Setting.{Setting}
-use Rattle.instruction_info.specs.Effects.{indexes, effects, effect_of, fits, registers_of, memory_of}
+use Rattle.instruction_info.specs.Effects.{indexes, effects, effect_of, effect_fits, registers_of, implied_memory_of}
 use Rattle.instruction_info.specs.Settings.{setting_of}
-use Rattle.instruction_info.specs.Memory.{named_memory, named_uses, listed, implied_uses, all_memory}
+use Rattle.instruction_info.specs.Memory.{named_memory, named_uses, use_list, implied_uses, all_memory}
 use Rattle.instruction_info.proofs.Effects.{take-few, memory-few, registers-few}
 use Rattle.instruction_info.proofs.LawTests.{all_rows, each_row, each_effect}
 
@@ -59,9 +59,9 @@ all_few : all_rows is_few names table indexes ≡ true
 unfolding all_rows method_of effects indexes names table rows_in spots integer_rows integer_flat x87_rows x87_flat sse_rows sse_flat vex_rows vex_flat
 all_few = refl
 
-effects_fit : (code : ℕ) → fits (effect_of code) ≡ true
-unfolding fits effects
-effects_fit code = each_effect fits refl refl code
+effects_fit : (code : ℕ) → effect_fits (effect_of code) ≡ true
+unfolding effect_fits effects
+effects_fit code = each_effect effect_fits refl refl code
 
 -- ---- operands
 
@@ -155,7 +155,7 @@ fewest_named row i formed one =
 
 -- ---- memory
 
-listed_few : (m : Option MemoryUse) → length (listed m) ≤ 1
+listed_few : (m : Option MemoryUse) → length (use_list m) ≤ 1
 listed_few None = omega arith
 listed_few (Some m) = omega arith
 
@@ -165,10 +165,10 @@ implied_many s [] = refl
 implied_many s (m ∷ ms) = omega (arith, implied_many s ms)
 
 few_memories : (bits : Bits) (i : Instr) → length (all_memory bits i) ≤ 1 + (effect_of i.code.0).memories
-unfolding all_memory memory_of
+unfolding all_memory implied_memory_of
 few_memories bits i =
     let s = setting_of bits i in
-    let ms = memory_of i.code.0 in
+    let ms = implied_memory_of i.code.0 in
     let taken : length ms ≤ (effect_of i.code.0).memories = take-few (effect_of i.code.0).memories _ in
     omega (arith, length-append (named_uses s i) (implied_uses s ms), listed_few (named_memory s i), implied_many s ms, taken)
 

@@ -19,7 +19,7 @@ use Rattle.operand_info.specs.Names.{is_jump, is_call, is_conditional, is_return
 use Rattle.operand_info.specs.Columns.{has_direct_target, flow_at}
 use Rattle.operand_info.specs.ByCode.{flow_in, flow_of}
 use Rattle.instruction_info.specs.declared.effect.Effect.{Effect}
-use Rattle.instruction_info.specs.Effects.{indexes, effects, memory_list, no_effect, effect_of, memory_in, memory_of, flags_read, flags_written, flags_cleared, flags_set, flags_undefined, flags_kept, features_of, registers_of}
+use Rattle.instruction_info.specs.Effects.{indexes, effects, memory_list, no_effect, effect_of, memory_in, implied_memory_of, flags_read, flags_written, flags_cleared, flags_set, flags_undefined, flags_kept, features_of, registers_of}
 use Rattle.operand_info.specs.Operands.{uses}
 use Rattle.instruction_info.specs.declared.registers.RegisterUse.{RegisterUse}
 use Rattle.instruction_info.specs.Settings.{has_repeat, setting_of}
@@ -200,13 +200,13 @@ pushes_if-true false system pushes h calls user = cc
 pushes_if-true true true pushes h calls user = cc
 pushes_if-true true false pushes h calls user = h
 
-pub call-pushes : (code : ℕ) (row : Row) → slice_get table code ≡ Some row → IsTrue (is_calling (flow_of code)) → is_system_call (name_of code) ≡ false → IsTrue (list_any is_push (memory_of code))
-unfolding memory_of
+pub call-pushes : (code : ℕ) (row : Row) → slice_get table code ≡ Some row → IsTrue (is_calling (flow_of code)) → is_system_call (name_of code) ≡ false → IsTrue (list_any is_push (implied_memory_of code))
+unfolding implied_memory_of
 call-pushes code row at calls user =
     pushes_if-true _ _ _ (row-passes code row at).call (ap (λ f. is_calling f) (sym (flow-row code row at)) ∙ calls) user
 
-pub return-pops : (code : ℕ) (row : Row) → slice_get table code ≡ Some row → IsTrue (is_returning (flow_of code)) → is_system_return (name_of code) ≡ false → IsTrue (list_any is_pop (memory_of code))
-unfolding memory_of
+pub return-pops : (code : ℕ) (row : Row) → slice_get table code ≡ Some row → IsTrue (is_returning (flow_of code)) → is_system_return (name_of code) ≡ false → IsTrue (list_any is_pop (implied_memory_of code))
+unfolding implied_memory_of
 return-pops code row at returns user =
     pushes_if-true _ _ _ (row-passes code row at).return_ (ap (λ f. is_returning f) (sym (flow-row code row at)) ∙ returns) user
 

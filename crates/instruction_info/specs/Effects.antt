@@ -28,8 +28,8 @@ unfoldable pub memory_list : List ImpliedMemory
 memory_list = IMPLIED_MEMORY
 
 -- the registers and the memory of an effect are few, and lie in their lists
-unfoldable pub fits : Effect → Bool
-fits e =
+unfoldable pub effect_fits : Effect → Bool
+effect_fits e =
     nat_le (e.first_register + e.registers) REGISTER_COUNT
     && (nat_le e.registers 26 && (nat_le (e.first_memory + e.memories) MEMORY_COUNT && nat_le e.memories 3))
 
@@ -92,12 +92,12 @@ unfoldable pub register_features_of : ℕ → ℕ
 register_features_of code = (effect_of code).register_features
 
 -- an operand is memory
-abbrev pub has_memory : Instr → Bool
-has_memory i = list_any is_memory i.ops
+abbrev pub names_memory : Instr → Bool
+names_memory i = list_any is_memory i.ops
 
 -- the features that an instruction needs: those of its form, with memory or without
 unfoldable pub needed_features : Instr → ℕ
-needed_features i = if has_memory i then features_of i.code.0 else register_features_of i.code.0
+needed_features i = if names_memory i then features_of i.code.0 else register_features_of i.code.0
 
 -- the registers that an effect implies
 abbrev pub registers_in : Effect → List ImpliedRegister
@@ -112,5 +112,5 @@ unfoldable pub registers_of : ℕ → List ImpliedRegister
 registers_of code = registers_in (effect_of code)
 
 -- the memory that no operand names
-unfoldable pub memory_of : ℕ → List ImpliedMemory
-memory_of code = memory_in (effect_of code)
+unfoldable pub implied_memory_of : ℕ → List ImpliedMemory
+implied_memory_of code = memory_in (effect_of code)

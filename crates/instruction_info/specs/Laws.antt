@@ -17,7 +17,7 @@ use Rattle.instruction_info.specs.declared.effect.SegmentRule.{SegmentRule}
 use Rattle.instruction_info.specs.declared.effect.SegmentRule.TheVariants as rule
 use Rattle.instruction_info.specs.declared.effect.ImpliedMemory.{ImpliedMemory}
 use Rattle.instruction_info.specs.declared.registers.RegisterUse.{RegisterUse}
-use Rattle.instruction_info.specs.Settings.{setting_of, general_register}
+use Rattle.instruction_info.specs.Settings.{setting_of, register_of_size}
 
 -- ---- conditions
 
@@ -115,7 +115,7 @@ is_string_row row = not (is_vex_row row) && (is_one row.map && is_string_opcode 
 
 -- the use of the counter of a repeat prefix
 abbrev pub counter : Bits → Instr → RegisterUse
-counter bits i = record { reg = general_register (setting_of bits i).address 1; access = ReadConditionalWrite }
+counter bits i = record { reg = register_of_size (setting_of bits i).address 1; access = ReadConditionalWrite }
 
 -- ---- features
 

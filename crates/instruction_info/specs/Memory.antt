@@ -11,7 +11,7 @@ use Rattle.x86_values.specs.declared.Mem.{Mem}
 use Rattle.x86_values.specs.declared.Operand.{Operand}
 use Rattle.x86_values.specs.declared.Operand.TheVariants.{Mem as Memory}
 use Rattle.x86_values.specs.declared.Instr.{Instr}
-use Rattle.x86_values.specs.Wrapping.{wrapped}
+use Rattle.x86_values.specs.Wrapping.{modulo_width}
 use Rattle.instruction_parts.specs.Sizes.{size_bytes}
 use Rattle.plain_spelling.specs.Forms.{operand_at}
 use Rattle.operand_info.specs.declared.columns.Access.{Access}
@@ -26,7 +26,7 @@ use Rattle.instruction_info.specs.declared.effect.SegmentRule.TheVariants as rul
 use Rattle.instruction_info.specs.declared.effect.ImpliedMemory.{ImpliedMemory}
 use Rattle.instruction_info.specs.declared.memory.MemoryUse.{MemoryUse}
 use Rattle.instruction_info.specs.declared.setting.Setting.{Setting}
-use Rattle.instruction_info.specs.Effects.{effect_of, memory_of}
+use Rattle.instruction_info.specs.Effects.{effect_of, implied_memory_of}
 use Rattle.instruction_info.specs.Settings.{setting_of, register_in, done}
 
 -- ---- segments
@@ -40,13 +40,13 @@ overridden B16 segment default = segment
 overridden B32 segment default = segment
 
 -- the segment of an address: the default one where no prefix names another
-abbrev pub segment_by : Option Segment → Bits → Segment → Segment
-segment_by None bits default = default
-segment_by (Some segment) bits default = overridden bits segment default
+abbrev pub segment_by_prefix : Option Segment → Bits → Segment → Segment
+segment_by_prefix None bits default = default
+segment_by_prefix (Some segment) bits default = overridden bits segment default
 
 -- the segment of an address in a setting
 abbrev pub segment_with : Setting → Segment → Segment
-segment_with s default = segment_by s.seg s.bits default
+segment_with s default = segment_by_prefix s.seg s.bits default
 
 -- the number is that of rSP or rBP
 abbrev pub is_stack_number : ℕ → Bool
@@ -82,8 +82,8 @@ named_access named.ConditionalRead access = Some ConditionalRead
 named_access named.ConditionalWrite access = Some ConditionalWrite
 
 -- its bytes: the column, or what the effect says where the column has none
-abbrev pub named_size : ℕ → ℕ
-named_size code = if (effect_of code).size == 0 then memory_size code else (effect_of code).size
+abbrev pub named_memory_size : ℕ → ℕ
+named_memory_size code = if (effect_of code).size == 0 then memory_size code else (effect_of code).size
 
 -- its use
 abbrev pub operand_memory : Setting → ℕ → Mem → AccessKind → MemoryUse
@@ -93,7 +93,7 @@ operand_memory s code m access = record {
   index = m.index;
   scale = m.scale;
   disp = m.disp;
-  size = named_size code;
+  size = named_memory_size code;
   access = access;
 }
 
@@ -103,26 +103,26 @@ used_if s code m None = None
 used_if s code m (Some access) = Some (operand_memory s code m access)
 
 -- the use of an operand with its access, if it is memory to which something is done
-abbrev pub operand_use : Setting → ℕ → Operand → Access → Option MemoryUse
-operand_use s code (Memory m) access = used_if s code m (named_access (effect_of code).named access)
-operand_use s code _ access = None
+abbrev pub operand_memory_use : Setting → ℕ → Operand → Access → Option MemoryUse
+operand_memory_use s code (Memory m) access = used_if s code m (named_access (effect_of code).named access)
+operand_memory_use s code _ access = None
 
 -- the use of operand n
 unfoldable pub named_at : Setting → Instr → ℕ → Option MemoryUse
-named_at s i n = operand_use s i.code.0 (operand_at i n) (access_of i.code.0 n)
+named_at s i n = operand_memory_use s i.code.0 (operand_at i n) (access_of i.code.0 n)
 
 -- the use of the first operand that is memory to which something is done
 abbrev pub named_memory : Setting → Instr → Option MemoryUse
 named_memory s i = option_or (named_at s i 0) (option_or (named_at s i 1) (option_or (named_at s i 2) (named_at s i 3)))
 
 -- one or none
-abbrev pub listed : Option MemoryUse → List MemoryUse
-listed None = []
-listed (Some m) = m ∷ []
+abbrev pub use_list : Option MemoryUse → List MemoryUse
+use_list None = []
+use_list (Some m) = m ∷ []
 
 -- the uses of the memory operand
 abbrev pub named_uses : Setting → Instr → List MemoryUse
-named_uses s i = listed (named_memory s i)
+named_uses s i = use_list (named_memory s i)
 
 -- ---- implied memory
 
@@ -152,7 +152,7 @@ implied_use s m = record {
   base = Some (register_in s m.group m.number);
   index = if m.al then Some (Low8 0) else None;
   scale = 1;
-  disp = if m.below then wrapped s.bits (2 ^ 64 - implied_size s m) else 0;
+  disp = if m.below then modulo_width s.bits (2 ^ 64 - implied_size s m) else 0;
   size = implied_size s m;
   access = done s m.access;
 }
@@ -166,4 +166,4 @@ implied_uses s (m ∷ ms) = implied_use s m ∷ implied_uses s ms
 
 -- the memory operand, then what is implied
 unfoldable pub all_memory : Bits → Instr → List MemoryUse
-all_memory bits i = named_uses (setting_of bits i) i ++ implied_uses (setting_of bits i) (memory_of i.code.0)
+all_memory bits i = named_uses (setting_of bits i) i ++ implied_uses (setting_of bits i) (implied_memory_of i.code.0)

@@ -20,7 +20,7 @@ use Rattle.instruction_info.specs.declared.memory.MemoryUse.{MemoryUse}
 use Rattle.instruction_info.specs.declared.registers.RegisterUse.{RegisterUse}
 use Rattle.instruction_info.specs.declared.setting.Setting.{Setting}
 use Rattle.instruction_info.specs.Effects.{registers_of}
-use Rattle.instruction_info.specs.Settings.{setting_of, general_register, register_in, done}
+use Rattle.instruction_info.specs.Settings.{setting_of, register_of_size, register_in, done}
 use Rattle.instruction_info.specs.Memory.{all_memory}
 
 -- the widest register that holds a register (volume 1, 3.4.1.1 and 14.1.1)
@@ -104,7 +104,7 @@ implied_uses s (one ∷ rest) = implied_use s one ++ implied_uses s rest
 
 -- the counter of a repeat prefix, by the address size: it is read, and counted down where it was not 0 (REP)
 abbrev pub counter_use : Setting → List RegisterUse
-counter_use s = if s.repeated then record { reg = general_register s.address 1; access = ReadConditionalWrite } ∷ [] else []
+counter_use s = if s.repeated then record { reg = register_of_size s.address 1; access = ReadConditionalWrite } ∷ [] else []
 
 -- ---- all of them
 

@@ -23,16 +23,16 @@ use Rattle.instruction_info.specs.Effects.{effect_of}
 -- ---- sizes
 
 -- the operand size that a row asks for, or that its W is; 32 where it asks for none
-abbrev pub size_named : Size → Bits
-size_named O16 = B16
-size_named O64 = B64
-size_named W1 = B64
-size_named _ = B32
+abbrev pub named_operand_size : Size → Bits
+named_operand_size O16 = B16
+named_operand_size O64 = B64
+named_operand_size W1 = B64
+named_operand_size _ = B32
 
 -- the operand size that a row asks for, or 32 where there is no row
 abbrev pub size_in : Option Row → Bits
 size_in None = B32
-size_in (Some row) = size_named row.size
+size_in (Some row) = named_operand_size row.size
 
 -- there is a repeat prefix
 abbrev pub has_repeat : Rep → Bool
@@ -52,10 +52,10 @@ setting_of bits i = record {
 -- ---- registers
 
 -- the general register of a size
-abbrev pub general_register : Bits → ℕ → Register
-general_register B16 n = R16 n
-general_register B32 n = R32 n
-general_register B64 n = R64 n
+abbrev pub register_of_size : Bits → ℕ → Register
+register_of_size B16 n = R16 n
+register_of_size B32 n = R32 n
+register_of_size B64 n = R64 n
 
 -- the general register of 64 bits in 64-bit mode, and else of 32
 abbrev pub wide : Bits → ℕ → Register
@@ -63,8 +63,8 @@ wide B64 n = R64 n
 wide _ n = R32 n
 
 -- the segment register of a number (volume 2, table 3-1)
-abbrev pub segment_of : ℕ → Segment
-segment_of n =
+abbrev pub segment_of_number : ℕ → Segment
+segment_of_number n =
     if n == 0 then Es
     else (if n == 1 then Cs
     else (if n == 2 then Ss
@@ -79,11 +79,11 @@ register_in s group.High8 n = High8 n
 register_in s group.R16 n = R16 n
 register_in s group.R32 n = R32 n
 register_in s group.R64 n = R64 n
-register_in s group.Operand n = general_register s.operand n
-register_in s group.Address n = general_register s.address n
-register_in s group.Stack n = general_register s.bits n
+register_in s group.Operand n = register_of_size s.operand n
+register_in s group.Address n = register_of_size s.address n
+register_in s group.Stack n = register_of_size s.bits n
 register_in s group.Wide n = wide s.bits n
-register_in s group.Segment n = Seg (segment_of n)
+register_in s group.Segment n = Seg (segment_of_number n)
 register_in s group.Control n = Cr n
 register_in s group.X87 n = St n
 register_in s group.Xmm n = Xmm n

@@ -198,7 +198,7 @@ pub fn implied_registers(code: Code) -> &'static [ImpliedRegister]
 #[inline]
 pub fn implied_memory(code: Code) -> &'static [ImpliedMemory]
     requires { code.0 < ROWS }
-    ensures value { result.now ≡ spec.memory_of code.0 }
+    ensures value { result.now ≡ spec.implied_memory_of code.0 }
     ensures few { length result.now ≤ 3 }
 {
     let effect = effect_at(code);

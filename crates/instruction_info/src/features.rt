@@ -113,7 +113,7 @@ fn register_features_of(code: Code) -> Features
 /// Whether an operand is memory.
 #[inline]
 fn has_memory(instr: &Instr) -> bool
-    ensures { result ≡ spec.has_memory instr.now }
+    ensures { result ≡ spec.names_memory instr.now }
 {
     instr.ops.iter().any(|op| op.is_memory())
 }

@@ -10,7 +10,7 @@ ghost use Rattle.opcode_rows.specs.Table.{table, name_of};
 ghost use Rattle.operand_info.specs.ByCode.{flow_of};
 ghost use Rattle.operand_info.specs.Names.{is_system_call};
 ghost use Rattle.instruction_info.specs.declared.registers.RegisterUse.{RegisterUse};
-ghost use Rattle.instruction_info.specs.Effects.{effect_of, memory_of, flags_read, flags_written, flags_cleared, flags_set, flags_undefined, flags_kept, features_of};
+ghost use Rattle.instruction_info.specs.Effects.{effect_of, implied_memory_of, flags_read, flags_written, flags_cleared, flags_set, flags_undefined, flags_kept, features_of};
 ghost use Rattle.instruction_info.specs.Settings.{has_repeat};
 ghost use Rattle.instruction_info.specs.Registers.{all_registers};
 ghost use Rattle.instruction_info.specs.Laws.{tested_flags, is_calling, is_returning, is_system_return, is_push, is_pop, is_string_row, counter, added_features};
@@ -31,13 +31,13 @@ pub fn conditions_are_read()
 /// Each call but those of the system writes to the stack below its pointer.
 pub fn calls_push()
     ensures { (code : ℕ) (row : Row) → slice_get table code ≡ Some row → IsTrue (is_calling (flow_of code))
-        → is_system_call (name_of code) ≡ false → IsTrue (list_any is_push (memory_of code)) }
+        → is_system_call (name_of code) ≡ false → IsTrue (list_any is_push (implied_memory_of code)) }
 {}
 
 /// Each return but those from system calls reads the stack at its pointer.
 pub fn returns_pop()
     ensures { (code : ℕ) (row : Row) → slice_get table code ≡ Some row → IsTrue (is_returning (flow_of code))
-        → is_system_return (name_of code) ≡ false → IsTrue (list_any is_pop (memory_of code)) }
+        → is_system_return (name_of code) ≡ false → IsTrue (list_any is_pop (implied_memory_of code)) }
 {}
 
 /// A repeat prefix repeats the string instructions and no other row, and behind one the counter is the last of all registers.

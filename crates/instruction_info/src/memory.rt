@@ -90,7 +90,7 @@ fn named_access(named: NamedMemory, access: Access) -> Option<AccessKind>
 /// The bytes of the memory operand of a code below `ROWS`.
 fn named_size(code: Code) -> u16
     requires { code.0 < ROWS }
-    ensures { result ≡ spec.named_size code.0 }
+    ensures { result ≡ spec.named_memory_size code.0 }
 {
     let size = stated_size(code);
     if size == 0 {
@@ -130,7 +130,7 @@ fn used_if(setting: Setting, code: Code, m: Mem, access: Option<AccessKind>) -> 
 /// The use of an operand with its access, if it is memory to which something is done.
 fn operand_use(setting: Setting, code: Code, operand: Operand, access: Access) -> Option<MemoryUse>
     requires { code.0 < ROWS }
-    ensures { result ≡ spec.operand_use setting code.0 operand access }
+    ensures { result ≡ spec.operand_memory_use setting code.0 operand access }
 {
     match operand {
         Operand::Mem(m) => { used_if(setting, code, m, named_access(stated_access(code), access)) }

@@ -22,7 +22,7 @@ pub struct Setting {
 /// The operand size that a row asks for; 32 where it asks for none.
 #[inline]
 fn operand_size(size: Size) -> Bits
-    ensures { result ≡ spec.size_named size }
+    ensures { result ≡ spec.named_operand_size size }
 {
     match size {
         Size::O16 => Bits::B16,
@@ -69,7 +69,7 @@ pub fn setting_of(bits: Bits, instr: &Instr) -> Setting
 /// The general register of a size.
 #[inline]
 pub fn general_register(size: Bits, n: u8) -> Register
-    ensures { result ≡ spec.general_register size n }
+    ensures { result ≡ spec.register_of_size size n }
 {
     match size {
         Bits::B16 => Register::R16(n),
@@ -92,7 +92,7 @@ fn wide(bits: Bits, n: u8) -> Register
 /// The segment register of a number, GS from 5 on.
 #[inline]
 fn segment_of(n: u8) -> Segment
-    ensures { result ≡ spec.segment_of n }
+    ensures { result ≡ spec.segment_of_number n }
 {
     match n {
         0 => Segment::Es,

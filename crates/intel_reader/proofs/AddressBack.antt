@@ -16,7 +16,7 @@ use Rattle.plain_form.proofs.AddressCases as same
 use Rattle.text_parts.specs.Addresses.{is_instruction_pointer, is_relative, is_absolute, is_negative, magnitude}
 use Rattle.intel_words.specs.declared.words.Inside.{Inside}
 use Rattle.intel_words.specs.declared.words.Inside.TheVariants.{Nothing, Lone}
-use Rattle.intel_words.specs.Words.{is_eip, lone_of, signed_of, scale_of, sum_of, inside_of}
+use Rattle.intel_words.specs.Words.{is_eip, lone_of, signed_of, shown_scale, sum_of, inside_of}
 use Rattle.intel_reader.specs.Candidate.{signed_number, displacement_from, address_from}
 
 -- ---- numbers
@@ -90,8 +90,8 @@ scale_wide : (m : Mem) (index : Option Register) → m.index ≡ index → (inde
 scale_wide m None e h = rw e (sym (h refl))
 scale_wide m (Some r) e h = rw e refl
 
-scale_back : (a : Bits) (m : Mem) → ScaleIs a m.index m.scale → unwrap_or (scale_of a m) 1 ≡ m.scale
-unfolding scale_of
+scale_back : (a : Bits) (m : Mem) → ScaleIs a m.index m.scale → unwrap_or (shown_scale a m) 1 ≡ m.scale
+unfolding shown_scale
 scale_back B16 m s = sym (s.short refl)
 scale_back B32 m s = scale_wide m m.index refl s.alone
 scale_back B64 m s = scale_wide m m.index refl s.alone

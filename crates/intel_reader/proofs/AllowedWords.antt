@@ -10,7 +10,7 @@ use Rattle.x86_values.specs.declared.Operand.{Operand}
 use Rattle.x86_values.specs.declared.Operand.TheVariants.{Mem as MemOperand}
 use Rattle.x86_values.specs.declared.Code.{Code}
 use Rattle.x86_values.specs.declared.Instr.{Instr}
-use Rattle.x86_values.specs.Wrapping.{wrapped}
+use Rattle.x86_values.specs.Wrapping.{modulo_width}
 use Rattle.row_types.specs.declared.Row.{Row}
 use Rattle.instruction_parts.specs.declared.kinds.Method.{Method}
 use Rattle.instruction_parts.specs.Kinds.{method_of}
@@ -18,7 +18,8 @@ use Rattle.instruction_parts.specs.Sizes.{has_address_mark}
 use Rattle.row_fit.specs.Fits.{kind_at}
 use Rattle.opcode_rows.specs.Table.{table}
 use Rattle.x86_values.specs.Comparing.{same_bits}
-use Rattle.plain_spelling.specs.Forms.{is_memory, operand_at}
+use Rattle.x86_values.specs.Operands.{is_memory}
+use Rattle.plain_spelling.specs.Forms.{operand_at}
 use Rattle.plain_spelling.specs.Addresses.{has_address_size, displacement_suits, shown_size, written_size}
 use Rattle.plain_spelling.specs.Expressible.{displacement_offered, told_size, size_agrees, has_memory_operand, is_size_of, address_size_suits}
 use Rattle.plain_spelling.proofs.Asked.{each-at}
@@ -40,11 +41,11 @@ unfolding candidate
 code_is bits row code words asize size = refl
 
 pub made_given : (bits : Bits) (ip : ℕ) (text : List ℕ) (b : Assembly) (row : Row) (code : Code) (words : IntelWords) (asize : Option Bits) (size : DispSize) → IsCandidate bits ip text b → slice_get table code.0 ≡ Some row
-    → candidate bits row code words asize size ≡ b.instr → Given bits (wrapped bits ip) row (candidate bits row code words asize size)
+    → candidate bits row code words asize size ≡ b.instr → Given bits (modulo_width bits ip) row (candidate bits row code words asize size)
 made_given bits ip text b row code words asize size k at e =
     let same : b.instr.code.0 ≡ code.0 = ap (λ (i : Instr). i.code.0) (sym e) ∙ ap (λ (c : Code). c.0) (code_is bits row code words asize size) in
     let there : slice_get table b.instr.code.0 ≡ Some row = ap (slice_get table) same ∙ at in
-    subst (λ (i : Instr). Given bits (wrapped bits ip) row i) (sym e) (plain_is_ready bits (wrapped bits ip) b.bytes row b.instr k.spelled there).given
+    subst (λ (i : Instr). Given bits (modulo_width bits ip) row i) (sym e) (plain_is_ready bits (modulo_width bits ip) b.bytes row b.instr k.spelled there).given
 
 pub made_at : (bits : Bits) (row : Row) (code : Code) (words : IntelWords) (asize : Option Bits) (size : DispSize) (n : ℕ) → n < 4
     → operand_at (candidate bits row code words asize size) n ≡ operand_from (is_near_at row n) (unwrap_or asize bits) size (text_at words n)

@@ -5,7 +5,7 @@ use Rattle.x86_values.specs.declared.Bits.{Bits}
 use Rattle.x86_values.specs.declared.DispSize.{DispSize}
 use Rattle.x86_values.specs.declared.Code.{Code}
 use Rattle.x86_values.specs.declared.Instr.{Instr}
-use Rattle.x86_values.specs.Wrapping.{wrapped}
+use Rattle.x86_values.specs.Wrapping.{modulo_width}
 use Rattle.row_types.specs.declared.Row.{Row}
 use Rattle.opcode_rows.specs.Table.{table, name_of}
 use Rattle.text_parts.specs.declared.style.Style.TheVariants.{Intel}
@@ -28,9 +28,9 @@ ShowsWords =
 back : (bits : Bits) (ip : ℕ) (text : List ℕ) (b : Assembly) (row : Row) (words : IntelWords) (size : DispSize) → IsCandidate bits ip text b → slice_get table b.instr.code.0 ≡ Some row → HasSize size b.instr
     → words ≡ words_of bits row (name_of b.instr.code.0) b.instr → candidate bits row b.instr.code words b.instr.asize size ≡ b.instr
 back bits ip text b row words size k at sized w =
-    let ready = plain_is_ready bits (wrapped bits ip) b.bytes row b.instr k.spelled at in
+    let ready = plain_is_ready bits (modulo_width bits ip) b.bytes row b.instr k.spelled at in
     ap (λ (v : IntelWords). candidate bits row b.instr.code v b.instr.asize size) w
-    ∙ candidate_back bits (wrapped bits ip) row (name_of b.instr.code.0) b.instr size ready.given sized
+    ∙ candidate_back bits (modulo_width bits ip) row (name_of b.instr.code.0) b.instr size ready.given sized
 
 -- **they are one**
 pub are_one : ShowsWords → (bits : Bits) (ip : ℕ) (text : List ℕ) (a b : Assembly) (size : DispSize) → IsCandidate bits ip text a → IsCandidate bits ip text b

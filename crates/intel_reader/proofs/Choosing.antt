@@ -7,7 +7,7 @@ use Rattle.x86_values.specs.declared.Bits.{Bits}
 use Rattle.x86_values.specs.declared.DispSize.{DispSize}
 use Rattle.x86_values.specs.declared.Code.{Code}
 use Rattle.x86_values.specs.declared.Instr.{Instr}
-use Rattle.x86_values.specs.Wrapping.{wrapped}
+use Rattle.x86_values.specs.Wrapping.{modulo_width}
 use Rattle.row_types.specs.declared.Row.{Row}
 use Rattle.plain_laws.specs.Plain.{IsPlainlySpelled}
 use Rattle.opcode_rows.specs.declared.generated_spots.TheConstants.{ROWS}
@@ -27,7 +27,7 @@ use Rattle.intel_words.specs.Printable.{is_printable}
 use Rattle.plain_form.proofs.AddressCases.{impossible}
 use Rattle.intel_reader.specs.declared.choice.Found.{Found}
 use Rattle.intel_reader.specs.Assembled.{Assembly, IsCandidate, IsFirst, IsNoText}
-use Rattle.intel_reader.specs.Choice.{assembly_of, Leads, IsHeld, IsProgress}
+use Rattle.intel_reader.specs.Choice.{assembly_of, LeadsChoice, IsHeld, IsProgress}
 use Rattle.intel_reader.specs.Candidate.{candidate}
 use Rattle.intel_reader.proofs.CandidateBack.{candidate_back}
 use Rattle.intel_reader.proofs.Printed.{plain_is_printable}
@@ -38,12 +38,12 @@ use Rattle.intel_reader.proofs.PlainFacts.{plain_is_ready, row_there, size_there
 pub same_assembly : (i j : Instr) (bs cs : List ℕ) → i ≡ j → bs ≡ cs → (let a : Assembly = record { instr = i; bytes = bs } in let b : Assembly = record { instr = j; bytes = cs } in a ≡ b)
 same_assembly i j bs cs ei eb = cc
 
-pub spelled_as : (bits : Bits) (ip : ℕ) (text : List ℕ) (b : Assembly) (i : Instr) → IsCandidate bits ip text b → i ≡ b.instr → IsPlainlySpelled table bits (wrapped bits ip) b.bytes i
-spelled_as bits ip text b i k e = subst (λ (x : Instr). IsPlainlySpelled table bits (wrapped bits ip) b.bytes x) (sym e) k.spelled
+pub spelled_as : (bits : Bits) (ip : ℕ) (text : List ℕ) (b : Assembly) (i : Instr) → IsCandidate bits ip text b → i ≡ b.instr → IsPlainlySpelled table bits (modulo_width bits ip) b.bytes i
+spelled_as bits ip text b i k e = subst (λ (x : Instr). IsPlainlySpelled table bits (modulo_width bits ip) b.bytes x) (sym e) k.spelled
 
 pub well_of : (bits : Bits) (ip : ℕ) (text : List ℕ) (b : Assembly) (i : Instr) → IsCandidate bits ip text b → i ≡ b.instr → is_well_formed i ≡ true
 well_of bits ip text b i k e =
-    let there = row_there bits (wrapped bits ip) b.bytes b.instr k.spelled in
+    let there = row_there bits (modulo_width bits ip) b.bytes b.instr k.spelled in
     ap is_well_formed e ∙ there.2.well
 
 -- ---- the candidate of a row
@@ -56,12 +56,12 @@ pub made_is : (bits : Bits) (ip : ℕ) (text : List ℕ) (b : Assembly) (row : R
     → words ≡ words_of bits row (name_of b.instr.code.0) b.instr → (size : DispSize) × (candidate bits row code words b.instr.asize size ≡ b.instr)
 made_is bits ip text b row code words k at e w =
     let i = b.instr in
-    let ready = plain_is_ready bits (wrapped bits ip) b.bytes row i k.spelled at in
+    let ready = plain_is_ready bits (modulo_width bits ip) b.bytes row i k.spelled at in
     let size = size_there i ready.well in (
       size.0,
       ap (λ (c : Code). candidate bits row c words i.asize size.0) (same_code code i.code (sym e))
           ∙ ap (λ (v : IntelWords). candidate bits row i.code v i.asize size.0) w
-          ∙ candidate_back bits (wrapped bits ip) row (name_of i.code.0) i size.0 ready.given size.1,
+          ∙ candidate_back bits (modulo_width bits ip) row (name_of i.code.0) i size.0 ready.given size.1,
     )
 
 -- ---- names
@@ -94,9 +94,9 @@ pub printed_facts : (bits : Bits) (ip : ℕ) (text : List ℕ) (b : Assembly) (r
 unfolding intel_text text_of
 printed_facts bits ip text b row k at =
     let i = b.instr in
-    let ready = plain_is_ready bits (wrapped bits ip) b.bytes row i k.spelled at in
+    let ready = plain_is_ready bits (modulo_width bits ip) b.bytes row i k.spelled at in
     record {
-      printable = plain_is_printable bits (wrapped bits ip) row i at ready.below ready.formed ready.given;
+      printable = plain_is_printable bits (modulo_width bits ip) row i at ready.below ready.formed ready.given;
       layout = text-known (λ r name. bracket_layout Intel bits r name i) i.code.0 row (name_of i.code.0) at refl ∙ k.printed;
     }
 
@@ -106,12 +106,12 @@ row_of_candidate bits ip text b k = (k.spelled.row, k.spelled.row_is)
 
 -- ---- all candidates
 
-pub first_from : (bits : Bits) (ip : ℕ) (text : List ℕ) (best : Option Found) → IsHeld bits ip text best → ((b : Assembly) → IsCandidate bits ip text b → Leads best b)
+pub first_from : (bits : Bits) (ip : ℕ) (text : List ℕ) (best : Option Found) → IsHeld bits ip text best → ((b : Assembly) → IsCandidate bits ip text b → LeadsChoice best b)
     → IfSome best (λ f. IsFirst bits ip text (assembly_of f))
 first_from bits ip text None held led = tt
 first_from bits ip text (Some f) held led = record { candidate = held; first = λ b k. led b k }
 
-pub none_from : (bits : Bits) (ip : ℕ) (text : List ℕ) (best : Option Found) → ((b : Assembly) → IsCandidate bits ip text b → Leads best b) → IsNone best → IsNoText bits ip text
+pub none_from : (bits : Bits) (ip : ℕ) (text : List ℕ) (best : Option Found) → ((b : Assembly) → IsCandidate bits ip text b → LeadsChoice best b) → IsNone best → IsNoText bits ip text
 none_from bits ip text None led e = λ a k. led a k
 none_from bits ip text (Some f) led e = λ a k. impossible e
 
@@ -130,7 +130,7 @@ pub index_below : (k x : ℕ) → slice_get order k ≡ Some x → k < ROWS
 index_below k x h = omega (some_below order k x h, length-order, arith)
 
 pub code_below : (bits : Bits) (ip : ℕ) (text : List ℕ) (b : Assembly) → IsCandidate bits ip text b → b.instr.code.0 < ROWS
-code_below bits ip text b k = (row_there bits (wrapped bits ip) b.bytes b.instr k.spelled).2.below
+code_below bits ip text b k = (row_there bits (modulo_width bits ip) b.bytes b.instr k.spelled).2.below
 
 same_index : (o : Option ℕ) (x y : ℕ) → o ≡ Some x → o ≡ Some y → x ≡ y
 same_index o x y e f = cc
@@ -163,8 +163,8 @@ last_or_below (suc k) (suc n) h = elim (last_or_below k n (omega arith)) [
 ]
 
 -- one index more was gone over
-pub index_led : (bits : Bits) (ip : ℕ) (text : List ℕ) (led after : Option Found) (b : Assembly) (index k : ℕ) → IsProgress bits ip text led after → (k < index → slice_get order k ≡ Some b.instr.code.0 → Leads led b)
-    → (slice_get order index ≡ Some b.instr.code.0 → Leads after b) → k < suc index → slice_get order k ≡ Some b.instr.code.0 → Leads after b
+pub index_led : (bits : Bits) (ip : ℕ) (text : List ℕ) (led after : Option Found) (b : Assembly) (index k : ℕ) → IsProgress bits ip text led after → (k < index → slice_get order k ≡ Some b.instr.code.0 → LeadsChoice led b)
+    → (slice_get order index ≡ Some b.instr.code.0 → LeadsChoice after b) → k < suc index → slice_get order k ≡ Some b.instr.code.0 → LeadsChoice after b
 index_led bits ip text led after b index k p earlier here lt at = elim (last_or_below k index lt) [
   | inl e ↦ here (ap (slice_get order) (sym e) ∙ at)
   | inr below ↦ p.kept b (earlier below at)
@@ -177,9 +177,9 @@ held_after bits ip text named last p q = q.held (p.held tt)
 
 -- where the codes of the word and those of the jump on the counter were gone over, what was found leads every candidate
 pub led_by_names : (bits : Bits) (ip : ℕ) (text word counter : List ℕ) (named last : Option Found) → IsProgress bits ip text named last → ((b : Assembly) → IsCandidate bits ip text b → word ≡ name_text bits (name_of b.instr.code.0) b.instr)
-    → ((b : Assembly) → IsCandidate bits ip text b → name_of b.instr.code.0 ≡ word → Leads named b)
-    → counter ≡ codes "jrcxz" → ((b : Assembly) → IsCandidate bits ip text b → name_of b.instr.code.0 ≡ counter → Leads last b)
-    → (b : Assembly) → IsCandidate bits ip text b → Leads last b
+    → ((b : Assembly) → IsCandidate bits ip text b → name_of b.instr.code.0 ≡ word → LeadsChoice named b)
+    → counter ≡ codes "jrcxz" → ((b : Assembly) → IsCandidate bits ip text b → name_of b.instr.code.0 ≡ counter → LeadsChoice last b)
+    → (b : Assembly) → IsCandidate bits ip text b → LeadsChoice last b
 led_by_names bits ip text word counter named last p read one same other b k = elim (name_or_counter bits (name_of b.instr.code.0) word b.instr (read b k)) [
   | inl e ↦ p.kept b (one b k e)
   | inr h ↦ other b k (h.0 ∙ sym same)
@@ -187,12 +187,12 @@ led_by_names bits ip text word counter named last p read one same other b k = el
 
 -- where the word is none of the jump on the counter, the codes of the word are all
 pub led_by_one_name : (bits : Bits) (ip : ℕ) (text word : List ℕ) (named : Option Found) → is_counter_word word ≡ false → ((b : Assembly) → IsCandidate bits ip text b → word ≡ name_text bits (name_of b.instr.code.0) b.instr)
-    → ((b : Assembly) → IsCandidate bits ip text b → name_of b.instr.code.0 ≡ word → Leads named b)
-    → (b : Assembly) → IsCandidate bits ip text b → Leads named b
+    → ((b : Assembly) → IsCandidate bits ip text b → name_of b.instr.code.0 ≡ word → LeadsChoice named b)
+    → (b : Assembly) → IsCandidate bits ip text b → LeadsChoice named b
 led_by_one_name bits ip text word named other read one b k = elim (name_or_counter bits (name_of b.instr.code.0) word b.instr (read b k)) [
   | inl e ↦ one b k e
   | inr h ↦ clash (is_counter_word word) h.1 other
 ]
   where
-    clash : (t : Bool) → t ≡ true → t ≡ false → Leads named b
+    clash : (t : Bool) → t ≡ true → t ≡ false → LeadsChoice named b
     clash t e f = cc

@@ -13,7 +13,7 @@ use Rattle.x86_values.specs.declared.Operand.{Operand}
 use Rattle.x86_values.specs.declared.Operand.TheVariants.{Mem as MemOperand}
 use Rattle.x86_values.specs.declared.Code.{Code}
 use Rattle.x86_values.specs.declared.Instr.{Instr}
-use Rattle.x86_values.specs.Wrapping.{wrapped}
+use Rattle.x86_values.specs.Wrapping.{modulo_width}
 use Rattle.row_types.specs.declared.Map.{Map}
 use Rattle.row_types.specs.declared.Row.{Row}
 use Rattle.row_types.specs.declared.Place.{Place}
@@ -45,9 +45,9 @@ use Rattle.intel_words.specs.declared.words.AddressText.{AddressText}
 use Rattle.intel_words.specs.declared.words.OperandText.{OperandText}
 use Rattle.intel_words.specs.declared.words.OperandText.TheVariants.{Absent, Reg, Number, Far, Mem as Address}
 use Rattle.intel_reader.specs.declared.choice.Found.{Found}
-use Rattle.intel_reader.specs.Assembled.{Assembly, rank, IsCandidate}
+use Rattle.intel_reader.specs.Assembled.{Assembly, compare_assemblies, IsCandidate}
 use Rattle.intel_reader.specs.Candidate.{is_near_at, address_from, operand_from, text_at, candidate}
-use Rattle.intel_reader.specs.Choice.{assembly_of, Leads}
+use Rattle.intel_reader.specs.Choice.{assembly_of, LeadsChoice}
 use Rattle.intel_reader.specs.Lengths.{least_front, displacement_of_words, least_len, is_behind}
 use Rattle.intel_reader.specs.Possible.{is_address, has_address}
 use Rattle.intel_reader.proofs.AllowedWords.{code_is, made_at, made_given}
@@ -207,10 +207,10 @@ least_there bits ip row code words asize size g =
 
 -- ---- what comes behind
 
-shorter : (a b : Assembly) → length a.bytes < length b.bytes → is_gt (rank a b) ≡ false
+shorter : (a b : Assembly) → length a.bytes < length b.bytes → is_gt (compare_assemblies a b) ≡ false
 shorter a b lt = rw (← nat_cmp_is (length a.bytes) (length b.bytes) Less lt) refl
 
-lesser : (a b : Assembly) → length a.bytes ≡ length b.bytes → a.instr.code.0 < b.instr.code.0 → is_gt (rank a b) ≡ false
+lesser : (a b : Assembly) → length a.bytes ≡ length b.bytes → a.instr.code.0 < b.instr.code.0 → is_gt (compare_assemblies a b) ≡ false
 lesser a b e lt =
     rw (
       ← nat_cmp_is (length a.bytes) (length b.bytes) Equal e,
@@ -224,7 +224,7 @@ less_or_same m n h = elim (or_cases (nat_lt m n) (m == n) (grind (arith, h))) [
 ]
 
 -- what was found leads what comes behind it
-behind_led : (best : Option Found) (b : Assembly) (code least : ℕ) → is_behind best code least ≡ true → least ≤ length b.bytes → b.instr.code.0 ≡ code → Leads best b
+behind_led : (best : Option Found) (b : Assembly) (code least : ℕ) → is_behind best code least ≡ true → least ≤ length b.bytes → b.instr.code.0 ≡ code → LeadsChoice best b
 unfolding is_behind
 behind_led None b code least h le e = cc
 behind_led (Some f) b code least h le e = elim (or_cases (nat_lt (length f.bytes.items) least) _ h) [
@@ -239,12 +239,12 @@ behind_led (Some f) b code least h le e = elim (or_cases (nat_lt (length f.bytes
 
 -- **what was found leads each candidate that has too many bytes**
 pub left_behind : (bits : Bits) (ip : ℕ) (text : List ℕ) (b : Assembly) (row : Row) (code : Code) (words : IntelWords) (asize : Option Bits) (size : DispSize) (best : Option Found) → IsCandidate bits ip text b
-    → slice_get table code.0 ≡ Some row → candidate bits row code words asize size ≡ b.instr → is_behind best code.0 (least_len bits row words size) ≡ true → Leads best b
+    → slice_get table code.0 ≡ Some row → candidate bits row code words asize size ≡ b.instr → is_behind best code.0 (least_len bits row words size) ≡ true → LeadsChoice best b
 left_behind bits ip text b row code words asize size best k at e h =
     let g = made_given bits ip text b row code words asize size k at e in
     let same : b.instr.code.0 ≡ code.0 = ap (λ (i : Instr). i.code.0) (sym e) ∙ ap (λ (c : Code). c.0) (code_is bits row code words asize size) in
     let there : slice_get table b.instr.code.0 ≡ Some row = ap (slice_get table) same ∙ at in
-    let long : length b.bytes ≡ plain_len bits row b.instr = length_there bits (wrapped bits ip) b.bytes row b.instr k.spelled there in
+    let long : length b.bytes ≡ plain_len bits row b.instr = length_there bits (modulo_width bits ip) b.bytes row b.instr k.spelled there in
     let made : plain_len bits row (candidate bits row code words asize size) ≡ plain_len bits row b.instr = ap (plain_len bits row) e in
-    let least = least_there bits (wrapped bits ip) row code words asize size g in
+    let least = least_there bits (modulo_width bits ip) row code words asize size g in
     behind_led best b code.0 (least_len bits row words size) h (omega (arith, long, made, least)) same

@@ -17,13 +17,13 @@ use Rattle.row_fit.specs.Fits.{immediate_bytes}
 use Rattle.plain_spelling.specs.Forms.{is_allowed_in, is_variant_of}
 use Rattle.plain_spelling.specs.Expressible.{immediate_suits_how, near_reaches}
 use Rattle.plain_form.proofs.AddressCases.{impossible}
-use Rattle.intel_reader.specs.Candidate.{is_near_method}
+use Rattle.intel_reader.specs.Operands.{is_near}
 use Rattle.intel_reader.proofs.AddressBack.{of_width}
 
 -- ---- near targets
 
-pub immediate_not_near : (place : Place) (how : Method) (x : ℕ) → is_variant_of place how (Imm x) ≡ true → is_near_method how ≡ false
-unfolding is_variant_of is_near_method
+pub immediate_not_near : (place : Place) (how : Method) (x : ℕ) → is_variant_of place how (Imm x) ≡ true → is_near how ≡ false
+unfolding is_variant_of is_near
 immediate_not_near place method.Near x h = sym h
 immediate_not_near place how x h = refl
 
@@ -33,8 +33,8 @@ allowed_near AnyPlace x = refl
 allowed_near OnlyMemory x = refl
 allowed_near OnlyRegister x = refl
 
-pub near_is_near : (place : Place) (how : Method) (x : ℕ) → is_variant_of place how (Near x) ≡ true → is_near_method how ≡ true
-unfolding is_variant_of is_near_method
+pub near_is_near : (place : Place) (how : Method) (x : ℕ) → is_variant_of place how (Near x) ≡ true → is_near how ≡ true
+unfolding is_variant_of is_near
 near_is_near place method.Near x h = refl
 near_is_near place method.RegisterOrMemory x h = sym (allowed_near place x) ∙ h
 near_is_near place how x h = h

@@ -36,8 +36,8 @@ use Rattle.plain_form.specs.Given.{Given}
 use Rattle.row_fit.specs.Fits.{immediate_bytes}
 use Rattle.text_parts.specs.PrefixWords.{text_address_size}
 use Rattle.intel_words.specs.Scanning.{is_word_byte}
-use Rattle.intel_words.specs.ReadWords.{is_lock, repeat_named, is_repeat, size_by, size_behind, is_prefix_word}
-use Rattle.intel_words.specs.ReadRegisters.{segment_by, segment_named}
+use Rattle.intel_words.specs.ReadWords.{is_lock, repeat_prefix_of, is_repeat_prefix, size_by, size_behind, is_prefix_word}
+use Rattle.intel_words.specs.ReadRegisters.{segment_by, segment_of_word}
 use Rattle.intel_words.specs.Printable.{is_plain_name, is_word_number, index_is_shown, is_printable_address, is_printable_operand, nth_is_printable, are_in_front, is_printable}
 use Rattle.intel_reader.proofs.AddressBack.{AddressIs}
 use Rattle.intel_reader.proofs.OperandFacts.{immediate_below, near_below, far_below}
@@ -46,7 +46,7 @@ use Rattle.intel_reader.proofs.CandidateBack.{variant_at, immediate_at, address_
 -- ---- names
 
 plain_names : list_all is_plain_name names ≡ true
-unfolding is_plain_name is_word_byte is_prefix_word is_lock repeat_named is_repeat size_by size_behind segment_by segment_named names
+unfolding is_plain_name is_word_byte is_prefix_word is_lock repeat_prefix_of is_repeat_prefix size_by size_behind segment_by segment_of_word names
 plain_names = refl
 
 all_at : (ns : List (List ℕ)) (k : ℕ) → list_all is_plain_name ns ≡ true → k < length ns → is_plain_name (unwrap_or (slice_get ns k) []) ≡ true

@@ -14,10 +14,10 @@ use Rattle.rows_x87.specs.Table.{table as x87_rows, flat_rows as x87_flat}
 use Rattle.rows_sse.specs.Table.{table as sse_rows, flat_rows as sse_flat}
 use Rattle.rows_vex.specs.Table.{table as vex_rows, flat_rows as vex_flat}
 use Rattle.opcode_rows.specs.Table.{spots, rows_in, table}
-use Rattle.intel_reader.specs.Operands.{sample, is_of_size, is_byte, is_xmm, is_other, names, has_number, has_fixed, is_named, register_suits, is_near, admits, by_class, row_flags, number_of, row_numbers}
+use Rattle.intel_reader.specs.Operands.{sample, is_of_size, is_byte, is_xmm, is_other, names_operand, class_has_number, has_fixed, names_class, words_suit_register, is_near, admits, by_class, row_flags, number_of, row_numbers}
 
 numbers_are : map (λ row. number_of (row_flags row)) table ≡ row_numbers
-unfolding method_of file_of fixed_number exists_in operand_size is_allowed_in is_variant_of asks_rex_w asks_66 plain_size integer_rows integer_flat x87_rows x87_flat sse_rows sse_flat vex_rows vex_flat spots rows_in table sample is_of_size is_byte is_xmm is_other names has_number has_fixed is_named register_suits is_near admits by_class row_flags number_of row_numbers
+unfolding method_of file_of fixed_number exists_in operand_size is_allowed_in is_variant_of asks_rex_w asks_66 plain_size integer_rows integer_flat x87_rows x87_flat sse_rows sse_flat vex_rows vex_flat spots rows_in table sample is_of_size is_byte is_xmm is_other names_operand class_has_number has_fixed names_class words_suit_register is_near admits by_class row_flags number_of row_numbers
 numbers_are = refl
 
 some_number : (o : Option ℕ) (x y : ℕ) → o ≡ Some x → o ≡ Some y → x ≡ y

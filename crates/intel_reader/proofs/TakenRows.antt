@@ -11,7 +11,7 @@ use Rattle.x86_values.specs.declared.Register.TheVariants.{Low8, High8, R16, R32
 use Rattle.x86_values.specs.declared.Operand.TheVariants.{Reg as RegOperand, Mem as MemOperand, Imm as ImmOperand, Near as NearOperand, Far as FarOperand}
 use Rattle.x86_values.specs.declared.Code.{Code}
 use Rattle.x86_values.specs.declared.Instr.{Instr}
-use Rattle.x86_values.specs.Wrapping.{wrapped}
+use Rattle.x86_values.specs.Wrapping.{modulo_width}
 use Rattle.row_types.specs.declared.Row.{Row}
 use Rattle.row_types.specs.declared.LBit.{LBit}
 use Rattle.row_types.specs.declared.LBit.TheVariants as vector_length
@@ -36,7 +36,7 @@ use Rattle.plain_form.specs.Given.{Given}
 use Rattle.plain_form.proofs.FitRegisters.{says, register-at}
 use Rattle.intel_reader.specs.declared.operands.OperandClass.{OperandClass}
 use Rattle.intel_reader.specs.declared.operands.OperandClass.TheVariants as class
-use Rattle.intel_reader.specs.Operands.{class_of_register, sample, is_of_size, is_byte, is_xmm, is_other, names, has_number, has_fixed, is_named, register_suits, is_near, admits, takes, asked_flags, number_of}
+use Rattle.intel_reader.specs.Operands.{class_of_register, sample, is_of_size, is_byte, is_xmm, is_other, names_operand, class_has_number, has_fixed, names_class, words_suit_register, is_near, admits, takes, asked_flags, number_of}
 use Rattle.intel_reader.specs.Buckets.{order}
 use Rattle.plain_form.proofs.AddressCases.{impossible}
 use Rattle.intel_words.specs.declared.words.IntelWords.{IntelWords}
@@ -44,18 +44,13 @@ use Rattle.intel_words.specs.declared.words.OperandText.{OperandText}
 use Rattle.intel_words.specs.declared.words.OperandText.TheVariants.{Absent, Reg, Number, Far, Mem as Address}
 use Rattle.intel_words.specs.Words.{words_of}
 use Rattle.intel_reader.specs.Assembled.{Assembly, IsCandidate}
-use Rattle.intel_reader.specs.Candidate.{address_from, is_near_method, is_near_at, operand_from, text_at, candidate}
-use Rattle.intel_reader.specs.Possible.{class_of, class_at, takes_words, asked_by}
+use Rattle.intel_reader.specs.Candidate.{address_from, is_near_at, operand_from, text_at, candidate}
+use Rattle.intel_reader.specs.Possible.{text_class, class_at, takes_words, asked_by}
 use Rattle.intel_reader.proofs.CandidateBack.{variant_at}
 use Rattle.intel_reader.proofs.AllowedWords.{made_at, made_given}
 use Rattle.intel_reader.proofs.Choosing.{made_is, row_of_candidate}
 
 -- ---- the variant
-
-near_same : (how : Method) → is_near_method how ≡ is_near how
-unfolding is_near_method is_near
-near_same method.Near = refl
-near_same _ = refl
 
 register_same : (place : Place) (how : Method) (r s : Register) → is_variant_of place how (RegOperand r) ≡ is_variant_of place how (RegOperand s)
 unfolding is_variant_of is_allowed_in
@@ -115,8 +110,8 @@ unfolding sample
 register_sample near r = of_registers (λ c. sample near c ≡ RegOperand Rip) refl refl refl refl refl refl refl refl refl refl r
 
 variant_same : (place : Place) (how : Method) (near : Bool) (a : Bits) (size : DispSize) (t : OperandText)
-    → is_variant_of place how (operand_from near a size t) ≡ is_variant_of place how (sample near (class_of t))
-unfolding operand_from sample class_of
+    → is_variant_of place how (operand_from near a size t) ≡ is_variant_of place how (sample near (text_class t))
+unfolding operand_from sample text_class
 variant_same place how near a size Absent = refl
 variant_same place how near a size (Reg r) = register_same place how r Rip ∙ ap (is_variant_of place how) (sym (register_sample near r))
 variant_same place how true a size (Number x) = near_number place how x 0
@@ -161,8 +156,8 @@ vector_is vector_length.L256 n = refl
 vector_is _ n = refl
 
 -- a file has the classes of its own registers
-own_file : (bits : Bits) (row : Row) (state : PrefixState) (f : File) (n : ℕ) (size : Bits) → state_size bits row state ≡ size → names size f (class_of_register (register_of bits row state f n)) ≡ true
-unfolding names register_of general_register is_other class_of_register is_xmm
+own_file : (bits : Bits) (row : Row) (state : PrefixState) (f : File) (n : ℕ) (size : Bits) → state_size bits row state ≡ size → names_operand size f (class_of_register (register_of bits row state f n)) ≡ true
+unfolding names_operand register_of general_register is_other class_of_register is_xmm
 own_file bits row state file.Byte n size e = byte_is state.rex n
 own_file bits row state file.Word n size e = general_is B16 n
 own_file bits row state file.Dword n size e = general_is B32 n
@@ -179,8 +174,8 @@ own_file bits row state file.Mmx n size e = refl
 own_file bits row state file.Xmm n size e = refl
 own_file bits row state file.Vector n size e = vector_is row.l n
 
-in_some_mode : (bits : Bits) (row : Row) (f : File) (c : OperandClass) → names (plain_size bits row) f c ≡ true → is_named row f c ≡ true
-unfolding is_named
+in_some_mode : (bits : Bits) (row : Row) (f : File) (c : OperandClass) → names_operand (plain_size bits row) f c ≡ true → names_class row f c ≡ true
+unfolding names_class
 in_some_mode B16 row f c h = or_left _ _ h
 in_some_mode B32 row f c h = or_right _ _ (or_left _ _ h)
 in_some_mode B64 row f c h = or_right _ _ (or_right _ _ h)
@@ -188,44 +183,44 @@ in_some_mode B64 row f c h = or_right _ _ (or_right _ _ h)
 -- ---- the numbers of registers
 
 -- the number 0 has the first of two classes, and any other the second
-of_number : (n : ℕ) (a b : OperandClass) (t : Bool) → (n == 0) ≡ t → has_number n a ≡ (n == 0) → has_number n b ≡ (if n == 0 then false else true) → has_number n (if t then a else b) ≡ true
+of_number : (n : ℕ) (a b : OperandClass) (t : Bool) → (n == 0) ≡ t → class_has_number n a ≡ (n == 0) → class_has_number n b ≡ (if n == 0 then false else true) → class_has_number n (if t then a else b) ≡ true
 of_number n a b true e x y = x ∙ e
 of_number n a b false e x y = y ∙ ap (λ (z : Bool). if z then false else true) e
 
-general_number : (size : Bits) (n : ℕ) → has_number n (class_of_register (general_register size n)) ≡ true
-unfolding has_number general_register class_of_register
+general_number : (size : Bits) (n : ℕ) → class_has_number n (class_of_register (general_register size n)) ≡ true
+unfolding class_has_number general_register class_of_register
 general_number B16 n = of_number n class.Ax class.Word (n == 0) refl refl refl
 general_number B32 n = of_number n class.Eax class.Dword (n == 0) refl refl refl
 general_number B64 n = of_number n class.Rax class.Qword (n == 0) refl refl refl
 
-low_number : (n : ℕ) → has_number n (class_of_register (Low8 n)) ≡ true
-unfolding has_number class_of_register
+low_number : (n : ℕ) → class_has_number n (class_of_register (Low8 n)) ≡ true
+unfolding class_has_number class_of_register
 low_number n = of_number n class.Al class.Byte (n == 0) refl refl refl
 
 -- a number of 4 or more is not 0
 high_number : (n : ℕ) → nat_lt n 4 ≡ false → (if n == 0 then false else true) ≡ true
 high_number n h = grind (arith, h)
 
-byte_number : (rex : Option ℕ) (n : ℕ) → has_number n (class_of_register (byte_register rex n)) ≡ true
-unfolding byte_register has_number class_of_register
+byte_number : (rex : Option ℕ) (n : ℕ) → class_has_number n (class_of_register (byte_register rex n)) ≡ true
+unfolding byte_register class_has_number class_of_register
 byte_number (Some x) n = low_number n
 byte_number None n = by_size (nat_lt n 4) refl
   where
-    by_size : (t : Bool) → nat_lt n 4 ≡ t → has_number n (class_of_register (if t then Low8 n else High8 (n - 4))) ≡ true
+    by_size : (t : Bool) → nat_lt n 4 ≡ t → class_has_number n (class_of_register (if t then Low8 n else High8 (n - 4))) ≡ true
     by_size true e = low_number n
     by_size false e = high_number n e
 
-vector_number : (l : LBit) (n k : ℕ) → has_number k (class_of_register (vector l n)) ≡ true
-unfolding vector class_of_register has_number
+vector_number : (l : LBit) (n k : ℕ) → class_has_number k (class_of_register (vector l n)) ≡ true
+unfolding vector class_of_register class_has_number
 vector_number vector_length.L256 n k = refl
 vector_number _ n k = refl
 
-other_number : (k : ℕ) → has_number k class.Other ≡ true
-unfolding has_number
+other_number : (k : ℕ) → class_has_number k class.Other ≡ true
+unfolding class_has_number
 other_number k = refl
 
-own_number : (bits : Bits) (row : Row) (state : PrefixState) (f : File) (n : ℕ) → has_number n (class_of_register (register_of bits row state f n)) ≡ true
-unfolding register_of general_register class_of_register has_number
+own_number : (bits : Bits) (row : Row) (state : PrefixState) (f : File) (n : ℕ) → class_has_number n (class_of_register (register_of bits row state f n)) ≡ true
+unfolding register_of general_register class_of_register class_has_number
 own_number bits row state file.Byte n = byte_number state.rex n
 own_number bits row state file.Word n = general_number B16 n
 own_number bits row state file.Dword n = general_number B32 n
@@ -250,29 +245,29 @@ fixed_is bits row state f _ kind r = refl
 
 -- ---- the operands
 
-both : (row : Row) (how : Method) (f : File) (number : ℕ) (r : Register) → (is_named row f (class_of_register r) && has_fixed how number (class_of_register r)) ≡ true
-    → register_suits row how f number (class_of_register r) ≡ true
-unfolding register_suits
+both : (row : Row) (how : Method) (f : File) (number : ℕ) (r : Register) → (names_class row f (class_of_register r) && has_fixed how number (class_of_register r)) ≡ true
+    → words_suit_register row how f number (class_of_register r) ≡ true
+unfolding words_suit_register
 both row how f number r h =
-    of_registers (λ c. register_suits row how f number c ≡ (is_named row f c && has_fixed how number c)) refl refl refl refl refl refl refl refl refl refl r ∙ h
+    of_registers (λ c. words_suit_register row how f number c ≡ (names_class row f c && has_fixed how number c)) refl refl refl refl refl refl refl refl refl refl r ∙ h
 
 register_at : (bits : Bits) (ip : ℕ) (row : Row) (i : Instr) (n : ℕ) (r : Register) → n < 4 → Given bits ip row i → operand_at i n ≡ RegOperand r
-    → register_suits row (method_of (kind_at row n)) (file_of (kind_at row n)) (fixed_number (kind_at row n)) (class_of_register r) ≡ true
+    → words_suit_register row (method_of (kind_at row n)) (file_of (kind_at row n)) (fixed_number (kind_at row n)) (class_of_register r) ≡ true
 register_at bits ip row i n r below g at =
     let kind : OpKind = kind_at row n in
     let state : PrefixState = plain_front_of bits row i in
     let number : ℕ = naming_number (method_of kind) kind r in
     let made : Register = register_of bits row state (file_of kind) number in
     let same : r ≡ made = register-at bits ip row i n r g below at in
-    let named : is_named row (file_of kind) (class_of_register made) ≡ true =
+    let named : names_class row (file_of kind) (class_of_register made) ≡ true =
     in_some_mode bits row (file_of kind) (class_of_register made) (own_file bits row state (file_of kind) number (plain_size bits row) (says bits ip row i g).size) in
     let fixed : has_fixed (method_of kind) (fixed_number kind) (class_of_register made) ≡ true = fixed_is bits row state (file_of kind) (method_of kind) kind r in
-    subst (λ (x : Register). register_suits row (method_of kind) (file_of kind) (fixed_number kind) (class_of_register x) ≡ true) (sym same)
+    subst (λ (x : Register). words_suit_register row (method_of kind) (file_of kind) (fixed_number kind) (class_of_register x) ≡ true) (sym same)
     (both row (method_of kind) (file_of kind) (fixed_number kind) made (and_from _ _ named fixed))
 
 by_text : (bits : Bits) (ip : ℕ) (row : Row) (code : Code) (words : IntelWords) (asize : Option Bits) (size : DispSize) (n : ℕ) (t : OperandText) → n < 4 → Given bits ip row (candidate bits row code words asize size)
-    → text_at words n ≡ t → register_suits row (method_of (kind_at row n)) (file_of (kind_at row n)) (fixed_number (kind_at row n)) (class_of t) ≡ true
-unfolding class_of operand_from register_suits
+    → text_at words n ≡ t → words_suit_register row (method_of (kind_at row n)) (file_of (kind_at row n)) (fixed_number (kind_at row n)) (text_class t) ≡ true
+unfolding text_class operand_from words_suit_register
 by_text bits ip row code words asize size n Absent below g e = refl
 by_text bits ip row code words asize size n (Number x) below g e = refl
 by_text bits ip row code words asize size n (Far s o) below g e = refl
@@ -282,16 +277,15 @@ by_text bits ip row code words asize size n (Reg r) below g e =
     (made_at bits row code words asize size n below ∙ ap (operand_from (is_near_at row n) (unwrap_or asize bits) size) e)
 
 admitted : (bits : Bits) (ip : ℕ) (row : Row) (code : Code) (words : IntelWords) (asize : Option Bits) (size : DispSize) (n : ℕ) → n < 4 → Given bits ip row (candidate bits row code words asize size)
-    → admits row n (class_of (text_at words n)) ≡ true
+    → admits row n (text_class (text_at words n)) ≡ true
 unfolding admits
 admitted bits ip row code words asize size n below g =
     let how : Method = method_of (kind_at row n) in
     let t : OperandText = text_at words n in
     let variant : is_variant_of row.place how (operand_from (is_near_at row n) (unwrap_or asize bits) size t) ≡ true =
     variant_at bits ip row (candidate bits row code words asize size) n _ g below (made_at bits row code words asize size n below) in
-    let sampled : is_variant_of row.place how (sample (is_near how) (class_of t)) ≡ true =
-    ap (λ (b : Bool). is_variant_of row.place how (sample b (class_of t))) (sym (near_same how))
-    ∙ sym (variant_same row.place how (is_near_at row n) (unwrap_or asize bits) size t) ∙ variant in
+    let sampled : is_variant_of row.place how (sample (is_near how) (text_class t)) ≡ true =
+    sym (variant_same row.place how (is_near_at row n) (unwrap_or asize bits) size t) ∙ variant in
     and_from _ _ sampled (by_text bits ip row code words asize size n t below g refl)
 
 takes_made : (bits : Bits) (ip : ℕ) (row : Row) (code : Code) (words : IntelWords) (asize : Option Bits) (size : DispSize) → Given bits ip row (candidate bits row code words asize size) → takes_words bits row words ≡ true
@@ -306,7 +300,7 @@ pub taken_there : (bits : Bits) (ip : ℕ) (text : List ℕ) (b : Assembly) (row
     → words ≡ words_of bits row (name_of b.instr.code.0) b.instr → takes_words bits row words ≡ true
 taken_there bits ip text b row words k at w =
     let made = made_is bits ip text b row b.instr.code words k at refl w in
-    takes_made bits (wrapped bits ip) row b.instr.code words b.instr.asize made.0
+    takes_made bits (modulo_width bits ip) row b.instr.code words b.instr.asize made.0
     (made_given bits ip text b row b.instr.code words b.instr.asize made.0 k at made.1)
 
 -- a row that is left out has no candidate

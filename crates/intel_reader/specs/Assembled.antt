@@ -5,7 +5,7 @@ use Rattle.std.specs.Ordering.{nat_cmp, is_gt, on, then_cmp}
 use Rattle.std.specs.Cmp.Lexicographic.{slice_cmp}
 use Rattle.x86_values.specs.declared.Bits.{Bits}
 use Rattle.x86_values.specs.declared.Instr.{Instr}
-use Rattle.x86_values.specs.Wrapping.{wrapped}
+use Rattle.x86_values.specs.Wrapping.{modulo_width}
 use Rattle.plain_laws.specs.Plain.{IsPlainlySpelled}
 use Rattle.opcode_rows.specs.Table.{table}
 use Rattle.intel_text.specs.Text.{text as text_of}
@@ -16,18 +16,18 @@ pub record Assembly : Type 0 where
   pub bytes : List ℕ
 
 -- fewer bytes come first, then the lesser code, then the lesser bytes
-abbrev pub rank : Assembly → Assembly → Ordering
-rank = then_cmp (on (λ a. length a.bytes) nat_cmp) (then_cmp (on (λ a. a.instr.code.0) nat_cmp) (on (λ a. a.bytes) (slice_cmp nat_cmp)))
+abbrev pub compare_assemblies : Assembly → Assembly → Ordering
+compare_assemblies = then_cmp (on (λ a. length a.bytes) nat_cmp) (then_cmp (on (λ a. a.instr.code.0) nat_cmp) (on (λ a. a.bytes) (slice_cmp nat_cmp)))
 
 -- the instruction has this Intel text, and the bytes are its plain spelling, of at most 15 bytes, at the address
 pub record IsCandidate (bits : Bits) (ip : ℕ) (text : List ℕ) (a : Assembly) : Type 0 where
-  pub spelled : IsPlainlySpelled table bits (wrapped bits ip) a.bytes a.instr
+  pub spelled : IsPlainlySpelled table bits (modulo_width bits ip) a.bytes a.instr
   pub printed : text_of bits a.instr ≡ text
 
 -- the first of all candidates
 pub record IsFirst (bits : Bits) (ip : ℕ) (text : List ℕ) (a : Assembly) : Type 0 where
   pub candidate : IsCandidate bits ip text a
-  pub first : (b : Assembly) → IsCandidate bits ip text b → is_gt (rank a b) ≡ false
+  pub first : (b : Assembly) → IsCandidate bits ip text b → is_gt (compare_assemblies a b) ≡ false
 
 -- the instruction that the text stands for, with some bytes
 abbrev pub IsAssembled : Bits → ℕ → List ℕ → Instr → Type 0

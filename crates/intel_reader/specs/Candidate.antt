@@ -9,14 +9,13 @@ use Rattle.x86_values.specs.declared.Operand.{Operand}
 use Rattle.x86_values.specs.declared.Operand.TheVariants.{Absent as AbsentOperand, Reg as RegOperand, Mem as MemOperand, Imm, Near, Far as FarOperand}
 use Rattle.x86_values.specs.declared.Code.{Code}
 use Rattle.x86_values.specs.declared.Instr.{Instr}
-use Rattle.x86_values.specs.Wrapping.{width, wrapped}
+use Rattle.x86_values.specs.Wrapping.{width, modulo_width}
 use Rattle.row_types.specs.declared.Row.{Row}
-use Rattle.instruction_parts.specs.declared.kinds.Method.{Method}
-use Rattle.instruction_parts.specs.declared.kinds.Method.TheVariants as method
 use Rattle.instruction_parts.specs.Kinds.{method_of}
 use Rattle.row_fit.specs.Fits.{kind_at}
 use Rattle.plain_spelling.specs.Forms.{operand_at}
 use Rattle.intel_words.specs.declared.words.IntelWords.{IntelWords}
+use Rattle.intel_reader.specs.Operands.{is_near}
 use Rattle.intel_words.specs.declared.words.OperandText.{OperandText}
 use Rattle.intel_words.specs.declared.words.OperandText.TheVariants.{Absent, Reg, Number, Far, Mem as Address}
 use Rattle.intel_words.specs.declared.words.Inside.{Inside}
@@ -27,7 +26,7 @@ use Rattle.intel_words.specs.declared.words.SignedText.{SignedText}
 
 -- a number by its sign and its distance from zero, modulo 2 to the address size
 unfoldable pub signed_number : Bits → Bool → ℕ → ℕ
-signed_number asize true magnitude = wrapped asize (2 ^ width asize - magnitude)
+signed_number asize true magnitude = modulo_width asize (2 ^ width asize - magnitude)
 signed_number asize false magnitude = magnitude
 
 -- the displacement beside a register; none is 0
@@ -46,14 +45,9 @@ address_from asize size (Sum s) =
 
 -- ---- operands
 
--- the operand is a near target
-unfoldable pub is_near_method : Method → Bool
-is_near_method method.Near = true
-is_near_method _ = false
-
 -- operand n of the row is a near target
 abbrev pub is_near_at : Row → ℕ → Bool
-is_near_at row n = is_near_method (method_of (kind_at row n))
+is_near_at row n = is_near (method_of (kind_at row n))
 
 -- the operand of these words: a number is a near target or an immediate
 unfoldable pub operand_from : Bool → Bits → DispSize → OperandText → Operand

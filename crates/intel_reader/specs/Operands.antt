@@ -71,47 +71,47 @@ is_other class.Other = true
 is_other _ = false
 
 -- a file has registers of this class, at an operand size
-unfoldable pub names : Bits → File → OperandClass → Bool
-names size file.Byte c = is_byte c
-names size file.Word c = is_of_size B16 c
-names size file.Dword c = is_of_size B32 c
-names size file.Qword c = is_of_size B64 c
-names size file.OperandSize c = is_of_size size c
-names size file.WordOrDword c = is_of_size (word_or_dword size) c
-names size file.ByW c = is_of_size B32 c || is_of_size B64 c
-names size file.Native c = is_of_size B32 c || is_of_size B64 c
-names size file.Xmm c = is_xmm c
-names size file.Vector c = is_xmm c || is_other c
-names size _ c = is_other c
+unfoldable pub names_operand : Bits → File → OperandClass → Bool
+names_operand size file.Byte c = is_byte c
+names_operand size file.Word c = is_of_size B16 c
+names_operand size file.Dword c = is_of_size B32 c
+names_operand size file.Qword c = is_of_size B64 c
+names_operand size file.OperandSize c = is_of_size size c
+names_operand size file.WordOrDword c = is_of_size (word_or_dword size) c
+names_operand size file.ByW c = is_of_size B32 c || is_of_size B64 c
+names_operand size file.Native c = is_of_size B32 c || is_of_size B64 c
+names_operand size file.Xmm c = is_xmm c
+names_operand size file.Vector c = is_xmm c || is_other c
+names_operand size _ c = is_other c
 
 -- the register has the number that the opcode fixes, as far as the class says it: 0 is AL, AX, EAX or RAX
-unfoldable pub has_number : ℕ → OperandClass → Bool
-has_number number class.Al = number == 0
-has_number number class.Ax = number == 0
-has_number number class.Eax = number == 0
-has_number number class.Rax = number == 0
-has_number number class.Byte = if number == 0 then false else true
-has_number number class.Word = if number == 0 then false else true
-has_number number class.Dword = if number == 0 then false else true
-has_number number class.Qword = if number == 0 then false else true
-has_number number _ = true
+unfoldable pub class_has_number : ℕ → OperandClass → Bool
+class_has_number number class.Al = number == 0
+class_has_number number class.Ax = number == 0
+class_has_number number class.Eax = number == 0
+class_has_number number class.Rax = number == 0
+class_has_number number class.Byte = if number == 0 then false else true
+class_has_number number class.Word = if number == 0 then false else true
+class_has_number number class.Dword = if number == 0 then false else true
+class_has_number number class.Qword = if number == 0 then false else true
+class_has_number number _ = true
 
 -- an operand of a kind has the register that the kind fixes, or its register is free
 unfoldable pub has_fixed : Method → ℕ → OperandClass → Bool
-has_fixed method.Fixed number c = has_number number c
+has_fixed method.Fixed number c = class_has_number number c
 has_fixed _ number c = true
 
 -- the file has registers of this class at the operand size that the row has in some mode
-unfoldable pub is_named : Row → File → OperandClass → Bool
-is_named row how c = names (plain_size B16 row) how c || (names (plain_size B32 row) how c || names (plain_size B64 row) how c)
+unfoldable pub names_class : Row → File → OperandClass → Bool
+names_class row how c = names_operand (plain_size B16 row) how c || (names_operand (plain_size B32 row) how c || names_operand (plain_size B64 row) how c)
 
 -- the words of an operand suit its kind as far as they name a register
-unfoldable pub register_suits : Row → Method → File → ℕ → OperandClass → Bool
-register_suits row how which number class.Absent = true
-register_suits row how which number class.Number = true
-register_suits row how which number class.Pointer = true
-register_suits row how which number class.Address = true
-register_suits row how which number c = is_named row which c && has_fixed how number c
+unfoldable pub words_suit_register : Row → Method → File → ℕ → OperandClass → Bool
+words_suit_register row how which number class.Absent = true
+words_suit_register row how which number class.Number = true
+words_suit_register row how which number class.Pointer = true
+words_suit_register row how which number class.Address = true
+words_suit_register row how which number c = names_class row which c && has_fixed how number c
 
 -- ---- the operands that a row takes
 
@@ -124,7 +124,7 @@ is_near _ = false
 unfoldable pub admits : Row → ℕ → OperandClass → Bool
 admits row n c =
     is_variant_of row.place (method_of (kind_at row n)) (sample (is_near (method_of (kind_at row n))) c)
-    && register_suits row (method_of (kind_at row n)) (file_of (kind_at row n)) (fixed_number (kind_at row n)) c
+    && words_suit_register row (method_of (kind_at row n)) (file_of (kind_at row n)) (fixed_number (kind_at row n)) c
 
 -- the row exists in the mode, and takes operands of these classes
 unfoldable pub takes : Bits → Row → OperandClass → OperandClass → OperandClass → OperandClass → Bool

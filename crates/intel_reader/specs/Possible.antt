@@ -31,16 +31,16 @@ is_counter_word word = bytes_eq word (counter_jump B16) || (bytes_eq word (count
 -- ---- the classes of the operands
 
 -- the class of an operand
-unfoldable pub class_of : OperandText → OperandClass
-class_of Absent = class.Absent
-class_of (Reg r) = class_of_register r
-class_of (Number x) = class.Number
-class_of (Far selector offset) = class.Pointer
-class_of (Address a) = class.Address
+unfoldable pub text_class : OperandText → OperandClass
+text_class Absent = class.Absent
+text_class (Reg r) = class_of_register r
+text_class (Number x) = class.Number
+text_class (Far selector offset) = class.Pointer
+text_class (Address a) = class.Address
 
 -- the class of operand n of the words
 abbrev pub class_at : IntelWords → ℕ → OperandClass
-class_at words n = class_of (text_at words n)
+class_at words n = text_class (text_at words n)
 
 -- the row exists in the mode, and takes operands of the classes of these words
 abbrev pub takes_words : Bits → Row → IntelWords → Bool

@@ -82,7 +82,7 @@ pub fn address_from(asize: Bits, disp_size: DispSize, inside: Inside) -> Mem
 }
 
 /// Whether operand n of the row is a near target.
-#[tactic(auto, unfolding(crate::specs::Candidate::is_near_method))]
+#[tactic(auto, unfolding(crate::specs::Operands::is_near))]
 pub fn is_near_at(row: &Row, n: usize) -> bool
     requires { n < 4 }
     ensures { result ≡ spec.is_near_at row.now n }

@@ -10,10 +10,10 @@ ghost use Rattle.text_parts.specs.PrefixWords.{name_text};
 ghost use Rattle.intel_words.specs.Words.{words_of};
 ghost use Rattle.intel_reader.specs.Buckets.{order};
 ghost use Rattle.intel_reader.specs.Operands.{number_of};
-ghost use Rattle.intel_reader.specs.Assembled.{Assembly, rank, IsCandidate, IsFirst, IsNoText};
+ghost use Rattle.intel_reader.specs.Assembled.{Assembly, compare_assemblies, IsCandidate, IsFirst, IsNoText};
 ghost use Rattle.intel_reader.specs.Candidate as spec;
 ghost use Rattle.intel_reader.specs.Possible.{is_counter_word, asked_by};
-ghost use Rattle.intel_reader.specs.Choice.{assembly_of, Leads, IsHeld, IsProgress};
+ghost use Rattle.intel_reader.specs.Choice.{assembly_of, LeadsChoice, IsHeld, IsProgress};
 ghost use Rattle.intel_reader.specs.Lengths.{is_behind};
 
 use crate::buckets::{code_at, indices_of};
@@ -40,7 +40,7 @@ pub struct Found {
 
 /// Which of two comes first: that of fewer bytes, then of the lesser code, then of the lesser bytes.
 fn order_of(a: &Found, b: &Found) -> Ordering
-    ensures { result ≡ rank (assembly_of a.now) (assembly_of b.now) }
+    ensures { result ≡ compare_assemblies (assembly_of a.now) (assembly_of b.now) }
 {
     let lengths = a.bytes.len().cmp(&b.bytes.len());
     let codes = a.instr.code.0.cmp(&b.instr.code.0);
@@ -50,8 +50,8 @@ fn order_of(a: &Found, b: &Found) -> Ordering
 
 /// Whether what was found before comes behind another, or nothing was found.
 fn gives_way(best: &Option<Found>, other: &Found) -> bool
-    ensures kept { result ≡ true → (b : Assembly) → Leads best.now b → Leads (Some other.now) b }
-    ensures stays { result ≡ false → Leads best.now (assembly_of other.now) }
+    ensures kept { result ≡ true → (b : Assembly) → LeadsChoice best.now b → LeadsChoice (Some other.now) b }
+    ensures stays { result ≡ false → LeadsChoice best.now (assembly_of other.now) }
 {
     match best {
         None => true,
@@ -65,8 +65,8 @@ fn gives_way(best: &Option<Found>, other: &Found) -> bool
 /// Puts another in the place of what was found before, where it comes first.
 fn keep_first(best: &mut Option<Found>, other: Found)
     ensures one { (best.new ≡ best.old) ⊎ (best.new ≡ Some other) }
-    ensures kept { (b : Assembly) → Leads best.old b → Leads best.new b }
-    ensures led { Leads best.new (assembly_of other) }
+    ensures kept { (b : Assembly) → LeadsChoice best.old b → LeadsChoice best.new b }
+    ensures led { LeadsChoice best.new (assembly_of other) }
 {
     if gives_way(best, &other) {
         *best = Some(other);
@@ -122,7 +122,7 @@ fn with_candidate(
 )
     requires row { slice_get table code.0 ≡ Some row.now }
     ensures progress { IsProgress bits ip text.now best.old best.new }
-    ensures covers { (b : Assembly) → IsCandidate bits ip text.now b → spec.candidate bits row.now code words.now asize size ≡ b.instr → Leads best.new b }
+    ensures covers { (b : Assembly) → IsCandidate bits ip text.now b → spec.candidate bits row.now code words.now asize size ≡ b.instr → LeadsChoice best.new b }
 {
     if !displacement_allowed(bits, row, words, asize, size) {
         return;
@@ -150,7 +150,7 @@ fn with_sizes(
 )
     requires row { slice_get table code.0 ≡ Some row.now }
     ensures progress { IsProgress bits ip text.now best.old best.new }
-    ensures covers { (b : Assembly) (size : DispSize) → IsCandidate bits ip text.now b → spec.candidate bits row.now code words.now asize size ≡ b.instr → Leads best.new b }
+    ensures covers { (b : Assembly) (size : DispSize) → IsCandidate bits ip text.now b → spec.candidate bits row.now code words.now asize size ≡ b.instr → LeadsChoice best.new b }
 {
     if !size_allowed(bits, row, words, asize) {
         return;
@@ -178,7 +178,7 @@ fn with_row(
     requires row { slice_get table code.0 ≡ Some row.now }
     ensures progress { IsProgress bits ip text.now best.old best.new }
     ensures covers { (b : Assembly) (asize : Option Bits) (size : DispSize) → IsCandidate bits ip text.now b
-        → spec.candidate bits row.now code words.now asize size ≡ b.instr → Leads best.new b }
+        → spec.candidate bits row.now code words.now asize size ≡ b.instr → LeadsChoice best.new b }
 {
     with_sizes(best, bits, ip, text, row, code, words, None);
     if !has_size(row, words) {
@@ -202,7 +202,7 @@ fn with_code(
     requires read { (b : Assembly) (row : Row) → IsCandidate bits ip text.now b → slice_get table b.instr.code.0 ≡ Some row
         → words.now ≡ words_of bits row (name_of b.instr.code.0) b.instr }
     ensures progress { IsProgress bits ip text.now best.old best.new }
-    ensures covers { (b : Assembly) → IsCandidate bits ip text.now b → b.instr.code.0 ≡ code.0 → Leads best.new b }
+    ensures covers { (b : Assembly) → IsCandidate bits ip text.now b → b.instr.code.0 ≡ code.0 → LeadsChoice best.new b }
 {
     let row = row_of(code);
     with_row(best, bits, ip, text, &row, code, words);
@@ -241,7 +241,7 @@ fn with_named(
         → words.now ≡ words_of bits row (name_of b.instr.code.0) b.instr }
     requires named { (b : Assembly) → IsCandidate bits ip text.now b → word.now ≡ name_text bits (name_of b.instr.code.0) b.instr }
     ensures progress { IsProgress bits ip text.now best.old best.new }
-    ensures covers { (b : Assembly) → IsCandidate bits ip text.now b → b.instr.code.0 ≡ code.0 → Leads best.new b }
+    ensures covers { (b : Assembly) → IsCandidate bits ip text.now b → b.instr.code.0 ≡ code.0 → LeadsChoice best.new b }
 {
     if may_have(word, code) {
         with_code(best, bits, ip, text, words, code);
@@ -262,7 +262,7 @@ fn with_index(
         → words.now ≡ words_of bits row (name_of b.instr.code.0) b.instr }
     requires named { (b : Assembly) → IsCandidate bits ip text.now b → word.now ≡ name_text bits (name_of b.instr.code.0) b.instr }
     ensures progress { IsProgress bits ip text.now best.old best.new }
-    ensures covers { (b : Assembly) → IsCandidate bits ip text.now b → slice_get order index ≡ Some b.instr.code.0 → Leads best.new b }
+    ensures covers { (b : Assembly) → IsCandidate bits ip text.now b → slice_get order index ≡ Some b.instr.code.0 → LeadsChoice best.new b }
 {
     if index >= ROWS {
         return;
@@ -290,7 +290,7 @@ fn with_name(
         → words.now ≡ words_of bits row (name_of b.instr.code.0) b.instr }
     requires named { (b : Assembly) → IsCandidate bits ip text.now b → word.now ≡ name_text bits (name_of b.instr.code.0) b.instr }
     ensures progress { IsProgress bits ip text.now best.old best.new }
-    ensures covers { (b : Assembly) → IsCandidate bits ip text.now b → name_of b.instr.code.0 ≡ name.now → Leads best.new b }
+    ensures covers { (b : Assembly) → IsCandidate bits ip text.now b → name_of b.instr.code.0 ≡ name.now → LeadsChoice best.new b }
 {
     let indices = indices_of(name);
     for index in indices.first..indices.end {

@@ -17,7 +17,7 @@ use x86_values::{Bits, DispSize, same_bits};
 /// The class of an operand.
 #[tactic(auto, unfolding(crate::specs::Possible::class_of))]
 fn class_of(text: &OperandText) -> OperandClass
-    ensures { result ≡ spec.class_of text.now }
+    ensures { result ≡ spec.text_class text.now }
 {
     match text {
         OperandText::Absent => OperandClass::Absent,

@@ -14,7 +14,7 @@ use Rattle.text_parts.specs.Layout.{nth_operand, separator, bracket_operand, ope
 use Rattle.intel_words.specs.declared.words.OperandText.{OperandText}
 use Rattle.intel_words.specs.Words.{nth_of}
 use Rattle.intel_words.specs.Printable.{nth_is_printable, are_in_front}
-use Rattle.intel_words.specs.Scanning.{is_word_byte, is_no_comma, front, back, rest, token, next_operand}
+use Rattle.intel_words.specs.Scanning.{is_word_byte, is_no_comma, front_while, back, rest, token, next_operand}
 use Rattle.intel_words.specs.ReadAddresses.{operand_in}
 use Rattle.intel_words.specs.ReadWords.{four, operands_in}
 use Rattle.intel_words.proofs.Cutting.{front-ends, front-all, back-append}
@@ -24,9 +24,9 @@ use Rattle.intel_words.proofs.NoCommas.{operand-plain}
 -- ---- what stands behind an operand
 
 -- nothing, or a comma, a space and the next operand
-next-stops : (op : Operand) (x : List ℕ) → (is_absent op ≡ true → x ≡ []) → front is_no_comma (separator false op ++ x) ≡ []
-unfolding separator front is_no_comma
-next-stops NoOperand x h = ap (front is_no_comma) (h refl)
+next-stops : (op : Operand) (x : List ℕ) → (is_absent op ≡ true → x ≡ []) → front_while is_no_comma (separator false op ++ x) ≡ []
+unfolding separator front_while is_no_comma
+next-stops NoOperand x h = ap (front_while is_no_comma) (h refl)
 next-stops (RegOperand r) x h = refl
 next-stops (MemOperand m) x h = refl
 next-stops (Imm n) x h = refl
@@ -43,9 +43,9 @@ next-found (Near n) x h = refl
 next-found (FarOperand s o) x h = refl
 
 -- the first operand behind the name
-first-stops : (op : Operand) (x : List ℕ) → (is_absent op ≡ true → x ≡ []) → front is_word_byte (separator true op ++ x) ≡ []
-unfolding separator front is_word_byte
-first-stops NoOperand x h = ap (front is_word_byte) (h refl)
+first-stops : (op : Operand) (x : List ℕ) → (is_absent op ≡ true → x ≡ []) → front_while is_word_byte (separator true op ++ x) ≡ []
+unfolding separator front_while is_word_byte
+first-stops NoOperand x h = ap (front_while is_word_byte) (h refl)
 first-stops (RegOperand r) x h = refl
 first-stops (MemOperand m) x h = refl
 first-stops (Imm n) x h = refl
@@ -193,7 +193,7 @@ operands-read bits row instr f p0 p1 p2 p3 =
 
 -- ---- the operands behind the name
 
-pub operands-stop : (bits : Bits) (row : Row) (instr : Instr) → are_in_front instr ≡ true → front is_word_byte (behind_name bits row instr) ≡ []
+pub operands-stop : (bits : Bits) (row : Row) (instr : Instr) → are_in_front instr ≡ true → front_while is_word_byte (behind_name bits row instr) ≡ []
 operands-stop bits row instr f = first-stops (nth_operand instr 0) (from_0 bits row instr) (absent-0 bits row instr f)
 
 pub operands-stay : (bits : Bits) (row : Row) (instr : Instr) → are_in_front instr ≡ true → back is_word_byte (behind_name bits row instr) ≡ behind_name bits row instr

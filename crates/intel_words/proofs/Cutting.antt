@@ -3,7 +3,7 @@ use Rattle.std.proofs.Common.{◌≡◌, ℕ, suc, ◌+◌, Bool, true, false, c
 use Rattle.std.specs.Prelude.{if◌then◌else◌}
 use Rattle.std.specs.List.{list_all, prefix_len}
 use Rattle.std.proofs.lemmas.Bool.{and_from, and_parts}
-use Rattle.intel_words.specs.Scanning.{front, back}
+use Rattle.intel_words.specs.Scanning.{front_while, back}
 
 -- ---- choices
 
@@ -21,10 +21,10 @@ front-step : (b : Bool) (c : ℕ) (cs r : List ℕ) (n : ℕ) → r ≡ take n c
 front-step true c cs r n e = let s : 1 + n ≡ suc n = omega arith in rw s (ap (λ (t : List ℕ). c ∷ t) e)
 front-step false c cs r n e = refl
 
-pub front-take : (p : ℕ → Bool) (xs : List ℕ) → front p xs ≡ take (prefix_len p xs) xs
-unfolding front
+pub front-take : (p : ℕ → Bool) (xs : List ℕ) → front_while p xs ≡ take (prefix_len p xs) xs
+unfolding front_while
 front-take p [] = refl
-front-take p (c ∷ cs) = front-step (p c) c cs (front p cs) (prefix_len p cs) (front-take p cs)
+front-take p (c ∷ cs) = front-step (p c) c cs (front_while p cs) (prefix_len p cs) (front-take p cs)
 
 back-step : (b : Bool) (c : ℕ) (cs r : List ℕ) (n : ℕ) → r ≡ drop n cs → (if b then r else c ∷ cs) ≡ drop (cond b (1 + n) 0) (c ∷ cs)
 back-step true c cs r n e = let s : 1 + n ≡ suc n = omega arith in rw s e
@@ -41,11 +41,11 @@ front-passes : (b : Bool) (c : ℕ) (r s : List ℕ) → b ≡ true → r ≡ s 
 front-passes true c r s h e = ap (λ (t : List ℕ). c ∷ t) e
 front-passes false c r s h e = absurd cc
 
-pub front-append : (p : ℕ → Bool) (xs ys : List ℕ) → list_all p xs ≡ true → front p (xs ++ ys) ≡ xs ++ front p ys
-unfolding front
+pub front-append : (p : ℕ → Bool) (xs ys : List ℕ) → list_all p xs ≡ true → front_while p (xs ++ ys) ≡ xs ++ front_while p ys
+unfolding front_while
 front-append p [] ys h = refl
 front-append p (c ∷ cs) ys h =
-    front-passes (p c) c (front p (cs ++ ys)) (cs ++ front p ys) (and_parts (p c) (list_all p cs) h).0
+    front-passes (p c) c (front_while p (cs ++ ys)) (cs ++ front_while p ys) (and_parts (p c) (list_all p cs) h).0
     (front-append p cs ys (and_parts (p c) (list_all p cs) h).1)
 
 back-passes : (b : Bool) (r s t : List ℕ) → b ≡ true → r ≡ s → (if b then r else t) ≡ s
@@ -60,18 +60,18 @@ back-append p (c ∷ cs) ys h =
     (back-append p cs ys (and_parts (p c) (list_all p cs) h).1)
 
 -- what passes ends where the text behind it begins with a byte that fails, or is empty
-pub front-ends : (p : ℕ → Bool) (xs ys : List ℕ) → list_all p xs ≡ true → front p ys ≡ [] → front p (xs ++ ys) ≡ xs
+pub front-ends : (p : ℕ → Bool) (xs ys : List ℕ) → list_all p xs ≡ true → front_while p ys ≡ [] → front_while p (xs ++ ys) ≡ xs
 front-ends p xs ys h e = front-append p xs ys h ∙ (ap (λ (t : List ℕ). xs ++ t) e ∙ append-nil xs)
 
 pub back-ends : (p : ℕ → Bool) (xs ys : List ℕ) → list_all p xs ≡ true → back p ys ≡ ys → back p (xs ++ ys) ≡ ys
 back-ends p xs ys h e = back-append p xs ys h ∙ e
 
 -- the same of a whole text
-pub front-all : (p : ℕ → Bool) (xs : List ℕ) → list_all p xs ≡ true → front p xs ≡ xs
-unfolding front
+pub front-all : (p : ℕ → Bool) (xs : List ℕ) → list_all p xs ≡ true → front_while p xs ≡ xs
+unfolding front_while
 front-all p [] h = refl
 front-all p (c ∷ cs) h =
-    front-passes (p c) c (front p cs) cs (and_parts (p c) (list_all p cs) h).0 (front-all p cs (and_parts (p c) (list_all p cs) h).1)
+    front-passes (p c) c (front_while p cs) cs (and_parts (p c) (list_all p cs) h).0 (front-all p cs (and_parts (p c) (list_all p cs) h).1)
 
 pub back-all : (p : ℕ → Bool) (xs : List ℕ) → list_all p xs ≡ true → back p xs ≡ []
 unfolding back

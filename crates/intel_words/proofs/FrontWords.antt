@@ -12,12 +12,12 @@ use Rattle.x86_values.specs.declared.Rep.TheVariants.{None as NoRep, F2, F3}
 use Rattle.x86_values.specs.declared.Instr.{Instr}
 use Rattle.row_types.specs.declared.Row.{Row}
 use Rattle.text_parts.specs.Registers.{segment_name}
-use Rattle.text_parts.specs.PrefixWords.{lock_word, repeat_word, has_memory, segment_word, size_digits, sized_word, differs, needs_address_word, address_word, is_sized, named_size, usual_size, operand_size_word, is_counter_jump, counter_jump, name_text, text_address_size}
+use Rattle.text_parts.specs.PrefixWords.{lock_word, repeat_word, shows_memory, segment_word, size_digits, sized_word, differs, needs_address_word, address_word, is_sized, named_size, usual_size, operand_size_word, is_counter_jump, counter_jump, name_text, text_address_size}
 use Rattle.intel_words.specs.Words.{segment_of, address_size_of, operand_size_of}
 use Rattle.intel_words.specs.Printable.{is_plain_name}
-use Rattle.intel_words.specs.Scanning.{is_word_byte, front, back, first, rest, word, behind, skip_if}
-use Rattle.intel_words.specs.ReadRegisters.{segment_named, segment_by}
-use Rattle.intel_words.specs.ReadWords.{is_lock, repeat_named, is_repeat, size_by, size_behind, is_prefix_word, behind_lock, behind_repeat, behind_segment, behind_size}
+use Rattle.intel_words.specs.Scanning.{is_word_byte, front_while, back, first, rest, word, rest_behind, skip_if}
+use Rattle.intel_words.specs.ReadRegisters.{segment_of_word, segment_by}
+use Rattle.intel_words.specs.ReadWords.{is_lock, repeat_prefix_of, is_repeat_prefix, size_by, size_behind, is_prefix_word, behind_lock, behind_repeat, behind_segment, behind_size_word}
 use Rattle.intel_words.proofs.Cutting.{front-ends, back-ends}
 
 -- ---- how late a word stands
@@ -25,7 +25,7 @@ use Rattle.intel_words.proofs.Cutting.{front-ends, back-ends}
 -- 0 for the first kind of word in front of a name, and so on; 5 for a name
 unfoldable pub rank : List ℕ → ℕ
 rank name =
-    cond (is_lock name) 0 (cond (is_repeat (repeat_named name)) 1 (cond (is_some (segment_named name)) 2
+    cond (is_lock name) 0 (cond (is_repeat_prefix (repeat_prefix_of name)) 1 (cond (is_some (segment_of_word name)) 2
     (cond (is_some (size_behind 97 name)) 3 (cond (is_some (size_behind 111 name)) 4 5))))
 
 rank-0 : (a b c d e : Bool) → 0 < cond a 0 (cond b 1 (cond c 2 (cond d 3 (cond e 4 5)))) → a ≡ false
@@ -61,23 +61,23 @@ rank-4 false false false false false h = refl
 -- a later word is none of the earlier kinds
 no-lock : (w : List ℕ) → 0 < rank w → is_lock w ≡ false
 unfolding rank
-no-lock w h = rank-0 (is_lock w) (is_repeat (repeat_named w)) (is_some (segment_named w)) (is_some (size_behind 97 w)) (is_some (size_behind 111 w)) h
+no-lock w h = rank-0 (is_lock w) (is_repeat_prefix (repeat_prefix_of w)) (is_some (segment_of_word w)) (is_some (size_behind 97 w)) (is_some (size_behind 111 w)) h
 
-no-repeat_word : (w : List ℕ) → 1 < rank w → is_repeat (repeat_named w) ≡ false
+no-repeat_word : (w : List ℕ) → 1 < rank w → is_repeat_prefix (repeat_prefix_of w) ≡ false
 unfolding rank
-no-repeat_word w h = rank-1 (is_lock w) (is_repeat (repeat_named w)) (is_some (segment_named w)) (is_some (size_behind 97 w)) (is_some (size_behind 111 w)) h
+no-repeat_word w h = rank-1 (is_lock w) (is_repeat_prefix (repeat_prefix_of w)) (is_some (segment_of_word w)) (is_some (size_behind 97 w)) (is_some (size_behind 111 w)) h
 
-no-segment_word : (w : List ℕ) → 2 < rank w → is_some (segment_named w) ≡ false
+no-segment_word : (w : List ℕ) → 2 < rank w → is_some (segment_of_word w) ≡ false
 unfolding rank
-no-segment_word w h = rank-2 (is_lock w) (is_repeat (repeat_named w)) (is_some (segment_named w)) (is_some (size_behind 97 w)) (is_some (size_behind 111 w)) h
+no-segment_word w h = rank-2 (is_lock w) (is_repeat_prefix (repeat_prefix_of w)) (is_some (segment_of_word w)) (is_some (size_behind 97 w)) (is_some (size_behind 111 w)) h
 
 no-address_word : (w : List ℕ) → 3 < rank w → is_some (size_behind 97 w) ≡ false
 unfolding rank
-no-address_word w h = rank-3 (is_lock w) (is_repeat (repeat_named w)) (is_some (segment_named w)) (is_some (size_behind 97 w)) (is_some (size_behind 111 w)) h
+no-address_word w h = rank-3 (is_lock w) (is_repeat_prefix (repeat_prefix_of w)) (is_some (segment_of_word w)) (is_some (size_behind 97 w)) (is_some (size_behind 111 w)) h
 
 no-operand_word : (w : List ℕ) → 4 < rank w → is_some (size_behind 111 w) ≡ false
 unfolding rank
-no-operand_word w h = rank-4 (is_lock w) (is_repeat (repeat_named w)) (is_some (segment_named w)) (is_some (size_behind 97 w)) (is_some (size_behind 111 w)) h
+no-operand_word w h = rank-4 (is_lock w) (is_repeat_prefix (repeat_prefix_of w)) (is_some (segment_of_word w)) (is_some (size_behind 97 w)) (is_some (size_behind 111 w)) h
 
 no-size : (o : Option Bits) → is_some o ≡ false → o ≡ None
 no-size None h = refl
@@ -87,8 +87,8 @@ no-segment : (o : Option Segment) → is_some o ≡ false → o ≡ None
 no-segment None h = refl
 no-segment (Some s) h = absurd cc
 
-no-repeat : (r : Rep) → is_repeat r ≡ false → r ≡ NoRep
-unfolding is_repeat
+no-repeat : (r : Rep) → is_repeat_prefix r ≡ false → r ≡ NoRep
+unfolding is_repeat_prefix
 no-repeat NoRep h = refl
 no-repeat F2 h = absurd cc
 no-repeat F3 h = absurd cc
@@ -99,31 +99,31 @@ less-of h = omega arith
 -- ---- LOCK
 
 pub lock-value : (lock : Bool) (t : List ℕ) → 0 < rank (word t) → is_lock (word (lock_word lock ++ t)) ≡ lock
-unfolding lock_word rank is_lock repeat_named is_repeat segment_named segment_by size_behind size_by skip_if first rest front back is_word_byte
+unfolding lock_word rank is_lock repeat_prefix_of is_repeat_prefix segment_of_word segment_by size_behind size_by skip_if first rest front_while back is_word_byte
 lock-value true t h = refl
 lock-value false t h = no-lock (word t) h
 
 pub lock-behind : (lock : Bool) (t : List ℕ) → 0 < rank (word t) → behind_lock (lock_word lock ++ t) ≡ t
-unfolding behind_lock lock_word rank is_lock repeat_named is_repeat segment_named segment_by size_behind size_by skip_if first rest front back is_word_byte
+unfolding behind_lock lock_word rank is_lock repeat_prefix_of is_repeat_prefix segment_of_word segment_by size_behind size_by skip_if first rest front_while back is_word_byte
 lock-behind true t h = refl
 lock-behind false t h = ap (λ (b : Bool). skip_if b t) (no-lock (word t) h)
 
 -- ---- repeat
 
-pub repeat-value : (rep : Rep) (t : List ℕ) → 1 < rank (word t) → repeat_named (word (repeat_word rep ++ t)) ≡ rep
-unfolding repeat_word rank is_lock repeat_named is_repeat segment_named segment_by size_behind size_by skip_if first rest front back is_word_byte
-repeat-value NoRep t h = no-repeat (repeat_named (word t)) (no-repeat_word (word t) h)
+pub repeat-value : (rep : Rep) (t : List ℕ) → 1 < rank (word t) → repeat_prefix_of (word (repeat_word rep ++ t)) ≡ rep
+unfolding repeat_word rank is_lock repeat_prefix_of is_repeat_prefix segment_of_word segment_by size_behind size_by skip_if first rest front_while back is_word_byte
+repeat-value NoRep t h = no-repeat (repeat_prefix_of (word t)) (no-repeat_word (word t) h)
 repeat-value F2 t h = refl
 repeat-value F3 t h = refl
 
 pub repeat-behind : (rep : Rep) (t : List ℕ) → 1 < rank (word t) → behind_repeat (repeat_word rep ++ t) ≡ t
-unfolding behind_repeat repeat_word rank is_lock repeat_named is_repeat segment_named segment_by size_behind size_by skip_if first rest front back is_word_byte
+unfolding behind_repeat repeat_word rank is_lock repeat_prefix_of is_repeat_prefix segment_of_word segment_by size_behind size_by skip_if first rest front_while back is_word_byte
 repeat-behind NoRep t h = ap (λ (b : Bool). skip_if b t) (no-repeat_word (word t) h)
 repeat-behind F2 t h = refl
 repeat-behind F3 t h = refl
 
 pub repeat-rank : (rep : Rep) (t : List ℕ) → 1 < rank (word t) → 0 < rank (word (repeat_word rep ++ t))
-unfolding repeat_word rank is_lock repeat_named is_repeat segment_named segment_by size_behind size_by skip_if first rest front back is_word_byte
+unfolding repeat_word rank is_lock repeat_prefix_of is_repeat_prefix segment_of_word segment_by size_behind size_by skip_if first rest front_while back is_word_byte
 repeat-rank NoRep t h = less-of h
 repeat-rank F2 t h = lit< tt
 repeat-rank F3 t h = lit< tt
@@ -135,9 +135,9 @@ abbrev pub segment_text : Option Segment → List ℕ
 segment_text None = []
 segment_text (Some s) = segment_name s ++ codes " "
 
-pub segment-value : (seg : Option Segment) (t : List ℕ) → 2 < rank (word t) → segment_named (word (segment_text seg ++ t)) ≡ seg
-unfolding segment_name rank is_lock repeat_named is_repeat segment_named segment_by size_behind size_by skip_if first rest front back is_word_byte
-segment-value None t h = no-segment (segment_named (word t)) (no-segment_word (word t) h)
+pub segment-value : (seg : Option Segment) (t : List ℕ) → 2 < rank (word t) → segment_of_word (word (segment_text seg ++ t)) ≡ seg
+unfolding segment_name rank is_lock repeat_prefix_of is_repeat_prefix segment_of_word segment_by size_behind size_by skip_if first rest front_while back is_word_byte
+segment-value None t h = no-segment (segment_of_word (word t)) (no-segment_word (word t) h)
 segment-value (Some Es) t h = refl
 segment-value (Some Cs) t h = refl
 segment-value (Some Ss) t h = refl
@@ -146,7 +146,7 @@ segment-value (Some Fs) t h = refl
 segment-value (Some Gs) t h = refl
 
 pub segment-behind : (seg : Option Segment) (t : List ℕ) → 2 < rank (word t) → behind_segment (segment_text seg ++ t) ≡ t
-unfolding behind_segment segment_name rank is_lock repeat_named is_repeat segment_named segment_by size_behind size_by skip_if first rest front back is_word_byte
+unfolding behind_segment segment_name rank is_lock repeat_prefix_of is_repeat_prefix segment_of_word segment_by size_behind size_by skip_if first rest front_while back is_word_byte
 segment-behind None t h = ap (λ (b : Bool). skip_if b t) (no-segment_word (word t) h)
 segment-behind (Some Es) t h = refl
 segment-behind (Some Cs) t h = refl
@@ -156,7 +156,7 @@ segment-behind (Some Fs) t h = refl
 segment-behind (Some Gs) t h = refl
 
 pub segment-rank : (seg : Option Segment) (t : List ℕ) → 2 < rank (word t) → 1 < rank (word (segment_text seg ++ t))
-unfolding segment_name rank is_lock repeat_named is_repeat segment_named segment_by size_behind size_by skip_if first rest front back is_word_byte
+unfolding segment_name rank is_lock repeat_prefix_of is_repeat_prefix segment_of_word segment_by size_behind size_by skip_if first rest front_while back is_word_byte
 segment-rank None t h = less-of h
 segment-rank (Some Es) t h = lit< tt
 segment-rank (Some Cs) t h = lit< tt
@@ -173,42 +173,42 @@ sized_text letter None = []
 sized_text letter (Some size) = sized_word letter size
 
 pub address-value : (size : Option Bits) (t : List ℕ) → 3 < rank (word t) → size_behind 97 (word (sized_text (codes "a") size ++ t)) ≡ size
-unfolding sized_word size_digits rank is_lock repeat_named is_repeat segment_named segment_by size_behind size_by skip_if first rest front back is_word_byte
+unfolding sized_word size_digits rank is_lock repeat_prefix_of is_repeat_prefix segment_of_word segment_by size_behind size_by skip_if first rest front_while back is_word_byte
 address-value None t h = no-size (size_behind 97 (word t)) (no-address_word (word t) h)
 address-value (Some B16) t h = refl
 address-value (Some B32) t h = refl
 address-value (Some B64) t h = refl
 
-pub address-behind : (size : Option Bits) (t : List ℕ) → 3 < rank (word t) → behind_size 97 (sized_text (codes "a") size ++ t) ≡ t
-unfolding behind_size sized_word size_digits rank is_lock repeat_named is_repeat segment_named segment_by size_behind size_by skip_if first rest front back is_word_byte
+pub address-behind : (size : Option Bits) (t : List ℕ) → 3 < rank (word t) → behind_size_word 97 (sized_text (codes "a") size ++ t) ≡ t
+unfolding behind_size_word sized_word size_digits rank is_lock repeat_prefix_of is_repeat_prefix segment_of_word segment_by size_behind size_by skip_if first rest front_while back is_word_byte
 address-behind None t h = ap (λ (b : Bool). skip_if b t) (no-address_word (word t) h)
 address-behind (Some B16) t h = refl
 address-behind (Some B32) t h = refl
 address-behind (Some B64) t h = refl
 
 pub address-rank : (size : Option Bits) (t : List ℕ) → 3 < rank (word t) → 2 < rank (word (sized_text (codes "a") size ++ t))
-unfolding sized_word size_digits rank is_lock repeat_named is_repeat segment_named segment_by size_behind size_by skip_if first rest front back is_word_byte
+unfolding sized_word size_digits rank is_lock repeat_prefix_of is_repeat_prefix segment_of_word segment_by size_behind size_by skip_if first rest front_while back is_word_byte
 address-rank None t h = less-of h
 address-rank (Some B16) t h = lit< tt
 address-rank (Some B32) t h = lit< tt
 address-rank (Some B64) t h = lit< tt
 
 pub operand-value : (size : Option Bits) (t : List ℕ) → 4 < rank (word t) → size_behind 111 (word (sized_text (codes "o") size ++ t)) ≡ size
-unfolding sized_word size_digits rank is_lock repeat_named is_repeat segment_named segment_by size_behind size_by skip_if first rest front back is_word_byte
+unfolding sized_word size_digits rank is_lock repeat_prefix_of is_repeat_prefix segment_of_word segment_by size_behind size_by skip_if first rest front_while back is_word_byte
 operand-value None t h = no-size (size_behind 111 (word t)) (no-operand_word (word t) h)
 operand-value (Some B16) t h = refl
 operand-value (Some B32) t h = refl
 operand-value (Some B64) t h = refl
 
-pub operand-behind : (size : Option Bits) (t : List ℕ) → 4 < rank (word t) → behind_size 111 (sized_text (codes "o") size ++ t) ≡ t
-unfolding behind_size sized_word size_digits rank is_lock repeat_named is_repeat segment_named segment_by size_behind size_by skip_if first rest front back is_word_byte
+pub operand-behind : (size : Option Bits) (t : List ℕ) → 4 < rank (word t) → behind_size_word 111 (sized_text (codes "o") size ++ t) ≡ t
+unfolding behind_size_word sized_word size_digits rank is_lock repeat_prefix_of is_repeat_prefix segment_of_word segment_by size_behind size_by skip_if first rest front_while back is_word_byte
 operand-behind None t h = ap (λ (b : Bool). skip_if b t) (no-operand_word (word t) h)
 operand-behind (Some B16) t h = refl
 operand-behind (Some B32) t h = refl
 operand-behind (Some B64) t h = refl
 
 pub operand-rank : (size : Option Bits) (t : List ℕ) → 4 < rank (word t) → 3 < rank (word (sized_text (codes "o") size ++ t))
-unfolding sized_word size_digits rank is_lock repeat_named is_repeat segment_named segment_by size_behind size_by skip_if first rest front back is_word_byte
+unfolding sized_word size_digits rank is_lock repeat_prefix_of is_repeat_prefix segment_of_word segment_by size_behind size_by skip_if first rest front_while back is_word_byte
 operand-rank None t h = less-of h
 operand-rank (Some B16) t h = lit< tt
 operand-rank (Some B32) t h = lit< tt
@@ -224,7 +224,7 @@ pick-segment false (Some s) = refl
 
 pub segment-word : (instr : Instr) → segment_word instr ≡ segment_text (segment_of instr)
 unfolding segment_word segment_of
-segment-word instr = pick-segment (has_memory instr) instr.seg
+segment-word instr = pick-segment (shows_memory instr) instr.seg
 
 pick-size : (letter : List ℕ) (needed : Bool) (size : Bits) → (if needed then sized_word letter size else []) ≡ sized_text letter (if needed then Some size else None)
 pick-size letter true size = refl
@@ -269,7 +269,7 @@ plain-rank : (name : List ℕ) → is_plain_name name ≡ true → 4 < rank name
 unfolding is_plain_name is_prefix_word rank
 plain-rank [] h = absurd cc
 plain-rank (c ∷ cs) h =
-    rank-5 (is_lock (c ∷ cs)) (is_repeat (repeat_named (c ∷ cs))) (is_some (segment_named (c ∷ cs))) (is_some (size_behind 97 (c ∷ cs)))
+    rank-5 (is_lock (c ∷ cs)) (is_repeat_prefix (repeat_prefix_of (c ∷ cs))) (is_some (segment_of_word (c ∷ cs))) (is_some (size_behind 97 (c ∷ cs)))
     (is_some (size_behind 111 (c ∷ cs))) (and_parts (list_all is_word_byte (c ∷ cs)) _ h).1
 
 plain-bytes : (name : List ℕ) → is_plain_name name ≡ true → list_all is_word_byte name ≡ true
@@ -278,7 +278,7 @@ plain-bytes [] h = refl
 plain-bytes (c ∷ cs) h = (and_parts (list_all is_word_byte (c ∷ cs)) _ h).0
 
 pick-name : (jump : Bool) (size : Bits) (name : List ℕ) → is_plain_name name ≡ true → is_plain_name (if jump then counter_jump size else name) ≡ true
-unfolding counter_jump is_plain_name is_prefix_word rank is_lock repeat_named is_repeat segment_named segment_by size_behind size_by skip_if first rest front back is_word_byte
+unfolding counter_jump is_plain_name is_prefix_word rank is_lock repeat_prefix_of is_repeat_prefix segment_of_word segment_by size_behind size_by skip_if first rest front_while back is_word_byte
 pick-name true B16 name h = refl
 pick-name true B32 name h = refl
 pick-name true B64 name h = refl
@@ -289,17 +289,17 @@ unfolding name_text
 printed-plain bits name instr h = pick-name (is_counter_jump name) (text_address_size bits instr) name h
 
 -- the name in front of operands
-pub name-word : (bits : Bits) (name : List ℕ) (instr : Instr) (ops : List ℕ) → is_plain_name name ≡ true → front is_word_byte ops ≡ [] →
+pub name-word : (bits : Bits) (name : List ℕ) (instr : Instr) (ops : List ℕ) → is_plain_name name ≡ true → front_while is_word_byte ops ≡ [] →
     word (name_text bits name instr ++ ops) ≡ name_text bits name instr
 name-word bits name instr ops h e =
     front-ends is_word_byte (name_text bits name instr) ops (plain-bytes (name_text bits name instr) (printed-plain bits name instr h)) e
 
 pub name-behind : (bits : Bits) (name : List ℕ) (instr : Instr) (ops : List ℕ) → is_plain_name name ≡ true → back is_word_byte ops ≡ ops →
-    behind (name_text bits name instr ++ ops) ≡ ops
+    rest_behind (name_text bits name instr ++ ops) ≡ ops
 name-behind bits name instr ops h e =
     back-ends is_word_byte (name_text bits name instr) ops (plain-bytes (name_text bits name instr) (printed-plain bits name instr h)) e
 
-pub name-rank : (bits : Bits) (name : List ℕ) (instr : Instr) (ops : List ℕ) → is_plain_name name ≡ true → front is_word_byte ops ≡ [] →
+pub name-rank : (bits : Bits) (name : List ℕ) (instr : Instr) (ops : List ℕ) → is_plain_name name ≡ true → front_while is_word_byte ops ≡ [] →
     4 < rank (word (name_text bits name instr ++ ops))
 name-rank bits name instr ops h e =
     let at : 4 < rank (name_text bits name instr) = plain-rank (name_text bits name instr) (printed-plain bits name instr h) in

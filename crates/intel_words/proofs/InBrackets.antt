@@ -18,10 +18,10 @@ use Rattle.text_parts.specs.Addresses.{is_instruction_pointer, is_negative, magn
 use Rattle.intel_words.specs.declared.words.Inside.{Inside}
 use Rattle.intel_words.specs.declared.words.Inside.TheVariants.{Lone, Rel, Sum}
 use Rattle.intel_words.specs.declared.words.SignedText.{SignedText}
-use Rattle.intel_words.specs.Words.{is_eip, lone_of, signed_of, scale_of, sum_of, inside_of}
+use Rattle.intel_words.specs.Words.{is_eip, lone_of, signed_of, shown_scale, sum_of, inside_of}
 use Rattle.x86_values.specs.Named.{is_named, is_named_if}
 use Rattle.intel_words.specs.Printable.{is_word_number, index_is_shown, is_printable_address}
-use Rattle.intel_words.specs.Scanning.{is_word_byte, front, back, first, rest, word, behind}
+use Rattle.intel_words.specs.Scanning.{is_word_byte, front_while, back, first, rest, word, rest_behind}
 use Rattle.intel_words.specs.ReadNumbers.{number_named, decimal_digit}
 use Rattle.intel_words.specs.ReadRegisters.{register_named}
 use Rattle.intel_words.specs.ReadAddresses.{signed_by, signed_in, sum_with, scaled_by, behind_index, index_by, sum_by, rel_by, relative_in, inside_in}
@@ -32,18 +32,18 @@ use Rattle.intel_words.proofs.Below.{agree-below}
 
 -- ---- numbers and registers in front of another text
 
-pub number-word : (n : ℕ) (ys : List ℕ) → n < 2 ^ 64 → front is_word_byte ys ≡ [] → number_named (word (number Intel n ++ ys)) ≡ Some n
+pub number-word : (n : ℕ) (ys : List ℕ) → n < 2 ^ 64 → front_while is_word_byte ys ≡ [] → number_named (word (number Intel n ++ ys)) ≡ Some n
 number-word n ys h e = ap number_named (front-ends is_word_byte (number Intel n) ys (number-bytes n) e) ∙ number-read n h
 
-pub number-behind : (n : ℕ) (ys : List ℕ) → back is_word_byte ys ≡ ys → behind (number Intel n ++ ys) ≡ ys
+pub number-behind : (n : ℕ) (ys : List ℕ) → back is_word_byte ys ≡ ys → rest_behind (number Intel n ++ ys) ≡ ys
 number-behind n ys e = back-ends is_word_byte (number Intel n) ys (number-bytes n) e
 
-pub register-word : (r : Register) (ys : List ℕ) → is_named r ≡ true → front is_word_byte ys ≡ [] → register_named (word (register Intel r ++ ys)) ≡ Some r
+pub register-word : (r : Register) (ys : List ℕ) → is_named r ≡ true → front_while is_word_byte ys ≡ [] → register_named (word (register Intel r ++ ys)) ≡ Some r
 register-word r ys h e =
     let read = register-read r h in
     ap register_named (front-ends is_word_byte (register Intel r) ys read.bytes e) ∙ read.named
 
-pub register-behind : (r : Register) (ys : List ℕ) → is_named r ≡ true → back is_word_byte ys ≡ ys → behind (register Intel r ++ ys) ≡ ys
+pub register-behind : (r : Register) (ys : List ℕ) → is_named r ≡ true → back is_word_byte ys ≡ ys → rest_behind (register Intel r ++ ys) ≡ ys
 register-behind r ys h e =
     let read = register-read r h in
     back-ends is_word_byte (register Intel r) ys read.bytes e
@@ -66,7 +66,7 @@ no-letter c k h lt = grind (arith, nat_tests)
 
 record IsEnd (s : List ℕ) (value : Option SignedText) : Type 0 where
   reads : signed_in s ≡ Some value
-  stops : front is_word_byte s ≡ []
+  stops : front_while is_word_byte s ≡ []
   stays : back is_word_byte s ≡ s
   no_star : (first s == 42) ≡ false
   no_index : (first s == 43 && nat_le 97 (first (rest s))) ≡ false
@@ -74,7 +74,7 @@ record IsEnd (s : List ℕ) (value : Option SignedText) : Type 0 where
 
 signed-end : (negative : Bool) (n : ℕ) → n < 2 ^ 64 →
     IsEnd ((sign Intel negative ++ number Intel n) ++ codes "]") (Some (record { negative = negative; magnitude = n }))
-unfolding sign signed_in signed_by first rest front back is_word_byte
+unfolding sign signed_in signed_by first rest front_while back is_word_byte
 signed-end true n h = record {
   reads = ap (signed_by true) (number-word n (codes "]") h refl);
   stops = refl;
@@ -105,7 +105,7 @@ magnitude-small B64 d = magnitude-by (is_negative B64 d) (d % 2 ^ 64) (2 ^ 64) r
 end-by : (size : DispSize) (asize : Bits) (b i : Option Register) (scale d : ℕ) →
     IsEnd (signed_displacement Intel asize (record { base = b; index = i; scale = scale; disp_size = size; disp = d }) ++ codes "]")
     (signed_of asize (record { base = b; index = i; scale = scale; disp_size = size; disp = d }))
-unfolding signed_displacement signed_of signed_in first rest front back is_word_byte
+unfolding signed_displacement signed_of signed_in first rest front_while back is_word_byte
 end-by D0 asize b i scale d = record { reads = refl; stops = refl; stays = refl; no_star = refl; no_index = refl; no_space = refl }
 end-by D8 asize b i scale d = signed-end (is_negative asize d) (magnitude asize d) (magnitude-small asize d)
 end-by D16 asize b i scale d = signed-end (is_negative asize d) (magnitude asize d) (magnitude-small asize d)
@@ -152,8 +152,8 @@ index-read B32 base x scale s value h e = star-read base (Some x) scale s value 
 index-read B64 base x scale s value h e = star-read base (Some x) scale s value h e
 
 -- what stands behind an index is no part of its name
-scale-stops : (asize : Bits) (scale : ℕ) (s : List ℕ) (value : Option SignedText) → IsEnd s value → front is_word_byte (scale_text (codes "*") asize scale ++ s) ≡ []
-unfolding scale_text front is_word_byte
+scale-stops : (asize : Bits) (scale : ℕ) (s : List ℕ) (value : Option SignedText) → IsEnd s value → front_while is_word_byte (scale_text (codes "*") asize scale ++ s) ≡ []
+unfolding scale_text front_while is_word_byte
 scale-stops B16 scale s value e = e.stops
 scale-stops B32 scale s value e = refl
 scale-stops B64 scale s value e = refl
@@ -167,15 +167,15 @@ scale-stays B64 scale s value e = refl
 
 -- ---- registers
 
-inside-register : (r : Register) (t : List ℕ) → is_named r ≡ true → front is_word_byte t ≡ [] → back is_word_byte t ≡ t → (first t == 32) ≡ false →
+inside-register : (r : Register) (t : List ℕ) → is_named r ≡ true → front_while is_word_byte t ≡ [] → back is_word_byte t ≡ t → (first t == 32) ≡ false →
     inside_in (register Intel r ++ t) ≡ sum_by (Some r) t
 unfolding inside_in
 inside-register r t h stops stays space =
     let letter = letter-first r t h in
-    if-no (first (behind (register Intel r ++ t)) == 32) _ _ (ap (λ (u : List ℕ). first u == 32) (register-behind r t h stays) ∙ space)
+    if-no (first (rest_behind (register Intel r ++ t)) == 32) _ _ (ap (λ (u : List ℕ). first u == 32) (register-behind r t h stays) ∙ space)
     ∙ (if-no (first (register Intel r ++ t) == 93) _ _ (no-letter (first (register Intel r ++ t)) 93 letter (omega arith))
     ∙ (if-no (first (register Intel r ++ t) == 48) _ _ (no-letter (first (register Intel r ++ t)) 48 letter (omega arith))
-    ∙ (ap (λ (o : Option Register). sum_by o (behind (register Intel r ++ t))) (register-word r t h stops)
+    ∙ (ap (λ (o : Option Register). sum_by o (rest_behind (register Intel r ++ t))) (register-word r t h stops)
     ∙ ap (sum_by (Some r)) (register-behind r t h stays))))
 
 -- a base alone
@@ -191,7 +191,7 @@ base-read r s value h e =
 lone-index-read : (x : Register) (scale : ℕ) (s : List ℕ) (value : Option SignedText) → is_named x ≡ true → scale < 10 → IsEnd s value →
     inside_in (register Intel x ++ ((codes "*" ++ decimal scale) ++ s))
     ≡ Some (Sum (record { base = None; index = Some x; scale = Some scale; disp = value }))
-unfolding sum_by first front back is_word_byte
+unfolding sum_by first front_while back is_word_byte
 lone-index-read x scale s value h small e =
     inside-register x ((codes "*" ++ decimal scale) ++ s) h refl refl refl ∙ star-read None (Some x) scale s value small e
 
@@ -202,7 +202,7 @@ both-by : (asize : Bits) (r x : Register) (scale : ℕ) (s : List ℕ) (value : 
 unfolding sum_by first rest index_by
 both-by asize r x scale s value h small e =
     if-yes (nat_le 97 (first (register Intel x ++ (scale_text (codes "*") asize scale ++ s)))) _ _ (letter-first x (scale_text (codes "*") asize scale ++ s) h)
-    ∙ (ap (λ (o : Option Register). index_by (Some r) o (behind (register Intel x ++ (scale_text (codes "*") asize scale ++ s))))
+    ∙ (ap (λ (o : Option Register). index_by (Some r) o (rest_behind (register Intel x ++ (scale_text (codes "*") asize scale ++ s))))
     (register-word x (scale_text (codes "*") asize scale ++ s) h (scale-stops asize scale s value e))
     ∙ (ap (λ (t : List ℕ). behind_index (Some r) (Some x) t) (register-behind x (scale_text (codes "*") asize scale ++ s) h (scale-stays asize scale s value e))
     ∙ index-read asize (Some r) x scale s value small e))
@@ -210,7 +210,7 @@ both-by asize r x scale s value h small e =
 both-read : (asize : Bits) (r x : Register) (scale : ℕ) (s : List ℕ) (value : Option SignedText) → is_named r ≡ true → is_named x ≡ true → scale < 10 → IsEnd s value →
     inside_in (register Intel r ++ (codes "+" ++ (register Intel x ++ (scale_text (codes "*") asize scale ++ s))))
     ≡ Some (Sum (record { base = Some r; index = Some x; scale = shown asize scale; disp = value }))
-unfolding first front back is_word_byte
+unfolding first front_while back is_word_byte
 both-read asize r x scale s value hr hx small e =
     inside-register r (codes "+" ++ (register Intel x ++ (scale_text (codes "*") asize scale ++ s))) hr refl refl refl
     ∙ both-by asize r x scale s value hx small e
@@ -220,8 +220,8 @@ both-read asize r x scale s value hr hx small e =
 regroup : (r p x st sg e : List ℕ) → (r ++ ((p ++ (x ++ st)) ++ sg)) ++ e ≡ r ++ (p ++ (x ++ (st ++ (sg ++ e))))
 regroup r p x st sg e = simp append_assoc
 
-no-scale : (asize : Bits) (m : Mem) → m.index ≡ None → None ≡ scale_of asize m
-unfolding scale_of
+no-scale : (asize : Bits) (m : Mem) → m.index ≡ None → None ≡ shown_scale asize m
+unfolding shown_scale
 no-scale B16 m e = refl
 no-scale B32 m e = rw e refl
 no-scale B64 m e = rw e refl
@@ -231,8 +231,8 @@ abbrev address : Option Register → Option Register → ℕ → DispSize → �
 address b i scale size d = record { base = b; index = i; scale = scale; disp_size = size; disp = d }
 
 scale-shown : (asize : Bits) (b : Option Register) (x : Register) (scale : ℕ) (size : DispSize) (d : ℕ) →
-    shown asize scale ≡ scale_of asize (address b (Some x) scale size d)
-unfolding scale_of shown
+    shown asize scale ≡ shown_scale asize (address b (Some x) scale size d)
+unfolding shown_scale shown
 scale-shown B16 b x scale size d = refl
 scale-shown B32 b x scale size d = refl
 scale-shown B64 b x scale size d = refl
@@ -251,7 +251,7 @@ base-sum asize r scale size d h =
 index-sum : (asize : Bits) (x : Register) (scale : ℕ) (size : DispSize) (d : ℕ) → is_named x ≡ true → scale < 10 →
     index_is_shown asize (address None (Some x) scale size d) ≡ true →
     inside_in (sum_text Intel asize (address None (Some x) scale size d) ++ codes "]") ≡ Some (Sum (sum_of asize (address None (Some x) scale size d)))
-unfolding sum_text base_text index_text joint scale_text sum_of scale_of index_is_shown
+unfolding sum_text base_text index_text joint scale_text sum_of shown_scale index_is_shown
 index-sum B16 x scale size d h small here = absurd cc
 index-sum B32 x scale size d h small here =
     let m : Mem = address None (Some x) scale size d in
@@ -292,32 +292,32 @@ sum-by asize (Some r) (Some x) scale size d some hb hi small here = both-sum asi
 -- a target at RIP or EIP
 relative-read : (base : Option Register) (d : ℕ) → is_instruction_pointer base ≡ true → d < 2 ^ 64 →
     inside_in ((relative_word Intel base ++ number Intel d) ++ codes "]") ≡ Some (Rel (is_eip base) d)
-unfolding is_instruction_pointer relative_word is_eip inside_in relative_in first rest front back is_word_byte rel_by
+unfolding is_instruction_pointer relative_word is_eip inside_in relative_in first rest front_while back is_word_byte rel_by
 relative-read (Some Eip) d h small = ap (rel_by true) (number-word d (codes "]") small refl)
 relative-read (Some Rip) d h small = ap (rel_by false) (number-word d (codes "]") small refl)
 relative-read _ d h small = absurd cc
 
 -- a displacement alone
-lone-space : (d : ℕ) → (first (behind (number Intel d ++ codes "]")) == 32) ≡ false
+lone-space : (d : ℕ) → (first (rest_behind (number Intel d ++ codes "]")) == 32) ≡ false
 unfolding first back is_word_byte
 lone-space d = ap (λ (u : List ℕ). first u == 32) (number-behind d (codes "]") refl)
 
 lone-number : (d : ℕ) → d < 2 ^ 64 → number_named (word (number Intel d ++ codes "]")) ≡ Some d
-unfolding front is_word_byte
+unfolding front_while is_word_byte
 lone-number d small = number-word d (codes "]") small refl
 
 lone-read : (d : ℕ) → d < 2 ^ 64 → inside_in (number Intel d ++ codes "]") ≡ Some (Lone d)
 unfolding inside_in
 lone-read d small =
     let zero_first : first (number Intel d ++ codes "]") ≡ 48 = number-first d (codes "]") in
-    if-no (first (behind (number Intel d ++ codes "]")) == 32) _ _ (lone-space d)
+    if-no (first (rest_behind (number Intel d ++ codes "]")) == 32) _ _ (lone-space d)
     ∙ (if-no (first (number Intel d ++ codes "]") == 93) _ _ (ap (λ (c : ℕ). c == 93) zero_first)
     ∙ (if-yes (first (number Intel d ++ codes "]") == 48) _ _ (ap (λ (c : ℕ). c == 48) zero_first)
     ∙ ap (option_map Lone) (lone-number d small)))
 
 absolute-by : (b i : Option Register) (scale : ℕ) (size : DispSize) (d : ℕ) → d < 2 ^ 64 →
     inside_in (lone_displacement Intel (address b i scale size d) ++ codes "]") ≡ Some (lone_of (address b i scale size d))
-unfolding lone_displacement lone_of inside_in first front back is_word_byte
+unfolding lone_displacement lone_of inside_in first front_while back is_word_byte
 absolute-by b i scale D0 d h = refl
 absolute-by b i scale D8 d h = lone-read d h
 absolute-by b i scale D16 d h = lone-read d h

@@ -20,12 +20,12 @@ use Rattle.row_types.specs.declared.Row.{Row}
 use Rattle.text_parts.specs.declared.style.Style.TheVariants.{Intel}
 use Rattle.text_parts.specs.Numbers.{number, decimal}
 use Rattle.text_parts.specs.Registers.{register, segment_name, segment_override, sigil}
-use Rattle.text_parts.specs.Addresses.{is_relative, is_absolute, is_negative, magnitude, sign, signed_displacement, lone_displacement, relative_word, base_text, joint, scale_text, index_text, sum_text, inside, bracket_segment, bracketed}
+use Rattle.text_parts.specs.Addresses.{is_relative, is_absolute, is_negative, magnitude, sign, signed_displacement, lone_displacement, relative_word, base_text, joint, scale_text, index_text, sum_text, inside, bracket_segment, bracketed_address}
 use Rattle.text_parts.specs.PrefixWords.{text_address_size}
 use Rattle.text_parts.specs.Layout.{behind_size, size_word, bracket_operand}
 use Rattle.intel_words.specs.declared.words.SizeName.{SizeName}
 use Rattle.intel_words.specs.declared.words.SizeName.TheVariants.{None as NoSize, Byte, Word, Dword, Qword, Tbyte, Xmmword, Ymmword, Far16, Far32, Far64}
-use Rattle.intel_words.specs.Words.{size_of}
+use Rattle.intel_words.specs.Words.{size_word_of}
 use Rattle.x86_values.specs.Named.{is_named, is_named_if}
 use Rattle.intel_words.specs.Printable.{is_printable_address, is_printable_operand}
 use Rattle.intel_words.specs.Scanning.{is_word_byte, is_no_comma}
@@ -149,8 +149,8 @@ end-plain : list_all is_no_comma (codes "]") ≡ true
 unfolding is_no_comma
 end-plain = refl
 
-bracketed-plain : (seg : Option Segment) (asize : Bits) (m : Mem) → is_printable_address asize m ≡ true → list_all is_no_comma (bracketed Intel seg asize m) ≡ true
-unfolding bracketed is_no_comma
+bracketed-plain : (seg : Option Segment) (asize : Bits) (m : Mem) → is_printable_address asize m ≡ true → list_all is_no_comma (bracketed_address Intel seg asize m) ≡ true
+unfolding bracketed_address is_no_comma
 bracketed-plain seg asize m h =
     all-both is_no_comma (bracket_segment Intel seg m) (codes "[" ++ (inside Intel asize m ++ codes "]")) (segment-plain seg m)
     (all-both is_no_comma (inside Intel asize m) (codes "]") (inside-plain asize m h) end-plain)
@@ -171,7 +171,7 @@ size-plain Far64 = refl
 
 word-plain : (row : Row) (n : ℕ) → list_all is_no_comma (size_word Intel row n) ≡ true
 unfolding size_word
-word-plain row n = ap (λ (t : List ℕ). list_all is_no_comma (t ++ behind_size Intel t)) (size-of-text row n) ∙ size-plain (size_of row n)
+word-plain row n = ap (λ (t : List ℕ). list_all is_no_comma (t ++ behind_size Intel t)) (size-of-text row n) ∙ size-plain (size_word_of row n)
 
 -- ---- each operand
 
@@ -189,5 +189,5 @@ operand-plain bits row instr n (Imm x) h = number-plain x
 operand-plain bits row instr n (Near x) h = number-plain x
 operand-plain bits row instr n (FarOperand selector offset) h = far-plain selector offset
 operand-plain bits row instr n (MemOperand m) h =
-    all-both is_no_comma (size_word Intel row n) (bracketed Intel instr.seg (text_address_size bits instr) m) (word-plain row n)
+    all-both is_no_comma (size_word Intel row n) (bracketed_address Intel instr.seg (text_address_size bits instr) m) (word-plain row n)
     (bracketed-plain instr.seg (text_address_size bits instr) m h)

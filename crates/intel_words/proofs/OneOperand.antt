@@ -20,18 +20,18 @@ use Rattle.row_meaning.specs.MemorySize.{memory_size}
 use Rattle.text_parts.specs.declared.style.Style.TheVariants.{Intel}
 use Rattle.text_parts.specs.Numbers.{number}
 use Rattle.text_parts.specs.Registers.{register, segment_name, segment_override, sigil}
-use Rattle.text_parts.specs.Addresses.{bracket_segment, bracketed}
+use Rattle.text_parts.specs.Addresses.{bracket_segment, bracketed_address}
 use Rattle.text_parts.specs.PrefixWords.{text_address_size}
 use Rattle.text_parts.specs.Layout.{size_name, far_name, is_far_pointer, operand_size_name, behind_size, size_word, bracket_operand}
 use Rattle.intel_words.specs.declared.words.OperandText.TheVariants.{Reg, Number, Far, Mem as Address}
 use Rattle.intel_words.specs.declared.words.SizeName.{SizeName}
 use Rattle.intel_words.specs.declared.words.SizeName.TheVariants.{None as NoSize, Byte, Word, Dword, Qword, Tbyte, Xmmword, Ymmword, Far16, Far32, Far64}
-use Rattle.intel_words.specs.Words.{size_of_bytes, size_of_far, size_of, inside_of, operand_of}
+use Rattle.intel_words.specs.Words.{size_of_bytes, size_of_far, size_word_of, inside_of, operand_of}
 use Rattle.x86_values.specs.Named.{is_named}
 use Rattle.intel_words.specs.Printable.{is_word_number, is_printable_address, is_printable_operand}
-use Rattle.intel_words.specs.Scanning.{is_word_byte, front, back, first, rest, word, behind}
+use Rattle.intel_words.specs.Scanning.{is_word_byte, front_while, back, first, rest, word, rest_behind}
 use Rattle.intel_words.specs.ReadNumbers.{number_named}
-use Rattle.intel_words.specs.ReadRegisters.{segment_named, segment_by}
+use Rattle.intel_words.specs.ReadRegisters.{segment_of_word, segment_by}
 use Rattle.intel_words.specs.ReadAddresses.{size_named, address_by, address_at, address_in, sized_in, far_by, plain_in, far_in, some_operand, operand_in}
 use Rattle.intel_words.proofs.Cutting.{front-all, back-all, if-no, if-yes}
 use Rattle.intel_words.proofs.NumberText.{number-read, number-bytes, number-first}
@@ -55,10 +55,10 @@ above-zero c h = grind (arith, nat_tests)
 plain-read : (xs : List ℕ) → list_all is_word_byte xs ≡ true → (first xs == 91) ≡ false → some_operand xs ≡ plain_in xs
 unfolding some_operand first
 plain-read xs bytes bracket =
-    let none : behind xs ≡ [] = back-all is_word_byte xs bytes in
-    if-no (first (behind xs) == 32) _ _ (ap (λ (u : List ℕ). first u == 32) none)
+    let none : rest_behind xs ≡ [] = back-all is_word_byte xs bytes in
+    if-no (first (rest_behind xs) == 32) _ _ (ap (λ (u : List ℕ). first u == 32) none)
     ∙ (if-no (first xs == 91) _ _ bracket
-    ∙ (if-no (first (behind xs) == 58) _ _ (ap (λ (u : List ℕ). first u == 58) none)
+    ∙ (if-no (first (rest_behind xs) == 58) _ _ (ap (λ (u : List ℕ). first u == 58) none)
     ∙ ap plain_in (front-all is_word_byte xs bytes)))
 
 register-operand : (r : Register) → is_named r ≡ true → operand_in (register Intel r) ≡ Some (Reg r)
@@ -85,13 +85,13 @@ number-operand n h =
 -- ---- two numbers
 
 -- the text behind the selector
-offset-text : (selector offset : ℕ) → behind (number Intel selector ++ (codes ":" ++ number Intel offset)) ≡ codes ":" ++ number Intel offset
+offset-text : (selector offset : ℕ) → rest_behind (number Intel selector ++ (codes ":" ++ number Intel offset)) ≡ codes ":" ++ number Intel offset
 unfolding back is_word_byte
 offset-text selector offset = number-behind selector (codes ":" ++ number Intel offset) refl
 
 selector-number : (selector offset : ℕ) → selector < 2 ^ 64 →
     number_named (word (number Intel selector ++ (codes ":" ++ number Intel offset))) ≡ Some selector
-unfolding front is_word_byte
+unfolding front_while is_word_byte
 selector-number selector offset h = number-word selector (codes ":" ++ number Intel offset) h refl
 
 far-read : (selector offset : ℕ) → selector < 2 ^ 64 → offset < 2 ^ 64 →
@@ -99,7 +99,7 @@ far-read : (selector offset : ℕ) → selector < 2 ^ 64 → offset < 2 ^ 64 →
 unfolding far_in far_by rest
 far-read selector offset hs ho =
     let text : List ℕ = number Intel selector ++ (codes ":" ++ number Intel offset) in
-    ap (λ (a : Option ℕ). far_by a (number_named (word (rest (behind text))))) (selector-number selector offset hs)
+    ap (λ (a : Option ℕ). far_by a (number_named (word (rest (rest_behind text))))) (selector-number selector offset hs)
     ∙ ap (λ (b : Option ℕ). far_by (Some selector) b)
     (ap (λ (u : List ℕ). number_named (word (rest u))) (offset-text selector offset)
     ∙ (ap number_named (front-all is_word_byte (number Intel offset) (number-bytes offset)) ∙ number-read offset ho))
@@ -112,16 +112,16 @@ far-operand selector offset hs ho =
     let z : first text ≡ 48 = number-first selector (codes ":" ++ number Intel offset) in
     let some : 0 < first text = omega arith in
     not-empty text some
-    ∙ (if-no (first (behind text) == 32) _ _ (ap (λ (u : List ℕ). first u == 32) (offset-text selector offset))
+    ∙ (if-no (first (rest_behind text) == 32) _ _ (ap (λ (u : List ℕ). first u == 32) (offset-text selector offset))
     ∙ (if-no (first text == 91) _ _ (ap (λ (c : ℕ). c == 91) z)
-    ∙ (if-yes (first (behind text) == 58) _ _ (ap (λ (u : List ℕ). first u == 58) (offset-text selector offset))
+    ∙ (if-yes (first (rest_behind text) == 58) _ _ (ap (λ (u : List ℕ). first u == 58) (offset-text selector offset))
     ∙ (if-yes (first text == 48) _ _ (ap (λ (c : ℕ). c == 48) z) ∙ far-read selector offset hs ho))))
 
 -- ---- addresses
 
 pub bracket-read : (size : SizeName) (seg : Option Segment) (asize : Bits) (m : Mem) → is_printable_address asize m ≡ true →
-    address_in size (bracketed Intel seg asize m) ≡ Some (Address (record { size = size; seg = seg; inside = inside_of asize m }))
-unfolding bracketed bracket_segment segment_override sigil segment_name address_in address_at address_by segment_named segment_by first rest front back is_word_byte
+    address_in size (bracketed_address Intel seg asize m) ≡ Some (Address (record { size = size; seg = seg; inside = inside_of asize m }))
+unfolding bracketed_address bracket_segment segment_override sigil segment_name address_in address_at address_by segment_of_word segment_by first rest front_while back is_word_byte
 bracket-read size None asize m h = ap (address_by size None) (inside-read asize m h)
 bracket-read size (Some Es) asize m h = ap (address_by size (Some Es)) (inside-read asize m h)
 bracket-read size (Some Cs) asize m h = ap (address_by size (Some Cs)) (inside-read asize m h)
@@ -145,8 +145,8 @@ size_text Far32 = codes "far32"
 size_text Far64 = codes "far64"
 
 -- brackets without a size word
-bare-read : (seg : Option Segment) (asize : Bits) (m : Mem) → operand_in (bracketed Intel seg asize m) ≡ address_in NoSize (bracketed Intel seg asize m)
-unfolding bracketed bracket_segment segment_override sigil segment_name operand_in some_operand first rest front back is_word_byte
+bare-read : (seg : Option Segment) (asize : Bits) (m : Mem) → operand_in (bracketed_address Intel seg asize m) ≡ address_in NoSize (bracketed_address Intel seg asize m)
+unfolding bracketed_address bracket_segment segment_override sigil segment_name operand_in some_operand first rest front_while back is_word_byte
 bare-read None asize m = refl
 bare-read (Some Es) asize m = refl
 bare-read (Some Cs) asize m = refl
@@ -157,8 +157,8 @@ bare-read (Some Gs) asize m = refl
 
 -- a size word in front of another text
 size-read : (z : SizeName) (seg : Option Segment) (asize : Bits) (m : Mem) →
-    operand_in ((size_text z ++ behind_size Intel (size_text z)) ++ bracketed Intel seg asize m) ≡ address_in z (bracketed Intel seg asize m)
-unfolding behind_size operand_in some_operand size_named sized_in first rest front back is_word_byte
+    operand_in ((size_text z ++ behind_size Intel (size_text z)) ++ bracketed_address Intel seg asize m) ≡ address_in z (bracketed_address Intel seg asize m)
+unfolding behind_size operand_in some_operand size_named sized_in first rest front_while back is_word_byte
 size-read NoSize seg asize m = bare-read seg asize m
 size-read Byte seg asize m = refl
 size-read Word seg asize m = refl
@@ -200,8 +200,8 @@ pick-either : (far : Bool) (size : Size) (n : ℕ) → (if far then far_name siz
 pick-either true size n = pick-far size
 pick-either false size n = bytes-text n
 
-pub size-of-text : (row : Row) (n : ℕ) → operand_size_name row n ≡ size_text (size_of row n)
-unfolding operand_size_name size_of
+pub size-of-text : (row : Row) (n : ℕ) → operand_size_name row n ≡ size_text (size_word_of row n)
+unfolding operand_size_name size_word_of
 size-of-text row n = pick-either (is_far_pointer (kind_at row n)) row.size (memory_size row)
 
 memory-operand : (bits : Bits) (row : Row) (instr : Instr) (n : ℕ) (m : Mem) → is_printable_address (text_address_size bits instr) m ≡ true →
@@ -209,8 +209,8 @@ memory-operand : (bits : Bits) (row : Row) (instr : Instr) (n : ℕ) (m : Mem) �
 unfolding bracket_operand operand_of size_word
 memory-operand bits row instr n m h =
     let asize : Bits = text_address_size bits instr in
-    ap (λ (t : List ℕ). operand_in ((t ++ behind_size Intel t) ++ bracketed Intel instr.seg asize m)) (size-of-text row n)
-    ∙ (size-read (size_of row n) instr.seg asize m ∙ bracket-read (size_of row n) instr.seg asize m h)
+    ap (λ (t : List ℕ). operand_in ((t ++ behind_size Intel t) ++ bracketed_address Intel instr.seg asize m)) (size-of-text row n)
+    ∙ (size-read (size_word_of row n) instr.seg asize m ∙ bracket-read (size_word_of row n) instr.seg asize m h)
 
 -- ---- each operand
 

@@ -14,7 +14,7 @@ use Rattle.x86_values.specs.Named.{is_named}
 use Rattle.intel_words.specs.Scanning.{is_word_byte}
 use Rattle.intel_words.specs.Scanning.{first, rest}
 use Rattle.intel_words.specs.ReadNumbers.{decimal_digit, teen, decimal_in}
-use Rattle.intel_words.specs.ReadRegisters.{segment_by, segment_named, letter_number, word_number, below_8, pointer_byte, two_letters, register_of_letters, e_named, from_8, sized_by, r_named, vector_number, register_from, register_named}
+use Rattle.intel_words.specs.ReadRegisters.{segment_by, segment_of_word, letter_number, word_number, below_8, pointer_byte, two_letters, register_of_letters, e_named, from_8, sized_by, r_named, vector_number, register_from, register_named}
 use Rattle.intel_words.proofs.Below.{agree-below}
 
 -- the register is read from its name, which has letters and digits alone and begins with a letter
@@ -88,8 +88,8 @@ register-read Eip h = is_read Eip refl
 register-read Rip h = is_read Rip refl
 
 -- the name of a segment is read as that segment
-pub segment_name-read : (s : Segment) → segment_named (segment_name s) ≡ Some s
-unfolding segment_named segment_by segment_name
+pub segment_name-read : (s : Segment) → segment_of_word (segment_name s) ≡ Some s
+unfolding segment_of_word segment_by segment_name
 segment_name-read Es = refl
 segment_name-read Cs = refl
 segment_name-read Ss = refl

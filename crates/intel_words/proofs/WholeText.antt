@@ -14,9 +14,9 @@ use Rattle.intel_words.specs.declared.words.IntelWords.{IntelWords}
 use Rattle.intel_words.specs.declared.words.OperandText.{OperandText}
 use Rattle.intel_words.specs.Words.{segment_of, address_size_of, operand_size_of, nth_of, words_of}
 use Rattle.intel_words.specs.Printable.{is_plain_name, are_in_front, nth_is_printable, is_printable}
-use Rattle.intel_words.specs.Scanning.{rest, word, behind}
-use Rattle.intel_words.specs.ReadRegisters.{segment_named}
-use Rattle.intel_words.specs.ReadWords.{is_lock, repeat_named, size_behind, behind_lock, behind_repeat, behind_segment, behind_size, operands_in}
+use Rattle.intel_words.specs.Scanning.{rest, word, rest_behind}
+use Rattle.intel_words.specs.ReadRegisters.{segment_of_word}
+use Rattle.intel_words.specs.ReadWords.{is_lock, repeat_prefix_of, size_behind, behind_lock, behind_repeat, behind_segment, behind_size_word, operands_in}
 use Rattle.intel_words.proofs.FrontWords.{lock-value, lock-behind, repeat-value, repeat-behind, repeat-rank, segment_text, segment-value, segment-behind, segment-rank, sized_text, address-value, address-behind, address-rank, operand-value, operand-behind, operand-rank, segment-word, address-word, operand-word, name-word, name-behind, name-rank}
 use Rattle.intel_words.proofs.AllOperands.{behind_name, operands-read, operands-stop, operands-stay, operands-found, operands-grouped}
 
@@ -61,17 +61,17 @@ layout-grouped bits row name instr =
 
 -- the text behind all words in front of the name
 abbrev pub behind_prefixes : List ℕ → List ℕ
-behind_prefixes text = behind_size 111 (behind_size 97 (behind_segment (behind_repeat (behind_lock text))))
+behind_prefixes text = behind_size_word 111 (behind_size_word 97 (behind_segment (behind_repeat (behind_lock text))))
 
 -- the words of a text are those of the instruction
 pub record AreWords (bits : Bits) (row : Row) (name : List ℕ) (instr : Instr) (text : List ℕ) : Type 0 where
   pub lock : is_lock (word text) ≡ instr.lock
-  pub rep : repeat_named (word (behind_lock text)) ≡ instr.rep
-  pub seg : segment_named (word (behind_repeat (behind_lock text))) ≡ segment_of instr
+  pub rep : repeat_prefix_of (word (behind_lock text)) ≡ instr.rep
+  pub seg : segment_of_word (word (behind_repeat (behind_lock text))) ≡ segment_of instr
   pub asize : size_behind 97 (word (behind_segment (behind_repeat (behind_lock text)))) ≡ address_size_of bits name instr
-  pub osize : size_behind 111 (word (behind_size 97 (behind_segment (behind_repeat (behind_lock text))))) ≡ operand_size_of bits row
+  pub osize : size_behind 111 (word (behind_size_word 97 (behind_segment (behind_repeat (behind_lock text))))) ≡ operand_size_of bits row
   pub named : word (behind_prefixes text) ≡ name_text bits name instr
-  pub ops : operands_in (rest (behind (behind_prefixes text)))
+  pub ops : operands_in (rest (rest_behind (behind_prefixes text)))
       ≡ Some (nth_of bits row instr 0 ∷ nth_of bits row instr 1 ∷ nth_of bits row instr 2 ∷ nth_of bits row instr 3 ∷ [])
 
 grouped-read : (bits : Bits) (row : Row) (name : List ℕ) (instr : Instr) (text : List ℕ) → is_printable bits row name instr ≡ true →
@@ -101,17 +101,17 @@ grouped-read bits row name instr text h e0 =
     let e1 : behind_lock text ≡ t1 = ap behind_lock e0 ∙ lock-behind instr.lock t1 r0 in
     let e2 : behind_repeat (behind_lock text) ≡ t2 = ap behind_repeat e1 ∙ repeat-behind instr.rep t2 r1 in
     let e3 : behind_segment (behind_repeat (behind_lock text)) ≡ t3 = ap behind_segment e2 ∙ segment-behind (segment_of instr) t3 r2 in
-    let e4 : behind_size 97 (behind_segment (behind_repeat (behind_lock text))) ≡ t4 =
-    ap (behind_size 97) e3 ∙ address-behind (address_size_of bits name instr) t4 r3 in
-    let e5 : behind_prefixes text ≡ t5 = ap (behind_size 111) e4 ∙ operand-behind (operand_size_of bits row) t5 r4 in
+    let e4 : behind_size_word 97 (behind_segment (behind_repeat (behind_lock text))) ≡ t4 =
+    ap (behind_size_word 97) e3 ∙ address-behind (address_size_of bits name instr) t4 r3 in
+    let e5 : behind_prefixes text ≡ t5 = ap (behind_size_word 111) e4 ∙ operand-behind (operand_size_of bits row) t5 r4 in
     record {
       lock = ap (λ (u : List ℕ). is_lock (word u)) e0 ∙ lock-value instr.lock t1 r0;
-      rep = ap (λ (u : List ℕ). repeat_named (word u)) e1 ∙ repeat-value instr.rep t2 r1;
-      seg = ap (λ (u : List ℕ). segment_named (word u)) e2 ∙ segment-value (segment_of instr) t3 r2;
+      rep = ap (λ (u : List ℕ). repeat_prefix_of (word u)) e1 ∙ repeat-value instr.rep t2 r1;
+      seg = ap (λ (u : List ℕ). segment_of_word (word u)) e2 ∙ segment-value (segment_of instr) t3 r2;
       asize = ap (λ (u : List ℕ). size_behind 97 (word u)) e3 ∙ address-value (address_size_of bits name instr) t4 r3;
       osize = ap (λ (u : List ℕ). size_behind 111 (word u)) e4 ∙ operand-value (operand_size_of bits row) t5 r4;
       named = ap (λ (u : List ℕ). word u) e5 ∙ name-word bits name instr (behind_name bits row instr) plain (operands-stop bits row instr f);
-      ops = ap (λ (u : List ℕ). operands_in (rest (behind u))) e5
+      ops = ap (λ (u : List ℕ). operands_in (rest (rest_behind u))) e5
           ∙ (ap (λ (u : List ℕ). operands_in (rest u)) (name-behind bits name instr (behind_name bits row instr) plain (operands-stay bits row instr f))
           ∙ (ap operands_in (operands-found bits row instr f) ∙ operands-read bits row instr f p0 p1 p2 p3));
     }

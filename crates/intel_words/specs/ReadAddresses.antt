@@ -9,9 +9,9 @@ use Rattle.intel_words.specs.declared.words.SizeName.TheVariants.{None as NoSize
 use Rattle.intel_words.specs.declared.words.Inside.{Inside}
 use Rattle.intel_words.specs.declared.words.Inside.TheVariants.{Nothing, Lone, Rel, Sum}
 use Rattle.intel_words.specs.declared.words.SignedText.{SignedText}
-use Rattle.intel_words.specs.Scanning.{first, rest, word, behind}
+use Rattle.intel_words.specs.Scanning.{first, rest, word, rest_behind}
 use Rattle.intel_words.specs.ReadNumbers.{number_named, decimal_digit}
-use Rattle.intel_words.specs.ReadRegisters.{register_named, segment_named}
+use Rattle.intel_words.specs.ReadRegisters.{register_named, segment_of_word}
 
 -- ---- displacement
 
@@ -55,7 +55,7 @@ unfoldable pub sum_by : Option Register → List ℕ → Option Inside
 sum_by None text = None
 sum_by (Some r) text =
     if first text == 42 then behind_index None (Some r) text
-    else (if first text == 43 && nat_le 97 (first (rest text)) then index_by (Some r) (register_named (word (rest text))) (behind (rest text))
+    else (if first text == 43 && nat_le 97 (first (rest text)) then index_by (Some r) (register_named (word (rest text))) (rest_behind (rest text))
     else sum_with (Some r) None None (signed_in text))
 
 -- ---- inside the brackets
@@ -74,9 +74,9 @@ relative_in name text =
 -- the text behind the opening bracket
 unfoldable pub inside_in : List ℕ → Option Inside
 inside_in text =
-    if first (behind text) == 32 then relative_in (word text) (rest (behind text))
+    if first (rest_behind text) == 32 then relative_in (word text) (rest (rest_behind text))
     else (if first text == 93 then Some Nothing
-    else (if first text == 48 then option_map Lone (number_named (word text)) else sum_by (register_named (word text)) (behind text)))
+    else (if first text == 48 then option_map Lone (number_named (word text)) else sum_by (register_named (word text)) (rest_behind text)))
 
 -- ---- an address
 
@@ -103,7 +103,7 @@ address_at size (Some seg) text = if first text == 91 then address_by size (Some
 unfoldable pub address_in : SizeName → List ℕ → Option OperandText
 address_in size text =
     if first text == 91 then address_by size None (inside_in (rest text))
-    else (if first (behind text) == 58 then address_at size (segment_named (word text)) (rest (behind text)) else None)
+    else (if first (rest_behind text) == 58 then address_at size (segment_of_word (word text)) (rest (rest_behind text)) else None)
 
 -- behind a size word
 unfoldable pub sized_in : Option SizeName → List ℕ → Option OperandText
@@ -123,14 +123,14 @@ plain_in name = if first name == 48 then option_map Number (number_named name) e
 
 -- two numbers with a colon between them
 unfoldable pub far_in : List ℕ → Option OperandText
-far_in text = far_by (number_named (word text)) (number_named (word (rest (behind text))))
+far_in text = far_by (number_named (word text)) (number_named (word (rest (rest_behind text))))
 
 -- the operand of a text that is not empty
 unfoldable pub some_operand : List ℕ → Option OperandText
 some_operand text =
-    if first (behind text) == 32 then sized_in (size_named (word text)) (rest (behind text))
+    if first (rest_behind text) == 32 then sized_in (size_named (word text)) (rest (rest_behind text))
     else (if first text == 91 then address_in NoSize text
-    else (if first (behind text) == 58 then (if first text == 48 then far_in text else address_in NoSize text)
+    else (if first (rest_behind text) == 58 then (if first text == 48 then far_in text else address_in NoSize text)
     else plain_in (word text)))
 
 -- the operand of a text

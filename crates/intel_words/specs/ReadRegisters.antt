@@ -14,11 +14,11 @@ segment_by a =
     else (if a == 102 then Some Fs else (if a == 103 then Some Gs else None)))))
 
 -- the segment of this name
-unfoldable pub segment_named : List ℕ → Option Segment
-segment_named [] = None
-segment_named (a ∷ []) = None
-segment_named (a ∷ b ∷ []) = if b == 115 then segment_by a else None
-segment_named (a ∷ b ∷ c ∷ more) = None
+unfoldable pub segment_of_word : List ℕ → Option Segment
+segment_of_word [] = None
+segment_of_word (a ∷ []) = None
+segment_of_word (a ∷ b ∷ []) = if b == 115 then segment_by a else None
+segment_of_word (a ∷ b ∷ c ∷ more) = None
 
 -- a, c, d or b: one of the first four registers
 unfoldable pub letter_number : ℕ → Option ℕ

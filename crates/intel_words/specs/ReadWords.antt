@@ -6,7 +6,7 @@ use Rattle.x86_values.specs.declared.Rep.{Rep}
 use Rattle.x86_values.specs.declared.Rep.TheVariants.{None as NoRep, F2, F3}
 use Rattle.intel_words.specs.declared.words.OperandText.{OperandText}
 use Rattle.intel_words.specs.Scanning.{word, token, next_operand, skip_if}
-use Rattle.intel_words.specs.ReadRegisters.{segment_named}
+use Rattle.intel_words.specs.ReadRegisters.{segment_of_word}
 use Rattle.intel_words.specs.ReadAddresses.{operand_in}
 
 -- ---- prefix words
@@ -16,14 +16,14 @@ unfoldable pub is_lock : List ℕ → Bool
 is_lock name = bytes_eq name (codes "lock")
 
 -- the repeat prefix of a word, none of another word
-unfoldable pub repeat_named : List ℕ → Rep
-repeat_named name = if bytes_eq name (codes "repne") then F2 else (if bytes_eq name (codes "rep") then F3 else NoRep)
+unfoldable pub repeat_prefix_of : List ℕ → Rep
+repeat_prefix_of name = if bytes_eq name (codes "repne") then F2 else (if bytes_eq name (codes "rep") then F3 else NoRep)
 
 -- there is a repeat prefix
-unfoldable pub is_repeat : Rep → Bool
-is_repeat NoRep = false
-is_repeat F2 = true
-is_repeat F3 = true
+unfoldable pub is_repeat_prefix : Rep → Bool
+is_repeat_prefix NoRep = false
+is_repeat_prefix F2 = true
+is_repeat_prefix F3 = true
 
 -- the size of two digits
 unfoldable pub size_by : ℕ → ℕ → Option Bits
@@ -41,7 +41,7 @@ size_behind letter (a ∷ b ∷ c ∷ d ∷ more) = None
 -- the word can stand in front of a name
 unfoldable pub is_prefix_word : List ℕ → Bool
 is_prefix_word name =
-    is_lock name || (is_repeat (repeat_named name) || (is_some (segment_named name)
+    is_lock name || (is_repeat_prefix (repeat_prefix_of name) || (is_some (segment_of_word name)
     || (is_some (size_behind 97 name) || is_some (size_behind 111 name))))
 
 -- what stands behind the word of LOCK, if it is at the front
@@ -50,15 +50,15 @@ behind_lock text = skip_if (is_lock (word text)) text
 
 -- what stands behind the word of a repeat prefix, if it is at the front
 unfoldable pub behind_repeat : List ℕ → List ℕ
-behind_repeat text = skip_if (is_repeat (repeat_named (word text))) text
+behind_repeat text = skip_if (is_repeat_prefix (repeat_prefix_of (word text))) text
 
 -- what stands behind the name of a segment, if it is at the front
 unfoldable pub behind_segment : List ℕ → List ℕ
-behind_segment text = skip_if (is_some (segment_named (word text))) text
+behind_segment text = skip_if (is_some (segment_of_word (word text))) text
 
 -- what stands behind a letter with a size, as a32, if it is at the front
-unfoldable pub behind_size : ℕ → List ℕ → List ℕ
-behind_size letter text = skip_if (is_some (size_behind letter (word text))) text
+unfoldable pub behind_size_word : ℕ → List ℕ → List ℕ
+behind_size_word letter text = skip_if (is_some (size_behind letter (word text))) text
 
 -- ---- operands
 

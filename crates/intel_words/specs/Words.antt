@@ -16,7 +16,7 @@ use Rattle.row_types.specs.declared.Size.TheVariants.{O16, O64}
 use Rattle.row_fit.specs.Fits.{kind_at}
 use Rattle.row_meaning.specs.MemorySize.{memory_size}
 use Rattle.text_parts.specs.Addresses.{is_relative, is_absolute, is_negative, magnitude}
-use Rattle.text_parts.specs.PrefixWords.{has_memory, needs_address_word, is_sized, named_size, differs, usual_size, text_address_size}
+use Rattle.text_parts.specs.PrefixWords.{shows_memory, needs_address_word, is_sized, named_size, differs, usual_size, text_address_size}
 use Rattle.text_parts.specs.Layout.{is_far_pointer, nth_operand}
 use Rattle.intel_words.specs.declared.words.IntelWords.{IntelWords}
 use Rattle.intel_words.specs.declared.words.OperandText.{OperandText}
@@ -32,7 +32,7 @@ use Rattle.intel_words.specs.declared.words.SignedText.{SignedText}
 
 -- the segment, where no operand is memory
 unfoldable pub segment_of : Instr → Option Segment
-segment_of instr = if has_memory instr then None else instr.seg
+segment_of instr = if shows_memory instr then None else instr.seg
 
 -- the address size, where it has a word
 unfoldable pub address_size_of : Bits → List ℕ → Instr → Option Bits
@@ -67,8 +67,8 @@ size_of_far O64 = Far64
 size_of_far _ = Far32
 
 -- the size word of operand n of the row
-unfoldable pub size_of : Row → ℕ → SizeName
-size_of row n = if is_far_pointer (kind_at row n) then size_of_far row.size else size_of_bytes (memory_size row)
+unfoldable pub size_word_of : Row → ℕ → SizeName
+size_word_of row n = if is_far_pointer (kind_at row n) then size_of_far row.size else size_of_bytes (memory_size row)
 
 -- the base is EIP
 unfoldable pub is_eip : Option Register → Bool
@@ -85,13 +85,13 @@ signed_of asize m =
     elim m.disp_size [ D0 ↦ None | _ ↦ Some (record { negative = is_negative asize m.disp; magnitude = magnitude asize m.disp }) ]
 
 -- the scale of an index, which 16-bit addressing does not have
-unfoldable pub scale_of : Bits → Mem → Option ℕ
-scale_of B16 m = None
-scale_of _ m = elim m.index [ None ↦ None | Some r ↦ Some m.scale ]
+unfoldable pub shown_scale : Bits → Mem → Option ℕ
+shown_scale B16 m = None
+shown_scale _ m = elim m.index [ None ↦ None | Some r ↦ Some m.scale ]
 
 -- registers and displacement
 unfoldable pub sum_of : Bits → Mem → SumText
-sum_of asize m = record { base = m.base; index = m.index; scale = scale_of asize m; disp = signed_of asize m }
+sum_of asize m = record { base = m.base; index = m.index; scale = shown_scale asize m; disp = signed_of asize m }
 
 -- what stands inside the brackets
 unfoldable pub inside_of : Bits → Mem → Inside
@@ -109,7 +109,7 @@ operand_of bits row instr n (Imm x) = Number x
 operand_of bits row instr n (Near x) = Number x
 operand_of bits row instr n (FarOperand selector offset) = Far selector offset
 operand_of bits row instr n (MemOperand m) =
-    Address (record { size = size_of row n; seg = instr.seg; inside = inside_of (text_address_size bits instr) m })
+    Address (record { size = size_word_of row n; seg = instr.seg; inside = inside_of (text_address_size bits instr) m })
 
 -- the words of operand n
 abbrev pub nth_of : Bits → Row → Instr → ℕ → OperandText

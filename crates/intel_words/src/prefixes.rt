@@ -33,7 +33,7 @@ fn is_lock(name: &[u8]) -> bool
 #[inline]
 #[tactic(auto, unfolding(crate::specs::ReadWords::repeat_named))]
 fn repeat_named(name: &[u8]) -> Rep
-    ensures { result ≡ spec.repeat_named name.now }
+    ensures { result ≡ spec.repeat_prefix_of name.now }
 {
     if name == b"repne".as_slice() {
         Rep::F2
@@ -48,7 +48,7 @@ fn repeat_named(name: &[u8]) -> Rep
 #[inline]
 #[tactic(auto, unfolding(crate::specs::ReadWords::is_repeat))]
 fn is_repeat(rep: Rep) -> bool
-    ensures { result ≡ spec.is_repeat rep }
+    ensures { result ≡ spec.is_repeat_prefix rep }
 {
     match rep {
         Rep::None => false,
@@ -89,11 +89,11 @@ fn size_behind(letter: u8, name: &[u8]) -> Option<Bits>
 #[tactic(auto, unfolding(crate::specs::ReadWords::behind_lock, crate::specs::ReadWords::behind_repeat, crate::specs::ReadWords::behind_segment, crate::specs::ReadWords::behind_size))]
 pub fn read_prefixes(text: &[u8]) -> Prefixes
     ensures lock { result.lock ≡ spec.is_lock (word text.now) }
-    ensures rep { result.rep ≡ spec.repeat_named (word (spec.behind_lock text.now)) }
-    ensures seg { result.seg ≡ registers.segment_named (word (spec.behind_repeat (spec.behind_lock text.now))) }
+    ensures rep { result.rep ≡ spec.repeat_prefix_of (word (spec.behind_lock text.now)) }
+    ensures seg { result.seg ≡ registers.segment_of_word (word (spec.behind_repeat (spec.behind_lock text.now))) }
     ensures asize { result.asize ≡ spec.size_behind 97 (word (spec.behind_segment (spec.behind_repeat (spec.behind_lock text.now)))) }
-    ensures osize { result.osize ≡ spec.size_behind 111 (word (spec.behind_size 97 (spec.behind_segment (spec.behind_repeat (spec.behind_lock text.now))))) }
-    ensures text { result.text.now ≡ spec.behind_size 111 (spec.behind_size 97 (spec.behind_segment (spec.behind_repeat (spec.behind_lock text.now)))) }
+    ensures osize { result.osize ≡ spec.size_behind 111 (word (spec.behind_size_word 97 (spec.behind_segment (spec.behind_repeat (spec.behind_lock text.now))))) }
+    ensures text { result.text.now ≡ spec.behind_size_word 111 (spec.behind_size_word 97 (spec.behind_segment (spec.behind_repeat (spec.behind_lock text.now)))) }
 {
     let lock = is_lock(word(text));
     let text = skip_if(lock, text);

@@ -28,7 +28,7 @@ fn segment_by(a: u8) -> Option<Segment>
 #[inline]
 #[tactic(auto, unfolding(crate::specs::ReadRegisters::segment_named))]
 pub fn segment_named(name: &[u8]) -> Option<Segment>
-    ensures { result ≡ spec.segment_named name.now }
+    ensures { result ≡ spec.segment_of_word name.now }
 {
     match name {
         [a, b] => if *b == b's' { segment_by(*a) } else { None },

@@ -53,7 +53,7 @@ fn token_len(text: &[u8]) -> usize
 #[inline]
 pub fn split_word(text: &[u8]) -> (&[u8], &[u8])
     ensures word { result.0.now ≡ spec.word text.now }
-    ensures behind { result.1.now ≡ spec.behind text.now }
+    ensures behind { result.1.now ≡ spec.rest_behind text.now }
 {
     text.split_at(word_len(text))
 }
@@ -69,7 +69,7 @@ pub fn word(text: &[u8]) -> &[u8]
 /// What stands behind the word at the front.
 #[inline]
 pub fn behind(text: &[u8]) -> &[u8]
-    ensures { result.now ≡ spec.behind text.now }
+    ensures { result.now ≡ spec.rest_behind text.now }
 {
     split_word(text).1
 }

@@ -7,7 +7,7 @@ use Rattle.std.proofs.lemmas.List.FromFn.{map-range_with_len_more}
 use Rattle.row_lines.specs.Lines.{row_line}
 use Rattle.byte_ports.specs.Ports.{with_back}
 use Rattle.run_parts.specs.Facts.{HeldFacts}
-use Rattle.run_parts.specs.Writing.{HoldsFront, Moves, Held}
+use Rattle.run_parts.specs.Writing.{HoldsFront, Moves, HeldText}
 use Rattle.listing_run.specs.Rows.{lines_below}
 
 lines-none : lines_below 0 ≡ []
@@ -50,24 +50,24 @@ module _ (f : HeldFacts) where
       subst (λ (xs : List ℕ). HoldsFront old new xs) whole (f.front-longer old new (lines_below n) p.0 first)
 
   -- before the first row
-  pub rows-start : (start : Option (List ℕ)) (pending : List ℕ) → pending ≡ [] → Held start start pending (lines_below 0)
-  rows-start start pending empty = subst (λ (xs : List ℕ). Held start start pending xs) (sym lines-none) (f.held-start start pending empty)
+  pub rows-start : (start : Option (List ℕ)) (pending : List ℕ) → pending ≡ [] → HeldText start start pending (lines_below 0)
+  rows-start start pending empty = subst (λ (xs : List ℕ). HeldText start start pending xs) (sym lines-none) (f.held-start start pending empty)
 
   -- one more row
-  pub rows-step : (start held held' : Option (List ℕ)) (before after : List ℕ) (n : ℕ) → Held start held before (lines_below n) →
-      Moves held held' before after (row_line n) → Held start held' after (lines_below (n + 1))
+  pub rows-step : (start held held' : Option (List ℕ)) (before after : List ℕ) (n : ℕ) → HeldText start held before (lines_below n) →
+      Moves held held' before after (row_line n) → HeldText start held' after (lines_below (n + 1))
   rows-step start held held' before after n h moves =
-      subst (λ (xs : List ℕ). Held start held' after xs) (sym (lines-more n)) (f.held-step start held held' before after (lines_below n) (row_line n) h moves)
+      subst (λ (xs : List ℕ). HeldText start held' after xs) (sym (lines-more n)) (f.held-step start held held' before after (lines_below n) (row_line n) h moves)
 
   -- all rows
   pub rows-end : (start held held' : Option (List ℕ)) (pending : List ℕ) (n count : ℕ) → n ≤ count → count ≤ n →
-      Held start held pending (lines_below n) → held' ≡ with_back held pending → held' ≡ with_back start (lines_below count)
+      HeldText start held pending (lines_below n) → held' ≡ with_back held pending → held' ≡ with_back start (lines_below count)
   rows-end start held held' pending n count below above h all =
       let same : n ≡ count = omega arith in
       f.held-end start held held' pending (lines_below n) h all ∙ ap (λ (k : ℕ). with_back start (lines_below k)) same
 
   -- a failure while lines are held back
   pub rows-failed : (start held held' : Option (List ℕ)) (pending : List ℕ) (n count : ℕ) → n ≤ count →
-      Held start held pending (lines_below n) → HoldsFront held held' pending → HoldsFront start held' (lines_below count)
+      HeldText start held pending (lines_below n) → HoldsFront held held' pending → HoldsFront start held' (lines_below count)
   rows-failed start held held' pending n count below h first =
       lines-front n count start held' below (f.held-failed start held held' pending (lines_below n) h first)

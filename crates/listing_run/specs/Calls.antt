@@ -9,13 +9,13 @@ use Rattle.command_words.specs.declared.commands.Command.TheVariants.{List as Li
 use Rattle.run_parts.specs.declared.status.Status.{Status}
 use Rattle.sweep.specs.declared.error.StreamError.{StreamError}
 use Rattle.sweep.specs.Calls.{IsCalled}
-use Rattle.listing_run.specs.Outcome.{status_of}
+use Rattle.listing_run.specs.Outcome.{stream_status}
 
 -- the calls of a command that goes through code are those of the stream of its lines
 abbrev pub IsCalledThrough : {S K : Type 0} → (S → Option (List ℕ)) → (S → List ℕ → Result ℕ Failed → S → List ℕ → Type 0) → (K → Option (List ℕ)) →
     (K → List ℕ → Result ℕ Failed → K → Type 0) → Bits → ℕ → Lines → S → S → K → K → Status → Type 0
 IsCalledThrough left pulls held puts bits base lines source source' sink sink' status =
-    (result : Result ℕ StreamError) × (IsCalled left pulls held puts bits base lines source source' sink sink' result × (status ≡ status_of result))
+    (result : Result ℕ StreamError) × (IsCalled left pulls held puts bits base lines source source' sink sink' result × (status ≡ stream_status result))
 
 -- of the other commands it is not said
 abbrev pub IsCalledBy : {S K : Type 0} → (S → Option (List ℕ)) → (S → List ℕ → Result ℕ Failed → S → List ℕ → Type 0) → (K → Option (List ℕ)) →

@@ -44,8 +44,8 @@ WritesAs text held held' out_rose WriteFault = out_rose × HoldsFront held held'
 WritesAs text held held' out_rose _ = ⊥
 
 -- the input as one block of code: all its bytes, at an old and at a new address
-abbrev pub one_block : ℕ → ℕ → List BlockWords
-one_block old new = record { old = old; new = new; len = None } ∷ []
+abbrev pub one_block_words : ℕ → ℕ → List BlockWords
+one_block_words old new = record { old = old; new = new; len = None } ∷ []
 
 -- a run by its command and its status
 abbrev pub RunsAs : Command → Option (List ℕ) → Option (List ℕ) → Option (List ℕ) → Option (List ℕ) → Type 0 → Type 0 → Status → Type 0
@@ -63,25 +63,25 @@ RunsAs (Recode bits base to new_base) left left' held held' source_rose out_rose
 RunsAs (Flow bits base) left left' held held' source_rose out_rose status = FlowsAs bits base left left' held held' source_rose out_rose status
 RunsAs (Asm bits base) left left' held held' source_rose out_rose status = AssemblesAs bits base left left' held held' source_rose out_rose status
 RunsAs (Move bits old new) left left' held held' source_rose out_rose status =
-    MovesAs MovedBytes bits (one_block old new) left left' held held' source_rose out_rose status
+    MovesAs MovedBytes bits (one_block_words old new) left left' held held' source_rose out_rose status
 RunsAs (Map bits old new) left left' held held' source_rose out_rose status =
-    MovesAs MapLines bits (one_block old new) left left' held held' source_rose out_rose status
+    MovesAs MapLines bits (one_block_words old new) left left' held held' source_rose out_rose status
 RunsAs (Blocks bits blocks) left left' held held' source_rose out_rose status =
     MovesAs MovedBytes bits blocks.items left left' held held' source_rose out_rose status
 RunsAs (Slots old range) left left' held held' source_rose out_rose status = SlotsAs range old left left' held held' source_rose out_rose status
 
 -- the command reads
-abbrev pub Reads : Command → Type 0
-Reads (ListCommand bits base syntax) = Unit {0}
-Reads (Info bits base) = Unit {0}
-Reads (Recode bits base to new_base) = Unit {0}
-Reads (Flow bits base) = Unit {0}
-Reads (Asm bits base) = Unit {0}
-Reads (Move bits old new) = Unit {0}
-Reads (Map bits old new) = Unit {0}
-Reads (Blocks bits blocks) = Unit {0}
-Reads (Slots old range) = Unit {0}
-Reads _ = ⊥
+abbrev pub ReadsInput : Command → Type 0
+ReadsInput (ListCommand bits base syntax) = Unit {0}
+ReadsInput (Info bits base) = Unit {0}
+ReadsInput (Recode bits base to new_base) = Unit {0}
+ReadsInput (Flow bits base) = Unit {0}
+ReadsInput (Asm bits base) = Unit {0}
+ReadsInput (Move bits old new) = Unit {0}
+ReadsInput (Map bits old new) = Unit {0}
+ReadsInput (Blocks bits blocks) = Unit {0}
+ReadsInput (Slots old range) = Unit {0}
+ReadsInput _ = ⊥
 
 -- the command writes lines as it goes through the code, before it has seen all of it: what stands then is by the bytes that were seen
 abbrev pub Streams : Command → Type 0
@@ -96,20 +96,20 @@ IsWrong (Wrong word) = Unit {0}
 IsWrong _ = ⊥
 
 -- the status that tells the answer of a stream
-abbrev pub status_of : Result ℕ StreamError → Status
-status_of (Ok count) = Done
-status_of (Err (StreamBadCode offset error)) = BadCode offset error
-status_of (Err StreamReadFault) = ReadFault
-status_of (Err StreamWriteFault) = WriteFault
-status_of (Err (StreamTooLarge limit)) = TooLarge limit
+abbrev pub stream_status : Result ℕ StreamError → Status
+stream_status (Ok count) = Done
+stream_status (Err (StreamBadCode offset error)) = BadCode offset error
+stream_status (Err StreamReadFault) = ReadFault
+stream_status (Err StreamWriteFault) = WriteFault
+stream_status (Err (StreamTooLarge limit)) = TooLarge limit
 
 -- a command that goes through code and meets no fault ends as the stream of its lines does
 abbrev pub CompletesThrough : Bits → ℕ → Lines → Option (List ℕ) → Status → Type 0
-CompletesThrough bits base lines left status = (result : Result ℕ StreamError) × (CompletesStream bits base lines left result × (status ≡ status_of result))
+CompletesThrough bits base lines left status = (result : Result ℕ StreamError) × (CompletesStream bits base lines left result × (status ≡ stream_status result))
 
 -- so does a listing
 abbrev pub CompletesList : Option (List ℕ) → Status → Type 0
-CompletesList left status = (result : Result ℕ StreamError) × (CompletesListing left result × (status ≡ status_of result))
+CompletesList left status = (result : Result ℕ StreamError) × (CompletesListing left result × (status ≡ stream_status result))
 
 -- The command of a run that meets no fault is done, or ends as its bytes say: a listing is done whatever the bytes are, unless they are too many.
 -- Those that take their input as a whole may want memory.
@@ -120,8 +120,8 @@ Completes (Info bits base) left status = CompletesThrough bits base InfoLines le
 Completes (Recode bits base to new_base) left status = CompletesThrough bits base (RecodeLines to new_base) left status
 Completes (Flow bits base) left status = CompletesFlow left status
 Completes (Asm bits base) left status = CompletesAssembling bits base left status
-Completes (Move bits old new) left status = CompletesMoving MovedBytes bits (one_block old new) left status
-Completes (Map bits old new) left status = CompletesMoving MapLines bits (one_block old new) left status
+Completes (Move bits old new) left status = CompletesMoving MovedBytes bits (one_block_words old new) left status
+Completes (Map bits old new) left status = CompletesMoving MapLines bits (one_block_words old new) left status
 Completes (Blocks bits blocks) left status = CompletesMoving MovedBytes bits blocks.items left status
 Completes (Slots old range) left status = CompletesSlots range old left status
 Completes (Sample count) left status = CompletesSample status

@@ -8,7 +8,7 @@ ghost use Rattle.run_parts.specs.Reads.{code_limit, whole_limit, Takes, EndsAtFa
 ghost use Rattle.run_parts.specs.Writing.{Says};
 ghost use Rattle.listing_run.specs.Texts as text;
 ghost use Rattle.listing_run.specs.Rows.{rows_text};
-ghost use Rattle.listing_run.specs.Outcome.{RunsAs, GoesThroughAs, WritesAs, Reads, Streams, IsWrong, Completes, CompletesThrough, one_block};
+ghost use Rattle.listing_run.specs.Outcome.{RunsAs, GoesThroughAs, WritesAs, ReadsInput, Streams, IsWrong, Completes, CompletesThrough, one_block_words};
 ghost use Rattle.listing_run.specs.Calls.{IsCalledThrough, IsCalledBy};
 ghost use Rattle.listing_run.specs.Taken.{limit_of};
 ghost use Rattle.moving_run.specs.Moving.{MovesAs, CompletesMoving};
@@ -99,10 +99,10 @@ fn move_whole<S: Source, K: Sink>(
     source: &mut S,
     out: &mut K,
 ) -> Status
-    ensures answer { MovesAs wanted bits (one_block old new) (S.left source.old) (S.left source.new) (K.held out.old) (K.held out.new)
+    ensures answer { MovesAs wanted bits (one_block_words old new) (S.left source.old) (S.left source.new) (K.held out.old) (K.held out.new)
         (Rose (S.faults source.old) (S.faults source.new)) (Rose (K.faults out.old) (K.faults out.new)) result }
     ensures complete { (Rose (S.faults source.old) (S.faults source.new) → ⊥) → (Rose (K.faults out.old) (K.faults out.new) → ⊥)
-        → CompletesMoving wanted bits (one_block old new) (S.left source.old) result }
+        → CompletesMoving wanted bits (one_block_words old new) (S.left source.old) result }
     ensures taken { Takes whole_limit (S.left source.old) (S.left source.new)
         × (result ≡ Status.ReadFault → EndsAtFault S.pull_gives S.left source.new) }
 {
@@ -123,7 +123,7 @@ fn answer<S: Source, K: Sink>(
 ) -> Status
     ensures answer { RunsAs command (S.left source.old) (S.left source.new) (K.held out.old) (K.held out.new)
         (Rose (S.faults source.old) (S.faults source.new)) (Rose (K.faults out.old) (K.faults out.new)) result }
-    ensures unread { (Reads command → ⊥) → source.new ≡ source.old }
+    ensures unread { (ReadsInput command → ⊥) → source.new ≡ source.old }
     ensures unwritten { IsWrong command → out.new ≡ out.old }
     ensures complete { (Rose (S.faults source.old) (S.faults source.new) → ⊥) → (Rose (K.faults out.old) (K.faults out.new) → ⊥)
         → Completes command (S.left source.old) result }
@@ -230,7 +230,7 @@ pub fn run<S: Source, K: Sink, E: Sink>(
 
     // The number of the first word that is not allowed, missing or too many. Nothing is read or written then.
     ensures usage { (word : ℕ) → (result ≡ Status.Usage word) ↔ (command_of (texts words.now) ≡ Wrong word) }
-    ensures unread { (Reads (command_of (texts words.now)) → ⊥) → source.new ≡ source.old }
+    ensures unread { (ReadsInput (command_of (texts words.now)) → ⊥) → source.new ≡ source.old }
     ensures unwritten { IsWrong (command_of (texts words.now)) → out.new ≡ out.old }
 
     // Whatever the status is, what was taken of the source is at most one byte more than the limit of the command. A pull that failed is the last one.

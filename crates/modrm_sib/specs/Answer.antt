@@ -27,8 +27,8 @@ answer_in (Ok done) out = Ok out
 answer_in (Err why) out = Err why
 
 -- the instruction of a state and a tail, and its length
-abbrev pub decoded : Bits → ℕ → PrefixState → Code → Row → Option ModRm → Option Sib → List ℕ → List ℕ → ℕ → Decoded
-decoded bits ip state code row m sib disp imm len = record {
+abbrev pub decoded_instruction : Bits → ℕ → PrefixState → Code → Row → Option ModRm → Option Sib → List ℕ → List ℕ → ℕ → Decoded
+decoded_instruction bits ip state code row m sib disp imm len = record {
   instr = instr_of bits code row state (tail m sib disp (next_address bits ip len)) imm;
   len = len;
 }
@@ -37,7 +37,7 @@ decoded bits ip state code row m sib disp imm len = record {
 unfoldable pub fitting_answer : Bits → ℕ → PrefixState → Code → Row → Option ModRm → Option Sib → ℕ → List ℕ → ℕ → ℕ → Result Decoded TailError
 fitting_answer bits ip state code row m sib used bytes d i =
     if nat_le (d + i) (length bytes) then
-    Ok (decoded bits ip state code row m sib (take d bytes) (take i (drop d bytes)) (used + (d + i)))
+    Ok (decoded_instruction bits ip state code row m sib (take d bytes) (take i (drop d bytes)) (used + (d + i)))
     else Err Ended
 
 -- behind ModRM and SIB, with the number of bytes up to there

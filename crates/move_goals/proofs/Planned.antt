@@ -7,7 +7,7 @@ use Rattle.std.specs.Option.{option_or}
 use Rattle.std.specs.List.{list_all, range_with_len}
 use Rattle.x86_values.specs.declared.Bits.{Bits}
 use Rattle.x86_values.specs.declared.Instr.{Instr}
-use Rattle.x86_values.specs.Wrapping.{wrapped}
+use Rattle.x86_values.specs.Wrapping.{modulo_width}
 use Rattle.opcode_rows.specs.Table.{table}
 use Rattle.operand_info.specs.Operands.{near_value, ip_value, first_value}
 use Rattle.branch_sizes.specs.declared.plan.BlockSpan.{BlockSpan}
@@ -87,7 +87,7 @@ module _ (forms : FormFacts) (bits : Bits) (spans : List BlockSpan) (items : Lis
       let p = placed k lt in
       let i = (item_at items k).instr in
       let cs = choices_of bits i in
-      let h = forms.spelled-fit bits (wrapped bits (item_at items k).ip) p.bytes i p.spelled in
+      let h = forms.spelled-fit bits (modulo_width bits (item_at items k).ip) p.bytes i p.spelled in
       and_from _ _ (and_from _ _ (lt-ltb 0 (length cs) h.0) (le-leb (length cs) 3 h.1))
       (and_from _ _ h.2 (and_from _ _ h.3 (and_from _ _ (fit k) h.4)))
 

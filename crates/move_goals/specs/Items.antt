@@ -3,7 +3,7 @@ use Rattle.std.specs.Prelude.{◌≡◌, ℕ, zero, suc, ◌+◌, ◌-◌, ◌^�
 use Rattle.x86_values.specs.declared.Bits.{Bits}
 use Rattle.x86_values.specs.declared.Instr.{Instr}
 use Rattle.x86_values.specs.declared.Rep.TheVariants.{None as NoRep}
-use Rattle.x86_values.specs.Wrapping.{width, wrapped}
+use Rattle.x86_values.specs.Wrapping.{width, modulo_width}
 use Rattle.row_relation.specs.Spells.{Spells}
 use Rattle.opcode_rows.specs.Table.{table}
 use Rattle.branch_sizes.specs.declared.plan.BlockSpan.{BlockSpan}
@@ -36,7 +36,7 @@ pub record IsPlaced (bits : Bits) (p : Placed) : Type 0 where
   pub some : 1 ≤ p.len
   pub few : p.len ≤ 15
   pub bytes : List ℕ
-  pub spelled : Spells table bits (wrapped bits p.ip) bytes p.instr
+  pub spelled : Spells table bits (modulo_width bits p.ip) bytes p.instr
 
 -- each item is one
 abbrev pub ArePlaced : Bits → List Placed → Type 0

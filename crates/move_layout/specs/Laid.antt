@@ -27,14 +27,14 @@ goal_address p layout k = goal_value p layout (item_at p k).goal
 -- ---- slots
 
 -- a form that goes through a slot
-abbrev pub is_far : Form → Bool
-is_far Far = true
-is_far FarBridge = true
-is_far _ = false
+abbrev pub has_far_form : Form → Bool
+has_far_form Far = true
+has_far_form FarBridge = true
+has_far_form _ = false
 
 -- item k has such a form
 abbrev pub is_far_at : BlockPlan → List ℕ → ℕ → Bool
-is_far_at p layout k = is_far (chosen p layout k).form
+is_far_at p layout k = has_far_form (chosen p layout k).form
 
 -- a number stands in a list
 abbrev pub has_number : List ℕ → ℕ → Bool

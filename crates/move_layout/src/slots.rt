@@ -1,7 +1,7 @@
 //! The slots of a block: the goals of its far forms.
 
 ghost use Rattle.std.specs.Prelude.{◌≡◌, ◌+◌, ◌*◌, ◌<◌, ◌^◌, ◌==◌, if◌then◌else◌, true, IfOk, OnOk, length};
-ghost use Rattle.move_layout.specs.Laid.{is_far, next_eighth, with_goal};
+ghost use Rattle.move_layout.specs.Laid.{has_far_form, next_eighth, with_goal};
 ghost use Rattle.move_layout.specs.Slots.{place_among, IsNumbering};
 
 use branch_sizes::Form;
@@ -10,7 +10,7 @@ use std::collections::BTreeMap;
 
 /// Whether a form goes through a slot.
 pub fn is_far_form(form: Form) -> bool
-    ensures { result ≡ is_far form }
+    ensures { result ≡ has_far_form form }
 {
     matches!(form, Form::Far | Form::FarBridge)
 }

@@ -8,7 +8,7 @@ use Rattle.x86_values.specs.declared.Register.TheVariants.{Eip, Rip}
 use Rattle.x86_values.specs.declared.Operand.{Operand}
 use Rattle.x86_values.specs.declared.Operand.TheVariants.{Absent, Reg, Mem as Memory, Imm, Near, Far}
 use Rattle.x86_values.specs.declared.Instr.{Instr}
-use Rattle.x86_values.specs.Wrapping.{wrapped}
+use Rattle.x86_values.specs.Wrapping.{modulo_width}
 use Rattle.row_types.specs.declared.Row.{Row}
 use Rattle.row_types.specs.declared.OpKind.{OpKind}
 use Rattle.instruction_parts.specs.declared.kinds.Method.{Method}
@@ -185,7 +185,7 @@ pub encoded-alike : (bits : Bits) (ip other : ℕ) (i : Instr) → length i.ops 
 unfolding target_of encoding
 encoded-alike bits ip other i four none =
     let both = or_none (first_value near_value i) (first_value ip_value i) none in
-    row-alike bits (wrapped bits ip) (wrapped bits other) (slice_get table i.code.0) i four (no_value near_value i both.0) (no_value ip_value i both.1)
+    row-alike bits (modulo_width bits ip) (modulo_width bits other) (slice_get table i.code.0) i four (no_value near_value i both.0) (no_value ip_value i both.1)
 
 -- ---- the reach
 

@@ -13,7 +13,7 @@ use Rattle.x86_values.specs.declared.Mem.{Mem}
 use Rattle.x86_values.specs.declared.Operand.{Operand}
 use Rattle.x86_values.specs.declared.Operand.TheVariants.{Reg, Mem as Memory}
 use Rattle.x86_values.specs.declared.Instr.{Instr}
-use Rattle.x86_values.specs.Wrapping.{wrapped}
+use Rattle.x86_values.specs.Wrapping.{modulo_width}
 use Rattle.row_types.specs.declared.Row.{Row}
 use Rattle.row_types.specs.declared.OpKind.{OpKind}
 use Rattle.instruction_parts.specs.declared.kinds.Method.{Method}
@@ -87,7 +87,7 @@ each-below bits row i x h e =
 
 -- ---- near targets
 
-wrapped-small : (size : Bits) (n : ℕ) → wrapped size n < 2 ^ 64
+wrapped-small : (size : Bits) (n : ℕ) → modulo_width size n < 2 ^ 64
 wrapped-small B16 n = omega arith
 wrapped-small B32 n = omega arith
 wrapped-small B64 n = omega arith

@@ -16,9 +16,10 @@ use Rattle.instruction_parts.specs.declared.kinds.Method.TheVariants as method
 use Rattle.instruction_parts.specs.declared.kinds.File.{File}
 use Rattle.instruction_parts.specs.Kinds.{method_of, file_of}
 use Rattle.row_fit.specs.Fits.{kind_at, immediate_bytes, is_nop_byte, is_repeat_f3, is_no_repeat}
-use Rattle.plain_spelling.specs.Forms.{is_memory, is_allowed_in, is_variant_of, operand_at}
+use Rattle.x86_values.specs.Operands.{is_memory}
+use Rattle.plain_spelling.specs.Forms.{is_allowed_in, is_variant_of, operand_at}
 use Rattle.plain_spelling.specs.Addresses.{shown_size, is_wide_shape, is_shape, is_gather_shape, shape_suits}
-use Rattle.plain_spelling.specs.PlainFront.{asked, number_in_reg, number_in_index, number_in_vvvv}
+use Rattle.plain_spelling.specs.PlainFront.{number_asked_of, number_in_reg, number_in_index, number_in_vvvv}
 use Rattle.plain_spelling.specs.PlainTail.{plain_size}
 use Rattle.plain_spelling.specs.Expressible.{each_operand, kind_suits, is_of_kind, is_nameable, vector_in_reg, vector_in_index, vector_in_vvvv, passes, asked_vector, differ, gather_numbers_differ, gather_suits, register_suits, address_suits, immediate_suits_how, immediate_suits, lock_suits, repeat_suits, prefixes_suit, has_memory_operand, told_size, size_agrees, is_size_of, address_size_suits}
 use Rattle.moved_targets.specs.Targets.{with_target}
@@ -69,7 +70,7 @@ vectors_in_vvvv method.Vvvv = record { memory = λ m disp. refl; near = λ x y. 
 vectors_in_vvvv _ = record { memory = λ m disp. refl; near = λ x y. refl }
 
 -- the number that is asked for a vector register, where the test and the number do not look at the target
-asked_vector-with_target : (p : Method → Operand → Bool) → ((how : Method) → IgnoresTarget (p how)) → (number : Method → Operand → ℕ) → (t : ℕ) (row : Row) (i : Instr) → asked number row (with_target t i) ≡ asked number row i → asked_vector p number row (with_target t i) ≡ asked_vector p number row i
+asked_vector-with_target : (p : Method → Operand → Bool) → ((how : Method) → IgnoresTarget (p how)) → (number : Method → Operand → ℕ) → (t : ℕ) (row : Row) (i : Instr) → number_asked_of number row (with_target t i) ≡ number_asked_of number row i → asked_vector p number row (with_target t i) ≡ asked_vector p number row i
 asked_vector-with_target p h number t row i e =
     let at : (n : ℕ) → passes p row (with_target t i) n ≡ passes p row i n =
     λ n. at-with_target (p (method_of (kind_at row n))) (h (method_of (kind_at row n))) t i n in

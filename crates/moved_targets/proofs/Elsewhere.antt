@@ -3,7 +3,7 @@ use Rattle.std.proofs.Common.{◌≡◌, ◌+◌, ◌≤◌, ◌<◌, ◌^◌, �
 use Rattle.std.proofs.lemmas.Bool.{and_parts}
 use Rattle.x86_values.specs.declared.Bits.{Bits}
 use Rattle.x86_values.specs.declared.Instr.{Instr}
-use Rattle.x86_values.specs.Wrapping.{width, wrapped}
+use Rattle.x86_values.specs.Wrapping.{width, modulo_width}
 use Rattle.row_types.specs.declared.Row.{Row}
 use Rattle.instruction_parts.specs.Kinds.{method_of, file_of}
 use Rattle.instruction_parts.specs.Bytes.{bytes_of}
@@ -39,11 +39,11 @@ record Aim (bits : Bits) (row : Row) (i : Instr) (place t : ℕ) : Type 0 where
   within : place + plain_len bits row i ≤ 2 ^ width bits
   below : t < 2 ^ 64
 
-next_is : (bits : Bits) (row : Row) (i : Instr) (ip t : ℕ) → plain_next bits ip row (with_target t i) ≡ wrapped bits (ip + plain_len bits row i)
+next_is : (bits : Bits) (row : Row) (i : Instr) (ip t : ℕ) → plain_next bits ip row (with_target t i) ≡ modulo_width bits (ip + plain_len bits row i)
 unfolding plain_next
-next_is bits row i ip t = ap (λ (n : ℕ). wrapped bits (ip + n)) (len-with_target bits t row i)
+next_is bits row i ip t = ap (λ (n : ℕ). modulo_width bits (ip + n)) (len-with_target bits t row i)
 
-targeted_there : (bits : Bits) (row : Row) (i : Instr) (place t n : ℕ) → Aim bits row i place t → near_value (operand_at i n) ≡ None → Reached (operand_reach (operand_at i n)) (plain_len bits row i) place t → address_suits bits row i n ≡ true → target_suits bits (wrapped bits place) row (with_target t i) n ≡ true
+targeted_there : (bits : Bits) (row : Row) (i : Instr) (place t n : ℕ) → Aim bits row i place t → near_value (operand_at i n) ≡ None → Reached (operand_reach (operand_at i n)) (plain_len bits row i) place t → address_suits bits row i n ≡ true → target_suits bits (modulo_width bits place) row (with_target t i) n ≡ true
 unfolding target_suits address_suits
 targeted_there bits row i place t n a none reach shape =
     let how = method_of (kind_at row n) in
@@ -51,8 +51,8 @@ targeted_there bits row i place t n a none reach shape =
     let size = plain_size bits row in
     let count = immediate_bytes size (kind_at row n) in
     let len = plain_len bits row i in
-    ap (λ (next : ℕ). target_of_operand_suits size next count (operand_at (with_target t i) n)) (next_is bits row i (wrapped bits place) t)
-    ∙ ap (target_of_operand_suits size (wrapped bits (wrapped bits place + len)) count) (operand_at-with_target t i n)
+    ap (λ (next : ℕ). target_of_operand_suits size next count (operand_at (with_target t i) n)) (next_is bits row i (modulo_width bits place) t)
+    ∙ ap (target_of_operand_suits size (modulo_width bits (modulo_width bits place + len)) count) (operand_at-with_target t i n)
     ∙ operand-reached bits size count row how file (operand_at i n) len place t none shape reach a.below (some_byte bits row i) a.within
 
 -- ---- all operands
@@ -79,7 +79,7 @@ to_each : (p : ℕ → Bool) → p 0 ≡ true → p 1 ≡ true → p 2 ≡ true 
 to_each p a b c d = rw (a, b, c, d) refl
 
 -- **the conditions hold there**
-pub suits-elsewhere : (bits : Bits) (place t : ℕ) (row : Row) (i : Instr) → SuitsElsewhere bits row i → first_value near_value i ≡ None → Reaches (target_reach i) (plain_len bits row i) place t → place + plain_len bits row i ≤ 2 ^ width bits → t < 2 ^ 64 → Suits bits (wrapped bits place) row (with_target t i)
+pub suits-elsewhere : (bits : Bits) (place t : ℕ) (row : Row) (i : Instr) → SuitsElsewhere bits row i → first_value near_value i ≡ None → Reaches (target_reach i) (plain_len bits row i) place t → place + plain_len bits row i ≤ 2 ^ width bits → t < 2 ^ 64 → Suits bits (modulo_width bits place) row (with_target t i)
 suits-elsewhere bits place t row i n none reach within below =
     let len = plain_len bits row i in
     let r = all_reached bits row i len place t n.address_size reach in
@@ -98,7 +98,7 @@ suits-elsewhere bits place t row i n none reach within below =
           (offered_there bits row i len place t 2 r.third below disp.third)
           (offered_there bits row i len place t 3 r.fourth below disp.fourth);
       immediates = same_each (immediate_suits bits row (with_target t i)) (immediate_suits bits row i) (immediate_suits-with_target bits t row i) ∙ n.immediates;
-      targets = to_each (target_suits bits (wrapped bits place) row (with_target t i))
+      targets = to_each (target_suits bits (modulo_width bits place) row (with_target t i))
           (targeted_there bits row i place t 0 a near.first r.first shape.first)
           (targeted_there bits row i place t 1 a near.second r.second shape.second)
           (targeted_there bits row i place t 2 a near.third r.third shape.third)
@@ -117,4 +117,4 @@ encoded-elsewhere encodings spelled bits old place t bytes i (short, (row, at, (
     let suits = suits-elsewhere bits place t row i n none (rw l at reach) (rw l at within) below in
     let there : plain_len bits row (with_target t i) ≤ 15 = omega (arith, len-with_target bits t row i, spelled.spelled-least bits old bytes i row s at e, short) in
     let row_at : slice_get table (with_target t i).code.0 ≡ Some row = rw (code-with_target t i) at in
-    (bytes_of row (plain_spelling bits (wrapped bits place) row (with_target t i)), encodings.suits-encoded bits place row (with_target t i) row_at suits there)
+    (bytes_of row (plain_spelling bits (modulo_width bits place) row (with_target t i)), encodings.suits-encoded bits place row (with_target t i) row_at suits there)

@@ -3,7 +3,7 @@ use Rattle.std.proofs.Common.{◌≡◌, ℕ, ◌+◌, ◌-◌, ◌*◌, ◌%◌
 use Rattle.std.proofs.Math.Nat.{mod-eq_of_lt}
 use Rattle.std.proofs.lemmas.Bool.{cases_lt, lt-ltb, le-leb}
 use Rattle.x86_values.specs.declared.Bits.TheVariants.{B64}
-use Rattle.x86_values.specs.Wrapping.{wrapped}
+use Rattle.x86_values.specs.Wrapping.{modulo_width}
 use Rattle.plain_spelling.specs.Values.{is_extended_of, distance}
 
 or_first : (a b : Bool) → (a || (true || b)) ≡ true
@@ -41,7 +41,7 @@ back h next t small a b c = omega arith
 
 -- **an address at a signed distance from the end is reached**
 pub reached : (n h : ℕ) → 2 ^ (8 * n) ≡ 2 * h → h ≤ 2 ^ 31 → (place len t : ℕ) → 1 ≤ len → place + len ≤ 2 ^ 64 → t < 2 ^ 64 → (place + len ≤ t + h) × (t < place + len + h)
-    → is_extended_of n 64 (distance B64 (wrapped B64 (wrapped B64 place + len)) t) ≡ true
+    → is_extended_of n 64 (distance B64 (modulo_width B64 (modulo_width B64 place + len)) t) ≡ true
 unfolding distance
 reached n h range small place len t some within below reach = by_end (behind place len some within)
   where
@@ -55,7 +55,7 @@ reached n h range small place len t some within below reach = by_end (behind pla
 
 -- **an address a few bytes behind the end is reached, also where it wraps**
 pub over-reached : (place len d : ℕ) → 1 ≤ len → place + len ≤ 2 ^ 64 → d < 128
-    → is_extended_of 1 64 (distance B64 (wrapped B64 (wrapped B64 place + len)) (wrapped B64 (place + len + d))) ≡ true
+    → is_extended_of 1 64 (distance B64 (modulo_width B64 (modulo_width B64 place + len)) (modulo_width B64 (place + len + d))) ≡ true
 unfolding distance
 over-reached place len d some within few =
     let x = ((place + len + d) % 2 ^ 64 + (2 ^ 64 - (place % 2 ^ 64 + len) % 2 ^ 64)) % 2 ^ 64 in

@@ -10,7 +10,7 @@ use Rattle.x86_values.specs.declared.Register.TheVariants.{Eip, Rip}
 use Rattle.x86_values.specs.declared.Mem.{Mem}
 use Rattle.x86_values.specs.declared.Operand.{Operand}
 use Rattle.x86_values.specs.declared.Operand.TheVariants.{Absent, Reg, Mem as Memory, Imm, Near, Far}
-use Rattle.x86_values.specs.Wrapping.{width, wrapped}
+use Rattle.x86_values.specs.Wrapping.{width, modulo_width}
 use Rattle.row_types.specs.declared.Row.{Row}
 use Rattle.instruction_parts.specs.declared.kinds.Method.{Method}
 use Rattle.instruction_parts.specs.declared.kinds.Method.TheVariants as method
@@ -109,17 +109,17 @@ mode_64 B16 h = cc
 mode_64 B32 h = cc
 mode_64 B64 h = refl
 
-base_reached : (bits : Bits) (base index : Option Register) (disp len place t : ℕ) → (base ≡ Some Rip → bits ≡ B64) → Reached (base_reach base) len place t → t < 2 ^ 64 → 1 ≤ len → place + len ≤ 2 ^ width bits → reached_by (wrapped bits (wrapped bits place + len)) (form_of base index) (aimed_disp t base disp) ≡ true
+base_reached : (bits : Bits) (base index : Option Register) (disp len place t : ℕ) → (base ≡ Some Rip → bits ≡ B64) → Reached (base_reach base) len place t → t < 2 ^ 64 → 1 ≤ len → place + len ≤ 2 ^ width bits → reached_by (modulo_width bits (modulo_width bits place + len)) (form_of base index) (aimed_disp t base disp) ≡ true
 unfolding base_reach form_of
 base_reached bits None None disp len place t mode reach below some within = refl
 base_reached bits None (Some r) disp len place t mode reach below some within = refl
 base_reached bits (Some Rip) index disp len place t mode reach below some within =
     let e = mode refl in
     rw e (reached 4 (2 ^ 31) refl (omega arith) place len t some (rw e at within) below reach)
-base_reached bits (Some Eip) index disp len place t mode reach below some within = eip_reached (wrapped bits (wrapped bits place + len)) t
+base_reached bits (Some Eip) index disp len place t mode reach below some within = eip_reached (modulo_width bits (modulo_width bits place + len)) t
 base_reached bits (Some _) index disp len place t mode reach below some within = refl
 
-address_reached : (bits : Bits) (m : Mem) (len place t : ℕ) → (m.base ≡ Some Rip → bits ≡ B64) → Reached (base_reach m.base) len place t → t < 2 ^ 64 → 1 ≤ len → place + len ≤ 2 ^ width bits → address_reaches (wrapped bits (wrapped bits place + len)) (record m { disp = aimed_disp t m.base m.disp }) ≡ true
+address_reached : (bits : Bits) (m : Mem) (len place t : ℕ) → (m.base ≡ Some Rip → bits ≡ B64) → Reached (base_reach m.base) len place t → t < 2 ^ 64 → 1 ≤ len → place + len ≤ 2 ^ width bits → address_reaches (modulo_width bits (modulo_width bits place + len)) (record m { disp = aimed_disp t m.base m.disp }) ≡ true
 unfolding address_reaches
 address_reached bits m len place t mode reach below some within = base_reached bits m.base m.index m.disp len place t mode reach below some within
 
@@ -132,12 +132,12 @@ abbrev pub shape_of_operand_suits : Bits → Row → Method → File → Operand
 shape_of_operand_suits bits row how file op = elim op [ Memory m ↦ shape_suits bits row how file m | _ ↦ true ]
 
 -- **an operand that is no near target and is aimed at what it reaches reaches that**
-pub operand-reached : (bits size : Bits) (n : ℕ) (row : Row) (how : Method) (file : File) (op : Operand) (len place t : ℕ) → near_value op ≡ None → shape_of_operand_suits bits row how file op ≡ true → Reached (operand_reach op) len place t → t < 2 ^ 64 → 1 ≤ len → place + len ≤ 2 ^ width bits → target_of_operand_suits size (wrapped bits (wrapped bits place + len)) n (aimed_operand t op) ≡ true
+pub operand-reached : (bits size : Bits) (n : ℕ) (row : Row) (how : Method) (file : File) (op : Operand) (len place t : ℕ) → near_value op ≡ None → shape_of_operand_suits bits row how file op ≡ true → Reached (operand_reach op) len place t → t < 2 ^ 64 → 1 ≤ len → place + len ≤ 2 ^ width bits → target_of_operand_suits size (modulo_width bits (modulo_width bits place + len)) n (aimed_operand t op) ≡ true
 unfolding operand_reach aimed_operand near_value
 operand-reached bits size n row how file Absent len place t none shape reach below some within = refl
 operand-reached bits size n row how file (Reg r) len place t none shape reach below some within = refl
 operand-reached bits size n row how file (Memory m) len place t none shape reach below some within =
-    let next = wrapped bits (wrapped bits place + len) in
+    let next = modulo_width bits (modulo_width bits place + len) in
     ap (target_of_operand_suits size next n) (with_target-memory t m)
     ∙ address_reached bits m len place t (λ e. mode_64 bits (by_method bits row how file m e shape)) reach below some within
 operand-reached bits size n row how file (Imm x) len place t none shape reach below some within = refl

@@ -15,7 +15,8 @@ use Rattle.row_types.specs.declared.Row.{Row}
 use Rattle.instruction_parts.specs.Sizes.{has_address_mark}
 use Rattle.instruction_parts.specs.Counting.{is_16}
 use Rattle.row_fit.specs.Fits.{reads_by, is_gather}
-use Rattle.plain_spelling.specs.Forms.{is_memory, operand_at}
+use Rattle.x86_values.specs.Operands.{is_memory}
+use Rattle.plain_spelling.specs.Forms.{operand_at}
 use Rattle.plain_spelling.specs.Addresses.{has_address_size, pointer_size}
 use Rattle.plain_spelling.specs.Expressible.{has_memory_operand, told_size, size_agrees, is_size_of, address_size_suits}
 use Rattle.branch_sizes.specs.declared.plan.Reach.{Reach}

@@ -15,7 +15,7 @@ use Rattle.instruction_parts.specs.declared.spelling.ModRm.{ModRm}
 use Rattle.plain_spelling.specs.declared.addresses.AddressFields.{AddressFields}
 use Rattle.row_fit.specs.Fits.{is_offset}
 use Rattle.row_fit.specs.Sound.{reads_rm}
-use Rattle.plain_spelling.specs.PlainFront.{number_in_reg, number_in_rm, number_in_index, number_in_vvvv, number_in_opcode, asked, asks_low_byte, asks_r, asks_x, asks_b, asked_rex, asked_vex, asked_opcode, asked_used, asked_repeat, plain_front_of}
+use Rattle.plain_spelling.specs.PlainFront.{number_in_reg, number_in_rm, number_in_index, number_in_vvvv, number_in_opcode, number_asked_of, asks_low_byte, asks_r, asks_x, asks_b, asked_rex, asked_vex, asked_opcode, asked_used, asked_repeat, plain_front_of}
 use Rattle.plain_spelling.specs.Addresses.{address_fields, alone_fields, wide_fields, plain_sib, written_size, shown_size, wide_needs_sib}
 use Rattle.plain_spelling.specs.PlainTail.{operand_where, rm_fields, fields_of, fixed_rm, modrm_with, plain_modrm, plain_sib_of, operand_displacement, address_operand, plain_len}
 use Rattle.moved_targets.specs.Targets.{with_target}
@@ -52,23 +52,23 @@ unfolding number_in_opcode
 in_opcode method.OpcodeLow = record { memory = λ m disp. refl; near = λ x y. refl }
 in_opcode _ = record { memory = λ m disp. refl; near = λ x y. refl }
 
-asked-with_target : (f : Method → Operand → ℕ) → ((how : Method) → IgnoresTarget (f how)) → (t : ℕ) (row : Row) (i : Instr) → asked f row (with_target t i) ≡ asked f row i
+asked-with_target : (f : Method → Operand → ℕ) → ((how : Method) → IgnoresTarget (f how)) → (t : ℕ) (row : Row) (i : Instr) → number_asked_of f row (with_target t i) ≡ number_asked_of f row i
 unfolding with_target
 asked-with_target f h t row i = over_operands-map f h t row.ops i.ops
 
-pub reg-with_target : (t : ℕ) (row : Row) (i : Instr) → asked number_in_reg row (with_target t i) ≡ asked number_in_reg row i
+pub reg-with_target : (t : ℕ) (row : Row) (i : Instr) → number_asked_of number_in_reg row (with_target t i) ≡ number_asked_of number_in_reg row i
 reg-with_target t row i = asked-with_target number_in_reg in_reg t row i
 
-pub rm-with_target : (t : ℕ) (row : Row) (i : Instr) → asked number_in_rm row (with_target t i) ≡ asked number_in_rm row i
+pub rm-with_target : (t : ℕ) (row : Row) (i : Instr) → number_asked_of number_in_rm row (with_target t i) ≡ number_asked_of number_in_rm row i
 rm-with_target t row i = asked-with_target number_in_rm in_rm t row i
 
-pub index-with_target : (t : ℕ) (row : Row) (i : Instr) → asked number_in_index row (with_target t i) ≡ asked number_in_index row i
+pub index-with_target : (t : ℕ) (row : Row) (i : Instr) → number_asked_of number_in_index row (with_target t i) ≡ number_asked_of number_in_index row i
 index-with_target t row i = asked-with_target number_in_index in_index t row i
 
-pub vvvv-with_target : (t : ℕ) (row : Row) (i : Instr) → asked number_in_vvvv row (with_target t i) ≡ asked number_in_vvvv row i
+pub vvvv-with_target : (t : ℕ) (row : Row) (i : Instr) → number_asked_of number_in_vvvv row (with_target t i) ≡ number_asked_of number_in_vvvv row i
 vvvv-with_target t row i = asked-with_target number_in_vvvv in_vvvv t row i
 
-pub opcode-with_target : (t : ℕ) (row : Row) (i : Instr) → asked number_in_opcode row (with_target t i) ≡ asked number_in_opcode row i
+pub opcode-with_target : (t : ℕ) (row : Row) (i : Instr) → number_asked_of number_in_opcode row (with_target t i) ≡ number_asked_of number_in_opcode row i
 opcode-with_target t row i = asked-with_target number_in_opcode in_opcode t row i
 
 low-with_target : (t : ℕ) (i : Instr) → asks_low_byte (with_target t i).ops ≡ asks_low_byte i.ops
@@ -166,14 +166,14 @@ same_modrm AnyModRm reg other fields others rm rms a b c = rw (a, b) refl
 same_modrm (Digit d) reg other fields others rm rms a b c = rw b refl
 same_modrm (FixedByte d) reg other fields others rm rms a b c = rw (c d) refl
 
-modrm_is : (bits : Bits) (row : Row) (i : Instr) → plain_modrm bits row i ≡ modrm_by row.modrm (asked number_in_reg row i) (fields_of bits row i) (fixed_rm row i)
+modrm_is : (bits : Bits) (row : Row) (i : Instr) → plain_modrm bits row i ≡ modrm_by row.modrm (number_asked_of number_in_reg row i) (fields_of bits row i) (fixed_rm row i)
 unfolding plain_modrm
 modrm_is bits row i = refl
 
 modrm-with_target : (bits : Bits) (t : ℕ) (row : Row) (i : Instr) → plain_modrm bits row (with_target t i) ≡ plain_modrm bits row i
 modrm-with_target bits t row i =
     modrm_is bits row (with_target t i)
-    ∙ same_modrm row.modrm (asked number_in_reg row (with_target t i)) (asked number_in_reg row i) (fields_of bits row (with_target t i)) (fields_of bits row i) (fixed_rm row (with_target t i)) (fixed_rm row i)
+    ∙ same_modrm row.modrm (number_asked_of number_in_reg row (with_target t i)) (number_asked_of number_in_reg row i) (fields_of bits row (with_target t i)) (fields_of bits row i) (fixed_rm row (with_target t i)) (fixed_rm row i)
     (reg-with_target t row i) (fields-with_target bits t row i) (fixed-with_target t row i)
     ∙ sym (modrm_is bits row i)
 

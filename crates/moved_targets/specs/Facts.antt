@@ -3,7 +3,7 @@ use Rattle.std.specs.Prelude.{◌≡◌, ◌⊎◌, ℕ, ◌+◌, ◌*◌, ◌^�
 use Rattle.x86_values.specs.declared.Bits.{Bits}
 use Rattle.x86_values.specs.declared.Bits.TheVariants.{B64}
 use Rattle.x86_values.specs.declared.Instr.{Instr}
-use Rattle.x86_values.specs.Wrapping.{width, wrapped}
+use Rattle.x86_values.specs.Wrapping.{width, modulo_width}
 use Rattle.row_types.specs.declared.Row.{Row}
 use Rattle.row_relation.specs.Spells.{Spells}
 use Rattle.plain_spelling.specs.Values.{is_extended_of, distance}
@@ -20,9 +20,9 @@ pub record DistanceFacts : Type 0 where
   pub signed : (n h x : ℕ) → 2 ^ (8 * n) ≡ 2 * h → x < 2 ^ 64 → (x < h) ⊎ (2 ^ 64 ≤ x + h) → is_extended_of n 64 x ≡ true
   -- an address at such a distance from the end of some bytes is held, and one a few bytes behind it, also where it wraps
   pub reached : (n h : ℕ) → 2 ^ (8 * n) ≡ 2 * h → h ≤ 2 ^ 31 → (place len t : ℕ) → 1 ≤ len → place + len ≤ 2 ^ 64 → t < 2 ^ 64
-      → (place + len ≤ t + h) × (t < place + len + h) → is_extended_of n 64 (distance B64 (wrapped B64 (wrapped B64 place + len)) t) ≡ true
+      → (place + len ≤ t + h) × (t < place + len + h) → is_extended_of n 64 (distance B64 (modulo_width B64 (modulo_width B64 place + len)) t) ≡ true
   pub over-reached : (place len d : ℕ) → 1 ≤ len → place + len ≤ 2 ^ 64 → d < 128
-      → is_extended_of 1 64 (distance B64 (wrapped B64 (wrapped B64 place + len)) (wrapped B64 (place + len + d))) ≡ true
+      → is_extended_of 1 64 (distance B64 (modulo_width B64 (modulo_width B64 place + len)) (modulo_width B64 (place + len + d))) ≡ true
 
 -- plain spellings, where they stand and what they are aimed at
 pub record TargetFacts : Type 0 where

@@ -17,8 +17,8 @@ use Rattle.command_words.specs.declared.commands.BlockWords.{BlockWords}
 use Rattle.moving_run.specs.declared.code.Code.{Code}
 use Rattle.moving_run.specs.declared.code.CodeError.{CodeError}
 use Rattle.moving_run.specs.declared.code.CodeError.TheVariants.{BadCode, Memory}
-use Rattle.moving_run.specs.Code.{taken, left_by, IsInstruction, AreSwept, IsBadAt, here, later, placed_by, placed_in, all_placed, all_spans}
-use Rattle.moving_run.specs.Ends.{first_pass, end_of}
+use Rattle.moving_run.specs.Code.{next_block_bytes, left_by, IsInstruction, AreSwept, IsBadAt, here, later, placed_by, placed_in, all_placed, all_spans}
+use Rattle.moving_run.specs.Ends.{first_pass, block_end}
 use Rattle.moving_run.specs.Read.{first_items, ReadsBlock, IsBlockError, IsCode, IsCodeError}
 use Rattle.moving_run.proofs.Cutting.{cut_length}
 use Rattle.moving_run.proofs.Reading.{first_items-append, first_items-nil}
@@ -54,14 +54,14 @@ width_most B64 = omega arith
 
 -- where no end passes, the addresses of the first block do not wrap, and no end of the others passes
 pub no_pass : (bits : Bits) (w : BlockWords) (ws : List BlockWords) (bytes : List ℕ) → first_pass bits (w ∷ ws) bytes ≡ None →
-    (0 < length (taken w.len bytes) → w.old + length (taken w.len bytes) ≤ 2 ^ 64) × (first_pass bits ws (left_by w.len bytes) ≡ None)
+    (0 < length (next_block_bytes w.len bytes) → w.old + length (next_block_bytes w.len bytes) ≤ 2 ^ 64) × (first_pass bits ws (left_by w.len bytes) ≡ None)
 no_pass bits w ws bytes h =
-    let n = length (taken w.len bytes) in
-    let parts = none_or (passes bits (end_of w n)) (end_of w n) (first_pass bits ws (left_by w.len bytes)) h in (
+    let n = length (next_block_bytes w.len bytes) in
+    let parts = none_or (passes bits (block_end w n)) (block_end w n) (first_pass bits ws (left_by w.len bytes)) h in (
       λ some.
           let not_empty : (n == 0) ≡ false = ne_eqb n 0 (λ e. omega arith) in
-          let end_is : end_of w n ≡ w.old + n = ap (λ (b : Bool). if b then w.new else w.old + n) not_empty in
-          omega (arith, ltb-false (2 ^ width bits) (end_of w n) parts.0, end_is, width_most bits),
+          let end_is : block_end w n ≡ w.old + n = ap (λ (b : Bool). if b then w.new else w.old + n) not_empty in
+          omega (arith, ltb-false (2 ^ width bits) (block_end w n) parts.0, end_is, width_most bits),
       parts.1,
     )
 
@@ -103,7 +103,7 @@ blocks-start bits words bytes kept spans no_kept no_spans =
 
 -- one more block
 pub blocks-step : (bits : Bits) (words : List BlockWords) (bytes : List ℕ) (w : BlockWords) (ws : List BlockWords) (rest : List ℕ) (kept kept' : List Placed) (spans : List BlockSpan) (count found : ℕ) →
-    BlocksBegun bits words bytes (w ∷ ws) rest kept spans count → ReadsBlock bits w.old (taken w.len rest) kept kept' found → length kept' ≤ 65536 →
+    BlocksBegun bits words bytes (w ∷ ws) rest kept spans count → ReadsBlock bits w.old (next_block_bytes w.len rest) kept kept' found → length kept' ≤ 65536 →
     BlocksBegun bits words bytes ws (left_by w.len rest) kept' (spans ++ record { count = found; new_base = w.new } ∷ []) (count + found)
 blocks-step bits words bytes w ws rest kept kept' spans count found b r room =
     let size = cut_length w.len rest in
@@ -111,7 +111,7 @@ blocks-step bits words bytes w ws rest kept kept' spans count found b r room =
     let few = b.few in
     let old = placed_in w.old r.items in
     let span : BlockSpan = record { count = found; new_base = w.new } in
-    let here_at : length bytes - length rest + length (taken w.len rest) ≡ length bytes - length (left_by w.len rest) = omega arith in
+    let here_at : length bytes - length rest + length (next_block_bytes w.len rest) ≡ length bytes - length (left_by w.len rest) = omega arith in
     record {
       items = b.items ++ r.items ∷ [];
       placed = b.placed ++ old;
@@ -155,7 +155,7 @@ blocks-end bits words bytes rest code b =
 
 -- a block that is not read
 pub blocks-stop : (bits : Bits) (words : List BlockWords) (bytes : List ℕ) (w : BlockWords) (ws : List BlockWords) (rest : List ℕ) (kept : List Placed) (spans : List BlockSpan) (count start : ℕ) (e : CodeError) →
-    BlocksBegun bits words bytes (w ∷ ws) rest kept spans count → start ≡ length bytes - length rest → IsBlockError bits w.old start (taken w.len rest) e →
+    BlocksBegun bits words bytes (w ∷ ws) rest kept spans count → start ≡ length bytes - length rest → IsBlockError bits w.old start (next_block_bytes w.len rest) e →
     IsCodeError bits words bytes e
 blocks-stop bits words bytes w ws rest kept spans count start Memory b at h = tt
 blocks-stop bits words bytes w ws rest kept spans count start (BadCode offset error) b at h =

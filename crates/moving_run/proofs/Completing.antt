@@ -7,22 +7,22 @@ use Rattle.run_parts.specs.declared.status.Status.TheVariants.{Done, BadCode, Re
 use Rattle.run_parts.specs.Facts.{ReadFacts}
 use Rattle.run_parts.specs.Reads.{whole_limit, ReadsAll}
 use Rattle.moving_run.specs.declared.moving.Wanted.{Wanted}
-use Rattle.moving_run.specs.Moving.{IsCodeAnswer, RefusesAs, MovesAs, CompletesMoving}
-use Rattle.moving_run.specs.Facts.{AnswerFacts}
+use Rattle.moving_run.specs.Moving.{IsMovingAnswer, RefusesMoving, MovesAs, CompletesMoving}
+use Rattle.moving_run.specs.Facts.{MovingAnswerFacts}
 
-module _ (facts : ReadFacts) (answers : AnswerFacts) (wanted : Wanted) (bits : Bits) (words : List BlockWords) where
+module _ (facts : ReadFacts) (answers : MovingAnswerFacts) (wanted : Wanted) (bits : Bits) (words : List BlockWords) where
   -- an answer for all bytes
   answered : (bytes : List ℕ) (left' : Option (List ℕ)) (read : List ℕ) (status : Status) → ReadsAll whole_limit (Some bytes) left' read →
-      IsCodeAnswer wanted bits words read status → CompletesMoving wanted bits words (Some bytes) status
+      IsMovingAnswer wanted bits words read status → CompletesMoving wanted bits words (Some bytes) status
   answered bytes left' read status reads h =
       let same = facts.all_bytes whole_limit bytes left' read reads in
       let within = reads.within in
-      let there = subst (λ (xs : List ℕ). IsCodeAnswer wanted bits words xs status) (sym same) h in (
+      let there = subst (λ (xs : List ℕ). IsMovingAnswer wanted bits words xs status) (sym same) h in (
         λ few answer is. inl (answers.answer_unique wanted bits words bytes status answer there is),
         λ many. absurd (omega (arith, ap length same)),
       )
 
-  refused : (left left' held held' : Option (List ℕ)) (status : Status) → RefusesAs wanted bits words left left' held held' status →
+  refused : (left left' held held' : Option (List ℕ)) (status : Status) → RefusesMoving wanted bits words left left' held held' status →
       ((status ≡ ReadFault) ⊎ (status ≡ WriteFault) → ⊥) → CompletesMoving wanted bits words left status
   refused (Some bytes) left' held held' status h told = answered bytes left' h.0.0 status h.0.1.0 h.0.1.1
   refused None left' held held' status h told = told

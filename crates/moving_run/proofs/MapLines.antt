@@ -9,7 +9,7 @@ use Rattle.branch_sizes.specs.declared.plan.Form.{Form}
 use Rattle.move_goals.specs.declared.items.Placed.{Placed}
 use Rattle.byte_ports.specs.Ports.{with_back}
 use Rattle.run_parts.specs.Facts.{HeldFacts}
-use Rattle.run_parts.specs.Writing.{HoldsFront, Moves, Held}
+use Rattle.run_parts.specs.Writing.{HoldsFront, Moves, HeldText}
 use Rattle.moving_run.specs.Map.{line_at, map_lines}
 
 module _ (facts : HeldFacts) (bits : Bits) (items : List Placed) (starts : List ℕ) (forms : List Form) where
@@ -54,24 +54,24 @@ module _ (facts : HeldFacts) (bits : Bits) (items : List Placed) (starts : List 
       subst (λ (xs : List ℕ). HoldsFront old new xs) whole (facts.front-longer old new (lines n) p.0 f)
 
   -- before the first line
-  pub map-start : (start : Option (List ℕ)) (pending : List ℕ) → pending ≡ [] → Held start start pending (map_lines bits items starts forms 0)
-  map-start start pending empty = subst (λ (xs : List ℕ). Held start start pending xs) (sym none) (facts.held-start start pending empty)
+  pub map-start : (start : Option (List ℕ)) (pending : List ℕ) → pending ≡ [] → HeldText start start pending (map_lines bits items starts forms 0)
+  map-start start pending empty = subst (λ (xs : List ℕ). HeldText start start pending xs) (sym none) (facts.held-start start pending empty)
 
   -- one more line
-  pub map-step : (start held held' : Option (List ℕ)) (before after : List ℕ) (n : ℕ) → Held start held before (map_lines bits items starts forms n) →
-      Moves held held' before after (line_at bits items starts forms n) → Held start held' after (map_lines bits items starts forms (n + 1))
+  pub map-step : (start held held' : Option (List ℕ)) (before after : List ℕ) (n : ℕ) → HeldText start held before (map_lines bits items starts forms n) →
+      Moves held held' before after (line_at bits items starts forms n) → HeldText start held' after (map_lines bits items starts forms (n + 1))
   map-step start held held' before after n h moves =
-      subst (λ (xs : List ℕ). Held start held' after xs) (sym (more n)) (facts.held-step start held held' before after (lines n) (line n) h moves)
+      subst (λ (xs : List ℕ). HeldText start held' after xs) (sym (more n)) (facts.held-step start held held' before after (lines n) (line n) h moves)
 
   -- a failure while lines are held back
   pub map-failed : (start held held' : Option (List ℕ)) (pending : List ℕ) (n count : ℕ) → n ≤ count →
-      Held start held pending (map_lines bits items starts forms n) → HoldsFront held held' pending → HoldsFront start held' (map_lines bits items starts forms count)
+      HeldText start held pending (map_lines bits items starts forms n) → HoldsFront held held' pending → HoldsFront start held' (map_lines bits items starts forms count)
   map-failed start held held' pending n count below h f =
       front n count start held' below (facts.held-failed start held held' pending (lines n) h f)
 
   -- all lines
   pub map-end : (start held held' : Option (List ℕ)) (pending : List ℕ) (n count : ℕ) → n ≤ count → count ≤ n →
-      Held start held pending (map_lines bits items starts forms n) → held' ≡ with_back held pending → held' ≡ with_back start (map_lines bits items starts forms count)
+      HeldText start held pending (map_lines bits items starts forms n) → held' ≡ with_back held pending → held' ≡ with_back start (map_lines bits items starts forms count)
   map-end start held held' pending n count below above h all =
       let same : n ≡ count = omega arith in
       facts.held-end start held held' pending (lines n) h all ∙ ap (λ (k : ℕ). with_back start (lines k)) same

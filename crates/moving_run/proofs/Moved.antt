@@ -15,7 +15,7 @@ use Rattle.moving_run.specs.declared.moving.Wanted.{Wanted}
 use Rattle.moving_run.specs.declared.code.Code.{Code}
 use Rattle.moving_run.specs.Code.{all_placed, all_spans}
 use Rattle.moving_run.specs.Ends.{first_pass}
-use Rattle.moving_run.specs.Moving.{MovesInput, MovesCode, RefusesCode, IsRefusal, MovesAs, wanted_text}
+use Rattle.moving_run.specs.Moving.{MovesInput, MovesCode, RefusesBlocks, IsMovingRefusal, MovesAs, wanted_text}
 use Rattle.moving_run.specs.Read.{IsCode}
 use Rattle.moving_run.specs.Facts.{ReadBackFacts}
 use Rattle.branch_sizes.specs.Facts.{BlockFacts}
@@ -29,7 +29,7 @@ module _ (blocks : BlockFacts) (bits : Bits) (words : List BlockWords) (bytes : 
   few_items = let count_is = is.count_is in omega arith
 
   -- an old end passes the address space
-  pub passes : (end : ℕ) → first_pass bits words bytes ≡ Some end → RefusesCode bits words bytes (error.Wraps end)
+  pub passes : (end : ℕ) → first_pass bits words bytes ≡ Some end → RefusesBlocks bits words bytes (error.Wraps end)
   passes end first = record {
     items = is.items;
     swept = is.swept;
@@ -63,7 +63,7 @@ module _ (blocks : BlockFacts) (bits : Bits) (words : List BlockWords) (bytes : 
     }
 
     -- their moving is refused
-    pub refuses : (why : MoveError) → IsRefused bits code.items.items code.spans.items why → RefusesCode bits words bytes why
+    pub refuses : (why : MoveError) → IsRefused bits code.items.items code.spans.items why → RefusesBlocks bits words bytes why
     refuses why h = record {
       items = is.items;
       swept = is.swept;
@@ -114,7 +114,7 @@ unread wanted bits words left left' held held' source_rose out_rose _ kept h = a
 
 -- a status that tells why, after which nothing was written
 pub refusal : (wanted : Wanted) (bits : Bits) (words : List BlockWords) (bytes : List ℕ) (left left' held held' : Option (List ℕ)) (source_rose out_rose : Type 0) (status : Status) →
-    ReadsAll whole_limit left left' bytes → held' ≡ held → IsRefusal bits words bytes status →
+    ReadsAll whole_limit left left' bytes → held' ≡ held → IsMovingRefusal bits words bytes status →
     MovesAs wanted bits words left left' held held' source_rose out_rose status
 refusal wanted bits words bytes left left' held held' source_rose out_rose Memory reads kept h = kept
 refusal wanted bits words bytes left left' held held' source_rose out_rose (BadCode offset error) reads kept h = ((bytes, (reads, h)), kept)

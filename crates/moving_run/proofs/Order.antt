@@ -5,7 +5,7 @@ use Rattle.std.proofs.lemmas.Bool.{cases_lt, cases_Bool, cond-true, cond-false, 
 use Rattle.std.proofs.lemmas.List.{get_or_append_left, get_or-append_right}
 use Rattle.std.proofs.lemmas.List.Elements.{All-nil, All-cons, All-head, All-tail, All-same}
 use Rattle.x86_values.specs.declared.Bits.{Bits}
-use Rattle.x86_values.specs.Wrapping.{wrapped}
+use Rattle.x86_values.specs.Wrapping.{modulo_width}
 use Rattle.row_relation.specs.Spells.{Reading, Read, TooShort, Invalid, Spells}
 use Rattle.opcode_rows.specs.Table.{table}
 use Rattle.opcode_rows.specs.Sweep.{Item, IsReadAt, IsItemAt, Sweeps, item_len}
@@ -31,8 +31,8 @@ one_is : (bits : Bits) (base offset at : ℕ) (bytes : List ℕ) (reading : Read
     0 < item_len reading → error_of reading ≡ None → IsOne bits base offset at reading
 unfolding IsReadAt
 one_is bits base offset at bytes (Read d) place reads some e =
-    let S : ℕ → Type 0 = λ n. Spells table bits (wrapped bits (base + n)) (take d.len bytes) d.instr in
-    let spells : Spells table bits (wrapped bits (base + offset)) (take d.len bytes) d.instr = reads.1 in
+    let S : ℕ → Type 0 = λ n. Spells table bits (modulo_width bits (base + n)) (take d.len bytes) d.instr in
+    let spells : Spells table bits (modulo_width bits (base + offset)) (take d.len bytes) d.instr = reads.1 in
     let short : length (take d.len bytes) ≤ 15 = spells.0 in
     record {
       item = record { ip = base + at; len = d.len; instr = d.instr };

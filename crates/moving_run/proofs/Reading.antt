@@ -13,7 +13,7 @@ use Rattle.opcode_rows.specs.Sweep.{Item, IsReadAt, item_len}
 use Rattle.sweep_text.specs.Sweeping.{TakesSome, SweptTo, item_read}
 use Rattle.sweep_text.specs.Facts.{SweptFacts}
 use Rattle.move_goals.specs.declared.items.Placed.{Placed}
-use Rattle.moving_run.specs.Code.{IsInstruction, StopsAt, placed_by, placed_in}
+use Rattle.moving_run.specs.Code.{IsInstruction, BlockStopsAt, placed_by, placed_in}
 use Rattle.moving_run.specs.Read.{first_items, ReadsBlock}
 
 -- ---- the first items
@@ -119,7 +119,7 @@ module _ (turn : SweptFacts) where
   -- a single byte
   pub block-stop : (bits : Bits) (base : ℕ) (bytes : List ℕ) (at count : ℕ) (before after : List Placed) (e : DecodeError) →
       BlockBegun bits base bytes at count before after → IsReadAt bits base at (drop at bytes) (reading_of (Err e)) →
-      TakesSome (reading_of (Err e)) (length (drop at bytes)) → StopsAt bits base bytes at e
+      TakesSome (reading_of (Err e)) (length (drop at bytes)) → BlockStopsAt bits base bytes at e
   block-stop bits base bytes at count before after e b reads takes =
       let reading : Reading = reading_of (Err e) in
       let item = item_read at (drop at bytes) reading in

@@ -22,8 +22,8 @@ use Rattle.command_words.specs.declared.commands.BlockWords.{BlockWords}
 use Rattle.run_parts.specs.declared.status.Status.{Status}
 use Rattle.run_parts.specs.declared.status.Status.TheVariants.{Done, BadCode, Wraps, TooFar, TooMany}
 use Rattle.moving_run.specs.declared.moving.Wanted.{Wanted}
-use Rattle.moving_run.specs.Code.{taken, left_by, IsInstruction, AreSwept, StopsAt, IsBadAt, here, later, all_placed, all_spans}
-use Rattle.moving_run.specs.Moving.{IsCodeAnswer}
+use Rattle.moving_run.specs.Code.{next_block_bytes, left_by, IsInstruction, AreSwept, BlockStopsAt, IsBadAt, here, later, all_placed, all_spans}
+use Rattle.moving_run.specs.Moving.{IsMovingAnswer}
 
 -- ---- the instructions, and the first single byte
 
@@ -46,12 +46,12 @@ module _ (one : OneSweepFacts) where
   swept_unique bits (w ∷ ws) bytes [] b h k = absurd h
   swept_unique bits (w ∷ ws) bytes (x ∷ a) [] h k = absurd k
   swept_unique bits (w ∷ ws) bytes (x ∷ a) (y ∷ b) h k =
-      ap (λ (z : List Item). z ∷ a) (one.sweep_unique bits w.old (taken w.len bytes) x y h.0 k.0)
+      ap (λ (z : List Item). z ∷ a) (one.sweep_unique bits w.old (next_block_bytes w.len bytes) x y h.0 k.0)
       ∙ ap (λ (c : List (List Item)). y ∷ c) (swept_unique bits ws (left_by w.len bytes) a b h.2 k.2)
 
   -- bytes that are instructions alone have no single byte
   pub whole_stops : (bits : Bits) (base : ℕ) (bytes : List ℕ) (offset : ℕ) (error : DecodeError) (items : List Item) → IsSweep bits base bytes items →
-      All IsInstruction items → StopsAt bits base bytes offset error → ⊥
+      All IsInstruction items → BlockStopsAt bits base bytes offset error → ⊥
   whole_stops bits base bytes offset error items sweep all s =
       let begun = s.sweep in
       let more = one.sweep_begins bits base 0 bytes (s.items ++ s.last ∷ []) items begun.0 begun.1 sweep in
@@ -80,7 +80,7 @@ module _ (one : OneSweepFacts) where
       stop
       stop'
 
-  pub stops_unique : (bits : Bits) (base : ℕ) (bytes : List ℕ) (at at' : ℕ) (e f : DecodeError) → StopsAt bits base bytes at e → StopsAt bits base bytes at' f →
+  pub stops_unique : (bits : Bits) (base : ℕ) (bytes : List ℕ) (at at' : ℕ) (e f : DecodeError) → BlockStopsAt bits base bytes at e → BlockStopsAt bits base bytes at' f →
       (at ≡ at') × (e ≡ f)
   stops_unique bits base bytes at at' e f h k =
       let same = stops_same bits base 0 bytes h.items k.items h.last k.last h.sweep.0 k.sweep.0 e f h.sweep.1 k.sweep.1 h.all k.all h.stops k.stops in
@@ -92,7 +92,7 @@ module _ (one : OneSweepFacts) where
   swept_not_bad {words = []} bad items swept = elim bad [ ]
   swept_not_bad {words = w ∷ ws} (here s) [] swept = swept
   swept_not_bad {bits = bits} {words = w ∷ ws} {bytes = bytes} (here {offset = offset} {error = error} s) (x ∷ items) swept =
-      whole_stops bits w.old (taken w.len bytes) offset error x swept.0 swept.1 s
+      whole_stops bits w.old (next_block_bytes w.len bytes) offset error x swept.0 swept.1 s
   swept_not_bad {words = w ∷ ws} (later whole bad) [] swept = swept
   swept_not_bad {words = w ∷ ws} (later whole bad) (x ∷ items) swept = swept_not_bad bad items swept.2
 
@@ -101,11 +101,11 @@ module _ (one : OneSweepFacts) where
       IsBadAt bits words bytes start at' f → (at ≡ at') × (e ≡ f)
   bad_unique {words = []} bad other = elim bad [ ]
   bad_unique {bits = bits} {words = w ∷ ws} {bytes = bytes} {start = start} (here {offset = m} {error = e} s) (here {offset = n} {error = f} t) =
-      let same = stops_unique bits w.old (taken w.len bytes) m n e f s t in (ap (λ (n : ℕ). start + n) same.0, same.1)
+      let same = stops_unique bits w.old (next_block_bytes w.len bytes) m n e f s t in (ap (λ (n : ℕ). start + n) same.0, same.1)
   bad_unique {bits = bits} {words = w ∷ ws} {bytes = bytes} (here {offset = m} {error = e} s) (later whole bad) =
-      absurd (whole_stops bits w.old (taken w.len bytes) m e whole.items whole.sweep whole.all s)
+      absurd (whole_stops bits w.old (next_block_bytes w.len bytes) m e whole.items whole.sweep whole.all s)
   bad_unique {bits = bits} {words = w ∷ ws} {bytes = bytes} (later whole bad) (here {offset = n} {error = f} t) =
-      absurd (whole_stops bits w.old (taken w.len bytes) n f whole.items whole.sweep whole.all t)
+      absurd (whole_stops bits w.old (next_block_bytes w.len bytes) n f whole.items whole.sweep whole.all t)
   bad_unique {words = w ∷ ws} (later whole bad) (later whole' bad') = bad_unique bad bad'
 
 -- ---- the moving
@@ -202,7 +202,7 @@ Split bits words bytes s =
     ((items : List (List Item)) × (AreSwept bits words bytes items × IsItemsAnswer bits (all_placed words items) (all_spans words items) s))
     ⊎ ((at : ℕ) × ((error : DecodeError) × ((s ≡ BadCode at error) × IsBadAt bits words bytes 0 at error)))
 
-split : (wanted : Wanted) (bits : Bits) (words : List BlockWords) (bytes : List ℕ) (s : Status) → IsCodeAnswer wanted bits words bytes s → Split bits words bytes s
+split : (wanted : Wanted) (bits : Bits) (words : List BlockWords) (bytes : List ℕ) (s : Status) → IsMovingAnswer wanted bits words bytes s → Split bits words bytes s
 split wanted bits words bytes Done h = inl (h.1.items, (h.1.swept, (h.1.moved, h.1.is_moved)))
 split wanted bits words bytes (BadCode offset e) h = inr (offset, (e, (refl, h)))
 split wanted bits words bytes (TooMany count) h = inl (h.items, (h.swept, h.refused))
@@ -223,6 +223,6 @@ module _ (one : OneSweepFacts) (least_unique : (p : BlockPlan) → (a b : List �
       h.1.1.0 ∙ (ap (λ (n : ℕ). BadCode n h.1.0) same.0 ∙ (ap (BadCode k.0) same.1 ∙ sym k.1.1.0))
 
   -- **some bytes have one answer**
-  pub answer_unique : (wanted : Wanted) (bits : Bits) (words : List BlockWords) (bytes : List ℕ) (s t : Status) → IsCodeAnswer wanted bits words bytes s →
-      IsCodeAnswer wanted bits words bytes t → s ≡ t
+  pub answer_unique : (wanted : Wanted) (bits : Bits) (words : List BlockWords) (bytes : List ℕ) (s t : Status) → IsMovingAnswer wanted bits words bytes s →
+      IsMovingAnswer wanted bits words bytes t → s ≡ t
   answer_unique wanted bits words bytes s t h k = joined bits words bytes s t (split wanted bits words bytes s h) (split wanted bits words bytes t k)

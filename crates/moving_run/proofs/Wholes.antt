@@ -10,8 +10,8 @@ use Rattle.branch_sizes.specs.declared.plan.BlockSpan.{BlockSpan}
 use Rattle.branch_sizes.specs.Facts.{BlockFacts}
 use Rattle.move_goals.specs.Items.{no_item, IsPlaced, ArePlaced, AreSpansOf, first_below, passes, first_passing, is_in_order, first_disorder, block_old_end, first_old_pass}
 use Rattle.command_words.specs.declared.commands.BlockWords.{BlockWords}
-use Rattle.moving_run.specs.Code.{taken, left_by, IsInstruction, AreSwept, placed_in, all_placed, all_spans}
-use Rattle.moving_run.specs.Ends.{end_of, end_or, first_pass}
+use Rattle.moving_run.specs.Code.{next_block_bytes, left_by, IsInstruction, AreSwept, placed_in, all_placed, all_spans}
+use Rattle.moving_run.specs.Ends.{block_end, end_or, first_pass}
 use Rattle.moving_run.proofs.Order.{block_placed, block_chain, block_last, order_behind, end_behind, end_empty, end_last}
 use Rattle.moving_run.proofs.Blocks.{placed_length}
 
@@ -102,7 +102,7 @@ all_are_placed bits [] bytes (x ∷ items) swept = absurd swept
 all_are_placed bits (w ∷ ws) bytes [] swept = absurd swept
 all_are_placed bits (w ∷ ws) bytes (x ∷ items) swept =
     All-append (IsPlaced bits) (placed_in w.old x) (all_placed ws items)
-    (block_placed bits w.old 0 (taken w.len bytes) x [] swept.0 swept.1)
+    (block_placed bits w.old 0 (next_block_bytes w.len bytes) x [] swept.0 swept.1)
     (all_are_placed bits ws (left_by w.len bytes) items swept.2)
 
 -- each instruction is well placed
@@ -125,7 +125,7 @@ module _ (blocks : BlockFacts) where
   in_order bits (w ∷ ws) bytes (x ∷ items) swept k lt =
       let span : BlockSpan = record { count = length x; new_base = w.new } in
       order_behind span (all_spans ws items) (placed_in w.old x) (all_placed ws items) (placed_length w.old x swept.1) blocks
-      (block_chain bits w.old 0 (taken w.len bytes) x [] swept.0 swept.1)
+      (block_chain bits w.old 0 (next_block_bytes w.len bytes) x [] swept.0 swept.1)
       (in_order bits ws (left_by w.len bytes) items swept.2)
       k
       lt
@@ -139,23 +139,23 @@ module _ (blocks : BlockFacts) where
 
 -- the old end of the first block
 first_end : (bits : Bits) (w : BlockWords) (ws : List BlockWords) (bytes : List ℕ) (x : List Item) (items : List (List Item)) →
-    IsSweep bits w.old (taken w.len bytes) x → All IsInstruction x →
+    IsSweep bits w.old (next_block_bytes w.len bytes) x → All IsInstruction x →
     block_old_end (record { count = length x; new_base = w.new } ∷ all_spans ws items) (placed_in w.old x ++ all_placed ws items) 0
-    ≡ end_of w (length (taken w.len bytes))
+    ≡ block_end w (length (next_block_bytes w.len bytes))
 first_end bits w ws bytes [] items sweep all =
     let span : BlockSpan = record { count = 0; new_base = w.new } in
-    let n = length (taken w.len bytes) in
+    let n = length (next_block_bytes w.len bytes) in
     let none : (n == 0) ≡ true = eq-eqb n 0 (ap length sweep) in
     end_empty span (all_spans ws items) [] (all_placed ws items) refl refl ∙ sym (cond-true (n == 0) w.new (w.old + n) none)
 first_end bits w ws bytes (item ∷ x) items sweep all =
     let span : BlockSpan = record { count = suc (length x); new_base = w.new } in
-    let n = length (taken w.len bytes) in
+    let n = length (next_block_bytes w.len bytes) in
     let within = sweep.0.within in
     let some = sweep.0.some in
     let more : (n == 0) ≡ false = ne_eqb n 0 (λ e. omega arith) in
     let whole : w.old + 0 + n ≡ w.old + n = omega arith in
     end_last span (all_spans ws items) (placed_in w.old (item ∷ x)) (all_placed ws items) (placed_length w.old (item ∷ x) all) (length x) refl
-    ∙ (block_last bits w.old 0 (taken w.len bytes) item x sweep all
+    ∙ (block_last bits w.old 0 (next_block_bytes w.len bytes) item x sweep all
     ∙ (whole ∙ sym (cond-false (n == 0) w.new (w.old + n) more)))
 
 -- **the first old end that passes is the one that the lengths tell**
@@ -173,6 +173,6 @@ ends_are bits (w ∷ ws) bytes (x ∷ items) swept =
     let ends = block_old_end (span ∷ ss) (block ++ others) in
     passing_front bits ends (length ss)
     ∙ (ap (λ (end : ℕ). end_or bits end (first_passing bits (λ k. ends (suc k)) (length ss))) (first_end bits w ws bytes x items swept.0 swept.1)
-    ∙ ap (end_or bits (end_of w (length (taken w.len bytes))))
+    ∙ ap (end_or bits (block_end w (length (next_block_bytes w.len bytes))))
     (passing_same bits (λ k. ends (suc k)) (block_old_end ss others) (length ss) (end_behind span ss block others (placed_length w.old x swept.1))
     ∙ ends_are bits ws (left_by w.len bytes) items swept.2))

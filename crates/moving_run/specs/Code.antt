@@ -12,9 +12,9 @@ use Rattle.command_words.specs.declared.commands.BlockWords.{BlockWords}
 -- ---- the input of each block
 
 -- a block takes the next bytes, as many as its length says, or all that are left where these are fewer; without a length it takes the rest
-abbrev pub taken : Option ℕ → List ℕ → List ℕ
-taken None bytes = bytes
-taken (Some len) bytes = take len bytes
+abbrev pub next_block_bytes : Option ℕ → List ℕ → List ℕ
+next_block_bytes None bytes = bytes
+next_block_bytes (Some len) bytes = take len bytes
 
 -- the bytes behind those of a block
 abbrev pub left_by : Option ℕ → List ℕ → List ℕ
@@ -33,10 +33,10 @@ AreSwept bits [] bytes [] = Unit {0}
 AreSwept bits [] bytes (items ∷ more) = ⊥
 AreSwept bits (w ∷ ws) bytes [] = ⊥
 AreSwept bits (w ∷ ws) bytes (items ∷ more) =
-    IsSweep bits w.old (taken w.len bytes) items × All IsInstruction items × AreSwept bits ws (left_by w.len bytes) more
+    IsSweep bits w.old (next_block_bytes w.len bytes) items × All IsInstruction items × AreSwept bits ws (left_by w.len bytes) more
 
 -- the sweep of some bytes has its first single byte at an offset, with this error
-pub record StopsAt (bits : Bits) (base : ℕ) (bytes : List ℕ) (offset : ℕ) (error : DecodeError) : Type 0 where
+pub record BlockStopsAt (bits : Bits) (base : ℕ) (bytes : List ℕ) (offset : ℕ) (error : DecodeError) : Type 0 where
   pub items : List Item
   pub last : Item
   pub sweep : BeginsSweep bits base bytes (items ++ last ∷ [])
@@ -53,9 +53,9 @@ pub record IsWhole (bits : Bits) (base : ℕ) (bytes : List ℕ) : Type 0 where
 -- the first single byte of the blocks that begin at an offset of the input, counted from the front of the input
 pub data IsBadAt (bits : Bits) : List BlockWords → List ℕ → ℕ → ℕ → DecodeError → Type 0 where
   here : {w : BlockWords} {ws : List BlockWords} {bytes : List ℕ} {start offset : ℕ} {error : DecodeError}
-      → StopsAt bits w.old (taken w.len bytes) offset error → IsBadAt bits (w ∷ ws) bytes start (start + offset) error
+      → BlockStopsAt bits w.old (next_block_bytes w.len bytes) offset error → IsBadAt bits (w ∷ ws) bytes start (start + offset) error
   later : {w : BlockWords} {ws : List BlockWords} {bytes : List ℕ} {start at : ℕ} {error : DecodeError}
-      → IsWhole bits w.old (taken w.len bytes) → IsBadAt bits ws (left_by w.len bytes) (start + length (taken w.len bytes)) at error
+      → IsWhole bits w.old (next_block_bytes w.len bytes) → IsBadAt bits ws (left_by w.len bytes) (start + length (next_block_bytes w.len bytes)) at error
       → IsBadAt bits (w ∷ ws) bytes start at error
 
 -- ---- what is moved

@@ -3,11 +3,11 @@ use Rattle.std.specs.Prelude.{ℕ, ◌+◌, ◌==◌, if◌then◌else◌, List,
 use Rattle.x86_values.specs.declared.Bits.{Bits}
 use Rattle.move_goals.specs.Items.{passes}
 use Rattle.command_words.specs.declared.commands.BlockWords.{BlockWords}
-use Rattle.moving_run.specs.Code.{taken, left_by}
+use Rattle.moving_run.specs.Code.{next_block_bytes, left_by}
 
 -- the old end of a block that takes n bytes; that of an empty block is its new base
-abbrev pub end_of : BlockWords → ℕ → ℕ
-end_of w n = if n == 0 then w.new else w.old + n
+abbrev pub block_end : BlockWords → ℕ → ℕ
+block_end w n = if n == 0 then w.new else w.old + n
 
 -- an end, where it passes the address space, else another answer
 abbrev pub end_or : Bits → ℕ → Option ℕ → Option ℕ
@@ -16,4 +16,4 @@ end_or bits end other = if passes bits end then Some end else other
 -- the first old end of the blocks of some bytes that passes the address space
 abbrev pub first_pass : Bits → List BlockWords → List ℕ → Option ℕ
 first_pass bits [] bytes = None
-first_pass bits (w ∷ ws) bytes = end_or bits (end_of w (length (taken w.len bytes))) (first_pass bits ws (left_by w.len bytes))
+first_pass bits (w ∷ ws) bytes = end_or bits (block_end w (length (next_block_bytes w.len bytes))) (first_pass bits ws (left_by w.len bytes))

@@ -10,9 +10,9 @@ use Rattle.block_encoder.specs.Moved.{MovedLists, IsMoved}
 use Rattle.command_words.specs.declared.commands.BlockWords.{BlockWords}
 use Rattle.run_parts.specs.declared.status.Status.{Status}
 use Rattle.moving_run.specs.declared.moving.Wanted.{Wanted}
-use Rattle.moving_run.specs.Code.{IsInstruction, AreSwept, StopsAt, IsBadAt, placed_in, all_placed, all_spans}
+use Rattle.moving_run.specs.Code.{IsInstruction, AreSwept, BlockStopsAt, IsBadAt, placed_in, all_placed, all_spans}
 use Rattle.moving_run.specs.Ends.{first_pass}
-use Rattle.moving_run.specs.Moving.{IsReadBack, MovesInput, IsCodeAnswer}
+use Rattle.moving_run.specs.Moving.{IsMovedReadBack, MovesInput, IsMovingAnswer}
 
 -- the instructions of some input, and its first single byte
 pub record InputFacts : Type 0 where
@@ -20,9 +20,9 @@ pub record InputFacts : Type 0 where
       AreSwept bits words bytes b → a ≡ b
   -- bytes that are instructions alone have no single byte
   pub whole_stops : (bits : Bits) (base : ℕ) (bytes : List ℕ) (offset : ℕ) (error : DecodeError) (items : List Item) → IsSweep bits base bytes items →
-      All IsInstruction items → StopsAt bits base bytes offset error → ⊥
-  pub stops_unique : (bits : Bits) (base : ℕ) (bytes : List ℕ) (at at' : ℕ) (e f : DecodeError) → StopsAt bits base bytes at e →
-      StopsAt bits base bytes at' f → (at ≡ at') × (e ≡ f)
+      All IsInstruction items → BlockStopsAt bits base bytes offset error → ⊥
+  pub stops_unique : (bits : Bits) (base : ℕ) (bytes : List ℕ) (at at' : ℕ) (e f : DecodeError) → BlockStopsAt bits base bytes at e →
+      BlockStopsAt bits base bytes at' f → (at ≡ at') × (e ≡ f)
   pub swept_not_bad : (bits : Bits) (words : List BlockWords) (bytes : List ℕ) (start at : ℕ) (error : DecodeError) →
       IsBadAt bits words bytes start at error → (items : List (List Item)) → AreSwept bits words bytes items → ⊥
 
@@ -40,11 +40,11 @@ pub record PlacedFacts : Type 0 where
       MovesInput bits words bytes placed m → length m.forms ≡ length placed
 
 -- some input has one answer
-pub record AnswerFacts : Type 0 where
+pub record MovingAnswerFacts : Type 0 where
   pub answer_unique : (wanted : Wanted) (bits : Bits) (words : List BlockWords) (bytes : List ℕ) (s t : Status) →
-      IsCodeAnswer wanted bits words bytes s → IsCodeAnswer wanted bits words bytes t → s ≡ t
+      IsMovingAnswer wanted bits words bytes s → IsMovingAnswer wanted bits words bytes t → s ≡ t
 
 -- moved blocks are read as they were written
 pub record ReadBackFacts : Type 0 where
   pub reads_back : (bits : Bits) (items : List Placed) (spans : List BlockSpan) → AreSpansOf items spans → ArePlaced bits items →
-      (m : MovedLists) (moved : IsMoved bits items spans m) → IsReadBack bits items spans moved.layout
+      (m : MovedLists) (moved : IsMoved bits items spans m) → IsMovedReadBack bits items spans moved.layout

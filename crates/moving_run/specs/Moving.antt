@@ -28,7 +28,7 @@ wanted_text MapLines bits items m = map_lines bits items m.starts m.forms (lengt
 
 -- Moved blocks are read as they were written: of each block the sweep from its new base of the bytes before its gap gives the instructions of the images
 -- in order, with their lengths; each image stands at its place and goes to the goal of its item.
-pub record IsReadBack (bits : Bits) (items : List Placed) (spans : List BlockSpan) (layout : List ℕ) : Type 0 where
+pub record IsMovedReadBack (bits : Bits) (items : List Placed) (spans : List BlockSpan) (layout : List ℕ) : Type 0 where
   pub blocks : (b : ℕ) → b < length spans → IsReadAsImages bits items (plan_for bits spans items) layout b
   pub places : (k : ℕ) → k < length items → StandsAtPlace bits items (plan_for bits spans items) layout (block_number spans k) k
   pub goals : (k : ℕ) → k < length items → GoesToGoal bits items (plan_for bits spans items) layout (block_number spans k) k
@@ -39,11 +39,11 @@ pub record MovesCode (wanted : Wanted) (bits : Bits) (words : List BlockWords) (
   pub swept : AreSwept bits words bytes items
   pub moved : MovedLists
   pub is_moved : IsMoved bits (all_placed words items) (all_spans words items) moved
-  pub read_back : IsReadBack bits (all_placed words items) (all_spans words items) is_moved.layout
+  pub read_back : IsMovedReadBack bits (all_placed words items) (all_spans words items) is_moved.layout
   pub text_is : text ≡ wanted_text wanted bits (all_placed words items) moved
 
 -- the blocks of the input have instructions alone, and their moving is refused
-pub record RefusesCode (bits : Bits) (words : List BlockWords) (bytes : List ℕ) (why : Rattle.block_encoder.specs.declared.error.MoveError.MoveError) : Type 0 where
+pub record RefusesBlocks (bits : Bits) (words : List BlockWords) (bytes : List ℕ) (why : Rattle.block_encoder.specs.declared.error.MoveError.MoveError) : Type 0 where
   pub items : List (List Item)
   pub swept : AreSwept bits words bytes items
   pub refused : IsRefused bits (all_placed words items) (all_spans words items) why
@@ -56,27 +56,27 @@ pub record MovesInput (bits : Bits) (words : List BlockWords) (bytes : List ℕ)
   pub is_moved : IsMoved bits (all_placed words items) (all_spans words items) m
 
 -- a status that tells why the blocks of the input are not moved
-abbrev pub IsRefusal : Bits → List BlockWords → List ℕ → Status → Type 0
-IsRefusal bits words bytes Memory = Unit {0}
-IsRefusal bits words bytes (BadCode offset error) = IsBadAt bits words bytes 0 offset error
-IsRefusal bits words bytes (TooMany count) = RefusesCode bits words bytes (error.TooMany count)
-IsRefusal bits words bytes (Wraps end) = RefusesCode bits words bytes (error.Wraps end)
-IsRefusal bits words bytes (TooFar at target) = RefusesCode bits words bytes (error.TooFar at target)
-IsRefusal bits words bytes _ = ⊥
+abbrev pub IsMovingRefusal : Bits → List BlockWords → List ℕ → Status → Type 0
+IsMovingRefusal bits words bytes Memory = Unit {0}
+IsMovingRefusal bits words bytes (BadCode offset error) = IsBadAt bits words bytes 0 offset error
+IsMovingRefusal bits words bytes (TooMany count) = RefusesBlocks bits words bytes (error.TooMany count)
+IsMovingRefusal bits words bytes (Wraps end) = RefusesBlocks bits words bytes (error.Wraps end)
+IsMovingRefusal bits words bytes (TooFar at target) = RefusesBlocks bits words bytes (error.TooFar at target)
+IsMovingRefusal bits words bytes _ = ⊥
 
 -- the answer for some input: a status, and what is written at Done
-abbrev pub IsCodeAnswer : Wanted → Bits → List BlockWords → List ℕ → Status → Type 0
-IsCodeAnswer wanted bits words bytes Done = (text : List ℕ) × MovesCode wanted bits words bytes text
-IsCodeAnswer wanted bits words bytes (BadCode offset error) = IsBadAt bits words bytes 0 offset error
-IsCodeAnswer wanted bits words bytes (TooMany count) = RefusesCode bits words bytes (error.TooMany count)
-IsCodeAnswer wanted bits words bytes (Wraps end) = RefusesCode bits words bytes (error.Wraps end)
-IsCodeAnswer wanted bits words bytes (TooFar at target) = RefusesCode bits words bytes (error.TooFar at target)
-IsCodeAnswer wanted bits words bytes _ = ⊥
+abbrev pub IsMovingAnswer : Wanted → Bits → List BlockWords → List ℕ → Status → Type 0
+IsMovingAnswer wanted bits words bytes Done = (text : List ℕ) × MovesCode wanted bits words bytes text
+IsMovingAnswer wanted bits words bytes (BadCode offset error) = IsBadAt bits words bytes 0 offset error
+IsMovingAnswer wanted bits words bytes (TooMany count) = RefusesBlocks bits words bytes (error.TooMany count)
+IsMovingAnswer wanted bits words bytes (Wraps end) = RefusesBlocks bits words bytes (error.Wraps end)
+IsMovingAnswer wanted bits words bytes (TooFar at target) = RefusesBlocks bits words bytes (error.TooFar at target)
+IsMovingAnswer wanted bits words bytes _ = ⊥
 
 -- a refusal of the code, after which nothing was written
-abbrev pub RefusesAs : Wanted → Bits → List BlockWords → Option (List ℕ) → Option (List ℕ) → Option (List ℕ) → Option (List ℕ) → Status → Type 0
-RefusesAs wanted bits words left left' held held' status =
-    ((bytes : List ℕ) × (ReadsAll whole_limit left left' bytes × IsCodeAnswer wanted bits words bytes status)) × (held' ≡ held)
+abbrev pub RefusesMoving : Wanted → Bits → List BlockWords → Option (List ℕ) → Option (List ℕ) → Option (List ℕ) → Option (List ℕ) → Status → Type 0
+RefusesMoving wanted bits words left left' held held' status =
+    ((bytes : List ℕ) × (ReadsAll whole_limit left left' bytes × IsMovingAnswer wanted bits words bytes status)) × (held' ≡ held)
 
 -- a command that moves code, by its status: when each may come, and what was written then
 abbrev pub MovesAs : Wanted → Bits → List BlockWords → Option (List ℕ) → Option (List ℕ) → Option (List ℕ) → Option (List ℕ) → Type 0 → Type 0 → Status → Type 0
@@ -91,17 +91,17 @@ MovesAs wanted bits words left left' held held' source_rose out_rose Memory = he
 MovesAs wanted bits words left left' held held' source_rose out_rose (TooLarge limit) =
     (limit ≡ whole_limit) × (((bytes : List ℕ) × ReadsTooMany whole_limit left left' bytes) × (held' ≡ held))
 MovesAs wanted bits words left left' held held' source_rose out_rose (BadCode offset error) =
-    RefusesAs wanted bits words left left' held held' (BadCode offset error)
+    RefusesMoving wanted bits words left left' held held' (BadCode offset error)
 MovesAs wanted bits words left left' held held' source_rose out_rose (TooMany count) =
-    RefusesAs wanted bits words left left' held held' (TooMany count)
-MovesAs wanted bits words left left' held held' source_rose out_rose (Wraps end) = RefusesAs wanted bits words left left' held held' (Wraps end)
+    RefusesMoving wanted bits words left left' held held' (TooMany count)
+MovesAs wanted bits words left left' held held' source_rose out_rose (Wraps end) = RefusesMoving wanted bits words left left' held held' (Wraps end)
 MovesAs wanted bits words left left' held held' source_rose out_rose (TooFar at target) =
-    RefusesAs wanted bits words left left' held held' (TooFar at target)
+    RefusesMoving wanted bits words left left' held held' (TooFar at target)
 MovesAs wanted bits words left left' held held' source_rose out_rose _ = ⊥
 
 -- Such a command that meets no fault answers what the code says, or wants memory; above the limit it says so, or wants memory.
 abbrev pub CompletesMoving : Wanted → Bits → List BlockWords → Option (List ℕ) → Status → Type 0
 CompletesMoving wanted bits words (Some bytes) status =
-    (length bytes ≤ whole_limit → (answer : Status) → IsCodeAnswer wanted bits words bytes answer → (status ≡ answer) ⊎ (status ≡ Memory))
+    (length bytes ≤ whole_limit → (answer : Status) → IsMovingAnswer wanted bits words bytes answer → (status ≡ answer) ⊎ (status ≡ Memory))
     × (whole_limit < length bytes → (status ≡ TooLarge whole_limit) ⊎ (status ≡ Memory))
 CompletesMoving wanted bits words None status = ((status ≡ ReadFault) ⊎ (status ≡ WriteFault)) → ⊥

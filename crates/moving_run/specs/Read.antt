@@ -7,7 +7,7 @@ use Rattle.command_words.specs.declared.commands.BlockWords.{BlockWords}
 use Rattle.moving_run.specs.declared.code.Code.{Code}
 use Rattle.moving_run.specs.declared.code.CodeError.{CodeError}
 use Rattle.moving_run.specs.declared.code.CodeError.TheVariants.{BadCode, Memory}
-use Rattle.moving_run.specs.Code.{IsInstruction, AreSwept, StopsAt, IsBadAt, placed_in, all_placed, all_spans}
+use Rattle.moving_run.specs.Code.{IsInstruction, AreSwept, BlockStopsAt, IsBadAt, placed_in, all_placed, all_spans}
 use Rattle.moving_run.specs.Ends.{first_pass}
 
 -- the instructions that are moved together: the first of them
@@ -26,7 +26,7 @@ pub record ReadsBlock (bits : Bits) (base : ℕ) (bytes : List ℕ) (before afte
 -- why a block is not read whose first byte is the one of this number of the input
 abbrev pub IsBlockError : Bits → ℕ → ℕ → List ℕ → CodeError → Type 0
 IsBlockError bits base start bytes Memory = Unit {0}
-IsBlockError bits base start bytes (BadCode offset error) = (n : ℕ) × (StopsAt bits base bytes n error × (offset ≡ start + n))
+IsBlockError bits base start bytes (BadCode offset error) = (n : ℕ) × (BlockStopsAt bits base bytes n error × (offset ≡ start + n))
 
 -- The instructions of all blocks were read. They have their old addresses where no old end passes the address space.
 pub record IsCode (bits : Bits) (words : List BlockWords) (bytes : List ℕ) (code : Code) : Type 0 where

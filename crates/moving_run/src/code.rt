@@ -1,7 +1,7 @@
 //! The input cut into blocks, and the instructions of each.
 
 ghost use Rattle.std.specs.Prelude.{◌≡◌, ◌≤◌, ◌+◌, ◌++◌, ◌∷◌, [], length, vec_len, IfOk, OnOk, MatchResult};
-ghost use Rattle.moving_run.specs.Code.{taken, left_by};
+ghost use Rattle.moving_run.specs.Code.{next_block_bytes, left_by};
 ghost use Rattle.moving_run.specs.Ends as end_spec;
 ghost use Rattle.moving_run.specs.Read as spec;
 
@@ -49,7 +49,7 @@ impl From<AllocError> for CodeError {
 
 /// The bytes of a block at the front of some bytes, and those behind them.
 fn cut(len: Option<u64>, bytes: &[u8]) -> (&[u8], &[u8])
-    ensures block { result.0.now ≡ taken len bytes.now }
+    ensures block { result.0.now ≡ next_block_bytes len bytes.now }
     ensures rest { result.1.now ≡ left_by len bytes.now }
 {
     match len {
@@ -60,7 +60,7 @@ fn cut(len: Option<u64>, bytes: &[u8]) -> (&[u8], &[u8])
 
 /// The old end of a block that takes `len` bytes. That of an empty block is its new base.
 fn end_of(word: &BlockWords, len: usize) -> u128
-    ensures { result ≡ end_spec.end_of word.now len }
+    ensures { result ≡ end_spec.block_end word.now len }
 {
     if len == 0 {
         u128::from(word.new)

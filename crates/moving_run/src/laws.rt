@@ -1,6 +1,6 @@
 //! What holds of all code that is moved.
 
-ghost use Rattle.moving_run.specs.Facts.{InputFacts, PlacedFacts, AnswerFacts, ReadBackFacts};
+ghost use Rattle.moving_run.specs.Facts.{InputFacts, PlacedFacts, MovingAnswerFacts, ReadBackFacts};
 
 use block_encoder::laws::moved_blocks_keep_their_laws;
 use branch_sizes::laws::least_is_unique;
@@ -23,7 +23,7 @@ pub fn instructions_are_placed()
 /// Some input has one answer: the same refusal, or moved blocks.
 #[inline]
 pub fn inputs_have_one_answer()
-    ensures { AnswerFacts }
+    ensures { MovingAnswerFacts }
 {
     sweeps_agree();
     least_is_unique();

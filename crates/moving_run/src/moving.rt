@@ -46,7 +46,7 @@ pub fn move_input(
 ) -> Result<MovedCode, Status>
     requires few { length words.now ≤ 16 }
     requires short { length input.now ≤ 1048576 }
-    ensures { MatchResult result (λ m. spec.MovesInput bits words.now input.now m.items.items m.blocks) (λ status. spec.IsRefusal bits words.now input.now status) }
+    ensures { MatchResult result (λ m. spec.MovesInput bits words.now input.now m.items.items m.blocks) (λ status. spec.IsMovingRefusal bits words.now input.now status) }
 {
     blocks_have_all_items();
     let Code {

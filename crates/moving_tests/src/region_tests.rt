@@ -1,13 +1,13 @@
 //! Whole scenarios: requests to a region, and what they answer.
 
 ghost use Rattle.std.specs.Prelude.{◌≡◌, IfOk};
-ghost use Rattle.code_region.specs.Opening.{opened};
+ghost use Rattle.code_region.specs.Opening.{empty_region};
 
 use code_region::{Command, NotTaken, OpenError, PlaceError, Region, Reply, replay};
 use std::test::Fail;
 
 fn region_of(rt: &HostRuntime, base: u64, size: u64, max_blocks: u64) -> Result<Region, OpenError>
-    ensures { IfOk result (λ region. region ≡ opened base size max_blocks) }
+    ensures { IfOk result (λ region. region ≡ empty_region base size max_blocks) }
 {
     Region::make(rt.alloc(), base, size, max_blocks)
 }

@@ -5,7 +5,7 @@ use Rattle.std.proofs.lemmas.Option.{unwrap_or-slice_get}
 use Rattle.std.proofs.lemmas.List.Sums.{count_by_more_yes, count_by_more_no, sum_by-take-le}
 use Rattle.opcode_rows.specs.declared.generated_spots.TheConstants.{ROWS}
 use Rattle.opcode_rows.specs.Table.{names, name_of}
-use Rattle.opcode_rows.specs.ByName.{count_of, rows_named, rows_named_before}
+use Rattle.opcode_rows.specs.ByName.{count_named, rows_named, rows_named_before}
 use Rattle.opcode_rows.proofs.Words.{length-names}
 
 -- what a test of the name of a code says of the code's index in the list
@@ -33,4 +33,4 @@ take-all (x ∷ xs) (suc k) le = ap (λ ys. x ∷ ys) (take-all xs k (omega arit
 
 -- all rows stand before the end
 pub before-all : (name : List ℕ) (k : ℕ) → ROWS ≤ k → rows_named_before name k ≡ rows_named name
-before-all name k le = ap (count_of name) (take-all names k (omega (arith, le, length-names)))
+before-all name k le = ap (count_named name) (take-all names k (omega (arith, le, length-names)))

@@ -1,6 +1,6 @@
 -- The rows of each cell are a run of codes.
 use Rattle.std.proofs.Common.{◌≡◌, ℕ, Bool, true, refl, List, is_some, ◌+◌, ◌<◌, ◌≤◌, length, ◌-◌, arith}
-use Rattle.row_fields.specs.Candidates.{coded, of_number, at_opcode, below, is_run}
+use Rattle.row_fields.specs.Candidates.{rows_with_codes, of_number, at_opcode, below, is_run}
 use Rattle.row_fields.proofs.Cands.{below-at}
 use Rattle.std.specs.Prelude.{Option, None, Some}
 use Rattle.std.proofs.lemmas.Option.{slice_get_within}
@@ -8,7 +8,7 @@ use Rattle.row_types.specs.declared.RowKind.{RowKind}
 use Rattle.row_types.specs.declared.RowKind.TheVariants as kind
 use Rattle.row_types.specs.declared.Map.{Map}
 use Rattle.row_lists.specs.declared.Span.{Span}
-use Rattle.row_lists.specs.Cells.{map_index, span_of, IsRunOf}
+use Rattle.row_lists.specs.Cells.{map_index, cell_span, IsRunOf}
 use Rattle.row_lists.specs.Runs.{run_at, line_runs, spans_fit}
 use Rattle.row_lists.proofs.Runs.{map_index-lt, length-cell, row-of_span, run-of_span}
 use Rattle.rows_integer.specs.Table.{table as integer_rows, flat_rows as integer_flat}
@@ -16,58 +16,58 @@ use Rattle.rows_x87.specs.Table.{table as x87_rows, flat_rows as x87_flat}
 use Rattle.rows_sse.specs.Table.{table as sse_rows, flat_rows as sse_flat}
 use Rattle.rows_vex.specs.Table.{table as vex_rows, flat_rows as vex_flat}
 use Rattle.opcode_rows.specs.declared.generated_spots.TheConstants.{ROWS}
-use Rattle.opcode_rows.specs.Table.{spots, rows_in, table, cell, legacy_spans, vex_spans, spans_of}
+use Rattle.opcode_rows.specs.Table.{spots, rows_in, table, cell, legacy_spans, vex_spans, table_spans}
 use Rattle.opcode_rows.proofs.JoinFacts.{length-table}
 
 legacy_runs : spans_fit kind.Legacy legacy_spans table ≡ true
-unfolding coded of_number at_opcode below is_run run_at line_runs spans_fit span_of legacy_spans table rows_in spots integer_rows integer_flat x87_rows x87_flat sse_rows sse_flat vex_rows vex_flat
+unfolding rows_with_codes of_number at_opcode below is_run run_at line_runs spans_fit cell_span legacy_spans table rows_in spots integer_rows integer_flat x87_rows x87_flat sse_rows sse_flat vex_rows vex_flat
 legacy_runs = refl
 
 vex_runs : spans_fit kind.Vex vex_spans table ≡ true
-unfolding coded of_number at_opcode below is_run run_at line_runs spans_fit span_of vex_spans table rows_in spots integer_rows integer_flat x87_rows x87_flat sse_rows sse_flat vex_rows vex_flat
+unfolding rows_with_codes of_number at_opcode below is_run run_at line_runs spans_fit cell_span vex_spans table rows_in spots integer_rows integer_flat x87_rows x87_flat sse_rows sse_flat vex_rows vex_flat
 vex_runs = refl
 
-runs_of : (k : RowKind) → spans_fit k (spans_of k) table ≡ true
+runs_of : (k : RowKind) → spans_fit k (table_spans k) table ≡ true
 runs_of kind.Legacy = legacy_runs
 runs_of kind.Vex = vex_runs
 
-pub length-cell_at : (k : RowKind) (m : Map) (op : ℕ) (s : Span) → op < 256 → span_of (spans_of k) (map_index m) op ≡ Some s → length (cell k m op) ≡ s.count
-length-cell_at k m op s byte at = length-cell k m op (spans_of k) table s (runs_of k) byte at
+pub length-cell_at : (k : RowKind) (m : Map) (op : ℕ) (s : Span) → op < 256 → cell_span (table_spans k) (map_index m) op ≡ Some s → length (cell k m op) ≡ s.count
+length-cell_at k m op s byte at = length-cell k m op (table_spans k) table s (runs_of k) byte at
 
-pub run-cell_at : (k : RowKind) (m : Map) (op : ℕ) (s : Span) → op < 256 → span_of (spans_of k) (map_index m) op ≡ Some s
+pub run-cell_at : (k : RowKind) (m : Map) (op : ℕ) (s : Span) → op < 256 → cell_span (table_spans k) (map_index m) op ≡ Some s
     → IsRunOf table k m op s.first (length (cell k m op))
 run-cell_at k m op s byte at =
-    rw (length-cell_at k m op s byte at) (run-of_span k m op (spans_of k) table s (runs_of k) byte at)
+    rw (length-cell_at k m op s byte at) (run-of_span k m op (table_spans k) table s (runs_of k) byte at)
 
 -- a cell that has rows ends within the table
-pub cell-within : (k : RowKind) (m : Map) (op : ℕ) (s : Span) → op < 256 → span_of (spans_of k) (map_index m) op ≡ Some s
+pub cell-within : (k : RowKind) (m : Map) (op : ℕ) (s : Span) → op < 256 → cell_span (table_spans k) (map_index m) op ≡ Some s
     → 0 < s.count → s.first + length (cell k m op) ≤ ROWS
 cell-within k m op s byte at some =
     let count : length (cell k m op) ≡ s.count = length-cell_at k m op s byte at in
     let lt : s.count - 1 < length (cell k m op) = omega (arith, count, some) in
-    let t = row-of_span k m op (spans_of k) table s (runs_of k) byte at (s.count - 1) lt in
+    let t = row-of_span k m op (table_spans k) table s (runs_of k) byte at (s.count - 1) lt in
     let within : s.first + (s.count - 1) < length table = slice_get_within table (s.first + (s.count - 1)) t.0 t.2 in
     omega (arith, within, length-table, count, some)
 
 -- each map has a line of spans, each line a span of each opcode byte
 
 unfoldable has_span : List (List Span) → ℕ → ℕ → Bool
-unfolding span_of
-has_span spans line op = is_some (span_of spans line op)
+unfolding cell_span
+has_span spans line op = is_some (cell_span spans line op)
 
 unfoldable has_spans : List (List Span) → Bool
 unfolding below has_span
 has_spans spans = below 4 (λ line. below 256 (λ op. has_span spans line op))
 
 legacy_has_spans : has_spans legacy_spans ≡ true
-unfolding below has_span has_spans span_of legacy_spans
+unfolding below has_span has_spans cell_span legacy_spans
 legacy_has_spans = refl
 
 vex_has_spans : has_spans vex_spans ≡ true
-unfolding below has_span has_spans span_of vex_spans
+unfolding below has_span has_spans cell_span vex_spans
 vex_has_spans = refl
 
-each_has_spans : (k : RowKind) → has_spans (spans_of k) ≡ true
+each_has_spans : (k : RowKind) → has_spans (table_spans k) ≡ true
 each_has_spans kind.Legacy = legacy_has_spans
 each_has_spans kind.Vex = vex_has_spans
 
@@ -76,13 +76,13 @@ some-known None h = cc
 some-known (Some s) h = (s, refl)
 
 -- the span of a cell
-pub span-known : (k : RowKind) (m : Map) (op : ℕ) → op < 256 → (s : Span) × (span_of (spans_of k) (map_index m) op ≡ Some s)
+pub span-known : (k : RowKind) (m : Map) (op : ℕ) → op < 256 → (s : Span) × (cell_span (table_spans k) (map_index m) op ≡ Some s)
 unfolding has_span has_spans
 span-known k m op byte =
-    let line : below 256 (λ o. has_span (spans_of k) (map_index m) o) ≡ true =
-    below-at 4 (λ l. below 256 (λ o. has_span (spans_of k) l o)) (map_index m) (each_has_spans k) (map_index-lt m)
+    let line : below 256 (λ o. has_span (table_spans k) (map_index m) o) ≡ true =
+    below-at 4 (λ l. below 256 (λ o. has_span (table_spans k) l o)) (map_index m) (each_has_spans k) (map_index-lt m)
     in
-    some-known (span_of (spans_of k) (map_index m) op) (below-at 256 (λ o. has_span (spans_of k) (map_index m) o) op line byte)
+    some-known (cell_span (table_spans k) (map_index m) op) (below-at 256 (λ o. has_span (table_spans k) (map_index m) o) op line byte)
 
 pub run-cell : (k : RowKind) (m : Map) (op : ℕ) → op < 256 → (first : ℕ) × IsRunOf table k m op first (length (cell k m op))
 run-cell k m op byte = let s = span-known k m op byte in (s.0.first, run-cell_at k m op s.0 byte s.1)

@@ -13,11 +13,11 @@ use Rattle.opcode_rows.specs.declared.spot.Part.{Part}
 use Rattle.opcode_rows.specs.declared.spot.Part.TheVariants as part
 use Rattle.opcode_rows.specs.declared.generated_spots.TheConstants.{ROWS}
 use Rattle.opcode_rows.specs.Table.{part_table, table, names, name_of}
-use Rattle.opcode_rows.specs.Words.{is_name_byte, is_name, is_long, has_one_long_kind}
+use Rattle.opcode_rows.specs.Words.{is_name_byte, is_name, is_long_method, has_one_long_kind}
 use Rattle.opcode_rows.proofs.JoinFacts.{all_rows, in_each_part}
 
 each-long : (p : Part) → all_rows has_one_long_kind (part_table p) ≡ true
-unfolding all_rows has_one_long_kind is_long method_of integer_rows integer_flat x87_rows x87_flat sse_rows sse_flat vex_rows vex_flat
+unfolding all_rows has_one_long_kind is_long_method method_of integer_rows integer_flat x87_rows x87_flat sse_rows sse_flat vex_rows vex_flat
 each-long part.Integer = refl
 each-long part.X87 = refl
 each-long part.Sse = refl

@@ -81,6 +81,6 @@ unfoldable pub vex_spans : List (List Span)
 vex_spans = VEX_SPANS
 
 -- where the rows of each cell of a kind lie
-abbrev pub spans_of : RowKind → List (List Span)
-spans_of kind.Legacy = legacy_spans
-spans_of kind.Vex = vex_spans
+abbrev pub table_spans : RowKind → List (List Span)
+table_spans kind.Legacy = legacy_spans
+table_spans kind.Vex = vex_spans

@@ -15,14 +15,14 @@ unfoldable pub is_name : List ℕ → Bool
 is_name bytes = nat_lt 0 (length bytes) && (nat_le (length bytes) 16 && list_all is_name_byte bytes)
 
 -- the operand is memory or a far pointer, or can be memory
-unfoldable pub is_long : Method → Bool
-is_long method.RegisterOrMemory = true
-is_long method.MemoryOnly = true
-is_long method.Gather = true
-is_long method.Offset = true
-is_long method.Pointer = true
-is_long _ = false
+unfoldable pub is_long_method : Method → Bool
+is_long_method method.RegisterOrMemory = true
+is_long_method method.MemoryOnly = true
+is_long_method method.Gather = true
+is_long_method method.Offset = true
+is_long_method method.Pointer = true
+is_long_method _ = false
 
 -- at most one operand of the row is such
 unfoldable pub has_one_long_kind : Row → Bool
-has_one_long_kind row = at_most_one is_long row
+has_one_long_kind row = at_most_one is_long_method row

@@ -9,7 +9,7 @@ ghost use Rattle.row_types.specs.declared.Map.{Map};
 ghost use Rattle.row_fit.specs.Sound.{sound};
 ghost use Rattle.plain_spelling.specs.Writable.{writable};
 ghost use Rattle.row_fields.specs.declared.Fields.{Fields};
-ghost use Rattle.row_fields.specs.Holds.{AreApart};
+ghost use Rattle.row_fields.specs.Holds.{RowsAreApart};
 ghost use Rattle.row_lists.specs.Cells.{IsRunOf, stands_in_cell};
 ghost use Rattle.row_relation.specs.Spells.{ReadsAs, Reading, Invalid, IsReading};
 ghost use Rattle.version1_rows.specs.Table.{table as first_rows, names as first_names};
@@ -58,7 +58,7 @@ pub fn rows_are_writable()
 
 /// In each mode and on all values of the nine fields, two rows whose conditions hold are one row.
 pub fn rows_are_apart()
-    ensures { (bits : Bits) (f : Fields) → f.opcode < 256 → AreApart bits table f }
+    ensures { (bits : Bits) (f : Fields) → f.opcode < 256 → RowsAreApart bits table f }
 {}
 
 /// The rows of each cell have consecutive codes.

@@ -14,8 +14,8 @@ mod names;
 mod spot;
 
 ghost use Rattle.std.specs.Prelude.{◌≡◌, ◌+◌, ◌<◌, ◌≤◌, ◌↔◌, length, map, slice_get, Some, IfSome, IsNone};
-ghost use Rattle.row_lists.specs.Cells.{map_index, span_of, IsRunOf};
-ghost use Rattle.opcode_rows.specs.Table.{part_table, spots, table, name_of, cell, spans_of};
+ghost use Rattle.row_lists.specs.Cells.{map_index, cell_span, IsRunOf};
+ghost use Rattle.opcode_rows.specs.Table.{part_table, spots, table, name_of, cell, table_spans};
 
 pub use by_name::code_of;
 pub use form::well_formed;
@@ -140,14 +140,14 @@ fn common_row(spot: Spot) -> Row
 
 /// Where the rows of a cell lie: the code of the first, and how many there are.
 fn span_at(kind: RowKind, map: Map, opcode: u8) -> Span
-    ensures { span_of (spans_of kind) (map_index map) opcode ≡ Some result }
+    ensures { cell_span (table_spans kind) (map_index map) opcode ≡ Some result }
 {
     span_in(kind_spans(kind), map, opcode)
 }
 
 /// Where the rows of each cell of a kind lie.
 fn kind_spans(kind: RowKind) -> &'static [[Span; 256]; 4]
-    ensures { result.now ≡ spans_of kind }
+    ensures { result.now ≡ table_spans kind }
 {
     match kind {
         RowKind::Legacy => &LEGACY_SPANS,

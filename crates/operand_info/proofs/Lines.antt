@@ -14,7 +14,7 @@ use Rattle.opcode_rows.proofs.JoinFacts.{length-table}
 use Rattle.opcode_rows.specs.Table.{spots, rows_in, table, names, name_of}
 use Rattle.operand_info.specs.declared.columns.Columns.{Columns}
 use Rattle.operand_info.specs.Names.{legacy_name, is_jump, is_call, is_conditional, is_return, is_system_call, is_interrupt, is_undefined, is_hint, is_exchange, is_masked_move, is_multiply_add, is_merging, is_half_move, is_mulx, is_imul, is_integer_reader, is_x87_reader, is_vector_reader, is_vector_test, is_x87_writer, is_writing_family, is_integer_writer, is_vector_writer, is_address_only}
-use Rattle.operand_info.specs.Columns.{has_operand, has_direct_target, is_gather, writes_vector_memory, loads_vector, is_x87_memory, flow_at, updates_first, reads_first, writes_first, first_access, second_access, third_access, access_at}
+use Rattle.operand_info.specs.Columns.{has_operand, has_direct_target, is_gather_row, writes_vector_memory, loads_vector, is_x87_memory, flow_at, updates_first, reads_first, writes_first, first_access, second_access, third_access, access_at}
 use Rattle.operand_info.specs.ByCode.{flow_in, access_in, memory_size_in, flow_of, access_of, memory_size as memory_size_of}
 use Rattle.operand_info.specs.Lines.{columns}
 
@@ -36,7 +36,7 @@ lines_of (name ∷ ns) [] = []
 lines_of (name ∷ ns) (row ∷ rows) = line_of name row ∷ lines_of ns rows
 
 by_rule : lines_of names table ≡ columns
-unfolding lines_of columns names table rows_in spots integer_rows integer_flat x87_rows x87_flat sse_rows sse_flat vex_rows vex_flat memory_width row_size_bytes has_w vector_bytes width_in_row size_at memory_size legacy_name is_jump is_call is_conditional is_return is_system_call is_interrupt is_undefined is_hint is_exchange is_masked_move is_multiply_add is_merging is_half_move is_mulx is_imul is_integer_reader is_x87_reader is_vector_reader is_vector_test is_x87_writer is_writing_family is_integer_writer is_vector_writer is_address_only has_operand has_direct_target is_gather writes_vector_memory loads_vector is_x87_memory flow_at updates_first reads_first writes_first first_access second_access third_access access_at
+unfolding lines_of columns names table rows_in spots integer_rows integer_flat x87_rows x87_flat sse_rows sse_flat vex_rows vex_flat memory_width row_size_bytes has_w vector_bytes width_in_row size_at memory_size legacy_name is_jump is_call is_conditional is_return is_system_call is_interrupt is_undefined is_hint is_exchange is_masked_move is_multiply_add is_merging is_half_move is_mulx is_imul is_integer_reader is_x87_reader is_vector_reader is_vector_test is_x87_writer is_writing_family is_integer_writer is_vector_writer is_address_only has_operand has_direct_target is_gather_row writes_vector_memory loads_vector is_x87_memory flow_at updates_first reads_first writes_first first_access second_access third_access access_at
 by_rule = refl
 
 -- the line at a code, where the row of the code and a name stand

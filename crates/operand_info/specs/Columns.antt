@@ -23,8 +23,8 @@ unfoldable pub has_direct_target : Row → Bool
 has_direct_target row = elim (kind_at row 0) [ Jb ↦ true | Jz ↦ true | Ap ↦ true | _ ↦ false ]
 
 -- the second operand is the address of a gather (2.3.12)
-unfoldable pub is_gather : Row → Bool
-is_gather row = elim (kind_at row 1) [ GatherX ↦ true | GatherL ↦ true | _ ↦ false ]
+unfoldable pub is_gather_row : Row → Bool
+is_gather_row row = elim (kind_at row 1) [ GatherX ↦ true | GatherL ↦ true | _ ↦ false ]
 
 -- the first operand is memory of a vector's size
 unfoldable pub writes_vector_memory : Row → Bool
@@ -60,7 +60,7 @@ flow_at name row =
 -- destinations of SSE whose upper part or other half stays
 unfoldable pub updates_first : List ℕ → Row → Bool
 updates_first name row =
-    is_exchange name || is_gather row || (is_masked_move name && writes_vector_memory row) || is_multiply_add name
+    is_exchange name || is_gather_row row || (is_masked_move name && writes_vector_memory row) || is_multiply_add name
     || (not (is_vex_row row) && (is_merging name || (is_half_move name && loads_vector row)))
 
 -- the first operand is only read; VEX forms go by their legacy names
@@ -97,7 +97,7 @@ second_access name row =
 
 -- the third operand is only read, but for the mask of a gather, which it clears
 unfoldable pub third_access : Row → Access
-third_access row = if is_gather row then ReadWrite else Read
+third_access row = if is_gather_row row then ReadWrite else Read
 
 -- what an instruction of the row does to the whole of operand n, which the row has
 abbrev pub access_by_place : List ℕ → Row → ℕ → Access

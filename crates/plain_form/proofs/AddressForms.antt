@@ -15,7 +15,8 @@ use Rattle.instruction_parts.specs.Counting.{is_64}
 use Rattle.row_fit.specs.Fits.{full_displacement, is_vvvv}
 use Rattle.row_fit.specs.Sound.{reads_reg, reads_rm}
 use Rattle.plain_spelling.specs.Values.{is_extended_of}
-use Rattle.plain_spelling.specs.Forms.{operand_at, is_memory}
+use Rattle.x86_values.specs.Operands.{is_memory}
+use Rattle.plain_spelling.specs.Forms.{operand_at}
 use Rattle.plain_spelling.specs.Expressible.{has_memory_operand}
 use Rattle.plain_spelling.specs.Writable.{is_vector_file, names_vectors}
 use Rattle.plain_form.proofs.AddressCases.{impossible}

@@ -23,7 +23,7 @@ use Rattle.instruction_parts.specs.Sizes.{state_address_size, size_bytes}
 use Rattle.row_fit.specs.Fits.{kind_at, reads_by, reads_mode, is_offset, is_any_mode, address_fits, needs_sib, displacement_bytes, is_displacement_alone, sib_in_range, same_bool}
 use Rattle.row_fit.specs.Sound.{Sound, reads_rm, has_modrm_rule}
 use Rattle.plain_spelling.specs.Forms.{operand_at, is_variant_of, is_allowed_in}
-use Rattle.plain_spelling.specs.PlainFront.{number_in_reg, asked, plain_front_of}
+use Rattle.plain_spelling.specs.PlainFront.{number_in_reg, number_asked_of, plain_front_of}
 use Rattle.plain_spelling.specs.declared.addresses.AddressFields.{AddressFields}
 use Rattle.plain_spelling.specs.Addresses.{displacement_count, address_fields}
 use Rattle.plain_spelling.specs.PlainTail.{modrm_with, no_address, lone_mode, rm_fields, fields_of, plain_modrm, plain_sib_of, operand_displacement, rm_operand, address_operand}
@@ -266,8 +266,8 @@ without_rm bits ip row i g none = go row.modrm refl
     go : (rule : ModRmRule) → row.modrm ≡ rule → TailFits (state_address_size bits (plain_front_of bits row i)) bits row i
     go NoModRm e = fits_by (state_address_size bits (plain_front_of bits row i)) bits row i None None (operand_displacement (address_operand row i)) (modrm_none bits row i e) sib refl (absolute_fits (state_address_size bits (plain_front_of bits row i)) row (operand_displacement (address_operand row i)) count) none_in_range
     go AnyModRm e =
-        bare_by (state_address_size bits (plain_front_of bits row i)) bits row i (modrm_with (asked number_in_reg row i % 8) (no_address (lone_mode row.place) 0))
-        (modrm_any bits row i e ∙ ap (λ (x : AddressFields). Some (modrm_with (asked number_in_reg row i % 8) x)) fields) sib (nothing (no_offset row AnyModRm g.is_sound e refl)) (lone_is_bare row.place (asked number_in_reg row i % 8))
+        bare_by (state_address_size bits (plain_front_of bits row i)) bits row i (modrm_with (number_asked_of number_in_reg row i % 8) (no_address (lone_mode row.place) 0))
+        (modrm_any bits row i e ∙ ap (λ (x : AddressFields). Some (modrm_with (number_asked_of number_in_reg row i % 8) x)) fields) sib (nothing (no_offset row AnyModRm g.is_sound e refl)) (lone_is_bare row.place (number_asked_of number_in_reg row i % 8))
     go (Digit d) e =
         bare_by (state_address_size bits (plain_front_of bits row i)) bits row i (modrm_with d (no_address (lone_mode row.place) 0))
         (modrm_digit bits row i d e ∙ ap (λ (x : AddressFields). Some (modrm_with d x)) fields) sib (nothing (no_offset row (Digit d) g.is_sound e refl)) (lone_is_bare row.place d)

@@ -19,7 +19,8 @@ use Rattle.instruction_parts.specs.Sizes.{bit_b, bit_x, state_address_size, size
 use Rattle.row_fit.specs.Fits.{kind_at, is_gather, needs_sib, displacement_bytes, sib_in_range, immediate_bytes}
 use Rattle.row_fit.specs.Sound.{reads_rm}
 use Rattle.row_meaning.specs.Meaning.{Tail, tail, operand_by, memory_operand, memory_of, memory_absolute, gather_memory}
-use Rattle.plain_spelling.specs.Forms.{operand_at, is_variant_of, is_memory}
+use Rattle.x86_values.specs.Operands.{is_memory}
+use Rattle.plain_spelling.specs.Forms.{operand_at, is_variant_of}
 use Rattle.plain_spelling.specs.PlainFront.{asks_x, asks_b, number_or_zero, base_or_register_number, operand_index_number, plain_front_of}
 use Rattle.plain_spelling.specs.declared.addresses.AddressForm.{AddressForm}
 use Rattle.plain_spelling.specs.declared.addresses.AddressForm.TheVariants.{Relative, Alone, Wide}

@@ -11,7 +11,7 @@ use Rattle.instruction_parts.specs.Sizes.{is_vex_row, operand_size, address_size
 use Rattle.instruction_parts.specs.Bytes.{bit}
 use Rattle.row_fit.specs.Fits.{size_fits, vvvv_number}
 use Rattle.x86_values.specs.Comparing.{same_bits}
-use Rattle.plain_spelling.specs.PlainFront.{number_in_reg, number_in_rm, number_in_index, number_in_vvvv, asked, asks_r, asks_x, asks_b, asks_low_byte, asks_rex_w, asks_66, asks_67, asked_rex, plain_front_of}
+use Rattle.plain_spelling.specs.PlainFront.{number_in_reg, number_in_rm, number_in_index, number_in_vvvv, number_asked_of, asks_r, asks_x, asks_b, asks_low_byte, asks_rex_w, asks_66, asks_67, asked_rex, plain_front_of}
 use Rattle.plain_spelling.specs.Addresses.{register_count, has_address_size}
 use Rattle.plain_spelling.specs.PlainTail.{plain_size}
 use Rattle.plain_spelling.specs.Writable.{plain_w, has_plain_size}
@@ -107,15 +107,15 @@ asked-small bits n h k = (let e = count-small bits h in omega arith)
 
 pub no_r : (bits : Bits) (row : Row) (i : Instr) → is_64 bits ≡ false → NumbersSuit bits row i → asks_r row i ≡ false
 unfolding asks_r
-no_r bits row i h n = lt-leb 8 (asked number_in_reg row i) (asked-small bits (asked number_in_reg row i) h n.reg)
+no_r bits row i h n = lt-leb 8 (number_asked_of number_in_reg row i) (asked-small bits (number_asked_of number_in_reg row i) h n.reg)
 
 pub no_x : (bits : Bits) (row : Row) (i : Instr) → is_64 bits ≡ false → NumbersSuit bits row i → asks_x row i ≡ false
 unfolding asks_x
-no_x bits row i h n = lt-leb 8 (asked number_in_index row i) (asked-small bits (asked number_in_index row i) h n.index)
+no_x bits row i h n = lt-leb 8 (number_asked_of number_in_index row i) (asked-small bits (number_asked_of number_in_index row i) h n.index)
 
 pub no_b : (bits : Bits) (row : Row) (i : Instr) → is_64 bits ≡ false → NumbersSuit bits row i → asks_b row i ≡ false
 unfolding asks_b
-no_b bits row i h n = lt-leb 8 (asked number_in_rm row i) (asked-small bits (asked number_in_rm row i) h n.rm)
+no_b bits row i h n = lt-leb 8 (number_asked_of number_in_rm row i) (asked-small bits (number_asked_of number_in_rm row i) h n.rm)
 
 no_rex_w : (bits : Bits) (row : Row) → is_64 bits ≡ false → is_vex_row row ≡ false → has_plain_size bits row ≡ true → asks_rex_w row ≡ false
 unfolding has_plain_size
@@ -154,7 +154,7 @@ pub record FrontBits (bits : Bits) (row : Row) (i : Instr) : Type 0 where
   pub x : bit_x (plain_front_of bits row i) ≡ asks_x row i
   pub b : bit_b bits (plain_front_of bits row i) ≡ asks_b row i
   pub w : bit_w bits (plain_front_of bits row i) ≡ plain_w bits row
-  pub vvvv : is_vex_row row ≡ true → vvvv_number bits (plain_front_of bits row i) ≡ asked number_in_vvvv row i
+  pub vvvv : is_vex_row row ≡ true → vvvv_number bits (plain_front_of bits row i) ≡ number_asked_of number_in_vvvv row i
   pub size : state_size bits row (plain_front_of bits row i) ≡ plain_size bits row
   pub address : (a : Bits) → i.asize ≡ Some a → has_address_size bits a ≡ true → state_address_size bits (plain_front_of bits row i) ≡ a
 
@@ -205,10 +205,10 @@ vvvv_back : (long : Bool) (n : ℕ) → (long ≡ false → n < 8) → (if long 
 vvvv_back true n h = refl
 vvvv_back false n h = (let k = h refl in omega arith)
 
-front_vvvv : (bits : Bits) (row : Row) (i : Instr) → NumbersSuit bits row i → is_vex_row row ≡ true → vvvv_number bits (plain_front_of bits row i) ≡ asked number_in_vvvv row i
+front_vvvv : (bits : Bits) (row : Row) (i : Instr) → NumbersSuit bits row i → is_vex_row row ≡ true → vvvv_number bits (plain_front_of bits row i) ≡ number_asked_of number_in_vvvv row i
 unfolding vvvv_number plain_front_of
 front_vvvv bits row i n vex =
-    rw (vex_of_vex row i vex) (vvvv_back (is_64 bits) (asked number_in_vvvv row i) (λ short. asked-small bits (asked number_in_vvvv row i) short n.vvvv))
+    rw (vex_of_vex row i vex) (vvvv_back (is_64 bits) (number_asked_of number_in_vvvv row i) (λ short. asked-small bits (number_asked_of number_in_vvvv row i) short n.vvvv))
 
 asize_back : (bits a : Bits) → has_address_size bits a ≡ true → address_size bits (not (same_bits a bits)) ≡ a
 unfolding address_size has_address_size

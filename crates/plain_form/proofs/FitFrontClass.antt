@@ -20,8 +20,9 @@ use Rattle.instruction_parts.specs.Sizes.{is_vex_row, is_lockable, bit_w, state_
 use Rattle.row_fit.specs.Fits.{is_no_repeat, is_repeat_f3, reads_by, is_vvvv, legacy_class_fits, vex_class_fits, class_fits, size_fits, takes_w_as_size, w_fits, l_fits, sizes_fit, vvvv_fits}
 use Rattle.row_fit.specs.Sound.{is_class_of_vex}
 use Rattle.row_meaning.specs.Meaning.{kept_repeat}
-use Rattle.plain_spelling.specs.Forms.{is_memory, operand_at}
-use Rattle.plain_spelling.specs.PlainFront.{number_in_vvvv, asked, asks_vex_w, asks_66, asked_repeat, asked_vex, class_pp, plain_front_of}
+use Rattle.x86_values.specs.Operands.{is_memory}
+use Rattle.plain_spelling.specs.Forms.{operand_at}
+use Rattle.plain_spelling.specs.PlainFront.{number_in_vvvv, number_asked_of, asks_vex_w, asks_66, asked_repeat, asked_vex, class_pp, plain_front_of}
 use Rattle.plain_spelling.specs.PlainTail.{plain_size}
 use Rattle.plain_spelling.specs.Expressible.{is_exchange_of_90, lock_suits, repeat_suits, prefixes_suit}
 use Rattle.plain_spelling.specs.Writable.{plain_w, has_plain_size, class_allows_size, lock_is_legacy}
@@ -221,6 +222,6 @@ vvvv_by n false h = rw (h refl) refl
 pub front_vvvv_fits : (bits : Bits) (row : Row) (i : Instr) → NumbersSuit bits row i → vvvv_fits row (plain_front_of bits row i) ≡ true
 unfolding vvvv_fits plain_front_of
 front_vvvv_fits bits row i n = elim (cases_Bool (is_vex_row row)) [
-  | inl vex ↦ rw (vex_of_vex row i vex) (vvvv_by (asked number_in_vvvv row i) (reads_by is_vvvv row) n.vvvv_unused)
+  | inl vex ↦ rw (vex_of_vex row i vex) (vvvv_by (number_asked_of number_in_vvvv row i) (reads_by is_vvvv row) n.vvvv_unused)
   | inr legacy ↦ rw (vex_of_legacy row i legacy) refl
 ]

@@ -25,7 +25,7 @@ use Rattle.instruction_parts.specs.Sizes.{is_vex_row}
 use Rattle.instruction_parts.specs.Front.{forbids_vex}
 use Rattle.row_fit.specs.Fits.{is_map_one, same_map, reads_by, has_memory_mode, has_reg_zero, is_vex_of_mode, is_opcode, opcode_allows, opcode_is_kept, vex_fits, opcode_fits, modrm_rule_fits, place_allows, place_of, place_fits, vex_in_range}
 use Rattle.row_fit.specs.Sound.{Sound, reads_reg, reads_rm, has_modrm_rule, opcodes_of, opcodes_are_bytes, operands_are_proper}
-use Rattle.plain_spelling.specs.PlainFront.{number_in_vvvv, number_in_opcode, asked, asks_x, asks_b, asks_vex_w, asks_66, asked_vex, asked_opcode, plain_front_of}
+use Rattle.plain_spelling.specs.PlainFront.{number_in_vvvv, number_in_opcode, number_asked_of, asks_x, asks_b, asks_vex_w, asks_66, asked_vex, asked_opcode, plain_front_of}
 use Rattle.plain_spelling.specs.PlainTail.{prefixes_of}
 use Rattle.plain_spelling.specs.Writable.{is_memory_only, is_digit_zero, opcode_is_allowed, opcode_is_plain}
 use Rattle.plain_spelling.proofs.FrontRange.{vex_for, vex_of_vex, vex_of_legacy, asked_vex-range}
@@ -54,7 +54,7 @@ among PlusRegister o k p h =
 -- what all opcode bytes of the row pass, the plain front's passes
 opcode_passes : (row : Row) (i : Instr) (p : ℕ → Bool) → list_all p (opcodes_of row) ≡ true → p (asked_opcode row i) ≡ true
 unfolding asked_opcode
-opcode_passes row i p h = among row.plus row.opcode (asked number_in_opcode row i) p h
+opcode_passes row i p h = among row.plus row.opcode (number_asked_of number_in_opcode row i) p h
 
 abbrev among_by : Plus → ℕ → ℕ → Bool
 among_by plus o b = elim plus [ PlusRegister ↦ nat_le o b && nat_lt b (o + 8) | _ ↦ b == o ]
@@ -69,7 +69,7 @@ fits_by PlusRegister o k = and_from (nat_le o (o + k % 8)) (nat_lt (o + k % 8) (
 
 pub front_opcode : (row : Row) (i : Instr) → opcode_fits row (asked_opcode row i) ≡ true
 unfolding opcode_fits asked_opcode
-front_opcode row i = fits_by row.plus row.opcode (asked number_in_opcode row i)
+front_opcode row i = fits_by row.plus row.opcode (number_asked_of number_in_opcode row i)
 
 below_by : (plus : Plus) (o k : ℕ) → nat_lt o 256 ≡ true → nat_lt (o + (elim plus [ PlusRegister ↦ 7 | _ ↦ 0 ])) 256 ≡ true → byte_by plus o k < 256
 below_by NoPlus o k h1 h2 = ltb-true o 256 h1
@@ -80,7 +80,7 @@ pub front_opcode_byte : (row : Row) (i : Instr) → Sound row → asked_opcode r
 unfolding asked_opcode opcodes_are_bytes
 front_opcode_byte row i s =
     let bytes : (nat_lt row.opcode 256 && nat_lt (row.opcode + (elim row.plus [ PlusRegister ↦ 7 | _ ↦ 0 ])) 256) ≡ true = s.opcodes in
-    below_by row.plus row.opcode (asked number_in_opcode row i) (and_parts (nat_lt row.opcode 256) _ bytes).0 (and_parts (nat_lt row.opcode 256) _ bytes).1
+    below_by row.plus row.opcode (number_asked_of number_in_opcode row i) (and_parts (nat_lt row.opcode 256) _ bytes).0 (and_parts (nat_lt row.opcode 256) _ bytes).1
 
 -- ---- what a ModRM of the row says
 
@@ -220,8 +220,8 @@ vex_of_mode bits row i n = elim (cases_Bool (is_64 bits)) [
   | inr short ↦
       rw (no_r bits row i short n)
       (ap (λ b. is_64 bits || b)
-      (of_mode_by (not (same_map row.map M0f) || (asks_x row i || (asks_b row i || asks_vex_w row))) (not (asks_x row i)) (nat_lt (asked number_in_vvvv row i) 8)
-      (ap not (no_x bits row i short n)) (lt-ltb (asked number_in_vvvv row i) 8 (asked-small bits (asked number_in_vvvv row i) short n.vvvv)))
+      (of_mode_by (not (same_map row.map M0f) || (asks_x row i || (asks_b row i || asks_vex_w row))) (not (asks_x row i)) (nat_lt (number_asked_of number_in_vvvv row i) 8)
+      (ap not (no_x bits row i short n)) (lt-ltb (number_asked_of number_in_vvvv row i) 8 (asked-small bits (number_asked_of number_in_vvvv row i) short n.vvvv)))
       ∙ or-true (is_64 bits))
 ]
 

@@ -22,7 +22,7 @@ use Rattle.instruction_parts.specs.Sizes.{state_size}
 use Rattle.row_fit.specs.Fits.{are_bytes, kind_at, immediate_bytes, immediates_bytes}
 use Rattle.row_meaning.specs.Meaning.{Tail, operand_by, own_immediate, immediates_before, little_endian, near_target, far_pointer}
 use Rattle.plain_spelling.specs.Values.{low_bytes, is_extended_of, distance}
-use Rattle.plain_spelling.specs.Forms.{is_immediate, is_near, is_far, is_variant_of, is_allowed_in, operand_at}
+use Rattle.plain_spelling.specs.Forms.{is_immediate, is_near_kind, is_far, is_variant_of, is_allowed_in, operand_at}
 use Rattle.plain_spelling.specs.PlainFront.{register_number}
 use Rattle.plain_spelling.specs.Addresses.{register_count}
 use Rattle.plain_spelling.specs.PlainTail.{operand_immediate, immediate_at, plain_immediates, plain_size, plain_next}
@@ -37,7 +37,7 @@ use Rattle.plain_form.proofs.FitNumbers.{nameable-at}
 
 -- the operand is written behind the instruction, or is 1
 abbrev pub is_value : Operand → Bool
-is_value op = is_immediate op || (is_near op || is_far op)
+is_value op = is_immediate op || (is_near_kind op || is_far op)
 
 -- a register has a number of four bits
 abbrev pub NumberIsShort : Operand → Type 0

@@ -26,7 +26,7 @@ use Rattle.row_fit.specs.Fits.{kind_at, reads_by, is_vvvv}
 use Rattle.row_fit.specs.Sound.{Sound, reads_reg, reads_rm, reads_opcode}
 use Rattle.x86_values.specs.Comparing.{same_bits, same_register}
 use Rattle.plain_spelling.specs.Forms.{operand_at, is_scale}
-use Rattle.plain_spelling.specs.PlainFront.{register_number, number_or_zero, is_low_byte_of_rex, operand_number, base_or_register_number, operand_index_number, number_in_reg, number_in_rm, number_in_index, number_in_vvvv, number_in_opcode, asked, asks_low_byte}
+use Rattle.plain_spelling.specs.PlainFront.{register_number, number_or_zero, is_low_byte_of_rex, operand_number, base_or_register_number, operand_index_number, number_in_reg, number_in_rm, number_in_index, number_in_vvvv, number_in_opcode, number_asked_of, asks_low_byte}
 use Rattle.plain_spelling.specs.Addresses.{register_count, general_size, shown_size, form_of, rm_of_one, rm_of_two, rm_of_short, is_address_register, is_base, is_index, scale_suits, is_wide_size, is_wide_shape, is_shape, index_named, is_vector_index, is_gather_base, is_gather_shape, shape_suits}
 use Rattle.plain_spelling.specs.Expressible.{each_operand, exists_in_mode, is_of_kind, is_not_nop, kind_allows, is_nameable, gather_suits, register_suits, address_suits}
 use Rattle.plain_spelling.proofs.Asked.{asked_reg-at, asked_reg-none, asked_rm-at, asked_rm-none, asked_index-at, asked_index-none, asked_vvvv-at, asked_vvvv-none, asked_opcode-at, asked_opcode-none, four_kinds, index_in_rm, each-at, reads_b}
@@ -335,16 +335,16 @@ numbers_suit bits ip row i g =
     let small = λ (n : ℕ) (below : n < 4). small-at bits row i n below g.suits.registers g.suits.addresses in
     let index = index_in_rm bits row i g.suits.kinds g.suits.addresses in
     record {
-      reg = field_small bits reads_reg operand_number row i (asked number_in_reg row i) s (λ n below. (small n below).register)
+      reg = field_small bits reads_reg operand_number row i (number_asked_of number_in_reg row i) s (λ n below. (small n below).register)
           (λ n below e. asked_reg-at row i n s g.four below e) (asked_reg-none row i);
-      rm = field_small bits reads_b base_or_register_number row i (asked number_in_rm row i) s (λ n below. (small n below).base)
+      rm = field_small bits reads_b base_or_register_number row i (number_asked_of number_in_rm row i) s (λ n below. (small n below).base)
           (λ n below e. asked_rm-at row i n s g.four below e)
           (λ none. let k = none_of_both (λ kind. reads_rm (method_of kind)) (λ kind. reads_opcode (method_of kind)) row.ops none in asked_rm-none row i k.0 k.1);
-      index = field_small bits reads_rm operand_index_number row i (asked number_in_index row i) s (λ n below. (small n below).index)
+      index = field_small bits reads_rm operand_index_number row i (number_asked_of number_in_index row i) s (λ n below. (small n below).index)
           (λ n below e. asked_index-at row i n s g.four below index e) (asked_index-none row i s index);
-      vvvv = field_small bits is_vvvv operand_number row i (asked number_in_vvvv row i) s (λ n below. (small n below).register)
+      vvvv = field_small bits is_vvvv operand_number row i (number_asked_of number_in_vvvv row i) s (λ n below. (small n below).register)
           (λ n below e. asked_vvvv-at row i n s g.four below e) (asked_vvvv-none row i);
-      opcode = field_small bits reads_opcode operand_number row i (asked number_in_opcode row i) s (λ n below. (small n below).register)
+      opcode = field_small bits reads_opcode operand_number row i (number_asked_of number_in_opcode row i) s (λ n below. (small n below).register)
           (λ n below e. asked_opcode-at row i n s g.four below e) (asked_opcode-none row i);
       low = low_outside bits row i g.four g.suits.registers;
       vvvv_unused = λ none. asked_vvvv-none row i none;

@@ -29,8 +29,9 @@ use Rattle.instruction_parts.specs.Counting.{is_64, is_16}
 use Rattle.instruction_parts.specs.Sizes.{is_vex_row}
 use Rattle.row_fit.specs.Fits.{kind_at, reads_by, is_any_mode, is_gather, modrm_rule_fits, is_fixed_byte, place_allows, place_of, place_fits, modrm_in_range}
 use Rattle.row_fit.specs.Sound.{Sound, reads_reg, reads_rm, has_modrm_rule, is_any_place, rule_in_range, plus_is_proper}
-use Rattle.plain_spelling.specs.Forms.{operand_at, is_variant_of, is_allowed_in, is_register, is_memory}
-use Rattle.plain_spelling.specs.PlainFront.{register_number, number_in_reg, number_in_rm, asked, base_or_register_number}
+use Rattle.x86_values.specs.Operands.{is_memory}
+use Rattle.plain_spelling.specs.Forms.{operand_at, is_variant_of, is_allowed_in, is_register}
+use Rattle.plain_spelling.specs.PlainFront.{register_number, number_in_reg, number_in_rm, number_asked_of, base_or_register_number}
 use Rattle.plain_spelling.specs.declared.addresses.AddressForm.{AddressForm}
 use Rattle.plain_spelling.specs.declared.addresses.AddressForm.TheVariants.{Relative, Alone, Short, Wide}
 use Rattle.plain_spelling.specs.declared.addresses.AddressFields.{AddressFields}
@@ -148,7 +149,7 @@ pub modrm_none : (bits : Bits) (row : Row) (i : Instr) → row.modrm ≡ NoModRm
 unfolding plain_modrm
 modrm_none bits row i e = rw e refl
 
-pub modrm_any : (bits : Bits) (row : Row) (i : Instr) → row.modrm ≡ AnyModRm → plain_modrm bits row i ≡ Some (modrm_with (asked number_in_reg row i % 8) (fields_of bits row i))
+pub modrm_any : (bits : Bits) (row : Row) (i : Instr) → row.modrm ≡ AnyModRm → plain_modrm bits row i ≡ Some (modrm_with (number_asked_of number_in_reg row i % 8) (fields_of bits row i))
 unfolding plain_modrm
 modrm_any bits row i e = rw e refl
 
@@ -202,7 +203,7 @@ rule_fits bits row i s = go row.modrm refl
     go NoModRm e = rw (modrm_none bits row i e, e) refl
     go AnyModRm e = rw (modrm_any bits row i e, e) refl
     go (Digit d) e = rw (modrm_digit bits row i d e, e) (eq-eqb d d refl)
-    go (FixedByte b) e = rw (modrm_fixed bits row i b e, e) (fixed_by_plus row.plus b (asked number_in_rm row i % 8) (stack_byte row b s e))
+    go (FixedByte b) e = rw (modrm_fixed bits row i b e, e) (fixed_by_plus row.plus b (number_asked_of number_in_rm row i % 8) (stack_byte row b s e))
 
 -- ---- what r/m says of its operand
 
@@ -266,9 +267,9 @@ fixed_operand row n b s h below e reads =
     let same : k.0 ≡ n = one_rm row k.0 n s (omega arith) below (register_only_reads (method_of (kind_at row k.0)) k.2) reads in
     (stack.0, subst (λ (j : ℕ). is_register_only (method_of (kind_at row j)) ≡ true) same k.2)
 
-fixed_rm_is : (row : Row) (i : Instr) (b : ℕ) → row.plus ≡ PlusStack → fixed_rm row i b ≡ asked number_in_rm row i % 8
+fixed_rm_is : (row : Row) (i : Instr) (b : ℕ) → row.plus ≡ PlusStack → fixed_rm row i b ≡ number_asked_of number_in_rm row i % 8
 unfolding fixed_rm
-fixed_rm_is row i b e = by_plus row.plus (asked number_in_rm row i % 8) (b % 8) e
+fixed_rm_is row i b e = by_plus row.plus (number_asked_of number_in_rm row i % 8) (b % 8) e
   where
     by_plus : (plus : Plus) (x y : ℕ) → plus ≡ PlusStack → (elim plus [ PlusStack ↦ x | _ ↦ y ]) ≡ x
     by_plus NoPlus x y e = cc
@@ -302,8 +303,8 @@ register_in_rm bits row i n r s plain four below reads e = go row.modrm refl
     go : (rule : ModRmRule) → row.modrm ≡ rule → RegisterInRm bits row i r
     go NoModRm rule = let k = rule_is_some row ((proper row s).rm (reads-at reads_rm row n s below reads)) rule in cc
     go AnyModRm rule = record {
-      modrm = modrm_with (asked number_in_reg row i % 8) (no_address 3 (register_number r % 8));
-      is_plain = modrm_any bits row i rule ∙ ap (λ (x : AddressFields). Some (modrm_with (asked number_in_reg row i % 8) x)) fields;
+      modrm = modrm_with (number_asked_of number_in_reg row i % 8) (no_address 3 (register_number r % 8));
+      is_plain = modrm_any bits row i rule ∙ ap (λ (x : AddressFields). Some (modrm_with (number_asked_of number_in_reg row i % 8) x)) fields;
       mode = refl;
       rm = refl;
     }
@@ -315,7 +316,7 @@ register_in_rm bits row i n r s plain four below reads e = go row.modrm refl
     }
     go (FixedByte b) rule =
         let stack = fixed_operand row n b s plain below rule reads in
-        let number : asked number_in_rm row i ≡ register_number r = asked_rm-at row i n s four below (reads_b_of_rm (method_of (kind_at row n)) reads) ∙ ap base_or_register_number e in
+        let number : number_asked_of number_in_rm row i ≡ register_number r = asked_rm-at row i n s four below (reads_b_of_rm (method_of (kind_at row n)) reads) ∙ ap base_or_register_number e in
         record {
           modrm = fixed_modrm row i b;
           is_plain = modrm_fixed bits row i b rule;
@@ -344,8 +345,8 @@ memory_in_rm bits row i n m s plain four kinds below reads e = go row.modrm refl
     go : (rule : ModRmRule) → row.modrm ≡ rule → MemoryInRm bits row i m
     go NoModRm rule = let k = rule_is_some row ((proper row s).rm (reads-at reads_rm row n s below reads)) rule in cc
     go AnyModRm rule = record {
-      reg = asked number_in_reg row i % 8;
-      modrm = modrm_any bits row i rule ∙ ap (λ (x : AddressFields). Some (modrm_with (asked number_in_reg row i % 8) x)) fields;
+      reg = number_asked_of number_in_reg row i % 8;
+      modrm = modrm_any bits row i rule ∙ ap (λ (x : AddressFields). Some (modrm_with (number_asked_of number_in_reg row i % 8) x)) fields;
       sib = sib_any bits row i rule ∙ ap (λ (x : AddressFields). x.sib) fields;
     }
     go (Digit d) rule = record {
@@ -507,8 +508,8 @@ row_allows bits row i m s plain places four kinds e = elim (cases_Bool (reads_by
     alone : (rule : ModRmRule) → row.modrm ≡ rule → fields_of bits row i ≡ no_address (lone_mode row.place) 0 → place_allows row.place m ≡ true
     alone NoModRm rule fields = let k = sym e ∙ modrm_none bits row i rule in cc
     alone AnyModRm rule fields =
-        let one = same_Some m _ (sym e ∙ modrm_any bits row i rule ∙ ap (λ (x : AddressFields). Some (modrm_with (asked number_in_reg row i % 8) x)) fields) in
-        rw one (lone_allowed row.place (asked number_in_reg row i % 8))
+        let one = same_Some m _ (sym e ∙ modrm_any bits row i rule ∙ ap (λ (x : AddressFields). Some (modrm_with (number_asked_of number_in_reg row i % 8) x)) fields) in
+        rw one (lone_allowed row.place (number_asked_of number_in_reg row i % 8))
     alone (Digit d) rule fields =
         let one = same_Some m _ (sym e ∙ modrm_digit bits row i d rule ∙ ap (λ (x : AddressFields). Some (modrm_with d x)) fields) in
         rw one (lone_allowed row.place d)
@@ -560,7 +561,7 @@ digit_small d h = ltb-true d 8 h
 
 fixed_rm_small : (row : Row) (i : Instr) (b : ℕ) → fixed_rm row i b < 8
 unfolding fixed_rm
-fixed_rm_small row i b = by_plus row.plus (asked number_in_rm row i)
+fixed_rm_small row i b = by_plus row.plus (number_asked_of number_in_rm row i)
   where
     by_plus : (plus : Plus) (x : ℕ) → (elim plus [ PlusStack ↦ x % 8 | _ ↦ b % 8 ]) < 8
     by_plus NoPlus x = omega arith
@@ -584,7 +585,7 @@ modrm_fits bits row i s = go row.modrm refl
 
     go : (rule : ModRmRule) → row.modrm ≡ rule → modrm_in_range (plain_modrm bits row i) ≡ true
     go NoModRm e = rw (modrm_none bits row i e) no_modrm
-    go AnyModRm e = rw (modrm_any bits row i e) (modrm_small (modrm_with (asked number_in_reg row i % 8) (fields_of bits row i)) small.0 (omega arith) small.1)
+    go AnyModRm e = rw (modrm_any bits row i e) (modrm_small (modrm_with (number_asked_of number_in_reg row i % 8) (fields_of bits row i)) small.0 (omega arith) small.1)
     go (Digit d) e =
         rw (modrm_digit bits row i d e) (modrm_small (modrm_with d (fields_of bits row i)) small.0 (digit_small d (subst (λ (rule : ModRmRule). rule_in_range rule ≡ true) e s.rule)) small.1)
     go (FixedByte b) e =

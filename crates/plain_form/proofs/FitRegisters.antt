@@ -42,8 +42,9 @@ use Rattle.instruction_parts.specs.Sizes.{is_vex_row, bit_r, bit_b, state_addres
 use Rattle.row_fit.specs.Fits.{kind_at, reads_by, is_gather, is_map_one, is_repeat_f3, is_no_repeat, has_modrm, with_high_bit, reg_field, rm_field, reg_number, rm_number, index_number, vvvv_number, needs_sib, register_fits, destination_fits, gather_fits, nop_fits, is_nop_byte, is_control_number, registers_fit, is_vvvv}
 use Rattle.row_fit.specs.Sound.{reads_reg, reads_rm, reads_opcode}
 use Rattle.row_meaning.specs.Meaning.{vector, register_of}
-use Rattle.plain_spelling.specs.Forms.{operand_at, is_variant_of, is_register, is_memory, is_scale}
-use Rattle.plain_spelling.specs.PlainFront.{register_number, number_or_zero, operand_number, operand_index_number, base_or_register_number, number_in_reg, number_in_rm, number_in_index, number_in_vvvv, number_in_opcode, asked, asks_r, asks_x, asks_b, asked_opcode, asked_repeat, plain_front_of}
+use Rattle.x86_values.specs.Operands.{is_memory}
+use Rattle.plain_spelling.specs.Forms.{operand_at, is_variant_of, is_register, is_scale}
+use Rattle.plain_spelling.specs.PlainFront.{register_number, number_or_zero, operand_number, operand_index_number, base_or_register_number, number_in_reg, number_in_rm, number_in_index, number_in_vvvv, number_in_opcode, number_asked_of, asks_r, asks_x, asks_b, asked_opcode, asked_repeat, plain_front_of}
 use Rattle.plain_spelling.specs.declared.addresses.AddressForm.TheVariants.{Wide}
 use Rattle.plain_spelling.specs.declared.addresses.AddressFields.{AddressFields}
 use Rattle.plain_spelling.specs.Addresses.{register_count, general_size, has_address_size, is_wide_size, is_address_register, form_of, written_size, index_bits, plain_sib, wide_needs_sib, wide_fields, address_fields, is_gather_base, index_named, is_vector_index, is_gather_shape, shape_suits}
@@ -76,16 +77,16 @@ says bits ip row i g = front_bits bits row i (numbers_suit bits ip row i g)
 pub below_16 : (bits : Bits) (x : ℕ) → x < register_count bits → x < 16
 below_16 bits x h = let k = count-most bits in omega arith
 
-reg_of_any : (bits : Bits) (row : Row) (i : Instr) → row.modrm ≡ AnyModRm → reg_field (plain_modrm bits row i) ≡ asked number_in_reg row i % 8
+reg_of_any : (bits : Bits) (row : Row) (i : Instr) → row.modrm ≡ AnyModRm → reg_field (plain_modrm bits row i) ≡ number_asked_of number_in_reg row i % 8
 reg_of_any bits row i e = rw (modrm_any bits row i e) refl
 
 -- ModRM.reg holds the number that is asked of it
-reg_number_asked : (bits : Bits) (ip : ℕ) (row : Row) (i : Instr) → Given bits ip row i → row.modrm ≡ AnyModRm → reg_number (plain_front_of bits row i) (plain_modrm bits row i) ≡ asked number_in_reg row i
+reg_number_asked : (bits : Bits) (ip : ℕ) (row : Row) (i : Instr) → Given bits ip row i → row.modrm ≡ AnyModRm → reg_number (plain_front_of bits row i) (plain_modrm bits row i) ≡ number_asked_of number_in_reg row i
 unfolding reg_number asks_r
 reg_number_asked bits ip row i g e =
     ap (λ (b : Bool). with_high_bit b (reg_field (plain_modrm bits row i))) (says bits ip row i g).r
-    ∙ ap (λ (n : ℕ). with_high_bit (nat_le 8 (asked number_in_reg row i)) n) (reg_of_any bits row i e)
-    ∙ extended_back (asked number_in_reg row i) (below_16 bits (asked number_in_reg row i) (numbers_suit bits ip row i g).reg)
+    ∙ ap (λ (n : ℕ). with_high_bit (nat_le 8 (number_asked_of number_in_reg row i)) n) (reg_of_any bits row i e)
+    ∙ extended_back (number_asked_of number_in_reg row i) (below_16 bits (number_asked_of number_in_reg row i) (numbers_suit bits ip row i g).reg)
 
 -- **the number in ModRM.reg is that of the operand that is read from it**
 pub reg_number-at : (bits : Bits) (ip : ℕ) (row : Row) (i : Instr) (n : ℕ) → Given bits ip row i → n < 4 → reads_reg (method_of (kind_at row n)) ≡ true → reg_number (plain_front_of bits row i) (plain_modrm bits row i) ≡ operand_number (operand_at i n)
@@ -98,11 +99,11 @@ pub rm_number-at : (bits : Bits) (ip : ℕ) (row : Row) (i : Instr) (n : ℕ) (r
 unfolding rm_number asks_b
 rm_number-at bits ip row i n r g below reads e =
     let k = register_in_rm bits row i n r g.is_sound g.is_writable.rule g.four below reads e in
-    let number : asked number_in_rm row i ≡ register_number r = asked_rm-at row i n g.is_sound g.four below (reads_b_of_rm (method_of (kind_at row n)) reads) ∙ ap base_or_register_number e in
-    let small : register_number r < 16 = subst (λ (x : ℕ). x < 16) number (below_16 bits (asked number_in_rm row i) (numbers_suit bits ip row i g).rm) in
+    let number : number_asked_of number_in_rm row i ≡ register_number r = asked_rm-at row i n g.is_sound g.four below (reads_b_of_rm (method_of (kind_at row n)) reads) ∙ ap base_or_register_number e in
+    let small : register_number r < 16 = subst (λ (x : ℕ). x < 16) number (below_16 bits (number_asked_of number_in_rm row i) (numbers_suit bits ip row i g).rm) in
     ap (λ (b : Bool). with_high_bit b (rm_field (plain_modrm bits row i))) (says bits ip row i g).b
-    ∙ ap (λ (m : Option ModRm). with_high_bit (nat_le 8 (asked number_in_rm row i)) (rm_field m)) k.is_plain
-    ∙ ap (λ (x : ℕ). with_high_bit (nat_le 8 (asked number_in_rm row i)) x) k.rm
+    ∙ ap (λ (m : Option ModRm). with_high_bit (nat_le 8 (number_asked_of number_in_rm row i)) (rm_field m)) k.is_plain
+    ∙ ap (λ (x : ℕ). with_high_bit (nat_le 8 (number_asked_of number_in_rm row i)) x) k.rm
     ∙ ap (λ (x : ℕ). with_high_bit (nat_le 8 x) (register_number r % 8)) number
     ∙ extended_back (register_number r) small
 
@@ -180,7 +181,7 @@ unfolding asks_r
 in_reg bits ip row i n g below reads =
     let r = register_in_reg row i n g.suits.kinds below reads in
     let rule = rule_of_reg row g.is_sound g.is_writable.rule (reads-at reads_reg row n g.is_sound below reads) in
-    let asked_is : asked number_in_reg row i ≡ register_number r.0 = asked_reg-at row i n g.is_sound g.four below reads ∙ ap operand_number r.1 in
+    let asked_is : number_asked_of number_in_reg row i ≡ register_number r.0 = asked_reg-at row i n g.is_sound g.four below reads ∙ ap operand_number r.1 in
     record {
       register = r.0;
       operand = r.1;
@@ -481,35 +482,35 @@ all_differ false b c x y z ea eb ec h = cc
 all_differ true false c x y z ea eb ec h = cc
 all_differ true true false x y z ea eb ec h = cc
 
-vectors_differ : (row : Row) (i : Instr) → AreVectors row i → gather_numbers_differ row i ≡ true → differ_pairwise (asked number_in_reg row i) (asked number_in_index row i) (asked number_in_vvvv row i) ≡ true
+vectors_differ : (row : Row) (i : Instr) → AreVectors row i → gather_numbers_differ row i ≡ true → differ_pairwise (number_asked_of number_in_reg row i) (number_asked_of number_in_index row i) (number_asked_of number_in_vvvv row i) ≡ true
 unfolding gather_numbers_differ
 vectors_differ row i v h =
     all_differ (some_passes vector_in_reg row i) (some_passes vector_in_index row i) (some_passes vector_in_vvvv row i)
-    (asked number_in_reg row i) (asked number_in_index row i) (asked number_in_vvvv row i) v.reg v.index v.vvvv h
+    (number_asked_of number_in_reg row i) (number_asked_of number_in_index row i) (number_asked_of number_in_vvvv row i) v.reg v.index v.vvvv h
 
 gather_by : (bits : Bits) (row : Row) (i : Instr) (asize : Bits) (m : Option ModRm) (sib : Option Sib)
     → state_address_size bits (plain_front_of bits row i) ≡ asize → has_modrm (λ m. needs_sib asize m) m ≡ true
-    → reg_number (plain_front_of bits row i) m ≡ asked number_in_reg row i → index_number (plain_front_of bits row i) sib ≡ asked number_in_index row i
-    → vvvv_number bits (plain_front_of bits row i) ≡ asked number_in_vvvv row i
-    → differ_pairwise (asked number_in_reg row i) (asked number_in_index row i) (asked number_in_vvvv row i) ≡ true → gather_fits bits (plain_front_of bits row i) m sib ≡ true
+    → reg_number (plain_front_of bits row i) m ≡ number_asked_of number_in_reg row i → index_number (plain_front_of bits row i) sib ≡ number_asked_of number_in_index row i
+    → vvvv_number bits (plain_front_of bits row i) ≡ number_asked_of number_in_vvvv row i
+    → differ_pairwise (number_asked_of number_in_reg row i) (number_asked_of number_in_index row i) (number_asked_of number_in_vvvv row i) ≡ true → gather_fits bits (plain_front_of bits row i) m sib ≡ true
 unfolding gather_fits
 gather_by bits row i asize m sib size needs reg index vvvv h =
     and_from (has_modrm (λ m. needs_sib (state_address_size bits (plain_front_of bits row i)) m) m) _
     (subst (λ (a : Bits). has_modrm (λ m. needs_sib a m) m ≡ true) (sym size) needs)
     (subst (λ (a : ℕ). differ_pairwise a (index_number (plain_front_of bits row i) sib) (vvvv_number bits (plain_front_of bits row i)) ≡ true) (sym reg)
-    (subst (λ (b : ℕ). differ_pairwise (asked number_in_reg row i) b (vvvv_number bits (plain_front_of bits row i)) ≡ true) (sym index)
-    (subst (λ (c : ℕ). differ_pairwise (asked number_in_reg row i) (asked number_in_index row i) c ≡ true) (sym vvvv) h)))
+    (subst (λ (b : ℕ). differ_pairwise (number_asked_of number_in_reg row i) b (vvvv_number bits (plain_front_of bits row i)) ≡ true) (sym index)
+    (subst (λ (c : ℕ). differ_pairwise (number_asked_of number_in_reg row i) (number_asked_of number_in_index row i) c ≡ true) (sym vvvv) h)))
 
 needs_four : (asize : Bits) (m : ModRm) → not (is_16 asize) ≡ true → m.mode3 < 3 → m.rm ≡ 4 → needs_sib asize m ≡ true
 unfolding needs_sib
 needs_four asize m a b c = and_from (not (is_16 asize)) _ a (and_from (nat_lt m.mode3 3) _ (lt-ltb m.mode3 3 b) (eq-eqb m.rm 4 c))
 
-index_asked : (bits : Bits) (ip : ℕ) (row : Row) (i : Instr) (sib : Sib) → Given bits ip row i → sib.index ≡ asked number_in_index row i % 8 → index_number (plain_front_of bits row i) (Some sib) ≡ asked number_in_index row i
+index_asked : (bits : Bits) (ip : ℕ) (row : Row) (i : Instr) (sib : Sib) → Given bits ip row i → sib.index ≡ number_asked_of number_in_index row i % 8 → index_number (plain_front_of bits row i) (Some sib) ≡ number_asked_of number_in_index row i
 unfolding index_number asks_x
 index_asked bits ip row i sib g e =
     ap (λ (b : Bool). with_high_bit b sib.index) (says bits ip row i g).x
-    ∙ ap (λ (n : ℕ). with_high_bit (nat_le 8 (asked number_in_index row i)) n) e
-    ∙ extended_back (asked number_in_index row i) (below_16 bits (asked number_in_index row i) (numbers_suit bits ip row i g).index)
+    ∙ ap (λ (n : ℕ). with_high_bit (nat_le 8 (number_asked_of number_in_index row i)) n) e
+    ∙ extended_back (number_asked_of number_in_index row i) (below_16 bits (number_asked_of number_in_index row i) (numbers_suit bits ip row i g).index)
 
 gather_reads : (how : Method) → is_gather how ≡ true → reads_rm how ≡ true
 gather_reads method.Gather h = refl
@@ -533,7 +534,7 @@ record GatherOperand (bits : Bits) (row : Row) (i : Instr) : Type 0 where
   word : not (is_16 asize) ≡ true
   rm : MemoryInRm bits row i m
   fields : GatherFields m (address_fields bits (written_size bits i.asize m) m)
-  index : asked number_in_index row i ≡ number_or_zero m.index
+  index : number_asked_of number_in_index row i ≡ number_or_zero m.index
   vector : some_passes vector_in_index row i ≡ true
 
 gather_operand-at : (bits : Bits) (ip : ℕ) (row : Row) (i : Instr) (n : ℕ) → Given bits ip row i → reads_by is_gather row ≡ true → n < 4 → is_gather (method_of (kind_at row n)) ≡ true → GatherOperand bits row i
@@ -582,7 +583,7 @@ gather_needs bits row i o =
     let m = modrm_with o.rm.reg (address_fields bits (written_size bits i.asize o.m) o.m) in
     ap (has_modrm (λ m. needs_sib o.asize m)) o.rm.modrm ∙ needs_four o.asize m o.word o.fields.mode o.fields.rm
 
-gather_index : (bits : Bits) (ip : ℕ) (row : Row) (i : Instr) → Given bits ip row i → (o : GatherOperand bits row i) → index_number (plain_front_of bits row i) (plain_sib_of bits row i) ≡ asked number_in_index row i
+gather_index : (bits : Bits) (ip : ℕ) (row : Row) (i : Instr) → Given bits ip row i → (o : GatherOperand bits row i) → index_number (plain_front_of bits row i) (plain_sib_of bits row i) ≡ number_asked_of number_in_index row i
 gather_index bits ip row i g o =
     ap (λ (x : Option Sib). index_number (plain_front_of bits row i) x) (o.rm.sib ∙ o.fields.has_sib)
     ∙ index_asked bits ip row i o.fields.sib g (o.fields.index ∙ ap (λ (x : ℕ). x % 8) (sym o.index))
@@ -604,9 +605,9 @@ gathers_fit bits ip row i g gather =
 -- ---- the byte 90
 
 -- a row that adds a register adds the low three bits of the number that is asked of the opcode byte
-pub opcode_added : (row : Row) (i : Instr) → adds_register row.plus ≡ true → asked_opcode row i ≡ row.opcode + asked number_in_opcode row i % 8
+pub opcode_added : (row : Row) (i : Instr) → adds_register row.plus ≡ true → asked_opcode row i ≡ row.opcode + number_asked_of number_in_opcode row i % 8
 unfolding asked_opcode
-opcode_added row i h = by_plus row.plus (row.opcode + asked number_in_opcode row i % 8) row.opcode h
+opcode_added row i h = by_plus row.plus (row.opcode + number_asked_of number_in_opcode row i % 8) row.opcode h
   where
     by_plus : (plus : Plus) (x y : ℕ) → adds_register plus ≡ true → (elim plus [ PlusRegister ↦ x | _ ↦ y ]) ≡ x
     by_plus PlusRegister x y h = refl
@@ -614,7 +615,7 @@ opcode_added row i h = by_plus row.plus (row.opcode + asked number_in_opcode row
 
 opcode_alone : (row : Row) (i : Instr) → adds_register row.plus ≡ false → asked_opcode row i ≡ row.opcode
 unfolding asked_opcode
-opcode_alone row i h = by_plus row.plus (row.opcode + asked number_in_opcode row i % 8) row.opcode h
+opcode_alone row i h = by_plus row.plus (row.opcode + number_asked_of number_in_opcode row i % 8) row.opcode h
   where
     by_plus : (plus : Plus) (x y : ℕ) → adds_register plus ≡ false → (elim plus [ PlusRegister ↦ x | _ ↦ y ]) ≡ y
     by_plus PlusRegister x y h = cc
@@ -722,9 +723,9 @@ exchange_fits bits ip row i g nop adds =
     let n = k.0 in
     let below : n < 4 = omega arith in
     let r = opcode_register row i n g.suits.kinds below k.2 in
-    let opcode : asked number_in_opcode row i ≡ register_number r.0 = asked_opcode-at row i n s g.four below k.2 ∙ ap operand_number r.1 in
-    let rm : asked number_in_rm row i ≡ register_number r.0 = asked_rm-at row i n s g.four below (reads_b_right (method_of (kind_at row n)) k.2) ∙ ap base_or_register_number r.1 in
-    let byte = nop_byte_from (is_vex_row row) (is_map_one row.map) (asked_opcode row i) row.opcode (asked number_in_opcode row i) p.2 (opcode_added row i adds) nop in
+    let opcode : number_asked_of number_in_opcode row i ≡ register_number r.0 = asked_opcode-at row i n s g.four below k.2 ∙ ap operand_number r.1 in
+    let rm : number_asked_of number_in_rm row i ≡ register_number r.0 = asked_rm-at row i n s g.four below (reads_b_right (method_of (kind_at row n)) k.2) ∙ ap base_or_register_number r.1 in
+    let byte = nop_byte_from (is_vex_row row) (is_map_one row.map) (asked_opcode row i) row.opcode (number_asked_of number_in_opcode row i) p.2 (opcode_added row i adds) nop in
     let named = not_nop_of row (method_of (kind_at row n)) r.0 k.2 (nameable-at bits row i n r.0 g.suits.registers below r.1).nop in
     let other = and_false_right (is_nop_byte row row.opcode) (register_number r.0 == 0) byte.0 named in
     let large = large_number (register_number r.0) (ap (λ (x : ℕ). x % 8) (sym opcode) ∙ byte.1) other in

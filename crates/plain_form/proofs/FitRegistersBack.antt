@@ -23,8 +23,9 @@ use Rattle.instruction_parts.specs.Sizes.{is_vex_row, is_lockable, bit_b}
 use Rattle.row_fit.specs.Fits.{kind_at, reads_by, has_modrm, with_high_bit, reg_number, rm_number, vvvv_number, is_memory_method, lock_fits, immediate_bytes, is_vvvv}
 use Rattle.row_fit.specs.Sound.{Sound, reads_reg, reads_rm, reads_opcode, reads_last_byte, kind_is_proper, vex_is_proper, legacy_is_proper, is_no_w, is_no_l, opcode_is_proper, opcodes_of}
 use Rattle.row_meaning.specs.Meaning.{Tail, register_of, operand_by, last_byte_number, has_memory}
-use Rattle.plain_spelling.specs.Forms.{operand_at, is_variant_of, is_allowed_in, is_absent, is_register, is_memory, is_immediate, is_near, is_far}
-use Rattle.plain_spelling.specs.PlainFront.{register_number, operand_number, base_or_register_number, number_in_rm, number_in_opcode, asked, asks_b, plain_front_of}
+use Rattle.x86_values.specs.Operands.{is_absent, is_memory}
+use Rattle.plain_spelling.specs.Forms.{operand_at, is_variant_of, is_allowed_in, is_register, is_immediate, is_near_kind, is_far}
+use Rattle.plain_spelling.specs.PlainFront.{register_number, operand_number, base_or_register_number, number_in_rm, number_in_opcode, number_asked_of, asks_b, plain_front_of}
 use Rattle.plain_spelling.specs.Addresses.{register_count, written_size, address_fields}
 use Rattle.plain_spelling.specs.PlainTail.{plain_size, plain_modrm, operand_immediate, immediate_at}
 use Rattle.plain_spelling.specs.Expressible.{each_operand, kind_suits, naming_number, has_memory_operand, lock_suits, repeat_suits, prefixes_suit}
@@ -53,7 +54,7 @@ immediate_apart : (op : Operand) → is_immediate op ≡ true → false ≡ is_m
 immediate_apart (Imm x) h = refl
 immediate_apart _ h = cc
 
-near_apart : (op : Operand) → is_near op ≡ true → false ≡ is_memory op
+near_apart : (op : Operand) → is_near_kind op ≡ true → false ≡ is_memory op
 near_apart (Near x) h = refl
 near_apart _ h = cc
 
@@ -176,11 +177,11 @@ opcode_number bits ip row i n r g below reads e =
     let s = g.is_sound in
     let adds : adds_register row.plus ≡ true = sym (proper row s).opcode ∙ reads-at reads_opcode row n s below reads in
     let multiple = (plus_register row s adds).2 in
-    let opcode : asked number_in_opcode row i ≡ register_number r = asked_opcode-at row i n s g.four below reads ∙ ap operand_number e in
-    let rm : asked number_in_rm row i ≡ register_number r = asked_rm-at row i n s g.four below (reads_b_right (method_of (kind_at row n)) reads) ∙ ap base_or_register_number e in
+    let opcode : number_asked_of number_in_opcode row i ≡ register_number r = asked_opcode-at row i n s g.four below reads ∙ ap operand_number e in
+    let rm : number_asked_of number_in_rm row i ≡ register_number r = asked_rm-at row i n s g.four below (reads_b_right (method_of (kind_at row n)) reads) ∙ ap base_or_register_number e in
     let small = below_16 bits (register_number r) (nameable-at bits row i n r g.suits.registers below e).number in
-    let byte : (plain_front_of bits row i).opcode ≡ row.opcode + asked number_in_opcode row i % 8 = opcode_of_front bits row i ∙ opcode_added row i adds in
-    let low : (plain_front_of bits row i).opcode % 8 ≡ register_number r % 8 = ap (λ (x : ℕ). x % 8) byte ∙ low_of row.opcode (asked number_in_opcode row i) multiple ∙ ap (λ (x : ℕ). x % 8) opcode in
+    let byte : (plain_front_of bits row i).opcode ≡ row.opcode + number_asked_of number_in_opcode row i % 8 = opcode_of_front bits row i ∙ opcode_added row i adds in
+    let low : (plain_front_of bits row i).opcode % 8 ≡ register_number r % 8 = ap (λ (x : ℕ). x % 8) byte ∙ low_of row.opcode (number_asked_of number_in_opcode row i) multiple ∙ ap (λ (x : ℕ). x % 8) opcode in
     ap (λ (b : Bool). with_high_bit b ((plain_front_of bits row i).opcode % 8)) ((says bits ip row i g).b ∙ ap (λ (x : ℕ). nat_le 8 x) rm)
     ∙ ap (λ (x : ℕ). with_high_bit (nat_le 8 (register_number r)) x) low ∙ extended_back (register_number r) small
   where

@@ -17,7 +17,7 @@ use Rattle.instruction_parts.specs.Bytes.{bit, state_of}
 use Rattle.row_fit.specs.Fits.{same_bool, same_map}
 use Rattle.row_fit.proofs.FitLaws.{all_conditions}
 use Rattle.row_meaning.specs.Meaning.{instr_of}
-use Rattle.plain_spelling.specs.PlainFront.{number_in_vvvv, asked, asks_r, asks_x, asks_b, asks_low_byte, asks_rex_w, asks_vex_w, asked_rex, asked_vex, plain_front_of}
+use Rattle.plain_spelling.specs.PlainFront.{number_in_vvvv, number_asked_of, asks_r, asks_x, asks_b, asks_low_byte, asks_rex_w, asks_vex_w, asked_rex, asked_vex, plain_front_of}
 use Rattle.plain_spelling.specs.PlainTail.{prefixes_of, plain_spelling}
 use Rattle.plain_spelling.proofs.FrontRange.{vex_for, vex_of_vex, vex_of_legacy}
 use Rattle.plain_form.specs.Given as fit
@@ -204,4 +204,4 @@ pub vvvv_plain : (bits : Bits) (row : Row) (i : Instr) → fit.NumbersSuit bits 
 unfolding vvvv_is_read
 vvvv_plain bits row i n =
     by_vex (λ o. vvvv_is_read bits o ≡ true) (asked_vex row i) (is_vex_row row) (vex_for row i) (vex_of_vex row i) (vex_of_legacy row i)
-    (long_or (is_64 bits) (asked number_in_vvvv row i) (λ short. asked-small bits (asked number_in_vvvv row i) short n.vvvv)) refl
+    (long_or (is_64 bits) (number_asked_of number_in_vvvv row i) (λ short. asked-small bits (number_asked_of number_in_vvvv row i) short n.vvvv)) refl

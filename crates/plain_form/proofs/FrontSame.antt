@@ -37,7 +37,7 @@ use Rattle.row_fit.specs.Fits.{reads_by, is_vvvv, kind_at, same_bool, same_map, 
 use Rattle.row_fit.specs.Sound.{Sound, kind_is_proper, vex_is_proper, legacy_is_proper, size_says_w, is_no_w, is_no_l, is_class_of_vex, is_size_of_vex}
 use Rattle.row_meaning.specs.Meaning.{Tail, operand_by, register_of, tail_of}
 use Rattle.plain_spelling.specs.Forms.{operand_at}
-use Rattle.plain_spelling.specs.PlainFront.{register_number, operand_number, number_in_vvvv, asked, asks_r, asks_x, asks_b, asks_low_byte, asks_rex_w, asks_vex_w, asked_rex, class_pp, asked_vex, asked_opcode, plain_front_of}
+use Rattle.plain_spelling.specs.PlainFront.{register_number, operand_number, number_in_vvvv, number_asked_of, asks_r, asks_x, asks_b, asks_low_byte, asks_rex_w, asks_vex_w, asked_rex, class_pp, asked_vex, asked_opcode, plain_front_of}
 use Rattle.plain_spelling.specs.PlainTail.{prefixes_of}
 use Rattle.plain_form.proofs.AddressCases.{impossible, if_yes, if_no}
 use Rattle.plain_spelling.proofs.FrontRange.{vex_for, vex_of_vex, vex_of_legacy}
@@ -334,7 +334,7 @@ unused_vvvv row st v e h none =
     or_left true b n h = refl
     or_left false b n h = impossible (sym h ∙ n)
 
-vvvv_same : (bits : Bits) (ip : ℕ) (code : Code) (row : Row) (s : Spelling) (i : Instr) (v : Vex) → Given bits ip code row s i → length i.ops ≡ 4 → (state_of bits row s).vex ≡ Some v → (is_64 bits || nat_lt v.vvvv 8) ≡ true → v.vvvv ≡ asked number_in_vvvv row i
+vvvv_same : (bits : Bits) (ip : ℕ) (code : Code) (row : Row) (s : Spelling) (i : Instr) (v : Vex) → Given bits ip code row s i → length i.ops ≡ 4 → (state_of bits row s).vex ≡ Some v → (is_64 bits || nat_lt v.vvvv 8) ≡ true → v.vvvv ≡ number_asked_of number_in_vvvv row i
 vvvv_same bits ip code row s i v g four e h = elim (cases_Bool (reads_by is_vvvv row)) [
   | inr none ↦ unused_vvvv row (state_of bits row s) v e g.fitting.vvvv none ∙ sym (asked_vvvv-none row i none)
   | inl some ↦ (let k = kind_that_passes (λ kind. is_vvvv (method_of kind)) row.ops Absent some in
@@ -375,7 +375,7 @@ vvvv_read : (bits : Bits) (v : Vex) → vvvv_is_read bits (Some v) ≡ true → 
 unfolding vvvv_is_read
 vvvv_read bits v h = h
 
-asked_pp : (row : Row) (i : Instr) → vex_for row i ≡ vex_of (not (same_map row.map M0f) || (asks_x row i || (asks_b row i || asks_vex_w row))) (asks_r row i) (asks_x row i) (asks_b row i) (asks_vex_w row) (elim row.l [ L256 ↦ true | _ ↦ false ]) row.map (asked number_in_vvvv row i) (class_pp row.class)
+asked_pp : (row : Row) (i : Instr) → vex_for row i ≡ vex_of (not (same_map row.map M0f) || (asks_x row i || (asks_b row i || asks_vex_w row))) (asks_r row i) (asks_x row i) (asks_b row i) (asks_vex_w row) (elim row.l [ L256 ↦ true | _ ↦ false ]) row.map (number_asked_of number_in_vvvv row i) (class_pp row.class)
 asked_pp row i = refl
 
 -- **the VEX is the plain one**

@@ -23,7 +23,8 @@ use Rattle.instruction_parts.specs.Kinds.{method_of}
 use Rattle.instruction_parts.specs.Bytes.{modrm_bytes, sib_bytes, lead_bytes, front_bytes, tail_bytes, bytes_of}
 use Rattle.row_fit.specs.Fits.{reads_by, reads_mode, is_offset, same_bool, needs_sib, is_displacement_alone, displacement_bytes, address_fits, immediate_bytes, immediates_bytes, kind_at}
 use Rattle.row_fit.specs.Sound.{reads_rm}
-use Rattle.plain_spelling.specs.Forms.{is_variant_of, is_register, is_memory, operand_at}
+use Rattle.x86_values.specs.Operands.{is_memory}
+use Rattle.plain_spelling.specs.Forms.{is_variant_of, is_register, operand_at}
 use Rattle.plain_spelling.specs.PlainFront.{asked_vex, asked_opcode, plain_front_of}
 use Rattle.plain_spelling.specs.declared.addresses.AddressFields.{AddressFields}
 use Rattle.plain_spelling.specs.PlainTail.{prefixes_of, plain_sib_of, lone_mode, no_address, modrm_with, fields_of, plain_modrm, operand_displacement, address_operand, displacement_of_operand, plain_immediates, plain_size, plain_len, plain_next, plain_spelling}

@@ -22,8 +22,9 @@ use Rattle.instruction_parts.specs.Bytes.{state_of}
 use Rattle.row_fit.specs.Fits.{Fits, kind_at, is_offset, modrm_rule_fits}
 use Rattle.row_fit.specs.Sound.{Sound, reads_rm}
 use Rattle.row_meaning.specs.Meaning.{tail_of, own_immediate}
-use Rattle.plain_spelling.specs.Forms.{operand_at, is_memory}
-use Rattle.plain_spelling.specs.PlainFront.{number_in_reg, asked}
+use Rattle.x86_values.specs.Operands.{is_memory}
+use Rattle.plain_spelling.specs.Forms.{operand_at}
+use Rattle.plain_spelling.specs.PlainFront.{number_in_reg, number_asked_of}
 use Rattle.plain_spelling.specs.PlainTail.{plain_modrm, plain_sib_of, operand_displacement, operand_where, address_operand, fields_of, rm_fields, fixed_rm, modrm_with}
 use Rattle.plain_spelling.proofs.Asked.{four_kinds}
 use Rattle.plain_form.proofs.AddressCases.{impossible}
@@ -115,7 +116,7 @@ by_rule plus (FixedByte b) any digit fixed (Some m) h = refl
 same_rule : (bits : Bits) (row : Row) (i : Instr) (m : Option ModRm) → modrm_rule_fits row.plus row.modrm m ≡ true → is_some (plain_modrm bits row i) ≡ is_some m
 unfolding plain_modrm
 same_rule bits row i m h =
-    by_rule row.plus row.modrm (modrm_with (asked number_in_reg row i % 8) (fields_of bits row i)) (λ d. modrm_with d (fields_of bits row i))
+    by_rule row.plus row.modrm (modrm_with (number_asked_of number_in_reg row i % 8) (fields_of bits row i)) (λ d. modrm_with d (fields_of bits row i))
     (λ b. record { mode3 = b / 64; reg = b / 8 % 8; rm = fixed_rm row i b }) m h
 
 -- **the plain spelling has a ModRM where the spelling has one**

@@ -18,7 +18,8 @@ use Rattle.instruction_parts.specs.Bytes.{state_of}
 use Rattle.row_fit.specs.Fits.{Fits, kind_at, reads_by, is_gather, is_memory_method}
 use Rattle.row_fit.specs.Sound.{Sound}
 use Rattle.row_meaning.specs.Meaning.{tail_of, own_immediate, instr_of, has_memory, kept_address_size}
-use Rattle.plain_spelling.specs.Forms.{operand_at, is_memory}
+use Rattle.x86_values.specs.Operands.{is_memory}
+use Rattle.plain_spelling.specs.Forms.{operand_at}
 use Rattle.plain_spelling.specs.Addresses.{has_address_size}
 use Rattle.plain_spelling.specs.Expressible.{each_operand, address_suits, displacement_offered, has_memory_operand, size_agrees, is_size_of, address_size_suits}
 use Rattle.plain_spelling.proofs.Asked.{each-from, four_kinds}

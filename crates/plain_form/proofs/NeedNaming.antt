@@ -29,7 +29,7 @@ use Rattle.row_fit.specs.Fits.{with_high_bit, kind_at, vvvv_number, is_vex_of_mo
 use Rattle.row_meaning.specs.Meaning.{general_register, byte_register, vector, word_or_dword, size_by_w, native_size, register_of, last_byte_number}
 use Rattle.plain_spelling.specs.Forms.{operand_at}
 use Rattle.x86_values.specs.Comparing.{same_register}
-use Rattle.plain_spelling.specs.PlainFront.{register_number, number_in_reg, number_in_rm, asked, asks_r, asks_x, asks_b, asks_rex_w, asks_low_byte, is_low_byte_of_rex, asked_rex, plain_front_of}
+use Rattle.plain_spelling.specs.PlainFront.{register_number, number_in_reg, number_in_rm, number_asked_of, asks_r, asks_x, asks_b, asks_rex_w, asks_low_byte, is_low_byte_of_rex, asked_rex, plain_front_of}
 use Rattle.plain_spelling.specs.Addresses.{register_count}
 use Rattle.plain_spelling.specs.Expressible.{exists_in_mode, naming_number, is_of_kind, is_not_nop, kind_allows, is_nameable}
 use Rattle.plain_spelling.specs.Writable.{Writable}
@@ -195,11 +195,11 @@ no_rex_asked row i l h =
     let h4 = or_parts (asks_b row i) _ h3.1 in
     record { r = h2.0; b = h4.0; low = h4.1 }
 
-asked_reg_small : (row : Row) (i : Instr) → asks_r row i ≡ false → asked number_in_reg row i < 8
+asked_reg_small : (row : Row) (i : Instr) → asks_r row i ≡ false → number_asked_of number_in_reg row i < 8
 unfolding asks_r
 asked_reg_small row i h = leb-false 8 _ h
 
-asked_rm_small : (row : Row) (i : Instr) → asks_b row i ≡ false → asked number_in_rm row i < 8
+asked_rm_small : (row : Row) (i : Instr) → asks_b row i ≡ false → number_asked_of number_in_rm row i < 8
 unfolding asks_b
 asked_rm_small row i h = leb-false 8 _ h
 
@@ -236,12 +236,12 @@ part_of : (f : Method → Operand → ℕ) (how how1 : Method) (op op1 : Operand
 part_of f how how1 op op1 n e k h = rw (← e, ← k) h
 
 -- what an operand read from ModRM.reg asks of it
-pub reg_part : (bits : Bits) (row : Row) (st : PrefixState) (i : Instr) (n : ℕ) (how : Method) (r : Register) → Context bits row st i n → method_of (kind_at row n) ≡ how → operand_at i n ≡ Reg r → number_in_reg how (Reg r) ≤ asked number_in_reg row i
+pub reg_part : (bits : Bits) (row : Row) (st : PrefixState) (i : Instr) (n : ℕ) (how : Method) (r : Register) → Context bits row st i n → method_of (kind_at row n) ≡ how → operand_at i n ≡ Reg r → number_in_reg how (Reg r) ≤ number_asked_of number_in_reg row i
 reg_part bits row st i n how r c e k =
     part_of number_in_reg _ how _ (Reg r) _ e k (asked_part number_in_reg row.ops i.ops n (let a = c.kinds in let b = c.within in omega arith) (let a = c.operands in let b = c.within in omega arith))
 
 -- and one in r/m or the opcode byte
-pub rm_part : (bits : Bits) (row : Row) (st : PrefixState) (i : Instr) (n : ℕ) (how : Method) (r : Register) → Context bits row st i n → method_of (kind_at row n) ≡ how → operand_at i n ≡ Reg r → number_in_rm how (Reg r) ≤ asked number_in_rm row i
+pub rm_part : (bits : Bits) (row : Row) (st : PrefixState) (i : Instr) (n : ℕ) (how : Method) (r : Register) → Context bits row st i n → method_of (kind_at row n) ≡ how → operand_at i n ≡ Reg r → number_in_rm how (Reg r) ≤ number_asked_of number_in_rm row i
 rm_part bits row st i n how r c e k =
     part_of number_in_rm _ how _ (Reg r) _ e k (asked_part number_in_rm row.ops i.ops n (let a = c.kinds in let b = c.within in omega arith) (let a = c.operands in let b = c.within in omega arith))
 
@@ -254,7 +254,7 @@ byte_number bits row st _ n e = cc
 pub reg_byte : (bits : Bits) (row : Row) (st : PrefixState) (i : Instr) (n number : ℕ) → Context bits row st i n → method_of (kind_at row n) ≡ method.ModRmReg → operand_at i n ≡ Reg (register_of bits row st (file_of (kind_at row n)) number) → file_of (kind_at row n) ≡ file.Byte → is_vex_row row ≡ false → asked_rex row i ≡ None → number < 8
 unfolding number_in_reg
 reg_byte bits row st i n number c how k f l none =
-    let part : register_number (register_of bits row st (file_of (kind_at row n)) number) ≤ asked number_in_reg row i = reg_part bits row st i n method.ModRmReg _ c how k in
+    let part : register_number (register_of bits row st (file_of (kind_at row n)) number) ≤ number_asked_of number_in_reg row i = reg_part bits row st i n method.ModRmReg _ c how k in
     let same = byte_number bits row st (file_of (kind_at row n)) number f in
     let small = asked_reg_small row i (no_rex_asked row i l none).r in
     omega arith

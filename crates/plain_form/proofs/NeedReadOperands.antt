@@ -18,7 +18,7 @@ use Rattle.instruction_parts.specs.Counting.{is_16}
 use Rattle.instruction_parts.specs.Sizes.{state_address_size, size_bytes}
 use Rattle.row_fit.specs.Fits.{are_bytes, has_modrm, is_memory_method, rm_number}
 use Rattle.row_meaning.specs.Meaning.{Tail, operand_by, memory_operand, memory_of, gather_memory, near_target, far_pointer, register_of, with_modrm}
-use Rattle.plain_spelling.specs.Forms.{is_memory}
+use Rattle.x86_values.specs.Operands.{is_memory}
 use Rattle.plain_spelling.specs.Addresses.{shape_suits, offers, form_offers, is_displacement, displacement_suits, displacement_count, shown_size, written_size}
 use Rattle.plain_spelling.specs.PlainTail.{operand_displacement}
 use Rattle.plain_spelling.specs.Expressible.{size_agrees}

@@ -24,7 +24,7 @@ use Rattle.instruction_parts.specs.Sizes.{bit_b, state_address_size}
 use Rattle.row_fit.specs.Fits.{with_high_bit, is_displacement_alone, needs_sib, has_modrm, is_memory_method, rm_number}
 use Rattle.row_fit.specs.Sound.{reads_rm}
 use Rattle.row_meaning.specs.Meaning.{general_register, displacement, disp_size_of, index_16, memory_16, ip_or_absolute, memory_wide, memory_of, Tail, operand_by, memory_operand, register_of}
-use Rattle.plain_spelling.specs.Forms.{is_memory}
+use Rattle.x86_values.specs.Operands.{is_memory}
 use Rattle.plain_spelling.specs.PlainFront.{register_number}
 use Rattle.plain_spelling.specs.Addresses.{form_of, base_bits, wide_needs_sib, wide_fields, alone_fields, address_fields, written_size}
 use Rattle.plain_spelling.specs.PlainTail.{rm_fields}

@@ -33,8 +33,9 @@ use Rattle.instruction_parts.specs.Bytes.{state_of}
 use Rattle.row_fit.specs.Fits.{kind_at, has_modrm, reads_by, is_gather, with_high_bit, reg_number, vvvv_number, index_number, needs_sib, gather_fits, is_nop_byte, is_memory_method, lock_fits, is_repeat_f3, is_no_repeat, legacy_class_fits, vex_class_fits, is_vvvv}
 use Rattle.row_fit.specs.Sound.{Sound, has_four_operands, reads_reg, reads_rm, reads_opcode}
 use Rattle.row_meaning.specs.Meaning.{register_of, memory_with_sib, with_modrm, gather_memory, kept_repeat, Tail, tail_of, instr_of, operand_by, own_immediate}
-use Rattle.plain_spelling.specs.Forms.{is_variant_of, is_memory, operand_at}
-use Rattle.plain_spelling.specs.PlainFront.{register_number, number_in_reg, number_in_index, number_in_vvvv, number_in_opcode, operand_index_number, asked, asked_opcode}
+use Rattle.x86_values.specs.Operands.{is_memory}
+use Rattle.plain_spelling.specs.Forms.{is_variant_of, operand_at}
+use Rattle.plain_spelling.specs.PlainFront.{register_number, number_in_reg, number_in_index, number_in_vvvv, number_in_opcode, operand_index_number, number_asked_of, asked_opcode}
 use Rattle.plain_spelling.specs.Expressible.{each_operand, kind_suits, vector_in_reg, vector_in_index, vector_in_vvvv, passes, differ as two_differ, gather_numbers_differ, gather_suits, register_suits, lock_suits, is_exchange_of_90, repeat_suits, prefixes_suit, row_exists}
 use Rattle.plain_spelling.specs.Writable.{is_vector_file, names_vectors, gather_is_whole}
 use Rattle.plain_form.proofs.AddressForms.{vectors_named}
@@ -172,7 +173,7 @@ whole row h gather =
       vectors = (and_parts (reads_by is_vvvv row) _ rest).1;
     }
 
-asked_reg : (bits : Bits) (code : Code) (row : Row) (st : PrefixState) (t : Tail) (imm : List ℕ) → Sound row → Whole row → asked number_in_reg row (instr_of bits code row st t imm) ≡ reg_number st t.modrm
+asked_reg : (bits : Bits) (code : Code) (row : Row) (st : PrefixState) (t : Tail) (imm : List ℕ) → Sound row → Whole row → number_asked_of number_in_reg row (instr_of bits code row st t imm) ≡ reg_number st t.modrm
 asked_reg bits code row st t imm sound w =
     let v = reg_number st t.modrm in
     asked_is v reads_reg number_in_reg row.ops _ w.reg (apart row sound.apart).reg
@@ -180,7 +181,7 @@ asked_reg bits code row st t imm sound w =
     (each_read (λ kind op. names_vectors kind ≡ true → Gives v reads_reg number_in_reg kind op) bits code row st t imm sound.four_operands
     (λ kind own k. (λ h. given_reg bits row st t kind (method_of kind) own (vectors_named kind k (or_left (reads_reg (method_of kind)) _ h)) h, silent_reg _ (method_of kind)))))
 
-asked_vvvv : (bits : Bits) (code : Code) (row : Row) (st : PrefixState) (t : Tail) (imm : List ℕ) → Sound row → Whole row → asked number_in_vvvv row (instr_of bits code row st t imm) ≡ vvvv_number bits st
+asked_vvvv : (bits : Bits) (code : Code) (row : Row) (st : PrefixState) (t : Tail) (imm : List ℕ) → Sound row → Whole row → number_asked_of number_in_vvvv row (instr_of bits code row st t imm) ≡ vvvv_number bits st
 asked_vvvv bits code row st t imm sound w =
     let v = vvvv_number bits st in
     asked_is v is_vvvv number_in_vvvv row.ops _ w.vvvv (apart row sound.apart).vvvv
@@ -201,7 +202,7 @@ any_weaker p q w (kind ∷ kinds) h = elim (cases_Bool (p (method_of kind))) [
       rw (any_weaker p q w kinds more) (or-true (q (method_of kind))))
 ]
 
-asked_index : (bits : Bits) (code : Code) (row : Row) (st : PrefixState) (t : Tail) (imm : List ℕ) → Sound row → Whole row → reads_by is_gather row ≡ true → is_some t.modrm ≡ true → is_some t.sib ≡ true → asked number_in_index row (instr_of bits code row st t imm) ≡ index_number st t.sib
+asked_index : (bits : Bits) (code : Code) (row : Row) (st : PrefixState) (t : Tail) (imm : List ℕ) → Sound row → Whole row → reads_by is_gather row ≡ true → is_some t.modrm ≡ true → is_some t.sib ≡ true → number_asked_of number_in_index row (instr_of bits code row st t imm) ≡ index_number st t.sib
 asked_index bits code row st t imm sound w gather m s =
     let v = index_number st t.sib in
     let one = (apart row sound.apart).rm in
@@ -255,9 +256,9 @@ gathers_differ bits ip code row s i g gather =
     let w = whole row g.is_writable.gather gather in
     let fit = tail.gather gather in
     let same = sym (read_is bits ip code row s i g) in
-    let at = λ (f : Method → Operand → ℕ). ap (λ (x : Instr). asked f row x) same in
+    let at = λ (f : Method → Operand → ℕ). ap (λ (x : Instr). number_asked_of f row x) same in
     some_of_them (some_passes vector_in_reg row i) (some_passes vector_in_index row i) (some_passes vector_in_vvvv row i)
-    (asked number_in_reg row i) (asked number_in_index row i) (asked number_in_vvvv row i)
+    (number_asked_of number_in_reg row i) (number_asked_of number_in_index row i) (number_asked_of number_in_vvvv row i)
     (differ_by bits st t.modrm t.sib _ _ _ fit
     (at number_in_reg ∙ asked_reg bits code row st t s.imm.items g.is_sound w)
     (at number_in_index ∙ asked_index bits code row st t s.imm.items g.is_sound w gather (gather_modrm bits st t.modrm t.sib fit) (tail.sib gather))
@@ -323,7 +324,7 @@ unfolding number_in_opcode operand_by
 given_opcode bits row st t kind method.OpcodeLow own e h = opcode_number bits row st kind (with_high_bit (bit_b bits st) (st.opcode % 8)) e
 given_opcode bits row st t kind _ own e h = cc
 
-asked_opcode_number : (bits : Bits) (code : Code) (row : Row) (st : PrefixState) (t : Tail) (imm : List ℕ) → Sound row → row.plus ≡ PlusRegister → asked number_in_opcode row (instr_of bits code row st t imm) ≡ with_high_bit (bit_b bits st) (st.opcode % 8)
+asked_opcode_number : (bits : Bits) (code : Code) (row : Row) (st : PrefixState) (t : Tail) (imm : List ℕ) → Sound row → row.plus ≡ PlusRegister → number_asked_of number_in_opcode row (instr_of bits code row st t imm) ≡ with_high_bit (bit_b bits st) (st.opcode % 8)
 asked_opcode_number bits code row st t imm sound plus =
     let v = with_high_bit (bit_b bits st) (st.opcode % 8) in
     asked_is v reads_opcode number_in_opcode row.ops _ ((placed row sound.operands sound.plus).reads plus) (apart row sound.apart).opcode
@@ -337,7 +338,7 @@ low_of_extended false n = omega arith
 opcode_again : (r o : ℕ) → r ≤ o → o < r + 8 → r % 8 ≡ 0 → r + o % 8 ≡ o
 opcode_again r o h k a = omega arith
 
-asked_opcode_by : (row : Row) (i : Instr) → row.plus ≡ PlusRegister → asked_opcode row i ≡ row.opcode + asked number_in_opcode row i % 8
+asked_opcode_by : (row : Row) (i : Instr) → row.plus ≡ PlusRegister → asked_opcode row i ≡ row.opcode + number_asked_of number_in_opcode row i % 8
 unfolding asked_opcode
 asked_opcode_by row i e = rw e
 
@@ -346,9 +347,9 @@ pub same_opcode_byte : (bits : Bits) (ip : ℕ) (code : Code) (row : Row) (s : S
 same_opcode_byte bits ip code row s i g plus =
     let st = state_of bits row s in
     let t = tail_of bits ip row s in
-    let number : asked number_in_opcode row i ≡ with_high_bit (bit_b bits st) (st.opcode % 8) =
-    ap (λ (x : Instr). asked number_in_opcode row x) (sym (read_is bits ip code row s i g)) ∙ asked_opcode_number bits code row st t s.imm.items g.is_sound plus in
-    let low : asked number_in_opcode row i % 8 ≡ st.opcode % 8 = ap (λ (n : ℕ). n % 8) number ∙ low_of_extended (bit_b bits st) st.opcode in
+    let number : number_asked_of number_in_opcode row i ≡ with_high_bit (bit_b bits st) (st.opcode % 8) =
+    ap (λ (x : Instr). number_asked_of number_in_opcode row x) (sym (read_is bits ip code row s i g)) ∙ asked_opcode_number bits code row st t s.imm.items g.is_sound plus in
+    let low : number_asked_of number_in_opcode row i % 8 ≡ st.opcode % 8 = ap (λ (n : ℕ). n % 8) number ∙ low_of_extended (bit_b bits st) st.opcode in
     let tail = tail_is bits ip row s g.is_sound g.fitting in
     let range = opcode_range row st.opcode plus tail.opcode in
     asked_opcode_by row i plus ∙ ap (λ (n : ℕ). row.opcode + n) low

@@ -10,7 +10,7 @@ use Rattle.x86_values.specs.declared.Mem.{Mem}
 use Rattle.x86_values.specs.declared.Operand.{Operand}
 use Rattle.x86_values.specs.declared.Operand.TheVariants.{Reg, Mem as MemOperand, Near}
 use Rattle.x86_values.specs.declared.Instr.{Instr}
-use Rattle.x86_values.specs.Wrapping.{width, wrapped}
+use Rattle.x86_values.specs.Wrapping.{width, modulo_width}
 use Rattle.row_types.specs.declared.Row.{Row}
 use Rattle.row_types.specs.declared.OpKind.{OpKind}
 use Rattle.row_fit.proofs.FitLaws.{ranges_behind}
@@ -216,7 +216,7 @@ spelled_short bits row s h =
     address_short asize row s.modrm s.sib s.disp.items
     (and_parts (address_fits asize row s.modrm s.sib (length s.disp.items)) (length s.imm.items == immediates_bytes (state_size bits row (state_of bits row s)) row) h).0
 
-wrapped-below : (bits : Bits) (x : ℕ) → wrapped bits x < 2 ^ 64
+wrapped-below : (bits : Bits) (x : ℕ) → modulo_width bits x < 2 ^ 64
 wrapped-below B16 x = omega arith
 wrapped-below B32 x = omega arith
 wrapped-below B64 x = omega arith
@@ -238,7 +238,7 @@ in_reach-at bits ip code row s i n g below =
 -- the next address is that of the plain spelling, where both are as long
 next_is : (bits : Bits) (ip : ℕ) (row : Row) (s : Spelling) (i : Instr) → plain_len bits row i ≡ length (bytes_of row s) → plain_next bits ip row i ≡ (tail_of bits ip row s).next
 unfolding plain_next
-next_is bits ip row s i e = ap (λ (n : ℕ). wrapped bits (ip + n)) e
+next_is bits ip row s i e = ap (λ (n : ℕ). modulo_width bits (ip + n)) e
 
 target-at : (bits : Bits) (ip : ℕ) (code : Code) (row : Row) (s : Spelling) (i : Instr) (n : ℕ) → Given bits ip code row s i → plain_len bits row i ≡ length (bytes_of row s) → n < 4 → target_suits bits ip row i n ≡ true
 unfolding target_suits

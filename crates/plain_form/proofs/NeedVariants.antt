@@ -29,7 +29,8 @@ use Rattle.instruction_parts.specs.Bytes.{state_of}
 use Rattle.row_fit.specs.Fits.{Fits, kind_at, has_modrm, reads_by, is_gather, is_any_mode, reads_mode, rm_number, needs_sib, address_fits, lengths_fit, displacement_bytes, same_bool, gather_fits, registers_fit, register_fits, destination_fits, is_nop_byte, nop_fits, opcode_and_modrm_fit, opcode_fits, modrm_rule_fits, place_fits, place_allows}
 use Rattle.row_fit.specs.Sound.{Sound, has_four_operands, reads_rm, has_modrm_rule}
 use Rattle.row_meaning.specs.Meaning.{register_of, with_modrm, memory_operand, gather_memory, near_target, far_pointer, Tail, tail_of, instr_of, operand_by, operand_at, own_immediate}
-use Rattle.plain_spelling.specs.Forms.{is_variant_of, is_allowed_in, is_memory}
+use Rattle.x86_values.specs.Operands.{is_memory}
+use Rattle.plain_spelling.specs.Forms.{is_variant_of, is_allowed_in}
 use Rattle.plain_spelling.specs.Forms as form
 use Rattle.plain_spelling.specs.Expressible.{kind_suits, each_operand}
 use Rattle.plain_spelling.proofs.Asked.{each-from}

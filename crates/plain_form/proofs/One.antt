@@ -21,7 +21,8 @@ use Rattle.row_fit.specs.Fits.{reads_by, is_offset, immediate_bytes, kind_at}
 use Rattle.row_fit.specs.Sound.{reads_rm, reads_last_byte}
 use Rattle.row_meaning.specs.Meaning.{Tail, tail, tail_of, next_address, operand_by, own_immediate, immediates_before}
 use Rattle.row_meaning.specs.Meaning as meant
-use Rattle.plain_spelling.specs.Forms.{is_memory, operand_at}
+use Rattle.x86_values.specs.Operands.{is_memory}
+use Rattle.plain_spelling.specs.Forms.{operand_at}
 use Rattle.plain_spelling.specs.Expressible.{Suits}
 use Rattle.plain_spelling.specs.PlainTail.{operand_displacement, address_operand, plain_size, plain_spelling}
 use Rattle.plain_form.proofs.AddressCases.{impossible}

@@ -23,7 +23,8 @@ use Rattle.instruction_parts.specs.Bytes.{state_of}
 use Rattle.row_fit.specs.Fits.{reads_by, is_gather, has_modrm, rm_number, index_number, is_memory_method, kind_at}
 use Rattle.row_fit.specs.Sound.{Sound, reads_rm}
 use Rattle.row_meaning.specs.Meaning.{Tail, tail_of, operand_by, own_immediate, memory_of, memory_operand, memory_with_sib, gather_memory, with_modrm, register_of}
-use Rattle.plain_spelling.specs.Forms.{operand_at, is_memory}
+use Rattle.x86_values.specs.Operands.{is_memory}
+use Rattle.plain_spelling.specs.Forms.{operand_at}
 use Rattle.plain_spelling.specs.Addresses.{address_fields, written_size, displacement_count}
 use Rattle.plain_form.proofs.AddressCases.{impossible, written_is}
 use Rattle.plain_form.proofs.AddressForms.{IsVectorFile, gather_file}

@@ -29,7 +29,8 @@ use Rattle.row_fit.specs.Fits.{reads_by, reads_mode, is_any_mode, has_modrm, wit
 use Rattle.row_fit.specs.Sound.{reads_rm}
 use Rattle.row_fit.proofs.FitLaws.{modrm_range}
 use Rattle.row_meaning.specs.Meaning.{Tail, tail_of, operand_by, own_immediate, memory_operand, register_of, gather_memory, with_modrm}
-use Rattle.plain_spelling.specs.Forms.{is_variant_of, is_allowed_in, is_register, is_memory, operand_at}
+use Rattle.x86_values.specs.Operands.{is_memory}
+use Rattle.plain_spelling.specs.Forms.{is_variant_of, is_allowed_in, is_register, operand_at}
 use Rattle.plain_spelling.specs.PlainFront.{register_number}
 use Rattle.plain_spelling.specs.Addresses.{address_fields}
 use Rattle.plain_spelling.specs.PlainTail.{lone_mode, rm_fields, fields_of}

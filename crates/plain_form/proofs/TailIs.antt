@@ -23,7 +23,7 @@ use Rattle.row_fit.specs.Fits.{has_modrm, reg_field, reads_by, reads_mode, is_an
 use Rattle.row_fit.specs.Sound.{reads_reg, reads_rm, reads_last_byte}
 use Rattle.row_meaning.specs.Meaning.{own_immediate}
 use Rattle.plain_spelling.specs.Forms.{is_variant_of, is_register, operand_at}
-use Rattle.plain_spelling.specs.PlainFront.{register_number, number_in_reg, asked, plain_front_of}
+use Rattle.plain_spelling.specs.PlainFront.{register_number, number_in_reg, number_asked_of, plain_front_of}
 use Rattle.plain_spelling.specs.Addresses.{register_count}
 use Rattle.plain_spelling.specs.declared.addresses.AddressFields.{AddressFields}
 use Rattle.plain_spelling.specs.PlainTail.{no_address, lone_mode, rm_fields, fields_of, modrm_with, plain_modrm, operand_immediate, immediate_at, plain_immediates, plain_size, plain_next, plain_spelling}
@@ -78,7 +78,7 @@ lone_by bits row i reg m e = elim (cases_Bool (reads_by reads_rm row)) [
 pub rm_plain : (bits : Bits) (row : Row) (i : Instr) → rm_is_read row (plain_modrm bits row i) ≡ true
 unfolding rm_is_read
 rm_plain bits row i =
-    rm_by row.modrm (lone_is_zero row (plain_modrm bits row i)) (λ rule. lone_by bits row i (asked number_in_reg row i % 8) (plain_modrm bits row i) (modrm_any bits row i rule))
+    rm_by row.modrm (lone_is_zero row (plain_modrm bits row i)) (λ rule. lone_by bits row i (number_asked_of number_in_reg row i % 8) (plain_modrm bits row i) (modrm_any bits row i rule))
     (λ d rule. lone_by bits row i d (plain_modrm bits row i) (modrm_digit bits row i d rule))
 
 -- ---- mod where it is not read

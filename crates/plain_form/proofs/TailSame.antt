@@ -30,7 +30,7 @@ use Rattle.row_fit.specs.Fits.{reads_by, with_high_bit, reg_number, address_fits
 use Rattle.row_fit.specs.Sound.{reads_reg, reads_rm}
 use Rattle.row_meaning.specs.Meaning.{Tail, tail_of, operand_by, own_immediate, register_of, segment_numbered}
 use Rattle.plain_spelling.specs.Forms.{is_variant_of, is_register, operand_at}
-use Rattle.plain_spelling.specs.PlainFront.{register_number, operand_number, base_or_register_number, number_in_reg, number_in_rm, asked}
+use Rattle.plain_spelling.specs.PlainFront.{register_number, operand_number, base_or_register_number, number_in_reg, number_in_rm, number_asked_of}
 use Rattle.plain_spelling.specs.declared.addresses.AddressFields.{AddressFields}
 use Rattle.plain_spelling.specs.PlainTail.{modrm_with, fixed_rm, plain_modrm, plain_sib_of}
 use Rattle.plain_spelling.specs.Writable.{rule_is_plain, is_register_only}
@@ -122,7 +122,7 @@ reg_read : (row : Row) (m : ModRm) → row.modrm ≡ AnyModRm → reg_is_read ro
 unfolding reg_is_read
 reg_read row m e h = rw e at h
 
-reg_same : (bits : Bits) (ip : ℕ) (code : Code) (row : Row) (s : Spelling) (i : Instr) (m : ModRm) → Given bits ip code row s i → length i.ops ≡ 4 → IsPlain bits ip row s → s.modrm ≡ Some m → row.modrm ≡ AnyModRm → asked number_in_reg row i % 8 ≡ m.reg
+reg_same : (bits : Bits) (ip : ℕ) (code : Code) (row : Row) (s : Spelling) (i : Instr) (m : ModRm) → Given bits ip code row s i → length i.ops ≡ 4 → IsPlain bits ip row s → s.modrm ≡ Some m → row.modrm ≡ AnyModRm → number_asked_of number_in_reg row i % 8 ≡ m.reg
 reg_same bits ip code row s i m g four p e rule = elim (cases_Bool (reads_by reads_reg row)) [
   | inr none ↦ (let z = eqb-true m.reg 0 (or_right (reads_by reads_reg row) (m.reg == 0) none (reg_read row m rule (subst (λ (o : Option ModRm). reg_is_read row o ≡ true) e p.reg))) in
       ap (λ (x : ℕ). x % 8) (asked_reg-none row i none) ∙ sym z)
@@ -204,7 +204,7 @@ fixed_by row i b NoPlus e h = rw e refl
 fixed_by row i b PlusRegister e h = rw e refl
 fixed_by row i b PlusStack e h = impossible h
 
-fixed_stack : (row : Row) (i : Instr) (b : ℕ) → row.plus ≡ PlusStack → fixed_rm row i b ≡ asked number_in_rm row i % 8
+fixed_stack : (row : Row) (i : Instr) (b : ℕ) → row.plus ≡ PlusStack → fixed_rm row i b ≡ number_asked_of number_in_rm row i % 8
 unfolding fixed_rm
 fixed_stack row i b e = rw e refl
 
@@ -234,7 +234,7 @@ unfolding is_variant_of
 register_only_variant place method.RegisterOnly op h k = k
 register_only_variant place _ op h k = impossible (sym h)
 
-stack_rm : (bits : Bits) (ip : ℕ) (code : Code) (row : Row) (s : Spelling) (i : Instr) (m : ModRm) → Given bits ip code row s i → length i.ops ≡ 4 → s.modrm ≡ Some m → reads_by is_register_only row ≡ true → asked number_in_rm row i % 8 ≡ m.rm
+stack_rm : (bits : Bits) (ip : ℕ) (code : Code) (row : Row) (s : Spelling) (i : Instr) (m : ModRm) → Given bits ip code row s i → length i.ops ≡ 4 → s.modrm ≡ Some m → reads_by is_register_only row ≡ true → number_asked_of number_in_rm row i % 8 ≡ m.rm
 stack_rm bits ip code row s i m g four e some =
     let k = kind_that_passes (λ kind. is_register_only (method_of kind)) row.ops Absent some in
     let kinds = four_kinds row g.is_sound in

@@ -18,7 +18,7 @@ use Rattle.instruction_parts.specs.Kinds.{file_of}
 use Rattle.instruction_parts.specs.Sizes.{size_bytes, state_address_size}
 use Rattle.row_fit.specs.Fits.{are_bytes, has_modrm, rm_number, is_displacement_alone, displacement_bytes, is_memory_method}
 use Rattle.row_meaning.specs.Meaning.{tail, operand_by, register_of, displacement, memory_16, ip_or_absolute, memory_with_sib, memory_wide, memory_of, memory_absolute, memory_operand, gather_memory, with_modrm, target_of}
-use Rattle.plain_spelling.specs.Forms.{is_memory}
+use Rattle.x86_values.specs.Operands.{is_memory}
 use Rattle.plain_form.proofs.AddressCases.{impossible, wide-alone, wide-register}
 use Rattle.plain_spelling.proofs.Asked.{reads_address}
 use Rattle.plain_form.proofs.WrittenValues.{width-le}

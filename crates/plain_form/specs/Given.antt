@@ -6,7 +6,7 @@ use Rattle.row_types.specs.declared.Row.{Row}
 use Rattle.instruction_parts.specs.Counting.{is_64}
 use Rattle.row_fit.specs.Fits.{reads_by, is_vvvv}
 use Rattle.row_fit.specs.Sound.{Sound}
-use Rattle.plain_spelling.specs.PlainFront.{number_in_reg, number_in_rm, number_in_index, number_in_vvvv, number_in_opcode, asked, asks_low_byte}
+use Rattle.plain_spelling.specs.PlainFront.{number_in_reg, number_in_rm, number_in_index, number_in_vvvv, number_in_opcode, number_asked_of, asks_low_byte}
 use Rattle.plain_spelling.specs.Addresses.{register_count}
 use Rattle.plain_spelling.specs.Expressible.{Suits}
 use Rattle.plain_spelling.specs.Writable.{Writable}
@@ -20,10 +20,10 @@ pub record Given (bits : Bits) (ip : ℕ) (row : Row) (i : Instr) : Type 0 where
 
 -- the numbers that the instruction asks of the fields are numbers of the mode
 pub record NumbersSuit (bits : Bits) (row : Row) (i : Instr) : Type 0 where
-  pub reg : asked number_in_reg row i < register_count bits
-  pub rm : asked number_in_rm row i < register_count bits
-  pub index : asked number_in_index row i < register_count bits
-  pub vvvv : asked number_in_vvvv row i < register_count bits
-  pub opcode : asked number_in_opcode row i < register_count bits
+  pub reg : number_asked_of number_in_reg row i < register_count bits
+  pub rm : number_asked_of number_in_rm row i < register_count bits
+  pub index : number_asked_of number_in_index row i < register_count bits
+  pub vvvv : number_asked_of number_in_vvvv row i < register_count bits
+  pub opcode : number_asked_of number_in_opcode row i < register_count bits
   pub low : is_64 bits ≡ false → asks_low_byte i.ops ≡ false
-  pub vvvv_unused : reads_by is_vvvv row ≡ false → asked number_in_vvvv row i ≡ 0
+  pub vvvv_unused : reads_by is_vvvv row ≡ false → number_asked_of number_in_vvvv row i ≡ 0

@@ -26,7 +26,7 @@ use Rattle.instruction_parts.specs.Sizes.{is_vex_row}
 use Rattle.row_fit.specs.Fits.{kind_at, reads_by, is_offset, is_any_mode, is_vvvv}
 use Rattle.row_fit.specs.Sound.{Sound, count_where, at_most_one, reads_reg, reads_rm, reads_opcode, reads_last_byte, has_modrm_rule, is_any_place, plus_is_proper, operands_are_proper, operands_are_apart, has_four_operands}
 use Rattle.plain_spelling.specs.Forms.{operand_at, is_variant_of}
-use Rattle.plain_spelling.specs.PlainFront.{over_operands, operand_number, base_or_register_number, operand_index_number, number_in_reg, number_in_rm, number_in_index, number_in_vvvv, number_in_opcode, asked, number_or_zero}
+use Rattle.plain_spelling.specs.PlainFront.{over_operands, operand_number, base_or_register_number, operand_index_number, number_in_reg, number_in_rm, number_in_index, number_in_vvvv, number_in_opcode, number_asked_of, number_or_zero}
 use Rattle.plain_spelling.specs.Addresses.{displacement_count, shape_suits}
 use Rattle.plain_spelling.specs.Expressible.{each_operand, kind_suits, address_suits}
 use Rattle.plain_spelling.specs.PlainTail.{operand_where, rm_operand, address_operand, operand_displacement, displacement_read}
@@ -393,43 +393,43 @@ rm_shows _ op h = cc
 
 -- a field that one operand is read from
 at_field : (p : Method → Bool) (f : Method → Operand → ℕ) (row : Row) (i : Instr) (n : ℕ) → Sound row → length i.ops ≡ 4 → n < 4 → AddsNothing p f row.ops i.ops → count_by p row.ops ≤ 1 → p (method_of (kind_at row n)) ≡ true
-    → asked f row i ≡ f (method_of (kind_at row n)) (operand_at i n)
+    → number_asked_of f row i ≡ f (method_of (kind_at row n)) (operand_at i n)
 at_field p f row i n s four h none c e =
     let k = four_kinds row s in
     over-one p f row.ops i.ops n (omega arith) (omega arith) none c e
 
-no_field : (p : Method → Bool) (f : Method → Operand → ℕ) (row : Row) (i : Instr) → AddsNothing p f row.ops i.ops → reads_by p row ≡ false → asked f row i ≡ 0
+no_field : (p : Method → Bool) (f : Method → Operand → ℕ) (row : Row) (i : Instr) → AddsNothing p f row.ops i.ops → reads_by p row ≡ false → number_asked_of f row i ≡ 0
 no_field p f row i none h = over-none p f row.ops i.ops none (count_of-none p row.ops h)
 
 -- **ModRM.reg is asked for by the register that is read from it**
-pub asked_reg-at : (row : Row) (i : Instr) (n : ℕ) → Sound row → length i.ops ≡ 4 → n < 4 → reads_reg (method_of (kind_at row n)) ≡ true → asked number_in_reg row i ≡ operand_number (operand_at i n)
+pub asked_reg-at : (row : Row) (i : Instr) (n : ℕ) → Sound row → length i.ops ≡ 4 → n < 4 → reads_reg (method_of (kind_at row n)) ≡ true → number_asked_of number_in_reg row i ≡ operand_number (operand_at i n)
 asked_reg-at row i n s four h e =
     at_field reads_reg number_in_reg row i n s four h (λ k _ other. reg_vanishes _ _ other) (apart row s).reg e ∙ reg_shows _ _ e
 
-pub asked_reg-none : (row : Row) (i : Instr) → reads_by reads_reg row ≡ false → asked number_in_reg row i ≡ 0
+pub asked_reg-none : (row : Row) (i : Instr) → reads_by reads_reg row ≡ false → number_asked_of number_in_reg row i ≡ 0
 asked_reg-none row i h = no_field reads_reg number_in_reg row i (λ k _ other. reg_vanishes _ _ other) h
 
-pub asked_vvvv-at : (row : Row) (i : Instr) (n : ℕ) → Sound row → length i.ops ≡ 4 → n < 4 → is_vvvv (method_of (kind_at row n)) ≡ true → asked number_in_vvvv row i ≡ operand_number (operand_at i n)
+pub asked_vvvv-at : (row : Row) (i : Instr) (n : ℕ) → Sound row → length i.ops ≡ 4 → n < 4 → is_vvvv (method_of (kind_at row n)) ≡ true → number_asked_of number_in_vvvv row i ≡ operand_number (operand_at i n)
 asked_vvvv-at row i n s four h e =
     at_field is_vvvv number_in_vvvv row i n s four h (λ k _ other. vvvv_vanishes _ _ other) (apart row s).vvvv e ∙ vvvv_shows _ _ e
 
-pub asked_vvvv-none : (row : Row) (i : Instr) → reads_by is_vvvv row ≡ false → asked number_in_vvvv row i ≡ 0
+pub asked_vvvv-none : (row : Row) (i : Instr) → reads_by is_vvvv row ≡ false → number_asked_of number_in_vvvv row i ≡ 0
 asked_vvvv-none row i h = no_field is_vvvv number_in_vvvv row i (λ k _ other. vvvv_vanishes _ _ other) h
 
-pub asked_opcode-at : (row : Row) (i : Instr) (n : ℕ) → Sound row → length i.ops ≡ 4 → n < 4 → reads_opcode (method_of (kind_at row n)) ≡ true → asked number_in_opcode row i ≡ operand_number (operand_at i n)
+pub asked_opcode-at : (row : Row) (i : Instr) (n : ℕ) → Sound row → length i.ops ≡ 4 → n < 4 → reads_opcode (method_of (kind_at row n)) ≡ true → number_asked_of number_in_opcode row i ≡ operand_number (operand_at i n)
 asked_opcode-at row i n s four h e =
     at_field reads_opcode number_in_opcode row i n s four h (λ k _ other. opcode_vanishes _ _ other) (apart row s).opcode e ∙ opcode_shows _ _ e
 
-pub asked_opcode-none : (row : Row) (i : Instr) → reads_by reads_opcode row ≡ false → asked number_in_opcode row i ≡ 0
+pub asked_opcode-none : (row : Row) (i : Instr) → reads_by reads_opcode row ≡ false → number_asked_of number_in_opcode row i ≡ 0
 asked_opcode-none row i h = no_field reads_opcode number_in_opcode row i (λ k _ other. opcode_vanishes _ _ other) h
 
 -- **r/m, the SIB's base and the opcode byte share one number**
-pub asked_rm-at : (row : Row) (i : Instr) (n : ℕ) → Sound row → length i.ops ≡ 4 → n < 4 → reads_b (method_of (kind_at row n)) ≡ true → asked number_in_rm row i ≡ base_or_register_number (operand_at i n)
+pub asked_rm-at : (row : Row) (i : Instr) (n : ℕ) → Sound row → length i.ops ≡ 4 → n < 4 → reads_b (method_of (kind_at row n)) ≡ true → number_asked_of number_in_rm row i ≡ base_or_register_number (operand_at i n)
 asked_rm-at row i n s four h e =
     let a = apart row s in
     at_field reads_b number_in_rm row i n s four h (λ k _ other. rm_vanishes _ _ other) (count-or reads_rm reads_opcode row.ops (rm_or_opcode row s) a.rm a.opcode) e ∙ rm_shows _ _ e
 
-pub asked_rm-none : (row : Row) (i : Instr) → reads_by reads_rm row ≡ false → reads_by reads_opcode row ≡ false → asked number_in_rm row i ≡ 0
+pub asked_rm-none : (row : Row) (i : Instr) → reads_by reads_rm row ≡ false → reads_by reads_opcode row ≡ false → number_asked_of number_in_rm row i ≡ 0
 asked_rm-none row i h k = no_field reads_b number_in_rm row i (λ k _ other. rm_vanishes _ _ other) (any-or reads_rm reads_opcode row.ops h k)
 
 -- operands that are not read from r/m have no index
@@ -444,11 +444,11 @@ index_shows : (how : Method) (op : Operand) → number_in_index how op ≡ opera
 unfolding number_in_index
 index_shows how op = refl
 
-pub asked_index-at : (row : Row) (i : Instr) (n : ℕ) → Sound row → length i.ops ≡ 4 → n < 4 → IndexInRm row i → reads_rm (method_of (kind_at row n)) ≡ true → asked number_in_index row i ≡ operand_index_number (operand_at i n)
+pub asked_index-at : (row : Row) (i : Instr) (n : ℕ) → Sound row → length i.ops ≡ 4 → n < 4 → IndexInRm row i → reads_rm (method_of (kind_at row n)) ≡ true → number_asked_of number_in_index row i ≡ operand_index_number (operand_at i n)
 asked_index-at row i n s four h none e =
     at_field reads_rm number_in_index row i n s four h (index_adds row i s none) (apart row s).rm e ∙ index_shows _ _
 
-pub asked_index-none : (row : Row) (i : Instr) → Sound row → IndexInRm row i → reads_by reads_rm row ≡ false → asked number_in_index row i ≡ 0
+pub asked_index-none : (row : Row) (i : Instr) → Sound row → IndexInRm row i → reads_by reads_rm row ≡ false → number_asked_of number_in_index row i ≡ 0
 asked_index-none row i s none h = no_field reads_rm number_in_index row i (index_adds row i s none) h
 
 -- **the operand that r/m names is the one that is read from it**
@@ -546,7 +546,7 @@ displacement_over (kind ∷ kinds) (op ∷ ops) c = elim (cases_Bool (reads_addr
 ]
 
 -- **the displacement that is asked is that of the operand that may have one**
-pub asked_displacement : (row : Row) (i : Instr) → Sound row → asked displacement_read row i ≡ operand_displacement (address_operand row i)
+pub asked_displacement : (row : Row) (i : Instr) → Sound row → number_asked_of displacement_read row i ≡ operand_displacement (address_operand row i)
 asked_displacement row i s =
     let a = apart row s in
     displacement_over row.ops i.ops (count-or reads_rm is_offset row.ops (rm_or_offset row s) a.rm a.offset)

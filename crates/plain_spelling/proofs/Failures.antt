@@ -7,7 +7,7 @@ use Rattle.row_types.specs.declared.Row.{Row}
 use Rattle.instruction_parts.specs.Counting.{or_else}
 use Rattle.plain_spelling.specs.declared.NoSpelling.{NoSpelling}
 use Rattle.plain_spelling.specs.declared.NoSpelling.TheVariants as cause
-use Rattle.plain_spelling.specs.Expressible.{row_exists, kind_suits, register_suits, address_suits, displacement_offered, immediate_suits, target_suits, prefixes_suit, address_size_suits, is_short, gather_suits, named, operand_suits, tail_suits, first_failing, caused_at, caused_unless, each_operand, first_failed_condition, failure, Suits}
+use Rattle.plain_spelling.specs.Expressible.{row_exists, kind_suits, register_suits, address_suits, displacement_offered, immediate_suits, target_suits, prefixes_suit, address_size_suits, is_short, gather_suits, is_operand_nameable, operand_suits, tail_suits, first_failing, caused_at, caused_unless, each_operand, first_failed_condition, failure, Suits}
 
 neither : (a b : Option NoSpelling) → or_else a b ≡ None → (a ≡ None) × (b ≡ None)
 neither None b h = (refl, h)
@@ -118,13 +118,13 @@ four-split false b c d h = cc
 -- what an operand meets by itself
 record OperandSuits (bits : Bits) (ip : ℕ) (row : Row) (i : Instr) (n : ℕ) : Type 0 where
   kind : kind_suits row i n ≡ true
-  is_named : named bits row i n ≡ true
+  is_named : is_operand_nameable bits row i n ≡ true
   address : address_suits bits row i n ≡ true
   displacement : displacement_offered bits row i n ≡ true
   immediate : immediate_suits bits row i n ≡ true
   target : target_suits bits ip row i n ≡ true
 
-six-split : (bits : Bits) (ip : ℕ) (row : Row) (i : Instr) (n : ℕ) (a b c d e f : Bool) → kind_suits row i n ≡ a → named bits row i n ≡ b → address_suits bits row i n ≡ c
+six-split : (bits : Bits) (ip : ℕ) (row : Row) (i : Instr) (n : ℕ) (a b c d e f : Bool) → kind_suits row i n ≡ a → is_operand_nameable bits row i n ≡ b → address_suits bits row i n ≡ c
     → displacement_offered bits row i n ≡ d → immediate_suits bits row i n ≡ e → target_suits bits ip row i n ≡ f
     → (a && (b && (c && (d && (e && f))))) ≡ true → OperandSuits bits ip row i n
 six-split bits ip row i n true true true true true true ea eb ec ed ee ef h = record { kind = ea; is_named = eb; address = ec; displacement = ed; immediate = ee; target = ef }
@@ -139,8 +139,8 @@ operand-split : (bits : Bits) (ip : ℕ) (row : Row) (i : Instr) (n : ℕ) → o
 unfolding operand_suits
 operand-split bits ip row i n h = six-split bits ip row i n _ _ _ _ _ _ refl refl refl refl refl refl h
 
-register-from : (bits : Bits) (row : Row) (i : Instr) (n : ℕ) → named bits row i n ≡ true → gather_suits row i n ≡ true → register_suits bits row i n ≡ true
-unfolding named register_suits
+register-from : (bits : Bits) (row : Row) (i : Instr) (n : ℕ) → is_operand_nameable bits row i n ≡ true → gather_suits row i n ≡ true → register_suits bits row i n ≡ true
+unfolding is_operand_nameable register_suits
 register-from bits row i n a b = rw a (rw b refl)
 
 -- where each operand meets its conditions by itself, and the rules on the whole hold, none fails

@@ -18,7 +18,7 @@ use Rattle.instruction_parts.specs.Kinds.{method_of, file_of}
 use Rattle.instruction_parts.specs.Sizes.{is_vex_row}
 use Rattle.row_fit.specs.Fits.{is_map_one, same_map, reads_by, vex_in_range, is_vvvv}
 use Rattle.row_fit.specs.Sound.{Sound, kind_is_proper, vex_is_proper, is_no_w, is_no_l, is_class_of_vex, is_size_of_vex, size_says_w, is_fixed_rule, is_byte_file, has_four_operands}
-use Rattle.plain_spelling.specs.PlainFront.{number_in_vvvv, asked, asks_r, asks_x, asks_b, asks_vex_w, asked_vex, class_pp, plain_front_of, byte_front}
+use Rattle.plain_spelling.specs.PlainFront.{number_in_vvvv, number_asked_of, asks_r, asks_x, asks_b, asks_vex_w, asked_vex, class_pp, plain_front_of, byte_front}
 use Rattle.plain_spelling.specs.Expressible.{each_operand, register_suits}
 use Rattle.plain_spelling.proofs.Asked.{asked_vvvv-at, asked_vvvv-none}
 use Rattle.plain_spelling.proofs.ImmediateRoom.{number-below}
@@ -36,7 +36,7 @@ vex_for row i = record {
   w = asks_vex_w row;
   l = elim row.l [ L256 ↦ true | _ ↦ false ];
   map = row.map;
-  vvvv = asked number_in_vvvv row i;
+  vvvv = number_asked_of number_in_vvvv row i;
   pp = class_pp row.class;
 }
 
@@ -92,10 +92,10 @@ two_or_three true false false true = refl
 two_or_three true false false false = refl
 two_or_three false x b w = refl
 
-vex_for-range : (row : Row) (i : Instr) → Sound row → asked number_in_vvvv row i < 16 → is_vex_row row ≡ true → vex_in_range (Some (vex_for row i)) ≡ true
+vex_for-range : (row : Row) (i : Instr) → Sound row → number_asked_of number_in_vvvv row i < 16 → is_vex_row row ≡ true → vex_in_range (Some (vex_for row i)) ≡ true
 unfolding vex_in_range
 vex_for-range row i s small vex =
-    rw (lt-ltb (asked number_in_vvvv row i) 16 small)
+    rw (lt-ltb (number_asked_of number_in_vvvv row i) 16 small)
     (rw (lt-ltb (class_pp row.class) 4 (pp_below row.class))
     (rw (vex_row row s vex).map (two_or_three (same_map row.map M0f) (asks_x row i) (asks_b row i) (asks_vex_w row))))
 
@@ -104,7 +104,7 @@ unfolding vex_in_range
 no_vex_in_range = refl
 
 -- **the VEX that the instruction asks for has fields of its ranges**
-pub asked_vex-range : (row : Row) (i : Instr) → Sound row → asked number_in_vvvv row i < 16 → vex_in_range (asked_vex row i) ≡ true
+pub asked_vex-range : (row : Row) (i : Instr) → Sound row → number_asked_of number_in_vvvv row i < 16 → vex_in_range (asked_vex row i) ≡ true
 asked_vex-range row i s small = elim (cases_Bool (is_vex_row row)) [
   | inl vex ↦ rw (vex_of_vex row i vex) (vex_for-range row i s small vex)
   | inr legacy ↦ rw (vex_of_legacy row i legacy) no_vex_in_range
@@ -126,7 +126,7 @@ unfolding has_four_operands
 four_kinds_of row s = eqb-true (length row.ops) 4 s.four_operands
 
 -- **where each register operand can be named, vvvv has a number of the mode**
-pub vvvv-small : (bits : Bits) (row : Row) (i : Instr) → Sound row → length i.ops ≡ 4 → each_operand (register_suits bits row i) ≡ true → asked number_in_vvvv row i < 16
+pub vvvv-small : (bits : Bits) (row : Row) (i : Instr) → Sound row → length i.ops ≡ 4 → each_operand (register_suits bits row i) ≡ true → number_asked_of number_in_vvvv row i < 16
 vvvv-small bits row i s four h = elim (cases_Bool (reads_by is_vvvv row)) [
   | inl reads ↦
       let some = some_kind (λ kind. is_vvvv (method_of kind)) row.ops reads in

@@ -17,7 +17,7 @@ use Rattle.instruction_parts.specs.Kinds.{method_of}
 use Rattle.row_fit.specs.Fits.{immediates_bytes}
 use Rattle.row_fit.specs.Sound.{sound, immediates_are_short}
 use Rattle.row_fit.proofs.SoundLaws.{sound_conditions}
-use Rattle.plain_spelling.specs.PlainFront.{register_number, operand_number, over_operands, number_in_vvvv, asked}
+use Rattle.plain_spelling.specs.PlainFront.{register_number, operand_number, over_operands, number_in_vvvv, number_asked_of}
 use Rattle.plain_spelling.specs.Forms.{operand_at}
 use Rattle.plain_spelling.specs.Addresses.{register_count}
 use Rattle.plain_spelling.specs.Expressible.{exists_in_mode, is_nameable, register_suits, each_operand, gather_suits}
@@ -70,7 +70,7 @@ vvvv-most (kind ∷ kinds) (op ∷ ops) h =
     one-most _ op h = omega arith
 
 -- the number in vvvv is a byte
-pub vvvv-byte : (bits : Bits) (row : Row) (i : Instr) → sound row ≡ true → each_operand (register_suits bits row i) ≡ true → asked number_in_vvvv row i < 256
+pub vvvv-byte : (bits : Bits) (row : Row) (i : Instr) → sound row ≡ true → each_operand (register_suits bits row i) ≡ true → number_asked_of number_in_vvvv row i < 256
 vvvv-byte bits row i h suits =
     let four = four_kinds row (sound_conditions row h) in
     let most = vvvv-most row.ops i.ops (λ n lt. number-below bits row i suits n (omega (arith, lt, four))) in

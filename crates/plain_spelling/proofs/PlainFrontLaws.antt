@@ -17,7 +17,7 @@ use Rattle.instruction_parts.specs.Sizes.{is_vex_row, operand_size, state_size, 
 use Rattle.row_fit.specs.Sound.{sound, opcodes_are_bytes}
 use Rattle.row_fit.proofs.SoundLaws.{sound_conditions}
 use Rattle.row_meaning.specs.Meaning.{general_register, size_by_w, register_of}
-use Rattle.plain_spelling.specs.PlainFront.{number_in_vvvv, asked, asks_r, asks_x, asks_b, asks_low_byte, asks_rex_w, asks_66, asks_67, asked_repeat, asked_rex, count_repeat, vex_with, asked_vex, asked_used, plain_front_of, byte_front}
+use Rattle.plain_spelling.specs.PlainFront.{number_in_vvvv, number_asked_of, asks_r, asks_x, asks_b, asks_low_byte, asks_rex_w, asks_66, asks_67, asked_repeat, asked_rex, count_repeat, vex_with, asked_vex, asked_used, plain_front_of, byte_front}
 use Rattle.plain_spelling.specs.PlainTail.{plain_size}
 
 -- the eight opcode bytes of a row that adds a register are bytes
@@ -46,13 +46,13 @@ pub used-with : (bits : Bits) (row : Row) (i : Instr) (v : ℕ)
 unfolding asked_used asked_vex
 used-with bits row i v =
     ap (λ n. bit i.lock + (count_repeat (asked_repeat row i) + (bit (is_some i.seg) + (bit (asks_66 bits row) + (bit (asks_67 bits i.asize)
-    + (bit (is_some (asked_rex row i)) + n)))))) (lead_len-with row i v (asked number_in_vvvv row i))
+    + (bit (is_some (asked_rex row i)) + n)))))) (lead_len-with row i v (number_asked_of number_in_vvvv row i))
 
 -- where vvvv fits a byte, the front is the plain one
-pub byte_front-exact : (bits : Bits) (row : Row) (i : Instr) → asked number_in_vvvv row i < 256 → byte_front bits row i ≡ plain_front_of bits row i
+pub byte_front-exact : (bits : Bits) (row : Row) (i : Instr) → number_asked_of number_in_vvvv row i < 256 → byte_front bits row i ≡ plain_front_of bits row i
 unfolding byte_front plain_front_of asked_vex
 byte_front-exact bits row i h =
-    let e : min 255 (asked number_in_vvvv row i) ≡ asked number_in_vvvv row i = omega arith in
+    let e : min 255 (number_asked_of number_in_vvvv row i) ≡ number_asked_of number_in_vvvv row i = omega arith in
     ap (λ v. record (plain_front_of bits row i) { vex = vex_with row i v }) e
 
 -- W is read alike from both

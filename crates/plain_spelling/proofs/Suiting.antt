@@ -12,10 +12,11 @@ use Rattle.instruction_parts.specs.declared.kinds.Method.{Method}
 use Rattle.instruction_parts.specs.declared.kinds.Method.TheVariants as method
 use Rattle.instruction_parts.specs.Kinds.{method_of, file_of}
 use Rattle.row_fit.specs.Fits.{kind_at, immediate_bytes}
-use Rattle.plain_spelling.specs.Forms.{is_variant_of, is_absent, is_immediate, is_far, operand_at}
+use Rattle.x86_values.specs.Operands.{is_absent}
+use Rattle.plain_spelling.specs.Forms.{is_variant_of, is_immediate, is_far, operand_at}
 use Rattle.plain_spelling.specs.Addresses.{shape_suits, displacement_suits, written_size}
 use Rattle.plain_spelling.specs.PlainTail.{plain_size, plain_next}
-use Rattle.plain_spelling.specs.Expressible.{kind_suits, named, is_nameable, address_suits, displacement_offered, immediate_suits, immediate_suits_how, target_suits, near_reaches, address_reaches, operand_suits, is_pair}
+use Rattle.plain_spelling.specs.Expressible.{kind_suits, is_operand_nameable, is_nameable, address_suits, displacement_offered, immediate_suits, immediate_suits_how, target_suits, near_reaches, address_reaches, operand_suits, is_pair}
 
 and-true : (b : Bool) → b ≡ (b && true)
 and-true true = refl
@@ -51,7 +52,7 @@ suits_as bits ip row i n op =
     ])))))
 
 suits-by : (bits : Bits) (ip : ℕ) (row : Row) (i : Instr) (n : ℕ) (op : Operand) → operand_at i n ≡ op → suits_as bits ip row i n op ≡ operand_suits bits ip row i n
-unfolding operand_suits kind_suits named address_suits displacement_offered immediate_suits target_suits
+unfolding operand_suits kind_suits is_operand_nameable address_suits displacement_offered immediate_suits target_suits
 suits-by bits ip row i n op e = ap (suits_as bits ip row i n) (sym e)
 
 pub absent-suits : (bits : Bits) (ip : ℕ) (row : Row) (i : Instr) (n : ℕ) → operand_at i n ≡ Absent → is_variant_at row n Absent ≡ operand_suits bits ip row i n

@@ -5,17 +5,17 @@ use Rattle.x86_values.specs.declared.Instr.{Instr}
 use Rattle.row_types.specs.declared.Row.{Row}
 use Rattle.instruction_parts.specs.declared.kinds.Method.{Method}
 use Rattle.plain_spelling.specs.declared.registers.Asked.{Asked}
-use Rattle.plain_spelling.specs.PlainFront.{number_in_reg, number_in_rm, number_in_index, number_in_vvvv, number_in_opcode, asked}
+use Rattle.plain_spelling.specs.PlainFront.{number_in_reg, number_in_rm, number_in_index, number_in_vvvv, number_in_opcode, number_asked_of}
 use Rattle.plain_spelling.specs.PlainTail.{displacement_read}
 
 -- these are the numbers that the instruction asks of the fields of the row
 pub record AreAskedOf (row : Row) (i : Instr) (numbers : Asked) : Type 0 where
-  pub reg : numbers.reg ≡ asked number_in_reg row i
-  pub rm : numbers.rm ≡ asked number_in_rm row i
-  pub index : numbers.index ≡ asked number_in_index row i
-  pub vvvv : numbers.vvvv ≡ asked number_in_vvvv row i
-  pub opcode : numbers.opcode ≡ asked number_in_opcode row i
-  pub displacement : numbers.displacement ≡ asked displacement_read row i
+  pub reg : numbers.reg ≡ number_asked_of number_in_reg row i
+  pub rm : numbers.rm ≡ number_asked_of number_in_rm row i
+  pub index : numbers.index ≡ number_asked_of number_in_index row i
+  pub vvvv : numbers.vvvv ≡ number_asked_of number_in_vvvv row i
+  pub opcode : numbers.opcode ≡ number_asked_of number_in_opcode row i
+  pub displacement : numbers.displacement ≡ number_asked_of displacement_read row i
 
 -- these are the numbers of some operands and of one in front of them, which is read so and adds at most 259 to each
 pub record AreWith (method : Method) (op : Operand) (rest numbers : Asked) : Type 0 where

@@ -23,9 +23,10 @@ use Rattle.row_meaning.specs.Meaning.{register_of}
 use Rattle.plain_spelling.specs.declared.NoSpelling.{NoSpelling}
 use Rattle.plain_spelling.specs.declared.NoSpelling.TheVariants as cause
 use Rattle.plain_spelling.specs.Values.{is_extended_of, distance}
-use Rattle.plain_spelling.specs.Forms.{is_variant_of, is_absent, is_memory, operand_at}
+use Rattle.x86_values.specs.Operands.{is_absent, is_memory}
+use Rattle.plain_spelling.specs.Forms.{is_variant_of, operand_at}
 use Rattle.x86_values.specs.Comparing.{same_bits, same_register}
-use Rattle.plain_spelling.specs.PlainFront.{register_number, number_in_reg, number_in_vvvv, number_in_index, asked, asked_opcode, plain_front_of}
+use Rattle.plain_spelling.specs.PlainFront.{register_number, number_in_reg, number_in_vvvv, number_in_index, number_asked_of, asked_opcode, plain_front_of}
 use Rattle.plain_spelling.specs.declared.addresses.AddressForm.TheVariants.{Relative}
 use Rattle.plain_spelling.specs.Addresses.{form_of, register_count, has_address_size, is_address_register, pointer_size, shown_size, written_size, shape_suits, displacement_suits}
 use Rattle.plain_spelling.specs.PlainTail.{plain_size, plain_len, plain_next}
@@ -119,7 +120,7 @@ passes p row i n = p (method_of (kind_at row n)) (operand_at i n)
 abbrev pub asked_vector : (Method → Operand → Bool) → (Method → Operand → ℕ) → Row → Instr → Option ℕ
 asked_vector is_vector number row i =
     if passes is_vector row i 0 || (passes is_vector row i 1 || (passes is_vector row i 2 || passes is_vector row i 3))
-    then Some (asked number row i) else None
+    then Some (number_asked_of number row i) else None
 
 -- of two numbers one is absent, or they differ
 abbrev pub differ : Option ℕ → Option ℕ → Bool
@@ -286,13 +287,13 @@ first_failed_condition bits ip row i =
     (caused_unless (address_size_suits bits row i) cause.AddressSize)))))))
 
 -- a register operand is one that its kind can name in the mode, whatever the numbers of a gather are
-unfoldable pub named : Bits → Row → Instr → ℕ → Bool
-named bits row i n = elim (operand_at i n) [ Reg r ↦ is_nameable bits row i n r | _ ↦ true ]
+unfoldable pub is_operand_nameable : Bits → Row → Instr → ℕ → Bool
+is_operand_nameable bits row i n = elim (operand_at i n) [ Reg r ↦ is_nameable bits row i n r | _ ↦ true ]
 
 -- an operand meets the conditions 2 to 7 by itself
 unfoldable pub operand_suits : Bits → ℕ → Row → Instr → ℕ → Bool
 operand_suits bits ip row i n =
-    kind_suits row i n && (named bits row i n && (address_suits bits row i n && (displacement_offered bits row i n
+    kind_suits row i n && (is_operand_nameable bits row i n && (address_suits bits row i n && (displacement_offered bits row i n
     && (immediate_suits bits row i n && target_suits bits ip row i n))))
 
 -- the operands 2 and 3 are absent, as their kinds ask

@@ -3,30 +3,23 @@ use Rattle.std.specs.Prelude.{ℕ, Bool, true, false, ◌||◌, ◌==◌, slice_
 use Rattle.x86_values.specs.declared.Instr.{Instr}
 use Rattle.x86_values.specs.declared.Operand.{Operand}
 use Rattle.x86_values.specs.declared.Operand.TheVariants.{Absent, Reg, Mem as Memory, Imm, Near, Far}
+use Rattle.x86_values.specs.Operands.{is_absent, is_memory}
 use Rattle.row_types.specs.declared.Place.{Place}
 use Rattle.row_types.specs.declared.Place.TheVariants.{Any as AnyPlace, Memory as OnlyMemory, Register as OnlyRegister}
 use Rattle.instruction_parts.specs.declared.kinds.Method.{Method}
 use Rattle.instruction_parts.specs.declared.kinds.Method.TheVariants as method
 
-abbrev pub is_absent : Operand → Bool
-is_absent Absent = true
-is_absent _ = false
-
 abbrev pub is_register : Operand → Bool
 is_register (Reg _) = true
 is_register _ = false
-
-abbrev pub is_memory : Operand → Bool
-is_memory (Memory _) = true
-is_memory _ = false
 
 abbrev pub is_immediate : Operand → Bool
 is_immediate (Imm _) = true
 is_immediate _ = false
 
-abbrev pub is_near : Operand → Bool
-is_near (Near _) = true
-is_near _ = false
+abbrev pub is_near_kind : Operand → Bool
+is_near_kind (Near _) = true
+is_near_kind _ = false
 
 abbrev pub is_far : Operand → Bool
 is_far (Far _ _) = true
@@ -48,7 +41,7 @@ is_variant_of place method.Offset x = is_memory x
 is_variant_of place method.AsWritten x = is_immediate x
 is_variant_of place method.Extended x = is_immediate x
 is_variant_of place method.One x = is_immediate x
-is_variant_of place method.Near x = is_near x
+is_variant_of place method.Near x = is_near_kind x
 is_variant_of place method.Pointer x = is_far x
 is_variant_of place _ x = is_register x
 

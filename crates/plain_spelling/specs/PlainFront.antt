@@ -100,20 +100,20 @@ number_in_opcode OpcodeLow op = operand_number op
 number_in_opcode _ op = 0
 
 -- the number that the instruction asks of a field of the row
-abbrev pub asked : (Method → Operand → ℕ) → Row → Instr → ℕ
-asked f row i = over_operands f row.ops i.ops
+abbrev pub number_asked_of : (Method → Operand → ℕ) → Row → Instr → ℕ
+number_asked_of f row i = over_operands f row.ops i.ops
 
 -- ModRM.reg needs a fourth bit: R (2.2.1.2)
 unfoldable pub asks_r : Row → Instr → Bool
-asks_r row i = nat_le 8 (asked number_in_reg row i)
+asks_r row i = nat_le 8 (number_asked_of number_in_reg row i)
 
 -- the index of SIB needs a fourth bit: X (2.2.1.2)
 unfoldable pub asks_x : Row → Instr → Bool
-asks_x row i = nat_le 8 (asked number_in_index row i)
+asks_x row i = nat_le 8 (number_asked_of number_in_index row i)
 
 -- ModRM.r/m, the base of SIB or the register of the opcode byte needs a fourth bit: B (2.2.1.2)
 unfoldable pub asks_b : Row → Instr → Bool
-asks_b row i = nat_le 8 (asked number_in_rm row i)
+asks_b row i = nat_le 8 (number_asked_of number_in_rm row i)
 
 -- some operand is SPL, BPL, SIL or DIL
 abbrev pub asks_low_byte : List Operand → Bool
@@ -180,12 +180,12 @@ vex_with row i vvvv =
 
 -- the VEX of a VEX row
 unfoldable pub asked_vex : Row → Instr → Option Vex
-asked_vex row i = vex_with row i (asked number_in_vvvv row i)
+asked_vex row i = vex_with row i (number_asked_of number_in_vvvv row i)
 
 -- the opcode byte, with the low three bits of a register that it adds
 unfoldable pub asked_opcode : Row → Instr → ℕ
 asked_opcode row i =
-    elim row.plus [ PlusRegister ↦ row.opcode + asked number_in_opcode row i % 8 | _ ↦ row.opcode ]
+    elim row.plus [ PlusRegister ↦ row.opcode + number_asked_of number_in_opcode row i % 8 | _ ↦ row.opcode ]
 
 -- how many repeat prefixes there are
 abbrev pub count_repeat : Rep → ℕ
@@ -215,4 +215,4 @@ plain_front_of bits row i = record {
 
 -- the front with a vvvv of at most 255, which is the plain front wherever the registers have numbers of the mode
 unfoldable pub byte_front : Bits → Row → Instr → PrefixState
-byte_front bits row i = record (plain_front_of bits row i) { vex = vex_with row i (min 255 (asked number_in_vvvv row i)) }
+byte_front bits row i = record (plain_front_of bits row i) { vex = vex_with row i (min 255 (number_asked_of number_in_vvvv row i)) }

@@ -10,7 +10,7 @@ use Rattle.x86_values.specs.declared.Operand.TheVariants.{Absent as AbsentOperan
 use Rattle.x86_values.specs.declared.Rep.{Rep}
 use Rattle.x86_values.specs.declared.Rep.TheVariants.{None as NoRep, F2 as RepF2, F3 as RepF3}
 use Rattle.x86_values.specs.declared.Instr.{Instr}
-use Rattle.x86_values.specs.Wrapping.{wrapped}
+use Rattle.x86_values.specs.Wrapping.{modulo_width}
 use Rattle.row_types.specs.declared.Row.{Row}
 use Rattle.row_types.specs.declared.Plus.TheVariants.{Stack as PlusStack}
 use Rattle.row_types.specs.declared.ModRmRule.TheVariants.{No as NoModRm, Any as AnyModRm, Digit, Fixed as FixedByte}
@@ -30,7 +30,7 @@ use Rattle.row_fit.specs.Fits.{kind_at, immediate_bytes, is_offset}
 use Rattle.row_fit.specs.Sound.{reads_rm}
 use Rattle.plain_spelling.specs.Values.{low_bytes, distance}
 use Rattle.plain_spelling.specs.Forms.{operand_at}
-use Rattle.plain_spelling.specs.PlainFront.{register_number, number_in_reg, number_in_rm, asked, asks_rex_w, asks_66, plain_front_of}
+use Rattle.plain_spelling.specs.PlainFront.{register_number, number_in_reg, number_in_rm, number_asked_of, asks_rex_w, asks_66, plain_front_of}
 use Rattle.plain_spelling.specs.declared.addresses.AddressForm.TheVariants.{Relative}
 use Rattle.plain_spelling.specs.declared.addresses.AddressFields.{AddressFields}
 use Rattle.plain_spelling.specs.Addresses.{form_of, written_size, displacement_count, address_fields}
@@ -123,14 +123,14 @@ modrm_with reg fields = record { mode3 = fields.mode3; reg = reg; rm = fields.rm
 
 -- rm of a fixed ModRM byte: its own, or the stack number that the row adds (3.1.1.1, +i)
 unfoldable pub fixed_rm : Row → Instr → ℕ → ℕ
-fixed_rm row i b = elim row.plus [ PlusStack ↦ asked number_in_rm row i % 8 | _ ↦ b % 8 ]
+fixed_rm row i b = elim row.plus [ PlusStack ↦ number_asked_of number_in_rm row i % 8 | _ ↦ b % 8 ]
 
 -- the ModRM: reg is the digit, or the register's low three bits (2.1.5, 3.1.1.1)
 unfoldable pub plain_modrm : Bits → Row → Instr → Option ModRm
 plain_modrm bits row i =
     elim row.modrm [
       | NoModRm ↦ None
-      | AnyModRm ↦ Some (modrm_with (asked number_in_reg row i % 8) (fields_of bits row i))
+      | AnyModRm ↦ Some (modrm_with (number_asked_of number_in_reg row i % 8) (fields_of bits row i))
       | Digit d ↦ Some (modrm_with d (fields_of bits row i))
       | FixedByte b ↦ Some (record { mode3 = b / 64; reg = b / 8 % 8; rm = fixed_rm row i b })
     ]
@@ -227,11 +227,11 @@ plain_len bits row i =
 
 -- the address behind the plain spelling at an address
 unfoldable pub plain_next : Bits → ℕ → Row → Instr → ℕ
-plain_next bits ip row i = wrapped bits (ip + plain_len bits row i)
+plain_next bits ip row i = modulo_width bits (ip + plain_len bits row i)
 
 -- bytes as a list of fixed room
-abbrev pub listed : List ℕ → ArrayVec ℕ
-listed bytes = record { items = bytes }
+abbrev pub array_of : List ℕ → ArrayVec ℕ
+array_of bytes = record { items = bytes }
 
 -- the plain spelling of an instruction of the row at an address
 unfoldable pub plain_spelling : Bits → ℕ → Row → Instr → Spelling
@@ -239,15 +239,15 @@ plain_spelling bits ip row i =
     let front = plain_front_of bits row i in
     let next = plain_next bits ip row i in
     record {
-      prefixes = listed (prefixes_of front);
+      prefixes = array_of (prefixes_of front);
       vex = front.vex;
       opcode = front.opcode;
       modrm = plain_modrm bits row i;
       sib = plain_sib_of bits row i;
-      disp = listed (displacement_of_operand next (address_operand row i));
-      imm = listed (plain_immediates (plain_size bits row) row i next);
+      disp = array_of (displacement_of_operand next (address_operand row i));
+      imm = array_of (plain_immediates (plain_size bits row) row i next);
     }
 
 -- the plain spelling from the opcode byte on: without prefixes and without a VEX
 unfoldable pub plain_tail : Bits → ℕ → Row → Instr → Spelling
-plain_tail bits ip row i = record (plain_spelling bits ip row i) { prefixes = listed []; vex = None }
+plain_tail bits ip row i = record (plain_spelling bits ip row i) { prefixes = array_of []; vex = None }

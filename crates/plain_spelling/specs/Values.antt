@@ -1,7 +1,7 @@
 -- Numbers as they are written in bytes (Intel SDM volume 2, 2.1.5, 2.2.1.3 and 2.2.1.5).
 use Rattle.std.specs.Prelude.{ℕ, zero, suc, ◌+◌, ◌-◌, ◌*◌, ◌/◌, ◌%◌, ◌^◌, Bool, ◌&&◌, ◌||◌, nat_le, nat_lt, List, [], ◌∷◌}
 use Rattle.x86_values.specs.declared.Bits.{Bits}
-use Rattle.x86_values.specs.Wrapping.{wrapped}
+use Rattle.x86_values.specs.Wrapping.{modulo_width}
 
 -- the low n bytes of a number, the lowest first (volume 1, 1.3.1)
 unfoldable pub low_bytes : ℕ → ℕ → List ℕ
@@ -17,4 +17,4 @@ is_extended_of n width x =
 
 -- what has to be added to an address to come to another one, modulo 2 to the size (2.2.1.6)
 unfoldable pub distance : Bits → ℕ → ℕ → ℕ
-distance size from to = wrapped size (to + (2 ^ 64 - from))
+distance size from to = modulo_width size (to + (2 ^ 64 - from))

@@ -4,7 +4,7 @@ ghost use Rattle.std.specs.Prelude.{◌≡◌};
 ghost use Rattle.plain_spelling.specs.Expressible as spec;
 
 use crate::addresses::{has_address_size, told_size};
-use crate::forms::{is_memory, operand_at};
+use crate::forms::operand_at;
 use instruction_parts::counting::is_16;
 use instruction_parts::sizes::has_address_mark;
 use row_fit::fits::reads_gather;
@@ -17,10 +17,10 @@ use x86_values::{Bits, Instr, Operand, same_bits};
 fn has_memory_operand(instr: &Instr) -> bool
     ensures { result ≡ spec.has_memory_operand instr.now }
 {
-    is_memory(operand_at(instr, 0))
-        || is_memory(operand_at(instr, 1))
-        || is_memory(operand_at(instr, 2))
-        || is_memory(operand_at(instr, 3))
+    operand_at(instr, 0).is_memory()
+        || operand_at(instr, 1).is_memory()
+        || operand_at(instr, 2).is_memory()
+        || operand_at(instr, 3).is_memory()
 }
 
 /// An address size agrees with what an operand shows.

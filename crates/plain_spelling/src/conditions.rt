@@ -22,7 +22,7 @@ use crate::addresses::{
     AddressForm, displacement_suits, form_of, has_address_size, is_address_register, is_based,
     is_by_modrm, register_count, shape_suits, told_size, written_size,
 };
-use crate::forms::{is_absent, is_memory, is_variant_of, operand_at};
+use crate::forms::{is_variant_of, operand_at};
 use crate::gathers::{gather_numbers_differ, gather_suits};
 use crate::numbers::{distance, is_below_bytes, is_extended_of, is_of_width};
 use crate::parts::{PlainParts, immediate_len};
@@ -357,7 +357,7 @@ fn target_suits(bits: Bits, row: &Row, instr: &Instr, parts: &PlainParts, n: usi
 fn lock_suits(row: &Row, instr: &Instr) -> bool
     ensures { result ≡ spec.lock_suits row.now instr.now }
 {
-    !instr.lock || (is_lockable(row) && is_memory(operand_at(instr, 0)))
+    !instr.lock || (is_lockable(row) && operand_at(instr, 0).is_memory())
 }
 
 /// Whether the row adds a register to the opcode byte and the byte is 90.
@@ -683,8 +683,8 @@ pub fn is_pair(row: &Row, instr: &Instr) -> bool
 {
     is_absent_kind(kind_at(row, 2))
         && is_absent_kind(kind_at(row, 3))
-        && is_absent(operand_at(instr, 2))
-        && is_absent(operand_at(instr, 3))
+        && operand_at(instr, 2).is_absent()
+        && operand_at(instr, 3).is_absent()
 }
 
 /// Whether the operands 2 and 3 meet the conditions 2 to 7 by themselves, by whether they are absent as their kinds ask.

@@ -16,14 +16,6 @@ pub fn operand_at(instr: &Instr, n: usize) -> Operand
     instr.ops[n]
 }
 
-/// Whether an operand is absent.
-#[inline]
-pub fn is_absent(operand: Operand) -> bool
-    ensures { result ≡ spec.is_absent operand }
-{
-    matches!(operand, Operand::Absent)
-}
-
 /// Whether an operand is a register.
 #[inline]
 pub fn is_register(operand: Operand) -> bool
@@ -32,22 +24,14 @@ pub fn is_register(operand: Operand) -> bool
     matches!(operand, Operand::Reg(_))
 }
 
-/// Whether an operand is memory.
-#[inline]
-pub fn is_memory(operand: Operand) -> bool
-    ensures { result ≡ spec.is_memory operand }
-{
-    matches!(operand, Operand::Mem(_))
-}
-
 /// Whether an operand is one that a row with this limit of r/m allows.
 #[tactic(auto, unfolding(crate::specs::Forms::is_allowed_in))]
 fn is_allowed_in(place: Place, operand: Operand) -> bool
     ensures { result ≡ spec.is_allowed_in place operand }
 {
     match place {
-        Place::Any => is_register(operand) || is_memory(operand),
-        Place::Memory => is_memory(operand),
+        Place::Any => is_register(operand) || operand.is_memory(),
+        Place::Memory => operand.is_memory(),
         Place::Register => is_register(operand),
     }
 }
@@ -60,7 +44,7 @@ pub fn is_variant_of(place: Place, method: Method, operand: Operand) -> bool
     match method {
         Method::Nothing => matches!(operand, Operand::Absent),
         Method::RegisterOrMemory => is_allowed_in(place, operand),
-        Method::MemoryOnly | Method::Gather | Method::Offset => is_memory(operand),
+        Method::MemoryOnly | Method::Gather | Method::Offset => operand.is_memory(),
         Method::AsWritten | Method::Extended | Method::One => matches!(operand, Operand::Imm(_)),
         Method::Near => matches!(operand, Operand::Near(_)),
         Method::Pointer => matches!(operand, Operand::Far { .. }),

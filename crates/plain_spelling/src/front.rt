@@ -140,7 +140,7 @@ fn class_pp(class: Class) -> u8
 #[tactic(auto, unfolding(crate::specs::PlainFront::asked_vex, crate::specs::PlainFront::asks_r, crate::specs::PlainFront::asks_x, crate::specs::PlainFront::asks_b))]
 pub(crate) fn byte_vex(row: &Row, instr: &Instr, asked: &Asked) -> Option<Vex>
     requires { AreAskedOf row.now instr.now asked.now }
-    ensures { result ≡ spec.vex_with row.now instr.now (min 255 (spec.asked spec.number_in_vvvv row.now instr.now)) }
+    ensures { result ≡ spec.vex_with row.now instr.now (min 255 (spec.number_asked_of spec.number_in_vvvv row.now instr.now)) }
 {
     let r = 8 <= asked.reg;
     let x = 8 <= asked.index;
@@ -249,7 +249,7 @@ pub(crate) fn front_with(
     requires w { w ≡ spec.asks_rex_w row.now }
     requires size66 { size66 ≡ spec.asks_66 bits row.now }
     requires is_vex { is_vex ≡ sizes.is_vex_row row.now }
-    requires vex { vex ≡ spec.vex_with row.now instr.now (min 255 (spec.asked spec.number_in_vvvv row.now instr.now)) }
+    requires vex { vex ≡ spec.vex_with row.now instr.now (min 255 (spec.number_asked_of spec.number_in_vvvv row.now instr.now)) }
     ensures value { result ≡ spec.byte_front bits row.now instr.now }
     ensures exact { IsTrue (each_operand (register_suits bits row.now instr.now)) → result ≡ spec.plain_front_of bits row.now instr.now }
     ensures small { result.used < 16 }

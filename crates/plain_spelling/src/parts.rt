@@ -176,7 +176,7 @@ fn parts_with(
     requires sound { IsTrue (sound row.now) }
     requires asked { AreAskedOf row.now instr.now asked.now }
     requires is_vex { is_vex ≡ sizes.is_vex_row row.now }
-    requires vex { vex ≡ front.vex_with row.now instr.now (min 255 (front.asked front.number_in_vvvv row.now instr.now)) }
+    requires vex { vex ≡ front.vex_with row.now instr.now (min 255 (front.number_asked_of front.number_in_vvvv row.now instr.now)) }
     ensures parts { ArePartsOf bits row.now instr.now result }
     ensures ip { result.ip ≡ ip }
     ensures small { result.len < 64 }

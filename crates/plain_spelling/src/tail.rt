@@ -269,7 +269,7 @@ pub fn append_displacement<const N: usize>(bytes: &mut ArrayVec<u8, N>, next: u6
 
 /// The displacement of an operand before the next address.
 fn displacement(next: u64, operand: Operand) -> ArrayVec<u8, 8>
-    ensures { result ≡ spec.listed (spec.displacement_of_operand next operand) }
+    ensures { result ≡ spec.array_of (spec.displacement_of_operand next operand) }
 {
     let mut bytes = ArrayVec::new();
     append_displacement(&mut bytes, next, operand);
@@ -410,7 +410,7 @@ pub fn append_immediates<const N: usize>(
 fn plain_immediates(size: Bits, row: &Row, instr: &Instr, next: u64) -> ArrayVec<u8, 8>
     requires numbers { (n : ℕ) → n < 4 → operand_number (spec_operand_at instr.now n) < 16 }
     requires room { fits.immediates_bytes size row.now ≤ 8 }
-    ensures { result ≡ spec.listed (spec.plain_immediates size row.now instr.now next) }
+    ensures { result ≡ spec.array_of (spec.plain_immediates size row.now instr.now next) }
 {
     let mut bytes = ArrayVec::new();
     append_immediates(&mut bytes, size, row, instr, next);

@@ -22,7 +22,7 @@ use Rattle.row_entries.specs.declared.entry.VexW.{VexW}
 use Rattle.row_entries.specs.declared.entry.VexW.TheVariants as w
 use Rattle.row_entries.specs.declared.entry.VexL.{VexL}
 use Rattle.row_entries.specs.declared.entry.VexL.TheVariants as l
-use Rattle.row_entries.specs.Text.{front, behind, separators}
+use Rattle.row_entries.specs.Text.{text_front, text_behind, separators}
 use Rattle.row_entries.specs.Words.{value_among, kind_words, class_words, mark_words, split}
 use Rattle.row_entries.specs.Variants.{variants, variant_count}
 
@@ -81,7 +81,7 @@ first_word _ = None
 -- the kind of the first of some operands
 abbrev pub first_kind : List ℕ → Option OpKind
 first_kind [] = Some op.Absent
-first_kind (c ∷ text) = value_among kind_words (front (c ∷ text) 44)
+first_kind (c ∷ text) = value_among kind_words (text_front (c ∷ text) 44)
 
 -- the kinds of four operands, each with the text from it on
 abbrev pub four_kinds : List ℕ → List ℕ → List ℕ → List ℕ → List ℕ → Option (List OpKind)
@@ -96,35 +96,35 @@ four_kinds a b c d (_ ∷ _) = None
 -- the kinds of at most four operands, with commas between them
 unfoldable pub kinds : List ℕ → Option (List OpKind)
 kinds text =
-    let second = behind text 44 in
-    let third = behind second 44 in
-    let fourth = behind third 44 in
-    four_kinds text second third fourth (behind fourth 44)
+    let second = text_behind text 44 in
+    let third = text_behind second 44 in
+    let fourth = text_behind third 44 in
+    four_kinds text second third fourth (text_behind fourth 44)
 
 -- the class of an entry, where its second word names one
 unfoldable pub named_class : List ℕ → Option Class
-named_class line = value_among class_words (front (behind line 32) 32)
+named_class line = value_among class_words (text_front (text_behind line 32) 32)
 
 -- a text from its second word on where there is something, else the text
 abbrev pub behind_if : {A : Type 0} → Option A → List ℕ → List ℕ
-behind_if (Some _) text = behind text 32
+behind_if (Some _) text = text_behind text 32
 behind_if None text = text
 
 -- the line from the names on
 unfoldable pub from_names : List ℕ → List ℕ
-from_names line = behind_if (named_class line) (behind line 32)
+from_names line = behind_if (named_class line) (text_behind line 32)
 
 -- the names of an entry, with strokes between them
 unfoldable pub names_of : List ℕ → List ℕ
-names_of line = front (from_names line) 32
+names_of line = text_front (from_names line) 32
 
 -- the kinds of the operands, where a word names them
 unfoldable pub named_kinds : List ℕ → Option (List OpKind)
-named_kinds line = kinds (front (behind (from_names line) 32) 32)
+named_kinds line = kinds (text_front (text_behind (from_names line) 32) 32)
 
 -- the line from the marks on
 unfoldable pub from_marks : List ℕ → List ℕ
-from_marks line = behind_if (named_kinds line) (behind (from_names line) 32)
+from_marks line = behind_if (named_kinds line) (text_behind (from_names line) 32)
 
 -- ---- marks
 
@@ -214,7 +214,7 @@ entry_with kind m line h = record {
 
 -- an entry without marks
 unfoldable pub plain_entry : RowKind → Map → List ℕ → Option Entry
-plain_entry kind m line = first_word (front line 32) >>= (λ h. Some (entry_with kind m line h))
+plain_entry kind m line = first_word (text_front line 32) >>= (λ h. Some (entry_with kind m line h))
 
 -- the entry has a name, and one for all rows of an L or one for each of them
 abbrev pub are_named : List ℕ → Entry → Bool

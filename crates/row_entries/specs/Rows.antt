@@ -16,7 +16,7 @@ use Rattle.row_entries.specs.declared.rows.NamedRow.{NamedRow}
 use Rattle.row_entries.specs.declared.rows.Section.{Section}
 use Rattle.row_entries.specs.declared.rows.Line.{Line}
 use Rattle.row_entries.specs.declared.rows.Line.TheVariants as line
-use Rattle.row_entries.specs.Text.{front, behind, next_names}
+use Rattle.row_entries.specs.Text.{text_front, text_behind, next_names}
 use Rattle.row_entries.specs.Words.{value_among, map_words, split}
 use Rattle.row_entries.specs.Variants.{any_has, variants, lengths}
 use Rattle.row_entries.specs.Entries.{◌>>=◌, entry_of, names_of}
@@ -76,8 +76,8 @@ place_under rule.Any p = p
 place_under (rule.Digit _) p = p
 
 -- the limit of the rows to memory or a register
-abbrev pub place_of : Entry → Place
-place_of e = place_under (rule_of e) (named_place e)
+abbrev pub entry_place : Entry → Place
+entry_place e = place_under (rule_of e) (named_place e)
 
 -- the row of an entry at an L
 unfoldable pub row : Entry → LBit → Variant → Row
@@ -88,7 +88,7 @@ row e x v = record {
   opcode = e.opcode;
   plus = e.plus;
   modrm = rule_of e;
-  place = place_of e;
+  place = entry_place e;
   size = v.size;
   w = v.w;
   l = x;
@@ -98,16 +98,16 @@ row e x v = record {
 }
 
 -- the rows of an entry at an L, with the names of some on
-unfoldable pub rows_at : ℕ → Entry → LBit → List Variant → List ℕ → List Named
-rows_at version e x [] names = []
-rows_at version e x (v ∷ vs) names =
-    if v.modes == 0 then rows_at version e x vs names
-    else record { version = version; row = row e x v; name = front names 124 } ∷ rows_at version e x vs (next_names names)
+unfoldable pub entry_rows : ℕ → Entry → LBit → List Variant → List ℕ → List Named
+entry_rows version e x [] names = []
+entry_rows version e x (v ∷ vs) names =
+    if v.modes == 0 then entry_rows version e x vs names
+    else record { version = version; row = row e x v; name = text_front names 124 } ∷ entry_rows version e x vs (next_names names)
 
 -- the rows of an entry at each of some L
 unfoldable pub rows_at_each : ℕ → Entry → List LBit → List ℕ → List Named
 rows_at_each version e [] names = []
-rows_at_each version e (x ∷ xs) names = rows_at version e x (variants e) names ++ rows_at_each version e xs names
+rows_at_each version e (x ∷ xs) names = entry_rows version e x (variants e) names ++ rows_at_each version e xs names
 
 -- ---- the lines of a file
 
@@ -127,13 +127,13 @@ map_section at m = Some (record { version = at.version; map = Some m })
 -- what a line that begins a version or a map begins
 unfoldable pub section_of : Section → List ℕ → Option Section
 section_of at text =
-    if bytes_eq (front text 32) (codes "version") then version_number (behind text 32) >>= version_section
-    else if bytes_eq (front text 32) (codes "map") then value_among map_words (behind text 32) >>= map_section at
+    if bytes_eq (text_front text 32) (codes "version") then version_number (text_behind text 32) >>= version_section
+    else if bytes_eq (text_front text 32) (codes "map") then value_among map_words (text_behind text 32) >>= map_section at
     else None
 
 -- the entry of a line, where a map was named
-abbrev pub entry_at : RowKind → Option Map → List ℕ → Option Line
-entry_at kind named text = do
+abbrev pub entry_in_map : RowKind → Option Map → List ℕ → Option Line
+entry_in_map kind named text = do
   m ← named
   e ← entry_of kind m text
   Some (line.Entry e)
@@ -141,12 +141,12 @@ entry_at kind named text = do
 -- a line begins a section, or else is an entry
 abbrev pub section_or_entry : RowKind → Section → List ℕ → Option Section → Option Line
 section_or_entry kind at text (Some section) = Some (line.Begins section)
-section_or_entry kind at text None = entry_at kind at.map text
+section_or_entry kind at text None = entry_in_map kind at.map text
 
 -- what a line is: a heading begins with a hash
-unfoldable pub line_of : RowKind → Section → List ℕ → Option Line
-line_of kind at [] = Some line.Idle
-line_of kind at (c ∷ text) = if c == 35 then Some line.Idle else section_or_entry kind at (c ∷ text) (section_of at (c ∷ text))
+unfoldable pub entry_line : RowKind → Section → List ℕ → Option Line
+entry_line kind at [] = Some line.Idle
+entry_line kind at (c ∷ text) = if c == 35 then Some line.Idle else section_or_entry kind at (c ∷ text) (section_of at (c ∷ text))
 
 -- rows before others that are there
 abbrev pub before : List Named → Option (List Named) → Option (List Named)
@@ -154,15 +154,15 @@ before rows None = None
 before rows (Some others) = Some (rows ++ others)
 
 -- the rows of some lines, none at all where one is nothing that a line can be
-unfoldable pub rows_of : RowKind → Section → List (List ℕ) → Option (List Named)
-rows_of kind at [] = Some []
-rows_of kind at (text ∷ lines) =
-    elim (line_of kind at text) [
+unfoldable pub section_rows : RowKind → Section → List (List ℕ) → Option (List Named)
+section_rows kind at [] = Some []
+section_rows kind at (text ∷ lines) =
+    elim (entry_line kind at text) [
       | None ↦ None
       | Some found ↦ elim (found) [
-        | line.Idle ↦ rows_of kind at lines
-        | line.Begins section ↦ rows_of kind section lines
-        | line.Entry e ↦ before (rows_at_each at.version e (lengths e) (names_of text)) (rows_of kind at lines)
+        | line.Idle ↦ section_rows kind at lines
+        | line.Begins section ↦ section_rows kind section lines
+        | line.Entry e ↦ before (rows_at_each at.version e (lengths e) (names_of text)) (section_rows kind at lines)
       ]
     ]
 

@@ -7,13 +7,13 @@ front_len [] separator = 0
 front_len (c ∷ text) separator = if c == separator then 0 else 1 + front_len text separator
 
 -- the bytes before the first separator
-abbrev pub front : List ℕ → ℕ → List ℕ
-front text separator = take (front_len text separator) text
+abbrev pub text_front : List ℕ → ℕ → List ℕ
+text_front text separator = take (front_len text separator) text
 
 -- the bytes behind the first separator, none where there is none
-unfoldable pub behind : List ℕ → ℕ → List ℕ
-behind [] separator = []
-behind (c ∷ text) separator = if c == separator then text else behind text separator
+unfoldable pub text_behind : List ℕ → ℕ → List ℕ
+text_behind [] separator = []
+text_behind (c ∷ text) separator = if c == separator then text else text_behind text separator
 
 -- how many separators there are
 unfoldable pub separators : List ℕ → ℕ → ℕ
@@ -27,7 +27,7 @@ or_names (c ∷ others) names = c ∷ others
 
 -- the names behind the first of some names, or the same where it is the only one left
 abbrev pub next_names : List ℕ → List ℕ
-next_names names = or_names (behind names 124) names
+next_names names = or_names (text_behind names 124) names
 
 -- a capital letter made small
 abbrev pub small_letter : ℕ → ℕ

@@ -62,23 +62,23 @@ reads_modrm method.Gather = true
 reads_modrm _ = false
 
 -- an operand is read from a ModRM byte that names a register alone
-abbrev pub is_register_only : Method → Bool
-is_register_only method.RegisterOnly = true
-is_register_only _ = false
+abbrev pub asks_register : Method → Bool
+asks_register method.RegisterOnly = true
+asks_register _ = false
 
 -- an operand is read from a ModRM byte that names memory alone
-abbrev pub is_memory_only : Method → Bool
-is_memory_only method.MemoryOnly = true
-is_memory_only method.Gather = true
-is_memory_only _ = false
+abbrev pub asks_memory : Method → Bool
+asks_memory method.MemoryOnly = true
+asks_memory method.Gather = true
+asks_memory _ = false
 
 -- the kind of an operand has the trait
 abbrev pub has_trait : OpKind → Trait → Bool
 has_trait kind trait.BySize = is_by_size kind
 has_trait kind trait.ByW = is_by_w kind
 has_trait kind trait.ReadsModRm = reads_modrm (method_of kind)
-has_trait kind trait.RegisterOnly = is_register_only (method_of kind)
-has_trait kind trait.MemoryOnly = is_memory_only (method_of kind)
+has_trait kind trait.RegisterOnly = asks_register (method_of kind)
+has_trait kind trait.MemoryOnly = asks_memory (method_of kind)
 
 -- one of the kinds has the trait
 unfoldable pub any_has : List OpKind → Trait → Bool

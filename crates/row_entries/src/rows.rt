@@ -114,7 +114,7 @@ fn named_place(e: &Entry) -> Place
 
 /// The limit of the rows to memory or a register: none without a ModRM byte, nor with a fixed one.
 fn place(e: &Entry) -> Place
-    ensures { result ≡ spec.place_of e.now }
+    ensures { result ≡ spec.entry_place e.now }
 {
     match rule(e) {
         ModRmRule::No | ModRmRule::Fixed(_) => Place::Any,
@@ -155,7 +155,7 @@ fn add_rows_at<'a>(
     variants: &[Variant],
     names: &'a [u8],
 ) -> Result<(), AllocError>
-    ensures { OnOk result (map spec.view out.new.items ≡ map spec.view out.old.items ++ spec.rows_at version e.now l variants.now names.now) }
+    ensures { OnOk result (map spec.view out.new.items ≡ map spec.view out.old.items ++ spec.entry_rows version e.now l variants.now names.now) }
 {
     match variants {
         [] => Ok(()),
@@ -231,7 +231,7 @@ fn section_of(at: Section, line: &[u8]) -> Option<Section>
 
 /// The entry of a line, where a map was named.
 fn entry_at(kind: RowKind, map: Option<Map>, line: &[u8]) -> Option<Line>
-    ensures { result ≡ spec.entry_at kind map line.now }
+    ensures { result ≡ spec.entry_in_map kind map line.now }
 {
     let map = map?;
     let e = entry_of(kind, map, line)?;
@@ -241,7 +241,7 @@ fn entry_at(kind: RowKind, map: Option<Map>, line: &[u8]) -> Option<Line>
 /// What a line is; None where it is nothing that a line can be.
 #[tactic(auto, unfolding(crate::specs::Rows::line_of))]
 fn line_of(kind: RowKind, at: Section, line: &[u8]) -> Option<Line>
-    ensures { result ≡ spec.line_of kind at line.now }
+    ensures { result ≡ spec.entry_line kind at line.now }
 {
     match line {
         [] => Some(Line::Idle),
@@ -262,7 +262,7 @@ pub fn add_rows<'a>(
     text: &'a [u8],
     number: u32,
 ) -> Result<(), NoRows>
-    ensures rows { OnOk result (spec.IsGrownBy out.old.items out.new.items (spec.rows_of kind at (split text.now 10))) }
+    ensures rows { OnOk result (spec.IsGrownBy out.old.items out.new.items (spec.section_rows kind at (split text.now 10))) }
 {
     match text {
         [] => Ok(()),

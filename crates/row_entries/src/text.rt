@@ -21,7 +21,7 @@ fn front_len(text: &[u8], separator: u8) -> usize
 
 /// The bytes before the first separator.
 pub fn front(text: &[u8], separator: u8) -> &[u8]
-    ensures { result.now ≡ spec.front text.now separator }
+    ensures { result.now ≡ spec.text_front text.now separator }
 {
     &text[..front_len(text, separator)]
 }
@@ -29,7 +29,7 @@ pub fn front(text: &[u8], separator: u8) -> &[u8]
 /// The bytes behind the first separator, none where there is none.
 #[tactic(auto, unfolding(crate::specs::Text::behind))]
 pub fn behind(text: &[u8], separator: u8) -> &[u8]
-    ensures value { result.now ≡ spec.behind text.now separator }
+    ensures value { result.now ≡ spec.text_behind text.now separator }
     ensures shorter { 0 < length text.now → length result.now < length text.now }
 {
     match text {

@@ -1,7 +1,7 @@
 -- Rows of one cell that no values meet together.
 use Rattle.std.proofs.Common.{◌≡◌, ℕ, zero, suc, ◌<◌, ◌≤◌, Bool, true, false, not, ◌&&◌, ◌||◌, List, [], ◌∷◌, length, refl, sym, ◌∙◌, arith, inl, inr, eqb-true, eq-eqb, lit<}
 use Rattle.std.proofs.lemmas.Bool.{and_parts}
-use Rattle.row_fields.specs.Candidates.{Cand, Coded, coded, of_number, at_opcode, cands, alive, below}
+use Rattle.row_fields.specs.Candidates.{Cand, Coded, rows_with_codes, of_number, at_opcode, cands, alive, below}
 use Rattle.row_fields.proofs.Cands.{alive-cands, below-at}
 use Rattle.std.specs.Prelude.{◌==◌, ◌⊎◌}
 use Rattle.row_types.specs.declared.Row.{Row}
@@ -124,7 +124,7 @@ kind_apart rows = below 256 (λ op. cell_apart op (at_opcode op rows))
 
 unfoldable pub table_apart : List Row → Bool
 unfolding below
-table_apart rows = below 8 (λ number. kind_apart (of_number number (coded 0 rows)))
+table_apart rows = below 8 (λ number. kind_apart (of_number number (rows_with_codes 0 rows)))
 
 pub map_number-lt : (v : Bool) (m : Map) → map_number v m < 8
 map_number-lt false map.One = lit< tt
@@ -153,9 +153,9 @@ pub at_most_one : (rows : List Row) → table_apart rows ≡ true → (bits : Bi
 unfolding table_apart kind_apart
 at_most_one rows h bits f lt =
     let number : ℕ = map_number f.vex f.map in
-    let kept : List Coded = of_number number (coded 0 rows) in
+    let kept : List Coded = of_number number (rows_with_codes 0 rows) in
     let of_kind : kind_apart kept ≡ true =
-    below-at 8 (λ n. kind_apart (of_number n (coded 0 rows))) number h (map_number-lt f.vex f.map) in
+    below-at 8 (λ n. kind_apart (of_number n (rows_with_codes 0 rows))) number h (map_number-lt f.vex f.map) in
     let of_cell : cell_apart f.opcode (at_opcode f.opcode kept) ≡ true =
     below-at 256 (λ op. cell_apart op (at_opcode op kept)) f.opcode of_kind lt in
     rw (← alive-cands bits 0 rows f)

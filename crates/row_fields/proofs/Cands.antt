@@ -9,7 +9,7 @@ use Rattle.row_fields.specs.declared.Fields.{Fields}
 use Rattle.row_fields.specs.Holds.{holds, keep_if, codes_holding, is_vex, opcode_holds, map_number}
 use Rattle.row_fields.specs.Masks.{Mask, free, only, oneof, allows, meets, masks, values}
 use Rattle.row_fields.proofs.MaskLemmas.{holds-masks}
-use Rattle.row_fields.specs.Candidates.{Coded, Cand, coded, of_number, at_opcode, cands, alive, mask_at, value_at, clear, keep, is_empty, is_free, all_free, is_one, below}
+use Rattle.row_fields.specs.Candidates.{Coded, Cand, rows_with_codes, of_number, at_opcode, cands, alive, mask_at, value_at, clear, keep, is_empty, is_free, all_free, is_one, below}
 
 pub at_opcode-keep_if : (op : ℕ) (b : Bool) (c : Coded) (cs : List Coded)
     → at_opcode op (keep_if b c cs) ≡ keep_if (b && opcode_holds c.row.plus c.row.opcode op) c (at_opcode op cs)
@@ -36,9 +36,9 @@ and-assoc false b c = refl
 
 -- the candidates of the fields' own cell are right
 pub alive-cands : (bits : Bits) (first : ℕ) (rows : List Row) (f : Fields)
-    → alive (cands bits f.opcode (at_opcode f.opcode (of_number (map_number f.vex f.map) (coded first rows)))) (values bits f)
+    → alive (cands bits f.opcode (at_opcode f.opcode (of_number (map_number f.vex f.map) (rows_with_codes first rows)))) (values bits f)
     ≡ codes_holding bits first rows f
-unfolding coded of_number at_opcode cands alive codes_holding
+unfolding rows_with_codes of_number at_opcode cands alive codes_holding
 alive-cands bits first [] f = refl
 alive-cands bits first (r ∷ rs) f =
     let c : Coded = record { code = first; row = r } in
@@ -46,7 +46,7 @@ alive-cands bits first (r ∷ rs) f =
     let number : ℕ = map_number f.vex f.map in
     let here : Bool = map_number (is_vex r.kind) r.map == number in
     let there : Bool = opcode_holds r.plus r.opcode f.opcode in
-    let rest : List Coded = of_number number (coded (suc first) rs) in
+    let rest : List Coded = of_number number (rows_with_codes (suc first) rs) in
     ap (λ x. alive (cands bits f.opcode x) (values bits f)) (at_opcode-keep_if f.opcode here c rest)
     ∙ ap (λ x. alive x (values bits f)) (cands-keep_if bits f.opcode (here && there) c (at_opcode f.opcode rest))
     ∙ alive-keep_if ((here && there) && exists_in bits r) d (cands bits f.opcode (at_opcode f.opcode rest)) (values bits f)

@@ -1,7 +1,7 @@
 -- The rows of a cell as a run of codes.
 use Rattle.std.proofs.Common.{◌≡◌, ℕ, zero, suc, pred, ◌+◌, ◌<◌, Bool, true, false, ◌&&◌, List, [], ◌∷◌, length, map, slice_get, refl, ap, sym, ◌∙◌, arith, inl, inr, eqb-true, nat_lt, ltb-true}
 use Rattle.std.proofs.lemmas.Bool.{and_parts}
-use Rattle.row_fields.specs.Candidates.{Coded, coded, of_number, at_opcode}
+use Rattle.row_fields.specs.Candidates.{Coded, rows_with_codes, of_number, at_opcode}
 use Rattle.row_fields.proofs.Cands.{at_opcode-keep_if}
 use Rattle.std.specs.Prelude.{◌==◌, Some}
 use Rattle.row_types.specs.declared.Row.{Row}
@@ -36,26 +36,26 @@ map-keep_if true c cs = refl
 map-keep_if false c cs = refl
 
 pub rows-of_cell : (number op first : ℕ) (rows : List Row)
-    → map (λ c. c.row) (at_opcode op (of_number number (coded first rows))) ≡ rows_at number op rows
-unfolding coded of_number at_opcode rows_at
+    → map (λ c. c.row) (at_opcode op (of_number number (rows_with_codes first rows))) ≡ rows_at number op rows
+unfolding rows_with_codes of_number at_opcode rows_at
 rows-of_cell number op first [] = refl
 rows-of_cell number op first (r ∷ rs) =
     let c : Coded = record { code = first; row = r } in
     let here : Bool = map_number (is_vex r.kind) r.map == number in
-    let rest : List Coded = of_number number (coded (suc first) rs) in
+    let rest : List Coded = of_number number (rows_with_codes (suc first) rs) in
     ap (λ x. map (λ d. d.row) x) (at_opcode-keep_if op here c rest)
     ∙ map-keep_if (here && opcode_holds r.plus r.opcode op) c (at_opcode op rest)
     ∙ ap (λ x. keep_if (stands_in r number op) r x) (rows-of_cell number op (suc first) rs)
 
 -- a row of a cell stands in the table at its code
 pub table-at_code : (number op first : ℕ) (rows : List Row) (i : ℕ) (c : Coded)
-    → slice_get (at_opcode op (of_number number (coded first rows))) i ≡ Some c → (k : ℕ) × (c.code ≡ first + k) × (slice_get rows k ≡ Some c.row)
-unfolding coded of_number at_opcode
+    → slice_get (at_opcode op (of_number number (rows_with_codes first rows))) i ≡ Some c → (k : ℕ) × (c.code ≡ first + k) × (slice_get rows k ≡ Some c.row)
+unfolding rows_with_codes of_number at_opcode
 table-at_code number op first [] i c at = cc
 table-at_code number op first (r ∷ rs) i c at =
     let x : Coded = record { code = first; row = r } in
     let here : Bool = map_number (is_vex r.kind) r.map == number in
-    let rest : List Coded = of_number number (coded (suc first) rs) in
+    let rest : List Coded = of_number number (rows_with_codes (suc first) rs) in
     let b : Bool = here && opcode_holds r.plus r.opcode op in
     let at' : slice_get (keep_if b x (at_opcode op rest)) i ≡ Some c = ap (λ l. slice_get l i) (sym (at_opcode-keep_if op here x rest)) ∙ at in
     let later : (j : ℕ) → slice_get (at_opcode op rest) j ≡ Some c → (k : ℕ) × (c.code ≡ first + k) × (slice_get (r ∷ rs) k ≡ Some c.row) =

@@ -4,7 +4,7 @@ use Rattle.std.specs.Prelude.{Some}
 use Rattle.row_types.specs.declared.Row.{Row}
 use Rattle.x86_values.specs.declared.Bits.{Bits}
 use Rattle.row_fields.specs.declared.Fields.{Fields}
-use Rattle.row_fields.specs.Holds.{holds, codes_holding, HoldsNowhere, IsOnlyRow, AreApart}
+use Rattle.row_fields.specs.Holds.{holds, codes_holding, HoldsNowhere, IsOnlyRow, RowsAreApart}
 use Rattle.row_fields.proofs.Apart.{bool_cases}
 
 cons-empty : (n : ℕ) (ns : List ℕ) → n ∷ ns ≡ [] → ⊥
@@ -79,7 +79,7 @@ only_row bits rows f code h =
       alone = λ other r at met. (let same : 0 + other ≡ code = one-alone bits 0 rows f code h other r at met in omega (arith, same));
     }
 
-pub apart : (bits : Bits) (rows : List Row) (f : Fields) → length (codes_holding bits 0 rows f) ≤ 1 → AreApart bits rows f
+pub apart : (bits : Bits) (rows : List Row) (f : Fields) → length (codes_holding bits 0 rows f) ≤ 1 → RowsAreApart bits rows f
 apart bits rows f h j k q r at-j at-k met-j met-k = by_length (codes_holding bits 0 rows f) refl h
   where
     by_length : (codes : List ℕ) → codes_holding bits 0 rows f ≡ codes → length codes ≤ 1 → j ≡ k

@@ -17,9 +17,9 @@ pub record Cand : Type 0 where
   pub masks : List Mask
 
 -- rows whose codes follow one another from the first
-unfoldable pub coded : ℕ → List Row → List Coded
-coded first [] = []
-coded first (r ∷ rs) = record { code = first; row = r } ∷ coded (suc first) rs
+unfoldable pub rows_with_codes : ℕ → List Row → List Coded
+rows_with_codes first [] = []
+rows_with_codes first (r ∷ rs) = record { code = first; row = r } ∷ rows_with_codes (suc first) rs
 
 -- the rows of a kind and map
 unfoldable pub of_number : ℕ → List Coded → List Coded

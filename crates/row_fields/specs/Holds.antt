@@ -219,6 +219,6 @@ pub record IsOnlyRow (bits : Bits) (rows : List Row) (f : Fields) (code : ℕ) :
   pub alone : (other : ℕ) (r : Row) → slice_get rows other ≡ Some r → holds bits r f ≡ true → other ≡ code
 
 -- two rows that hold are one row
-abbrev pub AreApart : Bits → List Row → Fields → Type 0
-AreApart bits rows f =
+abbrev pub RowsAreApart : Bits → List Row → Fields → Type 0
+RowsAreApart bits rows f =
     (j k : ℕ) (q r : Row) → slice_get rows j ≡ Some q → slice_get rows k ≡ Some r → holds bits q f ≡ true → holds bits r f ≡ true → j ≡ k

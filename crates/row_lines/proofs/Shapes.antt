@@ -2,7 +2,7 @@
 use Rattle.std.proofs.Common.{◌≡◌, ℕ, Bool, true, refl, slice_get}
 use Rattle.std.specs.Prelude.{Some, IsTrue}
 use Rattle.row_types.specs.declared.Row.{Row}
-use Rattle.row_notation.specs.Shape.{size_word, plus_word, imm_word_of, imm_word, shape, is_opcode_of_map, is_rule_in_range, is_stack_proper, is_legacy_proper, is_vex_proper, is_proper}
+use Rattle.row_notation.specs.Shape.{size_prefix_word, plus_word, imm_word_of, imm_word, shape, is_opcode_of_map, is_rule_in_range, is_stack_proper, is_legacy_proper, is_vex_proper, is_proper}
 use Rattle.rows_integer.specs.Table.{table as integer_rows, flat_rows as integer_flat}
 use Rattle.rows_x87.specs.Table.{table as x87_rows, flat_rows as x87_flat}
 use Rattle.rows_sse.specs.Table.{table as sse_rows, flat_rows as sse_flat}
@@ -17,7 +17,7 @@ unfoldable pub has_shape : Row → Bool
 has_shape row = is_proper (shape row)
 
 each-shape : (p : Part) → all_rows has_shape (part_table p) ≡ true
-unfolding all_rows has_shape size_word plus_word imm_word_of imm_word shape is_opcode_of_map is_rule_in_range is_stack_proper is_legacy_proper is_vex_proper is_proper integer_rows integer_flat x87_rows x87_flat sse_rows sse_flat vex_rows vex_flat
+unfolding all_rows has_shape size_prefix_word plus_word imm_word_of imm_word shape is_opcode_of_map is_rule_in_range is_stack_proper is_legacy_proper is_vex_proper is_proper integer_rows integer_flat x87_rows x87_flat sse_rows sse_flat vex_rows vex_flat
 each-shape part.Integer = refl
 each-shape part.X87 = refl
 each-shape part.Sse = refl

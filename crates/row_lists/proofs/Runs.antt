@@ -1,6 +1,6 @@
 -- A computed test that spans say where the rows of each cell lie, and what follows from it.
 use Rattle.std.proofs.Common.{◌≡◌, ℕ, Bool, true, false, zero, suc, ◌+◌, ◌-◌, refl, ap, sym, ◌∙◌, arith, List, [], ◌∷◌, ◌<◌, map, length, slice_get, option_map, inl, inr, lit<}
-use Rattle.row_fields.specs.Candidates.{Coded, coded, of_number, at_opcode, below, is_run}
+use Rattle.row_fields.specs.Candidates.{Coded, rows_with_codes, of_number, at_opcode, below, is_run}
 use Rattle.row_fields.proofs.Cands.{at_opcode-keep_if, below-at}
 use Rattle.std.specs.Prelude.{Option, Some, None, ◌==◌}
 use Rattle.std.proofs.lemmas.Option.{slice_get-map, slice_get_within}
@@ -14,7 +14,7 @@ use Rattle.row_fields.specs.Holds.{is_vex, map_number, keep_if, stands_in}
 use Rattle.row_fields.proofs.Cells.{length-is_run, code-is_run, rows-of_cell, table-at_code}
 use Rattle.row_fields.proofs.Apart.{bool_cases}
 use Rattle.row_lists.specs.declared.Span.{Span}
-use Rattle.row_lists.specs.Cells.{map_index, line_number, cell_of, span_of, IsRunOf}
+use Rattle.row_lists.specs.Cells.{map_index, line_number, cell_of, cell_span, IsRunOf}
 use Rattle.row_lists.specs.Runs.{run_at, line_runs, first_number, spans_fit, coded_cell}
 
 pub map_index-lt : (m : Map) → map_index m < 4
@@ -34,17 +34,17 @@ line_number-is kind.Vex M0f38 = refl
 line_number-is kind.Vex M0f3a = refl
 
 span-is_run : (k : RowKind) (m : Map) (op : ℕ) (spans : List (List Span)) (rows : List Row) (s : Span)
-    → spans_fit k spans rows ≡ true → op < 256 → span_of spans (map_index m) op ≡ Some s
+    → spans_fit k spans rows ≡ true → op < 256 → cell_span spans (map_index m) op ≡ Some s
     → is_run s.first s.count (coded_cell rows k m op) ≡ true
 unfolding spans_fit line_runs run_at
 span-is_run k m op spans rows s h byte at =
-    let of_line : (line : ℕ) → Bool = λ line. line_runs spans line (of_number (first_number k + line) (coded 0 rows)) in
-    let here : line_runs spans (map_index m) (of_number (first_number k + map_index m) (coded 0 rows)) ≡ true =
+    let of_line : (line : ℕ) → Bool = λ line. line_runs spans line (of_number (first_number k + line) (rows_with_codes 0 rows)) in
+    let here : line_runs spans (map_index m) (of_number (first_number k + map_index m) (rows_with_codes 0 rows)) ≡ true =
     below-at 4 of_line (map_index m) h (map_index-lt m) in
-    let numbered : line_runs spans (map_index m) (of_number (line_number k m) (coded 0 rows)) ≡ true =
-    ap (λ n. line_runs spans (map_index m) (of_number n (coded 0 rows))) (sym (line_number-is k m)) ∙ here in
-    let cell : run_at (span_of spans (map_index m) op) (coded_cell rows k m op) ≡ true =
-    below-at 256 (λ o. run_at (span_of spans (map_index m) o) (at_opcode o (of_number (line_number k m) (coded 0 rows)))) op numbered byte in
+    let numbered : line_runs spans (map_index m) (of_number (line_number k m) (rows_with_codes 0 rows)) ≡ true =
+    ap (λ n. line_runs spans (map_index m) (of_number n (rows_with_codes 0 rows))) (sym (line_number-is k m)) ∙ here in
+    let cell : run_at (cell_span spans (map_index m) op) (coded_cell rows k m op) ≡ true =
+    below-at 256 (λ o. run_at (cell_span spans (map_index m) o) (at_opcode o (of_number (line_number k m) (rows_with_codes 0 rows)))) op numbered byte in
     ap (λ o. run_at o (coded_cell rows k m op)) (sym at) ∙ cell
 
 cell-rows : (k : RowKind) (m : Map) (op : ℕ) (rows : List Row) → map (λ c. c.row) (coded_cell rows k m op) ≡ cell_of rows k m op
@@ -53,7 +53,7 @@ cell-rows k m op rows = rows-of_cell (line_number k m) op 0 rows
 
 -- a cell has as many rows as its span says
 pub length-cell : (k : RowKind) (m : Map) (op : ℕ) (spans : List (List Span)) (rows : List Row) (s : Span)
-    → spans_fit k spans rows ≡ true → op < 256 → span_of spans (map_index m) op ≡ Some s → length (cell_of rows k m op) ≡ s.count
+    → spans_fit k spans rows ≡ true → op < 256 → cell_span spans (map_index m) op ≡ Some s → length (cell_of rows k m op) ≡ s.count
 length-cell k m op spans rows s h byte at =
     ap length (sym (cell-rows k m op rows)) ∙ length-map (coded_cell rows k m op) (λ c. c.row)
     ∙ length-is_run s.first s.count (coded_cell rows k m op) (span-is_run k m op spans rows s h byte at)
@@ -65,7 +65,7 @@ slice_get-known (c ∷ cs) (suc i) lt = slice_get-known cs i (omega arith)
 
 -- the i-th row of a cell is the list's, at the index that lies i behind the first
 pub row-of_span : (k : RowKind) (m : Map) (op : ℕ) (spans : List (List Span)) (rows : List Row) (s : Span)
-    → spans_fit k spans rows ≡ true → op < 256 → span_of spans (map_index m) op ≡ Some s → (i : ℕ) → i < length (cell_of rows k m op)
+    → spans_fit k spans rows ≡ true → op < 256 → cell_span spans (map_index m) op ≡ Some s → (i : ℕ) → i < length (cell_of rows k m op)
     → (r : Row) × (slice_get (cell_of rows k m op) i ≡ Some r) × (slice_get rows (s.first + i) ≡ Some r)
 row-of_span k m op spans rows s h byte at i lt =
     let cs : List Coded = coded_cell rows k m op in
@@ -87,8 +87,8 @@ coded_as code row = record { code = code; row = row }
 
 -- a row that stands in the cell is among its rows with its index
 found-in_cell : (number op first : ℕ) (rows : List Row) (k : ℕ) (r : Row) → slice_get rows k ≡ Some r → stands_in r number op ≡ true
-    → (i : ℕ) × (slice_get (at_opcode op (of_number number (coded first rows))) i ≡ Some (record { code = first + k; row = r }))
-unfolding coded of_number at_opcode
+    → (i : ℕ) × (slice_get (at_opcode op (of_number number (rows_with_codes first rows))) i ≡ Some (record { code = first + k; row = r }))
+unfolding rows_with_codes of_number at_opcode
 found-in_cell number op first [] k r at met = cc
 found-in_cell number op first (x ∷ rs) zero r at met =
     let same : x ≡ r = cc in
@@ -97,7 +97,7 @@ found-in_cell number op first (x ∷ rs) zero r at met =
     let d : Coded = record { code = first + 0; row = r } in
     let code : first ≡ first + 0 = omega arith in
     let is : c ≡ d = same_coded first (first + 0) x r code same in
-    let rest : List Coded = of_number number (coded (suc first) rs) in
+    let rest : List Coded = of_number number (rows_with_codes (suc first) rs) in
     let whole : at_opcode op (keep_if (map_number (is_vex x.kind) x.map == number) c rest) ≡ c ∷ at_opcode op rest =
     at_opcode-keep_if op (map_number (is_vex x.kind) x.map == number) c rest ∙ ap (λ b. keep_if b c (at_opcode op rest)) met'
     in
@@ -109,7 +109,7 @@ found-in_cell number op first (x ∷ rs) (suc k) r at met =
     let t = found-in_cell number op (suc first) rs k r at met in
     let c : Coded = record { code = first; row = x } in
     let d : Coded = record { code = suc first + k; row = r } in
-    let rest : List Coded = of_number number (coded (suc first) rs) in
+    let rest : List Coded = of_number number (rows_with_codes (suc first) rs) in
     let b : Bool = stands_in x number op in
     let whole : at_opcode op (keep_if (map_number (is_vex x.kind) x.map == number) c rest) ≡ keep_if b c (at_opcode op rest) =
     at_opcode-keep_if op (map_number (is_vex x.kind) x.map == number) c rest
@@ -124,12 +124,12 @@ found-in_cell number op first (x ∷ rs) (suc k) r at met =
 
 -- each of the rows of a cell stands in it
 stands-in_cell : (number op first : ℕ) (rows : List Row) (i : ℕ) (c : Coded)
-    → slice_get (at_opcode op (of_number number (coded first rows))) i ≡ Some c → stands_in c.row number op ≡ true
-unfolding coded of_number at_opcode
+    → slice_get (at_opcode op (of_number number (rows_with_codes first rows))) i ≡ Some c → stands_in c.row number op ≡ true
+unfolding rows_with_codes of_number at_opcode
 stands-in_cell number op first [] i c at = cc
 stands-in_cell number op first (x ∷ rs) i c at =
     let d : Coded = record { code = first; row = x } in
-    let rest : List Coded = of_number number (coded (suc first) rs) in
+    let rest : List Coded = of_number number (rows_with_codes (suc first) rs) in
     let b : Bool = stands_in x number op in
     let at' : slice_get (keep_if b d (at_opcode op rest)) i ≡ Some c =
     ap (λ l. slice_get l i) (sym (at_opcode-keep_if op (map_number (is_vex x.kind) x.map == number) d rest)) ∙ at
@@ -149,7 +149,7 @@ stands-in_cell number op first (x ∷ rs) i c at =
 
 -- a row stands in the cell exactly where its index is in the run
 pub run-of_span : (k : RowKind) (m : Map) (op : ℕ) (spans : List (List Span)) (rows : List Row) (s : Span)
-    → spans_fit k spans rows ≡ true → op < 256 → span_of spans (map_index m) op ≡ Some s
+    → spans_fit k spans rows ≡ true → op < 256 → cell_span spans (map_index m) op ≡ Some s
     → IsRunOf rows k m op s.first s.count
 run-of_span k m op spans rows s h byte at code row there =
     let cs : List Coded = coded_cell rows k m op in
@@ -178,6 +178,6 @@ run-of_span k m op spans rows s h byte at code row there =
 
 -- a span, read line by line
 pub span-read : (spans : List (List Span)) (line op : ℕ) (l : List Span) (s : Span)
-    → slice_get spans line ≡ Some l → slice_get l op ≡ Some s → span_of spans line op ≡ Some s
-unfolding span_of
+    → slice_get spans line ≡ Some l → slice_get l op ≡ Some s → cell_span spans line op ≡ Some s
+unfolding cell_span
 span-read spans line op l s p q = rw p q

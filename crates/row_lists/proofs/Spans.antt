@@ -1,6 +1,6 @@
 -- Spans that pass the computed test say where the rows of each cell lie.
 use Rattle.std.proofs.Common.{◌≡◌, ℕ, ◌+◌, ◌<◌, Bool, true, List, [], length, get_or, slice_get, refl, sym, subst, ◌∙◌}
-use Rattle.row_fields.specs.Candidates.{Coded, coded, of_number, at_opcode}
+use Rattle.row_fields.specs.Candidates.{Coded, rows_with_codes, of_number, at_opcode}
 use Rattle.row_fields.proofs.Cands.{below-at}
 use Rattle.std.proofs.lemmas.Option.{slice_get-get_or, slice_get_within}
 use Rattle.std.specs.Prelude.{Option, None, Some}
@@ -8,8 +8,8 @@ use Rattle.row_types.specs.declared.Row.{Row}
 use Rattle.row_types.specs.declared.RowKind.{RowKind}
 use Rattle.row_types.specs.declared.Map.{Map}
 use Rattle.row_lists.specs.declared.Span.{Span}
-use Rattle.row_lists.specs.Cells.{map_index, cell_of, span_of}
-use Rattle.row_lists.specs.Spans.{IsSpanOf, AreSpansOf}
+use Rattle.row_lists.specs.Cells.{map_index, cell_of, cell_span}
+use Rattle.row_lists.specs.Spans.{IsSpanOf, AreCellSpansOf}
 use Rattle.row_lists.specs.Runs.{run_at, line_runs, first_number, spans_fit}
 use Rattle.row_lists.proofs.Runs.{map_index-lt, length-cell, row-of_span}
 
@@ -20,16 +20,16 @@ run-there (Some s) cs h = (s, refl)
 
 -- each cell has a span
 span-there : (k : RowKind) (m : Map) (op : ℕ) (spans : List (List Span)) (rows : List Row) → spans_fit k spans rows ≡ true → op < 256
-    → (s : Span) × (span_of spans (map_index m) op ≡ Some s)
+    → (s : Span) × (cell_span spans (map_index m) op ≡ Some s)
 unfolding spans_fit line_runs
 span-there k m op spans rows h byte =
-    let of_line : (line : ℕ) → Bool = λ line. line_runs spans line (of_number (first_number k + line) (coded 0 rows)) in
-    let cs : List Coded = of_number (first_number k + map_index m) (coded 0 rows) in
+    let of_line : (line : ℕ) → Bool = λ line. line_runs spans line (of_number (first_number k + line) (rows_with_codes 0 rows)) in
+    let cs : List Coded = of_number (first_number k + map_index m) (rows_with_codes 0 rows) in
     let here : line_runs spans (map_index m) cs ≡ true = below-at 4 of_line (map_index m) h (map_index-lt m) in
-    run-there (span_of spans (map_index m) op) (at_opcode op cs)
-    (below-at 256 (λ o. run_at (span_of spans (map_index m) o) (at_opcode o cs)) op here byte)
+    run-there (cell_span spans (map_index m) op) (at_opcode op cs)
+    (below-at 256 (λ o. run_at (cell_span spans (map_index m) o) (at_opcode o cs)) op here byte)
 
-pub spans-of_fit : (k : RowKind) (spans : List (List Span)) (rows : List Row) → spans_fit k spans rows ≡ true → AreSpansOf k rows spans
+pub spans-of_fit : (k : RowKind) (spans : List (List Span)) (rows : List Row) → spans_fit k spans rows ≡ true → AreCellSpansOf k rows spans
 spans-of_fit k spans rows h m op byte =
     let s = span-there k m op spans rows h byte in
     let count : length (cell_of rows k m op) ≡ s.0.count = length-cell k m op spans rows s.0 h byte s.1 in
@@ -37,7 +37,7 @@ spans-of_fit k spans rows h m op byte =
 
 -- the span that was read is that of its cell
 pub span-read_is : (k : RowKind) (m : Map) (op : ℕ) (spans : List (List Span)) (rows : List Row) (s : Span)
-    → AreSpansOf k rows spans → op < 256 → span_of spans (map_index m) op ≡ Some s → IsSpanOf k rows m op s
+    → AreCellSpansOf k rows spans → op < 256 → cell_span spans (map_index m) op ≡ Some s → IsSpanOf k rows m op s
 span-read_is k m op spans rows s h byte at =
     let t = h m op byte in
     let same : t.0 ≡ s = same-span t.0 s (sym t.1 ∙ at) in
@@ -47,10 +47,10 @@ span-read_is k m op spans rows s h byte at =
     same-span a b e = cc
 
 -- a span is read line by line
-pub span-found : (spans : List (List Span)) (line op : ℕ) (s other : Span) → line < length spans → span_of spans line op ≡ Some s
-    → span_of spans line op ≡ Some (get_or (get_or spans line []) op other)
-unfolding span_of
+pub span-found : (spans : List (List Span)) (line op : ℕ) (s other : Span) → line < length spans → cell_span spans line op ≡ Some s
+    → cell_span spans line op ≡ Some (get_or (get_or spans line []) op other)
+unfolding cell_span
 span-found spans line op s other lt at =
     let here : slice_get spans line ≡ Some (get_or spans line []) = slice_get-get_or spans line [] lt in
-    let is : span_of spans line op ≡ slice_get (get_or spans line []) op = rw here refl in
+    let is : cell_span spans line op ≡ slice_get (get_or spans line []) op = rw here refl in
     is ∙ slice_get-get_or (get_or spans line []) op other (slice_get_within (get_or spans line []) op s (sym is ∙ at))

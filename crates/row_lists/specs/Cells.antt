@@ -27,8 +27,8 @@ unfoldable pub cell_of : List Row → RowKind → Map → ℕ → List Row
 cell_of rows kind m op = rows_at (line_number kind m) op rows
 
 -- where the rows of a cell lie, from lines of spans
-unfoldable pub span_of : List (List Span) → ℕ → ℕ → Option Span
-span_of spans line op = span_in (slice_get spans line)
+unfoldable pub cell_span : List (List Span) → ℕ → ℕ → Option Span
+cell_span spans line op = span_in (slice_get spans line)
   where
     span_in : Option (List Span) → Option Span
     span_in None = None

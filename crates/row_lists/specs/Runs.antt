@@ -5,8 +5,8 @@ use Rattle.row_types.specs.declared.RowKind.{RowKind}
 use Rattle.row_types.specs.declared.RowKind.TheVariants as kind
 use Rattle.row_types.specs.declared.Map.{Map}
 use Rattle.row_lists.specs.declared.Span.{Span}
-use Rattle.row_lists.specs.Cells.{line_number, span_of}
-use Rattle.row_fields.specs.Candidates.{Coded, coded, of_number, at_opcode, below, is_run}
+use Rattle.row_lists.specs.Cells.{line_number, cell_span}
+use Rattle.row_fields.specs.Candidates.{Coded, rows_with_codes, of_number, at_opcode, below, is_run}
 
 -- a span says where some rows lie: their codes follow one another from its first, and they are as many
 unfoldable pub run_at : Option Span → List Coded → Bool
@@ -16,8 +16,8 @@ run_at (Some s) cs = is_run s.first s.count cs
 
 -- the spans of a line say where the rows of each opcode byte lie
 unfoldable pub line_runs : List (List Span) → ℕ → List Coded → Bool
-unfolding below run_at at_opcode span_of
-line_runs spans line rows = below 256 (λ op. run_at (span_of spans line op) (at_opcode op rows))
+unfolding below run_at at_opcode cell_span
+line_runs spans line rows = below 256 (λ op. run_at (cell_span spans line op) (at_opcode op rows))
 
 -- the first number of a kind's maps
 abbrev pub first_number : RowKind → ℕ
@@ -26,11 +26,11 @@ first_number kind.Vex = 4
 
 -- the spans of a kind say where its rows lie
 unfoldable pub spans_fit : RowKind → List (List Span) → List Row → Bool
-unfolding below line_runs of_number coded
+unfolding below line_runs of_number rows_with_codes
 spans_fit k spans rows =
-    let cs : List Coded = coded 0 rows in
+    let cs : List Coded = rows_with_codes 0 rows in
     below 4 (λ line. line_runs spans line (of_number (first_number k + line) cs))
 
 -- the rows of a cell with their indices
 abbrev pub coded_cell : List Row → RowKind → Map → ℕ → List Coded
-coded_cell rows k m op = at_opcode op (of_number (line_number k m) (coded 0 rows))
+coded_cell rows k m op = at_opcode op (of_number (line_number k m) (rows_with_codes 0 rows))

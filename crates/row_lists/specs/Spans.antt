@@ -4,7 +4,7 @@ use Rattle.row_types.specs.declared.Row.{Row}
 use Rattle.row_types.specs.declared.RowKind.{RowKind}
 use Rattle.row_types.specs.declared.Map.{Map}
 use Rattle.row_lists.specs.declared.Span.{Span}
-use Rattle.row_lists.specs.Cells.{map_index, cell_of, span_of}
+use Rattle.row_lists.specs.Cells.{map_index, cell_of, cell_span}
 
 -- a cell has as many rows as its span counts, and they are those of the list from the span's first index on
 abbrev pub IsSpanOf : RowKind → List Row → Map → ℕ → Span → Type 0
@@ -13,6 +13,6 @@ IsSpanOf kind rows m op s =
     × ((i : ℕ) → i < s.count → (row : Row) × (slice_get rows (s.first + i) ≡ Some row) × (slice_get (cell_of rows kind m op) i ≡ Some row))
 
 -- the spans say where the rows of each cell lie
-abbrev pub AreSpansOf : RowKind → List Row → List (List Span) → Type 0
-AreSpansOf kind rows spans =
-    (m : Map) (op : ℕ) → op < 256 → (s : Span) × (span_of spans (map_index m) op ≡ Some s) × IsSpanOf kind rows m op s
+abbrev pub AreCellSpansOf : RowKind → List Row → List (List Span) → Type 0
+AreCellSpansOf kind rows spans =
+    (m : Map) (op : ℕ) → op < 256 → (s : Span) × (cell_span spans (map_index m) op ≡ Some s) × IsSpanOf kind rows m op s

@@ -2,10 +2,10 @@
 #![tactic(auto)]
 
 ghost use Rattle.std.specs.Prelude.{◌≡◌, ◌<◌, length, slice_get, Some};
-ghost use Rattle.row_lists.specs.Cells.{map_index, cell_of, span_of};
+ghost use Rattle.row_lists.specs.Cells.{map_index, cell_of, cell_span};
 ghost use Rattle.row_lists.specs.declared.Span.{Span};
 ghost use Rattle.row_lists.specs.Flat.{row_of, rows_of};
-ghost use Rattle.row_lists.specs.Spans.{AreSpansOf};
+ghost use Rattle.row_lists.specs.Spans.{AreCellSpansOf};
 
 use row_types::{
     Class, LBit, Map, Marks, ModRmRule, ModeMask, OpKind, Place, Plus, Row, RowKind, Size, WBit,
@@ -83,7 +83,7 @@ impl RowList {
 
     /// How many of the rows stand at an opcode byte of a map. A row that adds a register to its opcode byte stands at eight.
     pub fn cell_len(&self, map: Map, opcode: u8) -> u16
-        requires { AreSpansOf self.now.kind (rows_of self.now.rows.now) self.now.spans.now }
+        requires { AreCellSpansOf self.now.kind (rows_of self.now.rows.now) self.now.spans.now }
         ensures { result ≡ length (cell_of (rows_of self.now.rows.now) self.now.kind map opcode) }
     {
         span_in(self.spans, map, opcode).count
@@ -91,7 +91,7 @@ impl RowList {
 
     /// The `i`-th of these rows, from 0, in the order of the list.
     pub fn cell_row(&self, map: Map, opcode: u8, i: u16) -> Row
-        requires spans { AreSpansOf self.now.kind (rows_of self.now.rows.now) self.now.spans.now }
+        requires spans { AreCellSpansOf self.now.kind (rows_of self.now.rows.now) self.now.spans.now }
         requires within { i < length (cell_of (rows_of self.now.rows.now) self.now.kind map opcode) }
         ensures { slice_get (cell_of (rows_of self.now.rows.now) self.now.kind map opcode) i ≡ Some result }
     {
@@ -102,8 +102,8 @@ impl RowList {
 
 /// Where the rows of a cell lie, from a line of spans for each map.
 pub fn span_in(spans: &[[Span; 256]; 4], map: Map, opcode: u8) -> Span
-    requires { (s : Span) × (span_of spans.now (map_index map) opcode ≡ Some s) }
-    ensures { span_of spans.now (map_index map) opcode ≡ Some result }
+    requires { (s : Span) × (cell_span spans.now (map_index map) opcode ≡ Some s) }
+    ensures { cell_span spans.now (map_index map) opcode ≡ Some result }
 {
     let line = &spans[map_number(map)];
     line[opcode as usize]

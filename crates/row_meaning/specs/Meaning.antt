@@ -16,7 +16,7 @@ use Rattle.x86_values.specs.declared.Rep.{Rep}
 use Rattle.x86_values.specs.declared.Rep.TheVariants.{None as NoRep}
 use Rattle.x86_values.specs.declared.Code.{Code}
 use Rattle.x86_values.specs.declared.Instr.{Instr}
-use Rattle.x86_values.specs.Wrapping.{width, wrapped}
+use Rattle.x86_values.specs.Wrapping.{width, modulo_width}
 use Rattle.row_types.specs.declared.Row.{Row}
 use Rattle.row_types.specs.declared.Class.{Class}
 use Rattle.row_types.specs.declared.Class.TheVariants.{Any as AnyClass, Nf3}
@@ -154,7 +154,7 @@ instruction_pointer _ = Eip
 
 -- an address plus a sign-extended distance, cut to a size
 abbrev pub target_of : Bits → ℕ → List ℕ → ℕ
-target_of size next distance = wrapped size (next + sign_extended 64 distance)
+target_of size next distance = modulo_width size (next + sign_extended 64 distance)
 
 -- an address without base and index and without a SIB: RIP-relative in 64-bit mode, EIP-relative with 67 (2.2.1.6)
 unfoldable pub ip_or_absolute : Bits → Bits → ℕ → List ℕ → Mem
@@ -349,7 +349,7 @@ instr_of bits code row state t imm = record {
 
 -- the next address of an instruction of n bytes
 abbrev pub next_address : Bits → ℕ → ℕ → ℕ
-next_address bits ip n = wrapped bits (ip + n)
+next_address bits ip n = modulo_width bits (ip + n)
 
 -- what stands behind the opcode byte of a spelling
 abbrev pub tail_of : Bits → ℕ → Row → Spelling → Tail

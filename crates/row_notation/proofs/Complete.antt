@@ -21,7 +21,7 @@ use Rattle.row_types.specs.declared.PlusWord.TheVariants as added
 use Rattle.row_types.specs.declared.ImmWord.{ImmWord}
 use Rattle.row_types.specs.declared.ImmWord.TheVariants as imm
 use Rattle.row_types.specs.declared.RowShape.{RowShape}
-use Rattle.row_notation.specs.Shape.{is_opcode_of_map, is_rule_in_range, is_stack_proper, is_no_l, is_no_w, is_four_bits, is_no_size_word, is_no_plus_word, is_fixed, is_map_one, is_vex_class, is_legacy_proper, is_vex_proper, is_proper}
+use Rattle.row_notation.specs.Shape.{is_opcode_of_map, is_rule_in_range, is_stack_proper, lacks_l, lacks_w, is_four_bits, is_no_size_word, is_no_plus_word, is_fixed, is_one_byte_map, is_vex_class, is_legacy_proper, is_vex_proper, is_proper}
 use Rattle.row_notation.specs.Notation.{class_text, size_text, map_text, digit_text, byte_text, plus_text, stack_text, modrm_text, imm_text, l_text, pp_text, vex_map_text, w_text, modrm_part, opcode_part, legacy_text, vex_text, notation}
 use Rattle.row_notation.specs.Texts.{IsTextOf}
 use Rattle.row_notation.specs.Reading.{imm_words, plus_words, maps, size_words, classes, w_words, vex_maps, vex_classes, l_words, blank}
@@ -201,7 +201,7 @@ in-maps map.M0f L text s h = choose maps 1 map.M0f L text s refl h
 in-maps map.M0f38 L text s h = choose maps 2 map.M0f38 L text s refl h
 in-maps map.M0f3a L text s h = choose maps 3 map.M0f3a L text s refl h
 
-in-vex_maps : (v : Map) (L : Map → Language) (text : List ℕ) (s : RowShape) → not (is_map_one v) ≡ true → L v text s → one_of vex_maps L text s
+in-vex_maps : (v : Map) (L : Map → Language) (text : List ℕ) (s : RowShape) → not (is_one_byte_map v) ≡ true → L v text s → one_of vex_maps L text s
 in-vex_maps map.M0f L text s e h = choose vex_maps 0 map.M0f L text s refl h
 in-vex_maps map.M0f38 L text s e h = choose vex_maps 1 map.M0f38 L text s refl h
 in-vex_maps map.M0f3a L text s e h = choose vex_maps 2 map.M0f3a L text s refl h
@@ -216,13 +216,13 @@ in-vex_classes class.Any L text s e h = absurd cc
 in-vex_classes class.Nfx L text s e h = absurd cc
 in-vex_classes class.Nf3 L text s e h = absurd cc
 
-in-w : (v : WBit) (L : WBit → Language) (text : List ℕ) (s : RowShape) → not (is_no_w v) ≡ true → L v text s → one_of w_words L text s
+in-w : (v : WBit) (L : WBit → Language) (text : List ℕ) (s : RowShape) → not (lacks_w v) ≡ true → L v text s → one_of w_words L text s
 in-w wbit.W0 L text s e h = choose w_words 0 wbit.W0 L text s refl h
 in-w wbit.W1 L text s e h = choose w_words 1 wbit.W1 L text s refl h
 in-w wbit.Wig L text s e h = choose w_words 2 wbit.Wig L text s refl h
 in-w wbit.None L text s e h = absurd cc
 
-in-l : (v : LBit) (L : LBit → Language) (text : List ℕ) (s : RowShape) → not (is_no_l v) ≡ true → L v text s → one_of l_words L text s
+in-l : (v : LBit) (L : LBit → Language) (text : List ℕ) (s : RowShape) → not (lacks_l v) ≡ true → L v text s → one_of l_words L text s
 in-l lbit.L128 L text s e h = choose l_words 0 lbit.L128 L text s refl h
 in-l lbit.L256 L text s e h = choose l_words 1 lbit.L256 L text s refl h
 in-l lbit.Lig L text s e h = choose l_words 2 lbit.Lig L text s refl h
@@ -248,8 +248,8 @@ legacy-complete m c z b p r st i small opcode range stack h =
     )
 
 vex-complete : (m : Map) (c : Class) (b : ℕ) (l : LBit) (w : WBit) (r : ModRmRule) (st : Bool) (i : ImmWord)
-    → b < 256 → is_rule_in_range r ≡ true → is_stack_proper r st ≡ true → fixed_allowed Vex r ≡ true → not (is_no_l l) ≡ true → not (is_no_w w) ≡ true
-    → is_vex_class c ≡ true → not (is_map_one m) ≡ true
+    → b < 256 → is_rule_in_range r ≡ true → is_stack_proper r st ≡ true → fixed_allowed Vex r ≡ true → not (lacks_l l) ≡ true → not (lacks_w w) ≡ true
+    → is_vex_class c ≡ true → not (is_one_byte_map m) ≡ true
     → vex_texts (vex_text (full Vex m c word.None b added.None l w r st i)) (full Vex m c word.None b added.None l w r st i)
 unfolding vex_text opcode_part modrm_part
 vex-complete m c b l w r st i small range stack fixed has_l has_w vex_class own =
@@ -278,58 +278,58 @@ vex-complete m c b l w r st i small range stack fixed has_l has_w vex_class own 
 
 -- ---- whole shapes
 
-pub from-legacy : (s : RowShape) → is_legacy_proper s ≡ true → (is_no_l s.l ≡ true) × (is_no_w s.w ≡ true) × (imm_allowed Legacy s.imm ≡ true) × (is_opcode_of_map s.map s.opcode ≡ true)
+pub from-legacy : (s : RowShape) → is_legacy_proper s ≡ true → (lacks_l s.l ≡ true) × (lacks_w s.w ≡ true) × (imm_allowed Legacy s.imm ≡ true) × (is_opcode_of_map s.map s.opcode ≡ true)
 unfolding is_legacy_proper
 from-legacy s h =
-    let r1 = (and_parts (is_no_l s.l) (is_no_w s.w && (not (is_four_bits s.imm) && is_opcode_of_map s.map s.opcode)) h).1 in
-    let r2 = (and_parts (is_no_w s.w) (not (is_four_bits s.imm) && is_opcode_of_map s.map s.opcode) r1).1 in (
-      (and_parts (is_no_l s.l) (is_no_w s.w && (not (is_four_bits s.imm) && is_opcode_of_map s.map s.opcode)) h).0,
-      (and_parts (is_no_w s.w) (not (is_four_bits s.imm) && is_opcode_of_map s.map s.opcode) r1).0,
+    let r1 = (and_parts (lacks_l s.l) (lacks_w s.w && (not (is_four_bits s.imm) && is_opcode_of_map s.map s.opcode)) h).1 in
+    let r2 = (and_parts (lacks_w s.w) (not (is_four_bits s.imm) && is_opcode_of_map s.map s.opcode) r1).1 in (
+      (and_parts (lacks_l s.l) (lacks_w s.w && (not (is_four_bits s.imm) && is_opcode_of_map s.map s.opcode)) h).0,
+      (and_parts (lacks_w s.w) (not (is_four_bits s.imm) && is_opcode_of_map s.map s.opcode) r1).0,
       (and_parts (not (is_four_bits s.imm)) (is_opcode_of_map s.map s.opcode) r2).0,
       (and_parts (not (is_four_bits s.imm)) (is_opcode_of_map s.map s.opcode) r2).1,
     )
 
 -- the parts of a proper VEX shape
 pub record VexParts (s : RowShape) : Type 0 where
-  pub has_l : not (is_no_l s.l) ≡ true
-  pub has_w : not (is_no_w s.w) ≡ true
+  pub has_l : not (lacks_l s.l) ≡ true
+  pub has_w : not (lacks_w s.w) ≡ true
   pub vex_class : is_vex_class s.class ≡ true
   pub size : is_no_size_word s.size_word ≡ true
   pub plus : is_no_plus_word s.plus_word ≡ true
   pub fixed : not (is_fixed s.modrm) ≡ true
-  pub own : not (is_map_one s.map) ≡ true
+  pub own : not (is_one_byte_map s.map) ≡ true
 
 pub from-vex : (s : RowShape) → is_vex_proper s ≡ true → VexParts s
 unfolding is_vex_proper
 from-vex s h =
-    let t6 : Bool = not (is_fixed s.modrm) && not (is_map_one s.map) in
+    let t6 : Bool = not (is_fixed s.modrm) && not (is_one_byte_map s.map) in
     let t5 : Bool = is_no_plus_word s.plus_word && t6 in
     let t4 : Bool = is_no_size_word s.size_word && t5 in
     let t3 : Bool = is_vex_class s.class && t4 in
-    let t2 : Bool = not (is_no_w s.w) && t3 in
-    let r2 = (and_parts (not (is_no_l s.l)) t2 h).1 in
-    let r3 = (and_parts (not (is_no_w s.w)) t3 r2).1 in
+    let t2 : Bool = not (lacks_w s.w) && t3 in
+    let r2 = (and_parts (not (lacks_l s.l)) t2 h).1 in
+    let r3 = (and_parts (not (lacks_w s.w)) t3 r2).1 in
     let r4 = (and_parts (is_vex_class s.class) t4 r3).1 in
     let r5 = (and_parts (is_no_size_word s.size_word) t5 r4).1 in
     let r6 = (and_parts (is_no_plus_word s.plus_word) t6 r5).1 in
     record {
-      has_l = (and_parts (not (is_no_l s.l)) t2 h).0;
-      has_w = (and_parts (not (is_no_w s.w)) t3 r2).0;
+      has_l = (and_parts (not (lacks_l s.l)) t2 h).0;
+      has_w = (and_parts (not (lacks_w s.w)) t3 r2).0;
       vex_class = (and_parts (is_vex_class s.class) t4 r3).0;
       size = (and_parts (is_no_size_word s.size_word) t5 r4).0;
       plus = (and_parts (is_no_plus_word s.plus_word) t6 r5).0;
-      fixed = (and_parts (not (is_fixed s.modrm)) (not (is_map_one s.map)) r6).0;
-      own = (and_parts (not (is_fixed s.modrm)) (not (is_map_one s.map)) r6).1;
+      fixed = (and_parts (not (is_fixed s.modrm)) (not (is_one_byte_map s.map)) r6).0;
+      own = (and_parts (not (is_fixed s.modrm)) (not (is_one_byte_map s.map)) r6).1;
     }
 
-pub no-l : (l : LBit) → is_no_l l ≡ true → l ≡ lbit.None
+pub no-l : (l : LBit) → lacks_l l ≡ true → l ≡ lbit.None
 no-l lbit.None h = refl
 no-l lbit.L128 h = absurd cc
 no-l lbit.L256 h = absurd cc
 no-l lbit.Lig h = absurd cc
 no-l lbit.Lz h = absurd cc
 
-pub no-w : (w : WBit) → is_no_w w ≡ true → w ≡ wbit.None
+pub no-w : (w : WBit) → lacks_w w ≡ true → w ≡ wbit.None
 no-w wbit.None h = refl
 no-w wbit.W0 h = absurd cc
 no-w wbit.W1 h = absurd cc

@@ -10,7 +10,7 @@ use Rattle.row_types.specs.declared.ModRmRule.TheVariants as rule
 use Rattle.row_types.specs.declared.RowShape.{RowShape}
 use Rattle.row_notation.specs.Shape.{is_opcode_of_map}
 use Rattle.row_notation.specs.Notation.{class_text, size_text, map_text, digit_text, plus_text, imm_text, l_text, pp_text, vex_map_text, w_text}
-use Rattle.row_notation.specs.Reading.{Answer, better, read_end, imm_words, read_imm, digit_value, read_stack_word, read_stack, read_fixed_low, read_fixed, read_digit, read_fixed_of, read_any, read_slash_digit, read_modrm, plus_words, read_plus, is_opcode_of, read_opcode_low, read_opcode, maps, read_map, size_words, read_size, classes, read_class, w_words, read_w, vex_maps, read_vex_map, vex_classes, read_pp, l_words, read_l, blank, read_vex, read_text}
+use Rattle.row_notation.specs.Reading.{Answer, better, read_end, imm_words, read_imm, hex_value, read_stack_word, read_stack, read_fixed_low, read_fixed, read_digit, read_fixed_of, read_any, read_slash_digit, read_modrm, plus_words, read_plus, is_opcode_of, read_opcode_low, read_opcode, maps, read_map, size_words, read_size, classes, read_class, w_words, read_w, vex_maps, read_vex_map, vex_classes, read_pp, l_words, read_l, blank, read_vex, read_text}
 use Rattle.row_notation.proofs.Languages.{Language, IsInhabited, IsEmpty, behind_byte, either_of, word_then, one_of, IsRight, right-same, right-inhabited, right-better, right-word, right-byte, right-stop, right-if, right-or_nothing, has_some, right-one_of}
 
 -- ---- the end
@@ -33,10 +33,10 @@ abbrev pub digit_then : (ℕ → Bool) → (ℕ → Language) → Language
 digit_then p L text s = (d : ℕ) × (p d ≡ true) × (d < 16) × ((rest : List ℕ) × (text ≡ digit_text d ∷ rest) × L d rest s)
 
 -- a digit is read back
-pub value-of_digit : (d : ℕ) → d < 16 → digit_value (digit_text d) ≡ d
+pub value-of_digit : (d : ℕ) → d < 16 → hex_value (digit_text d) ≡ d
 value-of_digit d h = grind arith
 
-pub digit-of_value : (c : ℕ) → digit_value c < 16 → digit_text (digit_value c) ≡ c
+pub digit-of_value : (c : ℕ) → hex_value c < 16 → digit_text (hex_value c) ≡ c
 digit-of_value c h = grind arith
 
 head-of : (c d : ℕ) (xs ys : List ℕ) → (c ∷ xs) ≡ (d ∷ ys) → c ≡ d
@@ -52,8 +52,8 @@ nothing-before c rest e = absurd cc
 pub right-digit_end : (p : ℕ → Bool) (L : ℕ → Language) → IsInhabited (digit_then p L) → IsRight (digit_then p L) [] (Err 0)
 right-digit_end p L some = (refl, some, λ s m. nothing-before (digit_text m.0) m.3.0 m.3.1)
 
-same-value : (c d : ℕ) → d < 16 → c ≡ digit_text d → digit_value c ≡ d
-same-value c d h e = ap digit_value e ∙ value-of_digit d h
+same-value : (c d : ℕ) → d < 16 → c ≡ digit_text d → hex_value c ≡ d
+same-value c d h e = ap hex_value e ∙ value-of_digit d h
 
 true-is-not-false : true ≡ false → ⊥
 true-is-not-false e = absurd cc
@@ -61,20 +61,20 @@ true-is-not-false e = absurd cc
 pub right-digit : (p : ℕ → Bool) (L : ℕ → Language) (next : ℕ → List ℕ → Answer) (c : ℕ) (text : List ℕ)
     → ((d : ℕ) → p d ≡ true → d < 16) → IsInhabited (digit_then p L)
     → ((d : ℕ) → p d ≡ true → (t : List ℕ) → IsRight (L d) t (next d t))
-    → IsRight (digit_then p L) (c ∷ text) (if p (digit_value c) then next (digit_value c) text else Err (1 + length text))
+    → IsRight (digit_then p L) (c ∷ text) (if p (hex_value c) then next (hex_value c) text else Err (1 + length text))
 right-digit p L next c text small some right =
-    right-if (digit_then p L) (c ∷ text) (p (digit_value c)) (next (digit_value c) text) (Err (1 + length text)) passes fails
+    right-if (digit_then p L) (c ∷ text) (p (hex_value c)) (next (hex_value c) text) (Err (1 + length text)) passes fails
   where
-    passes : p (digit_value c) ≡ true → IsRight (digit_then p L) (c ∷ text) (next (digit_value c) text)
+    passes : p (hex_value c) ≡ true → IsRight (digit_then p L) (c ∷ text) (next (hex_value c) text)
     passes e =
-        let d : ℕ = digit_value c in
+        let d : ℕ = hex_value c in
         let lt : d < 16 = small d e in
         right-byte (digit_then p L) c text (next d text) (right-same (L d) (behind_byte c (digit_then p L)) text (next d text)
         (λ t s m. (d, e, lt, (t, ap (λ x. x ∷ t) (sym (digit-of_value c lt)), m)))
         (λ t s m. subst (λ x. L x t s) (sym (same-value c m.0 m.2 (head-of c (digit_text m.0) t m.3.0 m.3.1)))
         (subst (λ x. L m.0 x s) (sym (tail-of c (digit_text m.0) t m.3.0 m.3.1)) m.3.2)) (right d e text))
 
-    fails : p (digit_value c) ≡ false → IsRight (digit_then p L) (c ∷ text) (Err (1 + length text))
+    fails : p (hex_value c) ≡ false → IsRight (digit_then p L) (c ∷ text) (Err (1 + length text))
     fails e = right-stop (digit_then p L) c text some (λ t s m.
         true-is-not-false (sym m.1 ∙ ap p (sym (same-value c m.0 m.2 (head-of c (digit_text m.0) t m.3.0 m.3.1))) ∙ e))
 

@@ -1,7 +1,7 @@
 -- Languages of shapes: which texts stand for which shapes, and what it means that an answer is right for one.
 use Rattle.std.proofs.Common.{◌≡◌, ◌⊎◌, inl, inr, ℕ, suc, ◌+◌, ◌≤◌, List, [], ◌∷◌, ◌++◌, length, Result, Ok, Err, refl, sym, ap, ◌∙◌, subst, arith, Bool, true, false, min, fold, map}
 use Rattle.row_types.specs.declared.RowShape.{RowShape}
-use Rattle.row_notation.specs.Reading.{Answer, better, best, after_word, behind}
+use Rattle.row_notation.specs.Reading.{Answer, better, best, after_word, then_read}
 use Rattle.std.proofs.lemmas.Bool.{eqb-true}
 use Rattle.std.proofs.Common.{eq-eqb, ◌==◌, if◌then◌else◌}
 
@@ -127,7 +127,7 @@ pub right-stop : (M : Language) (d : ℕ) (text : List ℕ) → IsInhabited M �
 right-stop M d text some none = inl (omega arith, some, none)
 
 right-branch : (M : Language) (text : List ℕ) (next : List ℕ → Answer) (b : Bool) (x y : Result (List ℕ) ℕ)
-    → (b ≡ true → IsRight M text (behind x next)) → (b ≡ false → IsRight M text (behind y next)) → IsRight M text (behind (if b then x else y) next)
+    → (b ≡ true → IsRight M text (then_read x next)) → (b ≡ false → IsRight M text (then_read y next)) → IsRight M text (then_read (if b then x else y) next)
 right-branch M text next true x y h k = h refl
 right-branch M text next false x y h k = k refl
 
@@ -161,7 +161,7 @@ right-word_on c d word L text r e h =
     (λ t s m. subst (λ x. word_then (c ∷ word) L (x ∷ t) s) (equal-from c d e) (cut_word c word L t s m))
     (λ t s m. (m.0, tail_of d c t (word ++ m.0) m.1, m.2)) h)
 
-right-word_some : (word : List ℕ) (L : Language) (next : List ℕ → Answer) (text : List ℕ) → IsInhabited L → ((t : List ℕ) → IsRight L t (next t)) → IsRight (word_then word L) text (behind (after_word word text) next)
+right-word_some : (word : List ℕ) (L : Language) (next : List ℕ → Answer) (text : List ℕ) → IsInhabited L → ((t : List ℕ) → IsRight L t (next t)) → IsRight (word_then word L) text (then_read (after_word word text) next)
 unfolding after_word
 right-word_some [] L next text some right =
     right-same L (word_then [] L) text (next text) (λ t s m. (t, refl, m)) (λ t s m. subst (λ x. L x s) (sym m.1) m.2) (right text)
@@ -169,11 +169,11 @@ right-word_some (c ∷ word) L next [] some right =
     (refl, word-inhabited (c ∷ word) L some, λ s m. nothing c (word ++ m.0) m.1)
 right-word_some (c ∷ word) L next (d ∷ text) some right =
     right-branch (word_then (c ∷ word) L) (d ∷ text) next (c == d) (after_word word text) (Err (1 + length text))
-    (λ e. right-word_on c d word L text (behind (after_word word text) next) e (right-word_some word L next text some right))
+    (λ e. right-word_on c d word L text (then_read (after_word word text) next) e (right-word_some word L next text some right))
     (λ e. right-stop (word_then (c ∷ word) L) d text (word-inhabited (c ∷ word) L some) (no-text-behind c d word L e))
 
 -- what the reader of the rest answers behind a word is right
-pub right-word : (word : List ℕ) (L : Language) (next : List ℕ → Answer) (text : List ℕ) → ((t : List ℕ) → IsRight L t (next t)) → IsRight (word_then word L) text (behind (after_word word text) next)
+pub right-word : (word : List ℕ) (L : Language) (next : List ℕ → Answer) (text : List ℕ) → ((t : List ℕ) → IsRight L t (next t)) → IsRight (word_then word L) text (then_read (after_word word text) next)
 right-word word L next text right = right-word_some word L next text (right-inhabited L [] (next []) (right [])) right
 
 -- ---- a choice among words
@@ -223,7 +223,7 @@ right-choice (v ∷ vs) e L text f each = right-best v vs L text f each
 
 -- the word of a value, and what follows it
 abbrev read_word : {V : Type 0} → (V → List ℕ) → (V → List ℕ → Answer) → List ℕ → V → Answer
-read_word word next text v = behind (after_word (word v) text) (next v)
+read_word word next text v = then_read (after_word (word v) text) (next v)
 
 -- what the reader answers behind the word of one of several values is right
 pub right-one_of : {V : Type 0} → (vs : List V) → has_some vs ≡ true → (word : V → List ℕ) (L : V → Language) (next : V → List ℕ → Answer) (text : List ℕ)

@@ -20,10 +20,10 @@ use Rattle.row_types.specs.declared.PlusWord.TheVariants as added
 use Rattle.row_types.specs.declared.ImmWord.{ImmWord}
 use Rattle.row_types.specs.declared.ImmWord.TheVariants as imm
 use Rattle.row_types.specs.declared.RowShape.{RowShape}
-use Rattle.row_notation.specs.Shape.{is_opcode_of_map, is_rule_in_range, is_stack_proper, is_no_l, is_no_w, is_map_one, is_vex_class, is_legacy_proper, is_vex_proper, is_proper}
+use Rattle.row_notation.specs.Shape.{is_opcode_of_map, is_rule_in_range, is_stack_proper, lacks_l, lacks_w, is_one_byte_map, is_vex_class, is_legacy_proper, is_vex_proper, is_proper}
 use Rattle.row_notation.specs.Notation.{class_text, size_text, map_text, digit_text, byte_text, plus_text, stack_text, modrm_text, imm_text, l_text, pp_text, vex_map_text, w_text, modrm_part, opcode_part, legacy_text, vex_text, notation}
 use Rattle.row_notation.specs.Texts.{IsTextOf}
-use Rattle.row_notation.specs.Reading.{digit_value}
+use Rattle.row_notation.specs.Reading.{hex_value}
 use Rattle.row_notation.proofs.Grammar.{value-of_digit, different}
 use Rattle.row_notation.proofs.Parts.{full}
 use Rattle.row_notation.proofs.Complete.{from-legacy, from-vex, no-l, no-w, no-size, small-opcode, whole-byte, high-small, low-small}
@@ -115,8 +115,8 @@ same-stack st su i j e =
 abbrev pub rule_of : List ℕ → ModRmRule
 rule_of t =
     if at0 t == 0 then rule.No
-    else (if at1 t == 47 then (if at2 t == 114 then rule.Any else (if at2 t == 105 then rule.No else rule.Digit (digit_value (at2 t))))
-    else (if nat_lt (digit_value (at1 t)) 16 then rule.Fixed (digit_value (at1 t) * 16 + digit_value (at2 t)) else rule.No))
+    else (if at1 t == 47 then (if at2 t == 114 then rule.Any else (if at2 t == 105 then rule.No else rule.Digit (hex_value (at2 t))))
+    else (if nat_lt (hex_value (at1 t)) 16 then rule.Fixed (hex_value (at1 t) * 16 + hex_value (at2 t)) else rule.No))
 
 no-rule-back : (i : ImmWord) → rule_of (imm_text i) ≡ rule.No
 no-rule-back imm.None = refl
@@ -198,7 +198,7 @@ same-tail t u ht hu e =
 -- ---- the opcode byte and an added register
 
 same-digit : (d e : ℕ) → d < 16 → e < 16 → digit_text d ≡ digit_text e → d ≡ e
-same-digit d e hd he h = sym (value-of_digit d hd) ∙ ap digit_value h ∙ value-of_digit e he
+same-digit d e hd he h = sym (value-of_digit d hd) ∙ ap hex_value h ∙ value-of_digit e he
 
 abbrev pub plus_of : List ℕ → PlusWord
 plus_of t =
@@ -372,7 +372,7 @@ no-v class.F2 z m b p t h = refl
 abbrev pub w_of : List ℕ → WBit
 w_of t = if at2 t == 48 then wbit.W0 else (if at2 t == 49 then wbit.W1 else wbit.Wig)
 
-w-back : (x : WBit) (rest : List ℕ) → not (is_no_w x) ≡ true → w_of (w_text x ++ rest) ≡ x
+w-back : (x : WBit) (rest : List ℕ) → not (lacks_w x) ≡ true → w_of (w_text x ++ rest) ≡ x
 w-back wbit.None rest h = absurd cc
 w-back wbit.W0 rest h = refl
 w-back wbit.W1 rest h = refl
@@ -381,7 +381,7 @@ w-back wbit.Wig rest h = refl
 abbrev pub vex_map_of : List ℕ → Map
 vex_map_of t = if at3 t == 46 then map.M0f else (if at4 t == 56 then map.M0f38 else map.M0f3a)
 
-vex_map-back : (m : Map) (x : WBit) (rest : List ℕ) → not (is_map_one m) ≡ true → not (is_no_w x) ≡ true → vex_map_of (vex_map_text m ++ (w_text x ++ rest)) ≡ m
+vex_map-back : (m : Map) (x : WBit) (rest : List ℕ) → not (is_one_byte_map m) ≡ true → not (lacks_w x) ≡ true → vex_map_of (vex_map_text m ++ (w_text x ++ rest)) ≡ m
 vex_map-back map.One x rest h k = absurd cc
 vex_map-back map.M0f wbit.None rest h k = absurd cc
 vex_map-back map.M0f wbit.W0 rest h k = refl
@@ -393,7 +393,7 @@ vex_map-back map.M0f3a x rest h k = refl
 abbrev pub pp_of : List ℕ → Class
 pp_of t = if at1 t == 54 then class.P66 else (if at1 t == 48 then class.Np else (if at2 t == 51 then class.F3 else class.F2))
 
-pp-back : (c : Class) (m : Map) (rest : List ℕ) → is_vex_class c ≡ true → not (is_map_one m) ≡ true → pp_of (pp_text c ++ (vex_map_text m ++ rest)) ≡ c
+pp-back : (c : Class) (m : Map) (rest : List ℕ) → is_vex_class c ≡ true → not (is_one_byte_map m) ≡ true → pp_of (pp_text c ++ (vex_map_text m ++ rest)) ≡ c
 pp-back class.Any m rest h k = absurd cc
 pp-back class.Nfx m rest h k = absurd cc
 pp-back class.Nf3 m rest h k = absurd cc
@@ -408,7 +408,7 @@ pp-back class.F2 m rest h k = refl
 abbrev pub l_of : List ℕ → LBit
 l_of t = if at0 t == 49 then lbit.L128 else (if at0 t == 50 then lbit.L256 else (if at1 t == 73 then lbit.Lig else lbit.Lz))
 
-l-back : (x : LBit) (rest : List ℕ) → not (is_no_l x) ≡ true → l_of (l_text x ++ rest) ≡ x
+l-back : (x : LBit) (rest : List ℕ) → not (lacks_l x) ≡ true → l_of (l_text x ++ rest) ≡ x
 l-back lbit.None rest h = absurd cc
 l-back lbit.L128 rest h = refl
 l-back lbit.L256 rest h = refl

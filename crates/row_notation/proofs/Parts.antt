@@ -19,7 +19,7 @@ use Rattle.row_types.specs.declared.PlusWord.TheVariants as added
 use Rattle.row_types.specs.declared.ImmWord.{ImmWord}
 use Rattle.row_types.specs.declared.ImmWord.TheVariants as imm
 use Rattle.row_types.specs.declared.RowShape.{RowShape}
-use Rattle.row_notation.specs.Shape.{is_opcode_of_map, is_rule_in_range, is_stack_proper, is_no_l, is_no_w, is_four_bits, is_no_plus_word, is_fixed, is_map_one, is_vex_class, is_legacy_proper, is_vex_proper, is_proper}
+use Rattle.row_notation.specs.Shape.{is_opcode_of_map, is_rule_in_range, is_stack_proper, lacks_l, lacks_w, is_four_bits, is_no_plus_word, is_fixed, is_one_byte_map, is_vex_class, is_legacy_proper, is_vex_proper, is_proper}
 use Rattle.row_notation.specs.Notation.{class_text, size_text, map_text, digit_text, byte_text, plus_text, stack_text, modrm_text, imm_text, l_text, pp_text, vex_map_text, w_text, modrm_part, opcode_part, legacy_text, vex_text, notation}
 use Rattle.row_notation.specs.Texts.{IsTextOf}
 use Rattle.row_notation.specs.Reading.{imm_words, plus_words, maps, size_words, classes, w_words, vex_maps, vex_classes, l_words, blank}
@@ -288,8 +288,8 @@ legacy-proper m c z b p r st i small opcode range stack allowed =
     rw (lt, range, stack, allowed, opcode) refl
 
 vex-proper : (m : Map) (c : Class) (b : ℕ) (l : LBit) (w : WBit) (r : ModRmRule) (st : Bool) (i : ImmWord) (p : PlusWord)
-    → b < 256 → is_rule_in_range r ≡ true → is_stack_proper r st ≡ true → fixed_allowed Vex r ≡ true → not (is_no_l l) ≡ true → not (is_no_w w) ≡ true
-    → is_vex_class c ≡ true → not (is_map_one m) ≡ true → plus_allowed Vex p ≡ true
+    → b < 256 → is_rule_in_range r ≡ true → is_stack_proper r st ≡ true → fixed_allowed Vex r ≡ true → not (lacks_l l) ≡ true → not (lacks_w w) ≡ true
+    → is_vex_class c ≡ true → not (is_one_byte_map m) ≡ true → plus_allowed Vex p ≡ true
     → is_proper (full Vex m c word.None b p l w r st i) ≡ true
 unfolding is_proper is_vex_proper
 vex-proper m c b l w r st i p small range stack fixed has_l has_w vex_class own_map plus =
@@ -308,7 +308,7 @@ legacy-text-of m c z text s rest f e =
 
 -- a text of the VEX language is a VEX shape's
 vex-text-of : (m : Map) (c : Class) (l : LBit) (w : WBit) (text : List ℕ) (s : RowShape) (rest : List ℕ)
-    → not (is_no_l l) ≡ true → not (is_no_w w) ≡ true → is_vex_class c ≡ true → not (is_map_one m) ≡ true
+    → not (lacks_l l) ≡ true → not (lacks_w w) ≡ true → is_vex_class c ≡ true → not (is_one_byte_map m) ≡ true
     → FromOpcode Vex m c word.None l w rest s → text ≡ codes "VEX." ++ (l_text l ++ (pp_text c ++ (vex_map_text m ++ (w_text w ++ rest)))) → IsTextOf text s
 unfolding notation vex_text opcode_part modrm_part
 vex-text-of m c l w text s rest has_l has_w vex_class own_map f e =
@@ -329,13 +329,13 @@ class-sound text s h =
     (c.2.1 ∙ ap (λ x. class_text c.0 ++ x) z.2.1 ∙ ap (λ x. class_text c.0 ++ (size_text z.0 ++ x)) m.2.1)
 
 abbrev pub some_l : LBit → Bool
-some_l x = not (is_no_l x)
+some_l x = not (lacks_l x)
 
 abbrev pub some_w : WBit → Bool
-some_w x = not (is_no_w x)
+some_w x = not (lacks_w x)
 
 abbrev pub own_map : Map → Bool
-own_map m = not (is_map_one m)
+own_map m = not (is_one_byte_map m)
 
 l-sound : (text : List ℕ) (s : RowShape) → vex_texts text s → IsTextOf text s
 l-sound text s h =

@@ -42,9 +42,9 @@ abbrev pub best : List ℕ → List Answer → Answer
 best text answers = fold better (Err (length text)) answers
 
 -- what follows a word
-abbrev pub behind : Result (List ℕ) ℕ → (List ℕ → Answer) → Answer
-behind (Err left) next = Err left
-behind (Ok rest) next = next rest
+abbrev pub then_read : Result (List ℕ) ℕ → (List ℕ → Answer) → Answer
+then_read (Err left) next = Err left
+then_read (Ok rest) next = next rest
 
 -- the text ends here
 abbrev pub read_end : RowShape → List ℕ → Answer
@@ -60,20 +60,20 @@ imm_words Vex =
 
 -- one word of immediates, and the end
 abbrev pub read_imm_word : RowShape → List ℕ → ImmWord → Answer
-read_imm_word s text i = behind (after_word (imm_text i) text) (read_end (record s { imm = i }))
+read_imm_word s text i = then_read (after_word (imm_text i) text) (read_end (record s { imm = i }))
 
 -- from the immediates on
 unfoldable pub read_imm : RowShape → List ℕ → Answer
 read_imm s text = best text (map (read_imm_word s text) (imm_words s.kind))
 
 -- the value of a hexadecimal digit in upper case, 16 where it is none
-abbrev pub digit_value : ℕ → ℕ
-digit_value c =
+abbrev pub hex_value : ℕ → ℕ
+hex_value c =
     if nat_le 48 c && nat_lt c 58 then c - 48 else (if nat_le 65 c && nat_lt c 71 then c - 55 else 16)
 
 -- a stack number, and the rest
 abbrev pub read_stack_word : RowShape → List ℕ → Answer
-read_stack_word s text = behind (after_word (codes "+i") text) (read_imm (record s { stack = true }))
+read_stack_word s text = then_read (after_word (codes "+i") text) (read_imm (record s { stack = true }))
 
 -- from a stack number on, behind a fixed ModRM byte
 unfoldable pub read_stack : RowShape → ℕ → List ℕ → Answer
@@ -85,7 +85,7 @@ read_stack s b text =
 unfoldable pub read_fixed_low : RowShape → ℕ → List ℕ → Answer
 read_fixed_low s high [] = Err 0
 read_fixed_low s high (c ∷ text) =
-    let low = digit_value c in
+    let low = hex_value c in
     let b = high * 16 + low in
     if nat_lt low 16 then read_stack (record s { modrm = rule.Fixed b }) b text else Err (1 + length text)
 
@@ -93,28 +93,28 @@ read_fixed_low s high (c ∷ text) =
 unfoldable pub read_fixed : RowShape → List ℕ → Answer
 read_fixed s [] = Err 0
 read_fixed s (c ∷ text) =
-    let high = digit_value c in
+    let high = hex_value c in
     if nat_le 12 high && nat_lt high 16 then read_fixed_low s high text else Err (1 + length text)
 
 -- the digit of a ModRM byte, below 8
 unfoldable pub read_digit : RowShape → List ℕ → Answer
 read_digit s [] = Err 0
 read_digit s (c ∷ text) =
-    let d = digit_value c in
+    let d = hex_value c in
     if nat_lt d 8 then read_imm (record s { modrm = rule.Digit d }) text else Err (1 + length text)
 
 -- a fixed ModRM byte stands in legacy rows alone
 abbrev pub read_fixed_of : RowKind → RowShape → List ℕ → Answer
-read_fixed_of Legacy s text = behind (after_word (codes " ") text) (read_fixed s)
+read_fixed_of Legacy s text = then_read (after_word (codes " ") text) (read_fixed s)
 read_fixed_of Vex s text = Err (length text)
 
 -- a ModRM byte of any content, and the rest
 abbrev pub read_any : RowShape → List ℕ → Answer
-read_any s text = behind (after_word (codes " /r") text) (read_imm (record s { modrm = rule.Any }))
+read_any s text = then_read (after_word (codes " /r") text) (read_imm (record s { modrm = rule.Any }))
 
 -- a digit with the space and the slash before it, and the rest
 abbrev pub read_slash_digit : RowShape → List ℕ → Answer
-read_slash_digit s text = behind (after_word (codes " /") text) (read_digit s)
+read_slash_digit s text = then_read (after_word (codes " /") text) (read_digit s)
 
 -- from ModRM on
 unfoldable pub read_modrm : RowShape → List ℕ → Answer
@@ -129,7 +129,7 @@ plus_words Vex = added.None ∷ []
 
 -- one word of an added register, and the rest
 abbrev pub read_plus_word : RowShape → List ℕ → PlusWord → Answer
-read_plus_word s text p = behind (after_word (plus_text p) text) (read_modrm (record s { plus_word = p }))
+read_plus_word s text p = then_read (after_word (plus_text p) text) (read_modrm (record s { plus_word = p }))
 
 -- from an added register on
 unfoldable pub read_plus : RowShape → List ℕ → Answer
@@ -143,7 +143,7 @@ is_opcode_of s b = elim s.kind [ Legacy ↦ is_opcode_of_map s.map b | Vex ↦ t
 unfoldable pub read_opcode_low : RowShape → ℕ → List ℕ → Answer
 read_opcode_low s high [] = Err 0
 read_opcode_low s high (c ∷ text) =
-    let low = digit_value c in
+    let low = hex_value c in
     let b = high * 16 + low in
     if nat_lt low 16 && is_opcode_of s b then read_plus (record s { opcode = b }) text else Err (1 + length text)
 
@@ -151,7 +151,7 @@ read_opcode_low s high (c ∷ text) =
 unfoldable pub read_opcode : RowShape → List ℕ → Answer
 read_opcode s [] = Err 0
 read_opcode s (c ∷ text) =
-    let high = digit_value c in
+    let high = hex_value c in
     if nat_lt high 16 then read_opcode_low s high text else Err (1 + length text)
 
 -- the maps
@@ -160,7 +160,7 @@ maps = map.One ∷ map.M0f ∷ map.M0f38 ∷ map.M0f3a ∷ []
 
 -- the escape bytes of one map, and the rest
 abbrev pub read_map_word : RowShape → List ℕ → Map → Answer
-read_map_word s text m = behind (after_word (map_text m) text) (read_opcode (record s { map = m }))
+read_map_word s text m = then_read (after_word (map_text m) text) (read_opcode (record s { map = m }))
 
 -- from the escape bytes on
 unfoldable pub read_map : RowShape → List ℕ → Answer
@@ -172,7 +172,7 @@ size_words = word.None ∷ word.O16 ∷ word.O32 ∷ word.O64 ∷ word.RexW ∷ 
 
 -- one size word, and the rest
 abbrev pub read_size_word : RowShape → List ℕ → SizeWord → Answer
-read_size_word s text z = behind (after_word (size_text z) text) (read_map (record s { size_word = z }))
+read_size_word s text z = then_read (after_word (size_text z) text) (read_map (record s { size_word = z }))
 
 -- from the size word on
 unfoldable pub read_size : RowShape → List ℕ → Answer
@@ -184,7 +184,7 @@ classes = class.Any ∷ class.Np ∷ class.Nfx ∷ class.Nf3 ∷ class.P66 ∷ c
 
 -- one class word, and the rest
 abbrev pub read_class_word : RowShape → List ℕ → Class → Answer
-read_class_word s text c = behind (after_word (class_text c) text) (read_size (record s { class = c }))
+read_class_word s text c = then_read (after_word (class_text c) text) (read_size (record s { class = c }))
 
 -- a legacy text
 unfoldable pub read_class : RowShape → List ℕ → Answer
@@ -196,7 +196,7 @@ w_words = w.W0 ∷ w.W1 ∷ w.Wig ∷ []
 
 -- one value of W, and the rest
 abbrev pub read_w_word : RowShape → List ℕ → WBit → Answer
-read_w_word s text x = behind (after_word (w_text x) text) (read_opcode (record s { w = x }))
+read_w_word s text x = then_read (after_word (w_text x) text) (read_opcode (record s { w = x }))
 
 -- a VEX text from W on
 unfoldable pub read_w : RowShape → List ℕ → Answer
@@ -208,7 +208,7 @@ vex_maps = map.M0f ∷ map.M0f38 ∷ map.M0f3a ∷ []
 
 -- one map of a VEX, and the rest
 abbrev pub read_vex_map_word : RowShape → List ℕ → Map → Answer
-read_vex_map_word s text m = behind (after_word (vex_map_text m) text) (read_w (record s { map = m }))
+read_vex_map_word s text m = then_read (after_word (vex_map_text m) text) (read_w (record s { map = m }))
 
 -- a VEX text from the map on
 unfoldable pub read_vex_map : RowShape → List ℕ → Answer
@@ -220,7 +220,7 @@ vex_classes = class.Np ∷ class.P66 ∷ class.F3 ∷ class.F2 ∷ []
 
 -- one value of pp, and the rest
 abbrev pub read_pp_word : RowShape → List ℕ → Class → Answer
-read_pp_word s text c = behind (after_word (pp_text c) text) (read_vex_map (record s { class = c }))
+read_pp_word s text c = then_read (after_word (pp_text c) text) (read_vex_map (record s { class = c }))
 
 -- a VEX text from pp on
 unfoldable pub read_pp : RowShape → List ℕ → Answer
@@ -232,7 +232,7 @@ l_words = l.L128 ∷ l.L256 ∷ l.Lig ∷ l.Lz ∷ []
 
 -- one value of L, and the rest
 abbrev pub read_l_word : RowShape → List ℕ → LBit → Answer
-read_l_word s text x = behind (after_word (l_text x) text) (read_pp (record s { l = x }))
+read_l_word s text x = then_read (after_word (l_text x) text) (read_pp (record s { l = x }))
 
 -- a VEX text behind its first word
 unfoldable pub read_l : RowShape → List ℕ → Answer
@@ -256,7 +256,7 @@ blank kind = record {
 
 -- a VEX text
 abbrev pub read_vex : List ℕ → Answer
-read_vex text = behind (after_word (codes "VEX.") text) (read_l (blank Vex))
+read_vex text = then_read (after_word (codes "VEX.") text) (read_l (blank Vex))
 
 -- the whole text
 unfoldable pub read_text : List ℕ → Answer

@@ -37,8 +37,8 @@ abbrev pub word_of_64 : Row → SizeWord
 word_of_64 row = if has_caret row || has_bang row then word.O64 else word.RexW
 
 -- the size word: a VEX row has none, since its notation shows W
-unfoldable pub size_word : Row → SizeWord
-size_word row =
+unfoldable pub size_prefix_word : Row → SizeWord
+size_prefix_word row =
     elim row.kind [
       | Vex ↦ word.None
       | Legacy ↦ elim row.size [
@@ -120,7 +120,7 @@ shape row = record {
   kind = row.kind;
   map = row.map;
   class = row.class;
-  size_word = size_word row;
+  size_word = size_prefix_word row;
   opcode = row.opcode;
   plus_word = plus_word row;
   modrm = row.modrm;
@@ -150,14 +150,14 @@ is_stack_proper (rule.Fixed b) stack = not stack || b % 8 == 0
 is_stack_proper _ stack = not stack
 
 -- the notation has no word for the part: L, W, size, what is added to the opcode byte
-abbrev pub is_no_l : LBit → Bool
-is_no_l l.None = true
-is_no_l _ = false
+abbrev pub lacks_l : LBit → Bool
+lacks_l l.None = true
+lacks_l _ = false
 
 -- no word for W
-abbrev pub is_no_w : WBit → Bool
-is_no_w w.None = true
-is_no_w _ = false
+abbrev pub lacks_w : WBit → Bool
+lacks_w w.None = true
+lacks_w _ = false
 
 -- a register in the upper four bits of the last byte, /is4 (Intel SDM volume 2, 3.1.1.2)
 abbrev pub is_four_bits : ImmWord → Bool
@@ -180,9 +180,9 @@ is_fixed (rule.Fixed _) = true
 is_fixed _ = false
 
 -- the one-byte map
-abbrev pub is_map_one : Map → Bool
-is_map_one map.One = true
-is_map_one _ = false
+abbrev pub is_one_byte_map : Map → Bool
+is_one_byte_map map.One = true
+is_one_byte_map _ = false
 
 -- the classes that name a value of pp
 abbrev pub is_vex_class : Class → Bool
@@ -195,13 +195,13 @@ is_vex_class _ = false
 -- a legacy shape shows no L and no W, and no register in the upper bits of a last byte
 unfoldable pub is_legacy_proper : RowShape → Bool
 is_legacy_proper s =
-    is_no_l s.l && (is_no_w s.w && (not (is_four_bits s.imm) && is_opcode_of_map s.map s.opcode))
+    lacks_l s.l && (lacks_w s.w && (not (is_four_bits s.imm) && is_opcode_of_map s.map s.opcode))
 
 -- a VEX shape shows L and W, one of four classes, a map of its own, and no legacy word
 unfoldable pub is_vex_proper : RowShape → Bool
 is_vex_proper s =
-    not (is_no_l s.l) && (not (is_no_w s.w) && (is_vex_class s.class && (is_no_size_word s.size_word
-    && (is_no_plus_word s.plus_word && (not (is_fixed s.modrm) && not (is_map_one s.map))))))
+    not (lacks_l s.l) && (not (lacks_w s.w) && (is_vex_class s.class && (is_no_size_word s.size_word
+    && (is_no_plus_word s.plus_word && (not (is_fixed s.modrm) && not (is_one_byte_map s.map))))))
 
 -- the parts of a shape belong together
 unfoldable pub is_proper : RowShape → Bool

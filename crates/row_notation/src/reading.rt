@@ -109,7 +109,7 @@ fn read_imm(s: RowShape, text: &[u8]) -> Result<RowShape, usize>
 
 /// The value of a hexadecimal digit in upper case, 16 where it is none.
 fn digit_value(c: u8) -> u8
-    ensures value { result ≡ spec.digit_value c }
+    ensures value { result ≡ spec.hex_value c }
     ensures small { result ≤ 16 }
 {
     match c {

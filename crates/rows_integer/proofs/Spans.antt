@@ -1,9 +1,9 @@
 -- The spans say where the rows of each cell lie.
 use Rattle.row_types.specs.declared.RowKind.TheVariants.{Legacy}
-use Rattle.row_lists.specs.Spans.{AreSpansOf}
+use Rattle.row_lists.specs.Spans.{AreCellSpansOf}
 use Rattle.row_lists.proofs.Spans.{spans-of_fit}
 use Rattle.rows_integer.specs.Table.{table, spans}
 use Rattle.rows_integer.proofs.TableFacts.{are_runs}
 
-pub are_spans : AreSpansOf Legacy table spans
+pub are_spans : AreCellSpansOf Legacy table spans
 are_spans = spans-of_fit Legacy spans table are_runs

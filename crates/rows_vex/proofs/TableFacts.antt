@@ -1,8 +1,8 @@
 -- What is computed of the table.
 use Rattle.std.proofs.Common.{◌≡◌, true, refl, length}
-use Rattle.row_fields.specs.Candidates.{coded, of_number, at_opcode, below, is_run}
+use Rattle.row_fields.specs.Candidates.{rows_with_codes, of_number, at_opcode, below, is_run}
 use Rattle.row_types.specs.declared.RowKind.TheVariants.{Vex}
-use Rattle.row_lists.specs.Cells.{span_of}
+use Rattle.row_lists.specs.Cells.{cell_span}
 use Rattle.row_lists.specs.Runs.{run_at, line_runs, spans_fit}
 use Rattle.rows_vex.specs.declared.generated_table.TheConstants.{ROWS}
 use Rattle.rows_vex.specs.Table.{flat_rows, table, spans}
@@ -13,5 +13,5 @@ length-table = refl
 
 -- the spans say where the rows of each cell lie
 pub are_runs : spans_fit Vex spans table ≡ true
-unfolding coded of_number at_opcode below is_run run_at line_runs spans_fit spans span_of table flat_rows
+unfolding rows_with_codes of_number at_opcode below is_run run_at line_runs spans_fit spans cell_span table flat_rows
 are_runs = refl

@@ -7,7 +7,7 @@ pub mod laws;
 ghost use Rattle.std.specs.Prelude.{◌≡◌, length};
 ghost use Rattle.row_types.specs.declared.RowKind.TheVariants.{Vex};
 ghost use Rattle.row_lists.specs.Flat.{rows_of};
-ghost use Rattle.row_lists.specs.Spans.{AreSpansOf};
+ghost use Rattle.row_lists.specs.Spans.{AreCellSpansOf};
 ghost use Rattle.rows_vex.specs.Table.{table, spans};
 
 pub use generated_table::ROWS;
@@ -22,7 +22,7 @@ pub fn list() -> RowList
     ensures rows { rows_of result.rows.now ≡ table }
     ensures count { length table ≡ ROWS }
     ensures spans { result.spans.now ≡ spans }
-    ensures cells { AreSpansOf result.kind (rows_of result.rows.now) result.spans.now }
+    ensures cells { AreCellSpansOf result.kind (rows_of result.rows.now) result.spans.now }
 {
     RowList {
         kind: RowKind::Vex,

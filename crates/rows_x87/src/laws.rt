@@ -2,10 +2,10 @@
 ghost use Rattle.std.specs.Prelude.{◌<◌};
 ghost use Rattle.x86_values.specs.declared.Bits.{Bits};
 ghost use Rattle.row_fields.specs.declared.Fields.{Fields};
-ghost use Rattle.row_fields.specs.Holds.{AreApart};
+ghost use Rattle.row_fields.specs.Holds.{RowsAreApart};
 ghost use Rattle.rows_x87.specs.Table.{table};
 
 /// In each mode and on all values of the nine fields, two rows whose conditions hold are one row.
 pub fn rows_are_apart()
-    ensures { (bits : Bits) (f : Fields) → f.opcode < 256 → AreApart bits table f }
+    ensures { (bits : Bits) (f : Fields) → f.opcode < 256 → RowsAreApart bits table f }
 {}

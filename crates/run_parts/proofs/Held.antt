@@ -3,16 +3,16 @@ use Rattle.std.proofs.Common.{◌≡◌, ℕ, ◌+◌, List, [], ◌++◌, lengt
 use Rattle.std.proofs.lemmas.List.{take-append-drop}
 use Rattle.std.proofs.Math.Seq.{take-append-add, take-append_seam}
 use Rattle.byte_ports.specs.Ports.{with_back}
-use Rattle.run_parts.specs.Writing.{HoldsFront, Moves, Held}
+use Rattle.run_parts.specs.Writing.{HoldsFront, Moves, HeldText}
 use Rattle.run_parts.proofs.Appending.{with_back-nil, with_back-append}
 
 -- nothing yet
-pub held-start : (start : Option (List ℕ)) (pending : List ℕ) → pending ≡ [] → Held start start pending []
+pub held-start : (start : Option (List ℕ)) (pending : List ℕ) → pending ≡ [] → HeldText start start pending []
 held-start start pending empty = record { written = []; held_is = sym (with_back-nil start); joined = empty }
 
 -- one more line
 pub held-step : (start held held' : Option (List ℕ)) (before after text line : List ℕ) →
-    Held start held before text → Moves held held' before after line → Held start held' after (text ++ line)
+    HeldText start held before text → Moves held held' before after line → HeldText start held' after (text ++ line)
 held-step start held held' before after text line h moves = record {
   written = h.written ++ moves.written;
   held_is = moves.held_is ∙ (ap (λ (x : Option (List ℕ)). with_back x moves.written) h.held_is ∙ with_back-append start h.written moves.written);
@@ -24,7 +24,7 @@ held-step start held held' before after text line h moves = record {
 }
 
 -- what was held back is written: the whole text
-pub held-end : (start held held' : Option (List ℕ)) (pending text : List ℕ) → Held start held pending text →
+pub held-end : (start held held' : Option (List ℕ)) (pending text : List ℕ) → HeldText start held pending text →
     held' ≡ with_back held pending → held' ≡ with_back start text
 held-end start held held' pending text h all =
     all
@@ -32,7 +32,7 @@ held-end start held held' pending text h all =
     ∙ (with_back-append start h.written pending ∙ ap (with_back start) h.joined))
 
 -- a failure while text is held back
-pub held-failed : (start held held' : Option (List ℕ)) (pending text : List ℕ) → Held start held pending text →
+pub held-failed : (start held held' : Option (List ℕ)) (pending text : List ℕ) → HeldText start held pending text →
     HoldsFront held held' pending → HoldsFront start held' text
 held-failed start held held' pending text h front =
     let part = take front.0 pending in (

@@ -3,26 +3,26 @@ use Rattle.std.specs.Prelude.{◌≡◌, ℕ, ◌<◌, List, [], ◌++◌, lengt
 use Rattle.byte_ports.specs.declared.failed.Failed.{Failed}
 use Rattle.byte_ports.specs.Ports.{with_front, with_back}
 use Rattle.run_parts.specs.Reads.{ReadsAll, ReadsTooMany}
-use Rattle.run_parts.specs.Writing.{HoldsFront, Moves, Held, Puts, PutsToFault}
+use Rattle.run_parts.specs.Writing.{HoldsFront, Moves, HeldText, Puts, PutsToFault}
 
 -- a text that is written with some of it held back
 pub record HeldFacts : Type 0 where
   -- nothing yet
-  pub held-start : (start : Option (List ℕ)) (pending : List ℕ) → pending ≡ [] → Held start start pending []
+  pub held-start : (start : Option (List ℕ)) (pending : List ℕ) → pending ≡ [] → HeldText start start pending []
   -- one more line
-  pub held-step : (start held held' : Option (List ℕ)) (before after text line : List ℕ) → Held start held before text →
-      Moves held held' before after line → Held start held' after (text ++ line)
+  pub held-step : (start held held' : Option (List ℕ)) (before after text line : List ℕ) → HeldText start held before text →
+      Moves held held' before after line → HeldText start held' after (text ++ line)
   -- what was held back is written: the whole text
-  pub held-end : (start held held' : Option (List ℕ)) (pending text : List ℕ) → Held start held pending text →
+  pub held-end : (start held held' : Option (List ℕ)) (pending text : List ℕ) → HeldText start held pending text →
       held' ≡ with_back held pending → held' ≡ with_back start text
   -- a failure while text is held back
-  pub held-failed : (start held held' : Option (List ℕ)) (pending text : List ℕ) → Held start held pending text →
+  pub held-failed : (start held held' : Option (List ℕ)) (pending text : List ℕ) → HeldText start held pending text →
       HoldsFront held held' pending → HoldsFront start held' text
   -- the first bytes of a text are the first of a longer one
   pub front-longer : (old new : Option (List ℕ)) (text rest : List ℕ) → HoldsFront old new text → HoldsFront old new (text ++ rest)
 
 -- pieces one behind another
-pub record PieceFacts : Type 0 where
+pub record TextPieceFacts : Type 0 where
   pub with_back-nil : (held : Option (List ℕ)) → with_back held [] ≡ held
   pub with_back-append : (held : Option (List ℕ)) (a b : List ℕ) → with_back (with_back held a) b ≡ with_back held (a ++ b)
   pub with_front-append : (left : Option (List ℕ)) (a b : List ℕ) → with_front a (with_front b left) ≡ with_front (a ++ b) left

@@ -3,5 +3,5 @@ use Rattle.std.specs.Prelude.{ℕ, List, false}
 use Rattle.std.specs.Fmt.{digits}
 
 -- a number in lower-case hexadecimal digits without leading zeros
-unfoldable pub hexadecimal : ℕ → List ℕ
-hexadecimal n = digits 16 false n
+unfoldable pub hex_number : ℕ → List ℕ
+hex_number n = digits 16 false n

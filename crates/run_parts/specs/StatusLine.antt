@@ -2,7 +2,7 @@
 use Rattle.std.specs.Prelude.{ℕ, List, [], ◌++◌, codes, decimal}
 use Rattle.decoder.specs.declared.DecodeError.{DecodeError}
 use Rattle.decoder.specs.declared.DecodeError.TheVariants.{Invalid, TooShort}
-use Rattle.run_parts.specs.Hexadecimal.{hexadecimal}
+use Rattle.run_parts.specs.Hexadecimal.{hex_number}
 use Rattle.run_parts.specs.declared.status.Status.{Status}
 use Rattle.run_parts.specs.declared.status.Status.TheVariants.{Done, Usage, BadCode, ReadFault, WriteFault, Memory, TooLarge, Wraps, TooFar, RegionFull, TooMany, BadText}
 
@@ -35,8 +35,8 @@ status_line ReadFault = codes "read fault\n"
 status_line WriteFault = codes "write fault\n"
 status_line Memory = codes "out of memory\n"
 status_line (TooLarge limit) = codes "input over " ++ decimal limit ++ codes " bytes\n"
-status_line (Wraps end) = codes "end 0x" ++ hexadecimal end ++ codes " passes the address space\n"
-status_line (TooFar at target) = codes "instruction " ++ decimal at ++ codes " cannot reach 0x" ++ hexadecimal target ++ codes "\n"
+status_line (Wraps end) = codes "end 0x" ++ hex_number end ++ codes " passes the address space\n"
+status_line (TooFar at target) = codes "instruction " ++ decimal at ++ codes " cannot reach 0x" ++ hex_number target ++ codes "\n"
 status_line (RegionFull len largest) = codes "region full: need " ++ decimal len ++ codes ", largest " ++ decimal largest ++ codes "\n"
 status_line (TooMany count) = decimal count ++ codes " instructions are too many\n"
 status_line (BadText line) = codes "bad text in line " ++ decimal line ++ codes "\n"

@@ -21,7 +21,7 @@ pub record Says (old new : Option (List ℕ)) (text : List ℕ) (failed : Type 0
   pub whole : (length text ≤ count) ⊎ failed
 
 -- how far a text has come that is written with some of it held back: its front went to the sink, and the rest of what has come is held back
-pub record Held (start held : Option (List ℕ)) (pending text : List ℕ) : Type 0 where
+pub record HeldText (start held : Option (List ℕ)) (pending text : List ℕ) : Type 0 where
   pub written : List ℕ
   pub held_is : held ≡ with_back start written
   pub joined : written ++ pending ≡ text

@@ -23,7 +23,7 @@ fn hex_digit(d: u8) -> u8
 #[tactic(auto, unfolding(crate::specs::Hexadecimal::hexadecimal))]
 fn write_digits(n: u128, places: &mut [u8; 64]) -> usize
     ensures within { result ≤ 64 }
-    ensures digits { drop result places.new ≡ spec.hexadecimal n }
+    ensures digits { drop result places.new ≡ spec.hex_number n }
 {
     let mut at = PLACES;
     let mut rest = n;
@@ -41,7 +41,7 @@ fn write_digits(n: u128, places: &mut [u8; 64]) -> usize
 /// Appends a number in hexadecimal digits without leading zeros.
 pub fn append_hexadecimal(out: &mut Text, n: u128)
     requires { array_vec_len out.old + 64 ≤ TEXT_LEN }
-    ensures items { out.new.items ≡ out.old.items ++ spec.hexadecimal n }
+    ensures items { out.new.items ≡ out.old.items ++ spec.hex_number n }
     ensures len { array_vec_len out.new ≤ array_vec_len out.old + 64 }
 {
     let mut places = [0; PLACES];

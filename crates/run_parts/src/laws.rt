@@ -1,6 +1,6 @@
 //! What holds of texts that are written in pieces, and of sources that are read to their end.
 
-ghost use Rattle.run_parts.specs.Facts.{HeldFacts, PieceFacts, ReadFacts, PutFacts};
+ghost use Rattle.run_parts.specs.Facts.{HeldFacts, TextPieceFacts, ReadFacts, PutFacts};
 
 use byte_ports::Sink;
 
@@ -13,7 +13,7 @@ pub fn held_texts_arrive()
 /// Pieces that are taken or put one behind another are one piece.
 #[inline]
 pub fn pieces_join()
-    ensures { PieceFacts }
+    ensures { TextPieceFacts }
 {}
 
 /// The bytes that were read of a source that tells them: all where it was read to its end, and more than the limit where one more was read.

@@ -3,7 +3,7 @@
 ghost use Rattle.std.specs.Prelude.{◌≡◌, ◌≤◌, ◌+◌, ◌++◌, length, codes, decimal};
 ghost use Rattle.arrayvec.specs.ArrayVec.{array_vec_len};
 ghost use Rattle.run_parts.specs.StatusLine as spec;
-ghost use Rattle.run_parts.specs.Hexadecimal.{hexadecimal};
+ghost use Rattle.run_parts.specs.Hexadecimal.{hex_number};
 
 use crate::hexadecimal::append_hexadecimal;
 use decoder::DecodeError;
@@ -97,7 +97,7 @@ fn plain(words: &[u8]) -> Text
 fn append_hexadecimal_number(text: &mut Text, number: u128, back: &[u8])
     requires back { length back.now ≤ 26 }
     requires room { array_vec_len text.old ≤ 70 }
-    ensures { text.new.items ≡ text.old.items ++ hexadecimal number ++ back.now }
+    ensures { text.new.items ≡ text.old.items ++ hex_number number ++ back.now }
 {
     append_hexadecimal(text, number);
     append(text, back);
@@ -105,7 +105,7 @@ fn append_hexadecimal_number(text: &mut Text, number: u128, back: &[u8])
 
 /// The line of an end past the address space.
 fn wraps_line(end: u128) -> Text
-    ensures { result.items ≡ codes "end 0x" ++ hexadecimal end ++ codes " passes the address space\n" }
+    ensures { result.items ≡ codes "end 0x" ++ hex_number end ++ codes " passes the address space\n" }
 {
     let mut text = plain(b"end 0x");
     append_hexadecimal_number(&mut text, end, b" passes the address space\n");
@@ -114,7 +114,7 @@ fn wraps_line(end: u128) -> Text
 
 /// The line of an instruction that does not reach its target.
 fn too_far_line(at: u64, target: u64) -> Text
-    ensures { result.items ≡ codes "instruction " ++ decimal at ++ codes " cannot reach 0x" ++ hexadecimal target ++ codes "\n" }
+    ensures { result.items ≡ codes "instruction " ++ decimal at ++ codes " cannot reach 0x" ++ hex_number target ++ codes "\n" }
 {
     let mut text = with_number(b"instruction ", at, b" cannot reach 0x");
     append_hexadecimal_number(&mut text, u128::from(target), b"\n");

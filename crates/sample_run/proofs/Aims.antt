@@ -2,7 +2,7 @@
 use Rattle.std.proofs.Common.{ℕ, ◌+◌, ◌^◌, ◌<◌, [], ◌∷◌, Some, None, refl}
 use Rattle.x86_values.specs.declared.Bits.TheVariants.{B64}
 use Rattle.x86_values.specs.declared.Instr.{Instr}
-use Rattle.x86_values.specs.Wrapping.{wrapped}
+use Rattle.x86_values.specs.Wrapping.{modulo_width}
 use Rattle.row_types.specs.declared.Row.{Row}
 use Rattle.instruction_parts.specs.declared.spelling.Spelling.{Spelling}
 use Rattle.instruction_parts.specs.Bytes.{bytes_of, front_bytes, lead_bytes, state_from, state_of, tail_bytes, vex_bytes, vex_last_byte, vex_map_byte}
@@ -69,9 +69,9 @@ aim-add ip reg rm = nowhere refl refl refl
 
 -- MOV from memory at RIP is aimed at the sum of the end of the instruction and its displacement
 pub aim-wide_load : (ip : ℕ) (a b c d : ℕ)
-    → wrapped B64 (wrapped B64 (ip + 7) + sign_extended 64 (a ∷ b ∷ c ∷ d ∷ [])) < 2 ^ 24
+    → modulo_width B64 (modulo_width B64 (ip + 7) + sign_extended 64 (a ∷ b ∷ c ∷ d ∷ [])) < 2 ^ 24
     → IsAimedLow (meant ip 279 wide_load_row (parts (0x48 ∷ []) None 0x8B (Some (record { mode3 = 0; reg = 0; rm = 5 }))
     (a ∷ b ∷ c ∷ d ∷ []) []))
 unfolding every_meaning
 aim-wide_load ip a b c d low =
-    by_rip (wrapped B64 (wrapped B64 (ip + 7) + sign_extended 64 (a ∷ b ∷ c ∷ d ∷ []))) low refl refl refl
+    by_rip (modulo_width B64 (modulo_width B64 (ip + 7) + sign_extended 64 (a ∷ b ∷ c ∷ d ∷ []))) low refl refl refl

@@ -1,10 +1,10 @@
 -- The code of a generator, one instruction more at a time.
 use Rattle.std.proofs.Common.{◌≡◌, ℕ, suc, ◌+◌, ◌-◌, ◌/◌, ◌^◌, ◌<◌, ◌≤◌, List, [], ◌++◌, refl, sym, ap, ◌∙◌, arith, append_assoc, append-nil}
-use Rattle.sample_run.specs.Generator.{next_state, drawn, instr_bytes, code_from, code_of}
+use Rattle.sample_run.specs.Generator.{next_state, drawn, instr_bytes, code_from, sample_code}
 
 -- some first instructions were drawn, and those behind them are drawn from a state
 abbrev pub Drawn : ℕ → ℕ → ℕ → List ℕ → Type 0
-Drawn n state done code = code ++ code_from state (n - done) ≡ code_of n
+Drawn n state done code = code ++ code_from state (n - done) ≡ sample_code n
 
 one_more : (state n : ℕ) → code_from state (suc n) ≡ instr_bytes (drawn (next_state state)) ++ code_from (next_state state) n
 unfolding code_from
@@ -15,7 +15,7 @@ unfolding code_from
 nothing state = refl
 
 pub drawn-start : (n state : ℕ) (code : List ℕ) → state ≡ n → code ≡ [] → Drawn n state 0 code
-unfolding code_of
+unfolding sample_code
 drawn-start n state code same empty =
     let all : n - 0 ≡ n = omega arith in
     ap (λ (xs : List ℕ). xs ++ code_from state (n - 0)) empty ∙ (ap (code_from state) all ∙ ap (λ (x : ℕ). code_from x n) same)
@@ -33,7 +33,7 @@ drawn-step n state next done code code' lt h is e =
     ∙ (ap (λ (xs : List ℕ). code ++ xs) (sym more)
     ∙ (ap (λ (k : ℕ). code ++ code_from state k) (sym left) ∙ h)))
 
-pub drawn-end : (n state done : ℕ) (code : List ℕ) → n ≤ done → Drawn n state done code → code ≡ code_of n
+pub drawn-end : (n state done : ℕ) (code : List ℕ) → n ≤ done → Drawn n state done code → code ≡ sample_code n
 drawn-end n state done code le h =
     let none : n - done ≡ 0 = omega arith in
     sym (append-nil code) ∙ (ap (λ (xs : List ℕ). code ++ xs) (sym (ap (code_from state) none ∙ nothing state)) ∙ h)

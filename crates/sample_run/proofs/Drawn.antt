@@ -4,7 +4,7 @@ use Rattle.std.specs.Prelude.{◌-◌, if◌then◌else◌}
 use Rattle.std.proofs.lemmas.Bool.{lt-ltb}
 use Rattle.x86_values.specs.declared.Bits.TheVariants.{B64}
 use Rattle.x86_values.specs.declared.Instr.{Instr}
-use Rattle.x86_values.specs.Wrapping.{wrapped}
+use Rattle.x86_values.specs.Wrapping.{modulo_width}
 use Rattle.row_types.specs.declared.Row.{Row}
 use Rattle.instruction_parts.specs.declared.spelling.Spelling.{Spelling}
 use Rattle.instruction_parts.specs.Bytes.{vex_last_byte, vex_bytes, lead_bytes, tail_bytes, front_bytes, bytes_of}
@@ -125,7 +125,7 @@ with_high_bit x lt = small (x % 256 + 256 * (byte_1 x + 256 * (byte_2 x + 256 * 
     small : (v : ℕ) → v ≡ x → (if nat_lt (2 * v) (2 ^ 32) then v % 2 ^ 64 else (v + (2 ^ 64 - 2 ^ 32)) % 2 ^ 64) ≡ x
     small v e = rw (lt-ltb (2 * v) (2 ^ 32) (omega (arith, e))) (omega (arith, e))
 
-low_target : (ip x : ℕ) → ip + 7 + x < 2 ^ 24 → (s : ℕ) → s ≡ x → wrapped B64 (wrapped B64 (ip + 7) + s) < 2 ^ 24
+low_target : (ip x : ℕ) → ip + 7 + x < 2 ^ 24 → (s : ℕ) → s ≡ x → modulo_width B64 (modulo_width B64 (ip + 7) + s) < 2 ^ 24
 low_target ip x lt s e = omega (arith, e)
 
 one_wide_load : (ip x : ℕ) → x < 65536 → ip < 2 ^ 23 → IsOne ip ((0x48 ∷ 0x8B ∷ 0x05 ∷ []) ++ low_bytes 4 x)

@@ -18,9 +18,9 @@ use Rattle.run_parts.specs.declared.status.Status.{Status}
 use Rattle.run_parts.specs.declared.status.Status.TheVariants.{BadCode, Memory, Wraps, TooFar, TooMany}
 use Rattle.moving_run.specs.Code.{IsInstruction, AreSwept, placed_by, placed_in, all_placed, all_spans}
 use Rattle.moving_run.specs.Ends.{first_pass}
-use Rattle.moving_run.specs.Moving.{MovesInput, RefusesCode, IsRefusal}
+use Rattle.moving_run.specs.Moving.{MovesInput, RefusesBlocks, IsMovingRefusal}
 use Rattle.moving_run.specs.Facts.{InputFacts, PlacedFacts}
-use Rattle.sample_run.specs.Generator.{code_base, code_of}
+use Rattle.sample_run.specs.Generator.{sample_base, sample_code}
 use Rattle.sample_run.specs.Made.{IsAimedLow, IsMade, HasInstructions}
 use Rattle.branch_sizes.specs.Facts.{LengthFacts, TotalFacts}
 use Rattle.move_goals.specs.Facts.{FirstFacts, PlanFacts}
@@ -42,11 +42,11 @@ are_instructions (item ∷ items) all =
 
 -- the first of some made instructions
 first_made : (item : Item) (items : List Item) (made : IsMade item) →
-    placed_in code_base (item ∷ items) ≡ record { ip = code_base + item.offset; len = made.decoded.len; instr = made.decoded.instr } ∷ placed_in code_base items
-first_made item items made = ap (λ (r : Reading). placed_by code_base item.offset r ++ placed_in code_base items) made.reads
+    placed_in sample_base (item ∷ items) ≡ record { ip = sample_base + item.offset; len = made.decoded.len; instr = made.decoded.instr } ∷ placed_in sample_base items
+first_made item items made = ap (λ (r : Reading). placed_by sample_base item.offset r ++ placed_in sample_base items) made.reads
 
 -- each instruction is aimed low
-aimed_at : (items : List Item) → All IsMade items → (k : ℕ) → k < length items → IsAimedLow (item_at (placed_in code_base items) k).instr
+aimed_at : (items : List Item) → All IsMade items → (k : ℕ) → k < length items → IsAimedLow (item_at (placed_in sample_base items) k).instr
 aimed_at [] all k lt = absurd (omega arith)
 aimed_at (item ∷ items) all zero lt =
     let made = All-head IsMade item items all in
@@ -61,84 +61,84 @@ aimed_at (item ∷ items) all (suc k) lt =
 
 module _ (totals : TotalFacts) (lengths : LengthFacts) (first : FirstFacts) (plans : PlanFacts) (slots : SlotFacts) (fragments : FragmentFacts) (reach : ReachFacts)
     (one : OneSweepFacts) (inputs : InputFacts) (placed_facts : PlacedFacts) (n : ℕ) (made : HasInstructions n) (few : n ≤ 65536) where
-  swept : AreSwept B64 made_block (code_of n) (made.items ∷ [])
+  swept : AreSwept B64 made_block (sample_code n) (made.items ∷ [])
   swept = (made.sweep, are_instructions made.items made.made, tt)
 
-  placed_is : all_placed made_block (made.items ∷ []) ≡ placed_in code_base made.items
-  placed_is = append-nil (placed_in code_base made.items)
+  placed_is : all_placed made_block (made.items ∷ []) ≡ placed_in sample_base made.items
+  placed_is = append-nil (placed_in sample_base made.items)
 
-  count_is : length (placed_in code_base made.items) ≡ length made.items
-  count_is = placed_facts.placed_length code_base made.items (are_instructions made.items made.made)
+  count_is : length (placed_in sample_base made.items) ≡ length made.items
+  count_is = placed_facts.placed_length sample_base made.items (are_instructions made.items made.made)
 
-  spans_are : all_spans made_block (made.items ∷ []) ≡ one_span (placed_in code_base made.items) moved_base
+  spans_are : all_spans made_block (made.items ∷ []) ≡ one_span (placed_in sample_base made.items) moved_base
   spans_are = ap (λ (k : ℕ). record { count = k; new_base = moved_base } ∷ []) (sym count_is)
 
   -- what holds of the block holds of the items
   told : (P : List Placed → List BlockSpan → Type 0) → P (all_placed made_block (made.items ∷ [])) (all_spans made_block (made.items ∷ []))
-      → P (placed_in code_base made.items) (one_span (placed_in code_base made.items) moved_base)
+      → P (placed_in sample_base made.items) (one_span (placed_in sample_base made.items) moved_base)
   told P h =
-      subst (λ (spans : List BlockSpan). P (placed_in code_base made.items) spans) spans_are
+      subst (λ (spans : List BlockSpan). P (placed_in sample_base made.items) spans) spans_are
       (subst (λ (xs : List Placed). P xs (all_spans made_block (made.items ∷ []))) placed_is h)
 
-  few_items : length (placed_in code_base made.items) ≤ 65536
+  few_items : length (placed_in sample_base made.items) ≤ 65536
   few_items = omega (arith, count_is, made.count)
 
-  well_placed : ArePlaced B64 (placed_in code_base made.items)
-  well_placed = subst (λ (xs : List Placed). ArePlaced B64 xs) placed_is (placed_facts.are_placed B64 made_block (code_of n) (made.items ∷ []) swept)
+  well_placed : ArePlaced B64 (placed_in sample_base made.items)
+  well_placed = subst (λ (xs : List Placed). ArePlaced B64 xs) placed_is (placed_facts.are_placed B64 made_block (sample_code n) (made.items ∷ []) swept)
 
-  no_pass : first_pass B64 made_block (code_of n) ≡ None
+  no_pass : first_pass B64 made_block (sample_code n) ≡ None
   no_pass =
       let short = made.short in
-      let len = length (code_of n) in
+      let len = length (sample_code n) in
       by_length len (omega arith)
     where
-      by_length : (len : ℕ) → len ≤ 458752 → (if nat_lt (2 ^ 64) (if len == 0 then moved_base else code_base + len) then Some (if len == 0 then moved_base else code_base + len) else None) ≡ None
+      by_length : (len : ℕ) → len ≤ 458752 → (if nat_lt (2 ^ 64) (if len == 0 then moved_base else sample_base + len) then Some (if len == 0 then moved_base else sample_base + len) else None) ≡ None
       by_length zero h = refl
-      by_length (suc m) h = rw (ne_eqb (suc m) 0 (λ e. omega arith), le-ltb (2 ^ 64) (code_base + suc m) (omega arith)) refl
+      by_length (suc m) h = rw (ne_eqb (suc m) 0 (λ e. omega arith), le-ltb (2 ^ 64) (sample_base + suc m) (omega arith)) refl
 
-  old_inside : first_old_pass B64 (one_span (placed_in code_base made.items) moved_base) (placed_in code_base made.items) ≡ None
-  old_inside = told (λ xs spans. first_old_pass B64 spans xs ≡ None) (placed_facts.ends_are B64 made_block (code_of n) (made.items ∷ []) swept ∙ no_pass)
+  old_inside : first_old_pass B64 (one_span (placed_in sample_base made.items) moved_base) (placed_in sample_base made.items) ≡ None
+  old_inside = told (λ xs spans. first_old_pass B64 spans xs ≡ None) (placed_facts.ends_are B64 made_block (sample_code n) (made.items ∷ []) swept ∙ no_pass)
 
   some_none : (o : Option ℕ) (x : ℕ) → o ≡ Some x → o ≡ None → ⊥
   some_none o x some none = let e : Some x ≡ None = sym some ∙ none in cc
 
   -- its moving is not refused
   unrefused : (why : MoveError) → (why ≡ error.Memory → ⊥) → ((at : ℕ) → why ≡ error.OldOrder at → ⊥)
-      → IsRefused B64 (placed_in code_base made.items) (one_span (placed_in code_base made.items) moved_base) why → ⊥
+      → IsRefused B64 (placed_in sample_base made.items) (one_span (placed_in sample_base made.items) moved_base) why → ⊥
   unrefused error.Memory no_memory in_order h = no_memory refl
   unrefused (error.OldOrder at) no_memory in_order h = in_order at refl
   unrefused (error.TooMany count) no_memory in_order h = let few = few_items in omega (arith, h.0)
   unrefused (error.Wraps end) no_memory in_order (inl h) = some_none _ end h.passes old_inside
   unrefused (error.Wraps end) no_memory in_order (inr h) =
-      some_none _ end h.passes (ends-inside totals lengths first plans slots fragments reach (placed_in code_base made.items) few_items well_placed h.layout)
+      some_none _ end h.passes (ends-inside totals lengths first plans slots fragments reach (placed_in sample_base made.items) few_items well_placed h.layout)
   unrefused (error.TooFar at target) no_memory in_order h =
       let far = h.first in
-      far.unreached (with_target-reached totals lengths first plans slots fragments reach (placed_in code_base made.items) few_items well_placed h.layout at far.within h.least
+      far.unreached (with_target-reached totals lengths first plans slots fragments reach (placed_in sample_base made.items) few_items well_placed h.layout at far.within h.least
       (aimed_at made.items made.made at (omega (arith, far.within, count_is))))
 
-  code_unrefused : (why : MoveError) → (why ≡ error.Memory → ⊥) → ((at : ℕ) → why ≡ error.OldOrder at → ⊥) → RefusesCode B64 made_block (code_of n) why → ⊥
+  code_unrefused : (why : MoveError) → (why ≡ error.Memory → ⊥) → ((at : ℕ) → why ≡ error.OldOrder at → ⊥) → RefusesBlocks B64 made_block (sample_code n) why → ⊥
   code_unrefused why no_memory in_order r =
-      let same = inputs.swept_unique B64 made_block (code_of n) r.items (made.items ∷ []) r.swept swept in
+      let same = inputs.swept_unique B64 made_block (sample_code n) r.items (made.items ∷ []) r.swept swept in
       let here = subst (λ (xs : List (List Item)). IsRefused B64 (all_placed made_block xs) (all_spans made_block xs) why) same r.refused in
       unrefused why no_memory in_order (told (λ xs spans. IsRefused B64 xs spans why) here)
 
   -- **the moving of made code is refused for want of memory alone**
-  pub memory-alone : (status : Status) → IsRefusal B64 made_block (code_of n) status → status ≡ Memory
+  pub memory-alone : (status : Status) → IsMovingRefusal B64 made_block (sample_code n) status → status ≡ Memory
   memory-alone Memory h = refl
-  memory-alone (BadCode offset error) h = absurd (inputs.swept_not_bad B64 made_block (code_of n) 0 offset error h (made.items ∷ []) swept)
+  memory-alone (BadCode offset error) h = absurd (inputs.swept_not_bad B64 made_block (sample_code n) 0 offset error h (made.items ∷ []) swept)
   memory-alone (TooMany count) h = absurd (code_unrefused (error.TooMany count) (λ e. cc) (λ at e. cc) h)
   memory-alone (Wraps end) h = absurd (code_unrefused (error.Wraps end) (λ e. cc) (λ at e. cc) h)
   memory-alone (TooFar at target) h = absurd (code_unrefused (error.TooFar at target) (λ e. cc) (λ at e. cc) h)
   memory-alone _ h = absurd h
 
   -- what was moved, of the items of the sweep
-  pub made-moved : (items : List Item) (placed : List Placed) (m : MovedLists) → IsSweep B64 code_base (code_of n) items → MovesInput B64 made_block (code_of n) placed m →
-      (placed ≡ placed_in code_base items) × IsMoved B64 (placed_in code_base items) (one_span (placed_in code_base items) moved_base) m
+  pub made-moved : (items : List Item) (placed : List Placed) (m : MovedLists) → IsSweep B64 sample_base (sample_code n) items → MovesInput B64 made_block (sample_code n) placed m →
+      (placed ≡ placed_in sample_base items) × IsMoved B64 (placed_in sample_base items) (one_span (placed_in sample_base items) moved_base) m
   made-moved items placed m sweep h =
-      let same = inputs.swept_unique B64 made_block (code_of n) h.items (made.items ∷ []) h.swept swept in
-      let own : made.items ≡ items = one.sweep_unique B64 code_base (code_of n) made.items items made.sweep sweep in
+      let same = inputs.swept_unique B64 made_block (sample_code n) h.items (made.items ∷ []) h.swept swept in
+      let own : made.items ≡ items = one.sweep_unique B64 sample_base (sample_code n) made.items items made.sweep sweep in
       let here = subst (λ (xs : List (List Item)). IsMoved B64 (all_placed made_block xs) (all_spans made_block xs) m) same h.is_moved in
-      let there : IsMoved B64 (placed_in code_base made.items) (one_span (placed_in code_base made.items) moved_base) m = told (λ xs spans. IsMoved B64 xs spans m) here in (
-        h.placed_is ∙ (ap (all_placed made_block) same ∙ (placed_is ∙ ap (placed_in code_base) own)),
-        subst (λ (xs : List Item). IsMoved B64 (placed_in code_base xs) (one_span (placed_in code_base xs) moved_base) m) own there,
+      let there : IsMoved B64 (placed_in sample_base made.items) (one_span (placed_in sample_base made.items) moved_base) m = told (λ xs spans. IsMoved B64 xs spans m) here in (
+        h.placed_is ∙ (ap (all_placed made_block) same ∙ (placed_is ∙ ap (placed_in sample_base) own)),
+        subst (λ (xs : List Item). IsMoved B64 (placed_in sample_base xs) (one_span (placed_in sample_base xs) moved_base) m) own there,
       )

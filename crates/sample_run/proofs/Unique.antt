@@ -16,7 +16,7 @@ use Rattle.move_goals.specs.Plan.{plan_for}
 use Rattle.block_encoder.specs.Bytes.{bytes_of_blocks}
 use Rattle.block_encoder.specs.Moved.{MovedLists, IsMoved}
 use Rattle.moving_run.specs.Code.{placed_in}
-use Rattle.sample_run.specs.Generator.{code_base, code_of}
+use Rattle.sample_run.specs.Generator.{sample_base, sample_code}
 use Rattle.sample_run.specs.declared.summary.Summary.{Summary}
 use Rattle.sample_run.specs.Sample.{IsSample, moved_base, grown, summary_text}
 
@@ -41,19 +41,19 @@ module _ (least_unique : (p : BlockPlan) → (a b : List ℕ) → IsLeast p a �
     pub one-text : (n : ℕ) (s t : Summary) → IsSample n s → IsSample n t → summary_text s ≡ summary_text t
     unfolding summary_text
     one-text n s t h k =
-        let same = one.sweep_unique B64 code_base (code_of n) h.items k.items h.sweep k.sweep in
-        let placed = placed_in code_base k.items in
-        let M : List Item → Type 0 = λ xs. IsMoved B64 (placed_in code_base xs) (one_span (placed_in code_base xs) moved_base) h.moved in
+        let same = one.sweep_unique B64 sample_base (sample_code n) h.items k.items h.sweep k.sweep in
+        let placed = placed_in sample_base k.items in
+        let M : List Item → Type 0 = λ xs. IsMoved B64 (placed_in sample_base xs) (one_span (placed_in sample_base xs) moved_base) h.moved in
         let there = subst M same h.is_moved in
         let bytes = moved_bytes B64 placed (one_span placed moved_base) h.moved k.moved there k.is_moved in
         let forms = moved_forms B64 placed (one_span placed moved_base) h.moved k.moved there k.is_moved in
         let e1 : s.instructions ≡ t.instructions = h.instructions ∙ sym k.instructions in
         let e2 : s.bytes ≡ t.bytes = h.bytes ∙ sym k.bytes in
-        let e3 : s.text ≡ t.text = h.text ∙ (ap (λ (xs : List Item). length (listing B64 code_base Intel xs)) same ∙ sym k.text) in
+        let e3 : s.text ≡ t.text = h.text ∙ (ap (λ (xs : List Item). length (listing B64 sample_base Intel xs)) same ∙ sym k.text) in
         let e4 : s.moved ≡ t.moved = h.moved_bytes ∙ (ap length bytes ∙ sym k.moved_bytes) in
         let e5 : s.grown ≡ t.grown
         = h.grown_items
-        ∙ (ap (λ (xs : List Item). grown (placed_in code_base xs) h.moved.forms) same ∙ (ap (grown placed) forms ∙ sym k.grown_items))
+        ∙ (ap (λ (xs : List Item). grown (placed_in sample_base xs) h.moved.forms) same ∙ (ap (grown placed) forms ∙ sym k.grown_items))
         in
         let e6 : s.sum ≡ t.sum = h.sum_is ∙ (ap sum bytes ∙ sym k.sum_is) in
         rw (e1, e2, e3, e4, e5, e6) refl

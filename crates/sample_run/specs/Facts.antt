@@ -9,19 +9,19 @@ use Rattle.command_words.specs.declared.commands.BlockWords.{BlockWords}
 use Rattle.run_parts.specs.declared.status.Status.{Status}
 use Rattle.run_parts.specs.declared.status.Status.TheVariants.{Memory}
 use Rattle.moving_run.specs.Code.{placed_in}
-use Rattle.moving_run.specs.Moving.{MovesInput, IsRefusal}
-use Rattle.sample_run.specs.Generator.{code_base, code_of}
+use Rattle.moving_run.specs.Moving.{MovesInput, IsMovingRefusal}
+use Rattle.sample_run.specs.Generator.{sample_base, sample_code}
 use Rattle.sample_run.specs.Sample.{moved_base}
 
 -- the block of made code
 abbrev pub made_block : List BlockWords
-made_block = record { old = code_base; new = moved_base; len = None } ∷ []
+made_block = record { old = sample_base; new = moved_base; len = None } ∷ []
 
 -- the code of so many instructions, as the block that is moved
 pub record MadeFacts : Type 0 where
   -- its moving is refused for want of memory alone
-  pub memory-alone : (n : ℕ) → n ≤ 65536 → (status : Status) → IsRefusal B64 made_block (code_of n) status → status ≡ Memory
+  pub memory-alone : (n : ℕ) → n ≤ 65536 → (status : Status) → IsMovingRefusal B64 made_block (sample_code n) status → status ≡ Memory
   -- what was moved, of the items of its sweep
-  pub made-moved : (n : ℕ) → n ≤ 65536 → (items : List Item) (placed : List Placed) (m : MovedLists) → IsSweep B64 code_base (code_of n) items →
-      MovesInput B64 made_block (code_of n) placed m →
-      (placed ≡ placed_in code_base items) × IsMoved B64 (placed_in code_base items) (one_span (placed_in code_base items) moved_base) m
+  pub made-moved : (n : ℕ) → n ≤ 65536 → (items : List Item) (placed : List Placed) (m : MovedLists) → IsSweep B64 sample_base (sample_code n) items →
+      MovesInput B64 made_block (sample_code n) placed m →
+      (placed ≡ placed_in sample_base items) × IsMoved B64 (placed_in sample_base items) (one_span (placed_in sample_base items) moved_base) m

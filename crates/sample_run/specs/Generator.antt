@@ -32,9 +32,9 @@ code_from x zero = []
 code_from x (suc n) = instr_bytes (drawn (next_state x)) ++ code_from (next_state x) n
 
 -- the bytes of n instructions, drawn by the states behind n
-unfoldable pub code_of : ℕ → List ℕ
-code_of n = code_from n n
+unfoldable pub sample_code : ℕ → List ℕ
+sample_code n = code_from n n
 
 -- the address of the first byte
-abbrev pub code_base : ℕ
-code_base = 0x400000
+abbrev pub sample_base : ℕ
+sample_base = 0x400000

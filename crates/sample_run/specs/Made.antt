@@ -8,7 +8,7 @@ use Rattle.opcode_rows.specs.Sweep.{Item, IsSweep}
 use Rattle.operand_info.specs.Operands.{near_value, first_value}
 use Rattle.branch_sizes.specs.declared.plan.Reach.TheVariants.{Always, Signed32}
 use Rattle.moved_targets.specs.Targets.{target_of, target_reach}
-use Rattle.sample_run.specs.Generator.{code_base, code_of}
+use Rattle.sample_run.specs.Generator.{sample_base, sample_code}
 
 -- what an instruction is aimed at: nothing, a near target, or an address below 2 to the power of 24 by RIP
 pub data IsAimedLow : Instr → Type 0 where
@@ -25,7 +25,7 @@ pub record IsMade (item : Item) : Type 0 where
 -- the sweep of the code of n instructions has so many items, each such an instruction, in at most 7 bytes each
 pub record HasInstructions (n : ℕ) : Type 0 where
   pub items : List Item
-  pub sweep : IsSweep B64 code_base (code_of n) items
+  pub sweep : IsSweep B64 sample_base (sample_code n) items
   pub count : length items ≡ n
   pub made : All IsMade items
-  pub short : length (code_of n) ≤ 7 * n
+  pub short : length (sample_code n) ≤ 7 * n

@@ -18,7 +18,7 @@ use Rattle.byte_ports.specs.Ports.{with_back}
 use Rattle.run_parts.specs.declared.status.Status.{Status}
 use Rattle.run_parts.specs.declared.status.Status.TheVariants.{Done, WriteFault, Memory}
 use Rattle.run_parts.specs.Writing.{HoldsFront}
-use Rattle.sample_run.specs.Generator.{code_base, code_of}
+use Rattle.sample_run.specs.Generator.{sample_base, sample_code}
 use Rattle.sample_run.specs.declared.summary.Summary.{Summary}
 
 -- the address that made code is moved to
@@ -42,14 +42,14 @@ grown items forms = total (grows items forms) (length items)
 -- What is told of n instructions: their bytes are swept and listed, and moved as one block.
 pub record IsSample (n : ℕ) (s : Summary) : Type 0 where
   pub items : List Item
-  pub sweep : IsSweep B64 code_base (code_of n) items
+  pub sweep : IsSweep B64 sample_base (sample_code n) items
   pub moved : MovedLists
-  pub is_moved : IsMoved B64 (placed_in code_base items) (one_span (placed_in code_base items) moved_base) moved
+  pub is_moved : IsMoved B64 (placed_in sample_base items) (one_span (placed_in sample_base items) moved_base) moved
   pub instructions : s.instructions ≡ n
-  pub bytes : s.bytes ≡ length (code_of n)
-  pub text : s.text ≡ length (listing B64 code_base Intel items)
+  pub bytes : s.bytes ≡ length (sample_code n)
+  pub text : s.text ≡ length (listing B64 sample_base Intel items)
   pub moved_bytes : s.moved ≡ length moved.bytes
-  pub grown_items : s.grown ≡ grown (placed_in code_base items) moved.forms
+  pub grown_items : s.grown ≡ grown (placed_in sample_base items) moved.forms
   pub sum_is : s.sum ≡ sum moved.bytes
 
 -- ---- the text

@@ -5,7 +5,7 @@ ghost use Rattle.sweep_text.specs.Listing.{listing};
 ghost use Rattle.x86_values.specs.declared.Bits.TheVariants.{B64};
 ghost use Rattle.text_parts.specs.declared.style.Style.TheVariants.{Intel};
 ghost use Rattle.opcode_rows.specs.Sweep.{IsSweep, Item};
-ghost use Rattle.sample_run.specs.Generator.{code_base};
+ghost use Rattle.sample_run.specs.Generator.{sample_base};
 ghost use Rattle.sample_run.specs.Sample as spec;
 
 use crate::generator::{CODE_BASE, sample_code};
@@ -45,7 +45,7 @@ pub struct Summary {
 /// How many bytes the listing of some code has.
 fn listing_len(code: &[u8]) -> u64
     requires { length code.now ≤ 1048576 }
-    ensures { (items : List Item) × (IsSweep B64 code_base code.now items × (result ≡ length (listing B64 code_base Intel items))) }
+    ensures { (items : List Item) × (IsSweep B64 sample_base code.now items × (result ≡ length (listing B64 sample_base Intel items))) }
 {
     items_stand_in_turn();
     let lines = Lines::Listing {

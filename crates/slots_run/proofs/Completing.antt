@@ -5,8 +5,8 @@ use Rattle.run_parts.specs.declared.status.Status.{Status}
 use Rattle.run_parts.specs.declared.status.Status.TheVariants.{Done, BadCode, ReadFault, WriteFault, Memory, TooLarge, TooFar, RegionFull}
 use Rattle.run_parts.specs.Facts.{ReadFacts}
 use Rattle.run_parts.specs.Reads.{whole_limit, ReadsAll, IsUnread}
-use Rattle.slots_run.specs.Slotting.{IsRefusal, IsSlotsAnswer, RefusesAs, SlotsAs, CompletesSlots}
-use Rattle.slots_run.specs.Facts.{AnswerFacts}
+use Rattle.slots_run.specs.Slotting.{IsSlotsRefusal, IsSlotsAnswer, RefusesSlots, SlotsAs, CompletesSlots}
+use Rattle.slots_run.specs.Facts.{SlotsAnswerFacts}
 
 module _ (range : Range) (base : ℕ) where
   -- a source that was not read whole, after which nothing was written
@@ -19,7 +19,7 @@ module _ (range : Range) (base : ℕ) where
 
   -- a status that tells why, after which nothing was written
   pub refusal : (bytes : List ℕ) (left left' held held' : Option (List ℕ)) (source_rose out_rose : Type 0) (status : Status) →
-      ReadsAll whole_limit left left' bytes → held' ≡ held → IsRefusal range base bytes status →
+      ReadsAll whole_limit left left' bytes → held' ≡ held → IsSlotsRefusal range base bytes status →
       SlotsAs range base left left' held held' source_rose out_rose status
   refusal bytes left left' held held' source_rose out_rose Memory reads kept h = kept
   refusal bytes left left' held held' source_rose out_rose (BadCode offset error) reads kept h = ((bytes, (reads, h)), kept)
@@ -27,7 +27,7 @@ module _ (range : Range) (base : ℕ) where
   refusal bytes left left' held held' source_rose out_rose (TooFar at target) reads kept h = ((bytes, (reads, h)), kept)
   refusal bytes left left' held held' source_rose out_rose _ reads kept h = absurd h
 
-  module _ (facts : ReadFacts) (answers : AnswerFacts) where
+  module _ (facts : ReadFacts) (answers : SlotsAnswerFacts) where
     -- an answer for all bytes
     answered : (bytes : List ℕ) (left' : Option (List ℕ)) (read : List ℕ) (status : Status) → ReadsAll whole_limit (Some bytes) left' read →
         IsSlotsAnswer range base read status → CompletesSlots range base (Some bytes) status
@@ -39,7 +39,7 @@ module _ (range : Range) (base : ℕ) where
           λ many. absurd (omega (arith, ap length same)),
         )
 
-    refused : (left left' held held' : Option (List ℕ)) (status : Status) → RefusesAs range base left left' held held' status →
+    refused : (left left' held held' : Option (List ℕ)) (status : Status) → RefusesSlots range base left left' held held' status →
         ((status ≡ ReadFault) ⊎ (status ≡ WriteFault) → ⊥) → CompletesSlots range base left status
     refused (Some bytes) left' held held' status h told = answered bytes left' h.0.0 status h.0.1.0 h.0.1.1
     refused None left' held held' status h told = told

@@ -7,8 +7,8 @@ use Rattle.std.proofs.lemmas.List.Elements.{All-head, All-tail}
 use Rattle.code_region.specs.declared.gaps.Span.{Span}
 use Rattle.code_region.specs.declared.refusals.PlaceError.TheVariants as place_error
 use Rattle.code_region.specs.Gaps.{gaps_between, first_gap, longest}
-use Rattle.code_region.specs.State.{LiveBlock, RegionState, rounded, gaps_of, span_of}
-use Rattle.code_region.specs.Placing.{place_answer, front_of}
+use Rattle.code_region.specs.State.{LiveBlock, RegionState, len_in_units, gaps_of, span_of}
+use Rattle.code_region.specs.Placing.{place_answer, place_in_gap}
 use Rattle.code_region.specs.Keeping.{AreLaid, IsSound}
 
 -- a block takes a multiple of 16 bytes
@@ -46,7 +46,7 @@ missing len (gap ∷ gaps) above =
 
 -- no gap has the length: that and the longest
 pub full-is : (region : RegionState) (n len largest : ℕ) → place_answer region n ≡ Err (place_error.Full len largest) →
-    (first_gap (rounded n) (gaps_of region) ≡ None) × ((len ≡ rounded n) × (largest ≡ longest (gaps_of region)))
+    (first_gap (len_in_units n) (gaps_of region) ≡ None) × ((len ≡ len_in_units n) × (largest ≡ longest (gaps_of region)))
 unfolding place_answer
 full-is region n len largest e =
     elim (cases_Bool (nat_eq n 0)) [
@@ -55,11 +55,11 @@ full-is region n len largest e =
         | inl all_live ↦ (let f = rw (some_len, all_live) at e in absurd cc)
         | inr room ↦ (
             let f = rw (some_len, room) at e in
-            found (first_gap (rounded n) (gaps_of region)) (rounded n) (longest (gaps_of region)) f)
+            found (first_gap (len_in_units n) (gaps_of region)) (len_in_units n) (longest (gaps_of region)) f)
       ]
     ]
   where
-    found : (o : Option Span) (a b : ℕ) → front_of o a b ≡ Err (place_error.Full len largest) → (o ≡ None) × ((len ≡ a) × (largest ≡ b))
+    found : (o : Option Span) (a b : ℕ) → place_in_gap o a b ≡ Err (place_error.Full len largest) → (o ≡ None) × ((len ≡ a) × (largest ≡ b))
     found None a b h = (refl, (cc, cc))
     found (Some gap) a b h = absurd cc
 
@@ -74,10 +74,10 @@ many-is region n most e =
         | inl all_live ↦ eqb-true (length region.live) region.max_blocks all_live
         | inr room ↦ (
             let f = rw (some_len, room) at e in
-            none (first_gap (rounded n) (gaps_of region)) (rounded n) (longest (gaps_of region)) f)
+            none (first_gap (len_in_units n) (gaps_of region)) (len_in_units n) (longest (gaps_of region)) f)
       ]
     ]
   where
-    none : (o : Option Span) (a b : ℕ) → front_of o a b ≡ Err (place_error.TooManyBlocks most) → length region.live ≡ region.max_blocks
+    none : (o : Option Span) (a b : ℕ) → place_in_gap o a b ≡ Err (place_error.TooManyBlocks most) → length region.live ≡ region.max_blocks
     none None a b h = absurd cc
     none (Some gap) a b h = absurd cc

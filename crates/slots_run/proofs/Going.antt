@@ -4,7 +4,7 @@ use Rattle.std.specs.Prelude.{All}
 use Rattle.std.proofs.lemmas.List.Elements.{All-nil, All-cons, All-append, All-head, All-tail}
 use Rattle.x86_values.specs.declared.Bits.{Bits}
 use Rattle.x86_values.specs.declared.Decoded.{Decoded}
-use Rattle.x86_values.specs.Wrapping.{wrapped}
+use Rattle.x86_values.specs.Wrapping.{modulo_width}
 use Rattle.row_relation.specs.Spells.{Reading, Read, TooShort, Invalid, Spells}
 use Rattle.decoder.specs.declared.DecodeError.{DecodeError}
 use Rattle.decoder.specs.Answer.{reading_of}
@@ -19,23 +19,23 @@ use Rattle.step_slots.specs.State.{SlotState}
 use Rattle.step_slots.specs.Stepping.{IsStepped}
 use Rattle.command_words.specs.Ranges.{Range}
 use Rattle.run_parts.specs.declared.status.Status.{Status}
-use Rattle.moving_run.specs.Code.{IsInstruction, StopsAt}
+use Rattle.moving_run.specs.Code.{IsInstruction, BlockStopsAt}
 use Rattle.slots_run.specs.Slotted.{slotted_by, slotted_in, empty_slots, AreSlotted}
-use Rattle.slots_run.specs.Steps.{IsTried, IsNext, HasCome, IsGoneThrough}
+use Rattle.slots_run.specs.Steps.{IsTried, IsNextSlot, HasCome, IsGoneThrough}
 
 -- ---- one instruction
 
 -- an instruction that is read at an offset, with its own address
 abbrev pub item_at : Bits → ℕ → ℕ → Decoded → Placed
-item_at bits base offset d = record { ip = wrapped bits (base + offset); len = d.len; instr = d.instr }
+item_at bits base offset d = record { ip = modulo_width bits (base + offset); len = d.len; instr = d.instr }
 
 -- **it can be given a slot**
-pub item-placed : ((b : Bits) (x : ℕ) → wrapped b (wrapped b x) ≡ wrapped b x) → (bits : Bits) (base offset : ℕ) (bytes : List ℕ) (d : Decoded) → IsReadAt bits base offset bytes (Read d) → 0 < d.len →
+pub item-placed : ((b : Bits) (x : ℕ) → modulo_width b (modulo_width b x) ≡ modulo_width b x) → (bits : Bits) (base offset : ℕ) (bytes : List ℕ) (d : Decoded) → IsReadAt bits base offset bytes (Read d) → 0 < d.len →
     d.len ≤ length bytes → IsPlaced bits (item_at bits base offset d)
 unfolding IsReadAt
 item-placed twice bits base offset bytes d reads some within =
     let S : ℕ → Type 0 = λ n. Spells table bits n (take d.len bytes) d.instr in
-    let spells : S (wrapped bits (base + offset)) = reads.1 in
+    let spells : S (modulo_width bits (base + offset)) = reads.1 in
     let short : length (take d.len bytes) ≤ 15 = spells.0 in
     record {
       some = omega arith;
@@ -91,7 +91,7 @@ come-tried old state new items item number (Some status) count slotted tried =
     }
 
 come-next : (old state new : SlotState) (items : List Placed) (item : Placed) (number : ℕ) (refused told : Option Status) → number ≡ length items →
-    HasCome old items refused state → IsNext state refused number item told new → HasCome old (items ++ item ∷ []) told new
+    HasCome old items refused state → IsNextSlot state refused number item told new → HasCome old (items ++ item ∷ []) told new
 come-next old state new items item number None told count come next = come-tried old state new items item number told count come next
 come-next old state new items item number (Some status) told count come next =
     let H : Option Status → Type 0 = λ t. HasCome old (items ++ item ∷ []) t new in
@@ -110,7 +110,7 @@ tried-bits : (old new : SlotState) (number : ℕ) (item : Placed) (told : Option
 tried-bits old new number item None tried = tried.1.bits
 tried-bits old new number item (Some status) tried = tried.1.1.bits
 
-next-bits : (old new : SlotState) (refused : Option Status) (number : ℕ) (item : Placed) (told : Option Status) → IsNext old refused number item told new →
+next-bits : (old new : SlotState) (refused : Option Status) (number : ℕ) (item : Placed) (told : Option Status) → IsNextSlot old refused number item told new →
     new.bits ≡ old.bits
 next-bits old new None number item told next = tried-bits old new number item told next
 next-bits old new (Some status) number item told next = ap (λ (s : SlotState). s.bits) next.1
@@ -142,9 +142,9 @@ module _ (turn : SweptFacts) where
   }
 
   -- one more instruction
-  pub begun-step : ((b : Bits) (x : ℕ) → wrapped b (wrapped b x) ≡ wrapped b x) → (range : Range) (base : ℕ) (bytes : List ℕ) (at number : ℕ) (refused told : Option Status) (slots slots' : SlotState) (d : Decoded) →
+  pub begun-step : ((b : Bits) (x : ℕ) → modulo_width b (modulo_width b x) ≡ modulo_width b x) → (range : Range) (base : ℕ) (bytes : List ℕ) (at number : ℕ) (refused told : Option Status) (slots slots' : SlotState) (d : Decoded) →
       Begun range base bytes at number refused slots → IsReadAt range.bits base at (drop at bytes) (Read d) →
-      TakesSome (Read d) (length (drop at bytes)) → IsNext slots refused number (item_at range.bits base at d) told slots' →
+      TakesSome (Read d) (length (drop at bytes)) → IsNextSlot slots refused number (item_at range.bits base at d) told slots' →
       Begun range base bytes (at + d.len) (number + 1) told slots'
   begun-step twice range base bytes at number refused told slots slots' d b reads takes next =
       let item = item_read at (drop at bytes) (Read d) in
@@ -183,7 +183,7 @@ module _ (turn : SweptFacts) where
   -- a single byte
   pub begun-stop : (range : Range) (base : ℕ) (bytes : List ℕ) (at number : ℕ) (refused : Option Status) (slots : SlotState) (e : DecodeError) →
       Begun range base bytes at number refused slots → IsReadAt range.bits base at (drop at bytes) (reading_of (Err e)) →
-      TakesSome (reading_of (Err e)) (length (drop at bytes)) → StopsAt range.bits base bytes at e
+      TakesSome (reading_of (Err e)) (length (drop at bytes)) → BlockStopsAt range.bits base bytes at e
   begun-stop range base bytes at number refused slots e b reads takes =
       let reading : Reading = reading_of (Err e) in
       let item = item_read at (drop at bytes) reading in

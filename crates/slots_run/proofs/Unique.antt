@@ -9,11 +9,11 @@ use Rattle.move_layout.specs.Laid.{goal_address}
 use Rattle.block_encoder.specs.Bytes.{bytes_of_blocks}
 use Rattle.block_encoder.specs.Moved.{IsReached}
 use Rattle.code_region.specs.State.{RegionState}
-use Rattle.code_region.specs.Placing.{place_answer, placed}
-use Rattle.code_region.specs.Filling.{filled}
+use Rattle.code_region.specs.Placing.{place_answer, after_place}
+use Rattle.code_region.specs.Filling.{after_fill}
 use Rattle.code_region.specs.Facts.{PlaceFacts}
 use Rattle.step_slots.specs.declared.slots.StepSlot.{StepSlot}
-use Rattle.step_slots.specs.Block.{IsStepBlock, IsOutOfReach, step_items, step_plan, reserved}
+use Rattle.step_slots.specs.Block.{IsStepBlock, IsOutOfReach, step_items, step_plan, reserved_room}
 use Rattle.step_slots.specs.State.{SlotState, with_slot}
 use Rattle.step_slots.specs.Stepping.{IsStepped}
 use Rattle.command_words.specs.Ranges.{Range}
@@ -58,14 +58,14 @@ module _ (least_unique : (p : BlockPlan) → (a b : List ℕ) → IsLeast p a �
       -- an instruction gets one slot
       step_unique : (p q : ℕ) (a b : SlotState) → IsStepped state item (Ok p) a → IsStepped state item (Ok q) b → a ≡ b
       step_unique p q a b h k =
-          let n = reserved state.bits state.region.base item in
+          let n = reserved_room state.bits state.region.base item in
           let place = same_place state.region n p q h.region.0 k.region.0 in
           let B : ℕ → Type 0 = λ x. IsStepBlock state.bits item x h.region.1.0 in
           let bytes = block_unique state.bits item q h.region.1.0 k.region.1.0 (subst B place h.region.1.1.0) k.region.1.1.0 in
           let region : a.region ≡ b.region =
           h.region.1.1.1
-          ∙ (ap (λ (x : ℕ). filled (placed state.region n) x h.region.1.0) place
-          ∙ (ap (λ (xs : List ℕ). filled (placed state.region n) q xs) bytes ∙ sym k.region.1.1.1)) in
+          ∙ (ap (λ (x : ℕ). after_fill (after_place state.region n) x h.region.1.0) place
+          ∙ (ap (λ (xs : List ℕ). after_fill (after_place state.region n) q xs) bytes ∙ sym k.region.1.1.1)) in
           let slots : a.slots ≡ b.slots =
           h.slots ∙ (ap (λ (x : ℕ). with_slot (record { place = x; item = item }) state.slots) place ∙ sym k.slots) in
           same_state a b (h.bits ∙ sym k.bits) region slots
@@ -78,15 +78,15 @@ module _ (least_unique : (p : BlockPlan) → (a b : List ℕ) → IsLeast p a �
               ap F bits ∙ (ap G region ∙ ap H slots)
 
       -- where no gap has the length there is no place
-      gap_placed : (len largest p : ℕ) → HasNoGap state item len largest → place_answer state.region (reserved state.bits state.region.base item) ≡ Ok p → ⊥
+      gap_placed : (len largest p : ℕ) → HasNoGap state item len largest → place_answer state.region (reserved_room state.bits state.region.base item) ≡ Ok p → ⊥
       gap_placed len largest p h e =
-          places.gap-none state.region (reserved state.bits state.region.base item) p h.missing e
+          places.gap-none state.region (reserved_room state.bits state.region.base item) p h.missing e
 
       -- an instruction that gets a slot is not refused
       stepped_refused : (number p : ℕ) (new : SlotState) (status : Status) → IsStepped state item (Ok p) new → IsSlotRefusal state item number status → ⊥
       stepped_refused number p new (RegionFull len largest) h r = gap_placed len largest p r h.region.0
       stepped_refused number p new (TooFar at target) h r =
-          let place = same_place state.region (reserved state.bits state.region.base item) p r.1.place h.region.0 r.1.placed in
+          let place = same_place state.region (reserved_room state.bits state.region.base item) p r.1.place h.region.0 r.1.placed in
           let B : ℕ → Type 0 = λ x. IsStepBlock state.bits item x h.region.1.0 in
           moved_reaches state.bits item r.1.place target h.region.1.0 (subst B place h.region.1.1.0) r.1.far
       stepped_refused number p new _ h r = absurd r
@@ -100,7 +100,7 @@ module _ (least_unique : (p : BlockPlan) → (a b : List ℕ) → IsLeast p a �
       refusal_unique number (RegionFull a b) (TooFar at target) h k = absurd (gap_placed a b k.1.place h k.1.placed)
       refusal_unique number (TooFar at target) (RegionFull a b) h k = absurd (gap_placed a b h.1.place k h.1.placed)
       refusal_unique number (TooFar at target) (TooFar other goal) h k =
-          let place = same_place state.region (reserved state.bits state.region.base item) h.1.place k.1.place h.1.placed k.1.placed in
+          let place = same_place state.region (reserved_room state.bits state.region.base item) h.1.place k.1.place h.1.placed k.1.placed in
           let F : ℕ → Type 0 = λ x. IsOutOfReach state.bits item x target in
           let targets = far_unique state.bits item k.1.place target goal (subst F place h.1.far) k.1.far in
           let numbers : at ≡ other = h.0 ∙ sym k.0 in
@@ -155,9 +155,9 @@ module _ (least_unique : (p : BlockPlan) → (a b : List ℕ) → IsLeast p a �
         made_refused : (image : List ℕ) (status : Status) → MakesSlots range base bytes image → RefusesSlot range base bytes status → ⊥
         made_refused image status h k =
             let items = one.sweep_unique range.bits base bytes h.items k.items h.sweep k.sweep in
-            let placed = ap (slotted_in range.bits base) items ∙ k.are in
+            let after_place = ap (slotted_in range.bits base) items ∙ k.are in
             let A : List Placed → Type 0 = λ xs. AreSlotted (empty_slots range) xs h.state in
-            slotted_refused (empty_slots range) h.state k.state k.before k.behind k.first (length k.before) status (subst A placed h.slotted) k.slotted k.refused
+            slotted_refused (empty_slots range) h.state k.state k.before k.behind k.first (length k.before) status (subst A after_place h.slotted) k.slotted k.refused
 
         refused_unique : (s t : Status) → RefusesSlot range base bytes s → RefusesSlot range base bytes t → s ≡ t
         refused_unique s t h k =

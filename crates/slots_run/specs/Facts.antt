@@ -5,6 +5,6 @@ use Rattle.run_parts.specs.declared.status.Status.{Status}
 use Rattle.slots_run.specs.Slotting.{IsSlotsAnswer}
 
 -- some code has one answer
-pub record AnswerFacts : Type 0 where
+pub record SlotsAnswerFacts : Type 0 where
   pub answer_unique : (range : Range) (base : ℕ) (bytes : List ℕ) (s t : Status) → IsSlotsAnswer range base bytes s → IsSlotsAnswer range base bytes t →
       s ≡ t

@@ -1,15 +1,15 @@
 -- The instructions of some code, each given a slot in order, and why one gets none.
 use Rattle.std.specs.Prelude.{◌≡◌, ℕ, ◌+◌, List, [], ◌∷◌, ◌++◌, All, length, None, Ok}
 use Rattle.x86_values.specs.declared.Bits.{Bits}
-use Rattle.x86_values.specs.Wrapping.{wrapped}
+use Rattle.x86_values.specs.Wrapping.{modulo_width}
 use Rattle.row_relation.specs.Spells.{Reading, Read, TooShort, Invalid}
 use Rattle.opcode_rows.specs.Sweep.{Item, IsSweep}
 use Rattle.move_goals.specs.declared.items.Placed.{Placed}
-use Rattle.code_region.specs.State.{rounded, gaps_of, image_of}
+use Rattle.code_region.specs.State.{len_in_units, gaps_of, region_image}
 use Rattle.code_region.specs.Gaps.{first_gap, longest}
 use Rattle.code_region.specs.Placing.{place_answer}
 use Rattle.command_words.specs.Ranges.{Range}
-use Rattle.step_slots.specs.Block.{IsOutOfReach, reserved}
+use Rattle.step_slots.specs.Block.{IsOutOfReach, reserved_room}
 use Rattle.step_slots.specs.State.{SlotState, no_slots}
 use Rattle.step_slots.specs.Stepping.{IsStepped}
 use Rattle.step_slots.specs.Holding.{AreApart, HoldsSlots}
@@ -21,7 +21,7 @@ use Rattle.moving_run.specs.Code.{IsInstruction}
 
 -- an instruction of the sweep with its own address, which wraps in the mode
 abbrev pub slotted_by : Bits → ℕ → ℕ → Reading → List Placed
-slotted_by bits base offset (Read d) = record { ip = wrapped bits (base + offset); len = d.len; instr = d.instr } ∷ []
+slotted_by bits base offset (Read d) = record { ip = modulo_width bits (base + offset); len = d.len; instr = d.instr } ∷ []
 slotted_by bits base offset TooShort = []
 slotted_by bits base offset Invalid = []
 
@@ -44,14 +44,14 @@ AreSlotted old (item ∷ items) new =
 
 -- no gap has the rounded length that is reserved for an instruction: that length, and the longest gap
 pub record HasNoGap (state : SlotState) (item : Placed) (len largest : ℕ) : Type 0 where
-  pub missing : first_gap (rounded (reserved state.bits state.region.base item)) (gaps_of state.region) ≡ None
-  pub len_is : len ≡ rounded (reserved state.bits state.region.base item)
+  pub missing : first_gap (len_in_units (reserved_room state.bits state.region.base item)) (gaps_of state.region) ≡ None
+  pub len_is : len ≡ len_in_units (reserved_room state.bits state.region.base item)
   pub largest_is : largest ≡ longest (gaps_of state.region)
 
 -- there is a place for an instruction, from which it does not reach its target
 pub record IsTooFarAt (state : SlotState) (item : Placed) (target : ℕ) : Type 0 where
   pub place : ℕ
-  pub placed : place_answer state.region (reserved state.bits state.region.base item) ≡ Ok place
+  pub placed : place_answer state.region (reserved_room state.bits state.region.base item) ≡ Ok place
   pub far : IsOutOfReach state.bits item place target
 
 -- why the instruction of a number gets no slot
@@ -71,7 +71,7 @@ pub record MakesSlots (range : Range) (base : ℕ) (bytes image : List ℕ) : Ty
   pub slotted : AreSlotted (empty_slots range) (slotted_in range.bits base items) state
   pub apart : AreApart state
   pub holds : HoldsSlots state image
-  pub image_is : image ≡ image_of state.region
+  pub image_is : image ≡ region_image state.region
 
 -- the code has instructions alone, and one of them is the first that gets no slot, for a cause that a status tells
 pub record RefusesSlot (range : Range) (base : ℕ) (bytes : List ℕ) (status : Status) : Type 0 where

@@ -6,28 +6,28 @@ use Rattle.run_parts.specs.declared.status.Status.{Status}
 use Rattle.run_parts.specs.declared.status.Status.TheVariants.{Done, BadCode, ReadFault, WriteFault, Memory, TooLarge, TooFar, RegionFull}
 use Rattle.run_parts.specs.Reads.{whole_limit, ReadsAll, ReadsTooMany}
 use Rattle.run_parts.specs.Writing.{HoldsFront}
-use Rattle.moving_run.specs.Code.{StopsAt}
+use Rattle.moving_run.specs.Code.{BlockStopsAt}
 use Rattle.slots_run.specs.Slotted.{MakesSlots, RefusesSlot}
 
 -- a status that tells why some bytes do not all get slots
-abbrev pub IsRefusal : Range → ℕ → List ℕ → Status → Type 0
-IsRefusal range base bytes Memory = Unit {0}
-IsRefusal range base bytes (BadCode offset error) = StopsAt range.bits base bytes offset error
-IsRefusal range base bytes (RegionFull len largest) = RefusesSlot range base bytes (RegionFull len largest)
-IsRefusal range base bytes (TooFar at target) = RefusesSlot range base bytes (TooFar at target)
-IsRefusal range base bytes _ = ⊥
+abbrev pub IsSlotsRefusal : Range → ℕ → List ℕ → Status → Type 0
+IsSlotsRefusal range base bytes Memory = Unit {0}
+IsSlotsRefusal range base bytes (BadCode offset error) = BlockStopsAt range.bits base bytes offset error
+IsSlotsRefusal range base bytes (RegionFull len largest) = RefusesSlot range base bytes (RegionFull len largest)
+IsSlotsRefusal range base bytes (TooFar at target) = RefusesSlot range base bytes (TooFar at target)
+IsSlotsRefusal range base bytes _ = ⊥
 
 -- the answer for some bytes: a status, and an image at Done
 abbrev pub IsSlotsAnswer : Range → ℕ → List ℕ → Status → Type 0
 IsSlotsAnswer range base bytes Done = (image : List ℕ) × MakesSlots range base bytes image
-IsSlotsAnswer range base bytes (BadCode offset error) = StopsAt range.bits base bytes offset error
+IsSlotsAnswer range base bytes (BadCode offset error) = BlockStopsAt range.bits base bytes offset error
 IsSlotsAnswer range base bytes (RegionFull len largest) = RefusesSlot range base bytes (RegionFull len largest)
 IsSlotsAnswer range base bytes (TooFar at target) = RefusesSlot range base bytes (TooFar at target)
 IsSlotsAnswer range base bytes _ = ⊥
 
 -- a refusal of the bytes, after which nothing was written
-abbrev pub RefusesAs : Range → ℕ → Option (List ℕ) → Option (List ℕ) → Option (List ℕ) → Option (List ℕ) → Status → Type 0
-RefusesAs range base left left' held held' status =
+abbrev pub RefusesSlots : Range → ℕ → Option (List ℕ) → Option (List ℕ) → Option (List ℕ) → Option (List ℕ) → Status → Type 0
+RefusesSlots range base left left' held held' status =
     ((bytes : List ℕ) × (ReadsAll whole_limit left left' bytes × IsSlotsAnswer range base bytes status)) × (held' ≡ held)
 
 -- the command by its status: when each may come, and what was written then
@@ -43,11 +43,11 @@ SlotsAs range base left left' held held' source_rose out_rose Memory = held' ≡
 SlotsAs range base left left' held held' source_rose out_rose (TooLarge limit) =
     (limit ≡ whole_limit) × (((bytes : List ℕ) × ReadsTooMany whole_limit left left' bytes) × (held' ≡ held))
 SlotsAs range base left left' held held' source_rose out_rose (BadCode offset error) =
-    RefusesAs range base left left' held held' (BadCode offset error)
+    RefusesSlots range base left left' held held' (BadCode offset error)
 SlotsAs range base left left' held held' source_rose out_rose (RegionFull len largest) =
-    RefusesAs range base left left' held held' (RegionFull len largest)
+    RefusesSlots range base left left' held held' (RegionFull len largest)
 SlotsAs range base left left' held held' source_rose out_rose (TooFar at target) =
-    RefusesAs range base left left' held held' (TooFar at target)
+    RefusesSlots range base left left' held held' (TooFar at target)
 SlotsAs range base left left' held held' source_rose out_rose _ = ⊥
 
 -- The command that meets no fault answers what its bytes say, or wants memory; above the limit it says so, or wants memory.

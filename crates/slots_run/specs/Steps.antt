@@ -12,27 +12,27 @@ use Rattle.run_parts.specs.declared.status.Status.{Status}
 use Rattle.run_parts.specs.declared.status.Status.TheVariants.{Memory, TooFar, RegionFull}
 use Rattle.moving_run.specs.Code.{IsInstruction}
 use Rattle.slots_run.specs.Slotted.{slotted_in, empty_slots, AreSlotted}
-use Rattle.slots_run.specs.Slotting.{IsRefusal}
+use Rattle.slots_run.specs.Slotting.{IsSlotsRefusal}
 
 -- the status that tells why the instruction of a number gets no slot; with as many live slots as there may be no gap is left
-abbrev pub status_of : ℕ → StepError → Status
-status_of number (step_error.Full len largest) = RegionFull len largest
-status_of number (step_error.TooManyBlocks max len) = RegionFull len 0
-status_of number (step_error.TooFar target) = TooFar number target
-status_of number step_error.Memory = Memory
+abbrev pub step_status : ℕ → StepError → Status
+step_status number (step_error.Full len largest) = RegionFull len largest
+step_status number (step_error.TooManyBlocks max len) = RegionFull len 0
+step_status number (step_error.TooFar target) = TooFar number target
+step_status number step_error.Memory = Memory
 
 -- an instruction got a slot, or none for a cause that is told
 abbrev pub IsTried : SlotState → ℕ → Placed → Option Status → SlotState → Type 0
 IsTried old number item None new = (place : ℕ) × IsStepped old item (Ok place) new
-IsTried old number item (Some status) new = (why : StepError) × ((status ≡ status_of number why) × IsStepped old item (Err why) new)
+IsTried old number item (Some status) new = (why : StepError) × ((status ≡ step_status number why) × IsStepped old item (Err why) new)
 
 -- so it is where all before it got slots; behind one that got none nothing is done
-abbrev pub IsNext : SlotState → Option Status → ℕ → Placed → Option Status → SlotState → Type 0
-IsNext old None number item told new = IsTried old number item told new
-IsNext old (Some status) number item told new = (told ≡ Some status) × (new ≡ old)
+abbrev pub IsNextSlot : SlotState → Option Status → ℕ → Placed → Option Status → SlotState → Type 0
+IsNextSlot old None number item told new = IsTried old number item told new
+IsNextSlot old (Some status) number item told new = (told ≡ Some status) × (new ≡ old)
 
 -- the first of some instructions that got no slot, for a cause that a status tells
-pub record IsRefused (old : SlotState) (items : List Placed) (status : Status) : Type 0 where
+pub record IsSlotRefused (old : SlotState) (items : List Placed) (status : Status) : Type 0 where
   pub before : List Placed
   pub first : Placed
   pub behind : List Placed
@@ -45,7 +45,7 @@ pub record IsRefused (old : SlotState) (items : List Placed) (status : Status) :
 -- all of some instructions got slots, or one of them got none
 abbrev pub HasCome : SlotState → List Placed → Option Status → SlotState → Type 0
 HasCome old items None new = AreSlotted old items new
-HasCome old items (Some status) new = IsRefused old items status
+HasCome old items (Some status) new = IsSlotRefused old items status
 
 -- the code has instructions alone, which can be given slots, and each of them was tried as far as that goes
 pub record IsGoneThrough (range : Range) (base : ℕ) (bytes : List ℕ) (refused : Option Status) (new : SlotState) : Type 0 where
@@ -58,4 +58,4 @@ pub record IsGoneThrough (range : Range) (base : ℕ) (bytes : List ℕ) (refuse
 -- what going through the code gives: slots for all instructions, or a status that tells why not
 abbrev pub GoesThrough : Range → ℕ → List ℕ → Result (Unit {0}) Status → SlotState → Type 0
 GoesThrough range base bytes (Ok done) new = IsGoneThrough range base bytes None new
-GoesThrough range base bytes (Err status) new = IsRefusal range base bytes status
+GoesThrough range base bytes (Err status) new = IsSlotsRefusal range base bytes status

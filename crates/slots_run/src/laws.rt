@@ -1,6 +1,6 @@
 //! What holds of all code whose instructions are given slots.
 
-ghost use Rattle.slots_run.specs.Facts.{AnswerFacts};
+ghost use Rattle.slots_run.specs.Facts.{SlotsAnswerFacts};
 
 use branch_sizes::laws::least_is_unique;
 use code_region::laws::places_are_gaps;
@@ -10,7 +10,7 @@ use sweep_text::laws::sweeps_agree;
 /// Some code has one answer: the same refusal, or slots.
 #[inline]
 pub fn code_has_one_answer()
-    ensures { AnswerFacts }
+    ensures { SlotsAnswerFacts }
 {
     least_is_unique();
     places_are_gaps();

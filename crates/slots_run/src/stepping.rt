@@ -17,7 +17,7 @@ use x86_values::wrap;
 
 /// The status that tells why the instruction of this number gets no slot.
 fn status_of(number: u64, why: StepError) -> Status
-    ensures { result ≡ spec.status_of number why }
+    ensures { result ≡ spec.step_status number why }
 {
     match why {
         StepError::Full { len, largest } => Status::RegionFull { len, largest },
@@ -36,7 +36,7 @@ fn step_next(
     item: Placed,
 ) -> Option<Status>
     requires { IsPlaced slots.old.bits item }
-    ensures { spec.IsNext slots.old refused number item result slots.new }
+    ensures { spec.IsNextSlot slots.old refused number item result slots.new }
 {
     if refused.is_some() {
         return refused;

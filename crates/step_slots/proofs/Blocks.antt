@@ -5,18 +5,18 @@ use Rattle.std.proofs.lemmas.Bool.{cases_Bool, eqb-true, lt-ltb, le-ltb, ltb-tru
 use Rattle.x86_values.specs.declared.Bits.{Bits}
 use Rattle.x86_values.specs.Wrapping.{width}
 use Rattle.move_goals.specs.declared.items.Placed.{Placed}
-use Rattle.code_region.specs.State.{LiveBlock, RegionState, int3, rounded, image_of}
+use Rattle.code_region.specs.State.{LiveBlock, RegionState, int3, len_in_units, region_image}
 use Rattle.code_region.specs.declared.refusals.NotTaken.{NotTaken}
-use Rattle.code_region.specs.Opening.{is_bad_size, is_bad_room, opened}
-use Rattle.code_region.specs.Placing.{place_answer, with_block, unfilled, placed}
-use Rattle.code_region.specs.Releasing.{release_answer, released}
-use Rattle.code_region.specs.Filling.{with_content, filled}
+use Rattle.code_region.specs.Opening.{is_bad_size, is_bad_room, empty_region}
+use Rattle.code_region.specs.Placing.{place_answer, with_block, unfilled_block, after_place}
+use Rattle.code_region.specs.Releasing.{release_answer, after_release}
+use Rattle.code_region.specs.Filling.{with_content, after_fill}
 use Rattle.code_region.specs.Keeping.{AreLaid, IsSound}
 use Rattle.code_region.specs.Laws.{AreInUnits, HoldsContents}
 use Rattle.step_slots.specs.declared.slots.StepSlot.{StepSlot}
-use Rattle.step_slots.specs.Block.{IsStepBlock, reserved}
+use Rattle.step_slots.specs.Block.{IsStepBlock, reserved_room}
 use Rattle.step_slots.specs.State.{SlotState, with_slot}
-use Rattle.step_slots.specs.Stepping.{slots_refusal, without_slot, finished}
+use Rattle.step_slots.specs.Stepping.{slots_refusal, without_slot, after_finish}
 use Rattle.step_slots.specs.Holding.{AreApart, HoldsSlots}
 use Rattle.step_slots.specs.Keeping.{IsBlockOf, AreBlocksOf, AreKept, AreAscending, StandsAt, no_slot}
 use Rattle.step_slots.specs.LawsBelow.{LawsBelow}
@@ -121,7 +121,7 @@ module _ (laws : LawsBelow) (bits : Bits) (region : RegionState) (slots : List S
   kept-units = λ k d h.
       let count = blocks-count bits region.base slots region.live kept.blocks in
       let is = blocks-at bits region.base slots region.live k no_slot d kept.blocks (omega (arith, count, h)) in
-      (is.units, subst (λ (n : ℕ). n % 16 ≡ 0) (sym is.len) (laws.places.rounded-units (reserved bits region.base (get_or slots k no_slot).item)))
+      (is.units, subst (λ (n : ℕ). n % 16 ≡ 0) (sym is.len) (laws.places.rounded-units (reserved_room bits region.base (get_or slots k no_slot).item)))
 
   pub kept-ascend : AreAscending 0 slots
   kept-ascend = lower region.base slots (blocks-ascend bits region.base region.base (region.base + region.size) slots region.live kept.blocks kept.sound)
@@ -131,11 +131,11 @@ module _ (laws : LawsBelow) (bits : Bits) (region : RegionState) (slots : List S
       lower high (s ∷ rest) h = (omega arith, h.1)
 
   -- a step
-  module _ (item : Placed) (place : ℕ) (e : place_answer region (reserved bits region.base item) ≡ Ok place) (bytes : List ℕ)
-      (fits : length bytes ≤ rounded (reserved bits region.base item)) (is : IsStepBlock bits item place bytes) where
+  module _ (item : Placed) (place : ℕ) (e : place_answer region (reserved_room bits region.base item) ≡ Ok place) (bytes : List ℕ)
+      (fits : length bytes ≤ len_in_units (reserved_room bits region.base item)) (is : IsStepBlock bits item place bytes) where
     pub step-room : length slots < room
     step-room =
-        let many = placed-room laws region (reserved bits region.base item) place kept.sound e in
+        let many = placed-room laws region (reserved_room bits region.base item) place kept.sound e in
         let count = blocks-count bits region.base slots region.live kept.blocks in
         below (length region.live) region.max_blocks many (omega (arith, count, kept.few)) (omega (arith, count)) kept.roomy
       where
@@ -146,13 +146,13 @@ module _ (laws : LawsBelow) (bits : Bits) (region : RegionState) (slots : List S
         ]
 
     pub step-kept : (more : ℕ) → room ≤ more
-        → AreKept bits (filled (placed region (reserved bits region.base item)) place bytes) (with_slot (record { place = place; item = item }) slots) more
+        → AreKept bits (after_fill (after_place region (reserved_room bits region.base item)) place bytes) (with_slot (record { place = place; item = item }) slots) more
     step-kept more roomy =
-        let len = reserved bits region.base item in
-        let block = with_content bytes (unfilled place (rounded len)) in
+        let len = reserved_room bits region.base item in
+        let block = with_content bytes (unfilled_block place (len_in_units len)) in
         let unit = laws.places.place-units region len place kept.sound kept-units e in
         let now : RegionState = record region { live = with_block block region.live } in
-        let same : filled (placed region len) place bytes ≡ now = filled-is laws region len place kept.sound e bytes fits in
+        let same : after_fill (after_place region len) place bytes ≡ now = filled-is laws region len place kept.sound e bytes fits in
         let many = placed-room laws region len place kept.sound e in
         let count = blocks-count bits region.base slots region.live kept.blocks in
         let sound_now : IsSound now = subst IsSound same (filled-sound laws region len place kept.sound e bytes fits) in
@@ -184,8 +184,8 @@ module _ (laws : LawsBelow) (bits : Bits) (region : RegionState) (slots : List S
         ]
 
   -- a finish
-  pub finish-kept : (place : ℕ) → AreKept bits (released region place) (without_slot place slots) room
-  unfolding released
+  pub finish-kept : (place : ℕ) → AreKept bits (after_release region place) (without_slot place slots) room
+  unfolding after_release
   finish-kept place = record {
     inside = kept.inside;
     sound = laws.regions.released-sound region place kept.sound;
@@ -208,24 +208,24 @@ module _ (laws : LawsBelow) (bits : Bits) (region : RegionState) (slots : List S
       let found = release-found region place e in
       blocks-stand bits region.base place found.0 slots region.live kept.blocks found.1
 
-  pub finish-made : (place : ℕ) (new : RegionState) → new ≡ released region place → (left : List StepSlot) → left ≡ without_slot place slots
+  pub finish-made : (place : ℕ) (new : RegionState) → new ≡ after_release region place → (left : List StepSlot) → left ≡ without_slot place slots
       → (more : ℕ) → more ≡ room → (base : ℕ) → base ≡ region.base → (base ≡ new.base) × AreKept bits new left more
-  unfolding released
+  unfolding after_release
   finish-made place new is left same more full base at = (
     at ∙ sym (ap (λ (r : RegionState). r.base) is),
     subst (λ (r : RegionState). AreKept bits r left more) (sym is)
-        (subst (λ (xs : List StepSlot). AreKept bits (released region place) xs more) (sym same)
-        (subst (λ (n : ℕ). AreKept bits (released region place) (without_slot place slots) n) (sym full) (finish-kept place))),
+        (subst (λ (xs : List StepSlot). AreKept bits (after_release region place) xs more) (sym same)
+        (subst (λ (n : ℕ). AreKept bits (after_release region place) (without_slot place slots) n) (sym full) (finish-kept place))),
   )
 
-  pub finish-refused : (place : ℕ) (why : NotTaken) → release_answer region place ≡ Err why → (new : RegionState) → new ≡ released region place
+  pub finish-refused : (place : ℕ) (why : NotTaken) → release_answer region place ≡ Err why → (new : RegionState) → new ≡ after_release region place
       → (now : SlotState) → record { bits = bits; region = region; slots = slots } ≡ now
-      → record { bits = bits; region = new; slots = slots } ≡ finished now place
+      → record { bits = bits; region = new; slots = slots } ≡ after_finish now place
   finish-refused place why e new is now same =
       let left : without_slot place slots ≡ slots = blocks-none bits region.base place slots region.live kept.blocks (release-none region place why e) in
       let with_region : RegionState → SlotState = λ (r : RegionState). record { bits = bits; region = r; slots = slots } in
-      let with_slots : List StepSlot → SlotState = λ (xs : List StepSlot). record { bits = bits; region = released region place; slots = xs } in
-      ap with_region is ∙ (ap with_slots (sym left) ∙ ap (λ (s : SlotState). finished s place) same)
+      let with_slots : List StepSlot → SlotState = λ (xs : List StepSlot). record { bits = bits; region = after_release region place; slots = xs } in
+      ap with_region is ∙ (ap with_slots (sym left) ∙ ap (λ (s : SlotState). after_finish s place) same)
 
   -- ---- what is seen
 
@@ -247,7 +247,7 @@ module _ (laws : LawsBelow) (bits : Bits) (region : RegionState) (slots : List S
       no_block : LiveBlock
       no_block = record { place = 0; len = 0; content = [] }
 
-  pub kept-holds : HoldsSlots (record { bits = bits; region = region; slots = slots }) (image_of region)
+  pub kept-holds : HoldsSlots (record { bits = bits; region = region; slots = slots }) (region_image region)
   kept-holds = record {
     blocks = λ k d lt.
         let count = blocks-count bits region.base slots region.live kept.blocks in
@@ -256,8 +256,8 @@ module _ (laws : LawsBelow) (bits : Bits) (region : RegionState) (slots : List S
           is.bytes,
           (
             is.is_block,
-            ap (λ (n : ℕ). take n (drop ((get_or slots k d).place - region.base) (image_of region))) (sym is.len)
-                ∙ (ap (λ (n : ℕ). take (get_or region.live k no_block).len (drop (n - region.base) (image_of region))) (sym is.place)
+            ap (λ (n : ℕ). take n (drop ((get_or slots k d).place - region.base) (region_image region))) (sym is.len)
+                ∙ (ap (λ (n : ℕ). take (get_or region.live k no_block).len (drop (n - region.base) (region_image region))) (sym is.place)
                 ∙ (there ∙ (is.content ∙ ap (λ (n : ℕ). is.bytes ++ replicate (n - length is.bytes) int3) is.len))),
           ),
         );
@@ -275,13 +275,13 @@ module _ (laws : LawsBelow) (bits : Bits) (region : RegionState) (slots : List S
       no_block : LiveBlock
       no_block = record { place = 0; len = 0; content = [] }
 
-      holds : HoldsContents region (image_of region)
+      holds : HoldsContents region (region_image region)
       holds = laws.regions.contents region kept.sound
 
   pub kept-seen : (now : SlotState) → record { bits = bits; region = region; slots = slots } ≡ now → AreApart now
   kept-seen now e = subst AreApart e kept-apart
 
-  pub kept-image : (now : SlotState) → record { bits = bits; region = region; slots = slots } ≡ now → (image : List ℕ) → image ≡ image_of region → HoldsSlots now image
+  pub kept-image : (now : SlotState) → record { bits = bits; region = region; slots = slots } ≡ now → (image : List ℕ) → image ≡ region_image region → HoldsSlots now image
   kept-image now e image is = subst (λ (s : SlotState). HoldsSlots s image) e (subst (HoldsSlots (record { bits = bits; region = region; slots = slots })) (sym is) kept-holds)
 
 -- ---- no slots
@@ -300,11 +300,11 @@ inside-made bits base size max none =
       ]
     ]
 
-pub kept-made : (laws : LawsBelow) (bits : Bits) (base size max : ℕ) → slots_refusal bits base size max ≡ None → (region : RegionState) → region ≡ opened base size max
+pub kept-made : (laws : LawsBelow) (bits : Bits) (base size max : ℕ) → slots_refusal bits base size max ≡ None → (region : RegionState) → region ≡ empty_region base size max
     → (slots : List StepSlot) → slots ≡ [] → (room : ℕ) → max ≤ room → AreKept bits region slots room
 kept-made laws bits base size max none region is slots no_slots room roomy =
     subst (λ (r : RegionState). AreKept bits r slots room) (sym is)
-    (subst (λ (xs : List StepSlot). AreKept bits (opened base size max) xs room) (sym no_slots) (record {
+    (subst (λ (xs : List StepSlot). AreKept bits (empty_region base size max) xs room) (sym no_slots) (record {
       inside = inside-made bits base size max none;
       sound = laws.regions.opened-sound base size max;
       blocks = tt;

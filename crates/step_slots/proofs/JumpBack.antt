@@ -6,7 +6,7 @@ use Rattle.std.proofs.lemmas.Bool.{lt-ltb}
 use Rattle.x86_values.specs.declared.Bits.{Bits}
 use Rattle.x86_values.specs.declared.Bits.TheVariants.{B16, B32, B64}
 use Rattle.x86_values.specs.declared.Instr.{Instr}
-use Rattle.x86_values.specs.Wrapping.{width, wrapped}
+use Rattle.x86_values.specs.Wrapping.{width, modulo_width}
 use Rattle.row_types.specs.declared.Row.{Row}
 use Rattle.row_types.specs.declared.Map.TheVariants.{One}
 use Rattle.row_types.specs.declared.OpKind.TheVariants.{Jz}
@@ -146,24 +146,24 @@ module _ (laws : LawsBelow) where
   jump-size B32 t = let e = laws.pieces.near_jump-length B32 B32 t in (omega (arith, e), omega (arith, e))
   jump-size B64 t = let e = laws.pieces.near_jump-length B64 B64 t in (omega (arith, e), omega (arith, e))
 
-  row-encoded : (bits : Bits) (at : ℕ) (row : Row) (i : Instr) → slice_get table i.code.0 ≡ Some row → Suits bits (wrapped bits at) row i → plain_length bits i ≤ 15
+  row-encoded : (bits : Bits) (at : ℕ) (row : Row) (i : Instr) → slice_get table i.code.0 ≡ Some row → Suits bits (modulo_width bits at) row i → plain_length bits i ≤ 15
       → IsEncodedIn bits at i
   row-encoded bits at row i there suits short =
       let l = laws.targets.plain_length-row bits i row there in
-      (bytes_of row (plain_spelling bits (wrapped bits at) row i), laws.encodings.suits-encoded bits at row i there suits (omega (arith, l, short)))
+      (bytes_of row (plain_spelling bits (modulo_width bits at) row i), laws.encodings.suits-encoded bits at row i there suits (omega (arith, l, short)))
 
   -- **outside 64-bit mode the jump is encoded at every address**
   jump-encoded-16 : (at t : ℕ) → t < 2 ^ 16 → IsEncodedIn B16 at (jump_to B16 t)
   unfolding jump_to
   jump-encoded-16 at t below =
       row-encoded B16 at (offset_row One 0xE9 Jz 20 B16) (branch_to (near_code Jump B16) None t) (ap (slice_get table) (branch_to-code B16 t) ∙ laws.codes.near-jump B16)
-      (suits-16 t (wrapped B16 at) below) (let e = laws.pieces.near_jump-length B16 B16 t in omega (arith, e))
+      (suits-16 t (modulo_width B16 at) below) (let e = laws.pieces.near_jump-length B16 B16 t in omega (arith, e))
 
   jump-encoded-32 : (at t : ℕ) → t < 2 ^ 32 → IsEncodedIn B32 at (jump_to B32 t)
   unfolding jump_to
   jump-encoded-32 at t below =
       row-encoded B32 at (offset_row One 0xE9 Jz 20 B32) (branch_to (near_code Jump B32) None t) (ap (slice_get table) (branch_to-code B32 t) ∙ laws.codes.near-jump B32)
-      (suits-32 t (wrapped B32 at) below) (let e = laws.pieces.near_jump-length B32 B32 t in omega (arith, e))
+      (suits-32 t (modulo_width B32 at) below) (let e = laws.pieces.near_jump-length B32 B32 t in omega (arith, e))
 
   jump-encoded-64 : (t : ℕ) → t < 2 ^ 64 → IsEncodedIn B64 t (jump_to B64 t)
   unfolding jump_to distance
@@ -189,7 +189,7 @@ module _ (laws : LawsBelow) where
         some = some;
         few = few;
         bytes = e.0;
-        spelled = laws.encodings.plain-spells bits (wrapped bits t) e.0 (jump_to bits t) (laws.encodings.encoded-plain bits t (jump_to bits t) e.0 (jump-four bits t) e.1);
+        spelled = laws.encodings.plain-spells bits (modulo_width bits t) e.0 (jump_to bits t) (laws.encodings.encoded-plain bits t (jump_to bits t) e.0 (jump-four bits t) e.1);
       }
 
   pub jump-length : (bits : Bits) (t : ℕ) → (1 ≤ plain_length bits (jump_to bits t)) × (plain_length bits (jump_to bits t) ≤ 15)

@@ -6,11 +6,11 @@ use Rattle.code_region.specs.declared.gaps.Span.{Span}
 use Rattle.code_region.specs.declared.refusals.NotTaken.{NotTaken}
 use Rattle.code_region.specs.declared.refusals.PlaceError.{PlaceError}
 use Rattle.code_region.specs.declared.refusals.PlaceError.TheVariants.{Empty}
-use Rattle.code_region.specs.State.{LiveBlock, RegionState, rounded, gaps_of, live_block}
+use Rattle.code_region.specs.State.{LiveBlock, RegionState, len_in_units, gaps_of, live_block}
 use Rattle.code_region.specs.Gaps.{first_gap, longest}
-use Rattle.code_region.specs.Placing.{front_of, place_answer, with_block, unfilled, placed_as, placed}
+use Rattle.code_region.specs.Placing.{place_in_gap, place_answer, with_block, unfilled_block, placed_as, after_place}
 use Rattle.code_region.specs.Releasing.{release_of, release_answer}
-use Rattle.code_region.specs.Filling.{with_content, holds, can_fill, filled}
+use Rattle.code_region.specs.Filling.{with_content, block_holds, can_fill, after_fill}
 use Rattle.code_region.specs.Keeping.{IsSound}
 use Rattle.step_slots.specs.LawsBelow.{LawsBelow}
 
@@ -60,30 +60,30 @@ module _ (laws : LawsBelow) (state : RegionState) (len place : ℕ) (sound : IsS
   unfolding live_block
   placed-none = none-at place state.live (laws.places.place-free state len place sound e)
 
-  placed-is : placed state len ≡ record state { live = with_block (unfilled place (rounded len)) state.live }
-  unfolding placed
+  placed-is : after_place state len ≡ record state { live = with_block (unfilled_block place (len_in_units len)) state.live }
+  unfolding after_place
   placed-is = ap (λ (a : Result ℕ PlaceError). placed_as a state len) e
 
-  pub placed-can_fill : (n : ℕ) → n ≤ rounded len → IsTrue (can_fill (placed state len) place n)
+  pub placed-can_fill : (n : ℕ) → n ≤ len_in_units len → IsTrue (can_fill (after_place state len) place n)
   unfolding can_fill live_block
   placed-can_fill n le =
-      let P : RegionState → Type 0 = λ s. IsTrue (holds (find (λ b. nat_eq b.place place) s.live) n) in
-      let Q : Option LiveBlock → Type 0 = λ o. IsTrue (holds o n) in
+      let P : RegionState → Type 0 = λ s. IsTrue (block_holds (find (λ b. nat_eq b.place place) s.live) n) in
+      let Q : Option LiveBlock → Type 0 = λ o. IsTrue (block_holds o n) in
       subst P (sym placed-is)
-      (subst Q (sym (find-put (unfilled place (rounded len)) place state.live refl placed-none)) (le-leb n (rounded len) le))
+      (subst Q (sym (find-put (unfilled_block place (len_in_units len)) place state.live refl placed-none)) (le-leb n (len_in_units len) le))
 
-  module _ (bytes : List ℕ) (fits : length bytes ≤ rounded len) where
+  module _ (bytes : List ℕ) (fits : length bytes ≤ len_in_units len) where
     -- the region with the block filled
-    pub filled-is : filled (placed state len) place bytes
-        ≡ record state { live = with_block (with_content bytes (unfilled place (rounded len))) state.live }
-    unfolding filled
+    pub filled-is : after_fill (after_place state len) place bytes
+        ≡ record state { live = with_block (with_content bytes (unfilled_block place (len_in_units len))) state.live }
+    unfolding after_fill
     filled-is =
         let with_live : List LiveBlock → RegionState = λ live. record state { live = live } in
-        ap (λ (s : RegionState). filled s place bytes) placed-is
-        ∙ ap with_live (fill-put (unfilled place (rounded len)) place bytes state.live refl placed-none)
+        ap (λ (s : RegionState). after_fill s place bytes) placed-is
+        ∙ ap with_live (fill-put (unfilled_block place (len_in_units len)) place bytes state.live refl placed-none)
 
-    pub filled-sound : IsSound (filled (placed state len) place bytes)
-    filled-sound = laws.regions.filled-sound (placed state len) place bytes (laws.regions.placed-sound state len sound) (placed-can_fill (length bytes) fits)
+    pub filled-sound : IsSound (after_fill (after_place state len) place bytes)
+    filled-sound = laws.regions.filled-sound (after_place state len) place bytes (laws.regions.placed-sound state len sound) (placed-can_fill (length bytes) fits)
 
   -- it is handed out where there is room
   pub placed-room : (length state.live ≡ state.max_blocks → ⊥)
@@ -96,7 +96,7 @@ module _ (laws : LawsBelow) (state : RegionState) (len place : ℕ) (sound : IsS
             absurd cc)
       ]
 
-front-not_empty : (o : Option Span) (n m : ℕ) → front_of o n m ≡ Err Empty → ⊥
+front-not_empty : (o : Option Span) (n m : ℕ) → place_in_gap o n m ≡ Err Empty → ⊥
 front-not_empty None n m e = cc
 front-not_empty (Some gap) n m e = cc
 
@@ -109,7 +109,7 @@ answer-not_empty state len some e =
         | inl all_live ↦ (let f = rw (some_len, all_live) at e in absurd cc)
         | inr room ↦ (
             let f = rw (some_len, room) at e in
-            front-not_empty (first_gap (rounded len) (gaps_of state)) (rounded len) (longest (gaps_of state)) f)
+            front-not_empty (first_gap (len_in_units len) (gaps_of state)) (len_in_units len) (longest (gaps_of state)) f)
       ]
     ]
 

@@ -3,11 +3,11 @@ use Rattle.std.proofs.Common.{◌≡◌, ℕ, ◌≤◌, ◌<◌, List, length, 
 use Rattle.x86_values.specs.declared.Bits.{Bits}
 use Rattle.move_goals.specs.declared.items.Placed.{Placed}
 use Rattle.move_goals.specs.Items.{IsPlaced}
-use Rattle.code_region.specs.State.{RegionState, rounded}
-use Rattle.code_region.specs.Placing.{placed}
-use Rattle.code_region.specs.Filling.{filled}
+use Rattle.code_region.specs.State.{RegionState, len_in_units}
+use Rattle.code_region.specs.Placing.{after_place}
+use Rattle.code_region.specs.Filling.{after_fill}
 use Rattle.step_slots.specs.declared.slots.StepSlot.{StepSlot}
-use Rattle.step_slots.specs.Block.{reserved}
+use Rattle.step_slots.specs.Block.{reserved_room}
 use Rattle.step_slots.specs.State.{with_slot}
 use Rattle.step_slots.specs.Stepping.{IsBlockStepped}
 use Rattle.step_slots.specs.Keeping.{AreKept}
@@ -19,7 +19,7 @@ use Rattle.step_slots.proofs.Blocks.{kept-units, step-room, step-kept}
 module _ (laws : LawsBelow) where
   module _ (bits : Bits) (region : RegionState) (slots : List StepSlot) (room : ℕ) (kept : AreKept bits region slots room) (item : Placed)
       (spelled : IsPlaced bits item) (place : ℕ) (new : RegionState) (stepped : IsBlockStepped bits region item (Ok place) new) where
-    stepped-fits : length stepped.1.0 ≤ rounded (reserved bits region.base item)
+    stepped-fits : length stepped.1.0 ≤ len_in_units (reserved_room bits region.base item)
     stepped-fits =
         let block = stepped.1.1.0 in
         let le = block-fits laws bits item spelled region kept.inside kept.sound (kept-units laws bits region slots room kept) place stepped.0 block.0 block.1.0 in
@@ -34,11 +34,11 @@ module _ (laws : LawsBelow) where
     pub stepped-made : (more : ℕ) → room ≤ more → (made : List StepSlot) → made ≡ with_slot (record { place = place; item = item }) slots
         → (base : ℕ) → base ≡ region.base → (base ≡ new.base) × AreKept bits new made more
     stepped-made more roomy made same base at =
-        let len = reserved bits region.base item in
-        let is : new ≡ filled (placed region len) place stepped.1.0 = stepped.1.1.1 in
+        let len = reserved_room bits region.base item in
+        let is : new ≡ after_fill (after_place region len) place stepped.1.0 = stepped.1.1.1 in
         let now = filled-is laws region len place kept.sound stepped.0 stepped.1.0 stepped-fits in (
           at ∙ sym (ap (λ (r : RegionState). r.base) (is ∙ now)),
           subst (λ (r : RegionState). AreKept bits r made more) (sym is)
-              (subst (λ (xs : List StepSlot). AreKept bits (filled (placed region len) place stepped.1.0) xs more) (sym same)
+              (subst (λ (xs : List StepSlot). AreKept bits (after_fill (after_place region len) place stepped.1.0) xs more) (sym same)
               (step-kept laws bits region slots room kept item place stepped.0 stepped.1.0 stepped-fits stepped.1.1.0 more roomy)),
         )

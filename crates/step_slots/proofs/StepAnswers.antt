@@ -12,20 +12,20 @@ use Rattle.block_encoder.specs.ByPlan.{IsOutsideAnswer}
 use Rattle.block_encoder.specs.Last.{last_len}
 use Rattle.code_region.specs.declared.refusals.PlaceError.{PlaceError}
 use Rattle.code_region.specs.declared.refusals.PlaceError.TheVariants as place_error
-use Rattle.code_region.specs.State.{RegionState, rounded}
-use Rattle.code_region.specs.Placing.{place_answer, placed}
-use Rattle.code_region.specs.Releasing.{released}
-use Rattle.code_region.specs.Filling.{filled, can_fill}
+use Rattle.code_region.specs.State.{RegionState, len_in_units}
+use Rattle.code_region.specs.Placing.{place_answer, after_place}
+use Rattle.code_region.specs.Releasing.{after_release}
+use Rattle.code_region.specs.Filling.{after_fill, can_fill}
 use Rattle.code_region.specs.Keeping.{IsSound}
 use Rattle.code_region.specs.Laws.{AreInUnits}
-use Rattle.step_slots.specs.Block.{step_items, reserved}
+use Rattle.step_slots.specs.Block.{step_items, reserved_room}
 use Rattle.step_slots.specs.Stepping.{IsBlockStepped, IsOfLength, IsOfReach, place_refusal_of, move_refusal_of}
 use Rattle.step_slots.specs.LawsBelow.{LawsBelow}
 use Rattle.step_slots.proofs.Region.{answer-not_empty, placed-can_fill}
 use Rattle.step_slots.proofs.Stepped.{step-placed, reserved-some, block-fits, never-passes, only-first}
 
 pub reserved-is : (bits : Bits) (item : Placed) (region : RegionState) (base : ℕ) → base ≡ region.base → (items : List Placed) → items ≡ step_items bits item
-    → (len : ℕ) → len ≡ last_len bits items base → len ≡ reserved bits region.base item
+    → (len : ℕ) → len ≡ last_len bits items base → len ≡ reserved_room bits region.base item
 reserved-is bits item region base at items are len is =
     is ∙ (ap (λ (xs : List Placed). last_len bits xs base) are ∙ ap (λ (b : ℕ). last_len bits (step_items bits item) b) at)
 
@@ -44,19 +44,19 @@ module _ (laws : LawsBelow) where
   items-placed bits item spelled items are = subst (ArePlaced bits) (sym are) (step-placed laws bits item spelled)
 
   module _ (bits : Bits) (item : Placed) (spelled : IsPlaced bits item) (region : RegionState) where
-    pub length-refusal : (why : PlaceError) → place_answer region (reserved bits region.base item) ≡ Err why → IsOfLength why
-    length-refusal place_error.Empty e = answer-not_empty region (reserved bits region.base item) (reserved-some laws bits item spelled region.base) e
+    pub length-refusal : (why : PlaceError) → place_answer region (reserved_room bits region.base item) ≡ Err why → IsOfLength why
+    length-refusal place_error.Empty e = answer-not_empty region (reserved_room bits region.base item) (reserved-some laws bits item spelled region.base) e
     length-refusal (place_error.TooManyBlocks max) e = tt
     length-refusal (place_error.Full len largest) e = tt
 
-    pub no-place : (why : PlaceError) (len : ℕ) → len ≡ rounded (reserved bits region.base item) → place_answer region (reserved bits region.base item) ≡ Err why
+    pub no-place : (why : PlaceError) (len : ℕ) → len ≡ len_in_units (reserved_room bits region.base item) → place_answer region (reserved_room bits region.base item) ≡ Err why
         → (new : RegionState) → new ≡ region → IsBlockStepped bits region item (Err (place_refusal_of why len)) new
     no-place place_error.Empty len l e new same = same
     no-place (place_error.TooManyBlocks max) len l e new same = ((e, l), same)
     no-place (place_error.Full n largest) len l e new same = (e, same)
 
     module _ (inside : region.base + region.size ≤ 2 ^ width bits) (sound : IsSound region) (units : AreInUnits region) (place : ℕ)
-        (e : place_answer region (reserved bits region.base item) ≡ Ok place) where
+        (e : place_answer region (reserved_room bits region.base item) ≡ Ok place) where
       pub reach-refusal : (why : MoveError) → IsOutsideAnswer bits (step_items bits item) place (Err why) → IsOfReach why
       reach-refusal Memory h = tt
       reach-refusal (TooMany n) h = let many = h.0 in absurd (omega (arith, many))
@@ -73,23 +73,23 @@ module _ (laws : LawsBelow) where
       not-moved (TooFar at target) h new same =
           ((place, (e, only-first laws bits item spelled region inside sound units place e at target h.1)), same)
 
-      pub moved-fits : (m : MovedLists) → IsOutsideAnswer bits (step_items bits item) place (Ok m) → length m.bytes ≤ rounded (reserved bits region.base item)
+      pub moved-fits : (m : MovedLists) → IsOutsideAnswer bits (step_items bits item) place (Ok m) → length m.bytes ≤ len_in_units (reserved_room bits region.base item)
       moved-fits m h = block-fits laws bits item spelled region inside sound units place e m h.1
 
       -- so they can be filled in
       pub moved-can_fill : (m : MovedLists) → IsOutsideAnswer bits (step_items bits item) place (Ok m) → (now : RegionState)
-          → now ≡ placed region (reserved bits region.base item) → (bytes : List ℕ) → bytes ≡ m.bytes → IsTrue (can_fill now place (length bytes))
+          → now ≡ after_place region (reserved_room bits region.base item) → (bytes : List ℕ) → bytes ≡ m.bytes → IsTrue (can_fill now place (length bytes))
       moved-can_fill m h now is bytes same =
           let fits = moved-fits m h in
           let long = ap length same in
           subst (λ (r : RegionState). IsTrue (can_fill r place (length bytes))) (sym is)
-          (placed-can_fill laws region (reserved bits region.base item) place sound e (length bytes) (omega (arith, fits, long)))
+          (placed-can_fill laws region (reserved_room bits region.base item) place sound e (length bytes) (omega (arith, fits, long)))
 
       -- a place that is given back leaves the region as it was
-      pub given-back : (now : RegionState) → now ≡ placed region (reserved bits region.base item) → (new : RegionState) → new ≡ released now place → new ≡ region
+      pub given-back : (now : RegionState) → now ≡ after_place region (reserved_room bits region.base item) → (new : RegionState) → new ≡ after_release now place → new ≡ region
       given-back now is new same =
-          same ∙ (ap (λ (r : RegionState). released r place) is ∙ (laws.regions.restores region (reserved bits region.base item) place sound e).blocks)
+          same ∙ (ap (λ (r : RegionState). after_release r place) is ∙ (laws.regions.restores region (reserved_room bits region.base item) place sound e).blocks)
 
       pub moved-steps : (m : MovedLists) → IsOutsideAnswer bits (step_items bits item) place (Ok m) → (new : RegionState)
-          → new ≡ filled (placed region (reserved bits region.base item)) place m.bytes → IsBlockStepped bits region item (Ok place) new
+          → new ≡ after_fill (after_place region (reserved_room bits region.base item)) place m.bytes → IsBlockStepped bits region item (Ok place) new
       moved-steps m h new is = (e, (m.bytes, ((m, (h.1, refl)), is)))

@@ -12,11 +12,11 @@ use Rattle.move_layout.specs.Laid.{new_end}
 use Rattle.block_encoder.specs.Moved.{MovedLists}
 use Rattle.block_encoder.specs.ByPlan.{IsMovedBy, IsPassBy, IsTooFarBy}
 use Rattle.block_encoder.specs.Last.{last_layout, last_len}
-use Rattle.code_region.specs.State.{RegionState, rounded}
+use Rattle.code_region.specs.State.{RegionState, len_in_units}
 use Rattle.code_region.specs.Placing.{place_answer}
 use Rattle.code_region.specs.Keeping.{IsSound}
 use Rattle.code_region.specs.Laws.{AreInUnits}
-use Rattle.step_slots.specs.Block.{back_address, step_items, step_plan, IsOutOfReach, reserved}
+use Rattle.step_slots.specs.Block.{back_address, step_items, step_plan, IsOutOfReach, reserved_room}
 use Rattle.step_slots.specs.LawsBelow.{LawsBelow}
 use Rattle.step_slots.proofs.JumpBack.{jump-placed, jump-length, jump-reached}
 
@@ -27,12 +27,12 @@ back-below B64 item = omega arith
 
 -- ---- lengths
 
-pub rounded-above : (n : ℕ) → n ≤ 53 → n ≤ rounded n
-unfolding rounded
+pub rounded-above : (n : ℕ) → n ≤ 53 → n ≤ len_in_units n
+unfolding len_in_units
 rounded-above n le = rw (le-leb n (2 ^ 64 - 16) (omega (arith, le))) (omega arith)
 
-pub rounded-is : (n m : ℕ) → n ≤ 53 → m ≡ (n + 15) / 16 * 16 → m ≡ rounded n
-unfolding rounded
+pub rounded-is : (n m : ℕ) → n ≤ 53 → m ≡ (n + 15) / 16 * 16 → m ≡ len_in_units n
+unfolding len_in_units
 rounded-is n m le e = rw (le-leb n (2 ^ 64 - 16) (omega (arith, le))) e
 
 -- ---- at a place
@@ -58,27 +58,27 @@ module _ (laws : LawsBelow) where
   step-placed bits item placed (suc (suc k)) lt = absurd (omega arith)
 
   module _ (bits : Bits) (item : Placed) (placed : IsPlaced bits item) where
-    pub reserved-some : (base : ℕ) → 0 < reserved bits base item
+    pub reserved-some : (base : ℕ) → 0 < reserved_room bits base item
     reserved-some base = laws.last.last-some bits (step_items bits item) base (step-placed bits item placed) (omega arith) (omega arith)
 
-    pub reserved-short : (base : ℕ) → reserved bits base item ≤ 53
+    pub reserved-short : (base : ℕ) → reserved_room bits base item ≤ 53
     reserved-short base = laws.last.last-bound bits (step_items bits item) base (step-placed bits item placed) (omega arith)
 
   module _ (bits : Bits) (item : Placed) (placed : IsPlaced bits item) (region : RegionState) (inside : region.base + region.size ≤ 2 ^ width bits)
-      (sound : IsSound region) (units : AreInUnits region) (place : ℕ) (e : place_answer region (reserved bits region.base item) ≡ Ok place) where
-    same-len : last_len bits (step_items bits item) place ≡ reserved bits region.base item
+      (sound : IsSound region) (units : AreInUnits region) (place : ℕ) (e : place_answer region (reserved_room bits region.base item) ≡ Ok place) where
+    same-len : last_len bits (step_items bits item) place ≡ reserved_room bits region.base item
     same-len =
-        let u = laws.places.place-units region (reserved bits region.base item) place sound units e in
+        let u = laws.places.place-units region (reserved_room bits region.base item) place sound units e in
         laws.last.last-moves bits (step_items bits item) region.base place u.0 u.1
 
     -- **the block fits the place**
-    pub block-fits : (m : MovedLists) → IsMovedBy bits (step_items bits item) (step_plan bits item place) m → length m.bytes ≤ rounded (reserved bits region.base item)
+    pub block-fits : (m : MovedLists) → IsMovedBy bits (step_items bits item) (step_plan bits item place) m → length m.bytes ≤ len_in_units (reserved_room bits region.base item)
     block-fits m moved =
         omega (
           arith,
           laws.last.moved-within bits (step_items bits item) place (step-placed bits item placed) (omega arith) m moved,
           same-len,
-          rounded-above (reserved bits region.base item) (reserved-short bits item placed region.base),
+          rounded-above (reserved_room bits region.base item) (reserved-short bits item placed region.base),
         )
 
     -- **it ends inside the address space**
@@ -87,8 +87,8 @@ module _ (laws : LawsBelow) where
         let p = step_plan bits item place in
         let low = laws.last.end-below bits (step_items bits item) place (step-placed bits item placed) (omega arith) pass.layout pass.least in
         let at = end-is bits (step_items bits item) place in
-        let room = laws.places.place-inside region (reserved bits region.base item) place sound e in
-        let above = rounded-above (reserved bits region.base item) (reserved-short bits item placed region.base) in
+        let room = laws.places.place-inside region (reserved_room bits region.base item) place sound e in
+        let above = rounded-above (reserved_room bits region.base item) (reserved-short bits item placed region.base) in
         let ends : new_end p pass.layout 0 ≤ 2 ^ width bits = omega (arith, low, at, same-len, room, above, inside) in
         let count : length p.spans ≡ 1 = ap length (one_block bits (step_items bits item) place) in
         let passes : first_passing bits (new_end p pass.layout) 1 ≡ Some end =

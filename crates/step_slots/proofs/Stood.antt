@@ -5,7 +5,7 @@ use Rattle.move_goals.specs.declared.items.Placed.{Placed}
 use Rattle.move_goals.specs.Items.{IsPlaced}
 use Rattle.block_encoder.specs.Moved.{MovedLists}
 use Rattle.block_encoder.specs.ByPlan.{IsMovedBy, IsTooFarBy}
-use Rattle.step_slots.specs.Block.{back_address, step_items, step_plan, IsOutOfReach, reserved}
+use Rattle.step_slots.specs.Block.{back_address, step_items, step_plan, IsOutOfReach, reserved_room}
 use Rattle.step_slots.specs.Standing.{FitsReserved}
 use Rattle.step_slots.specs.LawsBelow.{LawsBelow}
 use Rattle.step_slots.proofs.JumpBack.{jump-reached}
@@ -22,7 +22,7 @@ module _ (laws : LawsBelow) (bits : Bits) (item : Placed) (spelled : IsPlaced bi
   stood-far (suc (suc n)) target far = let w = far.first.within in absurd (omega (arith, w))
 
   module _ (m : MovedLists) (moved : IsMovedBy bits (step_items bits item) (step_plan bits item place) m) where
-    stood-within : length m.bytes ≤ reserved bits place item
+    stood-within : length m.bytes ≤ reserved_room bits place item
     stood-within = laws.last.moved-within bits (step_items bits item) place (step-placed laws bits item spelled) (omega arith) m moved
 
     pub stood-short : length m.bytes ≤ 53
@@ -30,5 +30,5 @@ module _ (laws : LawsBelow) (bits : Bits) (item : Placed) (spelled : IsPlaced bi
 
     pub stood-fits : FitsReserved bits item place m.bytes
     stood-fits base before units =
-        let same : reserved bits place item ≡ reserved bits base item = laws.last.last-moves bits (step_items bits item) base place before units in
+        let same : reserved_room bits place item ≡ reserved_room bits base item = laws.last.last-moves bits (step_items bits item) base place before units in
         omega (arith, stood-within, same)

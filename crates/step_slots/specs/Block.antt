@@ -2,7 +2,7 @@
 use Rattle.std.specs.Prelude.{◌≡◌, ℕ, List, [], ◌∷◌, None}
 use Rattle.x86_values.specs.declared.Bits.{Bits}
 use Rattle.x86_values.specs.declared.Instr.{Instr}
-use Rattle.x86_values.specs.Wrapping.{wrapped}
+use Rattle.x86_values.specs.Wrapping.{modulo_width}
 use Rattle.branch_sizes.specs.Plan.{BlockPlan}
 use Rattle.moved_targets.specs.Targets.{plain_length}
 use Rattle.branch_forms.specs.declared.branch.Action.TheVariants.{Jump}
@@ -21,7 +21,7 @@ jump_to bits target = branch_to (near_code Jump bits) None target
 
 -- the address behind the instruction where it stood, modulo 2 to the number of bits of the mode
 abbrev pub back_address : Bits → Placed → ℕ
-back_address bits item = wrapped bits (old_end item)
+back_address bits item = modulo_width bits (old_end item)
 
 -- the jump there, as one that stands there
 abbrev pub jump_at : Bits → ℕ → Placed
@@ -45,5 +45,5 @@ abbrev pub IsOutOfReach : Bits → Placed → ℕ → ℕ → Type 0
 IsOutOfReach bits item place target = IsTooFarBy bits (step_items bits item) (step_plan bits item place) 0 target
 
 -- how many bytes are reserved for the block in a region with a base: those of the layout of last forms
-abbrev pub reserved : Bits → ℕ → Placed → ℕ
-reserved bits base item = last_len bits (step_items bits item) base
+abbrev pub reserved_room : Bits → ℕ → Placed → ℕ
+reserved_room bits base item = last_len bits (step_items bits item) base

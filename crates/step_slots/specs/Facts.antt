@@ -3,11 +3,11 @@ use Rattle.std.specs.Prelude.{◌≡◌, ℕ, ◌<◌, ◌≤◌, List, [], None
 use Rattle.x86_values.specs.declared.Bits.{Bits}
 use Rattle.move_goals.specs.declared.items.Placed.{Placed}
 use Rattle.move_goals.specs.Items.{IsPlaced}
-use Rattle.code_region.specs.State.{RegionState, rounded}
-use Rattle.code_region.specs.Opening.{opened}
+use Rattle.code_region.specs.State.{RegionState, len_in_units}
+use Rattle.code_region.specs.Opening.{empty_region}
 use Rattle.code_region.specs.Laws.{AreInUnits}
 use Rattle.step_slots.specs.declared.slots.StepSlot.{StepSlot}
-use Rattle.step_slots.specs.Block.{reserved}
+use Rattle.step_slots.specs.Block.{reserved_room}
 use Rattle.step_slots.specs.State.{SlotState, with_slot}
 use Rattle.step_slots.specs.Stepping.{slots_refusal, IsBlockStepped}
 use Rattle.step_slots.specs.Holding.{AreApart}
@@ -16,7 +16,7 @@ use Rattle.step_slots.specs.Keeping.{AreKept}
 -- slots in a region, from none on, step by step
 pub record KeptFacts : Type 0 where
   pub kept-made : (bits : Bits) (base size max : ℕ) → slots_refusal bits base size max ≡ None → (region : RegionState) →
-      region ≡ opened base size max → (slots : List StepSlot) → slots ≡ [] → (room : ℕ) → max ≤ room → AreKept bits region slots room
+      region ≡ empty_region base size max → (slots : List StepSlot) → slots ≡ [] → (room : ℕ) → max ≤ room → AreKept bits region slots room
   -- one slot more
   pub stepped-made : (bits : Bits) (region : RegionState) (slots : List StepSlot) (room : ℕ) → AreKept bits region slots room →
       (item : Placed) → IsPlaced bits item → (place : ℕ) (new : RegionState) → IsBlockStepped bits region item (Ok place) new →
@@ -29,6 +29,6 @@ pub record KeptFacts : Type 0 where
 
 -- the bytes that are reserved for an instruction
 pub record ReservedFacts : Type 0 where
-  pub reserved-some : (bits : Bits) (item : Placed) → IsPlaced bits item → (base : ℕ) → 0 < reserved bits base item
-  pub reserved-short : (bits : Bits) (item : Placed) → IsPlaced bits item → (base : ℕ) → reserved bits base item ≤ 53
-  pub rounded-above : (n : ℕ) → n ≤ 53 → n ≤ rounded n
+  pub reserved-some : (bits : Bits) (item : Placed) → IsPlaced bits item → (base : ℕ) → 0 < reserved_room bits base item
+  pub reserved-short : (bits : Bits) (item : Placed) → IsPlaced bits item → (base : ℕ) → reserved_room bits base item ≤ 53
+  pub rounded-above : (n : ℕ) → n ≤ 53 → n ≤ len_in_units n

@@ -10,7 +10,7 @@ use Rattle.step_slots.specs.declared.commands.StepCommand.TheVariants.{Step, Fin
 use Rattle.step_slots.specs.declared.commands.StepReply.{StepReply}
 use Rattle.step_slots.specs.declared.commands.StepReply.TheVariants.{Stepped, Refused, Finished, NotTaken as NotTakenReply}
 use Rattle.step_slots.specs.State.{SlotState}
-use Rattle.step_slots.specs.Stepping.{IsStepped, finished}
+use Rattle.step_slots.specs.Stepping.{IsStepped, after_finish}
 
 -- an instruction to be stepped has some bytes at its address
 abbrev pub IsFit : Bits → StepCommand → Type 0
@@ -30,7 +30,7 @@ finish_reply (Err why) = NotTakenReply why.place
 -- one command
 abbrev pub IsDone : SlotState → StepCommand → StepReply → SlotState → Type 0
 IsDone old (Step item) reply new = (answer : Result ℕ StepError) × ((reply ≡ step_reply answer) × IsStepped old item answer new)
-IsDone old (Finish place) reply new = (reply ≡ finish_reply (release_answer old.region place)) × (new ≡ finished old place)
+IsDone old (Finish place) reply new = (reply ≡ finish_reply (release_answer old.region place)) × (new ≡ after_finish old place)
 
 -- the commands in order
 abbrev pub IsRun : SlotState → List StepCommand → List StepReply → SlotState → Type 0

@@ -6,7 +6,7 @@ use Rattle.block_encoder.specs.Moved.{MovedLists}
 use Rattle.block_encoder.specs.ByPlan.{IsMovedBy, IsPassBy}
 use Rattle.step_slots.specs.declared.standing.StandError.{StandError}
 use Rattle.step_slots.specs.declared.standing.StandError.TheVariants.{Memory, Wraps, TooFar}
-use Rattle.step_slots.specs.Block.{step_items, step_plan, IsOutOfReach, reserved}
+use Rattle.step_slots.specs.Block.{step_items, step_plan, IsOutOfReach, reserved_room}
 
 -- the instruction and the jump back, moved to the place; or that the block ends past the address space, or the instruction does not reach its target
 abbrev pub IsStood : Bits → Placed → ℕ → Result MovedLists StandError → Type 0
@@ -18,4 +18,4 @@ IsStood bits item place (Err Memory) = Unit {0}
 -- the bytes are no more than those that are reserved by any base that stands a multiple of 16 bytes before the place
 abbrev pub FitsReserved : Bits → Placed → ℕ → List ℕ → Type 0
 FitsReserved bits item place bytes =
-    (base : ℕ) → base ≤ place → (place - base) % 16 ≡ 0 → length bytes ≤ reserved bits base item
+    (base : ℕ) → base ≤ place → (place - base) % 16 ≡ 0 → length bytes ≤ reserved_room bits base item

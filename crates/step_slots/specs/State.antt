@@ -1,10 +1,10 @@
 -- What step slots are to their user: a region, and the live slots in it.
 use Rattle.std.specs.Prelude.{ℕ, nat_lt, if◌then◌else◌, List, [], ◌∷◌}
 use Rattle.x86_values.specs.declared.Bits.{Bits}
-use Rattle.code_region.specs.State.{RegionState, rounded}
-use Rattle.code_region.specs.Opening.{opened}
+use Rattle.code_region.specs.State.{RegionState, len_in_units}
+use Rattle.code_region.specs.Opening.{empty_region}
 use Rattle.step_slots.specs.declared.slots.StepSlot.{StepSlot}
-use Rattle.step_slots.specs.Block.{reserved}
+use Rattle.step_slots.specs.Block.{reserved_room}
 
 -- the mode, the region, and the live slots by address
 pub record SlotState : Type 0 where
@@ -14,7 +14,7 @@ pub record SlotState : Type 0 where
 
 -- no live slot
 abbrev pub no_slots : Bits → ℕ → ℕ → ℕ → SlotState
-no_slots bits base size max_blocks = record { bits = bits; region = opened base size max_blocks; slots = [] }
+no_slots bits base size max_blocks = record { bits = bits; region = empty_region base size max_blocks; slots = [] }
 
 -- the slots with one more, by address
 abbrev pub with_slot : StepSlot → List StepSlot → List StepSlot
@@ -24,4 +24,4 @@ with_slot slot (other ∷ others) =
 
 -- how many bytes a slot takes in a region with a base
 abbrev pub slot_len : Bits → ℕ → StepSlot → ℕ
-slot_len bits base slot = rounded (reserved bits base slot.item)
+slot_len bits base slot = len_in_units (reserved_room bits base slot.item)

@@ -9,15 +9,15 @@ use Rattle.code_region.specs.declared.refusals.OpenError.{OpenError}
 use Rattle.code_region.specs.declared.refusals.OpenError.TheVariants as open_error
 use Rattle.code_region.specs.declared.refusals.PlaceError.{PlaceError}
 use Rattle.code_region.specs.declared.refusals.PlaceError.TheVariants as place_error
-use Rattle.code_region.specs.State.{RegionState, rounded}
+use Rattle.code_region.specs.State.{RegionState, len_in_units}
 use Rattle.code_region.specs.Opening.{is_bad_size, is_bad_room}
-use Rattle.code_region.specs.Placing.{place_answer, placed}
-use Rattle.code_region.specs.Releasing.{released}
-use Rattle.code_region.specs.Filling.{filled}
+use Rattle.code_region.specs.Placing.{place_answer, after_place}
+use Rattle.code_region.specs.Releasing.{after_release}
+use Rattle.code_region.specs.Filling.{after_fill}
 use Rattle.step_slots.specs.declared.slots.StepSlot.{StepSlot}
 use Rattle.step_slots.specs.declared.refusals.StepError.{StepError}
 use Rattle.step_slots.specs.declared.refusals.StepError.TheVariants.{Memory, TooManyBlocks, Full, TooFar}
-use Rattle.step_slots.specs.Block.{IsStepBlock, IsOutOfReach, reserved}
+use Rattle.step_slots.specs.Block.{IsStepBlock, IsOutOfReach, reserved_room}
 use Rattle.step_slots.specs.State.{SlotState, with_slot}
 
 -- the first cause for which slots are refused, memory apart: that of the region, which ends inside the address space of the mode
@@ -54,14 +54,14 @@ move_refusal_of why = Memory
 -- the instruction does not reach at the place that there is.
 abbrev pub IsBlockStepped : Bits → RegionState → Placed → Result ℕ StepError → RegionState → Type 0
 IsBlockStepped bits old item (Ok place) new =
-    (place_answer old (reserved bits old.base item) ≡ Ok place)
-    × ((bytes : List ℕ) × (IsStepBlock bits item place bytes × (new ≡ filled (placed old (reserved bits old.base item)) place bytes)))
+    (place_answer old (reserved_room bits old.base item) ≡ Ok place)
+    × ((bytes : List ℕ) × (IsStepBlock bits item place bytes × (new ≡ after_fill (after_place old (reserved_room bits old.base item)) place bytes)))
 IsBlockStepped bits old item (Err (TooManyBlocks max len)) new =
-    ((place_answer old (reserved bits old.base item) ≡ Err (place_error.TooManyBlocks max)) × (len ≡ rounded (reserved bits old.base item))) × (new ≡ old)
+    ((place_answer old (reserved_room bits old.base item) ≡ Err (place_error.TooManyBlocks max)) × (len ≡ len_in_units (reserved_room bits old.base item))) × (new ≡ old)
 IsBlockStepped bits old item (Err (Full len largest)) new =
-    (place_answer old (reserved bits old.base item) ≡ Err (place_error.Full len largest)) × (new ≡ old)
+    (place_answer old (reserved_room bits old.base item) ≡ Err (place_error.Full len largest)) × (new ≡ old)
 IsBlockStepped bits old item (Err (TooFar target)) new =
-    ((place : ℕ) × ((place_answer old (reserved bits old.base item) ≡ Ok place) × IsOutOfReach bits item place target)) × (new ≡ old)
+    ((place : ℕ) × ((place_answer old (reserved_room bits old.base item) ≡ Ok place) × IsOutOfReach bits item place target)) × (new ≡ old)
 IsBlockStepped bits old item (Err Memory) new = new ≡ old
 
 -- the slots after that answer
@@ -80,5 +80,5 @@ abbrev pub without_slot : ℕ → List StepSlot → List StepSlot
 without_slot place slots = filter (λ slot. not (slot.place == place)) slots
 
 -- a finish releases the block
-abbrev pub finished : SlotState → ℕ → SlotState
-finished state place = record state { region = released state.region place; slots = without_slot place state.slots }
+abbrev pub after_finish : SlotState → ℕ → SlotState
+after_finish state place = record state { region = after_release state.region place; slots = without_slot place state.slots }

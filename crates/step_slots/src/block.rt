@@ -4,7 +4,7 @@ ghost use Rattle.std.specs.Prelude.{◌≡◌, ◌≤◌, ◌+◌, ◌<◌, ◌^
 ghost use Rattle.x86_values.specs.Wrapping.{width};
 ghost use Rattle.code_region.specs.Keeping.{IsSound};
 ghost use Rattle.code_region.specs.Laws.{AreInUnits};
-ghost use Rattle.code_region.specs.State.{rounded as rounded_len};
+ghost use Rattle.code_region.specs.State.{len_in_units};
 ghost use Rattle.move_goals.specs.Items.{IsPlaced};
 ghost use Rattle.step_slots.specs.Block as spec;
 ghost use Rattle.step_slots.specs.Stepping.{IsBlockStepped, IsOfLength, IsOfReach, place_refusal_of, move_refusal_of};
@@ -82,7 +82,7 @@ fn move_refusal(why: MoveError) -> StepError
 /// A length rounded up to a multiple of 16.
 fn round_up(len: u64) -> u64
     requires { len ≤ 53 }
-    ensures { result ≡ rounded_len len }
+    ensures { result ≡ len_in_units len }
 {
     (len + 15) / 16 * 16
 }

@@ -2,10 +2,10 @@
 
 ghost use Rattle.std.specs.Prelude.{◌≡◌, ◌⊎◌, IfSome, IfOk, IfErr, OnErr, Ok, Err, Some};
 ghost use Rattle.move_goals.specs.Items.{IsPlaced};
-ghost use Rattle.code_region.specs.State.{image_of};
+ghost use Rattle.code_region.specs.State.{region_image};
 ghost use Rattle.code_region.specs.Releasing.{release_answer};
 ghost use Rattle.step_slots.specs.State.{no_slots};
-ghost use Rattle.step_slots.specs.Stepping.{slots_refusal, IsStepped, finished};
+ghost use Rattle.step_slots.specs.Stepping.{slots_refusal, IsStepped, after_finish};
 ghost use Rattle.step_slots.specs.Holding.{AreApart, HoldsSlots};
 
 use crate::block::step_block;
@@ -138,7 +138,7 @@ impl StepSlots {
     /// Refused, with nothing changed, exactly where no live slot starts there.
     pub fn finish(&mut self, place: u64) -> Result<(), NotTaken>
         ensures answer { result ≡ release_answer self.old.region place }
-        ensures state { self.new ≡ finished self.old place }
+        ensures state { self.new ≡ after_finish self.old place }
         ensures refused { OnErr result (self.new ≡ self.old) }
     {
         laws_below();
@@ -158,7 +158,7 @@ impl StepSlots {
 
     /// The bytes of the range: the blocks of the live slots, and CC elsewhere.
     pub fn image(&self) -> &[u8]
-        ensures value { result.now ≡ image_of self.now.region }
+        ensures value { result.now ≡ region_image self.now.region }
         ensures slots { HoldsSlots self.now result.now }
     {
         laws_below();

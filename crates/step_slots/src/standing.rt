@@ -2,7 +2,7 @@
 
 ghost use Rattle.std.specs.Prelude.{◌≡◌, ◌<◌, ◌≤◌, length, IfOk};
 ghost use Rattle.move_goals.specs.Items.{IsPlaced};
-ghost use Rattle.step_slots.specs.Block.{reserved};
+ghost use Rattle.step_slots.specs.Block.{reserved_room};
 ghost use Rattle.step_slots.specs.Standing.{IsStood, FitsReserved};
 
 use crate::block::step_items;
@@ -54,7 +54,7 @@ pub fn step_at(alloc: Global, bits: Bits, item: Placed, place: u64) -> Result<Mo
 /// How many bytes are reserved for the block of an instruction: the longest that it may have at a place that stands a multiple of 16 bytes behind `base`.
 pub fn step_len(bits: Bits, item: Placed, base: u64) -> u64
     requires { IsPlaced bits item }
-    ensures value { result ≡ reserved bits base item }
+    ensures value { result ≡ reserved_room bits base item }
     ensures some { 0 < result }
     ensures short { result ≤ 53 }
 {

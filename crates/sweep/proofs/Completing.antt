@@ -10,7 +10,7 @@ use Rattle.x86_values.specs.declared.Bits.{Bits}
 use Rattle.decoder.specs.declared.DecodeError.{DecodeError}
 use Rattle.sweep_text.specs.declared.lines.Lines.{Lines}
 use Rattle.opcode_rows.specs.Sweep.{Item, Sweeps, IsSweep, item_len}
-use Rattle.sweep_text.specs.Lines.{stop_of, GoesOn}
+use Rattle.sweep_text.specs.Lines.{stop_of, LineGoesOn}
 use Rattle.sweep_text.specs.Facts.{OneSweepFacts}
 use Rattle.run_parts.specs.Facts.{ReadFacts}
 use Rattle.run_parts.specs.Reads.{code_limit}
@@ -25,7 +25,7 @@ use Rattle.sweep.proofs.Longer.{all_ready, sweeps_longer}
 
 -- ---- the end of some items
 
-end_goes_on : (lines : Lines) (item : Item) (items : List Item) (last : Result ℕ StreamError) → GoesOn lines item →
+end_goes_on : (lines : Lines) (item : Item) (items : List Item) (last : Result ℕ StreamError) → LineGoesOn lines item →
     end_of lines (item ∷ items) last ≡ end_of lines items last
 end_goes_on lines item items last goes_on =
     ap (λ (o : Option DecodeError). elim o as (λ _. Result ℕ StreamError) [ None ↦ end_of lines items last | Some error ↦ Err (BadCode item.offset error) ]) goes_on
@@ -36,18 +36,18 @@ end_stops lines item items last error stops =
     ap (λ (o : Option DecodeError). elim o as (λ _. Result ℕ StreamError) [ None ↦ end_of lines items last | Some e ↦ Err (BadCode item.offset e) ]) stops
 
 -- behind all items
-end_all : (lines : Lines) (items : List Item) (last : Result ℕ StreamError) → All (GoesOn lines) items → end_of lines items last ≡ last
+end_all : (lines : Lines) (items : List Item) (last : Result ℕ StreamError) → All (LineGoesOn lines) items → end_of lines items last ≡ last
 end_all lines [] last all = refl
 end_all lines (item ∷ items) last all =
-    end_goes_on lines item items last (All-head (GoesOn lines) item items all) ∙ end_all lines items last (All-tail (GoesOn lines) item items all)
+    end_goes_on lines item items last (All-head (LineGoesOn lines) item items all) ∙ end_all lines items last (All-tail (LineGoesOn lines) item items all)
 
 -- at the first item behind which the command does not go on
-end_at : (lines : Lines) (items : List Item) (stop : Item) (more : List Item) (last : Result ℕ StreamError) (error : DecodeError) → All (GoesOn lines) items →
+end_at : (lines : Lines) (items : List Item) (stop : Item) (more : List Item) (last : Result ℕ StreamError) (error : DecodeError) → All (LineGoesOn lines) items →
     stop_of lines stop.reading ≡ Some error → end_of lines ((items ++ stop ∷ []) ++ more) last ≡ Err (BadCode stop.offset error)
 end_at lines [] stop more last error all stops = end_stops lines stop more last error stops
 end_at lines (item ∷ items) stop more last error all stops =
-    end_goes_on lines item ((items ++ stop ∷ []) ++ more) last (All-head (GoesOn lines) item items all)
-    ∙ end_at lines items stop more last error (All-tail (GoesOn lines) item items all) stops
+    end_goes_on lines item ((items ++ stop ∷ []) ++ more) last (All-head (LineGoesOn lines) item items all)
+    ∙ end_at lines items stop more last error (All-tail (LineGoesOn lines) item items all) stops
 
 -- ---- items that are handled
 

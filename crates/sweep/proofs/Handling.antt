@@ -10,9 +10,9 @@ use Rattle.x86_values.specs.declared.Bits.{Bits}
 use Rattle.decoder.specs.declared.DecodeError.{DecodeError}
 use Rattle.sweep_text.specs.declared.lines.Lines.{Lines}
 use Rattle.opcode_rows.specs.Sweep.{Item, Sweeps, item_len}
-use Rattle.sweep_text.specs.Lines.{GoesOn, line_of, lines_of}
+use Rattle.sweep_text.specs.Lines.{LineGoesOn, line_of, lines_of}
 use Rattle.run_parts.specs.Facts.{HeldFacts}
-use Rattle.run_parts.specs.Writing.{HoldsFront, Moves, Held}
+use Rattle.run_parts.specs.Writing.{HoldsFront, Moves, HeldText}
 use Rattle.sweep.specs.Steps.{IsReady, WritesItem, StopsAtItem, HandlesItems, HandlesFront}
 use Rattle.sweep.proofs.Longer.{sweeps_join}
 
@@ -20,11 +20,11 @@ pub record Progress (bits : Bits) (base : ℕ) (lines : Lines) (from : ℕ) (byt
   pub items : List Item
   pub within : used ≤ length bytes
   pub sweeps : Sweeps bits base from bytes items (drop used bytes)
-  pub all : All (GoesOn lines) items
+  pub all : All (LineGoesOn lines) items
   pub ready : ended ≡ false → All (IsReady (from + length bytes)) items
   pub count_is : count ≡ length items
   pub few : count ≤ used
-  pub told : Held start held pending (lines_of bits base lines items)
+  pub told : HeldText start held pending (lines_of bits base lines items)
 
 -- 15 bytes of an item were seen, or the input has ended
 abbrev pub IsReadyAt : ℕ → Bool → Type 0
@@ -45,7 +45,7 @@ module _ (f : HeldFacts) where
     items = [];
     within = omega arith;
     sweeps = refl;
-    all = All-nil (GoesOn lines);
+    all = All-nil (LineGoesOn lines);
     ready = λ e. All-nil (IsReady (from + length bytes));
     count_is = refl;
     few = omega arith;
@@ -74,13 +74,13 @@ module _ (f : HeldFacts) where
         items = p.items ++ w.item ∷ [];
         within = omega (arith, length-drop used bytes);
         sweeps = subst (λ xs. Sweeps bits base from bytes (p.items ++ w.item ∷ []) xs) rest swept;
-        all = All-append (GoesOn lines) p.items (w.item ∷ []) p.all (All-cons (GoesOn lines) w.item [] w.goes_on (All-nil (GoesOn lines)));
+        all = All-append (LineGoesOn lines) p.items (w.item ∷ []) p.all (All-cons (LineGoesOn lines) w.item [] w.goes_on (All-nil (LineGoesOn lines)));
         ready = λ e.
             let long = no_end (length bytes - used) ended is_ready e in
             All-append R p.items (w.item ∷ []) (p.ready e) (All-cons R w.item [] (omega arith) (All-nil R));
         count_is = omega (arith, p.count_is, length-append p.items (w.item ∷ []));
         few = omega (arith, p.few, w.is_at.some);
-        told = subst (λ xs. Held start held' after xs) more (f.held-step start held held' before after (lines_of bits base lines p.items) line p.told w.moves);
+        told = subst (λ xs. HeldText start held' after xs) more (f.held-step start held held' before after (lines_of bits base lines p.items) line p.told w.moves);
       }
 
   -- all that are ready

@@ -4,7 +4,7 @@ use Rattle.std.specs.Prelude.{All}
 use Rattle.std.proofs.lemmas.List.{take-append-le, drop-append-le, length-drop, length-take}
 use Rattle.std.proofs.lemmas.List.Elements.{All-head, All-tail}
 use Rattle.x86_values.specs.declared.Bits.{Bits}
-use Rattle.x86_values.specs.Wrapping.{wrapped}
+use Rattle.x86_values.specs.Wrapping.{modulo_width}
 use Rattle.x86_values.specs.declared.Instr.{Instr}
 use Rattle.row_relation.specs.Spells.{Reading, Read, TooShort, Invalid, ReadsAs, SpellsNothing, Spells}
 use Rattle.opcode_rows.specs.Table.{table}
@@ -33,11 +33,11 @@ nothing_longer bits ip bytes more long none i n h =
 
 read_longer : (bits : Bits) (ip : ℕ) (bytes more : List ℕ) (reading : Reading) → 15 ≤ length bytes → IsRead bits ip bytes reading →
     IsRead bits ip (bytes ++ more) reading
-read_longer bits ip bytes more (Read d) long h = reads_longer bits (wrapped bits ip) bytes more d.instr d.len h
+read_longer bits ip bytes more (Read d) long h = reads_longer bits (modulo_width bits ip) bytes more d.instr d.len h
 read_longer bits ip bytes more TooShort long h = let short = h.is_short in absurd (omega arith)
 read_longer bits ip bytes more Invalid long h =
     record {
-      spells_nothing = nothing_longer bits (wrapped bits ip) bytes more long h.spells_nothing;
+      spells_nothing = nothing_longer bits (modulo_width bits ip) bytes more long h.spells_nothing;
       ends_here = λ short. absurd (omega (arith, length-append bytes more));
     }
 

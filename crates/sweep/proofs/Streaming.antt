@@ -10,9 +10,9 @@ use Rattle.x86_values.specs.declared.Bits.{Bits}
 use Rattle.decoder.specs.declared.DecodeError.{DecodeError}
 use Rattle.sweep_text.specs.declared.lines.Lines.{Lines}
 use Rattle.opcode_rows.specs.Sweep.{Item, Sweeps, item_len}
-use Rattle.sweep_text.specs.Lines.{GoesOn, line_of, lines_of}
+use Rattle.sweep_text.specs.Lines.{LineGoesOn, line_of, lines_of}
 use Rattle.run_parts.specs.Reads.{code_limit, ReadsAll, ReadsTooMany}
-use Rattle.run_parts.specs.Facts.{PieceFacts}
+use Rattle.run_parts.specs.Facts.{TextPieceFacts}
 use Rattle.sweep.specs.Steps.{IsReady, HandlesEnd, HandlesItems, HandlesFront}
 use Rattle.sweep.specs.Calls.{IsWritten}
 use Rattle.sweep.specs.Window.{Fills}
@@ -29,7 +29,7 @@ pub record Streamed (bits : Bits) (base : ℕ) (lines : Lines) (start left : Opt
   pub front : take len window ≡ drop at seen
   pub sweeps : Sweeps bits base 0 seen items (drop at seen)
   pub ready : All (IsReady (length seen)) items
-  pub all : All (GoesOn lines) items
+  pub all : All (LineGoesOn lines) items
   pub short : len < 15
   pub count_is : count ≡ length items
   pub written : held' ≡ with_back held (lines_of bits base lines items)
@@ -39,7 +39,7 @@ pub rose_since : (a b c : ℕ) → a ≤ b → Rose b c → Rose a c
 rose_since a b c le r = elim r [ inl lt ↦ inl (omega arith) | inr full ↦ inr full ]
 
 -- before the first byte
-pub streamed_start : (join : PieceFacts) (bits : Bits) (base : ℕ) (lines : Lines) (start held : Option (List ℕ)) (window : List ℕ) →
+pub streamed_start : (join : TextPieceFacts) (bits : Bits) (base : ℕ) (lines : Lines) (start held : Option (List ℕ)) (window : List ℕ) →
     Streamed bits base lines start start held held 0 0 0 window
 unfolding code_limit
 streamed_start join bits base lines start held window = record {
@@ -51,7 +51,7 @@ streamed_start join bits base lines start held window = record {
   front = refl;
   sweeps = refl;
   ready = All-nil (IsReady 0);
-  all = All-nil (GoesOn lines);
+  all = All-nil (LineGoesOn lines);
   short = omega arith;
   count_is = refl;
   written = sym (join.with_back-nil held);
@@ -94,7 +94,7 @@ lines_join : (bits : Bits) (base : ℕ) (lines : Lines) (items more : List Item)
     lines_of bits base lines (items ++ more) ≡ lines_of bits base lines items ++ lines_of bits base lines more
 lines_join bits base lines items more = flat_map-append (line_of bits base lines) items more
 
-module _ (join : PieceFacts) (bits : Bits) (base : ℕ) (lines : Lines) (start left left' held held' : Option (List ℕ)) (at len count room n end : ℕ) (window window' : List ℕ)
+module _ (join : TextPieceFacts) (bits : Bits) (base : ℕ) (lines : Lines) (start left left' held held' : Option (List ℕ)) (at len count room n end : ℕ) (window window' : List ℕ)
     (s : Streamed bits base lines start left held held' at len count window) (f : Fills left left' window window' len room n)
     (room_is : room ≤ code_limit + 1 - (at + len)) (end_is : end ≡ min (len + n) (code_limit - at)) where
   -- the bytes that count, and those that were taken
@@ -190,7 +190,7 @@ module _ (join : PieceFacts) (bits : Bits) (base : ℕ) (lines : Lines) (start l
           record {
             items = s.items ++ h.items;
             sweep = (h.rest, sweeps_join bits base 0 at now s.items (drop at now) h.items h.rest sweeps_now place h.sweeps);
-            all = All-append (GoesOn lines) s.items h.items s.all h.all;
+            all = All-append (LineGoesOn lines) s.items h.items s.all h.all;
             may = may_handle ended h.items h.ready last_pull;
             written = (
               length before + h.written.0,
@@ -207,8 +207,8 @@ module _ (join : PieceFacts) (bits : Bits) (base : ℕ) (lines : Lines) (start l
     joined : Sweeps bits base 0 now (s.items ++ h.items) (drop handled.used (drop at now))
     joined = sweeps_join bits base 0 at now s.items (drop at now) h.items (drop handled.used (drop at now)) sweeps_now place h.sweeps
 
-    all_joined : All (GoesOn lines) (s.items ++ h.items)
-    all_joined = All-append (GoesOn lines) s.items h.items s.all h.all
+    all_joined : All (LineGoesOn lines) (s.items ++ h.items)
+    all_joined = All-append (LineGoesOn lines) s.items h.items s.all h.all
 
     ready_joined : ended ≡ false → All (IsReady (length now)) (s.items ++ h.items)
     ready_joined e =

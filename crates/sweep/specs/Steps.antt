@@ -4,7 +4,7 @@ use Rattle.x86_values.specs.declared.Bits.{Bits}
 use Rattle.decoder.specs.declared.DecodeError.{DecodeError}
 use Rattle.sweep_text.specs.declared.lines.Lines.{Lines}
 use Rattle.opcode_rows.specs.Sweep.{Item, IsItemAt, Sweeps, item_len}
-use Rattle.sweep_text.specs.Lines.{stop_of, GoesOn, line_of, lines_of}
+use Rattle.sweep_text.specs.Lines.{stop_of, LineGoesOn, line_of, lines_of}
 use Rattle.byte_ports.specs.Ports.{with_back}
 use Rattle.run_parts.specs.Writing.{HoldsFront, Moves}
 use Rattle.sweep.specs.declared.ready.Step.{Step}
@@ -20,7 +20,7 @@ IsReady n item = item.offset + 15 ≤ n
 pub record WritesItem (bits : Bits) (base : ℕ) (lines : Lines) (at : ℕ) (bytes : List ℕ) (held held' : Option (List ℕ)) (before after : List ℕ) (count : ℕ) : Type 0 where
   pub item : Item
   pub is_at : IsItemAt bits base at bytes item
-  pub goes_on : GoesOn lines item
+  pub goes_on : LineGoesOn lines item
   pub count_is : count ≡ item_len item.reading
   pub moves : Moves held held' before after (line_of bits base lines item)
 
@@ -48,7 +48,7 @@ pub record HandlesItems (bits : Bits) (base : ℕ) (lines : Lines) (at : ℕ) (b
   pub items : List Item
   pub within : handled.used ≤ length bytes
   pub sweeps : Sweeps bits base at bytes items (drop handled.used bytes)
-  pub all : All (GoesOn lines) items
+  pub all : All (LineGoesOn lines) items
   pub ready : ended ≡ false → All (IsReady (at + length bytes)) items
   pub count_is : handled.count ≡ length items
   pub written : held' ≡ with_back held (lines_of bits base lines items)
@@ -59,6 +59,6 @@ pub record HandlesFront (bits : Bits) (base : ℕ) (lines : Lines) (at : ℕ) (b
   pub items : List Item
   pub rest : List ℕ
   pub sweeps : Sweeps bits base at bytes items rest
-  pub all : All (GoesOn lines) items
+  pub all : All (LineGoesOn lines) items
   pub ready : ended ≡ false → All (IsReady (at + length bytes)) items
   pub written : HoldsFront held held' (lines_of bits base lines items)

@@ -4,7 +4,7 @@ use Rattle.x86_values.specs.declared.Bits.{Bits}
 use Rattle.decoder.specs.declared.DecodeError.{DecodeError}
 use Rattle.sweep_text.specs.declared.lines.Lines.{Lines}
 use Rattle.opcode_rows.specs.Sweep.{Item, IsSweep, BeginsSweep, Sweeps}
-use Rattle.sweep_text.specs.Lines.{stop_of, GoesOn, lines_of}
+use Rattle.sweep_text.specs.Lines.{stop_of, LineGoesOn, lines_of}
 use Rattle.byte_ports.specs.Ports.{with_front, with_back}
 use Rattle.run_parts.specs.Reads.{code_limit, ReadsAll, ReadsTooMany}
 use Rattle.run_parts.specs.Writing.{HoldsFront}
@@ -16,7 +16,7 @@ use Rattle.sweep.specs.Steps.{IsReady}
 pub record WritesLines (bits : Bits) (base : ℕ) (lines : Lines) (bytes : List ℕ) (count : ℕ) (held held' : Option (List ℕ)) : Type 0 where
   pub items : List Item
   pub sweep : IsSweep bits base bytes items
-  pub all : All (GoesOn lines) items
+  pub all : All (LineGoesOn lines) items
   pub count_is : count ≡ length items
   pub written : held' ≡ with_back held (lines_of bits base lines items)
 
@@ -31,7 +31,7 @@ pub record AreHandled (bits : Bits) (base : ℕ) (seen : List ℕ) (items : List
 pub record WritesHandled (bits : Bits) (base : ℕ) (lines : Lines) (seen : List ℕ) (held held' : Option (List ℕ)) : Type 0 where
   pub items : List Item
   pub handled : AreHandled bits base seen items
-  pub all : All (GoesOn lines) items
+  pub all : All (LineGoesOn lines) items
   pub written : held' ≡ with_back held (lines_of bits base lines items)
 
 -- the lines before an offset were written: there stands the first item at which the command ends, with this error
@@ -39,7 +39,7 @@ pub record WritesLinesBefore (bits : Bits) (base : ℕ) (lines : Lines) (seen : 
   pub items : List Item
   pub last : Item
   pub sweep : BeginsSweep bits base seen (items ++ last ∷ [])
-  pub all : All (GoesOn lines) items
+  pub all : All (LineGoesOn lines) items
   pub offset_is : last.offset ≡ offset
   pub stops : stop_of lines last.reading ≡ Some error
   pub written : held' ≡ with_back held (lines_of bits base lines items)
@@ -64,7 +64,7 @@ MayHandle left left' seen offset = (offset + 15 ≤ length seen) ⊎ ReadsAll co
 pub record WritesLinesFront (bits : Bits) (base : ℕ) (lines : Lines) (left left' : Option (List ℕ)) (seen : List ℕ) (held held' : Option (List ℕ)) : Type 0 where
   pub items : List Item
   pub sweep : BeginsSweep bits base seen items
-  pub all : All (GoesOn lines) items
+  pub all : All (LineGoesOn lines) items
   pub may : All (λ item. MayHandle left left' seen item.offset) items
   pub written : HoldsFront held held' (lines_of bits base lines items)
 

@@ -10,7 +10,7 @@ use Rattle.operand_info.specs.declared.columns.Access.{Access}
 use Rattle.operand_info.specs.declared.columns.Access.TheVariants.{None as NoAccess, Read, Write, ReadWrite}
 use Rattle.operand_info.specs.ByCode.{flow_of, access_of, memory_size}
 use Rattle.operand_info.specs.Operands.{first_value, near_value, ip_value}
-use Rattle.text_parts.specs.PrefixWords.{has_memory}
+use Rattle.text_parts.specs.PrefixWords.{shows_memory}
 use Rattle.text_parts.specs.declared.style.Style.TheVariants.{Intel}
 use Rattle.text_parts.specs.Numbers.{number}
 
@@ -45,15 +45,15 @@ operand_word i n = access_word (operand_at i n) (access_of i.code.0 n)
 -- the size of the memory operand in bytes, where there is one that has a size
 unfoldable pub memory_word : Instr → List ℕ
 memory_word i =
-    if has_memory i && not (memory_size i.code.0 == 0) then codes " m" ++ decimal (memory_size i.code.0) else []
+    if shows_memory i && not (memory_size i.code.0 == 0) then codes " m" ++ decimal (memory_size i.code.0) else []
 
 -- an address in lower-case hexadecimal digits behind a sign, nothing where there is none
-unfoldable pub address_word : List ℕ → Option ℕ → List ℕ
-address_word sign None = []
-address_word sign (Some address) = sign ++ number Intel address
+unfoldable pub signed_address : List ℕ → Option ℕ → List ℕ
+signed_address sign None = []
+signed_address sign (Some address) = sign ++ number Intel address
 
 -- the flow, the accesses, the size, the target of a near branch, and the address of an operand relative to the next instruction
 unfoldable pub info_text : Instr → List ℕ
 info_text i =
     flow_name (flow_of i.code.0) ++ operand_word i 0 ++ operand_word i 1 ++ operand_word i 2 ++ operand_word i 3 ++ memory_word i
-    ++ address_word (codes " -> ") (first_value near_value i) ++ address_word (codes " @ ") (first_value ip_value i)
+    ++ signed_address (codes " -> ") (first_value near_value i) ++ signed_address (codes " @ ") (first_value ip_value i)

@@ -27,8 +27,8 @@ stop_of Info reading = error_of reading
 stop_of (Recode to new_base) reading = error_of reading
 
 -- the command goes on behind an item
-abbrev pub GoesOn : Lines → Item → Type 0
-GoesOn lines item = stop_of lines item.reading ≡ None
+abbrev pub LineGoesOn : Lines → Item → Type 0
+LineGoesOn lines item = stop_of lines item.reading ≡ None
 
 -- the line of an instruction at an offset: its address, what is told of it behind a space, and a line feed
 unfoldable pub instr_line : Bits → ℕ → ℕ → List ℕ → List ℕ

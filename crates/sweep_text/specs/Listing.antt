@@ -5,7 +5,7 @@ use Rattle.std.specs.Int.{to_be_bytes, w16, w32, w64}
 use Rattle.hex.specs.Hex.{encode_lower}
 use Rattle.x86_values.specs.declared.Bits.{Bits}
 use Rattle.x86_values.specs.declared.Bits.TheVariants.{B16, B32, B64}
-use Rattle.x86_values.specs.Wrapping.{wrapped}
+use Rattle.x86_values.specs.Wrapping.{modulo_width}
 use Rattle.row_relation.specs.Spells.{Reading, Read}
 use Rattle.x86_values.specs.declared.Instr.{Instr}
 use Rattle.text_parts.specs.declared.style.Style.{Style}
@@ -24,7 +24,7 @@ address_bytes B64 address = to_be_bytes w64 address
 
 -- the address of an offset in 4, 8 or 16 lower-case hexadecimal digits
 unfoldable pub address_text : Bits → ℕ → ℕ → List ℕ
-address_text bits base offset = encode_lower (address_bytes bits (wrapped bits (base + offset)))
+address_text bits base offset = encode_lower (address_bytes bits (modulo_width bits (base + offset)))
 
 -- bytes in lower-case hexadecimal digits, filled with spaces to 30 places
 unfoldable pub byte_column : List ℕ → List ℕ

@@ -3,7 +3,7 @@ use Rattle.std.specs.Prelude.{ℕ, List, [], ◌++◌, Option, Some, None, Resul
 use Rattle.hex.specs.Hex.{encode_lower}
 use Rattle.x86_values.specs.declared.Bits.{Bits}
 use Rattle.x86_values.specs.declared.Instr.{Instr}
-use Rattle.x86_values.specs.Wrapping.{wrapped}
+use Rattle.x86_values.specs.Wrapping.{modulo_width}
 use Rattle.plain_spelling.specs.declared.NoSpelling.{NoSpelling}
 use Rattle.plain_spelling.specs.declared.NoSpelling.TheVariants.{Row, OperandKind, Register, Memory, Displacement, Immediate, Target, Prefix, AddressSize, Length}
 use Rattle.encoder.specs.Encoding.{encoding}
@@ -29,13 +29,13 @@ cause_operand (Immediate operand) = Some operand
 cause_operand _ = None
 
 -- a number in decimal behind a space, nothing where there is none
-unfoldable pub operand_number : Option ℕ → List ℕ
-operand_number None = []
-operand_number (Some operand) = codes " " ++ decimal operand
+unfoldable pub operand_digits : Option ℕ → List ℕ
+operand_digits None = []
+operand_digits (Some operand) = codes " " ++ decimal operand
 
 -- why there is no spelling: a sign, the number of the cause, and that of the operand that it names
 unfoldable pub cause_text : NoSpelling → List ℕ
-cause_text why = codes "! " ++ decimal (cause_number why) ++ operand_number (cause_operand why)
+cause_text why = codes "! " ++ decimal (cause_number why) ++ operand_digits (cause_operand why)
 
 -- the bytes of a spelling in lower-case hexadecimal digits, or why there is none
 abbrev pub spelling_text : Result (List ℕ) NoSpelling → List ℕ
@@ -44,4 +44,4 @@ spelling_text (Err why) = cause_text why
 
 -- the bytes of the plain spelling of an instruction at an address, which wraps in the mode, in hexadecimal digits, or why there is none
 unfoldable pub recode_text : Bits → ℕ → Instr → List ℕ
-recode_text bits address i = spelling_text (encoding bits (wrapped bits address) i)
+recode_text bits address i = spelling_text (encoding bits (modulo_width bits address) i)

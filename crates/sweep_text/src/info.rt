@@ -127,7 +127,7 @@ fn append_memory(out: &mut Chunk, instr: &Instr)
 fn append_address_word(out: &mut Chunk, sign: &[u8], address: Option<u64>)
     requires sign { length sign.now ≤ 4 }
     requires room { array_vec_len out.old + 22 ≤ CHUNK_LEN }
-    ensures items { out.new.items ≡ out.old.items ++ spec.address_word sign.now address }
+    ensures items { out.new.items ≡ out.old.items ++ spec.signed_address sign.now address }
     ensures len { array_vec_len out.new ≤ array_vec_len out.old + 22 }
 {
     numbers_are_short();

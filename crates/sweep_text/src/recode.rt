@@ -2,8 +2,8 @@
 
 ghost use Rattle.std.specs.Prelude.{◌≡◌, ◌≤◌, ◌+◌, ◌++◌, decimal};
 ghost use Rattle.arrayvec.specs.ArrayVec.{array_vec_len};
-ghost use Rattle.x86_values.specs.Wrapping.{wrapped};
-ghost use Rattle.encoder.specs.Encoding.{written};
+ghost use Rattle.x86_values.specs.Wrapping.{modulo_width};
+ghost use Rattle.encoder.specs.Encoding.{answer_bytes};
 ghost use Rattle.sweep_text.specs.Recode as spec;
 
 use crate::line::{CHUNK_LEN, Chunk, append_bytes};
@@ -49,7 +49,7 @@ fn cause_operand(why: NoSpelling) -> Option<u8>
 #[tactic(auto, unfolding(crate::specs::Recode::operand_number))]
 fn append_operand(out: &mut Chunk, operand: Option<u8>)
     requires { array_vec_len out.old + 4 ≤ CHUNK_LEN }
-    ensures items { out.new.items ≡ out.old.items ++ spec.operand_number operand }
+    ensures items { out.new.items ≡ out.old.items ++ spec.operand_digits operand }
     ensures len { array_vec_len out.new ≤ array_vec_len out.old + 4 }
 {
     if let Some(operand) = operand {
@@ -75,7 +75,7 @@ fn append_cause(out: &mut Chunk, why: NoSpelling)
 #[inline]
 fn append_spelling(out: &mut Chunk, spelling: &Result<ArrayVec<u8, 15>, NoSpelling>)
     requires { array_vec_len out.old + TEXT_LEN ≤ CHUNK_LEN }
-    ensures items { out.new.items ≡ out.old.items ++ spec.spelling_text (written spelling.now) }
+    ensures items { out.new.items ≡ out.old.items ++ spec.spelling_text (answer_bytes spelling.now) }
     ensures len { array_vec_len out.new ≤ array_vec_len out.old + TEXT_LEN }
 {
     match spelling {

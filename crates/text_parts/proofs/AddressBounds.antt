@@ -13,7 +13,7 @@ use Rattle.text_parts.specs.declared.style.Style.{Style}
 use Rattle.text_parts.specs.declared.style.Style.TheVariants.{Intel, Masm, Att}
 use Rattle.text_parts.specs.Numbers.{number, decimal}
 use Rattle.text_parts.specs.Registers.{register}
-use Rattle.text_parts.specs.Addresses.{is_absolute, is_relative, sign, signed_displacement, lone_displacement, relative_word, base_text, joint, scale_text, index_text, sum_text, inside, bracket_segment, bracketed}
+use Rattle.text_parts.specs.Addresses.{is_absolute, is_relative, sign, signed_displacement, lone_displacement, relative_word, base_text, joint, scale_text, index_text, sum_text, inside, bracket_segment, bracketed_address}
 use Rattle.text_parts.proofs.Bounds.{short_if, short_append, number-le, decimal-le, register-le, segment_override-le}
 
 sign-le : (style : Style) (negative : Bool) → length (sign style negative) ≤ 1
@@ -103,8 +103,8 @@ bracket_segment-le Masm (Some s) m = segment_override-le Masm (Some s)
 bracket_segment-le Intel seg m = segment_override-le Intel seg
 bracket_segment-le Att seg m = segment_override-le Att seg
 
-pub bracketed-le : (style : Style) (seg : Option Segment) (asize : Bits) (m : Mem) → length (bracketed style seg asize m) ≤ 43
-unfolding bracketed
+pub bracketed-le : (style : Style) (seg : Option Segment) (asize : Bits) (m : Mem) → length (bracketed_address style seg asize m) ≤ 43
+unfolding bracketed_address
 bracketed-le style seg asize m =
     short_append (bracket_segment style seg m) _ 4 39 (bracket_segment-le style seg m)
     (short_append (codes "[") _ 1 38 (omega arith)

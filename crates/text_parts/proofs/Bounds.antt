@@ -8,7 +8,7 @@ use Rattle.x86_values.specs.declared.Register.TheVariants.{Low8, High8, R16, R32
 use Rattle.text_parts.specs.declared.style.Style.{Style}
 use Rattle.text_parts.specs.declared.style.Style.TheVariants.{Intel, Masm, Att}
 use Rattle.text_parts.specs.Numbers.{digit_count, hexadecimal, leading_zero, number, decimal}
-use Rattle.text_parts.specs.Registers.{word_name, low_byte_name, high_byte_name, segment_name, numbered, general_name, stack_name, register_name, sigil, register, segment_override}
+use Rattle.text_parts.specs.Registers.{word_name, low_byte_name, high_byte_name, segment_name, name_with_number, general_name, stack_name, register_name, sigil, register, segment_override}
 use Rattle.text_parts.proofs.Digits.{length-last_digits}
 
 -- a choice is as short as both
@@ -64,7 +64,7 @@ segment_name-le Ds = omega arith
 segment_name-le Fs = omega arith
 segment_name-le Gs = omega arith
 
-numbered-le : (front : List ℕ) (n : ℕ) (back : List ℕ) → length (numbered front n back) ≤ length front + (2 + length back)
+numbered-le : (front : List ℕ) (n : ℕ) (back : List ℕ) → length (name_with_number front n back) ≤ length front + (2 + length back)
 numbered-le front n back =
     short_append front _ (length front) (2 + length back) (omega arith)
     (short_append (decimal n) back 2 (length back) (decimal-le n) (omega arith))

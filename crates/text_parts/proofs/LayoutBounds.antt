@@ -19,7 +19,7 @@ use Rattle.text_parts.specs.declared.style.Style.{Style}
 use Rattle.text_parts.specs.declared.style.Style.TheVariants.{Intel, Masm, Att}
 use Rattle.text_parts.specs.Numbers.{number}
 use Rattle.text_parts.specs.Registers.{segment_name}
-use Rattle.text_parts.specs.PrefixWords.{lock_word, repeat_word, has_memory, segment_word, size_digits, sized_word, needs_address_word, address_word, is_sized, named_size, differs, usual_size, operand_size_word, prefix_words, is_counter_jump, counter_jump, name_text, text_address_size}
+use Rattle.text_parts.specs.PrefixWords.{lock_word, repeat_word, shows_memory, segment_word, size_digits, sized_word, needs_address_word, address_word, is_sized, named_size, differs, usual_size, operand_size_word, prefix_words, is_counter_jump, counter_jump, name_text, text_address_size}
 use Rattle.text_parts.specs.Layout.{size_name, far_name, is_far_pointer, operand_size_name, behind_size, size_word, nth_operand, separator, bracket_operand, operand_part, bracket_layout, is_long, long_at, has_one_long}
 use Rattle.text_parts.proofs.Bounds.{short_if, short_append, number-le, segment_name-le, register-le}
 use Rattle.text_parts.proofs.AddressBounds.{bracketed-le}
@@ -45,7 +45,7 @@ unless_no_segment (Some s) text k h = h s
 segment_word-le : (instr : Instr) → length (segment_word instr) ≤ 3
 unfolding segment_word
 segment_word-le instr =
-    short_if (has_memory instr) _ _ 3 (omega arith)
+    short_if (shows_memory instr) _ _ 3 (omega arith)
     (unless_no_segment instr.seg _ 3 (λ s. short_append (segment_name s) _ 2 1 (segment_name-le s) (omega arith)))
 
 sized_word-le : (letter : List ℕ) (size : Bits) → length letter ≤ 1 → length (sized_word letter size) ≤ 4

@@ -32,8 +32,8 @@ use Rattle.instruction_parts.specs.Sizes.{operand_size}
 use Rattle.row_meaning.specs.MemorySize.{row_size_bytes, has_w, vector_bytes, width_in_row, size_at, memory_size}
 use Rattle.text_parts.specs.Numbers.{hex_digit, digit_at, last_digits, digit_count, hexadecimal, leading_zero, number, decimal}
 use Rattle.text_parts.specs.Registers.{word_name, low_byte_name, high_byte_name, segment_name, stack_name, register_name, sigil, register, segment_override}
-use Rattle.text_parts.specs.Addresses.{is_instruction_pointer, is_negative, magnitude, sign, signed_displacement, lone_displacement, relative_word, base_text, joint, scale_text, index_text, sum_text, inside, bracket_segment, bracketed}
-use Rattle.text_parts.specs.PrefixWords.{lock_word, repeat_word, segment_word, size_digits, sized_word, differs, shows_size, shows_address_size, is_counter_jump, needs_address_word, address_word, named_size, is_by_w, usual_size, operand_size_word, prefix_words, counter_jump, name_text}
+use Rattle.text_parts.specs.Addresses.{is_instruction_pointer, is_negative, magnitude, sign, signed_displacement, lone_displacement, relative_word, base_text, joint, scale_text, index_text, sum_text, inside, bracket_segment, bracketed_address}
+use Rattle.text_parts.specs.PrefixWords.{lock_word, repeat_word, segment_word, size_digits, sized_word, differs, shows_size, shows_address_size, is_counter_jump, needs_address_word, address_word, named_size, is_w_size, usual_size, operand_size_word, prefix_words, counter_jump, name_text}
 use Rattle.text_parts.specs.Layout.{size_name, far_name, is_far_pointer, operand_size_name, behind_size, size_word, separator, bracket_operand, operand_part, bracket_layout}
 
 -- ---- how samples are written
@@ -127,5 +127,5 @@ samples =
 
 -- names every definition on its unfolding line: a proof that unfolds it computes with each of them
 unfoldable pub every_part : Unit {0}
-unfolding count_leading_zeros memory_width operand_size row_size_bytes has_w vector_bytes width_in_row size_at memory_size hex_digit digit_at last_digits digit_count hexadecimal leading_zero number decimal word_name low_byte_name high_byte_name segment_name stack_name register_name sigil register segment_override is_instruction_pointer is_negative magnitude sign signed_displacement lone_displacement relative_word base_text joint scale_text index_text sum_text inside bracket_segment bracketed lock_word repeat_word segment_word size_digits sized_word differs shows_size shows_address_size is_counter_jump needs_address_word address_word named_size is_by_w usual_size operand_size_word prefix_words counter_jump name_text size_name far_name is_far_pointer operand_size_name behind_size size_word separator bracket_operand operand_part bracket_layout
+unfolding count_leading_zeros memory_width operand_size row_size_bytes has_w vector_bytes width_in_row size_at memory_size hex_digit digit_at last_digits digit_count hexadecimal leading_zero number decimal word_name low_byte_name high_byte_name segment_name stack_name register_name sigil register segment_override is_instruction_pointer is_negative magnitude sign signed_displacement lone_displacement relative_word base_text joint scale_text index_text sum_text inside bracket_segment bracketed_address lock_word repeat_word segment_word size_digits sized_word differs shows_size shows_address_size is_counter_jump needs_address_word address_word named_size is_w_size usual_size operand_size_word prefix_words counter_jump name_text size_name far_name is_far_pointer operand_size_name behind_size size_word separator bracket_operand operand_part bracket_layout
 every_part = tt

@@ -7,7 +7,7 @@ use Rattle.x86_values.specs.declared.Register.{Register}
 use Rattle.x86_values.specs.declared.Register.TheVariants.{Eip, Rip}
 use Rattle.x86_values.specs.declared.DispSize.TheVariants.{D0}
 use Rattle.x86_values.specs.declared.Mem.{Mem}
-use Rattle.x86_values.specs.Wrapping.{width, wrapped}
+use Rattle.x86_values.specs.Wrapping.{width, modulo_width}
 use Rattle.text_parts.specs.declared.style.Style.{Style}
 use Rattle.text_parts.specs.declared.style.Style.TheVariants.{Intel, Masm, Att}
 use Rattle.text_parts.specs.Numbers.{number, decimal}
@@ -31,12 +31,12 @@ is_absolute m = is_none m.base && is_none m.index
 
 -- a number of address size is below zero as a signed number
 unfoldable pub is_negative : Bits → ℕ → Bool
-is_negative asize d = nat_lt (2 ^ width asize - 1) (2 * wrapped asize d)
+is_negative asize d = nat_lt (2 ^ width asize - 1) (2 * modulo_width asize d)
 
 -- its distance from zero as a signed number
 unfoldable pub magnitude : Bits → ℕ → ℕ
 magnitude asize d =
-    if is_negative asize d then 2 ^ width asize - wrapped asize d else wrapped asize d
+    if is_negative asize d then 2 ^ width asize - modulo_width asize d else modulo_width asize d
 
 -- the sign of a displacement beside a register; AT&T writes the displacement first, and no plus
 unfoldable pub sign : Style → Bool → List ℕ
@@ -98,6 +98,6 @@ bracket_segment Masm None m = if is_absolute m then codes "ds:" else []
 bracket_segment style seg m = segment_override style seg
 
 -- an address in brackets
-unfoldable pub bracketed : Style → Option Segment → Bits → Mem → List ℕ
-bracketed style seg asize m =
+unfoldable pub bracketed_address : Style → Option Segment → Bits → Mem → List ℕ
+bracketed_address style seg asize m =
     bracket_segment style seg m ++ (codes "[" ++ (inside style asize m ++ codes "]"))

@@ -15,7 +15,7 @@ use Rattle.text_parts.specs.declared.style.Style.{Style}
 use Rattle.text_parts.specs.declared.style.Style.TheVariants.{Masm}
 use Rattle.text_parts.specs.Numbers.{number}
 use Rattle.text_parts.specs.Registers.{register}
-use Rattle.text_parts.specs.Addresses.{bracketed}
+use Rattle.text_parts.specs.Addresses.{bracketed_address}
 use Rattle.text_parts.specs.PrefixWords.{text_address_size, prefix_words, name_text}
 
 -- ---- size words
@@ -74,7 +74,7 @@ bracket_operand style bits row instr n (Near x) = number style x
 bracket_operand style bits row instr n (Far selector offset) =
     number style selector ++ (codes ":" ++ number style offset)
 bracket_operand style bits row instr n (MemOperand m) =
-    size_word style row n ++ bracketed style instr.seg (text_address_size bits instr) m
+    size_word style row n ++ bracketed_address style instr.seg (text_address_size bits instr) m
 
 -- operand n with what stands in front of it
 unfoldable pub operand_part : Style → Bits → Row → Instr → ℕ → List ℕ

@@ -34,13 +34,13 @@ repeat_word F3 = codes "rep "
 -- ---- the segment, which a memory operand shows
 
 -- some operand is memory
-abbrev pub has_memory : Instr → Bool
-has_memory instr = list_any is_memory instr.ops
+abbrev pub shows_memory : Instr → Bool
+shows_memory instr = list_any is_memory instr.ops
 
 -- the segment's name, where no operand is memory
 unfoldable pub segment_word : Instr → List ℕ
 segment_word instr =
-    if has_memory instr then []
+    if shows_memory instr then []
     else (elim instr.seg [ None ↦ [] | Some s ↦ segment_name s ++ codes " " ])
 
 -- ---- sizes
@@ -113,14 +113,14 @@ named_size W0 = Some B32
 named_size W1 = Some B64
 
 -- the row takes its operand size from W
-unfoldable pub is_by_w : Size → Bool
-is_by_w W0 = true
-is_by_w W1 = true
-is_by_w _ = false
+unfoldable pub is_w_size : Size → Bool
+is_w_size W0 = true
+is_w_size W1 = true
+is_w_size _ = false
 
 -- the operand size that needs no word: 32 where W sets it, else the one without prefixes
 unfoldable pub usual_size : Bits → Row → Bits
-usual_size bits row = if is_by_w row.size then B32 else operand_size bits row false false
+usual_size bits row = if is_w_size row.size then B32 else operand_size bits row false false
 
 -- the operand size, where the row is printed with it and it is not the usual one
 unfoldable pub operand_size_word : Bits → Row → List ℕ

@@ -35,22 +35,22 @@ segment_name Fs = codes "fs"
 segment_name Gs = codes "gs"
 
 -- a name made of a number
-abbrev pub numbered : List ℕ → ℕ → List ℕ → List ℕ
-numbered front n back = front ++ (decimal n ++ back)
+abbrev pub name_with_number : List ℕ → ℕ → List ℕ → List ℕ
+name_with_number front n back = front ++ (decimal n ++ back)
 
 -- a general register: one of the first eight by its name, the others as r8 to r15 with the letter of their size
 abbrev pub general_name : List ℕ → ℕ → List ℕ → List ℕ
 general_name front n letter =
-    if nat_lt n 8 then front ++ word_name n else numbered (codes "r") n letter
+    if nat_lt n 8 then front ++ word_name n else name_with_number (codes "r") n letter
 
 -- a byte register other than AH, CH, DH and BH
 abbrev pub low_byte : ℕ → List ℕ
-low_byte n = if nat_lt n 8 then low_byte_name n else numbered (codes "r") n (codes "b")
+low_byte n = if nat_lt n 8 then low_byte_name n else name_with_number (codes "r") n (codes "b")
 
 -- a stack register: st0 in the Intel style, else st(0)
 unfoldable pub stack_name : Style → ℕ → List ℕ
-stack_name Intel n = numbered (codes "st") n []
-stack_name _ n = numbered (codes "st(") n (codes ")")
+stack_name Intel n = name_with_number (codes "st") n []
+stack_name _ n = name_with_number (codes "st(") n (codes ")")
 
 -- the name of a register, without the sign of a style in front
 unfoldable pub register_name : Style → Register → List ℕ
@@ -60,12 +60,12 @@ register_name style (R16 n) = general_name [] n (codes "w")
 register_name style (R32 n) = general_name (codes "e") n (codes "d")
 register_name style (R64 n) = general_name (codes "r") n []
 register_name style (Seg s) = segment_name s
-register_name style (Cr n) = numbered (codes "cr") n []
-register_name style (Dr n) = numbered (codes "dr") n []
+register_name style (Cr n) = name_with_number (codes "cr") n []
+register_name style (Dr n) = name_with_number (codes "dr") n []
 register_name style (St n) = stack_name style n
-register_name style (Mm n) = numbered (codes "mm") n []
-register_name style (Xmm n) = numbered (codes "xmm") n []
-register_name style (Ymm n) = numbered (codes "ymm") n []
+register_name style (Mm n) = name_with_number (codes "mm") n []
+register_name style (Xmm n) = name_with_number (codes "xmm") n []
+register_name style (Ymm n) = name_with_number (codes "ymm") n []
 register_name style Eip = codes "eip"
 register_name style Rip = codes "rip"
 

@@ -253,8 +253,8 @@ pub fn append_bracketed<const N: usize>(
     asize: Bits,
     m: &Mem,
 )
-    requires { array_vec_len out.old + length (spec.bracketed style segment asize m.now) ≤ N }
-    ensures { out.new.items ≡ out.old.items ++ spec.bracketed style segment asize m.now }
+    requires { array_vec_len out.old + length (spec.bracketed_address style segment asize m.now) ≤ N }
+    ensures { out.new.items ≡ out.old.items ++ spec.bracketed_address style segment asize m.now }
 {
     append_bracket_segment(out, style, segment, m);
     append_few(out, b"[");

@@ -4,7 +4,7 @@ ghost use Rattle.std.specs.Prelude.{◌≡◌, ◌<◌, ◌≤◌, ◌+◌, ◌+
 ghost use Rattle.arrayvec.specs.ArrayVec.{array_vec_len};
 ghost use Rattle.row_fit.specs.Sound.{sound};
 ghost use Rattle.text_parts.specs.Numbers.{number};
-ghost use Rattle.text_parts.specs.Addresses.{bracketed};
+ghost use Rattle.text_parts.specs.Addresses.{bracketed_address};
 ghost use Rattle.text_parts.specs.PrefixWords.{text_address_size};
 ghost use Rattle.text_parts.specs.Layout as spec;
 
@@ -137,9 +137,9 @@ fn append_memory<const N: usize>(
     requires number { n < 4 }
     requires sound { IsTrue (sound row.now) }
     requires room { array_vec_len out.old
-        + length (spec.size_word style row.now n ++ bracketed style instr.now.seg (text_address_size bits instr.now) m.now) ≤ N }
+        + length (spec.size_word style row.now n ++ bracketed_address style instr.now.seg (text_address_size bits instr.now) m.now) ≤ N }
     ensures { out.new.items ≡ out.old.items
-        ++ (spec.size_word style row.now n ++ bracketed style instr.now.seg (text_address_size bits instr.now) m.now) }
+        ++ (spec.size_word style row.now n ++ bracketed_address style instr.now.seg (text_address_size bits instr.now) m.now) }
 {
     append_size_word(out, style, row, n);
     append_bracketed(out, style, instr.seg, text_address_size(bits, instr), m);

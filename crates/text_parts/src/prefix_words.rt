@@ -40,7 +40,7 @@ fn append_repeat_word<const N: usize>(out: &mut ArrayVec<u8, N>, rep: Rep)
 
 /// Whether some operand is memory.
 pub fn has_memory(instr: &Instr) -> bool
-    ensures { result ≡ spec.has_memory instr.now }
+    ensures { result ≡ spec.shows_memory instr.now }
 {
     instr.ops.iter().any(|op| op.is_memory())
 }

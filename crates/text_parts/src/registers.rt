@@ -79,8 +79,8 @@ pub fn segment_name(segment: Segment) -> &'static [u8]
 /// Appends a name that is made of a number.
 #[inline]
 fn append_numbered<const N: usize>(out: &mut ArrayVec<u8, N>, front: &[u8], n: u8, back: &[u8])
-    requires { array_vec_len out.old + length (spec.numbered front.now n back.now) ≤ N }
-    ensures { out.new.items ≡ out.old.items ++ spec.numbered front.now n back.now }
+    requires { array_vec_len out.old + length (spec.name_with_number front.now n back.now) ≤ N }
+    ensures { out.new.items ≡ out.old.items ++ spec.name_with_number front.now n back.now }
 {
     append_few(out, front);
     append_decimal(out, n);

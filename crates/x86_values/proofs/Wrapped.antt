@@ -2,9 +2,9 @@
 use Rattle.std.proofs.Common.{◌≡◌, ℕ, arith}
 use Rattle.x86_values.specs.declared.Bits.{Bits}
 use Rattle.x86_values.specs.declared.Bits.TheVariants.{B16, B32, B64}
-use Rattle.x86_values.specs.Wrapping.{wrapped}
+use Rattle.x86_values.specs.Wrapping.{modulo_width}
 
-pub twice : (bits : Bits) (x : ℕ) → wrapped bits (wrapped bits x) ≡ wrapped bits x
+pub twice : (bits : Bits) (x : ℕ) → modulo_width bits (modulo_width bits x) ≡ modulo_width bits x
 twice B16 x = omega arith
 twice B32 x = omega arith
 twice B64 x = omega arith

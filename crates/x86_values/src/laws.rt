@@ -2,10 +2,10 @@
 
 ghost use Rattle.std.specs.Prelude.{◌≡◌, ℕ};
 ghost use Rattle.x86_values.specs.declared.Bits.{Bits};
-ghost use Rattle.x86_values.specs.Wrapping.{wrapped};
+ghost use Rattle.x86_values.specs.Wrapping.{modulo_width};
 
 /// A number that is wrapped twice is wrapped once.
 #[inline]
 pub fn wrapped_twice()
-    ensures { (bits : Bits) (x : ℕ) → wrapped bits (wrapped bits x) ≡ wrapped bits x }
+    ensures { (bits : Bits) (x : ℕ) → modulo_width bits (modulo_width bits x) ≡ modulo_width bits x }
 {}

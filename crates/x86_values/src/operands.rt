@@ -7,6 +7,7 @@ use crate::{Instr, Mem, Operand};
 
 impl Operand {
     /// Whether the instruction has no such operand.
+    #[inline]
     pub fn is_absent(&self) -> bool
         ensures { result ≡ spec.is_absent self.now }
     {

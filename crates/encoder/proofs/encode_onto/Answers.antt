@@ -1,6 +1,6 @@
 use Rattle.std.proofs.Common.{◌∙◌, ℕ, ap, sym, arith}
 use Rattle.std.proofs.lemmas.Option.{slice_get_past}
-use Rattle.x86_values.specs.Wrapping.{wrapped}
+use Rattle.x86_values.specs.Wrapping.{modulo_width}
 use Rattle.instruction_parts.specs.Bytes.{bytes_of}
 use Rattle.plain_spelling.specs.PlainTail.{plain_spelling}
 use Rattle.plain_spelling.specs.Expressible.{failure}
@@ -20,7 +20,7 @@ pub returns-then-not-exists_in : goal.returns-then-not-exists_in
 returns-then-not-exists_in c =
     let i = c.args.instr.now in
     let row = c.row_of-row.result in
-    let ip = wrapped c.args.bits c.args.ip in
+    let ip = modulo_width c.args.bits c.args.ip in
     ap (λ why. encoded_by why (bytes_of row (plain_spelling c.args.bits ip row i))) (sym (row_fails c.args.bits ip row i (sym c.exists_in.ensures ∙ c.if-not-exists_in.true)))
     ∙ by_row c.args.bits c.args.ip row i c.row_of-row.ensures
 
@@ -34,7 +34,7 @@ pub returns : goal.returns
 returns c =
     let i = c.args.instr.now in
     let row = c.row_of-row.result in
-    let at = c.wrap.ensures ∙ ap (λ (x : ℕ). wrapped c.args.bits x) c.from.ensures in
+    let at = c.wrap.ensures ∙ ap (λ (x : ℕ). modulo_width c.args.bits x) c.from.ensures in
     c.encode_row.ensures
     ∙ ap (λ (ip : ℕ). encoded_by (failure c.args.bits ip row i) (bytes_of row (plain_spelling c.args.bits ip row i))) at
     ∙ by_row c.args.bits c.args.ip row i c.row_of-row.ensures

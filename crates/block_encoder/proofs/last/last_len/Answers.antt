@@ -3,7 +3,7 @@ use Rattle.branch_sizes.specs.declared.plan.Choice.{Choice}
 use Rattle.branch_sizes.specs.Layout.{total, image_length}
 use Rattle.move_goals.specs.Items.{item_at}
 use Rattle.move_goals.specs.Plan.{plan_outside}
-use Rattle.move_layout.specs.Laid.{is_far, with_goal, far_goals}
+use Rattle.move_layout.specs.Laid.{has_far_form, with_goal, far_goals}
 use Rattle.block_encoder.specs.Last.{last_choice, last_layout}
 use Rattle.block_encoder.proofs.LastForms.{images-next, goals-next, last-small, last-bound, last-is}
 use Rattle.block_encoder.proofs.last.last_len.Goals as goal
@@ -24,8 +24,8 @@ items-preserved c =
       images_is = omega (arith, c.items.invariant.images_is, images-next c.laws_below.ensures bits items c.args.new_base c.items.k c.items-test.true, ap (λ (x : Choice). x.len) form);
       goals_is = c.add_goal.ensures
           ∙ (ap (λ (xs : List ℕ). with_goal xs c.is_far_form.result c.kept_target.result) c.items.invariant.goals_is
-          ∙ (ap (λ (f : Bool). with_goal goals f c.kept_target.result) (c.is_far_form.ensures ∙ ap (λ (x : Choice). is_far x.form) form)
-          ∙ (ap (with_goal goals (is_far (last_choice bits (item_at items c.items.k).instr).form)) c.kept_target.ensures
+          ∙ (ap (λ (f : Bool). with_goal goals f c.kept_target.result) (c.is_far_form.ensures ∙ ap (λ (x : Choice). has_far_form x.form) form)
+          ∙ (ap (with_goal goals (has_far_form (last_choice bits (item_at items c.items.k).instr).form)) c.kept_target.ensures
           ∙ sym (goals-next c.laws_below.ensures bits items c.args.new_base c.items.k c.items-test.true))));
     }
 

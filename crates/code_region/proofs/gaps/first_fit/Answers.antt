@@ -1,7 +1,7 @@
 use Rattle.std.proofs.Common.{◌≡◌, ◌-◌, ◌≤◌, ◌<◌, ℕ, ◌∙◌, sym, ap, arith, rules, length, take, drop, subst, refl}
 use Rattle.code_region.specs.Keeping.{AreApart, AreJoined}
 use Rattle.code_region.specs.Gaps.{gaps_between, first_gap, longest}
-use Rattle.code_region.specs.Searching.{span_at, end_from}
+use Rattle.code_region.specs.Searching.{gap_span_at, end_from}
 use Rattle.code_region.proofs.Apart.{AreApart-drop, AreApart-le, AreApart-raise, end_from-take, first_gap-skip, longest-skip, max-step, fit-here, next_start-at, next_start-end}
 use Rattle.code_region.proofs.Joined.{joined-start, joined-more, tight-insert}
 use Rattle.code_region.proofs.gaps.first_fit.Goals as goal
@@ -42,7 +42,7 @@ loop-index-preserved c =
     let i = c.loop-index.index in
     let inv = c.loop-index.invariant in
     let here = AreApart-drop _ c.args.limit c.args.spans.now i c.loop-index-test.true inv.apart in
-    let short : (span_at c.args.spans.now i).start - c.loop-index.from < c.args.needed = omega arith in
+    let short : (gap_span_at c.args.spans.now i).start - c.loop-index.from < c.args.needed = omega arith in
     record {
       within = omega arith;
       apart = here.2;

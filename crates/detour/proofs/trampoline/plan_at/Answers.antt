@@ -3,13 +3,13 @@ use Rattle.std.specs.List.{range_with_len}
 use Rattle.std.proofs.lemmas.List.FromFn.{length-map-range_with_len}
 use Rattle.branch_sizes.specs.Plan.{plan_of, one_block}
 use Rattle.move_goals.specs.Plan.{branch_with, plan_with}
-use Rattle.detour.specs.Trampoline.{goal_at, plan_at}
+use Rattle.detour.specs.Trampoline.{trampoline_goal_at, plan_at}
 use Rattle.detour.proofs.Planned.{one_more, items_fit}
 use Rattle.detour.proofs.trampoline.plan_at.Goals as goal
 
 pub items-preserved : goal.items-preserved
 items-preserved c =
-    one_more (branch_with c.args.bits c.args.items.now (goal_at c.args.start c.args.items.now c.args.count)) c.items.branches.items c.push.new.self.items c.items.k c.branch_at.result
+    one_more (branch_with c.args.bits c.args.items.now (trampoline_goal_at c.args.start c.args.items.now c.args.count)) c.items.branches.items c.push.new.self.items c.items.k c.branch_at.result
     c.items.invariant c.in_ok-push.ensures.items c.branch_at.ensures
 
 pub new-requires-clause-few : goal.new-requires-clause-few
@@ -17,14 +17,14 @@ new-requires-clause-few c =
     omega (
       arith,
       ap length c.items.invariant,
-      length-map-range_with_len (branch_with c.args.bits c.args.items.now (goal_at c.args.start c.args.items.now c.args.count)) 0 c.items.k,
+      length-map-range_with_len (branch_with c.args.bits c.args.items.now (trampoline_goal_at c.args.start c.args.items.now c.args.count)) 0 c.items.k,
       c.items.auto.k-end,
       c.requires.few,
     )
 
 pub new-requires-clause-fit : goal.new-requires-clause-fit
 new-requires-clause-fit c =
-    let f = branch_with c.args.bits c.args.items.now (goal_at c.args.start c.args.items.now c.args.count) in
+    let f = branch_with c.args.bits c.args.items.now (trampoline_goal_at c.args.start c.args.items.now c.args.count) in
     let all : c.items.k ≡ length c.args.items.now = omega (arith, c.items-test.false, c.items.auto.k-end) in
     let are : c.items.branches.items ≡ map f (range_with_len 0 (length c.args.items.now)) = c.items.invariant ∙ ap (λ n. map f (range_with_len 0 n)) all in
     items_fit c.laws_below.ensures c.args.bits c.args.items.now c.args.count c.args.start c.requires.within c.requires.placed c.items.branches.items are
@@ -32,7 +32,7 @@ new-requires-clause-fit c =
 pub returns : goal.returns
 unfolding plan_at plan_with
 returns c =
-    let f = branch_with c.args.bits c.args.items.now (goal_at c.args.start c.args.items.now c.args.count) in
+    let f = branch_with c.args.bits c.args.items.now (trampoline_goal_at c.args.start c.args.items.now c.args.count) in
     let all : c.items.k ≡ length c.args.items.now = omega (arith, c.items-test.false, c.items.auto.k-end) in
     let are : c.items.branches.items ≡ map f (range_with_len 0 (length c.args.items.now)) = c.items.invariant ∙ ap (λ n. map f (range_with_len 0 n)) all in
     c.new.ensures

@@ -1,8 +1,8 @@
 use Rattle.std.proofs.Common.{◌≡◌, map}
 use Rattle.std.specs.List.{range_with_len}
 use Rattle.move_goals.specs.Plan.{branch_with}
-use Rattle.detour.specs.Trampoline.{goal_at}
+use Rattle.detour.specs.Trampoline.{trampoline_goal_at}
 use Rattle.detour.proofs.trampoline.plan_at.Given as goal
 
 abbrev pub invariant-items : goal.invariant-items
-invariant-items l = l.branches.items ≡ map (branch_with l.bits l.items (goal_at l.start l.items l.count)) (range_with_len 0 l.k)
+invariant-items l = l.branches.items ≡ map (branch_with l.bits l.items (trampoline_goal_at l.start l.items l.count)) (range_with_len 0 l.k)

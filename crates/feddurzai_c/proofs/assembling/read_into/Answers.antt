@@ -15,6 +15,6 @@ pub returns-in-Err-NoInstruction : goal.returns-in-Err-NoInstruction
 returns-in-Err-NoInstruction c = record {
   answer = Err Text;
   is = c.in-Err-NoInstruction.ensures.none.0 refl;
-  said_is = omega (arith, ints, c.refused.ensures);
+  said_is = omega (arith, ints, c.refusal_status.ensures);
   left = refl;
 }

@@ -15,7 +15,7 @@ unfolding graph_within
 returns-in-Err c = record {
   graph = Err c.in-Err.why;
   is = c.in-Err.ensures;
-  answer_is = omega (arith, ints, c.refused.ensures);
+  answer_is = omega (arith, ints, c.refusal_status.ensures);
   starts_are = refl;
   leaders_are = refl;
   kinds_are = refl;

@@ -1,7 +1,7 @@
 use Rattle.std.proofs.Common.{◌≡◌, arith, length, rules, refl}
 use Rattle.code_region.specs.declared.refusals.PlaceError.TheVariants.{Empty, TooManyBlocks, Full}
 use Rattle.code_region.specs.Gaps.{longest}
-use Rattle.code_region.specs.State.{rounded, gaps_of}
+use Rattle.code_region.specs.State.{len_in_units, gaps_of}
 use Rattle.feddurzai_c.specs.Regions.{region_of}
 use Rattle.feddurzai_c.proofs.RegionCalls.{none-answer, many-answer, full-answer, rounded-some, refused-in, placed-in}
 use Rattle.feddurzai_c.proofs.region.reserve_in.Goals as goal
@@ -22,7 +22,7 @@ new_place-requires-clause-some c = rw c.round_up-needed.ensures (rounded-some c.
 pub returns-in-None : goal.returns-in-None
 returns-in-None c =
     let none = rw (c.end_of.ensures, c.round_up-needed.ensures, c.split_at.ensures.front) at c.in-None.ensures.none in
-    refused-in c.args.region.now c.args.blocks.now c.args.len c.args.place.now (Full (rounded c.args.len) (longest (gaps_of (region_of c.args.region.now c.args.blocks.now)))) _
+    refused-in c.args.region.now c.args.blocks.now c.args.len c.args.place.now (Full (len_in_units c.args.len) (longest (gaps_of (region_of c.args.region.now c.args.blocks.now)))) _
     (full-answer c.args.region.now c.args.blocks.now c.requires c.args.len (λ (e : c.args.len ≡ 0). omega (arith, e))
     (λ (e : c.args.region.now.count ≡ length c.args.blocks.now). omega (arith, e)) none) (search rules)
 

@@ -1,10 +1,10 @@
 use Rattle.std.proofs.Common.{◌≡◌, ◌≤◌, ◌+◌, ◌-◌, ap, ◌∙◌, arith, take, drop, length}
-use Rattle.instruction_info.specs.Effects.{memory_of, memory_in}
+use Rattle.instruction_info.specs.Effects.{implied_memory_of, memory_in}
 use Rattle.instruction_info.proofs.Effects.{take-few}
 use Rattle.instruction_info.proofs.effect.implied_memory.Goals as goal
 
 pub returns-clause-value : goal.returns-clause-value
-unfolding memory_of
+unfolding implied_memory_of
 returns-clause-value c =
     let e = c.effect_at-effect.result in
     let count : e.first_memory + e.memories - e.first_memory ≡ e.memories = omega arith in

@@ -1,6 +1,6 @@
 use Rattle.std.proofs.Common.{◌≡◌, ℕ, List, Some, None, ap, ◌∙◌}
 use Rattle.intel_words.specs.declared.words.OperandText.{OperandText}
-use Rattle.intel_words.specs.Scanning.{rest, word, behind}
+use Rattle.intel_words.specs.Scanning.{rest, word, rest_behind}
 use Rattle.intel_words.specs.ReadWords.{operands_in}
 use Rattle.intel_words.proofs.WholeText.{behind_prefixes, text-read, same-words}
 use Rattle.intel_words.proofs.reading.read_words.Goals as goal
@@ -15,8 +15,8 @@ pub returns-in-None : goal.returns-in-None
 returns-in-None c = record {
   printed = λ bits row name instr h e.
       let read = text-read bits row name instr c.args.text.now h e in
-      let at : c.rest.result.now ≡ rest (behind (behind_prefixes c.args.text.now)) =
-      c.rest.ensures ∙ ap rest (c.split_word.ensures.behind ∙ ap (λ (u : List ℕ). behind u) c.read_prefixes-prefixes.ensures.text) in
+      let at : c.rest.result.now ≡ rest (rest_behind (behind_prefixes c.args.text.now)) =
+      c.rest.ensures ∙ ap rest (c.split_word.ensures.behind ∙ ap (λ (u : List ℕ). rest_behind u) c.read_prefixes-prefixes.ensures.text) in
       none-is-some _ (c.in-None.ensures ∙ (ap operands_in at ∙ read.ops));
 }
 
@@ -24,8 +24,8 @@ pub returns-in-Some : goal.returns-in-Some
 returns-in-Some c = record {
   printed = λ bits row name instr h e.
       let read = text-read bits row name instr c.args.text.now h e in
-      let at : c.rest.result.now ≡ rest (behind (behind_prefixes c.args.text.now)) =
-      c.rest.ensures ∙ ap rest (c.split_word.ensures.behind ∙ ap (λ (u : List ℕ). behind u) c.read_prefixes-prefixes.ensures.text) in (
+      let at : c.rest.result.now ≡ rest (rest_behind (behind_prefixes c.args.text.now)) =
+      c.rest.ensures ∙ ap rest (c.split_word.ensures.behind ∙ ap (λ (u : List ℕ). rest_behind u) c.read_prefixes-prefixes.ensures.text) in (
         c.split_word.ensures.word ∙ (ap (λ (u : List ℕ). word u) c.read_prefixes-prefixes.ensures.text ∙ read.named),
         same-words bits row name instr c.read_prefixes-prefixes.result.lock c.read_prefixes-prefixes.result.rep c.read_prefixes-prefixes.result.seg
             c.read_prefixes-prefixes.result.asize c.read_prefixes-prefixes.result.osize c.in-Some.ops

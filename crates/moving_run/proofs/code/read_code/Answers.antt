@@ -1,7 +1,7 @@
 use Rattle.std.proofs.Common.{◌≡◌, ℕ, suc, ◌-◌, ◌≤◌, [], ◌∷◌, List, None, length, get_or, drop, refl, subst, arith, drop-cons, drop_of_length-le, add-one}
 use Rattle.std.proofs.lemmas.Result.{err_from_is_err_and}
 use Rattle.command_words.specs.declared.commands.BlockWords.{BlockWords}
-use Rattle.moving_run.specs.Code.{taken}
+use Rattle.moving_run.specs.Code.{next_block_bytes}
 use Rattle.moving_run.specs.Read.{ReadsBlock, IsBlockError}
 use Rattle.moving_run.proofs.Cutting.{cut_length}
 use Rattle.moving_run.proofs.Blocks.{blocks-start, blocks-step, blocks-end, blocks-stop}
@@ -32,7 +32,7 @@ returns-in_err-found c =
     let begun = rw front at c.loop-word.invariant in
     let start = length c.args.input.now - length rest in
     let B : List ℕ → Type 0 = λ xs. IsBlockError c.args.bits word.old start xs c.in_err-found.field-0.0 in
-    let stopped : IsBlockError c.args.bits word.old start (taken word.len rest) c.in_err-found.field-0.0 = subst B c.cut.ensures.block c.in_err-found.ensures.read in
+    let stopped : IsBlockError c.args.bits word.old start (next_block_bytes word.len rest) c.in_err-found.field-0.0 = subst B c.cut.ensures.block c.in_err-found.ensures.read in
     rw (p.1, p.2) (blocks-stop _ _ _ word _ rest _ _ c.loop-word.count start _ begun refl stopped)
 
 pub loop-word-preserved : goal.loop-word-preserved
@@ -44,7 +44,7 @@ loop-word-preserved c =
     let front : drop k words ≡ word ∷ drop (suc k) words = drop-cons words k _ c.loop-word-test.true in
     let begun = rw front at c.loop-word.invariant in
     let R : List ℕ → Type 0 = λ xs. ReadsBlock c.args.bits word.old xs c.loop-word.items.items c.read_block.new.items.items c.in_ok-found.found in
-    let read : R (taken word.len rest) = subst R c.cut.ensures.block c.in_ok-found.ensures.read in
+    let read : R (next_block_bytes word.len rest) = subst R c.cut.ensures.block c.in_ok-found.ensures.read in
     let room : length c.read_block.new.items.items ≤ 65536 = omega (arith, c.in_ok-found.ensures.few, c.read_block.new.items.ok) in
     let more = blocks-step _ _ _ word _ rest _ _ _ c.loop-word.count c.in_ok-found.found begun read room in
     rw (add-one, c.cut.ensures.rest, c.from-count.ensures, c.in_ok-add_span.ensures) more

@@ -2,7 +2,7 @@ use Rattle.std.proofs.Common.{◌≡◌, ℕ, ◌-◌, ◌/◌, false, drop, ap,
 use Rattle.std.proofs.Math.ListN.{drop_of_length-le, length-set}
 use Rattle.std.specs.Fmt.{digits, digits_onto}
 use Rattle.run_parts.proofs.HexDigits.{all-digits, last-digit, one-digit, drop-set-cons}
-use Rattle.run_parts.specs.Hexadecimal.{hexadecimal}
+use Rattle.run_parts.specs.Hexadecimal.{hex_number}
 use Rattle.run_parts.proofs.hexadecimal.write_digits.Goals as goal
 
 pub loop-at-init : goal.loop-at-init
@@ -26,7 +26,7 @@ loop-at-preserved c =
     }
 
 pub returns-then-rest-eq0 : goal.returns-then-rest-eq0
-unfolding hexadecimal
+unfolding hex_number
 returns-then-rest-eq0 c =
     let l = c.loop-at in
     let written = drop-set-cons l.places l.at _ _ c.loop-at-test.true (omega arith) c.hex_digit.ensures in
@@ -36,7 +36,7 @@ returns-then-rest-eq0 c =
     }
 
 pub returns : goal.returns
-unfolding hexadecimal
+unfolding hex_number
 returns c =
     let l = c.loop-at in
     let none : l.at ≡ 0 = omega (arith, c.loop-at-test.false) in

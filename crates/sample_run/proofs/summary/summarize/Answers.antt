@@ -4,13 +4,13 @@ use Rattle.moving_run.specs.Code.{placed_in}
 use Rattle.sample_run.specs.Sample.{grown}
 use Rattle.opcode_rows.specs.Sweep.{IsSweep}
 use Rattle.x86_values.specs.declared.Bits.TheVariants.{B64}
-use Rattle.sample_run.specs.Generator.{code_base, code_of}
+use Rattle.sample_run.specs.Generator.{sample_base, sample_code}
 use Rattle.sample_run.specs.Made.{HasInstructions}
-use Rattle.moving_run.specs.Moving.{IsRefusal, MovesInput}
+use Rattle.moving_run.specs.Moving.{IsMovingRefusal, MovesInput}
 use Rattle.sample_run.specs.Facts.{made_block}
 use Rattle.sample_run.proofs.summary.summarize.Goals as goal
 
-short : (n : ℕ) → HasInstructions n → n ≤ 65536 → length (code_of n) ≤ 1048576
+short : (n : ℕ) → HasInstructions n → n ≤ 65536 → length (sample_code n) ≤ 1048576
 short n made few = let s = made.short in omega arith
 
 pub move_input-requires-clause-short : goal.move_input-requires-clause-short
@@ -31,7 +31,7 @@ returns-in-Ok-move_input c =
     let code_is = c.deref-in-Ok-move_input.ensures.value ∙ c.in-Ok.ensures in
     let input_is = c.deref.ensures.value ∙ c.in-Ok.ensures in
     let listed = c.listing_len.ensures in
-    let sweep = subst (λ (xs : List ℕ). IsSweep B64 code_base xs listed.0) code_is listed.1.0 in
+    let sweep = subst (λ (xs : List ℕ). IsSweep B64 sample_base xs listed.0) code_is listed.1.0 in
     let m = c.in-Ok-move_input.moved.blocks in
     let moves = subst (λ (xs : List ℕ). MovesInput B64 made_block xs c.in-Ok-move_input.moved.items.items m) input_is c.in-Ok-move_input.ensures in
     let moved = c.made_code_reaches_its_targets.ensures.made-moved n few listed.0 c.in-Ok-move_input.moved.items.items m sweep moves in
@@ -45,7 +45,7 @@ returns-in-Ok-move_input c =
       text = listed.1.1;
       moved_bytes = ap length c.bytes.ensures;
       grown_items = c.grown.ensures
-          ∙ (ap (λ (xs : List Placed). grown xs c.forms.result.now) (c.deref-in-Ok-move_input-2.ensures.value ∙ moved.0) ∙ ap (grown (placed_in code_base listed.0)) c.forms.ensures);
+          ∙ (ap (λ (xs : List Placed). grown xs c.forms.result.now) (c.deref-in-Ok-move_input-2.ensures.value ∙ moved.0) ∙ ap (grown (placed_in sample_base listed.0)) c.forms.ensures);
       sum_is = c.sum_of.ensures ∙ ap sum c.bytes-in-Ok-move_input.ensures;
     }
 
@@ -53,4 +53,4 @@ pub returns : goal.returns
 returns c =
     let input_is = c.deref.ensures.value ∙ c.in-Ok.ensures in
     c.made_code_reaches_its_targets.ensures.memory-alone c.args.count c.requires c.in-Err.status
-    (subst (λ (xs : List ℕ). IsRefusal B64 made_block xs c.in-Err.status) input_is c.in-Err.ensures)
+    (subst (λ (xs : List ℕ). IsMovingRefusal B64 made_block xs c.in-Err.status) input_is c.in-Err.ensures)

@@ -1,5 +1,5 @@
 use Rattle.std.proofs.Common.{◌∙◌, ap, sym, subst, Err}
-use Rattle.code_region.specs.Placing.{placed}
+use Rattle.code_region.specs.Placing.{after_place}
 use Rattle.step_slots.specs.Stepping.{IsBlockStepped}
 use Rattle.step_slots.specs.declared.refusals.StepError.{StepError}
 use Rattle.step_slots.proofs.StepAnswers.{items-placed, reserved-is, answer-is, outside-is, length-refusal, reach-refusal, not-moved, moved-can_fill, given-back}
@@ -25,7 +25,7 @@ fill-requires c =
     let there = answer-is region _ _ len c.place.result _ c.place.ensures.answer c.in-Ok.is in
     let moved = outside-is c.args.bits c.step_items-items.result _ c.step_items-items.ensures place c.move_outside.result _ c.in-Ok-move_outside.is c.move_outside.ensures in
     moved-can_fill c.laws_below.ensures c.args.bits c.args.item c.requires.placed region c.requires.inside c.requires.sound c.requires.units place there
-    c.in-Ok-move_outside.moved moved c.place.new.self (c.place.ensures.state ∙ ap (placed region) len) c.bytes.result.now c.bytes.ensures
+    c.in-Ok-move_outside.moved moved c.place.new.self (c.place.ensures.state ∙ ap (after_place region) len) c.bytes.result.now c.bytes.ensures
 
 pub move_refusal-requires : goal.move_refusal-requires
 move_refusal-requires c =
@@ -45,6 +45,6 @@ returns-in-Err-move_outside c =
     let there = answer-is region _ _ len c.place.result _ c.place.ensures.answer c.in-Ok.is in
     let moved = outside-is c.args.bits c.step_items-items.result _ c.step_items-items.ensures place c.move_outside.result _ c.in-Err-move_outside.is c.move_outside.ensures in
     let same = given-back c.laws_below.ensures c.args.bits c.args.item c.requires.placed region c.requires.inside c.requires.sound c.requires.units place there
-    c.place.new.self (c.place.ensures.state ∙ ap (placed region) len) new c.release.ensures.state in
+    c.place.new.self (c.place.ensures.state ∙ ap (after_place region) len) new c.release.ensures.state in
     subst (λ (why : StepError). IsBlockStepped c.args.bits region c.args.item (Err why) new) (sym c.move_refusal.ensures)
     (not-moved c.laws_below.ensures c.args.bits c.args.item c.requires.placed region c.requires.inside c.requires.sound c.requires.units place there c.in-Err-move_outside.why moved new same)

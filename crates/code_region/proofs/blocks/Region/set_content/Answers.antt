@@ -1,6 +1,6 @@
 use Rattle.std.proofs.Common.{arith, ap, length}
 use Rattle.std.proofs.lemmas.List.{with_items_is}
-use Rattle.code_region.specs.Contents.{bytes_of}
+use Rattle.code_region.specs.Contents.{content_bytes}
 use Rattle.code_region.proofs.Found.{apart-addresses, at-same, nowhere-same, live_block-nowhere, found-inside, can_fill-none, fits-found, refilled-same}
 use Rattle.code_region.proofs.blocks.Region.set_content.Goals as goal
 
@@ -13,7 +13,7 @@ pub unreachable-requires : goal.unreachable-requires
 unreachable-requires c =
     let f = c.self.inside in
     let none = nowhere-same f.base c.args.place _ f.spans.items c.deref.ensures.value (c.in-None.ensures {u = tt}).missing in
-    can_fill-none c.args.self.now c.args.place (length (bytes_of c.args.content))
+    can_fill-none c.args.self.now c.args.place (length (content_bytes c.args.content))
     (live_block-nowhere f.base f.max_blocks f.bytes.items f.spans.items c.args.self.now c.args.place c.self.view_is none) c.requires
 
 pub write-requires-clause-inside : goal.write-requires-clause-inside
@@ -28,14 +28,14 @@ pub write-requires-clause-fits : goal.write-requires-clause-fits
 write-requires-clause-fits c =
     let f = c.self.inside in
     let at = at-same f.base c.args.place _ f.spans.items c.in-Some.index c.deref.ensures.value (c.in-Some.ensures {u = tt}).found in
-    fits-found f.base f.max_blocks _ c.args.place c.in-Some.index (length (bytes_of c.args.content)) f.bytes.items f.spans.items c.args.self.now c.index-span.result.now
+    fits-found f.base f.max_blocks _ c.args.place c.in-Some.index (length (content_bytes c.args.content)) f.bytes.items f.spans.items c.args.self.now c.index-span.result.now
     c.self.view_is c.self.invariant.0 at c.index-span.ensures c.requires
 
 pub invariant_of-self : goal.invariant_of-self
 invariant_of-self c =
     let f = c.self.inside in
     let written = with_items_is f.bytes c.write.new.image (omega arith) in (
-      (refilled-same f.base f.max_blocks _ c.args.place c.in-Some.index f.bytes.items _ _ _ (bytes_of c.args.content) f.spans.items _ c.args.self.now c.index-span.result.now c.self.view_is
+      (refilled-same f.base f.max_blocks _ c.args.place c.in-Some.index f.bytes.items _ _ _ (content_bytes c.args.content) f.spans.items _ c.args.self.now c.index-span.result.now c.self.view_is
           c.self.invariant.0 c.deref.ensures.value (c.in-Some.ensures {u = tt}).found c.index-span.ensures c.requires c.deref_mut.ensures.value c.write.ensures written).0,
       c.self.invariant.1,
     )
@@ -44,5 +44,5 @@ pub returns : goal.returns
 returns c =
     let f = c.self.inside in
     let written = with_items_is f.bytes c.write.new.image (omega arith) in
-    (refilled-same f.base f.max_blocks _ c.args.place c.in-Some.index f.bytes.items _ _ _ (bytes_of c.args.content) f.spans.items _ c.args.self.now c.index-span.result.now c.self.view_is
+    (refilled-same f.base f.max_blocks _ c.args.place c.in-Some.index f.bytes.items _ _ _ (content_bytes c.args.content) f.spans.items _ c.args.self.now c.index-span.result.now c.self.view_is
     c.self.invariant.0 c.deref.ensures.value (c.in-Some.ensures {u = tt}).found c.index-span.ensures c.requires c.deref_mut.ensures.value c.write.ensures written).1

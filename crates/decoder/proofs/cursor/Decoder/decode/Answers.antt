@@ -1,6 +1,6 @@
 use Rattle.std.proofs.Common.{◌≡◌, ◌+◌, drop, length, Result, Ok, ap, ◌∙◌, subst, arith}
 use Rattle.x86_values.specs.declared.Decoded.{Decoded}
-use Rattle.x86_values.specs.Wrapping.{wrapped}
+use Rattle.x86_values.specs.Wrapping.{modulo_width}
 use Rattle.prefixes.specs.Answer.{mode_of}
 use Rattle.opcode_rows.specs.Table.{table}
 use Rattle.opcode_rows.specs.Reading.{IsRead}
@@ -18,8 +18,8 @@ returns-in_default-clause-reading g c =
     let ip_is : c.self.inside.ip ≡ c.args.self.now.ip = ap (λ (d : Cursor). d.ip) c.self.view_is in
     let position_is : c.self.inside.position ≡ c.args.self.now.position = ap (λ (d : Cursor). d.position) c.self.view_is in
     let sum : c.from.result + c.self.inside.position ≡ c.args.self.now.ip + c.args.self.now.position = omega (arith, c.from.ensures) in
-    let address : c.wrap-address.result ≡ wrapped bits (c.args.self.now.ip + c.args.self.now.position) =
-    c.wrap-address.ensures ∙ ap (λ b. wrapped b (c.from.result + c.self.inside.position)) c.mode_of.ensures ∙ ap (wrapped bits) sum in
+    let address : c.wrap-address.result ≡ modulo_width bits (c.args.self.now.ip + c.args.self.now.position) =
+    c.wrap-address.ensures ∙ ap (λ b. modulo_width b (c.from.result + c.self.inside.position)) c.mode_of.ensures ∙ ap (modulo_width bits) sum in
     let rest : c.split_at.result.1.now ≡ drop c.args.self.now.position c.args.self.now.bytes =
     c.split_at.ensures.back ∙ ap (λ n. drop n c.self.inside.bytes.now) position_is ∙ ap (drop c.args.self.now.position) bytes_are in
     reading_at table bits c.wrap-address.result _ _ _ (reading_of c.decode-answer.result) address rest c.decode-answer.ensures.reading
@@ -33,8 +33,8 @@ returns-in-Ok-clause-alone g c =
     let ip_is : c.self.inside.ip ≡ c.args.self.now.ip = ap (λ (d : Cursor). d.ip) c.self.view_is in
     let position_is : c.self.inside.position ≡ c.args.self.now.position = ap (λ (d : Cursor). d.position) c.self.view_is in
     let sum : c.from.result + c.self.inside.position ≡ at = omega (arith, c.from.ensures) in
-    let address : c.wrap-address.result ≡ wrapped bits at =
-    c.wrap-address.ensures ∙ ap (λ b. wrapped b (c.from.result + c.self.inside.position)) c.mode_of.ensures ∙ ap (wrapped bits) sum in
+    let address : c.wrap-address.result ≡ modulo_width bits at =
+    c.wrap-address.ensures ∙ ap (λ b. modulo_width b (c.from.result + c.self.inside.position)) c.mode_of.ensures ∙ ap (modulo_width bits) sum in
     let rest : c.split_at.result.1.now ≡ behind =
     c.split_at.ensures.back ∙ ap (λ n. drop n c.self.inside.bytes.now) position_is ∙ ap (drop c.args.self.now.position) bytes_are in
     let read : IsRead bits at behind (reading_of c.decode-answer.result) =

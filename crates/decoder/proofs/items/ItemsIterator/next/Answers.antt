@@ -1,5 +1,5 @@
 use Rattle.std.proofs.Common.{◌≡◌, ◌+◌, ap, sym, refl, subst, arith, ◌∙◌}
-use Rattle.x86_values.specs.Wrapping.{wrapped}
+use Rattle.x86_values.specs.Wrapping.{modulo_width}
 use Rattle.opcode_rows.specs.Reading.{IsRead}
 use Rattle.decoder.specs.Answer.{reading_of}
 use Rattle.decoder.specs.Items.{item_len}
@@ -11,9 +11,9 @@ pub returns-clause-steps : goal.returns-clause-steps
 returns-clause-steps c =
     let bits = c.args.self.now.bits in
     let bytes = c.args.self.now.bytes.now in
-    let address : c.wrap-ip.result ≡ wrapped bits c.args.self.now.ip = c.wrap-ip.ensures ∙ ap (wrapped bits) c.from.ensures in
-    let moved : c.wrap-self.result ≡ wrapped bits (c.wrap-ip.result + c.match-reading.len) =
-    c.wrap-self.ensures ∙ ap (λ k. wrapped bits (k + c.match-reading.len)) c.from-2.ensures
+    let address : c.wrap-ip.result ≡ modulo_width bits c.args.self.now.ip = c.wrap-ip.ensures ∙ ap (modulo_width bits) c.from.ensures in
+    let moved : c.wrap-self.result ≡ modulo_width bits (c.wrap-ip.result + c.match-reading.len) =
+    c.wrap-self.ensures ∙ ap (λ k. modulo_width bits (k + c.match-reading.len)) c.from-2.ensures
     in
     elim c.match-reading.branch [
       | in-Ok w ↦

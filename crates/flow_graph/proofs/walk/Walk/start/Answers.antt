@@ -1,6 +1,6 @@
 use Rattle.std.proofs.Common.{◌∙◌, ap, subst, length, arith, refl, rules}
 use Rattle.flow_graph.proofs.Entering.{enters_none, enters_more}
-use Rattle.flow_graph.specs.Walks.{IsEntered}
+use Rattle.flow_graph.specs.Walks.{IsStarted}
 use Rattle.flow_graph.proofs.walk.Walk.start.Goals as goal
 
 pub entries-init : goal.entries-init
@@ -20,7 +20,7 @@ entries-preserved c = record {
 
 pub returns : goal.returns
 returns c = record {
-  entered = subst (λ n. IsEntered c.args.entries.now c.args.count n c.entries.walk.marks.items c.entries.walk.order.items) (omega arith)
+  entered = subst (λ n. IsStarted c.args.entries.now c.args.count n c.entries.walk.marks.items c.entries.walk.order.items) (omega arith)
       c.entries.invariant.entered;
   flows = c.entries.invariant.flows;
 }
