@@ -12,25 +12,24 @@ use Rattle.code_region.specs.Placing.{place_answer, with_block, unfilled_block, 
 use Rattle.code_region.specs.Releasing.{release_answer, after_release}
 use Rattle.code_region.specs.Filling.{with_content, can_fill}
 use Rattle.code_region.specs.Keeping.{IsSound}
-use Rattle.code_region.specs.Laws.{HoldsContents}
+use Rattle.live_entries.specs.Order.{AreAscending, StandsAt}
+use Rattle.live_entries.specs.Keeping.{AreLive}
 use Rattle.detour.specs.declared.start.StartTarget.{StartTarget}
 use Rattle.hook_slots.specs.declared.making.Hook.{Hook}
 use Rattle.hook_slots.specs.declared.refusals.InstallError.{InstallError}
 use Rattle.hook_slots.specs.declared.refusals.InstallError.TheVariants.{Memory, Full, NoDetour, TooLong}
-use Rattle.hook_slots.specs.State.{HooksState, no_hooks, with_hook, hook_at}
+use Rattle.hook_slots.specs.State.{HooksState, hook_place, no_hooks, with_hook, hook_at}
 use Rattle.hook_slots.specs.Opening.{make_refusal}
 use Rattle.hook_slots.specs.Installing.{IsHookPlaced, place_refusal, hooks_after, IsInstalled}
 use Rattle.hook_slots.specs.Removing.{remove_of, remove_answer, without_hook, after_removal}
 use Rattle.hook_slots.specs.declared.commands.HookCommand.{HookCommand}
 use Rattle.hook_slots.specs.declared.commands.HookCommand.TheVariants.{Install, Remove}
 use Rattle.hook_slots.specs.declared.commands.HookReply.{HookReply}
-use Rattle.hook_slots.specs.Running.{IsRun}
-use Rattle.hook_slots.specs.Holding.{AreApart, AreDetours, HoldsHooks}
-use Rattle.hook_slots.specs.Keeping.{IsSlot, AreSpaced, IsBlockOf, AreBlocksOf, AreKept, AreKeptIn, AreAscending, StandsAt}
-use Rattle.hook_slots.specs.LawsBelow.{LawsBelow}
-use Rattle.hook_slots.proofs.Region.{placed-none, placed-room, placed-can_fill, filled-is, filled-sound, release-found, release-none, release-why}
-use Rattle.hook_slots.proofs.Spaced.{rounded-slot, slots-with, slots-without, with-longer, without-shorter, is-full, place-slot}
-use Rattle.hook_slots.proofs.Blocks.{blocks-count, blocks-at, blocks-ascend, blocks-with, blocks-without, blocks-stand, blocks-none, blocks-found}
+use Rattle.hook_slots.specs.Running.{IsHookRun}
+use Rattle.hook_slots.specs.Holding.{HooksAreApart, AreDetours, HoldsHooks}
+use Rattle.hook_slots.specs.Keeping.{IsSlot, AreSpaced, IsHookBlock, AreHooksKept, AreKeptIn}
+use Rattle.hook_slots.specs.LawsBelow.{HookLawsBelow}
+use Rattle.hook_slots.proofs.Spaced.{rounded-slot, slots-with, slots-without, is-full, place-slot}
 
 -- a number that is not another, and not above it
 below : (n m : ℕ) → (n ≡ m → ⊥) → n ≤ m → n < m
@@ -39,17 +38,14 @@ below n m ne le = elim (cases_Bool (nat_lt n m)) [
   | inr ge ↦ absurd (ne (omega (arith, le, ltb-false n m ge)))
 ]
 
-no_block : LiveBlock
-no_block = record { place = 0; len = 0; content = [] }
-
 -- ---- a slot that is asked for
 
-module _ (laws : LawsBelow) (slot : ℕ) (region : RegionState) (sound : IsSound region) (spaced : AreSpaced slot region) where
+module _ (laws : HookLawsBelow) (slot : ℕ) (region : RegionState) (sound : IsSound region) (spaced : AreSpaced slot region) where
   -- a trampoline that has no more bytes than a slot is filled in
   pub slot-can_fill : (place : ℕ) → place_answer region slot ≡ Ok place → (n : ℕ) → n ≤ slot → IsTrue (can_fill (after_place region slot) place n)
   slot-can_fill place e n le =
       let same = rounded-slot slot spaced.is_slot in
-      placed-can_fill laws region slot place sound e n (omega (arith, le, same))
+      laws.fills.placed-can_fill region slot place sound e n (omega (arith, le, same))
 
   -- a place that is given back leaves the region as it was
   pub given-back : (place : ℕ) → place_answer region slot ≡ Ok place → (now : RegionState) → now ≡ after_place region slot → (new : RegionState) → new ≡ after_release now place → new ≡ region
@@ -66,24 +62,15 @@ full-placed bits slot region sound spaced ip code to start why e new same said i
 
 -- ---- what is kept
 
-module _ (laws : LawsBelow) (bits : Bits) (slot : ℕ) (region : RegionState) (hooks : List Hook) (room : ℕ) (kept : AreKept bits slot region hooks room) where
-  pub kept-ascend : AreAscending 0 hooks
-  kept-ascend = lower region.base hooks (blocks-ascend bits slot region.base (region.base + region.size) hooks region.live kept.blocks kept.sound)
-    where
-      lower : (high : ℕ) (rest : List Hook) → AreAscending high rest → AreAscending 0 rest
-      lower high [] h = tt
-      lower high (s ∷ rest) h = (omega arith, h.1)
+module _ (laws : HookLawsBelow) (bits : Bits) (slot : ℕ) (region : RegionState) (hooks : List Hook) (room : ℕ) (kept : AreHooksKept bits slot region hooks room) where
+  pub kept-ascend : AreAscending hook_place 0 hooks
+  kept-ascend = laws.entries.live-ascend (bits, slot) region hooks room kept.live
 
   -- an install
   module _ (ip : ℕ) (code : List ℕ) (to : ℕ) (start : StartTarget) (hook : Hook) (new : RegionState)
       (made : IsHookPlaced bits slot region ip code to start (Ok hook) new) where
     pub install-room : length hooks < room
-    install-room =
-        let many = placed-room laws region slot hook.place kept.sound made.0.0 in
-        let count = blocks-count bits slot hooks region.live kept.blocks in
-        let fewer = below (length region.live) region.max_blocks many kept.spaced.few in
-        let roomy = kept.roomy in
-        omega (arith, fewer, count, roomy)
+    install-room = laws.entries.live-room (bits, slot) region hooks room kept.live slot hook.place made.0.0
 
     bytes : List ℕ
     bytes = hook.detour.trampoline
@@ -103,30 +90,12 @@ module _ (laws : LawsBelow) (bits : Bits) (slot : ℕ) (region : RegionState) (h
 
     is_now : new ≡ now
     unfolding bytes block now
-    is_now = made.1 ∙ filled-is laws region slot hook.place kept.sound made.0.0 bytes fits
+    is_now = made.1 ∙ laws.fills.filled-is region slot hook.place kept.live.sound made.0.0 bytes
 
-    sound_new : IsSound new
-    unfolding bytes
-    sound_new = subst IsSound (sym made.1) (filled-sound laws region slot hook.place kept.sound made.0.0 bytes fits)
-
-    spaced_now : AreSpaced slot now
+    live_now : (more : ℕ) → room ≤ more → AreLive (IsHookBlock bits slot) now (with_hook hook hooks) more
     unfolding bytes block now
-    spaced_now =
-        let at = place-slot slot region kept.spaced kept.sound hook.place made.0.0 in
-        let many = placed-room laws region slot hook.place kept.sound made.0.0 in
-        let fewer = below (length region.live) region.max_blocks many kept.spaced.few in
-        let longer = with-longer block region.live in
-        record {
-          is_slot = kept.spaced.is_slot;
-          slots = slots-with region.base slot block region.live same_slot at.0 at.1 kept.spaced.slots;
-          few = omega (arith, fewer, longer);
-          room = kept.spaced.room;
-        }
-
-    blocks_now : AreBlocksOf bits slot (with_hook hook hooks) now.live
-    unfolding bytes block now
-    blocks_now =
-        let this : IsBlockOf bits slot hook block =
+    live_now more roomy =
+        let this : IsHookBlock bits slot hook block =
         record {
           place = refl;
           len = same_slot;
@@ -134,62 +103,63 @@ module _ (laws : LawsBelow) (bits : Bits) (slot : ℕ) (region : RegionState) (h
           short = made.0.1.1;
           content = ap (λ (n : ℕ). hook.detour.trampoline ++ replicate (n - length hook.detour.trampoline) int3) same_slot;
         } in
-        blocks-with bits slot hook block hooks region.live this (placed-none laws region slot hook.place kept.sound made.0.0) kept.blocks
+        subst (λ (r : RegionState). AreLive (IsHookBlock bits slot) r (with_hook hook hooks) more)
+        (laws.fills.filled-is region slot hook.place kept.live.sound made.0.0 bytes)
+        (laws.entries.live-more (bits, slot) region hooks room kept.live slot hook.place made.0.0 bytes fits hook refl this more roomy)
+
+    spaced_now : AreSpaced slot now
+    unfolding bytes block now
+    spaced_now =
+        let at = place-slot slot region kept.spaced kept.live.sound hook.place made.0.0 in
+        record {
+          is_slot = kept.spaced.is_slot;
+          slots = slots-with region.base slot block region.live same_slot at.0 at.1 kept.spaced.slots;
+          few = (live_now room (omega arith)).few;
+          room = kept.spaced.room;
+        }
 
     -- **a hook more is kept**
-    pub install-kept : (more : ℕ) → room ≤ more → (after : List Hook) → after ≡ with_hook hook hooks → AreKept bits slot new after more
+    pub install-kept : (more : ℕ) → room ≤ more → (after : List Hook) → after ≡ with_hook hook hooks → AreHooksKept bits slot new after more
     unfolding now
     install-kept more roomy after same =
-        let fit = kept.roomy in
-        let on_now : AreKept bits slot now (with_hook hook hooks) more =
-        record {
-          sound = subst IsSound is_now sound_new;
-          spaced = spaced_now;
-          blocks = blocks_now;
-          roomy = omega (arith, fit, roomy);
-        } in
-        subst (λ (r : RegionState). AreKept bits slot r after more) (sym is_now)
-        (subst (λ (xs : List Hook). AreKept bits slot now xs more) (sym same) on_now)
+        let on_now : AreHooksKept bits slot now (with_hook hook hooks) more = record { spaced = spaced_now; live = live_now more roomy } in
+        subst (λ (r : RegionState). AreHooksKept bits slot r after more) (sym is_now)
+        (subst (λ (xs : List Hook). AreHooksKept bits slot now xs more) (sym same) on_now)
 
     pub install-max : new.max_blocks ≡ region.max_blocks
     unfolding now
     install-max = ap (λ (r : RegionState). r.max_blocks) is_now
 
   -- a removal
-  pub remove-kept : (place : ℕ) → AreKept bits slot (after_release region place) (without_hook place hooks) room
+  pub remove-kept : (place : ℕ) → AreHooksKept bits slot (after_release region place) (without_hook place hooks) room
   unfolding after_release
   remove-kept place =
-      let fewer = without-shorter place region.live in
-      let few = kept.spaced.few in
+      let live = laws.entries.live-less (bits, slot) region hooks room kept.live place in
       record {
-        sound = laws.regions.released-sound region place kept.sound;
         spaced = record {
           is_slot = kept.spaced.is_slot;
           slots = slots-without region.base slot place region.live kept.spaced.slots;
-          few = omega (arith, fewer, few);
+          few = live.few;
           room = kept.spaced.room;
         };
-        blocks = blocks-without bits slot place hooks region.live kept.blocks;
-        roomy = kept.roomy;
+        live = live;
       }
 
-  pub remove-stands : (place : ℕ) → release_answer region place ≡ Ok tt → StandsAt place hooks
-  remove-stands place e =
-      let found = release-found region place e in
-      blocks-stand bits slot place found.0 hooks region.live kept.blocks found.1
+  pub remove-stands : (place : ℕ) → release_answer region place ≡ Ok tt → StandsAt hook_place place hooks
+  remove-stands place e = laws.entries.live-stands (bits, slot) region hooks room kept.live place e
 
   pub remove-made : (place : ℕ) (new : RegionState) → new ≡ after_release region place → (left : List Hook) → left ≡ without_hook place hooks
-      → (more : ℕ) → more ≡ room → AreKept bits slot new left more
+      → (more : ℕ) → more ≡ room → AreHooksKept bits slot new left more
   remove-made place new is left same more full =
-      subst (λ (r : RegionState). AreKept bits slot r left more) (sym is)
-      (subst (λ (xs : List Hook). AreKept bits slot (after_release region place) xs more) (sym same)
-      (subst (λ (n : ℕ). AreKept bits slot (after_release region place) (without_hook place hooks) n) (sym full) (remove-kept place)))
+      subst (λ (r : RegionState). AreHooksKept bits slot r left more) (sym is)
+      (subst (λ (xs : List Hook). AreHooksKept bits slot (after_release region place) xs more) (sym same)
+      (subst (λ (n : ℕ). AreHooksKept bits slot (after_release region place) (without_hook place hooks) n) (sym full) (remove-kept place)))
 
   remove-none : (place : ℕ) (why : NotTaken) → release_answer region place ≡ Err why → hook_at place hooks ≡ None
-  remove-none place why e = blocks-found bits slot place hooks region.live kept.blocks (release-none region place why e)
+  remove-none place why e = laws.entries.live-absent (bits, slot) region hooks room kept.live place why e
 
   remove-same : (place : ℕ) (why : NotTaken) → release_answer region place ≡ Err why → without_hook place hooks ≡ hooks
-  remove-same place why e = blocks-none bits slot place hooks region.live kept.blocks (release-none region place why e)
+  remove-same place why e = laws.entries.live-same (bits, slot) region hooks room kept.live place why e
 
   -- a removal that is refused
   module _ (place : ℕ) (why : NotTaken) (e : release_answer region place ≡ Err why) (now : HooksState)
@@ -199,7 +169,7 @@ module _ (laws : LawsBelow) (bits : Bits) (slot : ℕ) (region : RegionState) (h
         let P : HooksState → Type 0 = λ s. Err why ≡ remove_answer s place in
         let Q : Option Hook → Type 0 = λ o. Err why ≡ remove_of o place in
         let wrapped_why : NotTaken → Result Hook NotTaken = λ w. Err w in
-        subst P seen (subst Q (sym (remove-none place why e)) (ap wrapped_why (release-why region place why e)))
+        subst P seen (subst Q (sym (remove-none place why e)) (ap wrapped_why (laws.fills.release-why region place why e)))
 
     pub refused-state : (new : RegionState) → new ≡ after_release region place → record { bits = bits; slot = slot; region = new; hooks = hooks } ≡ after_removal now place
     refused-state new is =
@@ -209,54 +179,23 @@ module _ (laws : LawsBelow) (bits : Bits) (slot : ℕ) (region : RegionState) (h
 
 -- ---- what is seen
 
-module _ (laws : LawsBelow) (state : HooksState) (room : ℕ) (kept : AreKept state.bits state.slot state.region state.hooks room) where
-  count : length state.hooks ≡ length state.region.live
-  count = blocks-count state.bits state.slot state.hooks state.region.live kept.blocks
-
-  block-at : (k : ℕ) (d : Hook) (b : LiveBlock) → k < length state.hooks → IsBlockOf state.bits state.slot (get_or state.hooks k d) (get_or state.region.live k b)
-  block-at k d b lt = blocks-at state.bits state.slot state.hooks state.region.live k d b kept.blocks lt
-
-  pub kept-apart : AreApart state
+module _ (laws : HookLawsBelow) (state : HooksState) (room : ℕ) (kept : AreHooksKept state.bits state.slot state.region state.hooks room) where
+  pub kept-apart : HooksAreApart state
   kept-apart = record {
-    inside = λ k d lt.
-        let is = block-at k d no_block lt in
-        let within = laws.regions.inside state.region kept.sound k no_block (omega (arith, count, lt)) in
-        (omega (arith, within.0, is.place), omega (arith, within.1, is.place, is.len));
-    apart = λ i j d less lt.
-        let one = block-at i d no_block (omega (arith, less, lt)) in
-        let two = block-at j d no_block lt in
-        let order = laws.regions.disjoint state.region kept.sound i j no_block less (omega (arith, count, lt)) in
-        omega (arith, order, one.place, one.len, two.place);
-    short = λ k d lt. (block-at k d no_block lt).short;
+    slots = laws.entries.live-apart (state.bits, state.slot) state.region state.hooks room kept.live;
+    short = λ k d lt. (laws.entries.live-blocks (state.bits, state.slot) state.region state.hooks room kept.live k d lt).1.short;
   }
 
   pub kept-detours : AreDetours state
-  kept-detours = λ k d lt. (block-at k d no_block lt).is_detour
+  kept-detours = λ k d lt. (laws.entries.live-blocks (state.bits, state.slot) state.region state.hooks room kept.live k d lt).1.is_detour
 
   pub kept-holds : HoldsHooks state (region_image state.region)
   kept-holds = record {
     trampolines = λ k d lt.
-        let is = block-at k d no_block lt in
-        let there = holds.contents k no_block (omega (arith, count, lt)) in
-        ap (λ (n : ℕ). take n (drop ((get_or state.hooks k d).place - state.region.base) (region_image state.region))) (sym is.len)
-        ∙ (ap (λ (n : ℕ). take (get_or state.region.live k no_block).len (drop (n - state.region.base) (region_image state.region))) (sym is.place)
-        ∙ (there ∙ is.content));
-    elsewhere = λ k lt free.
-        holds.elsewhere k lt (λ j d jl.
-        let here : j < length state.hooks = omega (arith, count, jl) in
-        let is = block-at j (one_of state.hooks j here) d here in
-        elim (free j (one_of state.hooks j here) here) [
-          | inl before ↦ inl (omega (arith, before, is.place))
-          | inr behind ↦ inr (omega (arith, behind, is.place, is.len))
-        ]);
+        let held = laws.entries.live-contents (state.bits, state.slot) state.region state.hooks room kept.live k d lt in
+        held.1.1 ∙ held.1.0.content;
+    elsewhere = laws.entries.live-quiet (state.bits, state.slot) state.region state.hooks room kept.live;
   }
-    where
-      one_of : (hooks : List Hook) (k : ℕ) → k < length hooks → Hook
-      one_of [] k lt = absurd (omega arith)
-      one_of (hook ∷ hooks) k lt = hook
-
-      holds : HoldsContents state.region (region_image state.region)
-      holds = laws.regions.contents state.region kept.sound
 
 -- ---- no hooks
 
@@ -291,43 +230,41 @@ slot-good bits base size slot none =
     positive : (slot ≡ 0 → ⊥) → 0 < slot
     positive ne = below 0 slot (λ e. ne (sym e)) (omega arith)
 
-pub kept-made : (laws : LawsBelow) (bits : Bits) (base size slot : ℕ) → make_refusal bits base size slot ≡ None → (region : RegionState)
-    → region ≡ empty_region base size (size / slot) → (hooks : List Hook) → hooks ≡ [] → (room : ℕ) → size / slot ≤ room → AreKept bits slot region hooks room
+pub kept-made : (laws : HookLawsBelow) (bits : Bits) (base size slot : ℕ) → make_refusal bits base size slot ≡ None → (region : RegionState)
+    → region ≡ empty_region base size (size / slot) → (hooks : List Hook) → hooks ≡ [] → (room : ℕ) → size / slot ≤ room → AreHooksKept bits slot region hooks room
 kept-made laws bits base size slot none region is hooks no_hooks room roomy =
     let fit = div-mul-le_self size slot in
-    subst (λ (r : RegionState). AreKept bits slot r hooks room) (sym is)
-    (subst (λ (xs : List Hook). AreKept bits slot (empty_region base size (size / slot)) xs room) (sym no_hooks) (record {
-      sound = laws.regions.opened-sound base size (size / slot);
+    subst (λ (r : RegionState). AreHooksKept bits slot r hooks room) (sym is)
+    (subst (λ (xs : List Hook). AreHooksKept bits slot (empty_region base size (size / slot)) xs room) (sym no_hooks) (record {
       spaced = record {
         is_slot = slot-good bits base size slot none;
         slots = tt;
         few = omega arith;
         room = fit;
       };
-      blocks = tt;
-      roomy = roomy;
+      live = laws.entries.live-none (bits, slot) base size (size / slot) room roomy;
     }))
 
 -- ---- in runs
 
-pub made-kept : (laws : LawsBelow) (bits : Bits) (base size slot : ℕ) → make_refusal bits base size slot ≡ None → AreKeptIn (no_hooks bits base size slot)
+pub made-kept : (laws : HookLawsBelow) (bits : Bits) (base size slot : ℕ) → make_refusal bits base size slot ≡ None → AreKeptIn (no_hooks bits base size slot)
 made-kept laws bits base size slot none =
     kept-made laws bits base size slot none (empty_region base size (size / slot)) refl [] refl (size / slot) (omega arith)
 
-module _ (laws : LawsBelow) (old : HooksState) (kept : AreKeptIn old) where
+module _ (laws : HookLawsBelow) (old : HooksState) (kept : AreKeptIn old) where
   pub removed-kept : (place : ℕ) → AreKeptIn (after_removal old place)
   unfolding after_release
   removed-kept place = remove-kept laws old.bits old.slot old.region old.hooks old.region.max_blocks kept place
 
-  unchanged : (region : RegionState) → region ≡ old.region → (hooks : List Hook) → hooks ≡ old.hooks → AreKept old.bits old.slot region hooks region.max_blocks
+  unchanged : (region : RegionState) → region ≡ old.region → (hooks : List Hook) → hooks ≡ old.hooks → AreHooksKept old.bits old.slot region hooks region.max_blocks
   unchanged region is hooks same =
-      subst (λ (r : RegionState). AreKept old.bits old.slot r hooks r.max_blocks) (sym is)
-      (subst (λ (xs : List Hook). AreKept old.bits old.slot old.region xs old.region.max_blocks) (sym same) kept)
+      subst (λ (r : RegionState). AreHooksKept old.bits old.slot r hooks r.max_blocks) (sym is)
+      (subst (λ (xs : List Hook). AreHooksKept old.bits old.slot old.region xs old.region.max_blocks) (sym same) kept)
 
   module _ (ip : ℕ) (code : List ℕ) (to : ℕ) (start : StartTarget) where
     -- the region and the hooks after an install
     after-kept : (made : Result Hook InstallError) (region : RegionState) → IsHookPlaced old.bits old.slot old.region ip code to start made region
-        → (hooks : List Hook) → hooks ≡ hooks_after made old.hooks → AreKept old.bits old.slot region hooks region.max_blocks
+        → (hooks : List Hook) → hooks ≡ hooks_after made old.hooks → AreHooksKept old.bits old.slot region hooks region.max_blocks
     after-kept (Ok hook) region placed_there hooks same =
         let max = install-max laws old.bits old.slot old.region old.hooks old.region.max_blocks kept ip code to start hook region placed_there in
         install-kept laws old.bits old.slot old.region old.hooks old.region.max_blocks kept ip code to start hook region placed_there region.max_blocks
@@ -340,11 +277,11 @@ module _ (laws : LawsBelow) (old : HooksState) (kept : AreKeptIn old) where
     pub installed-kept : (answer : Result ℕ InstallError) (new : HooksState) → IsInstalled old ip code to start answer new → AreKeptIn new
     installed-kept answer new done =
         let here = after-kept done.made new.region done.region new.hooks done.hooks in
-        subst (λ (b : Bits). AreKept b new.slot new.region new.hooks new.region.max_blocks) (sym done.bits)
-        (subst (λ (n : ℕ). AreKept old.bits n new.region new.hooks new.region.max_blocks) (sym done.slot) here)
+        subst (λ (b : Bits). AreHooksKept b new.slot new.region new.hooks new.region.max_blocks) (sym done.bits)
+        (subst (λ (n : ℕ). AreHooksKept old.bits n new.region new.hooks new.region.max_blocks) (sym done.slot) here)
 
 -- **any list of commands keeps hooks**
-pub run-kept : (laws : LawsBelow) (commands : List HookCommand) (replies : List HookReply) (old new : HooksState) → AreKeptIn old → IsRun old commands replies new → AreKeptIn new
+pub run-kept : (laws : HookLawsBelow) (commands : List HookCommand) (replies : List HookReply) (old new : HooksState) → AreKeptIn old → IsHookRun old commands replies new → AreKeptIn new
 run-kept laws [] [] old new kept run = subst AreKeptIn (sym run) kept
 run-kept laws [] (reply ∷ replies) old new kept run = absurd run
 run-kept laws (command ∷ commands) [] old new kept run = absurd run

@@ -104,25 +104,6 @@ module _ (base slot : ℕ) where
         | inr other ↦ rw other (slots.0, slots-without place live slots.1)
       ]
 
-pub with-longer : (block : LiveBlock) (live : List LiveBlock) → length (with_block block live) ≡ length live + 1
-with-longer block [] = refl
-with-longer block (other ∷ live) =
-    let more = with-longer block live in
-    elim (nat_lt block.place other.place) as (λ t. length (if t then block ∷ other ∷ live else other ∷ with_block block live) ≡ length (other ∷ live) + 1) [
-      | true ↦ omega arith
-      | false ↦ omega (arith, more)
-    ]
-
-pub without-shorter : (place : ℕ) (live : List LiveBlock) → length (filter (λ b. not (nat_eq b.place place)) live) ≤ length live
-without-shorter place [] = omega arith
-without-shorter place (block ∷ live) =
-    let fewer = without-shorter place live in
-    elim (nat_eq block.place place) as (λ t. length (cond (not t) (block ∷ filter (λ b. not (nat_eq b.place place)) live) (filter (λ b. not (nat_eq b.place place)) live))
-    ≤ length (block ∷ live)) [
-      | true ↦ omega (arith, fewer)
-      | false ↦ omega (arith, fewer)
-    ]
-
 -- ---- what a request for a slot answers
 
 abbrev refused : PlaceError → Result ℕ PlaceError

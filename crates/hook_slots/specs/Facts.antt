@@ -10,25 +10,25 @@ use Rattle.hook_slots.specs.State.{HooksState, no_hooks}
 use Rattle.hook_slots.specs.Opening.{make_refusal}
 use Rattle.hook_slots.specs.Installing.{IsInstalled}
 use Rattle.hook_slots.specs.Removing.{after_removal}
-use Rattle.hook_slots.specs.Running.{IsRun}
-use Rattle.hook_slots.specs.Holding.{AreApart, AreDetours, HoldsHooks}
+use Rattle.hook_slots.specs.Running.{IsHookRun}
+use Rattle.hook_slots.specs.Holding.{HooksAreApart, AreDetours, HoldsHooks}
 use Rattle.hook_slots.specs.Keeping.{AreKeptIn}
 
 -- hooks in a region, from none on, with each that is made or removed; and what holds of them then
-pub record KeptFacts : Type 0 where
+pub record LiveHookFacts : Type 0 where
   pub kept-made : (bits : Bits) (base size slot : ℕ) → make_refusal bits base size slot ≡ None → AreKeptIn (no_hooks bits base size slot)
   pub kept-installed : (old : HooksState) (ip : ℕ) (code : List ℕ) (to : ℕ) (start : StartTarget) (answer : Result ℕ InstallError) (new : HooksState)
       → AreKeptIn old → IsInstalled old ip code to start answer new → AreKeptIn new
   pub kept-removed : (old : HooksState) (place : ℕ) → AreKeptIn old → AreKeptIn (after_removal old place)
-  pub apart : (state : HooksState) → AreKeptIn state → AreApart state
+  pub apart : (state : HooksState) → AreKeptIn state → HooksAreApart state
   pub detours : (state : HooksState) → AreKeptIn state → AreDetours state
   pub holds : (state : HooksState) → AreKeptIn state → HoldsHooks state (region_image state.region)
 
 -- after any list of commands, from none on: trampolines are disjoint, each place holds its detour's bytes, and everything else is INT3
 pub record RunFacts : Type 0 where
   pub run-apart : (bits : Bits) (base size slot : ℕ) → make_refusal bits base size slot ≡ None → (commands : List HookCommand) (replies : List HookReply)
-      (state : HooksState) → IsRun (no_hooks bits base size slot) commands replies state → AreApart state
+      (state : HooksState) → IsHookRun (no_hooks bits base size slot) commands replies state → HooksAreApart state
   pub run-detours : (bits : Bits) (base size slot : ℕ) → make_refusal bits base size slot ≡ None → (commands : List HookCommand) (replies : List HookReply)
-      (state : HooksState) → IsRun (no_hooks bits base size slot) commands replies state → AreDetours state
+      (state : HooksState) → IsHookRun (no_hooks bits base size slot) commands replies state → AreDetours state
   pub run-holds : (bits : Bits) (base size slot : ℕ) → make_refusal bits base size slot ≡ None → (commands : List HookCommand) (replies : List HookReply)
-      (state : HooksState) → IsRun (no_hooks bits base size slot) commands replies state → HoldsHooks state (region_image state.region)
+      (state : HooksState) → IsHookRun (no_hooks bits base size slot) commands replies state → HoldsHooks state (region_image state.region)

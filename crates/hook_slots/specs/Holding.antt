@@ -1,15 +1,15 @@
 -- Where live trampolines stand, and what the image has there.
-use Rattle.std.specs.Prelude.{◌≡◌, ◌⊎◌, ℕ, ◌+◌, ◌-◌, ◌<◌, ◌≤◌, List, ◌++◌, All, AllPairs, length, replicate, slice_index_or, take, drop}
+use Rattle.std.specs.Prelude.{◌≡◌, ℕ, ◌-◌, ◌≤◌, List, ◌++◌, All, length, replicate, take, drop}
 use Rattle.x86_values.specs.declared.Bits.{Bits}
 use Rattle.code_region.specs.State.{int3}
+use Rattle.live_entries.specs.Keeping.{StandApart, IsQuietElsewhere}
 use Rattle.hook_slots.specs.declared.making.Hook.{Hook}
-use Rattle.hook_slots.specs.State.{HooksState}
+use Rattle.hook_slots.specs.State.{HooksState, hook_place}
 use Rattle.hook_slots.specs.Installing.{IsHook}
 
 -- the slots of the hooks stand inside the region by address, none over another, and no trampoline has more bytes than its slot
-pub record AreApart (state : HooksState) : Type 0 where
-  pub inside : All (λ hook. (state.region.base ≤ hook.place) × (hook.place + state.slot ≤ state.region.base + state.region.size)) state.hooks
-  pub apart : AllPairs (λ hook later. hook.place + state.slot ≤ later.place) state.hooks
+pub record HooksAreApart (state : HooksState) : Type 0 where
+  pub slots : StandApart hook_place (λ hook. state.slot) state.region state.hooks
   pub short : All (λ hook. length hook.detour.trampoline ≤ state.slot) state.hooks
 
 -- each has the detour of some function's code with its trampoline at its place
@@ -27,6 +27,4 @@ HasTrampoline slot base image hook =
 -- each live hook has its trampoline in its slot, and each byte that stands in no slot of one is INT3
 pub record HoldsHooks (state : HooksState) (image : List ℕ) : Type 0 where
   pub trampolines : All (HasTrampoline state.slot state.region.base image) state.hooks
-  pub elsewhere : (k : ℕ) → k < state.region.size
-      → All (λ hook. (state.region.base + k < hook.place) ⊎ (hook.place + state.slot ≤ state.region.base + k)) state.hooks
-      → slice_index_or image k 0 ≡ int3
+  pub elsewhere : IsQuietElsewhere hook_place (λ hook. state.slot) state.region state.hooks image

@@ -1,8 +1,8 @@
 -- What holds of hooks at any time.
-use Rattle.std.specs.Prelude.{◌≡◌, ◌⊎◌, ℕ, ◌+◌, ◌-◌, ◌*◌, ◌%◌, ◌<◌, ◌≤◌, nat_lt, if◌then◌else◌, suc, List, [], ◌∷◌, ◌++◌, length, replicate}
+use Rattle.std.specs.Prelude.{◌≡◌, ℕ, ◌+◌, ◌-◌, ◌*◌, ◌%◌, ◌<◌, ◌≤◌, List, [], ◌∷◌, ◌++◌, length, replicate}
 use Rattle.x86_values.specs.declared.Bits.{Bits}
 use Rattle.code_region.specs.State.{LiveBlock, RegionState, int3}
-use Rattle.code_region.specs.Keeping.{IsSound}
+use Rattle.live_entries.specs.Keeping.{AreLive}
 use Rattle.hook_slots.specs.declared.making.Hook.{Hook}
 use Rattle.hook_slots.specs.State.{HooksState}
 use Rattle.hook_slots.specs.Holding.{HasDetour}
@@ -26,41 +26,18 @@ pub record AreSpaced (slot : ℕ) (region : RegionState) : Type 0 where
   pub room : region.max_blocks * slot ≤ region.size
 
 -- a live block is that of a hook: it stands there, is as long as a slot, and has the bytes of the trampoline, filled up with INT3
-pub record IsBlockOf (bits : Bits) (slot : ℕ) (hook : Hook) (block : LiveBlock) : Type 0 where
+pub record IsHookBlock (bits : Bits) (slot : ℕ) (hook : Hook) (block : LiveBlock) : Type 0 where
   pub place : block.place ≡ hook.place
   pub len : block.len ≡ slot
   pub is_detour : HasDetour bits hook
   pub short : length hook.detour.trampoline ≤ slot
   pub content : block.content ≡ hook.detour.trampoline ++ replicate (slot - length hook.detour.trampoline) int3
 
--- the live blocks are those of the hooks, one by one
-abbrev pub AreBlocksOf : Bits → ℕ → List Hook → List LiveBlock → Type 0
-AreBlocksOf bits slot [] [] = Unit {0}
-AreBlocksOf bits slot (hook ∷ hooks) (block ∷ blocks) = IsBlockOf bits slot hook block × AreBlocksOf bits slot hooks blocks
-AreBlocksOf bits slot hooks blocks = ⊥
-
 -- hooks in a region, with room for so many
-pub record AreKept (bits : Bits) (slot : ℕ) (region : RegionState) (hooks : List Hook) (room : ℕ) : Type 0 where
-  pub sound : IsSound region
+pub record AreHooksKept (bits : Bits) (slot : ℕ) (region : RegionState) (hooks : List Hook) (room : ℕ) : Type 0 where
   pub spaced : AreSpaced slot region
-  pub blocks : AreBlocksOf bits slot hooks region.live
-  pub roomy : region.max_blocks ≤ room
+  pub live : AreLive (IsHookBlock bits slot) region hooks room
 
 -- what is seen of live hooks is kept in their region
 abbrev pub AreKeptIn : HooksState → Type 0
-AreKeptIn state = AreKept state.bits state.slot state.region state.hooks state.region.max_blocks
-
--- how many trampolines start before an address
-abbrev pub rank : ℕ → List Hook → ℕ
-rank place [] = 0
-rank place (hook ∷ hooks) = if nat_lt hook.place place then suc (rank place hooks) else 0
-
--- the hooks stand by address, from one on
-abbrev pub AreAscending : ℕ → List Hook → Type 0
-AreAscending from [] = Unit {0}
-AreAscending from (hook ∷ hooks) = (from ≤ hook.place) × AreAscending (hook.place + 1) hooks
-
--- one of the trampolines starts at an address
-abbrev pub StandsAt : ℕ → List Hook → Type 0
-StandsAt place [] = ⊥
-StandsAt place (hook ∷ hooks) = (hook.place ≡ place) ⊎ StandsAt place hooks
+AreKeptIn state = AreHooksKept state.bits state.slot state.region state.hooks state.region.max_blocks

@@ -1,9 +1,10 @@
 -- What a removal answers, and the hooks after it.
-use Rattle.std.specs.Prelude.{ℕ, ◌==◌, not, List, filter, Option, Some, None, Result, Ok, Err}
+use Rattle.std.specs.Prelude.{ℕ, List, Option, Some, None, Result, Ok, Err}
 use Rattle.code_region.specs.declared.refusals.NotTaken.{NotTaken}
 use Rattle.code_region.specs.Releasing.{after_release}
+use Rattle.live_entries.specs.Order.{without_entry}
 use Rattle.hook_slots.specs.declared.making.Hook.{Hook}
-use Rattle.hook_slots.specs.State.{HooksState, hook_at}
+use Rattle.hook_slots.specs.State.{HooksState, hook_place, hook_at}
 
 -- the hook that was found at an address, or that there is none
 abbrev pub remove_of : Option Hook → ℕ → Result Hook NotTaken
@@ -16,7 +17,7 @@ remove_answer state place = remove_of (hook_at place state.hooks) place
 
 -- the hooks without the one whose trampoline starts at an address
 abbrev pub without_hook : ℕ → List Hook → List Hook
-without_hook place hooks = filter (λ hook. not (hook.place == place)) hooks
+without_hook place hooks = without_entry hook_place place hooks
 
 -- a removal releases the slot
 abbrev pub after_removal : HooksState → ℕ → HooksState

@@ -12,9 +12,9 @@ use Rattle.hook_slots.specs.Installing.{IsInstalled}
 use Rattle.hook_slots.specs.Removing.{remove_answer, after_removal}
 
 -- a function to be hooked has at most 1,048,576 bytes
-abbrev pub IsFit : HookCommand → Type 0
-IsFit (Install ip code to start) = length code.now ≤ 1048576
-IsFit (Remove place) = Unit {0}
+abbrev pub HookCommandFits : HookCommand → Type 0
+HookCommandFits (Install ip code to start) = length code.now ≤ 1048576
+HookCommandFits (Remove place) = Unit {0}
 
 -- the reply that says what an install answered
 abbrev pub install_reply : Result ℕ InstallError → HookReply
@@ -27,13 +27,13 @@ remove_reply (Ok hook) = Removed
 remove_reply (Err why) = NotTakenReply why.place
 
 -- one command
-abbrev pub IsDone : HooksState → HookCommand → HookReply → HooksState → Type 0
-IsDone old (Install ip code to start) reply new =
+abbrev pub IsHookDone : HooksState → HookCommand → HookReply → HooksState → Type 0
+IsHookDone old (Install ip code to start) reply new =
     (answer : Result ℕ InstallError) × ((reply ≡ install_reply answer) × IsInstalled old ip code.now to start answer new)
-IsDone old (Remove place) reply new = (reply ≡ remove_reply (remove_answer old place)) × (new ≡ after_removal old place)
+IsHookDone old (Remove place) reply new = (reply ≡ remove_reply (remove_answer old place)) × (new ≡ after_removal old place)
 
 -- the commands in order
-abbrev pub IsRun : HooksState → List HookCommand → List HookReply → HooksState → Type 0
-IsRun old [] [] new = new ≡ old
-IsRun old (command ∷ commands) (reply ∷ replies) new = (state : HooksState) × (IsDone old command reply state × IsRun state commands replies new)
-IsRun old commands replies new = ⊥
+abbrev pub IsHookRun : HooksState → List HookCommand → List HookReply → HooksState → Type 0
+IsHookRun old [] [] new = new ≡ old
+IsHookRun old (command ∷ commands) (reply ∷ replies) new = (state : HooksState) × (IsHookDone old command reply state × IsHookRun state commands replies new)
+IsHookRun old commands replies new = ⊥

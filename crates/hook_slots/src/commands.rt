@@ -1,7 +1,7 @@
 //! Commands to hooks, and their replies.
 
 ghost use Rattle.std.specs.Prelude.{◌≡◌, ◌<◌, All, length};
-ghost use Rattle.hook_slots.specs.Running.{IsFit, IsDone, IsRun, install_reply, remove_reply};
+ghost use Rattle.hook_slots.specs.Running.{HookCommandFits, IsHookDone, IsHookRun, install_reply, remove_reply};
 
 use crate::hooking::Hooks;
 use crate::making::Hook;
@@ -61,8 +61,8 @@ fn reply_to_remove(answer: Result<Hook, NotTaken>) -> HookReply
 
 /// Does one command, and answers it.
 fn execute(hooks: &mut Hooks, alloc: Global, command: HookCommand<'_>) -> HookReply
-    requires { IsFit command }
-    ensures { IsDone hooks.old command.entry result hooks.new }
+    requires { HookCommandFits command }
+    ensures { IsHookDone hooks.old command.entry result hooks.new }
 {
     match command {
         HookCommand::Install {
@@ -85,8 +85,8 @@ pub fn replay(
     replies: &mut [HookReply],
 )
     requires room { length replies.old ≡ length commands.now }
-    requires fit { All IsFit commands.now }
-    ensures { IsRun hooks.old commands.now replies.new hooks.new }
+    requires fit { All HookCommandFits commands.now }
+    ensures { IsHookRun hooks.old commands.now replies.new hooks.new }
 {
     'commands: for k in 0..commands.len() {
         replies[k] = execute(hooks, alloc, commands[k]);

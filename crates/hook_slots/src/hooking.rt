@@ -6,14 +6,14 @@ ghost use Rattle.hook_slots.specs.State.{no_hooks, hook_at};
 ghost use Rattle.hook_slots.specs.Opening.{make_refusal};
 ghost use Rattle.hook_slots.specs.Installing.{IsInstalled};
 ghost use Rattle.hook_slots.specs.Removing.{remove_answer, after_removal};
-ghost use Rattle.hook_slots.specs.Holding.{AreApart, AreDetours, HoldsHooks};
+ghost use Rattle.hook_slots.specs.Holding.{HooksAreApart, AreDetours, HoldsHooks};
 
 use crate::laws_below::laws_below;
 use crate::making::{Hook, place_hook};
-use crate::order::{insert_hook, remove_hook};
 use crate::refusals::{InstallError, MakeError};
 use code_region::{NotTaken, Region};
 use detour::StartTarget;
+use live_entries::{insert_entry, remove_entry};
 use move_goals::passes;
 use std::alloc::Global;
 use std::marker::Model;
@@ -39,14 +39,14 @@ pub struct Hooks {
 
 impl Model for Hooks {
     ghost use Rattle.hook_slots.specs.State.{HooksState};
-    ghost use Rattle.hook_slots.specs.Keeping.{AreKept};
+    ghost use Rattle.hook_slots.specs.Keeping.{AreHooksKept};
     ghost use Rattle.std.specs.Prelude.{vec_capacity};
 
     ghost Value = { HooksState };
 
     ghost view = { λ h. record { bits = h.bits; slot = h.slot; region = h.region; hooks = h.live.items } };
 
-    ghost invariant = { λ h. AreKept h.bits h.slot h.region h.live.items (vec_capacity h.live) };
+    ghost invariant = { λ h. AreHooksKept h.bits h.slot h.region h.live.items (vec_capacity h.live) };
 }
 
 /// Why hooks are refused, if they are; memory is another matter.
@@ -144,7 +144,7 @@ impl Hooks {
             start,
         )?;
         let place = hook.place;
-        insert_hook(&mut self.live, hook);
+        insert_entry(&mut self.live, hook);
         Ok(place)
     }
 
@@ -158,7 +158,7 @@ impl Hooks {
     {
         laws_below();
         match self.region.release(place) {
-            Ok(()) => Ok(remove_hook(&mut self.live, place)),
+            Ok(()) => Ok(remove_entry(&mut self.live, place)),
             Err(why) => Err(why),
         }
     }
@@ -166,7 +166,7 @@ impl Hooks {
     /// The live hooks, by the addresses of their trampolines.
     pub fn live(&self) -> &[Hook]
         ensures hooks { result.now ≡ self.now.hooks }
-        ensures apart { AreApart self.now }
+        ensures apart { HooksAreApart self.now }
         ensures detours { AreDetours self.now }
     {
         laws_below();

@@ -1,13 +1,13 @@
 //! What holds of all hooks.
 
-ghost use Rattle.hook_slots.specs.Facts.{KeptFacts, RunFacts};
+ghost use Rattle.hook_slots.specs.Facts.{LiveHookFacts, RunFacts};
 
 use crate::laws_below::laws_below;
 
 /// Hooks stay apart with their bytes, from none on and with each that is made or removed.
 #[inline]
 pub fn hooks_stay_apart()
-    ensures { KeptFacts }
+    ensures { LiveHookFacts }
 {
     laws_below();
 }

@@ -1,12 +1,16 @@
 //! What the laws of the crates below say, for the proofs of this crate.
 
-ghost use Rattle.hook_slots.specs.LawsBelow.{LawsBelow};
+ghost use Rattle.hook_slots.specs.LawsBelow.{HookLawsBelow};
+
+use crate::making::Hook;
 
 /// The laws of the crates below as one fact. It does nothing.
 #[inline]
 pub(crate) fn laws_below()
-    ensures { LawsBelow }
+    ensures { HookLawsBelow }
 {
     code_region::laws::sound_regions_keep_their_laws();
     code_region::laws::places_are_gaps();
+    live_entries::laws::placed_blocks_are_filled();
+    live_entries::laws::entries_go_with_their_blocks::<Hook>();
 }

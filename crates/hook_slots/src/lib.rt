@@ -6,7 +6,6 @@ mod hooking;
 pub mod laws;
 mod laws_below;
 mod making;
-mod order;
 mod refusals;
 
 pub use code_region::NotTaken;

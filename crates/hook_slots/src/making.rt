@@ -10,6 +10,7 @@ use crate::laws_below::laws_below;
 use crate::refusals::InstallError;
 use code_region::{PlaceError, Region};
 use detour::{Detour, DetourError, StartTarget, detour};
+use live_entries::LiveEntry;
 use std::alloc::{AllocError, Global};
 use x86_values::Bits;
 
@@ -28,6 +29,29 @@ pub struct Hook {
     pub detour: Detour,
     /// The function's own bytes where the patch goes, as many: they undo it.
     pub original: Vec<u8>,
+}
+
+impl LiveEntry for Hook {
+    ghost use Rattle.std.specs.Prelude.{ℕ};
+    ghost use Rattle.x86_values.specs.declared.Bits.{Bits};
+    ghost use Rattle.hook_slots.specs.State.{hook_place};
+    ghost use Rattle.hook_slots.specs.Keeping.{IsHookBlock};
+
+    ghost Setting = { Bits × ℕ };
+
+    ghost place_of = { hook_place };
+
+    ghost len_in = { λ s hook. s.1 };
+
+    ghost is_block_in = { λ s. IsHookBlock s.0 s.1 };
+
+    fn place(&self) -> u64 {
+        self.place
+    }
+
+    ghost block_place = { λ s hook block is. is.place };
+
+    ghost block_len = { λ s hook block is. is.len };
 }
 
 /// A copy of some bytes.

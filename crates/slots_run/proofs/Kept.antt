@@ -16,9 +16,9 @@ use Rattle.step_slots.specs.declared.refusals.StepError.TheVariants as step_erro
 use Rattle.step_slots.specs.Block.{reserved_room}
 use Rattle.step_slots.specs.State.{SlotState}
 use Rattle.step_slots.specs.Stepping.{IsStepped, slots_refusal}
-use Rattle.step_slots.specs.Keeping.{AreKept}
+use Rattle.step_slots.specs.Keeping.{AreSlotsKept}
 use Rattle.step_slots.specs.Holding.{HoldsSlots}
-use Rattle.step_slots.specs.Facts.{KeptFacts, ReservedFacts}
+use Rattle.step_slots.specs.Facts.{LiveSlotFacts, ReservedFacts}
 use Rattle.command_words.specs.Ranges.{Range, IsRange}
 use Rattle.run_parts.specs.declared.status.Status.{Status}
 use Rattle.run_parts.specs.declared.status.Status.TheVariants.{Memory, RegionFull, TooFar}
@@ -45,7 +45,7 @@ range-fits range is =
 
 -- slots with room for 65,536 of them in a range
 pub record IsRoom (state : SlotState) : Type 0 where
-  pub kept : AreKept state.bits state.region state.slots 65536
+  pub kept : AreSlotsKept state.bits state.region state.slots 65536
   pub most : state.region.max_blocks ≡ 65536
   pub small : state.region.size ≤ 1048576
 
@@ -77,7 +77,7 @@ All-at : {A : Type 0} (P : A → Type 0) (xs ys : List A) (y : A) → All P (xs 
 All-at P [] ys y all = All-head P y ys all
 All-at P (x ∷ xs) ys y all = All-at P xs ys y (All-tail P x (xs ++ y ∷ ys) all)
 
-module _ (kept : KeptFacts) where
+module _ (kept : LiveSlotFacts) where
   pub room-empty : (range : Range) → IsRange range → IsRoom (empty_slots range)
   room-empty range is = record {
     kept = kept.kept-made range.bits range.base range.size 65536 (range-fits range is) (empty_slots range).region refl [] refl 65536 (omega arith);
@@ -127,7 +127,7 @@ module _ (kept : KeptFacts) where
         let n = reserved_room state.bits state.region.base item in
         let many = many-is state.region n most stepped.region.0.0 ∙ room.most in
         let units = kept.kept-units state.bits state.region state.slots 65536 room.kept in
-        let none = crowded state.region room.kept.sound (λ k d lt. (units k d lt).1) room.small many in
+        let none = crowded state.region room.kept.live.sound (λ k d lt. (units k d lt).1) room.small many in
         let some = reserved_facts.reserved-some state.bits item spelled state.region.base in
         let above = reserved_facts.rounded-above n (reserved_facts.reserved-short state.bits item spelled state.region.base) in
         inl (subst (IsSlotRefusal state item number) (sym is) (record {

@@ -13,7 +13,7 @@ use Rattle.code_region.specs.Placing.{place_answer, after_place}
 use Rattle.code_region.specs.Filling.{after_fill}
 use Rattle.code_region.specs.Facts.{PlaceFacts}
 use Rattle.step_slots.specs.declared.slots.StepSlot.{StepSlot}
-use Rattle.step_slots.specs.Block.{IsStepBlock, IsOutOfReach, step_items, step_plan, reserved_room}
+use Rattle.step_slots.specs.Block.{IsStepBlock, IsStepOutOfReach, step_items, step_plan, reserved_room}
 use Rattle.step_slots.specs.State.{SlotState, with_slot}
 use Rattle.step_slots.specs.Stepping.{IsStepped}
 use Rattle.command_words.specs.Ranges.{Range}
@@ -40,13 +40,13 @@ module _ (least_unique : (p : BlockPlan) → (a b : List ℕ) → IsLeast p a �
       ∙ (sym k.1.0.lists.bytes ∙ sym k.1.1)))
 
   -- where it is moved, its instruction reaches
-  moved_reaches : (bits : Bits) (item : Placed) (place target : ℕ) (bytes : List ℕ) → IsStepBlock bits item place bytes → IsOutOfReach bits item place target → ⊥
+  moved_reaches : (bits : Bits) (item : Placed) (place target : ℕ) (bytes : List ℕ) → IsStepBlock bits item place bytes → IsStepOutOfReach bits item place target → ⊥
   moved_reaches bits item place target bytes h far =
       let p = step_plan bits item place in
       let layouts = least_unique p h.1.0.layout far.layout h.1.0.least far.least in
       far.first.unreached (subst (λ (l : List ℕ). IsReached bits (step_items bits item) p l 0) layouts (h.1.0.reached 0 far.first.within))
 
-  far_unique : (bits : Bits) (item : Placed) (place a b : ℕ) → IsOutOfReach bits item place a → IsOutOfReach bits item place b → a ≡ b
+  far_unique : (bits : Bits) (item : Placed) (place a b : ℕ) → IsStepOutOfReach bits item place a → IsStepOutOfReach bits item place b → a ≡ b
   far_unique bits item place a b h k =
       let p = step_plan bits item place in
       h.target_is ∙ (ap (λ (l : List ℕ). goal_address p l 0) (least_unique p h.layout k.layout h.least k.least) ∙ sym k.target_is)
@@ -101,7 +101,7 @@ module _ (least_unique : (p : BlockPlan) → (a b : List ℕ) → IsLeast p a �
       refusal_unique number (TooFar at target) (RegionFull a b) h k = absurd (gap_placed a b h.1.place k h.1.placed)
       refusal_unique number (TooFar at target) (TooFar other goal) h k =
           let place = same_place state.region (reserved_room state.bits state.region.base item) h.1.place k.1.place h.1.placed k.1.placed in
-          let F : ℕ → Type 0 = λ x. IsOutOfReach state.bits item x target in
+          let F : ℕ → Type 0 = λ x. IsStepOutOfReach state.bits item x target in
           let targets = far_unique state.bits item k.1.place target goal (subst F place h.1.far) k.1.far in
           let numbers : at ≡ other = h.0 ∙ sym k.0 in
           ap (λ (n : ℕ). TooFar n target) numbers ∙ ap (TooFar other) targets

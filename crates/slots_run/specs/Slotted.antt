@@ -9,10 +9,10 @@ use Rattle.code_region.specs.State.{len_in_units, gaps_of, region_image}
 use Rattle.code_region.specs.Gaps.{first_gap, longest}
 use Rattle.code_region.specs.Placing.{place_answer}
 use Rattle.command_words.specs.Ranges.{Range}
-use Rattle.step_slots.specs.Block.{IsOutOfReach, reserved_room}
+use Rattle.step_slots.specs.Block.{IsStepOutOfReach, reserved_room}
 use Rattle.step_slots.specs.State.{SlotState, no_slots}
 use Rattle.step_slots.specs.Stepping.{IsStepped}
-use Rattle.step_slots.specs.Holding.{AreApart, HoldsSlots}
+use Rattle.step_slots.specs.Holding.{SlotsAreApart, HoldsSlots}
 use Rattle.run_parts.specs.declared.status.Status.{Status}
 use Rattle.run_parts.specs.declared.status.Status.TheVariants.{RegionFull, TooFar}
 use Rattle.moving_run.specs.Code.{IsInstruction}
@@ -52,7 +52,7 @@ pub record HasNoGap (state : SlotState) (item : Placed) (len largest : ℕ) : Ty
 pub record IsTooFarAt (state : SlotState) (item : Placed) (target : ℕ) : Type 0 where
   pub place : ℕ
   pub placed : place_answer state.region (reserved_room state.bits state.region.base item) ≡ Ok place
-  pub far : IsOutOfReach state.bits item place target
+  pub far : IsStepOutOfReach state.bits item place target
 
 -- why the instruction of a number gets no slot
 abbrev pub IsSlotRefusal : SlotState → Placed → ℕ → Status → Type 0
@@ -69,7 +69,7 @@ pub record MakesSlots (range : Range) (base : ℕ) (bytes image : List ℕ) : Ty
   pub all : All IsInstruction items
   pub state : SlotState
   pub slotted : AreSlotted (empty_slots range) (slotted_in range.bits base items) state
-  pub apart : AreApart state
+  pub apart : SlotsAreApart state
   pub holds : HoldsSlots state image
   pub image_is : image ≡ region_image state.region
 

@@ -43,7 +43,7 @@ use Rattle.move_layout.specs.Laid.{goal_value, goal_address, fragment_at}
 use Rattle.block_encoder.specs.Bytes.{in_front, bytes_from}
 use Rattle.block_encoder.specs.Moved.{fragment_reach, IsReached, first_new_pass}
 use Rattle.step_slots.specs.Block.{jump_to}
-use Rattle.step_slots.specs.LawsBelow.{LawsBelow}
+use Rattle.step_slots.specs.LawsBelow.{StepLawsBelow}
 
 first_two : (a b : Bool) → a ≡ true → b ≡ true → ((a && b) && (true && (true && true))) ≡ true
 first_two a b p q = rw (p, q) refl
@@ -139,7 +139,7 @@ first_of_one : (c : Choice) (f : ℕ) → f < length (c ∷ []) → get_or (c �
 first_of_one c zero lt = refl
 first_of_one c (suc f) lt = absurd (omega arith)
 
-module _ (laws : LawsBelow) where
+module _ (laws : StepLawsBelow) where
   jump-size : (bits : Bits) (t : ℕ) → (1 ≤ plain_length bits (jump_to bits t)) × (plain_length bits (jump_to bits t) ≤ 15)
   unfolding jump_to
   jump-size B16 t = let e = laws.pieces.near_jump-length B16 B16 t in (omega (arith, e), omega (arith, e))

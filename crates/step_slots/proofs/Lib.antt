@@ -1,9 +1,7 @@
-pub mod Ranks
 pub mod JumpBack
-pub mod Region
-pub mod Blocks
 pub mod Stepped
 pub mod StepAnswers
 pub mod Stood
+pub mod Kept
 pub mod Slotted
 pub mod Runs

@@ -1,6 +1,7 @@
 -- What a step answers, by what the region and the moving answer.
-use Rattle.std.proofs.Common.{◌≡◌, ℕ, ◌+◌, ◌^◌, ◌≤◌, List, length, refl, sym, subst, ap, ◌∙◌, Result, Ok, Err, arith}
+use Rattle.std.proofs.Common.{◌≡◌, ℕ, ◌+◌, ◌^◌, ◌≤◌, ◌<◌, inl, inr, List, length, refl, sym, subst, ap, ◌∙◌, nat_eq, Option, Some, None, Result, Ok, Err, arith}
 use Rattle.std.specs.Prelude.{IsTrue}
+use Rattle.std.proofs.lemmas.Bool.{cases_Bool, eqb-true}
 use Rattle.x86_values.specs.declared.Bits.{Bits}
 use Rattle.x86_values.specs.Wrapping.{width}
 use Rattle.move_goals.specs.declared.items.Placed.{Placed}
@@ -10,19 +11,38 @@ use Rattle.block_encoder.specs.declared.error.MoveError.TheVariants.{Memory, Too
 use Rattle.block_encoder.specs.Moved.{MovedLists}
 use Rattle.block_encoder.specs.ByPlan.{IsOutsideAnswer}
 use Rattle.block_encoder.specs.Last.{last_len}
+use Rattle.code_region.specs.declared.gaps.Span.{Span}
 use Rattle.code_region.specs.declared.refusals.PlaceError.{PlaceError}
 use Rattle.code_region.specs.declared.refusals.PlaceError.TheVariants as place_error
-use Rattle.code_region.specs.State.{RegionState, len_in_units}
-use Rattle.code_region.specs.Placing.{place_answer, after_place}
+use Rattle.code_region.specs.State.{RegionState, len_in_units, gaps_of}
+use Rattle.code_region.specs.Gaps.{first_gap, longest}
+use Rattle.code_region.specs.Placing.{place_in_gap, place_answer, after_place}
 use Rattle.code_region.specs.Releasing.{after_release}
 use Rattle.code_region.specs.Filling.{after_fill, can_fill}
 use Rattle.code_region.specs.Keeping.{IsSound}
 use Rattle.code_region.specs.Laws.{AreInUnits}
 use Rattle.step_slots.specs.Block.{step_items, reserved_room}
 use Rattle.step_slots.specs.Stepping.{IsBlockStepped, IsOfLength, IsOfReach, place_refusal_of, move_refusal_of}
-use Rattle.step_slots.specs.LawsBelow.{LawsBelow}
-use Rattle.step_slots.proofs.Region.{answer-not_empty, placed-can_fill}
+use Rattle.step_slots.specs.LawsBelow.{StepLawsBelow}
 use Rattle.step_slots.proofs.Stepped.{step-placed, reserved-some, block-fits, never-passes, only-first}
+
+front-not_empty : (o : Option Span) (n m : ℕ) → place_in_gap o n m ≡ Err place_error.Empty → ⊥
+front-not_empty None n m e = cc
+front-not_empty (Some gap) n m e = cc
+
+-- a length that is not 0 is not refused as one
+answer-not_empty : (state : RegionState) (len : ℕ) → 0 < len → place_answer state len ≡ Err place_error.Empty → ⊥
+unfolding place_answer
+answer-not_empty state len some e =
+    elim (cases_Bool (nat_eq len 0)) [
+      | inl zero_len ↦ (let z = eqb-true len 0 zero_len in absurd (omega (arith, z, some)))
+      | inr some_len ↦ elim (cases_Bool (nat_eq (length state.live) state.max_blocks)) [
+        | inl all_live ↦ (let f = rw (some_len, all_live) at e in absurd cc)
+        | inr room ↦ (
+            let f = rw (some_len, room) at e in
+            front-not_empty (first_gap (len_in_units len) (gaps_of state)) (len_in_units len) (longest (gaps_of state)) f)
+      ]
+    ]
 
 pub reserved-is : (bits : Bits) (item : Placed) (region : RegionState) (base : ℕ) → base ≡ region.base → (items : List Placed) → items ≡ step_items bits item
     → (len : ℕ) → len ≡ last_len bits items base → len ≡ reserved_room bits region.base item
@@ -39,7 +59,7 @@ outside-is bits given items same place answer told is h =
     subst (λ (xs : List Placed). IsOutsideAnswer bits xs place told) same
     (subst (λ (r : Result MovedLists MoveError). IsOutsideAnswer bits given place r) is h)
 
-module _ (laws : LawsBelow) where
+module _ (laws : StepLawsBelow) where
   pub items-placed : (bits : Bits) (item : Placed) → IsPlaced bits item → (items : List Placed) → items ≡ step_items bits item → ArePlaced bits items
   items-placed bits item spelled items are = subst (ArePlaced bits) (sym are) (step-placed laws bits item spelled)
 
@@ -83,7 +103,7 @@ module _ (laws : LawsBelow) where
           let fits = moved-fits m h in
           let long = ap length same in
           subst (λ (r : RegionState). IsTrue (can_fill r place (length bytes))) (sym is)
-          (placed-can_fill laws region (reserved_room bits region.base item) place sound e (length bytes) (omega (arith, fits, long)))
+          (laws.fills.placed-can_fill region (reserved_room bits region.base item) place sound e (length bytes) (omega (arith, fits, long)))
 
       -- a place that is given back leaves the region as it was
       pub given-back : (now : RegionState) → now ≡ after_place region (reserved_room bits region.base item) → (new : RegionState) → new ≡ after_release now place → new ≡ region

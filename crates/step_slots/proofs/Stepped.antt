@@ -16,8 +16,8 @@ use Rattle.code_region.specs.State.{RegionState, len_in_units}
 use Rattle.code_region.specs.Placing.{place_answer}
 use Rattle.code_region.specs.Keeping.{IsSound}
 use Rattle.code_region.specs.Laws.{AreInUnits}
-use Rattle.step_slots.specs.Block.{back_address, step_items, step_plan, IsOutOfReach, reserved_room}
-use Rattle.step_slots.specs.LawsBelow.{LawsBelow}
+use Rattle.step_slots.specs.Block.{back_address, step_items, step_plan, IsStepOutOfReach, reserved_room}
+use Rattle.step_slots.specs.LawsBelow.{StepLawsBelow}
 use Rattle.step_slots.proofs.JumpBack.{jump-placed, jump-length, jump-reached}
 
 pub back-below : (bits : Bits) (item : Placed) → back_address bits item < 2 ^ width bits
@@ -46,7 +46,7 @@ one_block : (bits : Bits) (items : List Placed) (place : ℕ) → (plan_outside 
 unfolding plan_with
 one_block bits items place = refl
 
-module _ (laws : LawsBelow) where
+module _ (laws : StepLawsBelow) where
   -- ---- the items
 
   pub step-placed : (bits : Bits) (item : Placed) → IsPlaced bits item → ArePlaced bits (step_items bits item)
@@ -105,7 +105,7 @@ module _ (laws : LawsBelow) where
             cc
 
     -- **only the instruction may be out of reach**
-    pub only-first : (at target : ℕ) → IsTooFarBy bits (step_items bits item) (step_plan bits item place) at target → IsOutOfReach bits item place target
+    pub only-first : (at target : ℕ) → IsTooFarBy bits (step_items bits item) (step_plan bits item place) at target → IsStepOutOfReach bits item place target
     only-first zero target far = far
     only-first (suc zero) target far =
         absurd (far.first.unreached

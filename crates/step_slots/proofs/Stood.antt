@@ -5,15 +5,15 @@ use Rattle.move_goals.specs.declared.items.Placed.{Placed}
 use Rattle.move_goals.specs.Items.{IsPlaced}
 use Rattle.block_encoder.specs.Moved.{MovedLists}
 use Rattle.block_encoder.specs.ByPlan.{IsMovedBy, IsTooFarBy}
-use Rattle.step_slots.specs.Block.{back_address, step_items, step_plan, IsOutOfReach, reserved_room}
+use Rattle.step_slots.specs.Block.{back_address, step_items, step_plan, IsStepOutOfReach, reserved_room}
 use Rattle.step_slots.specs.Standing.{FitsReserved}
-use Rattle.step_slots.specs.LawsBelow.{LawsBelow}
+use Rattle.step_slots.specs.LawsBelow.{StepLawsBelow}
 use Rattle.step_slots.proofs.JumpBack.{jump-reached}
 use Rattle.step_slots.proofs.Stepped.{step-placed, reserved-short, back-below}
 
-module _ (laws : LawsBelow) (bits : Bits) (item : Placed) (spelled : IsPlaced bits item) (place : ℕ) where
+module _ (laws : StepLawsBelow) (bits : Bits) (item : Placed) (spelled : IsPlaced bits item) (place : ℕ) where
   -- only the instruction may be out of reach, whatever the place
-  pub stood-far : (at target : ℕ) → IsTooFarBy bits (step_items bits item) (step_plan bits item place) at target → IsOutOfReach bits item place target
+  pub stood-far : (at target : ℕ) → IsTooFarBy bits (step_items bits item) (step_plan bits item place) at target → IsStepOutOfReach bits item place target
   stood-far zero target far = far
   stood-far (suc zero) target far =
       absurd (far.first.unreached

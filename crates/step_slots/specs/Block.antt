@@ -41,8 +41,8 @@ IsStepBlock bits item place bytes =
     (moved : MovedLists) × (IsMovedBy bits (step_items bits item) (step_plan bits item place) moved × (bytes ≡ moved.bytes))
 
 -- the instruction does not reach its target from a place
-abbrev pub IsOutOfReach : Bits → Placed → ℕ → ℕ → Type 0
-IsOutOfReach bits item place target = IsTooFarBy bits (step_items bits item) (step_plan bits item place) 0 target
+abbrev pub IsStepOutOfReach : Bits → Placed → ℕ → ℕ → Type 0
+IsStepOutOfReach bits item place target = IsTooFarBy bits (step_items bits item) (step_plan bits item place) 0 target
 
 -- how many bytes are reserved for the block in a region with a base: those of the layout of last forms
 abbrev pub reserved_room : Bits → ℕ → Placed → ℕ

@@ -10,22 +10,22 @@ use Rattle.step_slots.specs.declared.slots.StepSlot.{StepSlot}
 use Rattle.step_slots.specs.Block.{reserved_room}
 use Rattle.step_slots.specs.State.{SlotState, with_slot}
 use Rattle.step_slots.specs.Stepping.{slots_refusal, IsBlockStepped}
-use Rattle.step_slots.specs.Holding.{AreApart}
-use Rattle.step_slots.specs.Keeping.{AreKept}
+use Rattle.step_slots.specs.Holding.{SlotsAreApart}
+use Rattle.step_slots.specs.Keeping.{AreSlotsKept}
 
 -- slots in a region, from none on, step by step
-pub record KeptFacts : Type 0 where
+pub record LiveSlotFacts : Type 0 where
   pub kept-made : (bits : Bits) (base size max : ℕ) → slots_refusal bits base size max ≡ None → (region : RegionState) →
-      region ≡ empty_region base size max → (slots : List StepSlot) → slots ≡ [] → (room : ℕ) → max ≤ room → AreKept bits region slots room
+      region ≡ empty_region base size max → (slots : List StepSlot) → slots ≡ [] → (room : ℕ) → max ≤ room → AreSlotsKept bits region slots room
   -- one slot more
-  pub stepped-made : (bits : Bits) (region : RegionState) (slots : List StepSlot) (room : ℕ) → AreKept bits region slots room →
+  pub stepped-made : (bits : Bits) (region : RegionState) (slots : List StepSlot) (room : ℕ) → AreSlotsKept bits region slots room →
       (item : Placed) → IsPlaced bits item → (place : ℕ) (new : RegionState) → IsBlockStepped bits region item (Ok place) new →
       (more : ℕ) → room ≤ more → (made : List StepSlot) → made ≡ with_slot (record { place = place; item = item }) slots →
-      (base : ℕ) → base ≡ region.base → (base ≡ new.base) × AreKept bits new made more
+      (base : ℕ) → base ≡ region.base → (base ≡ new.base) × AreSlotsKept bits new made more
   -- the live blocks are in units, and the slots apart
-  pub kept-units : (bits : Bits) (region : RegionState) (slots : List StepSlot) (room : ℕ) → AreKept bits region slots room → AreInUnits region
-  pub kept-seen : (bits : Bits) (region : RegionState) (slots : List StepSlot) (room : ℕ) → AreKept bits region slots room →
-      (now : SlotState) → record { bits = bits; region = region; slots = slots } ≡ now → AreApart now
+  pub kept-units : (bits : Bits) (region : RegionState) (slots : List StepSlot) (room : ℕ) → AreSlotsKept bits region slots room → AreInUnits region
+  pub kept-seen : (bits : Bits) (region : RegionState) (slots : List StepSlot) (room : ℕ) → AreSlotsKept bits region slots room →
+      (now : SlotState) → record { bits = bits; region = region; slots = slots } ≡ now → SlotsAreApart now
 
 -- the bytes that are reserved for an instruction
 pub record ReservedFacts : Type 0 where

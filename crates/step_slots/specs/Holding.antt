@@ -1,16 +1,15 @@
 -- Where live slots stand, and what the image has there.
-use Rattle.std.specs.Prelude.{◌≡◌, ◌⊎◌, ℕ, ◌+◌, ◌-◌, ◌<◌, ◌≤◌, List, ◌++◌, All, AllPairs, length, replicate, slice_index_or, take, drop}
+use Rattle.std.specs.Prelude.{◌≡◌, ℕ, ◌-◌, List, ◌++◌, All, length, replicate, take, drop}
 use Rattle.x86_values.specs.declared.Bits.{Bits}
 use Rattle.code_region.specs.State.{int3}
+use Rattle.live_entries.specs.Keeping.{StandApart, IsQuietElsewhere}
 use Rattle.step_slots.specs.declared.slots.StepSlot.{StepSlot}
 use Rattle.step_slots.specs.Block.{IsStepBlock}
-use Rattle.step_slots.specs.State.{SlotState, slot_len}
+use Rattle.step_slots.specs.State.{SlotState, slot_place, slot_len}
 
 -- the slots stand inside the region by address, and none stands over another
-pub record AreApart (state : SlotState) : Type 0 where
-  pub inside : All (λ slot. (state.region.base ≤ slot.place)
-      × (slot.place + slot_len state.bits state.region.base slot ≤ state.region.base + state.region.size)) state.slots
-  pub apart : AllPairs (λ slot later. slot.place + slot_len state.bits state.region.base slot ≤ later.place) state.slots
+abbrev pub SlotsAreApart : SlotState → Type 0
+SlotsAreApart state = StandApart slot_place (slot_len state.bits state.region.base) state.region state.slots
 
 -- the bytes of a slot are those of its block, filled up with INT3
 abbrev pub HasBlock : Bits → ℕ → List ℕ → StepSlot → Type 0
@@ -21,6 +20,4 @@ HasBlock bits base image slot =
 -- each live slot has its block, and each byte that no slot takes is INT3
 pub record HoldsSlots (state : SlotState) (image : List ℕ) : Type 0 where
   pub blocks : All (HasBlock state.bits state.region.base image) state.slots
-  pub elsewhere : (k : ℕ) → k < state.region.size
-      → All (λ slot. (state.region.base + k < slot.place) ⊎ (slot.place + slot_len state.bits state.region.base slot ≤ state.region.base + k)) state.slots
-      → slice_index_or image k 0 ≡ int3
+  pub elsewhere : IsQuietElsewhere slot_place (slot_len state.bits state.region.base) state.region state.slots image

@@ -13,9 +13,9 @@ use Rattle.step_slots.specs.State.{SlotState}
 use Rattle.step_slots.specs.Stepping.{IsStepped, after_finish}
 
 -- an instruction to be stepped has some bytes at its address
-abbrev pub IsFit : Bits → StepCommand → Type 0
-IsFit bits (Step item) = IsPlaced bits item
-IsFit bits (Finish place) = Unit {0}
+abbrev pub StepCommandFits : Bits → StepCommand → Type 0
+StepCommandFits bits (Step item) = IsPlaced bits item
+StepCommandFits bits (Finish place) = Unit {0}
 
 -- the reply that says what a step answered
 abbrev pub step_reply : Result ℕ StepError → StepReply
@@ -28,12 +28,12 @@ finish_reply (Ok done) = Finished
 finish_reply (Err why) = NotTakenReply why.place
 
 -- one command
-abbrev pub IsDone : SlotState → StepCommand → StepReply → SlotState → Type 0
-IsDone old (Step item) reply new = (answer : Result ℕ StepError) × ((reply ≡ step_reply answer) × IsStepped old item answer new)
-IsDone old (Finish place) reply new = (reply ≡ finish_reply (release_answer old.region place)) × (new ≡ after_finish old place)
+abbrev pub IsStepDone : SlotState → StepCommand → StepReply → SlotState → Type 0
+IsStepDone old (Step item) reply new = (answer : Result ℕ StepError) × ((reply ≡ step_reply answer) × IsStepped old item answer new)
+IsStepDone old (Finish place) reply new = (reply ≡ finish_reply (release_answer old.region place)) × (new ≡ after_finish old place)
 
 -- the commands in order
-abbrev pub IsRun : SlotState → List StepCommand → List StepReply → SlotState → Type 0
-IsRun old [] [] new = new ≡ old
-IsRun old (command ∷ commands) (reply ∷ replies) new = (state : SlotState) × (IsDone old command reply state × IsRun state commands replies new)
-IsRun old commands replies new = ⊥
+abbrev pub IsStepRun : SlotState → List StepCommand → List StepReply → SlotState → Type 0
+IsStepRun old [] [] new = new ≡ old
+IsStepRun old (command ∷ commands) (reply ∷ replies) new = (state : SlotState) × (IsStepDone old command reply state × IsStepRun state commands replies new)
+IsStepRun old commands replies new = ⊥

@@ -1,5 +1,5 @@
 -- What a step and a finish answer, and the slots after them.
-use Rattle.std.specs.Prelude.{◌≡◌, ℕ, ◌+◌, ◌^◌, ◌==◌, not, nat_lt, if◌then◌else◌, List, filter, Option, Some, None, Result, Ok, Err}
+use Rattle.std.specs.Prelude.{◌≡◌, ℕ, ◌+◌, ◌^◌, nat_lt, if◌then◌else◌, List, Option, Some, None, Result, Ok, Err}
 use Rattle.x86_values.specs.declared.Bits.{Bits}
 use Rattle.x86_values.specs.Wrapping.{width}
 use Rattle.move_goals.specs.declared.items.Placed.{Placed}
@@ -14,11 +14,12 @@ use Rattle.code_region.specs.Opening.{is_bad_size, is_bad_room}
 use Rattle.code_region.specs.Placing.{place_answer, after_place}
 use Rattle.code_region.specs.Releasing.{after_release}
 use Rattle.code_region.specs.Filling.{after_fill}
+use Rattle.live_entries.specs.Order.{without_entry}
 use Rattle.step_slots.specs.declared.slots.StepSlot.{StepSlot}
 use Rattle.step_slots.specs.declared.refusals.StepError.{StepError}
 use Rattle.step_slots.specs.declared.refusals.StepError.TheVariants.{Memory, TooManyBlocks, Full, TooFar}
-use Rattle.step_slots.specs.Block.{IsStepBlock, IsOutOfReach, reserved_room}
-use Rattle.step_slots.specs.State.{SlotState, with_slot}
+use Rattle.step_slots.specs.Block.{IsStepBlock, IsStepOutOfReach, reserved_room}
+use Rattle.step_slots.specs.State.{SlotState, slot_place, with_slot}
 
 -- the first cause for which slots are refused, memory apart: that of the region, which ends inside the address space of the mode
 unfoldable pub slots_refusal : Bits → ℕ → ℕ → ℕ → Option OpenError
@@ -61,7 +62,7 @@ IsBlockStepped bits old item (Err (TooManyBlocks max len)) new =
 IsBlockStepped bits old item (Err (Full len largest)) new =
     (place_answer old (reserved_room bits old.base item) ≡ Err (place_error.Full len largest)) × (new ≡ old)
 IsBlockStepped bits old item (Err (TooFar target)) new =
-    ((place : ℕ) × ((place_answer old (reserved_room bits old.base item) ≡ Ok place) × IsOutOfReach bits item place target)) × (new ≡ old)
+    ((place : ℕ) × ((place_answer old (reserved_room bits old.base item) ≡ Ok place) × IsStepOutOfReach bits item place target)) × (new ≡ old)
 IsBlockStepped bits old item (Err Memory) new = new ≡ old
 
 -- the slots after that answer
@@ -77,7 +78,7 @@ pub record IsStepped (old : SlotState) (item : Placed) (answer : Result ℕ Step
 
 -- the slots without the one that starts at an address
 abbrev pub without_slot : ℕ → List StepSlot → List StepSlot
-without_slot place slots = filter (λ slot. not (slot.place == place)) slots
+without_slot place slots = without_entry slot_place place slots
 
 -- a finish releases the block
 abbrev pub after_finish : SlotState → ℕ → SlotState

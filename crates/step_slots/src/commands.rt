@@ -1,7 +1,7 @@
 //! Commands to slots, and their replies.
 
 ghost use Rattle.std.specs.Prelude.{◌≡◌, ◌<◌, All, length};
-ghost use Rattle.step_slots.specs.Running.{IsFit, IsDone, IsRun, step_reply, finish_reply};
+ghost use Rattle.step_slots.specs.Running.{StepCommandFits, IsStepDone, IsStepRun, step_reply, finish_reply};
 
 use crate::refusals::StepError;
 use crate::slots::StepSlots;
@@ -53,8 +53,8 @@ fn reply_to_finish(answer: Result<(), NotTaken>) -> StepReply
 
 /// Does one command, and answers it.
 fn execute(slots: &mut StepSlots, alloc: Global, command: StepCommand) -> StepReply
-    requires { IsFit slots.old.bits command }
-    ensures { IsDone slots.old command result slots.new }
+    requires { StepCommandFits slots.old.bits command }
+    ensures { IsStepDone slots.old command result slots.new }
 {
     match command {
         StepCommand::Step { item } => reply_to_step(slots.step(alloc, item)),
@@ -72,8 +72,8 @@ pub fn replay(
     replies: &mut [StepReply],
 )
     requires room { length replies.old ≡ length commands.now }
-    requires fit { All (IsFit slots.old.bits) commands.now }
-    ensures { IsRun slots.old commands.now replies.new slots.new }
+    requires fit { All (StepCommandFits slots.old.bits) commands.now }
+    ensures { IsStepRun slots.old commands.now replies.new slots.new }
 {
     'commands: for k in 0..commands.len() {
         replies[k] = execute(slots, alloc, commands[k]);

@@ -1,13 +1,13 @@
 //! What holds of all step slots.
 
-ghost use Rattle.step_slots.specs.Facts.{KeptFacts, ReservedFacts};
+ghost use Rattle.step_slots.specs.Facts.{LiveSlotFacts, ReservedFacts};
 
 use crate::laws_below::laws_below;
 
 /// Slots keep their blocks in units and apart from each other, from none on and with each step.
 #[inline]
 pub fn slots_stay_apart()
-    ensures { KeptFacts }
+    ensures { LiveSlotFacts }
 {
     laws_below();
 }

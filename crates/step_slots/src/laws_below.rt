@@ -1,11 +1,13 @@
 //! What the laws of the crates below say, for the proofs of this crate.
 
-ghost use Rattle.step_slots.specs.LawsBelow.{LawsBelow};
+ghost use Rattle.step_slots.specs.LawsBelow.{StepLawsBelow};
+
+use crate::slots::StepSlot;
 
 /// The laws of the crates below as one fact. It does nothing.
 #[inline]
 pub(crate) fn laws_below()
-    ensures { LawsBelow }
+    ensures { StepLawsBelow }
 {
     encoder::laws::encodings_are_plain();
     moved_targets::laws::spellings_are_moved();
@@ -17,4 +19,6 @@ pub(crate) fn laws_below()
     block_encoder::laws::last_forms_bound_the_length();
     code_region::laws::sound_regions_keep_their_laws();
     code_region::laws::places_are_gaps();
+    live_entries::laws::placed_blocks_are_filled();
+    live_entries::laws::entries_go_with_their_blocks::<StepSlot>();
 }

@@ -6,7 +6,6 @@ mod block;
 mod commands;
 pub mod laws;
 mod laws_below;
-mod order;
 mod refusals;
 mod slots;
 mod standing;

@@ -6,14 +6,14 @@ ghost use Rattle.code_region.specs.State.{region_image};
 ghost use Rattle.code_region.specs.Releasing.{release_answer};
 ghost use Rattle.step_slots.specs.State.{no_slots};
 ghost use Rattle.step_slots.specs.Stepping.{slots_refusal, IsStepped, after_finish};
-ghost use Rattle.step_slots.specs.Holding.{AreApart, HoldsSlots};
+ghost use Rattle.step_slots.specs.Holding.{SlotsAreApart, HoldsSlots};
 
 use crate::block::step_block;
 use crate::laws_below::laws_below;
-use crate::order::{insert_slot, remove_slot};
 use crate::refusals::StepError;
 use block_encoder::Placed;
 use code_region::{NotTaken, OpenError, Region};
+use live_entries::{LiveEntry, insert_entry, remove_entry};
 use move_goals::passes;
 use std::alloc::Global;
 use std::marker::Model;
@@ -35,6 +35,29 @@ pub struct StepSlot {
     pub item: Placed,
 }
 
+impl LiveEntry for StepSlot {
+    ghost use Rattle.std.specs.Prelude.{ℕ};
+    ghost use Rattle.x86_values.specs.declared.Bits.{Bits};
+    ghost use Rattle.step_slots.specs.State.{slot_place, slot_len};
+    ghost use Rattle.step_slots.specs.Keeping.{IsSlotBlock};
+
+    ghost Setting = { Bits × ℕ };
+
+    ghost place_of = { slot_place };
+
+    ghost len_in = { λ s. slot_len s.0 s.1 };
+
+    ghost is_block_in = { λ s. IsSlotBlock s.0 s.1 };
+
+    fn place(&self) -> u64 {
+        self.place
+    }
+
+    ghost block_place = { λ s slot block is. is.place };
+
+    ghost block_len = { λ s slot block is. is.len };
+}
+
 /// Slots in a fixed range of addresses.
 ///
 /// Each live slot has a block of a multiple of 16 bytes, in the first gap that is long enough: the moved image of its instruction, which keeps its target,
@@ -49,14 +72,14 @@ pub struct StepSlots {
 
 impl Model for StepSlots {
     ghost use Rattle.step_slots.specs.State.{SlotState};
-    ghost use Rattle.step_slots.specs.Keeping.{AreKept};
+    ghost use Rattle.step_slots.specs.Keeping.{AreSlotsKept};
     ghost use Rattle.std.specs.Prelude.{◌≡◌, vec_capacity};
 
     ghost Value = { SlotState };
 
     ghost view = { λ s. record { bits = s.bits; region = s.region; slots = s.live.items } };
 
-    ghost invariant = { λ s. (s.base ≡ s.region.base) × AreKept s.bits s.region s.live.items (vec_capacity s.live) };
+    ghost invariant = { λ s. (s.base ≡ s.region.base) × AreSlotsKept s.bits s.region s.live.items (vec_capacity s.live) };
 }
 
 /// Why slots are refused, if they are; memory is another matter.
@@ -129,7 +152,7 @@ impl StepSlots {
     {
         laws_below();
         let place = step_block(alloc, self.bits, self.base, &mut self.region, item)?;
-        insert_slot(&mut self.live, StepSlot { place, item });
+        insert_entry(&mut self.live, StepSlot { place, item });
         Ok(place)
     }
 
@@ -143,14 +166,14 @@ impl StepSlots {
     {
         laws_below();
         self.region.release(place)?;
-        remove_slot(&mut self.live, place);
+        remove_entry(&mut self.live, place);
         Ok(())
     }
 
     /// The live slots, by address.
     pub fn live(&self) -> &[StepSlot]
         ensures slots { result.now ≡ self.now.slots }
-        ensures apart { AreApart self.now }
+        ensures apart { SlotsAreApart self.now }
     {
         laws_below();
         &self.live

@@ -4,4 +4,6 @@ pub returns : goal.returns
 returns c = record {
   regions = c.sound_regions_keep_their_laws.ensures;
   places = c.places_are_gaps.ensures;
+  fills = c.placed_blocks_are_filled.ensures;
+  entries = c.entries_go_with_their_blocks.ensures;
 }

@@ -12,4 +12,6 @@ returns c = record {
   last = c.last_forms_bound_the_length.ensures;
   regions = c.sound_regions_keep_their_laws.ensures;
   places = c.places_are_gaps.ensures;
+  fills = c.placed_blocks_are_filled.ensures;
+  entries = c.entries_go_with_their_blocks.ensures;
 }

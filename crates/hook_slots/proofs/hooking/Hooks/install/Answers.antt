@@ -5,13 +5,13 @@ use Rattle.hook_slots.specs.Installing.{IsHookPlaced}
 use Rattle.hook_slots.proofs.Kept.{kept-ascend, install-room, install-kept}
 use Rattle.hook_slots.proofs.hooking.Hooks.install.Goals as goal
 
-pub insert_hook-requires-clause-ascend : goal.insert_hook-requires-clause-ascend
-insert_hook-requires-clause-ascend c =
+pub insert_entry-requires-clause-ascend : goal.insert_entry-requires-clause-ascend
+insert_entry-requires-clause-ascend c =
     let f = c.self.inside in
     kept-ascend c.laws_below.ensures f.bits f.slot f.region f.live.items _ c.self.invariant
 
-pub insert_hook-requires-clause-room : goal.insert_hook-requires-clause-room
-insert_hook-requires-clause-room c =
+pub insert_entry-requires-clause-room : goal.insert_entry-requires-clause-room
+insert_entry-requires-clause-room c =
     let f = c.self.inside in
     let P : Result Hook InstallError → Type 0 = λ r. IsHookPlaced f.bits f.slot f.region c.args.ip c.args.code.now c.args.to c.args.start r c.place_hook.new.region in
     let made : P (Ok c.in_ok-hook.hook) = subst P c.in_ok-hook.was c.place_hook.ensures in
@@ -25,4 +25,4 @@ invariant_of-self-2 c =
     let P : Result Hook InstallError → Type 0 = λ r. IsHookPlaced f.bits f.slot f.region c.args.ip c.args.code.now c.args.to c.args.start r c.place_hook.new.region in
     let made : P (Ok c.in_ok-hook.hook) = subst P c.in_ok-hook.was c.place_hook.ensures in
     install-kept c.laws_below.ensures f.bits f.slot f.region f.live.items (vec_capacity f.live) c.self.invariant c.args.ip c.args.code.now c.args.to c.args.start
-    c.in_ok-hook.hook c.place_hook.new.region made _ c.insert_hook.ensures.capacity c.insert_hook.new.hooks.items c.insert_hook.ensures.items
+    c.in_ok-hook.hook c.place_hook.new.region made _ c.insert_entry.ensures.capacity c.insert_entry.new.entries.items c.insert_entry.ensures.items

@@ -14,13 +14,13 @@ returns-in-Err-clause-state c =
     refused-state c.laws_below.ensures f.bits f.slot f.region f.live.items _ c.self.invariant c.args.place c.in-Err.why (sym c.release.ensures.answer ∙ c.in-Err.is)
     c.args.self.now c.self.view_is c.release.new.self c.release.ensures.state
 
-pub remove_hook-requires-clause-ascend : goal.remove_hook-requires-clause-ascend
-remove_hook-requires-clause-ascend c =
+pub remove_entry-requires-clause-ascend : goal.remove_entry-requires-clause-ascend
+remove_entry-requires-clause-ascend c =
     let f = c.self.inside in
     kept-ascend c.laws_below.ensures f.bits f.slot f.region f.live.items _ c.self.invariant
 
-pub remove_hook-requires-clause-live : goal.remove_hook-requires-clause-live
-remove_hook-requires-clause-live c =
+pub remove_entry-requires-clause-live : goal.remove_entry-requires-clause-live
+remove_entry-requires-clause-live c =
     let f = c.self.inside in
     remove-stands c.laws_below.ensures f.bits f.slot f.region f.live.items _ c.self.invariant c.args.place (sym c.release.ensures.answer ∙ c.in-Ok.is)
 
@@ -28,4 +28,4 @@ pub invariant_of-self : goal.invariant_of-self
 invariant_of-self c =
     let f = c.self.inside in
     remove-made c.laws_below.ensures f.bits f.slot f.region f.live.items _ c.self.invariant c.args.place c.release.new.self c.release.ensures.state
-    c.remove_hook.new.hooks.items c.remove_hook.ensures.items _ c.remove_hook.ensures.capacity
+    c.remove_entry.new.entries.items c.remove_entry.ensures.items _ c.remove_entry.ensures.capacity

@@ -1,4 +1,4 @@
-use Rattle.step_slots.proofs.Blocks.{kept-image}
+use Rattle.step_slots.proofs.Kept.{kept-image}
 use Rattle.step_slots.proofs.slots.StepSlots.image.Goals as goal
 
 pub returns-clause-slots : goal.returns-clause-slots

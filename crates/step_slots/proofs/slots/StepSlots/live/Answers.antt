@@ -1,4 +1,4 @@
-use Rattle.step_slots.proofs.Blocks.{kept-seen}
+use Rattle.step_slots.proofs.Kept.{kept-seen}
 use Rattle.step_slots.proofs.slots.StepSlots.live.Goals as goal
 
 pub returns-clause-apart : goal.returns-clause-apart

@@ -1,6 +1,6 @@
 use Rattle.std.proofs.Common.{sym, ap, ◌∙◌}
 use Rattle.code_region.specs.State.{RegionState}
-use Rattle.step_slots.proofs.Blocks.{kept-made}
+use Rattle.step_slots.proofs.Kept.{kept-made}
 use Rattle.step_slots.proofs.slots.StepSlots.make.Goals as goal
 
 pub invariant_of-result : goal.invariant_of-result

@@ -9,7 +9,7 @@ use Rattle.code_region.specs.Placing.{place_answer, with_block, unfilled_block, 
 use Rattle.code_region.specs.Releasing.{release_of, release_answer}
 use Rattle.code_region.specs.Filling.{with_content, block_holds, can_fill, after_fill}
 use Rattle.code_region.specs.Keeping.{IsSound}
-use Rattle.hook_slots.specs.LawsBelow.{LawsBelow}
+use Rattle.live_entries.specs.LawsBelow.{RegionLaws}
 
 -- no live block starts at an address
 abbrev pub NoneAt : ℕ → List LiveBlock → Type 0
@@ -52,7 +52,7 @@ fill-put block place bytes (other ∷ live) e none =
 
 -- ---- a place that is handed out
 
-module _ (laws : LawsBelow) (state : RegionState) (len place : ℕ) (sound : IsSound state) (e : place_answer state len ≡ Ok place) where
+module _ (laws : RegionLaws) (state : RegionState) (len place : ℕ) (sound : IsSound state) (e : place_answer state len ≡ Ok place) where
   pub placed-none : NoneAt place state.live
   unfolding live_block
   placed-none = none-at place state.live (laws.places.place-free state len place sound e)
@@ -69,7 +69,7 @@ module _ (laws : LawsBelow) (state : RegionState) (len place : ℕ) (sound : IsS
       subst P (sym placed-is)
       (subst Q (sym (find-put (unfilled_block place (len_in_units len)) place state.live refl placed-none)) (le-leb n (len_in_units len) le))
 
-  module _ (bytes : List ℕ) (fits : length bytes ≤ len_in_units len) where
+  module _ (bytes : List ℕ) where
     -- the region with the block filled
     pub filled-is : after_fill (after_place state len) place bytes
         ≡ record state { live = with_block (with_content bytes (unfilled_block place (len_in_units len))) state.live }
@@ -79,19 +79,19 @@ module _ (laws : LawsBelow) (state : RegionState) (len place : ℕ) (sound : IsS
         ap (λ (s : RegionState). after_fill s place bytes) placed-is
         ∙ ap with_live (fill-put (unfilled_block place (len_in_units len)) place bytes state.live refl placed-none)
 
-    pub filled-sound : IsSound (after_fill (after_place state len) place bytes)
-    filled-sound = laws.regions.filled-sound (after_place state len) place bytes (laws.regions.placed-sound state len sound) (placed-can_fill (length bytes) fits)
+    pub filled-sound : length bytes ≤ len_in_units len → IsSound (after_fill (after_place state len) place bytes)
+    filled-sound fits = laws.regions.filled-sound (after_place state len) place bytes (laws.regions.placed-sound state len sound) (placed-can_fill (length bytes) fits)
 
-  -- it is handed out where there is room
-  pub placed-room : (length state.live ≡ state.max_blocks → ⊥)
-  unfolding place_answer
-  placed-room same =
-      elim (cases_Bool (nat_eq len 0)) [
-        | inl zero_len ↦ (let f = rw zero_len at e in absurd cc)
-        | inr some_len ↦ (
-            let f = rw (some_len, eq-eqb (length state.live) state.max_blocks same) at e in
-            absurd cc)
-      ]
+-- it is handed out where there is room
+pub placed-room : (state : RegionState) (len place : ℕ) → place_answer state len ≡ Ok place → length state.live ≡ state.max_blocks → ⊥
+unfolding place_answer
+placed-room state len place e same =
+    elim (cases_Bool (nat_eq len 0)) [
+      | inl zero_len ↦ (let f = rw zero_len at e in absurd cc)
+      | inr some_len ↦ (
+          let f = rw (some_len, eq-eqb (length state.live) state.max_blocks same) at e in
+          absurd cc)
+    ]
 
 -- ---- a block that is released
 

@@ -1,0 +1,4 @@
+pub mod Ranks
+pub mod Region
+pub mod Blocks
+pub mod Live

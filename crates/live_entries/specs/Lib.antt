@@ -1,0 +1,4 @@
+pub mod Order
+pub mod Keeping
+pub mod Facts
+pub mod LawsBelow

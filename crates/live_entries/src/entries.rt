@@ -1,0 +1,29 @@
+//! What stands for a live block.
+
+ghost use Rattle.std.specs.Prelude.{◌≡◌, ℕ};
+ghost use Rattle.code_region.specs.State.{LiveBlock};
+
+/// What its user keeps for a live block of a region.
+pub trait LiveEntry {
+    /// What its block depends on beside the entry.
+    ghost Setting: { Type 0 };
+
+    /// The address where its block starts.
+    ghost place_of: { Self → ℕ };
+
+    /// How many bytes its block takes.
+    ghost len_in: { Setting → Self → ℕ };
+
+    /// A live block is that of the entry.
+    ghost is_block_in: { Setting → Self → LiveBlock → Type 0 };
+
+    /// The address where its block starts.
+    fn place(&self) -> u64
+        ensures { result ≡ place_of self.now };
+
+    /// Its block starts there.
+    ghost block_place: { (setting : Setting) (entry : Self) (block : LiveBlock) → is_block_in setting entry block → block.place ≡ place_of entry };
+
+    /// Its block takes so many bytes.
+    ghost block_len: { (setting : Setting) (entry : Self) (block : LiveBlock) → is_block_in setting entry block → block.len ≡ len_in setting entry };
+}

@@ -1,0 +1,10 @@
+//! The live entries of a region of code, one for each live block, by address.
+#![tactic(auto)]
+
+mod entries;
+pub mod laws;
+mod laws_below;
+mod order;
+
+pub use entries::LiveEntry;
+pub use order::{insert_entry, remove_entry};
