@@ -1,5 +1,5 @@
 -- Hooks as they are made and removed, and what holds of them then.
-use Rattle.std.proofs.Common.{◌≡◌, ℕ, ◌+◌, ◌-◌, ◌%◌, ◌/◌, ◌≤◌, ◌<◌, inl, inr, List, [], ◌∷◌, ◌++◌, length, get_or, replicate, take, drop, arith, ap, refl, subst, sym, ◌∙◌, nat_lt, nat_eq, Option, None, Result, Ok, Err}
+use Rattle.std.proofs.Common.{◌≡◌, ℕ, ◌-◌, ◌%◌, ◌/◌, ◌≤◌, ◌<◌, inl, inr, List, [], ◌∷◌, ◌++◌, length, replicate, arith, ap, refl, subst, sym, ◌∙◌, nat_lt, nat_eq, Option, None, Result, Ok, Err}
 use Rattle.std.specs.Prelude.{IsTrue}
 use Rattle.std.proofs.Math.Nat.{div-mul-le_self}
 use Rattle.std.proofs.lemmas.Bool.{cases_Bool, eqb-true, eqb-false, ltb-true, ltb-false}

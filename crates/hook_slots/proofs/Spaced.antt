@@ -1,6 +1,5 @@
 -- Slots of one size: where they stand, and that each is taken where none is free.
-use Rattle.std.proofs.Common.{◌≡◌, ℕ, suc, ◌+◌, ◌-◌, ◌*◌, ◌^◌, ◌≤◌, ◌<◌, inl, inr, true, false, List, [], ◌∷◌, length, map, filter, not, arith, ap, refl, subst, sym, ◌∙◌, nat_lt, nat_le, nat_eq, cond, Option, Some, None, Result, Ok, Err}
-use Rattle.std.specs.Prelude.{if◌then◌else◌}
+use Rattle.std.proofs.Common.{◌≡◌, ℕ, suc, ◌+◌, ◌-◌, ◌*◌, ◌^◌, ◌≤◌, ◌<◌, inl, inr, List, [], ◌∷◌, length, map, filter, not, arith, ap, refl, subst, sym, ◌∙◌, nat_lt, nat_le, nat_eq, Option, Some, None, Result, Ok, Err}
 use Rattle.std.proofs.Math.Nat.{suc-mul, mul-le-mul_right}
 use Rattle.std.proofs.lemmas.Bool.{cases_Bool, eqb-true, eqb-false, le-leb, leb-false, ltb-true, ltb-false}
 use Rattle.code_region.specs.declared.gaps.Span.{Span}
