@@ -14,6 +14,7 @@ use Rattle.code_region.specs.Filling.{with_content, can_fill}
 use Rattle.code_region.specs.Keeping.{IsSound}
 use Rattle.live_entries.specs.Order.{AreAscending, StandsAt}
 use Rattle.live_entries.specs.Keeping.{AreLive}
+use Rattle.live_entries.specs.Facts.{LiveFacts}
 use Rattle.detour.specs.declared.start.StartTarget.{StartTarget}
 use Rattle.hook_slots.specs.declared.making.Hook.{Hook}
 use Rattle.hook_slots.specs.declared.refusals.InstallError.{InstallError}
@@ -62,15 +63,21 @@ full-placed bits slot region sound spaced ip code to start why e new same said i
 
 -- ---- what is kept
 
-module _ (laws : HookLawsBelow) (bits : Bits) (slot : ℕ) (region : RegionState) (hooks : List Hook) (room : ℕ) (kept : AreHooksKept bits slot region hooks room) where
+module _ (laws : HookLawsBelow) (bits : Bits) (slot : ℕ) (region : RegionState) (hooks : List Hook) (room : ℕ)
+    (kept : AreHooksKept bits slot region hooks room) where
+  live : LiveFacts hook_place (λ hook. slot) (IsHookBlock bits slot) region hooks room
+  live = laws.entries.live (bits, slot) region hooks room kept.live
+
+  -- the hooks stand by address
   pub kept-ascend : AreAscending hook_place 0 hooks
-  kept-ascend = laws.entries.live-ascend (bits, slot) region hooks room kept.live
+  kept-ascend = live.ascend
 
   -- an install
   module _ (ip : ℕ) (code : List ℕ) (to : ℕ) (start : StartTarget) (hook : Hook) (new : RegionState)
       (made : IsHookPlaced bits slot region ip code to start (Ok hook) new) where
+    -- there is room for it
     pub install-room : length hooks < room
-    install-room = laws.entries.live-room (bits, slot) region hooks room kept.live slot hook.place made.0.0
+    install-room = live.has-room slot hook.place made.0.0
 
     bytes : List ℕ
     bytes = hook.detour.trampoline
@@ -105,7 +112,7 @@ module _ (laws : HookLawsBelow) (bits : Bits) (slot : ℕ) (region : RegionState
         } in
         subst (λ (r : RegionState). AreLive (IsHookBlock bits slot) r (with_hook hook hooks) more)
         (laws.fills.filled-is region slot hook.place kept.live.sound made.0.0 bytes)
-        (laws.entries.live-more (bits, slot) region hooks room kept.live slot hook.place made.0.0 bytes fits hook refl this more roomy)
+        (live.one-more slot hook.place made.0.0 bytes fits hook refl this more roomy)
 
     spaced_now : AreSpaced slot now
     unfolding bytes block now
@@ -134,19 +141,19 @@ module _ (laws : HookLawsBelow) (bits : Bits) (slot : ℕ) (region : RegionState
   pub remove-kept : (place : ℕ) → AreHooksKept bits slot (after_release region place) (without_hook place hooks) room
   unfolding after_release
   remove-kept place =
-      let live = laws.entries.live-less (bits, slot) region hooks room kept.live place in
+      let left = live.one-less place in
       record {
         spaced = record {
           is_slot = kept.spaced.is_slot;
           slots = slots-without region.base slot place region.live kept.spaced.slots;
-          few = live.few;
+          few = left.few;
           room = kept.spaced.room;
         };
-        live = live;
+        live = left;
       }
 
   pub remove-stands : (place : ℕ) → release_answer region place ≡ Ok tt → StandsAt hook_place place hooks
-  remove-stands place e = laws.entries.live-stands (bits, slot) region hooks room kept.live place e
+  remove-stands place e = live.stands place e
 
   pub remove-made : (place : ℕ) (new : RegionState) → new ≡ after_release region place → (left : List Hook) → left ≡ without_hook place hooks
       → (more : ℕ) → more ≡ room → AreHooksKept bits slot new left more
@@ -156,10 +163,10 @@ module _ (laws : HookLawsBelow) (bits : Bits) (slot : ℕ) (region : RegionState
       (subst (λ (n : ℕ). AreHooksKept bits slot (after_release region place) (without_hook place hooks) n) (sym full) (remove-kept place)))
 
   remove-none : (place : ℕ) (why : NotTaken) → release_answer region place ≡ Err why → hook_at place hooks ≡ None
-  remove-none place why e = laws.entries.live-absent (bits, slot) region hooks room kept.live place why e
+  remove-none place why e = live.absent place why e
 
   remove-same : (place : ℕ) (why : NotTaken) → release_answer region place ≡ Err why → without_hook place hooks ≡ hooks
-  remove-same place why e = laws.entries.live-same (bits, slot) region hooks room kept.live place why e
+  remove-same place why e = live.unchanged place why e
 
   -- a removal that is refused
   module _ (place : ℕ) (why : NotTaken) (e : release_answer region place ≡ Err why) (now : HooksState)
@@ -179,22 +186,24 @@ module _ (laws : HookLawsBelow) (bits : Bits) (slot : ℕ) (region : RegionState
 
 -- ---- what is seen
 
-module _ (laws : HookLawsBelow) (state : HooksState) (room : ℕ) (kept : AreHooksKept state.bits state.slot state.region state.hooks room) where
+module _ (laws : HookLawsBelow) (state : HooksState) (room : ℕ)
+    (kept : AreHooksKept state.bits state.slot state.region state.hooks room) where
+  seen : LiveFacts hook_place (λ hook. state.slot) (IsHookBlock state.bits state.slot) state.region state.hooks room
+  seen = laws.entries.live (state.bits, state.slot) state.region state.hooks room kept.live
+
+  -- the slots of the hooks stand apart
   pub kept-apart : HooksAreApart state
-  kept-apart = record {
-    slots = laws.entries.live-apart (state.bits, state.slot) state.region state.hooks room kept.live;
-    short = λ k d lt. (laws.entries.live-blocks (state.bits, state.slot) state.region state.hooks room kept.live k d lt).1.short;
-  }
+  kept-apart = record { slots = seen.apart; short = λ k d lt. (seen.blocks k d lt).1.short }
 
+  -- each hook is the detour of some code
   pub kept-detours : AreDetours state
-  kept-detours = λ k d lt. (laws.entries.live-blocks (state.bits, state.slot) state.region state.hooks room kept.live k d lt).1.is_detour
+  kept-detours = λ k d lt. (seen.blocks k d lt).1.is_detour
 
+  -- the image has their trampolines
   pub kept-holds : HoldsHooks state (region_image state.region)
   kept-holds = record {
-    trampolines = λ k d lt.
-        let held = laws.entries.live-contents (state.bits, state.slot) state.region state.hooks room kept.live k d lt in
-        held.1.1 ∙ held.1.0.content;
-    elsewhere = laws.entries.live-quiet (state.bits, state.slot) state.region state.hooks room kept.live;
+    trampolines = λ k d lt. let held = seen.contents k d lt in held.1.1 ∙ held.1.0.content;
+    elsewhere = seen.quiet;
   }
 
 -- ---- no hooks
@@ -242,7 +251,7 @@ kept-made laws bits base size slot none region is hooks no_hooks room roomy =
         few = omega arith;
         room = fit;
       };
-      live = laws.entries.live-none (bits, slot) base size (size / slot) room roomy;
+      live = laws.entries.none (bits, slot) base size (size / slot) room roomy;
     }))
 
 -- ---- in runs

@@ -1,3 +1,2 @@
 pub mod Spaced
 pub mod Kept
-pub mod Runs

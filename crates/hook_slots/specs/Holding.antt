@@ -2,14 +2,14 @@
 use Rattle.std.specs.Prelude.{◌≡◌, ℕ, ◌-◌, ◌≤◌, List, ◌++◌, All, length, replicate, take, drop}
 use Rattle.x86_values.specs.declared.Bits.{Bits}
 use Rattle.code_region.specs.State.{int3}
-use Rattle.live_entries.specs.Keeping.{StandApart, IsQuietElsewhere}
+use Rattle.live_entries.specs.Keeping.{EntriesAreApart, IsQuietElsewhere}
 use Rattle.hook_slots.specs.declared.making.Hook.{Hook}
 use Rattle.hook_slots.specs.State.{HooksState, hook_place}
 use Rattle.hook_slots.specs.Installing.{IsHook}
 
 -- the slots of the hooks stand inside the region by address, none over another, and no trampoline has more bytes than its slot
 pub record HooksAreApart (state : HooksState) : Type 0 where
-  pub slots : StandApart hook_place (λ hook. state.slot) state.region state.hooks
+  pub slots : EntriesAreApart hook_place (λ hook. state.slot) state.region state.hooks
   pub short : All (λ hook. length hook.detour.trampoline ≤ state.slot) state.hooks
 
 -- each has the detour of some function's code with its trampoline at its place

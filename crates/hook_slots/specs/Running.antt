@@ -1,6 +1,7 @@
 -- What a list of commands leaves.
-use Rattle.std.specs.Prelude.{◌≡◌, ℕ, ◌≤◌, List, [], ◌∷◌, length, Result, Ok, Err}
+use Rattle.std.specs.Prelude.{◌≡◌, ℕ, ◌≤◌, List, length, Result, Ok, Err}
 use Rattle.code_region.specs.declared.refusals.NotTaken.{NotTaken}
+use Rattle.live_entries.specs.Running.{IsRun}
 use Rattle.hook_slots.specs.declared.making.Hook.{Hook}
 use Rattle.hook_slots.specs.declared.refusals.InstallError.{InstallError}
 use Rattle.hook_slots.specs.declared.commands.HookCommand.{HookCommand}
@@ -34,6 +35,4 @@ IsHookDone old (Remove place) reply new = (reply ≡ remove_reply (remove_answer
 
 -- the commands in order
 abbrev pub IsHookRun : HooksState → List HookCommand → List HookReply → HooksState → Type 0
-IsHookRun old [] [] new = new ≡ old
-IsHookRun old (command ∷ commands) (reply ∷ replies) new = (state : HooksState) × (IsHookDone old command reply state × IsHookRun state commands replies new)
-IsHookRun old commands replies new = ⊥
+IsHookRun old commands replies new = IsRun IsHookDone old commands replies new

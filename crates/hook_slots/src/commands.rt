@@ -1,6 +1,6 @@
 //! Commands to hooks, and their replies.
 
-ghost use Rattle.std.specs.Prelude.{◌≡◌, ◌<◌, All, length};
+ghost use Rattle.std.specs.Prelude.{◌≡◌, All, length};
 ghost use Rattle.hook_slots.specs.Running.{HookCommandFits, IsHookDone, IsHookRun, install_reply, remove_reply};
 
 use crate::hooking::Hooks;
@@ -8,6 +8,7 @@ use crate::making::Hook;
 use crate::refusals::InstallError;
 use code_region::NotTaken;
 use detour::StartTarget;
+use live_entries::{Executor, run_commands};
 use std::alloc::Global;
 
 /// One command to hooks.
@@ -59,20 +60,24 @@ fn reply_to_remove(answer: Result<Hook, NotTaken>) -> HookReply
     }
 }
 
-/// Does one command, and answers it.
-fn execute(hooks: &mut Hooks, alloc: Global, command: HookCommand<'_>) -> HookReply
-    requires { HookCommandFits command }
-    ensures { IsHookDone hooks.old command.entry result hooks.new }
-{
-    match command {
-        HookCommand::Install {
-            ip,
-            code,
-            to,
-            start,
-        } => reply_to_install(hooks.install(alloc, ip, code, to, start)),
-        HookCommand::Remove { place } => reply_to_remove(hooks.remove(place)),
+impl<'a> Executor<HookCommand<'a>, HookReply> for Hooks {
+    ghost is_fit = { λ hooks. HookCommandFits };
+
+    ghost is_done = { IsHookDone };
+
+    fn execute(&mut self, alloc: Global, command: HookCommand<'a>) -> HookReply {
+        match command {
+            HookCommand::Install {
+                ip,
+                code,
+                to,
+                start,
+            } => reply_to_install(self.install(alloc, ip, code, to, start)),
+            HookCommand::Remove { place } => reply_to_remove(self.remove(place)),
+        }
     }
+
+    ghost stays_fit = { λ old command reply new other done fit. fit };
 }
 
 /// Does these commands, in order, and writes the reply to each.
@@ -88,7 +93,5 @@ pub fn replay(
     requires fit { All HookCommandFits commands.now }
     ensures { IsHookRun hooks.old commands.now replies.new hooks.new }
 {
-    'commands: for k in 0..commands.len() {
-        replies[k] = execute(hooks, alloc, commands[k]);
-    }
+    run_commands(hooks, alloc, commands, replies);
 }

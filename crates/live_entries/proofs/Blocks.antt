@@ -8,108 +8,112 @@ use Rattle.live_entries.specs.Order.{AreAscending, StandsAt, with_entry, without
 use Rattle.live_entries.specs.Keeping.{AreBlocksOf}
 use Rattle.live_entries.proofs.Region.{NoneAt}
 
-module _ {A : Type 0} (place_of : A → ℕ) (IsBlock : A → LiveBlock → Type 0) where
-  pub blocks-count : (entries : List A) (live : List LiveBlock) → AreBlocksOf IsBlock entries live → length entries ≡ length live
+module _ {A : Type 0} (IsBlock : A → LiveBlock → Type 0) where
+  -- there are as many blocks as entries
+  pub blocks-count : (xs : List A) (live : List LiveBlock) → AreBlocksOf IsBlock xs live → length xs ≡ length live
   blocks-count [] [] a = refl
-  blocks-count [] (block ∷ live) a = absurd a
-  blocks-count (entry ∷ entries) [] a = absurd a
-  blocks-count (entry ∷ entries) (block ∷ live) a = ap suc (blocks-count entries live a.1)
+  blocks-count [] (b ∷ live) a = absurd a
+  blocks-count (x ∷ xs) [] a = absurd a
+  blocks-count (x ∷ xs) (b ∷ live) a = ap suc (blocks-count xs live a.1)
 
   -- the block of an entry
-  pub blocks-at : (entries : List A) (live : List LiveBlock) (k : ℕ) (s : A) (b : LiveBlock) → AreBlocksOf IsBlock entries live → k < length entries
-      → IsBlock (get_or entries k s) (get_or live k b)
-  blocks-at [] live k s b a lt = absurd (omega arith)
-  blocks-at (entry ∷ entries) [] k s b a lt = absurd a
-  blocks-at (entry ∷ entries) (block ∷ live) zero s b a lt = a.0
-  blocks-at (entry ∷ entries) (block ∷ live) (suc k) s b a lt = blocks-at entries live k s b a.1 (omega arith)
+  pub blocks-at : (xs : List A) (live : List LiveBlock) (k : ℕ) (d : A) (no_block : LiveBlock)
+      → AreBlocksOf IsBlock xs live → k < length xs → IsBlock (get_or xs k d) (get_or live k no_block)
+  blocks-at [] live k d no_block a lt = absurd (omega arith)
+  blocks-at (x ∷ xs) [] k d no_block a lt = absurd a
+  blocks-at (x ∷ xs) (b ∷ live) zero d no_block a lt = a.0
+  blocks-at (x ∷ xs) (b ∷ live) (suc k) d no_block a lt = blocks-at xs live k d no_block a.1 (omega arith)
 
-  module _ (there : (entry : A) (block : LiveBlock) → IsBlock entry block → block.place ≡ place_of entry) where
+  module _ (at : A → ℕ) (there : (x : A) (b : LiveBlock) → IsBlock x b → b.place ≡ at x) where
     -- the entries ascend as the blocks do
-    pub blocks-ascend : (from limit : ℕ) (entries : List A) (live : List LiveBlock) → AreBlocksOf IsBlock entries live → AreLaid from limit live
-        → AreAscending place_of from entries
+    pub blocks-ascend : (from limit : ℕ) (xs : List A) (live : List LiveBlock) → AreBlocksOf IsBlock xs live
+        → AreLaid from limit live → AreAscending at from xs
     blocks-ascend from limit [] live a laid = tt
-    blocks-ascend from limit (entry ∷ entries) [] a laid = absurd a
-    blocks-ascend from limit (entry ∷ entries) (block ∷ live) a laid =
-        let p = there entry block a.0 in
+    blocks-ascend from limit (x ∷ xs) [] a laid = absurd a
+    blocks-ascend from limit (x ∷ xs) (b ∷ live) a laid =
+        let p = there x b a.0 in
         let first = laid.0 in
         let some = laid.1 in
-        (omega (arith, p, first), lower (block.place + block.len) (place_of entry + 1) entries (omega (arith, p, some)) (blocks-ascend (block.place + block.len) limit entries live a.1 laid.3))
+        let rest = blocks-ascend (b.place + b.len) limit xs live a.1 laid.3 in
+        (omega (arith, p, first), lower (b.place + b.len) (at x + 1) xs (omega (arith, p, some)) rest)
       where
-        lower : (high low : ℕ) (rest : List A) → low ≤ high → AreAscending place_of high rest → AreAscending place_of low rest
+        lower : (high low : ℕ) (ys : List A) → low ≤ high → AreAscending at high ys → AreAscending at low ys
         lower high low [] le h = tt
-        lower high low (s ∷ rest) le h = let first = h.0 in (omega (arith, le, first), h.1)
+        lower high low (y ∷ ys) le h = let first = h.0 in (omega (arith, le, first), h.1)
 
     -- one more
-    pub blocks-with : (entry : A) (block : LiveBlock) (entries : List A) (live : List LiveBlock) → IsBlock entry block → NoneAt (place_of entry) live
-        → AreBlocksOf IsBlock entries live → AreBlocksOf IsBlock (with_entry place_of entry entries) (with_block block live)
-    blocks-with entry block [] [] is none a = (is, tt)
-    blocks-with entry block [] (b ∷ live) is none a = absurd a
-    blocks-with entry block (s ∷ entries) [] is none a = absurd a
-    blocks-with entry block (s ∷ entries) (b ∷ live) is none a =
-        let here = there s b a.0 in
-        let at = there entry block is in
-        elim (cases_Bool (nat_lt (place_of s) (place_of entry))) [
+    pub blocks-with : (x : A) (b : LiveBlock) (xs : List A) (live : List LiveBlock) → IsBlock x b → NoneAt (at x) live
+        → AreBlocksOf IsBlock xs live → AreBlocksOf IsBlock (with_entry at x xs) (with_block b live)
+    blocks-with x b [] [] is none a = (is, tt)
+    blocks-with x b [] (other ∷ live) is none a = absurd a
+    blocks-with x b (y ∷ xs) [] is none a = absurd a
+    blocks-with x b (y ∷ xs) (other ∷ live) is none a =
+        let here = there y other a.0 in
+        let p = there x b is in
+        elim (cases_Bool (nat_lt (at y) (at x))) [
           | inl before ↦ (
-              let l = ltb-true (place_of s) (place_of entry) before in
-              let t : nat_lt block.place b.place ≡ false = le-ltb block.place b.place (omega (arith, l, here, at)) in
-              rw (before, t) (a.0, blocks-with entry block entries live is none.1 a.1))
+              let l = ltb-true (at y) (at x) before in
+              let t : nat_lt b.place other.place ≡ false = le-ltb b.place other.place (omega (arith, l, here, p)) in
+              rw (before, t) (a.0, blocks-with x b xs live is none.1 a.1))
           | inr behind ↦ (
-              let l = ltb-false (place_of s) (place_of entry) behind in
-              let t : nat_lt block.place b.place ≡ true = lt-ltb block.place b.place (less block.place b.place (omega (arith, l, here, at)) (λ e. none.0 (sym e ∙ at))) in
+              let l = ltb-false (at y) (at x) behind in
+              let ne : b.place ≡ other.place → ⊥ = λ e. none.0 (sym e ∙ p) in
+              let lt = less b.place other.place (omega (arith, l, here, p)) ne in
+              let t : nat_lt b.place other.place ≡ true = lt-ltb b.place other.place lt in
               rw (behind, t) (is, a))
         ]
       where
-        less : (x y : ℕ) → x ≤ y → (x ≡ y → ⊥) → x < y
-        less x y le ne = elim (cases_Bool (nat_lt x y)) [
-          | inl lt ↦ ltb-true x y lt
-          | inr ge ↦ absurd (ne (omega (arith, le, ltb-false x y ge)))
+        less : (n m : ℕ) → n ≤ m → (n ≡ m → ⊥) → n < m
+        less n m le ne = elim (cases_Bool (nat_lt n m)) [
+          | inl lt ↦ ltb-true n m lt
+          | inr ge ↦ absurd (ne (omega (arith, le, ltb-false n m ge)))
         ]
 
     -- one less
-    pub blocks-without : (place : ℕ) (entries : List A) (live : List LiveBlock) → AreBlocksOf IsBlock entries live
-        → AreBlocksOf IsBlock (without_entry place_of place entries) (filter (λ b. not (nat_eq b.place place)) live)
+    pub blocks-without : (place : ℕ) (xs : List A) (live : List LiveBlock) → AreBlocksOf IsBlock xs live
+        → AreBlocksOf IsBlock (without_entry at place xs) (filter (λ b. not (nat_eq b.place place)) live)
     blocks-without place [] [] a = tt
     blocks-without place [] (b ∷ live) a = absurd a
-    blocks-without place (s ∷ entries) [] a = absurd a
-    blocks-without place (s ∷ entries) (b ∷ live) a =
-        let same : nat_eq b.place place ≡ nat_eq (place_of s) place = ap (λ (n : ℕ). nat_eq n place) (there s b a.0) in
-        elim (cases_Bool (nat_eq (place_of s) place)) [
-          | inl here ↦ rw (here, same ∙ here) (blocks-without place entries live a.1)
-          | inr other ↦ rw (other, same ∙ other) (a.0, blocks-without place entries live a.1)
+    blocks-without place (x ∷ xs) [] a = absurd a
+    blocks-without place (x ∷ xs) (b ∷ live) a =
+        let same : nat_eq b.place place ≡ nat_eq (at x) place = ap (λ (n : ℕ). nat_eq n place) (there x b a.0) in
+        elim (cases_Bool (nat_eq (at x) place)) [
+          | inl here ↦ rw (here, same ∙ here) (blocks-without place xs live a.1)
+          | inr other ↦ rw (other, same ∙ other) (a.0, blocks-without place xs live a.1)
         ]
 
     -- a live block that starts at an address is that of an entry there
-    pub blocks-stand : (place : ℕ) (block : LiveBlock) (entries : List A) (live : List LiveBlock) → AreBlocksOf IsBlock entries live
-        → find (λ b. nat_eq b.place place) live ≡ Some block → StandsAt place_of place entries
+    pub blocks-stand : (place : ℕ) (block : LiveBlock) (xs : List A) (live : List LiveBlock)
+        → AreBlocksOf IsBlock xs live → find (λ b. nat_eq b.place place) live ≡ Some block → StandsAt at place xs
     blocks-stand place block [] [] a e = absurd cc
     blocks-stand place block [] (b ∷ live) a e = absurd a
-    blocks-stand place block (s ∷ entries) [] a e = absurd a
-    blocks-stand place block (s ∷ entries) (b ∷ live) a e =
+    blocks-stand place block (x ∷ xs) [] a e = absurd a
+    blocks-stand place block (x ∷ xs) (b ∷ live) a e =
         elim (cases_Bool (nat_eq b.place place)) [
-          | inl here ↦ inl (sym (there s b a.0) ∙ eqb-true b.place place here)
-          | inr other ↦ inr (blocks-stand place block entries live a.1 (rw other at e))
+          | inl here ↦ inl (sym (there x b a.0) ∙ eqb-true b.place place here)
+          | inr other ↦ inr (blocks-stand place block xs live a.1 (rw other at e))
         ]
 
     -- where no live block starts, no entry does
-    pub blocks-none : (place : ℕ) (entries : List A) (live : List LiveBlock) → AreBlocksOf IsBlock entries live
-        → find (λ b. nat_eq b.place place) live ≡ None → without_entry place_of place entries ≡ entries
+    pub blocks-none : (place : ℕ) (xs : List A) (live : List LiveBlock) → AreBlocksOf IsBlock xs live
+        → find (λ b. nat_eq b.place place) live ≡ None → without_entry at place xs ≡ xs
     blocks-none place [] live a e = refl
-    blocks-none place (s ∷ entries) [] a e = absurd a
-    blocks-none place (s ∷ entries) (b ∷ live) a e =
-        let same : nat_eq (place_of s) place ≡ nat_eq b.place place = ap (λ (n : ℕ). nat_eq n place) (sym (there s b a.0)) in
+    blocks-none place (x ∷ xs) [] a e = absurd a
+    blocks-none place (x ∷ xs) (b ∷ live) a e =
+        let same : nat_eq (at x) place ≡ nat_eq b.place place = ap (λ (n : ℕ). nat_eq n place) (sym (there x b a.0)) in
         elim (cases_Bool (nat_eq b.place place)) [
           | inl here ↦ (let f = rw here at e in absurd cc)
-          | inr other ↦ rw (same ∙ other) (ap (λ xs. s ∷ xs) (blocks-none place entries live a.1 (rw other at e)))
+          | inr other ↦ rw (same ∙ other) (ap (λ ys. x ∷ ys) (blocks-none place xs live a.1 (rw other at e)))
         ]
 
     -- nor is one found
-    pub blocks-found : (place : ℕ) (entries : List A) (live : List LiveBlock) → AreBlocksOf IsBlock entries live
-        → find (λ b. nat_eq b.place place) live ≡ None → live_entry place_of place entries ≡ None
+    pub blocks-found : (place : ℕ) (xs : List A) (live : List LiveBlock) → AreBlocksOf IsBlock xs live
+        → find (λ b. nat_eq b.place place) live ≡ None → live_entry at place xs ≡ None
     blocks-found place [] live a e = refl
-    blocks-found place (s ∷ entries) [] a e = absurd a
-    blocks-found place (s ∷ entries) (b ∷ live) a e =
-        let same : nat_eq (place_of s) place ≡ nat_eq b.place place = ap (λ (n : ℕ). nat_eq n place) (sym (there s b a.0)) in
+    blocks-found place (x ∷ xs) [] a e = absurd a
+    blocks-found place (x ∷ xs) (b ∷ live) a e =
+        let same : nat_eq (at x) place ≡ nat_eq b.place place = ap (λ (n : ℕ). nat_eq n place) (sym (there x b a.0)) in
         elim (cases_Bool (nat_eq b.place place)) [
           | inl here ↦ (let f = rw here at e in absurd cc)
-          | inr other ↦ rw (same ∙ other) (blocks-found place entries live a.1 (rw other at e))
+          | inr other ↦ rw (same ∙ other) (blocks-found place xs live a.1 (rw other at e))
         ]

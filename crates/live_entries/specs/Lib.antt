@@ -1,4 +1,5 @@
 pub mod Order
 pub mod Keeping
+pub mod Running
 pub mod Facts
 pub mod LawsBelow

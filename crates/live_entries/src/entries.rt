@@ -22,8 +22,8 @@ pub trait LiveEntry {
         ensures { result ≡ place_of self.now };
 
     /// Its block starts there.
-    ghost block_place: { (setting : Setting) (entry : Self) (block : LiveBlock) → is_block_in setting entry block → block.place ≡ place_of entry };
+    ghost block_place: { (s : Setting) (x : Self) (b : LiveBlock) → is_block_in s x b → b.place ≡ place_of x };
 
     /// Its block takes so many bytes.
-    ghost block_len: { (setting : Setting) (entry : Self) (block : LiveBlock) → is_block_in setting entry block → block.len ≡ len_in setting entry };
+    ghost block_len: { (s : Setting) (x : Self) (b : LiveBlock) → is_block_in s x b → b.len ≡ len_in s x };
 }

@@ -5,7 +5,8 @@ ghost use Rattle.live_entries.specs.Facts.{EntryFacts, FillFacts};
 use crate::entries::LiveEntry;
 use crate::laws_below::laws_below;
 
-/// A block that is placed can be filled up to its rounded length, and is then one block more; a release tells whether one was found.
+/// A block that is placed can be filled up to its rounded length, and is then one block more; a release tells whether
+/// one was found.
 #[inline]
 pub fn placed_blocks_are_filled()
     ensures { FillFacts }
@@ -13,8 +14,8 @@ pub fn placed_blocks_are_filled()
     laws_below();
 }
 
-/// Entries go with the live blocks of their region, from none on and with each that comes or goes: so they stand by address and apart, and the image has
-/// their bytes.
+/// Entries go with the live blocks of their region, from none on and with each that comes or goes: so they stand by
+/// address and apart, and the image has their bytes.
 #[inline]
 pub fn entries_go_with_their_blocks<T: LiveEntry>()
     ensures { EntryFacts T.place_of T.len_in T.is_block_in }

@@ -4,4 +4,3 @@ pub mod StepAnswers
 pub mod Stood
 pub mod Kept
 pub mod Slotted
-pub mod Runs

@@ -2,14 +2,14 @@
 use Rattle.std.specs.Prelude.{◌≡◌, ℕ, ◌-◌, List, ◌++◌, All, length, replicate, take, drop}
 use Rattle.x86_values.specs.declared.Bits.{Bits}
 use Rattle.code_region.specs.State.{int3}
-use Rattle.live_entries.specs.Keeping.{StandApart, IsQuietElsewhere}
+use Rattle.live_entries.specs.Keeping.{EntriesAreApart, IsQuietElsewhere}
 use Rattle.step_slots.specs.declared.slots.StepSlot.{StepSlot}
 use Rattle.step_slots.specs.Block.{IsStepBlock}
 use Rattle.step_slots.specs.State.{SlotState, slot_place, slot_len}
 
 -- the slots stand inside the region by address, and none stands over another
 abbrev pub SlotsAreApart : SlotState → Type 0
-SlotsAreApart state = StandApart slot_place (slot_len state.bits state.region.base) state.region state.slots
+SlotsAreApart state = EntriesAreApart slot_place (slot_len state.bits state.region.base) state.region state.slots
 
 -- the bytes of a slot are those of its block, filled up with INT3
 abbrev pub HasBlock : Bits → ℕ → List ℕ → StepSlot → Type 0

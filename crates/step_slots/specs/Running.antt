@@ -1,9 +1,11 @@
 -- What a list of commands leaves.
-use Rattle.std.specs.Prelude.{◌≡◌, ℕ, List, [], ◌∷◌, Result, Ok, Err}
+use Rattle.std.specs.Prelude.{◌≡◌, ℕ, List, Result, Ok, Err}
+use Rattle.std.proofs.Common.{ap, subst, sym}
 use Rattle.x86_values.specs.declared.Bits.{Bits}
 use Rattle.move_goals.specs.Items.{IsPlaced}
 use Rattle.code_region.specs.declared.refusals.NotTaken.{NotTaken}
 use Rattle.code_region.specs.Releasing.{release_answer}
+use Rattle.live_entries.specs.Running.{IsRun}
 use Rattle.step_slots.specs.declared.refusals.StepError.{StepError}
 use Rattle.step_slots.specs.declared.commands.StepCommand.{StepCommand}
 use Rattle.step_slots.specs.declared.commands.StepCommand.TheVariants.{Step, Finish}
@@ -32,8 +34,17 @@ abbrev pub IsStepDone : SlotState → StepCommand → StepReply → SlotState �
 IsStepDone old (Step item) reply new = (answer : Result ℕ StepError) × ((reply ≡ step_reply answer) × IsStepped old item answer new)
 IsStepDone old (Finish place) reply new = (reply ≡ finish_reply (release_answer old.region place)) × (new ≡ after_finish old place)
 
+-- a command keeps the mode
+done-bits : (old : SlotState) (command : StepCommand) (reply : StepReply) (new : SlotState) → IsStepDone old command reply new → new.bits ≡ old.bits
+done-bits old (Step item) reply new done = done.1.1.bits
+done-bits old (Finish place) reply new done = ap (λ (s : SlotState). s.bits) done.1
+
+-- so what fits before it fits behind it
+pub still-fits : (old : SlotState) (command : StepCommand) (reply : StepReply) (new : SlotState) (other : StepCommand)
+    → IsStepDone old command reply new → StepCommandFits old.bits other → StepCommandFits new.bits other
+still-fits old command reply new other done fit =
+    subst (λ (bits : Bits). StepCommandFits bits other) (sym (done-bits old command reply new done)) fit
+
 -- the commands in order
 abbrev pub IsStepRun : SlotState → List StepCommand → List StepReply → SlotState → Type 0
-IsStepRun old [] [] new = new ≡ old
-IsStepRun old (command ∷ commands) (reply ∷ replies) new = (state : SlotState) × (IsStepDone old command reply state × IsStepRun state commands replies new)
-IsStepRun old commands replies new = ⊥
+IsStepRun old commands replies new = IsRun IsStepDone old commands replies new

@@ -1,12 +1,13 @@
 //! Commands to slots, and their replies.
 
-ghost use Rattle.std.specs.Prelude.{◌≡◌, ◌<◌, All, length};
-ghost use Rattle.step_slots.specs.Running.{StepCommandFits, IsStepDone, IsStepRun, step_reply, finish_reply};
+ghost use Rattle.std.specs.Prelude.{◌≡◌, All, length};
+ghost use Rattle.step_slots.specs.Running.{StepCommandFits, IsStepDone, IsStepRun, step_reply, finish_reply, still-fits};
 
 use crate::refusals::StepError;
 use crate::slots::StepSlots;
 use block_encoder::Placed;
 use code_region::NotTaken;
+use live_entries::{Executor, run_commands};
 use std::alloc::Global;
 
 /// One command to slots.
@@ -51,15 +52,19 @@ fn reply_to_finish(answer: Result<(), NotTaken>) -> StepReply
     }
 }
 
-/// Does one command, and answers it.
-fn execute(slots: &mut StepSlots, alloc: Global, command: StepCommand) -> StepReply
-    requires { StepCommandFits slots.old.bits command }
-    ensures { IsStepDone slots.old command result slots.new }
-{
-    match command {
-        StepCommand::Step { item } => reply_to_step(slots.step(alloc, item)),
-        StepCommand::Finish { place } => reply_to_finish(slots.finish(place)),
+impl Executor<StepCommand, StepReply> for StepSlots {
+    ghost is_fit = { λ slots. StepCommandFits slots.bits };
+
+    ghost is_done = { IsStepDone };
+
+    fn execute(&mut self, alloc: Global, command: StepCommand) -> StepReply {
+        match command {
+            StepCommand::Step { item } => reply_to_step(self.step(alloc, item)),
+            StepCommand::Finish { place } => reply_to_finish(self.finish(place)),
+        }
     }
+
+    ghost stays_fit = { still-fits };
 }
 
 /// Does these commands, in order, and writes the reply to each.
@@ -75,7 +80,5 @@ pub fn replay(
     requires fit { All (StepCommandFits slots.old.bits) commands.now }
     ensures { IsStepRun slots.old commands.now replies.new slots.new }
 {
-    'commands: for k in 0..commands.len() {
-        replies[k] = execute(slots, alloc, commands[k]);
-    }
+    run_commands(slots, alloc, commands, replies);
 }

@@ -1,6 +1,0 @@
-use Rattle.std.proofs.Common.{arith}
-use Rattle.step_slots.proofs.Runs.{up_to-end}
-use Rattle.step_slots.proofs.commands.replay.Goals as goal
-
-pub returns : goal.returns
-returns c = up_to-end c.args.slots.now c.commands.slots c.args.commands.now c.commands.replies c.commands.k (omega arith) (omega arith) c.commands.invariant.run
