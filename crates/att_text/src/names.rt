@@ -30,7 +30,7 @@ fn is_x87(row: &Row) -> bool
 
 /// Whether a kind names MMX or vector registers.
 #[inline]
-#[tactic(auto, unfolding(crate::specs::Names::is_vector_kind, crate::specs::Names::is_vector_file))]
+#[tactic(auto, unfolding(crate::specs::Names::is_vector_kind, crate::specs::Names::is_xmm_or_ymm))]
 fn is_vector_kind(kind: OpKind) -> bool
     ensures { result ≡ spec.is_vector_kind kind }
 {

@@ -26,7 +26,7 @@ impl Model for SampleCount {
 
 impl SampleCount {
     /// The number, where it is 1 to 65,536.
-    #[tactic(auto, unfolding(crate::specs::Counts::count_of))]
+    #[tactic(auto, unfolding(crate::specs::Counts::count_word))]
     pub fn new(count: u64) -> Option<SampleCount>
         ensures { result ≡ count_word count }
     {

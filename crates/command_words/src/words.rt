@@ -53,7 +53,7 @@ fn syntax_named(word: &str) -> Option<Style>
 }
 
 /// The number that a word of 1 to 16 hexadecimal digits of either case names.
-#[tactic(auto, unfolding(crate::specs::Words::number_named))]
+#[tactic(auto, unfolding(crate::specs::Words::number_word))]
 fn number_named(word: &str) -> Option<u64>
     ensures { result ≡ spec.number_word word.now }
 {
@@ -78,7 +78,7 @@ fn is_address(bits: Bits, n: u64) -> bool
 }
 
 /// The number, where it is an address of the mode.
-#[tactic(auto, unfolding(crate::specs::Words::address_in))]
+#[tactic(auto, unfolding(crate::specs::Words::address_within))]
 fn address_in(bits: Bits, number: Option<u64>) -> Option<u64>
     ensures { result ≡ spec.address_within bits number }
 {
@@ -89,7 +89,7 @@ fn address_in(bits: Bits, number: Option<u64>) -> Option<u64>
 }
 
 /// The command, where no word is left behind it; else the word of this number is one too many.
-#[tactic(auto, unfolding(crate::specs::Words::at_end))]
+#[tactic(auto, unfolding(crate::specs::Words::with_no_more_words))]
 fn at_end(words: &[&str], word: u64, command: Command) -> Command
     ensures { result ≡ spec.with_no_more_words (spec.texts words.now) word command }
 {
@@ -175,7 +175,7 @@ fn recode_words(bits: Bits, base: u64, words: &[&str]) -> Command
 
 /// The words behind a word for `NEW`, which is the last: the address, or the number of the word that is not allowed or too
 /// many.
-#[tactic(auto, unfolding(crate::specs::Words::new_end))]
+#[tactic(auto, unfolding(crate::specs::Words::new_end_word))]
 fn new_end(new: Option<u64>, words: &[&str]) -> Result<u64, u64>
     ensures { result ≡ spec.new_end_word new (spec.texts words.now) }
 {
@@ -427,7 +427,7 @@ fn blocks_words(words: &[&str]) -> Command
 }
 
 /// The number of instructions to make, where it is one.
-#[tactic(auto, unfolding(crate::specs::Words::count_in))]
+#[tactic(auto, unfolding(crate::specs::Words::count_within))]
 fn count_in(count: Option<u64>) -> Option<SampleCount>
     ensures { result ≡ spec.count_within count }
 {

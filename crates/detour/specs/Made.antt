@@ -34,6 +34,7 @@ IsFarJumpOf bits ip to relay Near bytes by = ⊥
 IsFarJumpOf bits ip to relay Relay bytes by = (address : ℕ) × ((relay ≡ Some address) × ((by ≡ Some address) × IsNearJump bits ip address bytes))
 IsFarJumpOf bits ip to relay Absolute bytes by = IfSome relay (IsOutOfReach bits ip) × ((bytes ≡ absolute_jump to) × (by ≡ None))
 
+-- the jump is one that crosses any distance, in the form it says
 abbrev pub IsFarJump : Bits → ℕ → ℕ → Option ℕ → Jump → Type 0
 IsFarJump bits ip to relay jump = IsFarJumpOf bits ip to relay jump.form jump.bytes.items jump.relay
 
@@ -50,6 +51,7 @@ abbrev pub IsLaidBy : Bits → ℕ → ℕ → ℕ → StartTarget → Jump → 
 IsLaidBy bits ip to place start jump t d =
     (m : MovedLists) × (IsTrampoline bits ip t.items.items place start m × IsPutTogether to place jump t m d)
 
+-- what is taken gives the detour, or the moving of it is refused for the cause that the error names
 abbrev pub IsDetourLaid : Bits → ℕ → ℕ → ℕ → StartTarget → Jump → Taken → Result DetourState DetourError → Type 0
 IsDetourLaid bits ip to place start jump t (Ok d) = IsLaidBy bits ip to place start jump t d
 IsDetourLaid bits ip to place start jump t (Err why) =

@@ -78,6 +78,7 @@ moved_count items = count_to (first_end items) (length items)
 abbrev pub nop_name : List ℕ
 nop_name = 0x6E ∷ 0x6F ∷ 0x70 ∷ []
 
+-- the name of INT3 (CC)
 abbrev pub int3_name : List ℕ
 int3_name = 0x69 ∷ 0x6E ∷ 0x74 ∷ 0x33 ∷ []
 

@@ -20,7 +20,7 @@ pub(crate) const NEAR_LEN: usize = 5;
 pub(crate) const ABSOLUTE_LEN: usize = 14;
 
 /// A JMP with an offset of the mode's own operand size.
-#[tactic(auto, unfolding(crate::specs::Jumps::jump_to, branch_forms::specs::Images::branch_to))]
+#[tactic(auto, unfolding(crate::specs::Jumps::near_jump_to, branch_forms::specs::Images::branch_to))]
 fn jump_to(bits: Bits, target: u64) -> Instr
     ensures { result ≡ spec.near_jump_to bits target }
 {

@@ -41,9 +41,11 @@ graph_within room other third (Err why) = Err why
 abbrev pub graph_said : Result Graph Refusal → ℤ
 graph_said graph = one.graph_said graph
 
+-- the room of the starts is left as one entry leaves it
 abbrev pub starts_left : List ℕ → Result Graph Refusal → List ℕ
 starts_left old graph = one.starts_left old graph
 
+-- the room of the leaders is left as one entry leaves it
 abbrev pub leaders_left : List ℕ → Result Graph Refusal → List ℕ
 leaders_left old graph = one.leaders_left old graph
 

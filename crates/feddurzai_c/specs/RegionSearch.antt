@@ -40,6 +40,7 @@ no_live = record { place = 0; len = 0 }
 abbrev pub found_at : ℕ → List LiveBlock → Option LiveBlock
 found_at place blocks = find (λ block. block.place == place) blocks
 
+-- the blocks without the one that starts at an address
 abbrev pub without : ℕ → List LiveBlock → List LiveBlock
 without place blocks = filter (λ block. not (block.place == place)) blocks
 

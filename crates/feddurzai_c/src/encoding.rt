@@ -149,7 +149,7 @@ fn has_width(bits: u32, ip: u64, f: &FlatInstr, width: u8) -> bool
 }
 
 /// The shortest width of a displacement that the address of a struct has, in bits.
-#[tactic(auto, unfolding(crate::specs::Answers::width_of))]
+#[tactic(auto, unfolding(crate::specs::Answers::open_width))]
 fn width_of(bits: u32, ip: u64, f: &FlatInstr) -> u8
     ensures { result ≡ spec.open_width bits ip f.now }
 {

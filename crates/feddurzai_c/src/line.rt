@@ -17,7 +17,7 @@ use x86_values::{Bits, Decoded};
 
 /// Reads an instruction to a place and writes its text in a style, where the room holds it. After a refusal nothing is said of the place.
 #[inline(always)]
-#[tactic(auto, unfolding(crate::specs::Lines::line_of))]
+#[tactic(auto, unfolding(crate::specs::Lines::text_line_of))]
 fn line_in(
     bits: Bits,
     style: Style,

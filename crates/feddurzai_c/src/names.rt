@@ -13,7 +13,7 @@ use text_parts::text::Text;
 use x86_values::Register;
 
 /// The text of a register that there may not be.
-#[tactic(auto, unfolding(crate::specs::Names::register_of))]
+#[tactic(auto, unfolding(crate::specs::Names::shown_register))]
 fn text_of(syntax: u32, register: Option<Register>) -> Result<Text, Refusal>
     ensures { MatchResult result (λ text. spec.shown_register (style_numbered syntax) register ≡ Ok text.items) (λ why. spec.shown_register (style_numbered syntax) register ≡ Err why) }
 {

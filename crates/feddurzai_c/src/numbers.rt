@@ -193,7 +193,7 @@ pub(crate) fn class_number(register: Register) -> u8
 }
 
 /// The segment register of an encoded number.
-#[tactic(auto, unfolding(crate::specs::Numbers::segment_numbered))]
+#[tactic(auto, unfolding(crate::specs::Numbers::segment_register))]
 fn segment_numbered(n: u8) -> Option<Register>
     ensures { result ≡ spec.segment_register n }
 {

@@ -75,7 +75,7 @@ pub(crate) fn is_region(region: &FlatRegion, blocks: &[FlatLive]) -> bool
 }
 
 /// A length rounded up to a multiple of the unit; one that rounds to no `u64` counts as the last multiple.
-#[tactic(auto, unfolding(code_region::specs::State::rounded))]
+#[tactic(auto, unfolding(code_region::specs::State::len_in_units))]
 pub(crate) fn round_up(len: u64) -> u64
     ensures { result ≡ len_in_units len }
 {

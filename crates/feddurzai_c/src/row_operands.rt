@@ -109,7 +109,7 @@ fn kind_word(kind: OpKind) -> &'static [u8]
 }
 
 /// The kind of operand `n` of the row of a code.
-#[tactic(auto, unfolding(crate::specs::RowOperands::kind_at))]
+#[tactic(auto, unfolding(crate::specs::RowOperands::row_kind_at))]
 fn kind_at(code: Code, n: usize) -> OpKind
     requires { code.0 < ROWS }
     ensures { result ≡ spec.row_kind_at code.0 n }

@@ -56,7 +56,7 @@ fn put_style_text(style: Style, bits: Bits, instr: &Instr, out: &mut [u8]) -> i3
 ///
 /// The style is 0 for Intel's, 1 for AT&T's, 2 for MASM's. The room is unchanged behind the byte 0, and whole after a refusal: `Mode`, `Syntax`,
 /// `Instr`, `Form`, `Room`, the first that stands.
-#[tactic(auto, unfolding(crate::specs::Answers::text_of, crate::specs::Answers::text_within))]
+#[tactic(auto, unfolding(crate::specs::Answers::instr_text_of, crate::specs::Answers::text_within))]
 #[unsafe(no_mangle)]
 pub extern "C" fn feddurzai_text(bits: u32, syntax: u32, instr: &FlatInstr, out: &mut [u8]) -> i32
     ensures said { result ≡ spec.count_or_refusal (spec.text_within (length out.old) (spec.text_answer bits syntax instr.now)) }

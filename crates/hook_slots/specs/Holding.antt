@@ -16,6 +16,7 @@ pub record HooksAreApart (state : HooksState) : Type 0 where
 abbrev pub HasDetour : Bits → Hook → Type 0
 HasDetour bits hook = (code : List ℕ) × IsHook bits code hook
 
+-- each hook has such a detour
 abbrev pub AreDetours : HooksState → Type 0
 AreDetours state = All (HasDetour state.bits) state.hooks
 

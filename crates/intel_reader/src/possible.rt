@@ -15,7 +15,7 @@ use row_types::Row;
 use x86_values::{Bits, DispSize, same_bits};
 
 /// The class of an operand.
-#[tactic(auto, unfolding(crate::specs::Possible::class_of))]
+#[tactic(auto, unfolding(crate::specs::Possible::text_class))]
 fn class_of(text: &OperandText) -> OperandClass
     ensures { result ≡ spec.text_class text.now }
 {

@@ -31,7 +31,7 @@ fn is_lock(name: &[u8]) -> bool
 
 /// The repeat prefix of a word.
 #[inline]
-#[tactic(auto, unfolding(crate::specs::ReadWords::repeat_named))]
+#[tactic(auto, unfolding(crate::specs::ReadWords::repeat_prefix_of))]
 fn repeat_named(name: &[u8]) -> Rep
     ensures { result ≡ spec.repeat_prefix_of name.now }
 {
@@ -46,7 +46,7 @@ fn repeat_named(name: &[u8]) -> Rep
 
 /// Whether there is a repeat prefix.
 #[inline]
-#[tactic(auto, unfolding(crate::specs::ReadWords::is_repeat))]
+#[tactic(auto, unfolding(crate::specs::ReadWords::is_repeat_prefix))]
 fn is_repeat(rep: Rep) -> bool
     ensures { result ≡ spec.is_repeat_prefix rep }
 {
@@ -86,7 +86,7 @@ fn size_behind(letter: u8, name: &[u8]) -> Option<Bits>
 }
 
 /// The words in front of the name.
-#[tactic(auto, unfolding(crate::specs::ReadWords::behind_lock, crate::specs::ReadWords::behind_repeat, crate::specs::ReadWords::behind_segment, crate::specs::ReadWords::behind_size))]
+#[tactic(auto, unfolding(crate::specs::ReadWords::behind_lock, crate::specs::ReadWords::behind_repeat, crate::specs::ReadWords::behind_segment, crate::specs::ReadWords::behind_size_word))]
 pub fn read_prefixes(text: &[u8]) -> Prefixes
     ensures lock { result.lock ≡ spec.is_lock (word text.now) }
     ensures rep { result.rep ≡ spec.repeat_prefix_of (word (spec.behind_lock text.now)) }

@@ -26,7 +26,7 @@ fn segment_by(a: u8) -> Option<Segment>
 
 /// The segment of this name.
 #[inline]
-#[tactic(auto, unfolding(crate::specs::ReadRegisters::segment_named))]
+#[tactic(auto, unfolding(crate::specs::ReadRegisters::segment_of_word))]
 pub fn segment_named(name: &[u8]) -> Option<Segment>
     ensures { result ≡ spec.segment_of_word name.now }
 {

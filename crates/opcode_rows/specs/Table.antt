@@ -51,12 +51,15 @@ cell kind m op = cell_of table kind m op
 abbrev pub names_from_0 : List (List ℕ)
 names_from_0 = map (λ name. name.now) NAMES_FROM_0
 
+-- the second 512 names
 abbrev pub names_from_512 : List (List ℕ)
 names_from_512 = map (λ name. name.now) NAMES_FROM_512
 
+-- the third 512 names
 abbrev pub names_from_1024 : List (List ℕ)
 names_from_1024 = map (λ name. name.now) NAMES_FROM_1024
 
+-- the names from row 1,536 on
 abbrev pub names_from_1536 : List (List ℕ)
 names_from_1536 = map (λ name. name.now) NAMES_FROM_1536
 

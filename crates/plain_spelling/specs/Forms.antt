@@ -9,18 +9,22 @@ use Rattle.row_types.specs.declared.Place.TheVariants.{Any as AnyPlace, Memory a
 use Rattle.instruction_parts.specs.declared.kinds.Method.{Method}
 use Rattle.instruction_parts.specs.declared.kinds.Method.TheVariants as method
 
+-- the operand is a register
 abbrev pub is_register : Operand → Bool
 is_register (Reg _) = true
 is_register _ = false
 
+-- the operand is an immediate
 abbrev pub is_immediate : Operand → Bool
 is_immediate (Imm _) = true
 is_immediate _ = false
 
+-- the operand is a near target
 abbrev pub is_near_kind : Operand → Bool
 is_near_kind (Near _) = true
 is_near_kind _ = false
 
+-- the operand is a far pointer
 abbrev pub is_far : Operand → Bool
 is_far (Far _ _) = true
 is_far _ = false

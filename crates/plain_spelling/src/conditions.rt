@@ -618,7 +618,7 @@ fn memory_suits(
 ///
 /// It is built into its callers, so that an operand costs no more than one call, of the tests of its variant.
 #[inline(always)]
-#[tactic(auto, unfolding(crate::specs::Expressible::kind_suits, crate::specs::Expressible::named, crate::specs::Expressible::address_suits, crate::specs::Expressible::displacement_offered, crate::specs::Expressible::immediate_suits, crate::specs::Expressible::target_suits, crate::specs::Expressible::operand_suits))]
+#[tactic(auto, unfolding(crate::specs::Expressible::kind_suits, crate::specs::Expressible::is_operand_nameable, crate::specs::Expressible::address_suits, crate::specs::Expressible::displacement_offered, crate::specs::Expressible::immediate_suits, crate::specs::Expressible::target_suits, crate::specs::Expressible::operand_suits))]
 fn present_suits(bits: Bits, row: &Row, instr: &Instr, parts: &PlainParts, n: usize) -> bool
     requires place { n < 4 }
     requires parts { ArePartsOf bits row.now instr.now parts.now }
@@ -663,7 +663,7 @@ fn is_absent_kind(kind: OpKind) -> bool
 
 /// Whether an operand meets the conditions 2 to 7 by itself: one that is absent has no more to meet than its kind.
 #[inline(always)]
-#[tactic(auto, unfolding(crate::specs::Expressible::kind_suits, crate::specs::Expressible::named, crate::specs::Expressible::address_suits, crate::specs::Expressible::displacement_offered, crate::specs::Expressible::immediate_suits, crate::specs::Expressible::target_suits, crate::specs::Expressible::operand_suits))]
+#[tactic(auto, unfolding(crate::specs::Expressible::kind_suits, crate::specs::Expressible::is_operand_nameable, crate::specs::Expressible::address_suits, crate::specs::Expressible::displacement_offered, crate::specs::Expressible::immediate_suits, crate::specs::Expressible::target_suits, crate::specs::Expressible::operand_suits))]
 fn operand_suits(bits: Bits, row: &Row, instr: &Instr, parts: &PlainParts, n: usize) -> bool
     requires place { n < 4 }
     requires parts { ArePartsOf bits row.now instr.now parts.now }

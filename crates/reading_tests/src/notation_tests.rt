@@ -81,7 +81,7 @@ fn faults_are_told_by_their_place(rt: HostRuntime) {
 }
 
 #[test]
-#[tactic(auto, unfolding(row_notation::specs::Shape::is_proper, row_notation::specs::Shape::shape, row_notation::specs::Shape::size_word, row_notation::specs::Shape::plus_word, row_notation::specs::Shape::imm_word, row_notation::specs::Shape::imm_word_of, row_notation::specs::Shape::is_legacy_proper, row_notation::specs::Shape::is_opcode_of_map, row_notation::specs::Shape::is_rule_in_range, row_notation::specs::Shape::is_stack_proper))]
+#[tactic(auto, unfolding(row_notation::specs::Shape::is_proper, row_notation::specs::Shape::shape, row_notation::specs::Shape::size_prefix_word, row_notation::specs::Shape::plus_word, row_notation::specs::Shape::imm_word, row_notation::specs::Shape::imm_word_of, row_notation::specs::Shape::is_legacy_proper, row_notation::specs::Shape::is_opcode_of_map, row_notation::specs::Shape::is_rule_in_range, row_notation::specs::Shape::is_stack_proper))]
 fn a_notation_is_written(rt: HostRuntime) {
     let enter = Row {
         kind: RowKind::Legacy,

@@ -145,7 +145,7 @@ fn row(e: &Entry, l: LBit, v: Variant) -> Row
 }
 
 /// Appends the rows of an entry at an L. The names from `names` on are those of the rows, or one is that of all.
-#[tactic(auto, unfolding(crate::specs::Rows::rows_at))]
+#[tactic(auto, unfolding(crate::specs::Rows::entry_rows))]
 fn add_rows_at<'a>(
     out: &mut Vec<NamedRow<'a>>,
     version: u8,
@@ -239,7 +239,7 @@ fn entry_at(kind: RowKind, map: Option<Map>, line: &[u8]) -> Option<Line>
 }
 
 /// What a line is; None where it is nothing that a line can be.
-#[tactic(auto, unfolding(crate::specs::Rows::line_of))]
+#[tactic(auto, unfolding(crate::specs::Rows::entry_line))]
 fn line_of(kind: RowKind, at: Section, line: &[u8]) -> Option<Line>
     ensures { result ≡ spec.entry_line kind at line.now }
 {

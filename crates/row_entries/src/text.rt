@@ -27,7 +27,7 @@ pub fn front(text: &[u8], separator: u8) -> &[u8]
 }
 
 /// The bytes behind the first separator, none where there is none.
-#[tactic(auto, unfolding(crate::specs::Text::behind))]
+#[tactic(auto, unfolding(crate::specs::Text::text_behind))]
 pub fn behind(text: &[u8], separator: u8) -> &[u8]
     ensures value { result.now ≡ spec.text_behind text.now separator }
     ensures shorter { 0 < length text.now → length result.now < length text.now }

@@ -25,12 +25,14 @@ nth [] n = false
 nth (b ∷ bs) zero = b
 nth (b ∷ bs) (suc n) = nth bs n
 
+-- the mask allows the value
 unfoldable pub allows : Mask → ℕ → Bool
 unfolding nth
 allows free v = true
 allows (only n) v = v == n
 allows (oneof bs) v = nth bs v
 
+-- each mask allows its value; a value that is missing is 0
 unfoldable pub meets : List Mask → List ℕ → Bool
 unfolding allows
 meets [] vs = true
@@ -42,19 +44,23 @@ unfoldable pub two : Bool → Bool → Mask
 two true true = free
 two a b = oneof (a ∷ b ∷ [])
 
+-- a mask of three values
 unfoldable pub three : Bool → Bool → Bool → Mask
 three true true true = free
 three a b c = oneof (a ∷ b ∷ c ∷ [])
 
+-- a mask of four values
 unfoldable pub four : Bool → Bool → Bool → Bool → Mask
 four true true true true = free
 four a b c d = oneof (a ∷ b ∷ c ∷ d ∷ [])
 
+-- the reg field of ModRM that a row asks for (2.1.3)
 unfoldable pub reg_mask : ModRmRule → Mask
 reg_mask (rule.Digit d) = only d
 reg_mask (rule.Fixed b) = only (b / 8 % 8)
 reg_mask _ = free
 
+-- the r/m field of ModRM that a row asks for (2.1.3)
 unfoldable pub rm_mask : ModRmRule → Plus → Mask
 rm_mask (rule.Fixed b) plus.Stack = free
 rm_mask (rule.Fixed b) _ = only (b % 8)
@@ -67,6 +73,7 @@ marked_size B64 r B32 = if has_bang r then B64 else (if has_caret r then B64 els
 marked_size B64 r B64 = B64
 marked_size _ r n = n
 
+-- the operand sizes that a row takes in a mode, as 16, 32 and 64 bits
 unfoldable pub size_mask : Bits → Row → Mask
 unfolding three marked_size
 size_mask bits r =

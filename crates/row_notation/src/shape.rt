@@ -14,7 +14,7 @@ fn kind_of(row: &Row, n: usize) -> OpKind
 }
 
 /// The size word of a row.
-#[tactic(auto, unfolding(crate::specs::Shape::size_word))]
+#[tactic(auto, unfolding(crate::specs::Shape::size_prefix_word))]
 fn size_word(row: &Row) -> SizeWord
     ensures { result ≡ spec.size_prefix_word row.now }
 {

@@ -20,7 +20,7 @@ fn hex_digit(d: u8) -> u8
 }
 
 /// Writes the digits of a number to the end of some places, and answers where they begin.
-#[tactic(auto, unfolding(crate::specs::Hexadecimal::hexadecimal))]
+#[tactic(auto, unfolding(crate::specs::Hexadecimal::hex_number))]
 fn write_digits(n: u128, places: &mut [u8; 64]) -> usize
     ensures within { result ≤ 64 }
     ensures digits { drop result places.new ≡ spec.hex_number n }

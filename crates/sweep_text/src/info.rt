@@ -123,7 +123,7 @@ fn append_memory(out: &mut Chunk, instr: &Instr)
 
 /// Appends an address behind a sign, where there is one.
 #[inline]
-#[tactic(auto, unfolding(crate::specs::Info::address_word))]
+#[tactic(auto, unfolding(crate::specs::Info::signed_address))]
 fn append_address_word(out: &mut Chunk, sign: &[u8], address: Option<u64>)
     requires sign { length sign.now ≤ 4 }
     requires room { array_vec_len out.old + 22 ≤ CHUNK_LEN }

@@ -46,7 +46,7 @@ fn cause_operand(why: NoSpelling) -> Option<u8>
 }
 
 /// Appends the number of an operand behind a space, where there is one.
-#[tactic(auto, unfolding(crate::specs::Recode::operand_number))]
+#[tactic(auto, unfolding(crate::specs::Recode::operand_digits))]
 fn append_operand(out: &mut Chunk, operand: Option<u8>)
     requires { array_vec_len out.old + 4 ≤ CHUNK_LEN }
     ensures items { out.new.items ≡ out.old.items ++ spec.operand_digits operand }

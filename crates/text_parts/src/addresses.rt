@@ -245,7 +245,7 @@ fn append_bracket_segment<const N: usize>(
 }
 
 /// Appends an address in brackets.
-#[tactic(auto, unfolding(crate::specs::Addresses::bracketed))]
+#[tactic(auto, unfolding(crate::specs::Addresses::bracketed_address))]
 pub fn append_bracketed<const N: usize>(
     out: &mut ArrayVec<u8, N>,
     style: Style,

@@ -200,7 +200,7 @@ fn named_size(size: Size) -> Option<Bits>
 }
 
 /// The operand size that needs no word.
-#[tactic(auto, unfolding(crate::specs::PrefixWords::usual_size, crate::specs::PrefixWords::is_by_w))]
+#[tactic(auto, unfolding(crate::specs::PrefixWords::usual_size, crate::specs::PrefixWords::is_w_size))]
 fn usual_size(bits: Bits, row: &Row) -> Bits
     ensures { result ≡ spec.usual_size bits row.now }
 {
