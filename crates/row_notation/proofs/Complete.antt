@@ -29,34 +29,30 @@ use Rattle.row_notation.proofs.Languages.{Language, word_then, one_of}
 use Rattle.row_notation.proofs.Grammar.{ends, imm_texts, stack_texts, any_digit, register_digit, modrm_texts, plus_texts, opcode_digit, opcode_texts, map_texts, size_texts, class_texts, w_texts, vex_map_texts, pp_texts, vex_texts, all_texts}
 use Rattle.row_notation.proofs.Parts.{full, before_modrm, choose, nth, imm_allowed, fixed_allowed, plus_allowed, opcode_allowed}
 
+-- where a word of immediates stands among those of its kind
+abbrev imm_place : ImmWord → ℕ
+imm_place imm.None = 0
+imm_place imm.Ib = 1
+imm_place imm.Iw = 2
+imm_place imm.Id = 3
+imm_place imm.Io = 4
+imm_place imm.Cb = 5
+imm_place imm.Cw = 6
+imm_place imm.Cd = 7
+imm_place imm.Cp = 8
+imm_place imm.IwIb = 9
+imm_place imm.Is4 = 10
+
 imm-at : (k : RowKind) (shape : RowShape) (n : ℕ) (i : ImmWord) → nth (imm_words k) n ≡ Some i
     → one_of (imm_words k) (λ x. word_then (imm_text x) (ends (record shape { imm = x }))) (imm_text i) (record shape { imm = i })
 imm-at k shape n i e = choose (imm_words k) n i (λ x. word_then (imm_text x) (ends (record shape { imm = x }))) (imm_text i) (record shape { imm = i }) e
     ([], sym (append-nil (imm_text i)), (refl, refl))
 
 imm-complete : (k : RowKind) (shape : RowShape) (i : ImmWord) → k ≡ shape.kind → imm_allowed k i ≡ true → one_of (imm_words k) (λ x. word_then (imm_text x) (ends (record shape { imm = x }))) (imm_text i) (record shape { imm = i })
-imm-complete Legacy shape imm.None e h = imm-at Legacy shape 0 imm.None refl
-imm-complete Legacy shape imm.Ib e h = imm-at Legacy shape 1 imm.Ib refl
-imm-complete Legacy shape imm.Iw e h = imm-at Legacy shape 2 imm.Iw refl
-imm-complete Legacy shape imm.Id e h = imm-at Legacy shape 3 imm.Id refl
-imm-complete Legacy shape imm.Io e h = imm-at Legacy shape 4 imm.Io refl
-imm-complete Legacy shape imm.Cb e h = imm-at Legacy shape 5 imm.Cb refl
-imm-complete Legacy shape imm.Cw e h = imm-at Legacy shape 6 imm.Cw refl
-imm-complete Legacy shape imm.Cd e h = imm-at Legacy shape 7 imm.Cd refl
-imm-complete Legacy shape imm.Cp e h = imm-at Legacy shape 8 imm.Cp refl
-imm-complete Legacy shape imm.IwIb e h = imm-at Legacy shape 9 imm.IwIb refl
 imm-complete Legacy shape imm.Is4 e h = absurd cc
-imm-complete Vex shape imm.None e h = imm-at Vex shape 0 imm.None refl
-imm-complete Vex shape imm.Ib e h = imm-at Vex shape 1 imm.Ib refl
-imm-complete Vex shape imm.Iw e h = imm-at Vex shape 2 imm.Iw refl
-imm-complete Vex shape imm.Id e h = imm-at Vex shape 3 imm.Id refl
-imm-complete Vex shape imm.Io e h = imm-at Vex shape 4 imm.Io refl
-imm-complete Vex shape imm.Cb e h = imm-at Vex shape 5 imm.Cb refl
-imm-complete Vex shape imm.Cw e h = imm-at Vex shape 6 imm.Cw refl
-imm-complete Vex shape imm.Cd e h = imm-at Vex shape 7 imm.Cd refl
-imm-complete Vex shape imm.Cp e h = imm-at Vex shape 8 imm.Cp refl
-imm-complete Vex shape imm.IwIb e h = imm-at Vex shape 9 imm.IwIb refl
+imm-complete Legacy shape i e h = imm-at Legacy shape (imm_place i) i refl
 imm-complete Vex shape imm.Is4 e h = imm-at Vex shape 10 imm.Is4 refl
+imm-complete Vex shape i e h = imm-at Vex shape (imm_place i) i refl
 
 -- the immediates of a shape are a text of theirs
 pub imm-text : (shape : RowShape) (i : ImmWord) → imm_allowed shape.kind i ≡ true → imm_texts shape (imm_text i) (record shape { imm = i })
@@ -324,30 +320,19 @@ from-vex s h =
 
 pub no-l : (l : LBit) → lacks_l l ≡ true → l ≡ lbit.None
 no-l lbit.None h = refl
-no-l lbit.L128 h = absurd cc
-no-l lbit.L256 h = absurd cc
-no-l lbit.Lig h = absurd cc
-no-l lbit.Lz h = absurd cc
+no-l _ h = absurd cc
 
 pub no-w : (w : WBit) → lacks_w w ≡ true → w ≡ wbit.None
 no-w wbit.None h = refl
-no-w wbit.W0 h = absurd cc
-no-w wbit.W1 h = absurd cc
-no-w wbit.Wig h = absurd cc
+no-w _ h = absurd cc
 
 pub no-size : (z : SizeWord) → is_no_size_word z ≡ true → z ≡ word.None
 no-size word.None h = refl
-no-size word.O16 h = absurd cc
-no-size word.O32 h = absurd cc
-no-size word.O64 h = absurd cc
-no-size word.RexW h = absurd cc
+no-size _ h = absurd cc
 
 pub no-plus : (p : PlusWord) → is_no_plus_word p ≡ true → p ≡ added.None
 no-plus added.None h = refl
-no-plus added.Rb h = absurd cc
-no-plus added.Rw h = absurd cc
-no-plus added.Rd h = absurd cc
-no-plus added.Ro h = absurd cc
+no-plus _ h = absurd cc
 
 pub small-opcode : (b : ℕ) → nat_lt b 256 ≡ true → b < 256
 small-opcode b h = grind arith

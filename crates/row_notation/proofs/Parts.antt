@@ -28,19 +28,8 @@ use Rattle.row_notation.proofs.Grammar.{ends, imm_texts, stack_texts, octal_digi
 
 -- a shape of all its parts
 abbrev pub full : RowKind → Map → Class → SizeWord → ℕ → PlusWord → LBit → WBit → ModRmRule → Bool → ImmWord → RowShape
-full k m c z b p l w r st i = record {
-  kind = k;
-  map = m;
-  class = c;
-  size_word = z;
-  opcode = b;
-  plus_word = p;
-  modrm = r;
-  stack = st;
-  l = l;
-  w = w;
-  imm = i;
-}
+full k m c z b p l w r st i =
+    record { kind = k; map = m; class = c; size_word = z; opcode = b; plus_word = p; modrm = r; stack = st; l = l; w = w; imm = i }
 
 -- ---- a choice among words
 
