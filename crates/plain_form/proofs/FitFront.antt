@@ -1,7 +1,6 @@
 -- All that a spelling with the plain front rests on: the front fits the row, says what the instruction asks for, and is read back.
 use Rattle.std.proofs.Common.{◌≡◌, ◌⊎◌, inl, inr, ℕ, ◌+◌, ◌<◌, ◌≤◌, Bool, true, false, ◌&&◌, not, List, ◌∷◌, ◌++◌, length, Option, Some, None, refl, ap, sym, ◌∙◌, arith, append_assoc, length-append}
-use Rattle.std.proofs.lemmas.Bool.{and_parts, cases_Bool, not-true}
-use Rattle.std.specs.List.{list_all}
+use Rattle.std.proofs.lemmas.Bool.{and_parts, cases_Bool}
 use Rattle.x86_values.specs.declared.Bits.{Bits}
 use Rattle.x86_values.specs.declared.Segment.{Segment}
 use Rattle.x86_values.specs.declared.Rep.{Rep}
@@ -13,11 +12,11 @@ use Rattle.instruction_parts.specs.declared.spelling.Vex.{Vex}
 use Rattle.instruction_parts.specs.declared.spelling.ModRm.{ModRm}
 use Rattle.instruction_parts.specs.declared.spelling.Spelling.{Spelling}
 use Rattle.instruction_parts.specs.declared.spelling.PrefixState.{PrefixState}
-use Rattle.instruction_parts.specs.Counting.{is_prefix, has_lock, has_66, has_67, counting_repeat, counting_segment, counting_rex}
+use Rattle.instruction_parts.specs.Counting.{has_lock, has_66, has_67, counting_repeat, counting_segment, counting_rex}
 use Rattle.instruction_parts.specs.Sizes.{is_vex_row}
 use Rattle.instruction_parts.specs.Bytes.{vex_bytes, lead_bytes, modrm_bytes, sib_bytes, tail_bytes, front_bytes, spelled_map, state as fields, state_from, state_of}
 use Rattle.instruction_parts.specs.Front.{Known, forbids_vex, long_front}
-use Rattle.row_fit.specs.Fits.{fits, prefixes_fit, class_fits, sizes_fit, vvvv_fits, same_map, is_vex_of_mode, is_opcode, opcode_allows, opcode_is_kept, vex_fits, opcode_fits, modrm_rule_fits, place_fits, are_bytes, vex_in_range, modrm_in_range}
+use Rattle.row_fit.specs.Fits.{fits, prefixes_fit, class_fits, sizes_fit, vvvv_fits, same_map, is_vex_of_mode, is_opcode, opcode_allows, opcode_is_kept, vex_fits, opcode_fits, modrm_rule_fits, place_fits, are_bytes, vex_in_range}
 use Rattle.row_fit.proofs.FrontLaws.{parts_law, front_fits}
 use Rattle.row_meaning.specs.Meaning.{kept_repeat}
 use Rattle.plain_spelling.specs.PlainFront.{asked_vex, asked_opcode, asked_used, plain_front_of}
