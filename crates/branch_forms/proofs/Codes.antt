@@ -17,6 +17,7 @@ use Rattle.branch_forms.specs.declared.branch.Action.TheVariants.{Jump, Call, Co
 use Rattle.branch_forms.specs.declared.generated_codes.TheConstants.{JMP_REL8, JMP_REL16, CALL_REL16, JO_REL8, JO_REL16, LOOPNE_REL8, JMP_RM64, CALL_RM64}
 use Rattle.branch_forms.specs.Branches.{size_number, short_code, near_code, far_code}
 use Rattle.branch_forms.specs.Rows.{offset_row, memory_row}
+use Rattle.branch_forms.specs.Facts.{CodeFacts}
 
 -- ---- some rows behind a code
 
@@ -152,3 +153,16 @@ far-call = let h = through_memory in cc
 pub far-jump : slice_get table (far_code Jump) ≡ Some (memory_row 4)
 unfolding far_code
 far-jump = let h = through_memory in cc
+
+-- the rows of all of them
+pub code_facts : CodeFacts
+code_facts = record {
+  short-jump = short-jump;
+  short-condition = short-condition;
+  short-count = short-count;
+  near-jump = near-jump;
+  near-call = near-call;
+  near-condition = near-condition;
+  far-call = far-call;
+  far-jump = far-jump;
+}

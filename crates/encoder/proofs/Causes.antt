@@ -1,5 +1,5 @@
 -- What an encoding is, by the conditions in turn.
-use Rattle.std.proofs.Common.{◌≡◌, ℕ, ◌≤◌, ◌<◌, true, false, List, length, Option, Some, None, Result, Ok, Err, refl, sym, ◌∙◌, subst, arith, nat_le, slice_get, IsErr, IfOk, ◌++◌}
+use Rattle.std.proofs.Common.{◌≡◌, ℕ, ◌≤◌, ◌<◌, true, false, List, length, Option, Some, None, Result, Ok, Err, refl, ap, sym, ◌∙◌, subst, arith, nat_le, slice_get, IsErr, IfOk, ◌++◌}
 use Rattle.std.proofs.lemmas.Bool.{le-leb, lt-leb}
 use Rattle.x86_values.specs.declared.Bits.{Bits}
 use Rattle.x86_values.specs.declared.Instr.{Instr}
@@ -33,6 +33,17 @@ by_row bits ip row i at = rw at refl
 pub row_fails : (bits : Bits) (ip : ℕ) (row : Row) (i : Instr) → exists_in bits row ≡ false → failure bits ip row i ≡ Some cause.Row
 unfolding failure
 row_fails bits ip row i h = rw h refl
+
+-- the encoding by the row, at an address that is already one of the mode
+pub by_row_at : (bits : Bits) (ip at : ℕ) (row : Row) (i : Instr) → slice_get table i.code.0 ≡ Some row → at ≡ modulo_width bits ip → encoded_by (failure bits at row i) (bytes_of row (plain_spelling bits at row i)) ≡ encoding bits ip i
+by_row_at bits ip at row i there is =
+    ap (λ (a : ℕ). encoded_by (failure bits a row i) (bytes_of row (plain_spelling bits a row i))) is ∙ by_row bits ip row i there
+
+-- an instruction of a row that does not exist in the mode has no encoding
+pub without_mode : (bits : Bits) (ip : ℕ) (row : Row) (i : Instr) → slice_get table i.code.0 ≡ Some row → exists_in bits row ≡ false → Err cause.Row ≡ encoding bits ip i
+without_mode bits ip row i there none =
+    ap (λ why. encoded_by why (bytes_of row (plain_spelling bits (modulo_width bits ip) row i))) (sym (row_fails bits (modulo_width bits ip) row i none))
+    ∙ by_row bits ip row i there
 
 -- ---- the other conditions
 

@@ -6,7 +6,7 @@ use Rattle.row_relation.specs.Spells.{Reading, Read, TooShort, Invalid}
 use Rattle.plain_spelling.specs.Values.{distance}
 use Rattle.opcode_rows.specs.Sweep.{IsReadAt}
 use Rattle.operand_info.specs.declared.columns.Flow.{Flow}
-use Rattle.operand_info.specs.declared.columns.Flow.TheVariants.{Next, UnconditionalBranch, IndirectBranch, ConditionalBranch, Return, Call, IndirectCall, Interrupt, Exception}
+use Rattle.operand_info.specs.declared.columns.Flow.TheVariants.{UnconditionalBranch, IndirectBranch, ConditionalBranch, Return, Call, Exception}
 use Rattle.operand_info.specs.ByCode.{flow_of}
 use Rattle.operand_info.specs.Operands.{first_value, near_value}
 
@@ -30,32 +30,23 @@ code_offset code target = distance code.bits code.base target
 
 -- control may go on behind the instruction
 unfoldable pub goes_on : Flow → Bool
-goes_on Next = true
 goes_on UnconditionalBranch = false
 goes_on IndirectBranch = false
-goes_on ConditionalBranch = true
 goes_on Return = false
-goes_on Call = true
-goes_on IndirectCall = true
-goes_on Interrupt = true
 goes_on Exception = false
-
--- control may go to the near target of the instruction
-unfoldable pub goes_to_target : Flow → Bool
-goes_to_target Next = false
-goes_to_target UnconditionalBranch = true
-goes_to_target IndirectBranch = false
-goes_to_target ConditionalBranch = true
-goes_to_target Return = false
-goes_to_target Call = true
-goes_to_target IndirectCall = false
-goes_to_target Interrupt = false
-goes_to_target Exception = false
+goes_on _ = true
 
 -- where control goes on behind an instruction at offset p, it goes to the end of the instruction
 pub record GoesOn (p : ℕ) (d : Decoded) (q : ℕ) : Type 0 where
   pub flow : IsTrue (goes_on (flow_of d.instr.code.0))
   pub end : q ≡ p + d.len
+
+-- control may go to the near target of the instruction
+unfoldable pub goes_to_target : Flow → Bool
+goes_to_target UnconditionalBranch = true
+goes_to_target ConditionalBranch = true
+goes_to_target Call = true
+goes_to_target _ = false
 
 -- where it goes to the near target, it goes to the offset of that, if the instruction has one
 pub record GoesToTarget (code : CodeBytes) (d : Decoded) (q : ℕ) : Type 0 where

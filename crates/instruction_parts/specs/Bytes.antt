@@ -1,6 +1,8 @@
 -- The bytes of a spelling, and what its parts up to the opcode byte say (Intel SDM volume 2, 2.1 and 2.3.5).
 use Rattle.std.specs.Prelude.{ℕ, ◌+◌, ◌-◌, ◌*◌, Bool, true, false, List, [], ◌∷◌, ◌++◌, length, Option, Some, None, cond}
 use Rattle.x86_values.specs.declared.Bits.{Bits}
+use Rattle.x86_values.specs.declared.Segment.{Segment}
+use Rattle.x86_values.specs.declared.Rep.{Rep}
 use Rattle.x86_values.specs.declared.Rep.TheVariants.{None as NoRep}
 use Rattle.row_types.specs.declared.Map.{Map}
 use Rattle.row_types.specs.declared.Map.TheVariants.{One, M0f, M0f38, M0f3a}
@@ -90,35 +92,20 @@ abbrev pub spelled_map : Map → Option Vex → Map
 spelled_map map None = map
 spelled_map map (Some v) = v.map
 
+-- the state of these fields
+abbrev pub state : ℕ → Bool → Bool → Bool → Rep → Option Segment → Option ℕ → Option Vex → Map → ℕ → PrefixState
+state used s a l rep seg rex vex map o =
+    record { used = used; size66 = s; addr67 = a; lock = l; rep = rep; seg = seg; rex = rex; vex = vex; map = map; opcode = o }
+
 -- what prefixes, VEX, map and opcode byte say, which is all that the rest depends on
 unfoldable pub state_from : Bits → List ℕ → ℕ → Option Vex → Map → ℕ → PrefixState
-state_from bits prefixes used vex map opcode = record {
-  used = used;
-  size66 = has_66 prefixes;
-  addr67 = has_67 prefixes;
-  lock = has_lock prefixes;
-  rep = counting_repeat prefixes;
-  seg = counting_segment bits prefixes;
-  rex = counting_rex bits prefixes;
-  vex = vex;
-  map = map;
-  opcode = opcode;
-}
+state_from bits prefixes used vex map opcode =
+    state used (has_66 prefixes) (has_67 prefixes) (has_lock prefixes) (counting_repeat prefixes)
+    (counting_segment bits prefixes) (counting_rex bits prefixes) vex map opcode
 
 -- the state behind a REX that is the only prefix, or behind none
 abbrev pub state_of_rex : Option ℕ → ℕ → Option Vex → Map → ℕ → PrefixState
-state_of_rex rex used vex map opcode = record {
-  used = used;
-  size66 = false;
-  addr67 = false;
-  lock = false;
-  rep = NoRep;
-  seg = None;
-  rex = rex;
-  vex = vex;
-  map = map;
-  opcode = opcode;
-}
+state_of_rex rex used vex map opcode = state used false false false NoRep None rex vex map opcode
 
 -- the state of a spelling of the row
 unfoldable pub state_of : Bits → Row → Spelling → PrefixState

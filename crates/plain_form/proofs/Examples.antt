@@ -4,22 +4,16 @@ use Rattle.arrayvec.specs.ArrayVec.{ArrayVec}
 use Rattle.x86_values.specs.declared.Bits.{Bits}
 use Rattle.x86_values.specs.declared.Bits.TheVariants.{B16, B64}
 use Rattle.row_types.specs.declared.Row.{Row}
-use Rattle.row_types.specs.declared.RowKind.{RowKind}
+use Rattle.row_types.specs.Rows.{row}
 use Rattle.row_types.specs.declared.RowKind.TheVariants.{Legacy as LegacyRow, Vex as VexRow}
-use Rattle.row_types.specs.declared.Map.{Map}
 use Rattle.row_types.specs.declared.Map.TheVariants.{One as MapOne, M0f}
-use Rattle.row_types.specs.declared.Class.{Class}
 use Rattle.row_types.specs.declared.Class.TheVariants.{Any as AnyClass, Np}
 use Rattle.row_types.specs.declared.Plus.TheVariants.{No as NoPlus}
 use Rattle.row_types.specs.declared.ModRmRule.TheVariants.{Any as AnyModRm}
 use Rattle.row_types.specs.declared.Place.TheVariants.{Any as AnyPlace}
-use Rattle.row_types.specs.declared.Size.{Size}
 use Rattle.row_types.specs.declared.Size.TheVariants.{None as NoSize, O32}
-use Rattle.row_types.specs.declared.WBit.{WBit}
 use Rattle.row_types.specs.declared.WBit.TheVariants.{None as NoW, Wig}
-use Rattle.row_types.specs.declared.LBit.{LBit}
 use Rattle.row_types.specs.declared.LBit.TheVariants.{None as NoL, L128}
-use Rattle.row_types.specs.declared.OpKind.{OpKind}
 use Rattle.row_types.specs.declared.OpKind.TheVariants.{Eb as KEb, Ev as KEv, Gb as KGb, Gv as KGv, Vx as KVx, Hx as KHx, Wx as KWx, Absent as KAbsent}
 use Rattle.instruction_parts.specs.declared.spelling.ModRm.{ModRm}
 use Rattle.instruction_parts.specs.declared.spelling.Sib.{Sib}
@@ -39,32 +33,15 @@ unfoldable every_rule : Unit {0}
 unfolding bytes_of vex_bytes vex_last_byte vex_map_byte lead_bytes tail_bytes front_bytes state_from state_of method_of file_of immediate_width fixed_number is_segment is_legacy_prefix is_prefix has_lock has_66 has_67 counting_repeat segment_named counting_segment counting_rex exists_in operand_size address_size bit_r bit_x bit_b bit_w state_size forbids_vex fits reads_mode reg_number rm_number vvvv_number index_number prefixes_fit legacy_class_fits vex_class_fits class_fits is_vex_of_mode is_opcode opcode_allows opcode_is_kept vex_fits opcode_fits modrm_rule_fits place_allows place_fits opcode_and_modrm_fit size_fits w_fits l_fits sizes_fit vvvv_fits needs_sib is_displacement_alone displacement_bytes address_fits immediate_bytes immediates_bytes lengths_fit is_memory_method lock_fits is_control_number register_fits destination_fits gather_fits nop_fits registers_fit vex_in_range modrm_in_range sib_in_range fields_in_range tail_fits state_fits meaning little_endian sign_extended segment_numbered general_register byte_register vector register_of disp_size_of base_16 index_16 memory_16 ip_or_absolute sib_base sib_index memory_with_sib memory_at_base memory_wide memory_of memory_absolute gather_memory last_byte_number near_target far_pointer memory_operand operand_by immediates_before own_immediate operand_at kept_repeat has_memory kept_address_size instr_of register_number is_low_byte_of_rex needs_66 needed_repeat needed_by needs_w rex_is_needed vex_is_short l_is_needed vvvv_is_read reg_is_read lone_is_zero rm_is_read mode_is_register has_index sib_is_needed scale_is_read last_byte_is_read immediates_are_read
 every_rule = tt
 
-abbrev row : RowKind → Map → Class → ℕ → Size → WBit → LBit → ℕ → OpKind → OpKind → OpKind → ℕ → Row
-row kind map class opcode size w l modes a b c marks = record {
-  kind = kind;
-  map = map;
-  class = class;
-  opcode = opcode;
-  plus = NoPlus;
-  modrm = AnyModRm;
-  place = AnyPlace;
-  size = size;
-  w = w;
-  l = l;
-  modes = record { 0 = modes };
-  ops = a ∷ b ∷ c ∷ KAbsent ∷ [];
-  marks = record { 0 = marks };
-}
-
 -- ADD r/m32, r32; MOV r/m8, r8; VADDPS xmm, xmm, xmm/m128
 abbrev add : Row
-add = row LegacyRow MapOne AnyClass 0x01 O32 NoW NoL 7 KEv KGv KAbsent 1
+add = row LegacyRow MapOne AnyClass 0x01 NoPlus AnyModRm AnyPlace O32 NoW NoL 7 KEv KGv KAbsent KAbsent 1
 
 abbrev mov : Row
-mov = row LegacyRow MapOne AnyClass 0x88 NoSize NoW NoL 7 KEb KGb KAbsent 0
+mov = row LegacyRow MapOne AnyClass 0x88 NoPlus AnyModRm AnyPlace NoSize NoW NoL 7 KEb KGb KAbsent KAbsent 0
 
 abbrev vaddps : Row
-vaddps = row VexRow M0f Np 0x58 NoSize Wig L128 7 KVx KHx KWx 0
+vaddps = row VexRow M0f Np 0x58 NoPlus AnyModRm AnyPlace NoSize Wig L128 7 KVx KHx KWx KAbsent 0
 
 abbrev listed : List ℕ → ArrayVec ℕ
 listed bytes = record { items = bytes }

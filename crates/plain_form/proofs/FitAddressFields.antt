@@ -286,23 +286,20 @@ sib_asked asize (Some r) index scale size reg wide offer =
     let o = wide_offer asize r size reg (elim index [ None ↦ 0 | Some _ ↦ scale_field scale ]) (index_bits index) wide offer in
     record { needed = rw (wide, lt-ltb _ 3 o.mode3) refl; count = o.with_sib; mode3 = o.mode3 }
 
+-- an address that is not of 16 bits is one of 32 or 64
+memory_of-wide : (bits asize : Bits) (f : PrefixState) (m : ModRm) (sib : Option Sib) (next : ℕ) (d : List ℕ) → is_16 asize ≡ false → memory_of bits asize f m sib next d ≡ memory_wide bits asize f m sib next d
+unfolding memory_of
+memory_of-wide bits B16 f m sib next d wide = impossible wide
+memory_of-wide bits _ f m sib next d wide = refl
+
+-- the fields with a SIB mean the address
 pub sib_means : (bits asize : Bits) (f : PrefixState) (base index : Option Register) (scale disp : ℕ) (size : DispSize) (reg next : ℕ) (d : List ℕ) → FlatGiven bits asize f base index scale disp size d → is_index bits asize index ≡ true → bit_x f ≡ nat_le 8 (number_or_zero index) → Mean bits asize f (address base index scale disp size) reg next d (fields_with_sib base index scale size)
-unfolding memory_of memory_wide
-sib_means bits B16 f base index scale disp size reg next d g i x = impossible g.wide
-sib_means bits B32 f base index scale disp size reg next d g i x =
-    let a = sib_asked B32 base index scale size reg g.wide g.offer in
+unfolding memory_wide
+sib_means bits asize f base index scale disp size reg next d g i x =
+    let a = sib_asked asize base index scale size reg g.wide g.offer in
     record {
-      back = sib_back bits B32 f base index scale disp size reg d _ g (index_back bits B32 f base index scale i x);
-      sib = sym a.needed;
-      count = a.count;
-      mode3 = a.mode3;
-      rm = omega arith;
-      sib_range = sib_for-range base index scale;
-    }
-sib_means bits B64 f base index scale disp size reg next d g i x =
-    let a = sib_asked B64 base index scale size reg g.wide g.offer in
-    record {
-      back = sib_back bits B64 f base index scale disp size reg d _ g (index_back bits B64 f base index scale i x);
+      back = memory_of-wide bits asize f (modrm_with reg (fields_with_sib base index scale size)) (Some (sib_for base index scale)) next d g.wide
+          ∙ sib_back bits asize f base index scale disp size reg d _ g (index_back bits asize f base index scale i x);
       sib = sym a.needed;
       count = a.count;
       mode3 = a.mode3;
@@ -320,26 +317,16 @@ register_back bits asize f r scale disp size reg next d g =
     ∙ same_address _ _ _ _ _ _ _ _ _ _ (ap (λ (x : ℕ). Some (general_register asize x)) (extended_number (bit_b bits f) (register_number r) few g.b) ∙ ap (λ (x : Register). Some x) a.is)
     refl (sym (eqb-true scale 1 g.scale_is)) g.value (size_from_count size (length d) (sym g.len))
 
+-- and so do those of a base alone
 pub register_means : (bits asize : Bits) (f : PrefixState) (r : Register) (scale disp : ℕ) (size : DispSize) (reg next : ℕ) (d : List ℕ) → FlatGiven bits asize f (Some r) None scale disp size d → (register_number r % 8 == 4) ≡ false → Mean bits asize f (address (Some r) None scale disp size) reg next d (fields (mode_of_count (displacement_count size)) (register_number r % 8) None)
-unfolding memory_of needs_sib sib_in_range
-register_means bits B16 f r scale disp size reg next d g n = impossible g.wide
-register_means bits B32 f r scale disp size reg next d g n =
-    let o = wide_offer B32 r size reg 0 0 g.wide g.offer in
+unfolding needs_sib sib_in_range
+register_means bits asize f r scale disp size reg next d g n =
+    let o = wide_offer asize r size reg 0 0 g.wide g.offer in
     let k = register_number r in
     record {
-      back = register_back bits B32 f r scale disp size reg next d g;
-      sib = rw (lt-ltb _ 3 o.mode3, n) refl;
-      count = o.without;
-      mode3 = o.mode3;
-      rm = omega arith;
-      sib_range = refl;
-    }
-register_means bits B64 f r scale disp size reg next d g n =
-    let o = wide_offer B64 r size reg 0 0 g.wide g.offer in
-    let k = register_number r in
-    record {
-      back = register_back bits B64 f r scale disp size reg next d g;
-      sib = rw (lt-ltb _ 3 o.mode3, n) refl;
+      back = memory_of-wide bits asize f (modrm_with reg (fields (mode_of_count (displacement_count size)) (register_number r % 8) None)) None next d g.wide
+          ∙ register_back bits asize f r scale disp size reg next d g;
+      sib = rw (g.wide, lt-ltb _ 3 o.mode3, n) refl;
       count = o.without;
       mode3 = o.mode3;
       rm = omega arith;

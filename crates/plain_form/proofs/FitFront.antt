@@ -1,8 +1,6 @@
 -- All that a spelling with the plain front rests on: the front fits the row, says what the instruction asks for, and is read back.
 use Rattle.std.proofs.Common.{◌≡◌, ◌⊎◌, inl, inr, ℕ, ◌+◌, ◌<◌, ◌≤◌, Bool, true, false, ◌&&◌, not, List, ◌∷◌, ◌++◌, length, Option, Some, None, refl, ap, sym, ◌∙◌, arith, append_assoc, length-append}
-use Rattle.std.proofs.lemmas.Bool.{and_parts, cases_Bool, not-true}
-use Rattle.plain_spelling.proofs.Fields.{state as fields}
-use Rattle.std.specs.List.{list_all}
+use Rattle.std.proofs.lemmas.Bool.{and_parts, cases_Bool}
 use Rattle.x86_values.specs.declared.Bits.{Bits}
 use Rattle.x86_values.specs.declared.Segment.{Segment}
 use Rattle.x86_values.specs.declared.Rep.{Rep}
@@ -14,12 +12,12 @@ use Rattle.instruction_parts.specs.declared.spelling.Vex.{Vex}
 use Rattle.instruction_parts.specs.declared.spelling.ModRm.{ModRm}
 use Rattle.instruction_parts.specs.declared.spelling.Spelling.{Spelling}
 use Rattle.instruction_parts.specs.declared.spelling.PrefixState.{PrefixState}
-use Rattle.instruction_parts.specs.Counting.{is_prefix, has_lock, has_66, has_67, counting_repeat, counting_segment, counting_rex}
+use Rattle.instruction_parts.specs.Counting.{has_lock, has_66, has_67, counting_repeat, counting_segment, counting_rex}
 use Rattle.instruction_parts.specs.Sizes.{is_vex_row}
-use Rattle.instruction_parts.specs.Bytes.{vex_bytes, lead_bytes, modrm_bytes, sib_bytes, tail_bytes, front_bytes, spelled_map, state_from, state_of}
+use Rattle.instruction_parts.specs.Bytes.{vex_bytes, lead_bytes, modrm_bytes, sib_bytes, tail_bytes, front_bytes, spelled_map, state as fields, state_from, state_of}
 use Rattle.instruction_parts.specs.Front.{Known, forbids_vex, long_front}
-use Rattle.row_fit.specs.Fits.{fits, prefixes_fit, class_fits, sizes_fit, vvvv_fits, same_map, is_vex_of_mode, is_opcode, opcode_allows, opcode_is_kept, vex_fits, opcode_fits, modrm_rule_fits, place_fits, are_bytes, vex_in_range, modrm_in_range}
-use Rattle.row_fit.proofs.FrontLaws.{legacy_law, vex_law, front_fits}
+use Rattle.row_fit.specs.Fits.{fits, prefixes_fit, class_fits, sizes_fit, vvvv_fits, same_map, is_vex_of_mode, is_opcode, opcode_allows, opcode_is_kept, vex_fits, opcode_fits, modrm_rule_fits, place_fits, are_bytes, vex_in_range}
+use Rattle.row_fit.proofs.FrontLaws.{parts_law, front_fits}
 use Rattle.row_meaning.specs.Meaning.{kept_repeat}
 use Rattle.plain_spelling.specs.PlainFront.{asked_vex, asked_opcode, asked_used, plain_front_of}
 use Rattle.plain_spelling.specs.PlainTail.{prefixes_of, plain_modrm, plain_spelling}
@@ -80,18 +78,6 @@ kept_parts : (bits : Bits) (map : Map) (o : ℕ) (m : Option ModRm) → opcode_i
 unfolding opcode_is_kept
 kept_parts bits map o m h = ((and_parts (is_opcode bits map o) (opcode_allows bits map o m) h).0, (and_parts (is_opcode bits map o) (opcode_allows bits map o m) h).1)
 
--- prefixes, the lead and an opcode byte that fit are read
-parts_read : (bits : Bits) (row : Row) (ps : List ℕ) (vex : Option Vex) (o : ℕ) (m : Option ModRm) (more : List ℕ) → list_all (is_prefix bits) ps ≡ true → vex_fits bits row ps vex o m ≡ true → vex_in_range vex ≡ true → modrm_in_range m ≡ true → long_front bits (ps ++ (lead_bytes row.map vex ++ (o ∷ (modrm_bytes m ++ more)))) ≡ Known (state_from bits ps (length ps + length (lead_bytes row.map vex)) vex (spelled_map row.map vex) o)
-unfolding vex_fits lead_bytes
-parts_read bits row ps None o m more all h vr mr =
-    legacy_law bits ps row.map o m more all (and_parts (not (is_vex_row row)) (opcode_is_kept bits row.map o m) h).1 mr
-parts_read bits row ps (Some v) o m more all h vr mr =
-    let h1 = (and_parts (is_vex_row row) (same_map v.map row.map && (not (forbids_vex bits ps) && is_vex_of_mode bits v)) h).1 in
-    let h2 = (and_parts (same_map v.map row.map) (not (forbids_vex bits ps) && is_vex_of_mode bits v) h1).1 in
-    vex_law bits ps v o (modrm_bytes m ++ more) all
-    (not-true (forbids_vex bits ps) (and_parts (not (forbids_vex bits ps)) (is_vex_of_mode bits v) h2).0)
-    (and_parts (not (forbids_vex bits ps)) (is_vex_of_mode bits v) h2).1 vr
-
 rest_parted : (ps lead : List ℕ) (s : Spelling) (rest : List ℕ) → (ps ++ lead) ++ (s.opcode ∷ (tail_bytes s ++ rest)) ≡ ps ++ (lead ++ (s.opcode ∷ (modrm_bytes s.modrm ++ ((sib_bytes s.sib ++ (s.disp.items ++ s.imm.items)) ++ rest))))
 unfolding tail_bytes
 rest_parted ps lead s rest = simp append_assoc
@@ -106,7 +92,7 @@ front_of_rest bits ip row i s rest g n h =
     let other = front_fits bits row s h in
     let vex = front_vex bits ip row i s.opcode s.modrm g n c (λ legacy. kept_parts bits row.map s.opcode s.modrm (kept_of bits row s.prefixes.items s.vex s.opcode s.modrm other.vex legacy)) in
     rw (rest_parted (prefixes_of f) (lead_bytes row.map (asked_vex row i)) s rest)
-    (parts_read bits row (prefixes_of f) (asked_vex row i) s.opcode s.modrm ((sib_bytes s.sib ++ (s.disp.items ++ s.imm.items)) ++ rest) c.all vex (front_vex_range bits row i g.is_sound n) other.modrm_range
+    (parts_law bits row (prefixes_of f) (asked_vex row i) s.opcode s.modrm ((sib_bytes s.sib ++ (s.disp.items ++ s.imm.items)) ++ rest) c.all vex (front_vex_range bits row i g.is_sound n) other.modrm_range
     ∙ ap Known (state_from_front bits f (prefixes_of f) (length (prefixes_of f) + length (lead_bytes row.map (asked_vex row i))) (asked_vex row i) (spelled_map row.map (asked_vex row i)) s.opcode s.opcode
     c refl (sym (length-append (prefixes_of f) (lead_bytes row.map (asked_vex row i))) ∙ sym (used_is bits row i c)) refl (map_is row i) refl))
 

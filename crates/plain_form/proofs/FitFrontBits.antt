@@ -17,7 +17,7 @@ use Rattle.plain_spelling.specs.PlainTail.{plain_size}
 use Rattle.plain_spelling.specs.Writable.{plain_w, has_plain_size}
 use Rattle.plain_spelling.proofs.FrontRange.{vex_of_vex, vex_of_legacy}
 use Rattle.plain_form.specs.Given.{NumbersSuit}
-use Rattle.plain_form.proofs.FitFrontCounts.{IsRexIf}
+use Rattle.plain_form.proofs.FitFrontCounts.{IsRexIf, bit-small}
 
 -- ---- the REX
 
@@ -32,22 +32,8 @@ abbrev rex_for : Bool → Bool → Bool → Bool → Bool → Option ℕ
 rex_for w r x b low = rex_if (w || (r || (x || (b || low)))) w r x b
 
 rex_byte-is : (w r x b : Bool) → rex_byte w r x b / 16 ≡ 4
-rex_byte-is true true true true = refl
-rex_byte-is true true true false = refl
-rex_byte-is true true false true = refl
-rex_byte-is true true false false = refl
-rex_byte-is true false true true = refl
-rex_byte-is true false true false = refl
-rex_byte-is true false false true = refl
-rex_byte-is true false false false = refl
-rex_byte-is false true true true = refl
-rex_byte-is false true true false = refl
-rex_byte-is false true false true = refl
-rex_byte-is false true false false = refl
-rex_byte-is false false true true = refl
-rex_byte-is false false true false = refl
-rex_byte-is false false false true = refl
-rex_byte-is false false false false = refl
+rex_byte-is w r x b =
+    let hw = bit-small w in let hr = bit-small r in let hx = bit-small x in let hb = bit-small b in omega arith
 
 -- the bits of a REX that may be absent
 record Rex (o : Option ℕ) (wide reg index base : Bool) : Type 0 where
@@ -212,15 +198,10 @@ front_vvvv bits row i n vex =
 
 asize_back : (bits a : Bits) → has_address_size bits a ≡ true → address_size bits (not (same_bits a bits)) ≡ a
 unfolding address_size has_address_size
-asize_back B16 B16 h = refl
-asize_back B16 B32 h = refl
 asize_back B16 B64 h = cc
-asize_back B32 B16 h = refl
-asize_back B32 B32 h = refl
 asize_back B32 B64 h = cc
 asize_back B64 B16 h = cc
-asize_back B64 B32 h = refl
-asize_back B64 B64 h = refl
+asize_back _ _ h = refl
 
 front_address : (bits : Bits) (row : Row) (i : Instr) (a : Bits) → i.asize ≡ Some a → has_address_size bits a ≡ true → state_address_size bits (plain_front_of bits row i) ≡ a
 unfolding plain_front_of asks_67

@@ -107,14 +107,19 @@ abbrev pub IsRexIf : Bits → Option ℕ → Type 0
 IsRexIf bits None = Unit {0}
 IsRexIf bits (Some b) = (is_64 bits ≡ true) × (b / 16 ≡ 4)
 
+-- what holds of no byte and of each segment prefix alone holds of the prefix that names a segment
+of_segment : (P : List ℕ → Type 0) → P [] → P (0x26 ∷ []) → P (0x2E ∷ []) → P (0x36 ∷ []) → P (0x3E ∷ []) → P (0x64 ∷ []) → P (0x65 ∷ []) → (seg : Option Segment) → P (segment_prefix seg)
+of_segment P none e c s d f g None = none
+of_segment P none e c s d f g (Some Es) = e
+of_segment P none e c s d f g (Some Cs) = c
+of_segment P none e c s d f g (Some Ss) = s
+of_segment P none e c s d f g (Some Ds) = d
+of_segment P none e c s d f g (Some Fs) = f
+of_segment P none e c s d f g (Some Gs) = g
+
 no_segment : (p : ℕ → Bool) → p 0x26 ≡ false → p 0x2E ≡ false → p 0x36 ≡ false → p 0x3E ≡ false → p 0x64 ≡ false → p 0x65 ≡ false → (seg : Option Segment) → list_any p (segment_prefix seg) ≡ false
-no_segment p e c s d f g None = refl
-no_segment p e c s d f g (Some Es) = rw e refl
-no_segment p e c s d f g (Some Cs) = rw c refl
-no_segment p e c s d f g (Some Ss) = rw s refl
-no_segment p e c s d f g (Some Ds) = rw d refl
-no_segment p e c s d f g (Some Fs) = rw f refl
-no_segment p e c s d f g (Some Gs) = rw g refl
+no_segment p e c s d f g seg =
+    of_segment (λ l. list_any p l ≡ false) refl (rw e refl) (rw c refl) (rw s refl) (rw d refl) (rw f refl) (rw g refl) seg
 
 no_byte : (p : ℕ → Bool) (b : Bool) (x : ℕ) → p x ≡ false → list_any p (byte_if b x) ≡ false
 no_byte p true x h = rw h refl
@@ -269,13 +274,8 @@ parts-rex B64 seg s a l rep (Some b) r =
 -- ---- each is a prefix of the mode, and a byte
 
 all_segment : (p : ℕ → Bool) → p 0x26 ≡ true → p 0x2E ≡ true → p 0x36 ≡ true → p 0x3E ≡ true → p 0x64 ≡ true → p 0x65 ≡ true → (seg : Option Segment) → list_all p (segment_prefix seg) ≡ true
-all_segment p e c s d f g None = refl
-all_segment p e c s d f g (Some Es) = rw e refl
-all_segment p e c s d f g (Some Cs) = rw c refl
-all_segment p e c s d f g (Some Ss) = rw s refl
-all_segment p e c s d f g (Some Ds) = rw d refl
-all_segment p e c s d f g (Some Fs) = rw f refl
-all_segment p e c s d f g (Some Gs) = rw g refl
+all_segment p e c s d f g seg =
+    of_segment (λ l. list_all p l ≡ true) refl (rw e refl) (rw c refl) (rw s refl) (rw d refl) (rw f refl) (rw g refl) seg
 
 all_byte : (p : ℕ → Bool) (b : Bool) (x : ℕ) → p x ≡ true → list_all p (byte_if b x) ≡ true
 all_byte p true x h = rw h refl
@@ -354,7 +354,8 @@ parts_count seg s a l rep rex =
     let e6 = rex_count rex in
     simp length-append (omega arith)
 
-bit-small : (b : Bool) → bit b ≤ 1
+-- a flag is one bit
+pub bit-small : (b : Bool) → bit b ≤ 1
 bit-small true = omega arith
 bit-small false = omega arith
 

@@ -3,7 +3,6 @@ use Rattle.std.proofs.Common.{◌≡◌, ℕ, ◌-◌, ◌*◌, ◌/◌, ◌%◌
 use Rattle.std.proofs.lemmas.Bool.{and_parts, eqb-true}
 use borrow.Author.Tests.{ltb-true}
 use Rattle.x86_values.specs.declared.Bits.{Bits}
-use Rattle.x86_values.specs.declared.Bits.TheVariants.{B16, B32, B64}
 use Rattle.x86_values.specs.declared.Operand.TheVariants.{Imm, Near, Far}
 use Rattle.x86_values.specs.Wrapping.{width}
 use Rattle.row_types.specs.declared.Row.{Row}
@@ -21,7 +20,7 @@ use Rattle.row_meaning.specs.Meaning.{Tail, operand_by, register_of, little_endi
 use Rattle.plain_spelling.specs.PlainFront.{register_number, operand_number}
 use Rattle.plain_form.proofs.AddressCases.{impossible}
 use Rattle.plain_form.proofs.WrittenValues.{width-le}
-use Rattle.plain_spelling.proofs.ImmediateBytes.{BytesSuit}
+use Rattle.plain_spelling.proofs.ImmediateBytes.{BytesSuit, of_each_size}
 use Rattle.plain_form.proofs.NeedImmediates.{bytes-take, bytes-drop}
 use Rattle.plain_form.proofs.NeedNumbers.{number-vector}
 use Rattle.plain_form.specs.IsPlain.{last_byte_is_bare}
@@ -37,18 +36,10 @@ Narrow size _ n = Unit {0}
 
 pub narrow_kind : (size : Bits) (kind : OpKind) → Narrow size (method_of kind) (immediate_bytes size kind)
 unfolding method_of immediate_width immediate_bytes
-narrow_kind B16 Ibs = omega arith
-narrow_kind B32 Ibs = omega arith
-narrow_kind B64 Ibs = omega arith
-narrow_kind B16 Iz = omega arith
-narrow_kind B32 Iz = omega arith
-narrow_kind B64 Iz = omega arith
-narrow_kind B16 Jb = omega arith
-narrow_kind B32 Jb = omega arith
-narrow_kind B64 Jb = omega arith
-narrow_kind B16 Jz = omega arith
-narrow_kind B32 Jz = omega arith
-narrow_kind B64 Jz = omega arith
+narrow_kind size Ibs = of_each_size (λ s. 8 * immediate_bytes s Ibs ≤ width s) (omega arith) (omega arith) (omega arith) size
+narrow_kind size Iz = of_each_size (λ s. 8 * immediate_bytes s Iz ≤ width s) (omega arith) (omega arith) (omega arith) size
+narrow_kind size Jb = of_each_size (λ s. 8 * immediate_bytes s Jb ≤ width s) (omega arith) (omega arith) (omega arith) size
+narrow_kind size Jz = of_each_size (λ s. 8 * immediate_bytes s Jz ≤ width s) (omega arith) (omega arith) (omega arith) size
 narrow_kind size _ = tt
 
 -- ---- a far pointer

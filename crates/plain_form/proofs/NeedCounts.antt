@@ -1,7 +1,7 @@
 -- How many classes of prefixes a list of bytes has: each byte is of at most one class, so there are no more than bytes.
 use Rattle.std.proofs.Common.{◌≡◌, inl, inr, ℕ, ◌+◌, ◌-◌, ◌<◌, ◌≤◌, Bool, true, false, ◌&&◌, ◌||◌, ◌==◌, nat_lt, List, [], ◌∷◌, length, reverse, Option, None, is_some, refl, ap, sym, ◌∙◌, subst, arith, slice_index}
 use Rattle.std.proofs.lemmas.Bool.{or_parts, and_parts, cases_Bool, eqb-true}
-use Rattle.std.specs.List.{list_any, find}
+use Rattle.std.specs.List.{list_any, list_all, find}
 use Rattle.std.proofs.lemmas.List.Folds.{list_any_at}
 use Rattle.std.proofs.lemmas.List.Sorted.{list_any-IsPermutation, IsPermutation-reverse}
 use borrow.Author.Tests.{ltb-true}
@@ -12,6 +12,7 @@ use Rattle.x86_values.specs.declared.Rep.TheVariants.{None as NoRep, F2 as RepF2
 use Rattle.instruction_parts.specs.Counting.{is_repeat, is_segment, is_fs_or_gs, is_rex, has_lock, has_66, has_67, last_where, last_if, repeat_named, counting_repeat, segment_of_byte, counting_segment_byte, counting_segment, counting_rex}
 use Rattle.instruction_parts.specs.Bytes.{bit}
 use Rattle.plain_spelling.specs.PlainFront.{count_repeat}
+use Rattle.plain_form.proofs.FitFrontCounts.{bit-small}
 
 -- ---- one byte
 
@@ -23,64 +24,38 @@ classes x =
 of_one_class : (x k : ℕ) → (x == k) ≡ true → classes k ≤ 1 → classes x ≤ 1
 of_one_class x k e h = subst (λ (n : ℕ). classes n ≤ 1) (sym (eqb-true x k e)) h
 
-bit_small : (b : Bool) → bit b ≤ 1
-bit_small true = omega arith
-bit_small false = omega arith
-
 -- a byte that is no legacy prefix
 no_legacy_class : (x : ℕ) → (x == 0xF0) ≡ false → (x == 0xF2) ≡ false → (x == 0xF3) ≡ false → (x == 0x66) ≡ false → (x == 0x67) ≡ false → is_segment x ≡ false → classes x ≤ 1
-no_legacy_class x a b c d e s = rw (a, b, c, d, e, s) (let h = bit_small (is_rex x) in omega arith)
+no_legacy_class x a b c d e s = rw (a, b, c, d, e, s) (let h = bit-small (is_rex x) in omega arith)
 
 no_segment : (x : ℕ) → (x == 0x26) ≡ false → (x == 0x2E) ≡ false → (x == 0x36) ≡ false → (x == 0x3E) ≡ false → (x == 0x64) ≡ false → (x == 0x65) ≡ false → is_segment x ≡ false
 unfolding is_segment
 no_segment x a b c d e f = rw (a, b, c, d, e, f)
 
+-- the bytes of the legacy prefixes
+abbrev legacy_bytes : List ℕ
+legacy_bytes = 0xF0 ∷ 0xF2 ∷ 0xF3 ∷ 0x66 ∷ 0x67 ∷ 0x26 ∷ 0x2E ∷ 0x36 ∷ 0x3E ∷ 0x64 ∷ 0x65 ∷ []
+
+-- a byte among some that are each of one class at most
+among_bytes : (x : ℕ) (ks : List ℕ) → list_any (λ k. x == k) ks ≡ true → list_all (λ k. nat_lt (classes k) 2) ks ≡ true → classes x ≤ 1
+among_bytes x [] e h = cc
+among_bytes x (k ∷ ks) e h =
+    let both = and_parts (nat_lt (classes k) 2) (list_all (λ k. nat_lt (classes k) 2) ks) h in
+    elim (cases_Bool (x == k)) [
+      | inl same ↦ of_one_class x k same (let small = ltb-true (classes k) 2 both.0 in omega arith)
+      | inr other ↦ among_bytes x ks (rw other at e) both.1
+    ]
+
 at_most_one_class : (x : ℕ) → classes x ≤ 1
 unfolding is_segment
-at_most_one_class x = elim (cases_Bool (x == 0xF0)) [
-  | inl e ↦ of_one_class x 0xF0 e (omega arith)
-  | inr a ↦
-      elim (cases_Bool (x == 0xF2)) [
-        | inl e ↦ of_one_class x 0xF2 e (omega arith)
-        | inr b ↦
-            elim (cases_Bool (x == 0xF3)) [
-              | inl e ↦ of_one_class x 0xF3 e (omega arith)
-              | inr c ↦
-                  elim (cases_Bool (x == 0x66)) [
-                    | inl e ↦ of_one_class x 0x66 e (omega arith)
-                    | inr d ↦
-                        elim (cases_Bool (x == 0x67)) [
-                          | inl e ↦ of_one_class x 0x67 e (omega arith)
-                          | inr e1 ↦
-                              elim (cases_Bool (x == 0x26)) [
-                                | inl e ↦ of_one_class x 0x26 e (omega arith)
-                                | inr s1 ↦
-                                    elim (cases_Bool (x == 0x2E)) [
-                                      | inl e ↦ of_one_class x 0x2E e (omega arith)
-                                      | inr s2 ↦
-                                          elim (cases_Bool (x == 0x36)) [
-                                            | inl e ↦ of_one_class x 0x36 e (omega arith)
-                                            | inr s3 ↦
-                                                elim (cases_Bool (x == 0x3E)) [
-                                                  | inl e ↦ of_one_class x 0x3E e (omega arith)
-                                                  | inr s4 ↦
-                                                      elim (cases_Bool (x == 0x64)) [
-                                                        | inl e ↦ of_one_class x 0x64 e (omega arith)
-                                                        | inr s5 ↦
-                                                            elim (cases_Bool (x == 0x65)) [
-                                                              | inl e ↦ of_one_class x 0x65 e (omega arith)
-                                                              | inr s6 ↦
-                                                                  no_legacy_class x a b c d e1 (no_segment x s1 s2 s3 s4 s5 s6)
-                                                            ]
-                                                      ]
-                                                ]
-                                          ]
-                                    ]
-                              ]
-                        ]
-                  ]
-            ]
-      ]
+at_most_one_class x = elim (cases_Bool (list_any (λ k. x == k) legacy_bytes)) [
+  | inl e ↦ among_bytes x legacy_bytes e refl
+  | inr e ↦
+      let f0 = or_parts (x == 0xF0) _ e in let f2 = or_parts (x == 0xF2) _ f0.1 in let f3 = or_parts (x == 0xF3) _ f2.1 in
+      let size = or_parts (x == 0x66) _ f3.1 in let address = or_parts (x == 0x67) _ size.1 in
+      let es = or_parts (x == 0x26) _ address.1 in let cs = or_parts (x == 0x2E) _ es.1 in let ss = or_parts (x == 0x36) _ cs.1 in
+      let ds = or_parts (x == 0x3E) _ ss.1 in let fs = or_parts (x == 0x64) _ ds.1 in let gs = or_parts (x == 0x65) _ fs.1 in
+      no_legacy_class x f0.0 f2.0 f3.0 size.0 address.0 (no_segment x es.0 cs.0 ss.0 ds.0 fs.0 gs.0)
 ]
 
 -- ---- a list of bytes
@@ -156,7 +131,7 @@ pub segment_counted : (bits : Bits) (xs : List ℕ) → bit (is_some (counting_s
 unfolding counting_segment
 segment_counted bits xs =
     no_bits (bit (is_some (segment_of_byte (counting_segment_byte bits xs)))) (list_any is_segment xs)
-    (λ h. ap (λ (o : Option ℕ). bit (is_some (segment_of_byte o))) (no_segment_byte bits xs h)) (bit_small _)
+    (λ h. ap (λ (o : Option ℕ). bit (is_some (segment_of_byte o))) (no_segment_byte bits xs h)) (bit-small _)
 
 last_if_none : (p : ℕ → Bool) (xs : List ℕ) → list_any p xs ≡ false → last_if p xs ≡ None
 last_if_none p xs h = elim (cases_Bool (nat_lt 0 (length xs) && p (slice_index xs (length xs - 1)))) [
@@ -176,7 +151,7 @@ rex_none B64 xs h = last_if_none is_rex xs h
 pub rex_counted : (bits : Bits) (xs : List ℕ) → bit (is_some (counting_rex bits xs)) ≤ bit (list_any is_rex xs)
 rex_counted bits xs =
     no_bits (bit (is_some (counting_rex bits xs))) (list_any is_rex xs)
-    (λ h. ap (λ (o : Option ℕ). bit (is_some o)) (rex_none bits xs h)) (bit_small _)
+    (λ h. ap (λ (o : Option ℕ). bit (is_some o)) (rex_none bits xs h)) (bit-small _)
 
 -- **what some prefixes count for takes no more bytes than they are**
 pub counted_fit : (bits : Bits) (xs : List ℕ) → bit (has_lock xs) + (count_repeat (counting_repeat xs) + (bit (is_some (counting_segment bits xs)) + (bit (has_66 xs) + (bit (has_67 xs) + bit (is_some (counting_rex bits xs)))))) ≤ length xs

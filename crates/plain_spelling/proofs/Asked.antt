@@ -1,5 +1,5 @@
 -- A field of a sound row is asked for by the one operand that is read from it, and so is the displacement.
-use Rattle.std.proofs.Common.{◌≡◌, ◌⊎◌, inl, inr, ℕ, zero, suc, ◌+◌, ◌%◌, ◌<◌, ◌≤◌, Bool, true, false, ◌&&◌, ◌||◌, not, ◌==◌, List, [], ◌∷◌, length, refl, sym, ◌∙◌, arith, if◌then◌else◌, Option, Some, None, is_none}
+use Rattle.std.proofs.Common.{◌≡◌, ◌⊎◌, inl, inr, ℕ, zero, suc, ◌+◌, ◌%◌, ◌<◌, ◌≤◌, Bool, true, false, ◌&&◌, ◌||◌, not, ◌==◌, List, [], ◌∷◌, length, refl, ap, sym, ◌∙◌, arith, if◌then◌else◌, cond, Option, Some, None, is_none}
 use Rattle.std.specs.Prelude.{slice_index_or}
 use Rattle.std.proofs.lemmas.Bool.{leb-true, or_parts, and_parts, cases_Bool, eqb-true, not-true}
 use Rattle.std.specs.List.{list_any}
@@ -369,25 +369,16 @@ unfolding number_in_opcode
 opcode_shows method.OpcodeLow op h = refl
 opcode_shows _ op h = cc
 
-rm_vanishes : (how : Method) (op : Operand) → reads_b how ≡ false → number_in_rm how op ≡ 0
+number_in_rm-is : (how : Method) (op : Operand) → number_in_rm how op ≡ cond (reads_b how) (base_or_register_number op) 0
 unfolding number_in_rm
-rm_vanishes method.RegisterOrMemory op h = cc
-rm_vanishes method.RegisterOnly op h = cc
-rm_vanishes method.MemoryOnly op h = cc
-rm_vanishes method.AnyMode op h = cc
-rm_vanishes method.Gather op h = cc
-rm_vanishes method.OpcodeLow op h = cc
-rm_vanishes _ op h = refl
+number_in_rm-is method.OpcodeLow op = refl
+number_in_rm-is _ op = refl
+
+rm_vanishes : (how : Method) (op : Operand) → reads_b how ≡ false → number_in_rm how op ≡ 0
+rm_vanishes how op h = number_in_rm-is how op ∙ ap (λ (b : Bool). cond b (base_or_register_number op) 0) h
 
 rm_shows : (how : Method) (op : Operand) → reads_b how ≡ true → number_in_rm how op ≡ base_or_register_number op
-unfolding number_in_rm
-rm_shows method.RegisterOrMemory op h = refl
-rm_shows method.RegisterOnly op h = refl
-rm_shows method.MemoryOnly op h = refl
-rm_shows method.AnyMode op h = refl
-rm_shows method.Gather op h = refl
-rm_shows method.OpcodeLow op h = refl
-rm_shows _ op h = cc
+rm_shows how op h = number_in_rm-is how op ∙ ap (λ (b : Bool). cond b (base_or_register_number op) 0) h
 
 -- ---- what a field is asked for
 
@@ -511,25 +502,16 @@ index_in_rm bits row i kinds shapes =
 
 -- ---- the displacement
 
-displacement_vanishes : (how : Method) (op : Operand) → reads_address how ≡ false → displacement_read how op ≡ 0
+displacement_read-is : (how : Method) (op : Operand) → displacement_read how op ≡ cond (reads_address how) (operand_displacement op) 0
 unfolding displacement_read
-displacement_vanishes method.RegisterOrMemory op h = cc
-displacement_vanishes method.RegisterOnly op h = cc
-displacement_vanishes method.MemoryOnly op h = cc
-displacement_vanishes method.AnyMode op h = cc
-displacement_vanishes method.Gather op h = cc
-displacement_vanishes method.Offset op h = cc
-displacement_vanishes _ op h = refl
+displacement_read-is method.Offset op = refl
+displacement_read-is _ op = refl
+
+displacement_vanishes : (how : Method) (op : Operand) → reads_address how ≡ false → displacement_read how op ≡ 0
+displacement_vanishes how op h = displacement_read-is how op ∙ ap (λ (b : Bool). cond b (operand_displacement op) 0) h
 
 displacement_shows : (how : Method) (op : Operand) → reads_address how ≡ true → displacement_read how op ≡ operand_displacement op
-unfolding displacement_read
-displacement_shows method.RegisterOrMemory op h = refl
-displacement_shows method.RegisterOnly op h = refl
-displacement_shows method.MemoryOnly op h = refl
-displacement_shows method.AnyMode op h = refl
-displacement_shows method.Gather op h = refl
-displacement_shows method.Offset op h = refl
-displacement_shows _ op h = cc
+displacement_shows how op h = displacement_read-is how op ∙ ap (λ (b : Bool). cond b (operand_displacement op) 0) h
 
 displacement_over : (kinds : List OpKind) (ops : List Operand) → count_by reads_address kinds ≤ 1 → over_operands displacement_read kinds ops ≡ operand_displacement (operand_where reads_address kinds ops)
 displacement_over [] ops c = refl

@@ -1,6 +1,5 @@
 -- Examples of plain spellings and of the first condition that fails, each proved by computing; their values come from outside.
 use Rattle.std.proofs.Common.{◌≡◌, ℕ, Bool, true, false, List, [], ◌∷◌, refl, Option, Some, None}
-use Rattle.plain_spelling.proofs.Fields.{row}
 use Rattle.x86_values.specs.declared.Bits.{Bits}
 use Rattle.x86_values.specs.declared.Bits.TheVariants.{B16, B32, B64}
 use Rattle.x86_values.specs.declared.Segment.{Segment}
@@ -15,6 +14,7 @@ use Rattle.x86_values.specs.declared.Rep.{Rep}
 use Rattle.x86_values.specs.declared.Rep.TheVariants.{None as NoRep, F2 as RepF2}
 use Rattle.x86_values.specs.declared.Instr.{Instr}
 use Rattle.row_types.specs.declared.Row.{Row}
+use Rattle.row_types.specs.Rows.{row}
 use Rattle.row_types.specs.declared.RowKind.TheVariants.{Legacy as LegacyRow, Vex as VexRow}
 use Rattle.row_types.specs.declared.Map.TheVariants.{One as MapOne, M0f, M0f38}
 use Rattle.row_types.specs.declared.Class.TheVariants.{Any as AnyClass, Np, P66}

@@ -19,6 +19,12 @@ use Rattle.plain_spelling.specs.declared.addresses.AddressForm.{AddressForm}
 use Rattle.plain_spelling.specs.Addresses.{form_of, displacement_count}
 use Rattle.plain_spelling.specs.PlainTail.{operand_displacement, displacement_of, displacement_of_operand, operand_immediate, immediate_at, plain_immediates}
 
+-- what holds at each of the three sizes holds at any
+pub of_each_size : (P : Bits → Type 0) → P B16 → P B32 → P B64 → (size : Bits) → P size
+of_each_size P a b c B16 = a
+of_each_size P a b c B32 = b
+of_each_size P a b c B64 = c
+
 -- a far pointer has a selector of two bytes, a register in the last byte one, and what is read elsewhere none
 abbrev pub BytesSuit : Method → ℕ → Type 0
 BytesSuit method.AsWritten n = Unit {0}
@@ -38,26 +44,16 @@ bytes_suit size Iz = tt
 bytes_suit size Iv = tt
 bytes_suit size Jb = tt
 bytes_suit size Jz = tt
-bytes_suit B16 Ap = omega arith
-bytes_suit B32 Ap = omega arith
-bytes_suit B64 Ap = omega arith
+bytes_suit size Ap = of_each_size (λ s. 2 ≤ immediate_bytes s Ap) (omega arith) (omega arith) (omega arith) size
 bytes_suit size _ = refl
 
 -- at most eight bytes
 pub bytes_short : (size : Bits) (kind : OpKind) → immediate_bytes size kind ≤ 8
 unfolding immediate_width immediate_bytes
-bytes_short B16 Iz = omega arith
-bytes_short B32 Iz = omega arith
-bytes_short B64 Iz = omega arith
-bytes_short B16 Iv = omega arith
-bytes_short B32 Iv = omega arith
-bytes_short B64 Iv = omega arith
-bytes_short B16 Jz = omega arith
-bytes_short B32 Jz = omega arith
-bytes_short B64 Jz = omega arith
-bytes_short B16 Ap = omega arith
-bytes_short B32 Ap = omega arith
-bytes_short B64 Ap = omega arith
+bytes_short size Iz = of_each_size (λ s. immediate_bytes s Iz ≤ 8) (omega arith) (omega arith) (omega arith) size
+bytes_short size Iv = of_each_size (λ s. immediate_bytes s Iv ≤ 8) (omega arith) (omega arith) (omega arith) size
+bytes_short size Jz = of_each_size (λ s. immediate_bytes s Jz ≤ 8) (omega arith) (omega arith) (omega arith) size
+bytes_short size Ap = of_each_size (λ s. immediate_bytes s Ap ≤ 8) (omega arith) (omega arith) (omega arith) size
 bytes_short size _ = omega arith
 
 -- an operand that has no bytes behind the instruction has none there

@@ -1,4 +1,3 @@
-pub mod Fields
 mod Examples
 pub mod PlainFrontLaws
 pub mod Asked

@@ -72,64 +72,36 @@ static MARK_WORDS: [(&str, Mark); 21] = words! {
     "256" L256, "LIG" Lig, "LZ" Lz
 };
 
-/// The words of kinds of operands.
-#[tactic(auto, unfolding(crate::specs::Words::kind_words))]
-fn kind_words() -> &'static [(&'static str, OpKind)]
-    ensures { map (λ w. (w.0.now, w.1)) result.now ≡ spec.kind_words }
-{
-    &KIND_WORDS
-}
-
 /// The kind of operand that a word names.
+#[tactic(auto, unfolding(crate::specs::Words::kind_words))]
 pub fn kind_named(text: &[u8]) -> Option<OpKind>
     ensures { result ≡ spec.value_among spec.kind_words text.now }
 {
-    value_among(kind_words(), text)
-}
-
-/// The words of classes of prefixes.
-#[tactic(auto, unfolding(crate::specs::Words::class_words))]
-fn class_words() -> &'static [(&'static str, Class)]
-    ensures { map (λ w. (w.0.now, w.1)) result.now ≡ spec.class_words }
-{
-    &CLASS_WORDS
+    value_among(&KIND_WORDS, text)
 }
 
 /// The class of prefixes that a word names.
+#[tactic(auto, unfolding(crate::specs::Words::class_words))]
 pub fn class_named(text: &[u8]) -> Option<Class>
     ensures { result ≡ spec.value_among spec.class_words text.now }
 {
-    value_among(class_words(), text)
-}
-
-/// The words of maps.
-#[tactic(auto, unfolding(crate::specs::Words::map_words))]
-fn map_words() -> &'static [(&'static str, Map)]
-    ensures { map (λ w. (w.0.now, w.1)) result.now ≡ spec.map_words }
-{
-    &MAP_WORDS
+    value_among(&CLASS_WORDS, text)
 }
 
 /// The map that a word names.
+#[tactic(auto, unfolding(crate::specs::Words::map_words))]
 pub fn map_named(text: &[u8]) -> Option<Map>
     ensures { result ≡ spec.value_among spec.map_words text.now }
 {
-    value_among(map_words(), text)
-}
-
-/// The words of marks.
-#[tactic(auto, unfolding(crate::specs::Words::mark_words))]
-fn mark_words() -> &'static [(&'static str, Mark)]
-    ensures { map (λ w. (w.0.now, w.1)) result.now ≡ spec.mark_words }
-{
-    &MARK_WORDS
+    value_among(&MAP_WORDS, text)
 }
 
 /// The mark that a word names.
+#[tactic(auto, unfolding(crate::specs::Words::mark_words))]
 pub fn mark_named(text: &[u8]) -> Option<Mark>
     ensures { result ≡ spec.value_among spec.mark_words text.now }
 {
-    value_among(mark_words(), text)
+    value_among(&MARK_WORDS, text)
 }
 
 /// What a text stands for among some words, None where it is none of them.

@@ -347,7 +347,8 @@ legacy_law bits ps M0f3a o m more all kept range =
 
 -- ---- both
 
-parts_law : (bits : Bits) (row : Row) (ps : List ℕ) (vex : Option Vex) (o : ℕ) (m : Option ModRm) (more : List ℕ) → list_all (is_prefix bits) ps ≡ true → vex_fits bits row ps vex o m ≡ true → vex_in_range vex ≡ true → modrm_in_range m ≡ true → long_front bits (ps ++ (lead_bytes row.map vex ++ (o ∷ (modrm_bytes m ++ more)))) ≡ Known (state_from bits ps (length ps + length (lead_bytes row.map vex)) vex (spelled_map row.map vex) o)
+-- prefixes, the lead and an opcode byte that fit are read
+pub parts_law : (bits : Bits) (row : Row) (ps : List ℕ) (vex : Option Vex) (o : ℕ) (m : Option ModRm) (more : List ℕ) → list_all (is_prefix bits) ps ≡ true → vex_fits bits row ps vex o m ≡ true → vex_in_range vex ≡ true → modrm_in_range m ≡ true → long_front bits (ps ++ (lead_bytes row.map vex ++ (o ∷ (modrm_bytes m ++ more)))) ≡ Known (state_from bits ps (length ps + length (lead_bytes row.map vex)) vex (spelled_map row.map vex) o)
 unfolding vex_fits lead_bytes
 parts_law bits row ps None o m more all h vr mr =
     legacy_law bits ps row.map o m more all (and_parts (not (is_vex_row row)) (opcode_is_kept bits row.map o m) h).1 mr

@@ -2,3 +2,4 @@ pub mod Flat
 pub mod Cells
 pub mod Spans
 pub mod Runs
+pub mod Lists

@@ -72,6 +72,16 @@ pub struct RowList {
 }
 
 impl RowList {
+    /// A list of these rows, with where those of each cell lie.
+    #[inline]
+    pub fn new(kind: RowKind, rows: &'static [FlatRow], spans: &'static [[Span; 256]; 4]) -> RowList
+        ensures kind { result.kind ≡ kind }
+        ensures rows { result.rows.now ≡ rows.now }
+        ensures spans { result.spans.now ≡ spans.now }
+    {
+        RowList { kind, rows, spans }
+    }
+
     /// The row at an index of the list, from 0.
     #[inline]
     pub fn row_at(&self, at: usize) -> Row

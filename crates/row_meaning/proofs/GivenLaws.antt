@@ -56,35 +56,23 @@ record Others (a b c : Bool) : Type 0 where
 
 only_first : (a b c d : Bool) → at_most_one a b c d ≡ true → a ≡ true → Others b c d
 only_first true false false false h e = record { first = refl; second = refl; third = refl }
-only_first true true c d h e = cc
-only_first true false true d h e = cc
-only_first true false false true h e = cc
-only_first false b c d h e = cc
+only_first _ _ _ _ h e = cc
 
 only_second : (a b c d : Bool) → at_most_one a b c d ≡ true → b ≡ true → Others a c d
 only_second false true false false h e = record { first = refl; second = refl; third = refl }
-only_second true true c d h e = cc
-only_second false true true d h e = cc
-only_second false true false true h e = cc
-only_second a false c d h e = cc
+only_second _ _ _ _ h e = cc
 
 only_third : (a b c d : Bool) → at_most_one a b c d ≡ true → c ≡ true → Others a b d
 only_third false false true false h e = record { first = refl; second = refl; third = refl }
-only_third true false true d h e = cc
-only_third true true true d h e = cc
-only_third false true true d h e = cc
-only_third false false true true h e = cc
-only_third a b false d h e = cc
+only_third true true _ _ h e = cc
+only_third _ _ _ _ h e = cc
 
 only_fourth : (a b c d : Bool) → at_most_one a b c d ≡ true → d ≡ true → Others a b c
 only_fourth false false false true h e = record { first = refl; second = refl; third = refl }
-only_fourth true false false true h e = cc
-only_fourth true true c true h e = cc
-only_fourth true false true true h e = cc
-only_fourth false true false true h e = cc
-only_fourth false true true true h e = cc
-only_fourth false false true true h e = cc
-only_fourth a b c false h e = cc
+only_fourth true true _ _ h e = cc
+only_fourth true false true _ h e = cc
+only_fourth false true true _ h e = cc
+only_fourth _ _ _ _ h e = cc
 
 -- where one operand at most has bytes of the immediates, one that has some has all
 alone : (size : Bits) (row : Row) (n : ℕ) → n < 4 → has_one_immediate row ≡ true → has_immediate (kind_at row n) ≡ true

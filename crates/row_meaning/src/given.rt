@@ -2,7 +2,7 @@
 
 ghost use Rattle.std.specs.Prelude.{◌≡◌, ◌<◌, ◌≤◌, length, IsTrue};
 ghost use Rattle.row_meaning.specs.Meaning as spec;
-ghost use Rattle.row_meaning.specs.Given.{has_one_immediate};
+ghost use Rattle.row_meaning.specs.Given.{has_one_immediate, IsInRange};
 ghost use Rattle.row_types.specs.declared.Row.{Row};
 ghost use Rattle.row_fit.specs.Fits as fits;
 ghost use Rattle.instruction_parts.specs.Kinds.{method_of};
@@ -30,10 +30,7 @@ pub struct Given<'a> {
 /// An operand of any kind, whose own bytes are all those of the immediates, written to `out`. It answers whether the operand is memory.
 #[inline(never)]
 fn any_given_into(given: &Given, state: &PrefixState, kind: OpKind, out: &mut Operand) -> bool
-    requires modrm { IsTrue (fits.modrm_in_range given.now.behind.now.modrm) }
-    requires sib { IsTrue (fits.sib_in_range given.now.behind.now.sib) }
-    requires disp { length given.now.behind.now.disp.now ≤ 8 }
-    requires imm { length given.now.behind.now.imm.now ≤ 8 }
+    requires behind { IsInRange given.now.behind.now }
     requires pointer { method_of kind ≡ PointerMethod → length given.now.behind.now.imm.now ≤ 6 }
     ensures operand { (row : Row) → spec.HasSizes given.now.bits state.now given.now.size given.now.l row
         → out.new ≡ spec.operand_by given.now.bits row state.now
@@ -53,10 +50,7 @@ fn any_given_into(given: &Given, state: &PrefixState, kind: OpKind, out: &mut Op
 #[inline(never)]
 #[tactic(auto, unfolding(crate::specs::Meaning::operand_by, row_fit::specs::Fits::is_memory_method))]
 fn given_into(given: &Given, state: &PrefixState, kind: OpKind, out: &mut Operand) -> bool
-    requires modrm { IsTrue (fits.modrm_in_range given.now.behind.now.modrm) }
-    requires sib { IsTrue (fits.sib_in_range given.now.behind.now.sib) }
-    requires disp { length given.now.behind.now.disp.now ≤ 8 }
-    requires imm { length given.now.behind.now.imm.now ≤ 8 }
+    requires behind { IsInRange given.now.behind.now }
     requires pointer { method_of kind ≡ PointerMethod → length given.now.behind.now.imm.now ≤ 6 }
     ensures operand { (row : Row) → spec.HasSizes given.now.bits state.now given.now.size given.now.l row
         → out.new ≡ spec.operand_by given.now.bits row state.now

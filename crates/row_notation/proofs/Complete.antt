@@ -1,5 +1,5 @@
 -- The notation of each proper shape is a text of the languages.
-use Rattle.std.proofs.Common.{◌≡◌, inl, inr, ℕ, ◌+◌, ◌*◌, ◌/◌, ◌%◌, ◌<◌, List, [], ◌∷◌, ◌++◌, refl, sym, ap, ◌∙◌, subst, arith, Bool, true, false, ◌&&◌, ◌||◌, not, ◌==◌, nat_lt, nat_le, Some}
+use Rattle.std.proofs.Common.{◌≡◌, inl, inr, ℕ, ◌+◌, ◌*◌, ◌/◌, ◌%◌, ◌<◌, List, [], ◌∷◌, ◌++◌, refl, sym, ap, ◌∙◌, subst, arith, Bool, true, false, ◌&&◌, ◌||◌, not, ◌==◌, nat_lt, nat_le}
 use Rattle.std.proofs.lemmas.Bool.{eqb-true, and_from, and_parts}
 use Rattle.std.proofs.lemmas.List.{append-nil}
 use Rattle.row_types.specs.declared.RowKind.{RowKind}
@@ -27,36 +27,17 @@ use Rattle.row_notation.specs.Texts.{IsTextOf}
 use Rattle.row_notation.specs.Reading.{imm_words, plus_words, maps, size_words, classes, w_words, vex_maps, vex_classes, l_words, blank}
 use Rattle.row_notation.proofs.Languages.{Language, word_then, one_of}
 use Rattle.row_notation.proofs.Grammar.{ends, imm_texts, stack_texts, any_digit, register_digit, modrm_texts, plus_texts, opcode_digit, opcode_texts, map_texts, size_texts, class_texts, w_texts, vex_map_texts, pp_texts, vex_texts, all_texts}
-use Rattle.row_notation.proofs.Parts.{full, before_modrm, choose, nth, imm_allowed, fixed_allowed, plus_allowed, opcode_allowed}
+use Rattle.row_notation.proofs.Parts.{full, before_modrm, imm_allowed, fixed_allowed, plus_allowed, opcode_allowed}
 
-imm-at : (k : RowKind) (shape : RowShape) (n : ℕ) (i : ImmWord) → nth (imm_words k) n ≡ Some i
-    → one_of (imm_words k) (λ x. word_then (imm_text x) (ends (record shape { imm = x }))) (imm_text i) (record shape { imm = i })
-imm-at k shape n i e = choose (imm_words k) n i (λ x. word_then (imm_text x) (ends (record shape { imm = x }))) (imm_text i) (record shape { imm = i }) e
-    ([], sym (append-nil (imm_text i)), (refl, refl))
+imm-here : (shape : RowShape) (i : ImmWord) → word_then (imm_text i) (ends (record shape { imm = i })) (imm_text i) (record shape { imm = i })
+imm-here shape i = ([], sym (append-nil (imm_text i)), (refl, refl))
 
 imm-complete : (k : RowKind) (shape : RowShape) (i : ImmWord) → k ≡ shape.kind → imm_allowed k i ≡ true → one_of (imm_words k) (λ x. word_then (imm_text x) (ends (record shape { imm = x }))) (imm_text i) (record shape { imm = i })
-imm-complete Legacy shape imm.None e h = imm-at Legacy shape 0 imm.None refl
-imm-complete Legacy shape imm.Ib e h = imm-at Legacy shape 1 imm.Ib refl
-imm-complete Legacy shape imm.Iw e h = imm-at Legacy shape 2 imm.Iw refl
-imm-complete Legacy shape imm.Id e h = imm-at Legacy shape 3 imm.Id refl
-imm-complete Legacy shape imm.Io e h = imm-at Legacy shape 4 imm.Io refl
-imm-complete Legacy shape imm.Cb e h = imm-at Legacy shape 5 imm.Cb refl
-imm-complete Legacy shape imm.Cw e h = imm-at Legacy shape 6 imm.Cw refl
-imm-complete Legacy shape imm.Cd e h = imm-at Legacy shape 7 imm.Cd refl
-imm-complete Legacy shape imm.Cp e h = imm-at Legacy shape 8 imm.Cp refl
-imm-complete Legacy shape imm.IwIb e h = imm-at Legacy shape 9 imm.IwIb refl
 imm-complete Legacy shape imm.Is4 e h = absurd cc
-imm-complete Vex shape imm.None e h = imm-at Vex shape 0 imm.None refl
-imm-complete Vex shape imm.Ib e h = imm-at Vex shape 1 imm.Ib refl
-imm-complete Vex shape imm.Iw e h = imm-at Vex shape 2 imm.Iw refl
-imm-complete Vex shape imm.Id e h = imm-at Vex shape 3 imm.Id refl
-imm-complete Vex shape imm.Io e h = imm-at Vex shape 4 imm.Io refl
-imm-complete Vex shape imm.Cb e h = imm-at Vex shape 5 imm.Cb refl
-imm-complete Vex shape imm.Cw e h = imm-at Vex shape 6 imm.Cw refl
-imm-complete Vex shape imm.Cd e h = imm-at Vex shape 7 imm.Cd refl
-imm-complete Vex shape imm.Cp e h = imm-at Vex shape 8 imm.Cp refl
-imm-complete Vex shape imm.IwIb e h = imm-at Vex shape 9 imm.IwIb refl
-imm-complete Vex shape imm.Is4 e h = imm-at Vex shape 10 imm.Is4 refl
+imm-complete Legacy shape imm.None e h = inl (imm-here shape imm.None)
+imm-complete Legacy shape i e h = let here = imm-here shape i in search (inl, inr, here) depth 12
+imm-complete Vex shape imm.None e h = inl (imm-here shape imm.None)
+imm-complete Vex shape i e h = let here = imm-here shape i in search (inl, inr, here) depth 12
 
 -- the immediates of a shape are a text of theirs
 pub imm-text : (shape : RowShape) (i : ImmWord) → imm_allowed shape.kind i ≡ true → imm_texts shape (imm_text i) (record shape { imm = i })
@@ -133,16 +114,10 @@ modrm-complete Legacy m c z b p l w (rule.Fixed f) st i range stack fixed h =
     ))
 
 plus-complete : (k : RowKind) (p : PlusWord) (L : PlusWord → Language) (text : List ℕ) (s : RowShape) → plus_allowed k p ≡ true → L p text s → one_of (plus_words k) L text s
-plus-complete Legacy added.None L text s e h = choose (plus_words Legacy) 0 added.None L text s refl h
-plus-complete Legacy added.Rb L text s e h = choose (plus_words Legacy) 1 added.Rb L text s refl h
-plus-complete Legacy added.Rw L text s e h = choose (plus_words Legacy) 2 added.Rw L text s refl h
-plus-complete Legacy added.Rd L text s e h = choose (plus_words Legacy) 3 added.Rd L text s refl h
-plus-complete Legacy added.Ro L text s e h = choose (plus_words Legacy) 4 added.Ro L text s refl h
-plus-complete Vex added.None L text s e h = choose (plus_words Vex) 0 added.None L text s refl h
-plus-complete Vex added.Rb L text s e h = absurd cc
-plus-complete Vex added.Rw L text s e h = absurd cc
-plus-complete Vex added.Rd L text s e h = absurd cc
-plus-complete Vex added.Ro L text s e h = absurd cc
+plus-complete Legacy added.None L text s e h = inl h
+plus-complete Legacy _ L text s e h = search (inl, inr, h) depth 12
+plus-complete Vex added.None L text s e h = inl h
+plus-complete Vex _ L text s e h = absurd cc
 
 opcode-test : (k : RowKind) (m : Map) (c : Class) (z : SizeWord) (l : LBit) (w : WBit) (b : ℕ) → opcode_allowed k m b ≡ true
     → opcode_digit (full k m c z 0 added.None l w rule.No false imm.None) (b / 16) (b % 16) ≡ true
@@ -180,54 +155,38 @@ opcode-complete k m c z b p l w r st i small opcode plus range stack fixed h =
     )
 
 in-classes : (v : Class) (L : Class → Language) (text : List ℕ) (s : RowShape) → L v text s → one_of classes L text s
-in-classes class.Any L text s h = choose classes 0 class.Any L text s refl h
-in-classes class.Np L text s h = choose classes 1 class.Np L text s refl h
-in-classes class.Nfx L text s h = choose classes 2 class.Nfx L text s refl h
-in-classes class.Nf3 L text s h = choose classes 3 class.Nf3 L text s refl h
-in-classes class.P66 L text s h = choose classes 4 class.P66 L text s refl h
-in-classes class.F3 L text s h = choose classes 5 class.F3 L text s refl h
-in-classes class.F2 L text s h = choose classes 6 class.F2 L text s refl h
+in-classes class.Any L text s h = inl h
+in-classes _ L text s h = search (inl, inr, h) depth 12
 
 in-sizes : (v : SizeWord) (L : SizeWord → Language) (text : List ℕ) (s : RowShape) → L v text s → one_of size_words L text s
-in-sizes word.None L text s h = choose size_words 0 word.None L text s refl h
-in-sizes word.O16 L text s h = choose size_words 1 word.O16 L text s refl h
-in-sizes word.O32 L text s h = choose size_words 2 word.O32 L text s refl h
-in-sizes word.O64 L text s h = choose size_words 3 word.O64 L text s refl h
-in-sizes word.RexW L text s h = choose size_words 4 word.RexW L text s refl h
+in-sizes word.None L text s h = inl h
+in-sizes _ L text s h = search (inl, inr, h) depth 12
 
 in-maps : (v : Map) (L : Map → Language) (text : List ℕ) (s : RowShape) → L v text s → one_of maps L text s
-in-maps map.One L text s h = choose maps 0 map.One L text s refl h
-in-maps map.M0f L text s h = choose maps 1 map.M0f L text s refl h
-in-maps map.M0f38 L text s h = choose maps 2 map.M0f38 L text s refl h
-in-maps map.M0f3a L text s h = choose maps 3 map.M0f3a L text s refl h
+in-maps map.One L text s h = inl h
+in-maps _ L text s h = search (inl, inr, h) depth 12
 
 in-vex_maps : (v : Map) (L : Map → Language) (text : List ℕ) (s : RowShape) → not (is_one_byte_map v) ≡ true → L v text s → one_of vex_maps L text s
-in-vex_maps map.M0f L text s e h = choose vex_maps 0 map.M0f L text s refl h
-in-vex_maps map.M0f38 L text s e h = choose vex_maps 1 map.M0f38 L text s refl h
-in-vex_maps map.M0f3a L text s e h = choose vex_maps 2 map.M0f3a L text s refl h
 in-vex_maps map.One L text s e h = absurd cc
+in-vex_maps map.M0f L text s e h = inl h
+in-vex_maps _ L text s e h = search (inl, inr, h) depth 12
 
 in-vex_classes : (v : Class) (L : Class → Language) (text : List ℕ) (s : RowShape) → is_vex_class v ≡ true → L v text s → one_of vex_classes L text s
-in-vex_classes class.Np L text s e h = choose vex_classes 0 class.Np L text s refl h
-in-vex_classes class.P66 L text s e h = choose vex_classes 1 class.P66 L text s refl h
-in-vex_classes class.F3 L text s e h = choose vex_classes 2 class.F3 L text s refl h
-in-vex_classes class.F2 L text s e h = choose vex_classes 3 class.F2 L text s refl h
 in-vex_classes class.Any L text s e h = absurd cc
 in-vex_classes class.Nfx L text s e h = absurd cc
 in-vex_classes class.Nf3 L text s e h = absurd cc
+in-vex_classes class.Np L text s e h = inl h
+in-vex_classes _ L text s e h = search (inl, inr, h) depth 12
 
 in-w : (v : WBit) (L : WBit → Language) (text : List ℕ) (s : RowShape) → not (lacks_w v) ≡ true → L v text s → one_of w_words L text s
-in-w wbit.W0 L text s e h = choose w_words 0 wbit.W0 L text s refl h
-in-w wbit.W1 L text s e h = choose w_words 1 wbit.W1 L text s refl h
-in-w wbit.Wig L text s e h = choose w_words 2 wbit.Wig L text s refl h
 in-w wbit.None L text s e h = absurd cc
+in-w wbit.W0 L text s e h = inl h
+in-w _ L text s e h = search (inl, inr, h) depth 12
 
 in-l : (v : LBit) (L : LBit → Language) (text : List ℕ) (s : RowShape) → not (lacks_l v) ≡ true → L v text s → one_of l_words L text s
-in-l lbit.L128 L text s e h = choose l_words 0 lbit.L128 L text s refl h
-in-l lbit.L256 L text s e h = choose l_words 1 lbit.L256 L text s refl h
-in-l lbit.Lig L text s e h = choose l_words 2 lbit.Lig L text s refl h
-in-l lbit.Lz L text s e h = choose l_words 3 lbit.Lz L text s refl h
 in-l lbit.None L text s e h = absurd cc
+in-l lbit.L128 L text s e h = inl h
+in-l _ L text s e h = search (inl, inr, h) depth 12
 
 legacy-complete : (m : Map) (c : Class) (z : SizeWord) (b : ℕ) (p : PlusWord) (r : ModRmRule) (st : Bool) (i : ImmWord)
     → b < 256 → is_opcode_of_map m b ≡ true → is_rule_in_range r ≡ true → is_stack_proper r st ≡ true → imm_allowed Legacy i ≡ true
@@ -324,30 +283,19 @@ from-vex s h =
 
 pub no-l : (l : LBit) → lacks_l l ≡ true → l ≡ lbit.None
 no-l lbit.None h = refl
-no-l lbit.L128 h = absurd cc
-no-l lbit.L256 h = absurd cc
-no-l lbit.Lig h = absurd cc
-no-l lbit.Lz h = absurd cc
+no-l _ h = absurd cc
 
 pub no-w : (w : WBit) → lacks_w w ≡ true → w ≡ wbit.None
 no-w wbit.None h = refl
-no-w wbit.W0 h = absurd cc
-no-w wbit.W1 h = absurd cc
-no-w wbit.Wig h = absurd cc
+no-w _ h = absurd cc
 
 pub no-size : (z : SizeWord) → is_no_size_word z ≡ true → z ≡ word.None
 no-size word.None h = refl
-no-size word.O16 h = absurd cc
-no-size word.O32 h = absurd cc
-no-size word.O64 h = absurd cc
-no-size word.RexW h = absurd cc
+no-size _ h = absurd cc
 
 pub no-plus : (p : PlusWord) → is_no_plus_word p ≡ true → p ≡ added.None
 no-plus added.None h = refl
-no-plus added.Rb h = absurd cc
-no-plus added.Rw h = absurd cc
-no-plus added.Rd h = absurd cc
-no-plus added.Ro h = absurd cc
+no-plus _ h = absurd cc
 
 pub small-opcode : (b : ℕ) → nat_lt b 256 ≡ true → b < 256
 small-opcode b h = grind arith

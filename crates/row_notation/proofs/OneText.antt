@@ -69,16 +69,7 @@ imm_of t =
 
 imm-back : (i : ImmWord) → imm_of (imm_text i) ≡ i
 imm-back imm.None = refl
-imm-back imm.Ib = refl
-imm-back imm.Iw = refl
-imm-back imm.Id = refl
-imm-back imm.Io = refl
-imm-back imm.Cb = refl
-imm-back imm.Cw = refl
-imm-back imm.Cd = refl
-imm-back imm.Cp = refl
-imm-back imm.Is4 = refl
-imm-back imm.IwIb = refl
+imm-back _ = refl
 
 same-imm : (i j : ImmWord) → imm_text i ≡ imm_text j → i ≡ j
 same-imm i j e = sym (imm-back i) ∙ ap imm_of e ∙ imm-back j
@@ -90,16 +81,7 @@ stack_of t = at0 t == 43
 
 no-plus-before : (i : ImmWord) → (at0 (imm_text i) == 43) ≡ false
 no-plus-before imm.None = refl
-no-plus-before imm.Ib = refl
-no-plus-before imm.Iw = refl
-no-plus-before imm.Id = refl
-no-plus-before imm.Io = refl
-no-plus-before imm.Cb = refl
-no-plus-before imm.Cw = refl
-no-plus-before imm.Cd = refl
-no-plus-before imm.Cp = refl
-no-plus-before imm.Is4 = refl
-no-plus-before imm.IwIb = refl
+no-plus-before _ = refl
 
 stack-back : (st : Bool) (i : ImmWord) → stack_of (stack_text st ++ imm_text i) ≡ st
 stack-back true i = refl
@@ -120,16 +102,7 @@ rule_of t =
 
 no-rule-back : (i : ImmWord) → rule_of (imm_text i) ≡ rule.No
 no-rule-back imm.None = refl
-no-rule-back imm.Ib = refl
-no-rule-back imm.Iw = refl
-no-rule-back imm.Id = refl
-no-rule-back imm.Io = refl
-no-rule-back imm.Cb = refl
-no-rule-back imm.Cw = refl
-no-rule-back imm.Cd = refl
-no-rule-back imm.Cp = refl
-no-rule-back imm.Is4 = refl
-no-rule-back imm.IwIb = refl
+no-rule-back _ = refl
 
 digit-below : (d : ℕ) → d < 8 → digit_text d < 58
 digit-below d h = grind arith
@@ -309,13 +282,8 @@ size_of t =
 
 size-back : (z : SizeWord) (m : Map) (b : ℕ) (p : PlusWord) (t : Tail) → b < 256 → size_of (size_text z ++ map_part m b p t) ≡ z
 size-back word.None map.One b p t h = rw (above (b / 16) 111 (high-small b h) (lit< tt), above (b / 16) 82 (high-small b h) (lit< tt)) refl
-size-back word.None map.M0f b p t h = refl
-size-back word.None map.M0f38 b p t h = refl
-size-back word.None map.M0f3a b p t h = refl
-size-back word.O16 m b p t h = refl
-size-back word.O32 m b p t h = refl
-size-back word.O64 m b p t h = refl
-size-back word.RexW m b p t h = refl
+size-back word.None _ b p t h = refl
+size-back _ m b p t h = refl
 
 -- a text from the size word on
 abbrev pub size_part : SizeWord → Map → ℕ → PlusWord → Tail → List ℕ
@@ -336,36 +304,16 @@ class-back class.Any word.None map.One b p t h ok =
       two-digits b 15 3 h (lit< tt) (lit< tt) (not-opcode map.One b 0xF3 ok no-opcode-f3),
       two-digits b 15 2 h (lit< tt) (lit< tt) (not-opcode map.One b 0xF2 ok no-opcode-f2),
     ) refl
-class-back class.Any word.None map.M0f b p t h ok = refl
-class-back class.Any word.None map.M0f38 b p t h ok = refl
-class-back class.Any word.None map.M0f3a b p t h ok = refl
-class-back class.Any word.O16 m b p t h ok = refl
-class-back class.Any word.O32 m b p t h ok = refl
-class-back class.Any word.O64 m b p t h ok = refl
-class-back class.Any word.RexW m b p t h ok = refl
-class-back class.Np z m b p t h ok = refl
-class-back class.Nfx z m b p t h ok = refl
-class-back class.Nf3 z m b p t h ok = refl
-class-back class.P66 z m b p t h ok = refl
-class-back class.F3 z m b p t h ok = refl
-class-back class.F2 z m b p t h ok = refl
+class-back class.Any word.None _ b p t h ok = refl
+class-back class.Any _ m b p t h ok = refl
+class-back _ z m b p t h ok = refl
 
 -- a legacy text begins with no V
 no-v : (c : Class) (z : SizeWord) (m : Map) (b : ℕ) (p : PlusWord) (t : Tail) → b < 256 → (at0 (class_text c ++ size_part z m b p t) == 86) ≡ false
 no-v class.Any word.None map.One b p t h = above (b / 16) 86 (high-small b h) (lit< tt)
-no-v class.Any word.None map.M0f b p t h = refl
-no-v class.Any word.None map.M0f38 b p t h = refl
-no-v class.Any word.None map.M0f3a b p t h = refl
-no-v class.Any word.O16 m b p t h = refl
-no-v class.Any word.O32 m b p t h = refl
-no-v class.Any word.O64 m b p t h = refl
-no-v class.Any word.RexW m b p t h = refl
-no-v class.Np z m b p t h = refl
-no-v class.Nfx z m b p t h = refl
-no-v class.Nf3 z m b p t h = refl
-no-v class.P66 z m b p t h = refl
-no-v class.F3 z m b p t h = refl
-no-v class.F2 z m b p t h = refl
+no-v class.Any word.None _ b p t h = refl
+no-v class.Any _ m b p t h = refl
+no-v _ z m b p t h = refl
 
 -- ---- the words of a VEX text
 

@@ -1,5 +1,5 @@
 -- The texts of the languages are the notations of proper shapes, and the other way round.
-use Rattle.std.proofs.Common.{◌≡◌, inl, inr, ℕ, zero, suc, ◌+◌, ◌*◌, ◌/◌, ◌%◌, ◌<◌, ◌≤◌, List, [], ◌∷◌, ◌++◌, refl, sym, ap, ◌∙◌, subst, arith, Bool, true, false, ◌&&◌, not, nat_lt, codes, eq-eqb, Option, Some, None}
+use Rattle.std.proofs.Common.{◌≡◌, inl, inr, ℕ, ◌+◌, ◌*◌, ◌/◌, ◌%◌, ◌<◌, ◌≤◌, List, [], ◌∷◌, ◌++◌, refl, sym, ap, ◌∙◌, subst, arith, Bool, true, false, ◌&&◌, not, nat_lt, codes, eq-eqb, None}
 use Rattle.std.proofs.lemmas.List.{append-nil}
 use Rattle.std.proofs.lemmas.Bool.{and_from, and_parts}
 use Rattle.row_types.specs.declared.RowKind.{RowKind}
@@ -28,19 +28,8 @@ use Rattle.row_notation.proofs.Grammar.{ends, imm_texts, stack_texts, octal_digi
 
 -- a shape of all its parts
 abbrev pub full : RowKind → Map → Class → SizeWord → ℕ → PlusWord → LBit → WBit → ModRmRule → Bool → ImmWord → RowShape
-full k m c z b p l w r st i = record {
-  kind = k;
-  map = m;
-  class = c;
-  size_word = z;
-  opcode = b;
-  plus_word = p;
-  modrm = r;
-  stack = st;
-  l = l;
-  w = w;
-  imm = i;
-}
+full k m c z b p l w r st i =
+    record { kind = k; map = m; class = c; size_word = z; opcode = b; plus_word = p; modrm = r; stack = st; l = l; w = w; imm = i }
 
 -- ---- a choice among words
 
@@ -53,21 +42,6 @@ pub chosen : {V : Type 0} → (p : V → Bool) (vs : List V) (L : V → Language
 chosen p [] L text s e h = absurd h
 chosen p (v ∷ vs) L text s e (inl h) = (v, (and_parts (p v) (all_pass p vs) e).0, h)
 chosen p (v ∷ vs) L text s e (inr h) = chosen p vs L text s (and_parts (p v) (all_pass p vs) e).1 h
-
--- the value at a place of a list
-abbrev pub nth : {V : Type 0} → List V → ℕ → Option V
-nth [] n = None
-nth (v ∷ vs) zero = Some v
-nth (v ∷ vs) (suc n) = nth vs n
-
-some-injective : {V : Type 0} → (x y : V) → Some x ≡ Some y → x ≡ y
-some-injective x y e = cc
-
--- a value of the list can be chosen
-pub choose : {V : Type 0} → (vs : List V) (n : ℕ) (v : V) (L : V → Language) (text : List ℕ) (s : RowShape) → nth vs n ≡ Some v → L v text s → one_of vs L text s
-choose [] n v L text s e h = absurd cc
-choose (x ∷ vs) zero v L text s e h = inl (subst (λ y. L y text s) (sym (some-injective x v e)) h)
-choose (x ∷ vs) (suc n) v L text s e h = inr (choose vs n v L text s e h)
 
 -- ---- from ModRM on
 

@@ -1,6 +1,5 @@
 -- Examples of spellings, fronts and meanings, each proved by computing; their values come from outside.
 use Rattle.std.proofs.Common.{◌≡◌, ℕ, Bool, true, false, List, [], ◌∷◌, refl, Option, Some, None}
-use Rattle.plain_spelling.proofs.Fields.{row, state}
 use Rattle.arrayvec.specs.ArrayVec.{ArrayVec}
 use Rattle.x86_values.specs.declared.Bits.{Bits}
 use Rattle.x86_values.specs.declared.Bits.TheVariants.{B16, B32, B64}
@@ -17,6 +16,7 @@ use Rattle.x86_values.specs.declared.Rep.{Rep}
 use Rattle.x86_values.specs.declared.Rep.TheVariants.{None as NoRep, F2 as RepF2, F3 as RepF3}
 use Rattle.x86_values.specs.declared.Instr.{Instr}
 use Rattle.row_types.specs.declared.Row.{Row}
+use Rattle.row_types.specs.Rows.{row}
 use Rattle.row_types.specs.declared.RowKind.TheVariants.{Legacy as LegacyRow, Vex as VexRow}
 use Rattle.row_types.specs.declared.Map.{Map}
 use Rattle.row_types.specs.declared.Map.TheVariants.{One as MapOne, M0f, M0f38, M0f3a}
@@ -33,7 +33,7 @@ use Rattle.instruction_parts.specs.declared.spelling.ModRm.{ModRm}
 use Rattle.instruction_parts.specs.declared.spelling.Sib.{Sib}
 use Rattle.instruction_parts.specs.declared.spelling.Spelling.{Spelling}
 use Rattle.instruction_parts.specs.declared.spelling.PrefixState.{PrefixState}
-use Rattle.instruction_parts.specs.Bytes.{bytes_of, state_of}
+use Rattle.instruction_parts.specs.Bytes.{bytes_of, state, state_of}
 use Rattle.instruction_parts.specs.Front.{Open, Forbidden, Known, front_of}
 use Rattle.row_fit.specs.Fits.{fits}
 use Rattle.row_meaning.specs.Meaning.{meaning}

@@ -4,10 +4,8 @@
 mod generated_table;
 pub mod laws;
 
-ghost use Rattle.std.specs.Prelude.{◌≡◌, length};
 ghost use Rattle.row_types.specs.declared.RowKind.TheVariants.{Vex};
-ghost use Rattle.row_lists.specs.Flat.{rows_of};
-ghost use Rattle.row_lists.specs.Spans.{AreCellSpansOf};
+ghost use Rattle.row_lists.specs.Lists.{IsListOf};
 ghost use Rattle.rows_vex.specs.Table.{table, spans};
 
 pub use generated_table::ROWS;
@@ -18,15 +16,7 @@ use row_types::RowKind;
 /// The rows as one list, by index and by cell.
 #[inline]
 pub fn list() -> RowList
-    ensures kind { result.kind ≡ Vex }
-    ensures rows { rows_of result.rows.now ≡ table }
-    ensures count { length table ≡ ROWS }
-    ensures spans { result.spans.now ≡ spans }
-    ensures cells { AreCellSpansOf result.kind (rows_of result.rows.now) result.spans.now }
+    ensures { IsListOf Vex table spans ROWS result }
 {
-    RowList {
-        kind: RowKind::Vex,
-        rows: &FLAT_ROWS,
-        spans: &SPANS,
-    }
+    RowList::new(RowKind::Vex, &FLAT_ROWS, &SPANS)
 }

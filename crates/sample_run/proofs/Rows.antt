@@ -2,6 +2,7 @@
 use Rattle.std.proofs.Common.{◌≡◌, ℕ, [], ◌∷◌, refl, slice_get}
 use Rattle.std.specs.Prelude.{Some}
 use Rattle.row_types.specs.declared.Row.{Row}
+use Rattle.row_types.specs.Rows.{row}
 use Rattle.row_types.specs.declared.RowKind.TheVariants.{Legacy, Vex}
 use Rattle.row_types.specs.declared.Map.TheVariants.{One, M0f}
 use Rattle.row_types.specs.declared.Class.{Class}
@@ -25,21 +26,8 @@ use Rattle.opcode_rows.specs.Table.{spots, rows_in, table}
 
 -- a legacy row of the one-byte map
 abbrev one_byte : Class → ℕ → Plus → ModRmRule → Size → ℕ → OpKind → OpKind → ℕ → Row
-one_byte class opcode plus modrm size modes first second marks = record {
-  kind = Legacy;
-  map = One;
-  class = class;
-  opcode = opcode;
-  plus = plus;
-  modrm = modrm;
-  place = AnyPlace;
-  size = size;
-  w = NoW;
-  l = NoL;
-  modes = record { 0 = modes };
-  ops = first ∷ second ∷ Absent ∷ Absent ∷ [];
-  marks = record { 0 = marks };
-}
+one_byte class opcode plus modrm size modes first second marks =
+    row Legacy One class opcode plus modrm AnyPlace size NoW NoL modes first second Absent Absent marks
 
 -- NOP
 abbrev pub nop_row : Row
@@ -71,21 +59,7 @@ wide_load_row = one_byte AnyClass 0x8B NoPlus AnyModRm O64 4 Gv Ev 0
 
 -- VADDPS xmm, xmm, xmm/m128
 abbrev pub add_row : Row
-add_row = record {
-  kind = Vex;
-  map = M0f;
-  class = Np;
-  opcode = 0x58;
-  plus = NoPlus;
-  modrm = AnyModRm;
-  place = AnyPlace;
-  size = NoSize;
-  w = Wig;
-  l = L128;
-  modes = record { 0 = 7 };
-  ops = Vx ∷ Hx ∷ Wx ∷ Absent ∷ [];
-  marks = record { 0 = 0 };
-}
+add_row = row Vex M0f Np 0x58 NoPlus AnyModRm AnyPlace NoSize Wig L128 7 Vx Hx Wx Absent 0
 
 rows_are : slice_get table 290 ∷ slice_get table 275 ∷ slice_get table 346 ∷ slice_get table 278
     ∷ slice_get table 169 ∷ slice_get table 623 ∷ slice_get table 279 ∷ slice_get table 1496 ∷ []

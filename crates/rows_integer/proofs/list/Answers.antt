@@ -1,20 +1,13 @@
 use Rattle.std.proofs.Common.{refl}
+use Rattle.row_types.specs.declared.RowKind.TheVariants.{Legacy}
+use Rattle.row_lists.proofs.Lists.{list-of}
+use Rattle.rows_integer.specs.declared.generated_table.TheConstants.{ROWS}
 use Rattle.rows_integer.specs.Table.{flat_rows, table, spans}
 use Rattle.rows_integer.proofs.Spans.{are_spans}
 use Rattle.rows_integer.proofs.TableFacts.{length-table}
 use Rattle.rows_integer.proofs.list.Goals as goal
 
-pub returns-clause-rows : goal.returns-clause-rows
-unfolding table flat_rows
-returns-clause-rows c = refl
-
-pub returns-clause-count : goal.returns-clause-count
-returns-clause-count c = length-table
-
-pub returns-clause-spans : goal.returns-clause-spans
-unfolding spans
-returns-clause-spans c = refl
-
-pub returns-clause-cells : goal.returns-clause-cells
+pub returns : goal.returns
 unfolding table flat_rows spans
-returns-clause-cells c = are_spans
+returns c =
+    list-of Legacy table flat_rows spans ROWS c.new.result c.new.ensures.kind c.new.ensures.rows c.new.ensures.spans refl length-table are_spans

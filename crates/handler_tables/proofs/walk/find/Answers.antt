@@ -1,17 +1,50 @@
-use Rattle.std.proofs.Common.{is_some, ◌≡◌, ◌≤◌, ◌+◌, ◌-◌, suc, arith, lit<, sym, refl}
+use Rattle.std.proofs.Common.{is_some, ◌≡◌, ◌<◌, ◌≤◌, ◌+◌, ◌-◌, ℕ, suc, arith, lit<, sym, refl, ◌∙◌, true, List, length, slice_get, Some}
 use Rattle.std.proofs.lemmas.Option.{slice_get_within}
+use Rattle.x86_values.specs.declared.Bits.{Bits}
 use Rattle.prefixes.specs.Answer.{mode_of}
+use Rattle.row_fields.specs.declared.Fields.{Fields}
 use Rattle.row_fields.proofs.Apart.{map_number-lt}
 use Rattle.row_fields.proofs.Holding.{nowhere, only_row}
 use Rattle.opcode_rows.specs.Table.{table}
 use Rattle.handler_tables.specs.Nodes.{nodes2, nodes3, nodes4, nodes8, splits2, splits3, splits4, splits8}
 use Rattle.unique_spelling.specs.FieldsOf.{fields_of}
-use Rattle.handler_tables.specs.Splits.{width_of}
+use Rattle.handler_tables.specs.Splits.{width_of, field_at}
+use Rattle.handler_tables.specs.declared.node.Next.{Next}
+use Rattle.handler_tables.specs.declared.node.Split.{Split}
 use Rattle.handler_tables.specs.declared.node.Next.TheVariants.{Stop, Leaf, N2, N3, N4, N8, N256}
-use Rattle.handler_tables.proofs.TreeLemmas.{at-end, on_path, at-Stop, at-Leaf, at-N256, split-there, node-there, split-wide, goes-on}
+use Rattle.handler_tables.proofs.Tree.{is_inner, node_width, split_at, entries_at}
+use Rattle.handler_tables.proofs.TreeLemmas.{OnPath, at-end, on_path, at-Stop, at-Leaf, at-N256, split-there, node-there, split-wide, goes-on}
 use Rattle.handler_tables.proofs.RootLemmas.{root-in, known_root, root-only, root-Stop, root-N256-in, root-goes}
 use Rattle.handler_tables.proofs.walk.find.Goals as goal
 use Rattle.handler_tables.proofs.walk.find.Goals.{in-N2, in-N3, in-N4, in-N8}
+
+-- ---- an entry that the walk has come to, which leads to a node
+
+-- its node is one of the nodes of its size
+node-within : {bits : Bits} {f : Fields} {fuel : ℕ} {next : Next} → (e : Next) (at : ℕ) (nodes : List (List Next)) → entries_at e ≡ slice_get nodes at
+    → next ≡ e → is_inner e ≡ true → OnPath fuel bits f next → at < length nodes
+node-within {bits = bits} {f = f} {fuel = fuel} {next = next} e at nodes there is inner path =
+    let k = node-there bits f fuel e inner (on_path bits f fuel next e is path) in slice_get_within nodes at k.0 (sym there ∙ k.1)
+
+-- and so is what that splits by
+split-within : {bits : Bits} {f : Fields} {fuel : ℕ} {next : Next} → (e : Next) (at : ℕ) (splits : List Split) → split_at e ≡ slice_get splits at
+    → next ≡ e → is_inner e ≡ true → OnPath fuel bits f next → at < length splits
+split-within {bits = bits} {f = f} {fuel = fuel} {next = next} e at splits there is inner path =
+    let k = split-there bits f fuel e inner (on_path bits f fuel next e is path) in slice_get_within splits at k.0 (sym there ∙ k.1)
+
+-- the node has an entry for each value of that
+wide-enough : {bits : Bits} {f : Fields} {fuel : ℕ} {next : Next} → (e : Next) (s : Split) → next ≡ e → is_inner e ≡ true → OnPath fuel bits f next
+    → split_at e ≡ Some s → width_of s ≤ node_width e
+wide-enough {bits = bits} {f = f} {fuel = fuel} {next = next} e s is inner path split =
+    split-wide bits f fuel e s inner (on_path bits f fuel next e is path) split
+
+-- and the walk goes on at the entry for the fields
+goes-along : {bits : Bits} {f : Fields} {fuel less : ℕ} {next : Next} {s : Split} {es : List Next} {d after : Next} → (e : Next)
+    → fuel ≡ suc less → next ≡ e → is_inner e ≡ true → OnPath fuel bits f next
+    → split_at e ≡ Some s → entries_at e ≡ Some es → slice_get es (field_at bits s f) ≡ Some d → d ≡ after → OnPath less bits f after
+goes-along {bits = bits} {f = f} {fuel = fuel} {less = less} {next = next} {s = s} {es = es} {d = d} {after = after} e falls is inner path split entries at same =
+    on_path bits f less d after same
+    (goes-on bits f fuel less e s es d falls inner (on_path bits f fuel next e is path) split entries at)
 
 pub node8-root-requires : goal.node8-root-requires
 node8-root-requires g c = rw c.root_number.ensures (root-in c.args.byte)
@@ -84,159 +117,60 @@ unreachable-requires-in-N256-next g c =
     at-N256 bits f fuel i (on_path bits f fuel c.loop-taken.next (N256 i) c.in-N256-next.is c.loop-taken.invariant.path)
 
 pub node2-requires : goal.node2-requires
-node2-requires g c =
-    let bits = mode_of g.row.BITS in
-    let f = fields_of c.args.state.now c.args.byte in
-    let fuel = 10 - c.loop-taken.taken in
-    let e = N2 c.in-N2.at in
-    let k = node-there bits f fuel e refl (on_path bits f fuel c.loop-taken.next e c.in-N2.is c.loop-taken.invariant.path) in
-    slice_get_within nodes2 c.in-N2.at k.0 k.1
-
-pub split2-requires : goal.split2-requires
-split2-requires g c =
-    let bits = mode_of g.row.BITS in
-    let f = fields_of c.args.state.now c.args.byte in
-    let fuel = 10 - c.loop-taken.taken in
-    let e = N2 c.in-N2.at in
-    let k = split-there bits f fuel e refl (on_path bits f fuel c.loop-taken.next e c.in-N2.is c.loop-taken.invariant.path) in
-    slice_get_within splits2 c.in-N2.at k.0 k.1
-
-pub along-next-requires : goal.along-next-requires
-along-next-requires g c =
-    let bits = mode_of g.row.BITS in
-    let f = fields_of c.args.state.now c.args.byte in
-    let fuel = 10 - c.loop-taken.taken in
-    let e = N2 c.in-N2.at in
-    let narrow : width_of c.split2.result ≤ 2 =
-    split-wide bits f fuel e c.split2.result refl (on_path bits f fuel c.loop-taken.next e c.in-N2.is c.loop-taken.invariant.path)
-    c.split2.ensures
-    in
-    (lit< tt, narrow)
+node2-requires g c = node-within (N2 c.in-N2.at) c.in-N2.at nodes2 refl c.in-N2.is refl c.loop-taken.invariant.path
 
 pub node3-requires : goal.node3-requires
-node3-requires g c =
-    let bits = mode_of g.row.BITS in
-    let f = fields_of c.args.state.now c.args.byte in
-    let fuel = 10 - c.loop-taken.taken in
-    let e = N3 c.in-N3.at in
-    let k = node-there bits f fuel e refl (on_path bits f fuel c.loop-taken.next e c.in-N3.is c.loop-taken.invariant.path) in
-    slice_get_within nodes3 c.in-N3.at k.0 k.1
-
-pub split3-requires : goal.split3-requires
-split3-requires g c =
-    let bits = mode_of g.row.BITS in
-    let f = fields_of c.args.state.now c.args.byte in
-    let fuel = 10 - c.loop-taken.taken in
-    let e = N3 c.in-N3.at in
-    let k = split-there bits f fuel e refl (on_path bits f fuel c.loop-taken.next e c.in-N3.is c.loop-taken.invariant.path) in
-    slice_get_within splits3 c.in-N3.at k.0 k.1
-
-pub along-next-requires-in-N3 : goal.along-next-requires-in-N3
-along-next-requires-in-N3 g c =
-    let bits = mode_of g.row.BITS in
-    let f = fields_of c.args.state.now c.args.byte in
-    let fuel = 10 - c.loop-taken.taken in
-    let e = N3 c.in-N3.at in
-    let narrow : width_of c.split3.result ≤ 3 =
-    split-wide bits f fuel e c.split3.result refl (on_path bits f fuel c.loop-taken.next e c.in-N3.is c.loop-taken.invariant.path)
-    c.split3.ensures
-    in
-    (lit< tt, narrow)
+node3-requires g c = node-within (N3 c.in-N3.at) c.in-N3.at nodes3 refl c.in-N3.is refl c.loop-taken.invariant.path
 
 pub node4-requires : goal.node4-requires
-node4-requires g c =
-    let bits = mode_of g.row.BITS in
-    let f = fields_of c.args.state.now c.args.byte in
-    let fuel = 10 - c.loop-taken.taken in
-    let e = N4 c.in-N4.at in
-    let k = node-there bits f fuel e refl (on_path bits f fuel c.loop-taken.next e c.in-N4.is c.loop-taken.invariant.path) in
-    slice_get_within nodes4 c.in-N4.at k.0 k.1
-
-pub split4-requires : goal.split4-requires
-split4-requires g c =
-    let bits = mode_of g.row.BITS in
-    let f = fields_of c.args.state.now c.args.byte in
-    let fuel = 10 - c.loop-taken.taken in
-    let e = N4 c.in-N4.at in
-    let k = split-there bits f fuel e refl (on_path bits f fuel c.loop-taken.next e c.in-N4.is c.loop-taken.invariant.path) in
-    slice_get_within splits4 c.in-N4.at k.0 k.1
-
-pub along-next-requires-in-N4 : goal.along-next-requires-in-N4
-along-next-requires-in-N4 g c =
-    let bits = mode_of g.row.BITS in
-    let f = fields_of c.args.state.now c.args.byte in
-    let fuel = 10 - c.loop-taken.taken in
-    let e = N4 c.in-N4.at in
-    let narrow : width_of c.split4.result ≤ 4 =
-    split-wide bits f fuel e c.split4.result refl (on_path bits f fuel c.loop-taken.next e c.in-N4.is c.loop-taken.invariant.path)
-    c.split4.ensures
-    in
-    (lit< tt, narrow)
+node4-requires g c = node-within (N4 c.in-N4.at) c.in-N4.at nodes4 refl c.in-N4.is refl c.loop-taken.invariant.path
 
 pub node8-requires : goal.node8-requires
-node8-requires g c =
-    let bits = mode_of g.row.BITS in
-    let f = fields_of c.args.state.now c.args.byte in
-    let fuel = 10 - c.loop-taken.taken in
-    let e = N8 c.in-N8.at in
-    let k = node-there bits f fuel e refl (on_path bits f fuel c.loop-taken.next e c.in-N8.is c.loop-taken.invariant.path) in
-    slice_get_within nodes8 c.in-N8.at k.0 k.1
+node8-requires g c = node-within (N8 c.in-N8.at) c.in-N8.at nodes8 refl c.in-N8.is refl c.loop-taken.invariant.path
 
-pub split8-requires : goal.split8-requires
-split8-requires g c =
-    let bits = mode_of g.row.BITS in
-    let f = fields_of c.args.state.now c.args.byte in
-    let fuel = 10 - c.loop-taken.taken in
-    let e = N8 c.in-N8.at in
-    let k = split-there bits f fuel e refl (on_path bits f fuel c.loop-taken.next e c.in-N8.is c.loop-taken.invariant.path) in
-    slice_get_within splits8 c.in-N8.at k.0 k.1
+pub along-next-requires : goal.along-next-requires
+along-next-requires g c = (lit< tt, wide-enough (N2 c.in-N2.at) c.split2.result c.in-N2.is refl c.loop-taken.invariant.path c.split2.ensures)
+
+pub along-next-requires-in-N3 : goal.along-next-requires-in-N3
+along-next-requires-in-N3 g c = (lit< tt, wide-enough (N3 c.in-N3.at) c.split3.result c.in-N3.is refl c.loop-taken.invariant.path c.split3.ensures)
+
+pub along-next-requires-in-N4 : goal.along-next-requires-in-N4
+along-next-requires-in-N4 g c = (lit< tt, wide-enough (N4 c.in-N4.at) c.split4.result c.in-N4.is refl c.loop-taken.invariant.path c.split4.ensures)
 
 pub along-next-requires-in-N8 : goal.along-next-requires-in-N8
-along-next-requires-in-N8 g c =
-    let bits = mode_of g.row.BITS in
-    let f = fields_of c.args.state.now c.args.byte in
-    let fuel = 10 - c.loop-taken.taken in
-    let e = N8 c.in-N8.at in
-    let narrow : width_of c.split8.result ≤ 8 =
-    split-wide bits f fuel e c.split8.result refl (on_path bits f fuel c.loop-taken.next e c.in-N8.is c.loop-taken.invariant.path)
-    c.split8.ensures
-    in
-    (lit< tt, narrow)
+along-next-requires-in-N8 g c = (lit< tt, wide-enough (N8 c.in-N8.at) c.split8.result c.in-N8.is refl c.loop-taken.invariant.path c.split8.ensures)
+
+pub split2-requires : goal.split2-requires
+split2-requires g c = split-within (N2 c.in-N2.at) c.in-N2.at splits2 refl c.in-N2.is refl c.loop-taken.invariant.path
+
+pub split3-requires : goal.split3-requires
+split3-requires g c = split-within (N3 c.in-N3.at) c.in-N3.at splits3 refl c.in-N3.is refl c.loop-taken.invariant.path
+
+pub split4-requires : goal.split4-requires
+split4-requires g c = split-within (N4 c.in-N4.at) c.in-N4.at splits4 refl c.in-N4.is refl c.loop-taken.invariant.path
+
+pub split8-requires : goal.split8-requires
+split8-requires g c = split-within (N8 c.in-N8.at) c.in-N8.at splits8 refl c.in-N8.is refl c.loop-taken.invariant.path
 
 pub loop-taken-preserved : goal.loop-taken-preserved
 loop-taken-preserved g c =
-    let bits = mode_of g.row.BITS in
-    let f = fields_of c.args.state.now c.args.byte in
-    let fuel = 10 - c.loop-taken.taken in
-    let less = 10 - (c.loop-taken.taken + 1) in
-    let falls : fuel ≡ suc less = omega arith in
+    let path = c.loop-taken.invariant.path in
+    let falls : 10 - c.loop-taken.taken ≡ suc (10 - (c.loop-taken.taken + 1)) = omega arith in
     elim c.match-next-2.branch [
       | in-N2 w ↦ record {
-        path = on_path bits f less w.along-next.result c.match-next-2.next (sym w.next-is)
-            (goes-on bits f fuel less (N2 w.in-N2.at) w.split2.result w.node2.result w.along-next.result falls refl
-            (on_path bits f fuel c.loop-taken.next (N2 w.in-N2.at) w.in-N2.is c.loop-taken.invariant.path)
-            w.split2.ensures w.node2.ensures w.along-next.ensures.entry);
+        path = goes-along (N2 w.in-N2.at) falls w.in-N2.is refl path w.split2.ensures w.node2.ensures w.along-next.ensures.entry (sym w.next-is);
         count = omega arith;
       }
       | in-N3 w ↦ record {
-        path = on_path bits f less w.along-next-in-N3.result c.match-next-2.next (sym w.next-is)
-            (goes-on bits f fuel less (N3 w.in-N3.at) w.split3.result w.node3.result w.along-next-in-N3.result falls refl
-            (on_path bits f fuel c.loop-taken.next (N3 w.in-N3.at) w.in-N3.is c.loop-taken.invariant.path)
-            w.split3.ensures w.node3.ensures w.along-next-in-N3.ensures.entry);
+        path = goes-along (N3 w.in-N3.at) falls w.in-N3.is refl path w.split3.ensures w.node3.ensures w.along-next-in-N3.ensures.entry (sym w.next-is);
         count = omega arith;
       }
       | in-N4 w ↦ record {
-        path = on_path bits f less w.along-next-in-N4.result c.match-next-2.next (sym w.next-is)
-            (goes-on bits f fuel less (N4 w.in-N4.at) w.split4.result w.node4.result w.along-next-in-N4.result falls refl
-            (on_path bits f fuel c.loop-taken.next (N4 w.in-N4.at) w.in-N4.is c.loop-taken.invariant.path)
-            w.split4.ensures w.node4.ensures w.along-next-in-N4.ensures.entry);
+        path = goes-along (N4 w.in-N4.at) falls w.in-N4.is refl path w.split4.ensures w.node4.ensures w.along-next-in-N4.ensures.entry (sym w.next-is);
         count = omega arith;
       }
       | in-N8 w ↦ record {
-        path = on_path bits f less w.along-next-in-N8.result c.match-next-2.next (sym w.next-is)
-            (goes-on bits f fuel less (N8 w.in-N8.at) w.split8.result w.node8.result w.along-next-in-N8.result falls refl
-            (on_path bits f fuel c.loop-taken.next (N8 w.in-N8.at) w.in-N8.is c.loop-taken.invariant.path)
-            w.split8.ensures w.node8.ensures w.along-next-in-N8.ensures.entry);
+        path = goes-along (N8 w.in-N8.at) falls w.in-N8.is refl path w.split8.ensures w.node8.ensures w.along-next-in-N8.ensures.entry (sym w.next-is);
         count = omega arith;
       }
     ]
