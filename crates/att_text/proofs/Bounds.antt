@@ -10,7 +10,7 @@ use Rattle.x86_values.specs.declared.Operand.TheVariants.{Absent as AbsentOperan
 use Rattle.x86_values.specs.declared.Instr.{Instr}
 use Rattle.row_types.specs.declared.Row.{Row}
 use Rattle.row_types.specs.declared.Size.{Size}
-use Rattle.row_types.specs.declared.Size.TheVariants.{None as NoSize, O16, O32, O32or64, O64, W0, W1}
+use Rattle.row_types.specs.declared.Size.TheVariants.{O16, O64}
 use Rattle.row_meaning.specs.MemorySize.{memory_size}
 use Rattle.text_parts.specs.declared.style.Style.TheVariants.{Att}
 use Rattle.text_parts.specs.Numbers.{number}
@@ -21,7 +21,7 @@ use Rattle.text_parts.specs.Layout.{nth_operand, separator, is_long, long_at, ha
 use Rattle.text_parts.proofs.Bounds.{short_if, short_append, number-le, register-le, segment_override-le}
 use Rattle.text_parts.proofs.AddressBounds.{signed_displacement-le, lone_displacement-le, base_text-le, scale_text-le, unless_absent}
 use Rattle.text_parts.proofs.LayoutBounds.{prefix_words-le, name_text-le, separator-le}
-use Rattle.att_text.specs.Names.{size_letter, integer_letter, float_letter, operand_letter, is_packed_decimal, x87_letter, is_x87, is_integer, memory_letter, is_zero_extension, is_sign_extension, extension_letters, att_name}
+use Rattle.att_text.specs.Names.{size_letter, integer_letter, float_letter, operand_letter, x87_letter, is_x87, is_integer, memory_letter, is_zero_extension, is_sign_extension, extension_letters, att_name}
 use Rattle.att_text.specs.Operands.{att_index, att_registers, att_relative, att_address, att_memory, att_operand, star, is_last, att_part}
 use Rattle.att_text.specs.Text.{text_of}
 
@@ -31,28 +31,15 @@ size_letter-le : (n : ℕ) → length (size_letter n) ≤ 1
 unfolding size_letter
 size_letter-le n = search (rules, short_if)
 
-integer_letter-le : (n : ℕ) → length (integer_letter n) ≤ 1
-unfolding integer_letter
-integer_letter-le n = search (rules, short_if)
-
-float_letter-le : (n : ℕ) → length (float_letter n) ≤ 1
-unfolding float_letter
-float_letter-le n = search (rules, short_if)
-
 operand_letter-le : (size : Size) → length (operand_letter size) ≤ 1
 unfolding operand_letter
 operand_letter-le O16 = omega arith
 operand_letter-le O64 = omega arith
-operand_letter-le NoSize = omega arith
-operand_letter-le O32 = omega arith
-operand_letter-le O32or64 = omega arith
-operand_letter-le W0 = omega arith
-operand_letter-le W1 = omega arith
+operand_letter-le _ = omega arith
 
 x87_letter-le : (name : List ℕ) (n : ℕ) → length (x87_letter name n) ≤ 1
-unfolding x87_letter
-x87_letter-le name n =
-    short_if (is_packed_decimal name) _ _ 1 (omega arith) (short_if _ _ _ 1 (integer_letter-le n) (float_letter-le n))
+unfolding x87_letter integer_letter float_letter
+x87_letter-le name n = search (rules, short_if)
 
 memory_letter-le : (row : Row) (name : List ℕ) → length (memory_letter row name) ≤ 1
 unfolding memory_letter

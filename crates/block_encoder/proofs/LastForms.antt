@@ -5,7 +5,7 @@ use Rattle.std.specs.Prelude.{◌==◌, if◌then◌else◌, unwrap_or}
 use Rattle.std.proofs.lemmas.Bool.{ne_eqb}
 use Rattle.std.proofs.lemmas.List.{append-nil, get_or-map, length-map}
 use Rattle.x86_values.specs.declared.Bits.{Bits}
-use Rattle.x86_values.specs.declared.Bits.TheVariants.{B16, B32, B64}
+use Rattle.x86_values.specs.declared.Bits.TheVariants.{B64}
 use Rattle.x86_values.specs.declared.Instr.{Instr}
 use Rattle.branch_sizes.specs.declared.plan.Choice.{Choice}
 use Rattle.branch_sizes.specs.declared.plan.Form.TheVariants.{Itself}
@@ -14,7 +14,7 @@ use Rattle.branch_sizes.specs.Plan as plan
 use Rattle.branch_sizes.specs.Layout.{IsLayout, IsClosed, IsLeast, total, chosen, image_length}
 use Rattle.moved_targets.specs.Targets.{target_of}
 use Rattle.branch_forms.specs.declared.branch.Action.{Action}
-use Rattle.branch_forms.specs.declared.branch.Action.TheVariants.{Jump, Call, Condition, Count}
+use Rattle.branch_forms.specs.declared.branch.Action.TheVariants.{Count}
 use Rattle.branch_forms.specs.declared.branch.RelativeBranch.{RelativeBranch}
 use Rattle.branch_forms.specs.Branches.{branch_of}
 use Rattle.branch_forms.specs.Choices.{branch_forms, branch_choice, choices_by, choices_of}
@@ -38,48 +38,16 @@ forms-far : (bits : Bits) (action : Action) (short : Bool) (f : ℕ) → f < len
     → has_far_form (get_or (branch_forms bits action short) (length (branch_forms bits action short) - 1) Itself) ≡ true
 unfolding branch_forms
 forms-far B64 (Count n) short f lt far = refl
-forms-far B64 Jump true f lt far = refl
-forms-far B64 Call true f lt far = refl
-forms-far B64 (Condition n) true f lt far = refl
-forms-far B64 Jump false f lt far = refl
-forms-far B64 Call false f lt far = refl
-forms-far B64 (Condition n) false f lt far = refl
-forms-far B32 (Count n) short zero lt far = cc
-forms-far B32 (Count n) short (suc zero) lt far = cc
-forms-far B32 (Count n) short (suc (suc f)) lt far = absurd (omega arith)
-forms-far B32 Jump true zero lt far = cc
-forms-far B32 Jump true (suc zero) lt far = cc
-forms-far B32 Jump true (suc (suc f)) lt far = absurd (omega arith)
-forms-far B32 Call true zero lt far = cc
-forms-far B32 Call true (suc zero) lt far = cc
-forms-far B32 Call true (suc (suc f)) lt far = absurd (omega arith)
-forms-far B32 (Condition n) true zero lt far = cc
-forms-far B32 (Condition n) true (suc zero) lt far = cc
-forms-far B32 (Condition n) true (suc (suc f)) lt far = absurd (omega arith)
-forms-far B32 Jump false zero lt far = cc
-forms-far B32 Jump false (suc f) lt far = absurd (omega arith)
-forms-far B32 Call false zero lt far = cc
-forms-far B32 Call false (suc f) lt far = absurd (omega arith)
-forms-far B32 (Condition n) false zero lt far = cc
-forms-far B32 (Condition n) false (suc f) lt far = absurd (omega arith)
-forms-far B16 (Count n) short zero lt far = cc
-forms-far B16 (Count n) short (suc zero) lt far = cc
-forms-far B16 (Count n) short (suc (suc f)) lt far = absurd (omega arith)
-forms-far B16 Jump true zero lt far = cc
-forms-far B16 Jump true (suc zero) lt far = cc
-forms-far B16 Jump true (suc (suc f)) lt far = absurd (omega arith)
-forms-far B16 Call true zero lt far = cc
-forms-far B16 Call true (suc zero) lt far = cc
-forms-far B16 Call true (suc (suc f)) lt far = absurd (omega arith)
-forms-far B16 (Condition n) true zero lt far = cc
-forms-far B16 (Condition n) true (suc zero) lt far = cc
-forms-far B16 (Condition n) true (suc (suc f)) lt far = absurd (omega arith)
-forms-far B16 Jump false zero lt far = cc
-forms-far B16 Jump false (suc f) lt far = absurd (omega arith)
-forms-far B16 Call false zero lt far = cc
-forms-far B16 Call false (suc f) lt far = absurd (omega arith)
-forms-far B16 (Condition n) false zero lt far = cc
-forms-far B16 (Condition n) false (suc f) lt far = absurd (omega arith)
+forms-far B64 _ true f lt far = refl
+forms-far B64 _ _ f lt far = refl
+forms-far _ (Count n) short zero lt far = cc
+forms-far _ (Count n) short (suc zero) lt far = cc
+forms-far _ (Count n) short _ lt far = absurd (omega arith)
+forms-far _ _ true zero lt far = cc
+forms-far _ _ true (suc zero) lt far = cc
+forms-far _ _ true _ lt far = absurd (omega arith)
+forms-far _ _ false zero lt far = cc
+forms-far _ _ false _ lt far = absurd (omega arith)
 
 -- the form of a choice of a branch
 form-of : (bits : Bits) (i : Instr) (b : RelativeBranch) (f : ℕ) → f < length (branch_forms bits b.action b.is_short)

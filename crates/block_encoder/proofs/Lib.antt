@@ -13,6 +13,7 @@ pub mod Reached
 pub mod Going
 pub mod Standing
 pub mod Spelled
+pub mod Jumping
 pub mod Formed
 pub mod Counting
 pub mod Branching

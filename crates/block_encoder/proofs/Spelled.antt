@@ -16,7 +16,7 @@ use Rattle.plain_spelling.specs.Values.{is_extended_of, distance}
 use Rattle.plain_spelling.specs.Forms.{is_variant_of, is_allowed_in}
 use Rattle.plain_spelling.specs.Addresses.{has_address_size, form_of, offers, form_offers, displacement_count, is_displacement, displacement_suits, is_shape, shape_suits, pointer_size, shown_size, written_size}
 use Rattle.plain_spelling.specs.PlainTail.{plain_size, plain_next, plain_spelling}
-use Rattle.plain_spelling.specs.Expressible.{Suits, kind_suits, register_suits, address_suits, displacement_offered, immediate_suits, immediate_suits_how, near_reaches, address_reaches, target_suits, lock_suits, repeat_suits, prefixes_suit, has_memory_operand, told_size, size_agrees, is_size_of, address_size_suits}
+use Rattle.plain_spelling.specs.Expressible.{Suits, each_operand, kind_suits, register_suits, address_suits, displacement_offered, immediate_suits, immediate_suits_how, near_reaches, address_reaches, target_suits, lock_suits, repeat_suits, prefixes_suit, has_memory_operand, told_size, size_agrees, is_size_of, address_size_suits}
 use Rattle.opcode_rows.specs.Table.{table}
 use Rattle.encoder.specs.Encoding.{encoding}
 use Rattle.moved_targets.specs.Targets.{plain_length}
@@ -24,7 +24,8 @@ use Rattle.branch_forms.specs.Images.{branch_to, through_slot}
 use Rattle.branch_forms.specs.Rows.{offset_row, memory_row}
 use Rattle.block_encoder.specs.LawsBelow.{MovedLawsBelow}
 
-only_first : (a b : Bool) → a ≡ true → b ≡ true → ((a && b) && (true && (true && true))) ≡ true
+-- of four tests of which the others pass
+pub only_first : (a b : Bool) → a ≡ true → b ≡ true → ((a && b) && (true && (true && true))) ≡ true
 only_first a b p q = rw (p, q) refl
 
 first_alone : (a : Bool) → a ≡ true → (a && (true && (true && true))) ≡ true
@@ -41,30 +42,26 @@ abbrev pub marks_of : Bool → ℕ
 marks_of true = 22
 marks_of false = 20
 
+short-targets : (map : Map) (counts : Bool) (opcode code : ℕ) (asize : Option Bits) (t ip : ℕ) → t < 2 ^ 64
+    → is_extended_of 1 64 (distance B64 (plain_next B64 ip (offset_row map opcode Jb (marks_of counts) B64) (branch_to code asize t)) t) ≡ true
+    → each_operand (target_suits B64 ip (offset_row map opcode Jb (marks_of counts) B64) (branch_to code asize t)) ≡ true
+unfolding branch_to exists_in is_variant_of method_of immediate_suits immediate_suits_how target_suits near_reaches plain_size operand_size immediate_bytes immediate_width
+short-targets map true opcode code asize t ip below near = only_first _ _ (lt-ltb t (2 ^ 64) below) near
+short-targets map false opcode code asize t ip below near = only_first _ _ (lt-ltb t (2 ^ 64) below) near
+
 short-suits : (map : Map) (counts : Bool) (opcode code : ℕ) (asize : Option Bits) (t ip : ℕ)
     → address_size_suits B64 (offset_row map opcode Jb (marks_of counts) B64) (branch_to code asize t) ≡ true → t < 2 ^ 64
     → is_extended_of 1 64 (distance B64 (plain_next B64 ip (offset_row map opcode Jb (marks_of counts) B64) (branch_to code asize t)) t) ≡ true
     → Suits B64 ip (offset_row map opcode Jb (marks_of counts) B64) (branch_to code asize t)
 unfolding branch_to exists_in kind_suits is_variant_of method_of register_suits address_suits displacement_offered immediate_suits immediate_suits_how target_suits near_reaches plain_size operand_size immediate_bytes immediate_width prefixes_suit lock_suits repeat_suits
-short-suits map true opcode code asize t ip sized below near = record {
+short-suits map counts opcode code asize t ip sized below near = record {
   exists = refl;
   kinds = refl;
   registers = refl;
   addresses = refl;
   displacements = refl;
   immediates = refl;
-  targets = only_first (nat_lt t (2 ^ 64)) (is_extended_of 1 64 (distance B64 (plain_next B64 ip (offset_row map opcode Jb 22 B64) (branch_to code asize t)) t)) (lt-ltb t (2 ^ 64) below) near;
-  prefixes = refl;
-  address_size = sized;
-}
-short-suits map false opcode code asize t ip sized below near = record {
-  exists = refl;
-  kinds = refl;
-  registers = refl;
-  addresses = refl;
-  displacements = refl;
-  immediates = refl;
-  targets = only_first (nat_lt t (2 ^ 64)) (is_extended_of 1 64 (distance B64 (plain_next B64 ip (offset_row map opcode Jb 20 B64) (branch_to code asize t)) t)) (lt-ltb t (2 ^ 64) below) near;
+  targets = short-targets map counts opcode code asize t ip below near;
   prefixes = refl;
   address_size = sized;
 }
@@ -96,7 +93,8 @@ unfolding branch_to address_size_suits has_memory_operand is_size_of size_agrees
 count_size map opcode code asize t (inl e) = rw e refl
 count_size map opcode code asize t (inr e) = rw e refl
 
-branch_to-code : (code : ℕ) (asize : Option Bits) (t : ℕ) → (branch_to code asize t).code.0 ≡ code
+-- the code of a branch
+pub branch_to-code : (code : ℕ) (asize : Option Bits) (t : ℕ) → (branch_to code asize t).code.0 ≡ code
 unfolding branch_to
 branch_to-code code asize t = refl
 

@@ -2,7 +2,7 @@
 use Rattle.std.specs.Prelude.{◌≡◌, ◌⊎◌, ℕ, ◌+◌, ◌-◌, ◌*◌, ◌%◌, ◌^◌, ◌<◌, ◌≤◌, true, false, List, [], ◌∷◌, length, take, slice_get, slice_index_or, unwrap_or, Some, None, Ok}
 use Rattle.x86_values.specs.declared.Bits.{Bits}
 use Rattle.x86_values.specs.declared.Bits.TheVariants.{B64}
-use Rattle.x86_values.specs.Wrapping.{modulo_width}
+use Rattle.x86_values.specs.Wrapping.{width, modulo_width}
 use Rattle.row_types.specs.declared.Map.{Map}
 use Rattle.row_types.specs.declared.OpKind.TheVariants.{Jz}
 use Rattle.plain_spelling.specs.Values.{is_extended_of, distance}
@@ -13,15 +13,17 @@ use Rattle.branch_sizes.specs.declared.plan.BlockSpan.{BlockSpan}
 use Rattle.branch_sizes.specs.declared.plan.Choice.{Choice}
 use Rattle.branch_sizes.specs.declared.plan.Form.TheVariants.{Itself}
 use Rattle.branch_sizes.specs.declared.plan.Goal.{Goal}
-use Rattle.branch_sizes.specs.Plan.{BlockPlan, IsWellFormed, no_choice}
+use Rattle.branch_sizes.specs.Plan.{IsWellFormed, no_choice}
 use Rattle.branch_sizes.specs.Plan as plan
 use Rattle.branch_sizes.specs.Layout.{IsLayout, IsLeast, Reaches, ReachesGoal, block_number, span_at, chosen, place, image_length}
 use Rattle.moved_targets.specs.Targets.{target_of, with_target, plain_length}
+use Rattle.branch_forms.specs.declared.branch.Action.TheVariants.{Jump}
+use Rattle.branch_forms.specs.Branches.{near_code}
 use Rattle.branch_forms.specs.Rows.{offset_row}
 use Rattle.branch_forms.specs.Images.{branch_to, pieces_length}
 use Rattle.branch_forms.specs.Choices.{choices_of}
 use Rattle.move_goals.specs.declared.items.Placed.{Placed}
-use Rattle.move_goals.specs.Items.{AreSpansOf, ArePlaced, item_at, no_instr}
+use Rattle.move_goals.specs.Items.{AreSpansOf, IsPlaced, ArePlaced, item_at, no_instr}
 use Rattle.move_goals.specs.Plan.{branch_with, plan_with, plan_for, plan_outside}
 use Rattle.move_layout.specs.Laid.{goal_value, goal_address, is_far_at, new_end, slot_address, fragment_at}
 use Rattle.block_encoder.specs.Bytes.{image_at, block_bytes}
@@ -135,3 +137,12 @@ pub record LastFacts : Type 0 where
       → (m : MovedLists) → IsMovedBy bits items (plan_outside bits items new_base) m → length m.bytes ≤ last_len bits items new_base
   -- as many at an address a multiple of 16 bytes behind
   pub last-moves : (bits : Bits) (items : List Placed) (at to : ℕ) → at ≤ to → (to - at) % 16 ≡ 0 → last_len bits items to ≡ last_len bits items at
+
+-- the near jump to an address, with an offset of the mode's own operand size
+pub record JumpFacts : Type 0 where
+  -- as one that stands at its target it is well placed
+  pub jump-placed : (bits : Bits) (t len : ℕ) → t < 2 ^ width bits → len ≡ plain_length bits (branch_to (near_code Jump bits) None t)
+      → IsPlaced bits (record { ip = t; len = len; instr = branch_to (near_code Jump bits) None t })
+  -- outside 64-bit mode it is encoded at every address
+  pub jump-encoded : (bits : Bits) (at t : ℕ) → (bits ≡ B64 → ⊥) → t < 2 ^ width bits
+      → (bytes : List ℕ) × (encoding bits at (branch_to (near_code Jump bits) None t) ≡ Ok bytes)

@@ -20,7 +20,7 @@ ghost use Rattle.block_encoder.specs.Aims.{last_instr, StandsAtPlace, HasSlot};
 ghost use Rattle.block_encoder.specs.Moved.{fragment_reach, IsReached, first_new_pass, MovedLists};
 ghost use Rattle.block_encoder.specs.ByPlan.{IsMovedBy};
 ghost use Rattle.block_encoder.specs.Read.{IsReadAsImages, IsReadToGoal};
-ghost use Rattle.block_encoder.specs.Facts.{FragmentFacts, MovedFacts, ReachFacts, LastFacts};
+ghost use Rattle.block_encoder.specs.Facts.{FragmentFacts, MovedFacts, ReachFacts, LastFacts, JumpFacts};
 
 use crate::laws_below::laws_below;
 
@@ -149,6 +149,14 @@ pub fn items_reach_their_goals()
 #[inline]
 pub fn last_forms_bound_the_length()
     ensures { LastFacts }
+{
+    laws_below();
+}
+
+/// The near jump to an address is well placed as one that stands there, and outside 64-bit mode it is encoded at every address.
+#[inline]
+pub fn near_jumps_are_encoded()
+    ensures { JumpFacts }
 {
     laws_below();
 }

@@ -36,7 +36,7 @@ fn bare(code: u16, asize: Option<Bits>, operand: Operand) -> Instr
 
 /// A relative branch.
 #[tactic(auto, unfolding(crate::specs::Images::branch_to))]
-fn branch_to(code: u16, asize: Option<Bits>, target: u64) -> Instr
+pub fn branch_to(code: u16, asize: Option<Bits>, target: u64) -> Instr
     ensures { result ≡ spec.branch_to code asize target }
 {
     bare(code, asize, Operand::Near(target))
@@ -44,7 +44,7 @@ fn branch_to(code: u16, asize: Option<Bits>, target: u64) -> Instr
 
 /// CALL or JMP through the slot at an address, relative to RIP.
 #[tactic(auto, unfolding(crate::specs::Images::through_slot))]
-fn through_slot(code: u16, slot: u64) -> Instr
+pub fn through_slot(code: u16, slot: u64) -> Instr
     ensures { result ≡ spec.through_slot code slot }
 {
     let operand = Mem {

@@ -55,6 +55,7 @@ impl Model for Region {
 }
 
 /// Why a region is refused, if it is; memory is another matter.
+#[tactic(auto, using(std::proofs::lemmas::Bool::Decides::nat_tests), unfolding(crate::specs::Opening::open_refusal))]
 fn refusal_of(base: u64, size: u64, max_blocks: u64) -> Option<OpenError>
     ensures { result ≡ open_refusal base size max_blocks }
 {

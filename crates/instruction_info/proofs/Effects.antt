@@ -1,5 +1,5 @@
 -- What the tables of effects keep to, each by computing over the whole of a table.
-use Rattle.std.proofs.Common.{◌≡◌, ℕ, zero, suc, ◌<◌, ◌≤◌, ◌+◌, Bool, true, ◌&&◌, List, [], ◌∷◌, slice_get, length, take, refl, ap, sym, ◌∙◌, arith}
+use Rattle.std.proofs.Common.{◌≡◌, ℕ, zero, suc, ◌<◌, ◌≤◌, ◌+◌, ◌-◌, Bool, true, ◌&&◌, List, [], ◌∷◌, slice_get, length, take, drop, refl, ap, sym, ◌∙◌, arith}
 use Rattle.std.specs.Prelude.{Some, unwrap_or, nat_lt, nat_le}
 use Rattle.std.specs.List.{list_all}
 use Rattle.std.proofs.lemmas.Bool.{ltb-true, leb-true, and_parts}
@@ -18,6 +18,13 @@ pub take-few : {X : Type 0} (n : ℕ) (xs : List X) → length (take n xs) ≤ n
 take-few zero xs = omega arith
 take-few (suc n) [] = omega arith
 take-few (suc n) (x ∷ xs) = omega (arith, take-few n xs)
+
+-- a part of a list, from its first place to the place behind its last
+pub part-of : {X : Type 0} (list all : List X) (first count : ℕ) → list ≡ all → take (first + count - first) (drop first list) ≡ take count (drop first all)
+part-of list all first count same = let count_is : first + count - first ≡ count = omega arith in rw (count_is, same) refl
+
+pub part-few : {X : Type 0} (list : List X) (first count most : ℕ) → count ≤ most → length (take (first + count - first) (drop first list)) ≤ most
+part-few list first count most few = omega (arith, few, take-few (first + count - first) (drop first list))
 
 -- ---- indexes
 

@@ -172,47 +172,25 @@ abbrev pub sized_text : List ℕ → Option Bits → List ℕ
 sized_text letter None = []
 sized_text letter (Some size) = sized_word letter size
 
-pub address-value : (size : Option Bits) (t : List ℕ) → 3 < rank (word t) → size_behind 97 (word (sized_text (codes "a") size ++ t)) ≡ size
-unfolding sized_word size_digits rank is_lock repeat_prefix_of is_repeat_prefix segment_of_word segment_by size_behind size_by skip_if first rest front_while back is_word_byte
-address-value None t h = no-size (size_behind 97 (word t)) (no-address_word (word t) h)
-address-value (Some B16) t h = refl
-address-value (Some B32) t h = refl
-address-value (Some B64) t h = refl
+-- it is read again behind its letter, what stands behind it is left, and it stands at its rank
+abbrev IsReadSize : ℕ → List ℕ → ℕ → Option Bits → List ℕ → Type 0
+IsReadSize letter name k size t =
+    (size_behind letter (word (sized_text name size ++ t)) ≡ size) × (behind_size_word letter (sized_text name size ++ t) ≡ t)
+    × (k < rank (word (sized_text name size ++ t)))
 
-pub address-behind : (size : Option Bits) (t : List ℕ) → 3 < rank (word t) → behind_size_word 97 (sized_text (codes "a") size ++ t) ≡ t
+pub address-read : (size : Option Bits) (t : List ℕ) → 3 < rank (word t) → IsReadSize 97 (codes "a") 2 size t
 unfolding behind_size_word sized_word size_digits rank is_lock repeat_prefix_of is_repeat_prefix segment_of_word segment_by size_behind size_by skip_if first rest front_while back is_word_byte
-address-behind None t h = ap (λ (b : Bool). skip_if b t) (no-address_word (word t) h)
-address-behind (Some B16) t h = refl
-address-behind (Some B32) t h = refl
-address-behind (Some B64) t h = refl
+address-read None t h =
+    (no-size (size_behind 97 (word t)) (no-address_word (word t) h), ap (λ (b : Bool). skip_if b t) (no-address_word (word t) h), less-of h)
+address-read (Some B16) t h = (refl, refl, lit< tt)
+address-read _ t h = (refl, refl, lit< tt)
 
-pub address-rank : (size : Option Bits) (t : List ℕ) → 3 < rank (word t) → 2 < rank (word (sized_text (codes "a") size ++ t))
-unfolding sized_word size_digits rank is_lock repeat_prefix_of is_repeat_prefix segment_of_word segment_by size_behind size_by skip_if first rest front_while back is_word_byte
-address-rank None t h = less-of h
-address-rank (Some B16) t h = lit< tt
-address-rank (Some B32) t h = lit< tt
-address-rank (Some B64) t h = lit< tt
-
-pub operand-value : (size : Option Bits) (t : List ℕ) → 4 < rank (word t) → size_behind 111 (word (sized_text (codes "o") size ++ t)) ≡ size
-unfolding sized_word size_digits rank is_lock repeat_prefix_of is_repeat_prefix segment_of_word segment_by size_behind size_by skip_if first rest front_while back is_word_byte
-operand-value None t h = no-size (size_behind 111 (word t)) (no-operand_word (word t) h)
-operand-value (Some B16) t h = refl
-operand-value (Some B32) t h = refl
-operand-value (Some B64) t h = refl
-
-pub operand-behind : (size : Option Bits) (t : List ℕ) → 4 < rank (word t) → behind_size_word 111 (sized_text (codes "o") size ++ t) ≡ t
+pub operand-read : (size : Option Bits) (t : List ℕ) → 4 < rank (word t) → IsReadSize 111 (codes "o") 3 size t
 unfolding behind_size_word sized_word size_digits rank is_lock repeat_prefix_of is_repeat_prefix segment_of_word segment_by size_behind size_by skip_if first rest front_while back is_word_byte
-operand-behind None t h = ap (λ (b : Bool). skip_if b t) (no-operand_word (word t) h)
-operand-behind (Some B16) t h = refl
-operand-behind (Some B32) t h = refl
-operand-behind (Some B64) t h = refl
-
-pub operand-rank : (size : Option Bits) (t : List ℕ) → 4 < rank (word t) → 3 < rank (word (sized_text (codes "o") size ++ t))
-unfolding sized_word size_digits rank is_lock repeat_prefix_of is_repeat_prefix segment_of_word segment_by size_behind size_by skip_if first rest front_while back is_word_byte
-operand-rank None t h = less-of h
-operand-rank (Some B16) t h = lit< tt
-operand-rank (Some B32) t h = lit< tt
-operand-rank (Some B64) t h = lit< tt
+operand-read None t h =
+    (no-size (size_behind 111 (word t)) (no-operand_word (word t) h), ap (λ (b : Bool). skip_if b t) (no-operand_word (word t) h), less-of h)
+operand-read (Some B16) t h = (refl, refl, lit< tt)
+operand-read _ t h = (refl, refl, lit< tt)
 
 -- ---- the printed words are these
 

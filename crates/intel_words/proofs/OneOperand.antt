@@ -149,27 +149,14 @@ bare-read : (seg : Option Segment) (asize : Bits) (m : Mem) → operand_in (brac
 unfolding bracketed_address bracket_segment segment_override sigil segment_name operand_in some_operand first rest front_while back is_word_byte
 bare-read None asize m = refl
 bare-read (Some Es) asize m = refl
-bare-read (Some Cs) asize m = refl
-bare-read (Some Ss) asize m = refl
-bare-read (Some Ds) asize m = refl
-bare-read (Some Fs) asize m = refl
-bare-read (Some Gs) asize m = refl
+bare-read _ asize m = refl
 
 -- a size word in front of another text
 size-read : (z : SizeName) (seg : Option Segment) (asize : Bits) (m : Mem) →
     operand_in ((size_text z ++ behind_size Intel (size_text z)) ++ bracketed_address Intel seg asize m) ≡ address_in z (bracketed_address Intel seg asize m)
 unfolding behind_size operand_in some_operand size_named sized_in first rest front_while back is_word_byte
 size-read NoSize seg asize m = bare-read seg asize m
-size-read Byte seg asize m = refl
-size-read Word seg asize m = refl
-size-read Dword seg asize m = refl
-size-read Qword seg asize m = refl
-size-read Tbyte seg asize m = refl
-size-read Xmmword seg asize m = refl
-size-read Ymmword seg asize m = refl
-size-read Far16 seg asize m = refl
-size-read Far32 seg asize m = refl
-size-read Far64 seg asize m = refl
+size-read _ seg asize m = refl
 
 -- which size word stands in front of an operand
 pick-far : (size : Size) → far_name size ≡ size_text (size_of_far size)

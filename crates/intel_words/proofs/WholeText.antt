@@ -17,7 +17,7 @@ use Rattle.intel_words.specs.Printable.{is_plain_name, are_in_front, nth_is_prin
 use Rattle.intel_words.specs.Scanning.{rest, word, rest_behind}
 use Rattle.intel_words.specs.ReadRegisters.{segment_of_word}
 use Rattle.intel_words.specs.ReadWords.{is_lock, repeat_prefix_of, size_behind, behind_lock, behind_repeat, behind_segment, behind_size_word, operands_in}
-use Rattle.intel_words.proofs.FrontWords.{lock-value, lock-behind, repeat-value, repeat-behind, repeat-rank, segment_text, segment-value, segment-behind, segment-rank, sized_text, address-value, address-behind, address-rank, operand-value, operand-behind, operand-rank, segment-word, address-word, operand-word, name-word, name-behind, name-rank}
+use Rattle.intel_words.proofs.FrontWords.{lock-value, lock-behind, repeat-value, repeat-behind, repeat-rank, segment_text, segment-value, segment-behind, segment-rank, sized_text, address-read, operand-read, segment-word, address-word, operand-word, name-word, name-behind, name-rank}
 use Rattle.intel_words.proofs.AllOperands.{behind_name, operands-read, operands-stop, operands-stay, operands-found, operands-grouped}
 
 -- ---- the text from each kind of word on
@@ -94,22 +94,22 @@ grouped-read bits row name instr text h e0 =
     let t2 : List ℕ = from_segment bits row name instr in
     let t1 : List ℕ = from_repeat bits row name instr in
     let r4 = name-rank bits name instr (behind_name bits row instr) plain (operands-stop bits row instr f) in
-    let r3 = operand-rank (operand_size_of bits row) t5 r4 in
-    let r2 = address-rank (address_size_of bits name instr) t4 r3 in
+    let r3 = (operand-read (operand_size_of bits row) t5 r4).2 in
+    let r2 = (address-read (address_size_of bits name instr) t4 r3).2 in
     let r1 = segment-rank (segment_of instr) t3 r2 in
     let r0 = repeat-rank instr.rep t2 r1 in
     let e1 : behind_lock text ≡ t1 = ap behind_lock e0 ∙ lock-behind instr.lock t1 r0 in
     let e2 : behind_repeat (behind_lock text) ≡ t2 = ap behind_repeat e1 ∙ repeat-behind instr.rep t2 r1 in
     let e3 : behind_segment (behind_repeat (behind_lock text)) ≡ t3 = ap behind_segment e2 ∙ segment-behind (segment_of instr) t3 r2 in
     let e4 : behind_size_word 97 (behind_segment (behind_repeat (behind_lock text))) ≡ t4 =
-    ap (behind_size_word 97) e3 ∙ address-behind (address_size_of bits name instr) t4 r3 in
-    let e5 : behind_prefixes text ≡ t5 = ap (behind_size_word 111) e4 ∙ operand-behind (operand_size_of bits row) t5 r4 in
+    ap (behind_size_word 97) e3 ∙ (address-read (address_size_of bits name instr) t4 r3).1 in
+    let e5 : behind_prefixes text ≡ t5 = ap (behind_size_word 111) e4 ∙ (operand-read (operand_size_of bits row) t5 r4).1 in
     record {
       lock = ap (λ (u : List ℕ). is_lock (word u)) e0 ∙ lock-value instr.lock t1 r0;
       rep = ap (λ (u : List ℕ). repeat_prefix_of (word u)) e1 ∙ repeat-value instr.rep t2 r1;
       seg = ap (λ (u : List ℕ). segment_of_word (word u)) e2 ∙ segment-value (segment_of instr) t3 r2;
-      asize = ap (λ (u : List ℕ). size_behind 97 (word u)) e3 ∙ address-value (address_size_of bits name instr) t4 r3;
-      osize = ap (λ (u : List ℕ). size_behind 111 (word u)) e4 ∙ operand-value (operand_size_of bits row) t5 r4;
+      asize = ap (λ (u : List ℕ). size_behind 97 (word u)) e3 ∙ (address-read (address_size_of bits name instr) t4 r3).0;
+      osize = ap (λ (u : List ℕ). size_behind 111 (word u)) e4 ∙ (operand-read (operand_size_of bits row) t5 r4).0;
       named = ap (λ (u : List ℕ). word u) e5 ∙ name-word bits name instr (behind_name bits row instr) plain (operands-stop bits row instr f);
       ops = ap (λ (u : List ℕ). operands_in (rest (rest_behind u))) e5
           ∙ (ap (λ (u : List ℕ). operands_in (rest u)) (name-behind bits name instr (behind_name bits row instr) plain (operands-stay bits row instr f))

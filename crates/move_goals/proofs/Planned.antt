@@ -113,7 +113,8 @@ well_formed forms bits spans items placed few s =
 
 -- ---- targets that stay
 
-kept_fits : (bits : Bits) (count : ℕ) (i : Instr) (target : Option ℕ) → target_of i ≡ target → is_fit_goal count (length (choices_of bits i)) (kept_goal target) ≡ true
+-- a goal that stays is fit
+pub kept_fits : (bits : Bits) (count : ℕ) (i : Instr) (target : Option ℕ) → target_of i ≡ target → is_fit_goal count (length (choices_of bits i)) (kept_goal target) ≡ true
 kept_fits bits count i None is = eq-eqb (length (choices_of bits i)) 1 (one_choice bits i is)
 kept_fits bits count i (Some t) is = refl
 

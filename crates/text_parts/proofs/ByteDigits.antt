@@ -111,6 +111,16 @@ last-byte-length n some h =
     ap length (last-byte-text n some h) ∙ length-append (hexadecimal (n / 256)) (last_digits 2 n)
     ∙ ap (λ (k : ℕ). length (hexadecimal (n / 256)) + k) (length-last_digits 2 n)
 
+-- the room of all holds the front and, behind it, the last byte
+pub front-fits : (old : List ℕ) (n room : ℕ) → length old + length (hexadecimal n) ≤ room → 256 ≤ n → n < 2 ^ 64
+    → length old + length (hexadecimal (n / 256)) ≤ room
+front-fits old n room fits some h = omega (arith, fits, last-byte-length n some h)
+
+pub last-byte-fits : (old before : List ℕ) (n room : ℕ) → before ≡ old ++ hexadecimal (n / 256) → length old + length (hexadecimal n) ≤ room
+    → 256 ≤ n → n < 2 ^ 64 → length before + 2 ≤ room
+last-byte-fits old before n room before_is fits some h =
+    omega (arith, fits, last-byte-length n some h, ap length before_is, length-append old (hexadecimal (n / 256)))
+
 -- what is appended of its last byte
 pub last-byte-appended : (old before : List ℕ) (n : ℕ) → before ≡ old ++ hexadecimal (n / 256) → 256 ≤ n → n < 2 ^ 64 → before ++ last_digits 2 n ≡ old ++ hexadecimal n
 last-byte-appended old before n before_is some h =

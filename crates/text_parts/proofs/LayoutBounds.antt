@@ -100,11 +100,7 @@ far_name-le : (size : Size) → length (far_name size) ≤ 7
 unfolding far_name
 far_name-le O16 = omega arith
 far_name-le O64 = omega arith
-far_name-le NoSize = omega arith
-far_name-le O32 = omega arith
-far_name-le O32or64 = omega arith
-far_name-le W0 = omega arith
-far_name-le W1 = omega arith
+far_name-le _ = omega arith
 
 operand_size_name-le : (row : Row) (n : ℕ) → length (operand_size_name row n) ≤ 7
 unfolding operand_size_name

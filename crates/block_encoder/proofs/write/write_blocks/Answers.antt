@@ -4,61 +4,55 @@ use Rattle.branch_sizes.specs.Layout.{span_at}
 use Rattle.move_goals.specs.Items.{item_at}
 use Rattle.move_goals.specs.Ready.{MayBeReady}
 use Rattle.block_encoder.proofs.Writing.{item_step}
-use Rattle.block_encoder.proofs.Steps.{item_facts, item_refuses, end_facts, end_step, blocks_moved}
+use Rattle.block_encoder.proofs.Steps.{ItemFacts, EndFacts, item_facts, item_refuses, end_facts, end_step, blocks_moved}
 use Rattle.block_encoder.proofs.write.write_blocks.Goals as goal
+use Rattle.block_encoder.proofs.write.write_blocks.Goals.{After-len-k, After-len-first}
+
+-- what holds of the next item
+item_here : (c : After-len-k) → ItemFacts c.args.items.now c.args.plan.now c.args.laid.now c.loop-b.b c.loop.counter c.len-k.result
+item_here c =
+    item_facts c.laws_below.ensures c.args.bits c.args.items.now c.args.plan.now c.args.laid.now c.spans-spans.ensures.plan c.requires.plan c.requires.laid c.requires.ends
+    c.loop-b.b c.loop.counter c.loop.bytes.items c.loop.starts.items c.loop.forms.items c.loop-b.slots.items c.loop-b.ends.items
+    (c.loop.invariant.written c.requires.laid.0 c.requires.laid.2) (omega (arith, c.loop-b-test.true, ap length c.spans-spans.ensures.spans))
+    (omega (arith, c.loop-test.true, c.loop.invariant.count_is)) c.len-k.result (c.len-k.ensures ∙ c.loop.starts.ok.0)
+
+-- what holds of the end of a block, whose items are written
+end_here : (c : After-len-first) → EndFacts c.args.plan.now c.args.laid.now c.loop-b.b c.len-first.result c.index-in-loop-b.result.now
+end_here c =
+    end_facts c.laws_below.ensures c.args.bits c.args.items.now c.args.plan.now c.args.laid.now c.spans-spans.ensures.plan c.requires.plan c.requires.laid c.requires.ends
+    c.loop-b.b c.loop.counter c.loop.bytes.items c.loop.starts.items c.loop.forms.items c.loop-b.slots.items c.loop-b.ends.items
+    (c.loop.invariant.written c.requires.laid.0 c.requires.laid.2) (omega (arith, c.loop-b-test.true, ap length c.spans-spans.ensures.spans))
+    (omega (arith, c.loop-test.false, c.loop.auto.counter-end, c.loop.invariant.count_is)) c.len-first.result (c.len-first.ensures ∙ c.loop-b.slots.ok.0)
+    c.index-in-loop-b.result.now c.index-in-loop-b.ensures
 
 pub index-requires : goal.index-requires
 index-requires c =
-    let bl : c.loop-b.b < length c.args.plan.now.spans = omega (arith, c.loop-b-test.true, ap length c.spans-spans.ensures.spans) in
-    let f = item_facts c.laws_below.ensures c.args.bits c.args.items.now c.args.plan.now c.args.laid.now c.spans-spans.ensures.plan c.requires.plan c.requires.laid c.requires.ends
-    c.loop-b.b c.loop.counter c.loop.bytes.items c.loop.starts.items c.loop.forms.items c.loop-b.slots.items c.loop-b.ends.items
-    (c.loop.invariant.written c.requires.laid.0 c.requires.laid.2) bl
-    (omega (arith, c.loop-test.true, c.loop.invariant.count_is)) c.len-k.result (c.len-k.ensures ∙ c.loop.starts.ok.0) in
+    let f = item_here (goal.at.index-requires c).After-len-k in
     omega (arith, f.in_fragments, c.args.laid.now.fragments.ok.0)
 
 pub offset_bounds-items-k : goal.offset_bounds-items-k
 offset_bounds-items-k c =
-    let bl : c.loop-b.b < length c.args.plan.now.spans = omega (arith, c.loop-b-test.true, ap length c.spans-spans.ensures.spans) in
-    let f = item_facts c.laws_below.ensures c.args.bits c.args.items.now c.args.plan.now c.args.laid.now c.spans-spans.ensures.plan c.requires.plan c.requires.laid c.requires.ends
-    c.loop-b.b c.loop.counter c.loop.bytes.items c.loop.starts.items c.loop.forms.items c.loop-b.slots.items c.loop-b.ends.items
-    (c.loop.invariant.written c.requires.laid.0 c.requires.laid.2) bl
-    (omega (arith, c.loop-test.true, c.loop.invariant.count_is)) c.len-k.result (c.len-k.ensures ∙ c.loop.starts.ok.0) in
+    let f = item_here (goal.at.offset_bounds-items-k c).After-len-k in
     omega (arith, f.small)
 
 pub bounds-items-k : goal.bounds-items-k
 bounds-items-k c =
-    let bl : c.loop-b.b < length c.args.plan.now.spans = omega (arith, c.loop-b-test.true, ap length c.spans-spans.ensures.spans) in
-    let f = item_facts c.laws_below.ensures c.args.bits c.args.items.now c.args.plan.now c.args.laid.now c.spans-spans.ensures.plan c.requires.plan c.requires.laid c.requires.ends
-    c.loop-b.b c.loop.counter c.loop.bytes.items c.loop.starts.items c.loop.forms.items c.loop-b.slots.items c.loop-b.ends.items
-    (c.loop.invariant.written c.requires.laid.0 c.requires.laid.2) bl
-    (omega (arith, c.loop-test.true, c.loop.invariant.count_is)) c.len-k.result (c.len-k.ensures ∙ c.loop.starts.ok.0) in
+    let f = item_here (goal.at.bounds-items-k c).After-len-k in
     f.in_items
 
 pub offset_bounds-branches-k : goal.offset_bounds-branches-k
 offset_bounds-branches-k c =
-    let bl : c.loop-b.b < length c.args.plan.now.spans = omega (arith, c.loop-b-test.true, ap length c.spans-spans.ensures.spans) in
-    let f = item_facts c.laws_below.ensures c.args.bits c.args.items.now c.args.plan.now c.args.laid.now c.spans-spans.ensures.plan c.requires.plan c.requires.laid c.requires.ends
-    c.loop-b.b c.loop.counter c.loop.bytes.items c.loop.starts.items c.loop.forms.items c.loop-b.slots.items c.loop-b.ends.items
-    (c.loop.invariant.written c.requires.laid.0 c.requires.laid.2) bl
-    (omega (arith, c.loop-test.true, c.loop.invariant.count_is)) c.len-k.result (c.len-k.ensures ∙ c.loop.starts.ok.0) in
+    let f = item_here (goal.at.offset_bounds-branches-k c).After-len-k in
     omega (arith, f.small)
 
 pub bounds-branches-k : goal.bounds-branches-k
 bounds-branches-k c =
-    let bl : c.loop-b.b < length c.args.plan.now.spans = omega (arith, c.loop-b-test.true, ap length c.spans-spans.ensures.spans) in
-    let f = item_facts c.laws_below.ensures c.args.bits c.args.items.now c.args.plan.now c.args.laid.now c.spans-spans.ensures.plan c.requires.plan c.requires.laid c.requires.ends
-    c.loop-b.b c.loop.counter c.loop.bytes.items c.loop.starts.items c.loop.forms.items c.loop-b.slots.items c.loop-b.ends.items
-    (c.loop.invariant.written c.requires.laid.0 c.requires.laid.2) bl
-    (omega (arith, c.loop-test.true, c.loop.invariant.count_is)) c.len-k.result (c.len-k.ensures ∙ c.loop.starts.ok.0) in
+    let f = item_here (goal.at.bounds-branches-k c).After-len-k in
     omega (arith, f.in_plan, ap length c.items-branches.ensures)
 
 pub write_item-requires-clause-fragment : goal.write_item-requires-clause-fragment
 write_item-requires-clause-fragment c =
-    let bl : c.loop-b.b < length c.args.plan.now.spans = omega (arith, c.loop-b-test.true, ap length c.spans-spans.ensures.spans) in
-    let f = item_facts c.laws_below.ensures c.args.bits c.args.items.now c.args.plan.now c.args.laid.now c.spans-spans.ensures.plan c.requires.plan c.requires.laid c.requires.ends
-    c.loop-b.b c.loop.counter c.loop.bytes.items c.loop.starts.items c.loop.forms.items c.loop-b.slots.items c.loop-b.ends.items
-    (c.loop.invariant.written c.requires.laid.0 c.requires.laid.2) bl
-    (omega (arith, c.loop-test.true, c.loop.invariant.count_is)) c.len-k.result (c.len-k.ensures ∙ c.loop.starts.ok.0) in
+    let f = item_here (goal.at.write_item-requires-clause-fragment c).After-len-k in
     f.fragment_for c.index.result.now c.index-branches-k.result c.index.ensures (rw c.items-branches.ensures at c.index-branches-k.is)
 
 pub write_item-requires-clause-ready : goal.write_item-requires-clause-ready
@@ -69,10 +63,7 @@ write_item-requires-clause-ready c =
 pub returns-in_err-write_item : goal.returns-in_err-write_item
 returns-in_err-write_item c =
     let bl : c.loop-b.b < length c.args.plan.now.spans = omega (arith, c.loop-b-test.true, ap length c.spans-spans.ensures.spans) in
-    let f = item_facts c.laws_below.ensures c.args.bits c.args.items.now c.args.plan.now c.args.laid.now c.spans-spans.ensures.plan c.requires.plan c.requires.laid c.requires.ends
-    c.loop-b.b c.loop.counter c.loop.bytes.items c.loop.starts.items c.loop.forms.items c.loop-b.slots.items c.loop-b.ends.items
-    (c.loop.invariant.written c.requires.laid.0 c.requires.laid.2) bl
-    (omega (arith, c.loop-test.true, c.loop.invariant.count_is)) c.len-k.result (c.len-k.ensures ∙ c.loop.starts.ok.0) in
+    let f = item_here (goal.at.returns-in_err-write_item c).After-len-k in
     let p = err_from_is_err_and c.from_residual-in_err-write_item.result c.from_residual-in_err-write_item.ensures.1 in
     rw (p.1, p.2)
     (item_refuses c.laws_below.ensures c.args.bits c.args.items.now c.args.plan.now c.args.laid.now c.spans-spans.ensures.plan c.requires.plan c.requires.laid c.requires.ends
@@ -82,21 +73,13 @@ returns-in_err-write_item c =
 
 pub overflow_cast-fragment : goal.overflow_cast-fragment
 overflow_cast-fragment c =
-    let bl : c.loop-b.b < length c.args.plan.now.spans = omega (arith, c.loop-b-test.true, ap length c.spans-spans.ensures.spans) in
-    let f = item_facts c.laws_below.ensures c.args.bits c.args.items.now c.args.plan.now c.args.laid.now c.spans-spans.ensures.plan c.requires.plan c.requires.laid c.requires.ends
-    c.loop-b.b c.loop.counter c.loop.bytes.items c.loop.starts.items c.loop.forms.items c.loop-b.slots.items c.loop-b.ends.items
-    (c.loop.invariant.written c.requires.laid.0 c.requires.laid.2) bl
-    (omega (arith, c.loop-test.true, c.loop.invariant.count_is)) c.len-k.result (c.len-k.ensures ∙ c.loop.starts.ok.0) in
+    let f = item_here (goal.at.overflow_cast-fragment c).After-len-k in
     let s = f.fragment_for c.index.result.now c.index-branches-k.result c.index.ensures (rw c.items-branches.ensures at c.index-branches-k.is) in
     omega (arith, s.place)
 
 pub loop-preserved : goal.loop-preserved
 loop-preserved c =
-    let bl : c.loop-b.b < length c.args.plan.now.spans = omega (arith, c.loop-b-test.true, ap length c.spans-spans.ensures.spans) in
-    let f = item_facts c.laws_below.ensures c.args.bits c.args.items.now c.args.plan.now c.args.laid.now c.spans-spans.ensures.plan c.requires.plan c.requires.laid c.requires.ends
-    c.loop-b.b c.loop.counter c.loop.bytes.items c.loop.starts.items c.loop.forms.items c.loop-b.slots.items c.loop-b.ends.items
-    (c.loop.invariant.written c.requires.laid.0 c.requires.laid.2) bl
-    (omega (arith, c.loop-test.true, c.loop.invariant.count_is)) c.len-k.result (c.len-k.ensures ∙ c.loop.starts.ok.0) in
+    let f = item_here (goal.at.loop-preserved c).After-len-k in
     record {
       count_is = c.loop.invariant.count_is;
       written = λ layout is.
@@ -109,52 +92,27 @@ loop-preserved c =
 
 pub overflow_add-goals : goal.overflow_add-goals
 overflow_add-goals c =
-    let bl : c.loop-b.b < length c.args.plan.now.spans = omega (arith, c.loop-b-test.true, ap length c.spans-spans.ensures.spans) in
-    let f = end_facts c.laws_below.ensures c.args.bits c.args.items.now c.args.plan.now c.args.laid.now c.spans-spans.ensures.plan c.requires.plan c.requires.laid c.requires.ends
-    c.loop-b.b c.loop.counter c.loop.bytes.items c.loop.starts.items c.loop.forms.items c.loop-b.slots.items c.loop-b.ends.items
-    (c.loop.invariant.written c.requires.laid.0 c.requires.laid.2) bl
-    (omega (arith, c.loop-test.false, c.loop.auto.counter-end, c.loop.invariant.count_is)) c.len-first.result (c.len-first.ensures ∙ c.loop-b.slots.ok.0)
-    c.index-in-loop-b.result.now c.index-in-loop-b.ensures in
+    let f = end_here (goal.at.overflow_add-goals c).After-len-first in
     omega (arith, f.few)
 
 pub offset_bounds-deref-first : goal.offset_bounds-deref-first
 offset_bounds-deref-first c =
-    let bl : c.loop-b.b < length c.args.plan.now.spans = omega (arith, c.loop-b-test.true, ap length c.spans-spans.ensures.spans) in
-    let f = end_facts c.laws_below.ensures c.args.bits c.args.items.now c.args.plan.now c.args.laid.now c.spans-spans.ensures.plan c.requires.plan c.requires.laid c.requires.ends
-    c.loop-b.b c.loop.counter c.loop.bytes.items c.loop.starts.items c.loop.forms.items c.loop-b.slots.items c.loop-b.ends.items
-    (c.loop.invariant.written c.requires.laid.0 c.requires.laid.2) bl
-    (omega (arith, c.loop-test.false, c.loop.auto.counter-end, c.loop.invariant.count_is)) c.len-first.result (c.len-first.ensures ∙ c.loop-b.slots.ok.0)
-    c.index-in-loop-b.result.now c.index-in-loop-b.ensures in
+    let f = end_here (goal.at.offset_bounds-deref-first c).After-len-first in
     omega (arith, f.few)
 
 pub slice_bounds-goals-end : goal.slice_bounds-goals-end
 slice_bounds-goals-end c =
-    let bl : c.loop-b.b < length c.args.plan.now.spans = omega (arith, c.loop-b-test.true, ap length c.spans-spans.ensures.spans) in
-    let f = end_facts c.laws_below.ensures c.args.bits c.args.items.now c.args.plan.now c.args.laid.now c.spans-spans.ensures.plan c.requires.plan c.requires.laid c.requires.ends
-    c.loop-b.b c.loop.counter c.loop.bytes.items c.loop.starts.items c.loop.forms.items c.loop-b.slots.items c.loop-b.ends.items
-    (c.loop.invariant.written c.requires.laid.0 c.requires.laid.2) bl
-    (omega (arith, c.loop-test.false, c.loop.auto.counter-end, c.loop.invariant.count_is)) c.len-first.result (c.len-first.ensures ∙ c.loop-b.slots.ok.0)
-    c.index-in-loop-b.result.now c.index-in-loop-b.ensures in
+    let f = end_here (goal.at.slice_bounds-goals-end c).After-len-first in
     omega (arith, f.fits, ap length c.deref-in-loop-b.ensures.value)
 
 pub write_end-requires-clause-images : goal.write_end-requires-clause-images
 write_end-requires-clause-images c =
-    let bl : c.loop-b.b < length c.args.plan.now.spans = omega (arith, c.loop-b-test.true, ap length c.spans-spans.ensures.spans) in
-    let f = end_facts c.laws_below.ensures c.args.bits c.args.items.now c.args.plan.now c.args.laid.now c.spans-spans.ensures.plan c.requires.plan c.requires.laid c.requires.ends
-    c.loop-b.b c.loop.counter c.loop.bytes.items c.loop.starts.items c.loop.forms.items c.loop-b.slots.items c.loop-b.ends.items
-    (c.loop.invariant.written c.requires.laid.0 c.requires.laid.2) bl
-    (omega (arith, c.loop-test.false, c.loop.auto.counter-end, c.loop.invariant.count_is)) c.len-first.result (c.len-first.ensures ∙ c.loop-b.slots.ok.0)
-    c.index-in-loop-b.result.now c.index-in-loop-b.ensures in
+    let f = end_here (goal.at.write_end-requires-clause-images c).After-len-first in
     f.images
 
 pub write_end-requires-clause-goals : goal.write_end-requires-clause-goals
 write_end-requires-clause-goals c =
-    let bl : c.loop-b.b < length c.args.plan.now.spans = omega (arith, c.loop-b-test.true, ap length c.spans-spans.ensures.spans) in
-    let f = end_facts c.laws_below.ensures c.args.bits c.args.items.now c.args.plan.now c.args.laid.now c.spans-spans.ensures.plan c.requires.plan c.requires.laid c.requires.ends
-    c.loop-b.b c.loop.counter c.loop.bytes.items c.loop.starts.items c.loop.forms.items c.loop-b.slots.items c.loop-b.ends.items
-    (c.loop.invariant.written c.requires.laid.0 c.requires.laid.2) bl
-    (omega (arith, c.loop-test.false, c.loop.auto.counter-end, c.loop.invariant.count_is)) c.len-first.result (c.len-first.ensures ∙ c.loop-b.slots.ok.0)
-    c.index-in-loop-b.result.now c.index-in-loop-b.ensures in
+    let f = end_here (goal.at.write_end-requires-clause-goals c).After-len-first in
     f.goals c.deref-in-loop-b.result.now (c.len-first.result + c.index-in-loop-b.result.now.slots - c.len-first.result)
     c.deref-in-loop-b.ensures.value (omega arith)
 

@@ -42,13 +42,7 @@ places-requires-in-passes-clause-layout c =
     let p = plan_of c.args.spans.now c.args.items.now in
     let grown = c.in_ok-grow_unclosed.ensures in
     let back = take_at c.grow_unclosed.new.layout _ c.passes.layout.len
-    (omega (
-      arith,
-      c.passes.layout.ok,
-      c.deref_mut.ensures.len,
-      grown.grows.layout.len,
-      c.passes.invariant.is_layout.len,
-    )) in
+    (omega (arith, c.passes.layout.ok, c.deref_mut.ensures.len, grown.grows.layout.len, c.passes.invariant.is_layout.len)) in
     subst (IsLayout p) (sym (c.deref-in-passes-4.ensures.value ∙ back)) grown.grows.layout
 
 pub passes-preserved : goal.passes-preserved
@@ -56,13 +50,7 @@ passes-preserved c =
     let p = plan_of c.args.spans.now c.args.items.now in
     let grown = c.in_ok-grow_unclosed.ensures in
     let back = take_at c.grow_unclosed.new.layout _ c.passes.layout.len
-    (omega (
-      arith,
-      c.passes.layout.ok,
-      c.deref_mut.ensures.len,
-      grown.grows.layout.len,
-      c.passes.invariant.is_layout.len,
-    )) in
+    (omega (arith, c.passes.layout.ok, c.deref_mut.ensures.len, grown.grows.layout.len, c.passes.invariant.is_layout.len)) in
     record {
       lengths = subst (λ xs. AreLengths p xs c.grow_unclosed.new.sums) (sym back) grown.lengths;
       is_layout = subst (IsLayout p) (sym back) grown.grows.layout;

@@ -1,17 +1,11 @@
 use Rattle.code_region.proofs.Sound as sound
 use Rattle.code_region.proofs.laws.regions_stay_sound.Goals as goal
 
-pub returns-clause-opened : goal.returns-clause-opened
-returns-clause-opened c = sound.opened-sound
-
-pub returns-clause-placed : goal.returns-clause-placed
-returns-clause-placed c = sound.place-sound
-
-pub returns-clause-released : goal.returns-clause-released
-returns-clause-released c = sound.released-sound
-
-pub returns-clause-filled : goal.returns-clause-filled
-returns-clause-filled c = sound.filled-sound
-
-pub returns-clause-run : goal.returns-clause-run
-returns-clause-run c = sound.run-sound
+pub returns : goal.returns
+returns c = record {
+  opened = sound.opened-sound;
+  placed = sound.place-sound;
+  released = sound.released-sound;
+  filled = sound.filled-sound;
+  run = sound.run-sound;
+}

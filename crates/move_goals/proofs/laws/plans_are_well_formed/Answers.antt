@@ -6,4 +6,7 @@ returns c = record {
   well_formed = planned.well_formed c.forms_are_fit.ensures;
   one_span-of = planned.one_span-of;
   outside-fit = planned.outside-fit c.forms_are_fit.ensures;
+  well_formed_with = planned.well_formed_with c.forms_are_fit.ensures;
+  kept-fit = planned.kept_fits;
+  one_more = planned.one_more;
 }
