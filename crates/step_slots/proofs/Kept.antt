@@ -79,8 +79,7 @@ module _ (laws : StepLawsBelow) (bits : Bits) (region : RegionState) (slots : Li
   unfolding after_release
   finish-made place new is left same more full base at =
       let now = after_release region place in
-      let by_room = subst (λ (n : ℕ). AreSlotsKept bits now (without_slot place slots) n) (sym full) (finish-kept place) in
-      (
+      let by_room = subst (λ (n : ℕ). AreSlotsKept bits now (without_slot place slots) n) (sym full) (finish-kept place) in (
         at ∙ sym (ap (λ (r : RegionState). r.base) is),
         subst (λ (r : RegionState). AreSlotsKept bits r left more) (sym is)
             (subst (λ (xs : List StepSlot). AreSlotsKept bits now xs more) (sym same) by_room),
