@@ -40,8 +40,7 @@ use Rattle.instruction_parts.specs.Front.{forbids_vex}
 
 -- the one-byte map
 abbrev pub is_map_one : Map → Bool
-is_map_one One = true
-is_map_one _ = false
+is_map_one map = elim map [ One ↦ true | _ ↦ false ]
 
 -- two maps are one
 abbrev pub same_map : Map → Map → Bool
@@ -53,18 +52,15 @@ same_map _ _ = false
 
 -- no repeat prefix counts
 abbrev pub is_no_repeat : Rep → Bool
-is_no_repeat NoRep = true
-is_no_repeat _ = false
+is_no_repeat rep = elim rep [ NoRep ↦ true | _ ↦ false ]
 
 -- F3 counts
 abbrev pub is_repeat_f3 : Rep → Bool
-is_repeat_f3 RepF3 = true
-is_repeat_f3 _ = false
+is_repeat_f3 rep = elim rep [ RepF3 ↦ true | _ ↦ false ]
 
 -- F2 counts
 abbrev pub is_repeat_f2 : Rep → Bool
-is_repeat_f2 RepF2 = true
-is_repeat_f2 _ = false
+is_repeat_f2 rep = elim rep [ RepF2 ↦ true | _ ↦ false ]
 
 -- some operand of the row is read so
 abbrev pub reads_by : (Method → Bool) → Row → Bool
@@ -72,23 +68,19 @@ reads_by p row = list_any (λ kind. p (method_of kind)) row.ops
 
 -- read by r/m whatever mod is
 abbrev pub is_any_mode : Method → Bool
-is_any_mode AnyMode = true
-is_any_mode _ = false
+is_any_mode how = elim how [ AnyMode ↦ true | _ ↦ false ]
 
 -- read from vvvv
 abbrev pub is_vvvv : Method → Bool
-is_vvvv Vvvv = true
-is_vvvv _ = false
+is_vvvv how = elim how [ Vvvv ↦ true | _ ↦ false ]
 
 -- memory by r/m whose index is a vector register
 abbrev pub is_gather : Method → Bool
-is_gather Gather = true
-is_gather _ = false
+is_gather how = elim how [ Gather ↦ true | _ ↦ false ]
 
 -- memory at an absolute address behind the opcode byte
 abbrev pub is_offset : Method → Bool
-is_offset Offset = true
-is_offset _ = false
+is_offset how = elim how [ Offset ↦ true | _ ↦ false ]
 
 -- the row reads ModRM.mod: all do but the moves to and from control and debug registers (MOV to and from control registers, debug registers)
 unfoldable pub reads_mode : Row → Bool

@@ -41,34 +41,25 @@ at_most_one p row = nat_le (count_where (λ kind. p (method_of kind)) row.ops) 1
 
 -- a register by ModRM.reg
 abbrev pub reads_reg : Method → Bool
-reads_reg ModRmReg = true
-reads_reg _ = false
+reads_reg how = elim how [ ModRmReg ↦ true | _ ↦ false ]
 
 -- register or memory by r/m
 abbrev pub reads_rm : Method → Bool
-reads_rm RegisterOrMemory = true
-reads_rm RegisterOnly = true
-reads_rm MemoryOnly = true
-reads_rm AnyMode = true
-reads_rm Gather = true
-reads_rm _ = false
+reads_rm how = elim how [ RegisterOrMemory ↦ true | RegisterOnly ↦ true | MemoryOnly ↦ true | AnyMode ↦ true | Gather ↦ true | _ ↦ false ]
 
 -- a register by the low bits of the opcode byte
 abbrev pub reads_opcode : Method → Bool
-reads_opcode OpcodeLow = true
-reads_opcode _ = false
+reads_opcode how = elim how [ OpcodeLow ↦ true | _ ↦ false ]
 
 -- a register by the last byte
 abbrev pub reads_last_byte : Method → Bool
-reads_last_byte LastByte = true
-reads_last_byte _ = false
+reads_last_byte how = elim how [ LastByte ↦ true | _ ↦ false ]
 
 -- ---- the parts
 
 -- the row has a ModRM
 abbrev pub has_modrm_rule : ModRmRule → Bool
-has_modrm_rule NoModRm = false
-has_modrm_rule _ = true
+has_modrm_rule rule = elim rule [ NoModRm ↦ false | _ ↦ true ]
 
 -- a digit is below 8, a fixed byte is C0 or more
 unfoldable pub rule_in_range : ModRmRule → Bool
@@ -93,33 +84,23 @@ opcode_is_proper _ b = true
 
 -- the notation names no W
 abbrev pub is_no_w : WBit → Bool
-is_no_w NoW = true
-is_no_w _ = false
+is_no_w w = elim w [ NoW ↦ true | _ ↦ false ]
 
 -- the notation names no L
 abbrev pub is_no_l : LBit → Bool
-is_no_l NoL = true
-is_no_l _ = false
+is_no_l l = elim l [ NoL ↦ true | _ ↦ false ]
 
 -- a class that pp can say (2.3.6.2)
 abbrev pub is_class_of_vex : Class → Bool
-is_class_of_vex Np = true
-is_class_of_vex P66 = true
-is_class_of_vex ClassF3 = true
-is_class_of_vex ClassF2 = true
-is_class_of_vex _ = false
+is_class_of_vex class = elim class [ Np ↦ true | P66 ↦ true | ClassF3 ↦ true | ClassF2 ↦ true | _ ↦ false ]
 
 -- no operand size, or W in its place
 abbrev pub is_size_of_vex : Size → Bool
-is_size_of_vex NoSize = true
-is_size_of_vex SizeW0 = true
-is_size_of_vex SizeW1 = true
-is_size_of_vex _ = false
+is_size_of_vex size = elim size [ NoSize ↦ true | SizeW0 ↦ true | SizeW1 ↦ true | _ ↦ false ]
 
 -- the ModRM byte is fixed
 abbrev pub is_fixed_rule : ModRmRule → Bool
-is_fixed_rule (FixedByte _) = true
-is_fixed_rule _ = false
+is_fixed_rule rule = elim rule [ FixedByte _ ↦ true | _ ↦ false ]
 
 -- the eight opcode bytes of a row that adds a register, else its one (3.1.1.1)
 abbrev pub opcodes_of : Row → List ℕ
