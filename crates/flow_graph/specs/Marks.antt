@@ -39,6 +39,6 @@ pub record AreMarkedBelow (marks : List ℕ) (n : ℕ) (starts leaders : List �
   pub len : length leaders ≡ length starts
   pub ascending : IsStrictlyIncreasing starts
   pub below : (k : ℕ) → k < length starts → slice_index starts k < n
-  pub marks_after : (k : ℕ) → k < length starts → 0 < slice_index marks (slice_index starts k)
+  pub marked : (k : ℕ) → k < length starts → 0 < slice_index marks (slice_index starts k)
   pub complete : (q : ℕ) → q < n → 0 < slice_index marks q → Contains starts q
   pub led : (k : ℕ) → k < length starts → LeaderByMarks marks (slice_index leaders k) (slice_index starts k)

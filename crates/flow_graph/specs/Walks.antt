@@ -49,7 +49,7 @@ pub record IsWalk (code : CodeBytes) (entries marks order : List ℕ) (gone : Ed
   pub unmarked : count_by (λ m. m == 0) marks + length order ≡ length marks
   pub entry : (q : ℕ) → Contains entries q → q < length code.bytes → slice_index marks q ≡ 1
   pub reached : (k : ℕ) → k < length order → ReachesFrom code entries (slice_index order k)
-  pub marks_after : (k : ℕ) → k < length order → 0 < slice_index marks (slice_index order k)
+  pub marked : (k : ℕ) → k < length order → 0 < slice_index marks (slice_index order k)
   pub listed : (q : ℕ) → 0 < slice_index marks q → (k : ℕ) × (k < length order) × (slice_index order k ≡ q)
   pub apart : (i j : ℕ) → i < length order → j < length order → slice_index order i ≡ slice_index order j → i ≡ j
   pub sound : (p q : ℕ) → gone p q → ReachesFrom code entries p × IsSuccessor code p q
@@ -68,7 +68,7 @@ entered_order marks order q = if nat_lt q (length marks) then order_after marks 
 -- the order has each marked offset once
 pub record IsOrder (marks order : List ℕ) : Type 0 where
   pub unmarked : count_by (λ m. m == 0) marks + length order ≡ length marks
-  pub marks_after : (k : ℕ) → k < length order → 0 < slice_index marks (slice_index order k)
+  pub marked : (k : ℕ) → k < length order → 0 < slice_index marks (slice_index order k)
   pub listed : (q : ℕ) → 0 < slice_index marks q → (k : ℕ) × (k < length order) × (slice_index order k ≡ q)
   pub apart : (i j : ℕ) → i < length order → j < length order → slice_index order i ≡ slice_index order j → i ≡ j
 
