@@ -1,26 +1,21 @@
 -- The plan of a trampoline is well formed.
-use Rattle.std.proofs.Common.{◌≡◌, ℕ, zero, suc, ◌+◌, ◌<◌, ◌≤◌, inl, inr, Bool, true, List, [], ◌∷◌, ◌++◌, length, map, Option, Some, None, arith, refl, sym, subst, ap, ◌∙◌, nat_lt, ◌^◌, take}
-use Rattle.std.specs.Prelude.{if◌then◌else◌, is_some, slice_get, IsTrue}
+use Rattle.std.proofs.Common.{◌≡◌, ℕ, zero, suc, ◌+◌, ◌<◌, ◌≤◌, inl, inr, true, List, [], ◌∷◌, ◌++◌, length, map, Option, Some, None, arith, refl, sym, subst, ap, nat_lt, ◌^◌, take}
+use Rattle.std.specs.Prelude.{if◌then◌else◌, is_some, IsTrue}
 use Rattle.std.specs.List.{list_all, range_with_len}
-use Rattle.std.specs.Option.{option_or}
-use Rattle.std.proofs.lemmas.Bool.{cases_Bool, and_from, lt-ltb, le-leb, eq-eqb}
-use Rattle.std.proofs.lemmas.List.FromFn.{length-map-range_with_len, map-range_with_len_more}
+use Rattle.std.proofs.lemmas.Bool.{cases_Bool, lt-ltb}
 use Rattle.x86_values.specs.declared.Bits.{Bits}
 use Rattle.x86_values.specs.declared.Bits.TheVariants.{B16, B32, B64}
 use Rattle.x86_values.specs.declared.Instr.{Instr}
 use Rattle.std.proofs.lemmas.List.{append-nil, length-append, length-take-le}
 use Rattle.x86_values.specs.Wrapping.{width, modulo_width}
-use Rattle.opcode_rows.specs.Table.{table}
-use Rattle.operand_info.specs.Operands.{near_value, ip_value, first_value}
 use Rattle.branch_sizes.specs.declared.plan.Branch.{Branch}
 use Rattle.branch_sizes.specs.Plan.{is_fit_goal, is_fit_branch}
 use Rattle.moved_targets.specs.Targets.{target_of}
-use Rattle.branch_forms.specs.Branches.{branch_of, branch_by}
-use Rattle.branch_forms.specs.Choices.{choices_of, choices_by}
+use Rattle.branch_forms.specs.Choices.{choices_of}
 use Rattle.move_goals.specs.declared.items.Placed.{Placed}
 use Rattle.move_goals.specs.Items.{IsPlaced, ArePlaced, item_at, first_below, one_span}
 use Rattle.move_goals.specs.Goals.{begins_at}
-use Rattle.move_goals.specs.Plan.{branch_with, kept_goal}
+use Rattle.move_goals.specs.Plan.{branch_with, plan_with}
 use Rattle.detour.specs.LawsBelow.{DetourLawsBelow}
 use Rattle.detour.specs.declared.start.StartTarget.{StartTarget}
 use Rattle.detour.specs.declared.start.StartTarget.TheVariants.{Moved, Hooked}
@@ -28,20 +23,6 @@ use Rattle.detour.specs.Trampoline.{address_behind_taken, jump_back, back_items,
 use Rattle.detour.specs.Taken.{taken_bytes, first_end, moved_count}
 use Rattle.detour.proofs.Front.{each_more}
 use Rattle.detour.proofs.Jumping.{jump-placed}
-
--- what holds of each value of a stretch holds of the list of them
-all_of_range : {X : Type 0} (test : X → Bool) (f : ℕ → X) (a n : ℕ) → ((k : ℕ) → a ≤ k → k < a + n → test (f k) ≡ true)
-    → list_all test (map f (range_with_len a n)) ≡ true
-all_of_range test f a zero h = refl
-all_of_range test f a (suc n) h =
-    and_from (test (f a)) (list_all test (map f (range_with_len (a + 1) n))) (h a (omega arith) (omega arith))
-    (all_of_range test f (a + 1) n (λ k le lt. h k (omega arith) (omega arith)))
-
--- one more value
-pub one_more : {X : Type 0} (f : ℕ → X) (xs ys : List X) (k : ℕ) (x : X) → xs ≡ map f (range_with_len 0 k) → ys ≡ xs ++ x ∷ [] → x ≡ f k
-    → ys ≡ map f (range_with_len 0 (k + 1))
-one_more f xs ys k x old last is =
-    last ∙ ap (λ zs. zs ++ x ∷ []) old ∙ ap (λ y. map f (range_with_len 0 k) ++ y ∷ []) is ∙ sym (map-range_with_len_more f 0 k k (omega arith))
 
 -- ---- the goals are items or addresses
 
@@ -51,27 +32,10 @@ among_fit Moved count n (Some zero) t below = lt-ltb 0 count (below 0 refl)
 among_fit Hooked count n (Some zero) t below = refl
 among_fit start count n (Some (suc j)) t below = lt-ltb (suc j) count (below (suc j) refl)
 
-neither : (near ip : Option ℕ) → option_or near ip ≡ None → near ≡ None
-neither (Some t) ip none = absurd (cc)
-neither None ip none = refl
-
-no_branch_without_target : (i : Instr) → target_of i ≡ None → branch_of i ≡ None
-unfolding target_of branch_of
-no_branch_without_target i none =
-    ap (λ near. if is_some near then branch_by (slice_get table i.code.0) else None) (neither (first_value near_value i) (first_value ip_value i) none)
-
-one_choice : (bits : Bits) (i : Instr) → target_of i ≡ None → length (choices_of bits i) ≡ 1
-unfolding choices_of
-one_choice bits i none = ap (λ b. length (choices_by bits i b)) (no_branch_without_target i none)
-
-kept_fit : (bits : Bits) (count : ℕ) (i : Instr) (target : Option ℕ) → target_of i ≡ target → is_fit_goal count (length (choices_of bits i)) (kept_goal target) ≡ true
-kept_fit bits count i None is = eq-eqb (length (choices_of bits i)) 1 (one_choice bits i is)
-kept_fit bits count i (Some t) is = refl
-
 module _ (laws : DetourLawsBelow) (bits : Bits) (items : List Placed) (count : ℕ) (start : StartTarget) (within : count ≤ length items) where
   moved_fit : (i : Instr) (target : Option ℕ) → target_of i ≡ target
       → is_fit_goal (length items) (length (choices_of bits i)) (moved_goal start items count target) ≡ true
-  moved_fit i None is = kept_fit bits (length items) i None is
+  moved_fit i None is = laws.plans.kept-fit bits (length items) i None is
   moved_fit i (Some t) is =
       among_fit start (length items) (length (choices_of bits i)) (first_below (begins_at items t) count) t
       (λ j e. let b = (laws.firsts.some_below (begins_at items t) count j e).0 in omega (arith, b, within))
@@ -80,28 +44,17 @@ module _ (laws : DetourLawsBelow) (bits : Bits) (items : List Placed) (count : �
   goal_fit k =
       elim (cases_Bool (nat_lt k count)) [
         | inl moved ↦ rw moved (moved_fit (item_at items k).instr (target_of (item_at items k).instr) refl)
-        | inr back ↦ rw back (kept_fit bits (length items) (item_at items k).instr (target_of (item_at items k).instr) refl)
+        | inr back ↦ rw back (laws.plans.kept-fit bits (length items) (item_at items k).instr (target_of (item_at items k).instr) refl)
       ]
 
-  module _ (placed : ArePlaced bits items) where
-    fit_item : (k : ℕ) → k < length items → is_fit_branch (length items) (branch_with bits items (trampoline_goal_at start items count) k) ≡ true
-    fit_item k lt =
-        let p = placed k lt in
-        let i = (item_at items k).instr in
-        let cs = choices_of bits i in
-        let h = laws.forms.spelled-fit bits (modulo_width bits (item_at items k).ip) p.bytes i p.spelled in
-        and_from _ _ (and_from _ _ (lt-ltb 0 (length cs) h.0) (le-leb (length cs) 3 h.1))
-        (and_from _ _ h.2 (and_from _ _ h.3 (and_from _ _ (goal_fit k) h.4)))
-
-    -- **the items of the plan are fit**
-    pub items_fit : (branches : List Branch) → branches ≡ map (branch_with bits items (trampoline_goal_at start items count)) (range_with_len 0 (length items))
-        → IsTrue (list_all (is_fit_branch (length branches)) branches)
-    items_fit branches are =
-        let f = branch_with bits items (trampoline_goal_at start items count) in
-        let len : length (map f (range_with_len 0 (length items))) ≡ length items = length-map-range_with_len f 0 (length items) in
-        subst (λ (bs : List Branch). IsTrue (list_all (is_fit_branch (length bs)) bs)) (sym are)
-        (subst (λ n. list_all (is_fit_branch n) (map f (range_with_len 0 (length items))) ≡ true) (sym len)
-        (all_of_range (is_fit_branch (length items)) f 0 (length items) (λ k le lt. fit_item k (omega (arith, lt)))))
+  -- **the items of the plan are fit**
+  pub items_fit : ArePlaced bits items → length items ≤ 65536 → (branches : List Branch)
+      → branches ≡ map (branch_with bits items (trampoline_goal_at start items count)) (range_with_len 0 (length items))
+      → IsTrue (list_all (is_fit_branch (length branches)) branches)
+  unfolding plan_with
+  items_fit placed few branches are =
+      let plan = laws.plans.well_formed_with bits (one_span items 0) items placed (trampoline_goal_at start items count) goal_fit few (laws.plans.one_span-of items 0) in
+      subst (λ (bs : List Branch). IsTrue (list_all (is_fit_branch (length bs)) bs)) (sym are) plan.fit
 
 -- ---- the instructions of a trampoline
 

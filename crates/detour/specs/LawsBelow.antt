@@ -8,11 +8,11 @@ use Rattle.decoder.specs.OneReading.{OneReadingFacts, WrappedFacts}
 use Rattle.branch_sizes.specs.Plan.{BlockPlan}
 use Rattle.branch_sizes.specs.Layout.{IsLeast}
 use Rattle.moved_targets.specs.Facts.{TargetFacts}
-use Rattle.branch_forms.specs.Facts.{CodeFacts, PieceFacts, FormFacts}
+use Rattle.branch_forms.specs.Facts.{CodeFacts, PieceFacts}
 use Rattle.move_goals.specs.Facts.{FirstFacts, PlanFacts}
-use Rattle.block_encoder.specs.Facts.{FragmentFacts, MovedFacts, ReachFacts}
+use Rattle.block_encoder.specs.Facts.{FragmentFacts, MovedFacts, JumpFacts}
 
--- codes, encodings, readings, layouts, targets, forms, goals, fragments, moved blocks and reach
+-- codes, encodings, readings, layouts, targets, goals, fragments, moved blocks and near jumps
 pub record DetourLawsBelow : Type 0 where
   pub in_table : (i : Instr) → IsTrue (is_well_formed i) → i.code.0 < ROWS
   pub encodings : EncodingFacts
@@ -22,9 +22,8 @@ pub record DetourLawsBelow : Type 0 where
   pub targets : TargetFacts
   pub codes : CodeFacts
   pub pieces : PieceFacts
-  pub forms : FormFacts
   pub firsts : FirstFacts
   pub plans : PlanFacts
   pub fragments : FragmentFacts
   pub moved : MovedFacts
-  pub reach : ReachFacts
+  pub jumps : JumpFacts

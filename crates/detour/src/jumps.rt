@@ -6,12 +6,12 @@ ghost use Rattle.detour.specs.Jumps.{IsNearAnswer};
 ghost use Rattle.detour.specs.Trampoline as trampoline;
 
 use arrayvec::ArrayVec;
-use branch_forms::{Action, near_code};
+use branch_forms::{Action, branch_to, near_code};
 use encoder::encode;
 use move_goals::Placed;
 use moved_targets::plain_length;
 use plain_spelling::numbers::push_low_bytes;
-use x86_values::{Bits, Code, Instr, Operand, Rep};
+use x86_values::{Bits, Instr};
 
 /// How many bytes the near jump of 64-bit mode has.
 pub(crate) const NEAR_LEN: usize = 5;
@@ -20,19 +20,11 @@ pub(crate) const NEAR_LEN: usize = 5;
 pub(crate) const ABSOLUTE_LEN: usize = 14;
 
 /// A JMP with an offset of the mode's own operand size.
-#[tactic(auto, unfolding(crate::specs::Jumps::near_jump_to, branch_forms::specs::Images::branch_to))]
+#[tactic(auto, unfolding(crate::specs::Jumps::near_jump_to))]
 fn jump_to(bits: Bits, target: u64) -> Instr
     ensures { result ≡ spec.near_jump_to bits target }
 {
-    let none = Operand::Absent;
-    Instr {
-        code: Code(near_code(Action::Jump, bits)),
-        ops: [Operand::Near(target), none, none, none],
-        lock: false,
-        rep: Rep::None,
-        seg: None,
-        asize: None,
-    }
+    branch_to(near_code(Action::Jump, bits), None, target)
 }
 
 /// A jump to an address, as one that stands there.

@@ -15,10 +15,9 @@ pub(crate) fn laws_below()
     moved_targets::laws::spellings_are_moved();
     branch_forms::laws::codes_have_their_rows();
     branch_forms::laws::pieces_have_their_lengths();
-    branch_forms::laws::forms_are_fit();
     move_goals::laws::first_numbers_pass();
     move_goals::laws::plans_are_well_formed();
     block_encoder::laws::plans_lay_out_their_items();
     block_encoder::laws::moved_blocks_keep_their_laws();
-    block_encoder::laws::items_reach_their_goals();
+    block_encoder::laws::near_jumps_are_encoded();
 }

@@ -1,25 +1,14 @@
 -- The jump back of a step block has its bytes wherever the block stands.
-use Rattle.std.proofs.Common.{◌≡◌, ℕ, zero, suc, ◌+◌, ◌-◌, ◌%◌, ◌^◌, ◌≤◌, ◌<◌, inr, Bool, true, false, ◌&&◌, List, [], ◌∷◌, length, get_or, Option, Some, None, Result, Ok, Err, nat_lt, slice_get, refl, ap, sym, ◌∙◌, subst, arith}
+use Rattle.std.proofs.Common.{◌≡◌, ℕ, zero, suc, ◌-◌, ◌^◌, ◌≤◌, ◌<◌, false, List, [], ◌∷◌, length, get_or, Option, Some, None, Result, Ok, Err, slice_get, refl, ap, sym, ◌∙◌, subst, arith}
 use Rattle.std.specs.Prelude.{IsSome, is_some, if◌then◌else◌, unwrap_or}
 use Rattle.std.specs.Option.{option_or}
-use Rattle.std.proofs.lemmas.Bool.{lt-ltb}
 use Rattle.x86_values.specs.declared.Bits.{Bits}
 use Rattle.x86_values.specs.declared.Bits.TheVariants.{B16, B32, B64}
 use Rattle.x86_values.specs.declared.Instr.{Instr}
-use Rattle.x86_values.specs.Wrapping.{width, modulo_width}
-use Rattle.row_types.specs.declared.Row.{Row}
+use Rattle.x86_values.specs.Wrapping.{width}
 use Rattle.row_types.specs.declared.Map.TheVariants.{One}
 use Rattle.row_types.specs.declared.OpKind.TheVariants.{Jz}
-use Rattle.instruction_parts.specs.Bytes.{bytes_of}
-use Rattle.instruction_parts.specs.Kinds.{method_of, immediate_width}
-use Rattle.instruction_parts.specs.Sizes.{exists_in, operand_size}
-use Rattle.row_fit.specs.Fits.{immediate_bytes}
 use Rattle.plain_spelling.specs.declared.NoSpelling.{NoSpelling}
-use Rattle.plain_spelling.specs.Values.{is_extended_of, distance}
-use Rattle.plain_spelling.specs.Forms.{is_variant_of}
-use Rattle.plain_spelling.specs.PlainFront.{asks_rex_w, asks_66}
-use Rattle.plain_spelling.specs.PlainTail.{plain_size, plain_next, plain_spelling}
-use Rattle.plain_spelling.specs.Expressible.{Suits, kind_suits, register_suits, address_suits, displacement_offered, immediate_suits, immediate_suits_how, near_reaches, target_suits, lock_suits, repeat_suits, prefixes_suit, has_memory_operand, address_size_suits}
 use Rattle.opcode_rows.specs.Table.{table}
 use Rattle.operand_info.specs.Operands.{near_value, ip_value, first_value}
 use Rattle.encoder.specs.Encoding.{encoding}
@@ -45,67 +34,15 @@ use Rattle.block_encoder.specs.Moved.{fragment_reach, IsReached, first_new_pass}
 use Rattle.step_slots.specs.Block.{jump_to}
 use Rattle.step_slots.specs.LawsBelow.{StepLawsBelow}
 
-first_two : (a b : Bool) → a ≡ true → b ≡ true → ((a && b) && (true && (true && true))) ≡ true
-first_two a b p q = rw (p, q) refl
-
 -- an instruction has an encoding at an address
 abbrev IsEncodedIn : Bits → ℕ → Instr → Type 0
 IsEncodedIn bits at i = (bytes : List ℕ) × (encoding bits at i ≡ Ok bytes)
-
--- ---- outside 64-bit mode an offset of the operand size comes to every address
-
-all_near-16 : (next t : ℕ) → is_extended_of 2 16 (distance B16 next t) ≡ true
-unfolding is_extended_of distance
-all_near-16 next t = rw (lt-ltb ((t + (2 ^ 64 - next)) % 2 ^ 16) (2 ^ 16) (omega arith)) refl
-
-all_near-32 : (next t : ℕ) → is_extended_of 4 32 (distance B32 next t) ≡ true
-unfolding is_extended_of distance
-all_near-32 next t = rw (lt-ltb ((t + (2 ^ 64 - next)) % 2 ^ 32) (2 ^ 32) (omega arith)) refl
-
-suits-16 : (t ip : ℕ) → t < 2 ^ 16 → Suits B16 ip (offset_row One 0xE9 Jz 20 B16) (branch_to (near_code Jump B16) None t)
-unfolding branch_to exists_in kind_suits is_variant_of method_of register_suits address_suits displacement_offered immediate_suits immediate_suits_how target_suits near_reaches plain_size operand_size immediate_bytes immediate_width prefixes_suit lock_suits repeat_suits address_size_suits has_memory_operand asks_rex_w asks_66
-suits-16 t ip below = record {
-  exists = refl;
-  kinds = refl;
-  registers = refl;
-  addresses = refl;
-  displacements = refl;
-  immediates = refl;
-  targets =
-      first_two (nat_lt t (2 ^ 16)) (is_extended_of 2 16 (distance B16 (plain_next B16 ip (offset_row One 0xE9 Jz 20 B16) (branch_to (near_code Jump B16) None t)) t))
-      (lt-ltb t (2 ^ 16) below) (all_near-16 (plain_next B16 ip (offset_row One 0xE9 Jz 20 B16) (branch_to (near_code Jump B16) None t)) t);
-  prefixes = refl;
-  address_size = refl;
-}
-
-suits-32 : (t ip : ℕ) → t < 2 ^ 32 → Suits B32 ip (offset_row One 0xE9 Jz 20 B32) (branch_to (near_code Jump B32) None t)
-unfolding branch_to exists_in kind_suits is_variant_of method_of register_suits address_suits displacement_offered immediate_suits immediate_suits_how target_suits near_reaches plain_size operand_size immediate_bytes immediate_width prefixes_suit lock_suits repeat_suits address_size_suits has_memory_operand asks_rex_w asks_66
-suits-32 t ip below = record {
-  exists = refl;
-  kinds = refl;
-  registers = refl;
-  addresses = refl;
-  displacements = refl;
-  immediates = refl;
-  targets =
-      first_two (nat_lt t (2 ^ 32)) (is_extended_of 4 32 (distance B32 (plain_next B32 ip (offset_row One 0xE9 Jz 20 B32) (branch_to (near_code Jump B32) None t)) t))
-      (lt-ltb t (2 ^ 32) below) (all_near-32 (plain_next B32 ip (offset_row One 0xE9 Jz 20 B32) (branch_to (near_code Jump B32) None t)) t);
-  prefixes = refl;
-  address_size = refl;
-}
 
 branch_to-code : (bits : Bits) (t : ℕ) → (branch_to (near_code Jump bits) None t).code.0 ≡ near_code Jump bits
 unfolding branch_to
 branch_to-code bits t = refl
 
 -- ---- the jump
-
-back_by : (t n : ℕ) → t < 2 ^ 64 → n ≡ 5 → 2 ^ 64 ≤ (t + (2 ^ 64 - (t % 2 ^ 64 + n) % 2 ^ 64)) % 2 ^ 64 + 2 ^ 31
-back_by t n below e = omega (arith, below, e)
-
-jump-four : (bits : Bits) (t : ℕ) → length (jump_to bits t).ops ≡ 4
-unfolding jump_to branch_to
-jump-four bits t = refl
 
 abbrev back_branch : Bits → RelativeBranch
 back_branch bits = record { action = Jump; is_short = false; size = bits }
@@ -140,60 +77,17 @@ first_of_one c zero lt = refl
 first_of_one c (suc f) lt = absurd (omega arith)
 
 module _ (laws : StepLawsBelow) where
-  jump-size : (bits : Bits) (t : ℕ) → (1 ≤ plain_length bits (jump_to bits t)) × (plain_length bits (jump_to bits t) ≤ 15)
-  unfolding jump_to
-  jump-size B16 t = let e = laws.pieces.near_jump-length B16 B16 t in (omega (arith, e), omega (arith, e))
-  jump-size B32 t = let e = laws.pieces.near_jump-length B32 B32 t in (omega (arith, e), omega (arith, e))
-  jump-size B64 t = let e = laws.pieces.near_jump-length B64 B64 t in (omega (arith, e), omega (arith, e))
-
-  row-encoded : (bits : Bits) (at : ℕ) (row : Row) (i : Instr) → slice_get table i.code.0 ≡ Some row → Suits bits (modulo_width bits at) row i → plain_length bits i ≤ 15
-      → IsEncodedIn bits at i
-  row-encoded bits at row i there suits short =
-      let l = laws.targets.plain_length-row bits i row there in
-      (bytes_of row (plain_spelling bits (modulo_width bits at) row i), laws.encodings.suits-encoded bits at row i there suits (omega (arith, l, short)))
-
   -- **outside 64-bit mode the jump is encoded at every address**
-  jump-encoded-16 : (at t : ℕ) → t < 2 ^ 16 → IsEncodedIn B16 at (jump_to B16 t)
+  jump-encoded : (bits : Bits) (at t : ℕ) → (bits ≡ B64 → ⊥) → t < 2 ^ width bits → IsEncodedIn bits at (jump_to bits t)
   unfolding jump_to
-  jump-encoded-16 at t below =
-      row-encoded B16 at (offset_row One 0xE9 Jz 20 B16) (branch_to (near_code Jump B16) None t) (ap (slice_get table) (branch_to-code B16 t) ∙ laws.codes.near-jump B16)
-      (suits-16 t (modulo_width B16 at) below) (let e = laws.pieces.near_jump-length B16 B16 t in omega (arith, e))
-
-  jump-encoded-32 : (at t : ℕ) → t < 2 ^ 32 → IsEncodedIn B32 at (jump_to B32 t)
-  unfolding jump_to
-  jump-encoded-32 at t below =
-      row-encoded B32 at (offset_row One 0xE9 Jz 20 B32) (branch_to (near_code Jump B32) None t) (ap (slice_get table) (branch_to-code B32 t) ∙ laws.codes.near-jump B32)
-      (suits-32 t (modulo_width B32 at) below) (let e = laws.pieces.near_jump-length B32 B32 t in omega (arith, e))
-
-  jump-encoded-64 : (t : ℕ) → t < 2 ^ 64 → IsEncodedIn B64 t (jump_to B64 t)
-  unfolding jump_to distance
-  jump-encoded-64 t below =
-      let e = laws.pieces.near_jump-length B64 B64 t in
-      let len : plain_length B64 (branch_to (near_code Jump B64) None t) ≡ 5 = omega (arith, e) in
-      let n = plain_length B64 (branch_to (near_code Jump B64) None t) in
-      laws.reach.near-encoded One 0xE9 (near_code Jump B64) t t (laws.codes.near-jump B64) (omega (arith, len)) below
-      (laws.reach.signed 4 (2 ^ 31) ((t + (2 ^ 64 - (t % 2 ^ 64 + n) % 2 ^ 64)) % 2 ^ 64) refl (omega arith) (inr (back_by t n below len)))
-
-  encoded-there : (bits : Bits) (t : ℕ) → t < 2 ^ width bits → IsEncodedIn bits t (jump_to bits t)
-  encoded-there B16 t below = jump-encoded-16 t t below
-  encoded-there B32 t below = jump-encoded-32 t t below
-  encoded-there B64 t below = jump-encoded-64 t below
+  jump-encoded bits at t other below = laws.jumps.jump-encoded bits at t other below
 
   -- ---- the jump as one that stands at its target
 
   -- **it is well placed**
-  pub jump-placed : (bits : Bits) (t len : ℕ) → t < 2 ^ width bits → 1 ≤ len → len ≤ 15 → IsPlaced bits (record { ip = t; len = len; instr = jump_to bits t })
-  jump-placed bits t len below some few =
-      let e = encoded-there bits t below in
-      record {
-        some = some;
-        few = few;
-        bytes = e.0;
-        spelled = laws.encodings.plain-spells bits (modulo_width bits t) e.0 (jump_to bits t) (laws.encodings.encoded-plain bits t (jump_to bits t) e.0 (jump-four bits t) e.1);
-      }
-
-  pub jump-length : (bits : Bits) (t : ℕ) → (1 ≤ plain_length bits (jump_to bits t)) × (plain_length bits (jump_to bits t) ≤ 15)
-  jump-length bits t = jump-size bits t
+  pub jump-placed : (bits : Bits) (t len : ℕ) → t < 2 ^ width bits → len ≡ plain_length bits (jump_to bits t) → IsPlaced bits (record { ip = t; len = len; instr = jump_to bits t })
+  unfolding jump_to
+  jump-placed bits t len below is = laws.jumps.jump-placed bits t len below is
 
   branch_by-row : (bits : Bits) → branch_by (slice_get table (near_code Jump bits)) ≡ Some (back_branch bits)
   branch_by-row bits = ap branch_by (laws.codes.near-jump bits) ∙ in_row bits
@@ -264,10 +158,10 @@ module _ (laws : StepLawsBelow) where
   unfolding form_reach near_reach
   jump-reached B16 items new_base placed few layout least inside k lt t is below =
       one-reached B16 items new_base layout least.closed.is_layout k lt t is (jump-choices-16 t) (λ len at. below)
-      (jump-encoded-16 (place (plan_outside B16 items new_base) layout k) t below)
+      (jump-encoded B16 (place (plan_outside B16 items new_base) layout k) t (λ e. cc) below)
   jump-reached B32 items new_base placed few layout least inside k lt t is below =
       one-reached B32 items new_base layout least.closed.is_layout k lt t is (jump-choices-32 t) (λ len at. below)
-      (jump-encoded-32 (place (plan_outside B32 items new_base) layout k) t below)
+      (jump-encoded B32 (place (plan_outside B32 items new_base) layout k) t (λ e. cc) below)
   jump-reached B64 items new_base placed few layout least inside k lt t is below =
       let p = plan_outside B64 items new_base in
       let goal : goal_address p layout k ≡ t = jump-goal B64 items new_base layout least.closed.is_layout k lt t is in

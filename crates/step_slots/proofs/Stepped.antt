@@ -18,7 +18,7 @@ use Rattle.code_region.specs.Keeping.{IsSound}
 use Rattle.code_region.specs.Laws.{AreInUnits}
 use Rattle.step_slots.specs.Block.{back_address, step_items, step_plan, IsStepOutOfReach, reserved_room}
 use Rattle.step_slots.specs.LawsBelow.{StepLawsBelow}
-use Rattle.step_slots.proofs.JumpBack.{jump-placed, jump-length, jump-reached}
+use Rattle.step_slots.proofs.JumpBack.{jump-placed, jump-reached}
 
 pub back-below : (bits : Bits) (item : Placed) → back_address bits item < 2 ^ width bits
 back-below B16 item = omega arith
@@ -52,9 +52,7 @@ module _ (laws : StepLawsBelow) where
   pub step-placed : (bits : Bits) (item : Placed) → IsPlaced bits item → ArePlaced bits (step_items bits item)
   step-placed bits item placed zero lt = placed
   step-placed bits item placed (suc zero) lt =
-      let back = back_address bits item in
-      let size = jump-length laws bits back in
-      jump-placed laws bits back _ (back-below bits item) size.0 size.1
+      jump-placed laws bits (back_address bits item) _ (back-below bits item) refl
   step-placed bits item placed (suc (suc k)) lt = absurd (omega arith)
 
   module _ (bits : Bits) (item : Placed) (placed : IsPlaced bits item) where

@@ -9,14 +9,12 @@ use crate::slots::StepSlot;
 pub(crate) fn laws_below()
     ensures { StepLawsBelow }
 {
-    encoder::laws::encodings_are_plain();
-    moved_targets::laws::spellings_are_moved();
     branch_forms::laws::codes_have_their_rows();
-    branch_forms::laws::pieces_have_their_lengths();
     move_goals::laws::plans_are_well_formed();
     block_encoder::laws::plans_lay_out_their_items();
     block_encoder::laws::items_reach_their_goals();
     block_encoder::laws::last_forms_bound_the_length();
+    block_encoder::laws::near_jumps_are_encoded();
     code_region::laws::sound_regions_keep_their_laws();
     code_region::laws::places_are_gaps();
     live_entries::laws::placed_blocks_are_filled();

@@ -12,7 +12,7 @@ use Rattle.x86_values.specs.declared.Rep.TheVariants.{None as NoRep, F2, F3}
 use Rattle.x86_values.specs.declared.Instr.{Instr}
 use Rattle.row_types.specs.declared.Row.{Row}
 use Rattle.row_types.specs.declared.Size.{Size}
-use Rattle.row_types.specs.declared.Size.TheVariants.{None as NoSize, O16, O32, O32or64, O64, W0, W1}
+use Rattle.row_types.specs.declared.Size.TheVariants.{O16, O64}
 use Rattle.row_fit.specs.Fits.{kind_at}
 use Rattle.row_meaning.specs.MemorySize.{memory_size}
 use Rattle.text_parts.specs.declared.style.Style.{Style}

@@ -4,12 +4,12 @@ use Rattle.std.proofs.lemmas.List.FromFn.{length-map-range_with_len}
 use Rattle.branch_sizes.specs.Plan.{plan_of, one_block}
 use Rattle.move_goals.specs.Plan.{branch_with, plan_with}
 use Rattle.detour.specs.Trampoline.{trampoline_goal_at, plan_at}
-use Rattle.detour.proofs.Planned.{one_more, items_fit}
+use Rattle.detour.proofs.Planned.{items_fit}
 use Rattle.detour.proofs.trampoline.plan_at.Goals as goal
 
 pub items-preserved : goal.items-preserved
 items-preserved c =
-    one_more (branch_with c.args.bits c.args.items.now (trampoline_goal_at c.args.start c.args.items.now c.args.count)) c.items.branches.items c.push.new.self.items c.items.k c.branch_at.result
+    c.laws_below.ensures.plans.one_more (branch_with c.args.bits c.args.items.now (trampoline_goal_at c.args.start c.args.items.now c.args.count)) c.items.branches.items c.push.new.self.items c.items.k c.branch_at.result
     c.items.invariant c.in_ok-push.ensures.items c.branch_at.ensures
 
 pub new-requires-clause-few : goal.new-requires-clause-few
@@ -27,7 +27,7 @@ new-requires-clause-fit c =
     let f = branch_with c.args.bits c.args.items.now (trampoline_goal_at c.args.start c.args.items.now c.args.count) in
     let all : c.items.k ≡ length c.args.items.now = omega (arith, c.items-test.false, c.items.auto.k-end) in
     let are : c.items.branches.items ≡ map f (range_with_len 0 (length c.args.items.now)) = c.items.invariant ∙ ap (λ n. map f (range_with_len 0 n)) all in
-    items_fit c.laws_below.ensures c.args.bits c.args.items.now c.args.count c.args.start c.requires.within c.requires.placed c.items.branches.items are
+    items_fit c.laws_below.ensures c.args.bits c.args.items.now c.args.count c.args.start c.requires.within c.requires.placed c.requires.few c.items.branches.items are
 
 pub returns : goal.returns
 unfolding plan_at plan_with

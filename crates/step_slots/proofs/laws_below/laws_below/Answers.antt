@@ -2,14 +2,12 @@ use Rattle.step_slots.proofs.laws_below.laws_below.Goals as goal
 
 pub returns : goal.returns
 returns c = record {
-  encodings = c.encodings_are_plain.ensures;
-  targets = c.spellings_are_moved.ensures;
   codes = c.codes_have_their_rows.ensures;
-  pieces = c.pieces_have_their_lengths.ensures;
   plans = c.plans_are_well_formed.ensures;
   fragments = c.plans_lay_out_their_items.ensures;
   reach = c.items_reach_their_goals.ensures;
   last = c.last_forms_bound_the_length.ensures;
+  jumps = c.near_jumps_are_encoded.ensures;
   regions = c.sound_regions_keep_their_laws.ensures;
   places = c.places_are_gaps.ensures;
   fills = c.placed_blocks_are_filled.ensures;
