@@ -1,11 +1,14 @@
 //! Bytes of moved code and of slots, by the manual's notation of JMP, the conditional jumps and LOOP.
 
+use crate::outcomes::all_write_bytes;
 use run_outcomes::run_command;
+use std::alloc::Global;
+use std::process::Abort;
 use std::test::Fail;
 
 #[test]
 fn moved_code_has_its_bytes(rt: HostRuntime) -> Result<(), Fail> {
-    for (command, digits, moved) in [
+    let cases = &[
         ("move 64 1000 2000", "ebfe", "ebfe"),
         (
             "move 64 1000 7fff00000000",
@@ -52,24 +55,34 @@ fn moved_code_has_its_bytes(rt: HostRuntime) -> Result<(), Fail> {
         ("move 32 ffffffff 0", "90", "90"),
         ("move 16 0 fffe", "ebfe", "ebfe"),
         ("move 16 ffff 0", "90", "90"),
-    ] {
-        let input = hex::decode(rt.alloc(), digits)?;
-        let ran = run_command(rt.alloc(), command, &input)?;
-        let out = hex::encode(rt.alloc(), &ran.out)?;
-        let err = ran.err.len();
-        assert_eq!(rt;
-            (ran.number, out.as_str(), err),
-            (0, moved, 0),
-            "{command} {digits}"
-        );
-    }
+    ];
+    all_write_bytes(&rt, rt.alloc(), cases)
+}
+
+/// Bytes in hexadecimal digits, and so many of NOP behind them.
+fn with_nops(alloc: Global, digits: &str, nops: usize) -> Result<Vec<u8>, Fail> {
+    let mut code = hex::decode(alloc, digits)?;
+    code.resize(code.len().saturating_add(nops), 0x90)?;
+    Ok(code)
+}
+
+/// That a command writes these bytes for an input.
+fn moves_to(
+    rt: &impl Abort,
+    alloc: Global,
+    command: &str,
+    input: &[u8],
+    moved: &[u8],
+) -> Result<(), Fail> {
+    let ran = run_command(alloc, command, input)?;
+    assert_eq!(rt; (ran.number, ran.out.as_slice()), (0, moved), "{command}");
     Ok(())
 }
 
 // Of each line of the table: so many bytes are put behind the first ones, in the input and in what is written.
 #[test]
 fn long_code_has_its_bytes(rt: HostRuntime) -> Result<(), Fail> {
-    for (command, digits, nops, front) in [
+    let cases = &[
         // branches over 127 bytes and back, which grow, and a piece up to the last address
         (
             "move 64 1000 5000",
@@ -78,17 +91,18 @@ fn long_code_has_its_bytes(rt: HostRuntime) -> Result<(), Fail> {
             "0f8482000000e979bfffff",
         ),
         ("move 16 0 ff00", "", 256, ""),
-    ] {
-        let mut input = hex::decode(rt.alloc(), digits)?;
-        input.resize(input.len().saturating_add(nops), 0x90)?;
-        let mut moved = hex::decode(rt.alloc(), front)?;
-        moved.resize(moved.len().saturating_add(nops), 0x90)?;
-        let ran = run_command(rt.alloc(), command, &input)?;
-        assert_eq!(rt; ran.number, 0, "{command}");
-        assert_eq!(rt; ran.out.as_slice(), moved.as_slice(), "{command}");
+    ];
+    for (command, digits, nops, front) in cases {
+        let input = with_nops(rt.alloc(), digits, *nops)?;
+        let moved = with_nops(rt.alloc(), front, *nops)?;
+        moves_to(&rt, rt.alloc(), command, &input, &moved)?;
     }
+    Ok(())
+}
 
-    // 48 branches that grow, and one behind them that does not.
+// 48 branches that grow, and one behind them that does not.
+#[test]
+fn a_chain_of_branches_grows(rt: HostRuntime) -> Result<(), Fail> {
     let mut chain = Vec::new(rt.alloc());
     for _ in 0..48 {
         chain.extend_from_slice(&[0xeb, 0x80])?;
@@ -103,7 +117,7 @@ fn long_code_has_its_bytes(rt: HostRuntime) -> Result<(), Fail> {
 // A jump back is E9 with the distance from its end; far from its target it is FF 25 and goes through 8 bytes behind the instruction.
 #[test]
 fn each_instruction_has_its_slot(rt: HostRuntime) -> Result<(), Fail> {
-    for (command, digits, slots) in [
+    let cases = &[
         (
             "slots 64 1000 2000 10",
             "",
@@ -155,16 +169,6 @@ fn each_instruction_has_its_slot(rt: HostRuntime) -> Result<(), Fail> {
             "cccccccccccccccccccccccccccccccc",
         ),
         ("slots 16 0 FFF0 10", "", "cccccccccccccccccccccccccccccccc"),
-    ] {
-        let input = hex::decode(rt.alloc(), digits)?;
-        let ran = run_command(rt.alloc(), command, &input)?;
-        let out = hex::encode(rt.alloc(), &ran.out)?;
-        let err = ran.err.len();
-        assert_eq!(rt;
-            (ran.number, out.as_str(), err),
-            (0, slots, 0),
-            "{command} {digits}"
-        );
-    }
-    Ok(())
+    ];
+    all_write_bytes(&rt, rt.alloc(), cases)
 }

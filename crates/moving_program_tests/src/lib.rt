@@ -8,4 +8,6 @@ mod limit_tests;
 #[cfg(test)]
 mod map_tests;
 #[cfg(test)]
+mod outcomes;
+#[cfg(test)]
 mod port_tests;

@@ -1,11 +1,13 @@
 //! What is refused, and that nothing is written then.
 
-use run_outcomes::run_command;
+use crate::outcomes::{outcome_of, wrote};
+use run_outcomes::{Outcome, run_command};
+use std::alloc::{AllocError, Global};
 use std::test::Fail;
 
 #[test]
 fn code_that_is_refused_leaves_nothing(rt: HostRuntime) -> Result<(), Fail> {
-    for (command, digits, number, line) in [
+    let cases = &[
         (
             "move 64 1000 80001001",
             "488b0500000000",
@@ -88,18 +90,31 @@ fn code_that_is_refused_leaves_nothing(rt: HostRuntime) -> Result<(), Fail> {
             2,
             "bad code at 7: too short\n",
         ),
-    ] {
-        let input = hex::decode(rt.alloc(), digits)?;
-        let ran = run_command(rt.alloc(), command, &input)?;
-        assert_eq!(rt; ran.as_text()?, (number, "", line), "{command} {digits}");
+    ];
+    for (command, digits, number, line) in cases {
+        let ran = outcome_of(rt.alloc(), command, digits)?;
+        wrote(&rt, &ran, (*number, "", line), command, digits)?;
     }
     Ok(())
 }
 
+/// What is told of an input with more bytes than are read.
+const LARGE: &str = "input over 1048576 bytes\n";
+
+/// How many bytes there are, for a message.
+fn byte_count(alloc: Global, count: usize) -> Result<String, AllocError> {
+    format!(in alloc; "with {count} bytes")
+}
+
+/// What a command gives for so many equal bytes.
+fn outcome_of_many(alloc: Global, command: &str, byte: u8, count: usize) -> Result<Outcome, Fail> {
+    let input = vec![in alloc; byte; count]?;
+    Ok(run_command(alloc, command, &input)?)
+}
+
 #[test]
 fn inputs_have_their_limits(rt: HostRuntime) -> Result<(), Fail> {
-    let large = "input over 1048576 bytes\n";
-    for (command, byte, count, number, line) in [
+    let cases = &[
         (
             "move 64 0 0",
             0x90,
@@ -107,10 +122,10 @@ fn inputs_have_their_limits(rt: HostRuntime) -> Result<(), Fail> {
             10,
             "65537 instructions are too many\n",
         ),
-        ("move 64 0 0", 0x90, 1_048_577, 6, large),
-        ("slots 64 0 1000 10", 0x90, 1_048_577, 6, large),
-        ("flow 64 0", 0xc3, 1_048_577, 6, large),
-        ("asm 64 0", b'\n', 1_048_577, 6, large),
+        ("move 64 0 0", 0x90, 1_048_577, 6, LARGE),
+        ("slots 64 0 1000 10", 0x90, 1_048_577, 6, LARGE),
+        ("flow 64 0", 0xc3, 1_048_577, 6, LARGE),
+        ("asm 64 0", b'\n', 1_048_577, 6, LARGE),
         // prefixes without an instruction behind them
         ("move 64 0 0", 0x66, 65_536, 2, "bad code at 0: invalid\n"),
         ("map 64 0 0", 0x66, 65_536, 2, "bad code at 0: invalid\n"),
@@ -122,10 +137,11 @@ fn inputs_have_their_limits(rt: HostRuntime) -> Result<(), Fail> {
             7,
             "end 0x10001 passes the address space\n",
         ),
-    ] {
-        let input = vec![in rt.alloc(); byte; count]?;
-        let ran = run_command(rt.alloc(), command, &input)?;
-        assert_eq!(rt; ran.as_text()?, (number, "", line), "{command} {count}");
+    ];
+    for (command, byte, count, number, line) in cases {
+        let ran = outcome_of_many(rt.alloc(), command, *byte, *count)?;
+        let case = byte_count(rt.alloc(), *count)?;
+        wrote(&rt, &ran, (*number, "", line), command, &case)?;
     }
     Ok(())
 }

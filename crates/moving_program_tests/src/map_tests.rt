@@ -1,11 +1,11 @@
 //! Lines of the flow of control, of maps and of made code.
 
-use run_outcomes::run_command;
+use crate::outcomes::all_write;
 use std::test::Fail;
 
 #[test]
 fn maps_and_reached_offsets_have_their_lines(rt: HostRuntime) -> Result<(), Fail> {
-    for (command, digits, lines) in [
+    let cases = &[
         (
             "map 64 1000 2000",
             "ebfe",
@@ -136,27 +136,22 @@ fn maps_and_reached_offsets_have_their_lines(rt: HostRuntime) -> Result<(), Fail
             "31c9ffc190e2fbc3",
             "0000000000000000 0000000000000000 Next\n0000000000000002 0000000000000002 Next\n0000000000000004 0000000000000002 Next\n0000000000000005 0000000000000002 ConditionalBranch\n0000000000000007 0000000000000007 Return\n",
         ),
-    ] {
-        let input = hex::decode(rt.alloc(), digits)?;
-        let ran = run_command(rt.alloc(), command, &input)?;
-        assert_eq!(rt; ran.as_text()?, (0, lines, ""), "{command} {digits}");
-    }
-    Ok(())
+    ];
+    all_write(&rt, rt.alloc(), cases)
 }
+
+const ONE: &str = "instructions 1\nbytes 7\ntext 78\nmoved 7\ngrown 0\nsum 824\n";
+
+const MOST: &str =
+    "instructions 65536\nbytes 245136\ntext 4321020\nmoved 269692\ngrown 6139\nsum 36579573\n";
 
 // The numbers are those of another generator, and of the listing and the map of the code that it made.
 #[test]
 fn made_code_has_its_numbers(rt: HostRuntime) -> Result<(), Fail> {
-    let one = "instructions 1\nbytes 7\ntext 78\nmoved 7\ngrown 0\nsum 824\n";
-    let most =
-        "instructions 65536\nbytes 245136\ntext 4321020\nmoved 269692\ngrown 6139\nsum 36579573\n";
-    for (command, lines) in [
-        ("sample 1", one),
-        ("sample 10000", most),
-        ("sample 00010000", most),
-    ] {
-        let ran = run_command(rt.alloc(), command, &[0x0f, 0x04])?;
-        assert_eq!(rt; ran.as_text()?, (0, lines, ""), "{command}");
-    }
-    Ok(())
+    let cases = &[
+        ("sample 1", "0f04", ONE),
+        ("sample 10000", "0f04", MOST),
+        ("sample 00010000", "0f04", MOST),
+    ];
+    all_write(&rt, rt.alloc(), cases)
 }

@@ -1,18 +1,38 @@
 //! What a command leaves where a port fails at a call, or has too little room.
 
-use run_outcomes::{Ports, WHOLE, run_between};
+use crate::outcomes::{outcome_between, wrote, wrote_bytes};
+use run_outcomes::{Ports, WHOLE};
 use std::test::Fail;
 
 const ROOM: usize = 256;
 
+const UNREAD: &str = "read fault\n";
+
+const UNWRITTEN: &str = "write fault\n";
+
+const BAD: &str = "bad code at 0: invalid\n";
+
+/// A line of flow and the first byte of a second one.
+const FRONT: &str = "0000000000000000 0000000000000000 Next\n0";
+
+/// What is told of one made instruction.
+const ONE: &str = "instructions 1\nbytes 7\ntext 78\nmoved 7\ngrown 0\nsum 824\n";
+
+/// Ports that fail at these calls of the source, the output and the error output, and an output with so much room.
+fn ports_of([pull, put, say]: [u64; 3], room: usize) -> Ports {
+    Ports {
+        pull,
+        put,
+        say,
+        room,
+        is_slow: false,
+    }
+}
+
 #[test]
 fn a_fault_of_a_port_leaves_what_it_should(rt: HostRuntime) -> Result<(), Fail> {
-    let (told, unwritten) = ("read fault\n", "write fault\n");
-    let bad = "bad code at 0: invalid\n";
-    let front = "0000000000000000 0000000000000000 Next\n0";
-    let one = "instructions 1\nbytes 7\ntext 78\nmoved 7\ngrown 0\nsum 824\n";
-    for (command, digits, [pull, put, say], room, number, out, err) in [
-        ("move 64 1000 2000", "ebfe", [1, 0, 0], ROOM, 3, "", told),
+    let cases = &[
+        ("move 64 1000 2000", "ebfe", [1, 0, 0], ROOM, 3, "", UNREAD),
         (
             "move 64 1000 2000",
             "ebfe",
@@ -20,31 +40,32 @@ fn a_fault_of_a_port_leaves_what_it_should(rt: HostRuntime) -> Result<(), Fail> 
             ROOM,
             4,
             "",
-            unwritten,
+            UNWRITTEN,
         ),
         ("move 64 0 0", "0f04", [0, 0, 1], ROOM, 2, "", ""),
-        ("move 64 0 0", "0f04", [0, 1, 0], ROOM, 2, "", bad),
-        ("map 64 0 0", "90", [0, 1, 0], ROOM, 4, "", unwritten),
-        ("slots 64 1000 2000 10", "90", [2, 0, 0], ROOM, 3, "", told),
-        ("flow 64 0", "90", [1, 0, 0], ROOM, 3, "", told),
-        ("flow 64 0", "90c3", [2, 0, 0], ROOM, 3, "", told),
+        ("move 64 0 0", "0f04", [0, 1, 0], ROOM, 2, "", BAD),
+        ("map 64 0 0", "90", [0, 1, 0], ROOM, 4, "", UNWRITTEN),
+        (
+            "slots 64 1000 2000 10",
+            "90",
+            [2, 0, 0],
+            ROOM,
+            3,
+            "",
+            UNREAD,
+        ),
+        ("flow 64 0", "90", [1, 0, 0], ROOM, 3, "", UNREAD),
+        ("flow 64 0", "90c3", [2, 0, 0], ROOM, 3, "", UNREAD),
         // room for one line and the front of the second
-        ("flow 64 0", "90c3", [0, 0, 0], 40, 4, front, unwritten),
+        ("flow 64 0", "90c3", [0, 0, 0], 40, 4, FRONT, UNWRITTEN),
         // what reads nothing does not ask its source
-        ("sample 1", "", [1, 0, 1], ROOM, 0, one, ""),
-        ("sample 1", "", [0, 1, 0], ROOM, 4, "", unwritten),
+        ("sample 1", "", [1, 0, 1], ROOM, 0, ONE, ""),
+        ("sample 1", "", [0, 1, 0], ROOM, 4, "", UNWRITTEN),
         ("sample 0", "", [1, 1, 1], ROOM, 1, "", ""),
-    ] {
-        let input = hex::decode(rt.alloc(), digits)?;
-        let ports = Ports {
-            pull,
-            put,
-            say,
-            room,
-            is_slow: false,
-        };
-        let ran = run_between(rt.alloc(), command, &input, &ports)?;
-        assert_eq!(rt; ran.as_text()?, (number, out, err), "{command} {digits}");
+    ];
+    for (command, digits, calls, room, number, out, err) in cases {
+        let ran = outcome_between(rt.alloc(), command, digits, &ports_of(*calls, *room))?;
+        wrote(&rt, &ran, (*number, out, err), command, digits)?;
     }
     Ok(())
 }
@@ -52,17 +73,19 @@ fn a_fault_of_a_port_leaves_what_it_should(rt: HostRuntime) -> Result<(), Fail> 
 // The first bytes of what was to be written stand where there is no room for all. The lines of `asm` are nop and ret.
 #[test]
 fn an_output_with_little_room_takes_a_part(rt: HostRuntime) -> Result<(), Fail> {
-    for (command, digits, room, out) in [
+    let cases = &[
         ("slots 64 1000 2000 10", "90", 3, "90e9fb"),
         ("move 64 1000 7fff00000000", "7410", 5, "7506ff2500"),
         ("asm 64 0", "6e6f700a7265740a", 1, "90"),
-    ] {
-        let input = hex::decode(rt.alloc(), digits)?;
-        let ports = Ports { room, ..WHOLE };
-        let ran = run_between(rt.alloc(), command, &input, &ports)?;
-        let taken = hex::encode(rt.alloc(), &ran.out)?;
-        assert_eq!(rt; (ran.number, taken.as_str()), (4, out), "{command}");
-        assert_eq!(rt; ran.err.as_slice(), b"write fault\n".as_slice());
+    ];
+    for (command, digits, room, out) in cases {
+        let ports = Ports {
+            room: *room,
+            ..WHOLE
+        };
+        let ran = outcome_between(rt.alloc(), command, digits, &ports)?;
+        let wanted = (4, *out, UNWRITTEN);
+        wrote_bytes(&rt, rt.alloc(), &ran, wanted, command, digits)?;
     }
     Ok(())
 }

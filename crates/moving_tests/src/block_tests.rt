@@ -5,10 +5,38 @@ ghost use Rattle.move_goals.specs.Items.{AreSpansOf};
 
 use crate::items::all_placed;
 use block_encoder::{
-    BlockSpan, Form, MoveError, Placed, last_len, move_block, move_blocks, move_outside,
+    BlockSpan, Form, MoveError, Moved, MovedBlocks, Placed, last_len, move_block, move_blocks,
+    move_outside,
 };
+use std::alloc::Global;
+use std::process::Abort;
 use std::test::Fail;
 use x86_values::Bits;
+
+/// What instructions are moved to, or why they are not.
+type Answer<M> = Result<Result<M, MoveError>, Fail>;
+
+/// What one block of 64-bit mode is moved to at an address. Its instructions are given by their addresses and
+/// hexadecimal digits.
+fn moved_to(alloc: Global, all: &[(u64, &str)], new_base: u64) -> Answer<Moved> {
+    let items = all_placed(alloc, all)?;
+    Ok(move_block(alloc, Bits::B64, &items, new_base))
+}
+
+/// What instructions are moved to at an address where their targets stay.
+fn moved_outside(alloc: Global, all: &[(u64, &str)], new_base: u64) -> Answer<Moved> {
+    let items = all_placed(alloc, all)?;
+    Ok(move_outside(alloc, Bits::B64, &items, new_base))
+}
+
+/// The length that one or two instructions have at most where their targets stay.
+fn most_outside(alloc: Global, all: &[(u64, &str)], new_base: u64) -> Result<u64, Fail> {
+    let items = all_placed(alloc, all)?;
+    if items.len() > 2 {
+        return Err(Fail::new("there are more than two items"));
+    }
+    Ok(last_len(Bits::B64, &items, new_base))
+}
 
 /// Two blocks that take all items.
 fn two_spans(items: &[Placed], first: BlockSpan, second: BlockSpan) -> Option<[BlockSpan; 2]>
@@ -20,27 +48,65 @@ fn two_spans(items: &[Placed], first: BlockSpan, second: BlockSpan) -> Option<[B
     Some([first, second])
 }
 
+/// What two blocks are moved to.
+fn moved_to_two(
+    alloc: Global,
+    all: &[(u64, &str)],
+    first: BlockSpan,
+    second: BlockSpan,
+) -> Answer<MovedBlocks> {
+    let items = all_placed(alloc, all)?;
+    let Some(spans) = two_spans(&items, first, second) else {
+        return Err(Fail::new("the blocks take other items"));
+    };
+    Ok(move_blocks(alloc, Bits::B64, &items, &spans))
+}
+
+/// That bytes are those in hexadecimal digits.
+fn are_bytes(rt: &impl Abort, alloc: Global, found: &[u8], digits: &str) -> Result<(), Fail> {
+    let shown = hex::encode(alloc, found)?;
+    assert_eq!(rt; shown.as_str(), digits);
+    Ok(())
+}
+
+/// That addresses are these.
+fn are_addresses(rt: &impl Abort, found: &[u64], want: &[u64]) {
+    assert_eq!(rt; found, want);
+}
+
+/// That forms are these.
+fn are_forms(rt: &impl Abort, found: &[Form], want: &[Form]) {
+    assert_eq!(rt; found, want);
+}
+
+/// That items are not moved, for this cause.
+fn is_refused<M>(rt: &impl Abort, moved: &Result<M, MoveError>, why: MoveError) {
+    match moved {
+        Ok(_) => assert!(rt; false, "moved in spite of {why:?}"),
+        Err(found) => assert_eq!(rt; *found, why),
+    }
+}
+
 // A short JMP is EB, a near one E9 and a far one FF 25 through the 8 bytes of its goal.
 #[test]
 fn a_jump_takes_the_form_that_reaches(rt: HostRuntime) -> Result<(), Fail> {
-    for (digits, new_base, bytes, form, slots) in [
-        ("ebfe", 0x2000, "ebfe", Form::Short, &[][..]),
-        ("eb0e", 0x2000, "e90bf0ffff", Form::Near, &[][..]),
+    let cases: &[(&str, u64, &str, Form, &[u64])] = &[
+        ("ebfe", 0x2000, "ebfe", Form::Short, &[]),
+        ("eb0e", 0x2000, "e90bf0ffff", Form::Near, &[]),
         (
             "eb0e",
             0x1_0000_0000_0000,
             "ff2502000000cccc1010000000000000",
             Form::Far,
-            &[0x1010][..],
+            &[0x1010],
         ),
-    ] {
-        let items = all_placed(rt.alloc(), &[(0x1000, digits)])?;
-        let bytes = hex::decode(rt.alloc(), bytes)?;
-        let moved = move_block(rt.alloc(), Bits::B64, &items, new_base)?;
-        assert_eq!(rt; moved.bytes(), bytes.as_slice());
-        assert_eq!(rt; moved.starts(), &[new_base][..]);
-        assert_eq!(rt; moved.forms(), &[form][..]);
-        assert_eq!(rt; moved.slots(), slots);
+    ];
+    for (digits, new_base, bytes, form, slots) in cases {
+        let moved = moved_to(rt.alloc(), &[(0x1000, *digits)], *new_base)??;
+        are_bytes(&rt, rt.alloc(), moved.bytes(), bytes)?;
+        are_addresses(&rt, moved.starts(), &[*new_base]);
+        are_forms(&rt, moved.forms(), &[*form]);
+        are_addresses(&rt, moved.slots(), slots);
     }
     Ok(())
 }
@@ -48,7 +114,6 @@ fn a_jump_takes_the_form_that_reaches(rt: HostRuntime) -> Result<(), Fail> {
 // A jump into another block, which jumps to itself.
 #[test]
 fn a_jump_goes_from_block_to_block(rt: HostRuntime) -> Result<(), Fail> {
-    let items = all_placed(rt.alloc(), &[(0x1000, "eb3e"), (0x1040, "ebfe")])?;
     let first = BlockSpan {
         count: 1,
         new_base: 0x2000,
@@ -57,59 +122,80 @@ fn a_jump_goes_from_block_to_block(rt: HostRuntime) -> Result<(), Fail> {
         count: 1,
         new_base: 0x3000,
     };
-    let Some(spans) = two_spans(&items, first, second) else {
-        return Err(Fail::new("the blocks take other items"));
-    };
-    let moved = move_blocks(rt.alloc(), Bits::B64, &items, &spans)?;
-    assert_eq!(rt; moved.bytes(), b"\xE9\xFB\x0F\0\0\xEB\xFE".as_slice());
-    assert_eq!(rt; moved.starts(), &[0x2000, 0x3000][..]);
-    assert_eq!(rt; moved.forms(), &[Form::Near, Form::Short][..]);
-    assert_eq!(rt; moved.slots(), &[][..]);
-    assert_eq!(rt; moved.ends(), &[5, 7][..]);
+    let all = &[(0x1000, "eb3e"), (0x1040, "ebfe")];
+    let moved = moved_to_two(rt.alloc(), all, first, second)??;
+    are_bytes(&rt, rt.alloc(), moved.bytes(), "e9fb0f0000ebfe")?;
+    are_addresses(&rt, moved.starts(), &[0x2000, 0x3000]);
+    are_forms(&rt, moved.forms(), &[Form::Near, Form::Short]);
+    are_addresses(&rt, moved.slots(), &[]);
+    are_addresses(&rt, moved.ends(), &[5, 7]);
     Ok(())
 }
 
 // The last item of the third case reads 8 bytes that it no longer reaches; a JMP would go through a slot.
 #[test]
 fn blocks_that_are_not_moved_are_refused(rt: HostRuntime) -> Result<(), Fail> {
-    let far = 0x1_0000_0000_0000;
-    let order = MoveError::OldOrder { at: 1 };
-    let wraps = |end| MoveError::Wraps { end };
-    let too_far = |at| MoveError::TooFar { at, target: 0x1010 };
-    let cases: [(&[(u64, &str)], u64, MoveError); 3] = [
-        (&[(0x1000, "90"), (0x1002, "ebfc")], 0x2000, order),
-        (&[(0x1000, "ebfe")], u64::MAX, wraps((1 << 64) + 1)),
+    let cases: &[(&[(u64, &str)], u64, MoveError)] = &[
+        (
+            &[(0x1000, "90"), (0x1002, "ebfc")],
+            0x2000,
+            MoveError::OldOrder { at: 1 },
+        ),
+        (
+            &[(0x1000, "ebfe")],
+            u64::MAX,
+            MoveError::Wraps {
+                end: 0x1_0000_0000_0000_0001,
+            },
+        ),
         (
             &[(0x1000, "ebfe"), (0x1002, "ff2508000000")],
-            far,
-            too_far(1),
+            0x1_0000_0000_0000,
+            MoveError::TooFar {
+                at: 1,
+                target: 0x1010,
+            },
         ),
     ];
     for (all, new_base, why) in cases {
-        let items = all_placed(rt.alloc(), all)?;
-        let moved = move_block(rt.alloc(), Bits::B64, &items, new_base);
-        assert_eq!(rt; moved.err(), Some(why));
-    }
-    let kept: [(&str, u64, MoveError); 2] = [
-        ("ebfe", u64::MAX, wraps((1 << 64) + 0x10)),
-        ("ff250a000000", far, too_far(0)),
-    ];
-    for (digits, new_base, why) in kept {
-        let items = all_placed(rt.alloc(), &[(0x1000, digits)])?;
-        let moved = move_outside(rt.alloc(), Bits::B64, &items, new_base);
-        assert_eq!(rt; moved.err(), Some(why));
+        is_refused(&rt, &moved_to(rt.alloc(), all, *new_base)?, *why);
     }
     let many = vec![in rt.alloc(); (0x1000, "ebfe"); 65_537]?;
-    let items = all_placed(rt.alloc(), &many)?;
-    let moved = move_block(rt.alloc(), Bits::B64, &items, 0x2000);
-    assert_eq!(rt; moved.err(), Some(MoveError::TooMany { count: 65_537 }));
+    let why = MoveError::TooMany { count: 65_537 };
+    is_refused(&rt, &moved_to(rt.alloc(), &many, 0x2000)?, why);
+    Ok(())
+}
+
+#[test]
+fn items_whose_targets_do_not_move_are_refused(rt: HostRuntime) -> Result<(), Fail> {
+    let cases: &[(&str, u64, MoveError)] = &[
+        (
+            "ebfe",
+            u64::MAX,
+            MoveError::Wraps {
+                end: 0x1_0000_0000_0000_0010,
+            },
+        ),
+        (
+            "ff250a000000",
+            0x1_0000_0000_0000,
+            MoveError::TooFar {
+                at: 0,
+                target: 0x1010,
+            },
+        ),
+    ];
+    for (digits, new_base, why) in cases {
+        let moved = moved_outside(rt.alloc(), &[(0x1000, *digits)], *new_base)?;
+        is_refused(&rt, &moved, *why);
+    }
     Ok(())
 }
 
 // A JMP to itself goes to where it stood, alone and before the jump back to what followed it.
 #[test]
 fn targets_are_kept(rt: HostRuntime) -> Result<(), Fail> {
-    let cases: [(&[(u64, &str)], u64, &str, u64); 2] = [
+    let cases: &[(&[(u64, &str)], u64, &str, u64)] = &[
         (&[(0x1000, "ebfe")], 0x2000, "e9fbefffff", 16),
         (
             &[(0x1000, "ebfe"), (0x1002, "e9fbffffff")],
@@ -119,14 +205,9 @@ fn targets_are_kept(rt: HostRuntime) -> Result<(), Fail> {
         ),
     ];
     for (all, new_base, bytes, len) in cases {
-        let items = all_placed(rt.alloc(), all)?;
-        if items.len() > 2 {
-            return Err(Fail::new("there are more than two items"));
-        }
-        let bytes = hex::decode(rt.alloc(), bytes)?;
-        let moved = move_outside(rt.alloc(), Bits::B64, &items, new_base)?;
-        assert_eq!(rt; moved.bytes(), bytes.as_slice());
-        assert_eq!(rt; last_len(Bits::B64, &items, new_base), len);
+        let moved = moved_outside(rt.alloc(), all, *new_base)??;
+        are_bytes(&rt, rt.alloc(), moved.bytes(), bytes)?;
+        assert_eq!(rt; most_outside(rt.alloc(), all, *new_base)?, *len);
     }
     Ok(())
 }

@@ -50,6 +50,39 @@ fn spans_of(items: &[Placed], counts: [u32; 3], second: u64) -> Option<[BlockSpa
     ])
 }
 
+/// Jumps at these addresses.
+fn jumps(alloc: Global, starts: &[u64]) -> Result<Vec<Placed>, AllocError> {
+    let mut items = Vec::new(alloc);
+    for ip in starts {
+        items.push(jump(*ip))?;
+    }
+    Ok(items)
+}
+
+/// The first jump out of order, of jumps at these addresses in three blocks of so many.
+fn disorder_of(alloc: Global, starts: &[u64], counts: [u32; 3]) -> Result<Option<usize>, Fail> {
+    let items = jumps(alloc, starts)?;
+    let Some(spans) = spans_of(&items, counts, 0x5800) else {
+        return Err(Fail::new("the blocks take other items"));
+    };
+    Ok(first_disorder(&items, &spans))
+}
+
+/// The first end behind all addresses of a mode, of jumps at these addresses in three blocks of so many.
+fn old_pass_of(
+    alloc: Global,
+    bits: Bits,
+    starts: &[u64],
+    counts: [u32; 3],
+    second: u64,
+) -> Result<Option<u128>, Fail> {
+    let items = jumps(alloc, starts)?;
+    let Some(spans) = spans_of(&items, counts, second) else {
+        return Err(Fail::new("the blocks take other items"));
+    };
+    Ok(first_old_pass(bits, &items, &spans))
+}
+
 /// The goals of a plan.
 fn goals_of(alloc: Global, items: &[Placed], spans: &[BlockSpan]) -> Result<Vec<Goal>, AllocError>
     requires few { length items.now ≤ 65536 }
@@ -63,7 +96,7 @@ fn goals_of(alloc: Global, items: &[Placed], spans: &[BlockSpan]) -> Result<Vec<
 
 #[test]
 fn the_first_item_out_of_order_is_found(rt: HostRuntime) -> Result<(), Fail> {
-    for (starts, counts, first) in [
+    let cases = &[
         ([0x10, 0x12, 0x14, 0x16], [4, 0, 0], None),
         ([0x10, 0x13, 0x15, 0x18], [4, 0, 0], Some(1)),
         ([0x10, 0x13, 0x15, 0x17], [1, 0, 3], None),
@@ -71,19 +104,17 @@ fn the_first_item_out_of_order_is_found(rt: HostRuntime) -> Result<(), Fail> {
         ([0x10, 0x12, 0x14, 0x10], [1, 0, 3], Some(3)),
         ([0xFFFF_FFFF_FFFF_FFFE, 0, 2, 4], [4, 0, 0], Some(1)),
         ([0xFFFF_FFFF_FFFF_FFFE, 0, 2, 4], [1, 3, 0], None),
-    ] {
-        let items = starts.map(|ip| jump(ip));
-        let Some(spans) = spans_of(&items, counts, 0x5800) else {
-            return Err(Fail::new("the blocks take other items"));
-        };
-        assert_eq!(rt; first_disorder(&items, &spans), first, "{starts:?}");
+    ];
+    for (starts, counts, first) in cases {
+        let found = disorder_of(rt.alloc(), starts, *counts)?;
+        assert_eq!(rt; found, *first, "{starts:?}");
     }
     Ok(())
 }
 
 #[test]
 fn the_first_end_behind_all_addresses_is_found(rt: HostRuntime) -> Result<(), Fail> {
-    for (bits, starts, counts, second, first) in [
+    let cases = &[
         (Bits::B16, [0xFFFE, 0xFFFE], [1, 0, 1], 0x1_0000, None),
         (Bits::B16, [0, 0xFFFF], [1, 0, 1], 0, Some(0x1_0001)),
         (Bits::B16, [0xFFFF, 1], [2, 0, 0], 0x1_0001, Some(0x1_0001)),
@@ -102,58 +133,99 @@ fn the_first_end_behind_all_addresses_is_found(rt: HostRuntime) -> Result<(), Fa
             [0, 0xFFFF_FFFF_FFFF_FFFF],
             [1, 1, 0],
             0,
-            Some((1 << 64) + 1),
+            Some(0x1_0000_0000_0000_0001),
         ),
-    ] {
-        let items = starts.map(|ip| jump(ip));
-        let Some(spans) = spans_of(&items, counts, second) else {
-            return Err(Fail::new("the blocks take other items"));
-        };
-        assert_eq!(rt; first_old_pass(bits, &items, &spans), first, "{starts:?}");
+    ];
+    for (bits, starts, counts, second, first) in cases {
+        let found = old_pass_of(rt.alloc(), *bits, starts, *counts, *second)?;
+        assert_eq!(rt; found, *first, "{starts:?}");
     }
     Ok(())
 }
 
+/// The goals of instructions, which are given by their addresses and hexadecimal digits, in three blocks of so many.
+fn goals_in(alloc: Global, all: &[(u64, &str)], counts: [u32; 3]) -> Result<Vec<Goal>, Fail> {
+    let items = all_placed(alloc, all)?;
+    let Some(spans) = spans_of(&items, counts, 0x5800) else {
+        return Err(Fail::new("the blocks take other items"));
+    };
+    if first_disorder(&items, &spans).is_some() || items.len() > 4 {
+        return Err(Fail::new("the items are out of order"));
+    }
+    Ok(goals_of(alloc, &items, &spans)?)
+}
+
+/// Two jumps to one another, and two more at the same addresses.
+const OWN: [(u64, &str); 4] = [
+    (0x10, "eb00"),
+    (0x12, "ebfc"),
+    (0x10, "eb00"),
+    (0x12, "ebfc"),
+];
+
+/// Jumps into other blocks.
+const OTHERS: [(u64, &str); 4] = [
+    (0x10, "eb0e"),
+    (0x20, "eb00"),
+    (0x20, "ebee"),
+    (0x22, "ebfc"),
+];
+
+/// Jumps to where no instruction began, and one to itself.
+const OUTSIDE: [(u64, &str); 4] = [
+    (0x10, "ebff"),
+    (0x12, "eb00"),
+    (0x20, "ebf1"),
+    (0x22, "ebfe"),
+];
+
 // JMP to a target in the own block, in two other ones, in the middle of an item, and where nothing began.
 #[test]
 fn targets_have_their_goals(rt: HostRuntime) -> Result<(), Fail> {
-    let own = [
-        (0x10, "eb00"),
-        (0x12, "ebfc"),
-        (0x10, "eb00"),
-        (0x12, "ebfc"),
-    ];
-    let others = [
-        (0x10, "eb0e"),
-        (0x20, "eb00"),
-        (0x20, "ebee"),
-        (0x22, "ebfc"),
-    ];
-    let outside = [
-        (0x10, "ebff"),
-        (0x12, "eb00"),
-        (0x20, "ebf1"),
-        (0x22, "ebfe"),
-    ];
-    let (item, stays) = (|k| Goal::Inside(k), |target| Goal::Outside(target));
-    for (all, counts, goals) in [
-        (own, [2, 2, 0], [item(1), item(0), item(3), item(2)]),
-        (own, [2, 0, 2], [item(1), item(0), item(3), item(2)]),
-        (others, [1, 1, 2], [item(1), item(3), item(0), item(2)]),
+    let cases = &[
         (
-            outside,
-            [2, 0, 2],
-            [stays(0x11), stays(0x14), stays(0x13), item(3)],
+            OWN,
+            [2, 2, 0],
+            [
+                Goal::Inside(1),
+                Goal::Inside(0),
+                Goal::Inside(3),
+                Goal::Inside(2),
+            ],
         ),
-    ] {
-        let items = all_placed(rt.alloc(), &all)?;
-        let Some(spans) = spans_of(&items, counts, 0x5800) else {
-            return Err(Fail::new("the blocks take other items"));
-        };
-        if first_disorder(&items, &spans).is_some() || items.len() > 4 {
-            return Err(Fail::new("the items are out of order"));
-        }
-        let found = goals_of(rt.alloc(), &items, &spans)?;
+        (
+            OWN,
+            [2, 0, 2],
+            [
+                Goal::Inside(1),
+                Goal::Inside(0),
+                Goal::Inside(3),
+                Goal::Inside(2),
+            ],
+        ),
+        (
+            OTHERS,
+            [1, 1, 2],
+            [
+                Goal::Inside(1),
+                Goal::Inside(3),
+                Goal::Inside(0),
+                Goal::Inside(2),
+            ],
+        ),
+        (
+            OUTSIDE,
+            [2, 0, 2],
+            [
+                Goal::Outside(0x11),
+                Goal::Outside(0x14),
+                Goal::Outside(0x13),
+                Goal::Inside(3),
+            ],
+        ),
+    ];
+    for (all, counts, goals) in cases {
+        let found = goals_in(rt.alloc(), all, *counts)?;
         assert_eq!(rt; found.as_slice(), goals.as_slice());
     }
     Ok(())

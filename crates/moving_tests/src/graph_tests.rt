@@ -4,6 +4,7 @@ use decoder::DecodeError;
 use flow_graph::{FlowGraph, flow_graph, flow_graph_from, flow_graph_in};
 use operand_info::Flow;
 use std::alloc::Global;
+use std::process::Abort;
 use std::test::Fail;
 use x86_values::Bits;
 
@@ -20,9 +21,29 @@ fn graph_of(alloc: Global, bits: Bits, base: u64, digits: &str) -> Result<FlowGr
     })
 }
 
+/// What control reaches in 64-bit code from several first offsets.
+fn graph_from(alloc: Global, base: u64, digits: &str, entries: &[u32]) -> Result<FlowGraph, Fail> {
+    let bytes = hex::decode(alloc, digits)?;
+    if bytes.len() > 16 {
+        return Err(Fail::new("there are more than 16 bytes"));
+    }
+    Ok(flow_graph_from(alloc, Bits::B64, base, &bytes, entries)?)
+}
+
+/// That control reaches these offsets of some code, whose basic blocks have these leaders.
+fn has_leaders(rt: &impl Abort, graph: &FlowGraph, starts: &[u32], leaders: &[u32], code: &str) {
+    assert_eq!(rt; graph.starts(), starts, "the starts of {code}");
+    assert_eq!(rt; graph.leaders(), leaders, "the leaders of {code}");
+}
+
+/// That the offsets that are reached in some code have these flows.
+fn has_flows(rt: &impl Abort, graph: &FlowGraph, flows: &[Result<Flow, DecodeError>], code: &str) {
+    assert_eq!(rt; graph.flows(), flows, "the flows of {code}");
+}
+
 #[test]
 fn code_has_its_reached_offsets_and_leaders(rt: HostRuntime) -> Result<(), Fail> {
-    let cases: [(&str, &[u32], &[u32]); 27] = [
+    let cases: &[(&str, &[u32], &[u32])] = &[
         ("", &[], &[]),
         ("9090c3", &[0, 1, 2], &[0, 0, 0]),
         // behind the last byte
@@ -65,15 +86,14 @@ fn code_has_its_reached_offsets_and_leaders(rt: HostRuntime) -> Result<(), Fail>
     ];
     for (digits, starts, leaders) in cases {
         let graph = graph_of(rt.alloc(), Bits::B64, 0x40_1000, digits)?;
-        assert_eq!(rt; graph.starts(), starts, "the starts of {digits}");
-        assert_eq!(rt; graph.leaders(), leaders, "the leaders of {digits}");
+        has_leaders(&rt, &graph, starts, leaders, digits);
     }
     Ok(())
 }
 
 #[test]
 fn each_reached_offset_has_its_flow(rt: HostRuntime) -> Result<(), Fail> {
-    let cases: [(&str, &[Result<Flow, DecodeError>]); 5] = [
+    let cases: &[(&str, &[Result<Flow, DecodeError>])] = &[
         ("", &[]),
         (
             "74010fc3",
@@ -103,7 +123,7 @@ fn each_reached_offset_has_its_flow(rt: HostRuntime) -> Result<(), Fail> {
     ];
     for (digits, flows) in cases {
         let graph = graph_of(rt.alloc(), Bits::B64, 0, digits)?;
-        assert_eq!(rt; graph.flows(), flows, "the flows of {digits}");
+        has_flows(&rt, &graph, flows, digits);
     }
     Ok(())
 }
@@ -111,7 +131,7 @@ fn each_reached_offset_has_its_flow(rt: HostRuntime) -> Result<(), Fail> {
 // 64-bit code at 0x401000 from several first offsets: those outside the code, and those that stand there again, add nothing.
 #[test]
 fn several_entries_have_one_graph(rt: HostRuntime) -> Result<(), Fail> {
-    let cases: [(&str, &[u32], &[u32], &[u32]); 10] = [
+    let cases: &[(&str, &[u32], &[u32], &[u32])] = &[
         ("", &[0], &[], &[]),
         ("9090c3", &[], &[], &[]),
         ("9090c3", &[1], &[1, 2], &[1, 1]),
@@ -128,40 +148,41 @@ fn several_entries_have_one_graph(rt: HostRuntime) -> Result<(), Fail> {
         ("eb0190c3", &[2, 0], &[0, 2, 3], &[0, 2, 3]),
     ];
     for (digits, entries, starts, leaders) in cases {
-        let bytes = hex::decode(rt.alloc(), digits)?;
-        if bytes.len() > 16 {
-            return Err(Fail::new("there are more than 16 bytes"));
-        }
-        let graph = flow_graph_from(rt.alloc(), Bits::B64, 0x40_1000, &bytes, entries)?;
-        assert_eq!(rt; graph.starts(), starts, "the starts of {digits}");
-        assert_eq!(rt; graph.leaders(), leaders, "the leaders of {digits}");
+        let graph = graph_from(rt.alloc(), 0x40_1000, digits, entries)?;
+        has_leaders(&rt, &graph, starts, leaders, digits);
     }
-    let graph = flow_graph_from(rt.alloc(), Bits::B64, 0, &[0x90, 0xE8, 0x06], &[2, 0])?;
-    let flows = [
+    let graph = graph_from(rt.alloc(), 0, "90e806", &[2, 0])?;
+    let flows = &[
         Ok(Flow::Next),
         Err(DecodeError::TooShort),
         Err(DecodeError::Invalid),
     ];
-    assert_eq!(rt; graph.flows(), flows.as_slice());
+    has_flows(&rt, &graph, flows, "90e806");
     Ok(())
 }
 
+/// What control reaches in bytes of a mode that is given as a value.
+fn graph_in(alloc: Global, bits: Bits, base: u64, digits: &str) -> Result<FlowGraph, Fail> {
+    let bytes = hex::decode(alloc, digits)?;
+    if bytes.len() > 16 {
+        return Err(Fail::new("there are more than 16 bytes"));
+    }
+    Ok(flow_graph_in(alloc, bits, base, &bytes)?)
+}
+
+// A jump forth to ret, and one back to the first byte.
 #[test]
 fn targets_go_around_the_address_space(rt: HostRuntime) -> Result<(), Fail> {
-    let forth = [0xEB, 0x01, 0xCC, 0xC3];
-    let back = [0x90, 0x90, 0xEB, 0xFC];
-    for (bits, base) in [
+    for (bits, base) in &[
         (Bits::B16, 0xFFFE),
         (Bits::B16, 0x1_FFFE),
         (Bits::B32, 0xFFFF_FFFE),
         (Bits::B64, 0xFFFF_FFFF_FFFF_FFFE),
     ] {
-        let graph = flow_graph_in(rt.alloc(), bits, base, &forth)?;
-        assert_eq!(rt; graph.starts(), [0u32, 3].as_slice(), "from {base}");
-        assert_eq!(rt; graph.leaders(), [0u32, 3].as_slice(), "from {base}");
-        let graph = flow_graph_in(rt.alloc(), bits, base, &back)?;
-        assert_eq!(rt; graph.starts(), [0u32, 1, 2].as_slice(), "from {base}");
-        assert_eq!(rt; graph.leaders(), [0u32, 0, 0].as_slice(), "from {base}");
+        let forth = graph_in(rt.alloc(), *bits, *base, "eb01ccc3")?;
+        has_leaders(&rt, &forth, &[0, 3], &[0, 3], "eb01ccc3");
+        let back = graph_in(rt.alloc(), *bits, *base, "9090ebfc")?;
+        has_leaders(&rt, &back, &[0, 1, 2], &[0, 0, 0], "9090ebfc");
     }
     Ok(())
 }
@@ -169,7 +190,7 @@ fn targets_go_around_the_address_space(rt: HostRuntime) -> Result<(), Fail> {
 // `inc eax` and `ret`, or `ret` with a REX prefix; a call to its end, of three bytes or of five.
 #[test]
 fn each_mode_reads_its_own_code(rt: HostRuntime) -> Result<(), Fail> {
-    let cases: [(Bits, &str, &[u32], &[u32]); 5] = [
+    let cases: &[(Bits, &str, &[u32], &[u32])] = &[
         (Bits::B16, "40c3", &[0, 1], &[0, 0]),
         (Bits::B32, "40c3", &[0, 1], &[0, 0]),
         (Bits::B64, "40c3", &[0], &[0]),
@@ -177,17 +198,8 @@ fn each_mode_reads_its_own_code(rt: HostRuntime) -> Result<(), Fail> {
         (Bits::B32, "e800000000c3", &[0, 5], &[0, 0]),
     ];
     for (bits, digits, starts, leaders) in cases {
-        let graph = graph_of(rt.alloc(), bits, 0x100, digits)?;
-        assert_eq!(rt;
-            graph.starts(),
-            starts,
-            "the starts of {digits} in {bits:?}"
-        );
-        assert_eq!(rt;
-            graph.leaders(),
-            leaders,
-            "the leaders of {digits} in {bits:?}"
-        );
+        let graph = graph_of(rt.alloc(), *bits, 0x100, digits)?;
+        has_leaders(&rt, &graph, starts, leaders, digits);
     }
     Ok(())
 }

@@ -2,12 +2,13 @@
 
 ghost use Rattle.std.specs.Prelude.{◌≡◌, ◌<◌, ◌≤◌, ◌∷◌, [], IsTrue, IfOk, length};
 ghost use Rattle.std.specs.List.{list_all};
-ghost use Rattle.branch_sizes.specs.Plan.{is_fit_branch};
+ghost use Rattle.branch_sizes.specs.Plan.{is_fit_branch, is_fit_goal};
 
 use arrayvec::ArrayVec;
 use branch_sizes::{BlockSpan, Branch, Choice, Form, Goal, Plan, Reach};
 use move_layout::{BlockEnd, Fragment, Layout, lay_out};
 use std::alloc::{AllocError, Global};
+use std::process::Abort;
 use std::test::Fail;
 
 /// An item of one choice that reaches every goal.
@@ -38,106 +39,118 @@ fn fragment(form: Form, len: u8, place: u128, goal: u128, slot: u128) -> Fragmen
     }
 }
 
-/// A far item and a second one from 0x1003 on.
+/// The end of a block's images, how many slots it has, and its end.
+fn block_end(images: u128, slots: usize, end: u128) -> BlockEnd {
+    BlockEnd { images, slots, end }
+}
+
+/// That a layout has these fragments.
+fn has_fragments(rt: &impl Abort, laid: &Layout, want: &[Fragment]) {
+    assert_eq!(rt; laid.fragments.as_slice(), want);
+}
+
+/// That the blocks of a layout have these ends.
+fn has_ends(rt: &impl Abort, laid: &Layout, want: &[BlockEnd]) {
+    assert_eq!(rt; laid.ends.as_slice(), want);
+}
+
+/// That the slots of a layout have these goals.
+fn has_slots(rt: &impl Abort, laid: &Layout, want: &[u128]) {
+    assert_eq!(rt; laid.slots.as_slice(), want);
+}
+
+/// A far item to 0x9000 and a second one, from 0x1003 on.
+fn two_from_1003(alloc: Global, form: Form, to: Goal) -> Result<Layout, Fail>
+    requires { IsTrue (is_fit_goal 2 1 to) }
+{
+    let far = item(Form::Far, 6, Goal::Outside(0x9000));
+    let items = vec![in alloc; far, item(form, 6, to)]?;
+    Ok(lay_out(alloc, &Plan::new(0x1003, items))?)
+}
+
+/// That the second of two items, with this form, goes to this address by this slot, that all slots have these goals, and
+/// that the block ends here.
+fn has_second(
+    rt: &impl Abort,
+    laid: &Layout,
+    (form, goal, slot): (Form, u128, u128),
+    slots: &[u128],
+    end: u128,
+) {
+    let first = fragment(Form::Far, 6, 0x1003, 0x9000, 0x1010);
+    let second = fragment(form, 6, 0x1009, goal, slot);
+    has_fragments(rt, laid, &[first, second]);
+    has_ends(rt, laid, &[block_end(0x100f, slots.len(), end)]);
+    has_slots(rt, laid, slots);
+}
+
 #[test]
 fn two_items_have_their_fragments(rt: HostRuntime) -> Result<(), Fail> {
-    let goal = 0x9000;
-    for (form, to, second, slots, end) in [
-        (Form::Far, Goal::Outside(0x9000), 0x9000, 1, 0x1018),
-        (Form::FarBridge, Goal::Outside(0x9001), 0x9001, 2, 0x1020),
-        (Form::Far, Goal::Inside(0), 0x1003, 2, 0x1020),
-        (Form::Near, Goal::Inside(1), 0x1009, 1, 0x1018),
-    ] {
-        let items = vec![in rt.alloc();
-            item(Form::Far, 6, Goal::Outside(goal)),
-            item(form, 6, to),
-        ]?;
-        let laid = lay_out(rt.alloc(), &Plan::new(0x1003, items))?;
-        let slot = match form {
-            Form::Near => 0,
-            _ => 0x1008 + 8 * slots,
-        };
-        assert_eq!(rt;
-            laid.fragments.as_slice(),
-            [
-                fragment(Form::Far, 6, 0x1003, 0x9000, 0x1010),
-                fragment(form, 6, 0x1009, second, slot),
-            ]
-            .as_slice()
-        );
-        let last = BlockEnd {
-            images: 0x100f,
-            slots: slots as usize,
-            end,
-        };
-        assert_eq!(rt; laid.ends.as_slice(), [last].as_slice());
-        let goals = [u128::from(goal), second];
-        assert_eq!(rt; laid.slots.as_slice(), &goals[..slots as usize]);
-    }
+    let alloc = rt.alloc();
+    let laid = two_from_1003(alloc, Form::Far, Goal::Outside(0x9000))?;
+    let second = (Form::Far, 0x9000, 0x1010);
+    has_second(&rt, &laid, second, &[0x9000], 0x1018);
+    let laid = two_from_1003(alloc, Form::FarBridge, Goal::Outside(0x9001))?;
+    let second = (Form::FarBridge, 0x9001, 0x1018);
+    has_second(&rt, &laid, second, &[0x9000, 0x9001], 0x1020);
+    let laid = two_from_1003(alloc, Form::Far, Goal::Inside(0))?;
+    let second = (Form::Far, 0x1003, 0x1018);
+    has_second(&rt, &laid, second, &[0x9000, 0x1003], 0x1020);
+    let laid = two_from_1003(alloc, Form::Near, Goal::Inside(1))?;
+    let second = (Form::Near, 0x1009, 0);
+    has_second(&rt, &laid, second, &[0x9000], 0x1018);
     Ok(())
 }
 
-/// Blocks without items, without slots, and with a slot each for the same goal.
-#[test]
-fn blocks_have_their_ends(rt: HostRuntime) -> Result<(), Fail> {
-    let spans = vec![in rt.alloc();
-        BlockSpan {
-            count: 0,
-            new_base: 0x2001,
-        },
-        BlockSpan {
-            count: 1,
-            new_base: 0x3000,
-        },
-        BlockSpan {
-            count: 1,
-            new_base: 0x4005,
-        },
-        BlockSpan {
-            count: 1,
-            new_base: 0x5008,
-        },
+/// A block of so many items at an address.
+fn span(count: u32, new_base: u64) -> BlockSpan
+    ensures { result.count ≡ count }
+{
+    BlockSpan { count, new_base }
+}
+
+/// A block without items, one without slots, and two with a slot each for the same goal.
+fn four_blocks(alloc: Global) -> Result<Layout, Fail> {
+    let spans = vec![in alloc;
+        span(0, 0x2001),
+        span(1, 0x3000),
+        span(1, 0x4005),
+        span(1, 0x5008),
     ]?;
-    let items = vec![in rt.alloc();
+    let items = vec![in alloc;
         item(Form::Itself, 3, Goal::None),
         item(Form::Far, 8, Goal::Outside(0x9000)),
         item(Form::Far, 6, Goal::Outside(0x9000)),
     ]?;
-    let laid = lay_out(rt.alloc(), &Plan::of_blocks(spans, items))?;
-    assert_eq!(rt;
-        laid.fragments.as_slice(),
-        [
-            fragment(Form::Itself, 3, 0x3000, 0, 0),
-            fragment(Form::Far, 8, 0x4005, 0x9000, 0x4010),
-            fragment(Form::Far, 6, 0x5008, 0x9000, 0x5010),
-        ]
-        .as_slice()
-    );
-    let ends = [
-        (0x2001, 0, 0x2001),
-        (0x3003, 0, 0x3003),
-        (0x400d, 1, 0x4018),
-        (0x500e, 1, 0x5018),
+    Ok(lay_out(alloc, &Plan::of_blocks(spans, items))?)
+}
+
+#[test]
+fn blocks_have_their_ends(rt: HostRuntime) -> Result<(), Fail> {
+    let laid = four_blocks(rt.alloc())?;
+    let fragments = [
+        fragment(Form::Itself, 3, 0x3000, 0, 0),
+        fragment(Form::Far, 8, 0x4005, 0x9000, 0x4010),
+        fragment(Form::Far, 6, 0x5008, 0x9000, 0x5010),
     ];
-    assert_eq!(rt; laid.ends.len(), ends.len());
-    for (found, (images, slots, end)) in laid.ends.iter().zip(ends) {
-        assert_eq!(rt; *found, BlockEnd { images, slots, end });
-    }
-    assert_eq!(rt; laid.slots.as_slice(), [0x9000, 0x9000].as_slice());
+    has_fragments(&rt, &laid, &fragments);
+    let ends = [
+        block_end(0x2001, 0, 0x2001),
+        block_end(0x3003, 0, 0x3003),
+        block_end(0x400d, 1, 0x4018),
+        block_end(0x500e, 1, 0x5018),
+    ];
+    has_ends(&rt, &laid, &ends);
+    has_slots(&rt, &laid, &[0x9000, 0x9000]);
     Ok(())
 }
 
 #[test]
 fn no_item_ends_where_it_begins(rt: HostRuntime) -> Result<(), Fail> {
     let laid = lay_out(rt.alloc(), &Plan::new(0x1003, Vec::new(rt.alloc())))?;
-    assert_eq!(rt; laid.fragments.len(), 0);
-    let end = BlockEnd {
-        images: 0x1003,
-        slots: 0,
-        end: 0x1003,
-    };
-    assert_eq!(rt; laid.ends.as_slice(), [end].as_slice());
-    assert_eq!(rt; laid.slots.len(), 0);
+    has_fragments(&rt, &laid, &[]);
+    has_ends(&rt, &laid, &[block_end(0x1003, 0, 0x1003)]);
+    has_slots(&rt, &laid, &[]);
     Ok(())
 }
 

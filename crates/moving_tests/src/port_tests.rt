@@ -9,41 +9,46 @@ use byte_ports::{
 };
 use std::io;
 use std::io::{Read, Write};
+use std::process::Abort;
 use std::test::Fail;
 
-/// The calls of this list, for a port that fails at them.
-fn calls(numbers: &[u64]) -> ArrayVec<u64, 8> {
+/// Two calls, for a port that fails at them.
+fn calls(one: u64, other: u64) -> ArrayVec<u64, 8> {
     let mut listed = ArrayVec::new();
-    for number in numbers {
-        let _ = listed.try_push(*number);
-    }
+    listed.push(one);
+    listed.push(other);
     listed
 }
 
+/// That a source gives so many bytes, behind which a buffer is so.
+fn gives<S: Source>(rt: &impl Abort, source: &mut S, into: &mut [u8], count: usize, want: &[u8]) {
+    assert_eq!(rt; source.pull(into), Ok(count), "before {want:?}");
+    assert!(rt; *into == *want, "{count} bytes to {want:?}");
+}
+
 #[test]
-fn sources_give_their_bytes(rt: HostRuntime) {
-    let bytes = [1, 2, 3, 4, 5];
+fn a_source_gives_its_bytes(rt: HostRuntime) {
     let mut into = [0; 3];
+    let mut memory = MemSource::new(&[1, 2, 3, 4, 5]);
+    gives(&rt, &mut memory, &mut into, 3, &[1, 2, 3]);
+    gives(&rt, &mut memory, &mut into, 2, &[4, 5, 3]);
+    gives(&rt, &mut memory, &mut into, 0, &[4, 5, 3]);
+}
 
-    let mut memory = MemSource::new(&bytes);
-    assert_eq!(rt; memory.pull(&mut into), Ok(3));
-    assert_eq!(rt; into, [1, 2, 3]);
-    assert_eq!(rt; memory.pull(&mut into), Ok(2));
-    assert_eq!(rt; into, [4, 5, 3]);
-    assert_eq!(rt; memory.pull(&mut into), Ok(0));
-
-    let mut slow = SlowSource::new(MemSource::new(&bytes));
-    assert_eq!(rt; slow.pull(&mut []), Ok(0));
-    for (byte, rest) in [(1, 2), (2, 3), (3, 4)] {
-        assert_eq!(rt; slow.pull(&mut into), Ok(1), "before {rest}");
-        assert_eq!(rt; into, [byte, 5, 3], "before {rest}");
-    }
+#[test]
+fn a_slow_source_gives_a_byte_a_call(rt: HostRuntime) {
+    let mut into = [4, 5, 3];
+    let mut slow = SlowSource::new(MemSource::new(&[1, 2, 3, 4, 5]));
+    gives(&rt, &mut slow, &mut [], 0, &[]);
+    gives(&rt, &mut slow, &mut into, 1, &[1, 5, 3]);
+    gives(&rt, &mut slow, &mut into, 1, &[2, 5, 3]);
+    gives(&rt, &mut slow, &mut into, 1, &[3, 5, 3]);
 }
 
 #[test]
 fn a_port_fails_at_the_listed_calls(rt: HostRuntime) -> Result<(), Fail> {
     let bytes = [1, 2, 3, 4, 5];
-    let mut source = FailAt::new(SlowSource::new(MemSource::new(&bytes)), calls(&[2, 4]));
+    let mut source = FailAt::new(SlowSource::new(MemSource::new(&bytes)), calls(2, 4));
     for (call, answer) in [
         (1, Ok(1)),
         (2, Err(Failed)),
@@ -55,7 +60,7 @@ fn a_port_fails_at_the_listed_calls(rt: HostRuntime) -> Result<(), Fail> {
         assert_eq!(rt; source.pull(&mut into), answer, "call {call}");
     }
 
-    let mut sink = FailAt::new(MemSink::new(rt.alloc(), 4)?, calls(&[1, 3]));
+    let mut sink = FailAt::new(MemSink::new(rt.alloc(), 4)?, calls(1, 3));
     for (call, answer) in [
         (1, Err(Failed)),
         (2, Ok(3)),

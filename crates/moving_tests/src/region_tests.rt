@@ -1,21 +1,16 @@
 //! Whole scenarios: requests to a region, and what they answer.
 
-ghost use Rattle.std.specs.Prelude.{◌≡◌, IfOk};
-ghost use Rattle.code_region.specs.Opening.{empty_region};
-
 use code_region::{Command, NotTaken, OpenError, PlaceError, Region, Reply, replay};
+use std::alloc::Global;
+use std::process::Abort;
 use std::test::Fail;
 
-fn region_of(rt: &HostRuntime, base: u64, size: u64, max_blocks: u64) -> Result<Region, OpenError>
-    ensures { IfOk result (λ region. region ≡ empty_region base size max_blocks) }
-{
-    Region::make(rt.alloc(), base, size, max_blocks)
-}
+/// The last 16 addresses begin here.
+const LAST: u64 = 0xFFFF_FFFF_FFFF_FFF0;
 
 #[test]
 fn a_region_opens_within_its_limits(rt: HostRuntime) {
-    let last = 0xFFFF_FFFF_FFFF_FFF0;
-    let cases = [
+    let cases = &[
         (0x40_0000, 64, 8, None),
         (0x40_0000, 8, 8, Some(OpenError::BadSize { size: 8 })),
         (0, 0, 1, Some(OpenError::BadSize { size: 0 })),
@@ -27,14 +22,14 @@ fn a_region_opens_within_its_limits(rt: HostRuntime) {
             Some(OpenError::BadSize { size: 1_048_592 }),
         ),
         (
-            last,
+            LAST,
             32,
             1,
             Some(OpenError::Wraps {
-                end: (1 << 64) + 16,
+                end: 0x1_0000_0000_0000_0010,
             }),
         ),
-        (last, 16, 1, None),
+        (LAST, 16, 1, None),
         (0, 16, 0, Some(OpenError::TooManyBlocks { max: 0 })),
         (
             0,
@@ -44,62 +39,104 @@ fn a_region_opens_within_its_limits(rt: HostRuntime) {
         ),
     ];
     for (base, size, max_blocks, want) in cases {
-        let got = region_of(&rt, base, size, max_blocks).err();
-        assert_eq!(rt; got, want, "{base:#x} {size} {max_blocks}");
+        let got = Region::make(rt.alloc(), *base, *size, *max_blocks).err();
+        assert_eq!(rt; got, *want, "{base:#x} {size} {max_blocks}");
+    }
+}
+
+/// That a request for so many bytes is answered so.
+fn places(rt: &impl Abort, region: &mut Region, len: u64, want: Result<u64, PlaceError>) {
+    assert_eq!(rt; region.place(len), want, "{len} bytes");
+}
+
+/// That the release of a place is answered so.
+fn releases(rt: &impl Abort, region: &mut Region, place: u64, want: Result<(), NotTaken>) {
+    assert_eq!(rt; region.release(place), want, "{place:#x}");
+}
+
+/// That so many blocks are live.
+fn has_blocks(rt: &impl Abort, region: &Region, count: u64) {
+    assert_eq!(rt; region.block_count(), count);
+}
+
+/// The place and the length of a live block, if there are as many.
+fn block(region: &Region, i: u64) -> Option<(u64, u64)> {
+    if i < region.block_count() {
+        Some(region.block_at(i))
+    } else {
+        None
     }
 }
 
 #[test]
 fn a_released_place_is_used_again(rt: HostRuntime) -> Result<(), Fail> {
-    let mut region = region_of(&rt, 0x40_0000, 64, 8)?;
-    for want in [0x40_0000, 0x40_0010, 0x40_0020, 0x40_0030] {
-        assert_eq!(rt; region.place(16), Ok(want));
+    let mut region = Region::make(rt.alloc(), 0x40_0000, 64, 8)?;
+    for want in &[0x40_0000, 0x40_0010, 0x40_0020, 0x40_0030] {
+        places(&rt, &mut region, 16, Ok(*want));
     }
-    assert_eq!(rt;
-        region.place(16),
-        Err(PlaceError::Full {
-            len: 16,
-            largest: 0
-        })
-    );
-    assert_eq!(rt; region.release(0x40_0010), Ok(()));
-    assert_eq!(rt; region.place(9), Ok(0x40_0010));
-    assert_eq!(rt; region.release(0x40_0030), Ok(()));
-    assert_eq!(rt;
-        region.release(0x40_0030),
-        Err(NotTaken { place: 0x40_0030 })
-    );
-    assert_eq!(rt; region.block_count(), 3);
-    for (i, want) in [(0, 0x40_0000), (1, 0x40_0010), (2, 0x40_0020)] {
-        if i < region.block_count() {
-            assert_eq!(rt; region.block_at(i), (want, 16));
-        }
+    let full = PlaceError::Full {
+        len: 16,
+        largest: 0,
+    };
+    places(&rt, &mut region, 16, Err(full));
+    releases(&rt, &mut region, 0x40_0010, Ok(()));
+    places(&rt, &mut region, 9, Ok(0x40_0010));
+    releases(&rt, &mut region, 0x40_0030, Ok(()));
+    let place = 0x40_0030;
+    releases(&rt, &mut region, place, Err(NotTaken { place }));
+    has_blocks(&rt, &region, 3);
+    for (i, want) in &[(0, 0x40_0000), (1, 0x40_0010), (2, 0x40_0020)] {
+        assert_eq!(rt; block(&region, *i), Some((*want, 16)));
     }
     Ok(())
 }
 
-#[test]
-fn bytes_outside_content_are_int3(rt: HostRuntime) -> Result<(), Fail> {
-    let mut region = region_of(&rt, 0, 64, 2)?;
+/// What a region answers to a request for bytes.
+type Answer = Result<u64, PlaceError>;
+
+/// A region at 0 for two blocks, and its answers to requests for no bytes, one byte and one byte; the second block has
+/// the byte of NOP.
+fn with_two_blocks(alloc: Global) -> Result<(Region, Answer, Answer, Answer), OpenError> {
+    let mut region = Region::make(alloc, 0, 64, 2)?;
     let empty = region.place(0);
     let first = region.place(1);
     let second = region.place(1);
     region.fill(0x10, &[0x90]);
-    assert_eq!(rt; empty, Err(PlaceError::Empty));
-    assert_eq!(rt; (first, second), (Ok(0), Ok(0x10)));
-    assert_eq!(rt; region.place(1), Err(PlaceError::TooManyBlocks { max: 2 }));
-    for (i, byte) in region.image().iter().enumerate() {
-        let want = if i == 0x10 { 0x90 } else { 0xCC };
-        assert_eq!(rt; *byte, want, "at {i:#x}");
+    Ok((region, empty, first, second))
+}
+
+/// That a region has these bytes from one address to before another, and CC elsewhere.
+fn has_bytes(rt: &impl Abort, region: &Region, byte: u8, from: usize, to: usize) {
+    for (i, found) in region.image().iter().enumerate() {
+        let want = if from <= i && i < to { byte } else { 0xCC };
+        assert_eq!(rt; *found, want, "at {i:#x}");
     }
-    assert_eq!(rt; region.release(0x10), Ok(()));
+}
+
+#[test]
+fn bytes_outside_content_are_int3(rt: HostRuntime) -> Result<(), Fail> {
+    let (mut region, empty, first, second) = with_two_blocks(rt.alloc())?;
+    let refused = Err(PlaceError::Empty);
+    assert_eq!(rt; (empty, first, second), (refused, Ok(0), Ok(0x10)));
+    let many = PlaceError::TooManyBlocks { max: 2 };
+    places(&rt, &mut region, 1, Err(many));
+    has_bytes(&rt, &region, 0x90, 0x10, 0x11);
+    releases(&rt, &mut region, 0x10, Ok(()));
     assert_eq!(rt; region.image(), [0xCC; 64].as_slice());
     Ok(())
 }
 
+/// What a region of 128 bytes at 0 for 8 blocks answers to these commands, one after the other, and how it stands then.
+fn replayed(alloc: Global, commands: &[Command]) -> Result<(Region, Vec<Reply>), Fail> {
+    let mut region = Region::make(alloc, 0, 128, 8)?;
+    let mut replies = vec![in alloc; Reply::Empty; commands.len()]?;
+    replay(&mut region, commands, &mut replies);
+    Ok((region, replies))
+}
+
 #[test]
 fn commands_are_replayed_on_a_region(rt: HostRuntime) -> Result<(), Fail> {
-    let steps = [
+    let steps = &[
         (Command::Place { len: 16 }, Reply::Placed { place: 0 }),
         (Command::Place { len: 16 }, Reply::Placed { place: 0x10 }),
         (Command::Place { len: 16 }, Reply::Placed { place: 0x20 }),
@@ -165,20 +202,15 @@ fn commands_are_replayed_on_a_region(rt: HostRuntime) -> Result<(), Fail> {
         ),
         (Command::Place { len: 0 }, Reply::Empty),
     ];
-    let mut region = region_of(&rt, 0, 128, 8)?;
-    let commands = steps.map(|(command, _)| command);
-    let mut replies = [Reply::Empty; 22];
-    replay(&mut region, &commands, &mut replies);
-    for (i, (step, reply)) in steps.iter().zip(replies.iter()).enumerate() {
-        assert_eq!(rt; *reply, step.1, "at step {i}");
+    let mut commands = Vec::new(rt.alloc());
+    for (command, _) in steps {
+        commands.push(*command)?;
     }
-    for (i, byte) in region.image().iter().enumerate() {
-        let want = if (0x10..0x13).contains(&i) {
-            0x90
-        } else {
-            0xCC
-        };
-        assert_eq!(rt; *byte, want, "at {i:#x}");
+    let (region, replies) = replayed(rt.alloc(), &commands)?;
+    assert_eq!(rt; replies.len(), steps.len());
+    for (i, ((_, want), reply)) in steps.iter().zip(replies.iter()).enumerate() {
+        assert_eq!(rt; reply, want, "at step {i}");
     }
+    has_bytes(&rt, &region, 0x90, 0x10, 0x13);
     Ok(())
 }

@@ -51,11 +51,10 @@ fn plain(len: u8) -> Branch
 #[test]
 fn sums_follow_growth(rt: HostRuntime) -> Result<(), Fail> {
     let mut sums = Sums::make(rt.alloc(), &[2, 5, 1])?;
-    assert_eq!(rt; sums.before(0), 0);
-    assert_eq!(rt; sums.before(2), 7);
+    let (none, two) = (sums.before(0), sums.before(2));
     sums.grow(0, 3);
-    assert_eq!(rt; sums.before(2), 10);
-    assert_eq!(rt; sums.before(3), 11);
+    let (grown, all) = (sums.before(2), sums.before(3));
+    assert_eq!(rt; (none, two, grown, all), (0, 7, 10, 11));
     Ok(())
 }
 
@@ -145,33 +144,59 @@ fn count_of(forms: &[Form], form: Form) -> usize {
     forms.iter().filter(|f| **f == form).count()
 }
 
+/// How many items a layout makes near and how many short, and how many it has, from a base on.
+fn counts_of(
+    alloc: Global,
+    shape: Shape,
+    count: u32,
+    base: u64,
+) -> Result<(usize, usize, usize), Fail> {
+    if !(64..=65536).contains(&count) {
+        return Err(Fail::new("there are 64 to 65536 items"));
+    }
+    let items = items_of(alloc, shape, count)?;
+    let mut forms = Vec::new(alloc);
+    least_layout(alloc, &Plan::new(base, items), &mut forms)?;
+    let (near, short) = (count_of(&forms, Form::Near), count_of(&forms, Form::Short));
+    Ok((forms.len(), near, short))
+}
+
 #[test]
 fn long_plans_have_their_least_layout(rt: HostRuntime) -> Result<(), Fail> {
-    let mut forms = Vec::new(rt.alloc());
-    for (shape, count, base, near, short) in [
+    for (shape, count, base, near, short) in &[
         (Shape::Chain, 65536, 0, 65473, 0),
         (Shape::Chain, 1024, 0, 961, 0),
         (Shape::TargetMovesToo, 64, 0x5000, 62, 1),
     ] {
-        let items = items_of(rt.alloc(), shape, count)?;
-        let plan = Plan::new(base, items);
-        least_layout(rt.alloc(), &plan, &mut forms)?;
-        assert_eq!(rt; forms.len(), count as usize);
-        assert_eq!(rt; count_of(&forms, Form::Near), near, "of {count} items");
-        assert_eq!(rt; count_of(&forms, Form::Short), short, "of {count} items");
+        let counts = counts_of(rt.alloc(), *shape, *count, *base)?;
+        assert_eq!(rt;
+            counts,
+            (*count as usize, *near, *short),
+            "of {count} items"
+        );
     }
     Ok(())
 }
 
+/// The forms of no item, which take the place of those that stood there before.
+fn forms_of_none(alloc: Global) -> Result<Vec<Form>, Fail> {
+    let mut forms = vec![in alloc; Form::Far]?;
+    least_layout(alloc, &Plan::new(0, Vec::new(alloc)), &mut forms)?;
+    Ok(forms)
+}
+
+/// The forms of one branch.
+fn forms_of_one(alloc: Global) -> Result<Vec<Form>, Fail> {
+    let items = vec![in alloc; short_or_near(Goal::Outside(0x1000))]?;
+    let mut forms = vec![in alloc; Form::Far]?;
+    least_layout(alloc, &Plan::new(0, items), &mut forms)?;
+    Ok(forms)
+}
+
 #[test]
 fn no_item_and_one_branch_have_their_forms(rt: HostRuntime) -> Result<(), Fail> {
-    let mut forms = vec![in rt.alloc(); Form::Far]?;
-    let empty = Plan::new(0, Vec::new(rt.alloc()));
-    least_layout(rt.alloc(), &empty, &mut forms)?;
-    assert_eq!(rt; forms.len(), 0);
-    let items = vec![in rt.alloc(); short_or_near(Goal::Outside(0x1000))]?;
-    let one = Plan::new(0, items);
-    least_layout(rt.alloc(), &one, &mut forms)?;
+    assert_eq!(rt; forms_of_none(rt.alloc())?.len(), 0);
+    let forms = forms_of_one(rt.alloc())?;
     assert_eq!(rt; forms.as_slice(), [Form::Near].as_slice());
     Ok(())
 }

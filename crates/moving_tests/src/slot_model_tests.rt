@@ -7,8 +7,9 @@ ghost use Rattle.move_goals.specs.Items.{IsPlaced};
 use crate::items::placed_at;
 use crate::slot_tests::{finish, slots_of, step};
 use std::alloc::{AllocError, Global};
+use std::process::Abort;
 use std::test::Fail;
-use step_slots::{NotTaken, Placed, StepError};
+use step_slots::{NotTaken, Placed, StepError, StepSlots};
 
 /// The range: 24 units of 16 bytes.
 const BASE: u64 = 0x2000;
@@ -56,6 +57,15 @@ fn load_slot(ip: u64, place: u64) -> Live {
         place,
         len: 32,
         bytes: [0x48, 0x8B, 0x05, a, b, c, d, 0xE9, e, f, g, h],
+    }
+}
+
+/// The slot of the instruction that reads, or of NOP.
+fn slot_of(ip: u64, place: u64, reads: bool) -> Live {
+    if reads {
+        load_slot(ip, place)
+    } else {
+        nop_slot(ip, place)
     }
 }
 
@@ -146,6 +156,86 @@ fn item_of(ip: u64, reads: bool) -> Result<Placed, Fail>
     }
 }
 
+/// A command of a list: the finish of a slot, or a step of an instruction that reads or does not.
+#[derive(Clone, Copy)]
+enum Given {
+    Finish { place: u64 },
+    Step { ip: u64, reads: bool },
+}
+
+/// The command that a number stands for.
+fn given_by(r: u64) -> Given {
+    let n = r / 8;
+    if r % 8 < 3 {
+        Given::Finish {
+            place: BASE + n % UNITS * 16,
+        }
+    } else {
+        Given::Step {
+            ip: 0x1000 + n % 0x400,
+            reads: r % 8 == 7,
+        }
+    }
+}
+
+/// A finish is answered as the list has it.
+fn is_finished(rt: &impl Abort, slots: &mut StepSlots, live: &mut Vec<Live>, place: u64)
+    requires { slots.old.bits ≡ Bits.B64 }
+    ensures { slots.new.bits ≡ Bits.B64 }
+{
+    let want = take_away(live, place);
+    assert_eq!(rt; finish(slots, place), want);
+}
+
+/// A step is answered as the list has it.
+fn is_stepped(
+    rt: &impl Abort,
+    alloc: Global,
+    slots: &mut StepSlots,
+    live: &mut Vec<Live>,
+    ip: u64,
+    reads: bool,
+) -> Result<(), Fail>
+    requires { slots.old.bits ≡ Bits.B64 }
+    ensures { slots.new.bits ≡ Bits.B64 }
+{
+    let item = item_of(ip, reads)?;
+    let want = answer_to_step(live, if reads { 32 } else { 16 });
+    assert_eq!(rt; step(slots, alloc, item), want);
+    if let Ok(place) = want {
+        live.push(slot_of(ip, place, reads))?;
+    }
+    Ok(())
+}
+
+/// A command is answered as the list has it.
+fn is_done(
+    rt: &impl Abort,
+    alloc: Global,
+    slots: &mut StepSlots,
+    live: &mut Vec<Live>,
+    given: Given,
+) -> Result<(), Fail>
+    requires { slots.old.bits ≡ Bits.B64 }
+    ensures { slots.new.bits ≡ Bits.B64 }
+{
+    match given {
+        Given::Finish { place } => {
+            is_finished(rt, slots, live, place);
+            Ok(())
+        }
+        Given::Step { ip, reads } => is_stepped(rt, alloc, slots, live, ip, reads),
+    }
+}
+
+/// The range has the bytes of the live slots of the list.
+fn has_slots(rt: &impl Abort, alloc: Global, slots: &StepSlots, live: &[Live]) -> Result<(), Fail> {
+    let image = image_of(alloc, live)?;
+    assert!(rt; slots.image() == image.as_slice());
+    assert_eq!(rt; slots.live().len(), live.len());
+    Ok(())
+}
+
 // The numbers are those of a linear congruential generator.
 #[test]
 fn slots_follow_a_plain_list(rt: HostRuntime) -> Result<(), Fail> {
@@ -156,29 +246,8 @@ fn slots_follow_a_plain_list(rt: HostRuntime) -> Result<(), Fail> {
         x = x
             .wrapping_mul(6_364_136_223_846_793_005)
             .wrapping_add(1_442_695_040_888_963_407);
-        let r = x >> 33;
-        let n = r / 8;
-        if r % 8 < 3 {
-            let place = BASE + n % UNITS * 16;
-            let want = take_away(&mut live, place);
-            assert_eq!(rt; finish(&mut slots, place), want);
-        } else {
-            let reads = r % 8 == 7;
-            let ip = 0x1000 + n % 0x400;
-            let item = item_of(ip, reads)?;
-            let want = answer_to_step(&live, if reads { 32 } else { 16 });
-            assert_eq!(rt; step(&mut slots, rt.alloc(), item), want);
-            if let Ok(place) = want {
-                live.push(if reads {
-                    load_slot(ip, place)
-                } else {
-                    nop_slot(ip, place)
-                })?;
-            }
-        }
-        let image = image_of(rt.alloc(), &live)?;
-        assert_eq!(rt; slots.image(), image.as_slice());
-        assert_eq!(rt; slots.live().len(), live.len());
+        is_done(&rt, rt.alloc(), &mut slots, &mut live, given_by(x >> 33))?;
+        has_slots(&rt, rt.alloc(), &slots, &live)?;
     }
     Ok(())
 }

@@ -1,17 +1,49 @@
 //! What stands at the front of bytes: the instruction that a disassembler shows, or why there is none.
 
+ghost use Rattle.std.specs.Prelude.{◌≡◌, length};
+
 use crate::read_bytes::{read, read_at};
 use decoder::DecodeError::{Invalid, TooShort};
 use decoder::{DecodeError, Decoder, decode_in};
 use intel_text::print;
+use std::alloc::Global;
+use std::process::Abort;
 use std::str::from_utf8;
 use std::test::Fail;
 use x86_values::Bits::{B16, B32, B64};
-use x86_values::Decoded;
+use x86_values::{Bits, Decoded};
+
+/// That bytes in hexadecimal are one instruction with this text in Intel's style.
+fn has_text(
+    rt: &impl Abort,
+    alloc: Global,
+    bits: Bits,
+    ip: u64,
+    digits: &str,
+    text: &str,
+) -> Result<(), Fail> {
+    let decoded = read(alloc, bits, ip, digits)?;
+    let shown = print(bits, &decoded.instr);
+    assert_eq!(rt; from_utf8(shown.as_slice())?, text, "{digits}");
+    Ok(())
+}
+
+/// That no instruction is read, for this cause.
+fn is_refused(
+    rt: &impl Abort,
+    read: &Result<Decoded, DecodeError>,
+    error: DecodeError,
+    digits: &str,
+) {
+    match read {
+        Ok(_) => assert!(rt; false, "{digits} is read"),
+        Err(found) => assert_eq!(rt; *found, error, "{digits}"),
+    }
+}
 
 #[test]
 fn instructions_are_read(rt: HostRuntime) -> Result<(), Fail> {
-    for (bits, ip, digits, text) in [
+    let cases = &[
         (B64, 0, "666666666666666666666666666690", "nop"),
         (B64, 0, "6666666666666666666666666690", "nop"),
         (B64, 0, "486690", "nop"),
@@ -31,17 +63,16 @@ fn instructions_are_read(rt: HostRuntime) -> Result<(), Fail> {
         (B64, 0xFFFF_FFFF_FFFF_FFFE, "eb02", "jmp 0x2"),
         (B16, 0x1_FFFE, "eb02", "jmp 0x2"),
         (B32, 0x5_0000_1000, "eb02", "jmp 0x1004"),
-    ] {
-        let decoded = read(rt.alloc(), bits, ip, digits)?;
-        let shown = print(bits, &decoded.instr);
-        assert_eq!(rt; from_utf8(shown.as_slice())?, text, "{digits}");
+    ];
+    for (bits, ip, digits, text) in cases {
+        has_text(&rt, rt.alloc(), *bits, *ip, digits, text)?;
     }
     Ok(())
 }
 
 #[test]
 fn ended_bytes_are_told_from_invalid_ones(rt: HostRuntime) -> Result<(), Fail> {
-    for (bits, digits, error) in [
+    let cases = &[
         (B64, "666666666666666666666666666666", Invalid),
         (B64, "6666666666666666666666666666", TooShort),
         (B64, "66", TooShort),
@@ -59,10 +90,11 @@ fn ended_bytes_are_told_from_invalid_ones(rt: HostRuntime) -> Result<(), Fail> {
         (B64, "c500", TooShort),
         (B64, "40", TooShort),
         (B64, "e8f60f00", TooShort),
-    ] {
+    ];
+    for (bits, digits, error) in cases {
         let bytes = hex::decode(rt.alloc(), digits)?;
-        assert_eq!(rt; read_at(bits, 0, &bytes).err(), Some(error), "{digits}");
-        assert_eq!(rt; decode_in(bits, 0, &bytes).err(), Some(error), "{digits}");
+        is_refused(&rt, &read_at(*bits, 0, &bytes), *error, digits);
+        is_refused(&rt, &decode_in(*bits, 0, &bytes), *error, digits);
     }
     Ok(())
 }
@@ -75,23 +107,42 @@ fn len_of(read: Result<Decoded, DecodeError>) -> Result<u8, DecodeError> {
     }
 }
 
+/// That a decoder answers this length or refusal, and stands there then.
+fn decodes(
+    rt: &impl Abort,
+    decoder: &mut Decoder<'_, 64>,
+    want: Result<u8, DecodeError>,
+    position: usize,
+)
+    ensures { decoder.new.bytes ≡ decoder.old.bytes }
+{
+    let len = len_of(decoder.decode());
+    assert_eq!(rt; (len, decoder.position()), (want, position));
+}
+
+/// Passes over a byte, if there is one.
+fn skip_byte(decoder: &mut Decoder<'_, 64>)
+    requires { length decoder.old.bytes ≡ 8 }
+    ensures { decoder.new.bytes ≡ decoder.old.bytes }
+{
+    if decoder.position() < 8 {
+        decoder.skip(1);
+    }
+}
+
 #[test]
 fn a_decoder_stays_where_nothing_is_read(rt: HostRuntime) {
     // push rbp; mov rbp, rsp; a byte that is invalid; jmp +0; the first byte of a call
     let bytes = [0x55, 0x48, 0x89, 0xE5, 0x06, 0xEB, 0x00, 0xE8];
     let mut decoder = Decoder::<64>::new(&bytes, 0x40_1000);
-    assert_eq!(rt; len_of(decoder.decode()), Ok(1));
-    assert_eq!(rt; len_of(decoder.decode()), Ok(3));
-    assert_eq!(rt; decoder.position(), 4);
-    assert_eq!(rt; len_of(decoder.decode()), Err(Invalid));
-    assert_eq!(rt; decoder.position(), 4);
-    decoder.skip(1);
-    assert_eq!(rt; len_of(decoder.decode()), Ok(2));
-    assert_eq!(rt; decoder.position(), 7);
-    assert_eq!(rt; len_of(decoder.decode()), Err(TooShort));
-    assert_eq!(rt; decoder.position(), 7);
+    decodes(&rt, &mut decoder, Ok(1), 1);
+    decodes(&rt, &mut decoder, Ok(3), 4);
+    decodes(&rt, &mut decoder, Err(Invalid), 4);
+    skip_byte(&mut decoder);
+    decodes(&rt, &mut decoder, Ok(2), 7);
+    decodes(&rt, &mut decoder, Err(TooShort), 7);
     decoder.set_position(8);
-    assert_eq!(rt; len_of(decoder.decode()), Err(TooShort));
+    decodes(&rt, &mut decoder, Err(TooShort), 8);
     decoder.set_position(0);
-    assert_eq!(rt; len_of(decoder.decode()), Ok(1));
+    decodes(&rt, &mut decoder, Ok(1), 1);
 }

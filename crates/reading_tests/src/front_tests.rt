@@ -23,29 +23,32 @@ fn front(bits: Bits, bytes: &[u8]) -> Result<(u8, u8), PrefixError> {
     }
 }
 
+const ENDED: Result<(u8, u8), PrefixError> = Err(PrefixError::Ended);
+
+const FORBIDDEN: Result<(u8, u8), PrefixError> = Err(PrefixError::Forbidden);
+
 #[test]
 fn fronts_are_read(rt: HostRuntime) -> Result<(), Fail> {
-    let ended = Err(PrefixError::Ended);
-    let forbidden = Err(PrefixError::Forbidden);
-    for (bits, digits, want) in [
+    let cases = &[
         (Bits::B64, "486690", Ok((2, 0x90))),
         (Bits::B64, "c5f877", Ok((2, 0x77))),
-        (Bits::B64, "66c5f877", forbidden),
-        (Bits::B64, "c4e0", forbidden),
-        (Bits::B64, "62", forbidden),
-        (Bits::B64, "0f0f", forbidden),
-        (Bits::B64, "", ended),
-        (Bits::B64, "0f", ended),
-        (Bits::B64, "6666666666666666666666666666", ended),
-        (Bits::B64, "666666666666666666666666666666", forbidden),
+        (Bits::B64, "66c5f877", FORBIDDEN),
+        (Bits::B64, "c4e0", FORBIDDEN),
+        (Bits::B64, "62", FORBIDDEN),
+        (Bits::B64, "0f0f", FORBIDDEN),
+        (Bits::B64, "", ENDED),
+        (Bits::B64, "0f", ENDED),
+        (Bits::B64, "6666666666666666666666666666", ENDED),
+        (Bits::B64, "666666666666666666666666666666", FORBIDDEN),
         // LDS, or a VEX
         (Bits::B32, "c500", Ok((0, 0xC5))),
         (Bits::B32, "c5f877", Ok((2, 0x77))),
-        (Bits::B32, "66c4", ended),
+        (Bits::B32, "66c4", ENDED),
         (Bits::B16, "c500", Ok((0, 0xC5))),
-    ] {
+    ];
+    for (bits, digits, want) in cases {
         let bytes = hex::decode(rt.alloc(), digits)?;
-        assert_eq!(rt; front(bits, &bytes), want, "{digits} in {bits:?}");
+        assert_eq!(rt; front(*bits, &bytes), *want, "{digits} in {bits:?}");
     }
     Ok(())
 }

@@ -5,6 +5,8 @@ use opcode_rows::ROWS;
 use operand_info::{
     Access, Flow, RegUse, access_of, flow_of, ip_operand, memory_size, near_target, used_registers,
 };
+use std::alloc::Global;
+use std::process::Abort;
 use std::test::Fail;
 use x86_values::{Bits, Code, Register};
 
@@ -19,7 +21,7 @@ fn columns(code: Code) -> Option<(Flow, Access, Access, u8)> {
 
 #[test]
 fn instructions_have_their_columns(rt: HostRuntime) -> Result<(), Fail> {
-    for (digits, flow, first, second, memory) in [
+    let cases = &[
         // push rbp; mov rbp, rsp; sub rsp, 0x20; call 0xffb; leave; ret
         ("55", Flow::Next, Access::Read, Access::None, 0),
         ("4889e5", Flow::Next, Access::Write, Access::Read, 8),
@@ -39,43 +41,56 @@ fn instructions_have_their_columns(rt: HostRuntime) -> Result<(), Fail> {
         ),
         ("01048b", Flow::Next, Access::ReadWrite, Access::Read, 4),
         ("3800", Flow::Next, Access::Read, Access::Read, 1),
-    ] {
-        let decoded = read(rt.alloc(), Bits::B64, 0, digits)?;
-        let told = columns(decoded.instr.code);
-        assert_eq!(rt; told, Some((flow, first, second, memory)), "{digits}");
+    ];
+    for (digits, flow, first, second, memory) in cases {
+        let code = read(rt.alloc(), Bits::B64, 0, digits)?.instr.code;
+        let want = (*flow, *first, *second, *memory);
+        assert_eq!(rt; columns(code), Some(want), "{digits}");
     }
+    Ok(())
+}
+
+fn uses(reg: Register, access: Access) -> RegUse {
+    RegUse { reg, access }
+}
+
+/// That an instruction of 64-bit mode uses these registers.
+fn uses_registers(
+    rt: &impl Abort,
+    alloc: Global,
+    digits: &str,
+    want: &[RegUse],
+) -> Result<(), Fail> {
+    let decoded = read(alloc, Bits::B64, 0, digits)?;
+    let used = used_registers(&decoded.instr);
+    assert_eq!(rt; used.as_slice(), want, "{digits}");
     Ok(())
 }
 
 #[test]
 fn instructions_use_their_registers(rt: HostRuntime) -> Result<(), Fail> {
-    let uses = |reg, access| RegUse { reg, access };
+    // lea rax, [rbx+rcx]; add dword [rbx+rcx*4], eax
+    let rax = uses(Register::RAX, Access::Write);
     let rbx = uses(Register::RBX, Access::Read);
     let rcx = uses(Register::RCX, Access::Read);
-    for (digits, want) in [
-        // lea rax, [rbx+rcx]; add dword [rbx+rcx*4], eax
-        ("488d040b", [uses(Register::RAX, Access::Write), rbx, rcx]),
-        ("01048b", [rbx, rcx, uses(Register::EAX, Access::Read)]),
-    ] {
-        let decoded = read(rt.alloc(), Bits::B64, 0, digits)?;
-        let used = used_registers(&decoded.instr);
-        assert_eq!(rt; used.as_slice(), want.as_slice(), "{digits}");
-    }
-    Ok(())
+    let eax = uses(Register::EAX, Access::Read);
+    uses_registers(&rt, rt.alloc(), "488d040b", &[rax, rbx, rcx])?;
+    uses_registers(&rt, rt.alloc(), "01048b", &[rbx, rcx, eax])
 }
 
 #[test]
 fn instructions_have_their_targets(rt: HostRuntime) -> Result<(), Fail> {
-    for (ip, digits, target, address) in [
+    let cases = &[
         // call 0x402003; loop 0x0; mov rax, qword [rel 0x8]; lea rax, [rbx+0x8]
         (0x401008, "e8f60f0000", Some(0x402003), None),
         (0, "e2fe", Some(0), None),
         (0, "488b0501000000", None, Some(8)),
         (0, "488d4308", None, None),
-    ] {
-        let decoded = read(rt.alloc(), Bits::B64, ip, digits)?;
-        assert_eq!(rt; near_target(&decoded.instr), target, "{digits}");
-        assert_eq!(rt; ip_operand(&decoded.instr), address, "{digits}");
+    ];
+    for (ip, digits, target, address) in cases {
+        let instr = read(rt.alloc(), Bits::B64, *ip, digits)?.instr;
+        let found = (near_target(&instr), ip_operand(&instr));
+        assert_eq!(rt; found, (*target, *address), "{digits}");
     }
     Ok(())
 }

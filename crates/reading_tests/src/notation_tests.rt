@@ -4,6 +4,7 @@ use row_notation::{
     Class, ImmWord, LBit, Map, Marks, ModRmRule, ModeMask, OpKind, Place, Plus, PlusWord, Row,
     RowKind, RowShape, Size, SizeWord, WBit, read_notation, write_notation,
 };
+use std::process::Abort;
 use std::test::Fail;
 
 /// A shape of a kind and map with an opcode byte, and nothing else.
@@ -21,6 +22,14 @@ fn bare(kind: RowKind, map: Map, class: Class, opcode: u8) -> RowShape {
         w: WBit::None,
         imm: ImmWord::None,
     }
+}
+
+/// That a notation is read as this shape.
+fn has_shape(rt: &impl Abort, text: &str, want: RowShape) {
+    assert!(rt;
+        read_notation(text.as_bytes()) == Ok(want),
+        "reading {text}"
+    );
 }
 
 #[test]
@@ -48,24 +57,17 @@ fn notations_are_read(rt: HostRuntime) {
         imm: ImmWord::Id,
         ..bare(RowKind::Legacy, Map::One, Class::Any, 0x81)
     };
-    let cases = [
-        ("NF3 90", bare(RowKind::Legacy, Map::One, Class::Nf3, 0x90)),
-        ("o64 50+ro", push),
-        ("VEX.128.0F.WIG 77", zero_upper),
-        ("VEX.256.66.0F3A.W1 00 /r ib", permute),
-        ("REX.W + 81 /0 id", add),
-    ];
-    for (text, want) in cases {
-        assert!(rt;
-            read_notation(text.as_bytes()) == Ok(want),
-            "reading {text}"
-        );
-    }
+    let pause = bare(RowKind::Legacy, Map::One, Class::Nf3, 0x90);
+    has_shape(&rt, "NF3 90", pause);
+    has_shape(&rt, "o64 50+ro", push);
+    has_shape(&rt, "VEX.128.0F.WIG 77", zero_upper);
+    has_shape(&rt, "VEX.256.66.0F3A.W1 00 /r ib", permute);
+    has_shape(&rt, "REX.W + 81 /0 id", add);
 }
 
 #[test]
 fn faults_are_told_by_their_place(rt: HostRuntime) {
-    for (text, want) in [
+    for (text, want) in &[
         ("", 0),
         ("REX.W + 81 /8 id", 12),
         ("66", 2),
@@ -75,7 +77,7 @@ fn faults_are_told_by_their_place(rt: HostRuntime) {
     ] {
         match read_notation(text.as_bytes()) {
             Ok(_) => assert!(rt; false, "{text} was read"),
-            Err(fault) => assert_eq!(rt; fault.at, want, "at {text}"),
+            Err(fault) => assert_eq!(rt; fault.at, *want, "at {text}"),
         }
     }
 }

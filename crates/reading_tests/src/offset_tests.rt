@@ -2,6 +2,8 @@
 
 use byte_offsets::{ByteOffsets, Part, offsets};
 use decoder::DecodeError;
+use std::alloc::Global;
+use std::process::Abort;
 use std::test::Fail;
 use x86_values::Bits;
 
@@ -27,9 +29,28 @@ fn places(found: &ByteOffsets) -> [Place; 6] {
     ]
 }
 
+fn immediates_of(found: &ByteOffsets) -> [Place; 4] {
+    let [first, second, third, fourth] = found.immediates;
+    [place(first), place(second), place(third), place(fourth)]
+}
+
+/// Where the parts of an instruction stand, which is given in hexadecimal digits, and how many bytes these are.
+fn offsets_of(alloc: Global, bits: Bits, digits: &str) -> Result<(ByteOffsets, usize), Fail> {
+    let bytes = hex::decode(alloc, digits)?;
+    let Ok(found) = offsets(bits, 0x1000, &bytes) else {
+        return Err(Fail::new("no instruction is read"));
+    };
+    Ok((found, bytes.len()))
+}
+
+/// That no instruction is read in 64-bit mode, for this cause.
+fn has_no_offsets(rt: &impl Abort, bytes: &[u8], error: DecodeError) {
+    assert_eq!(rt; offsets(Bits::B64, 0, bytes), Err(error));
+}
+
 #[test]
 fn parts_stand_one_behind_the_other(rt: HostRuntime) -> Result<(), Fail> {
-    let cases: [Case; 13] = [
+    let cases: &[Case] = &[
         // mov [rsp+0x10], rbx: REX, 89, ModRM, SIB and one byte
         (
             Bits::B64,
@@ -122,27 +143,13 @@ fn parts_stand_one_behind_the_other(rt: HostRuntime) -> Result<(), Fail> {
         ),
     ];
     for (bits, digits, parts, immediates) in cases {
-        let bytes = hex::decode(rt.alloc(), digits)?;
-        let Ok(found) = offsets(bits, 0x1000, &bytes) else {
-            return Err(Fail::new("no instruction is read"));
-        };
-        assert_eq!(rt; places(&found), parts, "the parts of {digits}");
-        let [first, second, third, fourth] = found.immediates;
-        assert_eq!(rt;
-            [place(first), place(second), place(third), place(fourth)],
-            immediates,
-            "the immediates of {digits}"
-        );
-        assert_eq!(rt;
-            usize::from(found.len),
-            bytes.len(),
-            "the length of {digits}"
-        );
+        let (found, len) = offsets_of(rt.alloc(), *bits, digits)?;
+        assert_eq!(rt; places(&found), *parts, "the parts of {digits}");
+        let found_immediates = immediates_of(&found);
+        assert_eq!(rt; found_immediates, *immediates, "the immediates of {digits}");
+        assert_eq!(rt; usize::from(found.len), len, "the length of {digits}");
     }
-    assert_eq!(rt; offsets(Bits::B64, 0, &[0x06]), Err(DecodeError::Invalid));
-    assert_eq!(rt;
-        offsets(Bits::B64, 0, &[0x48, 0x89]),
-        Err(DecodeError::TooShort)
-    );
+    has_no_offsets(&rt, &[0x06], DecodeError::Invalid);
+    has_no_offsets(&rt, &[0x48, 0x89], DecodeError::TooShort);
     Ok(())
 }

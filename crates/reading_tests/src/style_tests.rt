@@ -1,13 +1,34 @@
 //! Texts that assemblers of each style write of the same instruction.
 
 use crate::read_bytes::read;
+use arrayvec::ArrayVec;
+use std::alloc::Global;
+use std::process::Abort;
 use std::str::from_utf8;
 use std::test::Fail;
 use x86_values::Bits;
 
+/// A text of at most 160 bytes.
+type Text = ArrayVec<u8, 160>;
+
+/// The texts of an instruction as Intel's, Microsoft's and the GNU assembler write it.
+fn texts_of(alloc: Global, bits: Bits, digits: &str) -> Result<[Text; 3], Fail> {
+    let instr = read(alloc, bits, 0, digits)?.instr;
+    Ok([
+        intel_text::print(bits, &instr),
+        masm_text::print(bits, &instr),
+        att_text::print(bits, &instr),
+    ])
+}
+
+fn is_text(rt: &impl Abort, found: &Text, want: &str) -> Result<(), Fail> {
+    assert_eq!(rt; from_utf8(found.as_slice())?, want);
+    Ok(())
+}
+
 #[test]
 fn each_style_has_its_text(rt: HostRuntime) -> Result<(), Fail> {
-    for (bits, digits, intel, masm, att) in [
+    let cases = &[
         (
             Bits::B64,
             "48895c2410",
@@ -57,14 +78,12 @@ fn each_style_has_its_text(rt: HostRuntime) -> Result<(), Fail> {
             "vfmadd132ps xmm0, xmm1, xmmword ptr [rax]",
             "vfmadd132ps (%rax), %xmm1, %xmm0",
         ),
-    ] {
-        let instr = read(rt.alloc(), bits, 0, digits)?.instr;
-        let shown = intel_text::print(bits, &instr);
-        assert_eq!(rt; from_utf8(shown.as_slice())?, intel);
-        let shown = masm_text::print(bits, &instr);
-        assert_eq!(rt; from_utf8(shown.as_slice())?, masm);
-        let shown = att_text::print(bits, &instr);
-        assert_eq!(rt; from_utf8(shown.as_slice())?, att);
+    ];
+    for (bits, digits, intel, masm, att) in cases {
+        let [in_intel, in_masm, in_att] = texts_of(rt.alloc(), *bits, digits)?;
+        is_text(&rt, &in_intel, intel)?;
+        is_text(&rt, &in_masm, masm)?;
+        is_text(&rt, &in_att, att)?;
     }
     Ok(())
 }

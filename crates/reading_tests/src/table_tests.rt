@@ -2,6 +2,7 @@
 
 ghost use Rattle.std.specs.Prelude.{◌≡◌, ◌<◌};
 
+use arrayvec::ArrayVec;
 use opcode_rows::{ROWS, VERSION1_ROWS, cell_len, code_of, first_of, name, row, well_formed};
 use row_lines::row_line;
 use row_types::{Map, Row, RowKind, Size};
@@ -29,7 +30,7 @@ fn nth_name(kind: RowKind, map: Map, opcode: u8, n: u16) -> &'static str {
 // The instructions of some opcode bytes, by the manual's opcode maps.
 #[test]
 fn cells_have_their_names(rt: HostRuntime) {
-    let cases = [
+    let cases = &[
         (RowKind::Legacy, Map::One, 0x00, 0, "add"),
         (RowKind::Legacy, Map::One, 0x0f, 0, ""),
         (RowKind::Legacy, Map::One, 0x90, 0, "nop"),
@@ -56,32 +57,34 @@ fn cells_have_their_names(rt: HostRuntime) {
         (RowKind::Vex, Map::M0f3a, 0x1d, 1, "vcvtps2ph"),
     ];
     for (kind, map, opcode, n, want) in cases {
-        assert_eq!(rt; nth_name(kind, map, opcode, n), want);
+        assert_eq!(rt; nth_name(*kind, *map, *opcode, *n), *want);
     }
-    assert_eq!(rt; VERSION1_ROWS, 1969);
-    assert_eq!(rt; ROWS, 2083);
-    assert_eq!(rt; name(Code(1968)), "rorx");
-    assert_eq!(rt; name(Code(1969)), "aesimc");
-    assert_eq!(rt; name(Code(2082)), "vaeskeygenassist");
+}
+
+#[test]
+fn codes_have_their_names(rt: HostRuntime) {
+    assert_eq!(rt; (VERSION1_ROWS, ROWS), (1969, 2083));
+    let names = [name(Code(1968)), name(Code(1969)), name(Code(2082))];
+    assert_eq!(rt; names, ["rorx", "aesimc", "vaeskeygenassist"]);
 }
 
 // Codes count the rows in the order of the opcode maps, and RORX is the last entry of the last map; FMA, F16C, AES and PCLMULQDQ follow.
 #[test]
 fn names_have_their_rows(rt: HostRuntime) {
-    for (name, n, want) in [
-        ("add", 0, Some(0)),
-        ("add", 3, Some(3)),
-        ("push", 1, Some(13)),
-        ("rorx", 1, Some(1968)),
+    for (name, n, want) in &[
+        ("add", 0, Some(Code(0))),
+        ("add", 3, Some(Code(3))),
+        ("push", 1, Some(Code(13))),
+        ("rorx", 1, Some(Code(1968))),
         ("rorx", 2, None),
-        ("vcvtph2ps", 0, Some(1976)),
+        ("vcvtph2ps", 0, Some(Code(1976))),
         ("vcvtph2ps", 2, None),
-        ("vzeroall", 0, Some(1611)),
+        ("vzeroall", 0, Some(Code(1611))),
         ("vzeroall", 1, None),
         ("ADD", 0, None),
         ("", 0, None),
     ] {
-        assert_eq!(rt; code_of(name, n).map(|code| code.0), want);
+        assert_eq!(rt; code_of(name, *n), *want);
     }
 }
 
@@ -96,23 +99,28 @@ fn row_of_code<L: Ledger>(blank: Blank, code: Code) -> Row
     row(code, &mut steps)
 }
 
+/// The row of a number, and its line.
+fn row_and_line(code: u16) -> Result<(Row, ArrayVec<u8, 128>), Fail> {
+    if code >= ROWS {
+        return Err(Fail::new("the table has no such code"));
+    }
+    let row = row_of_code::<Brand>(Blank::new(1), Code(code));
+    Ok((row, row_line(Code(code))))
+}
+
 // The first five codes are ADD of 00, of 01 at its three sizes, and of 02, as the manual's notation has them.
 #[test]
 fn codes_have_their_rows(rt: HostRuntime) -> Result<(), Fail> {
-    for (code, opcode, size, line) in [
+    for (code, opcode, size, line) in &[
         (0, 0x00, Size::None, "0 00 /r add\n"),
         (1, 0x01, Size::O16, "1 o16 01 /r add\n"),
         (2, 0x01, Size::O32, "2 o32 01 /r add\n"),
         (3, 0x01, Size::O64, "3 REX.W + 01 /r add\n"),
         (4, 0x02, Size::None, "4 02 /r add\n"),
     ] {
-        if code >= ROWS {
-            return Err(Fail::new("the table has no such code"));
-        }
-        let row = row_of_code::<Brand>(Blank::new(1), Code(code));
-        assert_eq!(rt; (row.opcode, row.size), (opcode, size), "{line}");
-        let shown = row_line(Code(code));
-        assert_eq!(rt; from_utf8(shown.as_slice())?, line);
+        let (row, shown) = row_and_line(*code)?;
+        assert_eq!(rt; (row.opcode, row.size), (*opcode, *size), "{line}");
+        assert_eq!(rt; from_utf8(shown.as_slice())?, *line);
     }
     Ok(())
 }
@@ -129,36 +137,47 @@ fn instr(code: u16, first: Operand, second: Operand, third: Operand) -> Instr {
     }
 }
 
-/// Memory at a base, with a scale.
-fn memory(base: Register, scale: u8) -> Operand {
-    Operand::Mem(Mem {
-        base: Some(base),
-        index: None,
-        scale,
-        disp: 0,
-        disp_size: DispSize::D0,
-    })
-}
+const AT_RAX: Mem = Mem {
+    base: Some(Register::R64(0)),
+    index: None,
+    scale: 1,
+    disp: 0,
+    disp_size: DispSize::D0,
+};
+
+const MEMORY: Operand = Operand::Mem(AT_RAX);
+
+/// Memory with a scale that is none.
+const SCALED: Operand = Operand::Mem(Mem { scale: 3, ..AT_RAX });
+
+/// Memory at a register that is none.
+const UNNAMED: Operand = Operand::Mem(Mem {
+    base: Some(Register::R64(16)),
+    ..AT_RAX
+});
+
+const AH: Operand = Operand::Reg(Register::High8(0));
+
+const NONE: Operand = Operand::Absent;
 
 // ADD of a byte register or memory and a byte register: which operands it takes.
 #[test]
 fn add_takes_its_operands(rt: HostRuntime) {
-    let ah = Operand::Reg(Register::High8(0));
-    let none = Operand::Absent;
-    let cases = [
-        (instr(0, Operand::Reg(Register::Low8(15)), ah, none), true),
-        (instr(0, Operand::Reg(Register::Low8(16)), ah, none), false),
-        (instr(0, Operand::Reg(Register::High8(4)), ah, none), false),
-        (instr(0, memory(Register::R64(0), 1), ah, none), true),
-        (instr(0, memory(Register::R64(0), 3), ah, none), false),
-        (instr(0, memory(Register::R64(16), 1), ah, none), false),
-        (instr(0, ah, memory(Register::R64(0), 1), none), false),
-        (instr(0, Operand::Imm(1), ah, none), false),
-        (instr(0, ah, none, none), false),
-        (instr(0, ah, ah, ah), false),
-        (instr(2083, ah, ah, none), false),
+    let cases = &[
+        (0, Operand::Reg(Register::Low8(15)), AH, NONE, true),
+        (0, Operand::Reg(Register::Low8(16)), AH, NONE, false),
+        (0, Operand::Reg(Register::High8(4)), AH, NONE, false),
+        (0, MEMORY, AH, NONE, true),
+        (0, SCALED, AH, NONE, false),
+        (0, UNNAMED, AH, NONE, false),
+        (0, AH, MEMORY, NONE, false),
+        (0, Operand::Imm(1), AH, NONE, false),
+        (0, AH, NONE, NONE, false),
+        (0, AH, AH, AH, false),
+        (2083, AH, AH, NONE, false),
     ];
-    for (case, want) in cases {
-        assert_eq!(rt; well_formed(&case), want);
+    for (code, first, second, third, want) in cases {
+        let case = instr(*code, *first, *second, *third);
+        assert!(rt; well_formed(&case) == *want, "{case:?}");
     }
 }

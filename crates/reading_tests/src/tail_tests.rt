@@ -9,12 +9,14 @@ use Sample::{
     MoveFromAddress, MoveFromDebug, Pop,
 };
 use intel_text::print;
+use modrm_sib::TailError::{Ended, Forbidden};
 use modrm_sib::{TailError, read_operands};
 use opcode_rows::{code_of, well_formed};
 use prefixes::read_prefixes;
 use row_types::{
     Class, LBit, Map, Marks, ModRmRule, ModeMask, OpKind, Place, Plus, Row, RowKind, Size, WBit,
 };
+use std::process::Abort;
 use std::str::from_utf8;
 use std::test::Fail;
 use x86_values::Bits::{B16, B32, B64};
@@ -213,10 +215,24 @@ fn disp_bits(instr: &Instr) -> u8 {
     }
 }
 
+/// That an instruction is well-formed and has this text in Intel's style.
+fn has_text(
+    rt: &impl Abort,
+    bits: Bits,
+    instr: &Instr,
+    text: &str,
+    digits: &str,
+) -> Result<(), Fail> {
+    assert!(rt; well_formed(instr), "{digits} in {bits:?}");
+    let shown = print(bits, instr);
+    assert_eq!(rt; from_utf8(shown.as_slice())?, text, "{digits} in {bits:?}");
+    Ok(())
+}
+
 // Each of the bytes is read; the size of the displacement is that of the address.
 #[test]
 fn operands_and_lengths_are_read(rt: HostRuntime) -> Result<(), Fail> {
-    for (bits, sample, digits, size, text) in [
+    let cases = &[
         (B16, Add16, "0100", 0, "add word [bx+si], ax"),
         (B16, Add16, "0140ff", 8, "add word [bx+si-0x1], ax"),
         (B16, Add16, "01063412", 16, "add word [0x1234], ax"),
@@ -270,58 +286,55 @@ fn operands_and_lengths_are_read(rt: HostRuntime) -> Result<(), Fail> {
             0,
             "vgatherdps xmm0, dword [rax+xmm1*1], xmm2",
         ),
-    ] {
+    ];
+    for (bits, sample, digits, size, text) in cases {
         let bytes = hex::decode(rt.alloc(), digits)?;
-        let d = answer_in(bits, sample, &bytes)??;
-        assert!(rt; well_formed(&d.instr), "{digits} in {bits:?}");
-        let shown = print(bits, &d.instr);
-        assert_eq!(rt; from_utf8(shown.as_slice())?, text, "{digits} in {bits:?}");
-        assert_eq!(rt;
-            (usize::from(d.len), disp_bits(&d.instr)),
-            (bytes.len(), size),
-            "{digits} in {bits:?}"
-        );
+        let d = answer_in(*bits, *sample, &bytes)??;
+        let shape = (usize::from(d.len), disp_bits(&d.instr));
+        assert_eq!(rt; shape, (bytes.len(), *size), "{digits} in {bits:?}");
+        has_text(&rt, *bits, &d.instr, text, digits)?;
     }
     Ok(())
 }
 
 #[test]
 fn ended_is_told_from_forbidden(rt: HostRuntime) -> Result<(), Fail> {
-    let ended = TailError::Ended;
-    let forbidden = TailError::Forbidden;
-    for (bits, sample, digits, want) in [
+    let cases = &[
         // ModRM, SIB, displacement or immediate is missing
-        (B64, Add32, "01", ended),
-        (B64, Add32, "0104", ended),
-        (B64, Add32, "0140", ended),
-        (B64, Add32, "0105000000", ended),
-        (B64, Call, "e8000000", ended),
+        (B64, Add32, "01", Ended),
+        (B64, Add32, "0104", Ended),
+        (B64, Add32, "0140", Ended),
+        (B64, Add32, "0105000000", Ended),
+        (B64, Call, "e8000000", Ended),
         // LOCK may still meet memory, but never a register, and not on a row that is not lockable
-        (B64, Add32, "f001", ended),
-        (B64, Add32, "f001c0", forbidden),
-        (B64, MoveByte, "f088", forbidden),
+        (B64, Add32, "f001", Ended),
+        (B64, Add32, "f001c0", Forbidden),
+        (B64, MoveByte, "f088", Forbidden),
         // a debug register has no REX.R
-        (B64, MoveFromDebug, "0f21", ended),
-        (B64, MoveFromDebug, "440f21", forbidden),
+        (B64, MoveFromDebug, "0f21", Ended),
+        (B64, MoveFromDebug, "440f21", Forbidden),
         // another operand size, or a mode in which the row is not
-        (B64, Add32, "6601", forbidden),
-        (B32, Add64, "01", forbidden),
+        (B64, Add32, "6601", Forbidden),
+        (B32, Add64, "01", Forbidden),
         // 62 and 8F that begin something else
-        (B32, Bound, "62", ended),
-        (B32, Bound, "62c0", forbidden),
-        (B32, Pop, "8f", ended),
-        (B32, Pop, "8f08", forbidden),
+        (B32, Bound, "62", Ended),
+        (B32, Bound, "62c0", Forbidden),
+        (B32, Pop, "8f", Ended),
+        (B32, Pop, "8f08", Forbidden),
         // a fixed ModRM byte
-        (B64, AddStack, "d8c8", forbidden),
+        (B64, AddStack, "d8c8", Forbidden),
         // a gather needs a SIB, which 16-bit addressing has not, and three registers that differ
-        (B64, Gather, "c4e2699204", ended),
-        (B64, Gather, "c4e2699200", forbidden),
-        (B32, Gather, "67c4e26992", forbidden),
-        (B64, Gather, "c4e2699214", forbidden),
-    ] {
+        (B64, Gather, "c4e2699204", Ended),
+        (B64, Gather, "c4e2699200", Forbidden),
+        (B32, Gather, "67c4e26992", Forbidden),
+        (B64, Gather, "c4e2699214", Forbidden),
+    ];
+    for (bits, sample, digits, want) in cases {
         let bytes = hex::decode(rt.alloc(), digits)?;
-        let read = answer_in(bits, sample, &bytes)?;
-        assert_eq!(rt; read.err(), Some(want), "{digits} in {bits:?}");
+        match answer_in(*bits, *sample, &bytes)? {
+            Ok(_) => assert!(rt; false, "{digits} is read in {bits:?}"),
+            Err(why) => assert_eq!(rt; why, *want, "{digits} in {bits:?}"),
+        }
     }
     Ok(())
 }

@@ -1,12 +1,29 @@
 //! Bytes that Intel texts stand for, by the manual's notation; those of the function's frame are what the GNU assembler writes.
 
 use intel_reader::{TextError, assemble, read_intel};
+use std::alloc::Global;
+use std::process::Abort;
 use std::test::Fail;
 use x86_values::Bits;
 
+/// That a text at an address stands for bytes in hexadecimal digits.
+fn stands_for(
+    rt: &impl Abort,
+    alloc: Global,
+    bits: Bits,
+    ip: u64,
+    text: &str,
+    digits: &str,
+) -> Result<(), Fail> {
+    let bytes = assemble(bits, ip, text.as_bytes())?;
+    let found = hex::encode(alloc, &bytes)?;
+    assert_eq!(rt; found.as_str(), digits, "{text}");
+    Ok(())
+}
+
 #[test]
 fn texts_stand_for_their_shortest_bytes(rt: HostRuntime) -> Result<(), Fail> {
-    for (bits, ip, text, digits) in [
+    let cases = &[
         (Bits::B64, 0x401000, "push rbp", "55"),
         (Bits::B64, 0x401001, "mov rbp, rsp", "4889e5"),
         (Bits::B64, 0x401004, "sub rsp, 0x20", "4883ec20"),
@@ -29,17 +46,16 @@ fn texts_stand_for_their_shortest_bytes(rt: HostRuntime) -> Result<(), Fail> {
         (Bits::B16, 0, "mov ax, word [bx+si]", "8b00"),
         (Bits::B32, 0, "callf 0x8:0x10", "9a100000000800"),
         (Bits::B32, 0, "jecxz 0x10", "e30e"),
-    ] {
-        let bytes = hex::decode(rt.alloc(), digits)?;
-        let found = assemble(bits, ip, text.as_bytes())?;
-        assert_eq!(rt; found.as_slice(), bytes.as_slice(), "{text}");
+    ];
+    for (bits, ip, text, digits) in cases {
+        stands_for(&rt, rt.alloc(), *bits, *ip, text, digits)?;
     }
     Ok(())
 }
 
 #[test]
 fn texts_that_nothing_prints_are_refused(rt: HostRuntime) {
-    for text in ["mov  eax, ecx", "add eax, 0X5", "add eax, 0x05", ""] {
+    for text in &["mov  eax, ecx", "add eax, 0X5", "add eax, 0x05", ""] {
         let read = read_intel(Bits::B64, 0, text.as_bytes());
         assert_eq!(rt; read, Err(TextError::NoInstruction), "{text}");
     }

@@ -46,20 +46,22 @@ fn equal_values_alone_are_the_same(rt: HostRuntime) {
 
 #[test]
 fn addresses_wrap_in_each_mode(rt: HostRuntime) {
-    for (bits, x, want) in [
-        (mode_of::<16>(), 0x1_0002, 2),
-        (mode_of::<32>(), 0xFFFF_FFFF, 0xFFFF_FFFF),
-        (mode_of::<32>(), 0x1_0000_0005, 5),
-        (mode_of::<64>(), 0x1_0000_0000_0000_0009, 9),
+    let modes = [mode_of::<16>(), mode_of::<32>(), mode_of::<64>()];
+    assert_eq!(rt; modes, [Bits::B16, Bits::B32, Bits::B64]);
+    for (bits, x, want) in &[
+        (Bits::B16, 0x1_0002, 2),
+        (Bits::B32, 0xFFFF_FFFF, 0xFFFF_FFFF),
+        (Bits::B32, 0x1_0000_0005, 5),
+        (Bits::B64, 0x1_0000_0000_0000_0009, 9),
     ] {
-        assert_eq!(rt; wrap(bits, x), want, "{x:#x} in {bits:?}");
+        assert_eq!(rt; wrap(*bits, *x), *want, "{x:#x} in {bits:?}");
     }
 }
 
 // AH to BH are four registers, R15 is the last general one, and there is no ST(8).
 #[test]
 fn registers_have_the_numbers_and_bytes_of_their_names(rt: HostRuntime) {
-    for (register, number, bytes) in [
+    for (register, number, bytes) in &[
         (Register::BL, 3, 1),
         (Register::SPL, 4, 1),
         (Register::R8B, 8, 1),
@@ -79,11 +81,11 @@ fn registers_have_the_numbers_and_bytes_of_their_names(rt: HostRuntime) {
         (Register::YMM12, 12, 32),
         (Register::Rip, 0, 8),
     ] {
-        assert_eq!(rt; register.number(), number, "{register:?}");
-        assert_eq!(rt; register.size(), bytes, "{register:?}");
+        let found = (register.number(), register.size());
+        assert_eq!(rt; found, (*number, *bytes), "{register:?}");
         assert!(rt; register.is_named(), "{register:?}");
     }
-    for register in [Register::High8(4), Register::R64(16), Register::St(8)] {
+    for register in &[Register::High8(4), Register::R64(16), Register::St(8)] {
         assert!(rt; !register.is_named(), "{register:?}");
     }
 }

@@ -4,6 +4,7 @@ use intel_words::reading::read_words;
 use intel_words::words::{
     AddressText, Inside, IntelWords, NamedWords, OperandText, SignedText, SizeName, SumText,
 };
+use std::process::Abort;
 use std::test::Fail;
 use x86_values::{Bits, Register, Rep, Segment};
 
@@ -51,6 +52,20 @@ fn reg(register: Register) -> OperandText {
 
 const NONE: OperandText = OperandText::Absent;
 
+/// That a text is read as this name and these operands.
+fn reads(rt: &impl Abort, text: &str, name: &str, ops: [OperandText; 4]) {
+    says(rt, text, name, plain(ops));
+}
+
+/// That a text is read as this name and these words.
+fn says(rt: &impl Abort, text: &str, name: &str, words: IntelWords) {
+    let want = NamedWords {
+        name: name.as_bytes(),
+        words,
+    };
+    assert_eq!(rt; read_words(text.as_bytes()), Some(want), "{text}");
+}
+
 #[test]
 fn operands_are_read(rt: HostRuntime) {
     let minus_8 = Some(SignedText {
@@ -78,68 +93,74 @@ fn operands_are_read(rt: HostRuntime) {
     let of_esp = sum(Some(Register::ESP), None, None, None);
     let at_esp = address(SizeName::Far32, None, of_esp);
     let (five, thirty_two) = (OperandText::Number(5), OperandText::Number(0x20));
-    for (text, name, ops) in [
-        ("nop", "nop", [NONE, NONE, NONE, NONE]),
-        ("push rbp", "push", [reg(Register::RBP), NONE, NONE, NONE]),
-        (
-            "mov ah, r13b",
-            "mov",
-            [reg(Register::AH), reg(Register::R13B), NONE, NONE],
-        ),
-        (
-            "sub rsp, 0x20",
-            "sub",
-            [reg(Register::RSP), thirty_two, NONE, NONE],
-        ),
-        ("callf 0x8:0x10", "callf", [far, NONE, NONE, NONE]),
-        (
-            "mov eax, dword fs:[rax+rbx*4-0x8]",
-            "mov",
-            [reg(Register::EAX), at_fs, NONE, NONE],
-        ),
-        (
-            "lea rcx, [rel 0x1007]",
-            "lea",
-            [reg(Register::RCX), at_rip, NONE, NONE],
-        ),
-        (
-            "mov word [rel32 0x1007], 0x5",
-            "mov",
-            [at_eip, five, NONE, NONE],
-        ),
-        (
-            "mov al, byte [0xffffffff00000000]",
-            "mov",
-            [reg(Register::AL), at_lone, NONE, NONE],
-        ),
-        (
-            "mov byte [bx+si+0x10], dil",
-            "mov",
-            [at_bx, reg(Register::DIL), NONE, NONE],
-        ),
-        (
-            "vgatherdps ymm1, dword [ymm2*8], ymm3",
-            "vgatherdps",
-            [reg(Register::YMM1), at_ymm, reg(Register::YMM3), NONE],
-        ),
-        ("jmpf far32 [esp]", "jmpf", [at_esp, NONE, NONE, NONE]),
-        (
-            "vblendvps xmm0, xmm15, xmm2, xmm10",
-            "vblendvps",
-            [
-                reg(Register::XMM0),
-                reg(Register::XMM15),
-                reg(Register::XMM2),
-                reg(Register::XMM10),
-            ],
-        ),
-    ] {
-        let want = NamedWords {
-            name: name.as_bytes(),
-            words: plain(ops),
-        };
-        assert_eq!(rt; read_words(text.as_bytes()), Some(want), "{text}");
-    }
+    reads(&rt, "nop", "nop", [NONE, NONE, NONE, NONE]);
+    reads(
+        &rt,
+        "push rbp",
+        "push",
+        [reg(Register::RBP), NONE, NONE, NONE],
+    );
+    reads(
+        &rt,
+        "mov ah, r13b",
+        "mov",
+        [reg(Register::AH), reg(Register::R13B), NONE, NONE],
+    );
+    reads(
+        &rt,
+        "sub rsp, 0x20",
+        "sub",
+        [reg(Register::RSP), thirty_two, NONE, NONE],
+    );
+    reads(&rt, "callf 0x8:0x10", "callf", [far, NONE, NONE, NONE]);
+    reads(
+        &rt,
+        "mov eax, dword fs:[rax+rbx*4-0x8]",
+        "mov",
+        [reg(Register::EAX), at_fs, NONE, NONE],
+    );
+    reads(
+        &rt,
+        "lea rcx, [rel 0x1007]",
+        "lea",
+        [reg(Register::RCX), at_rip, NONE, NONE],
+    );
+    reads(
+        &rt,
+        "mov word [rel32 0x1007], 0x5",
+        "mov",
+        [at_eip, five, NONE, NONE],
+    );
+    reads(
+        &rt,
+        "mov al, byte [0xffffffff00000000]",
+        "mov",
+        [reg(Register::AL), at_lone, NONE, NONE],
+    );
+    reads(
+        &rt,
+        "mov byte [bx+si+0x10], dil",
+        "mov",
+        [at_bx, reg(Register::DIL), NONE, NONE],
+    );
+    reads(
+        &rt,
+        "vgatherdps ymm1, dword [ymm2*8], ymm3",
+        "vgatherdps",
+        [reg(Register::YMM1), at_ymm, reg(Register::YMM3), NONE],
+    );
+    reads(&rt, "jmpf far32 [esp]", "jmpf", [at_esp, NONE, NONE, NONE]);
+    reads(
+        &rt,
+        "vblendvps xmm0, xmm15, xmm2, xmm10",
+        "vblendvps",
+        [
+            reg(Register::XMM0),
+            reg(Register::XMM15),
+            reg(Register::XMM2),
+            reg(Register::XMM10),
+        ],
+    );
 }
 
 #[test]
@@ -174,18 +195,14 @@ fn prefix_words_are_read(rt: HostRuntime) {
             },
         ),
     ];
-    for (text, words) in cases {
-        let want = NamedWords {
-            name: b"scasb",
-            words,
-        };
-        assert_eq!(rt; read_words(text.as_bytes()), Some(want), "{text}");
+    for (text, words) in &cases {
+        says(&rt, text, "scasb", *words);
     }
 }
 
 #[test]
 fn other_texts_are_refused(rt: HostRuntime) {
-    for text in [
+    for text in &[
         "mov eax, 0x",
         "mov eax, 0X5",
         "mov eax, 0xA",

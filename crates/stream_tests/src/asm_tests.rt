@@ -1,14 +1,18 @@
 //! Intel texts, a line each, and the bytes that they stand for.
 
+use crate::outcomes::{wrote, wrote_bytes};
 use run_outcomes::run_command;
+use std::alloc::{AllocError, Global};
 use std::test::Fail;
+
+/// The texts of a function's frame.
+const FRAME: &str = "push rbp\nmov rbp, rsp\nsub rsp, 0x20\ncall 0x402003\nleave\nret\n";
 
 #[test]
 fn lines_have_their_bytes(rt: HostRuntime) -> Result<(), Fail> {
-    let frame = "push rbp\nmov rbp, rsp\nsub rsp, 0x20\ncall 0x402003\nleave\nret\n";
-    for (command, lines, digits) in [
+    let cases = &[
         ("asm 64 0", "", ""),
-        ("asm 64 401000", frame, "554889e54883ec20e8f60f0000c9c3"),
+        ("asm 64 401000", FRAME, "554889e54883ec20e8f60f0000c9c3"),
         // the shortest spelling, and of equally short ones the row that stands first
         ("asm 64 0", "add eax, 0x5\n", "83c005"),
         ("asm 64 0", "mov eax, ecx\n", "89c8"),
@@ -29,18 +33,22 @@ fn lines_have_their_bytes(rt: HostRuntime) -> Result<(), Fail> {
         ("asm 16 0", "mov ax, word [bx+si]\n", "8b00"),
         ("asm 32 0", "mov eax, dword [bx+si]\n", "678b00"),
         ("asm 64 0", "mov rax, qword [rel 0x7]\n", "488b0500000000"),
-    ] {
+    ];
+    for (command, lines, digits) in cases {
         let ran = run_command(rt.alloc(), command, lines.as_bytes())?;
-        let shown = hex::encode(rt.alloc(), &ran.out)?;
-        assert_eq!(rt; (ran.number, shown.as_str()), (0, digits), "{lines}");
-        assert_eq!(rt; ran.err.as_slice(), b"".as_slice(), "{lines}");
+        wrote_bytes(&rt, rt.alloc(), &ran, (0, digits, ""), command, lines)?;
     }
     Ok(())
 }
 
+/// What is told of a line that is no text, by its number.
+fn bad_text(alloc: Global, at: u64) -> Result<String, AllocError> {
+    format!(in alloc; "bad text in line {at}\n")
+}
+
 #[test]
 fn the_first_line_that_is_no_text_is_told(rt: HostRuntime) -> Result<(), Fail> {
-    for (lines, at) in [
+    let cases = &[
         ("nop\nmov  eax, ecx\n", 2),
         ("mov  eax, ecx\nnop\n", 1),
         ("\n", 1),
@@ -54,10 +62,11 @@ fn the_first_line_that_is_no_text_is_told(rt: HostRuntime) -> Result<(), Fail> {
         ("nop\nret\nnonsense", 3),
         ("nop \n", 1),
         ("NOP\n", 1),
-    ] {
-        let line = format!(in rt.alloc(); "bad text in line {at}\n")?;
+    ];
+    for (lines, at) in cases {
+        let told = bad_text(rt.alloc(), *at)?;
         let ran = run_command(rt.alloc(), "asm 64 0", lines.as_bytes())?;
-        assert_eq!(rt; ran.as_text()?, (11, "", line.as_str()), "{lines}");
+        wrote(&rt, &ran, (11, "", &told), "asm 64 0", lines)?;
     }
     Ok(())
 }

@@ -6,6 +6,8 @@ mod asm_tests;
 #[cfg(test)]
 mod line_tests;
 #[cfg(test)]
+mod outcomes;
+#[cfg(test)]
 mod port_tests;
 #[cfg(test)]
 mod usage_tests;

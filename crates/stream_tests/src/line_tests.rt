@@ -1,7 +1,9 @@
 //! Lines of listings, of what instructions do and of their bytes in another mode, by the manual's notation and as other disassemblers write them.
 
-use run_outcomes::run_command;
+use crate::outcomes::{all_write, outcome_of, wrote};
+use run_outcomes::{Outcome, run_command};
 use std::alloc::{AllocError, Global};
+use std::process::Abort;
 use std::str::from_utf8;
 use std::test::Fail;
 
@@ -20,20 +22,43 @@ fn texts_of(alloc: Global, bits: &str, listing: &str) -> Result<String, AllocErr
     Ok(texts)
 }
 
-/// The status of a command, whose words are parted by single spaces, over bytes in hexadecimal, and the texts of its lines, behind which stands what it said.
-fn texts_told(alloc: Global, command: &str, digits: &str) -> Result<(u8, String), Fail> {
-    let input = hex::decode(alloc, digits)?;
-    let ran = run_command(alloc, command, &input)?;
-    let (number, out, err) = ran.as_text()?;
+/// The texts of the lines that a run of a command wrote, behind which stands what it said.
+fn texts_told(alloc: Global, command: &str, ran: &Outcome) -> Result<String, Fail> {
     let bits = command.split(' ').nth(1).unwrap_or("no mode");
-    let mut found = texts_of(alloc, bits, out)?;
-    found.push_str(err)?;
-    Ok((number, found))
+    let mut found = texts_of(alloc, bits, from_utf8(&ran.out)?)?;
+    found.push_str(from_utf8(&ran.err)?)?;
+    Ok(found)
+}
+
+/// That a command over bytes in hexadecimal ends well and writes lines of these texts.
+fn tells(
+    rt: &impl Abort,
+    alloc: Global,
+    command: &str,
+    digits: &str,
+    texts: &str,
+) -> Result<(), Fail> {
+    let ran = outcome_of(alloc, command, digits)?;
+    let found = texts_told(alloc, command, &ran)?;
+    assert_eq!(rt;
+        (ran.number, found.as_str()),
+        (0, texts),
+        "{command} {digits}"
+    );
+    Ok(())
+}
+
+/// That each command tells these texts.
+fn all_tell(rt: &impl Abort, alloc: Global, cases: &[(&str, &str, &str)]) -> Result<(), Fail> {
+    for (command, digits, texts) in cases {
+        tells(rt, alloc, command, digits, texts)?;
+    }
+    Ok(())
 }
 
 #[test]
 fn prefixes_have_their_texts(rt: HostRuntime) -> Result<(), Fail> {
-    for (command, digits, texts) in [
+    let cases = &[
         ("list 64 0 intel", "66", "db 0x66\n"),
         ("list 64 0 intel", "6690", "nop\n"),
         ("list 64 0 intel", "486690", "nop\n"),
@@ -44,16 +69,13 @@ fn prefixes_have_their_texts(rt: HostRuntime) -> Result<(), Fail> {
         ("list 64 0 intel", "f001c0", "db 0xf0\nadd eax, eax\n"),
         ("list 64 0 intel", "f088", "db 0xf0\ndb 0x88\n"),
         ("list 64 0 intel", "0f", "db 0xf\n"),
-    ] {
-        let (number, found) = texts_told(rt.alloc(), command, digits)?;
-        assert_eq!(rt; (number, found.as_str()), (0, texts), "{command} {digits}");
-    }
-    Ok(())
+    ];
+    all_tell(&rt, rt.alloc(), cases)
 }
 
 #[test]
 fn addresses_have_their_texts(rt: HostRuntime) -> Result<(), Fail> {
-    for (command, digits, texts) in [
+    let cases = &[
         ("list 16 0 intel", "8b00", "mov ax, word [bx+si]\n"),
         ("list 16 0 intel", "678b00", "mov ax, word [eax]\n"),
         ("list 32 0 intel", "678b00", "mov eax, dword [bx+si]\n"),
@@ -76,16 +98,13 @@ fn addresses_have_their_texts(rt: HostRuntime) -> Result<(), Fail> {
             "488b0500000000",
             "mov rax, qword ptr [1007h]\n",
         ),
-    ] {
-        let (number, found) = texts_told(rt.alloc(), command, digits)?;
-        assert_eq!(rt; (number, found.as_str()), (0, texts), "{command} {digits}");
-    }
-    Ok(())
+    ];
+    all_tell(&rt, rt.alloc(), cases)
 }
 
 #[test]
 fn sizes_have_their_texts(rt: HostRuntime) -> Result<(), Fail> {
-    for (command, digits, texts) in [
+    let cases = &[
         ("list 64 0 intel", "0fb607", "movzx eax, byte [rdi]\n"),
         ("list 64 0 att", "0fb607", "movzbl (%rdi), %eax\n"),
         ("list 64 0 masm", "0fb607", "movzx eax, byte ptr [rdi]\n"),
@@ -98,16 +117,13 @@ fn sizes_have_their_texts(rt: HostRuntime) -> Result<(), Fail> {
         ("list 32 0 intel", "9a100000000800", "callf 0x8:0x10\n"),
         ("list 32 0 att", "9a100000000800", "callf $0x8, $0x10\n"),
         ("list 32 0 masm", "9a100000000800", "callf 8h:10h\n"),
-    ] {
-        let (number, found) = texts_told(rt.alloc(), command, digits)?;
-        assert_eq!(rt; (number, found.as_str()), (0, texts), "{command} {digits}");
-    }
-    Ok(())
+    ];
+    all_tell(&rt, rt.alloc(), cases)
 }
 
 #[test]
 fn numbers_have_their_texts(rt: HostRuntime) -> Result<(), Fail> {
-    for (command, digits, texts) in [
+    let cases = &[
         ("list 32 0 intel", "83c0ff", "add eax, 0xffffffff\n"),
         ("list 32 0 att", "83c0ff", "add $0xffffffff, %eax\n"),
         ("list 32 0 masm", "83c0ff", "add eax, 0ffffffffh\n"),
@@ -122,16 +138,13 @@ fn numbers_have_their_texts(rt: HostRuntime) -> Result<(), Fail> {
             "48895c2410",
             "mov qword ptr [rsp+10h], rbx\n",
         ),
-    ] {
-        let (number, found) = texts_told(rt.alloc(), command, digits)?;
-        assert_eq!(rt; (number, found.as_str()), (0, texts), "{command} {digits}");
-    }
-    Ok(())
+    ];
+    all_tell(&rt, rt.alloc(), cases)
 }
 
 #[test]
 fn single_bytes_have_their_texts(rt: HostRuntime) -> Result<(), Fail> {
-    for (command, digits, texts) in [
+    let cases = &[
         ("list 16 0 intel", "0f", "db 0xf\n"),
         ("list 16 0 att", "0f", ".byte 0xf\n"),
         ("list 16 0 masm", "0f", "db 0fh\n"),
@@ -150,16 +163,13 @@ fn single_bytes_have_their_texts(rt: HostRuntime) -> Result<(), Fail> {
             "66666666666666666666666666666690",
             "db 0x66\nnop\n",
         ),
-    ] {
-        let (number, found) = texts_told(rt.alloc(), command, digits)?;
-        assert_eq!(rt; (number, found.as_str()), (0, texts), "{command} {digits}");
-    }
-    Ok(())
+    ];
+    all_tell(&rt, rt.alloc(), cases)
 }
 
 #[test]
 fn streams_have_their_lines(rt: HostRuntime) -> Result<(), Fail> {
-    for (command, digits, lines) in [
+    let cases = &[
         (
             "list 64 7ffac46acda4 intel",
             "48895c2410",
@@ -240,20 +250,17 @@ fn streams_have_their_lines(rt: HostRuntime) -> Result<(), Fail> {
             "90",
             "feddurzai 0.2.0\ninteger, x87, MMX, SSE to SSE4.2, AVX, AVX2, BMI, FMA, F16C, AES, PCLMULQDQ\n",
         ),
-    ] {
-        let input = hex::decode(rt.alloc(), digits)?;
-        let ran = run_command(rt.alloc(), command, &input)?;
-        assert_eq!(rt; ran.as_text()?, (0, lines, ""), "{command} {digits}");
-    }
-    Ok(())
+    ];
+    all_write(&rt, rt.alloc(), cases)
 }
+
+const NEXT: &str = "0000000000000000 Next\n";
 
 #[test]
 fn bad_code_ends_a_stream(rt: HostRuntime) -> Result<(), Fail> {
-    let next = "0000000000000000 Next\n";
-    for (command, digits, lines, told) in [
-        ("info 64 0", "900f04", next, "bad code at 1: invalid\n"),
-        ("info 64 0", "900f", next, "bad code at 1: too short\n"),
+    let cases = &[
+        ("info 64 0", "900f04", NEXT, "bad code at 1: invalid\n"),
+        ("info 64 0", "900f", NEXT, "bad code at 1: too short\n"),
         ("info 64 0", "480f0490", "", "bad code at 0: invalid\n"),
         (
             "recode 64 0 64 0",
@@ -261,30 +268,49 @@ fn bad_code_ends_a_stream(rt: HostRuntime) -> Result<(), Fail> {
             "0000000000000000 90\n",
             "bad code at 1: invalid\n",
         ),
-    ] {
-        let input = hex::decode(rt.alloc(), digits)?;
-        let ran = run_command(rt.alloc(), command, &input)?;
-        assert_eq!(rt; ran.as_text()?, (2, lines, told), "{command} {digits}");
+    ];
+    for (command, digits, lines, told) in cases {
+        let ran = outcome_of(rt.alloc(), command, digits)?;
+        wrote(&rt, &ran, (2, lines, told), command, digits)?;
     }
     Ok(())
+}
+
+/// That a command answers this number for an input, and writes so many bytes.
+fn writes_len(
+    rt: &impl Abort,
+    alloc: Global,
+    command: &str,
+    input: &[u8],
+    wanted: (u8, usize),
+) -> Result<(), Fail> {
+    let ran = run_command(alloc, command, input)?;
+    assert_eq!(rt; (ran.number, ran.out.len()), wanted, "{command}");
+    Ok(())
+}
+
+/// So many equal bytes, and behind NOP code that is bad.
+fn long_input(alloc: Global, byte: u8, count: usize) -> Result<Vec<u8>, AllocError> {
+    let mut input = vec![in alloc; byte; count]?;
+    if byte == 0x90 {
+        input.push(0x06)?;
+        input.push(0x90)?;
+    }
+    Ok(input)
 }
 
 // 2,000 lines of 22 bytes stand before the code that is bad; prefixes without an instruction behind them have a line of 56 bytes each, or end a stream.
 #[test]
 fn long_inputs_have_their_lines(rt: HostRuntime) -> Result<(), Fail> {
-    for (command, byte, count, number, len) in [
+    let cases = &[
         ("info 64 0", 0x90, 2000, 2, 44_000),
         ("list 64 0 intel", 0x66, 65_536, 0, 3_670_016),
         ("info 64 0", 0x66, 65_536, 2, 0),
         ("recode 64 0 32 0", 0x66, 65_536, 2, 0),
-    ] {
-        let mut input = vec![in rt.alloc(); byte; count]?;
-        if byte == 0x90 {
-            input.push(0x06)?;
-            input.push(0x90)?;
-        }
-        let ran = run_command(rt.alloc(), command, &input)?;
-        assert_eq!(rt; (ran.number, ran.out.len()), (number, len), "{command}");
+    ];
+    for (command, byte, count, number, len) in cases {
+        let input = long_input(rt.alloc(), *byte, *count)?;
+        writes_len(&rt, rt.alloc(), command, &input, (*number, *len))?;
     }
     Ok(())
 }

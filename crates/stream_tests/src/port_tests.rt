@@ -1,48 +1,84 @@
 //! What a stream leaves where a port fails at a call, or has too little room.
 
-use run_outcomes::{Ports, WHOLE, run_between};
+use crate::outcomes::{outcome_between, wrote};
+use run_outcomes::{Ports, WHOLE};
+use std::alloc::{AllocError, Global};
 use std::test::Fail;
 
 const ROOM: usize = 16_384;
 
+const LIST: &str = "list 64 0 intel";
+
+const INFO: &str = "info 64 0";
+
+const RECODE: &str = "recode 64 0 64 0";
+
+const ASM: &str = "asm 64 0";
+
+const UNREAD: &str = "read fault\n";
+
+const UNWRITTEN: &str = "write fault\n";
+
+/// A line of the listing.
 const NOP: &str = "0000000000000000 90                             nop\n";
+
+/// A line and 8 bytes of the next one.
+const FRONT: &str = "0000000000000000 90                             nop\n00000000";
+
+/// The texts `nop` and `ret`.
+const TEXTS: &str = "6e6f700a7265740a";
+
+/// The text `nop` and a line that is none.
+const BAD_TEXTS: &str = "6e6f700a6e6f0a";
+
+/// Ports that fail at these calls of the source, the output and the error output, and an output with so much room.
+fn ports_of([pull, put, say]: [u64; 3], room: usize) -> Ports {
+    Ports {
+        pull,
+        put,
+        say,
+        room,
+        is_slow: false,
+    }
+}
 
 #[test]
 fn a_fault_of_a_port_leaves_what_it_should(rt: HostRuntime) -> Result<(), Fail> {
-    let list = "list 64 0 intel";
-    let (info, asm) = ("info 64 0", "asm 64 0");
-    let (told, bad) = ("read fault\n", "bad code at 0: invalid\n");
-    let unwritten = "write fault\n";
-    let front = "0000000000000000 90                             nop\n00000000";
-    // nop and ret, nop and a line that is none
-    let (texts, bad_texts) = ("6e6f700a7265740a", "6e6f700a6e6f0a");
-    for (command, digits, [pull, put, say], room, number, out, err) in [
-        (list, "90", [1, 0, 0], ROOM, 3, "", told),
-        (list, "9090", [2, 0, 0], ROOM, 3, "", told),
-        (list, "9090", [0, 1, 0], ROOM, 4, "", unwritten),
-        (list, "90", [0, 1, 1], ROOM, 4, "", ""),
-        (list, "90", [0, 2, 0], ROOM, 0, NOP, ""),
-        (list, "90", [0, 6, 0], ROOM, 0, NOP, ""),
+    let cases = &[
+        (LIST, "90", [1, 0, 0], ROOM, 3, "", UNREAD),
+        (LIST, "9090", [2, 0, 0], ROOM, 3, "", UNREAD),
+        (LIST, "9090", [0, 1, 0], ROOM, 4, "", UNWRITTEN),
+        (LIST, "90", [0, 1, 1], ROOM, 4, "", ""),
+        (LIST, "90", [0, 2, 0], ROOM, 0, NOP, ""),
+        (LIST, "90", [0, 6, 0], ROOM, 0, NOP, ""),
         // an output with less room takes a part and then fails
-        (list, "9090", [0, 0, 1], 60, 4, front, ""),
-        (info, "900f04", [2, 0, 0], ROOM, 3, "", told),
+        (LIST, "9090", [0, 0, 1], 60, 4, FRONT, ""),
+        (INFO, "900f04", [2, 0, 0], ROOM, 3, "", UNREAD),
         (
-            info,
+            INFO,
             "900f04",
             [0, 0, 0],
             18,
             4,
             "0000000000000000 N",
-            unwritten,
+            UNWRITTEN,
         ),
-        (info, "90", [0, 1, 0], ROOM, 4, "", unwritten),
-        (info, "0f04", [0, 0, 1], ROOM, 2, "", ""),
-        (info, "0f04", [0, 1, 0], ROOM, 2, "", bad),
-        // a bad line is told before the output is asked
-        (asm, texts, [2, 0, 0], ROOM, 3, "", told),
+        (INFO, "90", [0, 1, 0], ROOM, 4, "", UNWRITTEN),
+        (INFO, "0f04", [0, 0, 1], ROOM, 2, "", ""),
         (
-            asm,
-            bad_texts,
+            INFO,
+            "0f04",
+            [0, 1, 0],
+            ROOM,
+            2,
+            "",
+            "bad code at 0: invalid\n",
+        ),
+        // a bad line is told before the output is asked
+        (ASM, TEXTS, [2, 0, 0], ROOM, 3, "", UNREAD),
+        (
+            ASM,
+            BAD_TEXTS,
             [0, 1, 0],
             ROOM,
             11,
@@ -50,53 +86,66 @@ fn a_fault_of_a_port_leaves_what_it_should(rt: HostRuntime) -> Result<(), Fail> 
             "bad text in line 2\n",
         ),
         // what reads nothing does not ask its source
-        ("rows", "", [1, 1, 0], ROOM, 4, "", unwritten),
-        ("rows", "", [1, 0, 0], 15, 4, "0 00 /r add\n1 o", unwritten),
+        ("rows", "", [1, 1, 0], ROOM, 4, "", UNWRITTEN),
+        ("rows", "", [1, 0, 0], 15, 4, "0 00 /r add\n1 o", UNWRITTEN),
         ("--version", "", [1, 1, 1], ROOM, 4, "", ""),
-    ] {
-        let input = hex::decode(rt.alloc(), digits)?;
-        let ports = Ports {
-            pull,
-            put,
-            say,
-            room,
-            is_slow: false,
-        };
-        let ran = run_between(rt.alloc(), command, &input, &ports)?;
-        assert_eq!(rt; ran.as_text()?, (number, out, err), "{command} {digits}");
+    ];
+    for (command, digits, calls, room, number, out, err) in cases {
+        let ran = outcome_between(rt.alloc(), command, digits, &ports_of(*calls, *room))?;
+        wrote(&rt, &ran, (*number, out, err), command, digits)?;
     }
     Ok(())
+}
+
+const NOPS: &str = "90909090909090909090909090909090";
+
+/// NOP, a byte at which no instruction is read, and more of NOP.
+const BROKEN: &str = "90069090909090909090909090909090";
+
+/// Two lines of the listing.
+const TWO: &str =
+    "0000000000000000 90                             nop\n0000000000000001 90                             nop\n";
+
+/// What NOP does.
+const NEXT: &str = "0000000000000000 Next\n";
+
+/// The byte of NOP.
+const BYTE: &str = "0000000000000000 90\n";
+
+const BAD: &str = "bad code at 1: invalid\n";
+
+/// A source that gives a byte a call, and fails at this call.
+fn slow_ports(pull: u64) -> Ports {
+    Ports {
+        pull,
+        is_slow: true,
+        ..WHOLE
+    }
+}
+
+/// The call at which a source fails, for a message.
+fn at_call(alloc: Global, pull: u64) -> Result<String, AllocError> {
+    format!(in alloc; "at {pull}")
 }
 
 // The lines of the items of which 15 bytes were read stand where the source fails at a call, a byte a call.
 #[test]
 fn lines_are_written_before_more_is_read(rt: HostRuntime) -> Result<(), Fail> {
-    let nops = "90909090909090909090909090909090";
-    let broken = "90069090909090909090909090909090";
-    let two =
-        "0000000000000000 90                             nop\n0000000000000001 90                             nop\n";
-    let (list, info, recode) = ("list 64 0 intel", "info 64 0", "recode 64 0 64 0");
-    let (next, bytes) = ("0000000000000000 Next\n", "0000000000000000 90\n");
-    let (fault, bad) = ("read fault\n", "bad code at 1: invalid\n");
-    for (command, digits, pull, number, out, err) in [
-        (list, nops, 1, 3, "", fault),
-        (list, nops, 15, 3, "", fault),
-        (list, nops, 16, 3, NOP, fault),
-        (list, nops, 17, 3, two, fault),
-        (info, nops, 16, 3, next, fault),
-        (recode, nops, 16, 3, bytes, fault),
-        (info, broken, 16, 3, next, fault),
-        (info, broken, 17, 2, next, bad),
-        (recode, broken, 17, 2, bytes, bad),
-    ] {
-        let input = hex::decode(rt.alloc(), digits)?;
-        let ports = Ports {
-            pull,
-            is_slow: true,
-            ..WHOLE
-        };
-        let ran = run_between(rt.alloc(), command, &input, &ports)?;
-        assert_eq!(rt; ran.as_text()?, (number, out, err), "{command} at {pull}");
+    let cases = &[
+        (LIST, NOPS, 1, 3, "", UNREAD),
+        (LIST, NOPS, 15, 3, "", UNREAD),
+        (LIST, NOPS, 16, 3, NOP, UNREAD),
+        (LIST, NOPS, 17, 3, TWO, UNREAD),
+        (INFO, NOPS, 16, 3, NEXT, UNREAD),
+        (RECODE, NOPS, 16, 3, BYTE, UNREAD),
+        (INFO, BROKEN, 16, 3, NEXT, UNREAD),
+        (INFO, BROKEN, 17, 2, NEXT, BAD),
+        (RECODE, BROKEN, 17, 2, BYTE, BAD),
+    ];
+    for (command, digits, pull, number, out, err) in cases {
+        let ran = outcome_between(rt.alloc(), command, digits, &slow_ports(*pull))?;
+        let at = at_call(rt.alloc(), *pull)?;
+        wrote(&rt, &ran, (*number, out, err), command, &at)?;
     }
     Ok(())
 }

@@ -1,11 +1,26 @@
 //! Which word of a command line is wrong: the first that is not allowed, missing or too many.
 
+use crate::outcomes::wrote;
 use run_outcomes::run_command;
+use std::alloc::{AllocError, Global};
+use std::process::Abort;
 use std::test::Fail;
+
+/// What is told of a wrong word, by its number.
+fn wrong_word(alloc: Global, word: u64) -> Result<String, AllocError> {
+    format!(in alloc; "usage: word {word}\n")
+}
+
+/// That a command writes nothing for NOP and tells that the word of this number is wrong.
+fn has_wrong_word(rt: &impl Abort, alloc: Global, command: &str, word: u64) -> Result<(), Fail> {
+    let told = wrong_word(alloc, word)?;
+    let ran = run_command(alloc, command, &[0x90])?;
+    wrote(rt, &ran, (1, "", &told), command, "90")
+}
 
 #[test]
 fn a_wrong_word_is_named(rt: HostRuntime) -> Result<(), Fail> {
-    for (command, word) in [
+    let cases = &[
         ("", 1),
         ("lists 64 0 intel", 1),
         ("list", 2),
@@ -79,10 +94,9 @@ fn a_wrong_word_is_named(rt: HostRuntime) -> Result<(), Fail> {
         ("sample 10001", 2),
         ("sample 0x1", 2),
         ("sample 1 1", 3),
-    ] {
-        let line = format!(in rt.alloc(); "usage: word {word}\n")?;
-        let ran = run_command(rt.alloc(), command, &[0x90])?;
-        assert_eq!(rt; ran.as_text()?, (1, "", line.as_str()), "{command}");
+    ];
+    for (command, word) in cases {
+        has_wrong_word(&rt, rt.alloc(), command, *word)?;
     }
     Ok(())
 }
@@ -96,9 +110,8 @@ fn at_most_sixteen_blocks_are_taken(rt: HostRuntime) -> Result<(), Fail> {
         command.push_str(" 16")?;
     }
     let ran = run_command(rt.alloc(), &command, &[])?;
-    assert_eq!(rt; ran.as_text()?, (0, "", ""));
+    wrote(&rt, &ran, (0, "", ""), &command, "")?;
     command.push_str(" 16")?;
     let ran = run_command(rt.alloc(), &command, &[])?;
-    assert_eq!(rt; ran.as_text()?, (1, "", "usage: word 50\n"));
-    Ok(())
+    wrote(&rt, &ran, (1, "", "usage: word 50\n"), &command, "")
 }

@@ -1,0 +1,78 @@
+//! What commands give for inputs in hexadecimal digits, compared with what is wanted. The comparisons stand here alone,
+//! so that no test's proof carries them.
+
+use run_outcomes::{Outcome, Ports, run_between, run_command};
+use std::alloc::Global;
+use std::process::Abort;
+use std::str::from_utf8;
+use std::test::Fail;
+
+/// What a command gives for bytes in hexadecimal digits.
+pub(crate) fn outcome_of(alloc: Global, command: &str, digits: &str) -> Result<Outcome, Fail> {
+    let input = hex::decode(alloc, digits)?;
+    Ok(run_command(alloc, command, &input)?)
+}
+
+/// What a command gives for bytes in hexadecimal digits between such ports.
+pub(crate) fn outcome_between(
+    alloc: Global,
+    command: &str,
+    digits: &str,
+    ports: &Ports,
+) -> Result<Outcome, Fail> {
+    let input = hex::decode(alloc, digits)?;
+    Ok(run_between(alloc, command, &input, ports)?)
+}
+
+/// That a run of a command answered this number and wrote these two texts. The message names the command and the case.
+pub(crate) fn wrote(
+    rt: &impl Abort,
+    ran: &Outcome,
+    wanted: (u8, &str, &str),
+    command: &str,
+    case: &str,
+) -> Result<(), Fail> {
+    assert_eq!(rt; ran.as_text()?, wanted, "{command} {case}");
+    Ok(())
+}
+
+/// That a run of a command answered this number, wrote these bytes, in hexadecimal digits, and said this.
+pub(crate) fn wrote_bytes(
+    rt: &impl Abort,
+    alloc: Global,
+    ran: &Outcome,
+    wanted: (u8, &str, &str),
+    command: &str,
+    case: &str,
+) -> Result<(), Fail> {
+    let out = hex::encode(alloc, &ran.out)?;
+    let err = from_utf8(&ran.err)?;
+    assert_eq!(rt; (ran.number, out.as_str(), err), wanted, "{command} {case}");
+    Ok(())
+}
+
+/// That each command writes these lines for its input in hexadecimal digits, and says nothing.
+pub(crate) fn all_write(
+    rt: &impl Abort,
+    alloc: Global,
+    cases: &[(&str, &str, &str)],
+) -> Result<(), Fail> {
+    for (command, digits, lines) in cases {
+        let ran = outcome_of(alloc, command, digits)?;
+        wrote(rt, &ran, (0, lines, ""), command, digits)?;
+    }
+    Ok(())
+}
+
+/// That each command writes these bytes for its input, both in hexadecimal digits, and says nothing.
+pub(crate) fn all_write_bytes(
+    rt: &impl Abort,
+    alloc: Global,
+    cases: &[(&str, &str, &str)],
+) -> Result<(), Fail> {
+    for (command, digits, bytes) in cases {
+        let ran = outcome_of(alloc, command, digits)?;
+        wrote_bytes(rt, alloc, &ran, (0, bytes, ""), command, digits)?;
+    }
+    Ok(())
+}
