@@ -1,8 +1,9 @@
 -- The rows of the instructions that are drawn.
 use Rattle.std.proofs.Common.{◌≡◌, ℕ, [], ◌∷◌, refl, slice_get}
 use Rattle.std.specs.Prelude.{Some}
+use Rattle.x86_values.specs.declared.Bits.TheVariants.{B32}
 use Rattle.row_types.specs.declared.Row.{Row}
-use Rattle.row_types.specs.declared.RowKind.TheVariants.{Legacy, Vex}
+use Rattle.row_types.specs.declared.RowKind.TheVariants.{Vex}
 use Rattle.row_types.specs.declared.Map.TheVariants.{One, M0f}
 use Rattle.row_types.specs.declared.Class.{Class}
 use Rattle.row_types.specs.declared.Class.TheVariants.{Any as AnyClass, Np, Nf3}
@@ -10,36 +11,30 @@ use Rattle.row_types.specs.declared.Plus.{Plus}
 use Rattle.row_types.specs.declared.Plus.TheVariants.{No as NoPlus, Register as PlusRegister}
 use Rattle.row_types.specs.declared.ModRmRule.{ModRmRule}
 use Rattle.row_types.specs.declared.ModRmRule.TheVariants.{No as NoModRm, Any as AnyModRm}
-use Rattle.row_types.specs.declared.Place.TheVariants.{Any as AnyPlace}
 use Rattle.row_types.specs.declared.Size.{Size}
 use Rattle.row_types.specs.declared.Size.TheVariants.{None as NoSize, O32, O64}
-use Rattle.row_types.specs.declared.WBit.TheVariants.{None as NoW, Wig}
-use Rattle.row_types.specs.declared.LBit.TheVariants.{None as NoL, L128}
+use Rattle.row_types.specs.declared.WBit.TheVariants.{Wig}
+use Rattle.row_types.specs.declared.LBit.TheVariants.{L128}
 use Rattle.row_types.specs.declared.OpKind.{OpKind}
 use Rattle.row_types.specs.declared.OpKind.TheVariants.{Absent, Ev, Gv, Zv, Iv, Jb, Jz, Vx, Hx, Wx}
 use Rattle.rows_integer.specs.Table.{table as integer_rows, flat_rows as integer_flat}
 use Rattle.rows_x87.specs.Table.{table as x87_rows, flat_rows as x87_flat}
 use Rattle.rows_sse.specs.Table.{table as sse_rows, flat_rows as sse_flat}
 use Rattle.rows_vex.specs.Table.{table as vex_rows, flat_rows as vex_flat}
+use Rattle.branch_forms.specs.Rows.{offset_row}
 use Rattle.opcode_rows.specs.Table.{spots, rows_in, table}
 
 -- a legacy row of the one-byte map
 abbrev one_byte : Class → ℕ → Plus → ModRmRule → Size → ℕ → OpKind → OpKind → ℕ → Row
-one_byte class opcode plus modrm size modes first second marks = record {
-  kind = Legacy;
-  map = One;
-  class = class;
-  opcode = opcode;
-  plus = plus;
-  modrm = modrm;
-  place = AnyPlace;
-  size = size;
-  w = NoW;
-  l = NoL;
-  modes = record { 0 = modes };
-  ops = first ∷ second ∷ Absent ∷ Absent ∷ [];
-  marks = record { 0 = marks };
-}
+one_byte class opcode plus modrm size modes first second marks =
+    record (offset_row One opcode first marks B32) {
+      class = class;
+      plus = plus;
+      modrm = modrm;
+      size = size;
+      modes = record { 0 = modes };
+      ops = first ∷ second ∷ Absent ∷ Absent ∷ [];
+    }
 
 -- NOP
 abbrev pub nop_row : Row
@@ -71,21 +66,14 @@ wide_load_row = one_byte AnyClass 0x8B NoPlus AnyModRm O64 4 Gv Ev 0
 
 -- VADDPS xmm, xmm, xmm/m128
 abbrev pub add_row : Row
-add_row = record {
-  kind = Vex;
-  map = M0f;
-  class = Np;
-  opcode = 0x58;
-  plus = NoPlus;
-  modrm = AnyModRm;
-  place = AnyPlace;
-  size = NoSize;
-  w = Wig;
-  l = L128;
-  modes = record { 0 = 7 };
-  ops = Vx ∷ Hx ∷ Wx ∷ Absent ∷ [];
-  marks = record { 0 = 0 };
-}
+add_row =
+    record (one_byte Np 0x58 NoPlus AnyModRm NoSize 7 Vx Hx 0) {
+      kind = Vex;
+      map = M0f;
+      w = Wig;
+      l = L128;
+      ops = Vx ∷ Hx ∷ Wx ∷ Absent ∷ [];
+    }
 
 rows_are : slice_get table 290 ∷ slice_get table 275 ∷ slice_get table 346 ∷ slice_get table 278
     ∷ slice_get table 169 ∷ slice_get table 623 ∷ slice_get table 279 ∷ slice_get table 1496 ∷ []
