@@ -1,5 +1,5 @@
 -- How the command ends when it meets no fault.
-use Rattle.std.proofs.Common.{◌≡◌, ◌⊎◌, inl, inr, ℕ, List, length, Option, Some, None, refl, sym, ap, subst, arith}
+use Rattle.std.proofs.Common.{◌≡◌, inl, inr, ℕ, List, length, Option, Some, None, refl, sym, ap, subst, arith}
 use Rattle.x86_values.specs.declared.Bits.{Bits}
 use Rattle.run_parts.specs.declared.status.Status.{Status}
 use Rattle.run_parts.specs.declared.status.Status.TheVariants.{Done, ReadFault, WriteFault, Memory, TooLarge, BadText}
@@ -41,18 +41,12 @@ module _ (bits : Bits) (base : ℕ) where
     pub completes : (left left' held held' : Option (List ℕ)) (source_rose out_rose : Type 0) (status : Status) →
         AssemblesAs bits base left left' held held' source_rose out_rose status → (source_rose → ⊥) → (out_rose → ⊥) →
         CompletesAssembling bits base left status
-    completes (Some bytes) left' held held' source_rose out_rose Done h s o = answered bytes left' h.0 Done h.1.0 (h.1.1.0, h.1.1.1.0)
-    completes None left' held held' source_rose out_rose Done h s o = λ e. elim e [ inl x ↦ cc | inr x ↦ cc ]
-    completes (Some bytes) left' held held' source_rose out_rose Memory h s o = (λ few answer is. inr refl, λ many. inr refl)
-    completes None left' held held' source_rose out_rose Memory h s o = λ e. elim e [ inl x ↦ cc | inr x ↦ cc ]
-    completes (Some bytes) left' held held' source_rose out_rose (TooLarge limit) h s o =
-        let over = facts.too_many whole_limit bytes left' h.1.0.0 h.1.0.1 in (
-          λ few answer is. absurd (omega arith),
-          λ many. inl (ap TooLarge h.0),
-        )
-    completes None left' held held' source_rose out_rose (TooLarge limit) h s o = λ e. elim e [ inl x ↦ cc | inr x ↦ cc ]
-    completes (Some bytes) left' held held' source_rose out_rose (BadText line) h s o = answered bytes left' h.0.0 (BadText line) h.0.1.0 h.0.1.1
-    completes None left' held held' source_rose out_rose (BadText line) h s o = λ e. elim e [ inl x ↦ cc | inr x ↦ cc ]
     completes left left' held held' source_rose out_rose ReadFault h s o = absurd (s h.0)
     completes left left' held held' source_rose out_rose WriteFault h s o = absurd (o h.0)
-    completes left left' held held' source_rose out_rose _ h s o = absurd h
+    completes None left' held held' source_rose out_rose _ h s o = λ e. elim e [ inl x ↦ cc | inr x ↦ cc ]
+    completes (Some bytes) left' held held' source_rose out_rose Done h s o = answered bytes left' h.0 Done h.1.0 (h.1.1.0, h.1.1.1.0)
+    completes (Some bytes) left' held held' source_rose out_rose (BadText line) h s o = answered bytes left' h.0.0 (BadText line) h.0.1.0 h.0.1.1
+    completes (Some bytes) left' held held' source_rose out_rose Memory h s o = (λ few answer is. inr refl, λ many. inr refl)
+    completes (Some bytes) left' held held' source_rose out_rose (TooLarge limit) h s o =
+        let over = facts.too_many whole_limit bytes left' h.1.0.0 h.1.0.1 in (λ few answer is. absurd (omega arith), λ many. inl (ap TooLarge h.0))
+    completes (Some bytes) left' held held' source_rose out_rose _ h s o = absurd h

@@ -60,62 +60,37 @@ first-of p k h = elim (cases_Bool (p 0)) [
 
 -- ---- the only one of four
 
--- of four tests three hold, and all do not
-alone-0 : (p : ℕ → Bool) → p 1 ≡ true → p 2 ≡ true → p 3 ≡ true → each_operand p ≡ false → FailsAlone p 0
-alone-0 p b c d h = record { within = omega arith; fails = off (p 0) (rw (b, c, d) at h); others = only }
-  where
-    off : (x : Bool) → (x && (true && (true && true))) ≡ false → x ≡ false
-    off true h = cc
-    off false h = refl
+-- a test that holds or has this number, and fails, has it
+this-one : (n k : ℕ) (b : Bool) → (n ≡ k) ⊎ (b ≡ true) → b ≡ false → n ≡ k
+this-one n k b (inl is) e = is
+this-one n k b (inr h) e = absurd cc
 
-    only : (n : ℕ) → n < 4 → p n ≡ false → n ≡ 0
-    only zero lt e = refl
-    only (suc zero) lt e = absurd cc
-    only (suc (suc zero)) lt e = absurd cc
-    only (suc (suc (suc zero))) lt e = absurd cc
-    only (suc (suc (suc (suc n)))) lt e = absurd (omega (arith, lt))
+-- of four tests each of which holds or has this number only that one fails
+only-one : (p : ℕ → Bool) (k : ℕ) → (0 ≡ k) ⊎ (p 0 ≡ true) → (1 ≡ k) ⊎ (p 1 ≡ true) → (2 ≡ k) ⊎ (p 2 ≡ true) → (3 ≡ k) ⊎ (p 3 ≡ true)
+    → (n : ℕ) → n < 4 → p n ≡ false → n ≡ k
+only-one p k a b c d zero lt e = this-one 0 k (p 0) a e
+only-one p k a b c d (suc zero) lt e = this-one 1 k (p 1) b e
+only-one p k a b c d (suc (suc zero)) lt e = this-one 2 k (p 2) c e
+only-one p k a b c d (suc (suc (suc zero))) lt e = this-one 3 k (p 3) d e
+only-one p k a b c d (suc (suc (suc (suc n)))) lt e = absurd (omega (arith, lt))
+
+-- what would make all of them hold fails where they do not
+off : (x all : Bool) → (x ≡ true → all ≡ true) → all ≡ false → x ≡ false
+off true all holds h = let g = holds refl in cc
+off false all holds h = refl
+
+-- three of them hold, and all do not
+alone-0 : (p : ℕ → Bool) → p 1 ≡ true → p 2 ≡ true → p 3 ≡ true → each_operand p ≡ false → FailsAlone p 0
+alone-0 p b c d h = record { within = omega arith; fails = off (p 0) (each_operand p) (λ a. rw (a, b, c, d) refl) h; others = only-one p 0 (inl refl) (inr b) (inr c) (inr d) }
 
 alone-1 : (p : ℕ → Bool) → p 0 ≡ true → p 2 ≡ true → p 3 ≡ true → each_operand p ≡ false → FailsAlone p 1
-alone-1 p a c d h = record { within = omega arith; fails = off (p 1) (rw (a, c, d) at h); others = only }
-  where
-    off : (x : Bool) → (true && (x && (true && true))) ≡ false → x ≡ false
-    off true h = cc
-    off false h = refl
-
-    only : (n : ℕ) → n < 4 → p n ≡ false → n ≡ 1
-    only zero lt e = absurd cc
-    only (suc zero) lt e = refl
-    only (suc (suc zero)) lt e = absurd cc
-    only (suc (suc (suc zero))) lt e = absurd cc
-    only (suc (suc (suc (suc n)))) lt e = absurd (omega (arith, lt))
+alone-1 p a c d h = record { within = omega arith; fails = off (p 1) (each_operand p) (λ b. rw (a, b, c, d) refl) h; others = only-one p 1 (inr a) (inl refl) (inr c) (inr d) }
 
 alone-2 : (p : ℕ → Bool) → p 0 ≡ true → p 1 ≡ true → p 3 ≡ true → each_operand p ≡ false → FailsAlone p 2
-alone-2 p a b d h = record { within = omega arith; fails = off (p 2) (rw (a, b, d) at h); others = only }
-  where
-    off : (x : Bool) → (true && (true && (x && true))) ≡ false → x ≡ false
-    off true h = cc
-    off false h = refl
-
-    only : (n : ℕ) → n < 4 → p n ≡ false → n ≡ 2
-    only zero lt e = absurd cc
-    only (suc zero) lt e = absurd cc
-    only (suc (suc zero)) lt e = refl
-    only (suc (suc (suc zero))) lt e = absurd cc
-    only (suc (suc (suc (suc n)))) lt e = absurd (omega (arith, lt))
+alone-2 p a b d h = record { within = omega arith; fails = off (p 2) (each_operand p) (λ c. rw (a, b, c, d) refl) h; others = only-one p 2 (inr a) (inr b) (inl refl) (inr d) }
 
 alone-3 : (p : ℕ → Bool) → p 0 ≡ true → p 1 ≡ true → p 2 ≡ true → each_operand p ≡ false → FailsAlone p 3
-alone-3 p a b c h = record { within = omega arith; fails = off (p 3) (rw (a, b, c) at h); others = only }
-  where
-    off : (x : Bool) → (true && (true && (true && x))) ≡ false → x ≡ false
-    off true h = cc
-    off false h = refl
-
-    only : (n : ℕ) → n < 4 → p n ≡ false → n ≡ 3
-    only zero lt e = absurd cc
-    only (suc zero) lt e = absurd cc
-    only (suc (suc zero)) lt e = absurd cc
-    only (suc (suc (suc zero))) lt e = refl
-    only (suc (suc (suc (suc n)))) lt e = absurd (omega (arith, lt))
+alone-3 p a b c h = record { within = omega arith; fails = off (p 3) (each_operand p) (λ d. rw (a, b, c, d) refl) h; others = only-one p 3 (inr a) (inr b) (inr c) (inl refl) }
 
 -- at most one of four tests passes
 pub record OneOf (a b c d : Bool) : Type 0 where
@@ -171,35 +146,19 @@ weaker a b c d a' b' c' d' one s t u v = record {
 
 absent-none : (x : Operand) → is_absent x ≡ true → may_have_target x ≡ false
 absent-none Absent h = refl
-absent-none (Reg r) h = cc
-absent-none (MemOperand m) h = cc
-absent-none (Imm n) h = cc
-absent-none (Near n) h = cc
-absent-none (Far s n) h = cc
+absent-none _ h = cc
 
 register-none : (x : Operand) → is_register x ≡ true → may_have_target x ≡ false
-register-none Absent h = cc
 register-none (Reg r) h = refl
-register-none (MemOperand m) h = cc
-register-none (Imm n) h = cc
-register-none (Near n) h = cc
-register-none (Far s n) h = cc
+register-none _ h = cc
 
 immediate-none : (x : Operand) → is_immediate x ≡ true → may_have_target x ≡ false
-immediate-none Absent h = cc
-immediate-none (Reg r) h = cc
-immediate-none (MemOperand m) h = cc
 immediate-none (Imm n) h = refl
-immediate-none (Near n) h = cc
-immediate-none (Far s n) h = cc
+immediate-none _ h = cc
 
 far-none : (x : Operand) → is_far x ≡ true → may_have_target x ≡ false
-far-none Absent h = cc
-far-none (Reg r) h = cc
-far-none (MemOperand m) h = cc
-far-none (Imm n) h = cc
-far-none (Near n) h = cc
 far-none (Far s n) h = refl
+far-none _ h = cc
 
 opposed : (b : Bool) → b ≡ false → b ≡ true → false ≡ true
 opposed b h k = sym h ∙ k
@@ -226,12 +185,8 @@ variant-target place method.Fixed x h k = opposed (may_have_target x) (register-
 variant-target place method.One x h k = opposed (may_have_target x) (immediate-none x h) k
 
 memory-target : (x : Operand) → is_memory x ≡ true → may_have_target x ≡ true
-memory-target Absent h = cc
-memory-target (Reg r) h = cc
 memory-target (MemOperand m) h = refl
-memory-target (Imm n) h = cc
-memory-target (Near n) h = cc
-memory-target (Far s n) h = cc
+memory-target _ h = cc
 
 kind-target : (row : Row) (i : Instr) (n : ℕ) → kind_suits row i n ≡ true → may_have_target (operand_at i n) ≡ true → can_be_target row n ≡ true
 unfolding kind_suits
@@ -251,20 +206,13 @@ each-of p h = four (p 0) (p 1) (p 2) (p 3) h
 -- ---- the conditions of memory and of targets
 
 no-memory : (f : Mem → Bool) (x : Operand) → is_memory x ≡ false → (elim x [ MemOperand m ↦ f m | _ ↦ true ]) ≡ true
-no-memory f Absent h = refl
-no-memory f (Reg r) h = refl
 no-memory f (MemOperand m) h = cc
-no-memory f (Imm n) h = refl
-no-memory f (Near n) h = refl
-no-memory f (Far s n) h = refl
+no-memory f _ h = refl
 
 no-target : (f : Mem → Bool) (g : ℕ → Bool) (x : Operand) → may_have_target x ≡ false → (elim x [ Near t ↦ g t | MemOperand m ↦ f m | _ ↦ true ]) ≡ true
-no-target f g Absent h = refl
-no-target f g (Reg r) h = refl
 no-target f g (MemOperand m) h = cc
-no-target f g (Imm n) h = refl
 no-target f g (Near n) h = cc
-no-target f g (Far s n) h = refl
+no-target f g _ h = refl
 
 address-else : (bits : Bits) (row : Row) (i : Instr) (n : ℕ) → is_memory (operand_at i n) ≡ false → address_suits bits row i n ≡ true
 unfolding address_suits

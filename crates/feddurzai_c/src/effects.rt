@@ -79,7 +79,7 @@ fn register_places(uses: &[RegisterUse]) -> [FlatUse; 32]
 }
 
 /// No memory.
-const NO_MEMORY: FlatMemoryUse = FlatMemoryUse {
+pub(crate) const NO_MEMORY: FlatMemoryUse = FlatMemoryUse {
     displacement: 0,
     size: 0,
     segment: 0,

@@ -25,7 +25,7 @@ pub(crate) const ABSENT: FlatOperand = FlatOperand {
 };
 
 /// A struct of which nothing is written yet.
-const NO_INSTR: FlatInstr = FlatInstr {
+pub(crate) const NO_INSTR: FlatInstr = FlatInstr {
     op0: ABSENT,
     op1: ABSENT,
     op2: ABSENT,

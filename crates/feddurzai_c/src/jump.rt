@@ -1,10 +1,9 @@
 //! Jumps and calls of a wanted form.
 
-ghost use Rattle.std.specs.Prelude.{◌≡◌, ◌++◌, ◌≤◌, ◌+◌, length, None, MatchResult, Ok, Err};
+ghost use Rattle.std.specs.Prelude.{◌≡◌, ◌++◌, ◌≤◌, ◌+◌, length, MatchResult, Ok, Err};
 ghost use Rattle.arrayvec.specs.ArrayVec.{array_vec_len};
 ghost use Rattle.plain_spelling.specs.Values.{low_bytes};
 ghost use Rattle.branch_forms.specs.Branches as branches;
-ghost use Rattle.branch_forms.specs.Images as images;
 ghost use Rattle.feddurzai_c.specs.Answers as said;
 ghost use Rattle.feddurzai_c.specs.Jumps as spec;
 
@@ -13,11 +12,11 @@ use crate::numbers::bits_numbered;
 use crate::refusal::{Refusal, refusal_status};
 use crate::room::put_bytes;
 use arrayvec::ArrayVec;
-use branch_forms::{CALL_REL16, CALL_RM64, JMP_REL8, JMP_REL16, JMP_RM64};
+use branch_forms::{CALL_REL16, CALL_RM64, JMP_REL8, JMP_REL16, JMP_RM64, branch_to, through_slot};
 use encoder::encode;
 use instruction_parts::append::append_few;
 use plain_spelling::numbers::append_low_bytes;
-use x86_values::{Bits, Code, DispSize, Instr, Mem, Operand, Register, Rep, wrap};
+use x86_values::{Bits, Instr, wrap};
 
 /// The form of a jump or a call.
 #[derive(Clone, Copy, PartialEq, Eq, Debug)]
@@ -52,43 +51,6 @@ fn jump_numbered(n: u32) -> Option<JumpForm>
     }
 }
 
-/// An instruction of one operand without prefixes.
-fn bare(code: u16, asize: Option<Bits>, operand: Operand) -> Instr
-    ensures { result ≡ images.bare code asize operand }
-{
-    Instr {
-        code: Code(code),
-        lock: false,
-        rep: Rep::None,
-        seg: None,
-        asize,
-        ops: [operand, Operand::Absent, Operand::Absent, Operand::Absent],
-    }
-}
-
-/// A relative branch.
-#[tactic(auto, unfolding(branch_forms::specs::Images::branch_to))]
-fn branch_to(code: u16, target: u64) -> Instr
-    ensures { result ≡ images.branch_to code None target }
-{
-    bare(code, None, Operand::Near(target))
-}
-
-/// A branch through the eight bytes at an address, relative to RIP.
-#[tactic(auto, unfolding(branch_forms::specs::Images::through_slot))]
-fn through_slot(code: u16, slot: u64) -> Instr
-    ensures { result ≡ images.through_slot code slot }
-{
-    let operand = Mem {
-        base: Some(Register::Rip),
-        index: None,
-        scale: 1,
-        disp_size: DispSize::D32,
-        disp: slot,
-    };
-    bare(code, Some(Bits::B64), Operand::Mem(operand))
-}
-
 /// The code of the branch of an operand size, where the codes of the three sizes stand one behind another.
 #[tactic(auto, unfolding(branch_forms::specs::Branches::size_number))]
 fn code_of_size(first: u16, size: Bits) -> u16
@@ -108,10 +70,10 @@ fn jump_instr(bits: Bits, at: u64, target: u64, form: JumpForm) -> Instr
     ensures { result ≡ spec.jump_instr bits at target form }
 {
     match form {
-        JumpForm::ShortJump => branch_to(code_of_size(JMP_REL8, bits), target),
-        JumpForm::NearJump => branch_to(code_of_size(JMP_REL16, bits), target),
+        JumpForm::ShortJump => branch_to(code_of_size(JMP_REL8, bits), None, target),
+        JumpForm::NearJump => branch_to(code_of_size(JMP_REL16, bits), None, target),
         JumpForm::FarJump => through_slot(JMP_RM64, wrap(Bits::B64, u128::from(at) + 6)),
-        JumpForm::NearCall => branch_to(code_of_size(CALL_REL16, bits), target),
+        JumpForm::NearCall => branch_to(code_of_size(CALL_REL16, bits), None, target),
         JumpForm::FarCall => through_slot(CALL_RM64, wrap(Bits::B64, u128::from(at) + 8)),
     }
 }

@@ -1,13 +1,15 @@
 use crate::assembling::{feddurzai_assemble, feddurzai_read_intel};
 use crate::blocks::feddurzai_move_blocks;
 use crate::decoding::feddurzai_decode;
-use crate::effects::{feddurzai_effects, feddurzai_feature_name, feddurzai_full_register};
+use crate::effects::{
+    NO_MEMORY, feddurzai_effects, feddurzai_feature_name, feddurzai_full_register,
+};
 use crate::encoding::{feddurzai_encode, feddurzai_encoded_len};
 use crate::flat::{
     FlatBlock, FlatBlocks, FlatDetour, FlatInfo, FlatInstr, FlatMemoryUse, FlatMove, FlatMoved,
     FlatOffsets, FlatPart, FlatPlace, FlatStep, FlatTouched, FlatUse,
 };
-use crate::flatten::ABSENT;
+use crate::flatten::NO_INSTR;
 use crate::flow::feddurzai_flow;
 use crate::flow_from::feddurzai_flow_from;
 use crate::hooks::feddurzai_detour;
@@ -22,19 +24,6 @@ use crate::rows::{feddurzai_code_of, feddurzai_name, feddurzai_notation};
 use crate::stepping::{feddurzai_step, feddurzai_step_len};
 use crate::texts::feddurzai_text;
 use std::test::Fail;
-
-const NO_INSTR: FlatInstr = FlatInstr {
-    op0: ABSENT,
-    op1: ABSENT,
-    op2: ABSENT,
-    op3: ABSENT,
-    code: 0,
-    len: 0,
-    lock: 0,
-    rep: 0,
-    segment: 0,
-    asize: 0,
-};
 
 const NO_PART: FlatPart = FlatPart { at: 0, len: 0 };
 
@@ -123,18 +112,6 @@ fn an_instruction_and_its_row_are_told(rt: HostRuntime) -> Result<(), Fail> {
     Ok(())
 }
 
-const NO_MEMORY: FlatMemoryUse = FlatMemoryUse {
-    displacement: 0,
-    size: 0,
-    segment: 0,
-    base_class: 0,
-    base_number: 0,
-    index_class: 0,
-    index_number: 0,
-    scale: 0,
-    access: 0,
-};
-
 // `push rbx` reads RBX, moves RSP and writes 8 bytes below it; RSP holds SPL; and the last feature has a name of 6 letters.
 #[test]
 fn what_is_touched_is_told(rt: HostRuntime) -> Result<(), Fail> {
@@ -182,24 +159,28 @@ fn what_is_touched_is_told(rt: HostRuntime) -> Result<(), Fail> {
     Ok(())
 }
 
+const NO_ENTRY: FlatMoved = FlatMoved {
+    old_ip: 0,
+    new_ip: 0,
+    len: 0,
+    form: 0,
+};
+
+const NO_MOVE: FlatMove = FlatMove {
+    bytes: 0,
+    count: 0,
+    at: 0,
+    address: 0,
+    code_bytes: 0,
+    slots_at: 0,
+};
+
 // `je` over 16 bytes, moved beyond the reach of 32 bits; and followed.
 #[test]
 fn code_is_moved_and_followed(rt: HostRuntime) -> Result<(), Fail> {
     let mut out = [0; 16];
-    let mut map = [FlatMoved {
-        old_ip: 0,
-        new_ip: 0,
-        len: 0,
-        form: 0,
-    }];
-    let mut report = FlatMove {
-        bytes: 0,
-        count: 0,
-        at: 0,
-        address: 0,
-        code_bytes: 0,
-        slots_at: 0,
-    };
+    let mut map = [NO_ENTRY];
+    let mut report = NO_MOVE;
     let said = feddurzai_move(
         rt.alloc(),
         64,
@@ -309,20 +290,8 @@ fn texts_jumps_and_names_are_written(rt: HostRuntime) -> Result<(), Fail> {
 #[test]
 fn a_target_is_kept(rt: HostRuntime) -> Result<(), Fail> {
     let mut out = [0xaa; 3];
-    let mut map = [FlatMoved {
-        old_ip: 0,
-        new_ip: 0,
-        len: 0,
-        form: 0,
-    }];
-    let mut report = FlatMove {
-        bytes: 0,
-        count: 0,
-        at: 0,
-        address: 0,
-        code_bytes: 0,
-        slots_at: 0,
-    };
+    let mut map = [NO_ENTRY];
+    let mut report = NO_MOVE;
     let said = feddurzai_move_outside(
         rt.alloc(),
         64,
@@ -407,13 +376,7 @@ fn blocks_are_moved_at_once(rt: HostRuntime) {
         },
     ];
     let mut out = [0xaa; 13];
-    let nothing = FlatMoved {
-        old_ip: 0,
-        new_ip: 0,
-        len: 0,
-        form: 0,
-    };
-    let mut map = [nothing; 3];
+    let mut map = [NO_ENTRY; 3];
     let mut places = [FlatPlace {
         end: 0,
         code_bytes: 0,

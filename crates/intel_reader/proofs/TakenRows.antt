@@ -8,6 +8,7 @@ use Rattle.x86_values.specs.declared.DispSize.{DispSize}
 use Rattle.x86_values.specs.declared.Mem.{Mem}
 use Rattle.x86_values.specs.declared.Register.{Register}
 use Rattle.x86_values.specs.declared.Register.TheVariants.{Low8, High8, R16, R32, R64, Xmm, Rip}
+use Rattle.x86_values.specs.declared.Operand.{Operand}
 use Rattle.x86_values.specs.declared.Operand.TheVariants.{Reg as RegOperand, Mem as MemOperand, Imm as ImmOperand, Near as NearOperand, Far as FarOperand}
 use Rattle.x86_values.specs.declared.Code.{Code}
 use Rattle.x86_values.specs.declared.Instr.{Instr}
@@ -52,41 +53,19 @@ use Rattle.intel_reader.proofs.Choosing.{made_is, row_of_candidate}
 
 -- ---- the variant
 
-register_same : (place : Place) (how : Method) (r s : Register) → is_variant_of place how (RegOperand r) ≡ is_variant_of place how (RegOperand s)
-unfolding is_variant_of is_allowed_in
-register_same AnyPlace method.RegisterOrMemory r s = refl
-register_same OnlyMemory method.RegisterOrMemory r s = refl
-register_same OnlyRegister method.RegisterOrMemory r s = refl
-register_same place how r s = refl
+-- what is said of an operand besides its kind says nothing of the variants that it is
+abbrev AreAlike : (X : Type 0) → (X → Operand) → Place → Method → Type 0
+AreAlike X operand place how = (x y : X) → is_variant_of place how (operand x) ≡ is_variant_of place how (operand y)
 
-memory_same : (place : Place) (how : Method) (m p : Mem) → is_variant_of place how (MemOperand m) ≡ is_variant_of place how (MemOperand p)
+alike : (place : Place) (how : Method) →
+    AreAlike Register (λ r. RegOperand r) place how × AreAlike Mem (λ m. MemOperand m) place how × AreAlike ℕ (λ n. NearOperand n) place how
+    × AreAlike ℕ (λ n. ImmOperand n) place how
+    × ((s o t p : ℕ) → is_variant_of place how (FarOperand s o) ≡ is_variant_of place how (FarOperand t p))
 unfolding is_variant_of is_allowed_in
-memory_same AnyPlace method.RegisterOrMemory m p = refl
-memory_same OnlyMemory method.RegisterOrMemory m p = refl
-memory_same OnlyRegister method.RegisterOrMemory m p = refl
-memory_same place how m p = refl
-
--- the value of a number or of a far pointer says nothing of its variant
-far_same : (place : Place) (how : Method) (s o t p : ℕ) → is_variant_of place how (FarOperand s o) ≡ is_variant_of place how (FarOperand t p)
-unfolding is_variant_of is_allowed_in
-far_same AnyPlace method.RegisterOrMemory s o t p = refl
-far_same OnlyMemory method.RegisterOrMemory s o t p = refl
-far_same OnlyRegister method.RegisterOrMemory s o t p = refl
-far_same place how s o t p = refl
-
-near_number : (place : Place) (how : Method) (x y : ℕ) → is_variant_of place how (NearOperand x) ≡ is_variant_of place how (NearOperand y)
-unfolding is_variant_of is_allowed_in
-near_number AnyPlace method.RegisterOrMemory x y = refl
-near_number OnlyMemory method.RegisterOrMemory x y = refl
-near_number OnlyRegister method.RegisterOrMemory x y = refl
-near_number place how x y = refl
-
-plain_number : (place : Place) (how : Method) (x y : ℕ) → is_variant_of place how (ImmOperand x) ≡ is_variant_of place how (ImmOperand y)
-unfolding is_variant_of is_allowed_in
-plain_number AnyPlace method.RegisterOrMemory x y = refl
-plain_number OnlyMemory method.RegisterOrMemory x y = refl
-plain_number OnlyRegister method.RegisterOrMemory x y = refl
-plain_number place how x y = refl
+alike AnyPlace method.RegisterOrMemory = (λ x y. refl, λ x y. refl, λ x y. refl, λ x y. refl, λ s o t p. refl)
+alike OnlyMemory method.RegisterOrMemory = (λ x y. refl, λ x y. refl, λ x y. refl, λ x y. refl, λ s o t p. refl)
+alike OnlyRegister method.RegisterOrMemory = (λ x y. refl, λ x y. refl, λ x y. refl, λ x y. refl, λ s o t p. refl)
+alike _ _ = (λ x y. refl, λ x y. refl, λ x y. refl, λ x y. refl, λ s o t p. refl)
 
 -- what holds of two classes holds of one of them
 of_two : (P : OperandClass → Type 0) (a b : OperandClass) (t : Bool) → P a → P b → P (if t then a else b)
@@ -113,11 +92,11 @@ variant_same : (place : Place) (how : Method) (near : Bool) (a : Bits) (size : D
     → is_variant_of place how (operand_from near a size t) ≡ is_variant_of place how (sample near (text_class t))
 unfolding operand_from sample text_class
 variant_same place how near a size Absent = refl
-variant_same place how near a size (Reg r) = register_same place how r Rip ∙ ap (is_variant_of place how) (sym (register_sample near r))
-variant_same place how true a size (Number x) = near_number place how x 0
-variant_same place how false a size (Number x) = plain_number place how x 0
-variant_same place how near a size (Far s o) = far_same place how _ _ 0 0
-variant_same place how near a size (Address t) = memory_same place how (address_from a size t.inside) _
+variant_same place how near a size (Reg r) = (alike place how).0 r Rip ∙ ap (is_variant_of place how) (sym (register_sample near r))
+variant_same place how true a size (Number x) = (alike place how).2 x 0
+variant_same place how false a size (Number x) = (alike place how).3 x 0
+variant_same place how near a size (Far s o) = (alike place how).4 _ _ 0 0
+variant_same place how near a size (Address t) = (alike place how).1 (address_from a size t.inside) _
 
 -- ---- the registers
 

@@ -1,5 +1,5 @@
 -- How a command that moves code ends when it meets no fault.
-use Rattle.std.proofs.Common.{◌≡◌, ◌⊎◌, inl, inr, ℕ, List, length, Option, Some, None, refl, sym, ap, subst, arith}
+use Rattle.std.proofs.Common.{inl, inr, ℕ, List, length, Option, Some, None, refl, sym, ap, subst, arith}
 use Rattle.x86_values.specs.declared.Bits.{Bits}
 use Rattle.command_words.specs.declared.commands.BlockWords.{BlockWords}
 use Rattle.run_parts.specs.declared.status.Status.{Status}
@@ -7,7 +7,7 @@ use Rattle.run_parts.specs.declared.status.Status.TheVariants.{Done, BadCode, Re
 use Rattle.run_parts.specs.Facts.{ReadFacts}
 use Rattle.run_parts.specs.Reads.{whole_limit, ReadsAll}
 use Rattle.moving_run.specs.declared.moving.Wanted.{Wanted}
-use Rattle.moving_run.specs.Moving.{IsMovingAnswer, RefusesMoving, MovesAs, CompletesMoving}
+use Rattle.moving_run.specs.Moving.{IsMovingAnswer, MovesAs, CompletesMoving}
 use Rattle.moving_run.specs.Facts.{MovingAnswerFacts}
 
 module _ (facts : ReadFacts) (answers : MovingAnswerFacts) (wanted : Wanted) (bits : Bits) (words : List BlockWords) where
@@ -22,33 +22,19 @@ module _ (facts : ReadFacts) (answers : MovingAnswerFacts) (wanted : Wanted) (bi
         λ many. absurd (omega (arith, ap length same)),
       )
 
-  refused : (left left' held held' : Option (List ℕ)) (status : Status) → RefusesMoving wanted bits words left left' held held' status →
-      ((status ≡ ReadFault) ⊎ (status ≡ WriteFault) → ⊥) → CompletesMoving wanted bits words left status
-  refused (Some bytes) left' held held' status h told = answered bytes left' h.0.0 status h.0.1.0 h.0.1.1
-  refused None left' held held' status h told = told
-
   -- **a command that meets no fault answers what the code says**
   pub completes : (left left' held held' : Option (List ℕ)) (source_rose out_rose : Type 0) (status : Status) →
       MovesAs wanted bits words left left' held held' source_rose out_rose status → (source_rose → ⊥) → (out_rose → ⊥) →
       CompletesMoving wanted bits words left status
-  completes (Some bytes) left' held held' source_rose out_rose Done h s o = answered bytes left' h.0 Done h.1.0 (h.1.1.0, h.1.1.1.0)
-  completes None left' held held' source_rose out_rose Done h s o = λ e. elim e [ inl x ↦ cc | inr x ↦ cc ]
-  completes (Some bytes) left' held held' source_rose out_rose Memory h s o = (λ few answer is. inr refl, λ many. inr refl)
-  completes None left' held held' source_rose out_rose Memory h s o = λ e. elim e [ inl x ↦ cc | inr x ↦ cc ]
-  completes (Some bytes) left' held held' source_rose out_rose (TooLarge limit) h s o =
-      let over = facts.too_many whole_limit bytes left' h.1.0.0 h.1.0.1 in (
-        λ few answer is. absurd (omega arith),
-        λ many. inl (ap TooLarge h.0),
-      )
-  completes None left' held held' source_rose out_rose (TooLarge limit) h s o = λ e. elim e [ inl x ↦ cc | inr x ↦ cc ]
   completes left left' held held' source_rose out_rose ReadFault h s o = absurd (s h.0)
   completes left left' held held' source_rose out_rose WriteFault h s o = absurd (o h.0)
-  completes left left' held held' source_rose out_rose (BadCode offset error) h s o =
-      refused left left' held held' (BadCode offset error) h (λ e. elim e [ inl x ↦ cc | inr x ↦ cc ])
-  completes left left' held held' source_rose out_rose (TooMany count) h s o =
-      refused left left' held held' (TooMany count) h (λ e. elim e [ inl x ↦ cc | inr x ↦ cc ])
-  completes left left' held held' source_rose out_rose (Wraps end) h s o =
-      refused left left' held held' (Wraps end) h (λ e. elim e [ inl x ↦ cc | inr x ↦ cc ])
-  completes left left' held held' source_rose out_rose (TooFar at target) h s o =
-      refused left left' held held' (TooFar at target) h (λ e. elim e [ inl x ↦ cc | inr x ↦ cc ])
-  completes left left' held held' source_rose out_rose _ h s o = absurd h
+  completes None left' held held' source_rose out_rose _ h s o = λ e. elim e [ inl x ↦ cc | inr x ↦ cc ]
+  completes (Some bytes) left' held held' source_rose out_rose Done h s o = answered bytes left' h.0 Done h.1.0 (h.1.1.0, h.1.1.1.0)
+  completes (Some bytes) left' held held' source_rose out_rose (BadCode offset error) h s o = answered bytes left' h.0.0 (BadCode offset error) h.0.1.0 h.0.1.1
+  completes (Some bytes) left' held held' source_rose out_rose (TooMany count) h s o = answered bytes left' h.0.0 (TooMany count) h.0.1.0 h.0.1.1
+  completes (Some bytes) left' held held' source_rose out_rose (Wraps end) h s o = answered bytes left' h.0.0 (Wraps end) h.0.1.0 h.0.1.1
+  completes (Some bytes) left' held held' source_rose out_rose (TooFar at target) h s o = answered bytes left' h.0.0 (TooFar at target) h.0.1.0 h.0.1.1
+  completes (Some bytes) left' held held' source_rose out_rose Memory h s o = (λ few answer is. inr refl, λ many. inr refl)
+  completes (Some bytes) left' held held' source_rose out_rose (TooLarge limit) h s o =
+      let over = facts.too_many whole_limit bytes left' h.1.0.0 h.1.0.1 in (λ few answer is. absurd (omega arith), λ many. inl (ap TooLarge h.0))
+  completes (Some bytes) left' held held' source_rose out_rose _ h s o = absurd h

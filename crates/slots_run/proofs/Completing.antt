@@ -1,11 +1,11 @@
 -- How the command ends when it meets no fault.
-use Rattle.std.proofs.Common.{◌≡◌, ◌⊎◌, inl, inr, ℕ, List, length, Option, Some, None, refl, sym, ap, subst, arith}
+use Rattle.std.proofs.Common.{◌≡◌, inl, inr, ℕ, List, length, Option, Some, None, refl, sym, ap, subst, arith}
 use Rattle.command_words.specs.Ranges.{Range}
 use Rattle.run_parts.specs.declared.status.Status.{Status}
 use Rattle.run_parts.specs.declared.status.Status.TheVariants.{Done, BadCode, ReadFault, WriteFault, Memory, TooLarge, TooFar, RegionFull}
 use Rattle.run_parts.specs.Facts.{ReadFacts}
 use Rattle.run_parts.specs.Reads.{whole_limit, ReadsAll, IsUnread}
-use Rattle.slots_run.specs.Slotting.{IsSlotsRefusal, IsSlotsAnswer, RefusesSlots, SlotsAs, CompletesSlots}
+use Rattle.slots_run.specs.Slotting.{IsSlotsRefusal, IsSlotsAnswer, SlotsAs, CompletesSlots}
 use Rattle.slots_run.specs.Facts.{SlotsAnswerFacts}
 
 module _ (range : Range) (base : ℕ) where
@@ -39,31 +39,18 @@ module _ (range : Range) (base : ℕ) where
           λ many. absurd (omega (arith, ap length same)),
         )
 
-    refused : (left left' held held' : Option (List ℕ)) (status : Status) → RefusesSlots range base left left' held held' status →
-        ((status ≡ ReadFault) ⊎ (status ≡ WriteFault) → ⊥) → CompletesSlots range base left status
-    refused (Some bytes) left' held held' status h told = answered bytes left' h.0.0 status h.0.1.0 h.0.1.1
-    refused None left' held held' status h told = told
-
     -- **the command that meets no fault answers what its bytes say**
     pub completes : (left left' held held' : Option (List ℕ)) (source_rose out_rose : Type 0) (status : Status) →
         SlotsAs range base left left' held held' source_rose out_rose status → (source_rose → ⊥) → (out_rose → ⊥) →
         CompletesSlots range base left status
-    completes (Some bytes) left' held held' source_rose out_rose Done h s o = answered bytes left' h.0 Done h.1.0 (h.1.1.0, h.1.1.1.0)
-    completes None left' held held' source_rose out_rose Done h s o = λ e. elim e [ inl x ↦ cc | inr x ↦ cc ]
-    completes (Some bytes) left' held held' source_rose out_rose Memory h s o = (λ few answer is. inr refl, λ many. inr refl)
-    completes None left' held held' source_rose out_rose Memory h s o = λ e. elim e [ inl x ↦ cc | inr x ↦ cc ]
-    completes (Some bytes) left' held held' source_rose out_rose (TooLarge limit) h s o =
-        let over = facts.too_many whole_limit bytes left' h.1.0.0 h.1.0.1 in (
-          λ few answer is. absurd (omega arith),
-          λ many. inl (ap TooLarge h.0),
-        )
-    completes None left' held held' source_rose out_rose (TooLarge limit) h s o = λ e. elim e [ inl x ↦ cc | inr x ↦ cc ]
     completes left left' held held' source_rose out_rose ReadFault h s o = absurd (s h.0)
     completes left left' held held' source_rose out_rose WriteFault h s o = absurd (o h.0)
-    completes left left' held held' source_rose out_rose (BadCode offset error) h s o =
-        refused left left' held held' (BadCode offset error) h (λ e. elim e [ inl x ↦ cc | inr x ↦ cc ])
-    completes left left' held held' source_rose out_rose (RegionFull len largest) h s o =
-        refused left left' held held' (RegionFull len largest) h (λ e. elim e [ inl x ↦ cc | inr x ↦ cc ])
-    completes left left' held held' source_rose out_rose (TooFar at target) h s o =
-        refused left left' held held' (TooFar at target) h (λ e. elim e [ inl x ↦ cc | inr x ↦ cc ])
-    completes left left' held held' source_rose out_rose _ h s o = absurd h
+    completes None left' held held' source_rose out_rose _ h s o = λ e. elim e [ inl x ↦ cc | inr x ↦ cc ]
+    completes (Some bytes) left' held held' source_rose out_rose Done h s o = answered bytes left' h.0 Done h.1.0 (h.1.1.0, h.1.1.1.0)
+    completes (Some bytes) left' held held' source_rose out_rose (BadCode offset error) h s o = answered bytes left' h.0.0 (BadCode offset error) h.0.1.0 h.0.1.1
+    completes (Some bytes) left' held held' source_rose out_rose (RegionFull len largest) h s o = answered bytes left' h.0.0 (RegionFull len largest) h.0.1.0 h.0.1.1
+    completes (Some bytes) left' held held' source_rose out_rose (TooFar at target) h s o = answered bytes left' h.0.0 (TooFar at target) h.0.1.0 h.0.1.1
+    completes (Some bytes) left' held held' source_rose out_rose Memory h s o = (λ few answer is. inr refl, λ many. inr refl)
+    completes (Some bytes) left' held held' source_rose out_rose (TooLarge limit) h s o =
+        let over = facts.too_many whole_limit bytes left' h.1.0.0 h.1.0.1 in (λ few answer is. absurd (omega arith), λ many. inl (ap TooLarge h.0))
+    completes (Some bytes) left' held held' source_rose out_rose _ h s o = absurd h

@@ -1,10 +1,11 @@
 -- How far a stream has come: the lines of the items so far were written, and the bytes that are left stand in the window.
 use Rattle.std.proofs.Common.{◌≡◌, inl, inr, ℕ, ◌+◌, ◌-◌, ◌<◌, ◌≤◌, min, Bool, true, false, List, [], ◌∷◌, ◌++◌, length, length-append, take, drop, Option, Some, None, refl, sym, ap, ◌∙◌, subst, arith, take-take, take_all}
-use Rattle.std.specs.Prelude.{All}
+use Rattle.std.specs.Prelude.{All, Result}
 use Rattle.std.proofs.Math.Seq.{take-append-add}
 use Rattle.std.proofs.lemmas.List.{length-drop, length-take, drop-drop, drop-append-le, take_min}
 use Rattle.std.proofs.lemmas.Grind.{flat_map-append}
 use Rattle.std.proofs.lemmas.List.Elements.{All-nil, All-append}
+use Rattle.byte_ports.specs.declared.failed.Failed.{Failed}
 use Rattle.byte_ports.specs.Ports.{Rose, with_front, with_back}
 use Rattle.x86_values.specs.declared.Bits.{Bits}
 use Rattle.decoder.specs.declared.DecodeError.{DecodeError}
@@ -14,9 +15,10 @@ use Rattle.sweep_text.specs.Lines.{LineGoesOn, line_of, lines_of}
 use Rattle.run_parts.specs.Reads.{code_limit, ReadsAll, ReadsTooMany}
 use Rattle.run_parts.specs.Facts.{TextPieceFacts}
 use Rattle.sweep.specs.Steps.{IsReady, HandlesEnd, HandlesItems, HandlesFront}
-use Rattle.sweep.specs.Calls.{IsWritten}
+use Rattle.sweep.specs.Calls.{IsWritten, Rounds, IsLastRound, IsNeeded, IsCalled}
 use Rattle.sweep.specs.Window.{Fills}
 use Rattle.sweep.specs.Streams.{WritesLines, WritesHandled, WritesLinesFront, WritesLinesBefore, Sees, Reads, MayHandle}
+use Rattle.sweep.specs.declared.error.StreamError.{StreamError}
 use Rattle.sweep.specs.declared.ready.Handled.{Handled}
 use Rattle.sweep.proofs.Longer.{all_ready, sweeps_longer, sweeps_join}
 
@@ -89,6 +91,23 @@ pub written_so_far : (bits : Bits) (base : ℕ) (lines : Lines) (start left held
 unfolding at_fault
 written_so_far bits base lines start left held held' at len count window s =
     let h = at_fault bits base lines start left left held held' at len count window s refl in record { read = h.1.0; handled = h.1.1 }
+
+-- the calls of a stream whose last round begins here
+pub called_so_far : {S K : Type 0} {left : S → Option (List ℕ)} {pulls : S → List ℕ → Result ℕ Failed → S → List ℕ → Type 0}
+    {held : K → Option (List ℕ)} {puts : K → List ℕ → Result ℕ Failed → K → Type 0} {bits : Bits} {base : ℕ} {lines : Lines}
+    {source source' : S} {sink sink' : K} {result : Result ℕ StreamError} {at len count : ℕ} {window : List ℕ} (last_source : S) (last_sink : K)
+    (s : Streamed bits base lines (left source) (left last_source) (held sink) (held last_sink) at len count window) →
+    Rounds left pulls held puts bits base lines source sink last_source last_sink → IsLastRound pulls puts last_source source' last_sink sink' result →
+    IsNeeded s.seen result → IsCalled left pulls held puts bits base lines source source' sink sink' result
+called_so_far last_source last_sink s rounds last needed = record {
+  last_source = last_source;
+  last_sink = last_sink;
+  seen = s.seen;
+  rounds = rounds;
+  written = written_so_far _ _ _ _ _ _ _ _ _ _ _ s;
+  last = last;
+  needed = needed;
+}
 
 lines_join : (bits : Bits) (base : ℕ) (lines : Lines) (items more : List Item) →
     lines_of bits base lines (items ++ more) ≡ lines_of bits base lines items ++ lines_of bits base lines more

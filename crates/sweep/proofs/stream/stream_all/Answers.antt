@@ -2,7 +2,7 @@ use Rattle.std.proofs.Common.{rules, ◌≡◌, ◌+◌, ◌-◌, ◌≤◌, min
 use Rattle.std.proofs.lemmas.Bool.{eqb-true, eq-eqb, ne_eqb}
 use Rattle.run_parts.specs.Reads.{code_limit}
 use Rattle.sweep.specs.Calls.{no_round, then_round}
-use Rattle.sweep.proofs.Streaming.{streamed_start, rose_since, written_so_far, window_is, at_write_fault, at_end_of_input, past_limit, at_bad_code, streamed_next}
+use Rattle.sweep.proofs.Streaming.{streamed_start, rose_since, written_so_far, called_so_far, window_is, at_write_fault, at_end_of_input, past_limit, at_bad_code, streamed_next}
 use Rattle.sweep.proofs.stream.stream_all.Goals as goal
 
 pub pulls-init : goal.pulls-init
@@ -79,65 +79,21 @@ pulls-preserved g c =
 
 pub returns-in-Err-clause-calls : goal.returns-in-Err-clause-calls
 returns-in-Err-clause-calls g c =
-    let s = c.pulls.invariant.streamed in
-    record {
-      last_source = c.pulls.source;
-      last_sink = c.pulls.sink;
-      seen = s.seen;
-      rounds = c.pulls.invariant.rounds;
-      written = written_so_far _ _ _ _ _ _ _ _ _ _ _ s;
-      last = ((record {}, c.in-Err.ensures.pull), refl);
-      needed = tt;
-    }
+    called_so_far c.pulls.source c.pulls.sink c.pulls.invariant.streamed c.pulls.invariant.rounds ((record {}, c.in-Err.ensures.pull), refl) tt
 
 pub returns-in-Err-write_ready-clause-calls : goal.returns-in-Err-write_ready-clause-calls
 returns-in-Err-write_ready-clause-calls g c =
-    let s = c.pulls.invariant.streamed in
-    record {
-      last_source = c.pulls.source;
-      last_sink = c.pulls.sink;
-      seen = s.seen;
-      rounds = c.pulls.invariant.rounds;
-      written = written_so_far _ _ _ _ _ _ _ _ _ _ _ s;
-      last = ((c.in-Ok.n, c.in-Ok.ensures.pull), c.in-Err-write_ready.ensures.last);
-      needed = tt;
-    }
+    called_so_far c.pulls.source c.pulls.sink c.pulls.invariant.streamed c.pulls.invariant.rounds ((c.in-Ok.n, c.in-Ok.ensures.pull), c.in-Err-write_ready.ensures.last) tt
 
 pub returns-in-Some-clause-calls : goal.returns-in-Some-clause-calls
 returns-in-Some-clause-calls g c =
-    let s = c.pulls.invariant.streamed in
-    record {
-      last_source = c.pulls.source;
-      last_sink = c.pulls.sink;
-      seen = s.seen;
-      rounds = c.pulls.invariant.rounds;
-      written = written_so_far _ _ _ _ _ _ _ _ _ _ _ s;
-      last = ((c.in-Ok.n, c.in-Ok.ensures.pull), c.in-Ok-write_ready.ensures.puts);
-      needed = omega (arith, s.reaches, s.short);
-    }
+    called_so_far c.pulls.source c.pulls.sink c.pulls.invariant.streamed c.pulls.invariant.rounds ((c.in-Ok.n, c.in-Ok.ensures.pull), c.in-Ok-write_ready.ensures.puts)
+    (omega (arith, c.pulls.invariant.streamed.reaches, c.pulls.invariant.streamed.short))
 
 pub returns-then-n-eq0-clause-calls : goal.returns-then-n-eq0-clause-calls
 returns-then-n-eq0-clause-calls g c =
-    let s = c.pulls.invariant.streamed in
-    record {
-      last_source = c.pulls.source;
-      last_sink = c.pulls.sink;
-      seen = s.seen;
-      rounds = c.pulls.invariant.rounds;
-      written = written_so_far _ _ _ _ _ _ _ _ _ _ _ s;
-      last = ((c.in-Ok.n, c.in-Ok.ensures.pull), c.in-Ok-write_ready.ensures.puts);
-      needed = tt;
-    }
+    called_so_far c.pulls.source c.pulls.sink c.pulls.invariant.streamed c.pulls.invariant.rounds ((c.in-Ok.n, c.in-Ok.ensures.pull), c.in-Ok-write_ready.ensures.puts) tt
 
 pub returns-then-end-len-clause-calls : goal.returns-then-end-len-clause-calls
 returns-then-end-len-clause-calls g c =
-    let s = c.pulls.invariant.streamed in
-    record {
-      last_source = c.pulls.source;
-      last_sink = c.pulls.sink;
-      seen = s.seen;
-      rounds = c.pulls.invariant.rounds;
-      written = written_so_far _ _ _ _ _ _ _ _ _ _ _ s;
-      last = ((c.in-Ok.n, c.in-Ok.ensures.pull), c.in-Ok-write_ready.ensures.puts);
-      needed = tt;
-    }
+    called_so_far c.pulls.source c.pulls.sink c.pulls.invariant.streamed c.pulls.invariant.rounds ((c.in-Ok.n, c.in-Ok.ensures.pull), c.in-Ok-write_ready.ensures.puts) tt
