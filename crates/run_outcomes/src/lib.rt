@@ -31,6 +31,19 @@ pub const WHOLE: Ports = Ports {
     is_slow: false,
 };
 
+impl Ports {
+    /// Ports that fail at these calls of the source, the output and the error output, and an output with so much room.
+    pub fn failing_at([pull, put, say]: [u64; 3], room: usize) -> Ports {
+        Ports {
+            pull,
+            put,
+            say,
+            room,
+            is_slow: false,
+        }
+    }
+}
+
 /// What a run answered and wrote.
 #[derive(Drop)]
 pub struct Outcome {

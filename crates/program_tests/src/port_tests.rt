@@ -31,17 +31,6 @@ const TEXTS: &str = "6e6f700a7265740a";
 /// The text `nop` and a line that is none.
 const BAD_TEXTS: &str = "6e6f700a6e6f0a";
 
-/// Ports that fail at these calls of the source, the output and the error output, and an output with so much room.
-fn ports_of([pull, put, say]: [u64; 3], room: usize) -> Ports {
-    Ports {
-        pull,
-        put,
-        say,
-        room,
-        is_slow: false,
-    }
-}
-
 #[test]
 fn a_fault_of_a_port_leaves_what_it_should(rt: HostRuntime) -> Result<(), Fail> {
     let cases = &[
@@ -91,7 +80,12 @@ fn a_fault_of_a_port_leaves_what_it_should(rt: HostRuntime) -> Result<(), Fail> 
         ("--version", "", [1, 1, 1], ROOM, 4, "", ""),
     ];
     for (command, digits, calls, room, number, out, err) in cases {
-        let ran = outcome_between(rt.alloc(), command, digits, &ports_of(*calls, *room))?;
+        let ran = outcome_between(
+            rt.alloc(),
+            command,
+            digits,
+            &Ports::failing_at(*calls, *room),
+        )?;
         wrote(&rt, &ran, (*number, out, err), command, digits)?;
     }
     Ok(())

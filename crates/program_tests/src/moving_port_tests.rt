@@ -1,4 +1,4 @@
-//! What a command leaves where a port fails at a call, or has too little room.
+//! What a command over moved code, slots or flow leaves where a port fails at a call, or has too little room.
 
 use crate::outcomes::{outcome_between, wrote, wrote_bytes};
 use run_outcomes::{Ports, WHOLE};
@@ -17,17 +17,6 @@ const FRONT: &str = "0000000000000000 0000000000000000 Next\n0";
 
 /// What is told of one made instruction.
 const ONE: &str = "instructions 1\nbytes 7\ntext 78\nmoved 7\ngrown 0\nsum 824\n";
-
-/// Ports that fail at these calls of the source, the output and the error output, and an output with so much room.
-fn ports_of([pull, put, say]: [u64; 3], room: usize) -> Ports {
-    Ports {
-        pull,
-        put,
-        say,
-        room,
-        is_slow: false,
-    }
-}
 
 #[test]
 fn a_fault_of_a_port_leaves_what_it_should(rt: HostRuntime) -> Result<(), Fail> {
@@ -64,7 +53,12 @@ fn a_fault_of_a_port_leaves_what_it_should(rt: HostRuntime) -> Result<(), Fail> 
         ("sample 0", "", [1, 1, 1], ROOM, 1, "", ""),
     ];
     for (command, digits, calls, room, number, out, err) in cases {
-        let ran = outcome_between(rt.alloc(), command, digits, &ports_of(*calls, *room))?;
+        let ran = outcome_between(
+            rt.alloc(),
+            command,
+            digits,
+            &Ports::failing_at(*calls, *room),
+        )?;
         wrote(&rt, &ran, (*number, out, err), command, digits)?;
     }
     Ok(())
