@@ -18,7 +18,7 @@ use Rattle.branch_sizes.specs.declared.plan.Goal.{Goal}
 use Rattle.branch_sizes.specs.declared.plan.Reach.{Reach}
 use Rattle.branch_sizes.specs.Plan.{BlockPlan, IsWellFormed, no_choice}
 use Rattle.branch_sizes.specs.Plan as plan
-use Rattle.branch_sizes.specs.Layout.{IsLeast, Reaches, ReachesFromBoth, ReachesGoal, block_number, span_at, first_of_block, first_layout, chosen, place, image_length, total}
+use Rattle.branch_sizes.specs.Layout.{IsLeast, Reaches, ReachesFromBoth, ReachesGoal, block_number, span_at, first_of_block, first_layout, item_choice, place, image_length, total}
 use Rattle.moved_targets.specs.Targets.{target_of}
 use Rattle.branch_forms.specs.declared.branch.Action.{Action}
 use Rattle.branch_forms.specs.declared.branch.Action.TheVariants.{Jump, Call, Condition, Count}
@@ -182,7 +182,7 @@ module _ (laws : MovedLawsBelow) where
             length-map (branch_forms B64 action short) (branch_choice B64 (item_at items k).instr (sized action short)),
           )
 
-      chosen-is : chosen (plan_with B64 spans items goals) layout k ≡ branch_choice B64 (item_at items k).instr (sized action short) (get_or (branch_forms B64 action short) (get_or layout k 0) Itself)
+      chosen-is : item_choice (plan_with B64 spans items goals) layout k ≡ branch_choice B64 (item_at items k).instr (sized action short) (get_or (branch_forms B64 action short) (get_or layout k 0) Itself)
       chosen-is =
           choice-is B64 spans items goals layout least.closed.is_layout k lt
           ∙ (ap (λ (cs : List Choice). get_or cs (get_or layout k 0) no_choice) choices-are
@@ -192,7 +192,7 @@ module _ (laws : MovedLawsBelow) where
       goal-is = ap (λ b. b.goal) (plan-item B64 spans items goals k lt)
 
       -- the form reaches the goal
-      reaches : Reaches (chosen (plan_with B64 spans items goals) layout k).reach (chosen (plan_with B64 spans items goals) layout k).len (place (plan_with B64 spans items goals) layout k) (goal_address (plan_with B64 spans items goals) layout k)
+      reaches : Reaches (item_choice (plan_with B64 spans items goals) layout k).reach (item_choice (plan_with B64 spans items goals) layout k).len (place (plan_with B64 spans items goals) layout k) (goal_address (plan_with B64 spans items goals) layout k)
       reaches =
           let p = plan_with B64 spans items goals in
           let form = get_or (branch_forms B64 action short) (get_or layout k 0) Itself in
@@ -203,8 +203,8 @@ module _ (laws : MovedLawsBelow) where
                 subst (λ (c : Choice). Reaches c.reach c.len (place p layout k) (goal_address p layout k)) (sym chosen-is)
                 (last_reaches action short (item_at items k).instr.asize (get_or layout k 0) (form_length B64 (item_at items k).instr form) (place p layout k) (goal_address p layout k) (last ∙ count))
             | inr goal ↦
-                subst (λ (g : Goal). Reaches (chosen p layout k).reach (chosen p layout k).len (place p layout k) (goal_value p layout g)) (sym goal-is)
-                (there (chosen p layout k) (subst (λ (g : Goal). ReachesGoal p layout k (chosen p layout k) g) goal-is goal))
+                subst (λ (g : Goal). Reaches (item_choice p layout k).reach (item_choice p layout k).len (place p layout k) (goal_value p layout g)) (sym goal-is)
+                (there (item_choice p layout k) (subst (λ (g : Goal). ReachesGoal p layout k (item_choice p layout k) g) goal-is goal))
           ]
 
       -- the image is as long as its form says
@@ -217,7 +217,7 @@ module _ (laws : MovedLawsBelow) where
       unfolding image_of
       image-is form at goal slot = ap (λ (b : Option RelativeBranch). image_by B64 (item_at items k).instr b form at goal slot) e
 
-      form-spelled-here : (form : Form) → chosen (plan_with B64 spans items goals) layout k ≡ branch_choice B64 (item_at items k).instr (sized action short) form → form_fits action short form ≡ true
+      form-spelled-here : (form : Form) → item_choice (plan_with B64 spans items goals) layout k ≡ branch_choice B64 (item_at items k).instr (sized action short) form → form_fits action short form ≡ true
           → IsSome (bytes_from B64 (place (plan_with B64 spans items goals) layout k) (branch_image B64 (item_at items k).instr (sized action short) form (place (plan_with B64 spans items goals) layout k)
           (goal_address (plan_with B64 spans items goals) layout k) (fragment_at (plan_with B64 spans items goals) layout k).slot))
       form-spelled-here form is fits =
@@ -247,7 +247,7 @@ module _ (laws : MovedLawsBelow) where
           let slot = (fragment_at p layout k).slot in
           let own = fragment-own B64 spans items goals layout least.closed.is_layout k lt (sized action short) e in
           let fits = form_at (form_fits action short) (branch_forms B64 action short) (get_or layout k 0) (forms_fit action short) form-below in (
-            branch_reach instr (chosen p layout k).form (chosen p layout k).reach (chosen p layout k).len at goal own reaches,
+            branch_reach instr (item_choice p layout k).form (item_choice p layout k).reach (item_choice p layout k).len at goal own reaches,
             subst (λ (f : Form). IsSome (bytes_from B64 at (image_of B64 instr f at goal slot))) (sym (ap (λ (c : Choice). c.form) chosen-is))
                 (subst (λ (is : List Instr). IsSome (bytes_from B64 at is)) (sym (image-is form at goal slot)) (form-spelled-here form chosen-is fits)),
           )

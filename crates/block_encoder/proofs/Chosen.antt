@@ -10,7 +10,7 @@ use Rattle.branch_sizes.specs.declared.plan.Form.{Form}
 use Rattle.branch_sizes.specs.declared.plan.Form.TheVariants.{Itself, Far, FarBridge}
 use Rattle.branch_sizes.specs.Plan.{BlockPlan, no_choice, no_branch}
 use Rattle.branch_sizes.specs.Plan as plan
-use Rattle.branch_sizes.specs.Layout.{IsLayout, chosen, place, image_length}
+use Rattle.branch_sizes.specs.Layout.{IsLayout, item_choice, place, image_length}
 use Rattle.branch_forms.specs.declared.branch.Action.{Action}
 use Rattle.branch_forms.specs.declared.branch.Action.TheVariants.{Jump, Call, Condition, Count}
 use Rattle.branch_forms.specs.declared.branch.RelativeBranch.{RelativeBranch}
@@ -110,7 +110,7 @@ module _ (bits : Bits) (spans : List BlockSpan) (items : List Placed) (goals : �
 
   module _ (layout : List ℕ) (l : IsLayout (plan_with bits spans items goals) layout) (k : ℕ) (lt : k < length items) where
     -- the choice of an item
-    pub choice-is : chosen (plan_with bits spans items goals) layout k ≡ get_or (choices_of bits (item_at items k).instr) (get_or layout k 0) no_choice
+    pub choice-is : item_choice (plan_with bits spans items goals) layout k ≡ get_or (choices_of bits (item_at items k).instr) (get_or layout k 0) no_choice
     choice-is = ap (λ b. get_or b.choices.items (get_or layout k 0) no_choice) (plan-item k lt)
 
     pub choice-below : get_or layout k 0 < length (choices_of bits (item_at items k).instr)
@@ -127,7 +127,7 @@ module _ (bits : Bits) (spans : List BlockSpan) (items : List Placed) (goals : �
     unfolding fragment_at
     fragment-no_branch e = own-form bits (item_at items k).instr (get_or layout k 0) choice-below (sym (ap (λ x. x.form) choice-is) ∙ e)
 
-    pub fragment-own : (b : RelativeBranch) → branch_of (item_at items k).instr ≡ Some b → is_own (chosen (plan_with bits spans items goals) layout k).form ≡ false
+    pub fragment-own : (b : RelativeBranch) → branch_of (item_at items k).instr ≡ Some b → is_own (item_choice (plan_with bits spans items goals) layout k).form ≡ false
     fragment-own b e = ap (λ c. is_own c.form) choice-is ∙ moved-form bits (item_at items k).instr b (get_or layout k 0) e choice-below
 
     pub fragment-image_length : (fragment_at (plan_with bits spans items goals) layout k).len ≡ image_length (plan_with bits spans items goals) layout k

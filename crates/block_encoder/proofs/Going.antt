@@ -13,7 +13,7 @@ use Rattle.branch_sizes.specs.declared.plan.Form.{Form}
 use Rattle.branch_sizes.specs.declared.plan.Form.TheVariants.{Itself, Short, Near as NearForm, Far, Bridge, FarBridge}
 use Rattle.branch_sizes.specs.declared.plan.Goal.{Goal}
 use Rattle.branch_sizes.specs.Plan.{BlockPlan}
-use Rattle.branch_sizes.specs.Layout.{IsLayout, block_number, chosen, place}
+use Rattle.branch_sizes.specs.Layout.{IsLayout, block_number, item_choice, place}
 use Rattle.moved_targets.specs.Targets.{target_of, with_target, plain_length}
 use Rattle.branch_forms.specs.declared.branch.Action.{Action}
 use Rattle.branch_forms.specs.declared.branch.Action.TheVariants.{Jump, Call, Condition, Count}
@@ -184,7 +184,7 @@ module _ (laws : MovedLawsBelow) where
   module _ (bits : Bits) (items : List Placed) (spans : List BlockSpan) (goals : ℕ → Goal) (layout : List ℕ) (k : ℕ) where
     -- the image, by the parts of the fragment
     image-is : image_at bits items (plan_with bits spans items goals) layout k
-        ≡ image_of bits (item_at items k).instr (chosen (plan_with bits spans items goals) layout k).form (place (plan_with bits spans items goals) layout k)
+        ≡ image_of bits (item_at items k).instr (item_choice (plan_with bits spans items goals) layout k).form (place (plan_with bits spans items goals) layout k)
         (goal_address (plan_with bits spans items goals) layout k) (fragment_at (plan_with bits spans items goals) layout k).slot
     unfolding fragment_at
     image-is = refl
@@ -195,7 +195,7 @@ module _ (laws : MovedLawsBelow) where
         ≡ Some (modulo_width bits (place (plan_with bits spans items goals) layout k + pieces_length bits (take (n + 2) (image_at bits items (plan_with bits spans items goals) layout k))))
     unfolding fragment_at
     goes-over n lt =
-        image-over bits (item_at items k).instr (chosen (plan_with bits spans items goals) layout k).form (place (plan_with bits spans items goals) layout k)
+        image-over bits (item_at items k).instr (item_choice (plan_with bits spans items goals) layout k).form (place (plan_with bits spans items goals) layout k)
         (goal_address (plan_with bits spans items goals) layout k) (fragment_at (plan_with bits spans items goals) layout k).slot n lt
 
     -- **what has no near target is aimed at the goal**
@@ -203,7 +203,7 @@ module _ (laws : MovedLawsBelow) where
         → image_at bits items (plan_with bits spans items goals) layout k ≡ with_target (goal_address (plan_with bits spans items goals) layout k) (item_at items k).instr ∷ []
     goes-address none =
         image-is
-        ∙ image-address bits (item_at items k).instr (chosen (plan_with bits spans items goals) layout k).form (place (plan_with bits spans items goals) layout k)
+        ∙ image-address bits (item_at items k).instr (item_choice (plan_with bits spans items goals) layout k).form (place (plan_with bits spans items goals) layout k)
         (goal_address (plan_with bits spans items goals) layout k) (fragment_at (plan_with bits spans items goals) layout k).slot none
 
     module _ (placed : ArePlaced bits items) (lt : k < length items) where
@@ -213,14 +213,14 @@ module _ (laws : MovedLawsBelow) where
           let i = placed k lt in
           let four = spelled-four bits (modulo_width bits (item_at items k).ip) i.bytes (item_at items k).instr i.spelled in
           image-is
-          ∙ untargeted-image bits (item_at items k).instr (chosen (plan_with bits spans items goals) layout k).form (place (plan_with bits spans items goals) layout k)
+          ∙ untargeted-image bits (item_at items k).instr (item_choice (plan_with bits spans items goals) layout k).form (place (plan_with bits spans items goals) layout k)
           (goal_address (plan_with bits spans items goals) layout k) (fragment_at (plan_with bits spans items goals) layout k).slot
           (laws.targets.untargeted-with_target (goal_address (plan_with bits spans items goals) layout k) (item_at items k).instr four none) none
 
       -- the image of a branch
       image-branch : (t : ℕ) → first_value near_value (item_at items k).instr ≡ Some t
           → (b : RelativeBranch) × (branch_of (item_at items k).instr ≡ Some b) × (image_at bits items (plan_with bits spans items goals) layout k
-          ≡ branch_image bits (item_at items k).instr b (chosen (plan_with bits spans items goals) layout k).form (place (plan_with bits spans items goals) layout k)
+          ≡ branch_image bits (item_at items k).instr b (item_choice (plan_with bits spans items goals) layout k).form (place (plan_with bits spans items goals) layout k)
           (goal_address (plan_with bits spans items goals) layout k) (fragment_at (plan_with bits spans items goals) layout k).slot)
       unfolding image_of
       image-branch t some =
@@ -228,7 +228,7 @@ module _ (laws : MovedLawsBelow) where
           let b = branched bits (modulo_width bits (item_at items k).ip) i.bytes (item_at items k).instr t i.spelled some in (
             b.0,
             b.1,
-            image-is ∙ ap (λ (o : Option RelativeBranch). image_by bits (item_at items k).instr o (chosen (plan_with bits spans items goals) layout k).form (place (plan_with bits spans items goals) layout k)
+            image-is ∙ ap (λ (o : Option RelativeBranch). image_by bits (item_at items k).instr o (item_choice (plan_with bits spans items goals) layout k).form (place (plan_with bits spans items goals) layout k)
                 (goal_address (plan_with bits spans items goals) layout k) (fragment_at (plan_with bits spans items goals) layout k).slot) b.1,
           )
 
@@ -240,7 +240,7 @@ module _ (laws : MovedLawsBelow) where
           let b = image-branch t some in
           let moved = fragment-own bits spans items goals layout l k lt b.0 b.1 in
           ap (λ (is : List Instr). first_value near_value (last_instr is)) b.2
-          ∙ branch-near bits (item_at items k).instr b.0 (chosen (plan_with bits spans items goals) layout k).form (place (plan_with bits spans items goals) layout k)
+          ∙ branch-near bits (item_at items k).instr b.0 (item_choice (plan_with bits spans items goals) layout k).form (place (plan_with bits spans items goals) layout k)
           (goal_address (plan_with bits spans items goals) layout k) (fragment_at (plan_with bits spans items goals) layout k).slot moved far
 
       -- **or through its slot**
@@ -250,7 +250,7 @@ module _ (laws : MovedLawsBelow) where
       goes-slot t some far =
           let b = image-branch t some in
           ap (λ (is : List Instr). first_value ip_value (last_instr is)) b.2
-          ∙ branch-far bits (item_at items k).instr b.0 (chosen (plan_with bits spans items goals) layout k).form (place (plan_with bits spans items goals) layout k)
+          ∙ branch-far bits (item_at items k).instr b.0 (item_choice (plan_with bits spans items goals) layout k).form (place (plan_with bits spans items goals) layout k)
           (goal_address (plan_with bits spans items goals) layout k) (fragment_at (plan_with bits spans items goals) layout k).slot far
 
       -- **which is that of its goal**

@@ -11,7 +11,7 @@ use Rattle.branch_sizes.specs.declared.plan.Choice.{Choice}
 use Rattle.branch_sizes.specs.declared.plan.Form.TheVariants.{Itself}
 use Rattle.branch_sizes.specs.Plan.{BlockPlan, IsWellFormed, no_choice, no_branch}
 use Rattle.branch_sizes.specs.Plan as plan
-use Rattle.branch_sizes.specs.Layout.{IsLayout, IsClosed, IsLeast, total, chosen, image_length}
+use Rattle.branch_sizes.specs.Layout.{IsLayout, IsClosed, IsLeast, total, item_choice, image_length}
 use Rattle.moved_targets.specs.Targets.{target_of}
 use Rattle.branch_forms.specs.declared.branch.Action.{Action}
 use Rattle.branch_forms.specs.declared.branch.Action.TheVariants.{Count}
@@ -175,7 +175,7 @@ module _ (laws : MovedLawsBelow) where
           ∙ ap last_number (plan-item bits (one_span items new_base) items (kept_goals items) k lt)
 
       -- in it an item has its last form
-      pub last-chosen : chosen (plan_outside bits items new_base) (last_layout (plan_outside bits items new_base)) k ≡ last_choice bits (item_at items k).instr
+      pub last-chosen : item_choice (plan_outside bits items new_base) (last_layout (plan_outside bits items new_base)) k ≡ last_choice bits (item_at items k).instr
       last-chosen =
           ap (λ b. get_or b.choices.items (get_or (last_layout (plan_outside bits items new_base)) k 0) no_choice)
           (plan-item bits (one_span items new_base) items (kept_goals items) k lt)

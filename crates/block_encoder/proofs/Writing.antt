@@ -8,7 +8,7 @@ use Rattle.std.specs.List.{flat_map, range_with_len}
 use Rattle.x86_values.specs.declared.Bits.{Bits}
 use Rattle.branch_sizes.specs.declared.plan.Form.{Form}
 use Rattle.branch_sizes.specs.Plan.{BlockPlan}
-use Rattle.branch_sizes.specs.Layout.{first_of_block, span_at, chosen, place}
+use Rattle.branch_sizes.specs.Layout.{first_of_block, span_at, item_choice, place}
 use Rattle.move_goals.specs.declared.items.Placed.{Placed}
 use Rattle.move_goals.specs.Items.{item_at}
 use Rattle.move_layout.specs.declared.layout.Fragment.{Fragment}
@@ -24,7 +24,7 @@ pub record AreWritten (bits : Bits) (items : List Placed) (p : BlockPlan) (layou
   pub bytes_are : bytes ≡ bytes_of_blocks bits items p layout b
       ++ flat_map (bytes_at bits items p layout) (range_with_len (first_of_block p.spans b) i)
   pub starts_are : starts ≡ map (place p layout) (range_with_len 0 (first_of_block p.spans b + i))
-  pub forms_are : forms ≡ map (λ k. (chosen p layout k).form) (range_with_len 0 (first_of_block p.spans b + i))
+  pub forms_are : forms ≡ map (λ k. (item_choice p layout k).form) (range_with_len 0 (first_of_block p.spans b + i))
   pub slots_are : slots ≡ all_slots p layout b
   pub ends_are : ends ≡ map (λ n. length (bytes_of_blocks bits items p layout (n + 1))) (range_with_len 0 b)
   pub reached : (k : ℕ) → k < first_of_block p.spans b + i → IsReached bits items p layout k
@@ -58,7 +58,7 @@ module _ (bits : Bits) (items : List Placed) (p : BlockPlan) (layout : List ℕ)
     unfolding fragment_at
     fragment_place = ap (λ s. s.place) is
 
-    fragment_form : fragment.form ≡ (chosen p layout k).form
+    fragment_form : fragment.form ≡ (item_choice p layout k).form
     unfolding fragment_at
     fragment_form = ap (λ s. s.form) is
 
@@ -79,7 +79,7 @@ module _ (bits : Bits) (items : List Placed) (p : BlockPlan) (layout : List ℕ)
         let f = bytes_at bits items p layout in
         let all = bytes_of_blocks bits items p layout b in
         let some = flat_map f (range_with_len (first_of_block p.spans b) i) in
-        let form_of : ℕ → Form = λ j. (chosen p layout j).form in
+        let form_of : ℕ → Form = λ j. (item_choice p layout j).form in
         record {
           bytes_are = (here.1 ∙ ap (λ xs. xs ++ f k) w.bytes_are)
               ∙ (append_assoc all some (f k) ∙ ap (λ xs. all ++ xs) (sym (flat_more f (first_of_block p.spans b) i k (sym e))));
@@ -142,7 +142,7 @@ module _ (bits : Bits) (items : List Placed) (p : BlockPlan) (layout : List ℕ)
         record {
           bytes_are = now ∙ sym (append-nil (bytes_of_blocks bits items p layout (b + 1)));
           starts_are = w.starts_are ∙ ap (λ n. map (place p layout) (range_with_len 0 n)) next_first;
-          forms_are = w.forms_are ∙ ap (λ n. map (λ k. (chosen p layout k).form) (range_with_len 0 n)) next_first;
+          forms_are = w.forms_are ∙ ap (λ n. map (λ k. (item_choice p layout k).form) (range_with_len 0 n)) next_first;
           slots_are = (slotted ∙ (ap (λ xs. xs ++ goals) w.slots_are ∙ ap (λ xs. all_slots p layout b ++ xs) are))
               ∙ sym (flat_more (slots_of p layout) 0 b b none);
           ends_are = (ended ∙ (ap (λ xs. xs ++ length bytes2 ∷ []) w.ends_are
@@ -175,7 +175,7 @@ all_written bits items p layout b m last all w =
       record {
         bytes = (w.bytes_are ∙ append-nil (bytes_of_blocks bits items p layout b)) ∙ ap (bytes_of_blocks bits items p layout) last;
         starts = w.starts_are ∙ ap (λ x. map (place p layout) (range_with_len 0 x)) n;
-        forms = w.forms_are ∙ ap (λ x. map (λ k. (chosen p layout k).form) (range_with_len 0 x)) n;
+        forms = w.forms_are ∙ ap (λ x. map (λ k. (item_choice p layout k).form) (range_with_len 0 x)) n;
         slots = w.slots_are ∙ ap (all_slots p layout) last;
         ends = w.ends_are ∙ ap (λ x. map (λ j. length (bytes_of_blocks bits items p layout (j + 1))) (range_with_len 0 x)) last;
       },

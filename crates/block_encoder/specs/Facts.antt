@@ -15,7 +15,7 @@ use Rattle.branch_sizes.specs.declared.plan.Form.TheVariants.{Itself}
 use Rattle.branch_sizes.specs.declared.plan.Goal.{Goal}
 use Rattle.branch_sizes.specs.Plan.{IsWellFormed, no_choice}
 use Rattle.branch_sizes.specs.Plan as plan
-use Rattle.branch_sizes.specs.Layout.{IsLayout, IsLeast, Reaches, ReachesGoal, block_number, span_at, chosen, place, image_length}
+use Rattle.branch_sizes.specs.Layout.{IsLayout, IsLeast, Reaches, ReachesGoal, block_number, span_at, item_choice, place, image_length}
 use Rattle.moved_targets.specs.Targets.{target_of, with_target, plain_length}
 use Rattle.branch_forms.specs.declared.branch.Action.TheVariants.{Jump}
 use Rattle.branch_forms.specs.Branches.{near_code}
@@ -43,7 +43,7 @@ pub record FragmentFacts : Type 0 where
   -- the choice of an item
   pub choice-is : (bits : Bits) (spans : List BlockSpan) (items : List Placed) (goals : ℕ → Goal) (layout : List ℕ)
       → IsLayout (plan_with bits spans items goals) layout → (k : ℕ) → k < length items
-      → chosen (plan_with bits spans items goals) layout k ≡ slice_index_or (choices_of bits (item_at items k).instr) (slice_index_or layout k 0) no_choice
+      → item_choice (plan_with bits spans items goals) layout k ≡ slice_index_or (choices_of bits (item_at items k).instr) (slice_index_or layout k 0) no_choice
   pub choice-below : (bits : Bits) (spans : List BlockSpan) (items : List Placed) (goals : ℕ → Goal) (layout : List ℕ)
       → IsLayout (plan_with bits spans items goals) layout → (k : ℕ) → k < length items
       → slice_index_or layout k 0 < length (choices_of bits (item_at items k).instr)

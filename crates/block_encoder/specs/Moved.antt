@@ -8,7 +8,7 @@ use Rattle.branch_sizes.specs.declared.plan.Form.{Form}
 use Rattle.branch_sizes.specs.declared.plan.Form.TheVariants.{Itself}
 use Rattle.branch_sizes.specs.declared.plan.Reach.{Reach}
 use Rattle.branch_sizes.specs.Plan.{BlockPlan}
-use Rattle.branch_sizes.specs.Layout.{IsLeast, Reaches, chosen, place}
+use Rattle.branch_sizes.specs.Layout.{IsLeast, Reaches, item_choice, place}
 use Rattle.moved_targets.specs.Targets.{target_reach}
 use Rattle.move_goals.specs.declared.items.Placed.{Placed}
 use Rattle.move_goals.specs.Items.{item_at, first_disorder, first_passing, first_old_pass}
@@ -66,7 +66,7 @@ pub record IsOldSound (bits : Bits) (items : List Placed) (spans : List BlockSpa
 pub record AreListsOf (bits : Bits) (items : List Placed) (p : BlockPlan) (layout : List ℕ) (m : MovedLists) : Type 0 where
   pub bytes : m.bytes ≡ bytes_of_blocks bits items p layout (length p.spans)
   pub starts : m.starts ≡ map (place p layout) (range_with_len 0 (length items))
-  pub forms : m.forms ≡ map (λ k. (chosen p layout k).form) (range_with_len 0 (length items))
+  pub forms : m.forms ≡ map (λ k. (item_choice p layout k).form) (range_with_len 0 (length items))
   pub slots : m.slots ≡ all_slots p layout (length p.spans)
   pub ends : m.ends ≡ map (λ b. length (bytes_of_blocks bits items p layout (b + 1))) (range_with_len 0 (length p.spans))
 

@@ -9,7 +9,7 @@ use Rattle.branch_sizes.specs.declared.plan.Goal.TheVariants.{None as NoGoal, In
 use Rattle.branch_sizes.specs.declared.plan.Reach.{Reach}
 use Rattle.branch_sizes.specs.declared.plan.Reach.TheVariants.{Always, Signed8, Signed32, Below, BridgeBelow}
 use Rattle.branch_sizes.specs.Plan.{BlockPlan, item_at, choices_at, IsWellFormed}
-use Rattle.branch_sizes.specs.Layout.{block_number, place, first_layout, chosen, room, Reaches, ReachesFromBoth, ReachesGoal, IsItemClosed, IsLayout, IsClosed, IsLeast, AtMost}
+use Rattle.branch_sizes.specs.Layout.{block_number, place, first_layout, item_choice, room, Reaches, ReachesFromBoth, ReachesGoal, IsItemClosed, IsLayout, IsClosed, IsLeast, AtMost}
 use Rattle.branch_sizes.proofs.Rising.{first_at_most}
 use Rattle.branch_sizes.proofs.Growing.{first_is_layout, one_less, one_grows}
 
@@ -55,7 +55,7 @@ item_decided : (p : BlockPlan) (layout : List ℕ) (k : ℕ) → Decided (IsItem
 item_decided p layout k =
     elim (cases_eq (get_or layout k 0 + 1) (length (choices_at p k))) [
       | inl last ↦ inl (inl last)
-      | inr more ↦ elim (goal_decided p layout k (chosen p layout k) (item_at p k).goal) [
+      | inr more ↦ elim (goal_decided p layout k (item_choice p layout k) (item_at p k).goal) [
         | inl reaches ↦ inl (inr reaches)
         | inr fails ↦ inr (λ h. elim h [ inl last ↦ more last | inr reaches ↦ fails reaches ])
       ]

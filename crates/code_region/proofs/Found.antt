@@ -7,7 +7,7 @@ use Rattle.code_region.specs.declared.gaps.Span.{Span}
 use Rattle.code_region.specs.State.{LiveBlock, RegionState, int3, len_of, live_block}
 use Rattle.code_region.specs.Releasing.{release_of, release_answer, after_release}
 use Rattle.code_region.specs.Filling.{block_holds, can_fill, after_fill}
-use Rattle.code_region.specs.Keeping.{AreApart, IsQuietAround, block_of, region_state_of, IsKept, overwritten}
+use Rattle.code_region.specs.Keeping.{AreApart, IsQuietAround, block_of, region_state_of, IsKept, with_bytes_at}
 use Rattle.code_region.specs.Searching.{gap_span_at, nowhere, IsAt, IsNowhere}
 use Rattle.code_region.proofs.Apart.{AreApart-at, AreApart-raise}
 use Rattle.code_region.proofs.Views.{find-view, find-nowhere}
@@ -90,8 +90,8 @@ removes base max_blocks capacity place index bytes spans kept at =
 
 -- a region without one of its stretches, whose bytes are INT3
 pub record IsWithout (base max_blocks capacity place : ℕ) (bytes : List ℕ) (spans : List Span) (index : ℕ) (state : RegionState) : Type 0 where
-  pub kept : IsKept base max_blocks (overwritten bytes (gap_span_at spans index).start (replicate (gap_span_at spans index).len int3)) (remove spans index) capacity
-  pub view : region_state_of base max_blocks (overwritten bytes (gap_span_at spans index).start (replicate (gap_span_at spans index).len int3)) (remove spans index) ≡ after_release state place
+  pub kept : IsKept base max_blocks (with_bytes_at bytes (gap_span_at spans index).start (replicate (gap_span_at spans index).len int3)) (remove spans index) capacity
+  pub view : region_state_of base max_blocks (with_bytes_at bytes (gap_span_at spans index).start (replicate (gap_span_at spans index).len int3)) (remove spans index) ≡ after_release state place
 
 pub without-found : (base max_blocks capacity place index : ℕ) (bytes : List ℕ) (spans : List Span) (state : RegionState) →
     region_state_of base max_blocks bytes spans ≡ state → IsKept base max_blocks bytes spans capacity → IsAt base place spans index →
@@ -106,8 +106,8 @@ without-found base max_blocks capacity place index bytes spans state e kept at =
     let left = removes base max_blocks capacity place index bytes spans kept at in
     let m = length-remove spans index at.inside in
     let A : ℕ → Type 0 = λ limit. AreApart 0 limit (remove spans index) in
-    let Q : ℕ → Type 0 = λ limit. IsQuietAround (overwritten bytes start xs) 0 limit (remove spans index) in
-    let P : RegionState → Type 0 = λ s. region_state_of base max_blocks (overwritten bytes start xs) (remove spans index) ≡ after_release s place in
+    let Q : ℕ → Type 0 = λ limit. IsQuietAround (with_bytes_at bytes start xs) 0 limit (remove spans index) in
+    let P : RegionState → Type 0 = λ s. region_state_of base max_blocks (with_bytes_at bytes start xs) (remove spans index) ≡ after_release s place in
     record {
       kept = record {
         small = rw l kept.small;
@@ -117,20 +117,20 @@ without-found base max_blocks capacity place index bytes spans state e kept at =
         few = (let f = kept.few in omega arith);
         roomy = kept.roomy;
       };
-      view = subst P e (ap (λ n. with_live base max_blocks n (map (block_of base (overwritten bytes start xs)) (remove spans index))) l ∙ ap (with_live base max_blocks (length bytes)) left.blocks);
+      view = subst P e (ap (λ n. with_live base max_blocks n (map (block_of base (with_bytes_at bytes start xs)) (remove spans index))) l ∙ ap (with_live base max_blocks (length bytes)) left.blocks);
     }
 
 -- the same, where bytes, stretches and room are equal
 pub without-same : (base max_blocks capacity more place index : ℕ) (bytes bytes' : List ℕ) (spans spans' : List Span) (state : RegionState) (span : Span) →
     IsWithout base max_blocks capacity place bytes spans index state → index < length spans → span ≡ get_or spans index span →
-    bytes' ≡ overwritten bytes span.start (replicate span.len int3) → spans' ≡ remove spans index → capacity ≤ more →
+    bytes' ≡ with_bytes_at bytes span.start (replicate span.len int3) → spans' ≡ remove spans index → capacity ≤ more →
     IsKept base max_blocks bytes' spans' more × (region_state_of base max_blocks bytes' spans' ≡ after_release state place)
 without-same base max_blocks capacity more place index bytes bytes' spans spans' state span without h read b s grows =
     let at = get_or_read spans index span h read nowhere in
-    let here : bytes' ≡ overwritten bytes (gap_span_at spans index).start (replicate (gap_span_at spans index).len int3) =
-    b ∙ ap (λ (x : Span). overwritten bytes x.start (replicate x.len int3)) at in
+    let here : bytes' ≡ with_bytes_at bytes (gap_span_at spans index).start (replicate (gap_span_at spans index).len int3) =
+    b ∙ ap (λ (x : Span). with_bytes_at bytes x.start (replicate x.len int3)) at in
     let K : List ℕ → Type 0 = λ xs. IsKept base max_blocks xs spans' more in
-    let L : List Span → Type 0 = λ xs. IsKept base max_blocks (overwritten bytes (gap_span_at spans index).start (replicate (gap_span_at spans index).len int3)) xs more in
+    let L : List Span → Type 0 = λ xs. IsKept base max_blocks (with_bytes_at bytes (gap_span_at spans index).start (replicate (gap_span_at spans index).len int3)) xs more in
     let k = without.kept in (
       subst K (sym here) (subst L (sym s) (record {
         small = k.small;
@@ -141,7 +141,7 @@ without-same base max_blocks capacity more place index bytes bytes' spans spans'
         roomy = (let r = k.roomy in omega arith);
       })),
       ap (λ xs. region_state_of base max_blocks xs spans') here ∙
-          ap (λ xs. region_state_of base max_blocks (overwritten bytes (gap_span_at spans index).start (replicate (gap_span_at spans index).len int3)) xs) s ∙ without.view,
+          ap (λ xs. region_state_of base max_blocks (with_bytes_at bytes (gap_span_at spans index).start (replicate (gap_span_at spans index).len int3)) xs) s ∙ without.view,
     )
 
 -- what a fill needs
@@ -171,7 +171,7 @@ fits-found base max_blocks capacity place index count bytes spans state span e k
 refilled-found : (base max_blocks capacity place index : ℕ) (bytes bytes' content : List ℕ) (spans : List Span) (state : RegionState) (span : Span) →
     region_state_of base max_blocks bytes spans ≡ state → IsKept base max_blocks bytes spans capacity → IsAt base place spans index →
     span ≡ get_or spans index span → IsTrue (can_fill state place (length content)) →
-    bytes' ≡ overwritten bytes span.start (content ++ replicate (span.len - length content) int3) →
+    bytes' ≡ with_bytes_at bytes span.start (content ++ replicate (span.len - length content) int3) →
     IsKept base max_blocks bytes' spans capacity × (region_state_of base max_blocks bytes' spans ≡ after_fill state place content)
 unfolding after_fill
 refilled-found base max_blocks capacity place index bytes bytes' content spans state span e kept at read can b =
@@ -210,11 +210,11 @@ refilled-found base max_blocks capacity place index bytes bytes' content spans s
 pub refilled-same : (base max_blocks capacity place index : ℕ) (bytes old new bytes' content : List ℕ) (spans spans' : List Span) (state : RegionState) (span : Span) →
     region_state_of base max_blocks bytes spans ≡ state → IsKept base max_blocks bytes spans capacity → spans' ≡ spans → IsAt base place spans' index →
     span ≡ get_or spans index span → IsTrue (can_fill state place (length content)) → old ≡ bytes →
-    new ≡ overwritten old span.start (content ++ replicate (span.len - length content) int3) → bytes' ≡ new →
+    new ≡ with_bytes_at old span.start (content ++ replicate (span.len - length content) int3) → bytes' ≡ new →
     IsKept base max_blocks bytes' spans capacity × (region_state_of base max_blocks bytes' spans ≡ after_fill state place content)
 refilled-same base max_blocks capacity place index bytes old new bytes' content spans spans' state span e kept s at read can o n b =
     refilled-found base max_blocks capacity place index bytes bytes' content spans state span e kept (at-same base place spans' spans index s at) read can
-    (b ∙ n ∙ ap (λ xs. overwritten xs span.start (content ++ replicate (span.len - length content) int3)) o)
+    (b ∙ n ∙ ap (λ xs. with_bytes_at xs span.start (content ++ replicate (span.len - length content) int3)) o)
 
 -- the length of the stretch that was found
 pub len-found : (base max_blocks capacity place index : ℕ) (bytes : List ℕ) (spans : List Span) (state : RegionState) (span : Span) →

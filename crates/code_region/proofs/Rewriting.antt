@@ -5,7 +5,7 @@ use Rattle.std.proofs.lemmas.List.{length-replicate, get_or-replicate}
 use Rattle.code_region.specs.declared.gaps.Span.{Span}
 use Rattle.code_region.specs.State.{LiveBlock, int3}
 use Rattle.code_region.specs.Filling.{with_content}
-use Rattle.code_region.specs.Keeping.{AreApart, IsQuiet, IsQuietAround, block_of, overwritten}
+use Rattle.code_region.specs.Keeping.{AreApart, IsQuiet, IsQuietAround, block_of, with_bytes_at}
 use Rattle.code_region.specs.Searching.{gap_span_at}
 use Rattle.code_region.proofs.Apart.{AreApart-le, AreApart-at}
 use Rattle.code_region.proofs.Overwrites.{part-below, part-above, part-at, byte-below, byte-above, byte-at}
@@ -17,23 +17,23 @@ AreApart-lower from lower limit (span ∷ spans) h apart = (omega arith, apart.1
 
 -- a block below, and blocks above, what is written
 pub block-below : (base : ℕ) (bytes : List ℕ) (start : ℕ) (xs : List ℕ) (span : Span) → start ≤ length bytes → span.start + span.len ≤ start →
-    block_of base (overwritten bytes start xs) span ≡ block_of base bytes span
+    block_of base (with_bytes_at bytes start xs) span ≡ block_of base bytes span
 block-below base bytes start xs span h below =
     let with_bytes : List ℕ → LiveBlock = λ content. record { place = base + span.start; len = span.len; content = content } in
     ap with_bytes (part-below bytes start xs span.start span.len h below)
 
 pub blocks-above : (base : ℕ) (bytes : List ℕ) (start : ℕ) (xs : List ℕ) (from limit : ℕ) (spans : List Span) → start ≤ length bytes → start + length xs ≤ from →
-    AreApart from limit spans → map (block_of base (overwritten bytes start xs)) spans ≡ map (block_of base bytes) spans
+    AreApart from limit spans → map (block_of base (with_bytes_at bytes start xs)) spans ≡ map (block_of base bytes) spans
 blocks-above base bytes start xs from limit [] h above apart = refl
 blocks-above base bytes start xs from limit (span ∷ spans) h above apart =
     let with_bytes : List ℕ → LiveBlock = λ content. record { place = base + span.start; len = span.len; content = content } in
     let here = ap with_bytes (part-above bytes start xs span.start span.len h (omega arith)) in
     let rest = blocks-above base bytes start xs (span.start + span.len) limit spans h (omega arith) apart.2 in
-    ap (λ b. b ∷ map (block_of base (overwritten bytes start xs)) spans) here ∙ ap (λ bs. block_of base bytes span ∷ bs) rest
+    ap (λ b. b ∷ map (block_of base (with_bytes_at bytes start xs)) spans) here ∙ ap (λ bs. block_of base bytes span ∷ bs) rest
 
 -- bytes around the stretches above
 pub quiet-above : (bytes : List ℕ) (start : ℕ) (xs : List ℕ) (from limit : ℕ) (spans : List Span) → start ≤ length bytes → start + length xs ≤ from →
-    AreApart from limit spans → IsQuietAround bytes from limit spans → IsQuietAround (overwritten bytes start xs) from limit spans
+    AreApart from limit spans → IsQuietAround bytes from limit spans → IsQuietAround (with_bytes_at bytes start xs) from limit spans
 quiet-above bytes start xs from limit [] h above apart quiet = λ k a b. byte-above bytes start xs k h (omega arith) ∙ quiet k a b
 quiet-above bytes start xs from limit (span ∷ spans) h above apart quiet = (
   (λ k a b. byte-above bytes start xs k h (omega arith) ∙ quiet.0 k a b),
@@ -68,8 +68,8 @@ fill-above base place bytes content from limit (span ∷ spans) h apart =
 -- what a stretch that is taken out leaves, its bytes set to INT3
 pub record Removes (base place start : ℕ) (bytes xs : List ℕ) (from limit : ℕ) (spans : List Span) (index : ℕ) : Type 0 where
   pub apart : AreApart from limit (remove spans index)
-  pub quiet : IsQuietAround (overwritten bytes start xs) from limit (remove spans index)
-  pub blocks : map (block_of base (overwritten bytes start xs)) (remove spans index) ≡
+  pub quiet : IsQuietAround (with_bytes_at bytes start xs) from limit (remove spans index)
+  pub blocks : map (block_of base (with_bytes_at bytes start xs)) (remove spans index) ≡
       filter (λ block. not (nat_eq block.place place)) (map (block_of base bytes) spans)
 
 pub span-remove : (base place start : ℕ) (bytes xs : List ℕ) (from limit : ℕ) (spans : List Span) (index : ℕ) → limit ≤ length bytes →
@@ -81,11 +81,11 @@ span-remove base place start bytes xs from limit (span ∷ spans) zero h apart q
     let end = AreApart-le _ _ _ apart.2 in
     let l : length xs ≡ span.len = ap length x ∙ length-replicate span.len int3 in
     let within : start ≤ length bytes = omega arith in
-    let here : (k : ℕ) → start ≤ k → k < start + length xs → get_or (overwritten bytes start xs) k 0 ≡ int3 =
+    let here : (k : ℕ) → start ≤ k → k < start + length xs → get_or (with_bytes_at bytes start xs) k 0 ≡ int3 =
     λ k a b. byte-at bytes start xs k within a b ∙ ap (λ ys. get_or ys (k - start) 0) x ∙ get_or-replicate span.len (k - start) int3 0 (omega arith) in
     record {
       apart = AreApart-lower (span.start + span.len) from limit spans (omega arith) apart.2;
-      quiet = quiet-join (overwritten bytes start xs) from (span.start + span.len) limit spans
+      quiet = quiet-join (with_bytes_at bytes start xs) from (span.start + span.len) limit spans
           (λ k a b. elim (cases_lt k start) [
             | inl front ↦ byte-below bytes start xs k within front ∙ quiet.0 k a (omega arith)
             | inr at ↦ here k at (omega arith)
@@ -104,14 +104,14 @@ span-remove base place start bytes xs from limit (span ∷ spans) (suc index) h 
       apart = (apart.0, apart.1, rest.apart);
       quiet = ((λ k a b. byte-below bytes start xs k within (omega arith) ∙ quiet.0 k a b), rest.quiet);
       blocks = rw (ne_eqb (base + span.start) place other)
-          (ap (λ b. b ∷ map (block_of base (overwritten bytes start xs)) (remove spans index)) (block-below base bytes start xs span within (omega arith)) ∙
+          (ap (λ b. b ∷ map (block_of base (with_bytes_at bytes start xs)) (remove spans index)) (block-below base bytes start xs span within (omega arith)) ∙
           ap (λ bs. block_of base bytes span ∷ bs) rest.blocks);
     }
 
 -- what new content of a stretch leaves
 pub record Refills (base place start : ℕ) (bytes content xs : List ℕ) (from limit : ℕ) (spans : List Span) : Type 0 where
-  pub quiet : IsQuietAround (overwritten bytes start xs) from limit spans
-  pub blocks : map (block_of base (overwritten bytes start xs)) spans ≡
+  pub quiet : IsQuietAround (with_bytes_at bytes start xs) from limit spans
+  pub blocks : map (block_of base (with_bytes_at bytes start xs)) spans ≡
       map (λ block. if nat_eq block.place place then with_content content block else block) (map (block_of base bytes) spans)
 
 pub span-refill : (base place start : ℕ) (bytes content xs : List ℕ) (from limit : ℕ) (spans : List Span) (index : ℕ) → limit ≤ length bytes →
@@ -124,7 +124,7 @@ span-refill base place start bytes content xs from limit (span ∷ spans) zero h
     let end = AreApart-le _ _ _ apart.2 in
     let within : start ≤ length bytes = omega arith in
     let with_bytes : List ℕ → LiveBlock = λ ys. record { place = base + span.start; len = span.len; content = ys } in
-    let Q : ℕ → Type 0 = λ n. take span.len (drop n (overwritten bytes start xs)) ≡ xs in
+    let Q : ℕ → Type 0 = λ n. take span.len (drop n (with_bytes_at bytes start xs)) ≡ xs in
     let filled = subst Q (sym s) (part-at bytes start xs span.len within l) ∙ x in
     record {
       quiet = (
@@ -132,7 +132,7 @@ span-refill base place start bytes content xs from limit (span ∷ spans) zero h
         quiet-above bytes start xs (span.start + span.len) limit spans within (omega arith) apart.2 quiet.1,
       );
       blocks = rw (eq-eqb (base + span.start) place (omega arith))
-          (ap (λ b. b ∷ map (block_of base (overwritten bytes start xs)) spans) (ap with_bytes filled) ∙
+          (ap (λ b. b ∷ map (block_of base (with_bytes_at bytes start xs)) spans) (ap with_bytes filled) ∙
           ap (λ bs. with_content content (block_of base bytes span) ∷ bs)
           (blocks-above base bytes start xs (span.start + span.len) limit spans within (omega arith) apart.2 ∙
           sym (fill-above base place bytes content (span.start + span.len) limit spans (omega arith) apart.2)));
@@ -145,6 +145,6 @@ span-refill base place start bytes content xs from limit (span ∷ spans) (suc i
     record {
       quiet = ((λ k a b. byte-below bytes start xs k within (omega arith) ∙ quiet.0 k a b), rest.quiet);
       blocks = rw (ne_eqb (base + span.start) place other)
-          (ap (λ b. b ∷ map (block_of base (overwritten bytes start xs)) spans) (block-below base bytes start xs span within (omega arith)) ∙
+          (ap (λ b. b ∷ map (block_of base (with_bytes_at bytes start xs)) spans) (block-below base bytes start xs span within (omega arith)) ∙
           ap (λ bs. block_of base bytes span ∷ bs) rest.blocks);
     }

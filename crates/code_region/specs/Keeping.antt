@@ -65,5 +65,5 @@ pub record IsKept (base max_blocks : ℕ) (bytes : List ℕ) (spans : List Span)
   pub roomy : max_blocks ≤ room
 
 -- the bytes with others written over them from an offset on
-abbrev pub overwritten : List ℕ → ℕ → List ℕ → List ℕ
-overwritten bytes start others = take start bytes ++ (others ++ drop (start + length others) bytes)
+abbrev pub with_bytes_at : List ℕ → ℕ → List ℕ → List ℕ
+with_bytes_at bytes start others = take start bytes ++ (others ++ drop (start + length others) bytes)

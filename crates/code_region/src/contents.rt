@@ -1,7 +1,7 @@
 //! Writing the bytes of one block.
 
 ghost use Rattle.std.specs.Prelude.{◌≡◌, ◌+◌, ◌-◌, ◌≤◌, ◌++◌, length, replicate};
-ghost use Rattle.code_region.specs.Keeping.{overwritten};
+ghost use Rattle.code_region.specs.Keeping.{with_bytes_at};
 ghost use Rattle.code_region.specs.State.{int3};
 ghost use Rattle.code_region.specs.Contents.{content_bytes};
 
@@ -20,7 +20,7 @@ pub enum Content<'a> {
 /// Writes INT3 over the `len` bytes from `start` on.
 pub fn erase(image: &mut [u8], start: usize, len: usize)
     requires { start + len ≤ length image.old }
-    ensures { image.new ≡ overwritten image.old start (replicate len int3) }
+    ensures { image.new ≡ with_bytes_at image.old start (replicate len int3) }
 {
     image[start..start + len].fill(INT3);
 }
@@ -29,7 +29,7 @@ pub fn erase(image: &mut [u8], start: usize, len: usize)
 fn copy(image: &mut [u8], start: usize, len: usize, content: &[u8])
     requires inside { start + len ≤ length image.old }
     requires fits { length content.now ≤ len }
-    ensures { image.new ≡ overwritten image.old start (content.now ++ replicate (len - length content.now) int3) }
+    ensures { image.new ≡ with_bytes_at image.old start (content.now ++ replicate (len - length content.now) int3) }
 {
     image[start..start + content.len()].copy_from_slice(content);
     erase(image, start + content.len(), len - content.len());
@@ -39,7 +39,7 @@ fn copy(image: &mut [u8], start: usize, len: usize, content: &[u8])
 fn repeat(image: &mut [u8], start: usize, len: usize, byte: u8, count: usize)
     requires inside { start + len ≤ length image.old }
     requires fits { count ≤ len }
-    ensures { image.new ≡ overwritten image.old start (replicate count byte ++ replicate (len - count) int3) }
+    ensures { image.new ≡ with_bytes_at image.old start (replicate count byte ++ replicate (len - count) int3) }
 {
     image[start..start + count].fill(byte);
     erase(image, start + count, len - count);
@@ -49,7 +49,7 @@ fn repeat(image: &mut [u8], start: usize, len: usize, byte: u8, count: usize)
 pub fn write(image: &mut [u8], start: usize, len: usize, content: Content<'_>)
     requires inside { start + len ≤ length image.old }
     requires fits { length (content_bytes content) ≤ len }
-    ensures { image.new ≡ overwritten image.old start (content_bytes content.entry ++ replicate (len - length (content_bytes content.entry)) int3) }
+    ensures { image.new ≡ with_bytes_at image.old start (content_bytes content.entry ++ replicate (len - length (content_bytes content.entry)) int3) }
 {
     match content {
         Content::Bytes(bytes) => copy(image, start, len, bytes),

@@ -44,7 +44,7 @@ fn hooked(code: &'static str) -> Case {
 }
 
 /// A function of 16-bit mode at 100 whose replacement is at 200 and whose trampoline will stand at 300.
-fn small(code: &'static str, start: StartTarget) -> Case {
+fn in_16_bit_mode(code: &'static str, start: StartTarget) -> Case {
     Case {
         bits: Bits::B16,
         ip: 0x100,
@@ -141,17 +141,17 @@ fn code_goes_to_the_trampoline_and_back(rt: HostRuntime) -> Result<(), Fail> {
         ),
         // 16-bit mode, where the jump has 3 bytes: mov ax, 1234; and loop to itself, as a bridge where its target stays
         (
-            small("b83412c3", StartTarget::Moved),
+            in_16_bit_mode("b83412c3", StartTarget::Moved),
             "e9fd00",
             "b83412e9fdfd",
         ),
         (
-            small("e2fe90c3", StartTarget::Moved),
+            in_16_bit_mode("e2fe90c3", StartTarget::Moved),
             "e9fd00",
             "e2fe90e9fdfd",
         ),
         (
-            small("e2fe90c3", StartTarget::Hooked),
+            in_16_bit_mode("e2fe90c3", StartTarget::Hooked),
             "e9fd00",
             "e202eb03e9f9fd90e9f8fd",
         ),

@@ -8,7 +8,7 @@ use Rattle.branch_sizes.specs.declared.plan.BlockSpan.{BlockSpan}
 use Rattle.branch_sizes.specs.declared.plan.Goal.{Goal}
 use Rattle.branch_sizes.specs.declared.plan.Form.{Form}
 use Rattle.branch_sizes.specs.declared.plan.Form.TheVariants.{Itself}
-use Rattle.branch_sizes.specs.Layout.{IsLayout, total, block_number, first_of_block, span_at, chosen, image_length, place}
+use Rattle.branch_sizes.specs.Layout.{IsLayout, total, block_number, first_of_block, span_at, item_choice, image_length, place}
 use Rattle.branch_sizes.proofs.Totals.{total_rises, first_of_end, block_at}
 use Rattle.branch_forms.specs.Images.{form_length}
 use Rattle.move_goals.specs.declared.items.Placed.{Placed}
@@ -36,7 +36,7 @@ module _ (fragments : FragmentFacts) (bits : Bits) (items : List Placed) (spans 
     (layout : List ℕ) (is : IsLayout (plan_with bits spans items goals) layout) where
   -- the image of an item is as long as its form says
   image : (k : ℕ) → k < length items → image_length (plan_with bits spans items goals) layout k
-      ≡ form_length bits (item_at items k).instr (chosen (plan_with bits spans items goals) layout k).form
+      ≡ form_length bits (item_at items k).instr (item_choice (plan_with bits spans items goals) layout k).form
   image k lt =
       let choice = fragments.choice-is bits spans items goals layout is k lt in
       let some = fragments.choice-below bits spans items goals layout is k lt in
@@ -69,9 +69,9 @@ module _ (fragments : FragmentFacts) (bits : Bits) (items : List Placed) (spans 
             let at : start ≡ place (plan_with bits spans items goals) layout last =
             ap (λ (xs : List ℕ). get_or xs last 0) lists.starts
             ∙ get_or-map-range_with_len (place (plan_with bits spans items goals) layout) 0 (length items) last last 0 below (omega arith) in
-            let formed : form ≡ (chosen (plan_with bits spans items goals) layout last).form =
+            let formed : form ≡ (item_choice (plan_with bits spans items goals) layout last).form =
             ap (λ (xs : List Form). get_or xs last Itself) lists.forms
-            ∙ get_or-map-range_with_len (λ k. (chosen (plan_with bits spans items goals) layout k).form) 0 (length items) last last Itself below (omega arith) in
+            ∙ get_or-map-range_with_len (λ k. (item_choice (plan_with bits spans items goals) layout k).form) 0 (length items) last last Itself below (omega arith) in
             let P : List BlockSpan → ℕ → ℕ = λ xs n. (span_at xs n).new_base + (length_of last - length_of (first_of_block xs n)) in
             let stands : place (plan_with bits spans items goals) layout last ≡ span.new_base + (length_of last - length_of first) =
             ap (λ (xs : List BlockSpan). P xs (block_number xs last)) spans_are ∙ ap (P spans) number in

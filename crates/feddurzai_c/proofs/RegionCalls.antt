@@ -15,7 +15,7 @@ use Rattle.code_region.specs.Releasing.{release_of, release_answer, after_releas
 use Rattle.code_region.specs.declared.refusals.FillError.{FillError}
 use Rattle.code_region.specs.declared.refusals.FillError.TheVariants as fill
 use Rattle.code_region.specs.Filling.{with_content, fill_answer}
-use Rattle.code_region.specs.Keeping.{overwritten}
+use Rattle.code_region.specs.Keeping.{with_bytes_at}
 use Rattle.feddurzai_c.specs.declared.flat.FlatRegion.{FlatRegion}
 use Rattle.feddurzai_c.specs.declared.flat.FlatLive.{FlatLive}
 use Rattle.feddurzai_c.specs.Regions.{are_laid, live_of, is_region, live_block_of, region_of, IsLeft, place_said, place_left, IsPlacedIn, IsReservedIn, release_said, IsReleasedIn, fill_said, image_left, IsFilledIn}
@@ -245,12 +245,12 @@ too-long region blocks place index bytes image said at more told =
       said_is = told ∙ sym (ap (λ (o : Option LiveBlock). fill_said (fill_answer o place (length bytes))) at.found
           ∙ ap (λ (r : Result (Unit {0}) FillError). fill_said r) (cond-false (nat_le (length bytes) b.len) (Ok tt) (Err (fill.TooLong b.len)) no));
       image_is = sym (ap (λ (o : Option LiveBlock). image_left region.base image o bytes) at.found
-          ∙ cond-false (nat_le (length bytes) b.len) (overwritten image (b.place - region.base) (with_content bytes (live_block_of b)).content) image no);
+          ∙ cond-false (nat_le (length bytes) b.len) (with_bytes_at image (b.place - region.base) (with_content bytes (live_block_of b)).content) image no);
     }
 
 pub filled-in : (region : FlatRegion) (blocks : List FlatLive) (place index : ℕ) (bytes image image' : List ℕ) (said : ℤ) → StartsAt place (live_of region blocks) index →
     length bytes ≤ (get_or (live_of region blocks) index no_live).len → said ≡ pos 0 →
-    image' ≡ overwritten image ((get_or (live_of region blocks) index no_live).place - region.base) (bytes ++ replicate ((get_or (live_of region blocks) index no_live).len - length bytes) int3) →
+    image' ≡ with_bytes_at image ((get_or (live_of region blocks) index no_live).place - region.base) (bytes ++ replicate ((get_or (live_of region blocks) index no_live).len - length bytes) int3) →
     IsFilledIn region blocks place bytes image image' said
 unfolding live_block
 filled-in region blocks place index bytes image image' said at few told is =
@@ -260,5 +260,5 @@ filled-in region blocks place index bytes image image' said at few told is =
       said_is = told ∙ sym (ap (λ (o : Option LiveBlock). fill_said (fill_answer o place (length bytes))) at.found
           ∙ ap (λ (r : Result (Unit {0}) FillError). fill_said r) (cond-true (nat_le (length bytes) b.len) (Ok tt) (Err (fill.TooLong b.len)) yes));
       image_is = is ∙ sym (ap (λ (o : Option LiveBlock). image_left region.base image o bytes) at.found
-          ∙ cond-true (nat_le (length bytes) b.len) (overwritten image (b.place - region.base) (with_content bytes (live_block_of b)).content) image yes);
+          ∙ cond-true (nat_le (length bytes) b.len) (with_bytes_at image (b.place - region.base) (with_content bytes (live_block_of b)).content) image yes);
     }

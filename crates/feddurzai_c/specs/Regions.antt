@@ -10,7 +10,7 @@ use Rattle.code_region.specs.Opening.{open_refusal}
 use Rattle.code_region.specs.Placing.{unfilled_block, place_answer, after_place}
 use Rattle.code_region.specs.Releasing.{release_answer, after_release}
 use Rattle.code_region.specs.Filling.{with_content, fill_answer}
-use Rattle.code_region.specs.Keeping.{overwritten}
+use Rattle.code_region.specs.Keeping.{with_bytes_at}
 use Rattle.feddurzai_c.specs.declared.refusal.Refusal.TheVariants as why
 use Rattle.feddurzai_c.specs.declared.flat.FlatRegion.{FlatRegion}
 use Rattle.feddurzai_c.specs.declared.flat.FlatLive.{FlatLive}
@@ -127,7 +127,7 @@ fill_said (Err (fill.TooLong limit)) = refusal_status why.Room
 abbrev pub image_left : ℕ → List ℕ → Option LiveBlock → List ℕ → List ℕ
 image_left base image None bytes = image
 image_left base image (Some block) bytes =
-    if nat_le (length bytes) block.len then overwritten image (block.place - base) (with_content bytes block).content else image
+    if nat_le (length bytes) block.len then with_bytes_at image (block.place - base) (with_content bytes block).content else image
 
 -- a fill in what is a region, where the image has its bytes
 pub record IsFilledIn (region : FlatRegion) (blocks : List FlatLive) (place : ℕ) (bytes image image' : List ℕ) (said : ℤ) : Type 0 where

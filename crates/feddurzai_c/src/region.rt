@@ -2,7 +2,7 @@
 
 ghost use Rattle.std.specs.Prelude.{◌≡◌, ◌+◌, ◌-◌, ◌<◌, ◌≤◌, ◌++◌, ◌∷◌, length, take, drop, replicate};
 ghost use Rattle.code_region.specs.State.{int3};
-ghost use Rattle.code_region.specs.Keeping.{overwritten};
+ghost use Rattle.code_region.specs.Keeping.{with_bytes_at};
 ghost use Rattle.feddurzai_c.specs.Regions as spec;
 ghost use Rattle.feddurzai_c.specs.RegionSearch.{IsRegion};
 
@@ -126,7 +126,7 @@ pub extern "C" fn feddurzai_region_release(
 /// Writes INT3 over the `len` bytes from an offset on.
 fn erase(image: &mut [u8], start: usize, len: usize)
     requires { start + len ≤ length image.old }
-    ensures { image.new ≡ overwritten image.old start (replicate len int3) }
+    ensures { image.new ≡ with_bytes_at image.old start (replicate len int3) }
 {
     image[start..start + len].fill(INT3);
 }
@@ -135,7 +135,7 @@ fn erase(image: &mut [u8], start: usize, len: usize)
 fn write_block(image: &mut [u8], start: usize, len: usize, content: &[u8])
     requires inside { start + len ≤ length image.old }
     requires fits { length content.now ≤ len }
-    ensures { image.new ≡ overwritten image.old start (content.now ++ replicate (len - length content.now) int3) }
+    ensures { image.new ≡ with_bytes_at image.old start (content.now ++ replicate (len - length content.now) int3) }
 {
     image[start..start + content.len()].copy_from_slice(content);
     erase(image, start + content.len(), len - content.len());

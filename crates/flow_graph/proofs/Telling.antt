@@ -13,7 +13,7 @@ use Rattle.operand_info.specs.declared.columns.Flow.{Flow}
 use Rattle.flow_graph.specs.Control.{CodeBytes}
 use Rattle.flow_graph.specs.Walks.{IsTreated, IsWalk, Extends}
 use Rattle.flow_graph.proofs.OneReading.{reading_unique}
-use Rattle.flow_graph.specs.Told.{told_of, Tells, untold, told_at, AreTold, MarkedAreTold, AreFlowsOf}
+use Rattle.flow_graph.specs.Told.{told_of, Tells, next_by_default, told_at, AreTold, MarkedAreTold, AreFlowsOf}
 
 abbrev pub Flows : Type 0
 Flows = List (Result Flow DecodeError)
@@ -45,8 +45,8 @@ tells_behind code flows p q new h told old =
     elim (cases_eq q p) [
       | inl e ↦
           subst (λ n. Tells code n (told_at (set flows p new) n)) (sym e)
-          (subst (Tells code p) (sym (get_or-set_same flows p new untold h)) told)
-      | inr ne ↦ subst (Tells code q) (sym (get_or-set_other flows p q new untold ne)) (old ne)
+          (subst (Tells code p) (sym (get_or-set_same flows p new next_by_default h)) told)
+      | inr ne ↦ subst (Tells code q) (sym (get_or-set_other flows p q new next_by_default ne)) (old ne)
     ]
 
 -- **one turn more**
@@ -103,9 +103,9 @@ flows_more flows starts beside offset starts' beside' old s b =
     each k h =
         elim (cases_lt k (length starts)) [
           | inl l ↦
-              get_or_append_left beside (told_at flows offset ∷ []) untold k (omega (arith, old.len))
+              get_or_append_left beside (told_at flows offset ∷ []) next_by_default k (omega (arith, old.len))
               ∙ (old.each k l ∙ ap (told_at flows) (sym (get_or_append_left starts (offset ∷ []) 0 k l)))
           | inr g ↦
               let last : length starts ≡ k = omega (arith, length-append starts (offset ∷ [])) in
-              get_or_push beside (told_at flows offset) untold k (old.len ∙ last) ∙ ap (told_at flows) (sym (get_or_push starts offset 0 k last))
+              get_or_push beside (told_at flows offset) next_by_default k (old.len ∙ last) ∙ ap (told_at flows) (sym (get_or_push starts offset 0 k last))
         ]

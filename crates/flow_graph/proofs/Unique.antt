@@ -8,7 +8,7 @@ use Rattle.std.proofs.lemmas.List.{ext_get_or, get_or_default}
 use Rattle.std.proofs.lemmas.List.Kept.{AllPairs-from_increasing}
 use Rattle.flow_graph.specs.Control.{CodeBytes, IsSuccessor}
 use Rattle.flow_graph.specs.ReachedFrom.{ReachesFrom, start, step, FollowsFrom, IsLeaderFrom, LeaderFrom, itself, carried}
-use Rattle.flow_graph.specs.Told.{Tells, untold, told_at}
+use Rattle.flow_graph.specs.Told.{Tells, next_by_default, told_at}
 use Rattle.decoder.specs.OneReading.{OneReadingFacts}
 use Rattle.flow_graph.proofs.Telling.{Flows, told_same}
 use Rattle.flow_graph.specs.Graphs.{Graph, IsFlowGraphFrom}
@@ -176,7 +176,7 @@ same_graph one code entries g h a b =
     one_leader_from code entries (get_or g.starts k 0) (get_or g.leaders k 0) (get_or h.leaders k 0) (a.led k in_g)
     (subst (λ xs. LeaderFrom code entries (get_or h.leaders k 0) (get_or xs k 0)) (sym starts) (b.led k in_h))) in
     let flows : g.flows ≡ h.flows =
-    ext_get_or untold g.flows h.flows (omega (arith, len, a.flows_len, b.flows_len))
+    ext_get_or next_by_default g.flows h.flows (omega (arith, len, a.flows_len, b.flows_len))
     (λ k l.
     let in_g : k < length g.starts = omega (arith, a.flows_len) in
     let in_h : k < length h.starts = omega (arith, len) in

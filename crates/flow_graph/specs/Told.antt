@@ -21,12 +21,12 @@ pub record Tells (code : CodeBytes) (p : ℕ) (told : Result Flow DecodeError) :
   pub is : told ≡ told_of reading
 
 -- stands for an entry that is not there
-abbrev pub untold : Result Flow DecodeError
-untold = Ok Next
+abbrev pub next_by_default : Result Flow DecodeError
+next_by_default = Ok Next
 
 -- what a list that has an entry for each byte tells of an offset
 abbrev pub told_at : List (Result Flow DecodeError) → ℕ → Result Flow DecodeError
-told_at told p = slice_index_or told p untold
+told_at told p = slice_index_or told p next_by_default
 
 -- the list tells of the first n offsets of an order what is read there
 pub record AreTold (code : CodeBytes) (order : List ℕ) (n : ℕ) (told : List (Result Flow DecodeError)) : Type 0 where

@@ -32,17 +32,17 @@ use Rattle.instruction_info.specs.Settings.{setting_of, register_in, done}
 -- ---- segments
 
 -- the segment of an address by its default: in 64-bit mode FS and GS alone are taken from a prefix (volume 1, 3.7.4.1; volume 2, 2.1.1)
-abbrev pub overridden : Bits → Segment → Segment → Segment
-overridden bits Fs default = Fs
-overridden bits Gs default = Gs
-overridden B64 _ default = default
-overridden B16 segment default = segment
-overridden B32 segment default = segment
+abbrev pub segment_by_default : Bits → Segment → Segment → Segment
+segment_by_default bits Fs default = Fs
+segment_by_default bits Gs default = Gs
+segment_by_default B64 _ default = default
+segment_by_default B16 segment default = segment
+segment_by_default B32 segment default = segment
 
 -- the segment of an address: the default one where no prefix names another
 abbrev pub segment_by_prefix : Option Segment → Bits → Segment → Segment
 segment_by_prefix None bits default = default
-segment_by_prefix (Some segment) bits default = overridden bits segment default
+segment_by_prefix (Some segment) bits default = segment_by_default bits segment default
 
 -- the segment of an address in a setting
 abbrev pub segment_with : Setting → Segment → Segment

@@ -8,7 +8,7 @@ use Rattle.std.specs.List.{flat_map, range_with_len}
 use Rattle.std.specs.Prelude.{◌==◌}
 use Rattle.branch_sizes.specs.Plan.{BlockPlan}
 use Rattle.branch_sizes.specs.Facts.{BlockFacts}
-use Rattle.branch_sizes.specs.Layout.{block_number, first_of_block, span_at, chosen, place}
+use Rattle.branch_sizes.specs.Layout.{block_number, first_of_block, span_at, item_choice, place}
 use Rattle.move_layout.specs.declared.layout.Fragment.{Fragment}
 use Rattle.move_layout.specs.declared.layout.BlockEnd.{BlockEnd}
 use Rattle.move_layout.specs.Laid.{is_far_at, goal_address, far_goals, with_goal, slots_of, all_slots, images_end, new_end, slots_start, slot_address, fragment_at, end_at, no_fragment, no_end}
@@ -107,9 +107,9 @@ pub fragment_is : (blocks : BlockFacts) (p : BlockPlan) (layout : List ℕ) (b i
 unfolding fragment_at slot_address slots_of
 fragment_is blocks p layout b i k start goals bl il e s g =
     ap (λ x. record {
-      form = (chosen p layout k).form;
-      len = (chosen p layout k).len;
-      reach = (chosen p layout k).reach;
+      form = (item_choice p layout k).form;
+      len = (item_choice p layout k).len;
+      reach = (item_choice p layout k).reach;
       place = place p layout k;
       goal = goal_address p layout k;
       slot = x;

@@ -7,7 +7,7 @@ use Rattle.branch_sizes.specs.declared.plan.Goal.{Goal}
 use Rattle.branch_sizes.specs.declared.plan.Goal.TheVariants.{None as NoGoal, Inside, Outside}
 use Rattle.branch_sizes.specs.declared.plan.Reach.TheVariants.{Always}
 use Rattle.branch_sizes.specs.Plan.{BlockPlan, item_at}
-use Rattle.branch_sizes.specs.Layout.{IsLeast, total, block_number, first_of_block, span_at, chosen, image_length, place}
+use Rattle.branch_sizes.specs.Layout.{IsLeast, total, block_number, first_of_block, span_at, item_choice, image_length, place}
 use Rattle.move_layout.specs.declared.layout.Fragment.{Fragment}
 use Rattle.move_layout.specs.declared.layout.BlockEnd.{BlockEnd}
 use Rattle.move_layout.specs.declared.layout.Layout.{Layout}
@@ -34,7 +34,7 @@ has_far_form _ = false
 
 -- item k has such a form
 abbrev pub is_far_at : BlockPlan → List ℕ → ℕ → Bool
-is_far_at p layout k = has_far_form (chosen p layout k).form
+is_far_at p layout k = has_far_form (item_choice p layout k).form
 
 -- a number stands in a list
 abbrev pub has_number : List ℕ → ℕ → Bool
@@ -86,9 +86,9 @@ slot_address p layout b goal = slots_start p layout b + 8 * position_or_len (λ 
 -- item k: its form, the length of its image, its place, its goal, and the address of its slot, 0 where it has none
 unfoldable pub fragment_at : BlockPlan → List ℕ → ℕ → Fragment
 fragment_at p layout k = record {
-  form = (chosen p layout k).form;
-  len = (chosen p layout k).len;
-  reach = (chosen p layout k).reach;
+  form = (item_choice p layout k).form;
+  len = (item_choice p layout k).len;
+  reach = (item_choice p layout k).reach;
   place = place p layout k;
   goal = goal_address p layout k;
   slot = if is_far_at p layout k then slot_address p layout (block_number p.spans k) (goal_address p layout k) else 0;

@@ -4,7 +4,7 @@ use Rattle.std.specs.List.{position_or_len}
 use Rattle.std.specs.Ordering.{nat_cmp}
 use Rattle.std.specs.BTreeMap.{BTreeMap, get}
 use Rattle.branch_sizes.specs.Plan.{BlockPlan}
-use Rattle.branch_sizes.specs.Layout.{chosen, place}
+use Rattle.branch_sizes.specs.Layout.{item_choice, place}
 use Rattle.move_layout.specs.declared.layout.Fragment.{Fragment}
 use Rattle.move_layout.specs.Laid.{is_far_at, goal_address}
 
@@ -23,9 +23,9 @@ pub record IsNumbering (numbers : BTreeMap ℕ ℕ) (goals : List ℕ) : Type 0 
 -- item k, where the slots begin at an address and have some goals
 abbrev pub fragment_over : BlockPlan → List ℕ → ℕ → ℕ → List ℕ → Fragment
 fragment_over p layout k start goals = record {
-  form = (chosen p layout k).form;
-  len = (chosen p layout k).len;
-  reach = (chosen p layout k).reach;
+  form = (item_choice p layout k).form;
+  len = (item_choice p layout k).len;
+  reach = (item_choice p layout k).reach;
   place = place p layout k;
   goal = goal_address p layout k;
   slot = if is_far_at p layout k then start + 8 * place_among goals (goal_address p layout k) else 0;

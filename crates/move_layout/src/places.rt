@@ -1,7 +1,7 @@
 //! The choice of an item, the address of its goal, and where the images of a block end.
 
 ghost use Rattle.std.specs.Prelude.{◌≡◌, ◌<◌, ◌^◌, length};
-ghost use Rattle.branch_sizes.specs.Layout.{chosen, first_of_block};
+ghost use Rattle.branch_sizes.specs.Layout.{item_choice, first_of_block};
 ghost use Rattle.move_layout.specs.Laid.{goal_address, images_end};
 ghost use Rattle.move_layout.specs.Tables.{plan_in};
 
@@ -11,7 +11,7 @@ use branch_sizes::{Choice, Goal};
 /// The choice of item `k`.
 pub(crate) fn choice_of(tables: &Tables, k: usize) -> Choice
     requires { k < length tables.now.items.now }
-    ensures { result ≡ chosen (plan_in tables.now) tables.now.layout.now k }
+    ensures { result ≡ item_choice (plan_in tables.now) tables.now.layout.now k }
 {
     tables.items[k].choices[usize::from(tables.layout[k])]
 }

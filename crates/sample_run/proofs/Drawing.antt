@@ -1,12 +1,12 @@
 -- The code of a generator, one instruction more at a time.
 use Rattle.std.proofs.Common.{◌≡◌, ℕ, suc, ◌+◌, ◌-◌, ◌/◌, ◌^◌, ◌<◌, ◌≤◌, List, [], ◌++◌, refl, sym, ap, ◌∙◌, arith, append_assoc, append-nil}
-use Rattle.sample_run.specs.Generator.{next_state, drawn, instr_bytes, code_from, sample_code}
+use Rattle.sample_run.specs.Generator.{next_state, drawn_number, instr_bytes, code_from, sample_code}
 
 -- some first instructions were drawn, and those behind them are drawn from a state
 abbrev pub Drawn : ℕ → ℕ → ℕ → List ℕ → Type 0
 Drawn n state done code = code ++ code_from state (n - done) ≡ sample_code n
 
-one_more : (state n : ℕ) → code_from state (suc n) ≡ instr_bytes (drawn (next_state state)) ++ code_from (next_state state) n
+one_more : (state n : ℕ) → code_from state (suc n) ≡ instr_bytes (drawn_number (next_state state)) ++ code_from (next_state state) n
 unfolding code_from
 one_more state n = refl
 
@@ -22,7 +22,7 @@ drawn-start n state code same empty =
 
 pub drawn-step : (n state next done : ℕ) (code code' : List ℕ) → done < n → Drawn n state done code → next ≡ next_state state →
     code' ≡ code ++ instr_bytes (next / 2 ^ 33) → Drawn n next (done + 1) code'
-unfolding drawn
+unfolding drawn_number
 drawn-step n state next done code code' lt h is e =
     let left : n - done ≡ suc (n - (done + 1)) = omega arith in
     let rest = code_from next (n - (done + 1)) in

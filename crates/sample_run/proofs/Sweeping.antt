@@ -10,7 +10,7 @@ use Rattle.x86_values.specs.Wrapping.{modulo_width}
 use Rattle.row_relation.specs.Spells.{Read, Spells}
 use Rattle.opcode_rows.specs.Table.{table}
 use Rattle.opcode_rows.specs.Sweep.{Item, IsReadAt, IsItemAt, Sweeps}
-use Rattle.sample_run.specs.Generator.{next_state, drawn, instr_bytes, code_from, sample_code, sample_base}
+use Rattle.sample_run.specs.Generator.{next_state, drawn_number, instr_bytes, code_from, sample_code, sample_base}
 use Rattle.sample_run.specs.Made.{IsMade, HasInstructions}
 use Rattle.sample_run.proofs.Drawn.{IsOne, drawn-one}
 
@@ -53,7 +53,7 @@ swept : (offset x n : ℕ) → offset + 7 * n ≤ 7 * 65536 → Swept offset x n
 unfolding code_from
 swept offset x zero room = record { items = []; sweeps = refl; count = refl; made = All-nil IsMade; short = omega arith }
 swept offset x (suc n) room =
-    let r = drawn (next_state x) in
+    let r = drawn_number (next_state x) in
     let bytes = instr_bytes r in
     let rest = code_from (next_state x) n in
     let ip = sample_base + offset in

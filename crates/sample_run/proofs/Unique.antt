@@ -9,7 +9,7 @@ use Rattle.sweep_text.specs.Listing.{listing}
 use Rattle.sweep_text.specs.Facts.{OneSweepFacts}
 use Rattle.branch_sizes.specs.declared.plan.BlockSpan.{BlockSpan}
 use Rattle.branch_sizes.specs.Plan.{BlockPlan}
-use Rattle.branch_sizes.specs.Layout.{IsLeast, chosen}
+use Rattle.branch_sizes.specs.Layout.{IsLeast, item_choice}
 use Rattle.move_goals.specs.declared.items.Placed.{Placed}
 use Rattle.move_goals.specs.Items.{one_span}
 use Rattle.move_goals.specs.Plan.{plan_for}
@@ -18,7 +18,7 @@ use Rattle.block_encoder.specs.Moved.{MovedLists, IsMoved}
 use Rattle.moving_run.specs.Code.{placed_in}
 use Rattle.sample_run.specs.Generator.{sample_base, sample_code}
 use Rattle.sample_run.specs.declared.summary.Summary.{Summary}
-use Rattle.sample_run.specs.Sample.{IsSample, moved_base, grown, summary_text}
+use Rattle.sample_run.specs.Sample.{IsSample, moved_base, grown_count, summary_text}
 
 module _ (least_unique : (p : BlockPlan) → (a b : List ℕ) → IsLeast p a → IsLeast p b → a ≡ b) where
   -- blocks are moved in one way
@@ -34,7 +34,7 @@ module _ (least_unique : (p : BlockPlan) → (a b : List ℕ) → IsLeast p a �
   moved_forms bits items spans m m' h k =
       let p = plan_for bits spans items in
       let same = least_unique p h.layout k.layout h.least k.least in
-      h.lists.forms ∙ (ap (λ (l : List ℕ). map (λ (k : ℕ). (chosen p l k).form) (range_with_len 0 (length items))) same ∙ sym k.lists.forms)
+      h.lists.forms ∙ (ap (λ (l : List ℕ). map (λ (k : ℕ). (item_choice p l k).form) (range_with_len 0 (length items))) same ∙ sym k.lists.forms)
 
   module _ (one : OneSweepFacts) where
     -- **so many instructions have one text**
@@ -53,7 +53,7 @@ module _ (least_unique : (p : BlockPlan) → (a b : List ℕ) → IsLeast p a �
         let e4 : s.moved ≡ t.moved = h.moved_bytes ∙ (ap length bytes ∙ sym k.moved_bytes) in
         let e5 : s.grown ≡ t.grown
         = h.grown_items
-        ∙ (ap (λ (xs : List Item). grown (placed_in sample_base xs) h.moved.forms) same ∙ (ap (grown placed) forms ∙ sym k.grown_items))
+        ∙ (ap (λ (xs : List Item). grown_count (placed_in sample_base xs) h.moved.forms) same ∙ (ap (grown_count placed) forms ∙ sym k.grown_items))
         in
         let e6 : s.sum ≡ t.sum = h.sum_is ∙ (ap sum bytes ∙ sym k.sum_is) in
         rw (e1, e2, e3, e4, e5, e6) refl

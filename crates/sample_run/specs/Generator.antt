@@ -7,8 +7,8 @@ unfoldable pub next_state : ℕ → ℕ
 next_state x = (x * 6364136223846793005 + 1442695040888963407) % 2 ^ 64
 
 -- the number that a state draws: its upper 31 bits
-unfoldable pub drawn : ℕ → ℕ
-drawn x = x / 2 ^ 33
+unfoldable pub drawn_number : ℕ → ℕ
+drawn_number x = x / 2 ^ 33
 
 -- an instruction of a kind, from the number r that was drawn and from what q is above its low three bits; numbers in four bytes have the lowest first
 unfoldable pub kind_bytes : ℕ → ℕ → ℕ → List ℕ
@@ -29,7 +29,7 @@ instr_bytes r = kind_bytes (r % 8) r (r / 8)
 -- the bytes of so many instructions, drawn by the states behind one
 unfoldable pub code_from : ℕ → ℕ → List ℕ
 code_from x zero = []
-code_from x (suc n) = instr_bytes (drawn (next_state x)) ++ code_from (next_state x) n
+code_from x (suc n) = instr_bytes (drawn_number (next_state x)) ++ code_from (next_state x) n
 
 -- the bytes of n instructions, drawn by the states behind n
 unfoldable pub sample_code : ℕ → List ℕ

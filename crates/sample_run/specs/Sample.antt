@@ -36,8 +36,8 @@ abbrev pub grows : List Placed → List Form → ℕ → ℕ
 grows items forms k = if is_same_form (slice_index_or forms k Itself) (first_form (item_at items k).instr) then 0 else 1
 
 -- how many items do
-unfoldable pub grown : List Placed → List Form → ℕ
-grown items forms = total (grows items forms) (length items)
+unfoldable pub grown_count : List Placed → List Form → ℕ
+grown_count items forms = total (grows items forms) (length items)
 
 -- What is told of n instructions: their bytes are swept and listed, and moved as one block.
 pub record IsSample (n : ℕ) (s : Summary) : Type 0 where
@@ -49,7 +49,7 @@ pub record IsSample (n : ℕ) (s : Summary) : Type 0 where
   pub bytes : s.bytes ≡ length (sample_code n)
   pub text : s.text ≡ length (listing B64 sample_base Intel items)
   pub moved_bytes : s.moved ≡ length moved.bytes
-  pub grown_items : s.grown ≡ grown (placed_in sample_base items) moved.forms
+  pub grown_items : s.grown ≡ grown_count (placed_in sample_base items) moved.forms
   pub sum_is : s.sum ≡ sum moved.bytes
 
 -- ---- the text
@@ -62,7 +62,7 @@ line word n = word ++ (32 ∷ (decimal n ++ 10 ∷ []))
 unfoldable pub summary_text : Summary → List ℕ
 summary_text s =
     line (codes "instructions") s.instructions ++ (line (codes "bytes") s.bytes ++ (line (codes "text") s.text
-    ++ (line (codes "moved") s.moved ++ (line (codes "grown") s.grown ++ line (codes "sum") s.sum))))
+    ++ (line (codes "moved") s.moved ++ (line (codes "grown_count") s.grown ++ line (codes "sum") s.sum))))
 
 -- ---- the command
 

@@ -50,7 +50,7 @@ fn append_instruction(code: &mut Vec<u8>, drawn: u64) -> Result<(), AllocError>
 }
 
 /// The bytes of `count` instructions that the generator draws from the state `count` on.
-#[tactic(auto, unfolding(crate::specs::Generator::drawn, crate::specs::Generator::sample_code))]
+#[tactic(auto, unfolding(crate::specs::Generator::drawn_number, crate::specs::Generator::sample_code))]
 pub fn sample_code(alloc: Global, count: u32) -> Result<Vec<u8>, AllocError>
     ensures { IfOk result (λ code. code.items ≡ spec.sample_code count) }
 {

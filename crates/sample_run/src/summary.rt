@@ -77,9 +77,9 @@ fn first_form(instr: &Instr) -> Form
 }
 
 /// How many instructions have another form than their first.
-fn grown(items: &[Placed], forms: &[Form]) -> u64
+fn grown_count(items: &[Placed], forms: &[Form]) -> u64
     requires { length forms.now ≡ length items.now }
-    ensures { result ≡ spec.grown items.now forms.now }
+    ensures { result ≡ spec.grown_count items.now forms.now }
 {
     let mut count = 0;
     for k in 0..items.len() {
@@ -124,7 +124,7 @@ pub fn summarize(alloc: Global, count: u32) -> Result<Summary, Status>
             bytes: code.len(),
             text: listing_len(&code),
             moved: moved.blocks.bytes().len(),
-            grown: grown(&moved.items, moved.blocks.forms()),
+            grown: grown_count(&moved.items, moved.blocks.forms()),
             sum: sum_of(moved.blocks.bytes()),
         }),
         Err(status) => Err(status),

@@ -17,7 +17,7 @@ use Rattle.branch_sizes.specs.declared.plan.Form.TheVariants.{Near as NearForm}
 use Rattle.branch_sizes.specs.declared.plan.Goal.{Goal}
 use Rattle.branch_sizes.specs.declared.plan.Goal.TheVariants.{Outside}
 use Rattle.branch_sizes.specs.Plan.{no_choice}
-use Rattle.branch_sizes.specs.Layout.{IsLayout, IsLeast, Reaches, ReachesGoal, chosen, place}
+use Rattle.branch_sizes.specs.Layout.{IsLayout, IsLeast, Reaches, ReachesGoal, item_choice, place}
 use Rattle.moved_targets.specs.Targets.{target_of, plain_length}
 use Rattle.branch_forms.specs.declared.branch.Action.TheVariants.{Jump}
 use Rattle.branch_forms.specs.declared.branch.RelativeBranch.{RelativeBranch}
@@ -130,7 +130,7 @@ module _ (laws : StepLawsBelow) where
         let all : choices_of bits (item_at items k).instr ≡ c ∷ [] = ap (choices_of bits) is ∙ choices in
         let below : get_or layout k 0 < length (c ∷ []) =
         subst (λ (cs : List Choice). get_or layout k 0 < length cs) all (laws.fragments.choice-below bits (one_span items new_base) items (kept_goals items) layout l k lt) in
-        let chosen_is : chosen p layout k ≡ c =
+        let chosen_is : item_choice p layout k ≡ c =
         laws.fragments.choice-is bits (one_span items new_base) items (kept_goals items) layout l k lt
         ∙ (ap (λ (cs : List Choice). get_or cs (get_or layout k 0) no_choice) all ∙ first_of_one c (get_or layout k 0) below) in
         let there : Reaches c.reach c.len at goal = subst (λ (g : ℕ). Reaches c.reach c.len at g) (sym jump-goal) (reaches c.len at) in

@@ -1,7 +1,7 @@
 use Rattle.std.proofs.Common.{◌≤◌, ℕ, List, length, refl, sym, ap, ◌∙◌, arith, subst, sum}
 use Rattle.move_goals.specs.declared.items.Placed.{Placed}
 use Rattle.moving_run.specs.Code.{placed_in}
-use Rattle.sample_run.specs.Sample.{grown}
+use Rattle.sample_run.specs.Sample.{grown_count}
 use Rattle.opcode_rows.specs.Sweep.{IsSweep}
 use Rattle.x86_values.specs.declared.Bits.TheVariants.{B64}
 use Rattle.sample_run.specs.Generator.{sample_base, sample_code}
@@ -19,8 +19,8 @@ move_input-requires-clause-short c = omega (arith, ap length (c.deref.ensures.va
 pub listing_len-requires : goal.listing_len-requires
 listing_len-requires c = omega (arith, ap length (c.deref-in-Ok-move_input.ensures.value ∙ c.in-Ok.ensures), short c.args.count (c.made_code_has_instructions_alone.ensures c.args.count c.requires) c.requires)
 
-pub grown-requires : goal.grown-requires
-grown-requires c =
+pub grown_count-requires : goal.grown_count-requires
+grown_count-requires c =
     ap length c.forms.ensures
     ∙ (c.instructions_are_placed.ensures.forms_length B64 made_block _ _ _ c.in-Ok-move_input.ensures ∙ ap length (sym c.deref-in-Ok-move_input-2.ensures.value))
 
@@ -44,8 +44,8 @@ returns-in-Ok-move_input c =
       bytes = c.len.ensures ∙ (sym c.deref.ensures.len ∙ ap length input_is);
       text = listed.1.1;
       moved_bytes = ap length c.bytes.ensures;
-      grown_items = c.grown.ensures
-          ∙ (ap (λ (xs : List Placed). grown xs c.forms.result.now) (c.deref-in-Ok-move_input-2.ensures.value ∙ moved.0) ∙ ap (grown (placed_in sample_base listed.0)) c.forms.ensures);
+      grown_items = c.grown_count.ensures
+          ∙ (ap (λ (xs : List Placed). grown_count xs c.forms.result.now) (c.deref-in-Ok-move_input-2.ensures.value ∙ moved.0) ∙ ap (grown_count (placed_in sample_base listed.0)) c.forms.ensures);
       sum_is = c.sum_of.ensures ∙ ap sum c.bytes-in-Ok-move_input.ensures;
     }
 

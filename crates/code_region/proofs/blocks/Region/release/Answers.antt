@@ -1,6 +1,6 @@
 use Rattle.std.proofs.Common.{arith, ◌∙◌, ap, length, replicate, vec_capacity, ◌≤◌, ℕ, List, remove, sym, subst}
 use Rattle.code_region.specs.State.{int3}
-use Rattle.code_region.specs.Keeping.{overwritten, IsTight}
+use Rattle.code_region.specs.Keeping.{with_bytes_at, IsTight}
 use Rattle.code_region.specs.declared.gaps.Span.{Span}
 use Rattle.code_region.proofs.Joined.{tight-remove}
 use Rattle.std.proofs.lemmas.List.{with_items_is}
@@ -37,7 +37,7 @@ invariant_of-self c =
     let f = c.self.inside in
     let at = at-same f.base c.args.place _ f.spans.items c.in-Some.index c.deref.ensures.value (c.in-Some.ensures {u = tt}).found in
     let written = with_items_is f.bytes c.erase.new.image (omega arith) ∙ c.erase.ensures ∙
-    ap (λ xs. overwritten xs c.remove-span.result.start (replicate c.remove-span.result.len int3)) c.deref_mut.ensures.value in
+    ap (λ xs. with_bytes_at xs c.remove-span.result.start (replicate c.remove-span.result.len int3)) c.deref_mut.ensures.value in
     let room : vec_capacity f.spans ≤ vec_capacity c.remove-span.new.self = omega arith in
     let N : ℕ → Type 0 = λ n. IsTight n (remove f.spans.items c.in-Some.index) in
     let R : List Span → Type 0 = λ xs. IsTight c.min-self-inside.result xs in (
@@ -58,7 +58,7 @@ returns-clause-state c =
     let f = c.self.inside in
     let at = at-same f.base c.args.place _ f.spans.items c.in-Some.index c.deref.ensures.value (c.in-Some.ensures {u = tt}).found in
     let written = with_items_is f.bytes c.erase.new.image (omega arith) ∙ c.erase.ensures ∙
-    ap (λ xs. overwritten xs c.remove-span.result.start (replicate c.remove-span.result.len int3)) c.deref_mut.ensures.value in
+    ap (λ xs. with_bytes_at xs c.remove-span.result.start (replicate c.remove-span.result.len int3)) c.deref_mut.ensures.value in
     let room : vec_capacity f.spans ≤ vec_capacity f.spans = omega arith in
     (without-same f.base f.max_blocks _ _ c.args.place c.in-Some.index f.bytes.items _ f.spans.items _ c.args.self.now c.remove-span.result
     (without-found f.base f.max_blocks _ c.args.place c.in-Some.index f.bytes.items f.spans.items c.args.self.now c.self.view_is c.self.invariant.0 at)

@@ -1,7 +1,7 @@
 use Rattle.std.proofs.Common.{◌≡◌, ◌≤◌}
 use Rattle.branch_sizes.specs.Layout.{total}
 use Rattle.sample_run.specs.Sample.{grows}
-use Rattle.sample_run.proofs.summary.grown.Given as goal
+use Rattle.sample_run.proofs.summary.grown_count.Given as goal
 
 abbrev pub invariant-loop-k : goal.invariant-loop-k
 invariant-loop-k l = record {
