@@ -48,6 +48,24 @@ fn has_no_offsets(rt: &impl Abort, bytes: &[u8], error: DecodeError) {
     assert_eq!(rt; offsets(Bits::B64, 0, bytes), Err(error));
 }
 
+/// That the parts and the immediates of an instruction stand there, and that it has all of the bytes.
+fn stands_at(
+    rt: &impl Abort,
+    found: &ByteOffsets,
+    len: usize,
+    parts: [Place; 6],
+    immediates: [Place; 4],
+    digits: &str,
+) {
+    assert_eq!(rt; places(found), parts, "the parts of {digits}");
+    assert_eq!(rt;
+        immediates_of(found),
+        immediates,
+        "the immediates of {digits}"
+    );
+    assert_eq!(rt; usize::from(found.len), len, "the length of {digits}");
+}
+
 #[test]
 fn parts_stand_one_behind_the_other(rt: HostRuntime) -> Result<(), Fail> {
     let cases: &[Case] = &[
@@ -144,10 +162,7 @@ fn parts_stand_one_behind_the_other(rt: HostRuntime) -> Result<(), Fail> {
     ];
     for (bits, digits, parts, immediates) in cases {
         let (found, len) = offsets_of(rt.alloc(), *bits, digits)?;
-        assert_eq!(rt; places(&found), *parts, "the parts of {digits}");
-        let found_immediates = immediates_of(&found);
-        assert_eq!(rt; found_immediates, *immediates, "the immediates of {digits}");
-        assert_eq!(rt; usize::from(found.len), len, "the length of {digits}");
+        stands_at(&rt, &found, len, *parts, *immediates, digits);
     }
     has_no_offsets(&rt, &[0x06], DecodeError::Invalid);
     has_no_offsets(&rt, &[0x48, 0x89], DecodeError::TooShort);

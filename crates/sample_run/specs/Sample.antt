@@ -62,7 +62,7 @@ line word n = word ++ (32 ∷ (decimal n ++ 10 ∷ []))
 unfoldable pub summary_text : Summary → List ℕ
 summary_text s =
     line (codes "instructions") s.instructions ++ (line (codes "bytes") s.bytes ++ (line (codes "text") s.text
-    ++ (line (codes "moved") s.moved ++ (line (codes "grown_count") s.grown ++ line (codes "sum") s.sum))))
+    ++ (line (codes "moved") s.moved ++ (line (codes "grown") s.grown ++ line (codes "sum") s.sum))))
 
 -- ---- the command
 
