@@ -12,7 +12,7 @@ use row_types::{OpKind, Row, Size};
 use x86_values::{Bits, Instr};
 
 /// What a relative branch does.
-#[derive(Clone, Copy, PartialEq, Eq, Debug)]
+#[derive(Clone, Copy)]
 pub enum Action {
     /// JMP.
     Jump,
@@ -25,7 +25,7 @@ pub enum Action {
 }
 
 /// A relative branch: what it does, whether its offset has 8 bits, and its operand size.
-#[derive(Clone, Copy, PartialEq, Eq, Debug)]
+#[derive(Clone, Copy)]
 pub struct RelativeBranch {
     pub action: Action,
     pub is_short: bool,

@@ -13,7 +13,7 @@ use moved_targets::{plain_length, with_target};
 use x86_values::{Bits, Code, DispSize, Instr, Mem, Operand, Register, Rep, wrap};
 
 /// The instructions that a moved instruction becomes, in order.
-#[derive(Clone, Copy, PartialEq, Eq, Debug)]
+#[derive(Clone, Copy)]
 pub enum Image {
     One(Instr),
     Two(Instr, Instr),

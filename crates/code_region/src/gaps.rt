@@ -5,14 +5,14 @@ ghost use Rattle.code_region.specs.Keeping.{AreApart, IsTight};
 ghost use Rattle.code_region.specs.Searching.{IsSearched, IsAt, IsNowhere, end_from};
 
 /// A stretch of a region: the offset of its first byte from the region's start, and its length, both in bytes.
-#[derive(Clone, Copy, PartialEq, Eq, Debug)]
+#[derive(Clone, Copy)]
 pub struct Span {
     pub start: u32,
     pub len: u32,
 }
 
 /// What a search for a gap found.
-#[derive(Clone, Copy, PartialEq, Eq, Debug)]
+#[derive(Clone, Copy)]
 pub enum Search {
     /// The gap before the stretch of this index, by address, is the first that is long enough, and it begins at this
     /// offset. Once a stretch stands there, so many of the first ones have no gap before them.

@@ -7,7 +7,7 @@ use text_parts::style::Style;
 use x86_values::Bits;
 
 /// What a command line asks for.
-#[derive(PartialEq, Eq, Debug, Drop)]
+#[derive(Drop)]
 pub enum Command {
     /// The help text.
     Help,
@@ -81,7 +81,7 @@ pub enum Command {
 
 /// A block of code as the words name it: the old address of its first byte, its new one, and how many bytes of the input
 /// it takes; the last block takes the rest.
-#[derive(Clone, Copy, PartialEq, Eq, Debug, Default)]
+#[derive(Clone, Copy, Default)]
 pub struct BlockWords {
     pub old: u64,
     pub new: u64,
@@ -90,7 +90,7 @@ pub struct BlockWords {
 
 /// A command that goes through code, or makes it, by its name alone. The words behind the name begin with `BITS BASE`; their values, which a
 /// `Command` has, are known only once all words were read.
-#[derive(Clone, Copy, PartialEq, Eq, Debug)]
+#[derive(Clone, Copy)]
 pub enum Through {
     List,
     Info,

@@ -6,7 +6,7 @@ ghost use Rattle.command_words.specs.Counts.{count_word};
 use std::marker::Model;
 
 /// A number of instructions to make: 1 to 65,536.
-#[derive(Clone, Copy, PartialEq, Eq, Debug)]
+#[derive(Clone, Copy)]
 pub struct SampleCount {
     count: u32,
 }

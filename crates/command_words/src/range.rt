@@ -8,7 +8,7 @@ use std::marker::Model;
 use x86_values::Bits;
 
 /// A range of addresses of a mode: 16 to 1,048,576 bytes, in units of 16, inside the address space of the mode.
-#[derive(Clone, Copy, PartialEq, Eq, Debug)]
+#[derive(Clone, Copy)]
 pub struct SlotRange {
     bits: Bits,
     base: u64,

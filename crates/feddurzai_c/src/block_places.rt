@@ -12,7 +12,7 @@ use std::alloc::{AllocError, Global};
 use x86_values::Bits;
 
 /// An instruction of several blocks: the number of its block, and its number there.
-#[derive(Clone, Copy, PartialEq, Eq, Debug)]
+#[derive(Clone, Copy)]
 pub(crate) struct InBlock {
     pub(crate) block: u64,
     pub(crate) at: u64,

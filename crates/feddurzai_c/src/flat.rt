@@ -59,7 +59,7 @@ pub struct FlatUse {
 }
 
 /// What an instruction does.
-#[derive(Clone, Copy, PartialEq, Eq, Debug)]
+#[derive(Clone, Copy)]
 #[repr(C)]
 pub struct FlatInfo {
     /// The target of a near branch, 0 without one.
@@ -83,7 +83,7 @@ pub struct FlatInfo {
 }
 
 /// Memory that an instruction touches, with what it does there: an address of a segment, and a number of bytes.
-#[derive(Clone, Copy, PartialEq, Eq, Debug)]
+#[derive(Clone, Copy)]
 #[repr(C)]
 pub struct FlatMemoryUse {
     /// The displacement, cut to the address size; at the base RIP or EIP the absolute address.
@@ -107,7 +107,7 @@ pub struct FlatMemoryUse {
 }
 
 /// What an instruction touches. What is done to a register or memory is a number of four bits: 1 read, 2 written, 4 and 8 the same under a condition.
-#[derive(Clone, Copy, PartialEq, Eq, Debug)]
+#[derive(Clone, Copy)]
 #[repr(C)]
 pub struct FlatTouched {
     /// The CPUID features that it needs, by their bits.
@@ -135,7 +135,7 @@ pub struct FlatTouched {
 }
 
 /// An instruction that was moved.
-#[derive(Clone, Copy, PartialEq, Eq, Debug)]
+#[derive(Clone, Copy)]
 #[repr(C)]
 pub struct FlatMoved {
     /// Its address before.
@@ -149,7 +149,7 @@ pub struct FlatMoved {
 }
 
 /// The numbers of a moving.
-#[derive(Clone, Copy, PartialEq, Eq, Debug)]
+#[derive(Clone, Copy)]
 #[repr(C)]
 pub struct FlatMove {
     /// How many bytes the moved code has, with its slots.
@@ -167,7 +167,7 @@ pub struct FlatMove {
 }
 
 /// A block of code that is moved with others.
-#[derive(Clone, Copy, PartialEq, Eq, Debug)]
+#[derive(Clone, Copy)]
 #[repr(C)]
 pub struct FlatBlock {
     /// The address of its first byte before.
@@ -181,7 +181,7 @@ pub struct FlatBlock {
 }
 
 /// A moved block.
-#[derive(Clone, Copy, PartialEq, Eq, Debug)]
+#[derive(Clone, Copy)]
 #[repr(C)]
 pub struct FlatPlace {
     /// How many moved bytes there are up to its end; the next block begins there.
@@ -193,7 +193,7 @@ pub struct FlatPlace {
 }
 
 /// The numbers of a moving of blocks.
-#[derive(Clone, Copy, PartialEq, Eq, Debug)]
+#[derive(Clone, Copy)]
 #[repr(C)]
 pub struct FlatBlocks {
     /// How many bytes the moved blocks have together, with their slots.
@@ -209,7 +209,7 @@ pub struct FlatBlocks {
 }
 
 /// The numbers of a detour.
-#[derive(Clone, Copy, PartialEq, Eq, Debug)]
+#[derive(Clone, Copy)]
 #[repr(C)]
 pub struct FlatDetour {
     /// How many bytes of the function are taken: those of the patch.
@@ -231,7 +231,7 @@ pub struct FlatDetour {
 }
 
 /// The numbers of the code of a step.
-#[derive(Clone, Copy, PartialEq, Eq, Debug)]
+#[derive(Clone, Copy)]
 #[repr(C)]
 pub struct FlatStep {
     /// How many bytes the code has.
@@ -245,7 +245,7 @@ pub struct FlatStep {
 }
 
 /// A fixed range of addresses in which blocks of code find a place.
-#[derive(Clone, Copy, PartialEq, Eq, Debug)]
+#[derive(Clone, Copy)]
 #[repr(C)]
 pub struct FlatRegion {
     /// Its first address.
@@ -257,7 +257,7 @@ pub struct FlatRegion {
 }
 
 /// A live block of a region.
-#[derive(Clone, Copy, PartialEq, Eq, Debug)]
+#[derive(Clone, Copy)]
 #[repr(C)]
 pub struct FlatLive {
     /// The address where it starts.
@@ -267,7 +267,7 @@ pub struct FlatLive {
 }
 
 /// A part of an instruction's bytes.
-#[derive(Clone, Copy, PartialEq, Eq, Debug)]
+#[derive(Clone, Copy)]
 #[repr(C)]
 pub struct FlatPart {
     /// The offset of its first byte from the first one of the instruction.
@@ -277,7 +277,7 @@ pub struct FlatPart {
 }
 
 /// Where the parts of an instruction stand in its bytes, in their order.
-#[derive(Clone, Copy, PartialEq, Eq, Debug)]
+#[derive(Clone, Copy)]
 #[repr(C)]
 pub struct FlatOffsets {
     /// The legacy prefixes and the REX.

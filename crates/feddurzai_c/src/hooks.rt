@@ -16,7 +16,7 @@ use std::alloc::Global;
 const MOST: usize = 1_048_576;
 
 /// Why no detour is made.
-#[derive(Clone, Copy, PartialEq, Eq, Debug)]
+#[derive(Clone, Copy)]
 pub(crate) enum HookRefusal {
     /// The mode is none.
     Mode,

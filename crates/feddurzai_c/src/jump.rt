@@ -19,7 +19,7 @@ use plain_spelling::numbers::append_low_bytes;
 use x86_values::{Bits, Instr, wrap};
 
 /// The form of a jump or a call.
-#[derive(Clone, Copy, PartialEq, Eq, Debug)]
+#[derive(Clone, Copy)]
 pub(crate) enum JumpForm {
     /// A jump with an offset of 8 bits.
     ShortJump,

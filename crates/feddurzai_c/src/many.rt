@@ -19,7 +19,7 @@ use x86_values::{Bits, Decoded};
 const MOST_ITEMS: usize = 67_108_864;
 
 /// What a sweep gave: how many items, and how many bytes they take.
-#[derive(Clone, Copy, PartialEq, Eq, Debug)]
+#[derive(Clone, Copy)]
 struct Swept {
     count: usize,
     taken: usize,

@@ -18,7 +18,7 @@ use x86_values::Bits;
 pub(crate) const MOST: usize = 1_048_576;
 
 /// What becomes of a target that is one of the instructions that are moved.
-#[derive(Clone, Copy, PartialEq, Eq, Debug)]
+#[derive(Clone, Copy)]
 pub(crate) enum Targets {
     /// It goes with that instruction.
     Follow,
@@ -35,7 +35,7 @@ pub(crate) struct MovedCode {
 }
 
 /// Why code is not moved.
-#[derive(Clone, Copy, PartialEq, Eq, Debug)]
+#[derive(Clone, Copy)]
 pub(crate) enum MoveRefusal {
     /// The mode is none.
     Mode,

@@ -29,7 +29,7 @@ pub(crate) struct CodeBlocks {
 }
 
 /// Why blocks are not moved.
-#[derive(Clone, Copy, PartialEq, Eq, Debug)]
+#[derive(Clone, Copy)]
 pub(crate) enum BlocksRefusal {
     /// The mode is none.
     Mode,

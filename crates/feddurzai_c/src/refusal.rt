@@ -6,7 +6,7 @@ ghost use Rattle.feddurzai_c.specs.Refusals as spec;
 use encoder::NoSpelling;
 
 /// Why a call does not do what it is asked.
-#[derive(Clone, Copy, PartialEq, Eq, Debug)]
+#[derive(Clone, Copy)]
 pub(crate) enum Refusal {
     /// The mode is not 16, 32 or 64.
     Mode,

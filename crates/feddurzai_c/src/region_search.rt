@@ -21,7 +21,7 @@ const MAX_SIZE: u64 = 1_048_576;
 const MAX_BLOCKS: usize = 65_536;
 
 /// Where a new block goes: its address, and the number of the live block before which it stands.
-#[derive(Clone, Copy, PartialEq, Eq, Debug)]
+#[derive(Clone, Copy)]
 pub(crate) struct NewPlace {
     pub(crate) index: usize,
     pub(crate) place: u64,

@@ -24,7 +24,7 @@ pub(crate) struct StepCode {
 }
 
 /// Why there is no code of a step.
-#[derive(Clone, Copy, PartialEq, Eq, Debug)]
+#[derive(Clone, Copy)]
 pub(crate) enum StepRefusal {
     /// The mode is none.
     Mode,

@@ -18,7 +18,7 @@ use plain_spelling::numbers::distance;
 use x86_values::{Bits, Decoded, Instr};
 
 /// Where control goes from an instruction, as far as there are bytes.
-#[derive(Clone, Copy, PartialEq, Eq, Debug)]
+#[derive(Clone, Copy)]
 pub struct Exits {
     /// The length of the instruction where control goes to its end, else 0.
     pub next: u8,

@@ -7,7 +7,7 @@ use step_count::Steps;
 use x86_values::Code;
 
 /// What an entry of a node leads to: no row, the row of a code, or the node of a number among those of 2, 3, 4, 8 or 256 entries.
-#[derive(Clone, Copy, PartialEq, Eq, Debug)]
+#[derive(Clone, Copy)]
 pub enum Next {
     Stop,
     Leaf(Code),

@@ -25,7 +25,7 @@ pub enum AccessKind {
 
 /// The class of an implied register, or what its size goes by: the operand size of the row, the address size, the stack size, which is that of the mode,
 /// or 64 bits in 64-bit mode and else 32.
-#[derive(Clone, Copy, PartialEq, Eq, Debug)]
+#[derive(Clone, Copy, PartialEq, Eq)]
 pub enum RegisterGroup {
     Low8,
     High8,
@@ -44,7 +44,7 @@ pub enum RegisterGroup {
 }
 
 /// A register that no operand names.
-#[derive(Clone, Copy, PartialEq, Eq, Debug)]
+#[derive(Clone, Copy, PartialEq, Eq)]
 pub struct ImpliedRegister {
     pub group: RegisterGroup,
     pub number: u8,
@@ -52,7 +52,7 @@ pub struct ImpliedRegister {
 }
 
 /// The segment of implied memory: DS where no prefix names another, ES whatever prefix there is, or SS.
-#[derive(Clone, Copy, PartialEq, Eq, Debug)]
+#[derive(Clone, Copy, PartialEq, Eq)]
 pub enum SegmentRule {
     Data,
     Extra,
@@ -61,7 +61,7 @@ pub enum SegmentRule {
 
 /// Memory that no operand names. It begins at the base, with AL added where `al` says so; where it lies below the base it ends there. It has `count`
 /// units, in 64-bit mode `count64`, each of `unit` bytes, or of the operand size where that is 0.
-#[derive(Clone, Copy, PartialEq, Eq, Debug)]
+#[derive(Clone, Copy, PartialEq, Eq)]
 pub struct ImpliedMemory {
     pub segment: SegmentRule,
     pub group: RegisterGroup,
@@ -76,7 +76,7 @@ pub struct ImpliedMemory {
 
 /// What is done to the memory operand: what the columns say; a write, where the columns say more for the sake of a register form; or, where a mask
 /// chooses its elements, a conditional read or write.
-#[derive(Clone, Copy, PartialEq, Eq, Debug)]
+#[derive(Clone, Copy, PartialEq, Eq)]
 pub enum NamedMemory {
     AsOperand,
     Write,

@@ -7,7 +7,7 @@ ghost use Rattle.instruction_parts.specs.Kinds.{method_of, file_of, memory_width
 use row_types::OpKind;
 
 /// Where an operand is read.
-#[derive(Clone, Copy, PartialEq, Eq, Debug)]
+#[derive(Clone, Copy)]
 pub enum Method {
     /// There is no operand.
     Nothing,
@@ -46,7 +46,7 @@ pub enum Method {
 }
 
 /// Which registers a kind names.
-#[derive(Clone, Copy, PartialEq, Eq, Debug)]
+#[derive(Clone, Copy)]
 pub enum File {
     Byte,
     Word,
@@ -71,7 +71,7 @@ pub enum File {
 }
 
 /// How many bytes of memory, or of an immediate, a kind has.
-#[derive(Clone, Copy, PartialEq, Eq, Debug)]
+#[derive(Clone, Copy)]
 pub enum Width {
     Zero,
     Bytes(u8),

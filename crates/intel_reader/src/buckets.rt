@@ -9,7 +9,7 @@ use opcode_rows::ROWS;
 use x86_values::Code;
 
 /// Indices in the order of the codes by their names: those from the first up to the end, which is not one of them.
-#[derive(Clone, Copy, PartialEq, Eq, Debug)]
+#[derive(Clone, Copy)]
 pub struct Indices {
     pub first: u16,
     pub end: u16,

@@ -32,7 +32,7 @@ use std::cmp::Ordering;
 use x86_values::{Bits, Code, DispSize, Instr};
 
 /// An instruction and the bytes of its plain spelling.
-#[derive(Debug, Drop)]
+#[derive(Drop)]
 pub struct Found {
     pub instr: Instr,
     pub bytes: ArrayVec<u8, 15>,

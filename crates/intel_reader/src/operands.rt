@@ -14,7 +14,7 @@ use opcode_rows::ROWS;
 use x86_values::{Bits, Code, Register};
 
 /// What an Intel text shows of an operand, as far as rows are told apart by it.
-#[derive(Clone, Copy, PartialEq, Eq, Debug)]
+#[derive(Clone, Copy)]
 pub enum OperandClass {
     /// There is no such operand.
     Absent,

@@ -10,7 +10,7 @@ use crate::scanning::{skip_if, word};
 use x86_values::{Bits, Rep, Segment};
 
 /// The words in front of a name, and the text from the name on.
-#[derive(Clone, Copy, PartialEq, Eq, Debug)]
+#[derive(Clone, Copy)]
 pub struct Prefixes<'t> {
     pub lock: bool,
     pub rep: Rep,

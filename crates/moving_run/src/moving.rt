@@ -21,7 +21,7 @@ use std::alloc::Global;
 use x86_values::Bits;
 
 /// What is written of moved code.
-#[derive(Clone, Copy, PartialEq, Eq, Debug)]
+#[derive(Clone, Copy)]
 pub enum Wanted {
     /// The bytes of the moved blocks, one behind another.
     MovedBytes,

@@ -17,7 +17,7 @@ use row_types::{LBit, Row};
 use x86_values::{Bits, DispSize, Mem, Register, same_bits, same_register};
 
 /// The ways to write an address by ModRM.
-#[derive(Clone, Copy, PartialEq, Eq, Debug)]
+#[derive(Clone, Copy)]
 pub enum AddressForm {
     /// Relative to RIP or EIP, of this size (2.2.1.6).
     Relative(Bits),
@@ -30,7 +30,7 @@ pub enum AddressForm {
 }
 
 /// What ModRM.mod, ModRM.rm and the SIB are.
-#[derive(Clone, Copy, PartialEq, Eq, Debug)]
+#[derive(Clone, Copy)]
 pub struct AddressFields {
     pub mode3: u8,
     pub rm: u8,

@@ -20,7 +20,7 @@ use row_types::{OpKind, Row};
 use x86_values::{Bits, Instr, wrap};
 
 /// What the plain spelling of an instruction at an address is made of.
-#[derive(Clone, Copy, PartialEq, Eq, Debug)]
+#[derive(Clone, Copy)]
 pub struct PlainParts {
     /// The address.
     pub ip: u64,

@@ -49,7 +49,7 @@ fn number_or_zero(register: Option<Register>) -> u16
 }
 
 /// The numbers that an instruction asks of the fields of its spelling, and how long a displacement, each 0 where no operand asks one.
-#[derive(Clone, Copy, PartialEq, Eq, Debug)]
+#[derive(Clone, Copy)]
 pub struct Asked {
     /// Of ModRM.reg.
     pub reg: u16,

@@ -31,7 +31,7 @@ use row_types::{ModRmRule, OpKind, Place, Plus, Row};
 use x86_values::{Bits, Instr, Mem, Operand, wrap};
 
 /// The ModRM and the SIB of a spelling.
-#[derive(Clone, Copy, PartialEq, Eq, Debug)]
+#[derive(Clone, Copy)]
 pub struct Addressing {
     pub modrm: Option<ModRm>,
     pub sib: Option<Sib>,

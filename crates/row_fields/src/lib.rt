@@ -5,7 +5,7 @@ pub use row_types::Map;
 pub use x86_values::Rep;
 
 /// What the opcode tables see of an instruction's bytes, up to its ModRM.
-#[derive(Clone, Copy, PartialEq, Eq, Debug)]
+#[derive(Clone, Copy)]
 pub struct Fields {
     /// Whether a VEX stands before the opcode byte.
     pub vex: bool,

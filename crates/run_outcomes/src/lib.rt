@@ -8,7 +8,7 @@ use std::alloc::{AllocError, Global};
 use std::str::{Utf8Error, from_utf8};
 
 /// How the ports of a run behave. Calls are counted from 1 on; a port whose call is 0 never fails.
-#[derive(Clone, Copy, PartialEq, Eq, Debug)]
+#[derive(Clone, Copy)]
 pub struct Ports {
     /// The call at which the source fails.
     pub pull: u64,

@@ -26,7 +26,7 @@ use x86_values::{Bits, Instr};
 pub const MOVED_BASE: u64 = 0x1040_0000;
 
 /// What is told of made code.
-#[derive(Clone, Copy, PartialEq, Eq, Debug)]
+#[derive(Clone, Copy)]
 pub struct Summary {
     /// How many instructions were made.
     pub instructions: u32,

@@ -17,7 +17,7 @@ use x86_values::Bits;
 const LONGEST: usize = 15;
 
 /// What became of an item.
-#[derive(Clone, Copy, PartialEq, Eq, Debug)]
+#[derive(Clone, Copy)]
 pub enum Step {
     /// Its line was written or is held back. It takes so many bytes.
     Line { count: usize },
@@ -26,7 +26,7 @@ pub enum Step {
 }
 
 /// How far some bytes were handled.
-#[derive(Clone, Copy, PartialEq, Eq, Debug)]
+#[derive(Clone, Copy)]
 pub struct Handled {
     /// The bytes of the items whose lines were written.
     pub used: usize,

@@ -4,7 +4,7 @@ ghost use Rattle.std.specs.Prelude.{◌≡◌, ◌<◌, ◌≤◌, IfSome, lengt
 ghost use Rattle.text_parts.specs.DigitValues as spec;
 
 /// In which case the letters among hexadecimal digits may stand.
-#[derive(Clone, Copy, PartialEq, Eq, Debug)]
+#[derive(Clone, Copy)]
 pub enum LetterCase {
     /// `a` to `f` only.
     Lower,
