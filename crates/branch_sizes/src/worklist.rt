@@ -322,6 +322,67 @@ fn first_lengths(
     Ok(lens)
 }
 
+/// The running sums of the lengths of the first choices.
+fn first_sums(alloc: Global, tables: &Tables) -> Result<Sums, LayoutError>
+    ensures { IfOk result (λ sums. AreLengths (plan_in tables.now) (first_layout (plan_in tables.now)) sums) }
+{
+    let lengths = first_lengths(alloc, tables.spans, tables.items)?;
+    Sums::make(alloc, &lengths)
+}
+
+/// Lets what is not closed grow until all is, and gives the places of the images then.
+fn grow_until_closed(
+    alloc: Global,
+    tables: &Tables,
+    layout: &mut [u8],
+    sums: &mut Sums,
+    suspects: &mut Suspects,
+) -> Result<Vec<u128>, AllocError>
+    requires layout { layout.old ≡ first_layout (plan_in tables.now) }
+    requires lengths { AreLengths (plan_in tables.now) layout.old sums.old }
+    ensures least { OnOk result (IsLeast (plan_in tables.now) layout.new) }
+    ensures places { IfOk result (λ places. ArePlaces (plan_in tables.now) layout.new places.items) }
+    ensures below { IfOk result (λ places. EachIndex places.items (λ k. slice_index places.items k < 2 ^ 66)) }
+{
+    let mut now = Vec::from_slice(alloc, tables.first)?;
+    'passes: loop {
+        let unclosed = unclosed_items(alloc, tables, layout, &now)?;
+        if unclosed.is_empty() {
+            break;
+        }
+        grow_unclosed(tables, layout, sums, suspects, &unclosed)?;
+        now = places(alloc, tables.spans, tables.items, layout)?;
+    }
+    Ok(now)
+}
+
+/// The least closed layout of the plan of some tables.
+fn least_of(alloc: Global, tables: &Tables) -> Result<LeastLayout, LayoutError>
+    ensures least { IfOk result (λ least. IsLeast (plan_in tables.now) least.choices.items) }
+    ensures places { IfOk result (λ least. ArePlaces (plan_in tables.now) least.choices.items least.places.items) }
+    ensures below { IfOk result (λ least. EachIndex least.places.items (λ k. slice_index least.places.items k < 2 ^ 66)) }
+{
+    let mut choices = vec![in alloc; 0u8; tables.items.len()]?;
+    let mut sums = first_sums(alloc, tables)?;
+    let mut suspects = Suspects::make(alloc, tables, &choices)?;
+    let places = grow_until_closed(alloc, tables, &mut choices, &mut sums, &mut suspects)?;
+    Ok(LeastLayout { choices, places })
+}
+
+/// The places of the first choices.
+fn first_places(
+    alloc: Global,
+    spans: &[BlockSpan],
+    items: &[Branch],
+) -> Result<Vec<u128>, AllocError>
+    requires { IsWellFormed (plan_of spans.now items.now) }
+    ensures places { IfOk result (λ places. ArePlaces (plan_of spans.now items.now) (first_layout (plan_of spans.now items.now)) places.items) }
+    ensures below { IfOk result (λ places. EachIndex places.items (λ k. slice_index places.items k < 2 ^ 66)) }
+{
+    let layout = vec![in alloc; 0u8; items.len()]?;
+    places(alloc, spans, items, &layout)
+}
+
 /// The least closed layout: from the first choices on, what is not closed grows until all is.
 pub(crate) fn grown_from_first(
     alloc: Global,
@@ -335,10 +396,7 @@ pub(crate) fn grown_from_first(
 {
     let blocks = block_numbers(alloc, spans, items)?;
     let starts = block_starts(alloc, spans, items)?;
-    let mut layout = vec![in alloc; 0u8; items.len()]?;
-    let first = places(alloc, spans, items, &layout)?;
-    let lengths = first_lengths(alloc, spans, items)?;
-    let mut sums = Sums::make(alloc, &lengths)?;
+    let first = first_places(alloc, spans, items)?;
     let tables = Tables {
         spans,
         items,
@@ -346,18 +404,5 @@ pub(crate) fn grown_from_first(
         starts: &starts,
         first: &first,
     };
-    let mut suspects = Suspects::make(alloc, &tables, &layout)?;
-    let mut now = Vec::from_slice(alloc, &first)?;
-    'passes: loop {
-        let unclosed = unclosed_items(alloc, &tables, &layout, &now)?;
-        if unclosed.is_empty() {
-            break;
-        }
-        grow_unclosed(&tables, &mut layout, &mut sums, &mut suspects, &unclosed)?;
-        now = places(alloc, spans, items, &layout)?;
-    }
-    Ok(LeastLayout {
-        choices: layout,
-        places: now,
-    })
+    least_of(alloc, &tables)
 }

@@ -1,4 +1,5 @@
-use Rattle.std.proofs.Common.{◌≡◌, ◌≤◌, arith, sym, subst, ◌∙◌}
+use Rattle.std.proofs.Common.{◌≡◌, ◌≤◌, length, arith, ap, sym, subst, ◌∙◌}
+use Rattle.std.proofs.lemmas.List.{get_or_default}
 use Rattle.branch_sizes.specs.Plan.{plan_of}
 use Rattle.branch_sizes.specs.Layout.{first_layout, image_length}
 use Rattle.branch_sizes.proofs.Rising.{image_short}
@@ -36,3 +37,17 @@ returns-clause-lengths c = record {
   len = omega (arith, c.lengths.invariant.len, c.lengths-test.false, c.lengths.auto.k-end);
   each = λ k lt. c.lengths.invariant.each k (omega (arith, lt, c.lengths.invariant.len, c.lengths-test.false));
 }
+
+pub lengths-init : goal.lengths-init
+lengths-init c =
+    let none = ap length c.in_ok-lens.ensures.items in
+    record {
+      len = none;
+      each = λ i lt. absurd (omega (arith, lt, none));
+      fit = λ i lt. absurd (omega (arith, lt, none));
+    }
+
+pub returns-clause-fit : goal.returns-clause-fit
+returns-clause-fit c =
+    λ k d lt. subst (λ v. (1 ≤ v) × (v ≤ 15)) (get_or_default c.lengths.lens.items k 0 d lt)
+    (c.lengths.invariant.fit k lt)

@@ -1,5 +1,5 @@
 use Rattle.branch_sizes.specs.Tables.{plan_in}
-use Rattle.branch_sizes.proofs.Growing.{grows_twice}
+use Rattle.branch_sizes.proofs.Growing.{grows_none, grows_twice}
 use Rattle.branch_sizes.proofs.worklist.settle.Goals as goal
 
 pub queue-preserved : goal.queue-preserved
@@ -38,3 +38,15 @@ returns-then-not-branch-clause-grows c =
     let p = plan_in c.args.tables.now in
     grows_twice p _ _ _ (grows_twice p _ _ _ c.suspects.invariant.grows c.queue.invariant.grows)
     c.grow_and_note-in-suspects.ensures.grows
+
+pub suspects-init : goal.suspects-init
+suspects-init c = record {
+  lengths = c.requires.lengths;
+  grows = grows_none (plan_in c.args.tables.now) c.args.layout.now c.requires.layout;
+}
+
+pub queue-init : goal.queue-init
+queue-init c = record {
+  lengths = c.suspects.invariant.lengths;
+  grows = grows_none (plan_in c.args.tables.now) c.suspects.layout c.suspects.invariant.grows.layout;
+}
