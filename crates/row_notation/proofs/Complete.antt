@@ -26,7 +26,7 @@ use Rattle.row_notation.specs.Notation.{class_text, size_text, map_text, digit_t
 use Rattle.row_notation.specs.Texts.{IsTextOf}
 use Rattle.row_notation.specs.Reading.{imm_words, plus_words, maps, size_words, classes, w_words, vex_maps, vex_classes, l_words, blank}
 use Rattle.row_notation.proofs.Languages.{Language, word_then, one_of}
-use Rattle.row_notation.proofs.Grammar.{ends, imm_texts, stack_texts, any_digit, register_digit, modrm_texts, plus_texts, opcode_digit, opcode_texts, map_texts, size_texts, class_texts, w_texts, vex_map_texts, pp_texts, vex_texts, all_texts}
+use Rattle.row_notation.proofs.Grammar.{ends, imm_texts, stack_texts, any_digit, register_digit, modrm_texts, plus_texts, opcode_digit, opcode_texts, map_part, size_part, class_part, w_part, vex_map_part, pp_part, vex_texts, all_texts}
 use Rattle.row_notation.proofs.Parts.{full, before_modrm, imm_allowed, fixed_allowed, plus_allowed, opcode_allowed}
 
 imm-here : (shape : RowShape) (i : ImmWord) → word_then (imm_text i) (ends (record shape { imm = i })) (imm_text i) (record shape { imm = i })
@@ -190,15 +190,15 @@ in-l _ L text s e h = search (inl, inr, h) depth 12
 
 legacy-complete : (m : Map) (c : Class) (z : SizeWord) (b : ℕ) (p : PlusWord) (r : ModRmRule) (st : Bool) (i : ImmWord)
     → b < 256 → is_opcode_of_map m b ≡ true → is_rule_in_range r ≡ true → is_stack_proper r st ≡ true → imm_allowed Legacy i ≡ true
-    → class_texts (blank Legacy) (legacy_text (full Legacy m c z b p lbit.None wbit.None r st i)) (full Legacy m c z b p lbit.None wbit.None r st i)
+    → (class_part (blank Legacy)).texts (legacy_text (full Legacy m c z b p lbit.None wbit.None r st i)) (full Legacy m c z b p lbit.None wbit.None r st i)
 unfolding legacy_text opcode_part modrm_part
 legacy-complete m c z b p r st i small opcode range stack h =
     let s : RowShape = full Legacy m c z b p lbit.None wbit.None r st i in
     let t : List ℕ = byte_text b ++ (plus_text p ++ (modrm_text r ++ (stack_text st ++ imm_text i))) in
-    in-classes c (λ x. word_then (class_text x) (size_texts (record (blank Legacy) { class = x }))) (class_text c ++ (size_text z ++ (map_text m ++ t))) s (
+    in-classes c (λ x. word_then (class_text x) (size_part (record (blank Legacy) { class = x })).texts) (class_text c ++ (size_text z ++ (map_text m ++ t))) s (
       size_text z ++ (map_text m ++ t),
       refl,
-      in-sizes z (λ x. word_then (size_text x) (map_texts (record (blank Legacy) { class = c; size_word = x }))) (size_text z ++ (map_text m ++ t)) s (
+      in-sizes z (λ x. word_then (size_text x) (map_part (record (blank Legacy) { class = c; size_word = x })).texts) (size_text z ++ (map_text m ++ t)) s (
         map_text m ++ t,
         refl,
         in-maps m (λ x. word_then (map_text x) (opcode_texts (record (blank Legacy) { class = c; size_word = z; map = x }))) (map_text m ++ t) s
@@ -219,13 +219,13 @@ vex-complete m c b l w r st i small range stack fixed has_l has_w vex_class own 
     let tc : List ℕ = pp_text c ++ tm in (
       l_text l ++ tc,
       refl,
-      in-l l (λ x. word_then (l_text x) (pp_texts (record (blank Vex) { l = x }))) (l_text l ++ tc) s has_l (
+      in-l l (λ x. word_then (l_text x) (pp_part (record (blank Vex) { l = x })).texts) (l_text l ++ tc) s has_l (
         tc,
         refl,
-        in-vex_classes c (λ x. word_then (pp_text x) (vex_map_texts (record (blank Vex) { l = l; class = x }))) tc s vex_class (
+        in-vex_classes c (λ x. word_then (pp_text x) (vex_map_part (record (blank Vex) { l = l; class = x })).texts) tc s vex_class (
           tm,
           refl,
-          in-vex_maps m (λ x. word_then (vex_map_text x) (w_texts (record (blank Vex) { l = l; class = c; map = x }))) tm s own (
+          in-vex_maps m (λ x. word_then (vex_map_text x) (w_part (record (blank Vex) { l = l; class = c; map = x })).texts) tm s own (
             tw,
             refl,
             in-w w (λ x. word_then (w_text x) (opcode_texts (record (blank Vex) { l = l; class = c; map = m; w = x }))) tw s has_w
@@ -308,7 +308,7 @@ unfolding notation
 complete-by Legacy m c z b p l w r st i small range stack h =
     let s : RowShape = full Legacy m c z b p l w r st i in
     let f = from-legacy s h in
-    let P : LBit → WBit → Type 0 = λ x y. class_texts (blank Legacy) (legacy_text (full Legacy m c z b p x y r st i)) (full Legacy m c z b p x y r st i) in
+    let P : LBit → WBit → Type 0 = λ x y. (class_part (blank Legacy)).texts (legacy_text (full Legacy m c z b p x y r st i)) (full Legacy m c z b p x y r st i) in
     let base : P lbit.None wbit.None = legacy-complete m c z b p r st i small f.3 range stack f.2 in
     inl (subst (λ x. P x w) (sym (no-l l f.0)) (subst (λ y. P lbit.None y) (sym (no-w w f.1)) base))
 complete-by Vex m c z b p l w r st i small range stack h =

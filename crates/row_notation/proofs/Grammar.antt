@@ -1,5 +1,5 @@
 -- The language of each part of a notation, and that the reader's answer is right for it.
-use Rattle.std.proofs.Common.{◌≡◌, ℕ, ◌+◌, ◌*◌, ◌%◌, ◌<◌, List, [], ◌∷◌, length, Err, refl, sym, ap, ◌∙◌, subst, arith, Bool, true, false, ◌&&◌, ◌==◌, nat_lt, nat_le, map, codes, eq-eqb, if◌then◌else◌}
+use Rattle.std.proofs.Common.{◌≡◌, ℕ, ◌+◌, ◌*◌, ◌%◌, ◌<◌, List, [], ◌∷◌, length, Err, refl, sym, ap, ◌∙◌, subst, arith, Bool, true, false, ◌&&◌, ◌==◌, nat_lt, nat_le, codes, eq-eqb, if◌then◌else◌}
 use Rattle.std.proofs.lemmas.Bool.{eqb-true}
 use Rattle.std.proofs.Common.{lit<}
 use Rattle.row_types.specs.declared.RowKind.{RowKind}
@@ -11,7 +11,7 @@ use Rattle.row_types.specs.declared.RowShape.{RowShape}
 use Rattle.row_notation.specs.Shape.{is_opcode_of_map}
 use Rattle.row_notation.specs.Notation.{class_text, size_text, map_text, digit_text, plus_text, imm_text, l_text, pp_text, vex_map_text, w_text}
 use Rattle.row_notation.specs.Reading.{Answer, better, read_end, imm_words, read_imm, hex_value, read_stack_word, read_stack, read_fixed_low, read_fixed, read_digit, read_fixed_of, read_any, read_slash_digit, read_modrm, plus_words, read_plus, is_opcode_of, read_opcode_low, read_opcode, maps, read_map, size_words, read_size, classes, read_class, w_words, read_w, vex_maps, read_vex_map, vex_classes, read_pp, l_words, read_l, blank, read_vex, read_text}
-use Rattle.row_notation.proofs.Languages.{Language, IsInhabited, IsEmpty, behind_byte, either_of, word_then, one_of, IsRight, right-same, right-inhabited, right-better, right-word, right-byte, right-stop, right-if, right-or_nothing, has_some, right-one_of}
+use Rattle.row_notation.proofs.Languages.{Language, IsInhabited, IsEmpty, behind_byte, either_of, word_then, one_of, IsRight, right-same, right-inhabited, right-better, right-word, right-byte, right-stop, right-if, right-or_nothing, has_some, right-one_of, Part, behind_words}
 
 -- ---- the end
 
@@ -303,81 +303,56 @@ right-opcode s (c ∷ text) = right-digit any_digit (opcode_low_texts s) (read_o
 
 -- ---- the words before it
 
--- from the escape bytes on
-abbrev pub map_texts : RowShape → Language
-map_texts s = one_of maps (λ x. word_then (map_text x) (opcode_texts (record s { map = x })))
+-- from the opcode byte on
+abbrev pub opcode_part : RowShape → Part
+opcode_part s = record { texts = opcode_texts s; reads = read_opcode s; right = right-opcode s }
 
-pub right-map : (s : RowShape) (text : List ℕ) → IsRight (map_texts s) text (read_map s text)
-unfolding read_map
-right-map s text =
-    right-one_of maps refl map_text (λ x. opcode_texts (record s { map = x })) (λ x. read_opcode (record s { map = x })) text (λ x. right-opcode (record s { map = x }))
+-- from the escape bytes on
+abbrev pub map_part : RowShape → Part
+map_part s = behind_words maps refl map_text (λ m. opcode_part (record s { map = m }))
 
 -- from the size word on
-abbrev pub size_texts : RowShape → Language
-size_texts s = one_of size_words (λ x. word_then (size_text x) (map_texts (record s { size_word = x })))
-
-pub right-size : (s : RowShape) (text : List ℕ) → IsRight (size_texts s) text (read_size s text)
-unfolding read_size
-right-size s text =
-    right-one_of size_words refl size_text (λ x. map_texts (record s { size_word = x })) (λ x. read_map (record s { size_word = x })) text (λ x. right-map (record s { size_word = x }))
+abbrev pub size_part : RowShape → Part
+size_part s = behind_words size_words refl size_text (λ z. map_part (record s { size_word = z }))
 
 -- a legacy text
-abbrev pub class_texts : RowShape → Language
-class_texts s = one_of classes (λ x. word_then (class_text x) (size_texts (record s { class = x })))
-
-pub right-class : (s : RowShape) (text : List ℕ) → IsRight (class_texts s) text (read_class s text)
-unfolding read_class
-right-class s text =
-    right-one_of classes refl class_text (λ x. size_texts (record s { class = x })) (λ x. read_size (record s { class = x })) text (λ x. right-size (record s { class = x }))
+abbrev pub class_part : RowShape → Part
+class_part s = behind_words classes refl class_text (λ c. size_part (record s { class = c }))
 
 -- a VEX text from W on
-abbrev pub w_texts : RowShape → Language
-w_texts s = one_of w_words (λ x. word_then (w_text x) (opcode_texts (record s { w = x })))
-
-pub right-w : (s : RowShape) (text : List ℕ) → IsRight (w_texts s) text (read_w s text)
-unfolding read_w
-right-w s text =
-    right-one_of w_words refl w_text (λ x. opcode_texts (record s { w = x })) (λ x. read_opcode (record s { w = x })) text (λ x. right-opcode (record s { w = x }))
+abbrev pub w_part : RowShape → Part
+w_part s = behind_words w_words refl w_text (λ x. opcode_part (record s { w = x }))
 
 -- a VEX text from its map on
-abbrev pub vex_map_texts : RowShape → Language
-vex_map_texts s = one_of vex_maps (λ x. word_then (vex_map_text x) (w_texts (record s { map = x })))
-
-pub right-vex_map : (s : RowShape) (text : List ℕ) → IsRight (vex_map_texts s) text (read_vex_map s text)
-unfolding read_vex_map
-right-vex_map s text =
-    right-one_of vex_maps refl vex_map_text (λ x. w_texts (record s { map = x })) (λ x. read_w (record s { map = x })) text (λ x. right-w (record s { map = x }))
+abbrev pub vex_map_part : RowShape → Part
+vex_map_part s = behind_words vex_maps refl vex_map_text (λ m. w_part (record s { map = m }))
 
 -- a VEX text from pp on
-abbrev pub pp_texts : RowShape → Language
-pp_texts s = one_of vex_classes (λ x. word_then (pp_text x) (vex_map_texts (record s { class = x })))
-
-pub right-pp : (s : RowShape) (text : List ℕ) → IsRight (pp_texts s) text (read_pp s text)
-unfolding read_pp
-right-pp s text =
-    right-one_of vex_classes refl pp_text (λ x. vex_map_texts (record s { class = x })) (λ x. read_vex_map (record s { class = x })) text (λ x. right-vex_map (record s { class = x }))
+abbrev pub pp_part : RowShape → Part
+pp_part s = behind_words vex_classes refl pp_text (λ c. vex_map_part (record s { class = c }))
 
 -- a VEX text behind its first word
-abbrev pub l_texts : RowShape → Language
-l_texts s = one_of l_words (λ x. word_then (l_text x) (pp_texts (record s { l = x })))
-
-pub right-l : (s : RowShape) (text : List ℕ) → IsRight (l_texts s) text (read_l s text)
-unfolding read_l
-right-l s text =
-    right-one_of l_words refl l_text (λ x. pp_texts (record s { l = x })) (λ x. read_pp (record s { l = x })) text (λ x. right-pp (record s { l = x }))
+abbrev pub l_part : RowShape → Part
+l_part s = behind_words l_words refl l_text (λ x. pp_part (record s { l = x }))
 
 -- a VEX text
 abbrev pub vex_texts : Language
-vex_texts = word_then (codes "VEX.") (l_texts (blank Vex))
+vex_texts = word_then (codes "VEX.") (l_part (blank Vex)).texts
 
 right-vex : (text : List ℕ) → IsRight vex_texts text (read_vex text)
-right-vex text = right-word (codes "VEX.") (l_texts (blank Vex)) (read_l (blank Vex)) text (right-l (blank Vex))
+unfolding read_l read_pp read_vex_map read_w
+right-vex text = right-word (codes "VEX.") (l_part (blank Vex)).texts (read_l (blank Vex)) text (l_part (blank Vex)).right
+
+right-legacy : (text : List ℕ) → IsRight (class_part (blank Legacy)).texts text (read_class (blank Legacy) text)
+unfolding read_class read_size read_map
+right-legacy = (class_part (blank Legacy)).right
 
 -- any text
 abbrev pub all_texts : Language
-all_texts = either_of (class_texts (blank Legacy)) vex_texts
+all_texts = either_of (class_part (blank Legacy)).texts vex_texts
 
 -- what the reader answers is right
 pub right-text : (text : List ℕ) → IsRight all_texts text (read_text text)
 unfolding read_text
-right-text text = right-better (class_texts (blank Legacy)) vex_texts text (read_class (blank Legacy) text) (read_vex text) (right-class (blank Legacy) text) (right-vex text)
+right-text text =
+    right-better (class_part (blank Legacy)).texts vex_texts text (read_class (blank Legacy) text) (read_vex text) (right-legacy text) (right-vex text)

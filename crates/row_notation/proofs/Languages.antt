@@ -222,7 +222,7 @@ right-choice [] e L text f each = absurd cc
 right-choice (v ∷ vs) e L text f each = right-best v vs L text f each
 
 -- the word of a value, and what follows it
-abbrev read_word : {V : Type 0} → (V → List ℕ) → (V → List ℕ → Answer) → List ℕ → V → Answer
+abbrev pub read_word : {V : Type 0} → (V → List ℕ) → (V → List ℕ → Answer) → List ℕ → V → Answer
 read_word word next text v = then_read (after_word (word v) text) (next v)
 
 -- what the reader answers behind the word of one of several values is right
@@ -230,3 +230,19 @@ pub right-one_of : {V : Type 0} → (vs : List V) → has_some vs ≡ true → (
     → ((v : V) (t : List ℕ) → IsRight (L v) t (next v t)) → IsRight (one_of vs (λ v. word_then (word v) (L v))) text (best text (map (read_word word next text) vs))
 right-one_of vs e word L next text right =
     right-choice vs e (λ v. word_then (word v) (L v)) text (read_word word next text) (λ v. right-word (word v) (L v) (next v) text (right v))
+
+-- ---- parts of a notation
+
+-- the texts of a part, what the reader answers for it, and that this is right
+pub record Part : Type 1 where
+  pub texts : Language
+  pub reads : List ℕ → Answer
+  pub right : (text : List ℕ) → IsRight texts text (reads text)
+
+-- the word of one of several values, and then the part that the value has behind it
+abbrev pub behind_words : {V : Type 0} → (vs : List V) → has_some vs ≡ true → (V → List ℕ) → (V → Part) → Part
+behind_words vs some word part = record {
+  texts = one_of vs (λ v. word_then (word v) (part v).texts);
+  reads = λ text. best text (map (read_word word (λ v. (part v).reads) text) vs);
+  right = λ text. right-one_of vs some word (λ v. (part v).texts) (λ v. (part v).reads) text (λ v. (part v).right);
+}

@@ -1,7 +1,7 @@
 -- The texts of the languages are the notations of proper shapes, and the other way round.
-use Rattle.std.proofs.Common.{◌≡◌, inl, inr, ℕ, ◌+◌, ◌*◌, ◌/◌, ◌%◌, ◌<◌, ◌≤◌, List, [], ◌∷◌, ◌++◌, refl, sym, ap, ◌∙◌, subst, arith, Bool, true, false, ◌&&◌, not, nat_lt, codes, eq-eqb, None}
+use Rattle.std.proofs.Common.{◌≡◌, inl, inr, ℕ, ◌+◌, ◌*◌, ◌/◌, ◌%◌, ◌<◌, ◌≤◌, List, [], ◌∷◌, ◌++◌, refl, sym, ap, ◌∙◌, subst, arith, Bool, true, false, ◌&&◌, not, nat_lt, codes, eq-eqb}
 use Rattle.std.proofs.lemmas.List.{append-nil}
-use Rattle.std.proofs.lemmas.Bool.{and_from, and_parts}
+use Rattle.std.proofs.lemmas.Bool.{and_parts}
 use Rattle.row_types.specs.declared.RowKind.{RowKind}
 use Rattle.row_types.specs.declared.RowKind.TheVariants.{Legacy, Vex}
 use Rattle.row_types.specs.declared.Map.{Map}
@@ -24,7 +24,7 @@ use Rattle.row_notation.specs.Notation.{class_text, size_text, map_text, digit_t
 use Rattle.row_notation.specs.Texts.{IsTextOf}
 use Rattle.row_notation.specs.Reading.{imm_words, plus_words, maps, size_words, classes, w_words, vex_maps, vex_classes, l_words, blank}
 use Rattle.row_notation.proofs.Languages.{Language, word_then, one_of}
-use Rattle.row_notation.proofs.Grammar.{ends, imm_texts, stack_texts, octal_digit, register_digit, fixed_of, modrm_texts, opcode_digit, opcode_texts, map_texts, size_texts, class_texts, w_texts, vex_map_texts, pp_texts, vex_texts, all_texts}
+use Rattle.row_notation.proofs.Grammar.{ends, imm_texts, stack_texts, octal_digit, register_digit, fixed_of, modrm_texts, opcode_digit, opcode_texts, map_part, size_part, class_part, w_part, vex_map_part, pp_part, vex_texts, all_texts}
 
 -- a shape of all its parts
 abbrev pub full : RowKind → Map → Class → SizeWord → ℕ → PlusWord → LBit → WBit → ModRmRule → Bool → ImmWord → RowShape
@@ -294,10 +294,10 @@ vex-text-of m c l w text s rest has_l has_w vex_class own_map f e =
 abbrev pub anything : {V : Type 0} → V → Bool
 anything v = true
 
-class-sound : (text : List ℕ) (s : RowShape) → class_texts (blank Legacy) text s → IsTextOf text s
+class-sound : (text : List ℕ) (s : RowShape) → (class_part (blank Legacy)).texts text s → IsTextOf text s
 class-sound text s h =
-    let c = chosen anything classes (λ x. word_then (class_text x) (size_texts (record (blank Legacy) { class = x }))) text s refl h in
-    let z = chosen anything size_words (λ x. word_then (size_text x) (map_texts (record (blank Legacy) { class = c.0; size_word = x }))) c.2.0 s refl c.2.2 in
+    let c = chosen anything classes (λ x. word_then (class_text x) (size_part (record (blank Legacy) { class = x })).texts) text s refl h in
+    let z = chosen anything size_words (λ x. word_then (size_text x) (map_part (record (blank Legacy) { class = c.0; size_word = x })).texts) c.2.0 s refl c.2.2 in
     let m = chosen anything maps (λ x. word_then (map_text x) (opcode_texts (record (blank Legacy) { class = c.0; size_word = z.0; map = x }))) z.2.0 s refl z.2.2 in
     legacy-text-of m.0 c.0 z.0 text s m.2.0 (opcode-sound Legacy m.0 c.0 z.0 l.None w.None m.2.0 s m.2.2)
     (c.2.1 ∙ ap (λ x. class_text c.0 ++ x) z.2.1 ∙ ap (λ x. class_text c.0 ++ (size_text z.0 ++ x)) m.2.1)
@@ -313,9 +313,9 @@ own_map m = not (is_one_byte_map m)
 
 l-sound : (text : List ℕ) (s : RowShape) → vex_texts text s → IsTextOf text s
 l-sound text s h =
-    let x = chosen some_l l_words (λ x. word_then (l_text x) (pp_texts (record (blank Vex) { l = x }))) h.0 s refl h.2 in
-    let c = chosen is_vex_class vex_classes (λ y. word_then (pp_text y) (vex_map_texts (record (blank Vex) { l = x.0; class = y }))) x.2.0 s refl x.2.2 in
-    let m = chosen own_map vex_maps (λ y. word_then (vex_map_text y) (w_texts (record (blank Vex) { l = x.0; class = c.0; map = y }))) c.2.0 s refl c.2.2 in
+    let x = chosen some_l l_words (λ x. word_then (l_text x) (pp_part (record (blank Vex) { l = x })).texts) h.0 s refl h.2 in
+    let c = chosen is_vex_class vex_classes (λ y. word_then (pp_text y) (vex_map_part (record (blank Vex) { l = x.0; class = y })).texts) x.2.0 s refl x.2.2 in
+    let m = chosen own_map vex_maps (λ y. word_then (vex_map_text y) (w_part (record (blank Vex) { l = x.0; class = c.0; map = y })).texts) c.2.0 s refl c.2.2 in
     let v = chosen some_w w_words (λ y. word_then (w_text y) (opcode_texts (record (blank Vex) { l = x.0; class = c.0; map = m.0; w = y }))) m.2.0 s refl m.2.2 in
     vex-text-of m.0 c.0 x.0 v.0 text s v.2.0 x.1 v.1 c.1 m.1 (opcode-sound Vex m.0 c.0 word.None x.0 v.0 v.2.0 s v.2.2)
     (h.1 ∙ ap (λ y. codes "VEX." ++ y) x.2.1 ∙ ap (λ y. codes "VEX." ++ (l_text x.0 ++ y)) c.2.1
