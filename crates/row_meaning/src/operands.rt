@@ -125,25 +125,18 @@ fn memory_at_base(bits: Bits, asize: Bits, state: &PrefixState, m: ModRm, disp: 
 /// An address in 32 and 64-bit addressing.
 #[inline(always)]
 #[tactic(auto, unfolding(crate::specs::Meaning::memory_wide, row_fit::specs::Fits::sib_in_range))]
-fn memory_wide(
-    bits: Bits,
-    asize: Bits,
-    state: &PrefixState,
-    m: ModRm,
-    sib: Option<Sib>,
-    next: u64,
-    disp: &[u8],
-) -> Mem
+fn memory_wide(bits: Bits, asize: Bits, state: &PrefixState, m: ModRm, behind: &Behind) -> Mem
     requires rm { m.rm < 8 }
-    requires sib { IsTrue (fits.sib_in_range sib) }
-    requires disp { length disp.now ≤ 8 }
-    ensures { result ≡ spec.memory_wide bits asize state.now m sib next disp.now }
+    requires sib { IsTrue (fits.sib_in_range behind.now.sib) }
+    requires disp { length behind.now.disp.now ≤ 8 }
+    ensures { result ≡ spec.memory_wide bits asize state.now m behind.now.sib behind.now.next behind.now.disp.now }
 {
-    match sib {
+    let disp = behind.disp;
+    match behind.sib {
         Some(s) => memory_with_sib(bits, asize, state, sib_index(asize, state, s), m, s, disp),
         None => {
             if m.mode3 == 0 && m.rm == 5 {
-                ip_or_absolute(bits, asize, next, disp)
+                ip_or_absolute(bits, asize, behind.next, disp)
             } else {
                 memory_at_base(bits, asize, state, m, disp)
             }
@@ -154,24 +147,16 @@ fn memory_wide(
 /// An address of any size.
 #[inline(always)]
 #[tactic(auto, unfolding(crate::specs::Meaning::memory_of))]
-fn memory_of(
-    bits: Bits,
-    asize: Bits,
-    state: &PrefixState,
-    m: ModRm,
-    sib: Option<Sib>,
-    next: u64,
-    disp: &[u8],
-) -> Mem
+fn memory_of(bits: Bits, asize: Bits, state: &PrefixState, m: ModRm, behind: &Behind) -> Mem
     requires rm { m.rm < 8 }
-    requires sib { IsTrue (fits.sib_in_range sib) }
-    requires disp { length disp.now ≤ 8 }
-    ensures { result ≡ spec.memory_of bits asize state.now m sib next disp.now }
+    requires sib { IsTrue (fits.sib_in_range behind.now.sib) }
+    requires disp { length behind.now.disp.now ≤ 8 }
+    ensures { result ≡ spec.memory_of bits asize state.now m behind.now.sib behind.now.next behind.now.disp.now }
 {
     match asize {
-        Bits::B16 => memory_16(m, disp),
-        Bits::B32 => memory_wide(bits, Bits::B32, state, m, sib, next, disp),
-        Bits::B64 => memory_wide(bits, Bits::B64, state, m, sib, next, disp),
+        Bits::B16 => memory_16(m, behind.disp),
+        Bits::B32 => memory_wide(bits, Bits::B32, state, m, behind),
+        Bits::B64 => memory_wide(bits, Bits::B64, state, m, behind),
     }
 }
 
@@ -187,15 +172,7 @@ pub(crate) fn memory_into(bits: Bits, state: &PrefixState, behind: &Behind, out:
     match behind.modrm {
         None => *out = Operand::Absent,
         Some(m) => {
-            *out = Operand::Mem(memory_of(
-                bits,
-                state_address_size(bits, state),
-                state,
-                m,
-                behind.sib,
-                behind.next,
-                behind.disp,
-            ))
+            *out = Operand::Mem(memory_of(bits, state_address_size(bits, state), state, m, behind))
         }
     }
 }
