@@ -156,64 +156,9 @@ fn append_far<const N: usize>(out: &mut ArrayVec<u8, N>, style: Style, selector:
     append_number(out, style, u64::from(offset));
 }
 
-/// Appends an operand in a style with brackets.
+/// Appends operand `n` with what stands in front of it, in a style with brackets. Nothing is called for one that is absent.
 #[inline(always)]
-#[tactic(auto, unfolding(crate::specs::Layout::bracket_operand))]
-fn append_bracket_operand<const N: usize>(
-    out: &mut ArrayVec<u8, N>,
-    style: Style,
-    bits: Bits,
-    row: &Row,
-    instr: &Instr,
-    n: usize,
-    op: &Operand,
-)
-    requires number { n < 4 }
-    requires sound { IsTrue (sound row.now) }
-    requires room { array_vec_len out.old + length (spec.bracket_operand style bits row.now instr.now n op.now) ≤ N }
-    ensures { out.new.items ≡ out.old.items ++ spec.bracket_operand style bits row.now instr.now n op.now }
-{
-    match op {
-        Operand::Absent => {}
-        Operand::Reg(r) => append_register(out, style, *r),
-        Operand::Imm(x) => append_number(out, style, *x),
-        Operand::Near(x) => append_number(out, style, *x),
-        Operand::Far { selector, offset } => append_far(out, style, *selector, *offset),
-        Operand::Mem(m) => append_memory(out, style, bits, row, instr, n, m),
-    }
-}
-
-/// Appends an operand with what stands in front of it. Nothing is called for one that is absent.
-#[inline(always)]
-#[tactic(auto, unfolding(crate::specs::Layout::separator, crate::specs::Layout::bracket_operand))]
-fn append_separated<const N: usize>(
-    out: &mut ArrayVec<u8, N>,
-    style: Style,
-    bits: Bits,
-    row: &Row,
-    instr: &Instr,
-    n: usize,
-    op: &Operand,
-)
-    requires number { n < 4 }
-    requires sound { IsTrue (sound row.now) }
-    requires room { array_vec_len out.old
-        + length (spec.separator (n == 0) op.now ++ spec.bracket_operand style bits row.now instr.now n op.now) ≤ N }
-    ensures { out.new.items ≡ out.old.items
-        ++ (spec.separator (n == 0) op.now ++ spec.bracket_operand style bits row.now instr.now n op.now) }
-{
-    match op {
-        Operand::Absent => {}
-        _ => {
-            append_separator(out, n == 0, op);
-            append_bracket_operand(out, style, bits, row, instr, n, op);
-        }
-    }
-}
-
-/// Appends operand `n` with what stands in front of it.
-#[inline(always)]
-#[tactic(auto, unfolding(crate::specs::Layout::operand_part))]
+#[tactic(auto, unfolding(crate::specs::Layout::operand_part, crate::specs::Layout::separator, crate::specs::Layout::bracket_operand))]
 fn append_operand_part<const N: usize>(
     out: &mut ArrayVec<u8, N>,
     style: Style,
@@ -227,7 +172,19 @@ fn append_operand_part<const N: usize>(
     requires room { array_vec_len out.old + length (spec.operand_part style bits row.now instr.now n) ≤ N }
     ensures { out.new.items ≡ out.old.items ++ spec.operand_part style bits row.now instr.now n }
 {
-    append_separated(out, style, bits, row, instr, n, operand_at(instr, n));
+    let op = operand_at(instr, n);
+    match op {
+        Operand::Absent => return,
+        _ => append_separator(out, n == 0, op),
+    }
+    match op {
+        Operand::Absent => {}
+        Operand::Reg(r) => append_register(out, style, *r),
+        Operand::Imm(x) => append_number(out, style, *x),
+        Operand::Near(x) => append_number(out, style, *x),
+        Operand::Far { selector, offset } => append_far(out, style, *selector, *offset),
+        Operand::Mem(m) => append_memory(out, style, bits, row, instr, n, m),
+    }
 }
 
 /// Appends the text of an instruction of a row with this name, where there is room for it.
