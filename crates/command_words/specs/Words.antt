@@ -26,6 +26,11 @@ texts (word ∷ words) = word.now ∷ texts words
 abbrev pub same_text : List ℕ → List ℕ → Bool
 same_text word name = pointwise nat_eq word name
 
+-- the value of the first of some names that a text is
+unfoldable pub value_named : {T : Type 0} → List ℕ → List (Bor (List ℕ) × T) → Option T
+value_named word [] = None
+value_named word (entry ∷ names) = if same_text word entry.0.now then Some entry.1 else value_named word names
+
 -- the mode that a word names
 unfoldable pub mode_named : List ℕ → Option Bits
 mode_named word =

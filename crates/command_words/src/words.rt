@@ -20,36 +20,45 @@ fn is(word: &str, name: &str) -> bool
     word == name
 }
 
-/// The mode that a word names.
-#[tactic(auto, unfolding(crate::specs::Words::mode_named))]
-fn mode_named(word: &str) -> Option<Bits>
-    ensures { result ≡ spec.mode_named word.now }
+/// The value of the first of these names that a word is.
+#[tactic(auto, unfolding(crate::specs::Words::value_named))]
+fn value_named<T: Copy>(word: &str, names: &[(&str, T)]) -> Option<T>
+    ensures { result ≡ spec.value_named word.now names.now }
 {
-    if is(word, "16") {
-        Some(Bits::B16)
-    } else if is(word, "32") {
-        Some(Bits::B32)
-    } else if is(word, "64") {
-        Some(Bits::B64)
-    } else {
-        None
+    match names {
+        [] => None,
+        [(name, value), rest @ ..] => if is(word, name) {
+            Some(*value)
+        } else {
+            value_named(word, rest)
+        },
     }
 }
 
+/// The mode that a word names.
+#[tactic(auto, unfolding(crate::specs::Words::mode_named, crate::specs::Words::value_named))]
+fn mode_named(word: &str) -> Option<Bits>
+    ensures { result ≡ spec.mode_named word.now }
+{
+    value_named(
+        word,
+        &[("16", Bits::B16), ("32", Bits::B32), ("64", Bits::B64)],
+    )
+}
+
 /// The style that a word names.
-#[tactic(auto, unfolding(crate::specs::Words::syntax_named))]
+#[tactic(auto, unfolding(crate::specs::Words::syntax_named, crate::specs::Words::value_named))]
 fn syntax_named(word: &str) -> Option<Style>
     ensures { result ≡ spec.syntax_named word.now }
 {
-    if is(word, "intel") {
-        Some(Style::Intel)
-    } else if is(word, "att") {
-        Some(Style::Att)
-    } else if is(word, "masm") {
-        Some(Style::Masm)
-    } else {
-        None
-    }
+    value_named(
+        word,
+        &[
+            ("intel", Style::Intel),
+            ("att", Style::Att),
+            ("masm", Style::Masm),
+        ],
+    )
 }
 
 /// The number that a word of 1 to 16 hexadecimal digits of either case names.
