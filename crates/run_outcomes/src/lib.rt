@@ -1,6 +1,8 @@
 //! Runs of the program's commands between ports in memory, for tests: what a run writes and answers, also where a port fails.
 #![tactic(auto)]
 
+ghost use Rattle.std.specs.Prelude.{◌≡◌, ◌×◌, ◌∷◌, [], false, IfOk};
+
 use arrayvec::ArrayVec;
 use byte_ports::{FailAt, MakeError, MemSink, MemSource, SlowSource, Source};
 use listing_run::{run, status_number};
@@ -33,7 +35,12 @@ pub const WHOLE: Ports = Ports {
 
 impl Ports {
     /// Ports that fail at these calls of the source, the output and the error output, and an output with so much room.
-    pub fn failing_at([pull, put, say]: [u64; 3], room: usize) -> Ports {
+    pub fn failing_at(calls: [u64; 3], room: usize) -> Ports
+        ensures calls { calls ≡ result.pull ∷ (result.put ∷ (result.say ∷ [])) }
+        ensures room { result.room ≡ room }
+        ensures whole { result.is_slow ≡ false }
+    {
+        let [pull, put, say] = calls;
         Ports {
             pull,
             put,
@@ -57,7 +64,9 @@ pub struct Outcome {
 
 impl Outcome {
     /// The number of the status and what both outputs took, as text.
-    pub fn as_text(&self) -> Result<(u8, &str, &str), Utf8Error> {
+    pub fn as_text(&self) -> Result<(u8, &str, &str), Utf8Error>
+        ensures { IfOk result (λ text. (text.0 ≡ self.now.number) × ((text.1.now ≡ self.now.out.items) × (text.2.now ≡ self.now.err.items))) }
+    {
         Ok((self.number, from_utf8(&self.out)?, from_utf8(&self.err)?))
     }
 }
