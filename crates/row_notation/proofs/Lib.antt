@@ -1,4 +1,3 @@
-pub mod Lengths
 pub mod Languages
 pub mod Grammar
 pub mod Parts

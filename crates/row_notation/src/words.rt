@@ -7,7 +7,8 @@ use row_types::{Class, ImmWord, LBit, Map, PlusWord, SizeWord, WBit};
 
 /// The class word, with the space behind it.
 pub fn class_text<'a>(class: Class) -> &'a [u8]
-    ensures { result.now ≡ spec.class_text class }
+    ensures text { result.now ≡ spec.class_text class }
+    ensures short { length result.now ≤ 4 }
 {
     match class {
         Class::Any => b"",
@@ -22,7 +23,8 @@ pub fn class_text<'a>(class: Class) -> &'a [u8]
 
 /// The size word, with the space behind it.
 pub fn size_text<'a>(word: SizeWord) -> &'a [u8]
-    ensures { result.now ≡ spec.size_text word }
+    ensures text { result.now ≡ spec.size_text word }
+    ensures short { length result.now ≤ 8 }
 {
     match word {
         SizeWord::None => b"",
@@ -35,7 +37,8 @@ pub fn size_text<'a>(word: SizeWord) -> &'a [u8]
 
 /// The escape bytes of a legacy map, with the space behind them.
 pub fn map_text<'a>(map: Map) -> &'a [u8]
-    ensures { result.now ≡ spec.map_text map }
+    ensures text { result.now ≡ spec.map_text map }
+    ensures short { length result.now ≤ 6 }
 {
     match map {
         Map::One => b"",
@@ -47,7 +50,8 @@ pub fn map_text<'a>(map: Map) -> &'a [u8]
 
 /// The register that is added to the opcode byte.
 pub fn plus_text<'a>(word: PlusWord) -> &'a [u8]
-    ensures { result.now ≡ spec.plus_text word }
+    ensures text { result.now ≡ spec.plus_text word }
+    ensures short { length result.now ≤ 3 }
 {
     match word {
         PlusWord::None => b"",
@@ -60,14 +64,16 @@ pub fn plus_text<'a>(word: PlusWord) -> &'a [u8]
 
 /// The stack number that is added to a ModRM byte.
 pub fn stack_text<'a>(stack: bool) -> &'a [u8]
-    ensures { result.now ≡ spec.stack_text stack }
+    ensures text { result.now ≡ spec.stack_text stack }
+    ensures short { length result.now ≤ 2 }
 {
     if stack { b"+i" } else { b"" }
 }
 
 /// The immediates, each with the space before it.
 pub fn imm_text<'a>(word: ImmWord) -> &'a [u8]
-    ensures { result.now ≡ spec.imm_text word }
+    ensures text { result.now ≡ spec.imm_text word }
+    ensures short { length result.now ≤ 6 }
 {
     match word {
         ImmWord::None => b"",
@@ -86,7 +92,8 @@ pub fn imm_text<'a>(word: ImmWord) -> &'a [u8]
 
 /// L of a VEX.
 pub fn l_text<'a>(l: LBit) -> &'a [u8]
-    ensures { result.now ≡ spec.l_text l }
+    ensures text { result.now ≡ spec.l_text l }
+    ensures short { length result.now ≤ 3 }
 {
     match l {
         LBit::None => b"",
@@ -99,7 +106,8 @@ pub fn l_text<'a>(l: LBit) -> &'a [u8]
 
 /// pp of a VEX, with the point before it.
 pub fn pp_text<'a>(class: Class) -> &'a [u8]
-    ensures { result.now ≡ spec.pp_text class }
+    ensures text { result.now ≡ spec.pp_text class }
+    ensures short { length result.now ≤ 3 }
 {
     match class {
         Class::P66 => b".66",
@@ -111,7 +119,8 @@ pub fn pp_text<'a>(class: Class) -> &'a [u8]
 
 /// The map of a VEX, with the point before it.
 pub fn vex_map_text<'a>(map: Map) -> &'a [u8]
-    ensures { result.now ≡ spec.vex_map_text map }
+    ensures text { result.now ≡ spec.vex_map_text map }
+    ensures short { length result.now ≤ 5 }
 {
     match map {
         Map::One => b"",
@@ -123,7 +132,8 @@ pub fn vex_map_text<'a>(map: Map) -> &'a [u8]
 
 /// W of a VEX, with the point before it and the space behind it.
 pub fn w_text<'a>(w: WBit) -> &'a [u8]
-    ensures { result.now ≡ spec.w_text w }
+    ensures text { result.now ≡ spec.w_text w }
+    ensures short { length result.now ≤ 5 }
 {
     match w {
         WBit::None => b"",

@@ -27,7 +27,8 @@ fn append_byte(out: &mut ArrayVec<u8, 64>, b: u8)
 fn append_modrm(out: &mut ArrayVec<u8, 64>, rule: ModRmRule)
     requires room { array_vec_len out.old + 3 ≤ 64 }
     requires range { IsTrue (shape.is_rule_in_range rule) }
-    ensures { out.new.items ≡ out.old.items ++ spec.modrm_text rule }
+    ensures items { out.new.items ≡ out.old.items ++ spec.modrm_text rule }
+    ensures short { array_vec_len out.new ≤ array_vec_len out.old + 3 }
 {
     match rule {
         ModRmRule::No => {}
@@ -41,7 +42,7 @@ fn append_modrm(out: &mut ArrayVec<u8, 64>, rule: ModRmRule)
 }
 
 /// Appends the text from the opcode byte on.
-#[tactic(auto, using(crate::proofs::Lengths::word_lengths), unfolding(crate::specs::Notation::opcode_part, crate::specs::Notation::modrm_part))]
+#[tactic(auto, unfolding(crate::specs::Notation::opcode_part, crate::specs::Notation::modrm_part))]
 fn append_opcode(out: &mut ArrayVec<u8, 64>, s: &RowShape)
     requires room { array_vec_len out.old + 16 ≤ 64 }
     requires range { IsTrue (shape.is_rule_in_range s.now.modrm) }
@@ -55,7 +56,7 @@ fn append_opcode(out: &mut ArrayVec<u8, 64>, s: &RowShape)
 }
 
 /// Appends the text of a legacy shape.
-#[tactic(auto, using(crate::proofs::Lengths::word_lengths), unfolding(crate::specs::Notation::legacy_text))]
+#[tactic(auto, unfolding(crate::specs::Notation::legacy_text))]
 fn append_legacy(out: &mut ArrayVec<u8, 64>, s: &RowShape)
     requires room { array_vec_len out.old ≡ 0 }
     requires range { IsTrue (shape.is_rule_in_range s.now.modrm) }
@@ -68,7 +69,7 @@ fn append_legacy(out: &mut ArrayVec<u8, 64>, s: &RowShape)
 }
 
 /// Appends the text of a VEX shape.
-#[tactic(auto, using(crate::proofs::Lengths::word_lengths), unfolding(crate::specs::Notation::vex_text))]
+#[tactic(auto, unfolding(crate::specs::Notation::vex_text))]
 fn append_vex(out: &mut ArrayVec<u8, 64>, s: &RowShape)
     requires room { array_vec_len out.old ≡ 0 }
     requires range { IsTrue (shape.is_rule_in_range s.now.modrm) }
