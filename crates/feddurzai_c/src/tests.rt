@@ -1,3 +1,5 @@
+//! Each call at an example; behind what is written a room is as it was.
+
 use crate::assembling::{feddurzai_assemble, feddurzai_read_intel};
 use crate::blocks::feddurzai_move_blocks;
 use crate::decoding::feddurzai_decode;
@@ -7,7 +9,7 @@ use crate::effects::{
 use crate::encoding::{feddurzai_encode, feddurzai_encoded_len};
 use crate::flat::{
     FlatBlock, FlatBlocks, FlatDetour, FlatInfo, FlatInstr, FlatMemoryUse, FlatMove, FlatMoved,
-    FlatOffsets, FlatPart, FlatPlace, FlatStep, FlatTouched, FlatUse,
+    FlatOffsets, FlatOperand, FlatPart, FlatPlace, FlatStep, FlatTouched, FlatUse,
 };
 use crate::flatten::NO_INSTR;
 use crate::flow::feddurzai_flow;
@@ -23,7 +25,62 @@ use crate::offsets::feddurzai_offsets;
 use crate::rows::{feddurzai_code_of, feddurzai_name, feddurzai_notation};
 use crate::stepping::{feddurzai_step, feddurzai_step_len};
 use crate::texts::feddurzai_text;
-use std::test::Fail;
+use std::alloc::Global;
+use std::fmt::Debug;
+use std::process::Abort;
+
+/// That a number or a struct of numbers is this.
+fn same<T: PartialEq + Debug>(rt: &impl Abort, what: &str, found: &T, want: &T) {
+    assert_eq!(rt; found, want, "{what}");
+}
+
+/// That a room has these items.
+fn left<T: PartialEq + Debug>(rt: &impl Abort, what: &str, room: &[T], want: &[T]) {
+    assert_eq!(rt; room, want, "{what}");
+}
+
+/// `mov qword [rsp+0x10], rbx`.
+const MOV: &[u8] = &[0x48, 0x89, 0x5c, 0x24, 0x10];
+
+/// The instruction at an address in 64-bit mode, which has so many bytes.
+fn decoded(rt: &impl Abort, ip: u64, bytes: &[u8], len: i32) -> FlatInstr {
+    let mut instr = NO_INSTR;
+    let said = feddurzai_decode(64, ip, bytes, &mut instr);
+    same(rt, "the length", &said, &len);
+    instr
+}
+
+/// That an operand has this kind, and a register of this class and number.
+fn is_operand(rt: &impl Abort, operand: &FlatOperand, kind: u8, reg_class: u8, reg_number: u8) {
+    let found = (operand.kind, operand.reg_class, operand.reg_number);
+    same(rt, "the operand", &found, &(kind, reg_class, reg_number));
+}
+
+/// That an operand has this value, so many bits of displacement, and this scale.
+fn is_address(rt: &impl Abort, operand: &FlatOperand, value: u64, disp_bits: u8, scale: u8) {
+    let found = (operand.value, operand.disp_bits, operand.scale);
+    same(rt, "the address", &found, &(value, disp_bits, scale));
+}
+
+/// That [`MOV`] is shown.
+fn is_shown(rt: &impl Abort, instr: &FlatInstr) {
+    let mut text = [0xaa; 27];
+    same(
+        rt,
+        "the text's length",
+        &feddurzai_text(64, 0, instr, &mut text),
+        &25,
+    );
+    left(rt, "the text", &text, b"mov qword [rsp+0x10], rbx\0\xaa");
+}
+
+/// That [`MOV`] is written.
+fn is_written(rt: &impl Abort, instr: &FlatInstr) {
+    let mut written = [0xaa; 6];
+    let said = feddurzai_encode(64, 0x1000, instr, &mut written);
+    same(rt, "the length", &said, &5);
+    left(rt, "the bytes", &written, b"\x48\x89\x5c\x24\x10\xaa");
+}
 
 const NO_PART: FlatPart = FlatPart { at: 0, len: 0 };
 
@@ -39,6 +96,31 @@ const NO_PARTS: FlatOffsets = FlatOffsets {
     immediate2: NO_PART,
     immediate3: NO_PART,
 };
+
+/// That the displacement of [`MOV`] is found.
+fn is_parted(rt: &impl Abort) {
+    let mut parts = NO_PARTS;
+    same(
+        rt,
+        "the length",
+        &feddurzai_offsets(64, MOV, &mut parts),
+        &5,
+    );
+    let want = FlatPart { at: 4, len: 1 };
+    same(rt, "the displacement", &parts.displacement, &want);
+}
+
+// Read, shown, written and parted.
+#[test]
+fn an_instruction_is_read_shown_and_written(rt: HostRuntime) {
+    let instr = decoded(&rt, 0x1000, MOV, 5);
+    is_operand(&rt, &instr.op0, 2, 5, 4);
+    is_address(&rt, &instr.op0, 0x10, 8, 1);
+    is_operand(&rt, &instr.op1, 1, 5, 3);
+    is_shown(&rt, &instr);
+    is_written(&rt, &instr);
+    is_parted(&rt);
+}
 
 const NO_USE: FlatUse = FlatUse {
     reg_class: 0,
@@ -58,105 +140,132 @@ const NO_INFO: FlatInfo = FlatInfo {
     uses: [NO_USE; 8],
 };
 
-// `mov qword [rsp+0x10], rbx`: read, shown and written; behind what is written a room is as it was.
-#[test]
-fn an_instruction_is_read_shown_and_written(rt: HostRuntime) -> Result<(), Fail> {
-    let bytes = [0x48, 0x89, 0x5c, 0x24, 0x10];
-    let mut instr = NO_INSTR;
-    assert_eq!(rt; feddurzai_decode(64, 0x1000, &bytes, &mut instr), 5);
-    assert_eq!(rt;
-        (instr.op0.kind, instr.op0.reg_class, instr.op0.reg_number),
-        (2, 5, 4)
-    );
-    assert_eq!(rt;
-        (instr.op0.value, instr.op0.disp_bits, instr.op0.scale),
-        (0x10, 8, 1)
-    );
-    assert_eq!(rt;
-        (instr.op1.kind, instr.op1.reg_class, instr.op1.reg_number),
-        (1, 5, 3)
-    );
-    let mut text = [0xaa; 27];
-    assert_eq!(rt; feddurzai_text(64, 0, &instr, &mut text), 25);
-    assert_eq!(rt; text, *b"mov qword [rsp+0x10], rbx\0\xaa");
-    let mut written = [0xaa; 6];
-    assert_eq!(rt; feddurzai_encode(64, 0x1000, &instr, &mut written), 5);
-    assert_eq!(rt; written, *b"\x48\x89\x5c\x24\x10\xaa");
-    let mut parts = NO_PARTS;
-    assert_eq!(rt; feddurzai_offsets(64, &bytes, &mut parts), 5);
-    assert_eq!(rt; (parts.displacement.at, parts.displacement.len), (4, 1));
-    Ok(())
-}
-
-// The same, told, with its row's name and notation.
-#[test]
-fn an_instruction_and_its_row_are_told(rt: HostRuntime) -> Result<(), Fail> {
-    let mut instr = NO_INSTR;
-    assert_eq!(rt;
-        feddurzai_decode(64, 0, b"\x48\x89\x5c\x24\x10", &mut instr),
-        5
-    );
+/// That what [`MOV`] does is told: its flow, the size of its memory operand and how many registers it names.
+fn is_told(rt: &impl Abort, instr: &FlatInstr) {
     let mut about = NO_INFO;
-    assert_eq!(rt; feddurzai_info(&instr, &mut about), 0);
-    assert_eq!(rt; (about.flow, about.memory_size, about.use_count), (0, 8, 2));
-    let mut name = [0xaa; 5];
-    assert_eq!(rt; feddurzai_name(u32::from(instr.code), &mut name), 3);
-    assert_eq!(rt; name, *b"mov\0\xaa");
-    let mut notation = [0xaa; 15];
-    assert_eq!(rt;
-        feddurzai_notation(u32::from(instr.code), &mut notation),
-        13
-    );
-    assert_eq!(rt; notation, *b"REX.W + 89 /r\0\xaa");
-    assert_eq!(rt; feddurzai_code_of(b"add", 0), 0);
-    Ok(())
+    same(rt, "the answer", &feddurzai_info(instr, &mut about), &0);
+    let found = (about.flow, about.memory_size, about.use_count);
+    same(rt, "flow, size and uses", &found, &(0, 8, 2));
 }
 
-// `push rbx` reads RBX, moves RSP and writes 8 bytes below it; RSP holds SPL; and the last feature has a name of 6 letters.
+/// That the row of [`MOV`] is named.
+fn is_named(rt: &impl Abort, code: u32) {
+    let mut name = [0xaa; 5];
+    same(
+        rt,
+        "the name's length",
+        &feddurzai_name(code, &mut name),
+        &3,
+    );
+    left(rt, "the name", &name, b"mov\0\xaa");
+}
+
+/// That the row of [`MOV`] has its notation.
+fn is_noted(rt: &impl Abort, code: u32) {
+    let mut notation = [0xaa; 15];
+    let said = feddurzai_notation(code, &mut notation);
+    same(rt, "the notation's length", &said, &13);
+    left(rt, "the notation", &notation, b"REX.W + 89 /r\0\xaa");
+}
+
+// The same instruction, told, with its row's name and notation.
 #[test]
-fn what_is_touched_is_told(rt: HostRuntime) -> Result<(), Fail> {
-    let mut instr = NO_INSTR;
-    assert_eq!(rt; feddurzai_decode(64, 0, &[0x53], &mut instr), 1);
-    let mut told = FlatTouched {
-        features: 1,
-        flags_read: 1,
-        flags_written: 1,
-        flags_cleared: 1,
-        flags_set: 1,
-        flags_undefined: 1,
-        flags_kept: 1,
-        memory: [NO_MEMORY; 4],
-        registers: [NO_USE; 32],
-        memory_count: 9,
-        register_count: 9,
-    };
-    assert_eq!(rt; feddurzai_effects(64, &instr, &mut told), 0);
-    assert_eq!(rt;
-        (told.features, told.flags_read, told.flags_written),
-        (0, 0, 0)
+fn an_instruction_and_its_row_are_told(rt: HostRuntime) {
+    let instr = decoded(&rt, 0, MOV, 5);
+    is_told(&rt, &instr);
+    is_named(&rt, u32::from(instr.code));
+    is_noted(&rt, u32::from(instr.code));
+    same(&rt, "the row of add", &feddurzai_code_of(b"add", 0), &0);
+}
+
+const UNTOLD: FlatTouched = FlatTouched {
+    features: 1,
+    flags_read: 1,
+    flags_written: 1,
+    flags_cleared: 1,
+    flags_set: 1,
+    flags_undefined: 1,
+    flags_kept: 1,
+    memory: [NO_MEMORY; 4],
+    registers: [NO_USE; 32],
+    memory_count: 9,
+    register_count: 9,
+};
+
+/// That 8 bytes below the stack pointer are written.
+fn is_pushed(rt: &impl Abort, memory: &FlatMemoryUse) {
+    let found = (
+        memory.displacement,
+        memory.size,
+        memory.segment,
+        memory.access,
     );
-    assert_eq!(rt; (told.memory_count, told.register_count), (1, 2));
-    let [pushed, ..] = told.memory;
-    assert_eq!(rt;
-        (
-            pushed.displacement,
-            pushed.size,
-            pushed.segment,
-            pushed.access
-        ),
-        (0xffff_ffff_ffff_fff8, 8, 3, 2)
+    let want = (0xffff_ffff_ffff_fff8, 8, 3, 2);
+    same(rt, "the memory", &found, &want);
+}
+
+/// That features, flags and counts are those of `push rbx`.
+fn are_counted(rt: &impl Abort, told: &FlatTouched) {
+    let found = (told.features, told.flags_read, told.flags_written);
+    same(rt, "features and flags", &found, &(0, 0, 0));
+    let found = (told.memory_count, told.register_count);
+    same(rt, "the counts", &found, &(1, 2));
+}
+
+/// `push rbx` reads RBX, moves RSP and writes 8 bytes below it.
+const TOUCHED: &[FlatUse] = &[
+    FlatUse {
+        reg_class: 5,
+        reg_number: 3,
+        access: 1,
+    },
+    FlatUse {
+        reg_class: 5,
+        reg_number: 4,
+        access: 3,
+    },
+    NO_USE,
+];
+
+/// That what `push rbx` touches is told.
+fn is_touched(rt: &impl Abort, instr: &FlatInstr) {
+    let mut told = UNTOLD;
+    same(
+        rt,
+        "the answer",
+        &feddurzai_effects(64, instr, &mut told),
+        &0,
     );
-    let [rbx, rsp, behind, ..] = told.registers;
-    assert_eq!(rt; (rbx.reg_class, rbx.reg_number, rbx.access), (5, 3, 1));
-    assert_eq!(rt; (rsp.reg_class, rsp.reg_number, rsp.access), (5, 4, 3));
-    assert_eq!(rt; behind, NO_USE);
-    assert_eq!(rt; feddurzai_full_register(1, 4), 0x504);
-    assert_eq!(rt; feddurzai_full_register(5, 16), -17);
+    are_counted(rt, &told);
+    is_pushed(rt, &told.memory[0]);
+    left(rt, "the registers", &told.registers[..3], TOUCHED);
+}
+
+/// That the last feature has a name of 6 letters.
+fn a_feature_is_named(rt: &impl Abort) {
     let mut name = [0xaa; 8];
-    assert_eq!(rt; feddurzai_feature_name(40, &mut name), 6);
-    assert_eq!(rt; name, *b"RDTSCP\0\xaa");
-    assert_eq!(rt; feddurzai_feature_name(41, &mut name), -9);
-    Ok(())
+    same(
+        rt,
+        "the name's length",
+        &feddurzai_feature_name(40, &mut name),
+        &6,
+    );
+    left(rt, "the name", &name, b"RDTSCP\0\xaa");
+    same(
+        rt,
+        "no feature",
+        &feddurzai_feature_name(41, &mut name),
+        &-9,
+    );
+}
+
+// RSP holds SPL.
+#[test]
+fn what_is_touched_is_told(rt: HostRuntime) {
+    is_touched(&rt, &decoded(&rt, 0, &[0x53], 1));
+    same(&rt, "holds SPL", &feddurzai_full_register(1, 4), &0x504);
+    same(&rt, "no register", &feddurzai_full_register(5, 16), &-17);
+    a_feature_is_named(&rt);
 }
 
 const NO_ENTRY: FlatMoved = FlatMoved {
@@ -175,351 +284,426 @@ const NO_MOVE: FlatMove = FlatMove {
     slots_at: 0,
 };
 
-// `je` over 16 bytes, moved beyond the reach of 32 bits; and followed.
+/// The answer and the numbers of a moving of one instruction at 1000.
+fn move_one(
+    alloc: Global,
+    bytes: &[u8],
+    new: u64,
+    out: &mut [u8],
+    map: &mut [FlatMoved],
+) -> (i32, FlatMove) {
+    let mut report = NO_MOVE;
+    let said = feddurzai_move(alloc, 64, 0x1000, bytes, new, out, map, &mut report);
+    (said, report)
+}
+
+/// That a moving has so many bytes and instructions, and where the code ends and the slots begin.
+fn has_numbers(rt: &impl Abort, moved: &(i32, FlatMove), count: u64, numbers: (u64, u64, u64)) {
+    let (said, report) = moved;
+    same(rt, "answer and count", &(*said, report.count), &(0, count));
+    let found = (report.bytes, report.code_bytes, report.slots_at);
+    same(rt, "the numbers", &found, &numbers);
+}
+
+/// An instruction of 2 bytes at 1000 that was moved out of reach of a near branch.
+const FAR: &[FlatMoved] = &[FlatMoved {
+    old_ip: 0x1000,
+    new_ip: 0x7fff_0000_0000,
+    len: 2,
+    form: 3,
+}];
+
+// `je` over 16 bytes, moved beyond the reach of 32 bits.
 #[test]
-fn code_is_moved_and_followed(rt: HostRuntime) -> Result<(), Fail> {
+fn code_is_moved(rt: HostRuntime) {
     let mut out = [0; 16];
     let mut map = [NO_ENTRY];
-    let mut report = NO_MOVE;
-    let said = feddurzai_move(
+    let moved = move_one(
         rt.alloc(),
-        64,
-        0x1000,
         &[0x74, 0x10],
         0x7fff_0000_0000,
         &mut out,
         &mut map,
-        &mut report,
     );
-    assert_eq!(rt; said, 0);
-    assert_eq!(rt; out, *b"\x75\x06\xff\x25\0\0\0\0\x12\x10\0\0\0\0\0\0");
-    assert_eq!(rt; (report.bytes, report.count), (16, 1));
-    assert_eq!(rt; (report.code_bytes, report.slots_at), (8, 8));
-    let [moved] = map;
-    assert_eq!(rt; (moved.old_ip, moved.new_ip), (0x1000, 0x7fff_0000_0000));
-    assert_eq!(rt; (moved.len, moved.form), (2, 3));
+    has_numbers(&rt, &moved, 1, (16, 8, 8));
+    let want = b"\x75\x06\xff\x25\0\0\0\0\x12\x10\0\0\0\0\0\0";
+    left(&rt, "the bytes", &out, want);
+    left(&rt, "the map", &map, FAR);
+}
+
+#[test]
+fn code_is_followed(rt: HostRuntime) {
     let (mut starts, mut leaders) = ([0; 4], [9; 4]);
-    let count = feddurzai_flow(
-        rt.alloc(),
-        64,
-        0,
-        &[0x74, 0x01, 0x90, 0xc3],
-        &mut starts,
-        &mut leaders,
-    );
-    assert_eq!(rt; count, 3);
-    assert_eq!(rt; starts, [0, 2, 3, 0]);
-    assert_eq!(rt; leaders, [0, 2, 3, 9]);
-    let mut kinds = [9; 4];
-    let count = feddurzai_flow_from(
-        rt.alloc(),
-        64,
-        0,
-        &[0x74, 0x01, 0x90, 0x06],
-        &[2],
-        &mut starts,
-        &mut leaders,
-        &mut kinds,
-    );
-    assert_eq!(rt; count, 2);
-    assert_eq!(rt; starts, [2, 3, 3, 0]);
-    assert_eq!(rt; leaders, [2, 2, 3, 9]);
-    assert_eq!(rt; kinds, [0, 0xff, 9, 9]);
-    Ok(())
+    let code = &[0x74, 0x01, 0x90, 0xc3];
+    let count = feddurzai_flow(rt.alloc(), 64, 0, code, &mut starts, &mut leaders);
+    same(&rt, "the count", &count, &3);
+    left(&rt, "the starts", &starts, &[0, 2, 3, 0]);
+    left(&rt, "the leaders", &leaders, &[0, 2, 3, 9]);
 }
 
-// `nop`, a byte that is no instruction, and `ret`: read in one call, and the last shown in one.
+/// How much is reached from offset 2.
+fn follow(alloc: Global, starts: &mut [u32], leaders: &mut [u32], kinds: &mut [u8]) -> i32 {
+    let code = &[0x74, 0x01, 0x90, 0x06];
+    feddurzai_flow_from(alloc, 64, 0, code, &[2], starts, leaders, kinds)
+}
+
 #[test]
-fn many_are_read_and_a_line_is_shown(rt: HostRuntime) -> Result<(), Fail> {
-    let mut instrs = [NO_INSTR; 4];
+fn code_is_followed_from_an_offset(rt: HostRuntime) {
+    let (mut starts, mut leaders, mut kinds) = ([0, 2, 3, 0], [0, 2, 3, 9], [9; 4]);
+    let count = follow(rt.alloc(), &mut starts, &mut leaders, &mut kinds);
+    same(&rt, "the count", &count, &2);
+    left(&rt, "the starts", &starts, &[2, 3, 3, 0]);
+    left(&rt, "the leaders", &leaders, &[2, 2, 3, 9]);
+    left(&rt, "the kinds", &kinds, &[0, 0xff, 9, 9]);
+}
+
+/// `nop`, a byte that is no instruction, and `ret`.
+const CODE: &[u8] = &[0x90, 0x06, 0xc3];
+
+/// That an instruction has so many bytes and this row.
+fn has_row(rt: &impl Abort, instr: &FlatInstr, len: u8, code: u16) {
+    same(rt, "length and row", &(instr.len, instr.code), &(len, code));
+}
+
+/// Reads [`CODE`] in one call.
+fn read_many(rt: &impl Abort, instrs: &mut [FlatInstr]) {
     let mut count = 9;
-    let code = [0x90, 0x06, 0xc3];
-    assert_eq!(rt;
-        feddurzai_decode_many(64, 0, &code, &mut instrs, &mut count),
-        3
-    );
-    assert_eq!(rt; count, 3);
-    let [nop, single, ret, behind] = instrs;
-    assert_eq!(rt; (nop.len, nop.code), (1, 290));
-    assert_eq!(rt; (single.len, single.code), (1, 0xffff));
-    assert_eq!(rt; (ret.len, behind.len), (1, 0));
-    let mut instr = NO_INSTR;
-    let mut text = [0xaa; 5];
-    assert_eq!(rt; feddurzai_line(64, 0, 2, &[0xc3], &mut instr, &mut text), 1);
-    assert_eq!(rt; text, *b"ret\0\xaa");
-    assert_eq!(rt; instr, ret);
-    assert_eq!(rt; feddurzai_line_text(64, 1, 0, &code, &mut text), 1);
-    assert_eq!(rt; text, *b"nop\0\xaa");
-    Ok(())
+    let said = feddurzai_decode_many(64, 0, CODE, instrs, &mut count);
+    same(rt, "answer and count", &(said, count), &(3, 3));
 }
 
-// A jump to itself by its text, names of registers, and a far call.
-#[test]
-fn texts_jumps_and_names_are_written(rt: HostRuntime) -> Result<(), Fail> {
-    let mut out = [0xaa; 3];
-    assert_eq!(rt; feddurzai_assemble(64, 0x1000, b"jmp 0x1000", &mut out), 2);
-    assert_eq!(rt; out, *b"\xeb\xfe\xaa");
+/// `ret`, read and shown in one call.
+fn line_of_ret(rt: &impl Abort, text: &mut [u8]) -> FlatInstr {
     let mut instr = NO_INSTR;
-    assert_eq!(rt;
-        feddurzai_read_intel(64, 0x1000, b"jmp 0x1000", &mut instr),
-        2
+    let said = feddurzai_line(64, 0, 2, &[0xc3], &mut instr, text);
+    same(rt, "the length", &said, &1);
+    instr
+}
+
+// Read in one call, and the last shown in one.
+#[test]
+fn many_are_read_and_a_line_is_shown(rt: HostRuntime) {
+    let mut instrs = [NO_INSTR; 4];
+    read_many(&rt, &mut instrs);
+    let [nop, single, ret, behind] = instrs;
+    has_row(&rt, &nop, 1, 290);
+    has_row(&rt, &single, 1, 0xffff);
+    same(&rt, "the lengths", &(ret.len, behind.len), &(1, 0));
+    let mut text = [0xaa; 5];
+    same(&rt, "the instruction", &line_of_ret(&rt, &mut text), &ret);
+    left(&rt, "the text", &text, b"ret\0\xaa");
+    same(
+        &rt,
+        "the length",
+        &feddurzai_line_text(64, 1, 0, CODE, &mut text),
+        &1,
     );
-    assert_eq!(rt;
-        (instr.op0.kind, instr.op0.value, instr.len),
-        (4, 0x1000, 2)
-    );
-    assert_eq!(rt; feddurzai_encoded_len(64, 0x1000, &instr), 2);
+    left(&rt, "the text", &text, b"nop\0\xaa");
+}
+
+/// A jump to itself.
+const JUMP: &[u8] = b"jmp 0x1000";
+
+// A jump to itself by its text.
+#[test]
+fn a_text_is_read(rt: HostRuntime) {
+    let mut out = [0xaa; 3];
+    let said = feddurzai_assemble(64, 0x1000, JUMP, &mut out);
+    same(&rt, "the length", &said, &2);
+    left(&rt, "the bytes", &out, b"\xeb\xfe\xaa");
+    let mut instr = NO_INSTR;
+    let said = feddurzai_read_intel(64, 0x1000, JUMP, &mut instr);
+    same(&rt, "the length", &said, &2);
+    let found = (instr.op0.kind, instr.op0.value, instr.len);
+    same(&rt, "kind, target and length", &found, &(4, 0x1000, 2));
+    let len = feddurzai_encoded_len(64, 0x1000, &instr);
+    same(&rt, "the length written", &len, &2);
+}
+
+// Names of registers, and a far call.
+#[test]
+fn jumps_and_names_are_written(rt: HostRuntime) {
     let mut name = [0xaa; 5];
-    assert_eq!(rt; feddurzai_register_text(1, 5, 0, &mut name), 4);
-    assert_eq!(rt; name, *b"%rax\0");
-    assert_eq!(rt; feddurzai_segment_text(0, 5, &mut name), 2);
-    assert_eq!(rt; name, *b"fs\0x\0");
+    same(
+        &rt,
+        "the length",
+        &feddurzai_register_text(1, 5, 0, &mut name),
+        &4,
+    );
+    left(&rt, "the register", &name, b"%rax\0");
+    same(
+        &rt,
+        "the length",
+        &feddurzai_segment_text(0, 5, &mut name),
+        &2,
+    );
+    left(&rt, "the segment", &name, b"fs\0x\0");
     let mut call = [0xaa; 16];
-    assert_eq!(rt;
-        feddurzai_jump(64, 0x1000, 0x1122_3344_5566_7788, 5, &mut call),
-        16
-    );
-    assert_eq!(rt;
-        call,
-        *b"\xff\x15\x02\0\0\0\xeb\x08\x88\x77\x66\x55\x44\x33\x22\x11"
-    );
-    Ok(())
+    let said = feddurzai_jump(64, 0x1000, 0x1122_3344_5566_7788, 5, &mut call);
+    same(&rt, "the length", &said, &16);
+    let want = b"\xff\x15\x02\0\0\0\xeb\x08\x88\x77\x66\x55\x44\x33\x22\x11";
+    left(&rt, "the call", &call, want);
+}
+
+/// The answer and the numbers of a moving of one instruction at 1000, whose target stays.
+fn move_one_outside(
+    alloc: Global,
+    bytes: &[u8],
+    new: u64,
+    out: &mut [u8],
+    map: &mut [FlatMoved],
+) -> (i32, FlatMove) {
+    let mut report = NO_MOVE;
+    let said = feddurzai_move_outside(alloc, 64, 0x1000, bytes, new, out, map, &mut report);
+    (said, report)
 }
 
 // `jmp` to itself: moved by itself it still goes to where it was.
 #[test]
-fn a_target_is_kept(rt: HostRuntime) -> Result<(), Fail> {
+fn a_target_is_kept(rt: HostRuntime) {
     let mut out = [0xaa; 3];
     let mut map = [NO_ENTRY];
-    let mut report = NO_MOVE;
-    let said = feddurzai_move_outside(
-        rt.alloc(),
-        64,
-        0x1000,
-        &[0xeb, 0xfe],
-        0x1040,
-        &mut out,
-        &mut map,
-        &mut report,
-    );
-    assert_eq!(rt; said, 0);
-    assert_eq!(rt; out, *b"\xeb\xbe\xaa");
-    assert_eq!(rt;
-        (report.bytes, report.code_bytes, report.slots_at),
-        (2, 2, 2)
-    );
-    Ok(())
+    let moved = move_one_outside(rt.alloc(), &[0xeb, 0xfe], 0x1040, &mut out, &mut map);
+    has_numbers(&rt, &moved, 1, (2, 2, 2));
+    left(&rt, "the bytes", &out, b"\xeb\xbe\xaa");
 }
 
-// `sub rsp, 0x18`, `xor eax, eax` and `ret`: five bytes are wanted, six taken, and the jump back is behind them.
+const NO_DETOUR: FlatDetour = FlatDetour {
+    taken: 0,
+    bytes: 0,
+    jump_back: 0,
+    slots_at: 0,
+    relay_at: 0,
+    at: 9,
+    target: 9,
+    form: 0,
+};
+
+/// `sub rsp, 0x18`, `xor eax, eax` and `ret`.
+const FUNCTION: &[u8] = b"\x48\x83\xec\x18\x31\xc0\xc3";
+
+/// The answer and the numbers of a detour of [`FUNCTION`] at 1000.
+fn detour_of_function(alloc: Global, patch: &mut [u8], trampoline: &mut [u8]) -> (i32, FlatDetour) {
+    let (at, to, place) = (0x1000, 0x2000, 0x3000);
+    let mut report = NO_DETOUR;
+    let said = feddurzai_detour(
+        alloc,
+        64,
+        at,
+        FUNCTION,
+        to,
+        place,
+        0,
+        patch,
+        trampoline,
+        &mut report,
+    );
+    (said, report)
+}
+
+/// A detour without slot and relay.
+const DETOUR: FlatDetour = FlatDetour {
+    taken: 6,
+    bytes: 11,
+    jump_back: 6,
+    slots_at: 11,
+    relay_at: 11,
+    at: 0,
+    target: 0,
+    form: 1,
+};
+
+// Five bytes are wanted, six taken, and the jump back is behind them.
 #[test]
-fn a_detour_is_made(rt: HostRuntime) -> Result<(), Fail> {
+fn a_detour_is_made(rt: HostRuntime) {
     let mut patch = [0xaa; 7];
     let mut trampoline = [0xaa; 12];
-    let mut report = FlatDetour {
-        taken: 0,
-        bytes: 0,
-        jump_back: 0,
-        slots_at: 0,
-        relay_at: 0,
-        at: 9,
-        target: 9,
-        form: 0,
-    };
-    let said = feddurzai_detour(
-        rt.alloc(),
-        64,
-        0x1000,
-        b"\x48\x83\xec\x18\x31\xc0\xc3",
-        0x2000,
-        0x3000,
-        0,
-        &mut patch,
-        &mut trampoline,
-        &mut report,
-    );
-    assert_eq!(rt; said, 0);
-    assert_eq!(rt; patch, *b"\xe9\xfb\x0f\0\0\xcc\xaa");
-    assert_eq!(rt;
-        trampoline,
-        *b"\x48\x83\xec\x18\x31\xc0\xe9\xfb\xdf\xff\xff\xaa"
-    );
-    assert_eq!(rt;
-        (report.taken, report.bytes, report.jump_back, report.form),
-        (6, 11, 6, 1)
-    );
-    assert_eq!(rt;
-        (report.slots_at, report.relay_at, report.at, report.target),
-        (11, 11, 0, 0)
-    );
-    Ok(())
+    let made = detour_of_function(rt.alloc(), &mut patch, &mut trampoline);
+    same(&rt, "the detour", &made, &(0, DETOUR));
+    left(&rt, "the patch", &patch, b"\xe9\xfb\x0f\0\0\xcc\xaa");
+    let want = b"\x48\x83\xec\x18\x31\xc0\xe9\xfb\xdf\xff\xff\xaa";
+    left(&rt, "the trampoline", &trampoline, want);
 }
 
-// 1000: jne 1100; ret. 1100: jmp 1006. Both move, and what is near stays near: 2000: jne 2020; ret. 2020: jmp 2006.
-#[test]
-fn blocks_are_moved_at_once(rt: HostRuntime) {
-    let bytes = [
-        0x0f, 0x85, 0xfa, 0, 0, 0, 0xc3, 0xcc, 0xcc, 0xe9, 1, 0xff, 0xff, 0xff,
-    ];
-    let blocks = [
-        FlatBlock {
-            old_ip: 0x1000,
-            new_ip: 0x2000,
-            offset: 0,
-            len: 7,
-        },
-        FlatBlock {
-            old_ip: 0x1100,
-            new_ip: 0x2020,
-            offset: 9,
-            len: 5,
-        },
-    ];
-    let mut out = [0xaa; 13];
+/// 1000: jne 1100; ret. 1100: jmp 1006.
+const BLOCK_BYTES: &[u8] = &[
+    0x0f, 0x85, 0xfa, 0, 0, 0, 0xc3, 0xcc, 0xcc, 0xe9, 1, 0xff, 0xff, 0xff,
+];
+
+/// Both move.
+const BLOCKS: &[FlatBlock] = &[
+    FlatBlock {
+        old_ip: 0x1000,
+        new_ip: 0x2000,
+        offset: 0,
+        len: 7,
+    },
+    FlatBlock {
+        old_ip: 0x1100,
+        new_ip: 0x2020,
+        offset: 9,
+        len: 5,
+    },
+];
+
+const NO_BLOCKS: FlatBlocks = FlatBlocks {
+    bytes: 0,
+    count: 0,
+    block: 0,
+    at: 0,
+    address: 0,
+};
+
+const NO_PLACE: FlatPlace = FlatPlace {
+    end: 0,
+    code_bytes: 0,
+    count: 0,
+};
+
+/// The answer and the numbers of a moving of [`BLOCKS`].
+fn move_both(alloc: Global, out: &mut [u8], places: &mut [FlatPlace]) -> (i32, FlatBlocks) {
     let mut map = [NO_ENTRY; 3];
-    let mut places = [FlatPlace {
-        end: 0,
-        code_bytes: 0,
-        count: 0,
-    }; 2];
-    let mut report = FlatBlocks {
-        bytes: 0,
-        count: 0,
-        block: 0,
-        at: 0,
-        address: 0,
-    };
+    let mut report = NO_BLOCKS;
     let said = feddurzai_move_blocks(
-        rt.alloc(),
+        alloc,
         64,
-        &bytes,
-        &blocks,
-        &mut out,
-        &mut places,
+        BLOCK_BYTES,
+        BLOCKS,
+        out,
+        places,
         &mut map,
         &mut report,
     );
-    assert_eq!(rt; said, 0);
-    assert_eq!(rt; out, *b"\x0f\x85\x1a\0\0\0\xc3\xe9\xe1\xff\xff\xff\xaa");
-    assert_eq!(rt; (report.bytes, report.count, report.block), (12, 3, 2));
-    let [first, second] = places;
-    assert_eq!(rt; (first.end, first.code_bytes, first.count), (7, 7, 2));
-    assert_eq!(rt; (second.end, second.code_bytes, second.count), (12, 5, 1));
+    (said, report)
 }
 
-// `call 0x2000` at 0x1000, stepped at 0x1800: E8 and the distance, and a jump back to 0x1005; a place from which the call goes through a slot; a jump to
-// itself, which goes back to where it stood.
+/// Where the two moved blocks end.
+const PLACES: &[FlatPlace] = &[
+    FlatPlace {
+        end: 7,
+        code_bytes: 7,
+        count: 2,
+    },
+    FlatPlace {
+        end: 12,
+        code_bytes: 5,
+        count: 1,
+    },
+];
+
+// What is near stays near: 2000: jne 2020; ret. 2020: jmp 2006.
 #[test]
-fn a_step_is_made(rt: HostRuntime) -> Result<(), Fail> {
-    let call = *b"\xe8\xfb\x0f\0\0";
+fn blocks_are_moved_at_once(rt: HostRuntime) {
+    let mut out = [0xaa; 13];
+    let mut places = [NO_PLACE; 2];
+    let (said, report) = move_both(rt.alloc(), &mut out, &mut places);
+    let found = (said, report.bytes, report.count, report.block);
+    same(&rt, "the numbers", &found, &(0, 12, 3, 2));
+    let want = b"\x0f\x85\x1a\0\0\0\xc3\xe9\xe1\xff\xff\xff\xaa";
+    left(&rt, "the bytes", &out, want);
+    left(&rt, "the places", &places, PLACES);
+}
+
+const NO_STEP: FlatStep = FlatStep {
+    bytes: 9,
+    back_at: 9,
+    address: 9,
+    len: 9,
+};
+
+/// The answer and the numbers of a step of what stands at 1000 in a mode.
+fn step(alloc: Global, bits: u32, bytes: &[u8], place: u64, out: &mut [u8]) -> (i32, FlatStep) {
+    let mut report = NO_STEP;
+    let said = feddurzai_step(alloc, bits, 0x1000, bytes, place, out, &mut report);
+    (said, report)
+}
+
+/// `call 0x2000` at 1000.
+const CALL: &[u8] = b"\xe8\xfb\x0f\0\0";
+
+/// The step of [`CALL`] at a near place.
+const NEAR_STEP: FlatStep = FlatStep {
+    bytes: 10,
+    back_at: 5,
+    address: 0,
+    len: 5,
+};
+
+// [`CALL`], stepped at 1800: E8 and the distance, and a jump back to 1005.
+#[test]
+fn a_step_is_made(rt: HostRuntime) {
     let mut out = [0xaa; 12];
-    let mut report = FlatStep {
-        bytes: 9,
-        back_at: 9,
-        address: 9,
-        len: 9,
-    };
-    let said = feddurzai_step(rt.alloc(), 64, 0x1000, &call, 0x1800, &mut out, &mut report);
-    assert_eq!(rt; said, 10);
-    assert_eq!(rt; out, *b"\xe8\xfb\x07\0\0\xe9\xfb\xf7\xff\xff\xaa\xaa");
-    assert_eq!(rt;
-        (report.bytes, report.back_at, report.address, report.len),
-        (10, 5, 0, 5)
+    let made = step(rt.alloc(), 64, CALL, 0x1800, &mut out);
+    same(&rt, "the step", &made, &(10, NEAR_STEP));
+    left(
+        &rt,
+        "the bytes",
+        &out,
+        b"\xe8\xfb\x07\0\0\xe9\xfb\xf7\xff\xff\xaa\xaa",
     );
-    assert_eq!(rt; feddurzai_step_len(64, 0x1000, &call, 0x1800), 32);
-    let mut far = [0xaa; 32];
-    let said = feddurzai_step(
-        rt.alloc(),
-        64,
-        0x1000,
-        &call,
-        0x7f00_0000_0000,
-        &mut far,
-        &mut report,
-    );
-    assert_eq!(rt; said, 32);
-    assert_eq!(rt;
-        far,
-        *b"\xff\x15\x0a\0\0\0\xff\x25\x0c\0\0\0\xcc\xcc\xcc\xcc\0\x20\0\0\0\0\0\0\x05\x10\0\0\0\0\0\0"
-    );
-    assert_eq!(rt; (report.bytes, report.back_at), (32, 6));
-    let said = feddurzai_step(
-        rt.alloc(),
-        64,
-        0x1000,
-        b"\xeb\xfe",
-        0x1080,
-        &mut out,
-        &mut report,
-    );
-    assert_eq!(rt; said, 10);
-    assert_eq!(rt; out, *b"\xe9\x7b\xff\xff\xff\xe9\x78\xff\xff\xff\xaa\xaa");
-    Ok(())
+    let len = feddurzai_step_len(64, 0x1000, CALL, 0x1800);
+    same(&rt, "the length", &len, &32);
 }
 
-// What is refused of a step leaves the room as it is.
+/// [`CALL`] through a slot, the jump back through another, and the slots.
+const FAR_STEP: &[u8] =
+    b"\xff\x15\x0a\0\0\0\xff\x25\x0c\0\0\0\xcc\xcc\xcc\xcc\0\x20\0\0\0\0\0\0\x05\x10\0\0\0\0\0\0";
+
+// A place from which the call goes through a slot.
 #[test]
-fn steps_are_refused(rt: HostRuntime) -> Result<(), Fail> {
+fn a_far_step_is_made(rt: HostRuntime) {
+    let mut out = [0xaa; 32];
+    let (said, report) = step(rt.alloc(), 64, CALL, 0x7f00_0000_0000, &mut out);
+    let found = (said, report.bytes, report.back_at);
+    same(&rt, "the step", &found, &(32, 32, 6));
+    left(&rt, "the bytes", &out, FAR_STEP);
+}
+
+// A jump to itself, which goes back to where it stood.
+#[test]
+fn a_step_keeps_its_target(rt: HostRuntime) {
+    let mut out = [0xaa; 12];
+    let (said, _) = step(rt.alloc(), 64, b"\xeb\xfe", 0x1080, &mut out);
+    same(&rt, "the length", &said, &10);
+    left(
+        &rt,
+        "the bytes",
+        &out,
+        b"\xe9\x7b\xff\xff\xff\xe9\x78\xff\xff\xff\xaa\xaa",
+    );
+}
+
+/// What is refused of a step leaves the room as it is.
+fn refused(rt: &impl Abort, alloc: Global, bits: u32, bytes: &[u8], place: u64) -> (i32, FlatStep) {
     let mut out = [0xaa; 9];
-    let mut report = FlatStep {
-        bytes: 9,
-        back_at: 9,
-        address: 9,
-        len: 9,
-    };
-    let call = *b"\xe8\xfb\x0f\0\0";
-    assert_eq!(rt;
-        feddurzai_step(rt.alloc(), 17, 0x1000, &call, 0x1800, &mut out, &mut report),
-        -1
-    );
-    assert_eq!(rt;
-        feddurzai_step(
-            rt.alloc(),
-            64,
-            0x1000,
-            b"\x06",
-            0x1800,
-            &mut out,
-            &mut report
-        ),
-        -7
-    );
-    assert_eq!(rt;
-        feddurzai_step(rt.alloc(), 64, 0x1000, &[], 0x1800, &mut out, &mut report),
-        -8
-    );
-    // `nop` and a jump of 3 bytes pass the last address of 16-bit code
-    assert_eq!(rt;
-        feddurzai_step(
-            rt.alloc(),
-            16,
-            0x1000,
-            b"\x90",
-            0xfffe,
-            &mut out,
-            &mut report
-        ),
-        -13
-    );
-    assert_eq!(rt; (report.bytes, report.address), (0, 0x10002));
-    // `mov eax, [rip]` cannot reach from there
-    let said = feddurzai_step(
-        rt.alloc(),
-        64,
-        0x1000,
-        b"\x8b\x05\0\0\0\0",
-        0x7f00_0000_0000,
-        &mut out,
-        &mut report,
-    );
-    assert_eq!(rt; (said, report.address), (-14, 0x1006));
-    assert_eq!(rt;
-        feddurzai_step(rt.alloc(), 64, 0x1000, &call, 0x1800, &mut out, &mut report),
-        -6
-    );
-    assert_eq!(rt; (report.bytes, out), (10, [0xaa; 9]));
-    assert_eq!(rt; feddurzai_step_len(17, 0x1000, &call, 0x1800), -1);
-    assert_eq!(rt; feddurzai_step_len(64, 0x1000, b"\x06", 0x1800), -7);
-    assert_eq!(rt; feddurzai_step_len(64, 0x1000, b"\xe8", 0x1800), -8);
-    Ok(())
+    let made = step(alloc, bits, bytes, place, &mut out);
+    left(rt, "the room", &out, &[0xaa; 9]);
+    made
+}
+
+// No mode, no instruction, and none that is whole.
+#[test]
+fn steps_of_nothing_are_refused(rt: HostRuntime) {
+    let cases: &[(u32, &[u8], i32)] = &[(17, CALL, -1), (64, b"\x06", -7), (64, &[], -8)];
+    for (bits, bytes, want) in cases {
+        let (said, _) = refused(&rt, rt.alloc(), *bits, bytes, 0x1800);
+        same(&rt, "the answer", &said, want);
+    }
+    let cases: &[(u32, &[u8], i32)] = &[(17, CALL, -1), (64, b"\x06", -7), (64, b"\xe8", -8)];
+    for (bits, bytes, want) in cases {
+        let len = feddurzai_step_len(*bits, 0x1000, bytes, 0x1800);
+        same(&rt, "the length", &len, want);
+    }
+}
+
+// `nop` and a jump of 3 bytes pass the last address of 16-bit code; `mov eax, [rip]` cannot reach from there; and a room for one byte less.
+#[test]
+fn steps_are_refused(rt: HostRuntime) {
+    let (said, report) = refused(&rt, rt.alloc(), 16, b"\x90", 0xfffe);
+    let found = (said, report.bytes, report.address);
+    same(&rt, "the end", &found, &(-13, 0, 0x10002));
+    let (said, report) = refused(&rt, rt.alloc(), 64, b"\x8b\x05\0\0\0\0", 0x7f00_0000_0000);
+    same(&rt, "the target", &(said, report.address), &(-14, 0x1006));
+    let (said, report) = refused(&rt, rt.alloc(), 64, CALL, 0x1800);
+    same(&rt, "the room", &(said, report.bytes), &(-6, 10));
 }
