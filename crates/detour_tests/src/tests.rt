@@ -1,5 +1,6 @@
 //! Tables of functions, with the patch and the trampoline that each has, or why it has none.
 
+use crate::compare::{are_bytes, same};
 use decoder::DecodeError;
 use detour::{Detour, DetourError, JumpForm, Parts, StartTarget, detour};
 use std::alloc::Global;
@@ -19,41 +20,42 @@ struct Case {
 }
 
 /// A function of 64-bit mode at 1000 whose replacement is at 5000 and whose trampoline will stand at 9000.
-fn near(code: &'static str) -> Case {
-    Case {
-        bits: Bits::B64,
-        ip: 0x1000,
-        code,
-        to: 0x5000,
-        place: 0x9000,
-        start: StartTarget::Moved,
-    }
-}
+const NEAR: Case = Case {
+    bits: Bits::B64,
+    ip: 0x1000,
+    code: "",
+    to: 0x5000,
+    place: 0x9000,
+    start: StartTarget::Moved,
+};
 
-/// A function at 1000 in a mode, with replacement and trampoline as [`near`] has them.
-fn near_in(bits: Bits, code: &'static str) -> Case {
-    Case { bits, ..near(code) }
-}
+/// Such a function of 32-bit mode.
+const NEAR_32: Case = Case {
+    bits: Bits::B32,
+    ..NEAR
+};
 
-/// A function of 64-bit mode as [`near`] has it, where recursion comes to the replacement.
-fn hooked(code: &'static str) -> Case {
-    Case {
-        start: StartTarget::Hooked,
-        ..near(code)
-    }
-}
+/// Such a function of 64-bit mode where recursion comes to the replacement.
+const HOOKED: Case = Case {
+    start: StartTarget::Hooked,
+    ..NEAR
+};
 
 /// A function of 16-bit mode at 100 whose replacement is at 200 and whose trampoline will stand at 300.
-fn in_16_bit_mode(code: &'static str, start: StartTarget) -> Case {
-    Case {
-        bits: Bits::B16,
-        ip: 0x100,
-        code,
-        to: 0x200,
-        place: 0x300,
-        start,
-    }
-}
+const NEAR_16: Case = Case {
+    bits: Bits::B16,
+    ip: 0x100,
+    code: "",
+    to: 0x200,
+    place: 0x300,
+    start: StartTarget::Moved,
+};
+
+/// Such a function where recursion comes to the replacement.
+const HOOKED_16: Case = Case {
+    start: StartTarget::Hooked,
+    ..NEAR_16
+};
 
 /// The detour of a case.
 fn detour_of(alloc: Global, case: &Case) -> Result<Result<Detour, DetourError>, Fail> {
@@ -76,195 +78,340 @@ fn is_made(
     trampoline: &str,
 ) -> Result<Parts, Fail> {
     let made = detour_of(alloc, case)??;
-    assert_eq!(rt;
-        hex::encode(alloc, made.patch())?.as_str(),
-        patch,
-        "the patch of {}",
-        case.code
-    );
-    assert_eq!(rt;
-        hex::encode(alloc, made.trampoline())?.as_str(),
-        trampoline,
-        "the trampoline of {}",
-        case.code
-    );
-    assert!(rt; made.form() == form);
-    assert_eq!(rt; made.taken(), made.patch().len());
+    are_bytes(rt, alloc, case.code, made.patch(), patch)?;
+    are_bytes(rt, alloc, case.code, made.trampoline(), trampoline)?;
+    same(rt, case.code, &made.form(), &form);
+    same(rt, case.code, &made.taken(), &made.patch().len());
     Ok(made.parts())
 }
+
+/// Functions, each with its patch and its trampoline.
+const DETOURS: &[(Case, &str, &str)] = &[
+    // push rbp; mov rbp, rsp; sub rsp, 20: the last is taken for one byte of it
+    (
+        Case {
+            code: "554889e54883ec20c3",
+            ..NEAR
+        },
+        "e9fb3f0000cccccc",
+        "554889e54883ec20e9fb7fffff",
+    ),
+    // call [rip+2006], at 3010: an operand that stays where it is
+    (
+        Case {
+            code: "4883ec08ff15062000004883c408c3",
+            ..NEAR
+        },
+        "e9fb3f0000cccccccccc",
+        "4883ec08ff1506a0ffffe9fb7fffff",
+    ),
+    // jne behind xor eax, eax: its target is taken, and follows it
+    (
+        Case {
+            code: "750231c090c3",
+            ..NEAR
+        },
+        "e9fb3f0000",
+        "750231c090e9fb7fffff",
+    ),
+    // mov eax, ecx; dec ecx; jne to the start, which the trampoline keeps, or not
+    (
+        Case {
+            code: "89c8ffc975fac3",
+            ..NEAR
+        },
+        "e9fb3f0000cc",
+        "89c8ffc975fae9fb7fffff",
+    ),
+    (
+        Case {
+            code: "89c8ffc975fac3",
+            ..HOOKED
+        },
+        "e9fb3f0000cc",
+        "89c8ffc90f85f67fffffe9f77fffff",
+    ),
+    // call to the start
+    (
+        Case {
+            code: "e8fbffffffc3",
+            ..NEAR
+        },
+        "e9fb3f0000",
+        "e8fbffffffe9fb7fffff",
+    ),
+    (
+        Case {
+            code: "e8fbffffffc3",
+            ..HOOKED
+        },
+        "e9fb3f0000",
+        "e8fb7fffffe9fb7fffff",
+    ),
+    // ret, with NOP of one, two and three bytes or INT3 behind it: no jump back
+    (
+        Case {
+            code: "c39066900f1f00",
+            ..NEAR
+        },
+        "e9fb3f0000cccc",
+        "c3",
+    ),
+    (
+        Case {
+            code: "c3cccccccc31c0",
+            ..NEAR
+        },
+        "e9fb3f0000",
+        "c3",
+    ),
+    // 32-bit mode: push ebp; mov ebp, esp; sub esp, 8; and a call of what follows it, which stays
+    (
+        Case {
+            code: "5589e583ec08c3",
+            ..NEAR_32
+        },
+        "e9fb3f0000cc",
+        "5589e583ec08e9fb7fffff",
+    ),
+    (
+        Case {
+            code: "e80000000058c3",
+            ..NEAR_32
+        },
+        "e9fb3f0000",
+        "e80080ffffe9fb7fffff",
+    ),
+    // 16-bit mode, where the jump has 3 bytes: mov ax, 1234; and loop to itself, as a bridge where its target stays
+    (
+        Case {
+            code: "b83412c3",
+            ..NEAR_16
+        },
+        "e9fd00",
+        "b83412e9fdfd",
+    ),
+    (
+        Case {
+            code: "e2fe90c3",
+            ..NEAR_16
+        },
+        "e9fd00",
+        "e2fe90e9fdfd",
+    ),
+    (
+        Case {
+            code: "e2fe90c3",
+            ..HOOKED_16
+        },
+        "e9fd00",
+        "e202eb03e9f9fd90e9f8fd",
+    ),
+];
 
 // Offsets of 32 bits count from the end of their instruction: from 1005 to 5000 there are 3FFB bytes, and from 900D back to 1008 there are -8005.
 #[test]
 fn code_goes_to_the_trampoline_and_back(rt: HostRuntime) -> Result<(), Fail> {
-    let cases = [
-        // push rbp; mov rbp, rsp; sub rsp, 20: the last is taken for one byte of it
-        (
-            near("554889e54883ec20c3"),
-            "e9fb3f0000cccccc",
-            "554889e54883ec20e9fb7fffff",
-        ),
-        // call [rip+2006], at 3010: an operand that stays where it is
-        (
-            near("4883ec08ff15062000004883c408c3"),
-            "e9fb3f0000cccccccccc",
-            "4883ec08ff1506a0ffffe9fb7fffff",
-        ),
-        // jne behind xor eax, eax: its target is taken, and follows it
-        (near("750231c090c3"), "e9fb3f0000", "750231c090e9fb7fffff"),
-        // mov eax, ecx; dec ecx; jne to the start, which the trampoline keeps, or not
-        (
-            near("89c8ffc975fac3"),
-            "e9fb3f0000cc",
-            "89c8ffc975fae9fb7fffff",
-        ),
-        (
-            hooked("89c8ffc975fac3"),
-            "e9fb3f0000cc",
-            "89c8ffc90f85f67fffffe9f77fffff",
-        ),
-        // call to the start
-        (near("e8fbffffffc3"), "e9fb3f0000", "e8fbffffffe9fb7fffff"),
-        (hooked("e8fbffffffc3"), "e9fb3f0000", "e8fb7fffffe9fb7fffff"),
-        // ret, with NOP of one, two and three bytes or INT3 behind it: no jump back
-        (near("c39066900f1f00"), "e9fb3f0000cccc", "c3"),
-        (near("c3cccccccc31c0"), "e9fb3f0000", "c3"),
-        // 32-bit mode: push ebp; mov ebp, esp; sub esp, 8; and a call of what follows it, which stays
-        (
-            near_in(Bits::B32, "5589e583ec08c3"),
-            "e9fb3f0000cc",
-            "5589e583ec08e9fb7fffff",
-        ),
-        (
-            near_in(Bits::B32, "e80000000058c3"),
-            "e9fb3f0000",
-            "e80080ffffe9fb7fffff",
-        ),
-        // 16-bit mode, where the jump has 3 bytes: mov ax, 1234; and loop to itself, as a bridge where its target stays
-        (
-            in_16_bit_mode("b83412c3", StartTarget::Moved),
-            "e9fd00",
-            "b83412e9fdfd",
-        ),
-        (
-            in_16_bit_mode("e2fe90c3", StartTarget::Moved),
-            "e9fd00",
-            "e2fe90e9fdfd",
-        ),
-        (
-            in_16_bit_mode("e2fe90c3", StartTarget::Hooked),
-            "e9fd00",
-            "e202eb03e9f9fd90e9f8fd",
-        ),
-    ];
-    for (case, patch, trampoline) in cases {
-        is_made(&rt, rt.alloc(), &case, JumpForm::Near, patch, trampoline)?;
+    for (case, patch, trampoline) in DETOURS {
+        is_made(&rt, rt.alloc(), case, JumpForm::Near, patch, trampoline)?;
     }
     Ok(())
 }
 
-// A far replacement behind a near trampoline has a relay, `FF 25` over its address; a far trampoline leaves the jump of 14 bytes, and its jump back goes
-// through a slot at the next multiple of 8.
+/// push rbp; mov rbp, rsp; sub rsp, 20; mov [rbp-8], rdi; xor eax, eax; ret
+const LONG: &str = "554889e54883ec2048897df831c0c3";
+
+/// A far replacement of [`LONG`] behind a near trampoline.
+const RELAYED: Case = Case {
+    code: LONG,
+    to: 0x7FFF_0000_0000,
+    ..NEAR
+};
+
+/// A far replacement of [`LONG`] behind a far trampoline.
+const ABSOLUTE: Case = Case {
+    code: LONG,
+    to: 0x7FFE_0000_0000,
+    place: 0x7FFF_0000_1000,
+    ..NEAR
+};
+
+/// Where the jump back and the relay of [`RELAYED`] stand.
+const RELAYED_PARTS: Parts = Parts {
+    jump_back: Some(8),
+    slots: None,
+    relay: Some(13),
+};
+
+/// Where the jump back and the slot of [`ABSOLUTE`] stand.
+const ABSOLUTE_PARTS: Parts = Parts {
+    jump_back: Some(14),
+    slots: Some(24),
+    relay: None,
+};
+
+// A far replacement behind a near trampoline has a relay, `FF 25` over its address.
 #[test]
-fn far_replacements(rt: HostRuntime) -> Result<(), Fail> {
-    let code = "554889e54883ec2048897df831c0c3";
-    let relay = Case {
-        to: 0x7FFF_0000_0000,
-        ..near(code)
-    };
+fn a_far_replacement_has_a_relay(rt: HostRuntime) -> Result<(), Fail> {
     let patch = "e908800000cccccc";
     let trampoline = "554889e54883ec20e9fb7fffffff250000000000000000ff7f0000";
-    let parts = is_made(&rt, rt.alloc(), &relay, JumpForm::Relay, patch, trampoline)?;
-    assert_eq!(rt;
-        (parts.jump_back, parts.slots, parts.relay),
-        (Some(8), None, Some(13))
-    );
+    let form = JumpForm::Relay;
+    let parts = is_made(&rt, rt.alloc(), &RELAYED, form, patch, trampoline)?;
+    same(&rt, "the parts", &parts, &RELAYED_PARTS);
+    Ok(())
+}
 
-    let absolute = Case {
-        to: 0x7FFE_0000_0000,
-        place: 0x7FFF_0000_1000,
-        ..near(code)
-    };
+// A far trampoline leaves the jump of 14 bytes, and its jump back goes through a slot at the next multiple of 8.
+#[test]
+fn a_far_trampoline_has_a_slot(rt: HostRuntime) -> Result<(), Fail> {
     let patch = "ff250000000000000000fe7f0000";
     let trampoline = "554889e54883ec2048897df831c0ff2504000000cccccccc0e10000000000000";
-    let parts = is_made(
-        &rt,
-        rt.alloc(),
-        &absolute,
-        JumpForm::Absolute,
-        patch,
-        trampoline,
-    )?;
-    assert_eq!(rt;
-        (parts.jump_back, parts.slots, parts.relay),
-        (Some(14), Some(24), None)
-    );
+    let form = JumpForm::Absolute;
+    let parts = is_made(&rt, rt.alloc(), &ABSOLUTE, form, patch, trampoline)?;
+    same(&rt, "the parts", &parts, &ABSOLUTE_PARTS);
     Ok(())
+}
+
+/// Functions, each with the reason for which it has no detour.
+const REFUSALS: &[(Case, DetourError)] = &[
+    // 06 is PUSH ES, which 64-bit mode does not have; REX.W and 89 without their ModRM byte
+    (
+        Case { code: "06", ..NEAR },
+        DetourError::BadCode {
+            at: 0,
+            error: DecodeError::Invalid,
+        },
+    ),
+    (
+        Case {
+            code: "909006",
+            ..NEAR
+        },
+        DetourError::BadCode {
+            at: 2,
+            error: DecodeError::Invalid,
+        },
+    ),
+    (
+        Case {
+            code: "554889",
+            ..NEAR
+        },
+        DetourError::BadCode {
+            at: 1,
+            error: DecodeError::TooShort,
+        },
+    ),
+    // a bad byte is told before other code behind ret, which is told before a branch into the part
+    (
+        Case {
+            code: "c331c006",
+            ..NEAR
+        },
+        DetourError::BadCode {
+            at: 3,
+            error: DecodeError::Invalid,
+        },
+    ),
+    (
+        Case {
+            code: "55c3",
+            ..NEAR
+        },
+        DetourError::TooSmall { len: 2, need: 5 },
+    ),
+    (
+        Case {
+            code: "c331c0",
+            ..NEAR
+        },
+        DetourError::TooSmall { len: 3, need: 5 },
+    ),
+    (
+        Case {
+            code: "c331c09090ebfa",
+            ..NEAR
+        },
+        DetourError::Ends { at: 1 },
+    ),
+    (
+        Case {
+            code: "c39031c090",
+            ..NEAR
+        },
+        DetourError::Ends { at: 2 },
+    ),
+    // xor eax, eax; add eax, edi; dec edi; jg to the add: a loop that enters what is taken
+    (
+        Case {
+            code: "31c001f8ffcf7ffac3",
+            ..NEAR
+        },
+        DetourError::Entered { from: 6, target: 2 },
+    ),
+    // je into the middle of mov eax, 90909090; jmp to the NOP behind it, which is not moved
+    (
+        Case {
+            code: "7401b890909090c3",
+            ..NEAR
+        },
+        DetourError::Entered { from: 0, target: 3 },
+    ),
+    (
+        Case {
+            code: "eb00909090c3",
+            ..NEAR
+        },
+        DetourError::Entered { from: 0, target: 2 },
+    ),
+    // 14 bytes are needed where neither replacement nor trampoline is near
+    (
+        Case {
+            to: 0x7FFE_0000_0000,
+            place: 0x7FFF_0000_0000,
+            code: "554889e54883ec20c3",
+            ..NEAR
+        },
+        DetourError::TooSmall { len: 9, need: 14 },
+    ),
+    // mov rax, [rip]
+    (
+        Case {
+            place: 0x7FFF_0000_0000,
+            code: "488b0500000000c3",
+            ..NEAR
+        },
+        DetourError::TooFar {
+            at: 0,
+            target: 0x1007,
+        },
+    ),
+    // eight bytes, a jump of 6, and a slot at the next multiple of 8
+    (
+        Case {
+            place: 0xFFFF_FFFF_FFFF_FFFC,
+            code: "554889e54883ec20c3",
+            ..NEAR
+        },
+        DetourError::Wraps {
+            end: 0x1_0000_0000_0000_0018,
+        },
+    ),
+];
+
+/// Why a case has no detour.
+fn refusal_of(alloc: Global, case: &Case) -> Result<Option<DetourError>, Fail> {
+    match detour_of(alloc, case)? {
+        Ok(_) => Ok(None),
+        Err(why) => Ok(Some(why)),
+    }
 }
 
 #[test]
 fn refusals_in_their_order(rt: HostRuntime) -> Result<(), Fail> {
-    let bad = |at, error| DetourError::BadCode { at, error };
-    let cases = [
-        // 06 is PUSH ES, which 64-bit mode does not have; REX.W and 89 without their ModRM byte
-        (near("06"), bad(0, DecodeError::Invalid)),
-        (near("909006"), bad(2, DecodeError::Invalid)),
-        (near("554889"), bad(1, DecodeError::TooShort)),
-        // a bad byte is told before other code behind ret, which is told before a branch into the part
-        (near("c331c006"), bad(3, DecodeError::Invalid)),
-        (near("55c3"), DetourError::TooSmall { len: 2, need: 5 }),
-        (near("c331c0"), DetourError::TooSmall { len: 3, need: 5 }),
-        (near("c331c09090ebfa"), DetourError::Ends { at: 1 }),
-        (near("c39031c090"), DetourError::Ends { at: 2 }),
-        // xor eax, eax; add eax, edi; dec edi; jg to the add: a loop that enters what is taken
-        (
-            near("31c001f8ffcf7ffac3"),
-            DetourError::Entered { from: 6, target: 2 },
-        ),
-        // je into the middle of mov eax, 90909090; jmp to the NOP behind it, which is not moved
-        (
-            near("7401b890909090c3"),
-            DetourError::Entered { from: 0, target: 3 },
-        ),
-        (
-            near("eb00909090c3"),
-            DetourError::Entered { from: 0, target: 2 },
-        ),
-        // 14 bytes are needed where neither replacement nor trampoline is near
-        (
-            Case {
-                to: 0x7FFE_0000_0000,
-                place: 0x7FFF_0000_0000,
-                ..near("554889e54883ec20c3")
-            },
-            DetourError::TooSmall { len: 9, need: 14 },
-        ),
-        // mov rax, [rip]
-        (
-            Case {
-                place: 0x7FFF_0000_0000,
-                ..near("488b0500000000c3")
-            },
-            DetourError::TooFar {
-                at: 0,
-                target: 0x1007,
-            },
-        ),
-        // eight bytes, a jump of 6, and a slot at the next multiple of 8
-        (
-            Case {
-                place: 0xFFFF_FFFF_FFFF_FFFC,
-                ..near("554889e54883ec20c3")
-            },
-            DetourError::Wraps {
-                end: 0x1_0000_0000_0000_0018,
-            },
-        ),
-    ];
-    for (case, refusal) in cases {
-        match detour_of(rt.alloc(), &case)? {
-            Ok(_) => return Err(Fail::new("there is a detour")),
-            Err(why) => assert_eq!(rt; why, refusal, "of {}", case.code),
-        }
+    for (case, refusal) in REFUSALS {
+        let found = refusal_of(rt.alloc(), case)?;
+        same(&rt, case.code, &found, &Some(*refusal));
     }
     Ok(())
 }
