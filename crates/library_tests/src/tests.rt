@@ -1,7 +1,6 @@
-//! The library as one crate.
+//! What each module says of one instruction, and what is made of a few bytes.
 
-use crate::items::all_placed;
-use feddurzai::decoding::decode_in;
+use feddurzai::decoding::{decode_in, read_items};
 use feddurzai::encoding::{NoSpelling, encode, encoded_len};
 use feddurzai::flow::{flow_graph_in, graph_of_code_from};
 use feddurzai::format::Intel;
@@ -14,31 +13,54 @@ use feddurzai::slots::StepSlots;
 use feddurzai::streams::{MemSink, MemSource, info_stream};
 use feddurzai::values::{Bits, Instr};
 use std::alloc::Global;
+use std::fmt::Debug;
 use std::process::Abort;
 use std::test::Fail;
 
-/// The instruction at 1000 in 64-bit mode, its flow, and its text in Intel's style.
+/// That what was found is what is wanted of something.
+fn same<T: PartialEq + Debug>(rt: &impl Abort, of: &str, found: &T, want: &T) {
+    assert_eq!(rt; found, want, "{of}");
+}
+
+/// That the items that were found are those that are wanted of something.
+fn same_items<T: PartialEq + Debug>(rt: &impl Abort, of: &str, found: &[T], want: &[T]) {
+    assert_eq!(rt; found, want, "{of}");
+}
+
+/// `jne` over 16 bytes.
+const BRANCH: &[u8] = &[0x75, 0x10];
+
+/// The instruction at 1000 in 64-bit mode.
+fn read(bytes: &[u8]) -> Result<Instr, Fail> {
+    Ok(decode_in(Bits::B64, 0x1000, bytes)?.instr)
+}
+
+/// The flow of the instruction at 1000 in 64-bit mode.
 #[tactic(auto, using(operand_info::proofs::Uses::code_in_table))]
-fn told(alloc: Global, bytes: &[u8]) -> Result<(Instr, Flow, String), Fail> {
+fn flow(bytes: &[u8]) -> Result<Flow, Fail> {
     let instr = decode_in(Bits::B64, 0x1000, bytes)?.instr;
-    let shown = Intel {
-        bits: Bits::B64,
-        instr,
-    };
-    Ok((instr, flow_of(instr.code), shown.to_string(alloc)?))
+    Ok(flow_of(instr.code))
+}
+
+/// That an instruction of 64-bit mode has this text in Intel's style.
+fn is_shown(rt: &impl Abort, alloc: Global, instr: Instr, text: &str) -> Result<(), Fail> {
+    let bits = Bits::B64;
+    let shown = Intel { bits, instr }.to_string(alloc)?;
+    same(rt, "the text", &shown.as_str(), &text);
+    Ok(())
 }
 
 /// That an instruction at 1000 has these bytes.
 fn is_written(rt: &impl Abort, instr: &Instr, bytes: &[u8]) -> Result<(), Fail> {
     let encoded = encode(Bits::B64, 0x1000, instr)?;
-    assert_eq!(rt; encoded.as_slice(), bytes);
+    same_items(rt, "the bytes", &encoded, bytes);
     Ok(())
 }
 
 /// That an instruction cannot reach its target from an address.
 fn is_too_far(rt: &impl Abort, ip: u64, instr: &Instr) {
     let len = encoded_len(Bits::B64, ip, instr);
-    assert_eq!(rt; len, Err(NoSpelling::Target));
+    same(rt, "the length", &len, &Err(NoSpelling::Target));
 }
 
 /// What the stream of one instruction at 1000 writes of what it does.
@@ -51,36 +73,39 @@ fn info_line(alloc: Global, bytes: &[u8]) -> Result<Vec<u8>, Fail> {
     Ok(lines.bytes().to_vec(alloc)?)
 }
 
-// `jne` over 16 bytes: what each module says of one instruction is the manual's.
+// What each module says of one instruction is the manual's.
 #[test]
 fn an_instruction_is_read_told_and_written(rt: HostRuntime) -> Result<(), Fail> {
-    let bytes = &[0x75, 0x10];
-    let (instr, flow, text) = told(rt.alloc(), bytes)?;
-    assert_eq!(rt; Some(instr.code), code_of("jne", 2));
-    assert_eq!(rt;
-        (flow, text.as_str()),
-        (Flow::ConditionalBranch, "jne 0x1012")
-    );
-    is_written(&rt, &instr, bytes)?;
+    let instr = read(BRANCH)?;
+    same(&rt, "the row", &Some(instr.code), &code_of("jne", 2));
+    same(&rt, "the flow", &flow(BRANCH)?, &Flow::ConditionalBranch);
+    is_shown(&rt, rt.alloc(), instr, "jne 0x1012")?;
+    is_written(&rt, &instr, BRANCH)?;
     is_too_far(&rt, 0x2000, &instr);
-    let line = b"0000000000001000 ConditionalBranch r -> 0x1012\n";
-    assert_eq!(rt; info_line(rt.alloc(), bytes)?.as_slice(), line.as_slice());
+    let line = info_line(rt.alloc(), BRANCH)?;
+    let want = b"0000000000001000 ConditionalBranch r -> 0x1012\n";
+    same_items(&rt, "the line", &line, want);
     Ok(())
 }
 
 /// The bytes of the branch at 1000, moved.
 fn moved_branch(alloc: Global, new_base: u64) -> Result<String, Fail> {
-    let items = all_placed(alloc, &[(0x1000, "7510")])?;
-    let moved = move_block(alloc, Bits::B64, &items, new_base)?;
+    let code = read_items(alloc, Bits::B64, 0x1000, BRANCH)?;
+    let moved = move_block(alloc, code.bits(), code.placed(), new_base)?;
     Ok(hex::encode(alloc, moved.bytes())?)
 }
 
-/// That control reaches only the first byte of the branch at 1000, or only its second byte from there.
+/// That control reaches only the first byte of the branch at 1000.
 fn is_followed(rt: &impl Abort, alloc: Global) -> Result<(), Fail> {
     let graph = flow_graph_in(alloc, Bits::B64, 0x1000, &[0x75, 0x10])?;
-    assert_eq!(rt; graph.starts(), [0].as_slice());
+    same_items(rt, "the starts", graph.starts(), &[0]);
+    Ok(())
+}
+
+/// That control reaches only the second byte of the branch at 1000 from there.
+fn is_followed_from_its_middle(rt: &impl Abort, alloc: Global) -> Result<(), Fail> {
     let graph = graph_of_code_from(alloc, Bits::B64, 0x1000, &[0x75, 0x10], &[1])?;
-    assert_eq!(rt; graph.starts(), [1].as_slice());
+    same_items(rt, "the starts", graph.starts(), &[1]);
     Ok(())
 }
 
@@ -88,8 +113,10 @@ fn is_followed(rt: &impl Abort, alloc: Global) -> Result<(), Fail> {
 #[test]
 fn code_is_moved_and_followed(rt: HostRuntime) -> Result<(), Fail> {
     let image = moved_branch(rt.alloc(), 0x7fff_0000_0000)?;
-    assert_eq!(rt; image.as_str(), "7406ff25000000001210000000000000");
-    is_followed(&rt, rt.alloc())
+    let want = "7406ff25000000001210000000000000";
+    same(&rt, "the bytes", &image.as_str(), &want);
+    is_followed(&rt, rt.alloc())?;
+    is_followed_from_its_middle(&rt, rt.alloc())
 }
 
 /// The place of six bytes in an empty region.
@@ -102,6 +129,15 @@ fn first_place(alloc: Global) -> Result<u64, Fail> {
 fn no_finish(alloc: Global, place: u64) -> Result<Result<(), NotTaken>, Fail> {
     let mut slots = StepSlots::make(alloc, Bits::B64, 0x2000, 64, 2)?;
     Ok(slots.finish(place))
+}
+
+#[test]
+fn places_and_slots_are_made(rt: HostRuntime) -> Result<(), Fail> {
+    same(&rt, "the place", &first_place(rt.alloc())?, &0x2000);
+    let place = 0x2000;
+    let want = Err(NotTaken { place });
+    same(&rt, "the finish", &no_finish(rt.alloc(), place)?, &want);
+    Ok(())
 }
 
 /// `xor eax, eax`, `cmp eax, 5` and `ret`.
@@ -122,14 +158,13 @@ fn hook_of_code(alloc: Global) -> Result<(u64, Vec<u8>), Fail> {
 
 // A hook takes the first two instructions of the code.
 #[test]
-fn places_slots_and_hooks_are_made(rt: HostRuntime) -> Result<(), Fail> {
-    assert_eq!(rt; first_place(rt.alloc())?, 0x2000);
-    let place = 0x2000;
-    assert_eq!(rt; no_finish(rt.alloc(), place)?, Err(NotTaken { place }));
+fn hooks_are_made(rt: HostRuntime) -> Result<(), Fail> {
     let made = detour_of_code(rt.alloc())?;
-    assert_eq!(rt; (made.form(), made.taken()), (JumpForm::Near, 5));
-    let (hooked, image) = hook_of_code(rt.alloc())?;
-    assert_eq!(rt; hooked, place);
-    assert!(rt; image.starts_with(made.trampoline()));
+    let found = (made.form(), made.taken());
+    same(&rt, "the detour", &found, &(JumpForm::Near, 5));
+    let (place, image) = hook_of_code(rt.alloc())?;
+    same(&rt, "the place", &place, &0x2000);
+    let starts = image.starts_with(made.trampoline());
+    same(&rt, "the trampoline", &starts, &true);
     Ok(())
 }

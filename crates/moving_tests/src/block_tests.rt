@@ -3,6 +3,7 @@
 ghost use Rattle.std.specs.Prelude.{IfSome};
 ghost use Rattle.move_goals.specs.Items.{AreSpansOf};
 
+use crate::compare::{same, same_items};
 use crate::items::all_placed;
 use block_encoder::{
     BlockSpan, Form, MoveError, Moved, MovedBlocks, Placed, last_len, move_block, move_blocks,
@@ -65,26 +66,48 @@ fn moved_to_two(
 /// That bytes are those in hexadecimal digits.
 fn are_bytes(rt: &impl Abort, alloc: Global, found: &[u8], digits: &str) -> Result<(), Fail> {
     let shown = hex::encode(alloc, found)?;
-    assert_eq!(rt; shown.as_str(), digits);
+    same(rt, "the bytes", &shown.as_str(), &digits);
     Ok(())
 }
 
 /// That addresses are these.
 fn are_addresses(rt: &impl Abort, found: &[u64], want: &[u64]) {
-    assert_eq!(rt; found, want);
+    same_items(rt, "addresses", found, want);
 }
 
 /// That forms are these.
 fn are_forms(rt: &impl Abort, found: &[Form], want: &[Form]) {
-    assert_eq!(rt; found, want);
+    same_items(rt, "forms", found, want);
+}
+
+/// Why items are not moved.
+fn refusal<M>(moved: &Result<M, MoveError>) -> Option<MoveError> {
+    match moved {
+        Ok(_) => None,
+        Err(why) => Some(*why),
+    }
 }
 
 /// That items are not moved, for this cause.
 fn is_refused<M>(rt: &impl Abort, moved: &Result<M, MoveError>, why: MoveError) {
-    match moved {
-        Ok(_) => assert!(rt; false, "moved in spite of {why:?}"),
-        Err(found) => assert_eq!(rt; *found, why),
-    }
+    same(rt, "the refusal", &refusal(moved), &Some(why));
+}
+
+/// That one jump at 1000 is moved to these bytes, in this form and through these slots.
+fn is_moved(
+    rt: &impl Abort,
+    alloc: Global,
+    case: (&str, u64, &str),
+    form: Form,
+    slots: &[u64],
+) -> Result<(), Fail> {
+    let (digits, new_base, bytes) = case;
+    let moved = moved_to(alloc, &[(0x1000, digits)], new_base)??;
+    are_bytes(rt, alloc, moved.bytes(), bytes)?;
+    are_addresses(rt, moved.starts(), &[new_base]);
+    are_forms(rt, moved.forms(), &[form]);
+    are_addresses(rt, moved.slots(), slots);
+    Ok(())
 }
 
 // A short JMP is EB, a near one E9 and a far one FF 25 through the 8 bytes of its goal.
@@ -102,34 +125,57 @@ fn a_jump_takes_the_form_that_reaches(rt: HostRuntime) -> Result<(), Fail> {
         ),
     ];
     for (digits, new_base, bytes, form, slots) in cases {
-        let moved = moved_to(rt.alloc(), &[(0x1000, *digits)], *new_base)??;
-        are_bytes(&rt, rt.alloc(), moved.bytes(), bytes)?;
-        are_addresses(&rt, moved.starts(), &[*new_base]);
-        are_forms(&rt, moved.forms(), &[*form]);
-        are_addresses(&rt, moved.slots(), slots);
+        let case = (*digits, *new_base, *bytes);
+        is_moved(&rt, rt.alloc(), case, *form, slots)?;
     }
     Ok(())
 }
 
+const FIRST: BlockSpan = BlockSpan {
+    count: 1,
+    new_base: 0x2000,
+};
+
+const SECOND: BlockSpan = BlockSpan {
+    count: 1,
+    new_base: 0x3000,
+};
+
 // A jump into another block, which jumps to itself.
 #[test]
 fn a_jump_goes_from_block_to_block(rt: HostRuntime) -> Result<(), Fail> {
-    let first = BlockSpan {
-        count: 1,
-        new_base: 0x2000,
-    };
-    let second = BlockSpan {
-        count: 1,
-        new_base: 0x3000,
-    };
     let all = &[(0x1000, "eb3e"), (0x1040, "ebfe")];
-    let moved = moved_to_two(rt.alloc(), all, first, second)??;
+    let moved = moved_to_two(rt.alloc(), all, FIRST, SECOND)??;
     are_bytes(&rt, rt.alloc(), moved.bytes(), "e9fb0f0000ebfe")?;
     are_addresses(&rt, moved.starts(), &[0x2000, 0x3000]);
     are_forms(&rt, moved.forms(), &[Form::Near, Form::Short]);
     are_addresses(&rt, moved.slots(), &[]);
-    are_addresses(&rt, moved.ends(), &[5, 7]);
+    same_items(&rt, "ends", moved.ends(), &[5, 7]);
     Ok(())
+}
+
+/// That instructions are not moved to an address, for this cause.
+fn are_refused(
+    rt: &impl Abort,
+    alloc: Global,
+    all: &[(u64, &str)],
+    new_base: u64,
+    why: MoveError,
+) -> Result<(), Fail> {
+    is_refused(rt, &moved_to(alloc, all, new_base)?, why);
+    Ok(())
+}
+
+/// That 65,537 jumps are too many.
+fn are_too_many(rt: &impl Abort, alloc: Global) -> Result<(), Fail> {
+    let many = vec![in alloc; (0x1000, "ebfe"); 65_537]?;
+    are_refused(
+        rt,
+        alloc,
+        &many,
+        0x2000,
+        MoveError::TooMany { count: 65_537 },
+    )
 }
 
 // The last item of the third case reads 8 bytes that it no longer reaches; a JMP would go through a slot.
@@ -158,11 +204,21 @@ fn blocks_that_are_not_moved_are_refused(rt: HostRuntime) -> Result<(), Fail> {
         ),
     ];
     for (all, new_base, why) in cases {
-        is_refused(&rt, &moved_to(rt.alloc(), all, *new_base)?, *why);
+        are_refused(&rt, rt.alloc(), all, *new_base, *why)?;
     }
-    let many = vec![in rt.alloc(); (0x1000, "ebfe"); 65_537]?;
-    let why = MoveError::TooMany { count: 65_537 };
-    is_refused(&rt, &moved_to(rt.alloc(), &many, 0x2000)?, why);
+    are_too_many(&rt, rt.alloc())
+}
+
+/// That one instruction at 1000 whose target stays is not moved to an address, for this cause.
+fn is_refused_outside(
+    rt: &impl Abort,
+    alloc: Global,
+    digits: &str,
+    new_base: u64,
+    why: MoveError,
+) -> Result<(), Fail> {
+    let moved = moved_outside(alloc, &[(0x1000, digits)], new_base)?;
+    is_refused(rt, &moved, why);
     Ok(())
 }
 
@@ -186,9 +242,23 @@ fn items_whose_targets_do_not_move_are_refused(rt: HostRuntime) -> Result<(), Fa
         ),
     ];
     for (digits, new_base, why) in cases {
-        let moved = moved_outside(rt.alloc(), &[(0x1000, *digits)], *new_base)?;
-        is_refused(&rt, &moved, *why);
+        is_refused_outside(&rt, rt.alloc(), digits, *new_base, *why)?;
     }
+    Ok(())
+}
+
+/// That instructions whose targets stay are moved to these bytes, and have this length at most.
+fn keep_targets(
+    rt: &impl Abort,
+    alloc: Global,
+    all: &[(u64, &str)],
+    new_base: u64,
+    bytes: &str,
+    len: u64,
+) -> Result<(), Fail> {
+    let moved = moved_outside(alloc, all, new_base)??;
+    are_bytes(rt, alloc, moved.bytes(), bytes)?;
+    same(rt, "the length", &most_outside(alloc, all, new_base)?, &len);
     Ok(())
 }
 
@@ -205,9 +275,7 @@ fn targets_are_kept(rt: HostRuntime) -> Result<(), Fail> {
         ),
     ];
     for (all, new_base, bytes, len) in cases {
-        let moved = moved_outside(rt.alloc(), all, *new_base)??;
-        are_bytes(&rt, rt.alloc(), moved.bytes(), bytes)?;
-        assert_eq!(rt; most_outside(rt.alloc(), all, *new_base)?, *len);
+        keep_targets(&rt, rt.alloc(), all, *new_base, bytes, *len)?;
     }
     Ok(())
 }

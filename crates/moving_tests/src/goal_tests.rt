@@ -5,6 +5,7 @@ ghost use Rattle.x86_values.specs.declared.Bits.{Bits};
 ghost use Rattle.move_goals.specs.Items as spec;
 ghost use Rattle.move_goals.specs.Items.{AreSpansOf, ArePlaced};
 
+use crate::compare::{same, same_items};
 use crate::items::all_placed;
 use branch_sizes::{BlockSpan, Goal};
 use move_goals::{Placed, first_disorder, first_old_pass, plan_for};
@@ -94,51 +95,55 @@ fn goals_of(alloc: Global, items: &[Placed], spans: &[BlockSpan]) -> Result<Vec<
     plan.items().iter().map(|item| item.goal).collect(alloc)
 }
 
+/// Addresses of jumps, how many each block has, and the first one out of order, if one is.
+const ORDERS: &[([u64; 4], [u32; 3], Option<usize>)] = &[
+    ([0x10, 0x12, 0x14, 0x16], [4, 0, 0], None),
+    ([0x10, 0x13, 0x15, 0x18], [4, 0, 0], Some(1)),
+    ([0x10, 0x13, 0x15, 0x17], [1, 0, 3], None),
+    ([0x10, 0x10, 0x10, 0x12], [1, 1, 2], None),
+    ([0x10, 0x12, 0x14, 0x10], [1, 0, 3], Some(3)),
+    ([0xFFFF_FFFF_FFFF_FFFE, 0, 2, 4], [4, 0, 0], Some(1)),
+    ([0xFFFF_FFFF_FFFF_FFFE, 0, 2, 4], [1, 3, 0], None),
+];
+
 #[test]
 fn the_first_item_out_of_order_is_found(rt: HostRuntime) -> Result<(), Fail> {
-    let cases = &[
-        ([0x10, 0x12, 0x14, 0x16], [4, 0, 0], None),
-        ([0x10, 0x13, 0x15, 0x18], [4, 0, 0], Some(1)),
-        ([0x10, 0x13, 0x15, 0x17], [1, 0, 3], None),
-        ([0x10, 0x10, 0x10, 0x12], [1, 1, 2], None),
-        ([0x10, 0x12, 0x14, 0x10], [1, 0, 3], Some(3)),
-        ([0xFFFF_FFFF_FFFF_FFFE, 0, 2, 4], [4, 0, 0], Some(1)),
-        ([0xFFFF_FFFF_FFFF_FFFE, 0, 2, 4], [1, 3, 0], None),
-    ];
-    for (starts, counts, first) in cases {
+    for (starts, counts, first) in ORDERS {
         let found = disorder_of(rt.alloc(), starts, *counts)?;
-        assert_eq!(rt; found, *first, "{starts:?}");
+        same(&rt, "the first item", &found, first);
     }
     Ok(())
 }
 
+/// A mode, addresses of jumps, how many each block has, where the second block goes, and the first end behind all addresses, if one is.
+const ENDS: &[(Bits, [u64; 2], [u32; 3], u64, Option<u128>)] = &[
+    (Bits::B16, [0xFFFE, 0xFFFE], [1, 0, 1], 0x1_0000, None),
+    (Bits::B16, [0, 0xFFFF], [1, 0, 1], 0, Some(0x1_0001)),
+    (Bits::B16, [0xFFFF, 1], [2, 0, 0], 0x1_0001, Some(0x1_0001)),
+    (Bits::B16, [0, 0xFFFF], [1, 0, 1], 0x1_0002, Some(0x1_0002)),
+    (Bits::B32, [0, 0xFFFF_FFFE], [1, 1, 0], 0, None),
+    (
+        Bits::B32,
+        [0xFFFF_FFFF, 0],
+        [1, 1, 0],
+        0,
+        Some(0x1_0000_0001),
+    ),
+    (Bits::B64, [0, 0xFFFF_FFFF_FFFF_FFFE], [1, 1, 0], 0, None),
+    (
+        Bits::B64,
+        [0, 0xFFFF_FFFF_FFFF_FFFF],
+        [1, 1, 0],
+        0,
+        Some(0x1_0000_0000_0000_0001),
+    ),
+];
+
 #[test]
 fn the_first_end_behind_all_addresses_is_found(rt: HostRuntime) -> Result<(), Fail> {
-    let cases = &[
-        (Bits::B16, [0xFFFE, 0xFFFE], [1, 0, 1], 0x1_0000, None),
-        (Bits::B16, [0, 0xFFFF], [1, 0, 1], 0, Some(0x1_0001)),
-        (Bits::B16, [0xFFFF, 1], [2, 0, 0], 0x1_0001, Some(0x1_0001)),
-        (Bits::B16, [0, 0xFFFF], [1, 0, 1], 0x1_0002, Some(0x1_0002)),
-        (Bits::B32, [0, 0xFFFF_FFFE], [1, 1, 0], 0, None),
-        (
-            Bits::B32,
-            [0xFFFF_FFFF, 0],
-            [1, 1, 0],
-            0,
-            Some(0x1_0000_0001),
-        ),
-        (Bits::B64, [0, 0xFFFF_FFFF_FFFF_FFFE], [1, 1, 0], 0, None),
-        (
-            Bits::B64,
-            [0, 0xFFFF_FFFF_FFFF_FFFF],
-            [1, 1, 0],
-            0,
-            Some(0x1_0000_0000_0000_0001),
-        ),
-    ];
-    for (bits, starts, counts, second, first) in cases {
+    for (bits, starts, counts, second, first) in ENDS {
         let found = old_pass_of(rt.alloc(), *bits, starts, *counts, *second)?;
-        assert_eq!(rt; found, *first, "{starts:?}");
+        same(&rt, "the first end", &found, first);
     }
     Ok(())
 }
@@ -156,7 +161,7 @@ fn goals_in(alloc: Global, all: &[(u64, &str)], counts: [u32; 3]) -> Result<Vec<
 }
 
 /// Two jumps to one another, and two more at the same addresses.
-const OWN: [(u64, &str); 4] = [
+const OWN: &[(u64, &str)] = &[
     (0x10, "eb00"),
     (0x12, "ebfc"),
     (0x10, "eb00"),
@@ -164,7 +169,7 @@ const OWN: [(u64, &str); 4] = [
 ];
 
 /// Jumps into other blocks.
-const OTHERS: [(u64, &str); 4] = [
+const OTHERS: &[(u64, &str)] = &[
     (0x10, "eb0e"),
     (0x20, "eb00"),
     (0x20, "ebee"),
@@ -172,61 +177,51 @@ const OTHERS: [(u64, &str); 4] = [
 ];
 
 /// Jumps to where no instruction began, and one to itself.
-const OUTSIDE: [(u64, &str); 4] = [
+const OUTSIDE: &[(u64, &str)] = &[
     (0x10, "ebff"),
     (0x12, "eb00"),
     (0x20, "ebf1"),
     (0x22, "ebfe"),
 ];
 
+/// Two pairs of goals, each to one another.
+const PAIRS: &[Goal] = &[
+    Goal::Inside(1),
+    Goal::Inside(0),
+    Goal::Inside(3),
+    Goal::Inside(2),
+];
+
+/// The goals in other blocks.
+const CROSSED: &[Goal] = &[
+    Goal::Inside(1),
+    Goal::Inside(3),
+    Goal::Inside(0),
+    Goal::Inside(2),
+];
+
+/// The goals of which one is an item.
+const KEPT: &[Goal] = &[
+    Goal::Outside(0x11),
+    Goal::Outside(0x14),
+    Goal::Outside(0x13),
+    Goal::Inside(3),
+];
+
+/// Jumps, how many each block has, and their goals.
+const TARGETS: &[(&[(u64, &str)], [u32; 3], &[Goal])] = &[
+    (OWN, [2, 2, 0], PAIRS),
+    (OWN, [2, 0, 2], PAIRS),
+    (OTHERS, [1, 1, 2], CROSSED),
+    (OUTSIDE, [2, 0, 2], KEPT),
+];
+
 // JMP to a target in the own block, in two other ones, in the middle of an item, and where nothing began.
 #[test]
 fn targets_have_their_goals(rt: HostRuntime) -> Result<(), Fail> {
-    let cases = &[
-        (
-            OWN,
-            [2, 2, 0],
-            [
-                Goal::Inside(1),
-                Goal::Inside(0),
-                Goal::Inside(3),
-                Goal::Inside(2),
-            ],
-        ),
-        (
-            OWN,
-            [2, 0, 2],
-            [
-                Goal::Inside(1),
-                Goal::Inside(0),
-                Goal::Inside(3),
-                Goal::Inside(2),
-            ],
-        ),
-        (
-            OTHERS,
-            [1, 1, 2],
-            [
-                Goal::Inside(1),
-                Goal::Inside(3),
-                Goal::Inside(0),
-                Goal::Inside(2),
-            ],
-        ),
-        (
-            OUTSIDE,
-            [2, 0, 2],
-            [
-                Goal::Outside(0x11),
-                Goal::Outside(0x14),
-                Goal::Outside(0x13),
-                Goal::Inside(3),
-            ],
-        ),
-    ];
-    for (all, counts, goals) in cases {
+    for (all, counts, goals) in TARGETS {
         let found = goals_in(rt.alloc(), all, *counts)?;
-        assert_eq!(rt; found.as_slice(), goals.as_slice());
+        same_items(&rt, "the goals", &found, goals);
     }
     Ok(())
 }

@@ -1,12 +1,31 @@
 //! What control reaches in pieces of code, and their basic blocks.
 
+ghost use Rattle.std.specs.Prelude.{◌≤◌, length};
+
+use crate::compare::same_items;
 use decoder::DecodeError;
-use flow_graph::{FlowGraph, flow_graph, flow_graph_from, flow_graph_in};
+use flow_graph::{FlowError, FlowGraph, flow_graph, flow_graph_from, flow_graph_in};
 use operand_info::Flow;
 use std::alloc::Global;
 use std::process::Abort;
 use std::test::Fail;
 use x86_values::Bits;
+
+/// What control reaches in at most 16 bytes.
+fn graph_of_bytes(
+    alloc: Global,
+    bits: Bits,
+    base: u64,
+    bytes: &[u8],
+) -> Result<FlowGraph, FlowError>
+    requires { length bytes.now ≤ 16 }
+{
+    match bits {
+        Bits::B16 => flow_graph::<16>(alloc, base, bytes),
+        Bits::B32 => flow_graph::<32>(alloc, base, bytes),
+        Bits::B64 => flow_graph::<64>(alloc, base, bytes),
+    }
+}
 
 /// What control reaches in the bytes that are given in hexadecimal.
 fn graph_of(alloc: Global, bits: Bits, base: u64, digits: &str) -> Result<FlowGraph, Fail> {
@@ -14,11 +33,7 @@ fn graph_of(alloc: Global, bits: Bits, base: u64, digits: &str) -> Result<FlowGr
     if bytes.len() > 16 {
         return Err(Fail::new("there are more than 16 bytes"));
     }
-    Ok(match bits {
-        Bits::B16 => flow_graph::<16>(alloc, base, &bytes)?,
-        Bits::B32 => flow_graph::<32>(alloc, base, &bytes)?,
-        Bits::B64 => flow_graph::<64>(alloc, base, &bytes)?,
-    })
+    Ok(graph_of_bytes(alloc, bits, base, &bytes)?)
 }
 
 /// What control reaches in 64-bit code from several first offsets.
@@ -32,13 +47,21 @@ fn graph_from(alloc: Global, base: u64, digits: &str, entries: &[u32]) -> Result
 
 /// That control reaches these offsets of some code, whose basic blocks have these leaders.
 fn has_leaders(rt: &impl Abort, graph: &FlowGraph, starts: &[u32], leaders: &[u32], code: &str) {
-    assert_eq!(rt; graph.starts(), starts, "the starts of {code}");
-    assert_eq!(rt; graph.leaders(), leaders, "the leaders of {code}");
+    same_items(rt, code, graph.starts(), starts);
+    same_items(rt, code, graph.leaders(), leaders);
 }
 
-/// That the offsets that are reached in some code have these flows.
-fn has_flows(rt: &impl Abort, graph: &FlowGraph, flows: &[Result<Flow, DecodeError>], code: &str) {
-    assert_eq!(rt; graph.flows(), flows, "the flows of {code}");
+/// That control reaches these offsets of code in a mode, whose basic blocks have these leaders.
+fn reaches(
+    rt: &impl Abort,
+    alloc: Global,
+    (bits, base, code): (Bits, u64, &str),
+    starts: &[u32],
+    leaders: &[u32],
+) -> Result<(), Fail> {
+    let graph = graph_of(alloc, bits, base, code)?;
+    has_leaders(rt, &graph, starts, leaders, code);
+    Ok(())
 }
 
 #[test]
@@ -85,9 +108,26 @@ fn code_has_its_reached_offsets_and_leaders(rt: HostRuntime) -> Result<(), Fail>
         ("909090ebfc", &[0, 1, 2, 3], &[0, 1, 1, 1]),
     ];
     for (digits, starts, leaders) in cases {
-        let graph = graph_of(rt.alloc(), Bits::B64, 0x40_1000, digits)?;
-        has_leaders(&rt, &graph, starts, leaders, digits);
+        let code = (Bits::B64, 0x40_1000, *digits);
+        reaches(&rt, rt.alloc(), code, starts, leaders)?;
     }
+    Ok(())
+}
+
+/// That the offsets that are reached in some code have these flows.
+fn has_flows(rt: &impl Abort, graph: &FlowGraph, flows: &[Result<Flow, DecodeError>], code: &str) {
+    same_items(rt, code, graph.flows(), flows);
+}
+
+/// That the offsets that are reached in 64-bit code have these flows.
+fn flows_so(
+    rt: &impl Abort,
+    alloc: Global,
+    code: &str,
+    flows: &[Result<Flow, DecodeError>],
+) -> Result<(), Fail> {
+    let graph = graph_of(alloc, Bits::B64, 0, code)?;
+    has_flows(rt, &graph, flows, code);
     Ok(())
 }
 
@@ -122,9 +162,21 @@ fn each_reached_offset_has_its_flow(rt: HostRuntime) -> Result<(), Fail> {
         ),
     ];
     for (digits, flows) in cases {
-        let graph = graph_of(rt.alloc(), Bits::B64, 0, digits)?;
-        has_flows(&rt, &graph, flows, digits);
+        flows_so(&rt, rt.alloc(), digits, flows)?;
     }
+    Ok(())
+}
+
+/// That control reaches these offsets of 64-bit code from several ones, and its basic blocks have these leaders.
+fn reaches_from(
+    rt: &impl Abort,
+    alloc: Global,
+    (code, entries): (&str, &[u32]),
+    starts: &[u32],
+    leaders: &[u32],
+) -> Result<(), Fail> {
+    let graph = graph_from(alloc, 0x40_1000, code, entries)?;
+    has_leaders(rt, &graph, starts, leaders, code);
     Ok(())
 }
 
@@ -148,16 +200,22 @@ fn several_entries_have_one_graph(rt: HostRuntime) -> Result<(), Fail> {
         ("eb0190c3", &[2, 0], &[0, 2, 3], &[0, 2, 3]),
     ];
     for (digits, entries, starts, leaders) in cases {
-        let graph = graph_from(rt.alloc(), 0x40_1000, digits, entries)?;
-        has_leaders(&rt, &graph, starts, leaders, digits);
+        reaches_from(&rt, rt.alloc(), (*digits, *entries), starts, leaders)?;
     }
+    Ok(())
+}
+
+/// `nop`, a call that is too short behind it, and `push es`, which is no instruction of 64-bit mode.
+const FLOWS: &[Result<Flow, DecodeError>] = &[
+    Ok(Flow::Next),
+    Err(DecodeError::TooShort),
+    Err(DecodeError::Invalid),
+];
+
+#[test]
+fn several_entries_have_their_flows(rt: HostRuntime) -> Result<(), Fail> {
     let graph = graph_from(rt.alloc(), 0, "90e806", &[2, 0])?;
-    let flows = &[
-        Ok(Flow::Next),
-        Err(DecodeError::TooShort),
-        Err(DecodeError::Invalid),
-    ];
-    has_flows(&rt, &graph, flows, "90e806");
+    has_flows(&rt, &graph, FLOWS, "90e806");
     Ok(())
 }
 
@@ -170,6 +228,19 @@ fn graph_in(alloc: Global, bits: Bits, base: u64, digits: &str) -> Result<FlowGr
     Ok(flow_graph_in(alloc, bits, base, &bytes)?)
 }
 
+/// That code in a mode that is given as a value has these reached offsets and leaders.
+fn reaches_in(
+    rt: &impl Abort,
+    alloc: Global,
+    (bits, base, code): (Bits, u64, &str),
+    starts: &[u32],
+    leaders: &[u32],
+) -> Result<(), Fail> {
+    let graph = graph_in(alloc, bits, base, code)?;
+    has_leaders(rt, &graph, starts, leaders, code);
+    Ok(())
+}
+
 // A jump forth to ret, and one back to the first byte.
 #[test]
 fn targets_go_around_the_address_space(rt: HostRuntime) -> Result<(), Fail> {
@@ -179,10 +250,10 @@ fn targets_go_around_the_address_space(rt: HostRuntime) -> Result<(), Fail> {
         (Bits::B32, 0xFFFF_FFFE),
         (Bits::B64, 0xFFFF_FFFF_FFFF_FFFE),
     ] {
-        let forth = graph_in(rt.alloc(), *bits, *base, "eb01ccc3")?;
-        has_leaders(&rt, &forth, &[0, 3], &[0, 3], "eb01ccc3");
-        let back = graph_in(rt.alloc(), *bits, *base, "9090ebfc")?;
-        has_leaders(&rt, &back, &[0, 1, 2], &[0, 0, 0], "9090ebfc");
+        let forth = (*bits, *base, "eb01ccc3");
+        reaches_in(&rt, rt.alloc(), forth, &[0, 3], &[0, 3])?;
+        let back = (*bits, *base, "9090ebfc");
+        reaches_in(&rt, rt.alloc(), back, &[0, 1, 2], &[0, 0, 0])?;
     }
     Ok(())
 }
@@ -198,8 +269,7 @@ fn each_mode_reads_its_own_code(rt: HostRuntime) -> Result<(), Fail> {
         (Bits::B32, "e800000000c3", &[0, 5], &[0, 0]),
     ];
     for (bits, digits, starts, leaders) in cases {
-        let graph = graph_of(rt.alloc(), *bits, 0x100, digits)?;
-        has_leaders(&rt, &graph, starts, leaders, digits);
+        reaches(&rt, rt.alloc(), (*bits, 0x100, *digits), starts, leaders)?;
     }
     Ok(())
 }

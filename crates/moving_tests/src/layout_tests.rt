@@ -4,6 +4,7 @@ ghost use Rattle.std.specs.Prelude.{◌≡◌, ◌<◌, ◌≤◌, ◌∷◌, []
 ghost use Rattle.std.specs.List.{list_all};
 ghost use Rattle.branch_sizes.specs.Plan.{is_fit_branch, is_fit_goal};
 
+use crate::compare::{same, same_items};
 use arrayvec::ArrayVec;
 use branch_sizes::{BlockSpan, Branch, Choice, Form, Goal, Plan, Reach};
 use move_layout::{BlockEnd, Fragment, Layout, lay_out};
@@ -46,17 +47,17 @@ fn block_end(images: u128, slots: usize, end: u128) -> BlockEnd {
 
 /// That a layout has these fragments.
 fn has_fragments(rt: &impl Abort, laid: &Layout, want: &[Fragment]) {
-    assert_eq!(rt; laid.fragments.as_slice(), want);
+    same_items(rt, "fragments", &laid.fragments, want);
 }
 
 /// That the blocks of a layout have these ends.
 fn has_ends(rt: &impl Abort, laid: &Layout, want: &[BlockEnd]) {
-    assert_eq!(rt; laid.ends.as_slice(), want);
+    same_items(rt, "ends", &laid.ends, want);
 }
 
 /// That the slots of a layout have these goals.
 fn has_slots(rt: &impl Abort, laid: &Layout, want: &[u128]) {
-    assert_eq!(rt; laid.slots.as_slice(), want);
+    same_items(rt, "slots", &laid.slots, want);
 }
 
 /// A far item to 0x9000 and a second one, from 0x1003 on.
@@ -167,12 +168,17 @@ fn far_items(alloc: Global, count: u32) -> Result<Vec<Branch>, AllocError>
     Ok(items)
 }
 
+/// That a layout ends with this fragment.
+fn is_last(rt: &impl Abort, laid: &Layout, want: Fragment) {
+    let last = laid.fragments.last().copied();
+    same(rt, "the last fragment", &last, &Some(want));
+}
+
 #[test]
 fn each_goal_has_its_slot(rt: HostRuntime) -> Result<(), Fail> {
     let items = far_items(rt.alloc(), 65536)?;
     let laid = lay_out(rt.alloc(), &Plan::new(0, items))?;
-    assert_eq!(rt; laid.slots.len(), 65536);
-    let last = laid.fragments.last().copied();
-    assert_eq!(rt; last, Some(fragment(Form::Far, 6, 393210, 65535, 917496)));
+    same(&rt, "slots", &laid.slots.len(), &65536);
+    is_last(&rt, &laid, fragment(Form::Far, 6, 393210, 65535, 917496));
     Ok(())
 }

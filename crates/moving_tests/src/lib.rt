@@ -1,10 +1,10 @@
-//! Tests of moving code: sizes of branches, goals, layouts, moved blocks, places in a range, slots, flow and ports, and the library as one crate.
+//! Tests of moving code: sizes of branches, goals, layouts, moved blocks, places in a range, slots, flow and ports.
 #![tactic(auto)]
 
 #[cfg(test)]
 mod block_tests;
 #[cfg(test)]
-mod facade_tests;
+mod compare;
 #[cfg(test)]
 mod goal_tests;
 #[cfg(test)]

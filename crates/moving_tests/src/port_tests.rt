@@ -2,6 +2,7 @@
 
 ghost use Rattle.std.specs.Prelude.{◌≡◌, IfOk};
 
+use crate::compare::{same, same_items};
 use arrayvec::ArrayVec;
 use byte_ports::{
     CountSink, FailAt, Failed, MemSink, MemSource, ReaderSource, Sink, SlowSource, Source,
@@ -22,8 +23,8 @@ fn calls(one: u64, other: u64) -> ArrayVec<u64, 8> {
 
 /// That a source gives so many bytes, behind which a buffer is so.
 fn gives<S: Source>(rt: &impl Abort, source: &mut S, into: &mut [u8], count: usize, want: &[u8]) {
-    assert_eq!(rt; source.pull(into), Ok(count), "before {want:?}");
-    assert!(rt; *into == *want, "{count} bytes to {want:?}");
+    same(rt, "the count", &source.pull(into), &Ok(count));
+    same_items(rt, "the buffer", into, want);
 }
 
 #[test]
@@ -45,42 +46,45 @@ fn a_slow_source_gives_a_byte_a_call(rt: HostRuntime) {
     gives(&rt, &mut slow, &mut into, 1, &[3, 5, 3]);
 }
 
+/// That pulls of a source are answered so, one after the other.
+fn pulls<S: Source>(rt: &impl Abort, source: &mut S, answers: &[Result<usize, Failed>]) {
+    for answer in answers {
+        let mut into = [0; 3];
+        same(rt, "a pull", &source.pull(&mut into), answer);
+    }
+}
+
+/// That a sink answers so to the same three bytes, again and again.
+fn puts<S: Sink>(rt: &impl Abort, sink: &mut S, answers: &[Result<usize, Failed>]) {
+    for answer in answers {
+        same(rt, "a put", &sink.put(&[7, 8, 9]), answer);
+    }
+}
+
 #[test]
-fn a_port_fails_at_the_listed_calls(rt: HostRuntime) -> Result<(), Fail> {
+fn a_source_fails_at_the_listed_calls(rt: HostRuntime) {
     let bytes = [1, 2, 3, 4, 5];
     let mut source = FailAt::new(SlowSource::new(MemSource::new(&bytes)), calls(2, 4));
-    for (call, answer) in [
-        (1, Ok(1)),
-        (2, Err(Failed)),
-        (3, Ok(1)),
-        (4, Err(Failed)),
-        (5, Ok(1)),
-    ] {
-        let mut into = [0; 3];
-        assert_eq!(rt; source.pull(&mut into), answer, "call {call}");
-    }
+    let answers = &[Ok(1), Err(Failed), Ok(1), Err(Failed), Ok(1)];
+    pulls(&rt, &mut source, answers);
+}
 
+#[test]
+fn a_sink_fails_at_the_listed_calls(rt: HostRuntime) -> Result<(), Fail> {
     let mut sink = FailAt::new(MemSink::new(rt.alloc(), 4)?, calls(1, 3));
-    for (call, answer) in [
-        (1, Err(Failed)),
-        (2, Ok(3)),
-        (3, Err(Failed)),
-        (4, Ok(1)),
-        (5, Err(Failed)),
-    ] {
-        assert_eq!(rt; sink.put(&[7, 8, 9]), answer, "call {call}");
-    }
-    assert_eq!(rt; sink.inner().bytes(), [7, 8, 9, 7].as_slice());
-    assert_eq!(rt; sink.put(&[]), Ok(0));
+    let answers = &[Err(Failed), Ok(3), Err(Failed), Ok(1), Err(Failed)];
+    puts(&rt, &mut sink, answers);
+    same_items(&rt, "the bytes", sink.inner().bytes(), &[7, 8, 9, 7]);
+    same(&rt, "a put", &sink.put(&[]), &Ok(0));
     Ok(())
 }
 
 #[test]
 fn a_counting_sink_counts(rt: HostRuntime) {
     let mut sink = CountSink::new();
-    assert_eq!(rt; sink.put(&[200, 100]), Ok(2));
-    assert_eq!(rt; sink.put(&[56]), Ok(1));
-    assert_eq!(rt; (sink.count(), sink.sum()), (3, 356));
+    same(&rt, "a put", &sink.put(&[200, 100]), &Ok(2));
+    same(&rt, "a put", &sink.put(&[56]), &Ok(1));
+    same(&rt, "count and sum", &(sink.count(), sink.sum()), &(3, 356));
 }
 
 /// A reader and writer whose second call and whose fourth call fail.
@@ -112,10 +116,10 @@ impl Read for Faulty {
 fn a_reader_is_a_source(rt: HostRuntime) {
     let mut source = ReaderSource::new(Faulty { calls: 0 });
     let mut into = [0; 3];
-    for answer in [Ok(1), Err(Failed), Ok(1), Err(Failed), Ok(1)] {
-        assert_eq!(rt; source.pull(&mut into), answer);
+    for answer in &[Ok(1), Err(Failed), Ok(1), Err(Failed), Ok(1)] {
+        same(&rt, "a pull", &source.pull(&mut into), answer);
     }
-    assert_eq!(rt; into[0], 9);
+    same(&rt, "the first byte", &into[0], &9);
 }
 
 impl Write for Faulty {
@@ -133,8 +137,8 @@ impl Write for Faulty {
 #[test]
 fn a_writer_is_a_sink(rt: HostRuntime) {
     let mut sink = WriterSink::new(Faulty { calls: 0 });
-    for answer in [Ok(2), Err(Failed), Err(Failed), Err(Failed)] {
-        assert_eq!(rt; sink.put(&[1, 2, 3]), answer);
+    for answer in &[Ok(2), Err(Failed), Err(Failed), Err(Failed)] {
+        same(&rt, "a put", &sink.put(&[1, 2, 3]), answer);
     }
-    assert_eq!(rt; sink.put(&[]), Ok(0));
+    same(&rt, "a put", &sink.put(&[]), &Ok(0));
 }

@@ -1,62 +1,70 @@
 //! Whole scenarios: requests to a region, and what they answer.
 
+use crate::compare::{same, same_items};
 use code_region::{Command, NotTaken, OpenError, PlaceError, Region, Reply, replay};
-use std::alloc::Global;
+use std::alloc::{AllocError, Global};
 use std::process::Abort;
 use std::test::Fail;
 
 /// The last 16 addresses begin here.
 const LAST: u64 = 0xFFFF_FFFF_FFFF_FFF0;
 
+/// Regions, each with its address, size and room for blocks, and why it is refused, if it is.
+const REGIONS: &[(u64, u64, u64, Option<OpenError>)] = &[
+    (0x40_0000, 64, 8, None),
+    (0x40_0000, 8, 8, Some(OpenError::BadSize { size: 8 })),
+    (0, 0, 1, Some(OpenError::BadSize { size: 0 })),
+    (0, 1_048_576, 65_536, None),
+    (
+        0,
+        1_048_592,
+        1,
+        Some(OpenError::BadSize { size: 1_048_592 }),
+    ),
+    (
+        LAST,
+        32,
+        1,
+        Some(OpenError::Wraps {
+            end: 0x1_0000_0000_0000_0010,
+        }),
+    ),
+    (LAST, 16, 1, None),
+    (0, 16, 0, Some(OpenError::TooManyBlocks { max: 0 })),
+    (
+        0,
+        16,
+        65_537,
+        Some(OpenError::TooManyBlocks { max: 65_537 }),
+    ),
+];
+
+/// Why a region is refused, if it is.
+fn refusal(alloc: Global, base: u64, size: u64, max_blocks: u64) -> Option<OpenError> {
+    Region::make(alloc, base, size, max_blocks).err()
+}
+
 #[test]
 fn a_region_opens_within_its_limits(rt: HostRuntime) {
-    let cases = &[
-        (0x40_0000, 64, 8, None),
-        (0x40_0000, 8, 8, Some(OpenError::BadSize { size: 8 })),
-        (0, 0, 1, Some(OpenError::BadSize { size: 0 })),
-        (0, 1_048_576, 65_536, None),
-        (
-            0,
-            1_048_592,
-            1,
-            Some(OpenError::BadSize { size: 1_048_592 }),
-        ),
-        (
-            LAST,
-            32,
-            1,
-            Some(OpenError::Wraps {
-                end: 0x1_0000_0000_0000_0010,
-            }),
-        ),
-        (LAST, 16, 1, None),
-        (0, 16, 0, Some(OpenError::TooManyBlocks { max: 0 })),
-        (
-            0,
-            16,
-            65_537,
-            Some(OpenError::TooManyBlocks { max: 65_537 }),
-        ),
-    ];
-    for (base, size, max_blocks, want) in cases {
-        let got = Region::make(rt.alloc(), *base, *size, *max_blocks).err();
-        assert_eq!(rt; got, *want, "{base:#x} {size} {max_blocks}");
+    for (base, size, max_blocks, want) in REGIONS {
+        let found = refusal(rt.alloc(), *base, *size, *max_blocks);
+        same(&rt, "the refusal", &found, want);
     }
 }
 
 /// That a request for so many bytes is answered so.
 fn places(rt: &impl Abort, region: &mut Region, len: u64, want: Result<u64, PlaceError>) {
-    assert_eq!(rt; region.place(len), want, "{len} bytes");
+    same(rt, "a place", &region.place(len), &want);
 }
 
 /// That the release of a place is answered so.
 fn releases(rt: &impl Abort, region: &mut Region, place: u64, want: Result<(), NotTaken>) {
-    assert_eq!(rt; region.release(place), want, "{place:#x}");
+    same(rt, "a release", &region.release(place), &want);
 }
 
 /// That so many blocks are live.
 fn has_blocks(rt: &impl Abort, region: &Region, count: u64) {
-    assert_eq!(rt; region.block_count(), count);
+    same(rt, "live blocks", &region.block_count(), &count);
 }
 
 /// The place and the length of a live block, if there are as many.
@@ -68,26 +76,36 @@ fn block(region: &Region, i: u64) -> Option<(u64, u64)> {
     }
 }
 
-#[test]
-fn a_released_place_is_used_again(rt: HostRuntime) -> Result<(), Fail> {
-    let mut region = Region::make(rt.alloc(), 0x40_0000, 64, 8)?;
+/// Four blocks of 16 bytes take a region of 64, and a fifth one finds no place.
+fn fill_up(rt: &impl Abort, region: &mut Region) {
     for want in &[0x40_0000, 0x40_0010, 0x40_0020, 0x40_0030] {
-        places(&rt, &mut region, 16, Ok(*want));
+        places(rt, region, 16, Ok(*want));
     }
     let full = PlaceError::Full {
         len: 16,
         largest: 0,
     };
-    places(&rt, &mut region, 16, Err(full));
+    places(rt, region, 16, Err(full));
+}
+
+/// That a region has three blocks of 16 bytes, one behind another.
+fn has_three(rt: &impl Abort, region: &Region) {
+    has_blocks(rt, region, 3);
+    for (i, want) in &[(0, 0x40_0000), (1, 0x40_0010), (2, 0x40_0020)] {
+        same(rt, "a block", &block(region, *i), &Some((*want, 16)));
+    }
+}
+
+#[test]
+fn a_released_place_is_used_again(rt: HostRuntime) -> Result<(), Fail> {
+    let mut region = Region::make(rt.alloc(), 0x40_0000, 64, 8)?;
+    fill_up(&rt, &mut region);
     releases(&rt, &mut region, 0x40_0010, Ok(()));
     places(&rt, &mut region, 9, Ok(0x40_0010));
     releases(&rt, &mut region, 0x40_0030, Ok(()));
     let place = 0x40_0030;
     releases(&rt, &mut region, place, Err(NotTaken { place }));
-    has_blocks(&rt, &region, 3);
-    for (i, want) in &[(0, 0x40_0000), (1, 0x40_0010), (2, 0x40_0020)] {
-        assert_eq!(rt; block(&region, *i), Some((*want, 16)));
-    }
+    has_three(&rt, &region);
     Ok(())
 }
 
@@ -105,24 +123,34 @@ fn with_two_blocks(alloc: Global) -> Result<(Region, Answer, Answer, Answer), Op
     Ok((region, empty, first, second))
 }
 
-/// That a region has these bytes from one address to before another, and CC elsewhere.
-fn has_bytes(rt: &impl Abort, region: &Region, byte: u8, from: usize, to: usize) {
-    for (i, found) in region.image().iter().enumerate() {
+/// Whether bytes are this one from one offset to before another, and CC elsewhere.
+fn are_filled(image: &[u8], byte: u8, from: usize, to: usize) -> bool {
+    for (i, found) in image.iter().enumerate() {
         let want = if from <= i && i < to { byte } else { 0xCC };
-        assert_eq!(rt; *found, want, "at {i:#x}");
+        if *found != want {
+            return false;
+        }
     }
+    true
+}
+
+/// That a region has this byte from one address to before another, and CC elsewhere.
+fn has_bytes(rt: &impl Abort, region: &Region, byte: u8, from: usize, to: usize) {
+    let found = are_filled(region.image(), byte, from, to);
+    same(rt, "the bytes", &found, &true);
 }
 
 #[test]
 fn bytes_outside_content_are_int3(rt: HostRuntime) -> Result<(), Fail> {
     let (mut region, empty, first, second) = with_two_blocks(rt.alloc())?;
     let refused = Err(PlaceError::Empty);
-    assert_eq!(rt; (empty, first, second), (refused, Ok(0), Ok(0x10)));
+    let found = (empty, first, second);
+    same(&rt, "the places", &found, &(refused, Ok(0), Ok(0x10)));
     let many = PlaceError::TooManyBlocks { max: 2 };
     places(&rt, &mut region, 1, Err(many));
     has_bytes(&rt, &region, 0x90, 0x10, 0x11);
     releases(&rt, &mut region, 0x10, Ok(()));
-    assert_eq!(rt; region.image(), [0xCC; 64].as_slice());
+    same_items(&rt, "the bytes", region.image(), &[0xCC; 64]);
     Ok(())
 }
 
@@ -134,83 +162,96 @@ fn replayed(alloc: Global, commands: &[Command]) -> Result<(Region, Vec<Reply>),
     Ok((region, replies))
 }
 
-#[test]
-fn commands_are_replayed_on_a_region(rt: HostRuntime) -> Result<(), Fail> {
-    let steps = &[
-        (Command::Place { len: 16 }, Reply::Placed { place: 0 }),
-        (Command::Place { len: 16 }, Reply::Placed { place: 0x10 }),
-        (Command::Place { len: 16 }, Reply::Placed { place: 0x20 }),
-        (Command::Place { len: 16 }, Reply::Placed { place: 0x30 }),
-        (Command::Place { len: 16 }, Reply::Placed { place: 0x40 }),
-        (Command::Place { len: 16 }, Reply::Placed { place: 0x50 }),
-        (Command::Place { len: 16 }, Reply::Placed { place: 0x60 }),
-        (Command::Place { len: 16 }, Reply::Placed { place: 0x70 }),
-        (Command::Place { len: 16 }, Reply::TooManyBlocks { max: 8 }),
-        (Command::Release { place: 0x10 }, Reply::Released),
-        (Command::Release { place: 0x30 }, Reply::Released),
-        (Command::Release { place: 0x50 }, Reply::Released),
-        (
-            Command::Place { len: 32 },
-            Reply::Full {
-                len: 32,
-                largest: 16,
-            },
-        ),
-        (Command::Release { place: 0x20 }, Reply::Released),
-        (Command::Place { len: 32 }, Reply::Placed { place: 0x10 }),
-        (
-            Command::Place { len: 17 },
-            Reply::Full {
-                len: 32,
-                largest: 16,
-            },
-        ),
-        (
-            Command::Place { len: u64::MAX },
-            Reply::Full {
-                len: 18_446_744_073_709_551_600,
-                largest: 16,
-            },
-        ),
-        (
-            Command::Fill {
-                place: 0x20,
-                byte: 0x90,
-                count: 1,
-            },
-            Reply::NotLive { place: 0x20 },
-        ),
-        (
-            Command::Fill {
-                place: 0x10,
-                byte: 0x90,
-                count: 33,
-            },
-            Reply::TooLong { limit: 32 },
-        ),
-        (
-            Command::Fill {
-                place: 0x10,
-                byte: 0x90,
-                count: 3,
-            },
-            Reply::Filled,
-        ),
-        (
-            Command::Release { place: 0x20 },
-            Reply::NotTaken { place: 0x20 },
-        ),
-        (Command::Place { len: 0 }, Reply::Empty),
-    ];
-    let mut commands = Vec::new(rt.alloc());
-    for (command, _) in steps {
+/// Commands one after the other, each with its reply.
+const STEPS: &[(Command, Reply)] = &[
+    (Command::Place { len: 16 }, Reply::Placed { place: 0 }),
+    (Command::Place { len: 16 }, Reply::Placed { place: 0x10 }),
+    (Command::Place { len: 16 }, Reply::Placed { place: 0x20 }),
+    (Command::Place { len: 16 }, Reply::Placed { place: 0x30 }),
+    (Command::Place { len: 16 }, Reply::Placed { place: 0x40 }),
+    (Command::Place { len: 16 }, Reply::Placed { place: 0x50 }),
+    (Command::Place { len: 16 }, Reply::Placed { place: 0x60 }),
+    (Command::Place { len: 16 }, Reply::Placed { place: 0x70 }),
+    (Command::Place { len: 16 }, Reply::TooManyBlocks { max: 8 }),
+    (Command::Release { place: 0x10 }, Reply::Released),
+    (Command::Release { place: 0x30 }, Reply::Released),
+    (Command::Release { place: 0x50 }, Reply::Released),
+    (
+        Command::Place { len: 32 },
+        Reply::Full {
+            len: 32,
+            largest: 16,
+        },
+    ),
+    (Command::Release { place: 0x20 }, Reply::Released),
+    (Command::Place { len: 32 }, Reply::Placed { place: 0x10 }),
+    (
+        Command::Place { len: 17 },
+        Reply::Full {
+            len: 32,
+            largest: 16,
+        },
+    ),
+    (
+        Command::Place { len: u64::MAX },
+        Reply::Full {
+            len: 18_446_744_073_709_551_600,
+            largest: 16,
+        },
+    ),
+    (
+        Command::Fill {
+            place: 0x20,
+            byte: 0x90,
+            count: 1,
+        },
+        Reply::NotLive { place: 0x20 },
+    ),
+    (
+        Command::Fill {
+            place: 0x10,
+            byte: 0x90,
+            count: 33,
+        },
+        Reply::TooLong { limit: 32 },
+    ),
+    (
+        Command::Fill {
+            place: 0x10,
+            byte: 0x90,
+            count: 3,
+        },
+        Reply::Filled,
+    ),
+    (
+        Command::Release { place: 0x20 },
+        Reply::NotTaken { place: 0x20 },
+    ),
+    (Command::Place { len: 0 }, Reply::Empty),
+];
+
+/// The commands of [`STEPS`].
+fn commands(alloc: Global) -> Result<Vec<Command>, AllocError> {
+    let mut commands = Vec::new(alloc);
+    for (command, _) in STEPS {
         commands.push(*command)?;
     }
-    let (region, replies) = replayed(rt.alloc(), &commands)?;
-    assert_eq!(rt; replies.len(), steps.len());
-    for (i, ((_, want), reply)) in steps.iter().zip(replies.iter()).enumerate() {
-        assert_eq!(rt; reply, want, "at step {i}");
+    Ok(commands)
+}
+
+/// That replies are those of [`STEPS`].
+fn are_replies(rt: &impl Abort, replies: &[Reply]) {
+    same(rt, "replies", &replies.len(), &STEPS.len());
+    for ((_, want), reply) in STEPS.iter().zip(replies.iter()) {
+        same(rt, "a reply", reply, want);
     }
+}
+
+#[test]
+fn commands_are_replayed_on_a_region(rt: HostRuntime) -> Result<(), Fail> {
+    let commands = commands(rt.alloc())?;
+    let (region, replies) = replayed(rt.alloc(), &commands)?;
+    are_replies(&rt, &replies);
     has_bytes(&rt, &region, 0x90, 0x10, 0x13);
     Ok(())
 }

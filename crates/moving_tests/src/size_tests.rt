@@ -4,6 +4,7 @@ ghost use Rattle.std.specs.Prelude.{◌≡◌, ◌<◌, ◌≤◌, ◌∷◌, []
 ghost use Rattle.std.specs.List.{list_all};
 ghost use Rattle.branch_sizes.specs.Plan.{is_fit_branch};
 
+use crate::compare::{same, same_items};
 use arrayvec::ArrayVec;
 use branch_sizes::{BlockSpan, Branch, Choice, Form, Goal, Plan, Reach, Sums, least_layout};
 use std::alloc::{AllocError, Global};
@@ -54,14 +55,13 @@ fn sums_follow_growth(rt: HostRuntime) -> Result<(), Fail> {
     let (none, two) = (sums.before(0), sums.before(2));
     sums.grow(0, 3);
     let (grown, all) = (sums.before(2), sums.before(3));
-    assert_eq!(rt; (none, two, grown, all), (0, 7, 10, 11));
+    same(&rt, "the sums", &(none, two, grown, all), &(0, 7, 10, 11));
     Ok(())
 }
 
-/// A branch in the second block grows and moves the goal of one in the first out of reach.
-#[test]
-fn a_branch_grows_for_another_block(rt: HostRuntime) -> Result<(), Fail> {
-    let spans = vec![in rt.alloc();
+/// The forms of a branch in a first block, and of a branch and an instruction in a second one.
+fn forms_of_two_blocks(alloc: Global) -> Result<Vec<Form>, Fail> {
+    let spans = vec![in alloc;
         BlockSpan {
             count: 1,
             new_base: 0x5002
@@ -71,18 +71,22 @@ fn a_branch_grows_for_another_block(rt: HostRuntime) -> Result<(), Fail> {
             new_base: 0x5080
         },
     ]?;
-    let items = vec![in rt.alloc();
+    let items = vec![in alloc;
         short_or_near(Goal::Inside(2)),
         short_or_near(Goal::Outside(0x1101)),
         plain(1),
     ]?;
-    let plan = Plan::of_blocks(spans, items);
-    let mut forms = Vec::new(rt.alloc());
-    least_layout(rt.alloc(), &plan, &mut forms)?;
-    assert_eq!(rt;
-        forms.as_slice(),
-        [Form::Near, Form::Near, Form::Itself].as_slice()
-    );
+    let mut forms = Vec::new(alloc);
+    least_layout(alloc, &Plan::of_blocks(spans, items), &mut forms)?;
+    Ok(forms)
+}
+
+// A branch in the second block grows and moves the goal of one in the first out of reach.
+#[test]
+fn a_branch_grows_for_another_block(rt: HostRuntime) -> Result<(), Fail> {
+    let forms = forms_of_two_blocks(rt.alloc())?;
+    let want = &[Form::Near, Form::Near, Form::Itself];
+    same_items(&rt, "the forms", &forms, want);
     Ok(())
 }
 
@@ -169,11 +173,8 @@ fn long_plans_have_their_least_layout(rt: HostRuntime) -> Result<(), Fail> {
         (Shape::TargetMovesToo, 64, 0x5000, 62, 1),
     ] {
         let counts = counts_of(rt.alloc(), *shape, *count, *base)?;
-        assert_eq!(rt;
-            counts,
-            (*count as usize, *near, *short),
-            "of {count} items"
-        );
+        let want = (*count as usize, *near, *short);
+        same(&rt, "the counts", &counts, &want);
     }
     Ok(())
 }
@@ -195,8 +196,7 @@ fn forms_of_one(alloc: Global) -> Result<Vec<Form>, Fail> {
 
 #[test]
 fn no_item_and_one_branch_have_their_forms(rt: HostRuntime) -> Result<(), Fail> {
-    assert_eq!(rt; forms_of_none(rt.alloc())?.len(), 0);
-    let forms = forms_of_one(rt.alloc())?;
-    assert_eq!(rt; forms.as_slice(), [Form::Near].as_slice());
+    same_items(&rt, "the forms", &forms_of_none(rt.alloc())?, &[]);
+    same_items(&rt, "the forms", &forms_of_one(rt.alloc())?, &[Form::Near]);
     Ok(())
 }

@@ -4,6 +4,7 @@ ghost use Rattle.std.specs.Prelude.{◌≡◌, IfOk};
 ghost use Rattle.x86_values.specs.declared.Bits.{Bits};
 ghost use Rattle.move_goals.specs.Items.{IsPlaced};
 
+use crate::compare::same;
 use crate::items::placed_at;
 use crate::slot_tests::{finish, slots_of, step};
 use std::alloc::{AllocError, Global};
@@ -184,7 +185,7 @@ fn is_finished(rt: &impl Abort, slots: &mut StepSlots, live: &mut Vec<Live>, pla
     ensures { slots.new.bits ≡ Bits.B64 }
 {
     let want = take_away(live, place);
-    assert_eq!(rt; finish(slots, place), want);
+    same(rt, "a finish", &finish(slots, place), &want);
 }
 
 /// A step is answered as the list has it.
@@ -201,7 +202,7 @@ fn is_stepped(
 {
     let item = item_of(ip, reads)?;
     let want = answer_to_step(live, if reads { 32 } else { 16 });
-    assert_eq!(rt; step(slots, alloc, item), want);
+    same(rt, "a step", &step(slots, alloc, item), &want);
     if let Ok(place) = want {
         live.push(slot_of(ip, place, reads))?;
     }
@@ -231,8 +232,8 @@ fn is_done(
 /// The range has the bytes of the live slots of the list.
 fn has_slots(rt: &impl Abort, alloc: Global, slots: &StepSlots, live: &[Live]) -> Result<(), Fail> {
     let image = image_of(alloc, live)?;
-    assert!(rt; slots.image() == image.as_slice());
-    assert_eq!(rt; slots.live().len(), live.len());
+    same(rt, "the bytes", &(slots.image() == image.as_slice()), &true);
+    same(rt, "live slots", &slots.live().len(), &live.len());
     Ok(())
 }
 
