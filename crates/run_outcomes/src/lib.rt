@@ -1,7 +1,7 @@
 //! Runs of the program's commands between ports in memory, for tests: what a run writes and answers, also where a port fails.
 #![tactic(auto)]
 
-ghost use Rattle.std.specs.Prelude.{◌≡◌, ◌×◌, ◌∷◌, [], false, IfOk};
+ghost use Rattle.std.specs.Prelude.{◌≡◌, ◌∷◌, [], false, IfOk};
 
 use arrayvec::ArrayVec;
 use byte_ports::{FailAt, MakeError, MemSink, MemSource, SlowSource, Source};
