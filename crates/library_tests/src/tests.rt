@@ -42,9 +42,10 @@ fn flow(bytes: &[u8]) -> Result<Flow, Fail> {
     Ok(flow_of(instr.code))
 }
 
-/// That an instruction of 64-bit mode has this text in Intel's style.
-fn is_shown(rt: &impl Abort, alloc: Global, instr: Instr, text: &str) -> Result<(), Fail> {
+/// That the instruction at 1000 in 64-bit mode has this text in Intel's style.
+fn is_shown(rt: &impl Abort, alloc: Global, bytes: &[u8], text: &str) -> Result<(), Fail> {
     let bits = Bits::B64;
+    let instr = decode_in(bits, 0x1000, bytes)?.instr;
     let shown = Intel { bits, instr }.to_string(alloc)?;
     same(rt, "the text", &shown.as_str(), &text);
     Ok(())
@@ -79,7 +80,7 @@ fn an_instruction_is_read_told_and_written(rt: HostRuntime) -> Result<(), Fail> 
     let instr = read(BRANCH)?;
     same(&rt, "the row", &Some(instr.code), &code_of("jne", 2));
     same(&rt, "the flow", &flow(BRANCH)?, &Flow::ConditionalBranch);
-    is_shown(&rt, rt.alloc(), instr, "jne 0x1012")?;
+    is_shown(&rt, rt.alloc(), BRANCH, "jne 0x1012")?;
     is_written(&rt, &instr, BRANCH)?;
     is_too_far(&rt, 0x2000, &instr);
     let line = info_line(rt.alloc(), BRANCH)?;
