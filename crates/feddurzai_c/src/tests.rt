@@ -106,8 +106,8 @@ fn is_parted(rt: &impl Abort) {
         &feddurzai_offsets(64, MOV, &mut parts),
         &5,
     );
-    let want = FlatPart { at: 4, len: 1 };
-    same(rt, "the displacement", &parts.displacement, &want);
+    let found = (parts.displacement.at, parts.displacement.len);
+    same(rt, "the displacement", &found, &(4, 1));
 }
 
 // Read, shown, written and parted.
@@ -275,6 +275,12 @@ const NO_ENTRY: FlatMoved = FlatMoved {
     form: 0,
 };
 
+/// That an instruction is told with its old and its new address, its length and its form.
+fn is_entry(rt: &impl Abort, entry: &FlatMoved, want: (u64, u64, u8, u8)) {
+    let found = (entry.old_ip, entry.new_ip, entry.len, entry.form);
+    same(rt, "the map", &found, &want);
+}
+
 const NO_MOVE: FlatMove = FlatMove {
     bytes: 0,
     count: 0,
@@ -306,12 +312,7 @@ fn has_numbers(rt: &impl Abort, moved: &(i32, FlatMove), count: u64, numbers: (u
 }
 
 /// An instruction of 2 bytes at 1000 that was moved out of reach of a near branch.
-const FAR: &[FlatMoved] = &[FlatMoved {
-    old_ip: 0x1000,
-    new_ip: 0x7fff_0000_0000,
-    len: 2,
-    form: 3,
-}];
+const FAR: (u64, u64, u8, u8) = (0x1000, 0x7fff_0000_0000, 2, 3);
 
 // `je` over 16 bytes, moved beyond the reach of 32 bits.
 #[test]
@@ -328,7 +329,7 @@ fn code_is_moved(rt: HostRuntime) {
     has_numbers(&rt, &moved, 1, (16, 8, 8));
     let want = b"\x75\x06\xff\x25\0\0\0\0\x12\x10\0\0\0\0\0\0";
     left(&rt, "the bytes", &out, want);
-    left(&rt, "the map", &map, FAR);
+    is_entry(&rt, &map[0], FAR);
 }
 
 #[test]
@@ -501,25 +502,27 @@ fn detour_of_function(alloc: Global, patch: &mut [u8], trampoline: &mut [u8]) ->
     (said, report)
 }
 
-/// A detour without slot and relay.
-const DETOUR: FlatDetour = FlatDetour {
-    taken: 6,
-    bytes: 11,
-    jump_back: 6,
-    slots_at: 11,
-    relay_at: 11,
-    at: 0,
-    target: 0,
-    form: 1,
-};
+/// That a detour without slot and relay is told: six bytes are taken, and the jump back is behind them.
+fn is_detour(rt: &impl Abort, detour: &FlatDetour) {
+    let found = (
+        detour.taken,
+        detour.bytes,
+        detour.jump_back,
+        detour.slots_at,
+    );
+    same(rt, "the detour", &found, &(6, 11, 6, 11));
+    let found = (detour.relay_at, detour.at, detour.target, detour.form);
+    same(rt, "what is not there", &found, &(11, 0, 0, 1));
+}
 
 // Five bytes are wanted, six taken, and the jump back is behind them.
 #[test]
 fn a_detour_is_made(rt: HostRuntime) {
     let mut patch = [0xaa; 7];
     let mut trampoline = [0xaa; 12];
-    let made = detour_of_function(rt.alloc(), &mut patch, &mut trampoline);
-    same(&rt, "the detour", &made, &(0, DETOUR));
+    let (said, detour) = detour_of_function(rt.alloc(), &mut patch, &mut trampoline);
+    same(&rt, "the answer", &said, &0);
+    is_detour(&rt, &detour);
     left(&rt, "the patch", &patch, b"\xe9\xfb\x0f\0\0\xcc\xaa");
     let want = b"\x48\x83\xec\x18\x31\xc0\xe9\xfb\xdf\xff\xff\xaa";
     left(&rt, "the trampoline", &trampoline, want);
@@ -577,19 +580,11 @@ fn move_both(alloc: Global, out: &mut [u8], places: &mut [FlatPlace]) -> (i32, F
     (said, report)
 }
 
-/// Where the two moved blocks end.
-const PLACES: &[FlatPlace] = &[
-    FlatPlace {
-        end: 7,
-        code_bytes: 7,
-        count: 2,
-    },
-    FlatPlace {
-        end: 12,
-        code_bytes: 5,
-        count: 1,
-    },
-];
+/// That a block ends behind so many moved bytes, and has so many bytes and instructions.
+fn is_place(rt: &impl Abort, place: &FlatPlace, want: (u64, u64, u64)) {
+    let found = (place.end, place.code_bytes, place.count);
+    same(rt, "the place", &found, &want);
+}
 
 // What is near stays near: 2000: jne 2020; ret. 2020: jmp 2006.
 #[test]
@@ -601,7 +596,8 @@ fn blocks_are_moved_at_once(rt: HostRuntime) {
     same(&rt, "the numbers", &found, &(0, 12, 3, 2));
     let want = b"\x0f\x85\x1a\0\0\0\xc3\xe9\xe1\xff\xff\xff\xaa";
     left(&rt, "the bytes", &out, want);
-    left(&rt, "the places", &places, PLACES);
+    is_place(&rt, &places[0], (7, 7, 2));
+    is_place(&rt, &places[1], (12, 5, 1));
 }
 
 const NO_STEP: FlatStep = FlatStep {
@@ -621,20 +617,19 @@ fn step(alloc: Global, bits: u32, bytes: &[u8], place: u64, out: &mut [u8]) -> (
 /// `call 0x2000` at 1000.
 const CALL: &[u8] = b"\xe8\xfb\x0f\0\0";
 
-/// The step of [`CALL`] at a near place.
-const NEAR_STEP: FlatStep = FlatStep {
-    bytes: 10,
-    back_at: 5,
-    address: 0,
-    len: 5,
-};
+/// That a step is told with its bytes, where its jump back is, a target that is not reached, and the length of its instruction.
+fn is_step(rt: &impl Abort, step: &FlatStep, want: (u64, u64, u64, u8)) {
+    let found = (step.bytes, step.back_at, step.address, step.len);
+    same(rt, "the step", &found, &want);
+}
 
 // [`CALL`], stepped at 1800: E8 and the distance, and a jump back to 1005.
 #[test]
 fn a_step_is_made(rt: HostRuntime) {
     let mut out = [0xaa; 12];
-    let made = step(rt.alloc(), 64, CALL, 0x1800, &mut out);
-    same(&rt, "the step", &made, &(10, NEAR_STEP));
+    let (said, report) = step(rt.alloc(), 64, CALL, 0x1800, &mut out);
+    same(&rt, "the answer", &said, &10);
+    is_step(&rt, &report, (10, 5, 0, 5));
     left(
         &rt,
         "the bytes",
