@@ -56,13 +56,16 @@ def cells(rows, kind):
 def cells_text(name, doc, rows, kind):
     text = f'/// {doc}\npub static {name}: [[Span; 256]; 4] = spans! {{\n'
     for line in cells(rows, kind):
-        text += '    {\n' + wrapped(with_commas([f'{first} {count}' for first, count in line]), '        ') + '    }\n'
+        if any(count for _, count in line):
+            text += '    {\n' + wrapped(with_commas([f'{first} {count}' for first, count in line]), '        ') + '    }\n'
+        else:
+            text += '    none\n'
     return text + '};\n'
 
 
 def part_text(part, rows):
     """The rows of a crate, each entry's line and the headings before it with its first row."""
-    text = HEAD.format('the rows and their cells') + 'use row_lists::{FlatRow, Span, rows, spans};\n' + TYPES + '\n'
+    text = HEAD.format('the rows and their cells') + 'use row_lists::{FlatRow, Span, rows, span_line, spans};\n' + TYPES + '\n'
     text += f'/// How many rows there are.\npub const ROWS: u16 = {len(rows)};\n\n'
     text += ROWS_DOC + f'pub static FLAT_ROWS: [FlatRow; {len(rows)}] = rows! {{\n    {part.kind};\n'
     for row in rows:
@@ -90,7 +93,7 @@ def spots_text(table):
 
 
 def all_cells_text(table):
-    text = HEAD.format('the cells of the table') + 'use row_lists::{Span, spans};\n\n'
+    text = HEAD.format('the cells of the table') + 'use row_lists::{Span, span_line, spans};\n\n'
     text += cells_text('LEGACY_SPANS', 'The legacy rows of each cell, by map and opcode byte: the code of the first, and how many.', table, 'Legacy')
     return text + '\n' + cells_text('VEX_SPANS', 'Where the VEX rows of each cell lie in the table, by map and opcode byte: the code of the first of them, and their number.', table, 'Vex')
 

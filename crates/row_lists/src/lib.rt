@@ -165,10 +165,21 @@ macro_rules! rows {
     };
 }
 
-/// Lines of spans: each map's line in braces, each span as its first index and its count.
+/// Lines of spans: each map's line in braces, each span as its first index and its count; `none` for a map without rows.
 #[macro_export]
 macro_rules! spans {
-    ($({ $($first:literal $count:literal),* })*) => {
-        [$([$(Span { first: $first, count: $count }),*]),*]
+    ($($line:tt)*) => {
+        [$(span_line!($line)),*]
+    };
+}
+
+/// The spans of a map, by opcode byte.
+#[macro_export]
+macro_rules! span_line {
+    (none) => {
+        [Span { first: 0, count: 0 }; 256]
+    };
+    ({ $($first:literal $count:literal),* }) => {
+        [$(Span { first: $first, count: $count }),*]
     };
 }
