@@ -50,6 +50,7 @@ impl Model for Hooks {
 }
 
 /// Why hooks are refused, if they are; memory is another matter.
+#[tactic(auto, using(std::proofs::lemmas::Bool::Decides::nat_tests), unfolding(crate::specs::Opening::make_refusal))]
 fn refusal_of(bits: Bits, base: u64, size: u64, slot: u64) -> Option<MakeError>
     ensures { result ≡ make_refusal bits base size slot }
 {

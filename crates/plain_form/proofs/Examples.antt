@@ -1,5 +1,5 @@
 -- Examples: spellings that are plain, and fitting ones that are not, each by the test that says so.
-use Rattle.std.proofs.Common.{◌≡◌, ℕ, ◌==◌, Bool, true, false, ◌&&◌, List, [], ◌∷◌, refl, Option, Some, None}
+use Rattle.std.proofs.Common.{◌≡◌, ℕ, ◌==◌, Bool, true, false, ◌&&◌, List, [], ◌∷◌, refl, Option, Some, None, replicate}
 use Rattle.arrayvec.specs.ArrayVec.{ArrayVec}
 use Rattle.x86_values.specs.declared.Bits.{Bits}
 use Rattle.x86_values.specs.declared.Bits.TheVariants.{B16, B64}
@@ -87,97 +87,58 @@ plain bits row s =
 abbrev verdict : Bits → Row → Spelling → List Bool
 verdict bits row s = fits bits row s ∷ plain bits row s ∷ []
 
--- 01 C0
-without_prefixes : verdict B64 add (legacy [] 0x01 (modrm 3 0 0) None) ≡ true ∷ true ∷ []
-unfolding every_rule
-without_prefixes = refl
+-- spellings that fit and are plain
+abbrev plain_ones : List (List Bool)
+plain_ones =
+    -- 01 C0
+    verdict B64 add (legacy [] 0x01 (modrm 3 0 0) None) ∷
+    -- 66 01 C0 in 16-bit mode
+    verdict B16 add (legacy (0x66 ∷ []) 0x01 (modrm 3 0 0) None) ∷
+    -- 67 88 00
+    verdict B64 mov (legacy (0x67 ∷ []) 0x88 (modrm 0 0 0) None) ∷
+    -- 64 F0 01 00
+    verdict B64 add (legacy (0x64 ∷ 0xF0 ∷ []) 0x01 (modrm 0 0 0) None) ∷
+    -- 40 88 E0
+    verdict B64 mov (legacy (0x40 ∷ []) 0x88 (modrm 3 4 0) None) ∷
+    -- 41 01 C0
+    verdict B64 add (legacy (0x41 ∷ []) 0x01 (modrm 3 0 0) None) ∷
+    -- C5 F8 58 C1
+    verdict B64 vaddps (vex false false false) ∷
+    -- 01 04 24
+    verdict B64 add (legacy [] 0x01 (modrm 0 0 4) (sib 0 4 4)) ∷
+    []
 
--- 66 01 C0 in 16-bit mode
-needed_66 : verdict B16 add (legacy (0x66 ∷ []) 0x01 (modrm 3 0 0) None) ≡ true ∷ true ∷ []
+plain_ones-hold : plain_ones ≡ replicate 8 (true ∷ true ∷ [])
 unfolding every_rule
-needed_66 = refl
+plain_ones-hold = refl
 
--- 66 88 C0
-needless_66 : verdict B64 mov (legacy (0x66 ∷ []) 0x88 (modrm 3 0 0) None) ≡ true ∷ false ∷ []
-unfolding every_rule
-needless_66 = refl
+-- spellings that fit and are not plain
+abbrev longer_ones : List (List Bool)
+longer_ones =
+    -- 66 88 C0
+    verdict B64 mov (legacy (0x66 ∷ []) 0x88 (modrm 3 0 0) None) ∷
+    -- 67 88 C0, which has no address
+    verdict B64 mov (legacy (0x67 ∷ []) 0x88 (modrm 3 0 0) None) ∷
+    -- F0 64 01 00
+    verdict B64 add (legacy (0xF0 ∷ 0x64 ∷ []) 0x01 (modrm 0 0 0) None) ∷
+    -- F0 F0 01 00
+    verdict B64 add (legacy (0xF0 ∷ 0xF0 ∷ []) 0x01 (modrm 0 0 0) None) ∷
+    -- 3E 64 01 00
+    verdict B64 add (legacy (0x3E ∷ 0x64 ∷ []) 0x01 (modrm 0 0 0) None) ∷
+    -- 40 88 C0
+    verdict B64 mov (legacy (0x40 ∷ []) 0x88 (modrm 3 0 0) None) ∷
+    -- 42 88 E0, whose X nothing reads
+    verdict B64 mov (legacy (0x42 ∷ []) 0x88 (modrm 3 4 0) None) ∷
+    -- C4 E1 78 58 C1
+    verdict B64 vaddps (vex true false false) ∷
+    -- C4 E1 F8 58 C1, whose W nothing reads
+    verdict B64 vaddps (vex true true false) ∷
+    -- 01 04 20
+    verdict B64 add (legacy [] 0x01 (modrm 0 0 4) (sib 0 4 0)) ∷
+    -- 01 04 64
+    verdict B64 add (legacy [] 0x01 (modrm 0 0 4) (sib 1 4 4)) ∷
+    []
 
--- 67 88 C0, which has no address
-needless_67 : verdict B64 mov (legacy (0x67 ∷ []) 0x88 (modrm 3 0 0) None) ≡ true ∷ false ∷ []
+longer_ones-hold : longer_ones ≡ replicate 11 (true ∷ false ∷ [])
 unfolding every_rule
-needless_67 = refl
-
--- 67 88 00
-needed_67 : verdict B64 mov (legacy (0x67 ∷ []) 0x88 (modrm 0 0 0) None) ≡ true ∷ true ∷ []
-unfolding every_rule
-needed_67 = refl
-
--- 64 F0 01 00
-ascending : verdict B64 add (legacy (0x64 ∷ 0xF0 ∷ []) 0x01 (modrm 0 0 0) None) ≡ true ∷ true ∷ []
-unfolding every_rule
-ascending = refl
-
--- F0 64 01 00
-descending : verdict B64 add (legacy (0xF0 ∷ 0x64 ∷ []) 0x01 (modrm 0 0 0) None) ≡ true ∷ false ∷ []
-unfolding every_rule
-descending = refl
-
--- F0 F0 01 00
-doubled : verdict B64 add (legacy (0xF0 ∷ 0xF0 ∷ []) 0x01 (modrm 0 0 0) None) ≡ true ∷ false ∷ []
-unfolding every_rule
-doubled = refl
-
--- 3E 64 01 00
-outranked_segment : verdict B64 add (legacy (0x3E ∷ 0x64 ∷ []) 0x01 (modrm 0 0 0) None) ≡ true ∷ false ∷ []
-unfolding every_rule
-outranked_segment = refl
-
--- 40 88 E0
-rex_of_spl : verdict B64 mov (legacy (0x40 ∷ []) 0x88 (modrm 3 4 0) None) ≡ true ∷ true ∷ []
-unfolding every_rule
-rex_of_spl = refl
-
--- 40 88 C0
-rex_alone : verdict B64 mov (legacy (0x40 ∷ []) 0x88 (modrm 3 0 0) None) ≡ true ∷ false ∷ []
-unfolding every_rule
-rex_alone = refl
-
--- 42 88 E0, whose X nothing reads
-rex_bit_x : verdict B64 mov (legacy (0x42 ∷ []) 0x88 (modrm 3 4 0) None) ≡ true ∷ false ∷ []
-unfolding every_rule
-rex_bit_x = refl
-
--- 41 01 C0
-rex_bit_b : verdict B64 add (legacy (0x41 ∷ []) 0x01 (modrm 3 0 0) None) ≡ true ∷ true ∷ []
-unfolding every_rule
-rex_bit_b = refl
-
--- C5 F8 58 C1
-two_bytes_of_vex : verdict B64 vaddps (vex false false false) ≡ true ∷ true ∷ []
-unfolding every_rule
-two_bytes_of_vex = refl
-
--- C4 E1 78 58 C1
-three_bytes_of_vex : verdict B64 vaddps (vex true false false) ≡ true ∷ false ∷ []
-unfolding every_rule
-three_bytes_of_vex = refl
-
--- C4 E1 F8 58 C1, whose W nothing reads
-w_of_a_vex : verdict B64 vaddps (vex true true false) ≡ true ∷ false ∷ []
-unfolding every_rule
-w_of_a_vex = refl
-
--- 01 04 24
-needed_sib : verdict B64 add (legacy [] 0x01 (modrm 0 0 4) (sib 0 4 4)) ≡ true ∷ true ∷ []
-unfolding every_rule
-needed_sib = refl
-
--- 01 04 20
-needless_sib : verdict B64 add (legacy [] 0x01 (modrm 0 0 4) (sib 0 4 0)) ≡ true ∷ false ∷ []
-unfolding every_rule
-needless_sib = refl
-
--- 01 04 64
-scale_without_index : verdict B64 add (legacy [] 0x01 (modrm 0 0 4) (sib 1 4 4)) ≡ true ∷ false ∷ []
-unfolding every_rule
-scale_without_index = refl
+longer_ones-hold = refl

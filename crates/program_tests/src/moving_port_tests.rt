@@ -1,6 +1,6 @@
 //! What a command over moved code, slots or flow leaves where a port fails at a call, or has too little room.
 
-use crate::outcomes::{outcome_between, wrote, wrote_bytes};
+use crate::outcomes::{all_leave, outcome_between, wrote_bytes};
 use run_outcomes::{Ports, WHOLE};
 use std::test::Fail;
 
@@ -52,16 +52,7 @@ fn a_fault_of_a_port_leaves_what_it_should(rt: HostRuntime) -> Result<(), Fail> 
         ("sample 1", "", [0, 1, 0], ROOM, 4, "", UNWRITTEN),
         ("sample 0", "", [1, 1, 1], ROOM, 1, "", ""),
     ];
-    for (command, digits, calls, room, number, out, err) in cases {
-        let ran = outcome_between(
-            rt.alloc(),
-            command,
-            digits,
-            &Ports::failing_at(*calls, *room),
-        )?;
-        wrote(&rt, &ran, (*number, out, err), command, digits)?;
-    }
-    Ok(())
+    all_leave(&rt, rt.alloc(), cases)
 }
 
 // The first bytes of what was to be written stand where there is no room for all. The lines of `asm` are nop and ret.

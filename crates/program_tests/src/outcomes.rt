@@ -76,3 +76,21 @@ pub(crate) fn all_write_bytes(
     }
     Ok(())
 }
+
+/// A case of failing ports: the command, its input in hexadecimal digits, the calls at which the source, the output and the error output
+/// fail, the room of the output, and the number, the output and the error output that are left.
+pub(crate) type PortCase<'a> = (&'a str, &'a str, [u64; 3], usize, u8, &'a str, &'a str);
+
+/// That each command leaves this between ports that fail at these calls, and an output with so much room.
+pub(crate) fn all_leave(
+    rt: &impl Abort,
+    alloc: Global,
+    cases: &[PortCase<'_>],
+) -> Result<(), Fail> {
+    for (command, digits, calls, room, number, out, err) in cases {
+        let ports = Ports::failing_at(*calls, *room);
+        let ran = outcome_between(alloc, command, digits, &ports)?;
+        wrote(rt, &ran, (*number, out, err), command, digits)?;
+    }
+    Ok(())
+}

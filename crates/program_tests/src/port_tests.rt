@@ -1,6 +1,6 @@
 //! What a stream leaves where a port fails at a call, or has too little room.
 
-use crate::outcomes::{outcome_between, wrote};
+use crate::outcomes::{all_leave, outcome_between, wrote};
 use run_outcomes::{Ports, WHOLE};
 use std::alloc::{AllocError, Global};
 use std::test::Fail;
@@ -79,16 +79,7 @@ fn a_fault_of_a_port_leaves_what_it_should(rt: HostRuntime) -> Result<(), Fail> 
         ("rows", "", [1, 0, 0], 15, 4, "0 00 /r add\n1 o", UNWRITTEN),
         ("--version", "", [1, 1, 1], ROOM, 4, "", ""),
     ];
-    for (command, digits, calls, room, number, out, err) in cases {
-        let ran = outcome_between(
-            rt.alloc(),
-            command,
-            digits,
-            &Ports::failing_at(*calls, *room),
-        )?;
-        wrote(&rt, &ran, (*number, out, err), command, digits)?;
-    }
-    Ok(())
+    all_leave(&rt, rt.alloc(), cases)
 }
 
 const NOPS: &str = "90909090909090909090909090909090";

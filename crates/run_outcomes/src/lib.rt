@@ -1,7 +1,7 @@
 //! Runs of the program's commands between ports in memory, for tests: what a run writes and answers, also where a port fails.
 #![tactic(auto)]
 
-ghost use Rattle.std.specs.Prelude.{◌≡◌, ◌∷◌, [], false, IfOk};
+ghost use Rattle.std.specs.Prelude.{◌≡◌, ◌∷◌, [], false, IsUtf8, MatchResult};
 
 use arrayvec::ArrayVec;
 use byte_ports::{FailAt, MakeError, MemSink, MemSource, SlowSource, Source};
@@ -63,9 +63,11 @@ pub struct Outcome {
 }
 
 impl Outcome {
-    /// The number of the status and what both outputs took, as text.
+    /// The number of the status and what both outputs took, as text. It refuses where one of them is not UTF-8, and only there.
     pub fn as_text(&self) -> Result<(u8, &str, &str), Utf8Error>
-        ensures { IfOk result (λ text. (text.0 ≡ self.now.number) × ((text.1.now ≡ self.now.out.items) × (text.2.now ≡ self.now.err.items))) }
+        ensures { MatchResult result
+            (λ text. (text.0 ≡ self.now.number) × ((text.1.now ≡ self.now.out.items) × (text.2.now ≡ self.now.err.items)))
+            (λ _. ¬ (IsUtf8 self.now.out.items × IsUtf8 self.now.err.items)) }
     {
         Ok((self.number, from_utf8(&self.out)?, from_utf8(&self.err)?))
     }

@@ -83,6 +83,7 @@ impl Model for StepSlots {
 }
 
 /// Why slots are refused, if they are; memory is another matter.
+#[tactic(auto, using(std::proofs::lemmas::Bool::Decides::nat_tests), unfolding(crate::specs::Stepping::slots_refusal))]
 fn refusal_of(bits: Bits, base: u64, size: u64, max_blocks: u64) -> Option<OpenError>
     ensures { result ≡ slots_refusal bits base size max_blocks }
 {
