@@ -272,31 +272,25 @@ fn a_far_trampoline_has_a_slot(rt: HostRuntime) -> Result<(), Fail> {
     Ok(())
 }
 
-/// Functions, each with the reason for which it has no detour.
-const REFUSALS: &[(Case, DetourError)] = &[
+/// Code at the place that is near, each with the reason for which it has no detour.
+const REFUSED_NEAR: &[(&str, DetourError)] = &[
     // 06 is PUSH ES, which 64-bit mode does not have; REX.W and 89 without their ModRM byte
     (
-        Case { code: "06", ..NEAR },
+        "06",
         DetourError::BadCode {
             at: 0,
             error: DecodeError::Invalid,
         },
     ),
     (
-        Case {
-            code: "909006",
-            ..NEAR
-        },
+        "909006",
         DetourError::BadCode {
             at: 2,
             error: DecodeError::Invalid,
         },
     ),
     (
-        Case {
-            code: "554889",
-            ..NEAR
-        },
+        "554889",
         DetourError::BadCode {
             at: 1,
             error: DecodeError::TooShort,
@@ -304,66 +298,31 @@ const REFUSALS: &[(Case, DetourError)] = &[
     ),
     // a bad byte is told before other code behind ret, which is told before a branch into the part
     (
-        Case {
-            code: "c331c006",
-            ..NEAR
-        },
+        "c331c006",
         DetourError::BadCode {
             at: 3,
             error: DecodeError::Invalid,
         },
     ),
-    (
-        Case {
-            code: "55c3",
-            ..NEAR
-        },
-        DetourError::TooSmall { len: 2, need: 5 },
-    ),
-    (
-        Case {
-            code: "c331c0",
-            ..NEAR
-        },
-        DetourError::TooSmall { len: 3, need: 5 },
-    ),
-    (
-        Case {
-            code: "c331c09090ebfa",
-            ..NEAR
-        },
-        DetourError::Ends { at: 1 },
-    ),
-    (
-        Case {
-            code: "c39031c090",
-            ..NEAR
-        },
-        DetourError::Ends { at: 2 },
-    ),
+    ("55c3", DetourError::TooSmall { len: 2, need: 5 }),
+    ("c331c0", DetourError::TooSmall { len: 3, need: 5 }),
+    ("c331c09090ebfa", DetourError::Ends { at: 1 }),
+    ("c39031c090", DetourError::Ends { at: 2 }),
     // xor eax, eax; add eax, edi; dec edi; jg to the add: a loop that enters what is taken
     (
-        Case {
-            code: "31c001f8ffcf7ffac3",
-            ..NEAR
-        },
+        "31c001f8ffcf7ffac3",
         DetourError::Entered { from: 6, target: 2 },
     ),
     // je into the middle of mov eax, 90909090; jmp to the NOP behind it, which is not moved
     (
-        Case {
-            code: "7401b890909090c3",
-            ..NEAR
-        },
+        "7401b890909090c3",
         DetourError::Entered { from: 0, target: 3 },
     ),
-    (
-        Case {
-            code: "eb00909090c3",
-            ..NEAR
-        },
-        DetourError::Entered { from: 0, target: 2 },
-    ),
+    ("eb00909090c3", DetourError::Entered { from: 0, target: 2 }),
+];
+
+/// Functions elsewhere, each with the reason for which it has no detour.
+const REFUSALS: &[(Case, DetourError)] = &[
     // 14 bytes are needed where neither replacement nor trampoline is near
     (
         Case {
@@ -409,6 +368,14 @@ fn refusal_of(alloc: Global, case: &Case) -> Result<Option<DetourError>, Fail> {
 
 #[test]
 fn refusals_in_their_order(rt: HostRuntime) -> Result<(), Fail> {
+    for (code, refusal) in REFUSED_NEAR {
+        let case = Case {
+            code: *code,
+            ..NEAR
+        };
+        let found = refusal_of(rt.alloc(), &case)?;
+        same(&rt, code, &found, &Some(*refusal));
+    }
     for (case, refusal) in REFUSALS {
         let found = refusal_of(rt.alloc(), case)?;
         same(&rt, case.code, &found, &Some(*refusal));

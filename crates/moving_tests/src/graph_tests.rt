@@ -27,12 +27,18 @@ fn graph_of_bytes(
     }
 }
 
-/// What control reaches in the bytes that are given in hexadecimal.
-fn graph_of(alloc: Global, bits: Bits, base: u64, digits: &str) -> Result<FlowGraph, Fail> {
+/// At most 16 bytes in hexadecimal digits.
+fn few_bytes(alloc: Global, digits: &str) -> Result<Vec<u8>, Fail> {
     let bytes = hex::decode(alloc, digits)?;
     if bytes.len() > 16 {
         return Err(Fail::new("there are more than 16 bytes"));
     }
+    Ok(bytes)
+}
+
+/// What control reaches in the bytes that are given in hexadecimal.
+fn graph_of(alloc: Global, bits: Bits, base: u64, digits: &str) -> Result<FlowGraph, Fail> {
+    let bytes = few_bytes(alloc, digits)?;
     Ok(graph_of_bytes(alloc, bits, base, &bytes)?)
 }
 
@@ -46,21 +52,16 @@ fn graph_from(alloc: Global, base: u64, digits: &str, entries: &[u32]) -> Result
 }
 
 /// That control reaches these offsets of some code, whose basic blocks have these leaders.
-fn has_leaders(rt: &impl Abort, graph: &FlowGraph, starts: &[u32], leaders: &[u32], code: &str) {
-    same_items(rt, code, graph.starts(), starts);
-    same_items(rt, code, graph.leaders(), leaders);
-}
-
-/// That control reaches these offsets of code in a mode, whose basic blocks have these leaders.
 fn reaches(
     rt: &impl Abort,
-    alloc: Global,
-    (bits, base, code): (Bits, u64, &str),
+    code: &str,
+    graph: Result<FlowGraph, Fail>,
     starts: &[u32],
     leaders: &[u32],
 ) -> Result<(), Fail> {
-    let graph = graph_of(alloc, bits, base, code)?;
-    has_leaders(rt, &graph, starts, leaders, code);
+    let graph = graph?;
+    same_items(rt, code, graph.starts(), starts);
+    same_items(rt, code, graph.leaders(), leaders);
     Ok(())
 }
 
@@ -108,8 +109,8 @@ fn code_has_its_reached_offsets_and_leaders(rt: HostRuntime) -> Result<(), Fail>
         ("909090ebfc", &[0, 1, 2, 3], &[0, 1, 1, 1]),
     ];
     for (digits, starts, leaders) in cases {
-        let code = (Bits::B64, 0x40_1000, *digits);
-        reaches(&rt, rt.alloc(), code, starts, leaders)?;
+        let graph = graph_of(rt.alloc(), Bits::B64, 0x40_1000, digits);
+        reaches(&rt, digits, graph, starts, leaders)?;
     }
     Ok(())
 }
@@ -167,19 +168,6 @@ fn each_reached_offset_has_its_flow(rt: HostRuntime) -> Result<(), Fail> {
     Ok(())
 }
 
-/// That control reaches these offsets of 64-bit code from several ones, and its basic blocks have these leaders.
-fn reaches_from(
-    rt: &impl Abort,
-    alloc: Global,
-    (code, entries): (&str, &[u32]),
-    starts: &[u32],
-    leaders: &[u32],
-) -> Result<(), Fail> {
-    let graph = graph_from(alloc, 0x40_1000, code, entries)?;
-    has_leaders(rt, &graph, starts, leaders, code);
-    Ok(())
-}
-
 // 64-bit code at 0x401000 from several first offsets: those outside the code, and those that stand there again, add nothing.
 #[test]
 fn several_entries_have_one_graph(rt: HostRuntime) -> Result<(), Fail> {
@@ -200,7 +188,8 @@ fn several_entries_have_one_graph(rt: HostRuntime) -> Result<(), Fail> {
         ("eb0190c3", &[2, 0], &[0, 2, 3], &[0, 2, 3]),
     ];
     for (digits, entries, starts, leaders) in cases {
-        reaches_from(&rt, rt.alloc(), (*digits, *entries), starts, leaders)?;
+        let graph = graph_from(rt.alloc(), 0x40_1000, digits, entries);
+        reaches(&rt, digits, graph, starts, leaders)?;
     }
     Ok(())
 }
@@ -221,24 +210,8 @@ fn several_entries_have_their_flows(rt: HostRuntime) -> Result<(), Fail> {
 
 /// What control reaches in bytes of a mode that is given as a value.
 fn graph_in(alloc: Global, bits: Bits, base: u64, digits: &str) -> Result<FlowGraph, Fail> {
-    let bytes = hex::decode(alloc, digits)?;
-    if bytes.len() > 16 {
-        return Err(Fail::new("there are more than 16 bytes"));
-    }
+    let bytes = few_bytes(alloc, digits)?;
     Ok(flow_graph_in(alloc, bits, base, &bytes)?)
-}
-
-/// That code in a mode that is given as a value has these reached offsets and leaders.
-fn reaches_in(
-    rt: &impl Abort,
-    alloc: Global,
-    (bits, base, code): (Bits, u64, &str),
-    starts: &[u32],
-    leaders: &[u32],
-) -> Result<(), Fail> {
-    let graph = graph_in(alloc, bits, base, code)?;
-    has_leaders(rt, &graph, starts, leaders, code);
-    Ok(())
 }
 
 // A jump forth to ret, and one back to the first byte.
@@ -250,10 +223,10 @@ fn targets_go_around_the_address_space(rt: HostRuntime) -> Result<(), Fail> {
         (Bits::B32, 0xFFFF_FFFE),
         (Bits::B64, 0xFFFF_FFFF_FFFF_FFFE),
     ] {
-        let forth = (*bits, *base, "eb01ccc3");
-        reaches_in(&rt, rt.alloc(), forth, &[0, 3], &[0, 3])?;
-        let back = (*bits, *base, "9090ebfc");
-        reaches_in(&rt, rt.alloc(), back, &[0, 1, 2], &[0, 0, 0])?;
+        let forth = graph_in(rt.alloc(), *bits, *base, "eb01ccc3");
+        reaches(&rt, "eb01ccc3", forth, &[0, 3], &[0, 3])?;
+        let back = graph_in(rt.alloc(), *bits, *base, "9090ebfc");
+        reaches(&rt, "9090ebfc", back, &[0, 1, 2], &[0, 0, 0])?;
     }
     Ok(())
 }
@@ -269,7 +242,8 @@ fn each_mode_reads_its_own_code(rt: HostRuntime) -> Result<(), Fail> {
         (Bits::B32, "e800000000c3", &[0, 5], &[0, 0]),
     ];
     for (bits, digits, starts, leaders) in cases {
-        reaches(&rt, rt.alloc(), (*bits, 0x100, *digits), starts, leaders)?;
+        let graph = graph_of(rt.alloc(), *bits, 0x100, digits);
+        reaches(&rt, digits, graph, starts, leaders)?;
     }
     Ok(())
 }
