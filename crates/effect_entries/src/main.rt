@@ -20,6 +20,13 @@ use x86_values::{Code, DispSize, Instr, Mem, Operand, Register, Rep};
 /// The files of effects, of which one at most speaks of a row.
 const FILES: [&str; 3] = ["integer.txt", "x87.txt", "vector.txt"];
 
+/// The error that something else is said of the row of a code: what is wrong, and the word that is.
+fn refuse(code: Code, wrong: &str, word: &str) -> Result<()>
+    requires { code.0 < ROWS }
+{
+    bail!("row {}, {}: {wrong}{word}", code.0, name(code));
+}
+
 /// Compares words with what a row does besides its operands.
 fn compare_effect(code: Code, words: &str) -> Result<()>
     requires { code.0 < ROWS }
@@ -27,13 +34,14 @@ fn compare_effect(code: Code, words: &str) -> Result<()>
     let mut told = Told::new();
     for word in words.split(' ') {
         if !told.take(code, word) {
-            bail!("row {}, {}: not this: {word}", code.0, name(code));
+            return refuse(code, "not this: ", word);
         }
     }
-    if !is_told(&told, code) {
-        bail!("row {}, {}: more than its line", code.0, name(code));
+    if is_told(&told, code) {
+        Ok(())
+    } else {
+        refuse(code, "more than its line", "")
     }
-    Ok(())
 }
 
 /// An instruction of a code whose first operand is an address, or the register AL.
@@ -72,7 +80,7 @@ fn compare_features(code: Code, words: &str) -> Result<()>
             if all == features_of(code).0
                 && all == needed_features(&sample(code, true)).0
                 && register == needed_features(&sample(code, false)).0 => { Ok(()) }
-        _ => bail!("row {}, {}: other features", code.0, name(code)),
+        _ => refuse(code, "other features", ""),
     }
 }
 
@@ -151,12 +159,22 @@ fn compare_rest(counts: &Vec<u8>) -> Result<usize> {
     Ok(rest)
 }
 
+/// Compares the lines of a file, and counts the rows that they speak of.
+fn compare_file(
+    rt: &HostRuntime,
+    counts: &mut Vec<u8>,
+    file: &str,
+    is_effect: bool,
+) -> Result<usize> {
+    let text = fs::read_to_string(rt, file)?;
+    compare_text(counts, text.as_str(), is_effect)
+}
+
 /// Compares the lines of what instructions do with the tables, and prints how many rows each file speaks of.
 fn compare_effects(rt: &HostRuntime) -> Result<()> {
     let mut counts = no_counts(rt)?;
     for file in FILES {
-        let text = fs::read_to_string(rt, file)?;
-        let rows = compare_text(&mut counts, text.as_str(), true)?;
+        let rows = compare_file(rt, &mut counts, file, true)?;
         println!(rt; "{file}: {rows} rows")?;
     }
     let rest = compare_rest(&counts)?;
@@ -167,8 +185,7 @@ fn compare_effects(rt: &HostRuntime) -> Result<()> {
 /// Compares the lines of features with the tables: one line alone speaks of each row.
 fn compare_all_features(rt: &HostRuntime) -> Result<()> {
     let mut counts = no_counts(rt)?;
-    let text = fs::read_to_string(rt, "features.txt")?;
-    let rows = compare_text(&mut counts, text.as_str(), false)?;
+    let rows = compare_file(rt, &mut counts, "features.txt", false)?;
     if counts.iter().any(|count| *count != 1) {
         bail!("no line, or two, speak of the features of a row");
     }
