@@ -1,4 +1,4 @@
-use Rattle.std.proofs.Common.{◌≡◌, List, ◌++◌, rules, refl}
+use Rattle.std.proofs.Common.{◌≡◌, ℕ, List, ◌++◌, rules, refl}
 use Rattle.std.specs.Prelude.{Some, codes}
 use Rattle.x86_values.specs.declared.Bits.{Bits}
 use Rattle.x86_values.specs.declared.Mem.{Mem}
@@ -16,25 +16,63 @@ index-some style asize m r e = rw e refl
 
 pub append_joint-requires : goal.append_joint-requires
 append_joint-requires g c =
-    let r0 = room_as c.args.out.now.items (index_text c.args.style c.args.asize c.args.m.now) ((joint c.args.m.now.base) ++ ((register c.args.style c.in-Some.r) ++ (scale_text (codes "*") c.args.asize c.args.m.now.scale))) g.row.N (index-some c.args.style c.args.asize c.args.m.now c.in-Some.r c.in-Some.is) c.requires in
-    (search rules, room_first c.args.out.now.items (joint c.args.m.now.base) ((register c.args.style c.in-Some.r) ++ (scale_text (codes "*") c.args.asize c.args.m.now.scale)) g.row.N r0)
+    let a = c.args in
+    let out = a.out.now.items in
+    let text1 : List ℕ = joint a.m.now.base in
+    let text2 : List ℕ = register a.style c.in-Some.r in
+    let text3 : List ℕ = scale_text (codes "*") a.asize a.m.now.scale in
+    let whole : List ℕ = index_text a.style a.asize a.m.now in
+    let is : whole ≡ text1 ++ (text2 ++ text3) =
+    index-some a.style a.asize a.m.now c.in-Some.r c.in-Some.is in
+    let r0 = room_as out whole (text1 ++ (text2 ++ text3)) g.row.N is c.requires in
+    (search rules, room_first out text1 (text2 ++ text3) g.row.N r0)
 
 pub append_register-requires : goal.append_register-requires
 append_register-requires g c =
-    let r0 = room_as c.args.out.now.items (index_text c.args.style c.args.asize c.args.m.now) ((joint c.args.m.now.base) ++ ((register c.args.style c.in-Some.r) ++ (scale_text (codes "*") c.args.asize c.args.m.now.scale))) g.row.N (index-some c.args.style c.args.asize c.args.m.now c.in-Some.r c.in-Some.is) c.requires in
-    let r1 = room_behind c.args.out.now.items (joint c.args.m.now.base) ((register c.args.style c.in-Some.r) ++ (scale_text (codes "*") c.args.asize c.args.m.now.scale)) c.append_joint.new.out.items g.row.N c.append_joint.ensures r0 in
-    (search rules, room_first c.append_joint.new.out.items (register c.args.style c.in-Some.r) (scale_text (codes "*") c.args.asize c.args.m.now.scale) g.row.N r1)
+    let a = c.args in
+    let out = a.out.now.items in
+    let out1 = c.append_joint.new.out.items in
+    let text1 : List ℕ = joint a.m.now.base in
+    let text2 : List ℕ = register a.style c.in-Some.r in
+    let text3 : List ℕ = scale_text (codes "*") a.asize a.m.now.scale in
+    let whole : List ℕ = index_text a.style a.asize a.m.now in
+    let is : whole ≡ text1 ++ (text2 ++ text3) =
+    index-some a.style a.asize a.m.now c.in-Some.r c.in-Some.is in
+    let r0 = room_as out whole (text1 ++ (text2 ++ text3)) g.row.N is c.requires in
+    let r1 = room_behind out text1 (text2 ++ text3) out1 g.row.N c.append_joint.ensures r0 in
+    (search rules, room_first out1 text2 text3 g.row.N r1)
 
 pub append_scale-requires : goal.append_scale-requires
 append_scale-requires g c =
-    let r0 = room_as c.args.out.now.items (index_text c.args.style c.args.asize c.args.m.now) ((joint c.args.m.now.base) ++ ((register c.args.style c.in-Some.r) ++ (scale_text (codes "*") c.args.asize c.args.m.now.scale))) g.row.N (index-some c.args.style c.args.asize c.args.m.now c.in-Some.r c.in-Some.is) c.requires in
-    let r1 = room_behind c.args.out.now.items (joint c.args.m.now.base) ((register c.args.style c.in-Some.r) ++ (scale_text (codes "*") c.args.asize c.args.m.now.scale)) c.append_joint.new.out.items g.row.N c.append_joint.ensures r0 in
-    let r2 = room_behind c.append_joint.new.out.items (register c.args.style c.in-Some.r) (scale_text (codes "*") c.args.asize c.args.m.now.scale) c.append_register.new.out.items g.row.N c.append_register.ensures r1 in
+    let a = c.args in
+    let out = a.out.now.items in
+    let out1 = c.append_joint.new.out.items in
+    let out2 = c.append_register.new.out.items in
+    let text1 : List ℕ = joint a.m.now.base in
+    let text2 : List ℕ = register a.style c.in-Some.r in
+    let text3 : List ℕ = scale_text (codes "*") a.asize a.m.now.scale in
+    let whole : List ℕ = index_text a.style a.asize a.m.now in
+    let is : whole ≡ text1 ++ (text2 ++ text3) =
+    index-some a.style a.asize a.m.now c.in-Some.r c.in-Some.is in
+    let r0 = room_as out whole (text1 ++ (text2 ++ text3)) g.row.N is c.requires in
+    let r1 = room_behind out text1 (text2 ++ text3) out1 g.row.N c.append_joint.ensures r0 in
+    let r2 = room_behind out1 text2 text3 out2 g.row.N c.append_register.ensures r1 in
     (search rules, r2)
 
 pub returns-in-Some : goal.returns-in-Some
 returns-in-Some g c =
-    text_as c.args.out.now.items c.append_scale.new.out.items (index_text c.args.style c.args.asize c.args.m.now) ((joint c.args.m.now.base) ++ ((register c.args.style c.in-Some.r) ++ (scale_text (codes "*") c.args.asize c.args.m.now.scale))) (index-some c.args.style c.args.asize c.args.m.now c.in-Some.r c.in-Some.is)
-    (appended_behind c.args.out.now.items (joint c.args.m.now.base) ((register c.args.style c.in-Some.r) ++ (scale_text (codes "*") c.args.asize c.args.m.now.scale)) c.append_joint.new.out.items c.append_scale.new.out.items c.append_joint.ensures
-    (appended_behind c.append_joint.new.out.items (register c.args.style c.in-Some.r) (scale_text (codes "*") c.args.asize c.args.m.now.scale) c.append_register.new.out.items c.append_scale.new.out.items c.append_register.ensures
+    let a = c.args in
+    let out = a.out.now.items in
+    let out1 = c.append_joint.new.out.items in
+    let out2 = c.append_register.new.out.items in
+    let text1 : List ℕ = joint a.m.now.base in
+    let text2 : List ℕ = register a.style c.in-Some.r in
+    let text3 : List ℕ = scale_text (codes "*") a.asize a.m.now.scale in
+    let end = c.append_scale.new.out.items in
+    let whole : List ℕ = index_text a.style a.asize a.m.now in
+    let is : whole ≡ text1 ++ (text2 ++ text3) =
+    index-some a.style a.asize a.m.now c.in-Some.r c.in-Some.is in
+    text_as out end whole (text1 ++ (text2 ++ text3)) is
+    (appended_behind out text1 (text2 ++ text3) out1 end c.append_joint.ensures
+    (appended_behind out1 text2 text3 out2 end c.append_register.ensures
     c.append_scale.ensures))

@@ -14,17 +14,38 @@ scale-other mark B64 scale e = refl
 
 pub append_few-requires : goal.append_few-requires
 append_few-requires g c =
-    let r0 = room_as c.args.out.now.items (scale_text c.args.mark.now c.args.asize c.args.scale) (c.args.mark.now ++ (decimal c.args.scale)) g.row.N (scale-other c.args.mark.now c.args.asize c.args.scale c.in_default.not-B16) c.requires in
-    (search rules, room_first c.args.out.now.items c.args.mark.now (decimal c.args.scale) g.row.N r0)
+    let a = c.args in
+    let out = a.out.now.items in
+    let text1 : List ℕ = a.mark.now in
+    let text2 : List ℕ = decimal a.scale in
+    let whole : List ℕ = scale_text a.mark.now a.asize a.scale in
+    let is : whole ≡ text1 ++ text2 = scale-other a.mark.now a.asize a.scale c.in_default.not-B16 in
+    let r0 = room_as out whole (text1 ++ text2) g.row.N is c.requires in
+    (search rules, room_first out text1 text2 g.row.N r0)
 
 pub append_decimal-requires : goal.append_decimal-requires
 append_decimal-requires g c =
-    let r0 = room_as c.args.out.now.items (scale_text c.args.mark.now c.args.asize c.args.scale) (c.args.mark.now ++ (decimal c.args.scale)) g.row.N (scale-other c.args.mark.now c.args.asize c.args.scale c.in_default.not-B16) c.requires in
-    let r1 = room_behind c.args.out.now.items c.args.mark.now (decimal c.args.scale) c.append_few.new.out.items g.row.N c.append_few.ensures r0 in
+    let a = c.args in
+    let out = a.out.now.items in
+    let out1 = c.append_few.new.out.items in
+    let text1 : List ℕ = a.mark.now in
+    let text2 : List ℕ = decimal a.scale in
+    let whole : List ℕ = scale_text a.mark.now a.asize a.scale in
+    let is : whole ≡ text1 ++ text2 = scale-other a.mark.now a.asize a.scale c.in_default.not-B16 in
+    let r0 = room_as out whole (text1 ++ text2) g.row.N is c.requires in
+    let r1 = room_behind out text1 text2 out1 g.row.N c.append_few.ensures r0 in
     (search rules, r1)
 
 pub returns-in_default : goal.returns-in_default
 returns-in_default g c =
-    text_as c.args.out.now.items c.append_decimal.new.out.items (scale_text c.args.mark.now c.args.asize c.args.scale) (c.args.mark.now ++ (decimal c.args.scale)) (scale-other c.args.mark.now c.args.asize c.args.scale c.in_default.not-B16)
-    (appended_behind c.args.out.now.items c.args.mark.now (decimal c.args.scale) c.append_few.new.out.items c.append_decimal.new.out.items c.append_few.ensures
+    let a = c.args in
+    let out = a.out.now.items in
+    let out1 = c.append_few.new.out.items in
+    let text1 : List ℕ = a.mark.now in
+    let text2 : List ℕ = decimal a.scale in
+    let end = c.append_decimal.new.out.items in
+    let whole : List ℕ = scale_text a.mark.now a.asize a.scale in
+    let is : whole ≡ text1 ++ text2 = scale-other a.mark.now a.asize a.scale c.in_default.not-B16 in
+    text_as out end whole (text1 ++ text2) is
+    (appended_behind out text1 text2 out1 end c.append_few.ensures
     c.append_decimal.ensures)

@@ -25,8 +25,11 @@ behind-space Att (b ∷ bs) e h = refl
 behind-space Masm (b ∷ bs) e h = absurd (e refl)
 
 pub append_few-requires : goal.append_few-requires
-append_few-requires g c =
-    (search rules, room_first c.args.out.now.items c.args.name.now (behind_size c.args.style c.args.name.now) g.row.N c.requires)
+append_few-requires g c = (
+  search rules,
+  room_first c.args.out.now.items c.args.name.now (behind_size c.args.style c.args.name.now)
+      g.row.N c.requires,
+)
 
 pub returns-in-empty : goal.returns-in-empty
 returns-in-empty g c =
@@ -38,8 +41,10 @@ returns-in-empty g c =
 pub append_few-requires-in-Masm : goal.append_few-requires-in-Masm
 append_few-requires-in-Masm g c =
     let name = c.args.name.now in
-    let behind : length (behind_size c.args.style name) ≡ 5 = ap (λ (xs : List ℕ). length xs) (behind-masm c.args.style name c.in-Masm.is c.in_default.len_at_least) in
-    let room = room_behind c.args.out.now.items name (behind_size c.args.style name) c.append_few.new.out.items g.row.N c.append_few.ensures c.requires in
+    let behind : length (behind_size c.args.style name) ≡ 5 =
+    ap (λ (xs : List ℕ). length xs) (behind-masm c.args.style name c.in-Masm.is c.in_default.len_at_least) in
+    let room = room_behind c.args.out.now.items name (behind_size c.args.style name) c.append_few.new.out.items
+    g.row.N c.append_few.ensures c.requires in
     (search rules, omega (arith, room, behind))
 
 pub returns-in-Masm : goal.returns-in-Masm
@@ -47,13 +52,16 @@ returns-in-Masm g c =
     let name = c.args.name.now in
     appended_behind c.args.out.now.items name (behind_size c.args.style name) c.append_few.new.out.items c.append_few-in-Masm.new.out.items c.append_few.ensures
     (c.append_few-in-Masm.ensures
-    ∙ ap (λ (xs : List ℕ). c.append_few.new.out.items ++ xs) (sym (behind-masm c.args.style name c.in-Masm.is c.in_default.len_at_least)))
+    ∙ ap (λ (xs : List ℕ). c.append_few.new.out.items ++ xs) (sym (behind-masm c.args.style name
+    c.in-Masm.is c.in_default.len_at_least)))
 
 pub append_few-requires-in_default-style : goal.append_few-requires-in_default-style
 append_few-requires-in_default-style g c =
     let name = c.args.name.now in
-    let behind : length (behind_size c.args.style name) ≡ 1 = ap (λ (xs : List ℕ). length xs) (behind-space c.args.style name c.in_default-style.not-Masm c.in_default.len_at_least) in
-    let room = room_behind c.args.out.now.items name (behind_size c.args.style name) c.append_few.new.out.items g.row.N c.append_few.ensures c.requires in
+    let behind : length (behind_size c.args.style name) ≡ 1 =
+    ap (λ (xs : List ℕ). length xs) (behind-space c.args.style name c.in_default-style.not-Masm c.in_default.len_at_least) in
+    let room = room_behind c.args.out.now.items name (behind_size c.args.style name) c.append_few.new.out.items
+    g.row.N c.append_few.ensures c.requires in
     (search rules, omega (arith, room, behind))
 
 pub returns-in_default-style : goal.returns-in_default-style

@@ -15,7 +15,8 @@ room_of_parts : (style : Style) (bits : Bits) (row : Row) (instr : Instr) (n : �
     → length out + length (separator (n == 0) op ++ bracket_operand style bits row instr n op) ≤ room
 unfolding operand_part
 room_of_parts style bits row instr n op is out room h =
-    subst (λ (x : Operand). length out + length (separator (n == 0) x ++ bracket_operand style bits row instr n x) ≤ room) (sym is) h
+    subst (λ (x : Operand). length out + length (separator (n == 0) x ++ bracket_operand style bits row instr n x)
+    ≤ room) (sym is) h
 
 -- and both are its text
 text_of_parts : (style : Style) (bits : Bits) (row : Row) (instr : Instr) (n : ℕ) (op : Operand) → op ≡ nth_operand instr n → (out whole : List ℕ)
@@ -48,7 +49,8 @@ absent-none style bits row instr n op e = rw e refl
 pub returns-in-Absent : goal.returns-in-Absent
 returns-in-Absent g c =
     let out = c.args.out.now.items in
-    text_of_parts c.args.style c.args.bits c.args.row.now c.args.instr.now c.args.n c.operand_at-op.result.now c.operand_at-op.ensures out out
+    text_of_parts c.args.style c.args.bits c.args.row.now c.args.instr.now c.args.n c.operand_at-op.result.now
+    c.operand_at-op.ensures out out
     (sym (ap (λ (xs : List ℕ). out ++ xs) (absent-none c.args.style c.args.bits c.args.row.now c.args.instr.now c.args.n c.operand_at-op.result.now c.in-Absent.is) ∙ append-nil out))
 
 pub append_separator-requires : goal.append_separator-requires
@@ -56,7 +58,8 @@ append_separator-requires g c =
     let op = c.operand_at-op.result.now in (
       search rules,
       room_first c.args.out.now.items (separator (c.args.n == 0) op) (bracket_operand c.args.style c.args.bits c.args.row.now c.args.instr.now c.args.n op) g.row.N
-          (room_of_parts c.args.style c.args.bits c.args.row.now c.args.instr.now c.args.n op c.operand_at-op.ensures c.args.out.now.items g.row.N c.requires.room),
+          (room_of_parts c.args.style c.args.bits c.args.row.now c.args.instr.now c.args.n op
+          c.operand_at-op.ensures c.args.out.now.items g.row.N c.requires.room),
     )
 
 pub append_register-requires : goal.append_register-requires
@@ -70,7 +73,8 @@ append_register-requires g c = (
 pub returns-in-Reg : goal.returns-in-Reg
 unfolding bracket_operand
 returns-in-Reg g c =
-    operand_text c.args.style c.args.bits c.args.row.now c.args.instr.now c.args.n c.operand_at-op.result.now (Reg c.in-Reg.r) c.operand_at-op.ensures c.in-Reg.is
+    operand_text c.args.style c.args.bits c.args.row.now c.args.instr.now c.args.n c.operand_at-op.result.now (Reg
+    c.in-Reg.r) c.operand_at-op.ensures c.in-Reg.is
     c.args.out.now.items c.append_separator.new.out.items c.append_register.new.out.items c.append_separator.ensures c.append_register.ensures
 
 pub append_number-requires : goal.append_number-requires
@@ -84,7 +88,8 @@ append_number-requires g c = (
 pub returns-in-Imm : goal.returns-in-Imm
 unfolding bracket_operand
 returns-in-Imm g c =
-    operand_text c.args.style c.args.bits c.args.row.now c.args.instr.now c.args.n c.operand_at-op.result.now (Imm c.in-Imm.x) c.operand_at-op.ensures c.in-Imm.is
+    operand_text c.args.style c.args.bits c.args.row.now c.args.instr.now c.args.n c.operand_at-op.result.now (Imm
+    c.in-Imm.x) c.operand_at-op.ensures c.in-Imm.is
     c.args.out.now.items c.append_separator.new.out.items c.append_number.new.out.items c.append_separator.ensures c.append_number.ensures
 
 pub append_number-requires-in-Near : goal.append_number-requires-in-Near
@@ -98,7 +103,8 @@ append_number-requires-in-Near g c = (
 pub returns-in-Near : goal.returns-in-Near
 unfolding bracket_operand
 returns-in-Near g c =
-    operand_text c.args.style c.args.bits c.args.row.now c.args.instr.now c.args.n c.operand_at-op.result.now (Near c.in-Near.x) c.operand_at-op.ensures c.in-Near.is
+    operand_text c.args.style c.args.bits c.args.row.now c.args.instr.now c.args.n c.operand_at-op.result.now (Near
+    c.in-Near.x) c.operand_at-op.ensures c.in-Near.is
     c.args.out.now.items c.append_separator.new.out.items c.append_number-in-Near.new.out.items c.append_separator.ensures c.append_number-in-Near.ensures
 
 pub append_far-requires : goal.append_far-requires
@@ -112,7 +118,8 @@ append_far-requires g c = (
 pub returns-in-Far : goal.returns-in-Far
 unfolding bracket_operand
 returns-in-Far g c =
-    operand_text c.args.style c.args.bits c.args.row.now c.args.instr.now c.args.n c.operand_at-op.result.now (Far c.in-Far.selector c.in-Far.offset) c.operand_at-op.ensures c.in-Far.is
+    operand_text c.args.style c.args.bits c.args.row.now c.args.instr.now c.args.n c.operand_at-op.result.now (Far
+    c.in-Far.selector c.in-Far.offset) c.operand_at-op.ensures c.in-Far.is
     c.args.out.now.items c.append_separator.new.out.items c.append_far.new.out.items c.append_separator.ensures c.append_far.ensures
 
 pub append_memory-requires : goal.append_memory-requires
@@ -123,7 +130,8 @@ append_memory-requires g c = (
     c.requires.number,
     (
       c.requires.sound,
-      operand_room c.args.style c.args.bits c.args.row.now c.args.instr.now c.args.n c.operand_at-op.result.now (Memory c.in-Mem.m) c.operand_at-op.ensures c.in-Mem.is
+      operand_room c.args.style c.args.bits c.args.row.now c.args.instr.now c.args.n c.operand_at-op.result.now (Memory
+          c.in-Mem.m) c.operand_at-op.ensures c.in-Mem.is
           c.args.out.now.items c.append_separator.new.out.items g.row.N c.append_separator.ensures c.requires.room,
     ),
   ),
@@ -132,5 +140,6 @@ append_memory-requires g c = (
 pub returns-in-Mem : goal.returns-in-Mem
 unfolding bracket_operand
 returns-in-Mem g c =
-    operand_text c.args.style c.args.bits c.args.row.now c.args.instr.now c.args.n c.operand_at-op.result.now (Memory c.in-Mem.m) c.operand_at-op.ensures c.in-Mem.is
+    operand_text c.args.style c.args.bits c.args.row.now c.args.instr.now c.args.n c.operand_at-op.result.now (Memory
+    c.in-Mem.m) c.operand_at-op.ensures c.in-Mem.is
     c.args.out.now.items c.append_separator.new.out.items c.append_memory.new.out.items c.append_separator.ensures c.append_memory.ensures

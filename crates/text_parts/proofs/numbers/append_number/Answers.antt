@@ -18,42 +18,106 @@ number-other Masm n e = absurd (e refl)
 
 pub append_few-requires : goal.append_few-requires
 append_few-requires g c =
-    let r0 = room_as c.args.out.now.items (number c.args.style c.args.n) ((leading_zero c.args.n) ++ ((hexadecimal c.args.n) ++ (codes "h"))) g.row.N (number-masm c.args.style c.args.n c.in-Masm.is) c.requires in
-    (search rules, omega (arith, room_first c.args.out.now.items (leading_zero c.args.n) ((hexadecimal c.args.n) ++ (codes "h")) g.row.N r0, ap (λ (xs : List ℕ). length xs) (c.leading_zero.ensures)))
+    let a = c.args in
+    let out = a.out.now.items in
+    let text1 : List ℕ = leading_zero a.n in
+    let text2 : List ℕ = hexadecimal a.n in
+    let text3 : List ℕ = codes "h" in
+    let whole : List ℕ = number a.style a.n in
+    let is : whole ≡ text1 ++ (text2 ++ text3) = number-masm a.style a.n c.in-Masm.is in
+    let r0 = room_as out whole (text1 ++ (text2 ++ text3)) g.row.N is c.requires in (
+      search rules,
+      omega (
+        arith,
+        room_first out text1 (text2 ++ text3) g.row.N r0,
+        ap (λ (xs : List ℕ). length xs) c.leading_zero.ensures,
+      ),
+    )
 
 pub append_hexadecimal-requires : goal.append_hexadecimal-requires
 append_hexadecimal-requires g c =
-    let r0 = room_as c.args.out.now.items (number c.args.style c.args.n) ((leading_zero c.args.n) ++ ((hexadecimal c.args.n) ++ (codes "h"))) g.row.N (number-masm c.args.style c.args.n c.in-Masm.is) c.requires in
-    let r1 = room_behind c.args.out.now.items (leading_zero c.args.n) ((hexadecimal c.args.n) ++ (codes "h")) c.append_few.new.out.items g.row.N (c.append_few.ensures ∙ ap (λ (xs : List ℕ). c.args.out.now.items ++ xs) (c.leading_zero.ensures)) r0 in
-    (search rules, room_first c.append_few.new.out.items (hexadecimal c.args.n) (codes "h") g.row.N r1)
+    let a = c.args in
+    let out = a.out.now.items in
+    let out1 = c.append_few.new.out.items in
+    let text1 : List ℕ = leading_zero a.n in
+    let text2 : List ℕ = hexadecimal a.n in
+    let text3 : List ℕ = codes "h" in
+    let whole : List ℕ = number a.style a.n in
+    let is : whole ≡ text1 ++ (text2 ++ text3) = number-masm a.style a.n c.in-Masm.is in
+    let r0 = room_as out whole (text1 ++ (text2 ++ text3)) g.row.N is c.requires in
+    let r1 = room_behind out text1 (text2 ++ text3) out1 g.row.N
+    (c.append_few.ensures ∙ ap (λ (xs : List ℕ). out ++ xs) c.leading_zero.ensures) r0 in
+    (search rules, room_first out1 text2 text3 g.row.N r1)
 
 pub append_few-requires-in-Masm : goal.append_few-requires-in-Masm
 append_few-requires-in-Masm g c =
-    let r0 = room_as c.args.out.now.items (number c.args.style c.args.n) ((leading_zero c.args.n) ++ ((hexadecimal c.args.n) ++ (codes "h"))) g.row.N (number-masm c.args.style c.args.n c.in-Masm.is) c.requires in
-    let r1 = room_behind c.args.out.now.items (leading_zero c.args.n) ((hexadecimal c.args.n) ++ (codes "h")) c.append_few.new.out.items g.row.N (c.append_few.ensures ∙ ap (λ (xs : List ℕ). c.args.out.now.items ++ xs) (c.leading_zero.ensures)) r0 in
-    let r2 = room_behind c.append_few.new.out.items (hexadecimal c.args.n) (codes "h") c.append_hexadecimal.new.out.items g.row.N c.append_hexadecimal.ensures r1 in
+    let a = c.args in
+    let out = a.out.now.items in
+    let out1 = c.append_few.new.out.items in
+    let out2 = c.append_hexadecimal.new.out.items in
+    let text1 : List ℕ = leading_zero a.n in
+    let text2 : List ℕ = hexadecimal a.n in
+    let text3 : List ℕ = codes "h" in
+    let whole : List ℕ = number a.style a.n in
+    let is : whole ≡ text1 ++ (text2 ++ text3) = number-masm a.style a.n c.in-Masm.is in
+    let r0 = room_as out whole (text1 ++ (text2 ++ text3)) g.row.N is c.requires in
+    let r1 = room_behind out text1 (text2 ++ text3) out1 g.row.N
+    (c.append_few.ensures ∙ ap (λ (xs : List ℕ). out ++ xs) c.leading_zero.ensures) r0 in
+    let r2 = room_behind out1 text2 text3 out2 g.row.N c.append_hexadecimal.ensures r1 in
     (search rules, r2)
 
 pub returns-in-Masm : goal.returns-in-Masm
 returns-in-Masm g c =
-    text_as c.args.out.now.items c.append_few-in-Masm.new.out.items (number c.args.style c.args.n) ((leading_zero c.args.n) ++ ((hexadecimal c.args.n) ++ (codes "h"))) (number-masm c.args.style c.args.n c.in-Masm.is)
-    (appended_behind c.args.out.now.items (leading_zero c.args.n) ((hexadecimal c.args.n) ++ (codes "h")) c.append_few.new.out.items c.append_few-in-Masm.new.out.items (c.append_few.ensures ∙ ap (λ (xs : List ℕ). c.args.out.now.items ++ xs) (c.leading_zero.ensures))
-    (appended_behind c.append_few.new.out.items (hexadecimal c.args.n) (codes "h") c.append_hexadecimal.new.out.items c.append_few-in-Masm.new.out.items c.append_hexadecimal.ensures
+    let a = c.args in
+    let out = a.out.now.items in
+    let out1 = c.append_few.new.out.items in
+    let out2 = c.append_hexadecimal.new.out.items in
+    let text1 : List ℕ = leading_zero a.n in
+    let text2 : List ℕ = hexadecimal a.n in
+    let text3 : List ℕ = codes "h" in
+    let end = c.append_few-in-Masm.new.out.items in
+    let whole : List ℕ = number a.style a.n in
+    let is : whole ≡ text1 ++ (text2 ++ text3) = number-masm a.style a.n c.in-Masm.is in
+    text_as out end whole (text1 ++ (text2 ++ text3)) is
+    (appended_behind out text1 (text2 ++ text3) out1 end
+    (c.append_few.ensures ∙ ap (λ (xs : List ℕ). out ++ xs) c.leading_zero.ensures)
+    (appended_behind out1 text2 text3 out2 end c.append_hexadecimal.ensures
     c.append_few-in-Masm.ensures))
 
 pub append_few-requires-in_default : goal.append_few-requires-in_default
 append_few-requires-in_default g c =
-    let r0 = room_as c.args.out.now.items (number c.args.style c.args.n) ((codes "0x") ++ (hexadecimal c.args.n)) g.row.N (number-other c.args.style c.args.n c.in_default.not-Masm) c.requires in
-    (search rules, room_first c.args.out.now.items (codes "0x") (hexadecimal c.args.n) g.row.N r0)
+    let a = c.args in
+    let out = a.out.now.items in
+    let text1 : List ℕ = codes "0x" in
+    let text2 : List ℕ = hexadecimal a.n in
+    let whole : List ℕ = number a.style a.n in
+    let is : whole ≡ text1 ++ text2 = number-other a.style a.n c.in_default.not-Masm in
+    let r0 = room_as out whole (text1 ++ text2) g.row.N is c.requires in
+    (search rules, room_first out text1 text2 g.row.N r0)
 
 pub append_hexadecimal-requires-in_default : goal.append_hexadecimal-requires-in_default
 append_hexadecimal-requires-in_default g c =
-    let r0 = room_as c.args.out.now.items (number c.args.style c.args.n) ((codes "0x") ++ (hexadecimal c.args.n)) g.row.N (number-other c.args.style c.args.n c.in_default.not-Masm) c.requires in
-    let r1 = room_behind c.args.out.now.items (codes "0x") (hexadecimal c.args.n) c.append_few-in_default.new.out.items g.row.N c.append_few-in_default.ensures r0 in
+    let a = c.args in
+    let out = a.out.now.items in
+    let out1 = c.append_few-in_default.new.out.items in
+    let text1 : List ℕ = codes "0x" in
+    let text2 : List ℕ = hexadecimal a.n in
+    let whole : List ℕ = number a.style a.n in
+    let is : whole ≡ text1 ++ text2 = number-other a.style a.n c.in_default.not-Masm in
+    let r0 = room_as out whole (text1 ++ text2) g.row.N is c.requires in
+    let r1 = room_behind out text1 text2 out1 g.row.N c.append_few-in_default.ensures r0 in
     (search rules, r1)
 
 pub returns-in_default : goal.returns-in_default
 returns-in_default g c =
-    text_as c.args.out.now.items c.append_hexadecimal-in_default.new.out.items (number c.args.style c.args.n) ((codes "0x") ++ (hexadecimal c.args.n)) (number-other c.args.style c.args.n c.in_default.not-Masm)
-    (appended_behind c.args.out.now.items (codes "0x") (hexadecimal c.args.n) c.append_few-in_default.new.out.items c.append_hexadecimal-in_default.new.out.items c.append_few-in_default.ensures
+    let a = c.args in
+    let out = a.out.now.items in
+    let out1 = c.append_few-in_default.new.out.items in
+    let text1 : List ℕ = codes "0x" in
+    let text2 : List ℕ = hexadecimal a.n in
+    let end = c.append_hexadecimal-in_default.new.out.items in
+    let whole : List ℕ = number a.style a.n in
+    let is : whole ≡ text1 ++ text2 = number-other a.style a.n c.in_default.not-Masm in
+    text_as out end whole (text1 ++ text2) is
+    (appended_behind out text1 text2 out1 end c.append_few-in_default.ensures
     c.append_hexadecimal-in_default.ensures)
