@@ -1,6 +1,6 @@
-use Rattle.std.proofs.Common.{◌≡◌, ℕ, ◌+◌, ◌≤◌, List, ◌++◌, length, rules, subst, sym}
+use Rattle.std.proofs.Common.{◌≡◌, ℕ, ◌+◌, ◌≤◌, List, ◌++◌, length, rules, ap, subst, sym, ◌∙◌, arith}
 use Rattle.x86_values.specs.declared.Register.{Register}
-use Rattle.x86_values.specs.declared.Register.TheVariants.{Low8, R16, R32, R64, Cr, Dr, St, Mm, Xmm, Ymm}
+use Rattle.x86_values.specs.declared.Register.TheVariants.{Low8, High8, R16, R32, R64, Cr, Dr, St, Mm, Xmm, Ymm, Seg, Eip, Rip}
 use Rattle.text_parts.specs.declared.style.Style.{Style}
 use Rattle.text_parts.specs.Registers.{register_name}
 use Rattle.text_parts.proofs.registers.append_register_name.Goals as goal
@@ -115,3 +115,47 @@ pub returns-in-Ymm : goal.returns-in-Ymm
 unfolding register_name
 returns-in-Ymm g c =
     name_text c.args.style c.args.r (Ymm c.in-Ymm.n) c.in-Ymm.is c.args.out.now.items c.append_numbered-in-Ymm.new.out.items c.append_numbered-in-Ymm.ensures
+
+pub append_few-requires : goal.append_few-requires
+unfolding register_name
+append_few-requires g c =
+    let room = name_room c.args.style c.args.r (High8 c.in-High8.n) c.in-High8.is c.args.out.now.items g.row.N c.requires in
+    (search rules, omega (arith, room, ap (λ (xs : List ℕ). length xs) c.high_byte_name.ensures))
+
+pub returns-in-High8 : goal.returns-in-High8
+unfolding register_name
+returns-in-High8 g c =
+    name_text c.args.style c.args.r (High8 c.in-High8.n) c.in-High8.is c.args.out.now.items c.append_few.new.out.items
+    (c.append_few.ensures ∙ ap (λ (xs : List ℕ). c.args.out.now.items ++ xs) c.high_byte_name.ensures)
+
+pub append_few-requires-in-Seg : goal.append_few-requires-in-Seg
+unfolding register_name
+append_few-requires-in-Seg g c =
+    let room = name_room c.args.style c.args.r (Seg c.in-Seg.s) c.in-Seg.is c.args.out.now.items g.row.N c.requires in
+    (search rules, omega (arith, room, ap (λ (xs : List ℕ). length xs) c.segment_name.ensures))
+
+pub returns-in-Seg : goal.returns-in-Seg
+unfolding register_name
+returns-in-Seg g c =
+    name_text c.args.style c.args.r (Seg c.in-Seg.s) c.in-Seg.is c.args.out.now.items c.append_few-in-Seg.new.out.items
+    (c.append_few-in-Seg.ensures ∙ ap (λ (xs : List ℕ). c.args.out.now.items ++ xs) c.segment_name.ensures)
+
+pub append_few-requires-in-Eip : goal.append_few-requires-in-Eip
+unfolding register_name
+append_few-requires-in-Eip g c =
+    (search rules, name_room c.args.style c.args.r Eip c.in-Eip.is c.args.out.now.items g.row.N c.requires)
+
+pub returns-in-Eip : goal.returns-in-Eip
+unfolding register_name
+returns-in-Eip g c =
+    name_text c.args.style c.args.r Eip c.in-Eip.is c.args.out.now.items c.append_few-in-Eip.new.out.items c.append_few-in-Eip.ensures
+
+pub append_few-requires-in-Rip : goal.append_few-requires-in-Rip
+unfolding register_name
+append_few-requires-in-Rip g c =
+    (search rules, name_room c.args.style c.args.r Rip c.in-Rip.is c.args.out.now.items g.row.N c.requires)
+
+pub returns-in-Rip : goal.returns-in-Rip
+unfolding register_name
+returns-in-Rip g c =
+    name_text c.args.style c.args.r Rip c.in-Rip.is c.args.out.now.items c.append_few-in-Rip.new.out.items c.append_few-in-Rip.ensures
