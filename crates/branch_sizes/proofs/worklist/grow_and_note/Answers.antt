@@ -1,4 +1,4 @@
-use Rattle.std.proofs.Common.{refl, sym, arith}
+use Rattle.std.proofs.Common.{refl, arith}
 use Rattle.std.proofs.lemmas.Bool.{false≢true}
 use Rattle.branch_sizes.specs.Tables.{plan_in}
 use Rattle.branch_sizes.proofs.Growing.{grows_none}
