@@ -1,5 +1,5 @@
 -- An address of a base of 64 bits alone meets what is asked of addresses.
-use Rattle.std.proofs.Common.{◌≡◌, ℕ, Bool, true, ◌&&◌, ◌==◌, refl}
+use Rattle.std.proofs.Common.{◌≡◌, ℕ, true, ◌&&◌, ◌==◌, refl}
 use Rattle.std.proofs.lemmas.Bool.{and_parts}
 use Rattle.std.specs.Prelude.{Option, Some, None}
 use Rattle.x86_values.specs.declared.Bits.{Bits}
