@@ -1,5 +1,6 @@
 -- An address of a base of 64 bits alone meets what is asked of addresses.
-use Rattle.std.proofs.Common.{◌≡◌, ℕ, Bool, true, ◌&&◌, ◌==◌, refl}
+use Rattle.std.proofs.Common.{◌≡◌, ℕ, true, ◌&&◌, ◌==◌, refl}
+use Rattle.std.proofs.lemmas.Bool.{and_parts}
 use Rattle.std.specs.Prelude.{Option, Some, None}
 use Rattle.x86_values.specs.declared.Bits.{Bits}
 use Rattle.x86_values.specs.declared.Bits.TheVariants.{B64}
@@ -24,15 +25,16 @@ record Based (bits : Bits) (m : Mem) : Type 0 where
   displacement_offered : wide_offers m.base (displacement_count m.disp_size) ≡ true
   extended : is_extended_of (displacement_count m.disp_size) 64 m.disp ≡ true
 
-six : (a b c d e f : Bool) → (a && (b && (c && (d && (e && f))))) ≡ true → (a ≡ true) × ((b ≡ true) × ((c ≡ true) × ((d ≡ true) × ((e ≡ true) × (f ≡ true)))))
-six true true true true true true h = (refl, (refl, (refl, (refl, (refl, refl)))))
-six _ _ _ _ _ _ h = cc
-
 based : (bits : Bits) (m : Mem) → is_based bits m ≡ true → Based bits m
 unfolding is_based
 based bits m h =
-    let s = six (is_64 bits) (is_sole_base m.base m.index) (is_base bits B64 m.base) (m.scale == 1) (wide_offers m.base (displacement_count m.disp_size)) (is_extended_of (displacement_count m.disp_size) 64 m.disp) h in
-    record { mode = s.0; sole = s.1.0; base = s.1.1.0; scale = s.1.1.1.0; displacement_offered = s.1.1.1.1.0; extended = s.1.1.1.1.1 }
+    let displaced = wide_offers m.base (displacement_count m.disp_size) && is_extended_of (displacement_count m.disp_size) 64 m.disp in
+    let a = and_parts (is_64 bits) _ h in
+    let b = and_parts (is_sole_base m.base m.index) (is_base bits B64 m.base && (m.scale == 1 && displaced)) a.1 in
+    let c = and_parts (is_base bits B64 m.base) (m.scale == 1 && displaced) b.1 in
+    let d = and_parts (m.scale == 1) displaced c.1 in
+    let e = and_parts (wide_offers m.base (displacement_count m.disp_size)) _ d.1 in
+    record { mode = a.0; sole = b.0; base = c.0; scale = d.0; displacement_offered = e.0; extended = e.1 }
 
 shape-by : (bits : Bits) (row : Row) (how : Method) (file : File) (m : Mem) (base index : Option Register) → m.base ≡ base → m.index ≡ index → is_64 bits ≡ true
     → is_by_modrm how ≡ true → is_sole_base base index ≡ true → is_base bits B64 base ≡ true → (m.scale == 1) ≡ true → shape_suits bits row how file m ≡ true

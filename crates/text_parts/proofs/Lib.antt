@@ -1,3 +1,4 @@
+pub mod Appending
 pub mod Digits
 pub mod DigitPairs
 pub mod DigitValues

@@ -1,3 +1,5 @@
+use Rattle.std.proofs.Common.{length, inl, inr, arith, ap, refl, sym, ◌∙◌}
+use Rattle.std.proofs.lemmas.Bool.{cases_Bool, false≢true}
 use Rattle.branch_sizes.specs.Tables.{plan_in}
 use Rattle.branch_sizes.proofs.Growing.{grows_none, grows_twice}
 use Rattle.branch_sizes.proofs.worklist.settle.Goals as goal
@@ -50,3 +52,16 @@ queue-init c = record {
   lengths = c.suspects.invariant.lengths;
   grows = grows_none (plan_in c.args.tables.now) c.suspects.layout c.suspects.invariant.grows.layout;
 }
+
+pub queue-smaller : goal.queue-smaller
+queue-smaller c =
+    let e = c.in_ok-grow_and_note.ensures in
+    let popped = c.in-Some.ensures refl in
+    elim (cases_Bool c.in_ok-grow_and_note.field-0) [
+      | inl grew ↦ omega (arith, e.less grew, e.few, popped)
+      | inr idle ↦ omega (arith, e.grows.room, ap (λ v. length v.items) (e.idle (λ grew. false≢true (sym idle ∙ grew))), popped)
+    ]
+
+pub suspects-smaller : goal.suspects-smaller
+suspects-smaller c =
+    omega (arith, c.in_ok-grow_and_note-2.ensures.less c.if-not-branch.false, c.suspects.invariant.grows.room, c.queue.invariant.grows.room)
