@@ -1,3 +1,4 @@
+use crate::compare::same;
 use crate::ports::status_of;
 use byte_ports::{CountSink, MemSink, MemSource};
 use listing_run::{Status, status_number};
@@ -14,9 +15,10 @@ fn a_byte_past_the_limit_is_told(rt: HostRuntime) -> Result<(), Fail> {
     let mut err = MemSink::new(rt.alloc(), 80)?;
     let words = ["list", "64", "0", "intel"];
     let status = status_of(rt.alloc(), &words, &mut source, &mut out, &mut err);
-    assert_eq!(rt; status, Status::TooLarge { limit: 16_777_216 });
-    assert_eq!(rt; status_number(&status), 6);
-    assert_eq!(rt; out.count(), 872_414_504);
-    assert_eq!(rt; from_utf8(err.bytes())?, "input over 16777216 bytes\n");
+    let told = from_utf8(err.bytes())?;
+    let found = (status, status_number(&status), out.count(), told);
+    let limit = Status::TooLarge { limit: 16_777_216 };
+    let want = (limit, 6, 872_414_504, "input over 16777216 bytes\n");
+    same(&rt, &found, &want);
     Ok(())
 }

@@ -1,59 +1,15 @@
-use crate::ports::{FIRST_LINE, FUNCTION, OTHER_LINES, SHORT, ShortSink, at, status_of};
-use byte_ports::{FailAt, MakeError, MemSink, MemSource, SlowSource};
+use crate::compare::same;
+use crate::ports::{FUNCTION, LISTING, run_at_once, run_in_pieces, run_slowly};
 use listing_run::{Status, status_number};
-use std::alloc::Global;
 use std::process::Abort;
+use std::str::from_utf8;
 use std::test::Fail;
 
-/// What a run answered, and what its output and its error output hold.
-type Held = (Status, Vec<u8>, Vec<u8>);
+const DONE: Status = Status::Done;
 
-/// A command over the known function, given a byte at a time, with an output that fails at a call.
-fn run_slowly(alloc: Global, words: &[&str], call: u64) -> Result<Held, MakeError> {
-    let mut source = SlowSource::new(MemSource::new(&FUNCTION));
-    let mut out = FailAt::new(MemSink::new(alloc, 512)?, at(call));
-    let mut err = MemSink::new(alloc, 80)?;
-    let status = status_of(alloc, words, &mut source, &mut out, &mut err);
-    held(alloc, status, out.inner().bytes(), err.bytes())
-}
+const FAULT: Status = Status::WriteFault;
 
-/// The listing of the known function, given at once, with an output that fails at a call.
-fn list_at_once(alloc: Global, call: u64) -> Result<Held, MakeError> {
-    let mut source = MemSource::new(&FUNCTION);
-    let mut out = FailAt::new(MemSink::new(alloc, 512)?, at(call));
-    let mut err = MemSink::new(alloc, 80)?;
-    let words = ["list", "64", "401000", "intel"];
-    let status = status_of(alloc, &words, &mut source, &mut out, &mut err);
-    held(alloc, status, out.inner().bytes(), err.bytes())
-}
-
-/// The listing of the known function, given a byte at a time, with an output that takes a few bytes a call and fails
-/// at one.
-fn list_in_pieces(alloc: Global, call: u64) -> Result<Held, MakeError> {
-    let mut source = SlowSource::new(MemSource::new(&FUNCTION));
-    let mut out = FailAt::new(ShortSink::new(MemSink::new(alloc, 512)?), at(call));
-    let mut err = MemSink::new(alloc, 80)?;
-    let words = ["list", "64", "401000", "intel"];
-    let status = status_of(alloc, &words, &mut source, &mut out, &mut err);
-    held(alloc, status, out.inner().bytes(), err.bytes())
-}
-
-/// What a run leaves, with copies of what its outputs took.
-fn held(alloc: Global, status: Status, out: &[u8], err: &[u8]) -> Result<Held, MakeError> {
-    let out = out.to_vec(alloc).map_err(|_| MakeError::Memory)?;
-    let err = err.to_vec(alloc).map_err(|_| MakeError::Memory)?;
-    Ok((status, out, err))
-}
-
-/// That an output holds so many bytes of the first line and so many of the others.
-fn holds(rt: &impl Abort, out: &[u8], first: usize, others: usize, call: u64) {
-    assert_eq!(rt; out.len(), first.saturating_add(others), "call {call}");
-    let front = FIRST_LINE.as_bytes().get(..first);
-    assert!(rt; out.get(..first) == front, "the first line at call {call}");
-    let back = OTHER_LINES.as_bytes().get(..others);
-    assert!(rt; out.get(first..) == back, "the others at call {call}");
-}
-
+/// The commands that write as they go.
 const COMMANDS: &[&[&str]] = &[
     &["list", "64", "401000", "intel"],
     &["info", "64", "401000"],
@@ -64,52 +20,69 @@ const COMMANDS: &[&[&str]] = &[
 #[test]
 fn an_output_that_fails_at_once_holds_nothing(rt: HostRuntime) -> Result<(), Fail> {
     for words in COMMANDS {
-        let (status, out, err) = run_slowly(rt.alloc(), words, 1)?;
-        let answer = (status, status_number(&status), out.len());
-        assert_eq!(rt; answer, (Status::WriteFault, 4, 0), "{words:?}");
-        assert_eq!(rt; err.as_slice(), b"write fault\n".as_slice(), "{words:?}");
+        let (status, out, err) = run_slowly(rt.alloc(), words, FUNCTION, 0, 1)?;
+        let told = from_utf8(&err)?;
+        let found = (words, status, status_number(&status), out.len(), told);
+        same(&rt, &found, &(words, FAULT, 4, 0, "write fault\n"));
     }
     Ok(())
+}
+
+const LIST: &[&str] = &["list", "64", "401000", "intel"];
+
+/// That a run whose output failed at a call has this status and left so many bytes of the listing.
+fn leaves(rt: &impl Abort, call: u64, found: (Status, &[u8]), status: Status, len: usize) {
+    let (answer, out) = found;
+    let want = (call, status, LISTING.as_bytes().get(..len));
+    same(rt, &(call, answer, Some(out)), &want);
 }
 
 /// The listing of the known function is put in two calls: the first line, and the others once the input has ended.
+const AT_ONCE: &[(u64, Status, usize)] = &[(1, FAULT, 0), (2, FAULT, 57), (3, DONE, 348)];
+
 #[test]
 fn a_sink_that_fails_at_a_call_holds_what_came_before(rt: HostRuntime) -> Result<(), Fail> {
-    let (first, others) = (FIRST_LINE.len(), OTHER_LINES.len());
-    for (call, status, first, others) in &[
-        (1, Status::WriteFault, 0, 0),
-        (2, Status::WriteFault, first, 0),
-        (3, Status::Done, first, others),
-    ] {
-        let (answer, out, _) = list_at_once(rt.alloc(), *call)?;
-        assert_eq!(rt; answer, *status, "call {call}");
-        holds(&rt, &out, *first, *others, *call);
+    for (call, status, len) in AT_ONCE {
+        let (answer, out, _) = run_at_once(rt.alloc(), LIST, FUNCTION, *call)?;
+        leaves(&rt, *call, (answer, &out), *status, *len);
     }
     Ok(())
-}
-
-/// What a sink leaves that takes a few bytes a call and fails behind so many calls: the status, and the bytes of the first
-/// line and of the others.
-fn left_behind(calls: usize) -> (Status, usize, usize) {
-    if calls < 4 {
-        (Status::WriteFault, SHORT * calls, 0)
-    } else if calls < 23 {
-        (Status::WriteFault, FIRST_LINE.len(), SHORT * (calls - 4))
-    } else {
-        (Status::Done, FIRST_LINE.len(), OTHER_LINES.len())
-    }
 }
 
 /// A sink that takes 16 bytes at a time is called 4 times for the first line, 57 bytes, and 19 times for the others, 291 bytes. At each call that fails it
 /// holds the pieces that came before.
+const IN_PIECES: &[(u64, Status, usize)] = &[
+    (1, FAULT, 0),
+    (2, FAULT, 16),
+    (3, FAULT, 32),
+    (4, FAULT, 48),
+    (5, FAULT, 57),
+    (6, FAULT, 73),
+    (7, FAULT, 89),
+    (8, FAULT, 105),
+    (9, FAULT, 121),
+    (10, FAULT, 137),
+    (11, FAULT, 153),
+    (12, FAULT, 169),
+    (13, FAULT, 185),
+    (14, FAULT, 201),
+    (15, FAULT, 217),
+    (16, FAULT, 233),
+    (17, FAULT, 249),
+    (18, FAULT, 265),
+    (19, FAULT, 281),
+    (20, FAULT, 297),
+    (21, FAULT, 313),
+    (22, FAULT, 329),
+    (23, FAULT, 345),
+    (24, DONE, 348),
+];
+
 #[test]
 fn a_sink_that_takes_a_few_bytes_holds_the_pieces_before(rt: HostRuntime) -> Result<(), Fail> {
-    for before in 0..24 {
-        let call = before as u64 + 1;
-        let (answer, out, _) = list_in_pieces(rt.alloc(), call)?;
-        let (status, first, others) = left_behind(before);
-        assert_eq!(rt; answer, status, "call {call}");
-        holds(&rt, &out, first, others, call);
+    for (call, status, len) in IN_PIECES {
+        let (answer, out, _) = run_in_pieces(rt.alloc(), LIST, FUNCTION, *call)?;
+        leaves(&rt, *call, (answer, &out), *status, *len);
     }
     Ok(())
 }
