@@ -1,16 +1,23 @@
-use Rattle.std.proofs.Common.{◌≡◌, ◌<◌, List, [], ◌∷◌, map, get_or, ℕ, zero, suc, refl, arith}
-use Rattle.opcode_rows.specs.Table.{names_from_0, names_from_512, names_from_1024}
-use Rattle.opcode_rows.specs.NameLines.{names_in_line}
+use Rattle.std.proofs.Common.{◌≡◌, ◌<◌, List, [], ◌∷◌, map, get_or, ℕ, zero, suc, refl, ap, ◌∙◌, arith}
+use Rattle.opcode_rows.specs.NameLines.{early_lines, names_in_line}
 use Rattle.opcode_rows.proofs.names.names_in_line.Goals as goal
 
+get-map : {T : Type 0} (now : T → List ℕ) (ls : List (List T)) (n : ℕ) (d : List T)
+    → map now (get_or ls n d) ≡ get_or (map (map now) ls) n (map now d)
+get-map now [] n d = refl
+get-map now (l ∷ ls) zero d = refl
+get-map now (l ∷ ls) (suc n) d = get-map now ls n d
+
+get-line : (n : ℕ) (d : List (List ℕ)) → n < 3 → get_or early_lines n d ≡ names_in_line n
+get-line zero d lt = refl
+get-line (suc zero) d lt = refl
+get-line (suc (suc zero)) d lt = refl
+get-line (suc (suc (suc n))) d lt = absurd (omega (arith, lt))
+
 -- one of three lines
-line-at : {T : Type 0} (now : T → List ℕ) (xs ys zs d : List T) (n : ℕ) → n < 3
-    → map now xs ≡ names_from_0 → map now ys ≡ names_from_512 → map now zs ≡ names_from_1024
-    → map now (get_or (xs ∷ ys ∷ zs ∷ []) n d) ≡ names_in_line n
-line-at now xs ys zs d zero lt x y z = x
-line-at now xs ys zs d (suc zero) lt x y z = y
-line-at now xs ys zs d (suc (suc zero)) lt x y z = z
-line-at now xs ys zs d (suc (suc (suc n))) lt x y z = absurd (omega (arith, lt))
+line-at : {T : Type 0} (now : T → List ℕ) (ls : List (List T)) (n : ℕ) (d : List T)
+    → map (map now) ls ≡ early_lines → n < 3 → map now (get_or ls n d) ≡ names_in_line n
+line-at now ls n d e lt = get-map now ls n d ∙ ap (λ l. get_or l n (map now d)) e ∙ get-line n (map now d) lt
 
 pub returns-clause-names : goal.returns-clause-names
-returns-clause-names c = line-at _ _ _ _ _ c.args.n c.requires refl refl refl
+returns-clause-names c = line-at (λ name. name.now) c.early_lines.result.now c.args.n _ c.early_lines.ensures c.requires
