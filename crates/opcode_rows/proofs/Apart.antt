@@ -7,16 +7,18 @@ use Rattle.row_fields.specs.declared.Fields.{Fields}
 use Rattle.row_fields.specs.Holds.{RowsAreApart, prefix_holds, w_holds, rex_b_holds}
 use Rattle.row_fields.proofs.Holding.{apart}
 use Rattle.row_fields.specs.Masks.{nth, allows, meets, two, three, four, reg_mask, rm_mask, marked_size, size_mask, masks}
-use Rattle.row_fields.proofs.Apart.{disjoint, mask_apart, masks_apart, apart_from, all_apart, cell_apart, kind_apart, table_apart, at_most_one}
+use Rattle.row_fields.proofs.Apart.{disjoint, mask_apart, masks_apart, apart_from, all_apart, cell_apart, at_most_one}
+use Rattle.opcode_rows.proofs.Blocks.{each_of_256, each_of_16, near_rows, apart_by_16, apart-by_16}
 use Rattle.rows_integer.specs.Table.{table as integer_rows, flat_rows as integer_flat}
 use Rattle.rows_x87.specs.Table.{table as x87_rows, flat_rows as x87_flat}
 use Rattle.rows_sse.specs.Table.{table as sse_rows, flat_rows as sse_flat}
 use Rattle.rows_vex.specs.Table.{table as vex_rows, flat_rows as vex_flat}
-use Rattle.opcode_rows.specs.Table.{spots, rows_in, table}
+use Rattle.opcode_rows.specs.Table.{spots, table}
+use Rattle.opcode_rows.proofs.Woven.{woven, woven_table, by_walk}
 
-is_apart : table_apart table ≡ true
-unfolding prefix_holds w_holds rex_b_holds exists_in nth allows meets two three four reg_mask rm_mask marked_size size_mask masks rows_with_codes of_number at_opcode cands below disjoint mask_apart masks_apart apart_from all_apart cell_apart kind_apart table_apart table rows_in spots integer_rows integer_flat x87_rows x87_flat sse_rows sse_flat vex_rows vex_flat
+is_apart : apart_by_16 woven_table ≡ true
+unfolding apart_by_16 each_of_256 each_of_16 near_rows prefix_holds w_holds rex_b_holds exists_in nth allows meets two three four reg_mask rm_mask marked_size size_mask masks rows_with_codes of_number at_opcode cands below disjoint mask_apart masks_apart apart_from all_apart cell_apart woven_table woven spots integer_rows integer_flat x87_rows x87_flat sse_rows sse_flat vex_rows vex_flat
 is_apart = refl
 
 pub rows_apart : (bits : Bits) (f : Fields) → f.opcode < 256 → RowsAreApart bits table f
-rows_apart bits f lt = apart bits table f (at_most_one table is_apart bits f lt)
+rows_apart bits f lt = apart bits table f (at_most_one table (apart-by_16 table (by_walk apart_by_16 is_apart)) bits f lt)

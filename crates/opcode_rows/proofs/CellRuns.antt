@@ -9,27 +9,29 @@ use Rattle.row_types.specs.declared.RowKind.TheVariants as kind
 use Rattle.row_types.specs.declared.Map.{Map}
 use Rattle.row_lists.specs.declared.Span.{Span}
 use Rattle.row_lists.specs.Cells.{map_index, cell_span, IsRunOf}
-use Rattle.row_lists.specs.Runs.{run_at, line_runs, spans_fit}
+use Rattle.row_lists.specs.Runs.{run_at, spans_fit}
+use Rattle.opcode_rows.proofs.Blocks.{each_of_256, each_of_16, near_rows, fit_by_16, fit-by_16}
 use Rattle.row_lists.proofs.Runs.{map_index-lt, length-cell, row-of_span, run-of_span}
 use Rattle.rows_integer.specs.Table.{table as integer_rows, flat_rows as integer_flat}
 use Rattle.rows_x87.specs.Table.{table as x87_rows, flat_rows as x87_flat}
 use Rattle.rows_sse.specs.Table.{table as sse_rows, flat_rows as sse_flat}
 use Rattle.rows_vex.specs.Table.{table as vex_rows, flat_rows as vex_flat}
 use Rattle.opcode_rows.specs.declared.generated_spots.TheConstants.{ROWS}
-use Rattle.opcode_rows.specs.Table.{spots, rows_in, table, cell, legacy_spans, vex_spans, table_spans}
+use Rattle.opcode_rows.proofs.Woven.{woven, woven_table, by_walk}
+use Rattle.opcode_rows.specs.Table.{spots, table, cell, legacy_spans, vex_spans, table_spans}
 use Rattle.opcode_rows.proofs.JoinFacts.{length-table}
 
-legacy_runs : spans_fit kind.Legacy legacy_spans table ≡ true
-unfolding rows_with_codes of_number at_opcode below is_run run_at line_runs spans_fit cell_span legacy_spans table rows_in spots integer_rows integer_flat x87_rows x87_flat sse_rows sse_flat vex_rows vex_flat
+legacy_runs : fit_by_16 kind.Legacy legacy_spans woven_table ≡ true
+unfolding fit_by_16 each_of_256 each_of_16 near_rows rows_with_codes of_number at_opcode below is_run run_at cell_span legacy_spans woven_table woven spots integer_rows integer_flat x87_rows x87_flat sse_rows sse_flat vex_rows vex_flat
 legacy_runs = refl
 
-vex_runs : spans_fit kind.Vex vex_spans table ≡ true
-unfolding rows_with_codes of_number at_opcode below is_run run_at line_runs spans_fit cell_span vex_spans table rows_in spots integer_rows integer_flat x87_rows x87_flat sse_rows sse_flat vex_rows vex_flat
+vex_runs : fit_by_16 kind.Vex vex_spans woven_table ≡ true
+unfolding fit_by_16 each_of_256 each_of_16 near_rows rows_with_codes of_number at_opcode below is_run run_at cell_span vex_spans woven_table woven spots integer_rows integer_flat x87_rows x87_flat sse_rows sse_flat vex_rows vex_flat
 vex_runs = refl
 
 runs_of : (k : RowKind) → spans_fit k (table_spans k) table ≡ true
-runs_of kind.Legacy = legacy_runs
-runs_of kind.Vex = vex_runs
+runs_of kind.Legacy = fit-by_16 kind.Legacy legacy_spans table (by_walk (fit_by_16 kind.Legacy legacy_spans) legacy_runs)
+runs_of kind.Vex = fit-by_16 kind.Vex vex_spans table (by_walk (fit_by_16 kind.Vex vex_spans) vex_runs)
 
 pub length-cell_at : (k : RowKind) (m : Map) (op : ℕ) (s : Span) → op < 256 → cell_span (table_spans k) (map_index m) op ≡ Some s → length (cell k m op) ≡ s.count
 length-cell_at k m op s byte at = length-cell k m op (table_spans k) table s (runs_of k) byte at

@@ -1,7 +1,7 @@
 -- Each spot has its row.
-use Rattle.std.proofs.Common.{◌≡◌, ℕ, zero, suc, Bool, true, ◌&&◌, is_some, List, [], ◌∷◌, length, slice_get, ◌<◌, refl, ap, sym, ◌∙◌, arith}
+use Rattle.std.proofs.Common.{◌≡◌, ℕ, zero, suc, Bool, true, ◌&&◌, is_some, List, [], ◌∷◌, length, slice_get, ◌<◌, refl, ap, sym, ◌∙◌, arith, ltb-true}
 use Rattle.std.proofs.lemmas.Bool.{and_parts}
-use Rattle.std.specs.Prelude.{Option, Some, None}
+use Rattle.std.specs.Prelude.{Option, Some, None, nat_lt}
 use Rattle.std.proofs.lemmas.Option.{slice_get_within}
 use Rattle.row_types.specs.declared.Row.{Row}
 use Rattle.rows_integer.specs.Table.{table as integer_rows, flat_rows as integer_flat}
@@ -10,6 +10,7 @@ use Rattle.rows_sse.specs.Table.{table as sse_rows, flat_rows as sse_flat}
 use Rattle.rows_vex.specs.Table.{table as vex_rows, flat_rows as vex_flat}
 use Rattle.opcode_rows.specs.declared.spot.Spot.{Spot}
 use Rattle.opcode_rows.specs.declared.spot.Part.{Part}
+use Rattle.opcode_rows.specs.declared.spot.Part.TheVariants as part
 use Rattle.opcode_rows.specs.declared.generated_spots.TheConstants.{ROWS}
 use Rattle.opcode_rows.specs.Table.{part_table, spots, with_item, rows_in, table}
 
@@ -17,9 +18,48 @@ unfoldable all_there : List Spot → Bool
 all_there [] = true
 all_there (s ∷ ss) = is_some (slice_get (part_table s.part) s.at) && all_there ss
 
+-- how many rows a part has, by how many each has
+abbrev bound : Part → ℕ → ℕ → ℕ → ℕ → ℕ
+bound part.Integer i x s v = i
+bound part.X87 i x s v = x
+bound part.Sse i x s v = s
+bound part.Vex i x s v = v
+
+-- each spot is within its part
+unfoldable within : ℕ → ℕ → ℕ → ℕ → List Spot → Bool
+within i x s v [] = true
+within i x s v (spot ∷ ss) = nat_lt spot.at (bound spot.part i x s v) && within i x s v ss
+
+are_within : within (length integer_rows) (length x87_rows) (length sse_rows) (length vex_rows) spots ≡ true
+unfolding within spots integer_rows integer_flat x87_rows x87_flat sse_rows sse_flat vex_rows vex_flat
+are_within = refl
+
+some-within : (rows : List Row) (k : ℕ) → k < length rows → is_some (slice_get rows k) ≡ true
+some-within [] k lt = absurd (omega arith)
+some-within (r ∷ rs) zero lt = refl
+some-within (r ∷ rs) (suc k) lt = some-within rs k (omega arith)
+
+bound-is : (p : Part) → bound p (length integer_rows) (length x87_rows) (length sse_rows) (length vex_rows) ≡ length (part_table p)
+bound-is part.Integer = refl
+bound-is part.X87 = refl
+bound-is part.Sse = refl
+bound-is part.Vex = refl
+
+there-within : (ss : List Spot) → within (length integer_rows) (length x87_rows) (length sse_rows) (length vex_rows) ss ≡ true → all_there ss ≡ true
+unfolding within all_there
+there-within [] h = refl
+there-within (spot ∷ ss) h =
+    let t =
+    and_parts (nat_lt spot.at (bound spot.part (length integer_rows) (length x87_rows) (length sse_rows) (length vex_rows)))
+    (within (length integer_rows) (length x87_rows) (length sse_rows) (length vex_rows) ss) h
+    in
+    let lt : spot.at < length (part_table spot.part) =
+    rw (bound-is spot.part) at (ltb-true spot.at (bound spot.part (length integer_rows) (length x87_rows) (length sse_rows) (length vex_rows)) t.0)
+    in
+    rw (some-within (part_table spot.part) spot.at lt) (there-within ss t.1)
+
 are_there : all_there spots ≡ true
-unfolding all_there spots integer_rows integer_flat x87_rows x87_flat sse_rows sse_flat vex_rows vex_flat
-are_there = refl
+are_there = there-within spots are_within
 
 some-known : (o : Option Row) → is_some o ≡ true → (r : Row) × (o ≡ Some r)
 some-known None h = cc

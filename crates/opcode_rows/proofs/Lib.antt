@@ -1,4 +1,6 @@
 pub mod JoinFacts
+pub mod Woven
+pub mod Blocks
 pub mod Sound
 pub mod Writable
 pub mod Kept

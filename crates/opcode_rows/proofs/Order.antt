@@ -13,10 +13,11 @@ use Rattle.opcode_rows.specs.declared.spot.Spot.{Spot}
 use Rattle.opcode_rows.specs.declared.spot.Part.{Part}
 use Rattle.opcode_rows.specs.declared.spot.Part.TheVariants as part
 use Rattle.opcode_rows.specs.declared.generated_spots.TheConstants.{VERSION1_ROWS}
-use Rattle.opcode_rows.specs.Table.{part_table, spots, rows_in, table}
+use Rattle.opcode_rows.specs.Table.{part_table, spots, table}
 use Rattle.opcode_rows.specs.Order.{opcode_number, LiesAt, HasOneCode}
 use Rattle.opcode_rows.specs.Versions.{AreOfOneVersion}
 use Rattle.opcode_rows.proofs.JoinFacts.{row-there}
+use Rattle.opcode_rows.proofs.Woven.{woven, woven_table, by_walk}
 use Rattle.opcode_rows.proofs.Versions.{get-taken}
 
 -- ---- the test of a part
@@ -196,13 +197,19 @@ ascends : ℕ → List Row → Bool
 ascends low [] = true
 ascends low (r ∷ rs) = nat_le low (opcode_number r) && ascends (opcode_number r) rs
 
+walk1-ascends : ascends 0 (take VERSION1_ROWS woven_table) ≡ true
+unfolding ascends woven_table woven spots integer_rows integer_flat x87_rows x87_flat sse_rows sse_flat vex_rows vex_flat
+walk1-ascends = refl
+
 version1-ascends : ascends 0 (take VERSION1_ROWS table) ≡ true
-unfolding ascends table rows_in spots integer_rows integer_flat x87_rows x87_flat sse_rows sse_flat vex_rows vex_flat
-version1-ascends = refl
+version1-ascends = by_walk (λ rows. ascends 0 (take VERSION1_ROWS rows)) walk1-ascends
+
+walk2-ascends : ascends 0 (drop VERSION1_ROWS woven_table) ≡ true
+unfolding ascends woven_table woven spots integer_rows integer_flat x87_rows x87_flat sse_rows sse_flat vex_rows vex_flat
+walk2-ascends = refl
 
 version2-ascends : ascends 0 (drop VERSION1_ROWS table) ≡ true
-unfolding ascends table rows_in spots integer_rows integer_flat x87_rows x87_flat sse_rows sse_flat vex_rows vex_flat
-version2-ascends = refl
+version2-ascends = by_walk (λ rows. ascends 0 (drop VERSION1_ROWS rows)) walk2-ascends
 
 ascends-from : (low : ℕ) (rows : List Row) → ascends low rows ≡ true → (k : ℕ) (r : Row) → slice_get rows k ≡ Some r → low ≤ opcode_number r
 unfolding ascends

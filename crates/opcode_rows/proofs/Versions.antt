@@ -22,16 +22,21 @@ use Rattle.rows_x87.specs.Table.{table as x87_rows, flat_rows as x87_flat}
 use Rattle.rows_sse.specs.Table.{table as sse_rows, flat_rows as sse_flat}
 use Rattle.rows_vex.specs.Table.{table as vex_rows, flat_rows as vex_flat}
 use Rattle.opcode_rows.specs.declared.generated_spots.TheConstants.{VERSION1_ROWS}
-use Rattle.opcode_rows.specs.Table.{spots, rows_in, table, names}
+use Rattle.opcode_rows.specs.Table.{spots, table, names}
 use Rattle.opcode_rows.specs.Versions.{version1, version1_names, is_within, is_added_cell, kind_behind, is_added_state}
+use Rattle.opcode_rows.proofs.Woven.{woven, woven_table, table-woven, by_walk}
 use Rattle.opcode_rows.proofs.Standing.{fitting-stands}
 use Rattle.opcode_rows.proofs.Growth.{Grows}
 
 -- ---- the rows of version 1
 
+walked-kept : take VERSION1_ROWS woven_table ≡ first_rows
+unfolding woven_table woven spots integer_rows integer_flat x87_rows x87_flat sse_rows sse_flat vex_rows vex_flat first_rows first_legacy first_vex
+walked-kept = refl
+
 pub rows-kept : version1 ≡ first_rows
-unfolding version1 table rows_in spots integer_rows integer_flat x87_rows x87_flat sse_rows sse_flat vex_rows vex_flat first_rows first_legacy first_vex
-rows-kept = refl
+unfolding version1
+rows-kept = ap (take VERSION1_ROWS) table-woven ∙ walked-kept
 
 pub names-kept : version1_names ≡ first_names
 unfolding version1_names names first_names
@@ -82,9 +87,12 @@ parted n [] = true
 parted zero (r ∷ rs) = only true r && parted zero rs
 parted (suc n) (r ∷ rs) = only false r && parted n rs
 
+walk-parted : parted VERSION1_ROWS woven_table ≡ true
+unfolding parted only stands_only below is_added_at woven_table woven spots integer_rows integer_flat x87_rows x87_flat sse_rows sse_flat vex_rows vex_flat
+walk-parted = refl
+
 is_parted : parted VERSION1_ROWS table ≡ true
-unfolding parted only stands_only below is_added_at table rows_in spots integer_rows integer_flat x87_rows x87_flat sse_rows sse_flat vex_rows vex_flat
-is_parted = refl
+is_parted = by_walk (parted VERSION1_ROWS) walk-parted
 
 -- what it says of the row of a code
 record Parted (n code : ℕ) (row : Row) : Type 0 where

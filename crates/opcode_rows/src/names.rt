@@ -52,7 +52,15 @@ fn names_in_line(n: usize) -> &'static [&'static str; 512]
     ensures names { map (λ name. name.now) result.now ≡ lines.names_in_line n }
     ensures count { length result.now ≡ 512 }
 {
-    &LINES[n]
+    &early_lines()[n]
+}
+
+/// The names of the rows with the codes below 1,536, line by line.
+#[inline]
+fn early_lines() -> &'static [[&'static str; 512]; 3]
+    ensures { map (map (λ name. name.now)) result.now ≡ lines.early_lines }
+{
+    &LINES
 }
 
 /// The names of the rows of version 1 with the codes from 1,536 on.

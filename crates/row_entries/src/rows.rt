@@ -38,7 +38,7 @@ enum Line {
 }
 
 /// Why there are no rows.
-#[derive(Debug, Drop)]
+#[derive(Drop)]
 pub enum NoRows {
     Memory(AllocError),
     /// The line of this number says nothing that a line can say.
