@@ -1,4 +1,3 @@
-pub mod Appending
 pub mod Digits
 pub mod DigitPairs
 pub mod DigitValues
