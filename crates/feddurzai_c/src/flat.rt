@@ -1,7 +1,7 @@
 //! The structs that cross to C.
 
 /// An operand.
-#[derive(Clone, Copy, PartialEq, Eq, Debug)]
+#[derive(Clone, Copy)]
 #[repr(C)]
 pub struct FlatOperand {
     /// The immediate, the near target, or the displacement of an address.
@@ -27,7 +27,7 @@ pub struct FlatOperand {
 }
 
 /// An instruction.
-#[derive(Clone, Copy, PartialEq, Eq, Debug)]
+#[derive(Clone, Copy)]
 #[repr(C)]
 pub struct FlatInstr {
     pub op0: FlatOperand,

@@ -5,6 +5,7 @@ use feddurzai::encoding::{NoSpelling, encode, encoded_len};
 use feddurzai::flow::{flow_graph_in, graph_of_code_from};
 use feddurzai::format::Intel;
 use feddurzai::hooks::{Detour, DetourError, Hooks, JumpForm, StartTarget, detour};
+use feddurzai::info::laws::well_formed_codes_are_in_the_table;
 use feddurzai::info::{Flow, flow_of};
 use feddurzai::moving::move_block;
 use feddurzai::region::{NotTaken, Region};
@@ -36,8 +37,8 @@ fn read(bytes: &[u8]) -> Result<Instr, Fail> {
 }
 
 /// The flow of the instruction at 1000 in 64-bit mode.
-#[tactic(auto, using(operand_info::proofs::Uses::code_in_table))]
 fn flow(bytes: &[u8]) -> Result<Flow, Fail> {
+    well_formed_codes_are_in_the_table();
     let instr = decode_in(Bits::B64, 0x1000, bytes)?.instr;
     Ok(flow_of(instr.code))
 }

@@ -3,20 +3,4 @@
 #![tactic(auto)]
 
 #[cfg(test)]
-mod asm_tests;
-#[cfg(test)]
-mod bytes_tests;
-#[cfg(test)]
-mod limit_tests;
-#[cfg(test)]
-mod line_tests;
-#[cfg(test)]
-mod map_tests;
-#[cfg(test)]
-mod moving_port_tests;
-#[cfg(test)]
-mod outcomes;
-#[cfg(test)]
-mod port_tests;
-#[cfg(test)]
-mod usage_tests;
+mod tests;

@@ -2,7 +2,7 @@
 
 ghost use Rattle.std.specs.Prelude.{◌≡◌, IfOk};
 
-use crate::compare::{same, same_items};
+use crate::tests::compare::{same, same_items};
 use arrayvec::ArrayVec;
 use byte_ports::{
     CountSink, FailAt, Failed, MemSink, MemSource, ReaderSource, Sink, SlowSource, Source,

@@ -1,6 +1,6 @@
 //! Whole scenarios: requests to a region, and what they answer.
 
-use crate::compare::{same, same_items};
+use crate::tests::compare::{same, same_items};
 use code_region::{Command, NotTaken, OpenError, PlaceError, Region, Reply, replay};
 use std::alloc::{AllocError, Global};
 use std::process::Abort;

@@ -1,6 +1,6 @@
 //! Texts that assemblers of each style write of the same instruction.
 
-use crate::read_bytes::read;
+use crate::tests::read_bytes::read;
 use arrayvec::ArrayVec;
 use std::alloc::Global;
 use std::process::Abort;

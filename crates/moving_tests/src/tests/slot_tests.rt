@@ -4,8 +4,8 @@ ghost use Rattle.std.specs.Prelude.{◌≡◌, IfOk};
 ghost use Rattle.x86_values.specs.declared.Bits.{Bits};
 ghost use Rattle.move_goals.specs.Items.{IsPlaced};
 
-use crate::compare::{same, same_items};
-use crate::items::placed_bytes;
+use crate::tests::compare::{same, same_items};
+use crate::tests::items::placed_bytes;
 use std::alloc::Global;
 use std::process::Abort;
 use std::test::Fail;

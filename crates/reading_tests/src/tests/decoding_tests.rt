@@ -2,7 +2,7 @@
 
 ghost use Rattle.std.specs.Prelude.{◌≡◌, length};
 
-use crate::read_bytes::{read, read_at};
+use crate::tests::read_bytes::{read, read_at};
 use decoder::DecodeError::{Invalid, TooShort};
 use decoder::{DecodeError, Decoder, decode_in};
 use intel_text::print;

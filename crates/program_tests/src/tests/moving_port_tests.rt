@@ -1,6 +1,6 @@
 //! What a command over moved code, slots or flow leaves where a port fails at a call, or has too little room.
 
-use crate::outcomes::{all_leave, outcome_between, wrote_bytes};
+use crate::tests::outcomes::{all_leave, outcome_between, wrote_bytes};
 use run_outcomes::{Ports, WHOLE};
 use std::test::Fail;
 

@@ -5,8 +5,8 @@ ghost use Rattle.x86_values.specs.declared.Bits.{Bits};
 ghost use Rattle.move_goals.specs.Items as spec;
 ghost use Rattle.move_goals.specs.Items.{AreSpansOf, ArePlaced};
 
-use crate::compare::{same, same_items};
-use crate::items::all_placed;
+use crate::tests::compare::{same, same_items};
+use crate::tests::items::all_placed;
 use branch_sizes::{BlockSpan, Goal};
 use move_goals::{Placed, first_disorder, first_old_pass, plan_for};
 use std::alloc::{AllocError, Global};

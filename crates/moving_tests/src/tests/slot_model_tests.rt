@@ -4,9 +4,9 @@ ghost use Rattle.std.specs.Prelude.{◌≡◌, IfOk};
 ghost use Rattle.x86_values.specs.declared.Bits.{Bits};
 ghost use Rattle.move_goals.specs.Items.{IsPlaced};
 
-use crate::compare::same;
-use crate::items::placed_at;
-use crate::slot_tests::{finish, slots_of, step};
+use crate::tests::compare::same;
+use crate::tests::items::placed_at;
+use crate::tests::slot_tests::{finish, slots_of, step};
 use std::alloc::{AllocError, Global};
 use std::process::Abort;
 use std::test::Fail;

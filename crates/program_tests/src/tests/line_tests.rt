@@ -1,6 +1,6 @@
 //! Lines of listings, of what instructions do and of their bytes in another mode, by the manual's notation and as other disassemblers write them.
 
-use crate::outcomes::{all_write, outcome_of, wrote};
+use crate::tests::outcomes::{all_write, outcome_of, wrote};
 use run_outcomes::{Outcome, run_command};
 use std::alloc::{AllocError, Global};
 use std::process::Abort;

@@ -1,6 +1,6 @@
 //! Lines of the flow of control, of maps and of made code.
 
-use crate::outcomes::all_write;
+use crate::tests::outcomes::all_write;
 use std::test::Fail;
 
 #[test]

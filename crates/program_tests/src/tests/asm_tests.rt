@@ -1,6 +1,6 @@
 //! Intel texts, a line each, and the bytes that they stand for.
 
-use crate::outcomes::{wrote, wrote_bytes};
+use crate::tests::outcomes::{wrote, wrote_bytes};
 use run_outcomes::run_command;
 use std::alloc::{AllocError, Global};
 use std::test::Fail;

@@ -1,6 +1,6 @@
 //! Bytes of moved code and of slots, by the manual's notation of JMP, the conditional jumps and LOOP.
 
-use crate::outcomes::all_write_bytes;
+use crate::tests::outcomes::all_write_bytes;
 use run_outcomes::run_command;
 use std::alloc::Global;
 use std::process::Abort;

@@ -3,8 +3,8 @@
 ghost use Rattle.std.specs.Prelude.{IfSome};
 ghost use Rattle.move_goals.specs.Items.{AreSpansOf};
 
-use crate::compare::{same, same_items};
-use crate::items::all_placed;
+use crate::tests::compare::{same, same_items};
+use crate::tests::items::all_placed;
 use block_encoder::{
     BlockSpan, Form, MoveError, Moved, MovedBlocks, Placed, last_len, move_block, move_blocks,
     move_outside,

@@ -1,6 +1,6 @@
 //! What instructions do, by the manual's operand encoding and operation of each.
 
-use crate::read_bytes::read;
+use crate::tests::read_bytes::read;
 use opcode_rows::ROWS;
 use operand_info::{
     Access, Flow, RegUse, access_of, flow_of, ip_operand, memory_size, near_target, used_registers,

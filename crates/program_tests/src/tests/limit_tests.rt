@@ -1,6 +1,6 @@
 //! What is refused, and that nothing is written then.
 
-use crate::outcomes::{outcome_of, wrote};
+use crate::tests::outcomes::{outcome_of, wrote};
 use run_outcomes::{Outcome, run_command};
 use std::alloc::{AllocError, Global};
 use std::test::Fail;

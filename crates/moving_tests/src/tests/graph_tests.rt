@@ -2,7 +2,7 @@
 
 ghost use Rattle.std.specs.Prelude.{◌≤◌, length};
 
-use crate::compare::same_items;
+use crate::tests::compare::same_items;
 use decoder::DecodeError;
 use flow_graph::{FlowError, FlowGraph, flow_graph, flow_graph_from, flow_graph_in};
 use operand_info::Flow;

@@ -1,6 +1,6 @@
 //! What a stream leaves where a port fails at a call, or has too little room.
 
-use crate::outcomes::{all_leave, outcome_between, wrote};
+use crate::tests::outcomes::{all_leave, outcome_between, wrote};
 use run_outcomes::{Ports, WHOLE};
 use std::alloc::{AllocError, Global};
 use std::test::Fail;

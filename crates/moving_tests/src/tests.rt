@@ -1,0 +1,13 @@
+//! The tests, by subject.
+
+mod block_tests;
+mod compare;
+mod goal_tests;
+mod graph_tests;
+mod items;
+mod layout_tests;
+mod port_tests;
+mod region_tests;
+mod size_tests;
+mod slot_model_tests;
+mod slot_tests;

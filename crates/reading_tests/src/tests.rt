@@ -1,0 +1,16 @@
+//! The tests, by subject.
+
+mod decoding_tests;
+mod encoding_tests;
+mod front_tests;
+mod info_tests;
+mod notation_tests;
+mod offset_tests;
+mod read_bytes;
+mod row_tests;
+mod style_tests;
+mod table_tests;
+mod tail_tests;
+mod text_tests;
+mod value_tests;
+mod word_tests;
