@@ -3,7 +3,7 @@ use Rattle.code_region.specs.State.{RegionState, len_in_units, gaps_of, live_blo
 use Rattle.code_region.specs.Opening.{empty_region}
 use Rattle.code_region.specs.Placing.{place_answer, after_place}
 use Rattle.code_region.specs.Filling.{can_fill}
-use Rattle.moving_tests.proofs.region_tests.with_two_blocks.Goals as goal
+use Rattle.moving_tests.proofs.tests.region_tests.with_two_blocks.Goals as goal
 
 -- the region after one refusal and two places has a live block at 16
 two_live : IsTrue (can_fill (after_place (after_place (after_place (empty_region 0 64 2) 0) 1) 1) 16 1)

@@ -1,7 +1,7 @@
 use Rattle.std.proofs.Common.{arith}
 use Rattle.x86_values.specs.declared.Bits.TheVariants.{B64}
 use Rattle.x86_values.specs.Wrapping.{modulo_width}
-use Rattle.moving_tests.proofs.items.placed.Goals as goal
+use Rattle.moving_tests.proofs.tests.items.placed.Goals as goal
 
 pub returns : goal.returns
 returns c = record {

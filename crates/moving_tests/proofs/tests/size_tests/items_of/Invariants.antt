@@ -1,7 +1,7 @@
 use Rattle.std.proofs.Common.{◌≡◌, length, true}
 use Rattle.std.specs.List.{list_all}
 use Rattle.branch_sizes.specs.Plan.{is_fit_branch}
-use Rattle.moving_tests.proofs.size_tests.items_of.Given as goal
+use Rattle.moving_tests.proofs.tests.size_tests.items_of.Given as goal
 
 abbrev pub invariant-items : goal.invariant-items
 invariant-items l = record {
