@@ -45,10 +45,9 @@ const HOOKED: Case = Case {
 const NEAR_16: Case = Case {
     bits: Bits::B16,
     ip: 0x100,
-    code: "",
     to: 0x200,
     place: 0x300,
-    start: StartTarget::Moved,
+    ..NEAR
 };
 
 /// Such a function where recursion comes to the replacement.

@@ -22,7 +22,7 @@ use Rattle.feddurzai_c.specs.declared.moved.MoveRefusal.{MoveRefusal}
 use Rattle.feddurzai_c.specs.declared.moved.MoveRefusal.TheVariants.{BadCode as NotRead}
 use Rattle.feddurzai_c.specs.Refusals.{refusal_status}
 use Rattle.feddurzai_c.specs.Numbers.{bits_numbered}
-use Rattle.feddurzai_c.specs.Moving.{AreInstructionsOf, ReadingStopsAt, moved_end, code_len, entries}
+use Rattle.feddurzai_c.specs.Moving.{AreInstructionsOf, ReadingStopsAt, moved_end, code_len, entries, room_left}
 
 -- ---- the instructions of the blocks
 
@@ -201,20 +201,17 @@ abbrev pub blocks_said : Result CodeBlocks BlocksRefusal → ℤ
 blocks_said (Ok m) = pos 0
 blocks_said (Err e) = refusal_status (blocks_refusal e)
 
--- the room of the bytes begins with the moved ones, and is unchanged behind them and after a refusal
+-- what the room of the moved bytes holds
 abbrev pub bytes_left : List ℕ → Result CodeBlocks BlocksRefusal → List ℕ
-bytes_left old (Ok m) = m.moved.bytes ++ drop (length m.moved.bytes) old
-bytes_left old (Err e) = old
+bytes_left = room_left (λ (m : CodeBlocks). m.moved.bytes)
 
--- the room of the places, likewise
+-- what the room of the places holds
 abbrev pub places_left : List FlatPlace → Result CodeBlocks BlocksRefusal → List FlatPlace
-places_left old (Ok m) = m.places.items ++ drop (length m.places.items) old
-places_left old (Err e) = old
+places_left = room_left (λ (m : CodeBlocks). m.places.items)
 
--- the room of the map, likewise
+-- what the room of the map holds
 abbrev pub entries_left : List FlatMoved → Result CodeBlocks BlocksRefusal → List FlatMoved
-entries_left old (Ok m) = m.entries.items ++ drop (length m.entries.items) old
-entries_left old (Err e) = old
+entries_left = room_left (λ (m : CodeBlocks). m.entries.items)
 
 -- no numbers, and no block
 abbrev pub no_blocks : ℕ → FlatBlocks

@@ -185,15 +185,18 @@ abbrev pub moved_said : Result MovedCode MoveRefusal → ℤ
 moved_said (Ok m) = pos 0
 moved_said (Err e) = refusal_status (refusal_of e)
 
--- the room of the bytes begins with the moved ones, and is unchanged behind them and after a refusal
-abbrev pub bytes_left : List ℕ → Result MovedCode MoveRefusal → List ℕ
-bytes_left old (Ok m) = m.moved.bytes ++ drop (length m.moved.bytes) old
-bytes_left old (Err e) = old
+-- a room begins with its part of what is answered, and is unchanged behind it and after a refusal
+abbrev pub room_left : {A E B : Type 0} → (A → List B) → List B → Result A E → List B
+room_left part old (Ok m) = part m ++ drop (length (part m)) old
+room_left part old (Err e) = old
 
--- the room of the map, likewise
+-- what the room of the moved bytes holds
+abbrev pub bytes_left : List ℕ → Result MovedCode MoveRefusal → List ℕ
+bytes_left = room_left (λ (m : MovedCode). m.moved.bytes)
+
+-- what the room of the map holds
 abbrev pub entries_left : List FlatMoved → Result MovedCode MoveRefusal → List FlatMoved
-entries_left old (Ok m) = m.entries.items ++ drop (length m.entries.items) old
-entries_left old (Err e) = old
+entries_left = room_left (λ (m : MovedCode). m.entries.items)
 
 -- no numbers
 abbrev pub nothing_moved : FlatMove
