@@ -27,18 +27,12 @@ fn graph_of_bytes(
     }
 }
 
-/// At most 16 bytes in hexadecimal digits.
-fn few_bytes(alloc: Global, digits: &str) -> Result<Vec<u8>, Fail> {
+/// What control reaches in the bytes that are given in hexadecimal.
+fn graph_of(alloc: Global, bits: Bits, base: u64, digits: &str) -> Result<FlowGraph, Fail> {
     let bytes = hex::decode(alloc, digits)?;
     if bytes.len() > 16 {
         return Err(Fail::new("there are more than 16 bytes"));
     }
-    Ok(bytes)
-}
-
-/// What control reaches in the bytes that are given in hexadecimal.
-fn graph_of(alloc: Global, bits: Bits, base: u64, digits: &str) -> Result<FlowGraph, Fail> {
-    let bytes = few_bytes(alloc, digits)?;
     Ok(graph_of_bytes(alloc, bits, base, &bytes)?)
 }
 
@@ -210,7 +204,10 @@ fn several_entries_have_their_flows(rt: HostRuntime) -> Result<(), Fail> {
 
 /// What control reaches in bytes of a mode that is given as a value.
 fn graph_in(alloc: Global, bits: Bits, base: u64, digits: &str) -> Result<FlowGraph, Fail> {
-    let bytes = few_bytes(alloc, digits)?;
+    let bytes = hex::decode(alloc, digits)?;
+    if bytes.len() > 16 {
+        return Err(Fail::new("there are more than 16 bytes"));
+    }
     Ok(flow_graph_in(alloc, bits, base, &bytes)?)
 }
 
