@@ -309,6 +309,18 @@ fn has_row(rt: &impl Abort, instr: &FlatInstr, len: u8, code: u16) {
     assert_eq!(rt; (instr.len, instr.code), (len, code));
 }
 
+/// That an instruction has neither prefixes nor operands.
+fn is_bare(rt: &impl Abort, instr: &FlatInstr) {
+    let prefixes = [instr.lock, instr.rep, instr.segment, instr.asize];
+    let kinds = [
+        instr.op0.kind,
+        instr.op1.kind,
+        instr.op2.kind,
+        instr.op3.kind,
+    ];
+    assert_eq!(rt; (prefixes, kinds), ([0; 4], [0; 4]));
+}
+
 // Read in one call, and the last shown in one.
 #[test]
 fn many_are_read_and_a_line_is_shown(rt: HostRuntime) {
@@ -323,7 +335,8 @@ fn many_are_read_and_a_line_is_shown(rt: HostRuntime) {
     let mut text = [0xaa; 5];
     let mut line = NO_INSTR;
     let said = feddurzai_line(64, 0, 2, &[0xc3], &mut line, &mut text);
-    assert!(rt; line == ret);
+    has_row(&rt, &line, ret.len, ret.code);
+    is_bare(&rt, &line);
     wrote(&rt, "the line", said, &text, 1, b"ret\0\xaa");
     let said = feddurzai_line_text(64, 1, 0, CODE, &mut text);
     wrote(&rt, "the text", said, &text, 1, b"nop\0\xaa");
