@@ -25,11 +25,10 @@ use crate::offsets::feddurzai_offsets;
 use crate::rows::{feddurzai_code_of, feddurzai_name, feddurzai_notation};
 use crate::stepping::{feddurzai_step, feddurzai_step_len};
 use crate::texts::feddurzai_text;
-use std::fmt::Debug;
 use std::process::Abort;
 
-/// That numbers of several sizes are these.
-fn same<T: PartialEq + Debug>(rt: &impl Abort, of: &str, found: &T, want: &T) {
+/// That numbers are these.
+fn are(rt: &impl Abort, of: &str, found: &[u64], want: &[u64]) {
     assert_eq!(rt; found, want, "{of}");
 }
 
@@ -77,12 +76,12 @@ fn an_instruction_is_read_shown_and_written(rt: HostRuntime) {
     let mut instr = NO_INSTR;
     let said = feddurzai_decode(64, 0x1000, MOV, &mut instr);
     let (at, reg) = (instr.op0, instr.op1);
-    let found = (said, at.kind, at.reg_class, at.reg_number);
-    same(&rt, "the base", &found, &(5, 2, 5, 4));
-    let found = (at.value, at.disp_bits, at.scale);
-    same(&rt, "the address", &found, &(0x10, 8, 1));
-    let found = (reg.kind, reg.reg_class, reg.reg_number);
-    same(&rt, "the register", &found, &(1, 5, 3));
+    let found = [at.kind as u64, at.reg_class as u64, at.reg_number as u64];
+    told(&rt, "the base", said, &found, 5, &[2, 5, 4]);
+    let found = [at.value, at.disp_bits as u64, at.scale as u64];
+    are(&rt, "the address", &found, &[0x10, 8, 1]);
+    let found = [reg.kind as u64, reg.reg_class as u64, reg.reg_number as u64];
+    are(&rt, "the register", &found, &[1, 5, 3]);
     let mut text = [0xaa; 27];
     let said = feddurzai_text(64, 0, &instr, &mut text);
     let want = b"mov qword [rsp+0x10], rbx\0\xaa";
@@ -93,12 +92,8 @@ fn an_instruction_is_read_shown_and_written(rt: HostRuntime) {
     let mut parts = NO_PARTS;
     let said = feddurzai_offsets(64, MOV, &mut parts);
     let part = parts.displacement;
-    same(
-        &rt,
-        "the displacement",
-        &(said, part.at, part.len),
-        &(5, 4, 1),
-    );
+    let found = [part.at as u64, part.len as u64];
+    told(&rt, "the displacement", said, &found, 5, &[4, 1]);
 }
 
 const NO_USE: FlatUse = FlatUse {
@@ -126,8 +121,12 @@ fn an_instruction_and_its_row_are_told(rt: HostRuntime) {
     let len = feddurzai_decode(64, 0, MOV, &mut instr);
     let mut about = NO_INFO;
     let said = feddurzai_info(&instr, &mut about);
-    let found = (said, about.flow, about.memory_size, about.use_count);
-    same(&rt, "flow, size and uses", &found, &(0, 0, 8, 2));
+    let found = [
+        about.flow as u64,
+        about.memory_size as u64,
+        about.use_count as u64,
+    ];
+    told(&rt, "flow, size and uses", said, &found, 0, &[0, 8, 2]);
     let code = u32::from(instr.code);
     let mut name = [0xaa; 5];
     let said = feddurzai_name(code, &mut name);
@@ -164,18 +163,22 @@ fn what_is_touched_is_told(rt: HostRuntime) {
     let mut touched = UNTOLD;
     let said = feddurzai_effects(64, &instr, &mut touched);
     answers(&rt, "what is touched", said, 0);
-    let found = (touched.features, touched.flags_read, touched.flags_written);
-    same(&rt, "features and flags", &found, &(0, 0, 0));
-    let found = (touched.memory_count, touched.register_count);
-    same(&rt, "the counts", &found, &(1, 2));
+    let found = [
+        touched.features,
+        touched.flags_read as u64,
+        touched.flags_written as u64,
+    ];
+    are(&rt, "features and flags", &found, &[0, 0, 0]);
+    let found = [touched.memory_count as u64, touched.register_count as u64];
+    are(&rt, "the counts", &found, &[1, 2]);
     let memory = touched.memory[0];
-    let found = (
-        memory.displacement,
-        memory.size,
-        memory.segment,
-        memory.access,
-    );
-    same(&rt, "the memory", &found, &(0xffff_ffff_ffff_fff8, 8, 3, 2));
+    let found = [
+        memory.displacement as u64,
+        memory.size as u64,
+        memory.segment as u64,
+        memory.access as u64,
+    ];
+    are(&rt, "the memory", &found, &[0xffff_ffff_ffff_fff8, 8, 3, 2]);
     are_uses(&rt, &touched.registers[..3]);
     let said = feddurzai_full_register(1, 4);
     answers(&rt, "holds SPL", said, 0x504);
@@ -257,8 +260,13 @@ fn code_is_moved(rt: HostRuntime) {
     let want = b"\x75\x06\xff\x25\0\0\0\0\x12\x10\0\0\0\0\0\0";
     wrote(&rt, "the bytes", said, &out, 0, want);
     let [entry] = map;
-    let found = (entry.old_ip, entry.new_ip, entry.len, entry.form);
-    same(&rt, "the map", &found, &(0x1000, far, 2, 3));
+    let found = [
+        entry.old_ip,
+        entry.new_ip,
+        entry.len as u64,
+        entry.form as u64,
+    ];
+    are(&rt, "the map", &found, &[0x1000, far, 2, 3]);
     let mut out = [0xaa; 3];
     let jump = &[0xeb, 0xfe];
     let said = feddurzai_move_outside(
@@ -353,8 +361,8 @@ fn a_text_is_read(rt: HostRuntime) {
     wrote(&rt, "the bytes", said, &out, 2, b"\xeb\xfe\xaa");
     let mut instr = NO_INSTR;
     let said = feddurzai_read_intel(64, 0x1000, JUMP, &mut instr);
-    let found = (said, instr.op0.kind, instr.op0.value, instr.len);
-    same(&rt, "the target", &found, &(2, 4, 0x1000, 2));
+    let found = [instr.op0.kind as u64, instr.op0.value, instr.len as u64];
+    told(&rt, "the target", said, &found, 2, &[4, 0x1000, 2]);
     let len = feddurzai_encoded_len(64, 0x1000, &instr);
     answers(&rt, "the length written", len, 2);
 }
@@ -405,10 +413,10 @@ fn a_detour_is_made(rt: HostRuntime) {
         &mut trampoline,
         &mut made,
     );
-    let found = (made.taken, made.bytes, made.jump_back, made.slots_at);
-    same(&rt, "the detour", &found, &(6, 11, 6, 11));
-    let found = (made.relay_at, made.at, made.target, made.form);
-    same(&rt, "not there", &found, &(11, 0, 0, 1));
+    let found = [made.taken, made.bytes, made.jump_back, made.slots_at];
+    are(&rt, "the detour", &found, &[6, 11, 6, 11]);
+    let found = [made.relay_at, made.at as u64, made.target, made.form as u64];
+    are(&rt, "not there", &found, &[11, 0, 0, 1]);
     let want = b"\xe9\xfb\x0f\0\0\xcc\xaa";
     wrote(&rt, "the patch", said, &patch, 0, want);
     let want = b"\x48\x83\xec\x18\x31\xc0\xe9\xfb\xdf\xff\xff\xaa";
@@ -493,14 +501,7 @@ const UNTOUCHED: &[u8] = &[0xaa; 9];
 
 /// A step of what stands at 1000: the mode, the bytes and the place; the answer, the numbers of bytes and of the jump back, an address that is not
 /// reached, and the number of the instruction's bytes; and the room.
-type Step = (
-    u32,
-    &'static [u8],
-    u64,
-    i32,
-    (u64, u64, u64, u8),
-    &'static [u8],
-);
+type Step = (u32, &'static [u8], u64, i32, [u64; 4], &'static [u8]);
 
 const STEPS: &[Step] = &[
     // E8 and the distance, and a jump back to 1005
@@ -509,7 +510,7 @@ const STEPS: &[Step] = &[
         CALL,
         0x1800,
         10,
-        (10, 5, 0, 5),
+        [10, 5, 0, 5],
         b"\xe8\xfb\x07\0\0\xe9\xfb\xf7\xff\xff\xaa\xaa",
     ),
     // through a slot, the jump back through another, and the slots
@@ -518,7 +519,7 @@ const STEPS: &[Step] = &[
         CALL,
         0x7f00_0000_0000,
         32,
-        (32, 6, 0, 5),
+        [32, 6, 0, 5],
         b"\xff\x15\x0a\0\0\0\xff\x25\x0c\0\0\0\xcc\xcc\xcc\xcc\0\x20\0\0\0\0\0\0\x05\x10\0\0\0\0\0\0",
     ),
     // a jump to itself, which goes back to where it stood
@@ -527,26 +528,26 @@ const STEPS: &[Step] = &[
         b"\xeb\xfe",
         0x1080,
         10,
-        (10, 5, 0, 2),
+        [10, 5, 0, 2],
         b"\xe9\x7b\xff\xff\xff\xe9\x78\xff\xff\xff\xaa\xaa",
     ),
     // no mode, no instruction, and none that is whole
-    (17, CALL, 0x1800, -1, (0, 0, 0, 0), UNTOUCHED),
-    (64, b"\x06", 0x1800, -7, (0, 0, 0, 0), UNTOUCHED),
-    (64, &[], 0x1800, -8, (0, 0, 0, 0), UNTOUCHED),
+    (17, CALL, 0x1800, -1, [0, 0, 0, 0], UNTOUCHED),
+    (64, b"\x06", 0x1800, -7, [0, 0, 0, 0], UNTOUCHED),
+    (64, &[], 0x1800, -8, [0, 0, 0, 0], UNTOUCHED),
     // `nop` and a jump of 3 bytes pass the last address of 16-bit code
-    (16, b"\x90", 0xfffe, -13, (0, 0, 0x10002, 0), UNTOUCHED),
+    (16, b"\x90", 0xfffe, -13, [0, 0, 0x10002, 0], UNTOUCHED),
     // `mov eax, [rip]` cannot reach from there
     (
         64,
         b"\x8b\x05\0\0\0\0",
         0x7f00_0000_0000,
         -14,
-        (0, 0, 0x1006, 0),
+        [0, 0, 0x1006, 0],
         UNTOUCHED,
     ),
     // a room for one byte less
-    (64, CALL, 0x1800, -6, (10, 5, 0, 5), UNTOUCHED),
+    (64, CALL, 0x1800, -6, [10, 5, 0, 5], UNTOUCHED),
 ];
 
 #[test]
@@ -556,8 +557,13 @@ fn steps_are_made(rt: HostRuntime) {
         let out = &mut out[..room.len().min(32)];
         let mut report = NO_STEP;
         let said = feddurzai_step(rt.alloc(), *bits, 0x1000, code, *place, out, &mut report);
-        let found = (report.bytes, report.back_at, report.address, report.len);
-        same(&rt, "a step", &found, numbers);
+        let found = [
+            report.bytes,
+            report.back_at,
+            report.address,
+            report.len as u64,
+        ];
+        are(&rt, "a step", &found, numbers);
         wrote(&rt, "its room", said, out, *want, room);
     }
 }

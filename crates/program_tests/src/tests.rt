@@ -8,4 +8,5 @@ mod map_tests;
 mod moving_port_tests;
 mod outcomes;
 mod port_tests;
+mod runs;
 mod usage_tests;

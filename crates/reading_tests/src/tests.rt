@@ -1,5 +1,6 @@
 //! The tests, by subject.
 
+mod compare;
 mod decoding_tests;
 mod encoding_tests;
 mod front_tests;

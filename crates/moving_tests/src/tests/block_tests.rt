@@ -93,6 +93,13 @@ fn is_refused<M>(rt: &impl Abort, moved: &Result<M, MoveError>, why: MoveError) 
     same(rt, "the refusal", &refusal(moved), &Some(why));
 }
 
+/// That a jump that was moved has this address and this form, and goes through these slots.
+fn goes_through(rt: &impl Abort, moved: &Moved, place: u64, form: Form, slots: &[u64]) {
+    are_addresses(rt, moved.starts(), &[place]);
+    are_forms(rt, moved.forms(), &[form]);
+    are_addresses(rt, moved.slots(), slots);
+}
+
 /// That one jump at 1000 is moved to these bytes, in this form and through these slots.
 fn is_moved(
     rt: &impl Abort,
@@ -103,11 +110,8 @@ fn is_moved(
 ) -> Result<(), Fail> {
     let (digits, new_base, bytes) = case;
     let moved = moved_to(alloc, &[(0x1000, digits)], new_base)??;
-    are_bytes(rt, alloc, moved.bytes(), bytes)?;
-    are_addresses(rt, moved.starts(), &[new_base]);
-    are_forms(rt, moved.forms(), &[form]);
-    are_addresses(rt, moved.slots(), slots);
-    Ok(())
+    goes_through(rt, &moved, new_base, form, slots);
+    are_bytes(rt, alloc, moved.bytes(), bytes)
 }
 
 // A short JMP is EB, a near one E9 and a far one FF 25 through the 8 bytes of its goal.
@@ -141,17 +145,21 @@ const SECOND: BlockSpan = BlockSpan {
     new_base: 0x3000,
 };
 
+/// That two jumps stand in two blocks, the first near and the second short.
+fn are_in_two_blocks(rt: &impl Abort, moved: &MovedBlocks) {
+    are_addresses(rt, moved.starts(), &[0x2000, 0x3000]);
+    are_forms(rt, moved.forms(), &[Form::Near, Form::Short]);
+    are_addresses(rt, moved.slots(), &[]);
+    same_items(rt, "ends", moved.ends(), &[5, 7]);
+}
+
 // A jump into another block, which jumps to itself.
 #[test]
 fn a_jump_goes_from_block_to_block(rt: HostRuntime) -> Result<(), Fail> {
     let all = &[(0x1000, "eb3e"), (0x1040, "ebfe")];
     let moved = moved_to_two(rt.alloc(), all, FIRST, SECOND)??;
-    are_bytes(&rt, rt.alloc(), moved.bytes(), "e9fb0f0000ebfe")?;
-    are_addresses(&rt, moved.starts(), &[0x2000, 0x3000]);
-    are_forms(&rt, moved.forms(), &[Form::Near, Form::Short]);
-    are_addresses(&rt, moved.slots(), &[]);
-    same_items(&rt, "ends", moved.ends(), &[5, 7]);
-    Ok(())
+    are_in_two_blocks(&rt, &moved);
+    are_bytes(&rt, rt.alloc(), moved.bytes(), "e9fb0f0000ebfe")
 }
 
 /// That instructions are not moved to an address, for this cause.
@@ -256,10 +264,9 @@ fn keep_targets(
     bytes: &str,
     len: u64,
 ) -> Result<(), Fail> {
-    let moved = moved_outside(alloc, all, new_base)??;
-    are_bytes(rt, alloc, moved.bytes(), bytes)?;
     same(rt, "the length", &most_outside(alloc, all, new_base)?, &len);
-    Ok(())
+    let moved = moved_outside(alloc, all, new_base)??;
+    are_bytes(rt, alloc, moved.bytes(), bytes)
 }
 
 // A JMP to itself goes to where it stood, alone and before the jump back to what followed it.

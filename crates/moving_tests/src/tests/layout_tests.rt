@@ -85,22 +85,33 @@ fn has_second(
     has_slots(rt, laid, slots);
 }
 
+/// That the second of two items from 0x1003 on goes to a goal in this form, at this address and by this slot.
+fn goes_to(
+    rt: &impl Abort,
+    alloc: Global,
+    to: Goal,
+    second: (Form, u128, u128),
+    slots: &[u128],
+    end: u128,
+) -> Result<(), Fail>
+    requires { IsTrue (is_fit_goal 2 1 to) }
+{
+    let laid = two_from_1003(alloc, second.0, to)?;
+    has_second(rt, &laid, second, slots, end);
+    Ok(())
+}
+
 #[test]
 fn two_items_have_their_fragments(rt: HostRuntime) -> Result<(), Fail> {
     let alloc = rt.alloc();
-    let laid = two_from_1003(alloc, Form::Far, Goal::Outside(0x9000))?;
     let second = (Form::Far, 0x9000, 0x1010);
-    has_second(&rt, &laid, second, &[0x9000], 0x1018);
-    let laid = two_from_1003(alloc, Form::FarBridge, Goal::Outside(0x9001))?;
-    let second = (Form::FarBridge, 0x9001, 0x1018);
-    has_second(&rt, &laid, second, &[0x9000, 0x9001], 0x1020);
-    let laid = two_from_1003(alloc, Form::Far, Goal::Inside(0))?;
-    let second = (Form::Far, 0x1003, 0x1018);
-    has_second(&rt, &laid, second, &[0x9000, 0x1003], 0x1020);
-    let laid = two_from_1003(alloc, Form::Near, Goal::Inside(1))?;
+    goes_to(&rt, alloc, Goal::Outside(0x9000), second, &[0x9000], 0x1018)?;
+    let (second, slots) = ((Form::FarBridge, 0x9001, 0x1018), &[0x9000, 0x9001]);
+    goes_to(&rt, alloc, Goal::Outside(0x9001), second, slots, 0x1020)?;
+    let (second, slots) = ((Form::Far, 0x1003, 0x1018), &[0x9000, 0x1003]);
+    goes_to(&rt, alloc, Goal::Inside(0), second, slots, 0x1020)?;
     let second = (Form::Near, 0x1009, 0);
-    has_second(&rt, &laid, second, &[0x9000], 0x1018);
-    Ok(())
+    goes_to(&rt, alloc, Goal::Inside(1), second, &[0x9000], 0x1018)
 }
 
 /// A block of so many items at an address.

@@ -94,16 +94,25 @@ fn take_both(rt: &impl Abort, alloc: Global, slots: &mut StepSlots, nop: Placed)
     has_image(rt, slots, FIRST, SECOND);
 }
 
+/// The first slot is finished, and taken by a step of NOP at 1000.
+fn take_first_again(rt: &impl Abort, alloc: Global, slots: &mut StepSlots, nop: Placed)
+    requires bits { slots.old.bits ≡ Bits.B64 }
+    requires placed { IsPlaced Bits.B64 nop }
+    ensures { slots.new.bits ≡ Bits.B64 }
+{
+    finishes(rt, slots, 0x2000, Ok(()));
+    has_image(rt, slots, FREE, SECOND);
+    steps(rt, alloc, slots, nop, Ok(0x2000));
+    has_image(rt, slots, FIRST, SECOND);
+}
+
 // Bytes by the manual's notation of NOP and JMP. The first slot is free when it is finished, and is taken again.
 #[test]
 fn two_slots_have_their_bytes(rt: HostRuntime) -> Result<(), Fail> {
     let nop = placed_bytes(rt.alloc(), 0x1000, "90")?;
     let mut slots = slots_of(rt.alloc(), 0x2000, 32, 2)?;
     take_both(&rt, rt.alloc(), &mut slots, nop);
-    finishes(&rt, &mut slots, 0x2000, Ok(()));
-    has_image(&rt, &slots, FREE, SECOND);
-    steps(&rt, rt.alloc(), &mut slots, nop, Ok(0x2000));
-    has_image(&rt, &slots, FIRST, SECOND);
+    take_first_again(&rt, rt.alloc(), &mut slots, nop);
     let place = 0x2008;
     finishes(&rt, &mut slots, place, Err(NotTaken { place }));
     same(&rt, "live slots", &slots.live().len(), &2);

@@ -1,7 +1,7 @@
 //! Intel texts, a line each, and the bytes that they stand for.
 
 use crate::tests::outcomes::{wrote, wrote_bytes};
-use run_outcomes::run_command;
+use crate::tests::runs::run_command;
 use std::alloc::{AllocError, Global};
 use std::test::Fail;
 

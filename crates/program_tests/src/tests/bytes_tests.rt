@@ -1,62 +1,40 @@
 //! Bytes of moved code and of slots, by the manual's notation of JMP, the conditional jumps and LOOP.
 
 use crate::tests::outcomes::all_write_bytes;
-use run_outcomes::run_command;
+use crate::tests::runs::run_command;
 use std::alloc::Global;
 use std::process::Abort;
 use std::test::Fail;
 
+/// Commands, code, and its bytes where it is moved.
+const MOVED: &str = "
+move 64 1000 2000 | ebfe | ebfe
+move 64 1000 7fff00000000 | e900000000 | ff2502000000cccc0510000000000000
+move 64 1000 7fff00000000 | e905000000e900000000 | ff250a000000ff2504000000cccccccc0a10000000000000
+move 64 1000 7fff00000000 | 7410 | 7506ff25000000001210000000000000
+move 32 1000 5000 | e210 | e202eb05e909c0ffff
+move 64 1000 80001000 | 488b0500000000 | 488b0500000080
+move 64 1000 1100 | eb01b800000000 | e9fefeffffb800000000
+move 64 ffffffffffffffff 0 | 90 | 90
+move 16 fffe 100 | eb00 | e9fdfe
+move 64 1000 2000 | - | -
+blocks 64 1000 5000 5 2000 9000 | e9fb0f0000c3 | e9fb3f0000c3
+blocks 64 1000 5000 2 1000 6000 | ebfeebfe | ebfeebfe
+blocks 64 1002 5002 2 1080 5080 | eb7eeb7f90 | e97e000000e97cc0ffff90
+# to both ends of the address space
+move 64 0 ffffffffffffffff | 90 | 90
+move 64 ffffffffffffffff 0 | 90 | 90
+move 64 0 fffffffffffffffe | ebfe | ebfe
+move 64 fffffffffffffffe 0 | ebfe | ebfe
+move 32 0 ffffffff | 90 | 90
+move 32 ffffffff 0 | 90 | 90
+move 16 0 fffe | ebfe | ebfe
+move 16 ffff 0 | 90 | 90
+";
+
 #[test]
 fn moved_code_has_its_bytes(rt: HostRuntime) -> Result<(), Fail> {
-    let cases = &[
-        ("move 64 1000 2000", "ebfe", "ebfe"),
-        (
-            "move 64 1000 7fff00000000",
-            "e900000000",
-            "ff2502000000cccc0510000000000000",
-        ),
-        (
-            "move 64 1000 7fff00000000",
-            "e905000000e900000000",
-            "ff250a000000ff2504000000cccccccc0a10000000000000",
-        ),
-        (
-            "move 64 1000 7fff00000000",
-            "7410",
-            "7506ff25000000001210000000000000",
-        ),
-        ("move 32 1000 5000", "e210", "e202eb05e909c0ffff"),
-        ("move 64 1000 80001000", "488b0500000000", "488b0500000080"),
-        (
-            "move 64 1000 1100",
-            "eb01b800000000",
-            "e9fefeffffb800000000",
-        ),
-        ("move 64 ffffffffffffffff 0", "90", "90"),
-        ("move 16 fffe 100", "eb00", "e9fdfe"),
-        ("move 64 1000 2000", "", ""),
-        (
-            "blocks 64 1000 5000 5 2000 9000",
-            "e9fb0f0000c3",
-            "e9fb3f0000c3",
-        ),
-        ("blocks 64 1000 5000 2 1000 6000", "ebfeebfe", "ebfeebfe"),
-        (
-            "blocks 64 1002 5002 2 1080 5080",
-            "eb7eeb7f90",
-            "e97e000000e97cc0ffff90",
-        ),
-        // to both ends of the address space
-        ("move 64 0 ffffffffffffffff", "90", "90"),
-        ("move 64 ffffffffffffffff 0", "90", "90"),
-        ("move 64 0 fffffffffffffffe", "ebfe", "ebfe"),
-        ("move 64 fffffffffffffffe 0", "ebfe", "ebfe"),
-        ("move 32 0 ffffffff", "90", "90"),
-        ("move 32 ffffffff 0", "90", "90"),
-        ("move 16 0 fffe", "ebfe", "ebfe"),
-        ("move 16 ffff 0", "90", "90"),
-    ];
-    all_write_bytes(&rt, rt.alloc(), cases)
+    all_write_bytes(&rt, rt.alloc(), MOVED)
 }
 
 /// Bytes in hexadecimal digits, and so many of NOP behind them.
@@ -114,61 +92,27 @@ fn a_chain_of_branches_grows(rt: HostRuntime) -> Result<(), Fail> {
     Ok(())
 }
 
+/// Commands, code, and the bytes of its slots.
+const SLOTS: &str = "
+slots 64 1000 2000 10 | - | cccccccccccccccccccccccccccccccc
+slots 64 1000 2000 10 | 90 | 90e9fbefffffcccccccccccccccccccc
+slots 32 1000 2000 20 | 90 | 90e9fbefffffcccccccccccccccccccccccccccccccccccccccccccccccccccc
+# The second address and the address behind it wrap.
+slots 16 ffff 100 20 | 9090 | 90e9fcfecccccccccccccccccccccccc90e9edfecccccccccccccccccccccccc
+# jmp to itself: both jumps go through their 8 bytes
+slots 64 1000 7fff00000000 20 | ebfe | ff250a000000ff250c000000cccccccc00100000000000000210000000000000
+slots 64 1000 7fff00000000 30 | 9090 | 90ff2501000000cc011000000000000090ff2501000000cc0210000000000000cccccccccccccccccccccccccccccccc
+# mov rax, [rip]: it keeps its address
+slots 64 1000 2000 20 | 488b0500000000 | 488b0500f0ffffe9fbefffffcccccccccccccccccccccccccccccccccccccccc
+# loop to itself: it cannot be made longer, so it goes over a jump
+slots 32 1000 2000 20 | e2fe | e202eb05e9f7efffffe9f4efffffcccccccccccccccccccccccccccccccccccc
+# a range that ends where the address space does
+slots 64 0 fffffffffffffff0 10 | - | cccccccccccccccccccccccccccccccc
+slots 16 0 FFF0 10 | - | cccccccccccccccccccccccccccccccc
+";
+
 // A jump back is E9 with the distance from its end; far from its target it is FF 25 and goes through 8 bytes behind the instruction.
 #[test]
 fn each_instruction_has_its_slot(rt: HostRuntime) -> Result<(), Fail> {
-    let cases = &[
-        (
-            "slots 64 1000 2000 10",
-            "",
-            "cccccccccccccccccccccccccccccccc",
-        ),
-        (
-            "slots 64 1000 2000 10",
-            "90",
-            "90e9fbefffffcccccccccccccccccccc",
-        ),
-        (
-            "slots 32 1000 2000 20",
-            "90",
-            "90e9fbefffffcccccccccccccccccccccccccccccccccccccccccccccccccccc",
-        ),
-        // The second address and the address behind it wrap.
-        (
-            "slots 16 ffff 100 20",
-            "9090",
-            "90e9fcfecccccccccccccccccccccccc90e9edfecccccccccccccccccccccccc",
-        ),
-        // jmp to itself: both jumps go through their 8 bytes
-        (
-            "slots 64 1000 7fff00000000 20",
-            "ebfe",
-            "ff250a000000ff250c000000cccccccc00100000000000000210000000000000",
-        ),
-        (
-            "slots 64 1000 7fff00000000 30",
-            "9090",
-            "90ff2501000000cc011000000000000090ff2501000000cc0210000000000000cccccccccccccccccccccccccccccccc",
-        ),
-        // mov rax, [rip]: it keeps its address
-        (
-            "slots 64 1000 2000 20",
-            "488b0500000000",
-            "488b0500f0ffffe9fbefffffcccccccccccccccccccccccccccccccccccccccc",
-        ),
-        // loop to itself: it cannot be made longer, so it goes over a jump
-        (
-            "slots 32 1000 2000 20",
-            "e2fe",
-            "e202eb05e9f7efffffe9f4efffffcccccccccccccccccccccccccccccccccccc",
-        ),
-        // a range that ends where the address space does
-        (
-            "slots 64 0 fffffffffffffff0 10",
-            "",
-            "cccccccccccccccccccccccccccccccc",
-        ),
-        ("slots 16 0 FFF0 10", "", "cccccccccccccccccccccccccccccccc"),
-    ];
-    all_write_bytes(&rt, rt.alloc(), cases)
+    all_write_bytes(&rt, rt.alloc(), SLOTS)
 }

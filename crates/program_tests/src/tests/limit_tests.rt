@@ -1,7 +1,7 @@
 //! What is refused, and that nothing is written then.
 
 use crate::tests::outcomes::{outcome_of, wrote};
-use run_outcomes::{Outcome, run_command};
+use crate::tests::runs::{Outcome, run_command};
 use std::alloc::{AllocError, Global};
 use std::test::Fail;
 

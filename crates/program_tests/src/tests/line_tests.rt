@@ -1,7 +1,7 @@
 //! Lines of listings, of what instructions do and of their bytes in another mode, by the manual's notation and as other disassemblers write them.
 
-use crate::tests::outcomes::{all_write, outcome_of, wrote};
-use run_outcomes::{Outcome, run_command};
+use crate::tests::outcomes::{Case, all_write, case_of, lines_of, outcome_of, wrote};
+use crate::tests::runs::{Outcome, run_command};
 use std::alloc::{AllocError, Global};
 use std::process::Abort;
 use std::str::from_utf8;
@@ -30,228 +30,128 @@ fn texts_told(alloc: Global, command: &str, ran: &Outcome) -> Result<String, Fai
     Ok(found)
 }
 
-/// That a command over bytes in hexadecimal ends well and writes lines of these texts.
-fn tells(
-    rt: &impl Abort,
-    alloc: Global,
-    command: &str,
-    digits: &str,
-    texts: &str,
-) -> Result<(), Fail> {
-    let ran = outcome_of(alloc, command, digits)?;
-    let found = texts_told(alloc, command, &ran)?;
+/// That a command over code ends well and writes lines of these texts.
+fn tells(rt: &impl Abort, alloc: Global, case: &Case) -> Result<(), Fail> {
+    let ran = outcome_of(alloc, case.command, case.digits)?;
+    let found = texts_told(alloc, case.command, &ran)?;
+    let texts = lines_of(alloc, case.wanted)?;
     assert_eq!(rt;
         (ran.number, found.as_str()),
-        (0, texts),
-        "{command} {digits}"
+        (0, texts.as_str()),
+        "{} {}",
+        case.command,
+        case.digits
     );
     Ok(())
 }
 
-/// That each command tells these texts.
-fn all_tell(rt: &impl Abort, alloc: Global, cases: &[(&str, &str, &str)]) -> Result<(), Fail> {
-    for (command, digits, texts) in cases {
-        tells(rt, alloc, command, digits, texts)?;
+/// That each command of a table writes lines of its texts, which slashes part.
+fn all_tell(rt: &impl Abort, alloc: Global, table: &str) -> Result<(), Fail> {
+    for line in table.lines() {
+        if let Some(case) = case_of(line)? {
+            tells(rt, alloc, &case)?;
+        }
     }
     Ok(())
 }
 
-#[test]
-fn prefixes_have_their_texts(rt: HostRuntime) -> Result<(), Fail> {
-    let cases = &[
-        ("list 64 0 intel", "66", "db 0x66\n"),
-        ("list 64 0 intel", "6690", "nop\n"),
-        ("list 64 0 intel", "486690", "nop\n"),
-        ("list 64 0 intel", "88e0", "mov al, ah\n"),
-        ("list 64 0 intel", "4088e0", "mov al, spl\n"),
-        ("list 32 0 intel", "c500", "lds eax, [eax]\n"),
-        ("list 64 0 intel", "f00100", "lock add dword [rax], eax\n"),
-        ("list 64 0 intel", "f001c0", "db 0xf0\nadd eax, eax\n"),
-        ("list 64 0 intel", "f088", "db 0xf0\ndb 0x88\n"),
-        ("list 64 0 intel", "0f", "db 0xf\n"),
-    ];
-    all_tell(&rt, rt.alloc(), cases)
-}
+/// Commands, code, and the texts of its items.
+const TEXTS: &str = "
+# prefixes
+list 64 0 intel | 66 | db 0x66
+list 64 0 intel | 6690 | nop
+list 64 0 intel | 486690 | nop
+list 64 0 intel | 88e0 | mov al, ah
+list 64 0 intel | 4088e0 | mov al, spl
+list 32 0 intel | c500 | lds eax, [eax]
+list 64 0 intel | f00100 | lock add dword [rax], eax
+list 64 0 intel | f001c0 | db 0xf0 / add eax, eax
+list 64 0 intel | f088 | db 0xf0 / db 0x88
+list 64 0 intel | 0f | db 0xf
+# addresses
+list 16 0 intel | 8b00 | mov ax, word [bx+si]
+list 16 0 intel | 678b00 | mov ax, word [eax]
+list 32 0 intel | 678b00 | mov eax, dword [bx+si]
+list 64 0 intel | 642e8b00 | mov eax, dword fs:[rax]
+list 64 0 intel | f2f390 | pause
+list 64 0 intel | f3f290 | repne nop
+list 64 0 intel | 74fe4989c0 | je 0x0 / mov r8, rax
+list 64 1000 intel | 488b0500000000 | mov rax, qword [rel 0x1007]
+list 64 1000 att | 488b0500000000 | movq 0x1007(%rip), %rax
+list 64 1000 masm | 488b0500000000 | mov rax, qword ptr [1007h]
+# sizes
+list 64 0 intel | 0fb607 | movzx eax, byte [rdi]
+list 64 0 att | 0fb607 | movzbl (%rdi), %eax
+list 64 0 masm | 0fb607 | movzx eax, byte ptr [rdi]
+list 64 0 intel | ff10 | call qword [rax]
+list 64 0 att | ff10 | callq *(%rax)
+list 64 0 masm | ff10 | call qword ptr [rax]
+list 64 0 intel | d820 | fsub dword [rax]
+list 64 0 att | d820 | fsubs (%rax)
+list 64 0 masm | d820 | fsub dword ptr [rax]
+list 32 0 intel | 9a100000000800 | callf 0x8:0x10
+list 32 0 att | 9a100000000800 | callf $0x8, $0x10
+list 32 0 masm | 9a100000000800 | callf 8h:10h
+# numbers
+list 32 0 intel | 83c0ff | add eax, 0xffffffff
+list 32 0 att | 83c0ff | add $0xffffffff, %eax
+list 32 0 masm | 83c0ff | add eax, 0ffffffffh
+list 64 0 intel | 48895c2410 | mov qword [rsp+0x10], rbx
+list 64 0 att | 48895c2410 | movq %rbx, 0x10(%rsp)
+list 64 0 masm | 48895c2410 | mov qword ptr [rsp+10h], rbx
+# single bytes
+list 16 0 intel | 0f | db 0xf
+list 16 0 att | 0f | .byte 0xf
+list 16 0 masm | 0f | db 0fh
+list 64 0 intel | 66 | db 0x66
+list 64 0 att | 66 | .byte 0x66
+list 64 0 masm | 66 | db 66h
+# an instruction has at most fifteen bytes
+list 64 0 intel | 666666666666666666666666666666 | db 0x66 / db 0x66 / db 0x66 / db 0x66 / db 0x66 / db 0x66 / db 0x66 / db 0x66 / db 0x66 / db 0x66 / db 0x66 / db 0x66 / db 0x66 / db 0x66 / db 0x66
+list 64 0 intel | 666666666666666666666666666690 | nop
+list 64 0 intel | 66666666666666666666666666666690 | db 0x66 / nop
+";
 
 #[test]
-fn addresses_have_their_texts(rt: HostRuntime) -> Result<(), Fail> {
-    let cases = &[
-        ("list 16 0 intel", "8b00", "mov ax, word [bx+si]\n"),
-        ("list 16 0 intel", "678b00", "mov ax, word [eax]\n"),
-        ("list 32 0 intel", "678b00", "mov eax, dword [bx+si]\n"),
-        ("list 64 0 intel", "642e8b00", "mov eax, dword fs:[rax]\n"),
-        ("list 64 0 intel", "f2f390", "pause\n"),
-        ("list 64 0 intel", "f3f290", "repne nop\n"),
-        ("list 64 0 intel", "74fe4989c0", "je 0x0\nmov r8, rax\n"),
-        (
-            "list 64 1000 intel",
-            "488b0500000000",
-            "mov rax, qword [rel 0x1007]\n",
-        ),
-        (
-            "list 64 1000 att",
-            "488b0500000000",
-            "movq 0x1007(%rip), %rax\n",
-        ),
-        (
-            "list 64 1000 masm",
-            "488b0500000000",
-            "mov rax, qword ptr [1007h]\n",
-        ),
-    ];
-    all_tell(&rt, rt.alloc(), cases)
+fn items_have_their_texts(rt: HostRuntime) -> Result<(), Fail> {
+    all_tell(&rt, rt.alloc(), TEXTS)
 }
 
-#[test]
-fn sizes_have_their_texts(rt: HostRuntime) -> Result<(), Fail> {
-    let cases = &[
-        ("list 64 0 intel", "0fb607", "movzx eax, byte [rdi]\n"),
-        ("list 64 0 att", "0fb607", "movzbl (%rdi), %eax\n"),
-        ("list 64 0 masm", "0fb607", "movzx eax, byte ptr [rdi]\n"),
-        ("list 64 0 intel", "ff10", "call qword [rax]\n"),
-        ("list 64 0 att", "ff10", "callq *(%rax)\n"),
-        ("list 64 0 masm", "ff10", "call qword ptr [rax]\n"),
-        ("list 64 0 intel", "d820", "fsub dword [rax]\n"),
-        ("list 64 0 att", "d820", "fsubs (%rax)\n"),
-        ("list 64 0 masm", "d820", "fsub dword ptr [rax]\n"),
-        ("list 32 0 intel", "9a100000000800", "callf 0x8:0x10\n"),
-        ("list 32 0 att", "9a100000000800", "callf $0x8, $0x10\n"),
-        ("list 32 0 masm", "9a100000000800", "callf 8h:10h\n"),
-    ];
-    all_tell(&rt, rt.alloc(), cases)
-}
-
-#[test]
-fn numbers_have_their_texts(rt: HostRuntime) -> Result<(), Fail> {
-    let cases = &[
-        ("list 32 0 intel", "83c0ff", "add eax, 0xffffffff\n"),
-        ("list 32 0 att", "83c0ff", "add $0xffffffff, %eax\n"),
-        ("list 32 0 masm", "83c0ff", "add eax, 0ffffffffh\n"),
-        (
-            "list 64 0 intel",
-            "48895c2410",
-            "mov qword [rsp+0x10], rbx\n",
-        ),
-        ("list 64 0 att", "48895c2410", "movq %rbx, 0x10(%rsp)\n"),
-        (
-            "list 64 0 masm",
-            "48895c2410",
-            "mov qword ptr [rsp+10h], rbx\n",
-        ),
-    ];
-    all_tell(&rt, rt.alloc(), cases)
-}
-
-#[test]
-fn single_bytes_have_their_texts(rt: HostRuntime) -> Result<(), Fail> {
-    let cases = &[
-        ("list 16 0 intel", "0f", "db 0xf\n"),
-        ("list 16 0 att", "0f", ".byte 0xf\n"),
-        ("list 16 0 masm", "0f", "db 0fh\n"),
-        ("list 64 0 intel", "66", "db 0x66\n"),
-        ("list 64 0 att", "66", ".byte 0x66\n"),
-        ("list 64 0 masm", "66", "db 66h\n"),
-        // an instruction has at most fifteen bytes
-        (
-            "list 64 0 intel",
-            "666666666666666666666666666666",
-            "db 0x66\ndb 0x66\ndb 0x66\ndb 0x66\ndb 0x66\ndb 0x66\ndb 0x66\ndb 0x66\ndb 0x66\ndb 0x66\ndb 0x66\ndb 0x66\ndb 0x66\ndb 0x66\ndb 0x66\n",
-        ),
-        ("list 64 0 intel", "666666666666666666666666666690", "nop\n"),
-        (
-            "list 64 0 intel",
-            "66666666666666666666666666666690",
-            "db 0x66\nnop\n",
-        ),
-    ];
-    all_tell(&rt, rt.alloc(), cases)
-}
+/// Commands, code, and the lines of its items.
+const LINES: &str = "
+list 64 7ffac46acda4 intel | 48895c2410 | 00007ffac46acda4 48895c2410                     mov qword [rsp+0x10], rbx
+list 16 ffff intel | 9090 | ffff 90                             nop / 0000 90                             nop
+list 64 0 intel | - | -
+info 64 401000 | 554889e54883ec20e8f60f0000c9c3 | 0000000000401000 Next r / 0000000000401001 Next w r / 0000000000401004 Next rw r / 0000000000401008 Call r -> 0x402003 / 000000000040100d Next / 000000000040100e Return
+info 16 FFFE | ebfe90 | fffe UnconditionalBranch r -> 0xfffe / 0000 Next
+info 64 0 | 488b0501000000 | 0000000000000000 Next w r m8 @ 0x8
+info 64 0 | 678b05f8ffffff | 0000000000000000 Next w r m4 @ 0xffffffff
+info 64 0 | 488d040b | 0000000000000000 Next w n
+info 64 0 | e2fe | 0000000000000000 ConditionalBranch r -> 0x0
+info 64 0 | 01048b | 0000000000000000 Next rw r m4
+info 64 0 | ff10 | 0000000000000000 IndirectCall r m8
+info 64 0 | ff2500000000 | 0000000000000000 IndirectBranch r m8 @ 0x6
+info 64 0 | c5fc1000 | 0000000000000000 Next w r m32
+info 64 0 | cc0f0b0f05 | 0000000000000000 Interrupt / 0000000000000001 Exception / 0000000000000003 Call
+info 64 0 | 0fae00 | 0000000000000000 Next w
+info 32 0 | 9a100000000800 | 00000000 Call r
+info 16 0 | 8b00 | 0000 Next w r m2
+info 64 0 | - | -
+recode 64 0 32 0 | 4088e0 | 0000000000000000 ! 3 1
+recode 64 0 32 0 | 8b00 | 0000000000000000 ! 4
+recode 32 0 64 0 | 40 | 00000000 ! 1
+recode 64 0 64 0 | 66eb7f | 0000000000000000 ! 7
+recode 64 0 64 0 | c4e17858c1 | 0000000000000000 c5f858c1
+recode 64 0 64 0 | 486690 | 0000000000000000 90
+recode 64 1000 16 0 | 01c04801c0 | 0000000000001000 6601c0 / 0000000000001002 ! 1
+recode 32 0 16 0 | f0f22e8184984433221178563412 | 00000000 ! 10
+recode 64 0 64 0 | - | -
+--version | 90 | feddurzai 0.2.0 / integer, x87, MMX, SSE to SSE4.2, AVX, AVX2, BMI, FMA, F16C, AES, PCLMULQDQ
+";
 
 #[test]
 fn streams_have_their_lines(rt: HostRuntime) -> Result<(), Fail> {
-    let cases = &[
-        (
-            "list 64 7ffac46acda4 intel",
-            "48895c2410",
-            "00007ffac46acda4 48895c2410                     mov qword [rsp+0x10], rbx\n",
-        ),
-        (
-            "list 16 ffff intel",
-            "9090",
-            "ffff 90                             nop\n0000 90                             nop\n",
-        ),
-        ("list 64 0 intel", "", ""),
-        (
-            "info 64 401000",
-            "554889e54883ec20e8f60f0000c9c3",
-            "0000000000401000 Next r\n0000000000401001 Next w r\n0000000000401004 Next rw r\n0000000000401008 Call r -> 0x402003\n000000000040100d Next\n000000000040100e Return\n",
-        ),
-        (
-            "info 16 FFFE",
-            "ebfe90",
-            "fffe UnconditionalBranch r -> 0xfffe\n0000 Next\n",
-        ),
-        (
-            "info 64 0",
-            "488b0501000000",
-            "0000000000000000 Next w r m8 @ 0x8\n",
-        ),
-        (
-            "info 64 0",
-            "678b05f8ffffff",
-            "0000000000000000 Next w r m4 @ 0xffffffff\n",
-        ),
-        ("info 64 0", "488d040b", "0000000000000000 Next w n\n"),
-        (
-            "info 64 0",
-            "e2fe",
-            "0000000000000000 ConditionalBranch r -> 0x0\n",
-        ),
-        ("info 64 0", "01048b", "0000000000000000 Next rw r m4\n"),
-        ("info 64 0", "ff10", "0000000000000000 IndirectCall r m8\n"),
-        (
-            "info 64 0",
-            "ff2500000000",
-            "0000000000000000 IndirectBranch r m8 @ 0x6\n",
-        ),
-        ("info 64 0", "c5fc1000", "0000000000000000 Next w r m32\n"),
-        (
-            "info 64 0",
-            "cc0f0b0f05",
-            "0000000000000000 Interrupt\n0000000000000001 Exception\n0000000000000003 Call\n",
-        ),
-        ("info 64 0", "0fae00", "0000000000000000 Next w\n"),
-        ("info 32 0", "9a100000000800", "00000000 Call r\n"),
-        ("info 16 0", "8b00", "0000 Next w r m2\n"),
-        ("info 64 0", "", ""),
-        ("recode 64 0 32 0", "4088e0", "0000000000000000 ! 3 1\n"),
-        ("recode 64 0 32 0", "8b00", "0000000000000000 ! 4\n"),
-        ("recode 32 0 64 0", "40", "00000000 ! 1\n"),
-        ("recode 64 0 64 0", "66eb7f", "0000000000000000 ! 7\n"),
-        (
-            "recode 64 0 64 0",
-            "c4e17858c1",
-            "0000000000000000 c5f858c1\n",
-        ),
-        ("recode 64 0 64 0", "486690", "0000000000000000 90\n"),
-        (
-            "recode 64 1000 16 0",
-            "01c04801c0",
-            "0000000000001000 6601c0\n0000000000001002 ! 1\n",
-        ),
-        (
-            "recode 32 0 16 0",
-            "f0f22e8184984433221178563412",
-            "00000000 ! 10\n",
-        ),
-        ("recode 64 0 64 0", "", ""),
-        (
-            "--version",
-            "90",
-            "feddurzai 0.2.0\ninteger, x87, MMX, SSE to SSE4.2, AVX, AVX2, BMI, FMA, F16C, AES, PCLMULQDQ\n",
-        ),
-    ];
-    all_write(&rt, rt.alloc(), cases)
+    all_write(&rt, rt.alloc(), LINES)
 }
 
 const NEXT: &str = "0000000000000000 Next\n";

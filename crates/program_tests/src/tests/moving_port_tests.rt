@@ -1,7 +1,7 @@
 //! What a command over moved code, slots or flow leaves where a port fails at a call, or has too little room.
 
 use crate::tests::outcomes::{all_leave, outcome_between, wrote_bytes};
-use run_outcomes::{Ports, WHOLE};
+use crate::tests::runs::{Ports, WHOLE};
 use std::test::Fail;
 
 const ROOM: usize = 256;

@@ -1,8 +1,8 @@
 //! What commands give for inputs in hexadecimal digits, compared with what is wanted. The comparisons stand here alone,
 //! so that no test's proof carries them.
 
-use run_outcomes::{Outcome, Ports, run_between, run_command};
-use std::alloc::Global;
+use crate::tests::runs::{Outcome, Ports, run_between, run_command};
+use std::alloc::{AllocError, Global};
 use std::process::Abort;
 use std::str::from_utf8;
 use std::test::Fail;
@@ -51,28 +51,70 @@ pub(crate) fn wrote_bytes(
     Ok(())
 }
 
-/// That each command writes these lines for its input in hexadecimal digits, and says nothing.
-pub(crate) fn all_write(
-    rt: &impl Abort,
-    alloc: Global,
-    cases: &[(&str, &str, &str)],
-) -> Result<(), Fail> {
-    for (command, digits, lines) in cases {
-        let ran = outcome_of(alloc, command, digits)?;
-        wrote(rt, &ran, (0, lines, ""), command, digits)?;
+/// A case of a table: a command, its input in hexadecimal digits, and what it writes.
+#[derive(Clone, Copy)]
+pub(crate) struct Case<'a> {
+    pub(crate) command: &'a str,
+    pub(crate) digits: &'a str,
+    pub(crate) wanted: &'a str,
+}
+
+/// What a part of a case says: `-` is nothing.
+fn said(part: &str) -> &str {
+    match part {
+        "-" => "",
+        _ => part,
+    }
+}
+
+/// The case of a line of a table, whose parts stand between bars. Lines without text and remarks behind `#` are none.
+pub(crate) fn case_of(line: &str) -> Result<Option<Case<'_>>, Fail> {
+    if line.is_empty() || line.starts_with('#') {
+        return Ok(None);
+    }
+    let mut parts = line.split(" | ");
+    match (parts.next(), parts.next(), parts.next(), parts.next()) {
+        (Some(command), Some(digits), Some(wanted), None) => Ok(Some(Case {
+            command,
+            digits: said(digits),
+            wanted: said(wanted),
+        })),
+        _ => Err(Fail::new("a case has three parts")),
+    }
+}
+
+/// The lines that slashes part, each with its line feed.
+pub(crate) fn lines_of(alloc: Global, wanted: &str) -> Result<String, AllocError> {
+    let mut lines = String::new(alloc);
+    if !wanted.is_empty() {
+        for line in wanted.split(" / ") {
+            lines.push_str(line)?;
+            lines.push_str("\n")?;
+        }
+    }
+    Ok(lines)
+}
+
+/// That each command of a table writes its lines, which slashes part, and says nothing.
+pub(crate) fn all_write(rt: &impl Abort, alloc: Global, table: &str) -> Result<(), Fail> {
+    for line in table.lines() {
+        if let Some(case) = case_of(line)? {
+            let lines = lines_of(alloc, case.wanted)?;
+            let ran = outcome_of(alloc, case.command, case.digits)?;
+            wrote(rt, &ran, (0, &lines, ""), case.command, case.digits)?;
+        }
     }
     Ok(())
 }
 
-/// That each command writes these bytes for its input, both in hexadecimal digits, and says nothing.
-pub(crate) fn all_write_bytes(
-    rt: &impl Abort,
-    alloc: Global,
-    cases: &[(&str, &str, &str)],
-) -> Result<(), Fail> {
-    for (command, digits, bytes) in cases {
-        let ran = outcome_of(alloc, command, digits)?;
-        wrote_bytes(rt, alloc, &ran, (0, bytes, ""), command, digits)?;
+/// That each command of a table writes its bytes, in hexadecimal digits, and says nothing.
+pub(crate) fn all_write_bytes(rt: &impl Abort, alloc: Global, table: &str) -> Result<(), Fail> {
+    for line in table.lines() {
+        if let Some(case) = case_of(line)? {
+            let ran = outcome_of(alloc, case.command, case.digits)?;
+            let wanted = (0, case.wanted, "");
+            wrote_bytes(rt, alloc, &ran, wanted, case.command, case.digits)?;
+        }
     }
     Ok(())
 }

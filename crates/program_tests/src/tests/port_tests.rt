@@ -1,7 +1,7 @@
 //! What a stream leaves where a port fails at a call, or has too little room.
 
 use crate::tests::outcomes::{all_leave, outcome_between, wrote};
-use run_outcomes::{Ports, WHOLE};
+use crate::tests::runs::{Ports, WHOLE};
 use std::alloc::{AllocError, Global};
 use std::test::Fail;
 

@@ -1,7 +1,7 @@
 //! Which word of a command line is wrong: the first that is not allowed, missing or too many.
 
 use crate::tests::outcomes::wrote;
-use run_outcomes::run_command;
+use crate::tests::runs::run_command;
 use std::alloc::{AllocError, Global};
 use std::process::Abort;
 use std::test::Fail;

@@ -2,6 +2,7 @@
 
 ghost use Rattle.std.specs.Prelude.{◌≡◌, length};
 
+use crate::tests::compare::{holds, same_number, same_text};
 use crate::tests::read_bytes::{read, read_at};
 use decoder::DecodeError::{Invalid, TooShort};
 use decoder::{DecodeError, Decoder, decode_in};
@@ -24,7 +25,7 @@ fn has_text(
 ) -> Result<(), Fail> {
     let decoded = read(alloc, bits, ip, digits)?;
     let shown = print(bits, &decoded.instr);
-    assert_eq!(rt; from_utf8(shown.as_slice())?, text, "{digits}");
+    same_text(rt, from_utf8(shown.as_slice())?, text, digits);
     Ok(())
 }
 
@@ -35,10 +36,11 @@ fn is_refused(
     error: DecodeError,
     digits: &str,
 ) {
-    match read {
-        Ok(_) => assert!(rt; false, "{digits} is read"),
-        Err(found) => assert_eq!(rt; *found, error, "{digits}"),
-    }
+    let found = match read {
+        Ok(_) => None,
+        Err(found) => Some(*found),
+    };
+    holds(rt, found == Some(error), digits);
 }
 
 #[test]
@@ -117,7 +119,8 @@ fn decodes(
     ensures { decoder.new.bytes ≡ decoder.old.bytes }
 {
     let len = len_of(decoder.decode());
-    assert_eq!(rt; (len, decoder.position()), (want, position));
+    holds(rt, len == want, "what is read");
+    same_number(rt, decoder.position(), position, "the position");
 }
 
 /// Passes over a byte, if there is one.

@@ -1,5 +1,6 @@
 //! Bytes of instructions by the manual's notation, and refusals of each kind.
 
+use crate::tests::compare::{holds_of_instr, same_number, same_text};
 use encoder::{encode, encoded_len};
 use opcode_rows::{ROWS, code_of};
 use plain_spelling::NoSpelling;
@@ -141,14 +142,14 @@ fn gather(destination: u8, index: Option<Register>, mask: Register) -> Instr {
 fn has_bytes(rt: &impl Abort, alloc: Global, given: &Instr, digits: &str) -> Result<(), Fail> {
     let bytes = encode(Bits::B64, 0x1000, given)?;
     let found = hex::encode(alloc, &bytes)?;
-    assert_eq!(rt; found.as_str(), digits);
-    has_length(rt, given, bytes.len())
+    same_text(rt, found.as_str(), digits, digits);
+    has_length(rt, given, bytes.len(), digits)
 }
 
 /// That an instruction of 64-bit mode at 1000 has so many bytes.
-fn has_length(rt: &impl Abort, given: &Instr, want: usize) -> Result<(), Fail> {
+fn has_length(rt: &impl Abort, given: &Instr, want: usize, digits: &str) -> Result<(), Fail> {
     let len = encoded_len(Bits::B64, 0x1000, given)?;
-    assert_eq!(rt; len as usize, want, "{given:?}");
+    same_number(rt, len as usize, want, digits);
     Ok(())
 }
 
@@ -188,8 +189,8 @@ fn refusal_of_length(bits: Bits, given: &Instr) -> Option<NoSpelling> {
 
 /// That an instruction is refused, for this cause.
 fn is_refused(rt: &impl Abort, bits: Bits, given: &Instr, want: NoSpelling) {
-    let found = (refusal(bits, given), refusal_of_length(bits, given));
-    assert_eq!(rt; found, (Some(want), Some(want)), "{given:?}");
+    holds_of_instr(rt, refusal(bits, given) == Some(want), given);
+    holds_of_instr(rt, refusal_of_length(bits, given) == Some(want), given);
 }
 
 // One refusal of each kind that a code, a register, an address, a displacement, a target and a prefix can have.

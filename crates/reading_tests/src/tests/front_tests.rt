@@ -2,6 +2,7 @@
 
 ghost use Rattle.std.specs.Prelude.{◌≡◌};
 
+use crate::tests::compare::holds;
 use instruction_parts::{PrefixState, Vex};
 use prefixes::{PrefixError, read_prefixes, write_prefixes};
 use row_types::{
@@ -48,7 +49,7 @@ fn fronts_are_read(rt: HostRuntime) -> Result<(), Fail> {
     ];
     for (bits, digits, want) in cases {
         let bytes = hex::decode(rt.alloc(), digits)?;
-        assert_eq!(rt; front(*bits, &bytes), *want, "{digits} in {bits:?}");
+        holds(&rt, front(*bits, &bytes) == *want, digits);
     }
     Ok(())
 }
@@ -95,7 +96,8 @@ fn front_of_it(vex: Option<Vex>) -> PrefixState
 fn fronts_are_written(rt: HostRuntime) {
     let row = compare_and_exchange();
     let written = write_prefixes(Bits::B64, &row, &front_of_it(None));
-    assert_eq!(rt; written.as_slice(), b"\x64\x67\xF0\x48\x0F".as_slice());
+    let want = b"\x64\x67\xF0\x48\x0F";
+    holds(&rt, written.as_slice() == want.as_slice(), "with REX.W");
     let vex = Vex {
         three: true,
         r: false,
@@ -108,8 +110,6 @@ fn fronts_are_written(rt: HostRuntime) {
         pp: 1,
     };
     let written = write_prefixes(Bits::B64, &row, &front_of_it(Some(vex)));
-    assert_eq!(rt;
-        written.as_slice(),
-        b"\x64\x67\xF0\x48\xC4\xC2\xAD".as_slice()
-    );
+    let want = b"\x64\x67\xF0\x48\xC4\xC2\xAD";
+    holds(&rt, written.as_slice() == want.as_slice(), "with a VEX");
 }

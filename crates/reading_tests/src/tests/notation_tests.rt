@@ -1,5 +1,6 @@
 //! Notations as the manual prints them, read and written.
 
+use crate::tests::compare::{holds, same_number};
 use row_notation::{
     Class, ImmWord, LBit, Map, Marks, ModRmRule, ModeMask, OpKind, Place, Plus, PlusWord, Row,
     RowKind, RowShape, Size, SizeWord, WBit, read_notation, write_notation,
@@ -26,10 +27,7 @@ fn bare(kind: RowKind, map: Map, class: Class, opcode: u8) -> RowShape {
 
 /// That a notation is read as this shape.
 fn has_shape(rt: &impl Abort, text: &str, want: RowShape) {
-    assert!(rt;
-        read_notation(text.as_bytes()) == Ok(want),
-        "reading {text}"
-    );
+    holds(rt, read_notation(text.as_bytes()) == Ok(want), text);
 }
 
 #[test]
@@ -76,8 +74,8 @@ fn faults_are_told_by_their_place(rt: HostRuntime) {
         ("0F 38 5", 7),
     ] {
         match read_notation(text.as_bytes()) {
-            Ok(_) => assert!(rt; false, "{text} was read"),
-            Err(fault) => assert_eq!(rt; fault.at, *want, "at {text}"),
+            Ok(_) => holds(&rt, false, text),
+            Err(fault) => same_number(&rt, fault.at, *want, text),
         }
     }
 }
@@ -101,5 +99,6 @@ fn a_notation_is_written(rt: HostRuntime) {
         marks: Marks(12),
     };
     let text = write_notation(&enter);
-    assert!(rt; text.as_slice() == b"o64 C8 iw ib".as_slice(), "ENTER");
+    let want = b"o64 C8 iw ib";
+    holds(&rt, text.as_slice() == want.as_slice(), "ENTER");
 }

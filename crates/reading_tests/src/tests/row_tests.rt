@@ -6,11 +6,13 @@ ghost use Rattle.instruction_parts.specs.Sizes.{is_vex_row};
 ghost use Rattle.row_fit.specs.Fits.{fields_in_range};
 ghost use Rattle.row_fit.specs.Sound.{sound};
 
+use crate::tests::compare::holds;
 use arrayvec::ArrayVec;
 use row_relation::{ModRm, Spelling, row_fits, row_meaning, row_memory_size, spelling_bytes};
 use row_types::{
     Class, LBit, Map, Marks, ModRmRule, ModeMask, OpKind, Place, Plus, Row, RowKind, Size, WBit,
 };
+use std::test::Fail;
 use x86_values::{Bits, Code, Operand, Register};
 
 /// `o32 01 /r add`.
@@ -60,15 +62,23 @@ fn of_registers(row: &Row) -> Spelling
 }
 
 #[test]
-fn add_of_two_registers_has_its_bytes_and_meaning(rt: HostRuntime) {
+fn add_of_two_registers_has_its_bytes_and_meaning(rt: HostRuntime) -> Result<(), Fail> {
     let row = add();
     let s = of_registers(&row);
-    assert!(rt; row_fits(Bits::B64, &row, &s));
-    assert!(rt; !row_fits(Bits::B16, &row, &s));
-    assert!(rt; spelling_bytes(&row, &s).as_slice() == [0x01, 0xC1].as_slice());
+    if !row_fits(Bits::B64, &row, &s) {
+        return Err(Fail::new("it is no spelling in 64-bit mode"));
+    }
+    holds(&rt, !row_fits(Bits::B16, &row, &s), "in 16-bit mode");
+    let bytes = spelling_bytes(&row, &s);
+    holds(
+        &rt,
+        bytes.as_slice() == [0x01, 0xC1].as_slice(),
+        "the bytes",
+    );
     let i = row_meaning(Bits::B64, 0x1000, Code(2), &row, &s);
-    assert!(rt; i.ops[0] == Operand::Reg(Register::R32(1)));
-    assert!(rt; i.ops[1] == Operand::Reg(Register::R32(0)));
-    assert!(rt; i.asize.is_none());
-    assert!(rt; row_memory_size(&row) == 4);
+    holds(&rt, i.ops[0] == Operand::Reg(Register::R32(1)), "operand 0");
+    holds(&rt, i.ops[1] == Operand::Reg(Register::R32(0)), "operand 1");
+    holds(&rt, i.asize.is_none(), "no address");
+    holds(&rt, row_memory_size(&row) == 4, "four bytes");
+    Ok(())
 }

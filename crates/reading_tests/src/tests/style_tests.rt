@@ -1,5 +1,6 @@
 //! Texts that assemblers of each style write of the same instruction.
 
+use crate::tests::compare::same_text;
 use crate::tests::read_bytes::read;
 use arrayvec::ArrayVec;
 use std::alloc::Global;
@@ -22,7 +23,7 @@ fn texts_of(alloc: Global, bits: Bits, digits: &str) -> Result<[Text; 3], Fail> 
 }
 
 fn is_text(rt: &impl Abort, found: &Text, want: &str) -> Result<(), Fail> {
-    assert_eq!(rt; from_utf8(found.as_slice())?, want);
+    same_text(rt, from_utf8(found.as_slice())?, want, want);
     Ok(())
 }
 

@@ -2,6 +2,7 @@
 
 ghost use Rattle.std.specs.Prelude.{◌≡◌, ◌<◌};
 
+use crate::tests::compare::{holds, holds_of_instr, same_text};
 use arrayvec::ArrayVec;
 use opcode_rows::{ROWS, VERSION1_ROWS, cell_len, code_of, first_of, name, row, well_formed};
 use row_lines::row_line;
@@ -57,15 +58,16 @@ fn cells_have_their_names(rt: HostRuntime) {
         (RowKind::Vex, Map::M0f3a, 0x1d, 1, "vcvtps2ph"),
     ];
     for (kind, map, opcode, n, want) in cases {
-        assert_eq!(rt; nth_name(*kind, *map, *opcode, *n), *want);
+        same_text(&rt, nth_name(*kind, *map, *opcode, *n), want, want);
     }
 }
 
 #[test]
 fn codes_have_their_names(rt: HostRuntime) {
-    assert_eq!(rt; (VERSION1_ROWS, ROWS), (1969, 2083));
-    let names = [name(Code(1968)), name(Code(1969)), name(Code(2082))];
-    assert_eq!(rt; names, ["rorx", "aesimc", "vaeskeygenassist"]);
+    holds(&rt, VERSION1_ROWS == 1969 && ROWS == 2083, "the rows");
+    same_text(&rt, name(Code(1968)), "rorx", "1968");
+    same_text(&rt, name(Code(1969)), "aesimc", "1969");
+    same_text(&rt, name(Code(2082)), "vaeskeygenassist", "2082");
 }
 
 // Codes count the rows in the order of the opcode maps, and RORX is the last entry of the last map; FMA, F16C, AES and PCLMULQDQ follow.
@@ -84,7 +86,7 @@ fn names_have_their_rows(rt: HostRuntime) {
         ("ADD", 0, None),
         ("", 0, None),
     ] {
-        assert_eq!(rt; code_of(name, *n), *want);
+        holds(&rt, code_of(name, *n) == *want, name);
     }
 }
 
@@ -119,8 +121,8 @@ fn codes_have_their_rows(rt: HostRuntime) -> Result<(), Fail> {
         (4, 0x02, Size::None, "4 02 /r add\n"),
     ] {
         let (row, shown) = row_and_line(*code)?;
-        assert_eq!(rt; (row.opcode, row.size), (*opcode, *size), "{line}");
-        assert_eq!(rt; from_utf8(shown.as_slice())?, *line);
+        holds(&rt, row.opcode == *opcode && row.size == *size, line);
+        same_text(&rt, from_utf8(shown.as_slice())?, line, line);
     }
     Ok(())
 }
@@ -178,6 +180,6 @@ fn add_takes_its_operands(rt: HostRuntime) {
     ];
     for (code, first, second, third, want) in cases {
         let case = instr(*code, *first, *second, *third);
-        assert!(rt; well_formed(&case) == *want, "{case:?}");
+        holds_of_instr(&rt, well_formed(&case) == *want, &case);
     }
 }

@@ -1,9 +1,10 @@
 //! Tails of single rows, read: bytes, operands and lengths as a reference disassembler gives them.
 
-ghost use Rattle.std.specs.Prelude.{IsTrue};
+ghost use Rattle.std.specs.Prelude.{IsTrue, IfOk};
 ghost use Rattle.prefixes.specs.Answer.{is_mode};
 ghost use Rattle.row_fit.specs.Sound.{sound};
 
+use crate::tests::compare::{holds, same_number, same_text};
 use Sample::{
     Add16, Add32, Add64, AddImmediate, AddStack, Bound, Call, Gather, LoadFar, MoveByte,
     MoveFromAddress, MoveFromDebug, Pop,
@@ -11,11 +12,10 @@ use Sample::{
 use intel_text::print;
 use modrm_sib::TailError::{Ended, Forbidden};
 use modrm_sib::{TailError, read_operands};
-use opcode_rows::{code_of, well_formed};
+use opcode_rows::laws::rows_are_sound;
+use opcode_rows::{ROWS, code_of, row_of, well_formed};
 use prefixes::read_prefixes;
-use row_types::{
-    Class, LBit, Map, Marks, ModRmRule, ModeMask, OpKind, Place, Plus, Row, RowKind, Size, WBit,
-};
+use row_types::Row;
 use std::process::Abort;
 use std::str::from_utf8;
 use std::test::Fail;
@@ -23,7 +23,7 @@ use x86_values::Bits::{B16, B32, B64};
 use x86_values::{Bits, Code, Decoded, DispSize, Instr};
 
 /// Rows that tell much, by what they stand for.
-#[derive(Clone, Copy, PartialEq, Eq, Debug)]
+#[derive(Clone, Copy)]
 enum Sample {
     Add16,
     Add32,
@@ -38,129 +38,6 @@ enum Sample {
     AddImmediate,
     AddStack,
     Gather,
-}
-
-const ALL: ModeMask = ModeMask(7);
-
-const PROTECTED: ModeMask = ModeMask(3);
-
-const LONG: ModeMask = ModeMask(4);
-
-/// A legacy row of the one-byte map with a ModRM and any operand size.
-const PLAIN: Row = Row {
-    kind: RowKind::Legacy,
-    map: Map::One,
-    class: Class::Any,
-    opcode: 0x01,
-    plus: Plus::No,
-    modrm: ModRmRule::Any,
-    place: Place::Any,
-    size: Size::None,
-    w: WBit::None,
-    l: LBit::None,
-    modes: ALL,
-    ops: [OpKind::Ev, OpKind::Gv, OpKind::Absent, OpKind::Absent],
-    marks: Marks(0),
-};
-
-/// The row of a sample.
-#[tactic(auto, unfolding(row_relation::specs::EveryRule::every_rule))]
-fn row_of(sample: Sample) -> Row
-    ensures { IsTrue (sound result) }
-{
-    match sample {
-        Sample::Add16 => Row {
-            size: Size::O16,
-            marks: Marks(1),
-            ..PLAIN
-        },
-        Sample::Add32 => Row {
-            size: Size::O32,
-            marks: Marks(1),
-            ..PLAIN
-        },
-        Sample::Add64 => Row {
-            size: Size::O64,
-            modes: LONG,
-            marks: Marks(1),
-            ..PLAIN
-        },
-        Sample::MoveByte => Row {
-            opcode: 0x88,
-            ops: [OpKind::Eb, OpKind::Gb, OpKind::Absent, OpKind::Absent],
-            ..PLAIN
-        },
-        Sample::MoveFromDebug => Row {
-            map: Map::M0f,
-            opcode: 0x21,
-            modes: LONG,
-            ops: [OpKind::Rm, OpKind::Dn, OpKind::Absent, OpKind::Absent],
-            ..PLAIN
-        },
-        Sample::LoadFar => Row {
-            opcode: 0xC4,
-            size: Size::O32,
-            modes: PROTECTED,
-            ops: [OpKind::Gv, OpKind::Mp, OpKind::Absent, OpKind::Absent],
-            ..PLAIN
-        },
-        Sample::Bound => Row {
-            opcode: 0x62,
-            size: Size::O32,
-            modes: PROTECTED,
-            ops: [OpKind::Gv, OpKind::Ma, OpKind::Absent, OpKind::Absent],
-            ..PLAIN
-        },
-        Sample::Pop => Row {
-            opcode: 0x8F,
-            modrm: ModRmRule::Digit(0),
-            size: Size::O32,
-            modes: PROTECTED,
-            ops: [OpKind::Ev, OpKind::Absent, OpKind::Absent, OpKind::Absent],
-            ..PLAIN
-        },
-        Sample::Call => Row {
-            opcode: 0xE8,
-            modrm: ModRmRule::No,
-            size: Size::O64,
-            modes: LONG,
-            ops: [OpKind::Jz, OpKind::Absent, OpKind::Absent, OpKind::Absent],
-            marks: Marks(16),
-            ..PLAIN
-        },
-        Sample::MoveFromAddress => Row {
-            opcode: 0xA0,
-            modrm: ModRmRule::No,
-            ops: [OpKind::Al, OpKind::Ob, OpKind::Absent, OpKind::Absent],
-            ..PLAIN
-        },
-        Sample::AddImmediate => Row {
-            opcode: 0x81,
-            modrm: ModRmRule::Digit(0),
-            size: Size::O64,
-            modes: LONG,
-            ops: [OpKind::Ev, OpKind::Iz, OpKind::Absent, OpKind::Absent],
-            marks: Marks(1),
-            ..PLAIN
-        },
-        Sample::AddStack => Row {
-            opcode: 0xD8,
-            plus: Plus::Stack,
-            modrm: ModRmRule::Fixed(0xC0),
-            ops: [OpKind::St, OpKind::StI, OpKind::Absent, OpKind::Absent],
-            ..PLAIN
-        },
-        Sample::Gather => Row {
-            kind: RowKind::Vex,
-            map: Map::M0f38,
-            class: Class::P66,
-            opcode: 0x92,
-            w: WBit::W0,
-            l: LBit::L128,
-            ops: [OpKind::Vx, OpKind::GatherL, OpKind::Hx, OpKind::Absent],
-            ..PLAIN
-        },
-    }
 }
 
 /// The code of the row in the table that a sample is.
@@ -183,13 +60,25 @@ fn code_of_row(sample: Sample) -> Code {
     code_of(name, n).unwrap_or(Code(u16::MAX))
 }
 
+/// The row of a sample in the table, and its code.
+fn row_of_sample(sample: Sample) -> Result<(Code, Row), Fail>
+    ensures { IfOk result (λ found. IsTrue (sound found.1)) }
+{
+    let code = code_of_row(sample);
+    if code.0 >= ROWS {
+        return Err(Fail::new("the table has no such row"));
+    }
+    rows_are_sound();
+    Ok((code, row_of(code)))
+}
+
 /// The answer behind the front of the bytes at the address 1000, if they have one.
 fn answer<const BITS: u32>(sample: Sample, bytes: &[u8]) -> Result<Result<Decoded, TailError>, Fail>
     requires { IsTrue (is_mode BITS) }
 {
-    let row = row_of(sample);
+    let (code, row) = row_of_sample(sample)?;
     let state = read_prefixes::<BITS>(bytes)?;
-    Ok(read_operands::<BITS>(0x1000, &state, code_of_row(sample), &row, bytes))
+    Ok(read_operands::<BITS>(0x1000, &state, code, &row, bytes))
 }
 
 /// What [`answer`] says in a mode that is given as a value.
@@ -223,9 +112,11 @@ fn has_text(
     text: &str,
     digits: &str,
 ) -> Result<(), Fail> {
-    assert!(rt; well_formed(instr), "{digits} in {bits:?}");
+    if !well_formed(instr) {
+        return Err(Fail::new("the instruction is not well-formed"));
+    }
     let shown = print(bits, instr);
-    assert_eq!(rt; from_utf8(shown.as_slice())?, text, "{digits} in {bits:?}");
+    same_text(rt, from_utf8(shown.as_slice())?, text, digits);
     Ok(())
 }
 
@@ -290,8 +181,8 @@ fn operands_and_lengths_are_read(rt: HostRuntime) -> Result<(), Fail> {
     for (bits, sample, digits, size, text) in cases {
         let bytes = hex::decode(rt.alloc(), digits)?;
         let d = answer_in(*bits, *sample, &bytes)??;
-        let shape = (usize::from(d.len), disp_bits(&d.instr));
-        assert_eq!(rt; shape, (bytes.len(), *size), "{digits} in {bits:?}");
+        same_number(&rt, usize::from(d.len), bytes.len(), digits);
+        holds(&rt, disp_bits(&d.instr) == *size, digits);
         has_text(&rt, *bits, &d.instr, text, digits)?;
     }
     Ok(())
@@ -331,10 +222,8 @@ fn ended_is_told_from_forbidden(rt: HostRuntime) -> Result<(), Fail> {
     ];
     for (bits, sample, digits, want) in cases {
         let bytes = hex::decode(rt.alloc(), digits)?;
-        match answer_in(*bits, *sample, &bytes)? {
-            Ok(_) => assert!(rt; false, "{digits} is read in {bits:?}"),
-            Err(why) => assert_eq!(rt; why, *want, "{digits} in {bits:?}"),
-        }
+        let why = answer_in(*bits, *sample, &bytes)?.err();
+        holds(&rt, why == Some(*want), digits);
     }
     Ok(())
 }

@@ -1,5 +1,6 @@
 //! Registers, modes and operands as the manual's tables have them.
 
+use crate::tests::compare::{holds, holds_of_register};
 use x86_values::{
     Bits, Code, DispSize, Instr, Mem, Operand, Register, Rep, mode_of, same, same_bits,
     same_register, wrap,
@@ -32,29 +33,31 @@ fn load(register: Register) -> Instr {
 fn equal_values_alone_are_the_same(rt: HostRuntime) {
     let (rbx, ebx) = (Register::RBX, Register::EBX);
     for (other, want) in [(rbx, true), (ebx, false)] {
-        assert_eq!(rt; same(&load(rbx), &load(other)), want);
-        assert_eq!(rt; same_register(rbx, other), want);
+        holds_of_register(&rt, same(&load(rbx), &load(other)) == want, other);
+        holds_of_register(&rt, same_register(rbx, other) == want, other);
     }
-    for (other, want) in [(Bits::B32, true), (Bits::B64, false)] {
-        assert_eq!(rt; same_bits(Bits::B32, other), want);
-    }
+    holds(&rt, same_bits(Bits::B32, Bits::B32), "one mode");
+    holds(&rt, !same_bits(Bits::B32, Bits::B64), "two modes");
     let instr = load(rbx);
-    assert_eq!(rt; instr.op_count(), 2);
-    assert_eq!(rt; instr.memory_operand(), instr.ops[1].memory());
-    assert!(rt; instr.ops[1].is_memory() && instr.ops[3].is_absent());
+    holds(&rt, instr.op_count() == 2, "two operands");
+    let memory = instr.ops[1].memory();
+    holds(&rt, instr.memory_operand() == memory, "the memory operand");
+    holds(&rt, instr.ops[1].is_memory(), "memory");
+    holds(&rt, instr.ops[3].is_absent(), "no operand");
 }
 
 #[test]
 fn addresses_wrap_in_each_mode(rt: HostRuntime) {
-    let modes = [mode_of::<16>(), mode_of::<32>(), mode_of::<64>()];
-    assert_eq!(rt; modes, [Bits::B16, Bits::B32, Bits::B64]);
-    for (bits, x, want) in &[
-        (Bits::B16, 0x1_0002, 2),
-        (Bits::B32, 0xFFFF_FFFF, 0xFFFF_FFFF),
-        (Bits::B32, 0x1_0000_0005, 5),
-        (Bits::B64, 0x1_0000_0000_0000_0009, 9),
+    holds(&rt, mode_of::<16>() == Bits::B16, "16-bit mode");
+    holds(&rt, mode_of::<32>() == Bits::B32, "32-bit mode");
+    holds(&rt, mode_of::<64>() == Bits::B64, "64-bit mode");
+    for (bits, x, want, case) in &[
+        (Bits::B16, 0x1_0002, 2, "16-bit"),
+        (Bits::B32, 0xFFFF_FFFF, 0xFFFF_FFFF, "the last"),
+        (Bits::B32, 0x1_0000_0005, 5, "32-bit"),
+        (Bits::B64, 0x1_0000_0000_0000_0009, 9, "64-bit"),
     ] {
-        assert_eq!(rt; wrap(*bits, *x), *want, "{x:#x} in {bits:?}");
+        holds(&rt, wrap(*bits, *x) == *want, case);
     }
 }
 
@@ -81,11 +84,11 @@ fn registers_have_the_numbers_and_bytes_of_their_names(rt: HostRuntime) {
         (Register::YMM12, 12, 32),
         (Register::Rip, 0, 8),
     ] {
-        let found = (register.number(), register.size());
-        assert_eq!(rt; found, (*number, *bytes), "{register:?}");
-        assert!(rt; register.is_named(), "{register:?}");
+        holds_of_register(&rt, register.number() == *number, *register);
+        holds_of_register(&rt, register.size() == *bytes, *register);
+        holds_of_register(&rt, register.is_named(), *register);
     }
     for register in &[Register::High8(4), Register::R64(16), Register::St(8)] {
-        assert!(rt; !register.is_named(), "{register:?}");
+        holds_of_register(&rt, !register.is_named(), *register);
     }
 }

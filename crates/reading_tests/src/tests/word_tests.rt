@@ -1,11 +1,11 @@
 //! Texts as the manual's assembler syntax has them, and what they say.
 
+use crate::tests::compare::holds;
 use intel_words::reading::read_words;
 use intel_words::words::{
     AddressText, Inside, IntelWords, NamedWords, OperandText, SignedText, SizeName, SumText,
 };
 use std::process::Abort;
-use std::test::Fail;
 use x86_values::{Bits, Register, Rep, Segment};
 
 /// Words without prefix words.
@@ -52,8 +52,9 @@ fn reg(register: Register) -> OperandText {
 
 const NONE: OperandText = OperandText::Absent;
 
-/// That a text is read as this name and these operands.
-fn reads(rt: &impl Abort, text: &str, name: &str, ops: [OperandText; 4]) {
+/// That a text is read as the name that it begins with and these operands.
+fn reads(rt: &impl Abort, text: &str, ops: [OperandText; 4]) {
+    let (name, _) = text.split_once(' ').unwrap_or((text, ""));
     says(rt, text, name, plain(ops));
 }
 
@@ -63,7 +64,7 @@ fn says(rt: &impl Abort, text: &str, name: &str, words: IntelWords) {
         name: name.as_bytes(),
         words,
     };
-    assert_eq!(rt; read_words(text.as_bytes()), Some(want), "{text}");
+    holds(rt, read_words(text.as_bytes()) == Some(want), text);
 }
 
 #[test]
@@ -93,74 +94,53 @@ fn operands_are_read(rt: HostRuntime) {
     let of_esp = sum(Some(Register::ESP), None, None, None);
     let at_esp = address(SizeName::Far32, None, of_esp);
     let (five, thirty_two) = (OperandText::Number(5), OperandText::Number(0x20));
-    reads(&rt, "nop", "nop", [NONE, NONE, NONE, NONE]);
-    reads(
-        &rt,
-        "push rbp",
-        "push",
-        [reg(Register::RBP), NONE, NONE, NONE],
-    );
-    reads(
-        &rt,
-        "mov ah, r13b",
-        "mov",
-        [reg(Register::AH), reg(Register::R13B), NONE, NONE],
-    );
-    reads(
-        &rt,
-        "sub rsp, 0x20",
-        "sub",
-        [reg(Register::RSP), thirty_two, NONE, NONE],
-    );
-    reads(&rt, "callf 0x8:0x10", "callf", [far, NONE, NONE, NONE]);
-    reads(
-        &rt,
-        "mov eax, dword fs:[rax+rbx*4-0x8]",
-        "mov",
-        [reg(Register::EAX), at_fs, NONE, NONE],
-    );
-    reads(
-        &rt,
-        "lea rcx, [rel 0x1007]",
-        "lea",
-        [reg(Register::RCX), at_rip, NONE, NONE],
-    );
-    reads(
-        &rt,
-        "mov word [rel32 0x1007], 0x5",
-        "mov",
-        [at_eip, five, NONE, NONE],
-    );
-    reads(
-        &rt,
-        "mov al, byte [0xffffffff00000000]",
-        "mov",
-        [reg(Register::AL), at_lone, NONE, NONE],
-    );
-    reads(
-        &rt,
-        "mov byte [bx+si+0x10], dil",
-        "mov",
-        [at_bx, reg(Register::DIL), NONE, NONE],
-    );
-    reads(
-        &rt,
-        "vgatherdps ymm1, dword [ymm2*8], ymm3",
-        "vgatherdps",
-        [reg(Register::YMM1), at_ymm, reg(Register::YMM3), NONE],
-    );
-    reads(&rt, "jmpf far32 [esp]", "jmpf", [at_esp, NONE, NONE, NONE]);
-    reads(
-        &rt,
-        "vblendvps xmm0, xmm15, xmm2, xmm10",
-        "vblendvps",
-        [
-            reg(Register::XMM0),
-            reg(Register::XMM15),
-            reg(Register::XMM2),
-            reg(Register::XMM10),
-        ],
-    );
+    let cases = [
+        ("nop", [NONE, NONE, NONE, NONE]),
+        ("push rbp", [reg(Register::RBP), NONE, NONE, NONE]),
+        (
+            "mov ah, r13b",
+            [reg(Register::AH), reg(Register::R13B), NONE, NONE],
+        ),
+        (
+            "sub rsp, 0x20",
+            [reg(Register::RSP), thirty_two, NONE, NONE],
+        ),
+        ("callf 0x8:0x10", [far, NONE, NONE, NONE]),
+        (
+            "mov eax, dword fs:[rax+rbx*4-0x8]",
+            [reg(Register::EAX), at_fs, NONE, NONE],
+        ),
+        (
+            "lea rcx, [rel 0x1007]",
+            [reg(Register::RCX), at_rip, NONE, NONE],
+        ),
+        ("mov word [rel32 0x1007], 0x5", [at_eip, five, NONE, NONE]),
+        (
+            "mov al, byte [0xffffffff00000000]",
+            [reg(Register::AL), at_lone, NONE, NONE],
+        ),
+        (
+            "mov byte [bx+si+0x10], dil",
+            [at_bx, reg(Register::DIL), NONE, NONE],
+        ),
+        (
+            "vgatherdps ymm1, dword [ymm2*8], ymm3",
+            [reg(Register::YMM1), at_ymm, reg(Register::YMM3), NONE],
+        ),
+        ("jmpf far32 [esp]", [at_esp, NONE, NONE, NONE]),
+        (
+            "vblendvps xmm0, xmm15, xmm2, xmm10",
+            [
+                reg(Register::XMM0),
+                reg(Register::XMM15),
+                reg(Register::XMM2),
+                reg(Register::XMM10),
+            ],
+        ),
+    ];
+    for (text, ops) in &cases {
+        reads(&rt, text, *ops);
+    }
 }
 
 #[test]
@@ -219,6 +199,6 @@ fn other_texts_are_refused(rt: HostRuntime) {
         "mov eax, hs:[eax]",
         "mov  eax, ecx",
     ] {
-        assert_eq!(rt; read_words(text.as_bytes()), None, "{text}");
+        holds(&rt, read_words(text.as_bytes()).is_none(), text);
     }
 }

@@ -1,7 +1,4 @@
-//! Runs of the program's commands between ports in memory, for tests: what a run writes and answers, also where a port fails.
-#![tactic(auto)]
-
-ghost use Rattle.std.specs.Prelude.{◌≡◌, ◌∷◌, [], false, IsUtf8, MatchResult};
+//! Runs of the program's commands between ports in memory: what a run writes and answers, also where a port fails.
 
 use arrayvec::ArrayVec;
 use byte_ports::{FailAt, MakeError, MemSink, MemSource, SlowSource, Source};
@@ -11,21 +8,21 @@ use std::str::{Utf8Error, from_utf8};
 
 /// How the ports of a run behave. Calls are counted from 1 on; a port whose call is 0 never fails.
 #[derive(Clone, Copy)]
-pub struct Ports {
+pub(crate) struct Ports {
     /// The call at which the source fails.
-    pub pull: u64,
+    pub(crate) pull: u64,
     /// The call at which the output fails.
-    pub put: u64,
+    pub(crate) put: u64,
     /// The call at which the error output fails.
-    pub say: u64,
+    pub(crate) say: u64,
     /// How many bytes the output takes before it fails.
-    pub room: usize,
+    pub(crate) room: usize,
     /// Whether the source gives one byte a call.
-    pub is_slow: bool,
+    pub(crate) is_slow: bool,
 }
 
 /// Ports that never fail, with room for 4 MiB.
-pub const WHOLE: Ports = Ports {
+pub(crate) const WHOLE: Ports = Ports {
     pull: 0,
     put: 0,
     say: 0,
@@ -35,11 +32,7 @@ pub const WHOLE: Ports = Ports {
 
 impl Ports {
     /// Ports that fail at these calls of the source, the output and the error output, and an output with so much room.
-    pub fn failing_at(calls: [u64; 3], room: usize) -> Ports
-        ensures calls { calls ≡ result.pull ∷ (result.put ∷ (result.say ∷ [])) }
-        ensures room { result.room ≡ room }
-        ensures whole { result.is_slow ≡ false }
-    {
+    pub(crate) fn failing_at(calls: [u64; 3], room: usize) -> Ports {
         let [pull, put, say] = calls;
         Ports {
             pull,
@@ -53,22 +46,18 @@ impl Ports {
 
 /// What a run answered and wrote.
 #[derive(Drop)]
-pub struct Outcome {
+pub(crate) struct Outcome {
     /// The number of its status.
-    pub number: u8,
+    pub(crate) number: u8,
     /// What its output took.
-    pub out: Vec<u8>,
+    pub(crate) out: Vec<u8>,
     /// What its error output took.
-    pub err: Vec<u8>,
+    pub(crate) err: Vec<u8>,
 }
 
 impl Outcome {
     /// The number of the status and what both outputs took, as text. It refuses where one of them is not UTF-8, and only there.
-    pub fn as_text(&self) -> Result<(u8, &str, &str), Utf8Error>
-        ensures { MatchResult result
-            (λ text. (text.0 ≡ self.now.number) × ((text.1.now ≡ self.now.out.items) × (text.2.now ≡ self.now.err.items)))
-            (λ _. ¬ (IsUtf8 self.now.out.items × IsUtf8 self.now.err.items)) }
-    {
+    pub(crate) fn as_text(&self) -> Result<(u8, &str, &str), Utf8Error> {
         Ok((self.number, from_utf8(&self.out)?, from_utf8(&self.err)?))
     }
 }
@@ -124,7 +113,7 @@ fn outcome_of<S: Source + Drop>(
 }
 
 /// What a command, whose words are parted by single spaces, gives for an input between such ports. The only refusal is want of memory.
-pub fn run_between(
+pub(crate) fn run_between(
     alloc: Global,
     command: &str,
     input: &[u8],
@@ -139,6 +128,10 @@ pub fn run_between(
 }
 
 /// What a command, whose words are parted by single spaces, gives for an input. The only refusal is want of memory.
-pub fn run_command(alloc: Global, command: &str, input: &[u8]) -> Result<Outcome, MakeError> {
+pub(crate) fn run_command(
+    alloc: Global,
+    command: &str,
+    input: &[u8],
+) -> Result<Outcome, MakeError> {
     run_between(alloc, command, input, &WHOLE)
 }
