@@ -1,29 +1,34 @@
-//! Comparisons that the tests share. Each stands here alone, so that no test's proof carries it; their messages name the case.
+//! Comparisons that the tests share. Each stands here alone, so that no test's proof carries it; their messages name the case, and show what was found.
 
+use std::fmt::Debug;
 use std::process::Abort;
-use x86_values::{Instr, Register};
 
-/// That what is wanted holds of a case.
-pub(crate) fn holds(rt: &impl Abort, is: bool, case: &str) {
-    assert!(rt; is, "{case}");
+/// That what was found of a case is what is wanted.
+pub(crate) fn same_value<T: PartialEq + Debug>(rt: &impl Abort, found: &T, want: &T, case: &str) {
+    assert_eq!(rt; found, want, "{case}");
 }
 
-/// That what is wanted holds of an instruction.
-pub(crate) fn holds_of_instr(rt: &impl Abort, is: bool, instr: &Instr) {
-    assert!(rt; is, "{instr:?}");
+/// That what was found of something, such as an instruction or a register, is what is wanted.
+pub(crate) fn same_of<T: PartialEq + Debug, C: Debug>(
+    rt: &impl Abort,
+    found: &T,
+    want: &T,
+    case: &C,
+) {
+    assert_eq!(rt; found, want, "{case:?}");
 }
 
-/// That what is wanted holds of a register.
-pub(crate) fn holds_of_register(rt: &impl Abort, is: bool, register: Register) {
-    assert!(rt; is, "{register:?}");
+/// That the items of a case are those that are wanted.
+pub(crate) fn same_items<T: PartialEq + Debug>(
+    rt: &impl Abort,
+    found: &[T],
+    want: &[T],
+    case: &str,
+) {
+    assert_eq!(rt; found, want, "{case}");
 }
 
 /// That the text of a case is the one that is wanted.
 pub(crate) fn same_text(rt: &impl Abort, found: &str, want: &str, case: &str) {
-    assert_eq!(rt; found, want, "{case}");
-}
-
-/// That a number of a case is the one that is wanted.
-pub(crate) fn same_number(rt: &impl Abort, found: usize, want: usize, case: &str) {
     assert_eq!(rt; found, want, "{case}");
 }

@@ -2,7 +2,7 @@
 
 ghost use Rattle.std.specs.Prelude.{◌≡◌, length};
 
-use crate::tests::compare::{holds, same_number, same_text};
+use crate::tests::compare::{same_text, same_value};
 use crate::tests::read_bytes::{read, read_at};
 use decoder::DecodeError::{Invalid, TooShort};
 use decoder::{DecodeError, Decoder, decode_in};
@@ -40,7 +40,7 @@ fn is_refused(
         Ok(_) => None,
         Err(found) => Some(*found),
     };
-    holds(rt, found == Some(error), digits);
+    same_value(rt, &found, &Some(error), digits);
 }
 
 #[test]
@@ -119,8 +119,8 @@ fn decodes(
     ensures { decoder.new.bytes ≡ decoder.old.bytes }
 {
     let len = len_of(decoder.decode());
-    holds(rt, len == want, "what is read");
-    same_number(rt, decoder.position(), position, "the position");
+    same_value(rt, &len, &want, "what is read");
+    same_value(rt, &decoder.position(), &position, "the position");
 }
 
 /// Passes over a byte, if there is one.

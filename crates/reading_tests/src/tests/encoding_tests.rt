@@ -1,6 +1,6 @@
 //! Bytes of instructions by the manual's notation, and refusals of each kind.
 
-use crate::tests::compare::{holds_of_instr, same_number, same_text};
+use crate::tests::compare::{same_of, same_text, same_value};
 use encoder::{encode, encoded_len};
 use opcode_rows::{ROWS, code_of};
 use plain_spelling::NoSpelling;
@@ -149,7 +149,7 @@ fn has_bytes(rt: &impl Abort, alloc: Global, given: &Instr, digits: &str) -> Res
 /// That an instruction of 64-bit mode at 1000 has so many bytes.
 fn has_length(rt: &impl Abort, given: &Instr, want: usize, digits: &str) -> Result<(), Fail> {
     let len = encoded_len(Bits::B64, 0x1000, given)?;
-    same_number(rt, len as usize, want, digits);
+    same_value(rt, &(len as usize), &want, digits);
     Ok(())
 }
 
@@ -189,8 +189,8 @@ fn refusal_of_length(bits: Bits, given: &Instr) -> Option<NoSpelling> {
 
 /// That an instruction is refused, for this cause.
 fn is_refused(rt: &impl Abort, bits: Bits, given: &Instr, want: NoSpelling) {
-    holds_of_instr(rt, refusal(bits, given) == Some(want), given);
-    holds_of_instr(rt, refusal_of_length(bits, given) == Some(want), given);
+    same_of(rt, &refusal(bits, given), &Some(want), given);
+    same_of(rt, &refusal_of_length(bits, given), &Some(want), given);
 }
 
 // One refusal of each kind that a code, a register, an address, a displacement, a target and a prefix can have.

@@ -2,7 +2,7 @@
 
 ghost use Rattle.std.specs.Prelude.{◌≡◌};
 
-use crate::tests::compare::holds;
+use crate::tests::compare::{same_items, same_value};
 use instruction_parts::{PrefixState, Vex};
 use prefixes::{PrefixError, read_prefixes, write_prefixes};
 use row_types::{
@@ -49,7 +49,7 @@ fn fronts_are_read(rt: HostRuntime) -> Result<(), Fail> {
     ];
     for (bits, digits, want) in cases {
         let bytes = hex::decode(rt.alloc(), digits)?;
-        holds(&rt, front(*bits, &bytes) == *want, digits);
+        same_value(&rt, &front(*bits, &bytes), want, digits);
     }
     Ok(())
 }
@@ -97,7 +97,7 @@ fn fronts_are_written(rt: HostRuntime) {
     let row = compare_and_exchange();
     let written = write_prefixes(Bits::B64, &row, &front_of_it(None));
     let want = b"\x64\x67\xF0\x48\x0F";
-    holds(&rt, written.as_slice() == want.as_slice(), "with REX.W");
+    same_items(&rt, written.as_slice(), want, "with REX.W");
     let vex = Vex {
         three: true,
         r: false,
@@ -111,5 +111,5 @@ fn fronts_are_written(rt: HostRuntime) {
     };
     let written = write_prefixes(Bits::B64, &row, &front_of_it(Some(vex)));
     let want = b"\x64\x67\xF0\x48\xC4\xC2\xAD";
-    holds(&rt, written.as_slice() == want.as_slice(), "with a VEX");
+    same_items(&rt, written.as_slice(), want, "with a VEX");
 }

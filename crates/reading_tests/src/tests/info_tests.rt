@@ -1,6 +1,6 @@
 //! What instructions do, by the manual's operand encoding and operation of each.
 
-use crate::tests::compare::holds;
+use crate::tests::compare::{same_items, same_value};
 use crate::tests::read_bytes::read;
 use opcode_rows::ROWS;
 use operand_info::{
@@ -46,7 +46,7 @@ fn instructions_have_their_columns(rt: HostRuntime) -> Result<(), Fail> {
     for (digits, flow, first, second, memory) in cases {
         let code = read(rt.alloc(), Bits::B64, 0, digits)?.instr.code;
         let want = (*flow, *first, *second, *memory);
-        holds(&rt, columns(code) == Some(want), digits);
+        same_value(&rt, &columns(code), &Some(want), digits);
     }
     Ok(())
 }
@@ -64,7 +64,7 @@ fn uses_registers(
 ) -> Result<(), Fail> {
     let decoded = read(alloc, Bits::B64, 0, digits)?;
     let used = used_registers(&decoded.instr);
-    holds(rt, used.as_slice() == want, digits);
+    same_items(rt, used.as_slice(), want, digits);
     Ok(())
 }
 
@@ -90,8 +90,8 @@ fn instructions_have_their_targets(rt: HostRuntime) -> Result<(), Fail> {
     ];
     for (ip, digits, target, address) in cases {
         let instr = read(rt.alloc(), Bits::B64, *ip, digits)?.instr;
-        holds(&rt, near_target(&instr) == *target, digits);
-        holds(&rt, ip_operand(&instr) == *address, digits);
+        same_value(&rt, &near_target(&instr), target, digits);
+        same_value(&rt, &ip_operand(&instr), address, digits);
     }
     Ok(())
 }

@@ -1,6 +1,6 @@
 //! Notations as the manual prints them, read and written.
 
-use crate::tests::compare::{holds, same_number};
+use crate::tests::compare::{same_items, same_value};
 use row_notation::{
     Class, ImmWord, LBit, Map, Marks, ModRmRule, ModeMask, OpKind, Place, Plus, PlusWord, Row,
     RowKind, RowShape, Size, SizeWord, WBit, read_notation, write_notation,
@@ -27,7 +27,7 @@ fn bare(kind: RowKind, map: Map, class: Class, opcode: u8) -> RowShape {
 
 /// That a notation is read as this shape.
 fn has_shape(rt: &impl Abort, text: &str, want: RowShape) {
-    holds(rt, read_notation(text.as_bytes()) == Ok(want), text);
+    same_value(rt, &read_notation(text.as_bytes()), &Ok(want), text);
 }
 
 #[test]
@@ -63,6 +63,14 @@ fn notations_are_read(rt: HostRuntime) {
     has_shape(&rt, "REX.W + 81 /0 id", add);
 }
 
+/// Where the fault of a notation stands, if it has one.
+fn fault_place(text: &str) -> Option<usize> {
+    match read_notation(text.as_bytes()) {
+        Ok(_) => None,
+        Err(fault) => Some(fault.at),
+    }
+}
+
 #[test]
 fn faults_are_told_by_their_place(rt: HostRuntime) {
     for (text, want) in &[
@@ -73,10 +81,8 @@ fn faults_are_told_by_their_place(rt: HostRuntime) {
         ("90 ", 3),
         ("0F 38 5", 7),
     ] {
-        match read_notation(text.as_bytes()) {
-            Ok(_) => holds(&rt, false, text),
-            Err(fault) => same_number(&rt, fault.at, *want, text),
-        }
+        let found = fault_place(text);
+        same_value(&rt, &found, &Some(*want), text);
     }
 }
 
@@ -100,5 +106,5 @@ fn a_notation_is_written(rt: HostRuntime) {
     };
     let text = write_notation(&enter);
     let want = b"o64 C8 iw ib";
-    holds(&rt, text.as_slice() == want.as_slice(), "ENTER");
+    same_items(&rt, text.as_slice(), want, "ENTER");
 }

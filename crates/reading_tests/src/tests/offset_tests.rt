@@ -1,6 +1,6 @@
 //! Where the parts of instructions stand in their bytes, counted by hand.
 
-use crate::tests::compare::{holds, same_text};
+use crate::tests::compare::{same_text, same_value};
 use byte_offsets::{ByteOffsets, Part, offsets};
 use decoder::DecodeError;
 use std::alloc::Global;
@@ -116,11 +116,8 @@ fn parts_stand_one_behind_the_other(rt: HostRuntime) -> Result<(), Fail> {
 
 /// That no instruction is read in 64-bit mode, for this cause.
 fn has_no_offsets(rt: &impl Abort, bytes: &[u8], error: DecodeError) {
-    holds(
-        rt,
-        offsets(Bits::B64, 0, bytes) == Err(error),
-        "no instruction",
-    );
+    let found = offsets(Bits::B64, 0, bytes);
+    same_value(rt, &found, &Err(error), "no instruction");
 }
 
 #[test]

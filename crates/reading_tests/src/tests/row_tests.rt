@@ -6,7 +6,7 @@ ghost use Rattle.instruction_parts.specs.Sizes.{is_vex_row};
 ghost use Rattle.row_fit.specs.Fits.{fields_in_range};
 ghost use Rattle.row_fit.specs.Sound.{sound};
 
-use crate::tests::compare::holds;
+use crate::tests::compare::{same_items, same_value};
 use arrayvec::ArrayVec;
 use row_relation::{ModRm, Spelling, row_fits, row_meaning, row_memory_size, spelling_bytes};
 use row_types::{
@@ -68,17 +68,15 @@ fn add_of_two_registers_has_its_bytes_and_meaning(rt: HostRuntime) -> Result<(),
     if !row_fits(Bits::B64, &row, &s) {
         return Err(Fail::new("it is no spelling in 64-bit mode"));
     }
-    holds(&rt, !row_fits(Bits::B16, &row, &s), "in 16-bit mode");
+    let other = row_fits(Bits::B16, &row, &s);
+    same_value(&rt, &other, &false, "in 16-bit mode");
     let bytes = spelling_bytes(&row, &s);
-    holds(
-        &rt,
-        bytes.as_slice() == [0x01, 0xC1].as_slice(),
-        "the bytes",
-    );
+    same_items(&rt, bytes.as_slice(), &[0x01, 0xC1], "the bytes");
     let i = row_meaning(Bits::B64, 0x1000, Code(2), &row, &s);
-    holds(&rt, i.ops[0] == Operand::Reg(Register::R32(1)), "operand 0");
-    holds(&rt, i.ops[1] == Operand::Reg(Register::R32(0)), "operand 1");
-    holds(&rt, i.asize.is_none(), "no address");
-    holds(&rt, row_memory_size(&row) == 4, "four bytes");
+    let (first, second) = (Register::R32(1), Register::R32(0));
+    same_value(&rt, &i.ops[0], &Operand::Reg(first), "operand 0");
+    same_value(&rt, &i.ops[1], &Operand::Reg(second), "operand 1");
+    same_value(&rt, &i.asize, &None, "the address size");
+    same_value(&rt, &row_memory_size(&row), &4, "the memory");
     Ok(())
 }

@@ -2,7 +2,7 @@
 
 ghost use Rattle.std.specs.Prelude.{◌≡◌, ◌<◌};
 
-use crate::tests::compare::{holds, holds_of_instr, same_text};
+use crate::tests::compare::{same_of, same_text, same_value};
 use arrayvec::ArrayVec;
 use opcode_rows::{ROWS, VERSION1_ROWS, cell_len, code_of, first_of, name, row, well_formed};
 use row_lines::row_line;
@@ -64,7 +64,8 @@ fn cells_have_their_names(rt: HostRuntime) {
 
 #[test]
 fn codes_have_their_names(rt: HostRuntime) {
-    holds(&rt, VERSION1_ROWS == 1969 && ROWS == 2083, "the rows");
+    same_value(&rt, &VERSION1_ROWS, &1969, "the rows of version 1");
+    same_value(&rt, &ROWS, &2083, "the rows");
     same_text(&rt, name(Code(1968)), "rorx", "1968");
     same_text(&rt, name(Code(1969)), "aesimc", "1969");
     same_text(&rt, name(Code(2082)), "vaeskeygenassist", "2082");
@@ -86,7 +87,7 @@ fn names_have_their_rows(rt: HostRuntime) {
         ("ADD", 0, None),
         ("", 0, None),
     ] {
-        holds(&rt, code_of(name, *n) == *want, name);
+        same_value(&rt, &code_of(name, *n), want, name);
     }
 }
 
@@ -121,7 +122,8 @@ fn codes_have_their_rows(rt: HostRuntime) -> Result<(), Fail> {
         (4, 0x02, Size::None, "4 02 /r add\n"),
     ] {
         let (row, shown) = row_and_line(*code)?;
-        holds(&rt, row.opcode == *opcode && row.size == *size, line);
+        same_value(&rt, &row.opcode, opcode, line);
+        same_value(&rt, &row.size, size, line);
         same_text(&rt, from_utf8(shown.as_slice())?, line, line);
     }
     Ok(())
@@ -180,6 +182,6 @@ fn add_takes_its_operands(rt: HostRuntime) {
     ];
     for (code, first, second, third, want) in cases {
         let case = instr(*code, *first, *second, *third);
-        holds_of_instr(&rt, well_formed(&case) == *want, &case);
+        same_of(&rt, &well_formed(&case), want, &case);
     }
 }

@@ -4,7 +4,7 @@ ghost use Rattle.std.specs.Prelude.{IsTrue, IfOk};
 ghost use Rattle.prefixes.specs.Answer.{is_mode};
 ghost use Rattle.row_fit.specs.Sound.{sound};
 
-use crate::tests::compare::{holds, same_number, same_text};
+use crate::tests::compare::{same_text, same_value};
 use Sample::{
     Add16, Add32, Add64, AddImmediate, AddStack, Bound, Call, Gather, LoadFar, MoveByte,
     MoveFromAddress, MoveFromDebug, Pop,
@@ -181,8 +181,8 @@ fn operands_and_lengths_are_read(rt: HostRuntime) -> Result<(), Fail> {
     for (bits, sample, digits, size, text) in cases {
         let bytes = hex::decode(rt.alloc(), digits)?;
         let d = answer_in(*bits, *sample, &bytes)??;
-        same_number(&rt, usize::from(d.len), bytes.len(), digits);
-        holds(&rt, disp_bits(&d.instr) == *size, digits);
+        same_value(&rt, &usize::from(d.len), &bytes.len(), digits);
+        same_value(&rt, &disp_bits(&d.instr), size, digits);
         has_text(&rt, *bits, &d.instr, text, digits)?;
     }
     Ok(())
@@ -223,7 +223,7 @@ fn ended_is_told_from_forbidden(rt: HostRuntime) -> Result<(), Fail> {
     for (bits, sample, digits, want) in cases {
         let bytes = hex::decode(rt.alloc(), digits)?;
         let why = answer_in(*bits, *sample, &bytes)?.err();
-        holds(&rt, why == Some(*want), digits);
+        same_value(&rt, &why, &Some(*want), digits);
     }
     Ok(())
 }

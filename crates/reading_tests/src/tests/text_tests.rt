@@ -1,6 +1,6 @@
 //! Bytes that Intel texts stand for, by the manual's notation; those of the function's frame are what the GNU assembler writes.
 
-use crate::tests::compare::{holds, same_text};
+use crate::tests::compare::{same_text, same_value};
 use intel_reader::{TextError, assemble, read_intel};
 use std::alloc::Global;
 use std::process::Abort;
@@ -58,6 +58,6 @@ fn texts_stand_for_their_shortest_bytes(rt: HostRuntime) -> Result<(), Fail> {
 fn texts_that_nothing_prints_are_refused(rt: HostRuntime) {
     for text in &["mov  eax, ecx", "add eax, 0X5", "add eax, 0x05", ""] {
         let read = read_intel(Bits::B64, 0, text.as_bytes());
-        holds(&rt, read == Err(TextError::NoInstruction), text);
+        same_value(&rt, &read, &Err(TextError::NoInstruction), text);
     }
 }

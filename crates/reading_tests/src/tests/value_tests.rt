@@ -1,6 +1,6 @@
 //! Registers, modes and operands as the manual's tables have them.
 
-use crate::tests::compare::{holds, holds_of_register};
+use crate::tests::compare::{same_of, same_value};
 use x86_values::{
     Bits, Code, DispSize, Instr, Mem, Operand, Register, Rep, mode_of, same, same_bits,
     same_register, wrap,
@@ -33,31 +33,32 @@ fn load(register: Register) -> Instr {
 fn equal_values_alone_are_the_same(rt: HostRuntime) {
     let (rbx, ebx) = (Register::RBX, Register::EBX);
     for (other, want) in [(rbx, true), (ebx, false)] {
-        holds_of_register(&rt, same(&load(rbx), &load(other)) == want, other);
-        holds_of_register(&rt, same_register(rbx, other) == want, other);
+        same_of(&rt, &same(&load(rbx), &load(other)), &want, &other);
+        same_of(&rt, &same_register(rbx, other), &want, &other);
     }
-    holds(&rt, same_bits(Bits::B32, Bits::B32), "one mode");
-    holds(&rt, !same_bits(Bits::B32, Bits::B64), "two modes");
+    for (other, want) in [(Bits::B32, true), (Bits::B64, false)] {
+        same_of(&rt, &same_bits(Bits::B32, other), &want, &other);
+    }
     let instr = load(rbx);
-    holds(&rt, instr.op_count() == 2, "two operands");
+    same_value(&rt, &instr.op_count(), &2, "how many operands");
     let memory = instr.ops[1].memory();
-    holds(&rt, instr.memory_operand() == memory, "the memory operand");
-    holds(&rt, instr.ops[1].is_memory(), "memory");
-    holds(&rt, instr.ops[3].is_absent(), "no operand");
+    same_value(&rt, &instr.memory_operand(), &memory, "the memory operand");
+    same_value(&rt, &instr.ops[1].is_memory(), &true, "memory");
+    same_value(&rt, &instr.ops[3].is_absent(), &true, "no operand");
 }
 
 #[test]
 fn addresses_wrap_in_each_mode(rt: HostRuntime) {
-    holds(&rt, mode_of::<16>() == Bits::B16, "16-bit mode");
-    holds(&rt, mode_of::<32>() == Bits::B32, "32-bit mode");
-    holds(&rt, mode_of::<64>() == Bits::B64, "64-bit mode");
-    for (bits, x, want, case) in &[
-        (Bits::B16, 0x1_0002, 2, "16-bit"),
-        (Bits::B32, 0xFFFF_FFFF, 0xFFFF_FFFF, "the last"),
-        (Bits::B32, 0x1_0000_0005, 5, "32-bit"),
-        (Bits::B64, 0x1_0000_0000_0000_0009, 9, "64-bit"),
+    same_value(&rt, &mode_of::<16>(), &Bits::B16, "16");
+    same_value(&rt, &mode_of::<32>(), &Bits::B32, "32");
+    same_value(&rt, &mode_of::<64>(), &Bits::B64, "64");
+    for (bits, x, want) in &[
+        (Bits::B16, 0x1_0002, 2),
+        (Bits::B32, 0xFFFF_FFFF, 0xFFFF_FFFF),
+        (Bits::B32, 0x1_0000_0005, 5),
+        (Bits::B64, 0x1_0000_0000_0000_0009, 9),
     ] {
-        holds(&rt, wrap(*bits, *x) == *want, case);
+        same_of(&rt, &wrap(*bits, *x), want, x);
     }
 }
 
@@ -84,11 +85,11 @@ fn registers_have_the_numbers_and_bytes_of_their_names(rt: HostRuntime) {
         (Register::YMM12, 12, 32),
         (Register::Rip, 0, 8),
     ] {
-        holds_of_register(&rt, register.number() == *number, *register);
-        holds_of_register(&rt, register.size() == *bytes, *register);
-        holds_of_register(&rt, register.is_named(), *register);
+        same_of(&rt, &register.number(), number, register);
+        same_of(&rt, &register.size(), bytes, register);
+        same_of(&rt, &register.is_named(), &true, register);
     }
     for register in &[Register::High8(4), Register::R64(16), Register::St(8)] {
-        holds_of_register(&rt, !register.is_named(), *register);
+        same_of(&rt, &register.is_named(), &false, register);
     }
 }

@@ -1,6 +1,6 @@
 //! Texts as the manual's assembler syntax has them, and what they say.
 
-use crate::tests::compare::holds;
+use crate::tests::compare::same_value;
 use intel_words::reading::read_words;
 use intel_words::words::{
     AddressText, Inside, IntelWords, NamedWords, OperandText, SignedText, SizeName, SumText,
@@ -64,7 +64,7 @@ fn says(rt: &impl Abort, text: &str, name: &str, words: IntelWords) {
         name: name.as_bytes(),
         words,
     };
-    holds(rt, read_words(text.as_bytes()) == Some(want), text);
+    same_value(rt, &read_words(text.as_bytes()), &Some(want), text);
 }
 
 #[test]
@@ -199,6 +199,6 @@ fn other_texts_are_refused(rt: HostRuntime) {
         "mov eax, hs:[eax]",
         "mov  eax, ecx",
     ] {
-        holds(&rt, read_words(text.as_bytes()).is_none(), text);
+        same_value(&rt, &read_words(text.as_bytes()), &None, text);
     }
 }
