@@ -5,8 +5,8 @@ use Rattle.branch_sizes.specs.declared.plan.BlockSpan.{BlockSpan}
 use Rattle.branch_sizes.specs.Plan.{BlockPlan}
 use Rattle.move_goals.specs.declared.items.Placed.{Placed}
 use Rattle.move_goals.specs.Plan.{plan_for, plan_outside}
-use Rattle.move_layout.specs.declared.layout.Layout.{Layout}
-use Rattle.move_layout.specs.Laid.{IsLaidLeast}
+use Rattle.branch_sizes.specs.declared.move_layout.layout.Layout.{Layout}
+use Rattle.branch_sizes.specs.MoveLayout.Laid.{IsLaidLeast}
 use Rattle.block_encoder.specs.declared.error.MoveError.{MoveError}
 use Rattle.block_encoder.specs.declared.error.MoveError.TheVariants.{Memory, TooMany, OldOrder, Wraps, TooFar}
 use Rattle.block_encoder.specs.Moved.{MovedLists, IsOldSound, IsAnswer}

@@ -30,7 +30,7 @@ use Rattle.move_goals.specs.declared.items.Placed.{Placed}
 use Rattle.move_goals.specs.Items.{AreSpansOf, ArePlaced, item_at}
 use Rattle.move_goals.specs.Goals.{own_item, other_item, goal_among, goal_of_target, goal_of, goal_at}
 use Rattle.move_goals.specs.Plan.{plan_with, plan_for}
-use Rattle.move_layout.specs.Laid.{has_far_form, is_far_at, goal_value, goal_address, images_end, new_end, fragment_at}
+use Rattle.branch_sizes.specs.MoveLayout.Laid.{has_far_form, is_far_at, goal_value, goal_address, images_end, new_end, fragment_at}
 use Rattle.block_encoder.specs.Bytes.{bytes_from}
 use Rattle.block_encoder.specs.Moved.{fragment_reach, IsReached, first_new_pass}
 use Rattle.block_encoder.specs.LawsBelow.{MovedLawsBelow}

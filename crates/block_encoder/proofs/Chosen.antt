@@ -20,7 +20,7 @@ use Rattle.branch_forms.specs.Choices.{in_64, branch_forms, branch_choice, choic
 use Rattle.move_goals.specs.declared.items.Placed.{Placed}
 use Rattle.move_goals.specs.Items.{item_at}
 use Rattle.move_goals.specs.Plan.{branch_with, plan_with}
-use Rattle.move_layout.specs.Laid.{fragment_at}
+use Rattle.branch_sizes.specs.MoveLayout.Laid.{fragment_at}
 
 -- ---- choices
 

@@ -20,7 +20,7 @@ use Rattle.branch_forms.specs.Branches.{in_range, short_code, near_code, far_cod
 use Rattle.branch_forms.specs.Images.{branch_to, through_slot, counter_size, short_branch, skip, bridge_jump, bridge_inner, bridge, far_image, branch_image, pieces_length}
 use Rattle.branch_forms.specs.Choices.{near_reach, bridge_reach, form_reach}
 use Rattle.branch_forms.specs.Lengths.{address_byte}
-use Rattle.move_layout.specs.Laid.{has_far_form}
+use Rattle.branch_sizes.specs.MoveLayout.Laid.{has_far_form}
 use Rattle.block_encoder.specs.Bytes.{in_front, bytes_from}
 use Rattle.block_encoder.specs.LawsBelow.{MovedLawsBelow}
 use Rattle.block_encoder.proofs.Sweeping.{one_spelled}

@@ -9,8 +9,8 @@ use Rattle.branch_sizes.specs.declared.plan.Goal.TheVariants.{None as NoGoal, In
 use Rattle.branch_sizes.specs.Plan.{BlockPlan, item_at, is_fit_goal, IsWellFormed}
 use Rattle.branch_sizes.specs.Layout.{block_number, first_of_block, span_at, image_length, place, IsLayout}
 use Rattle.move_goals.specs.Items.{first_below, passes, first_passing}
-use Rattle.move_layout.specs.declared.layout.Layout.{Layout}
-use Rattle.move_layout.specs.Laid.{IsLaid, is_far_at, goal_value, goal_address, has_number, far_goals, slots_of, all_slots, new_end, slot_address, fragment_at, no_end}
+use Rattle.branch_sizes.specs.declared.move_layout.layout.Layout.{Layout}
+use Rattle.branch_sizes.specs.MoveLayout.Laid.{IsLaid, is_far_at, goal_value, goal_address, has_number, far_goals, slots_of, all_slots, new_end, slot_address, fragment_at, no_end}
 use Rattle.block_encoder.specs.Moved.{first_new_pass}
 use Rattle.block_encoder.specs.Written.{IsGoalAddress, IsFragmentOf, first_end_past}
 use Rattle.block_encoder.specs.LawsBelow.{MovedLawsBelow}

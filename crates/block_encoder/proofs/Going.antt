@@ -23,7 +23,7 @@ use Rattle.branch_forms.specs.Images.{branch_to, through_slot, counter_size, sho
 use Rattle.move_goals.specs.declared.items.Placed.{Placed}
 use Rattle.move_goals.specs.Items.{ArePlaced, no_instr, item_at}
 use Rattle.move_goals.specs.Plan.{plan_with}
-use Rattle.move_layout.specs.Laid.{has_far_form, is_far_at, goal_address, slot_address, fragment_at}
+use Rattle.branch_sizes.specs.MoveLayout.Laid.{has_far_form, is_far_at, goal_address, slot_address, fragment_at}
 use Rattle.block_encoder.specs.Bytes.{image_at}
 use Rattle.block_encoder.specs.Aims.{last_instr}
 use Rattle.block_encoder.specs.LawsBelow.{MovedLawsBelow}

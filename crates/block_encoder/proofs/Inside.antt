@@ -8,7 +8,7 @@ use Rattle.x86_values.specs.Wrapping.{width}
 use Rattle.branch_sizes.specs.Plan.{BlockPlan}
 use Rattle.branch_sizes.specs.Layout.{block_number, first_of_block, span_at, image_length, place}
 use Rattle.move_goals.specs.Items.{passes, first_below, first_passing}
-use Rattle.move_layout.specs.Laid.{slots_of, images_end, new_end}
+use Rattle.branch_sizes.specs.MoveLayout.Laid.{slots_of, images_end, new_end}
 use Rattle.block_encoder.specs.Moved.{first_new_pass}
 use Rattle.block_encoder.specs.LawsBelow.{MovedLawsBelow}
 use Rattle.block_encoder.proofs.Places.{place-last, place-next, place-rises, place-is}

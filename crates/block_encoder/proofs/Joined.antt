@@ -10,7 +10,7 @@ use Rattle.branch_sizes.specs.Layout.{IsLayout, first_of_block, span_at, image_l
 use Rattle.move_goals.specs.declared.items.Placed.{Placed}
 use Rattle.move_goals.specs.Items.{AreSpansOf, ArePlaced, item_at}
 use Rattle.move_goals.specs.Plan.{plan_with}
-use Rattle.move_layout.specs.Laid.{fragment_at}
+use Rattle.branch_sizes.specs.MoveLayout.Laid.{fragment_at}
 use Rattle.block_encoder.specs.Bytes.{bytes_from, image_at, image_bytes, bytes_at, block_images}
 use Rattle.block_encoder.specs.Read.{image_instrs, IsReadAsImages}
 use Rattle.block_encoder.specs.LawsBelow.{MovedLawsBelow}

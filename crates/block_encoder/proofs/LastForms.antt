@@ -21,7 +21,7 @@ use Rattle.branch_forms.specs.Choices.{branch_forms, branch_choice, choices_by, 
 use Rattle.move_goals.specs.declared.items.Placed.{Placed}
 use Rattle.move_goals.specs.Items.{ArePlaced, item_at, one_span}
 use Rattle.move_goals.specs.Plan.{plan_with, kept_goal, kept_goals, plan_outside}
-use Rattle.move_layout.specs.Laid.{has_far_form, is_far_at, goal_value, goal_address, with_goal, has_number, far_goals, slots_of, next_eighth, images_end, new_end}
+use Rattle.branch_sizes.specs.MoveLayout.Laid.{has_far_form, is_far_at, goal_value, goal_address, with_goal, has_number, far_goals, slots_of, next_eighth, images_end, new_end}
 use Rattle.block_encoder.specs.Bytes.{block_bytes, bytes_of_blocks}
 use Rattle.block_encoder.specs.Moved.{MovedLists}
 use Rattle.block_encoder.specs.ByPlan.{IsMovedBy}

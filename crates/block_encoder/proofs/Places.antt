@@ -4,7 +4,7 @@ use Rattle.std.specs.Prelude.{sum_by}
 use Rattle.branch_sizes.specs.declared.plan.BlockSpan.{BlockSpan}
 use Rattle.branch_sizes.specs.Plan.{BlockPlan}
 use Rattle.branch_sizes.specs.Layout.{total, first_of_block, span_at, image_length, place}
-use Rattle.move_layout.specs.Laid.{images_end}
+use Rattle.branch_sizes.specs.MoveLayout.Laid.{images_end}
 use Rattle.block_encoder.specs.LawsBelow.{MovedLawsBelow}
 
 module _ (p : BlockPlan) (layout : List ℕ) (b : ℕ) where

@@ -19,7 +19,7 @@ use Rattle.moved_targets.specs.Targets.{plain_length}
 use Rattle.move_goals.specs.declared.items.Placed.{Placed}
 use Rattle.move_goals.specs.Items.{ArePlaced, item_at}
 use Rattle.move_goals.specs.Plan.{plan_with}
-use Rattle.move_layout.specs.Laid.{fragment_at}
+use Rattle.branch_sizes.specs.MoveLayout.Laid.{fragment_at}
 use Rattle.block_encoder.specs.Bytes.{bytes_from, fragment_image, fragment_bytes}
 use Rattle.block_encoder.specs.Moved.{IsReached}
 use Rattle.block_encoder.specs.Read.{AreRead, IsReadToGoal}

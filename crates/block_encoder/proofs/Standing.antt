@@ -13,8 +13,8 @@ use Rattle.branch_sizes.specs.Layout.{IsLayout, first_of_block, span_at, place}
 use Rattle.move_goals.specs.declared.items.Placed.{Placed}
 use Rattle.move_goals.specs.Items.{AreSpansOf}
 use Rattle.move_goals.specs.Plan.{plan_with}
-use Rattle.move_layout.specs.Laid.{slots_of, images_end, slots_start, new_end, slot_address, goal_address, is_far_at}
-use Rattle.move_layout.specs.Slots.{place_among}
+use Rattle.branch_sizes.specs.MoveLayout.Laid.{slots_of, images_end, slots_start, new_end, slot_address, goal_address, is_far_at}
+use Rattle.branch_sizes.specs.MoveLayout.Slots.{place_among}
 use Rattle.block_encoder.specs.Bytes.{image_bytes, bytes_at, block_images, gap_bytes, slot_bytes, block_bytes}
 use Rattle.block_encoder.specs.Aims.{StandsAtPlace, HasSlot}
 use Rattle.block_encoder.specs.LawsBelow.{MovedLawsBelow}

@@ -10,10 +10,10 @@ use Rattle.branch_sizes.specs.Plan.{BlockPlan, item_at, no_branch, IsWellFormed}
 use Rattle.branch_sizes.specs.Layout.{first_of_block, span_at, place}
 use Rattle.move_goals.specs.declared.items.Placed.{Placed}
 use Rattle.move_goals.specs.Items.{item_at as instr_at}
-use Rattle.move_layout.specs.declared.layout.Fragment.{Fragment}
-use Rattle.move_layout.specs.declared.layout.BlockEnd.{BlockEnd}
-use Rattle.move_layout.specs.declared.layout.Layout.{Layout}
-use Rattle.move_layout.specs.Laid.{IsLaid, IsLaidLeast, goal_address, fragment_at, slots_of, all_slots, images_end, no_fragment, no_end}
+use Rattle.branch_sizes.specs.declared.move_layout.layout.Fragment.{Fragment}
+use Rattle.branch_sizes.specs.declared.move_layout.layout.BlockEnd.{BlockEnd}
+use Rattle.branch_sizes.specs.declared.move_layout.layout.Layout.{Layout}
+use Rattle.branch_sizes.specs.MoveLayout.Laid.{IsLaid, IsLaidLeast, goal_address, fragment_at, slots_of, all_slots, images_end, no_fragment, no_end}
 use Rattle.block_encoder.specs.declared.error.MoveError.{MoveError}
 use Rattle.block_encoder.specs.declared.error.MoveError.TheVariants.{Memory, TooMany, OldOrder, Wraps, TooFar}
 use Rattle.block_encoder.specs.Moved.{MovedLists, IsFragmentReached, IsReached, IsFirstUnreached}

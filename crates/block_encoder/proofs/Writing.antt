@@ -11,9 +11,9 @@ use Rattle.branch_sizes.specs.Plan.{BlockPlan}
 use Rattle.branch_sizes.specs.Layout.{first_of_block, span_at, item_choice, place}
 use Rattle.move_goals.specs.declared.items.Placed.{Placed}
 use Rattle.move_goals.specs.Items.{item_at}
-use Rattle.move_layout.specs.declared.layout.Fragment.{Fragment}
-use Rattle.move_layout.specs.declared.layout.BlockEnd.{BlockEnd}
-use Rattle.move_layout.specs.Laid.{goal_address, fragment_at, end_at, slots_of, all_slots}
+use Rattle.branch_sizes.specs.declared.move_layout.layout.Fragment.{Fragment}
+use Rattle.branch_sizes.specs.declared.move_layout.layout.BlockEnd.{BlockEnd}
+use Rattle.branch_sizes.specs.MoveLayout.Laid.{goal_address, fragment_at, end_at, slots_of, all_slots}
 use Rattle.block_encoder.specs.Bytes.{bytes_at, block_images, gap_bytes, slot_bytes, block_bytes, bytes_of_blocks}
 use Rattle.block_encoder.specs.Moved.{MovedLists, IsReached, IsFirstUnreached, AreListsOf}
 use Rattle.block_encoder.specs.Written.{IsFragmentWritten, gap_behind}

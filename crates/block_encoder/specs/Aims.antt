@@ -11,7 +11,7 @@ use Rattle.moved_targets.specs.Targets.{target_of, with_target}
 use Rattle.branch_forms.specs.Images.{pieces_length}
 use Rattle.move_goals.specs.declared.items.Placed.{Placed}
 use Rattle.move_goals.specs.Items.{item_at, no_instr}
-use Rattle.move_layout.specs.Laid.{goal_address, images_end, is_far_at, new_end, slot_address}
+use Rattle.branch_sizes.specs.MoveLayout.Laid.{goal_address, images_end, is_far_at, new_end, slot_address}
 use Rattle.block_encoder.specs.Bytes.{bytes_at, block_bytes, image_at}
 
 -- the last of some instructions

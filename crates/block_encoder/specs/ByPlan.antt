@@ -5,7 +5,7 @@ use Rattle.branch_sizes.specs.Plan.{BlockPlan}
 use Rattle.branch_sizes.specs.Layout.{IsLeast}
 use Rattle.move_goals.specs.declared.items.Placed.{Placed}
 use Rattle.move_goals.specs.Plan.{plan_outside}
-use Rattle.move_layout.specs.Laid.{goal_address}
+use Rattle.branch_sizes.specs.MoveLayout.Laid.{goal_address}
 use Rattle.block_encoder.specs.declared.error.MoveError.{MoveError}
 use Rattle.block_encoder.specs.declared.error.MoveError.TheVariants.{Memory, TooMany, Wraps, TooFar}
 use Rattle.block_encoder.specs.Moved.{MovedLists, IsReached, IsFirstUnreached, AreListsOf, first_new_pass}

@@ -10,8 +10,8 @@ use Rattle.branch_sizes.specs.Layout.{first_of_block, span_at}
 use Rattle.branch_forms.specs.Images.{image_of}
 use Rattle.move_goals.specs.declared.items.Placed.{Placed}
 use Rattle.move_goals.specs.Items.{item_at}
-use Rattle.move_layout.specs.declared.layout.Fragment.{Fragment}
-use Rattle.move_layout.specs.Laid.{slots_of, images_end, slots_start, fragment_at}
+use Rattle.branch_sizes.specs.declared.move_layout.layout.Fragment.{Fragment}
+use Rattle.branch_sizes.specs.MoveLayout.Laid.{slots_of, images_end, slots_start, fragment_at}
 
 -- bytes in front of others, which there may not be
 abbrev pub in_front : List ℕ → Option (List ℕ) → Option (List ℕ)

@@ -25,7 +25,7 @@ use Rattle.branch_forms.specs.Choices.{choices_of}
 use Rattle.move_goals.specs.declared.items.Placed.{Placed}
 use Rattle.move_goals.specs.Items.{AreSpansOf, IsPlaced, ArePlaced, item_at, no_instr}
 use Rattle.move_goals.specs.Plan.{branch_with, plan_with, plan_for, plan_outside}
-use Rattle.move_layout.specs.Laid.{goal_value, goal_address, is_far_at, new_end, slot_address, fragment_at}
+use Rattle.branch_sizes.specs.MoveLayout.Laid.{goal_value, goal_address, is_far_at, new_end, slot_address, fragment_at}
 use Rattle.block_encoder.specs.Bytes.{image_at, block_bytes}
 use Rattle.block_encoder.specs.Aims.{last_instr, StandsAtPlace, HasSlot}
 use Rattle.block_encoder.specs.Moved.{MovedLists, IsReached, fragment_reach, first_new_pass}

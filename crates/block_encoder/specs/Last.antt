@@ -8,7 +8,7 @@ use Rattle.branch_sizes.specs.Plan.{BlockPlan, no_choice}
 use Rattle.branch_forms.specs.Choices.{choices_of}
 use Rattle.move_goals.specs.declared.items.Placed.{Placed}
 use Rattle.move_goals.specs.Plan.{plan_outside}
-use Rattle.move_layout.specs.Laid.{new_end}
+use Rattle.branch_sizes.specs.MoveLayout.Laid.{new_end}
 
 -- the number of the last form of an item
 abbrev pub last_number : Branch → ℕ

@@ -9,7 +9,7 @@ use Rattle.branch_sizes.specs.Facts.{BlockFacts, LengthFacts, TotalFacts}
 use Rattle.moved_targets.specs.Facts.{DistanceFacts, TargetFacts}
 use Rattle.branch_forms.specs.Facts.{CodeFacts, PieceFacts, FormFacts}
 use Rattle.move_goals.specs.Facts.{FirstFacts, PlanFacts}
-use Rattle.move_layout.specs.Facts.{EndFacts, SlotFacts}
+use Rattle.branch_sizes.specs.MoveLayout.Facts.{EndFacts, SlotFacts}
 
 -- the table, encodings, what is spelled, layouts, targets, forms and goals
 pub record MovedLawsBelow : Type 0 where

@@ -13,8 +13,8 @@ use Rattle.moved_targets.specs.Targets.{target_reach}
 use Rattle.move_goals.specs.declared.items.Placed.{Placed}
 use Rattle.move_goals.specs.Items.{item_at, first_disorder, first_passing, first_old_pass}
 use Rattle.move_goals.specs.Plan.{plan_for}
-use Rattle.move_layout.specs.declared.layout.Fragment.{Fragment}
-use Rattle.move_layout.specs.Laid.{goal_address, fragment_at, new_end, all_slots}
+use Rattle.branch_sizes.specs.declared.move_layout.layout.Fragment.{Fragment}
+use Rattle.branch_sizes.specs.MoveLayout.Laid.{goal_address, fragment_at, new_end, all_slots}
 use Rattle.block_encoder.specs.declared.error.MoveError.{MoveError}
 use Rattle.block_encoder.specs.declared.error.MoveError.TheVariants.{Memory, TooMany, OldOrder, Wraps, TooFar}
 use Rattle.block_encoder.specs.Bytes.{fragment_bytes, bytes_of_blocks}

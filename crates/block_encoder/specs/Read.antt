@@ -13,8 +13,8 @@ use Rattle.branch_sizes.specs.Plan.{BlockPlan}
 use Rattle.branch_sizes.specs.Layout.{first_of_block, span_at}
 use Rattle.moved_targets.specs.Targets.{plain_length}
 use Rattle.move_goals.specs.declared.items.Placed.{Placed}
-use Rattle.move_layout.specs.declared.layout.Fragment.{Fragment}
-use Rattle.move_layout.specs.Laid.{has_far_form}
+use Rattle.branch_sizes.specs.declared.move_layout.layout.Fragment.{Fragment}
+use Rattle.branch_sizes.specs.MoveLayout.Laid.{has_far_form}
 use Rattle.block_encoder.specs.Bytes.{image_at, block_images, fragment_image}
 use Rattle.block_encoder.specs.Aims.{last_instr}
 

@@ -6,9 +6,9 @@ use Rattle.plain_spelling.specs.declared.NoSpelling.{NoSpelling}
 use Rattle.branch_sizes.specs.declared.plan.Branch.{Branch}
 use Rattle.branch_sizes.specs.declared.plan.Goal.{Goal}
 use Rattle.branch_sizes.specs.declared.plan.Goal.TheVariants.{None as NoGoal, Inside, Outside}
-use Rattle.move_layout.specs.declared.layout.Fragment.{Fragment}
-use Rattle.move_layout.specs.declared.layout.BlockEnd.{BlockEnd}
-use Rattle.move_layout.specs.Laid.{next_eighth, no_end}
+use Rattle.branch_sizes.specs.declared.move_layout.layout.Fragment.{Fragment}
+use Rattle.branch_sizes.specs.declared.move_layout.layout.BlockEnd.{BlockEnd}
+use Rattle.branch_sizes.specs.MoveLayout.Laid.{next_eighth, no_end}
 use Rattle.move_goals.specs.Items.{first_passing}
 use Rattle.block_encoder.specs.declared.error.MoveError.{MoveError}
 use Rattle.block_encoder.specs.declared.error.MoveError.TheVariants.{Memory, TooFar}

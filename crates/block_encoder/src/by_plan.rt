@@ -12,7 +12,7 @@ use crate::write::write_blocks;
 use arrayvec::ArrayVec;
 use branch_sizes::Plan;
 use move_goals::{Placed, passes};
-use move_layout::{BlockEnd, lay_out};
+use branch_sizes::move_layout::{BlockEnd, lay_out};
 use std::alloc::Global;
 use x86_values::Bits;
 

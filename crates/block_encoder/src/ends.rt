@@ -6,7 +6,7 @@ ghost use Rattle.block_encoder.specs.Bytes.{slot_bytes};
 ghost use Rattle.block_encoder.specs.Written.{gap_behind};
 
 use arrayvec::ArrayVec;
-use move_layout::BlockEnd;
+use branch_sizes::move_layout::BlockEnd;
 use plain_spelling::numbers::append_low_bytes;
 use std::alloc::AllocError;
 

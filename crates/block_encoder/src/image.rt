@@ -10,7 +10,7 @@ ghost use Rattle.block_encoder.specs.Written.{IsPieceAppended, AreAppended, IsFr
 use branch_forms::{Image, image_of, near_image, short_image};
 use branch_sizes::{Form, Reach, reaches};
 use encoder::encode;
-use move_layout::Fragment;
+use branch_sizes::move_layout::Fragment;
 use moved_targets::{target_reach, with_target};
 use std::alloc::AllocError;
 use x86_values::laws::wrapped_twice;

@@ -14,7 +14,7 @@ ghost use Rattle.branch_forms.specs.Images.{pieces_length};
 ghost use Rattle.move_goals.specs.declared.items.Placed.{Placed};
 ghost use Rattle.move_goals.specs.Items.{AreSpansOf, ArePlaced, item_at, no_instr};
 ghost use Rattle.move_goals.specs.Plan.{plan_for, plan_with};
-ghost use Rattle.move_layout.specs.Laid.{goal_address, is_far_at, new_end, slot_address, fragment_at};
+ghost use Rattle.branch_sizes.specs.MoveLayout.Laid.{goal_address, is_far_at, new_end, slot_address, fragment_at};
 ghost use Rattle.block_encoder.specs.Bytes.{image_at, block_bytes};
 ghost use Rattle.block_encoder.specs.Aims.{last_instr, StandsAtPlace, HasSlot};
 ghost use Rattle.block_encoder.specs.Moved.{fragment_reach, IsReached, first_new_pass, MovedLists};

@@ -20,6 +20,6 @@ pub(crate) fn laws_below()
     branch_forms::laws::forms_are_fit();
     move_goals::laws::first_numbers_pass();
     move_goals::laws::plans_are_well_formed();
-    move_layout::laws::blocks_end_behind_their_slots();
-    move_layout::laws::far_forms_have_slots();
+    branch_sizes::move_layout::laws::blocks_end_behind_their_slots();
+    branch_sizes::move_layout::laws::far_forms_have_slots();
 }

@@ -1,7 +1,7 @@
 //! The bytes of moved blocks.
 
 ghost use Rattle.std.specs.Prelude.{◌≡◌, ◌<◌, ◌^◌, None, length};
-ghost use Rattle.move_layout.specs.Laid.{IsLaidLeast};
+ghost use Rattle.branch_sizes.specs.MoveLayout.Laid.{IsLaidLeast};
 ghost use Rattle.move_goals.specs.Ready.{MayBeReady, AreReady};
 ghost use Rattle.block_encoder.specs.ByPlan.{IsPlanAnswer};
 ghost use Rattle.block_encoder.specs.Written.{IsGoalAddress, IsFragmentOf, IsItemWritten, first_end_past};
@@ -14,7 +14,7 @@ use crate::moved::MovedBlocks;
 use arrayvec::ArrayVec;
 use branch_sizes::{BlockSpan, Branch, Form, Goal, Plan};
 use move_goals::{Placed, ready_of};
-use move_layout::{BlockEnd, Fragment, Layout};
+use branch_sizes::move_layout::{BlockEnd, Fragment, Layout};
 use moved_targets::laws::{without_target_all_is_reached, without_target_nothing_changes};
 use std::alloc::Global;
 use x86_values::{Bits, Instr};

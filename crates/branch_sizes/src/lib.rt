@@ -1,6 +1,7 @@
 //! Branch displacement selection: which form each branch of some moved blocks takes.
 #![tactic(auto)]
 
+pub mod move_layout;
 pub mod laws;
 mod layout;
 mod limits;

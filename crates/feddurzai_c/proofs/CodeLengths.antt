@@ -14,7 +14,7 @@ use Rattle.branch_forms.specs.Images.{form_length}
 use Rattle.move_goals.specs.declared.items.Placed.{Placed}
 use Rattle.move_goals.specs.Items.{item_at, AreSpansOf}
 use Rattle.move_goals.specs.Plan.{plan_with}
-use Rattle.move_layout.specs.Laid.{images_end}
+use Rattle.branch_sizes.specs.MoveLayout.Laid.{images_end}
 use Rattle.block_encoder.specs.Facts.{FragmentFacts}
 use Rattle.block_encoder.specs.Moved.{MovedLists, AreListsOf}
 use Rattle.block_encoder.proofs.Chosen.{choice-length}

@@ -8,7 +8,7 @@ use Rattle.move_goals.specs.declared.items.Placed.{Placed}
 use Rattle.move_goals.specs.Items.{AreSpansOf, one_span}
 use Rattle.move_goals.specs.Goals.{goal_at}
 use Rattle.move_goals.specs.Plan.{kept_goals, plan_for, plan_outside}
-use Rattle.move_layout.specs.Laid.{images_end}
+use Rattle.branch_sizes.specs.MoveLayout.Laid.{images_end}
 use Rattle.block_encoder.specs.Facts.{FragmentFacts}
 use Rattle.feddurzai_c.specs.declared.flat.FlatPlace.{FlatPlace}
 use Rattle.feddurzai_c.specs.declared.moved.MovedCode.{MovedCode}

@@ -12,7 +12,7 @@ ghost use Rattle.branch_sizes.specs.Layout.{span_at};
 ghost use Rattle.move_goals.specs.declared.items.Placed.{Placed};
 ghost use Rattle.move_goals.specs.Items.{AreSpansOf, one_span};
 ghost use Rattle.move_goals.specs.Plan.{plan_for, plan_outside};
-ghost use Rattle.move_layout.specs.Laid.{images_end};
+ghost use Rattle.branch_sizes.specs.MoveLayout.Laid.{images_end};
 ghost use Rattle.x86_values.specs.declared.Instr.{Instr};
 ghost use Rattle.feddurzai_c.specs.declared.moved.MovedCode.{MovedCode};
 ghost use Rattle.feddurzai_c.specs.declared.moved_blocks.CodeBlocks.{CodeBlocks};

@@ -15,7 +15,7 @@ use Rattle.branch_sizes.specs.Layout.{IsLeast}
 use Rattle.move_goals.specs.declared.items.Placed.{Placed}
 use Rattle.move_goals.specs.Items.{first_old_pass}
 use Rattle.move_goals.specs.Plan.{plan_for}
-use Rattle.move_layout.specs.Laid.{goal_address}
+use Rattle.branch_sizes.specs.MoveLayout.Laid.{goal_address}
 use Rattle.block_encoder.specs.declared.error.MoveError.TheVariants as error
 use Rattle.block_encoder.specs.Moved.{MovedLists, IsMoved, IsRefused, IsOldPass, IsNewPass, IsTooFar, IsFirstUnreached, first_new_pass}
 use Rattle.command_words.specs.declared.commands.BlockWords.{BlockWords}

@@ -23,8 +23,8 @@ use Rattle.move_goals.specs.Items.{AreSpansOf, ArePlaced, item_at, one_span, fir
 use Rattle.move_goals.specs.Goals.{is_in_block_of, begins_at, own_item, other_item, goal_among, goal_of_target, goal_of, goal_at}
 use Rattle.move_goals.specs.Plan.{plan_with, plan_for}
 use Rattle.move_goals.specs.Facts.{FirstFacts, PlanFacts}
-use Rattle.move_layout.specs.Laid.{goal_value, goal_address, slots_of, images_end, slots_start, new_end, fragment_at}
-use Rattle.move_layout.specs.Facts.{SlotFacts}
+use Rattle.branch_sizes.specs.MoveLayout.Laid.{goal_value, goal_address, slots_of, images_end, slots_start, new_end, fragment_at}
+use Rattle.branch_sizes.specs.MoveLayout.Facts.{SlotFacts}
 use Rattle.block_encoder.specs.Moved.{IsReached, fragment_reach, first_new_pass}
 use Rattle.block_encoder.specs.Facts.{FragmentFacts, ReachFacts}
 use Rattle.sample_run.specs.Made.{IsAimedLow, nowhere, near, by_rip}

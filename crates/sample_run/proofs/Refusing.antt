@@ -24,7 +24,7 @@ use Rattle.sample_run.specs.Generator.{sample_base, sample_code}
 use Rattle.sample_run.specs.Made.{IsAimedLow, IsMade, HasInstructions}
 use Rattle.branch_sizes.specs.Facts.{LengthFacts, TotalFacts}
 use Rattle.move_goals.specs.Facts.{FirstFacts, PlanFacts}
-use Rattle.move_layout.specs.Facts.{SlotFacts}
+use Rattle.branch_sizes.specs.MoveLayout.Facts.{SlotFacts}
 use Rattle.block_encoder.specs.Facts.{FragmentFacts, ReachFacts}
 use Rattle.sample_run.specs.Sample.{moved_base}
 use Rattle.sample_run.specs.Facts.{made_block}

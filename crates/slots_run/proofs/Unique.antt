@@ -5,7 +5,7 @@ use Rattle.sweep_text.specs.Facts.{OneSweepFacts}
 use Rattle.branch_sizes.specs.Plan.{BlockPlan}
 use Rattle.branch_sizes.specs.Layout.{IsLeast}
 use Rattle.move_goals.specs.declared.items.Placed.{Placed}
-use Rattle.move_layout.specs.Laid.{goal_address}
+use Rattle.branch_sizes.specs.MoveLayout.Laid.{goal_address}
 use Rattle.block_encoder.specs.Bytes.{bytes_of_blocks}
 use Rattle.block_encoder.specs.Moved.{IsReached}
 use Rattle.code_region.specs.State.{RegionState}

@@ -28,7 +28,7 @@ use Rattle.branch_forms.specs.Rows.{offset_row}
 use Rattle.move_goals.specs.declared.items.Placed.{Placed}
 use Rattle.move_goals.specs.Items.{IsPlaced, ArePlaced, item_at, one_span}
 use Rattle.move_goals.specs.Plan.{kept_goal, kept_goals, plan_outside}
-use Rattle.move_layout.specs.Laid.{goal_value, goal_address, fragment_at}
+use Rattle.branch_sizes.specs.MoveLayout.Laid.{goal_value, goal_address, fragment_at}
 use Rattle.block_encoder.specs.Bytes.{in_front, bytes_from}
 use Rattle.block_encoder.specs.Moved.{fragment_reach, IsReached, first_new_pass}
 use Rattle.step_slots.specs.Block.{jump_to}

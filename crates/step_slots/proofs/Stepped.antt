@@ -8,7 +8,7 @@ use Rattle.x86_values.specs.Wrapping.{width}
 use Rattle.move_goals.specs.declared.items.Placed.{Placed}
 use Rattle.move_goals.specs.Items.{IsPlaced, ArePlaced, one_span, first_passing}
 use Rattle.move_goals.specs.Plan.{plan_with, plan_outside}
-use Rattle.move_layout.specs.Laid.{new_end}
+use Rattle.branch_sizes.specs.MoveLayout.Laid.{new_end}
 use Rattle.block_encoder.specs.Moved.{MovedLists}
 use Rattle.block_encoder.specs.ByPlan.{IsMovedBy, IsPassBy, IsTooFarBy}
 use Rattle.block_encoder.specs.Last.{last_layout, last_len}

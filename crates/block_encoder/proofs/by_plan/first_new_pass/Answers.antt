@@ -1,7 +1,7 @@
 use Rattle.std.proofs.Common.{◌≡◌, false, length, get_or, arith, refl, sym, ◌∙◌}
 use borrow.Author.Count.{below_more}
 use Rattle.move_goals.specs.Items.{passes}
-use Rattle.move_layout.specs.Laid.{no_end}
+use Rattle.branch_sizes.specs.MoveLayout.Laid.{no_end}
 use Rattle.block_encoder.proofs.by_plan.first_new_pass.Goals as goal
 
 pub returns-then-passes : goal.returns-then-passes

@@ -1,6 +1,6 @@
 use Rattle.std.proofs.Common.{◌≡◌, ◌<◌, ℕ, false, get_or}
 use Rattle.move_goals.specs.Items.{passes}
-use Rattle.move_layout.specs.Laid.{no_end}
+use Rattle.branch_sizes.specs.MoveLayout.Laid.{no_end}
 use Rattle.block_encoder.proofs.by_plan.first_new_pass.Given as goal
 
 abbrev pub invariant-loop-end : goal.invariant-loop-end

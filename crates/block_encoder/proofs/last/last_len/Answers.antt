@@ -3,7 +3,7 @@ use Rattle.branch_sizes.specs.declared.plan.Choice.{Choice}
 use Rattle.branch_sizes.specs.Layout.{total, image_length}
 use Rattle.move_goals.specs.Items.{item_at}
 use Rattle.move_goals.specs.Plan.{plan_outside}
-use Rattle.move_layout.specs.Laid.{has_far_form, with_goal, far_goals}
+use Rattle.branch_sizes.specs.MoveLayout.Laid.{has_far_form, with_goal, far_goals}
 use Rattle.block_encoder.specs.Last.{last_choice, last_layout}
 use Rattle.block_encoder.proofs.LastForms.{images-next, goals-next, last-small, last-bound, last-is}
 use Rattle.block_encoder.proofs.last.last_len.Goals as goal

@@ -1,7 +1,7 @@
 use Rattle.std.proofs.Common.{◌≡◌, ◌+◌}
 use Rattle.branch_sizes.specs.Layout.{total, image_length}
 use Rattle.move_goals.specs.Plan.{plan_outside}
-use Rattle.move_layout.specs.Laid.{far_goals}
+use Rattle.branch_sizes.specs.MoveLayout.Laid.{far_goals}
 use Rattle.block_encoder.specs.Last.{last_layout}
 use Rattle.block_encoder.proofs.last.last_len.Given as goal
 

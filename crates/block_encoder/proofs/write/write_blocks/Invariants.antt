@@ -1,6 +1,6 @@
 use Rattle.std.proofs.Common.{◌≡◌, ℕ, List}
 use Rattle.branch_sizes.specs.Layout.{span_at}
-use Rattle.move_layout.specs.Laid.{IsLaid}
+use Rattle.branch_sizes.specs.MoveLayout.Laid.{IsLaid}
 use Rattle.block_encoder.proofs.Writing.{AreWritten}
 use Rattle.block_encoder.proofs.write.write_blocks.Given as goal
 
