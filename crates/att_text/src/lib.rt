@@ -15,7 +15,7 @@ ghost use Rattle.att_text.specs.Text as spec;
 use crate::names::append_name;
 use crate::operands::{append_first_part, append_later_part};
 use arrayvec::ArrayVec;
-use row_types::Row;
+use instruction_parts::row_types::Row;
 use text_parts::prefix_words::append_prefix_words;
 use text_parts::text::{TEXT_LEN, Text};
 use text_rows::{printed_name, printed_row};

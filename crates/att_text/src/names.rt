@@ -10,7 +10,7 @@ use arrayvec::ArrayVec;
 use instruction_parts::kinds::{File, file_of_kind};
 use instruction_parts::sizes::is_vex_row;
 use row_meaning::row_memory_size;
-use row_types::{Map, OpKind, Row, Size};
+use instruction_parts::row_types::{Map, OpKind, Row, Size};
 use text_parts::prefix_words::{has_memory, name_text};
 use text_parts::text::{append, append_few};
 use x86_values::{Bits, Instr};

@@ -5,7 +5,7 @@ use Rattle.std.specs.List.{list_all}
 use Rattle.x86_values.specs.declared.Bits.{Bits}
 use Rattle.x86_values.specs.declared.Bits.TheVariants.{B16, B32, B64}
 use Rattle.x86_values.specs.declared.Instr.{Instr}
-use Rattle.row_types.specs.declared.Row.{Row}
+use Rattle.instruction_parts.specs.declared.row_types.Row.{Row}
 use Rattle.instruction_parts.specs.Sizes.{has_address_mark}
 use Rattle.row_relation.specs.Spells.{Spells}
 use Rattle.plain_spelling.specs.Addresses.{has_address_size}

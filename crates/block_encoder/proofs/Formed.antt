@@ -6,7 +6,7 @@ use Rattle.x86_values.specs.declared.Bits.{Bits}
 use Rattle.x86_values.specs.declared.Bits.TheVariants.{B32, B64}
 use Rattle.x86_values.specs.declared.Instr.{Instr}
 use Rattle.x86_values.specs.Wrapping.{modulo_width}
-use Rattle.row_types.specs.declared.Map.TheVariants.{One, M0f}
+use Rattle.instruction_parts.specs.declared.row_types.Map.TheVariants.{One, M0f}
 use Rattle.plain_spelling.specs.declared.NoSpelling.{NoSpelling}
 use Rattle.plain_spelling.specs.Values.{is_extended_of, distance}
 use Rattle.branch_sizes.specs.declared.plan.Form.{Form}

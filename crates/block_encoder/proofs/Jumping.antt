@@ -5,9 +5,9 @@ use Rattle.x86_values.specs.declared.Bits.{Bits}
 use Rattle.x86_values.specs.declared.Bits.TheVariants.{B16, B32, B64}
 use Rattle.x86_values.specs.declared.Instr.{Instr}
 use Rattle.x86_values.specs.Wrapping.{width, modulo_width}
-use Rattle.row_types.specs.declared.Row.{Row}
-use Rattle.row_types.specs.declared.Map.TheVariants.{One}
-use Rattle.row_types.specs.declared.OpKind.TheVariants.{Jz}
+use Rattle.instruction_parts.specs.declared.row_types.Row.{Row}
+use Rattle.instruction_parts.specs.declared.row_types.Map.TheVariants.{One}
+use Rattle.instruction_parts.specs.declared.row_types.OpKind.TheVariants.{Jz}
 use Rattle.instruction_parts.specs.Bytes.{bytes_of}
 use Rattle.instruction_parts.specs.Kinds.{method_of, immediate_width}
 use Rattle.instruction_parts.specs.Sizes.{exists_in, operand_size}

@@ -1,7 +1,7 @@
 -- What the proofs of this crate use of the crates below: what their laws say.
 use Rattle.std.specs.Prelude.{◌≡◌, ℕ, Bool, IsTrue, Some, slice_get}
 use Rattle.std.specs.List.{list_all}
-use Rattle.row_types.specs.declared.Row.{Row}
+use Rattle.instruction_parts.specs.declared.row_types.Row.{Row}
 use Rattle.opcode_rows.specs.declared.spot.Part.{Part}
 use Rattle.opcode_rows.specs.Table.{part_table, table}
 use Rattle.encoder.specs.Facts.{EncodingFacts, SpelledFacts}

@@ -3,11 +3,11 @@ use Rattle.std.proofs.Common.{◌≡◌, ℕ, zero, suc, ◌+◌, ◌*◌, ◌/�
 use Rattle.std.specs.Prelude.{Option, Some}
 use Rattle.x86_values.specs.declared.Bits.{Bits}
 use Rattle.x86_values.specs.declared.Bits.TheVariants.{B16, B32, B64}
-use Rattle.row_types.specs.declared.Row.{Row}
-use Rattle.row_types.specs.declared.Map.{Map}
-use Rattle.row_types.specs.declared.Map.TheVariants.{One, M0f}
-use Rattle.row_types.specs.declared.OpKind.{OpKind}
-use Rattle.row_types.specs.declared.OpKind.TheVariants.{Jb, Jz}
+use Rattle.instruction_parts.specs.declared.row_types.Row.{Row}
+use Rattle.instruction_parts.specs.declared.row_types.Map.{Map}
+use Rattle.instruction_parts.specs.declared.row_types.Map.TheVariants.{One, M0f}
+use Rattle.instruction_parts.specs.declared.row_types.OpKind.{OpKind}
+use Rattle.instruction_parts.specs.declared.row_types.OpKind.TheVariants.{Jb, Jz}
 use Rattle.rows_integer.specs.Table.{table as integer_rows, flat_rows as integer_flat}
 use Rattle.rows_x87.specs.Table.{table as x87_rows, flat_rows as x87_flat}
 use Rattle.rows_sse.specs.Table.{table as sse_rows, flat_rows as sse_flat}

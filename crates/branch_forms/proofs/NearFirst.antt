@@ -7,11 +7,11 @@ use Rattle.x86_values.specs.declared.Bits.{Bits}
 use Rattle.x86_values.specs.declared.Operand.{Operand}
 use Rattle.x86_values.specs.declared.Operand.TheVariants.{Near}
 use Rattle.x86_values.specs.declared.Instr.{Instr}
-use Rattle.row_types.specs.declared.Row.{Row}
-use Rattle.row_types.specs.declared.Place.{Place}
-use Rattle.row_types.specs.declared.Place.TheVariants.{Any as AnyPlace, Memory as OnlyMemory, Register as OnlyRegister}
-use Rattle.row_types.specs.declared.OpKind.{OpKind}
-use Rattle.row_types.specs.declared.OpKind.TheVariants.{Jb, Jz}
+use Rattle.instruction_parts.specs.declared.row_types.Row.{Row}
+use Rattle.instruction_parts.specs.declared.row_types.Place.{Place}
+use Rattle.instruction_parts.specs.declared.row_types.Place.TheVariants.{Any as AnyPlace, Memory as OnlyMemory, Register as OnlyRegister}
+use Rattle.instruction_parts.specs.declared.row_types.OpKind.{OpKind}
+use Rattle.instruction_parts.specs.declared.row_types.OpKind.TheVariants.{Jb, Jz}
 use Rattle.instruction_parts.specs.declared.kinds.Method.{Method}
 use Rattle.instruction_parts.specs.declared.kinds.Method.TheVariants as method
 use Rattle.instruction_parts.specs.Kinds.{method_of}

@@ -5,9 +5,9 @@ use Rattle.std.proofs.lemmas.Nat.{xor_lt}
 use Rattle.x86_values.specs.declared.Bits.{Bits}
 use Rattle.x86_values.specs.declared.Bits.TheVariants.{B16, B32, B64}
 use Rattle.x86_values.specs.declared.Instr.{Instr}
-use Rattle.row_types.specs.declared.Row.{Row}
-use Rattle.row_types.specs.declared.Map.TheVariants.{One, M0f}
-use Rattle.row_types.specs.declared.OpKind.TheVariants.{Jb, Jz}
+use Rattle.instruction_parts.specs.declared.row_types.Row.{Row}
+use Rattle.instruction_parts.specs.declared.row_types.Map.TheVariants.{One, M0f}
+use Rattle.instruction_parts.specs.declared.row_types.OpKind.TheVariants.{Jb, Jz}
 use Rattle.instruction_parts.specs.Bytes.{lead_bytes}
 use Rattle.instruction_parts.specs.Kinds.{method_of, immediate_width}
 use Rattle.instruction_parts.specs.Sizes.{operand_size}

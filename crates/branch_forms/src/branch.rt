@@ -8,7 +8,7 @@ use crate::generated_codes::{
 };
 use opcode_rows::{ROWS, row_of};
 use operand_info::near_target;
-use row_types::{OpKind, Row, Size};
+use instruction_parts::row_types::{OpKind, Row, Size};
 use x86_values::{Bits, Instr};
 
 /// What a relative branch does.

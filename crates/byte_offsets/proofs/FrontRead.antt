@@ -6,7 +6,7 @@ use Rattle.std.proofs.lemmas.List.{length-take-le}
 use Rattle.x86_values.specs.declared.Bits.{Bits}
 use Rattle.x86_values.specs.declared.Decoded.{Decoded}
 use Rattle.x86_values.specs.Wrapping.{modulo_width}
-use Rattle.row_types.specs.declared.Row.{Row}
+use Rattle.instruction_parts.specs.declared.row_types.Row.{Row}
 use Rattle.instruction_parts.specs.declared.spelling.Spelling.{Spelling}
 use Rattle.instruction_parts.specs.declared.spelling.PrefixState.{PrefixState}
 use Rattle.instruction_parts.specs.Bytes.{bytes_of, front_bytes, tail_bytes, lead_bytes, modrm_bytes, sib_bytes, state_of, state_from}

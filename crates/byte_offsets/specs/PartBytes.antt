@@ -1,7 +1,7 @@
 -- The bytes of the parts of a spelling.
 use Rattle.std.specs.Prelude.{◌≡◌, ℕ, ◌<◌, List, [], ◌∷◌, take, drop, slice_index_or}
 use Rattle.x86_values.specs.declared.Bits.{Bits}
-use Rattle.row_types.specs.declared.Row.{Row}
+use Rattle.instruction_parts.specs.declared.row_types.Row.{Row}
 use Rattle.instruction_parts.specs.declared.spelling.Spelling.{Spelling}
 use Rattle.instruction_parts.specs.Bytes.{lead_bytes, modrm_bytes, sib_bytes, state_of}
 use Rattle.instruction_parts.specs.Sizes.{state_size}

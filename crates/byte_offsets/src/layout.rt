@@ -5,7 +5,7 @@ ghost use Rattle.row_fit.specs.Fits.{kind_at, immediate_bytes};
 ghost use Rattle.byte_offsets.specs.Offsets as spec;
 
 use row_fit::tail_fits::{immediate_bytes, kind_at};
-use row_types::Row;
+use instruction_parts::row_types::Row;
 use x86_values::Bits;
 
 /// A part of an instruction: the offset of its first byte from the first one of the instruction, and how many bytes it has. A part that is not

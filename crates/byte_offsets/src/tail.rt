@@ -13,7 +13,7 @@ use instruction_parts::{ModRm, PrefixState, Sib};
 use modrm_sib::{modrm_of_byte, sib_of_byte};
 use row_fit::fits::{reads_mode, reads_offset};
 use row_fit::tail_fits::{displacement_bytes, needs_sib};
-use row_types::{ModRmRule, Row};
+use instruction_parts::row_types::{ModRmRule, Row};
 use x86_values::Bits;
 
 /// Whether the row has a ModRM.

@@ -6,9 +6,9 @@ use Rattle.x86_values.specs.declared.Register.{Register}
 use Rattle.x86_values.specs.declared.Register.TheVariants.{Low8, High8, R16}
 use Rattle.x86_values.specs.declared.Mem.{Mem}
 use Rattle.x86_values.specs.declared.Operand.TheVariants.{Mem as MemOperand}
-use Rattle.row_types.specs.declared.Row.{Row}
-use Rattle.row_types.specs.declared.LBit.{LBit}
-use Rattle.row_types.specs.declared.LBit.TheVariants.{None as NoL, L128, L256, Lig, Lz}
+use Rattle.instruction_parts.specs.declared.row_types.Row.{Row}
+use Rattle.instruction_parts.specs.declared.row_types.LBit.{LBit}
+use Rattle.instruction_parts.specs.declared.row_types.LBit.TheVariants.{None as NoL, L128, L256, Lig, Lz}
 use Rattle.instruction_parts.specs.declared.kinds.File.{File}
 use Rattle.instruction_parts.specs.declared.kinds.File.TheVariants.{Byte as ByteFile, Word as WordFile, Dword as DwordFile, Qword as QwordFile, OperandSize as OperandSizeFile, WordOrDword as WordOrDwordFile, ByW as ByWFile, Native as NativeFile, Segment as SegmentFile, Control as ControlFile, Debug as DebugFile, Stack as StackFile, Mmx as MmxFile, Xmm as XmmFile, Vector as VectorFile}
 use Rattle.instruction_parts.specs.declared.spelling.Vex.{Vex}

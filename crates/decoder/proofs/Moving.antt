@@ -4,7 +4,7 @@ use Rattle.x86_values.specs.declared.Bits.{Bits}
 use Rattle.x86_values.specs.declared.Decoded.{Decoded}
 use Rattle.x86_values.specs.Wrapping.{modulo_width}
 use Rattle.x86_values.proofs.Wrapped.{twice}
-use Rattle.row_types.specs.declared.Row.{Row}
+use Rattle.instruction_parts.specs.declared.row_types.Row.{Row}
 use Rattle.instruction_parts.specs.Front.{prefix_run, lead_front, long_front, within_15, front_of, is_open}
 use Rattle.row_relation.specs.Spells.{Reading, IsReading}
 use Rattle.decoder.specs.declared.DecodeError.{DecodeError}

@@ -3,16 +3,16 @@ use Rattle.std.specs.Prelude.{ℕ, ◌+◌, Bool, true, false, not, ◌&&◌, �
 use Rattle.std.specs.List.{list_all}
 use Rattle.x86_values.specs.declared.Bits.{Bits}
 use Rattle.x86_values.specs.declared.Bits.TheVariants.{B16, B32, B64}
-use Rattle.row_types.specs.declared.Row.{Row}
-use Rattle.row_types.specs.declared.Map.{Map}
-use Rattle.row_types.specs.declared.Plus.{Plus}
-use Rattle.row_types.specs.declared.Plus.TheVariants as plus
-use Rattle.row_types.specs.declared.ModRmRule.{ModRmRule}
-use Rattle.row_types.specs.declared.ModRmRule.TheVariants as rule
-use Rattle.row_types.specs.declared.Place.{Place}
-use Rattle.row_types.specs.declared.Place.TheVariants as place
-use Rattle.row_types.specs.declared.OpKind.{OpKind}
-use Rattle.row_types.specs.declared.OpKind.TheVariants.{Sw, Cn, Dn}
+use Rattle.instruction_parts.specs.declared.row_types.Row.{Row}
+use Rattle.instruction_parts.specs.declared.row_types.Map.{Map}
+use Rattle.instruction_parts.specs.declared.row_types.Plus.{Plus}
+use Rattle.instruction_parts.specs.declared.row_types.Plus.TheVariants as plus
+use Rattle.instruction_parts.specs.declared.row_types.ModRmRule.{ModRmRule}
+use Rattle.instruction_parts.specs.declared.row_types.ModRmRule.TheVariants as rule
+use Rattle.instruction_parts.specs.declared.row_types.Place.{Place}
+use Rattle.instruction_parts.specs.declared.row_types.Place.TheVariants as place
+use Rattle.instruction_parts.specs.declared.row_types.OpKind.{OpKind}
+use Rattle.instruction_parts.specs.declared.row_types.OpKind.TheVariants.{Sw, Cn, Dn}
 use Rattle.instruction_parts.specs.declared.spelling.PrefixState.{PrefixState}
 use Rattle.instruction_parts.specs.Counting.{is_64}
 use Rattle.instruction_parts.specs.Kinds.{method_of}

@@ -12,7 +12,7 @@ use crate::DecodeError;
 use instruction_parts::PrefixState;
 use modrm_sib::{TailError, read_row};
 use opcode_rows::{ROWS, cell_len, first_of, row};
-use row_types::RowKind;
+use instruction_parts::row_types::RowKind;
 use std::sync::ledger::Ledger;
 use step_count::Steps;
 use x86_values::{Bits, Code};

@@ -1,6 +1,6 @@
 //! Lines: of which rows each speaks.
 
-use row_types::{LBit, OpKind, Row};
+use instruction_parts::row_types::{LBit, OpKind, Row};
 
 /// A line: names, conditions and words.
 #[derive(Clone, Copy)]

@@ -2,7 +2,7 @@
 use Rattle.std.proofs.Common.{◌≡◌, ℕ, ◌+◌, ◌<◌, ◌≤◌, true, List, ◌∷◌, ◌++◌, length, refl, sym, ◌∙◌, ap, subst, arith, None}
 use Rattle.x86_values.specs.declared.Bits.{Bits}
 use Rattle.x86_values.specs.declared.Instr.{Instr}
-use Rattle.row_types.specs.declared.Row.{Row}
+use Rattle.instruction_parts.specs.declared.row_types.Row.{Row}
 use Rattle.instruction_parts.specs.declared.spelling.PrefixState.{PrefixState}
 use Rattle.instruction_parts.specs.Sizes.{exists_in}
 use Rattle.instruction_parts.specs.Bytes.{tail_bytes, modrm_bytes, sib_bytes, bytes_of}

@@ -1,8 +1,8 @@
 -- What the table gives of its legacy rows.
 use Rattle.std.proofs.Common.{◌≡◌, Bool, true, false, not, ◌&&◌, ◌||◌, refl, sym}
 use Rattle.x86_values.specs.declared.Bits.{Bits}
-use Rattle.row_types.specs.declared.Row.{Row}
-use Rattle.row_types.specs.declared.ModRmRule.TheVariants.{Any as AnyModRm}
+use Rattle.instruction_parts.specs.declared.row_types.Row.{Row}
+use Rattle.instruction_parts.specs.declared.row_types.ModRmRule.TheVariants.{Any as AnyModRm}
 use Rattle.instruction_parts.specs.Sizes.{exists_in, is_vex_row}
 use Rattle.row_fit.specs.Fits.{reads_by, is_gather, is_vvvv}
 use Rattle.row_fit.specs.Sound.{reads_reg}

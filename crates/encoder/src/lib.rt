@@ -26,7 +26,7 @@ use plain_spelling::parts::{PlainParts, legacy_parts, plain_parts};
 use prefixes::append_front;
 use row_fit::fits::reads_gather;
 use row_relation::append_plain_tail;
-use row_types::Row;
+use instruction_parts::row_types::Row;
 use x86_values::{Bits, Instr, wrap};
 
 pub mod laws;

@@ -89,7 +89,7 @@ pub mod rows {
     pub use row_relation::{
         ModRm, PrefixState, Sib, Spelling, Vex, row_fits, row_meaning, row_memory_size,
     };
-    pub use row_types::{
+    pub use instruction_parts::row_types::{
         Class, ImmWord, LBit, Map, Marks, ModRmRule, ModeMask, OpKind, Place, Plus, PlusWord, Row,
         RowKind, RowShape, Size, SizeWord, WBit,
     };

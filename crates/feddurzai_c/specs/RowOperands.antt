@@ -1,8 +1,8 @@
 -- The operands of a row: the word of each kind, and what is done to it.
 use Rattle.std.specs.Prelude.{ℕ, nat_lt, List, [], Option, Some, None, Result, Ok, Err, if◌then◌else◌, codes, slice_get, slice_index_or}
-use Rattle.row_types.specs.declared.OpKind.{OpKind}
-use Rattle.row_types.specs.declared.OpKind.TheVariants as kind
-use Rattle.row_types.specs.declared.Row.{Row}
+use Rattle.instruction_parts.specs.declared.row_types.OpKind.{OpKind}
+use Rattle.instruction_parts.specs.declared.row_types.OpKind.TheVariants as kind
+use Rattle.instruction_parts.specs.declared.row_types.Row.{Row}
 use Rattle.opcode_rows.specs.declared.generated_spots.TheConstants.{ROWS}
 use Rattle.opcode_rows.specs.Table.{table}
 use Rattle.feddurzai_c.specs.declared.refusal.Refusal.{Refusal}

@@ -3,7 +3,7 @@
 ghost use Rattle.std.specs.Prelude.{◌≡◌, ℕ, ◌-◌, ◌%◌, ◌^◌, ◌<◌, List, length, slice_get, slice_index_or, Some, Err};
 ghost use Rattle.x86_values.specs.declared.Bits.{Bits};
 ghost use Rattle.x86_values.specs.Wrapping.{modulo_width};
-ghost use Rattle.row_types.specs.declared.Row.{Row};
+ghost use Rattle.instruction_parts.specs.declared.row_types.Row.{Row};
 ghost use Rattle.plain_spelling.specs.declared.NoSpelling.{NoSpelling};
 ghost use Rattle.opcode_rows.specs.Table.{table};
 ghost use Rattle.encoder.specs.Encoding.{encoding};

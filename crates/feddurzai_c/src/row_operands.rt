@@ -12,7 +12,7 @@ use crate::room::put_text;
 use crate::rows::code_numbered;
 use opcode_rows::{ROWS, row_of};
 use operand_info::{Access, access_of};
-use row_types::OpKind;
+use instruction_parts::row_types::OpKind;
 use x86_values::Code;
 
 /// The word of a kind, empty where there is no operand.

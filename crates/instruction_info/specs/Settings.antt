@@ -9,9 +9,9 @@ use Rattle.x86_values.specs.declared.Register.TheVariants.{Low8, High8, R16, R32
 use Rattle.x86_values.specs.declared.Rep.{Rep}
 use Rattle.x86_values.specs.declared.Rep.TheVariants as rep
 use Rattle.x86_values.specs.declared.Instr.{Instr}
-use Rattle.row_types.specs.declared.Row.{Row}
-use Rattle.row_types.specs.declared.Size.{Size}
-use Rattle.row_types.specs.declared.Size.TheVariants.{O16, O64, W1}
+use Rattle.instruction_parts.specs.declared.row_types.Row.{Row}
+use Rattle.instruction_parts.specs.declared.row_types.Size.{Size}
+use Rattle.instruction_parts.specs.declared.row_types.Size.TheVariants.{O16, O64, W1}
 use Rattle.opcode_rows.specs.Table.{table}
 use Rattle.instruction_info.specs.declared.effect.AccessKind.{AccessKind}
 use Rattle.instruction_info.specs.declared.effect.AccessKind.TheVariants.{Read, Write, ReadWrite, ConditionalRead, ConditionalWrite, ConditionalReadWrite, ReadConditionalWrite}

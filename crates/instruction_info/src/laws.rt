@@ -4,7 +4,7 @@ ghost use Rattle.std.specs.Prelude.{◌≡◌, ◌<◌, ◌++◌, ◌∷◌, [],
 ghost use Rattle.std.specs.List.{list_any};
 ghost use Rattle.x86_values.specs.declared.Bits.{Bits};
 ghost use Rattle.x86_values.specs.declared.Instr.{Instr};
-ghost use Rattle.row_types.specs.declared.Row.{Row};
+ghost use Rattle.instruction_parts.specs.declared.row_types.Row.{Row};
 ghost use Rattle.opcode_rows.specs.declared.generated_spots.TheConstants.{VERSION1_ROWS};
 ghost use Rattle.opcode_rows.specs.Table.{table, name_of};
 ghost use Rattle.operand_info.specs.ByCode.{flow_of};

@@ -6,7 +6,7 @@ ghost use Rattle.instruction_info.specs.Settings as spec;
 
 use crate::effect::{AccessKind, RegisterGroup, repeats};
 use opcode_rows::{ROWS, row_of};
-use row_types::Size;
+use instruction_parts::row_types::Size;
 use x86_values::{Bits, Code, Instr, Register, Rep, Segment};
 
 /// The mode, which is the stack size too, the operand and address sizes, the segment prefix that counts, and whether a repeat prefix repeats.

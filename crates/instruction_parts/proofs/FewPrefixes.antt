@@ -2,7 +2,7 @@
 use Rattle.std.proofs.Common.{◌≡◌, ℕ, ◌/◌, true, false, ◌==◌, List, [], ◌∷◌, length, Option, Some, None, refl, arith}
 use Rattle.x86_values.specs.declared.Bits.{Bits}
 use Rattle.x86_values.specs.declared.Bits.TheVariants.{B16, B32, B64}
-use Rattle.row_types.specs.declared.Map.{Map}
+use Rattle.instruction_parts.specs.declared.row_types.Map.{Map}
 use Rattle.instruction_parts.specs.declared.spelling.Vex.{Vex}
 use Rattle.instruction_parts.specs.Counting.{is_64, is_rex, is_segment, has_lock, has_66, has_67, counting_repeat, counting_segment, counting_rex}
 use Rattle.instruction_parts.specs.Bytes.{state_from, state_of_rex}

@@ -2,8 +2,8 @@
 -- (Intel SDM volume 2, A.2.1 and A.2.2): where the operand is read, which registers it names, and
 -- how many bytes it has in memory or behind the instruction.
 use Rattle.std.specs.Prelude.{ℕ, ◌<◌}
-use Rattle.row_types.specs.declared.OpKind.{OpKind}
-use Rattle.row_types.specs.declared.OpKind.TheVariants.{Absent, Eb, Ew, Ed, Eq, Ev, Ez, Ey, Gb, Gw, Gd, Gv, Gy, Zb, Zv, By, Rv, Ry, Rm, Xv, Kb, Kw, Sw, Cn, Dn, M, Mb, Mw, Md, Mq, Mt, Mv, Mx, Mo, Ma, Mp, Mf, Ob, Ov, Ib, Iw, Ibs, Iz, Iv, Jb, Jz, Ap, Pq, Qd, Qq, Nq, Vx, Hx, Lx, Ux, Wx, Vo, Ho, Wo, Wb, Ww, Wd, Wq, Wh, W4, W8, GatherX, GatherL, RaxAny, EaxZ, Al, Ax, Cl, Dx, Es, Cs, Ss, Ds, Fs, Gs, St, Xmm0, One, StI}
+use Rattle.instruction_parts.specs.declared.row_types.OpKind.{OpKind}
+use Rattle.instruction_parts.specs.declared.row_types.OpKind.TheVariants.{Absent, Eb, Ew, Ed, Eq, Ev, Ez, Ey, Gb, Gw, Gd, Gv, Gy, Zb, Zv, By, Rv, Ry, Rm, Xv, Kb, Kw, Sw, Cn, Dn, M, Mb, Mw, Md, Mq, Mt, Mv, Mx, Mo, Ma, Mp, Mf, Ob, Ov, Ib, Iw, Ibs, Iz, Iv, Jb, Jz, Ap, Pq, Qd, Qq, Nq, Vx, Hx, Lx, Ux, Wx, Vo, Ho, Wo, Wb, Ww, Wd, Wq, Wh, W4, W8, GatherX, GatherL, RaxAny, EaxZ, Al, Ax, Cl, Dx, Es, Cs, Ss, Ds, Fs, Gs, St, Xmm0, One, StI}
 use Rattle.instruction_parts.specs.declared.kinds.Method.{Method}
 use Rattle.instruction_parts.specs.declared.kinds.Method.TheVariants.{AnyMode, AsWritten, Extended, Fixed as FixedRegister, Gather, LastByte, MemoryOnly, ModRmReg, Near, Nothing, Offset, One, OpcodeLow, Pointer, RegisterOnly, RegisterOrMemory, Vvvv}
 use Rattle.instruction_parts.specs.declared.kinds.File.{File}

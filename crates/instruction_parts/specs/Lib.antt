@@ -3,3 +3,4 @@ pub mod Counting
 pub mod Sizes
 pub mod Bytes
 pub mod Front
+pub mod RowTypes

@@ -4,7 +4,7 @@
 ghost use Rattle.std.specs.Prelude.{◌≡◌};
 ghost use Rattle.instruction_parts.specs.Kinds.{method_of, file_of, memory_width, immediate_width, fixed_number, IsShort};
 
-use row_types::OpKind;
+use crate::row_types::OpKind;
 
 /// Where an operand is read.
 #[derive(Clone, Copy)]

@@ -6,7 +6,7 @@ ghost use Rattle.instruction_parts.specs.Counting.{bit_of, rex_bit};
 
 use crate::counting::is_64;
 use crate::spelling::PrefixState;
-use row_types::{Row, RowKind};
+use crate::row_types::{Row, RowKind};
 use x86_values::Bits;
 
 /// Bit n of a byte.

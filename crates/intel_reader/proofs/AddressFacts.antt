@@ -10,7 +10,7 @@ use Rattle.x86_values.specs.declared.DispSize.{DispSize}
 use Rattle.x86_values.specs.declared.Mem.{Mem}
 use Rattle.x86_values.specs.declared.Operand.TheVariants.{Mem as MemOperand}
 use Rattle.x86_values.specs.Wrapping.{width}
-use Rattle.row_types.specs.declared.Row.{Row}
+use Rattle.instruction_parts.specs.declared.row_types.Row.{Row}
 use Rattle.instruction_parts.specs.declared.kinds.Method.{Method}
 use Rattle.instruction_parts.specs.declared.kinds.Method.TheVariants as method
 use Rattle.instruction_parts.specs.declared.kinds.File.{File}

@@ -6,7 +6,7 @@ use Rattle.x86_values.specs.declared.DispSize.{DispSize}
 use Rattle.x86_values.specs.declared.Code.{Code}
 use Rattle.x86_values.specs.declared.Instr.{Instr}
 use Rattle.x86_values.specs.Wrapping.{modulo_width}
-use Rattle.row_types.specs.declared.Row.{Row}
+use Rattle.instruction_parts.specs.declared.row_types.Row.{Row}
 use Rattle.opcode_rows.specs.Table.{table, name_of}
 use Rattle.text_parts.specs.declared.style.Style.TheVariants.{Intel}
 use Rattle.text_parts.specs.Layout.{bracket_layout}

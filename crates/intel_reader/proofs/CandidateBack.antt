@@ -11,7 +11,7 @@ use Rattle.x86_values.specs.declared.Operand.TheVariants.{Absent, Reg, Mem as Me
 use Rattle.x86_values.specs.declared.Rep.{Rep}
 use Rattle.x86_values.specs.declared.Code.{Code}
 use Rattle.x86_values.specs.declared.Instr.{Instr}
-use Rattle.row_types.specs.declared.Row.{Row}
+use Rattle.instruction_parts.specs.declared.row_types.Row.{Row}
 use Rattle.instruction_parts.specs.Kinds.{method_of, file_of}
 use Rattle.row_fit.specs.Fits.{kind_at, immediate_bytes, is_gather}
 use Rattle.plain_spelling.specs.Forms.{operand_at, is_variant_of}

@@ -10,7 +10,7 @@ use Rattle.x86_values.specs.declared.Operand.{Operand}
 use Rattle.x86_values.specs.declared.Operand.TheVariants.{Absent, Reg, Mem as MemOperand, Imm, Near, Far}
 use Rattle.x86_values.specs.declared.Code.{Code}
 use Rattle.x86_values.specs.declared.Instr.{Instr}
-use Rattle.row_types.specs.declared.Row.{Row}
+use Rattle.instruction_parts.specs.declared.row_types.Row.{Row}
 use Rattle.instruction_parts.specs.declared.spelling.Spelling.{Spelling}
 use Rattle.row_meaning.specs.Meaning.{meaning, instr_of}
 use Rattle.opcode_rows.specs.declared.generated_spots.TheConstants.{ROWS}

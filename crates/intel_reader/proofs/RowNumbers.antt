@@ -3,7 +3,7 @@ use Rattle.std.proofs.Common.{◌≡◌, ℕ, Option, Some, refl, ap, sym, ◌�
 use Rattle.std.specs.Prelude.{map}
 use Rattle.std.specs.Option.{option_map}
 use Rattle.std.proofs.lemmas.Option.{slice_get-map}
-use Rattle.row_types.specs.declared.Row.{Row}
+use Rattle.instruction_parts.specs.declared.row_types.Row.{Row}
 use Rattle.instruction_parts.specs.Kinds.{method_of, file_of, fixed_number}
 use Rattle.instruction_parts.specs.Sizes.{exists_in, operand_size}
 use Rattle.plain_spelling.specs.Forms.{is_allowed_in, is_variant_of}

@@ -13,12 +13,12 @@ use Rattle.x86_values.specs.declared.Operand.TheVariants.{Reg as RegOperand, Mem
 use Rattle.x86_values.specs.declared.Code.{Code}
 use Rattle.x86_values.specs.declared.Instr.{Instr}
 use Rattle.x86_values.specs.Wrapping.{modulo_width}
-use Rattle.row_types.specs.declared.Row.{Row}
-use Rattle.row_types.specs.declared.LBit.{LBit}
-use Rattle.row_types.specs.declared.LBit.TheVariants as vector_length
-use Rattle.row_types.specs.declared.OpKind.{OpKind}
-use Rattle.row_types.specs.declared.Place.{Place}
-use Rattle.row_types.specs.declared.Place.TheVariants.{Any as AnyPlace, Memory as OnlyMemory, Register as OnlyRegister}
+use Rattle.instruction_parts.specs.declared.row_types.Row.{Row}
+use Rattle.instruction_parts.specs.declared.row_types.LBit.{LBit}
+use Rattle.instruction_parts.specs.declared.row_types.LBit.TheVariants as vector_length
+use Rattle.instruction_parts.specs.declared.row_types.OpKind.{OpKind}
+use Rattle.instruction_parts.specs.declared.row_types.Place.{Place}
+use Rattle.instruction_parts.specs.declared.row_types.Place.TheVariants.{Any as AnyPlace, Memory as OnlyMemory, Register as OnlyRegister}
 use Rattle.instruction_parts.specs.declared.kinds.Method.{Method}
 use Rattle.instruction_parts.specs.declared.kinds.Method.TheVariants as method
 use Rattle.instruction_parts.specs.declared.kinds.File.{File}

@@ -3,7 +3,7 @@
 ghost use Rattle.std.specs.Prelude.{◌≡◌, true, false, ◌⊎◌, ◌<◌, ◌||◌, IfSome, IsNone, MatchOption, Option, Some, slice_get, bytes_eq};
 ghost use Rattle.x86_values.specs.declared.Bits.{Bits};
 ghost use Rattle.x86_values.specs.declared.DispSize.{DispSize};
-ghost use Rattle.row_types.specs.declared.Row.{Row};
+ghost use Rattle.instruction_parts.specs.declared.row_types.Row.{Row};
 ghost use Rattle.opcode_rows.specs.Table.{table, name_of};
 ghost use Rattle.text_parts.specs.PrefixWords as prefix_words;
 ghost use Rattle.text_parts.specs.PrefixWords.{name_text};
@@ -27,7 +27,7 @@ use intel_text::print;
 use intel_words::reading::read_words;
 use intel_words::words::IntelWords;
 use opcode_rows::{ROWS, name, row_of, well_formed};
-use row_types::Row;
+use instruction_parts::row_types::Row;
 use std::cmp::Ordering;
 use x86_values::{Bits, Code, DispSize, Instr};
 

@@ -12,7 +12,7 @@ use intel_words::words::IntelWords;
 use plain_spelling::addresses::displacement_count;
 use plain_spelling::front::{asks_66, asks_rex_w, plain_size};
 use row_fit::tail_fits::immediates_bytes;
-use row_types::{ModRmRule, Row};
+use instruction_parts::row_types::{ModRmRule, Row};
 use x86_values::{Bits, DispSize};
 
 /// A byte that is there or not.

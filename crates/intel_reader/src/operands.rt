@@ -2,7 +2,7 @@
 
 ghost use Rattle.std.specs.Prelude.{◌≡◌, ℕ, ◌<◌, ◌^◌, if◌then◌else◌, Some, [], slice_get};
 ghost use Rattle.x86_values.specs.declared.Bits.{Bits};
-ghost use Rattle.row_types.specs.declared.Row.{Row};
+ghost use Rattle.instruction_parts.specs.declared.row_types.Row.{Row};
 ghost use Rattle.opcode_rows.specs.Table.{table};
 ghost use Rattle.intel_reader.specs.declared.operands.OperandClass.{OperandClass};
 ghost use Rattle.intel_reader.specs.Buckets.{order};

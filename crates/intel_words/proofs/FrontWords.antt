@@ -10,7 +10,7 @@ use Rattle.x86_values.specs.declared.Segment.TheVariants.{Es, Cs, Ss, Ds, Fs, Gs
 use Rattle.x86_values.specs.declared.Rep.{Rep}
 use Rattle.x86_values.specs.declared.Rep.TheVariants.{None as NoRep, F2, F3}
 use Rattle.x86_values.specs.declared.Instr.{Instr}
-use Rattle.row_types.specs.declared.Row.{Row}
+use Rattle.instruction_parts.specs.declared.row_types.Row.{Row}
 use Rattle.text_parts.specs.Registers.{segment_name}
 use Rattle.text_parts.specs.PrefixWords.{lock_word, repeat_word, shows_memory, segment_word, size_digits, sized_word, differs, needs_address_word, address_word, is_sized, named_size, usual_size, operand_size_word, is_counter_jump, counter_jump, name_text, text_address_size}
 use Rattle.intel_words.specs.Words.{segment_of, address_size_of, operand_size_of}

@@ -16,7 +16,7 @@ use Rattle.x86_values.specs.declared.Mem.{Mem}
 use Rattle.x86_values.specs.declared.Operand.{Operand}
 use Rattle.x86_values.specs.declared.Operand.TheVariants.{Absent as NoOperand, Reg as RegOperand, Mem as MemOperand, Imm, Near, Far as FarOperand}
 use Rattle.x86_values.specs.declared.Instr.{Instr}
-use Rattle.row_types.specs.declared.Row.{Row}
+use Rattle.instruction_parts.specs.declared.row_types.Row.{Row}
 use Rattle.text_parts.specs.declared.style.Style.TheVariants.{Intel}
 use Rattle.text_parts.specs.Numbers.{number, decimal}
 use Rattle.text_parts.specs.Registers.{register, segment_name, segment_override, sigil}

@@ -6,7 +6,7 @@ use Rattle.x86_values.specs.declared.Bits.{Bits}
 use Rattle.x86_values.specs.declared.Segment.{Segment}
 use Rattle.x86_values.specs.declared.Rep.{Rep}
 use Rattle.x86_values.specs.declared.Instr.{Instr}
-use Rattle.row_types.specs.declared.Row.{Row}
+use Rattle.instruction_parts.specs.declared.row_types.Row.{Row}
 use Rattle.text_parts.specs.declared.style.Style.TheVariants.{Intel}
 use Rattle.text_parts.specs.PrefixWords.{lock_word, repeat_word, segment_word, address_word, operand_size_word, prefix_words, name_text}
 use Rattle.text_parts.specs.Layout.{operand_part, bracket_layout}

@@ -9,7 +9,7 @@ use Rattle.x86_values.specs.declared.Operand.TheVariants.{Absent, Reg, Mem as Me
 use Rattle.x86_values.specs.declared.Instr.{Instr}
 use Rattle.x86_values.specs.Operands.{is_absent}
 use Rattle.x86_values.specs.Named.{is_named, is_named_if}
-use Rattle.row_types.specs.declared.Row.{Row}
+use Rattle.instruction_parts.specs.declared.row_types.Row.{Row}
 use Rattle.text_parts.specs.PrefixWords.{text_address_size}
 use Rattle.text_parts.specs.Layout.{nth_operand}
 use Rattle.intel_words.specs.Scanning.{is_word_byte}

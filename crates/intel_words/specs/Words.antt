@@ -10,9 +10,9 @@ use Rattle.x86_values.specs.declared.Mem.{Mem}
 use Rattle.x86_values.specs.declared.Operand.{Operand}
 use Rattle.x86_values.specs.declared.Operand.TheVariants.{Absent as AbsentOperand, Reg as RegOperand, Mem as MemOperand, Imm, Near, Far as FarOperand}
 use Rattle.x86_values.specs.declared.Instr.{Instr}
-use Rattle.row_types.specs.declared.Row.{Row}
-use Rattle.row_types.specs.declared.Size.{Size}
-use Rattle.row_types.specs.declared.Size.TheVariants.{O16, O64}
+use Rattle.instruction_parts.specs.declared.row_types.Row.{Row}
+use Rattle.instruction_parts.specs.declared.row_types.Size.{Size}
+use Rattle.instruction_parts.specs.declared.row_types.Size.TheVariants.{O16, O64}
 use Rattle.row_fit.specs.Fits.{kind_at}
 use Rattle.row_meaning.specs.MemorySize.{memory_size}
 use Rattle.text_parts.specs.Addresses.{is_relative, is_absolute, is_negative, magnitude}

@@ -3,7 +3,7 @@
 ghost use Rattle.std.specs.Prelude.{◌≡◌, List, ℕ, IsTrue};
 ghost use Rattle.x86_values.specs.declared.Bits.{Bits};
 ghost use Rattle.x86_values.specs.declared.Instr.{Instr};
-ghost use Rattle.row_types.specs.declared.Row.{Row};
+ghost use Rattle.instruction_parts.specs.declared.row_types.Row.{Row};
 ghost use Rattle.text_parts.specs.declared.style.Style.TheVariants.{Intel};
 ghost use Rattle.text_parts.specs.Layout.{bracket_layout};
 ghost use Rattle.intel_words.specs.Printable.{is_printable};

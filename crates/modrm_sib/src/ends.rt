@@ -5,7 +5,7 @@ ghost use Rattle.modrm_sib.specs.Parts as spec;
 
 use crate::parts::{parts_fit, takes_sib};
 use instruction_parts::{ModRm, PrefixState, Sib};
-use row_types::Row;
+use instruction_parts::row_types::Row;
 use x86_values::Bits;
 
 /// Whether some SIB can stand behind this ModRM. Of a SIB only the index decides.

@@ -16,7 +16,7 @@ use instruction_parts::{ModRm, PrefixState, Sib};
 use row_fit::tail_fits::needs_sib;
 use row_meaning::given::{Given, given_instr_into};
 use row_meaning::operands::Behind;
-use row_types::Row;
+use instruction_parts::row_types::Row;
 use x86_values::{Bits, Code, Decoded, wrap};
 
 /// The most bytes of an instruction.

@@ -17,7 +17,7 @@ use instruction_parts::sizes::state_size;
 use instruction_parts::{ModRm, PrefixState, Sib};
 use row_fit::tail_fits::immediates_bytes;
 use row_meaning::operands::{Behind, instr_into};
-use row_types::{ModRmRule, Row};
+use instruction_parts::row_types::{ModRmRule, Row};
 use x86_values::{Bits, Code, Decoded, wrap};
 
 /// The answer where the bytes end: whether something can complete them.

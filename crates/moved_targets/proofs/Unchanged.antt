@@ -4,11 +4,11 @@ use Rattle.x86_values.specs.declared.Bits.{Bits}
 use Rattle.x86_values.specs.declared.Mem.{Mem}
 use Rattle.x86_values.specs.declared.Operand.{Operand}
 use Rattle.x86_values.specs.declared.Instr.{Instr}
-use Rattle.row_types.specs.declared.Row.{Row}
-use Rattle.row_types.specs.declared.Place.{Place}
-use Rattle.row_types.specs.declared.Plus.TheVariants.{Register as PlusRegister, Stack as PlusStack}
-use Rattle.row_types.specs.declared.ModRmRule.{ModRmRule}
-use Rattle.row_types.specs.declared.ModRmRule.TheVariants.{No as NoModRm, Any as AnyModRm, Digit, Fixed as FixedByte}
+use Rattle.instruction_parts.specs.declared.row_types.Row.{Row}
+use Rattle.instruction_parts.specs.declared.row_types.Place.{Place}
+use Rattle.instruction_parts.specs.declared.row_types.Plus.TheVariants.{Register as PlusRegister, Stack as PlusStack}
+use Rattle.instruction_parts.specs.declared.row_types.ModRmRule.{ModRmRule}
+use Rattle.instruction_parts.specs.declared.row_types.ModRmRule.TheVariants.{No as NoModRm, Any as AnyModRm, Digit, Fixed as FixedByte}
 use Rattle.instruction_parts.specs.declared.kinds.Method.{Method}
 use Rattle.instruction_parts.specs.declared.kinds.Method.TheVariants as method
 use Rattle.instruction_parts.specs.declared.spelling.ModRm.{ModRm}

@@ -1,7 +1,7 @@
 -- Every row has plain spellings in each mode in which it exists.
 use Rattle.std.proofs.Common.{◌≡◌, ℕ, true, refl, slice_get}
 use Rattle.std.specs.Prelude.{Some, IsTrue}
-use Rattle.row_types.specs.declared.Row.{Row}
+use Rattle.instruction_parts.specs.declared.row_types.Row.{Row}
 use Rattle.instruction_parts.specs.Kinds.{method_of, file_of, immediate_width}
 use Rattle.instruction_parts.specs.Counting.{is_segment, is_legacy_prefix, is_prefix}
 use Rattle.instruction_parts.specs.Sizes.{exists_in, operand_size}

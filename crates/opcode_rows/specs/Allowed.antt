@@ -4,7 +4,7 @@ use Rattle.x86_values.specs.declared.Instr.{Instr}
 use Rattle.x86_values.specs.declared.Operand.{Operand}
 use Rattle.x86_values.specs.declared.Operand.TheVariants.{Reg, Mem as Memory}
 unfoldable pub use Rattle.x86_values.specs.Named.{is_named, is_named_if}
-use Rattle.row_types.specs.declared.Row.{Row}
+use Rattle.instruction_parts.specs.declared.row_types.Row.{Row}
 use Rattle.instruction_parts.specs.Kinds.{method_of}
 use Rattle.row_fit.specs.Fits.{kind_at}
 use Rattle.plain_spelling.specs.Forms.{is_variant_of, is_scale, operand_at}

@@ -1,9 +1,9 @@
 -- The opcode table: one list of rows, from those of the crates of rows; a row's code is its position.
 use Rattle.std.specs.Prelude.{ℕ, List, [], ◌∷◌, ◌++◌, map, Option, Some, None, slice_get, unwrap_or}
-use Rattle.row_types.specs.declared.Row.{Row}
-use Rattle.row_types.specs.declared.RowKind.{RowKind}
-use Rattle.row_types.specs.declared.RowKind.TheVariants as kind
-use Rattle.row_types.specs.declared.Map.{Map}
+use Rattle.instruction_parts.specs.declared.row_types.Row.{Row}
+use Rattle.instruction_parts.specs.declared.row_types.RowKind.{RowKind}
+use Rattle.instruction_parts.specs.declared.row_types.RowKind.TheVariants as kind
+use Rattle.instruction_parts.specs.declared.row_types.Map.{Map}
 use Rattle.row_lists.specs.declared.Span.{Span}
 use Rattle.row_lists.specs.Cells.{cell_of}
 use Rattle.rows_integer.specs.Table.{table as integer_rows}

@@ -3,9 +3,9 @@ ghost use Rattle.std.specs.Prelude.{◌≡◌, ◌<◌, ◌≤◌, ◌↔◌, �
 ghost use Rattle.std.specs.List.{list_all};
 ghost use Rattle.x86_values.specs.declared.Bits.{Bits};
 ghost use Rattle.x86_values.specs.declared.Instr.{Instr};
-ghost use Rattle.row_types.specs.declared.Row.{Row};
-ghost use Rattle.row_types.specs.declared.RowKind.{RowKind};
-ghost use Rattle.row_types.specs.declared.Map.{Map};
+ghost use Rattle.instruction_parts.specs.declared.row_types.Row.{Row};
+ghost use Rattle.instruction_parts.specs.declared.row_types.RowKind.{RowKind};
+ghost use Rattle.instruction_parts.specs.declared.row_types.Map.{Map};
 ghost use Rattle.row_fit.specs.Sound.{sound};
 ghost use Rattle.plain_spelling.specs.Writable.{writable};
 ghost use Rattle.row_fields.specs.declared.Fields.{Fields};

@@ -24,7 +24,7 @@ use generated_spots::SPOTS;
 pub use generated_spots::{ROWS, VERSION1_ROWS};
 use names::{early_name, later_name};
 use row_lists::{Span, span_in};
-use row_types::{Map, Row, RowKind};
+use instruction_parts::row_types::{Map, Row, RowKind};
 use spot::{Part, Spot};
 use std::sync::ledger::Ledger;
 use step_count::Steps;

@@ -2,7 +2,7 @@
 use Rattle.std.proofs.Common.{◌≡◌, ℕ, zero, suc, ◌<◌, List, [], ◌∷◌, length, slice_get, refl, ap, sym, ◌∙◌, arith}
 use Rattle.std.specs.Prelude.{Some, unwrap_or}
 use Rattle.std.proofs.lemmas.Option.{slice_get_within}
-use Rattle.row_types.specs.declared.Row.{Row}
+use Rattle.instruction_parts.specs.declared.row_types.Row.{Row}
 use Rattle.instruction_parts.specs.Kinds.{memory_width}
 use Rattle.row_meaning.specs.MemorySize.{row_size_bytes, has_w, vector_bytes, width_in_row, size_at, memory_size}
 use Rattle.rows_integer.specs.Table.{table as integer_rows, flat_rows as integer_flat}

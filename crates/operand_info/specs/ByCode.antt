@@ -1,6 +1,6 @@
 -- The columns of the row of a code.
 use Rattle.std.specs.Prelude.{ℕ, List, Option, Some, None, slice_get}
-use Rattle.row_types.specs.declared.Row.{Row}
+use Rattle.instruction_parts.specs.declared.row_types.Row.{Row}
 use Rattle.row_meaning.specs.MemorySize as row
 use Rattle.opcode_rows.specs.Table.{table, name_of}
 use Rattle.operand_info.specs.declared.columns.Flow.{Flow}

@@ -1,9 +1,9 @@
 -- What a row does: where control goes, and what happens to each operand, by rule over the row's name and the kinds of its operands.
 use Rattle.std.specs.Prelude.{ℕ, zero, suc, ◌/◌, Bool, true, false, not, ◌&&◌, ◌||◌, ◌==◌, if◌then◌else◌, List}
-use Rattle.row_types.specs.declared.Row.{Row}
-use Rattle.row_types.specs.declared.Map.TheVariants.{One}
-use Rattle.row_types.specs.declared.Place.TheVariants.{Memory as OnlyMemory}
-use Rattle.row_types.specs.declared.OpKind.TheVariants.{Absent, Jb, Jz, Ap, Mx, Vx, GatherX, GatherL}
+use Rattle.instruction_parts.specs.declared.row_types.Row.{Row}
+use Rattle.instruction_parts.specs.declared.row_types.Map.TheVariants.{One}
+use Rattle.instruction_parts.specs.declared.row_types.Place.TheVariants.{Memory as OnlyMemory}
+use Rattle.instruction_parts.specs.declared.row_types.OpKind.TheVariants.{Absent, Jb, Jz, Ap, Mx, Vx, GatherX, GatherL}
 use Rattle.instruction_parts.specs.Sizes.{is_vex_row}
 use Rattle.row_fit.specs.Fits.{kind_at}
 use Rattle.operand_info.specs.declared.columns.Flow.{Flow}

@@ -1,6 +1,6 @@
 -- What the columns of every row keep to.
 use Rattle.std.specs.Prelude.{Bool, true, false}
-use Rattle.row_types.specs.declared.Row.{Row}
+use Rattle.instruction_parts.specs.declared.row_types.Row.{Row}
 use Rattle.instruction_parts.specs.declared.kinds.Method.{Method}
 use Rattle.instruction_parts.specs.declared.kinds.Method.TheVariants as method
 use Rattle.operand_info.specs.declared.columns.Flow.{Flow}

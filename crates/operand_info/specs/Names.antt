@@ -1,7 +1,7 @@
 -- The names that the columns go by, each list one rule's (Intel SDM volume 2, chapters 3 to 5: the operand encoding of each instruction).
 use Rattle.std.specs.Prelude.{ℕ, Bool, not, ◌&&◌, ◌||◌, if◌then◌else◌, List, [], ◌∷◌, drop, bytes_eq, codes, nat_eq}
 use Rattle.std.specs.List.{list_any, starts_with}
-use Rattle.row_types.specs.declared.Row.{Row}
+use Rattle.instruction_parts.specs.declared.row_types.Row.{Row}
 use Rattle.instruction_parts.specs.Sizes.{is_vex_row}
 
 -- ---- tests of a name

@@ -2,7 +2,7 @@
 
 ghost use Rattle.std.specs.Prelude.{◌≡◌, ◌<◌, ℕ, slice_get, Some, IsTrue};
 ghost use Rattle.x86_values.specs.declared.Instr.{Instr};
-ghost use Rattle.row_types.specs.declared.Row.{Row};
+ghost use Rattle.instruction_parts.specs.declared.row_types.Row.{Row};
 ghost use Rattle.instruction_parts.specs.Kinds.{method_of};
 ghost use Rattle.row_fit.specs.Fits.{kind_at};
 ghost use Rattle.opcode_rows.specs.declared.generated_spots.TheConstants.{ROWS};

@@ -1,6 +1,6 @@
 -- What two spellings of a row have alike.
 use Rattle.std.specs.Prelude.{◌≡◌, length}
-use Rattle.row_types.specs.declared.Row.{Row}
+use Rattle.instruction_parts.specs.declared.row_types.Row.{Row}
 use Rattle.instruction_parts.specs.declared.spelling.Spelling.{Spelling}
 use Rattle.instruction_parts.specs.Bytes.{bytes_of}
 

@@ -3,18 +3,18 @@ use Rattle.std.proofs.Common.{◌≡◌, ℕ, ◌==◌, Bool, true, false, ◌&&
 use Rattle.arrayvec.specs.ArrayVec.{ArrayVec}
 use Rattle.x86_values.specs.declared.Bits.{Bits}
 use Rattle.x86_values.specs.declared.Bits.TheVariants.{B16, B64}
-use Rattle.row_types.specs.declared.Row.{Row}
-use Rattle.row_types.specs.Rows.{row}
-use Rattle.row_types.specs.declared.RowKind.TheVariants.{Legacy as LegacyRow, Vex as VexRow}
-use Rattle.row_types.specs.declared.Map.TheVariants.{One as MapOne, M0f}
-use Rattle.row_types.specs.declared.Class.TheVariants.{Any as AnyClass, Np}
-use Rattle.row_types.specs.declared.Plus.TheVariants.{No as NoPlus}
-use Rattle.row_types.specs.declared.ModRmRule.TheVariants.{Any as AnyModRm}
-use Rattle.row_types.specs.declared.Place.TheVariants.{Any as AnyPlace}
-use Rattle.row_types.specs.declared.Size.TheVariants.{None as NoSize, O32}
-use Rattle.row_types.specs.declared.WBit.TheVariants.{None as NoW, Wig}
-use Rattle.row_types.specs.declared.LBit.TheVariants.{None as NoL, L128}
-use Rattle.row_types.specs.declared.OpKind.TheVariants.{Eb as KEb, Ev as KEv, Gb as KGb, Gv as KGv, Vx as KVx, Hx as KHx, Wx as KWx, Absent as KAbsent}
+use Rattle.instruction_parts.specs.declared.row_types.Row.{Row}
+use Rattle.instruction_parts.specs.RowTypes.Rows.{row}
+use Rattle.instruction_parts.specs.declared.row_types.RowKind.TheVariants.{Legacy as LegacyRow, Vex as VexRow}
+use Rattle.instruction_parts.specs.declared.row_types.Map.TheVariants.{One as MapOne, M0f}
+use Rattle.instruction_parts.specs.declared.row_types.Class.TheVariants.{Any as AnyClass, Np}
+use Rattle.instruction_parts.specs.declared.row_types.Plus.TheVariants.{No as NoPlus}
+use Rattle.instruction_parts.specs.declared.row_types.ModRmRule.TheVariants.{Any as AnyModRm}
+use Rattle.instruction_parts.specs.declared.row_types.Place.TheVariants.{Any as AnyPlace}
+use Rattle.instruction_parts.specs.declared.row_types.Size.TheVariants.{None as NoSize, O32}
+use Rattle.instruction_parts.specs.declared.row_types.WBit.TheVariants.{None as NoW, Wig}
+use Rattle.instruction_parts.specs.declared.row_types.LBit.TheVariants.{None as NoL, L128}
+use Rattle.instruction_parts.specs.declared.row_types.OpKind.TheVariants.{Eb as KEb, Ev as KEv, Gb as KGb, Gv as KGv, Vx as KVx, Hx as KHx, Wx as KWx, Absent as KAbsent}
 use Rattle.instruction_parts.specs.declared.spelling.ModRm.{ModRm}
 use Rattle.instruction_parts.specs.declared.spelling.Sib.{Sib}
 use Rattle.instruction_parts.specs.declared.spelling.Spelling.{Spelling}

@@ -10,7 +10,7 @@ use Rattle.x86_values.specs.declared.Operand.{Operand}
 use Rattle.x86_values.specs.declared.Operand.TheVariants.{Mem as MemOperand}
 use Rattle.x86_values.specs.declared.Instr.{Instr}
 use Rattle.x86_values.specs.Wrapping.{width}
-use Rattle.row_types.specs.declared.Row.{Row}
+use Rattle.instruction_parts.specs.declared.row_types.Row.{Row}
 use Rattle.instruction_parts.specs.Counting.{is_16}
 use Rattle.instruction_parts.specs.Sizes.{has_address_mark}
 use Rattle.row_fit.specs.Fits.{are_bytes, reads_by, is_gather}

@@ -8,7 +8,7 @@ use Rattle.x86_values.specs.declared.Operand.{Operand}
 use Rattle.x86_values.specs.declared.Operand.TheVariants.{Absent as AbsentOperand}
 use Rattle.x86_values.specs.declared.Rep.{Rep}
 use Rattle.x86_values.specs.declared.Instr.{Instr}
-use Rattle.row_types.specs.declared.Row.{Row}
+use Rattle.instruction_parts.specs.declared.row_types.Row.{Row}
 use Rattle.instruction_parts.specs.Bytes.{bytes_of, front_bytes, lead_bytes, state_of}
 use Rattle.row_fit.specs.Fits.{fits, mode_fits, class_fits, sizes_fit, vvvv_fits, prefixes_fit, vex_fits, opcode_and_modrm_fit, lengths_fit, immediates_bytes, lock_fits, registers_fit, state_fits, tail_fits, fields_in_range}
 use Rattle.row_meaning.specs.Meaning.{meaning, instr_of, operand_at as operand_read, tail, kept_repeat, kept_address_size}

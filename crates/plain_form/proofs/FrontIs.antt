@@ -6,9 +6,9 @@ use Rattle.x86_values.specs.declared.Bits.{Bits}
 use Rattle.x86_values.specs.declared.Operand.{Operand}
 use Rattle.x86_values.specs.declared.Instr.{Instr}
 use Rattle.x86_values.specs.declared.Code.{Code}
-use Rattle.row_types.specs.declared.Row.{Row}
-use Rattle.row_types.specs.declared.Map.TheVariants.{M0f}
-use Rattle.row_types.specs.declared.LBit.TheVariants.{L256}
+use Rattle.instruction_parts.specs.declared.row_types.Row.{Row}
+use Rattle.instruction_parts.specs.declared.row_types.Map.TheVariants.{M0f}
+use Rattle.instruction_parts.specs.declared.row_types.LBit.TheVariants.{L256}
 use Rattle.instruction_parts.specs.declared.spelling.Spelling.{Spelling}
 use Rattle.instruction_parts.specs.declared.spelling.PrefixState.{PrefixState}
 use Rattle.instruction_parts.specs.Counting.{is_64, rex_bit}

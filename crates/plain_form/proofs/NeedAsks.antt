@@ -10,12 +10,12 @@ use Rattle.x86_values.specs.declared.Instr.{Instr}
 use Rattle.x86_values.specs.declared.Register.TheVariants.{Low8, High8}
 use Rattle.x86_values.specs.declared.Operand.{Operand}
 use Rattle.x86_values.specs.declared.Operand.TheVariants.{Reg}
-use Rattle.row_types.specs.declared.Row.{Row}
-use Rattle.row_types.specs.declared.Plus.{Plus}
-use Rattle.row_types.specs.declared.Plus.TheVariants.{No as NoPlus, Register as PlusRegister, Stack as PlusStack}
-use Rattle.row_types.specs.declared.LBit.{LBit}
-use Rattle.row_types.specs.declared.LBit.TheVariants.{None as NoL, L128, L256, Lig, Lz}
-use Rattle.row_types.specs.declared.OpKind.{OpKind}
+use Rattle.instruction_parts.specs.declared.row_types.Row.{Row}
+use Rattle.instruction_parts.specs.declared.row_types.Plus.{Plus}
+use Rattle.instruction_parts.specs.declared.row_types.Plus.TheVariants.{No as NoPlus, Register as PlusRegister, Stack as PlusStack}
+use Rattle.instruction_parts.specs.declared.row_types.LBit.{LBit}
+use Rattle.instruction_parts.specs.declared.row_types.LBit.TheVariants.{None as NoL, L128, L256, Lig, Lz}
+use Rattle.instruction_parts.specs.declared.row_types.OpKind.{OpKind}
 use Rattle.instruction_parts.specs.declared.kinds.Method.{Method}
 use Rattle.instruction_parts.specs.declared.kinds.Method.TheVariants as method
 use Rattle.instruction_parts.specs.declared.kinds.File.{File}

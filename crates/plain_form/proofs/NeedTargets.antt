@@ -11,8 +11,8 @@ use Rattle.x86_values.specs.declared.Operand.{Operand}
 use Rattle.x86_values.specs.declared.Operand.TheVariants.{Reg, Mem as MemOperand, Near}
 use Rattle.x86_values.specs.declared.Instr.{Instr}
 use Rattle.x86_values.specs.Wrapping.{width, modulo_width}
-use Rattle.row_types.specs.declared.Row.{Row}
-use Rattle.row_types.specs.declared.OpKind.{OpKind}
+use Rattle.instruction_parts.specs.declared.row_types.Row.{Row}
+use Rattle.instruction_parts.specs.declared.row_types.OpKind.{OpKind}
 use Rattle.row_fit.proofs.FitLaws.{ranges_behind}
 use Rattle.instruction_parts.specs.declared.kinds.Method.{Method}
 use Rattle.instruction_parts.specs.declared.kinds.Method.TheVariants as method

@@ -4,11 +4,11 @@ use Rattle.std.proofs.lemmas.Bool.{and_parts}
 use Rattle.std.specs.List.{list_all}
 use Rattle.x86_values.specs.declared.Bits.{Bits}
 use Rattle.x86_values.specs.declared.Bits.TheVariants.{B16, B32, B64}
-use Rattle.row_types.specs.declared.Row.{Row}
-use Rattle.row_types.specs.declared.Size.{Size}
-use Rattle.row_types.specs.declared.Size.TheVariants.{O16, O32, O32or64, O64}
-use Rattle.row_types.specs.declared.OpKind.{OpKind}
-use Rattle.row_types.specs.declared.OpKind.TheVariants.{Absent}
+use Rattle.instruction_parts.specs.declared.row_types.Row.{Row}
+use Rattle.instruction_parts.specs.declared.row_types.Size.{Size}
+use Rattle.instruction_parts.specs.declared.row_types.Size.TheVariants.{O16, O32, O32or64, O64}
+use Rattle.instruction_parts.specs.declared.row_types.OpKind.{OpKind}
+use Rattle.instruction_parts.specs.declared.row_types.OpKind.TheVariants.{Absent}
 use Rattle.instruction_parts.specs.declared.kinds.Width.{Width}
 use Rattle.instruction_parts.specs.declared.kinds.Width.TheVariants.{Bytes, OperandSize as OperandSizeWidth, WordOrDword as WordOrDwordWidth, PointerOfSize as PointerOfSizeWidth}
 use Rattle.instruction_parts.specs.declared.spelling.PrefixState.{PrefixState}

@@ -10,16 +10,16 @@ use Rattle.x86_values.specs.declared.Rep.{Rep}
 use Rattle.x86_values.specs.declared.Rep.TheVariants.{F2 as RepF2, F3 as RepF3}
 use Rattle.x86_values.specs.declared.Operand.{Operand}
 use Rattle.x86_values.specs.declared.Operand.TheVariants.{Reg, Mem as MemOperand}
-use Rattle.row_types.specs.declared.Row.{Row}
-use Rattle.row_types.specs.declared.Map.TheVariants.{M0f}
-use Rattle.row_types.specs.declared.Class.TheVariants.{P66, F3 as ClassF3, F2 as ClassF2}
-use Rattle.row_types.specs.declared.ModRmRule.TheVariants.{Any as AnyModRm, Digit}
-use Rattle.row_types.specs.declared.Place.TheVariants.{Register as OnlyRegister}
-use Rattle.row_types.specs.declared.Size.{Size}
-use Rattle.row_types.specs.declared.Size.TheVariants.{O16, O32, O32or64, O64, W1 as SizeW1}
-use Rattle.row_types.specs.declared.WBit.TheVariants.{W1}
-use Rattle.row_types.specs.declared.LBit.TheVariants.{L256}
-use Rattle.row_types.specs.declared.OpKind.{OpKind}
+use Rattle.instruction_parts.specs.declared.row_types.Row.{Row}
+use Rattle.instruction_parts.specs.declared.row_types.Map.TheVariants.{M0f}
+use Rattle.instruction_parts.specs.declared.row_types.Class.TheVariants.{P66, F3 as ClassF3, F2 as ClassF2}
+use Rattle.instruction_parts.specs.declared.row_types.ModRmRule.TheVariants.{Any as AnyModRm, Digit}
+use Rattle.instruction_parts.specs.declared.row_types.Place.TheVariants.{Register as OnlyRegister}
+use Rattle.instruction_parts.specs.declared.row_types.Size.{Size}
+use Rattle.instruction_parts.specs.declared.row_types.Size.TheVariants.{O16, O32, O32or64, O64, W1 as SizeW1}
+use Rattle.instruction_parts.specs.declared.row_types.WBit.TheVariants.{W1}
+use Rattle.instruction_parts.specs.declared.row_types.LBit.TheVariants.{L256}
+use Rattle.instruction_parts.specs.declared.row_types.OpKind.{OpKind}
 use Rattle.instruction_parts.specs.declared.kinds.Method.{Method}
 use Rattle.instruction_parts.specs.declared.spelling.Vex.{Vex}
 use Rattle.instruction_parts.specs.declared.spelling.ModRm.{ModRm}

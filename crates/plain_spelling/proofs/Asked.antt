@@ -11,13 +11,13 @@ use Rattle.x86_values.specs.declared.Mem.{Mem}
 use Rattle.x86_values.specs.declared.Operand.{Operand}
 use Rattle.x86_values.specs.declared.Operand.TheVariants.{Absent as AbsentOperand, Mem as MemOperand}
 use Rattle.x86_values.specs.declared.Instr.{Instr}
-use Rattle.row_types.specs.declared.Row.{Row}
-use Rattle.row_types.specs.declared.Plus.{Plus}
-use Rattle.row_types.specs.declared.Plus.TheVariants.{No as NoPlus, Register as PlusRegister, Stack as PlusStack}
-use Rattle.row_types.specs.declared.ModRmRule.TheVariants.{Fixed as FixedByte}
-use Rattle.row_types.specs.declared.Place.{Place}
-use Rattle.row_types.specs.declared.OpKind.{OpKind}
-use Rattle.row_types.specs.declared.OpKind.TheVariants.{Absent as AbsentKind}
+use Rattle.instruction_parts.specs.declared.row_types.Row.{Row}
+use Rattle.instruction_parts.specs.declared.row_types.Plus.{Plus}
+use Rattle.instruction_parts.specs.declared.row_types.Plus.TheVariants.{No as NoPlus, Register as PlusRegister, Stack as PlusStack}
+use Rattle.instruction_parts.specs.declared.row_types.ModRmRule.TheVariants.{Fixed as FixedByte}
+use Rattle.instruction_parts.specs.declared.row_types.Place.{Place}
+use Rattle.instruction_parts.specs.declared.row_types.OpKind.{OpKind}
+use Rattle.instruction_parts.specs.declared.row_types.OpKind.TheVariants.{Absent as AbsentKind}
 use Rattle.instruction_parts.specs.declared.kinds.Method.{Method}
 use Rattle.instruction_parts.specs.declared.kinds.Method.TheVariants as method
 use Rattle.instruction_parts.specs.declared.kinds.File.{File}

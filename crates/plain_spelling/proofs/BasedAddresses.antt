@@ -7,7 +7,7 @@ use Rattle.x86_values.specs.declared.Bits.TheVariants.{B64}
 use Rattle.x86_values.specs.declared.Register.{Register}
 use Rattle.x86_values.specs.declared.Register.TheVariants.{R64}
 use Rattle.x86_values.specs.declared.Mem.{Mem}
-use Rattle.row_types.specs.declared.Row.{Row}
+use Rattle.instruction_parts.specs.declared.row_types.Row.{Row}
 use Rattle.instruction_parts.specs.declared.kinds.Method.{Method}
 use Rattle.instruction_parts.specs.declared.kinds.Method.TheVariants as method
 use Rattle.instruction_parts.specs.declared.kinds.File.{File}

@@ -13,18 +13,18 @@ use Rattle.x86_values.specs.declared.Operand.TheVariants.{Absent as NoOperand, R
 use Rattle.x86_values.specs.declared.Rep.{Rep}
 use Rattle.x86_values.specs.declared.Rep.TheVariants.{None as NoRep, F2 as RepF2}
 use Rattle.x86_values.specs.declared.Instr.{Instr}
-use Rattle.row_types.specs.declared.Row.{Row}
-use Rattle.row_types.specs.Rows.{row}
-use Rattle.row_types.specs.declared.RowKind.TheVariants.{Legacy as LegacyRow, Vex as VexRow}
-use Rattle.row_types.specs.declared.Map.TheVariants.{One as MapOne, M0f, M0f38}
-use Rattle.row_types.specs.declared.Class.TheVariants.{Any as AnyClass, Np, P66}
-use Rattle.row_types.specs.declared.Plus.TheVariants.{No as NoPlus}
-use Rattle.row_types.specs.declared.ModRmRule.TheVariants.{No as NoModRm, Any as AnyModRm, Digit}
-use Rattle.row_types.specs.declared.Place.TheVariants.{Any as AnyPlace, Memory as OnlyMemory}
-use Rattle.row_types.specs.declared.Size.TheVariants.{None as NoSize, O16, O32, O64}
-use Rattle.row_types.specs.declared.WBit.TheVariants.{None as NoW, W0, Wig}
-use Rattle.row_types.specs.declared.LBit.TheVariants.{None as NoL, L128}
-use Rattle.row_types.specs.declared.OpKind.TheVariants.{Eb as KEb, Ev as KEv, Gb as KGb, Gv as KGv, Vx as KVx, Hx as KHx, Wx as KWx, GatherL as KGatherL, Ibs as KIbs, Jb as KJb, Absent as KAbsent}
+use Rattle.instruction_parts.specs.declared.row_types.Row.{Row}
+use Rattle.instruction_parts.specs.RowTypes.Rows.{row}
+use Rattle.instruction_parts.specs.declared.row_types.RowKind.TheVariants.{Legacy as LegacyRow, Vex as VexRow}
+use Rattle.instruction_parts.specs.declared.row_types.Map.TheVariants.{One as MapOne, M0f, M0f38}
+use Rattle.instruction_parts.specs.declared.row_types.Class.TheVariants.{Any as AnyClass, Np, P66}
+use Rattle.instruction_parts.specs.declared.row_types.Plus.TheVariants.{No as NoPlus}
+use Rattle.instruction_parts.specs.declared.row_types.ModRmRule.TheVariants.{No as NoModRm, Any as AnyModRm, Digit}
+use Rattle.instruction_parts.specs.declared.row_types.Place.TheVariants.{Any as AnyPlace, Memory as OnlyMemory}
+use Rattle.instruction_parts.specs.declared.row_types.Size.TheVariants.{None as NoSize, O16, O32, O64}
+use Rattle.instruction_parts.specs.declared.row_types.WBit.TheVariants.{None as NoW, W0, Wig}
+use Rattle.instruction_parts.specs.declared.row_types.LBit.TheVariants.{None as NoL, L128}
+use Rattle.instruction_parts.specs.declared.row_types.OpKind.TheVariants.{Eb as KEb, Ev as KEv, Gb as KGb, Gv as KGv, Vx as KVx, Hx as KHx, Wx as KWx, GatherL as KGatherL, Ibs as KIbs, Jb as KJb, Absent as KAbsent}
 use Rattle.plain_spelling.specs.declared.NoSpelling.{NoSpelling}
 use Rattle.plain_spelling.specs.declared.NoSpelling.TheVariants as cause
 use Rattle.instruction_parts.specs.Bytes.{bytes_of, vex_bytes, vex_last_byte, vex_map_byte, lead_bytes, tail_bytes, front_bytes, bytes_of, state_from, state_of}

@@ -8,9 +8,9 @@ use Rattle.x86_values.specs.declared.Register.TheVariants.{R16, R32, R64}
 use Rattle.x86_values.specs.declared.Instr.{Instr}
 use Rattle.x86_values.specs.Comparing.{same_register}
 use Rattle.x86_values.proofs.Compared.{same_register-refl}
-use Rattle.row_types.specs.declared.Row.{Row}
-use Rattle.row_types.specs.declared.OpKind.{OpKind}
-use Rattle.row_types.specs.declared.OpKind.TheVariants.{Ev, Gv, Rv}
+use Rattle.instruction_parts.specs.declared.row_types.Row.{Row}
+use Rattle.instruction_parts.specs.declared.row_types.OpKind.{OpKind}
+use Rattle.instruction_parts.specs.declared.row_types.OpKind.TheVariants.{Ev, Gv, Rv}
 use Rattle.instruction_parts.specs.Kinds.{method_of, file_of}
 use Rattle.row_fit.specs.Fits.{kind_at}
 use Rattle.row_meaning.specs.Meaning.{general_register, register_of}

@@ -2,7 +2,7 @@
 use Rattle.std.specs.Prelude.{◌≡◌}
 use Rattle.x86_values.specs.declared.Bits.{Bits}
 use Rattle.x86_values.specs.declared.Instr.{Instr}
-use Rattle.row_types.specs.declared.Row.{Row}
+use Rattle.instruction_parts.specs.declared.row_types.Row.{Row}
 use Rattle.plain_spelling.specs.declared.parts.PlainParts.{PlainParts}
 use Rattle.row_fit.specs.Fits.{immediates_bytes}
 use Rattle.plain_spelling.specs.PlainFront.{byte_front}

@@ -9,15 +9,15 @@ use Rattle.x86_values.specs.declared.Rep.{Rep}
 use Rattle.x86_values.specs.declared.Rep.TheVariants.{None as NoRep, F2 as RepF2, F3 as RepF3}
 use Rattle.x86_values.specs.declared.Instr.{Instr}
 use Rattle.x86_values.specs.Registers.{number}
-use Rattle.row_types.specs.declared.Row.{Row}
-use Rattle.row_types.specs.declared.Map.TheVariants.{M0f}
-use Rattle.row_types.specs.declared.Class.{Class}
-use Rattle.row_types.specs.declared.Class.TheVariants.{P66, F3 as ClassF3, F2 as ClassF2}
-use Rattle.row_types.specs.declared.Plus.TheVariants.{Register as PlusRegister}
-use Rattle.row_types.specs.declared.Size.TheVariants.{O16, O32, O32or64, O64, W1 as SizeW1}
-use Rattle.row_types.specs.declared.WBit.TheVariants.{W1}
-use Rattle.row_types.specs.declared.LBit.TheVariants.{L256}
-use Rattle.row_types.specs.declared.OpKind.{OpKind}
+use Rattle.instruction_parts.specs.declared.row_types.Row.{Row}
+use Rattle.instruction_parts.specs.declared.row_types.Map.TheVariants.{M0f}
+use Rattle.instruction_parts.specs.declared.row_types.Class.{Class}
+use Rattle.instruction_parts.specs.declared.row_types.Class.TheVariants.{P66, F3 as ClassF3, F2 as ClassF2}
+use Rattle.instruction_parts.specs.declared.row_types.Plus.TheVariants.{Register as PlusRegister}
+use Rattle.instruction_parts.specs.declared.row_types.Size.TheVariants.{O16, O32, O32or64, O64, W1 as SizeW1}
+use Rattle.instruction_parts.specs.declared.row_types.WBit.TheVariants.{W1}
+use Rattle.instruction_parts.specs.declared.row_types.LBit.TheVariants.{L256}
+use Rattle.instruction_parts.specs.declared.row_types.OpKind.{OpKind}
 use Rattle.instruction_parts.specs.declared.kinds.Method.{Method}
 use Rattle.instruction_parts.specs.declared.kinds.Method.TheVariants.{ModRmReg, RegisterOrMemory, RegisterOnly, MemoryOnly, AnyMode, OpcodeLow, Vvvv, Gather}
 use Rattle.instruction_parts.specs.declared.spelling.Vex.{Vex}

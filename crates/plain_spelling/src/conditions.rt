@@ -2,8 +2,8 @@
 
 ghost use Rattle.std.specs.Prelude.{◌≡◌, ◌<◌, ◌≤◌, ◌&&◌, not, true, false, if◌then◌else◌, Some, None};
 ghost use Rattle.x86_values.specs.declared.Operand.TheVariants.{Absent};
-ghost use Rattle.row_types.specs.declared.Place.{Place};
-ghost use Rattle.row_types.specs.declared.Plus.TheVariants.{Register as PlusRegister};
+ghost use Rattle.instruction_parts.specs.declared.row_types.Place.{Place};
+ghost use Rattle.instruction_parts.specs.declared.row_types.Plus.TheVariants.{Register as PlusRegister};
 ghost use Rattle.instruction_parts.specs.Kinds.{method_of, file_of};
 ghost use Rattle.plain_spelling.specs.Forms.{is_variant_of};
 ghost use Rattle.instruction_parts.specs.Sizes as sizes;
@@ -34,7 +34,7 @@ use instruction_parts::spelling::PrefixState;
 use row_fit::fits::{is_no_repeat, is_repeat_f3, reads_gather};
 use row_fit::tail_fits::{is_control_number, is_nop_byte, kind_at};
 use row_meaning::meaning::{general_register, register_of};
-use row_types::{Class, OpKind, Plus, Row};
+use instruction_parts::row_types::{Class, OpKind, Plus, Row};
 use x86_values::{Bits, Instr, Mem, Operand, Register, same_bits, same_register};
 
 // ---- 2. each operand has a variant that its kind allows

@@ -4,7 +4,7 @@ ghost use Rattle.std.specs.Prelude.{◌≡◌, ◌<◌};
 ghost use Rattle.plain_spelling.specs.Forms as spec;
 
 use instruction_parts::kinds::Method;
-use row_types::Place;
+use instruction_parts::row_types::Place;
 use x86_values::{Instr, Operand};
 
 /// Operand n.

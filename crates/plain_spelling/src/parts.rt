@@ -16,7 +16,7 @@ use crate::tail::{Addressing, plain_addressing};
 use instruction_parts::sizes::is_vex_row;
 use instruction_parts::spelling::{PrefixState, Vex};
 use row_fit::tail_fits::{immediate_bytes, kind_at};
-use row_types::{OpKind, Row};
+use instruction_parts::row_types::{OpKind, Row};
 use x86_values::{Bits, Instr, wrap};
 
 /// What the plain spelling of an instruction at an address is made of.

@@ -8,7 +8,7 @@ ghost use Rattle.plain_spelling.specs.Asked.{AreBelow, AreWith, AreAskedOf};
 
 use crate::addresses::displacement_count;
 use instruction_parts::kinds::{Method, method_of_kind};
-use row_types::{OpKind, Row};
+use instruction_parts::row_types::{OpKind, Row};
 use x86_values::{Instr, Mem, Operand, Register};
 
 /// The number that the encoding gives a register; AH, CH, DH and BH have 4 to 7 (2.1.5, 3.1.1.1).

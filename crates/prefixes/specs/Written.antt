@@ -1,6 +1,6 @@
 -- The bytes of a plain front (Intel SDM volume 2, 2.1 and 2.3.5).
 use Rattle.std.specs.Prelude.{ℕ, List, ◌++◌}
-use Rattle.row_types.specs.declared.Row.{Row}
+use Rattle.instruction_parts.specs.declared.row_types.Row.{Row}
 use Rattle.instruction_parts.specs.declared.spelling.PrefixState.{PrefixState}
 use Rattle.instruction_parts.specs.Bytes.{lead_bytes}
 use Rattle.plain_spelling.specs.PlainTail.{prefixes_of}

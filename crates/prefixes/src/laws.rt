@@ -3,7 +3,7 @@
 ghost use Rattle.std.specs.Prelude.{◌≡◌, ℕ, List, ◌∷◌, ◌++◌, length, IsTrue};
 ghost use Rattle.x86_values.specs.declared.Bits.{Bits};
 ghost use Rattle.x86_values.specs.declared.Instr.{Instr};
-ghost use Rattle.row_types.specs.declared.Row.{Row};
+ghost use Rattle.instruction_parts.specs.declared.row_types.Row.{Row};
 ghost use Rattle.instruction_parts.specs.declared.spelling.Spelling.{Spelling};
 ghost use Rattle.instruction_parts.specs.Bytes.{tail_bytes};
 ghost use Rattle.instruction_parts.specs.Front.{front_of, Known};

@@ -16,7 +16,7 @@ use instruction_parts::{PrefixState, Vex};
 pub mod laws;
 mod write;
 
-use row_types::Map;
+use instruction_parts::row_types::Map;
 use thiserror::Error;
 pub use write::{append_front, write_prefixes};
 pub use x86_values::mode_of;

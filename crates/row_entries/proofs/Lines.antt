@@ -1,6 +1,6 @@
 -- The rows of a text: those of its first line, then those of what stands behind it.
 use Rattle.std.proofs.Common.{◌≡◌, ℕ, ◌<◌, List, [], ◌∷◌, ◌++◌, length, Option, None, Some, refl, ap, append_assoc, arith}
-use Rattle.row_types.specs.declared.RowKind.{RowKind}
+use Rattle.instruction_parts.specs.declared.row_types.RowKind.{RowKind}
 use Rattle.row_entries.specs.declared.entry.Entry.{Entry}
 use Rattle.row_entries.specs.declared.rows.Section.{Section}
 use Rattle.row_entries.specs.declared.rows.Line.TheVariants as line

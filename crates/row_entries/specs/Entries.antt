@@ -1,16 +1,16 @@
 -- What a line of entries says (docs/entries.md).
 use Rattle.std.specs.Prelude.{ℕ, ◌+◌, ◌-◌, ◌*◌, Bool, true, false, ◌&&◌, ◌||◌, ◌==◌, nat_le, nat_lt, if◌then◌else◌, List, [], ◌∷◌, length, Option, Some, None, option_and_then}
-use Rattle.row_types.specs.declared.RowKind.{RowKind}
-use Rattle.row_types.specs.declared.RowKind.TheVariants.{Legacy, Vex}
-use Rattle.row_types.specs.declared.Map.{Map}
-use Rattle.row_types.specs.declared.Class.{Class}
-use Rattle.row_types.specs.declared.Class.TheVariants as class
-use Rattle.row_types.specs.declared.Plus.{Plus}
-use Rattle.row_types.specs.declared.Plus.TheVariants as plus
-use Rattle.row_types.specs.declared.ModRmRule.TheVariants as rule
-use Rattle.row_types.specs.declared.OpKind.{OpKind}
-use Rattle.row_types.specs.declared.OpKind.TheVariants as op
-use Rattle.row_types.specs.declared.Place.TheVariants as place
+use Rattle.instruction_parts.specs.declared.row_types.RowKind.{RowKind}
+use Rattle.instruction_parts.specs.declared.row_types.RowKind.TheVariants.{Legacy, Vex}
+use Rattle.instruction_parts.specs.declared.row_types.Map.{Map}
+use Rattle.instruction_parts.specs.declared.row_types.Class.{Class}
+use Rattle.instruction_parts.specs.declared.row_types.Class.TheVariants as class
+use Rattle.instruction_parts.specs.declared.row_types.Plus.{Plus}
+use Rattle.instruction_parts.specs.declared.row_types.Plus.TheVariants as plus
+use Rattle.instruction_parts.specs.declared.row_types.ModRmRule.TheVariants as rule
+use Rattle.instruction_parts.specs.declared.row_types.OpKind.{OpKind}
+use Rattle.instruction_parts.specs.declared.row_types.OpKind.TheVariants as op
+use Rattle.instruction_parts.specs.declared.row_types.Place.TheVariants as place
 use Rattle.row_entries.specs.declared.words.Mark.{Mark}
 use Rattle.row_entries.specs.declared.words.Mark.TheVariants as mark
 use Rattle.row_entries.specs.declared.entry.Entry.{Entry}

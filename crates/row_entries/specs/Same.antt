@@ -1,6 +1,6 @@
 -- Rows that agree in some of their fields.
 use Rattle.std.specs.Prelude.{◌≡◌}
-use Rattle.row_types.specs.declared.Row.{Row}
+use Rattle.instruction_parts.specs.declared.row_types.Row.{Row}
 
 -- in kind, map, class and opcode byte, in what is added to that, and in the operand size, W and L
 pub record AgreeInFront (a b : Row) : Type 0 where

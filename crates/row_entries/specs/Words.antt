@@ -1,8 +1,8 @@
 -- The words of entries.
 use Rattle.std.specs.Prelude.{ℕ, ◌==◌, if◌then◌else◌, List, [], ◌∷◌, map, Option, Some, None, bytes_eq}
-use Rattle.row_types.specs.declared.OpKind.{OpKind}
-use Rattle.row_types.specs.declared.Class.{Class}
-use Rattle.row_types.specs.declared.Map.{Map}
+use Rattle.instruction_parts.specs.declared.row_types.OpKind.{OpKind}
+use Rattle.instruction_parts.specs.declared.row_types.Class.{Class}
+use Rattle.instruction_parts.specs.declared.row_types.Map.{Map}
 use Rattle.row_entries.specs.declared.words.Mark.{Mark}
 use Rattle.row_entries.specs.declared.words.TheConstants.{KIND_WORDS, CLASS_WORDS, MAP_WORDS, MARK_WORDS}
 

@@ -7,7 +7,7 @@ ghost use Rattle.row_entries.specs.Words.{split};
 use crate::text::{behind, front, separators};
 use crate::variants::{variant_count, variants};
 use crate::words::{Mark, class_named, kind_named, mark_named};
-use row_types::{Class, Map, ModRmRule, OpKind, Place, Plus, RowKind};
+use instruction_parts::row_types::{Class, Map, ModRmRule, OpKind, Place, Plus, RowKind};
 
 /// The modes that an entry exists in.
 #[derive(Clone, Copy)]

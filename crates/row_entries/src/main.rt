@@ -15,7 +15,7 @@ mod words;
 use anyhow::{Result, bail};
 use merging::merge;
 use opcode_rows::{ROWS, name};
-use row_types::RowKind;
+use instruction_parts::row_types::RowKind;
 use rows::{NamedRow, NoRows, Section, add_rows};
 use std::alloc::Global;
 use std::fs;

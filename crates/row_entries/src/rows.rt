@@ -8,7 +8,7 @@ use crate::entry::{Entry, entry_of, names_of};
 use crate::text::{behind, front, next_names};
 use crate::variants::{Trait, Variant, any_has, lengths, variants};
 use crate::words::map_named;
-use row_types::{LBit, Map, Marks, ModRmRule, ModeMask, Place, Row, RowKind};
+use instruction_parts::row_types::{LBit, Map, Marks, ModRmRule, ModeMask, Place, Row, RowKind};
 use std::alloc::AllocError;
 
 /// A row with its name in capital letters, the version of the table that it belongs to, and the number of its entry's line.

@@ -5,7 +5,7 @@ ghost use Rattle.row_entries.specs.Variants as spec;
 
 use crate::entry::{Entry, Modes, Sizes, VexL, VexW};
 use instruction_parts::kinds::{Method, method_of_kind};
-use row_types::{LBit, OpKind, RowKind, Size, WBit};
+use instruction_parts::row_types::{LBit, OpKind, RowKind, Size, WBit};
 
 /// What the rules of entries ask of a kind of operand.
 #[derive(Clone, Copy)]

@@ -3,7 +3,7 @@
 ghost use Rattle.std.specs.Prelude.{◌≡◌, map};
 ghost use Rattle.row_entries.specs.Words as spec;
 
-use row_types::{Class, Map, OpKind};
+use instruction_parts::row_types::{Class, Map, OpKind};
 
 /// What an entry says behind its operands (docs/entries.md has their meaning).
 #[derive(Clone, Copy)]

@@ -4,9 +4,9 @@ use Rattle.std.proofs.lemmas.Bool.{and_parts}
 use Rattle.row_fields.specs.Candidates.{Cand, Coded, rows_with_codes, of_number, at_opcode, cands, alive, below}
 use Rattle.row_fields.proofs.Cands.{alive-cands, below-at}
 use Rattle.std.specs.Prelude.{◌==◌, ◌⊎◌}
-use Rattle.row_types.specs.declared.Row.{Row}
-use Rattle.row_types.specs.declared.Map.{Map}
-use Rattle.row_types.specs.declared.Map.TheVariants as map
+use Rattle.instruction_parts.specs.declared.row_types.Row.{Row}
+use Rattle.instruction_parts.specs.declared.row_types.Map.{Map}
+use Rattle.instruction_parts.specs.declared.row_types.Map.TheVariants as map
 use Rattle.x86_values.specs.declared.Bits.{Bits}
 use Rattle.x86_values.specs.declared.Bits.TheVariants.{B16, B32, B64}
 use Rattle.row_fields.specs.declared.Fields.{Fields}

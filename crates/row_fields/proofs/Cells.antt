@@ -4,7 +4,7 @@ use Rattle.std.proofs.lemmas.Bool.{and_parts}
 use Rattle.row_fields.specs.Candidates.{Coded, rows_with_codes, of_number, at_opcode}
 use Rattle.row_fields.proofs.Cands.{at_opcode-keep_if}
 use Rattle.std.specs.Prelude.{◌==◌, Some}
-use Rattle.row_types.specs.declared.Row.{Row}
+use Rattle.instruction_parts.specs.declared.row_types.Row.{Row}
 use Rattle.row_fields.specs.Holds.{keep_if, stands_in, is_vex, opcode_holds, map_number, rows_at}
 use Rattle.row_fields.proofs.Apart.{bool_cases}
 use Rattle.row_fields.specs.Candidates.{is_run}

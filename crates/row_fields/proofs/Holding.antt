@@ -1,7 +1,7 @@
 -- What the list of the codes that hold says of the rows.
 use Rattle.std.proofs.Common.{◌≡◌, ℕ, zero, suc, ◌+◌, ◌≤◌, Bool, true, false, List, [], ◌∷◌, length, slice_get, refl, arith, inl, inr}
 use Rattle.std.specs.Prelude.{Some}
-use Rattle.row_types.specs.declared.Row.{Row}
+use Rattle.instruction_parts.specs.declared.row_types.Row.{Row}
 use Rattle.x86_values.specs.declared.Bits.{Bits}
 use Rattle.row_fields.specs.declared.Fields.{Fields}
 use Rattle.row_fields.specs.Holds.{holds, codes_holding, HoldsNowhere, IsOnlyRow, RowsAreApart}

@@ -1,6 +1,6 @@
 -- The rows of a cell as candidates, each a code with the masks that are not yet known to be met.
 use Rattle.std.specs.Prelude.{ℕ, zero, suc, Bool, true, false, ◌&&◌, List, [], ◌∷◌, ◌==◌, pred, nat_lt}
-use Rattle.row_types.specs.declared.Row.{Row}
+use Rattle.instruction_parts.specs.declared.row_types.Row.{Row}
 use Rattle.x86_values.specs.declared.Bits.{Bits}
 use Rattle.instruction_parts.specs.Sizes.{exists_in}
 use Rattle.row_fields.specs.Holds.{keep_if, is_vex, opcode_holds, map_number}

@@ -1,7 +1,7 @@
 //! What the conditions of a row ask of an instruction's bytes, as nine fields.
 #![tactic(auto)]
 
-pub use row_types::Map;
+pub use instruction_parts::row_types::Map;
 pub use x86_values::Rep;
 
 /// What the opcode tables see of an instruction's bytes, up to its ModRM.

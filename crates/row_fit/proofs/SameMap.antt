@@ -1,7 +1,7 @@
 -- The test for equal maps passes exactly on equal ones.
 use Rattle.std.proofs.Common.{◌≡◌, true, refl}
-use Rattle.row_types.specs.declared.Map.{Map}
-use Rattle.row_types.specs.declared.Map.TheVariants.{One, M0f, M0f38, M0f3a}
+use Rattle.instruction_parts.specs.declared.row_types.Map.{Map}
+use Rattle.instruction_parts.specs.declared.row_types.Map.TheVariants.{One, M0f, M0f38, M0f3a}
 use Rattle.row_fit.specs.Fits.{same_map}
 
 pub same_map-is : (a b : Map) → same_map a b ≡ true → a ≡ b

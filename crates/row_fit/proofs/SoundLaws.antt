@@ -6,11 +6,11 @@ use Rattle.std.proofs.lemmas.List.Folds.{list_all_at}
 use Rattle.std.specs.List.{list_any, list_all}
 use Rattle.x86_values.specs.declared.Bits.{Bits}
 use Rattle.x86_values.specs.declared.Bits.TheVariants.{B16, B32, B64}
-use Rattle.row_types.specs.declared.Row.{Row}
-use Rattle.row_types.specs.declared.Map.{Map}
-use Rattle.row_types.specs.declared.Map.TheVariants.{One, M0f, M0f38, M0f3a}
-use Rattle.row_types.specs.declared.Plus.{Plus}
-use Rattle.row_types.specs.declared.Plus.TheVariants.{No as NoPlus, Register as PlusRegister, Stack as PlusStack}
+use Rattle.instruction_parts.specs.declared.row_types.Row.{Row}
+use Rattle.instruction_parts.specs.declared.row_types.Map.{Map}
+use Rattle.instruction_parts.specs.declared.row_types.Map.TheVariants.{One, M0f, M0f38, M0f3a}
+use Rattle.instruction_parts.specs.declared.row_types.Plus.{Plus}
+use Rattle.instruction_parts.specs.declared.row_types.Plus.TheVariants.{No as NoPlus, Register as PlusRegister, Stack as PlusStack}
 use Rattle.instruction_parts.specs.Counting.{is_prefix}
 use Rattle.instruction_parts.specs.Sizes.{exists_in, is_vex_row}
 use Rattle.row_fit.specs.Fits.{opcode_fits, reads_by, is_vvvv, is_map_one}

@@ -4,24 +4,24 @@ use Rattle.std.specs.List.{list_any, list_all}
 use Rattle.x86_values.specs.declared.Bits.{Bits}
 use Rattle.x86_values.specs.declared.Rep.{Rep}
 use Rattle.x86_values.specs.declared.Rep.TheVariants.{None as NoRep, F2 as RepF2, F3 as RepF3}
-use Rattle.row_types.specs.declared.Row.{Row}
-use Rattle.row_types.specs.declared.Map.{Map}
-use Rattle.row_types.specs.declared.Map.TheVariants.{One, M0f, M0f38, M0f3a}
-use Rattle.row_types.specs.declared.Class.{Class}
-use Rattle.row_types.specs.declared.Class.TheVariants.{Any as AnyClass, Np, Nfx, Nf3, P66, F3 as ClassF3, F2 as ClassF2}
-use Rattle.row_types.specs.declared.Plus.{Plus}
-use Rattle.row_types.specs.declared.Plus.TheVariants.{Register as PlusRegister, Stack as PlusStack}
-use Rattle.row_types.specs.declared.ModRmRule.{ModRmRule}
-use Rattle.row_types.specs.declared.ModRmRule.TheVariants.{No as NoModRm, Any as AnyModRm, Digit, Fixed as FixedByte}
-use Rattle.row_types.specs.declared.Place.{Place}
-use Rattle.row_types.specs.declared.Place.TheVariants.{Any as AnyPlace, Memory, Register as OnlyRegister}
-use Rattle.row_types.specs.declared.Size.{Size}
-use Rattle.row_types.specs.declared.Size.TheVariants.{None as NoSize, O16, O32, O32or64, O64, W0 as SizeW0, W1 as SizeW1}
-use Rattle.row_types.specs.declared.WBit.TheVariants.{W0, W1}
-use Rattle.row_types.specs.declared.LBit.{LBit}
-use Rattle.row_types.specs.declared.LBit.TheVariants.{L128, L256, Lz}
-use Rattle.row_types.specs.declared.OpKind.{OpKind}
-use Rattle.row_types.specs.declared.OpKind.TheVariants.{Absent, Sw, Cn, Dn}
+use Rattle.instruction_parts.specs.declared.row_types.Row.{Row}
+use Rattle.instruction_parts.specs.declared.row_types.Map.{Map}
+use Rattle.instruction_parts.specs.declared.row_types.Map.TheVariants.{One, M0f, M0f38, M0f3a}
+use Rattle.instruction_parts.specs.declared.row_types.Class.{Class}
+use Rattle.instruction_parts.specs.declared.row_types.Class.TheVariants.{Any as AnyClass, Np, Nfx, Nf3, P66, F3 as ClassF3, F2 as ClassF2}
+use Rattle.instruction_parts.specs.declared.row_types.Plus.{Plus}
+use Rattle.instruction_parts.specs.declared.row_types.Plus.TheVariants.{Register as PlusRegister, Stack as PlusStack}
+use Rattle.instruction_parts.specs.declared.row_types.ModRmRule.{ModRmRule}
+use Rattle.instruction_parts.specs.declared.row_types.ModRmRule.TheVariants.{No as NoModRm, Any as AnyModRm, Digit, Fixed as FixedByte}
+use Rattle.instruction_parts.specs.declared.row_types.Place.{Place}
+use Rattle.instruction_parts.specs.declared.row_types.Place.TheVariants.{Any as AnyPlace, Memory, Register as OnlyRegister}
+use Rattle.instruction_parts.specs.declared.row_types.Size.{Size}
+use Rattle.instruction_parts.specs.declared.row_types.Size.TheVariants.{None as NoSize, O16, O32, O32or64, O64, W0 as SizeW0, W1 as SizeW1}
+use Rattle.instruction_parts.specs.declared.row_types.WBit.TheVariants.{W0, W1}
+use Rattle.instruction_parts.specs.declared.row_types.LBit.{LBit}
+use Rattle.instruction_parts.specs.declared.row_types.LBit.TheVariants.{L128, L256, Lz}
+use Rattle.instruction_parts.specs.declared.row_types.OpKind.{OpKind}
+use Rattle.instruction_parts.specs.declared.row_types.OpKind.TheVariants.{Absent, Sw, Cn, Dn}
 use Rattle.instruction_parts.specs.declared.kinds.Method.{Method}
 use Rattle.instruction_parts.specs.declared.kinds.Method.TheVariants.{RegisterOrMemory, RegisterOnly, MemoryOnly, AnyMode, Vvvv, Gather, Offset}
 use Rattle.instruction_parts.specs.declared.kinds.Width.TheVariants.{Bytes, OperandSize as OperandSizeWidth, WordOrDword as WordOrDwordWidth, PointerOfSize as PointerOfSizeWidth}

@@ -3,22 +3,22 @@ use Rattle.std.specs.Prelude.{ℕ, ◌+◌, ◌%◌, Bool, true, false, ◌&&◌
 use Rattle.std.specs.List.{list_any, list_all}
 use Rattle.x86_values.specs.declared.Bits.{Bits}
 use Rattle.x86_values.specs.declared.Bits.TheVariants.{B16, B32, B64}
-use Rattle.row_types.specs.declared.Row.{Row}
-use Rattle.row_types.specs.declared.Map.{Map}
-use Rattle.row_types.specs.declared.Map.TheVariants.{One, M0f}
-use Rattle.row_types.specs.declared.Class.{Class}
-use Rattle.row_types.specs.declared.Class.TheVariants.{Np, P66, F3 as ClassF3, F2 as ClassF2}
-use Rattle.row_types.specs.declared.Plus.TheVariants.{No as NoPlus, Register as PlusRegister, Stack as PlusStack}
-use Rattle.row_types.specs.declared.ModRmRule.{ModRmRule}
-use Rattle.row_types.specs.declared.ModRmRule.TheVariants.{No as NoModRm, Digit, Fixed as FixedByte}
-use Rattle.row_types.specs.declared.Place.{Place}
-use Rattle.row_types.specs.declared.Place.TheVariants.{Any as AnyPlace}
-use Rattle.row_types.specs.declared.Size.{Size}
-use Rattle.row_types.specs.declared.Size.TheVariants.{None as NoSize, W0 as SizeW0, W1 as SizeW1}
-use Rattle.row_types.specs.declared.WBit.{WBit}
-use Rattle.row_types.specs.declared.WBit.TheVariants.{None as NoW, W0, W1}
-use Rattle.row_types.specs.declared.LBit.{LBit}
-use Rattle.row_types.specs.declared.LBit.TheVariants.{None as NoL}
+use Rattle.instruction_parts.specs.declared.row_types.Row.{Row}
+use Rattle.instruction_parts.specs.declared.row_types.Map.{Map}
+use Rattle.instruction_parts.specs.declared.row_types.Map.TheVariants.{One, M0f}
+use Rattle.instruction_parts.specs.declared.row_types.Class.{Class}
+use Rattle.instruction_parts.specs.declared.row_types.Class.TheVariants.{Np, P66, F3 as ClassF3, F2 as ClassF2}
+use Rattle.instruction_parts.specs.declared.row_types.Plus.TheVariants.{No as NoPlus, Register as PlusRegister, Stack as PlusStack}
+use Rattle.instruction_parts.specs.declared.row_types.ModRmRule.{ModRmRule}
+use Rattle.instruction_parts.specs.declared.row_types.ModRmRule.TheVariants.{No as NoModRm, Digit, Fixed as FixedByte}
+use Rattle.instruction_parts.specs.declared.row_types.Place.{Place}
+use Rattle.instruction_parts.specs.declared.row_types.Place.TheVariants.{Any as AnyPlace}
+use Rattle.instruction_parts.specs.declared.row_types.Size.{Size}
+use Rattle.instruction_parts.specs.declared.row_types.Size.TheVariants.{None as NoSize, W0 as SizeW0, W1 as SizeW1}
+use Rattle.instruction_parts.specs.declared.row_types.WBit.{WBit}
+use Rattle.instruction_parts.specs.declared.row_types.WBit.TheVariants.{None as NoW, W0, W1}
+use Rattle.instruction_parts.specs.declared.row_types.LBit.{LBit}
+use Rattle.instruction_parts.specs.declared.row_types.LBit.TheVariants.{None as NoL}
 use Rattle.instruction_parts.specs.declared.kinds.Method.{Method}
 use Rattle.instruction_parts.specs.declared.kinds.Method.TheVariants.{ModRmReg, RegisterOrMemory, RegisterOnly, MemoryOnly, AnyMode, OpcodeLow, Vvvv, LastByte, Gather}
 use Rattle.instruction_parts.specs.declared.kinds.File.{File}

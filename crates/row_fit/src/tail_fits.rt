@@ -15,7 +15,7 @@ use instruction_parts::sizes::{
     bit_b, bit_r, bit_x, is_lockable, is_vex_row, size_bytes, state_address_size, state_size,
 };
 use instruction_parts::spelling::{ModRm, PrefixState, Sib};
-use row_types::{Class, OpKind, Plus, Row};
+use instruction_parts::row_types::{Class, OpKind, Plus, Row};
 use x86_values::Bits;
 
 /// Whether both hold, or neither.

@@ -1,7 +1,7 @@
 -- Each row of the table makes a proper shape: computed row by row.
 use Rattle.std.proofs.Common.{◌≡◌, ℕ, Bool, true, refl, slice_get}
 use Rattle.std.specs.Prelude.{Some, IsTrue}
-use Rattle.row_types.specs.declared.Row.{Row}
+use Rattle.instruction_parts.specs.declared.row_types.Row.{Row}
 use Rattle.row_notation.specs.Shape.{size_prefix_word, plus_word, imm_word_of, imm_word, shape, is_opcode_of_map, is_rule_in_range, is_stack_proper, is_legacy_proper, is_vex_proper, is_proper}
 use Rattle.rows_integer.specs.Table.{table as integer_rows, flat_rows as integer_flat}
 use Rattle.rows_x87.specs.Table.{table as x87_rows, flat_rows as x87_flat}

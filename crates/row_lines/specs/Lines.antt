@@ -1,6 +1,6 @@
 -- The table printed: one line a row.
 use Rattle.std.specs.Prelude.{ℕ, List, [], ◌∷◌, ◌++◌, Option, Some, None, slice_get, decimal}
-use Rattle.row_types.specs.declared.Row.{Row}
+use Rattle.instruction_parts.specs.declared.row_types.Row.{Row}
 use Rattle.row_notation.specs.Shape.{shape}
 use Rattle.row_notation.specs.Notation.{notation}
 use Rattle.opcode_rows.specs.Table.{table, name_of}

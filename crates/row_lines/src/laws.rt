@@ -1,6 +1,6 @@
 //! What holds of the shapes of all rows.
 ghost use Rattle.std.specs.Prelude.{◌≡◌, ℕ, IsTrue, slice_get, Some};
-ghost use Rattle.row_types.specs.declared.Row.{Row};
+ghost use Rattle.instruction_parts.specs.declared.row_types.Row.{Row};
 ghost use Rattle.row_notation.specs.Shape.{is_proper, shape};
 ghost use Rattle.opcode_rows.specs.Table.{table};
 

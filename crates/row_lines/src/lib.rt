@@ -13,7 +13,7 @@ use arrayvec::ArrayVec;
 use itoa::Buffer;
 use opcode_rows::{ROWS, name, row_of};
 use row_notation::write_notation;
-use row_types::Row;
+use instruction_parts::row_types::Row;
 use text_parts::text::append;
 use x86_values::Code;
 

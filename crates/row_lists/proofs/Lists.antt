@@ -1,7 +1,7 @@
 -- A list that is made of a table's rows and of the spans of its cells holds the table.
 use Rattle.std.proofs.Common.{◌≡◌, ℕ, List, length, ap, sym, subst, ◌∙◌}
-use Rattle.row_types.specs.declared.Row.{Row}
-use Rattle.row_types.specs.declared.RowKind.{RowKind}
+use Rattle.instruction_parts.specs.declared.row_types.Row.{Row}
+use Rattle.instruction_parts.specs.declared.row_types.RowKind.{RowKind}
 use Rattle.row_lists.specs.declared.FlatRow.{FlatRow}
 use Rattle.row_lists.specs.declared.Span.{Span}
 use Rattle.row_lists.specs.declared.RowList.{RowList}

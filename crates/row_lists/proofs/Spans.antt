@@ -4,9 +4,9 @@ use Rattle.row_fields.specs.Candidates.{Coded, rows_with_codes, of_number, at_op
 use Rattle.row_fields.proofs.Cands.{below-at}
 use Rattle.std.proofs.lemmas.Option.{slice_get-get_or, slice_get_within}
 use Rattle.std.specs.Prelude.{Option, None, Some}
-use Rattle.row_types.specs.declared.Row.{Row}
-use Rattle.row_types.specs.declared.RowKind.{RowKind}
-use Rattle.row_types.specs.declared.Map.{Map}
+use Rattle.instruction_parts.specs.declared.row_types.Row.{Row}
+use Rattle.instruction_parts.specs.declared.row_types.RowKind.{RowKind}
+use Rattle.instruction_parts.specs.declared.row_types.Map.{Map}
 use Rattle.row_lists.specs.declared.Span.{Span}
 use Rattle.row_lists.specs.Cells.{map_index, cell_of, cell_span}
 use Rattle.row_lists.specs.Spans.{IsSpanOf, AreCellSpansOf}

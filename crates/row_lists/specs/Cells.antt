@@ -1,9 +1,9 @@
 -- The cells of a list of rows: a cell is a kind, a map and an opcode byte.
 use Rattle.std.specs.Prelude.{◌≡◌, ℕ, ◌+◌, ◌<◌, ◌≤◌, ◌↔◌, List, Option, Some, None, slice_get, IsTrue, Bool}
-use Rattle.row_types.specs.declared.Row.{Row}
-use Rattle.row_types.specs.declared.RowKind.{RowKind}
-use Rattle.row_types.specs.declared.Map.{Map}
-use Rattle.row_types.specs.declared.Map.TheVariants.{One, M0f, M0f38, M0f3a}
+use Rattle.instruction_parts.specs.declared.row_types.Row.{Row}
+use Rattle.instruction_parts.specs.declared.row_types.RowKind.{RowKind}
+use Rattle.instruction_parts.specs.declared.row_types.Map.{Map}
+use Rattle.instruction_parts.specs.declared.row_types.Map.TheVariants.{One, M0f, M0f38, M0f3a}
 use Rattle.row_fields.specs.Holds.{is_vex, map_number, rows_at, stands_in}
 use Rattle.row_lists.specs.declared.Span.{Span}
 

@@ -1,6 +1,6 @@
 -- Rows, from how they lie in a table.
 use Rattle.std.specs.Prelude.{List, [], ◌∷◌, map}
-use Rattle.row_types.specs.declared.Row.{Row}
+use Rattle.instruction_parts.specs.declared.row_types.Row.{Row}
 use Rattle.row_lists.specs.declared.FlatRow.{FlatRow}
 
 -- a row, from its flat form

@@ -1,7 +1,7 @@
 -- A row list that holds a table.
 use Rattle.std.specs.Prelude.{◌≡◌, ℕ, List, length}
-use Rattle.row_types.specs.declared.Row.{Row}
-use Rattle.row_types.specs.declared.RowKind.{RowKind}
+use Rattle.instruction_parts.specs.declared.row_types.Row.{Row}
+use Rattle.instruction_parts.specs.declared.row_types.RowKind.{RowKind}
 use Rattle.row_lists.specs.declared.Span.{Span}
 use Rattle.row_lists.specs.declared.RowList.{RowList}
 use Rattle.row_lists.specs.Flat.{rows_of}

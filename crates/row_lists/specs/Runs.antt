@@ -1,9 +1,9 @@
 -- Where the rows of each cell lie, as a test that spans say it.
 use Rattle.std.specs.Prelude.{ℕ, Bool, false, ◌+◌, ◌-◌, List, Option, Some, None}
-use Rattle.row_types.specs.declared.Row.{Row}
-use Rattle.row_types.specs.declared.RowKind.{RowKind}
-use Rattle.row_types.specs.declared.RowKind.TheVariants as kind
-use Rattle.row_types.specs.declared.Map.{Map}
+use Rattle.instruction_parts.specs.declared.row_types.Row.{Row}
+use Rattle.instruction_parts.specs.declared.row_types.RowKind.{RowKind}
+use Rattle.instruction_parts.specs.declared.row_types.RowKind.TheVariants as kind
+use Rattle.instruction_parts.specs.declared.row_types.Map.{Map}
 use Rattle.row_lists.specs.declared.Span.{Span}
 use Rattle.row_lists.specs.Cells.{line_number, cell_span}
 use Rattle.row_fields.specs.Candidates.{Coded, rows_with_codes, of_number, at_opcode, below, is_run}

@@ -7,7 +7,7 @@ ghost use Rattle.row_lists.specs.declared.Span.{Span};
 ghost use Rattle.row_lists.specs.Flat.{row_of, rows_of};
 ghost use Rattle.row_lists.specs.Spans.{AreCellSpansOf};
 
-use row_types::{
+use instruction_parts::row_types::{
     Class, LBit, Map, Marks, ModRmRule, ModeMask, OpKind, Place, Plus, Row, RowKind, Size, WBit,
 };
 

@@ -1,9 +1,9 @@
 -- An operand that has all bytes of the immediates where it has some.
 use Rattle.std.proofs.Common.{◌≡◌, ℕ, zero, suc, ◌<◌, ◌≤◌, Bool, true, false, List, length, refl, ap, sym, ◌∙◌, arith}
 use Rattle.x86_values.specs.declared.Bits.{Bits}
-use Rattle.row_types.specs.declared.Row.{Row}
-use Rattle.row_types.specs.declared.OpKind.{OpKind}
-use Rattle.row_types.specs.declared.OpKind.TheVariants.{Ib, Iw, Ibs, Iz, Iv, Jb, Jz, Ap, Lx}
+use Rattle.instruction_parts.specs.declared.row_types.Row.{Row}
+use Rattle.instruction_parts.specs.declared.row_types.OpKind.{OpKind}
+use Rattle.instruction_parts.specs.declared.row_types.OpKind.TheVariants.{Ib, Iw, Ibs, Iz, Iv, Jb, Jz, Ap, Lx}
 use Rattle.instruction_parts.specs.declared.spelling.PrefixState.{PrefixState}
 use Rattle.instruction_parts.specs.declared.kinds.Method.TheVariants.{Pointer}
 use Rattle.instruction_parts.specs.Kinds.{method_of, immediate_width}

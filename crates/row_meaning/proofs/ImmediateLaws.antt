@@ -3,10 +3,10 @@ use Rattle.std.proofs.Common.{◌≡◌, ℕ, zero, suc, ◌+◌, ◌<◌, ◌�
 use Rattle.std.proofs.Math.Seq.{take-length}
 use Rattle.x86_values.specs.declared.Bits.{Bits}
 use Rattle.x86_values.specs.declared.Bits.TheVariants.{B16, B32, B64}
-use Rattle.row_types.specs.declared.OpKind.{OpKind}
+use Rattle.instruction_parts.specs.declared.row_types.OpKind.{OpKind}
 use Rattle.x86_values.specs.declared.Operand.TheVariants.{Absent as AbsentOperand}
-use Rattle.row_types.specs.declared.OpKind.TheVariants.{Ap, Absent as AbsentKind}
-use Rattle.row_types.specs.declared.Row.{Row}
+use Rattle.instruction_parts.specs.declared.row_types.OpKind.TheVariants.{Ap, Absent as AbsentKind}
+use Rattle.instruction_parts.specs.declared.row_types.Row.{Row}
 use Rattle.instruction_parts.specs.declared.spelling.PrefixState.{PrefixState}
 use Rattle.instruction_parts.specs.declared.kinds.Method.TheVariants.{Pointer}
 use Rattle.instruction_parts.specs.Kinds.{method_of, immediate_width}

@@ -1,7 +1,7 @@
 -- Rows of which one operand at most has bytes of the immediates.
 use Rattle.std.specs.Prelude.{Bool, true, false, not, ◌&&◌, ◌≤◌, IsTrue, length}
-use Rattle.row_types.specs.declared.Row.{Row}
-use Rattle.row_types.specs.declared.OpKind.{OpKind}
+use Rattle.instruction_parts.specs.declared.row_types.Row.{Row}
+use Rattle.instruction_parts.specs.declared.row_types.OpKind.{OpKind}
 use Rattle.instruction_parts.specs.declared.kinds.Width.TheVariants.{Zero as ZeroWidth}
 use Rattle.instruction_parts.specs.Kinds.{immediate_width}
 use Rattle.row_fit.specs.Fits.{kind_at, modrm_in_range, sib_in_range}

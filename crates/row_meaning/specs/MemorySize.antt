@@ -1,12 +1,12 @@
 -- The size of a row's memory operand.
 use Rattle.std.specs.Prelude.{ℕ, ◌+◌, ◌*◌, ◌/◌, Bool, true, false, if◌then◌else◌}
-use Rattle.row_types.specs.declared.Row.{Row}
-use Rattle.row_types.specs.declared.Size.{Size}
-use Rattle.row_types.specs.declared.Size.TheVariants.{O16, O64, W1 as SizeW1}
-use Rattle.row_types.specs.declared.WBit.TheVariants.{W1}
-use Rattle.row_types.specs.declared.LBit.{LBit}
-use Rattle.row_types.specs.declared.LBit.TheVariants.{L256}
-use Rattle.row_types.specs.declared.Place.TheVariants.{Register as OnlyRegister}
+use Rattle.instruction_parts.specs.declared.row_types.Row.{Row}
+use Rattle.instruction_parts.specs.declared.row_types.Size.{Size}
+use Rattle.instruction_parts.specs.declared.row_types.Size.TheVariants.{O16, O64, W1 as SizeW1}
+use Rattle.instruction_parts.specs.declared.row_types.WBit.TheVariants.{W1}
+use Rattle.instruction_parts.specs.declared.row_types.LBit.{LBit}
+use Rattle.instruction_parts.specs.declared.row_types.LBit.TheVariants.{L256}
+use Rattle.instruction_parts.specs.declared.row_types.Place.TheVariants.{Register as OnlyRegister}
 use Rattle.instruction_parts.specs.declared.kinds.Width.{Width}
 use Rattle.instruction_parts.specs.declared.kinds.Width.TheVariants.{Zero as ZeroWidth, Bytes, OperandSize as OperandSizeWidth, TwiceOperandSize as TwiceOperandSizeWidth, WordOrDword as WordOrDwordWidth, ByW as ByWWidth, Vector as VectorWidth, HalfVector as HalfVectorWidth, QuarterVector as QuarterVectorWidth, EighthVector as EighthVectorWidth, PointerOfSize as PointerOfSizeWidth}
 use Rattle.instruction_parts.specs.Kinds.{memory_width}

@@ -3,7 +3,7 @@
 ghost use Rattle.std.specs.Prelude.{◌≡◌, ◌<◌, ◌≤◌, length, IsTrue};
 ghost use Rattle.row_meaning.specs.Meaning as spec;
 ghost use Rattle.row_meaning.specs.Given.{has_one_immediate, IsInRange};
-ghost use Rattle.row_types.specs.declared.Row.{Row};
+ghost use Rattle.instruction_parts.specs.declared.row_types.Row.{Row};
 ghost use Rattle.row_fit.specs.Fits as fits;
 ghost use Rattle.instruction_parts.specs.Kinds.{method_of};
 ghost use Rattle.instruction_parts.specs.declared.kinds.Method.TheVariants.{Pointer as PointerMethod};
@@ -15,7 +15,7 @@ use crate::operands::{
 use instruction_parts::kinds::{Method, method_of_kind};
 use instruction_parts::spelling::PrefixState;
 use row_fit::fits::mode_is_memory;
-use row_types::{LBit, OpKind, Row};
+use instruction_parts::row_types::{LBit, OpKind, Row};
 use x86_values::{Bits, Code, Instr, Operand};
 
 /// What each operand of an instruction is read by: the mode, the operand size, the row's L, and what stands behind the opcode byte.

@@ -2,7 +2,7 @@
 
 ghost use Rattle.std.specs.Prelude.{◌≡◌, ◌<◌, ◌≤◌, ◌+◌, length, Option, None, Some};
 ghost use Rattle.row_meaning.specs.Meaning as spec;
-ghost use Rattle.row_types.specs.declared.Row.{Row};
+ghost use Rattle.instruction_parts.specs.declared.row_types.Row.{Row};
 ghost use Rattle.instruction_parts.specs.Bytes as bytes;
 ghost use Rattle.instruction_parts.specs.Sizes.{state_size};
 
@@ -11,7 +11,7 @@ use instruction_parts::kinds::File;
 use instruction_parts::sizes::{bit_w, state_size};
 use instruction_parts::spelling::{ModRm, PrefixState};
 use row_fit::tail_fits::{is_displacement_alone, with_high_bit};
-use row_types::{LBit, Row};
+use instruction_parts::row_types::{LBit, Row};
 use x86_values::{Bits, DispSize, Mem, Register, Segment, wrap};
 
 /// The segment register of a number.

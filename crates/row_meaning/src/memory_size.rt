@@ -7,7 +7,7 @@ ghost use Rattle.instruction_parts.specs.Kinds.{IsShort, memory_width};
 
 use instruction_parts::kinds::{Width, memory_width_of_kind};
 use row_fit::tail_fits::kind_at;
-use row_types::{LBit, OpKind, Place, Row, Size, WBit};
+use instruction_parts::row_types::{LBit, OpKind, Place, Row, Size, WBit};
 
 /// The operand size that a row has in bytes.
 #[tactic(auto, unfolding(crate::specs::MemorySize::row_size_bytes))]

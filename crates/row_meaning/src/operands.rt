@@ -2,7 +2,7 @@
 
 ghost use Rattle.std.specs.Prelude.{◌≡◌, ◌<◌, ◌≤◌, ◌+◌, ◌||◌, false, length, IsTrue, Some, None, if◌then◌else◌};
 ghost use Rattle.row_meaning.specs.Meaning as spec;
-ghost use Rattle.row_types.specs.declared.Row.{Row};
+ghost use Rattle.instruction_parts.specs.declared.row_types.Row.{Row};
 ghost use Rattle.row_fit.specs.Fits as fits;
 ghost use Rattle.instruction_parts.specs.Bytes as bytes;
 ghost use Rattle.x86_values.specs.declared.Bits.{Bits};
@@ -25,7 +25,7 @@ use row_fit::fits::mode_is_memory;
 use row_fit::tail_fits::{
     immediate_bytes, index_number, kind_at, reg_number, rm_number, vvvv_number, with_high_bit,
 };
-use row_types::{Class, LBit, OpKind, Row};
+use instruction_parts::row_types::{Class, LBit, OpKind, Row};
 use x86_values::{Bits, Code, Instr, Mem, Operand, Register, Rep, wrap};
 
 /// A register number, which is small.

@@ -2,25 +2,25 @@
 use Rattle.std.proofs.Common.{◌≡◌, inl, inr, ℕ, ◌+◌, ◌*◌, ◌/◌, ◌%◌, ◌<◌, List, [], ◌∷◌, ◌++◌, refl, sym, ap, ◌∙◌, subst, arith, Bool, true, false, ◌&&◌, ◌||◌, not, ◌==◌, nat_lt, nat_le}
 use Rattle.std.proofs.lemmas.Bool.{eqb-true, and_from, and_parts}
 use Rattle.std.proofs.lemmas.List.{append-nil}
-use Rattle.row_types.specs.declared.RowKind.{RowKind}
-use Rattle.row_types.specs.declared.RowKind.TheVariants.{Legacy, Vex}
-use Rattle.row_types.specs.declared.Map.{Map}
-use Rattle.row_types.specs.declared.Map.TheVariants as map
-use Rattle.row_types.specs.declared.Class.{Class}
-use Rattle.row_types.specs.declared.Class.TheVariants as class
-use Rattle.row_types.specs.declared.ModRmRule.{ModRmRule}
-use Rattle.row_types.specs.declared.ModRmRule.TheVariants as rule
-use Rattle.row_types.specs.declared.WBit.{WBit}
-use Rattle.row_types.specs.declared.WBit.TheVariants as wbit
-use Rattle.row_types.specs.declared.LBit.{LBit}
-use Rattle.row_types.specs.declared.LBit.TheVariants as lbit
-use Rattle.row_types.specs.declared.SizeWord.{SizeWord}
-use Rattle.row_types.specs.declared.SizeWord.TheVariants as word
-use Rattle.row_types.specs.declared.PlusWord.{PlusWord}
-use Rattle.row_types.specs.declared.PlusWord.TheVariants as added
-use Rattle.row_types.specs.declared.ImmWord.{ImmWord}
-use Rattle.row_types.specs.declared.ImmWord.TheVariants as imm
-use Rattle.row_types.specs.declared.RowShape.{RowShape}
+use Rattle.instruction_parts.specs.declared.row_types.RowKind.{RowKind}
+use Rattle.instruction_parts.specs.declared.row_types.RowKind.TheVariants.{Legacy, Vex}
+use Rattle.instruction_parts.specs.declared.row_types.Map.{Map}
+use Rattle.instruction_parts.specs.declared.row_types.Map.TheVariants as map
+use Rattle.instruction_parts.specs.declared.row_types.Class.{Class}
+use Rattle.instruction_parts.specs.declared.row_types.Class.TheVariants as class
+use Rattle.instruction_parts.specs.declared.row_types.ModRmRule.{ModRmRule}
+use Rattle.instruction_parts.specs.declared.row_types.ModRmRule.TheVariants as rule
+use Rattle.instruction_parts.specs.declared.row_types.WBit.{WBit}
+use Rattle.instruction_parts.specs.declared.row_types.WBit.TheVariants as wbit
+use Rattle.instruction_parts.specs.declared.row_types.LBit.{LBit}
+use Rattle.instruction_parts.specs.declared.row_types.LBit.TheVariants as lbit
+use Rattle.instruction_parts.specs.declared.row_types.SizeWord.{SizeWord}
+use Rattle.instruction_parts.specs.declared.row_types.SizeWord.TheVariants as word
+use Rattle.instruction_parts.specs.declared.row_types.PlusWord.{PlusWord}
+use Rattle.instruction_parts.specs.declared.row_types.PlusWord.TheVariants as added
+use Rattle.instruction_parts.specs.declared.row_types.ImmWord.{ImmWord}
+use Rattle.instruction_parts.specs.declared.row_types.ImmWord.TheVariants as imm
+use Rattle.instruction_parts.specs.declared.row_types.RowShape.{RowShape}
 use Rattle.row_notation.specs.Shape.{is_opcode_of_map, is_rule_in_range, is_stack_proper, lacks_l, lacks_w, is_four_bits, is_no_size_word, is_no_plus_word, is_fixed, is_one_byte_map, is_vex_class, is_legacy_proper, is_vex_proper, is_proper}
 use Rattle.row_notation.specs.Notation.{class_text, size_text, map_text, digit_text, byte_text, plus_text, stack_text, modrm_text, imm_text, l_text, pp_text, vex_map_text, w_text, modrm_part, opcode_part, legacy_text, vex_text, notation}
 use Rattle.row_notation.specs.Texts.{IsTextOf}

@@ -1,6 +1,6 @@
 -- Where an answer that is right leaves bytes, the text before them is the longest that goes along with some shape's text.
 use Rattle.std.proofs.Common.{◌≡◌, inl, inr, ℕ, zero, suc, ◌+◌, ◌<◌, ◌≤◌, List, [], ◌∷◌, ◌++◌, length, take, Err, sym, subst, arith}
-use Rattle.row_types.specs.declared.RowShape.{RowShape}
+use Rattle.instruction_parts.specs.declared.row_types.RowShape.{RowShape}
 use Rattle.row_notation.specs.Texts.{IsFaultAt}
 use Rattle.row_notation.proofs.Languages.{Language, IsRight, behind_byte}
 use Rattle.row_notation.proofs.Grammar.{all_texts}

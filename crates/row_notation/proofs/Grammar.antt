@@ -2,12 +2,12 @@
 use Rattle.std.proofs.Common.{◌≡◌, ℕ, ◌+◌, ◌*◌, ◌%◌, ◌<◌, List, [], ◌∷◌, length, Err, refl, sym, ap, ◌∙◌, subst, arith, Bool, true, false, ◌&&◌, ◌==◌, nat_lt, nat_le, codes, eq-eqb, if◌then◌else◌}
 use Rattle.std.proofs.lemmas.Bool.{eqb-true}
 use Rattle.std.proofs.Common.{lit<}
-use Rattle.row_types.specs.declared.RowKind.{RowKind}
-use Rattle.row_types.specs.declared.RowKind.TheVariants.{Legacy, Vex}
-use Rattle.row_types.specs.declared.Map.{Map}
-use Rattle.row_types.specs.declared.Map.TheVariants as map
-use Rattle.row_types.specs.declared.ModRmRule.TheVariants as rule
-use Rattle.row_types.specs.declared.RowShape.{RowShape}
+use Rattle.instruction_parts.specs.declared.row_types.RowKind.{RowKind}
+use Rattle.instruction_parts.specs.declared.row_types.RowKind.TheVariants.{Legacy, Vex}
+use Rattle.instruction_parts.specs.declared.row_types.Map.{Map}
+use Rattle.instruction_parts.specs.declared.row_types.Map.TheVariants as map
+use Rattle.instruction_parts.specs.declared.row_types.ModRmRule.TheVariants as rule
+use Rattle.instruction_parts.specs.declared.row_types.RowShape.{RowShape}
 use Rattle.row_notation.specs.Shape.{is_opcode_of_map}
 use Rattle.row_notation.specs.Notation.{class_text, size_text, map_text, digit_text, plus_text, imm_text, l_text, pp_text, vex_map_text, w_text}
 use Rattle.row_notation.specs.Reading.{Answer, better, read_end, imm_words, read_imm, hex_value, read_stack_word, read_stack, read_fixed_low, read_fixed, read_digit, read_fixed_of, read_any, read_slash_digit, read_modrm, plus_words, read_plus, is_opcode_of, read_opcode_low, read_opcode, maps, read_map, size_words, read_size, classes, read_class, w_words, read_w, vex_maps, read_vex_map, vex_classes, read_pp, l_words, read_l, blank, read_vex, read_text}

@@ -1,6 +1,6 @@
 -- Languages of shapes: which texts stand for which shapes, and what it means that an answer is right for one.
 use Rattle.std.proofs.Common.{◌≡◌, ◌⊎◌, inl, inr, ℕ, suc, ◌+◌, ◌≤◌, List, [], ◌∷◌, ◌++◌, length, Result, Ok, Err, refl, sym, ap, ◌∙◌, subst, arith, Bool, true, false, min, fold, map}
-use Rattle.row_types.specs.declared.RowShape.{RowShape}
+use Rattle.instruction_parts.specs.declared.row_types.RowShape.{RowShape}
 use Rattle.row_notation.specs.Reading.{Answer, better, best, after_word, then_read}
 use Rattle.std.proofs.lemmas.Bool.{eqb-true}
 use Rattle.std.proofs.Common.{eq-eqb, ◌==◌, if◌then◌else◌}

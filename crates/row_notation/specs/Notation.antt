@@ -1,23 +1,23 @@
 -- The text of a shape: words joined by single spaces, hexadecimal digits in upper case (Intel SDM volume 2, 3.1.1.1 and 3.1.1.2).
 use Rattle.std.specs.Prelude.{ℕ, ◌+◌, ◌/◌, ◌%◌, Bool, true, false, nat_lt, if◌then◌else◌, List, [], ◌∷◌, ◌++◌, codes}
-use Rattle.row_types.specs.declared.RowKind.TheVariants.{Legacy, Vex}
-use Rattle.row_types.specs.declared.Map.{Map}
-use Rattle.row_types.specs.declared.Map.TheVariants as map
-use Rattle.row_types.specs.declared.Class.{Class}
-use Rattle.row_types.specs.declared.Class.TheVariants as class
-use Rattle.row_types.specs.declared.ModRmRule.{ModRmRule}
-use Rattle.row_types.specs.declared.ModRmRule.TheVariants as rule
-use Rattle.row_types.specs.declared.WBit.{WBit}
-use Rattle.row_types.specs.declared.WBit.TheVariants as w
-use Rattle.row_types.specs.declared.LBit.{LBit}
-use Rattle.row_types.specs.declared.LBit.TheVariants as l
-use Rattle.row_types.specs.declared.SizeWord.{SizeWord}
-use Rattle.row_types.specs.declared.SizeWord.TheVariants as word
-use Rattle.row_types.specs.declared.PlusWord.{PlusWord}
-use Rattle.row_types.specs.declared.PlusWord.TheVariants as added
-use Rattle.row_types.specs.declared.ImmWord.{ImmWord}
-use Rattle.row_types.specs.declared.ImmWord.TheVariants as imm
-use Rattle.row_types.specs.declared.RowShape.{RowShape}
+use Rattle.instruction_parts.specs.declared.row_types.RowKind.TheVariants.{Legacy, Vex}
+use Rattle.instruction_parts.specs.declared.row_types.Map.{Map}
+use Rattle.instruction_parts.specs.declared.row_types.Map.TheVariants as map
+use Rattle.instruction_parts.specs.declared.row_types.Class.{Class}
+use Rattle.instruction_parts.specs.declared.row_types.Class.TheVariants as class
+use Rattle.instruction_parts.specs.declared.row_types.ModRmRule.{ModRmRule}
+use Rattle.instruction_parts.specs.declared.row_types.ModRmRule.TheVariants as rule
+use Rattle.instruction_parts.specs.declared.row_types.WBit.{WBit}
+use Rattle.instruction_parts.specs.declared.row_types.WBit.TheVariants as w
+use Rattle.instruction_parts.specs.declared.row_types.LBit.{LBit}
+use Rattle.instruction_parts.specs.declared.row_types.LBit.TheVariants as l
+use Rattle.instruction_parts.specs.declared.row_types.SizeWord.{SizeWord}
+use Rattle.instruction_parts.specs.declared.row_types.SizeWord.TheVariants as word
+use Rattle.instruction_parts.specs.declared.row_types.PlusWord.{PlusWord}
+use Rattle.instruction_parts.specs.declared.row_types.PlusWord.TheVariants as added
+use Rattle.instruction_parts.specs.declared.row_types.ImmWord.{ImmWord}
+use Rattle.instruction_parts.specs.declared.row_types.ImmWord.TheVariants as imm
+use Rattle.instruction_parts.specs.declared.row_types.RowShape.{RowShape}
 
 -- the class word, with the space behind it
 abbrev pub class_text : Class → List ℕ

@@ -1,29 +1,29 @@
 -- The part of a row that the manual's notation shows, and which parts make a notation (Intel SDM volume 2, 3.1.1.1 to 3.1.1.3).
 use Rattle.std.specs.Prelude.{ℕ, ◌%◌, Bool, true, false, ◌&&◌, ◌||◌, not, ◌==◌, nat_le, nat_lt, if◌then◌else◌, slice_index_or}
-use Rattle.row_types.specs.declared.Row.{Row}
-use Rattle.row_types.specs.declared.RowKind.TheVariants.{Legacy, Vex}
-use Rattle.row_types.specs.declared.Map.{Map}
-use Rattle.row_types.specs.declared.Map.TheVariants as map
-use Rattle.row_types.specs.declared.Class.{Class}
-use Rattle.row_types.specs.declared.Class.TheVariants as class
-use Rattle.row_types.specs.declared.Plus.TheVariants as plus
-use Rattle.row_types.specs.declared.ModRmRule.{ModRmRule}
-use Rattle.row_types.specs.declared.ModRmRule.TheVariants as rule
-use Rattle.row_types.specs.declared.Size.{Size}
-use Rattle.row_types.specs.declared.Size.TheVariants as size
-use Rattle.row_types.specs.declared.WBit.{WBit}
-use Rattle.row_types.specs.declared.WBit.TheVariants as w
-use Rattle.row_types.specs.declared.LBit.{LBit}
-use Rattle.row_types.specs.declared.LBit.TheVariants as l
-use Rattle.row_types.specs.declared.OpKind.{OpKind}
-use Rattle.row_types.specs.declared.OpKind.TheVariants as op
-use Rattle.row_types.specs.declared.SizeWord.{SizeWord}
-use Rattle.row_types.specs.declared.SizeWord.TheVariants as word
-use Rattle.row_types.specs.declared.PlusWord.{PlusWord}
-use Rattle.row_types.specs.declared.PlusWord.TheVariants as added
-use Rattle.row_types.specs.declared.ImmWord.{ImmWord}
-use Rattle.row_types.specs.declared.ImmWord.TheVariants as imm
-use Rattle.row_types.specs.declared.RowShape.{RowShape}
+use Rattle.instruction_parts.specs.declared.row_types.Row.{Row}
+use Rattle.instruction_parts.specs.declared.row_types.RowKind.TheVariants.{Legacy, Vex}
+use Rattle.instruction_parts.specs.declared.row_types.Map.{Map}
+use Rattle.instruction_parts.specs.declared.row_types.Map.TheVariants as map
+use Rattle.instruction_parts.specs.declared.row_types.Class.{Class}
+use Rattle.instruction_parts.specs.declared.row_types.Class.TheVariants as class
+use Rattle.instruction_parts.specs.declared.row_types.Plus.TheVariants as plus
+use Rattle.instruction_parts.specs.declared.row_types.ModRmRule.{ModRmRule}
+use Rattle.instruction_parts.specs.declared.row_types.ModRmRule.TheVariants as rule
+use Rattle.instruction_parts.specs.declared.row_types.Size.{Size}
+use Rattle.instruction_parts.specs.declared.row_types.Size.TheVariants as size
+use Rattle.instruction_parts.specs.declared.row_types.WBit.{WBit}
+use Rattle.instruction_parts.specs.declared.row_types.WBit.TheVariants as w
+use Rattle.instruction_parts.specs.declared.row_types.LBit.{LBit}
+use Rattle.instruction_parts.specs.declared.row_types.LBit.TheVariants as l
+use Rattle.instruction_parts.specs.declared.row_types.OpKind.{OpKind}
+use Rattle.instruction_parts.specs.declared.row_types.OpKind.TheVariants as op
+use Rattle.instruction_parts.specs.declared.row_types.SizeWord.{SizeWord}
+use Rattle.instruction_parts.specs.declared.row_types.SizeWord.TheVariants as word
+use Rattle.instruction_parts.specs.declared.row_types.PlusWord.{PlusWord}
+use Rattle.instruction_parts.specs.declared.row_types.PlusWord.TheVariants as added
+use Rattle.instruction_parts.specs.declared.row_types.ImmWord.{ImmWord}
+use Rattle.instruction_parts.specs.declared.row_types.ImmWord.TheVariants as imm
+use Rattle.instruction_parts.specs.declared.row_types.RowShape.{RowShape}
 use Rattle.instruction_parts.specs.Sizes.{has_caret, has_bang}
 
 -- the kind of operand n

@@ -1,6 +1,6 @@
 -- Which texts are a shape's, and how far a text that is none goes along with one.
 use Rattle.std.specs.Prelude.{◌≡◌, ℕ, ◌+◌, ◌<◌, ◌≤◌, List, ◌++◌, length, take, IsTrue}
-use Rattle.row_types.specs.declared.RowShape.{RowShape}
+use Rattle.instruction_parts.specs.declared.row_types.RowShape.{RowShape}
 use Rattle.row_notation.specs.Shape.{is_proper}
 use Rattle.row_notation.specs.Notation.{notation}
 

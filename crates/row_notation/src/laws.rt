@@ -1,7 +1,7 @@
 //! Laws of the notation, as the contracts of functions that do nothing.
 
 ghost use Rattle.std.specs.Prelude.{◌≡◌, ℕ, List};
-ghost use Rattle.row_types.specs.declared.RowShape.{RowShape};
+ghost use Rattle.instruction_parts.specs.declared.row_types.RowShape.{RowShape};
 ghost use Rattle.row_notation.specs.Texts.{IsTextOf};
 
 /// No text belongs to two shapes.

@@ -8,7 +8,7 @@ mod words;
 mod writing;
 
 pub use reading::{NotationFault, read_notation};
-pub use row_types::{
+pub use instruction_parts::row_types::{
     Class, ImmWord, LBit, Map, Marks, ModRmRule, ModeMask, OpKind, Place, Plus, PlusWord, Row,
     RowKind, RowShape, Size, SizeWord, WBit,
 };

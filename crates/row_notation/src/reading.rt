@@ -2,7 +2,7 @@
 //! there, and answers a shape, or how many bytes are left at the farthest place where no shape's text goes on.
 
 ghost use Rattle.std.specs.Prelude.{◌≡◌, ◌<◌, ◌≤◌, ◌+◌, length, IfOk, IfErr, Ok, Err};
-ghost use Rattle.row_types.specs.declared.RowShape.{RowShape};
+ghost use Rattle.instruction_parts.specs.declared.row_types.RowShape.{RowShape};
 ghost use Rattle.row_notation.specs.Reading as spec;
 ghost use Rattle.row_notation.specs.Shape as shape;
 ghost use Rattle.row_notation.specs.Texts.{IsTextOf, IsFaultAt};
@@ -10,7 +10,7 @@ ghost use Rattle.row_notation.specs.Texts.{IsTextOf, IsFaultAt};
 use crate::words::{
     class_text, imm_text, l_text, map_text, plus_text, pp_text, size_text, vex_map_text, w_text,
 };
-use row_types::{
+use instruction_parts::row_types::{
     Class, ImmWord, LBit, Map, ModRmRule, PlusWord, RowKind, RowShape, SizeWord, WBit,
 };
 use thiserror::Error;

@@ -3,7 +3,7 @@
 ghost use Rattle.std.specs.Prelude.{◌≡◌, ◌<◌, ◌≤◌, length};
 ghost use Rattle.row_notation.specs.Notation as spec;
 
-use row_types::{Class, ImmWord, LBit, Map, PlusWord, SizeWord, WBit};
+use instruction_parts::row_types::{Class, ImmWord, LBit, Map, PlusWord, SizeWord, WBit};
 
 /// The class word, with the space behind it.
 pub fn class_text<'a>(class: Class) -> &'a [u8]

@@ -12,7 +12,7 @@ use crate::words::{
 };
 use arrayvec::ArrayVec;
 use instruction_parts::append::append;
-use row_types::{ModRmRule, Row, RowKind, RowShape};
+use instruction_parts::row_types::{ModRmRule, Row, RowKind, RowShape};
 
 /// Appends a byte in two digits.
 fn append_byte(out: &mut ArrayVec<u8, 64>, b: u8)

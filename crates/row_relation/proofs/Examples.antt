@@ -15,19 +15,19 @@ use Rattle.x86_values.specs.declared.Operand.TheVariants.{Absent as NoOperand, R
 use Rattle.x86_values.specs.declared.Rep.{Rep}
 use Rattle.x86_values.specs.declared.Rep.TheVariants.{None as NoRep, F2 as RepF2, F3 as RepF3}
 use Rattle.x86_values.specs.declared.Instr.{Instr}
-use Rattle.row_types.specs.declared.Row.{Row}
-use Rattle.row_types.specs.Rows.{row}
-use Rattle.row_types.specs.declared.RowKind.TheVariants.{Legacy as LegacyRow, Vex as VexRow}
-use Rattle.row_types.specs.declared.Map.{Map}
-use Rattle.row_types.specs.declared.Map.TheVariants.{One as MapOne, M0f, M0f38, M0f3a}
-use Rattle.row_types.specs.declared.Class.TheVariants.{Any as AnyClass, Np, Nf3, P66, F3 as ClassF3}
-use Rattle.row_types.specs.declared.Plus.TheVariants.{No as NoPlus, Register as PlusRegister, Stack as PlusStack}
-use Rattle.row_types.specs.declared.ModRmRule.TheVariants.{No as NoModRm, Any as AnyModRm, Digit, Fixed as FixedByte}
-use Rattle.row_types.specs.declared.Place.TheVariants.{Any as AnyPlace, Memory as MemoryPlace}
-use Rattle.row_types.specs.declared.Size.TheVariants.{None as NoSize, O16, O32, O64, W0 as SizeW0}
-use Rattle.row_types.specs.declared.WBit.TheVariants.{None as NoW, W0, Wig}
-use Rattle.row_types.specs.declared.LBit.TheVariants.{None as NoL, L128, Lz}
-use Rattle.row_types.specs.declared.OpKind.TheVariants.{Eb as KEb, Ew as KEw, Ev as KEv, Ey as KEy, Qq as KQq, Wx as KWx, Wd as KWd, Rm as KRm, Mp as KMp, GatherL as KGatherL, Gb as KGb, Gv as KGv, Gy as KGy, Sw as KSw, Cn as KCn, Dn as KDn, Pq as KPq, Vx as KVx, By as KBy, Hx as KHx, Zv as KZv, Lx as KLx, Ov as KOv, Ibs as KIbs, Iz as KIz, Iv as KIv, Jb as KJb, Jz as KJz, RaxAny as KRaxAny, St as KSt, StI as KStI, Ap as KAp, Absent as KAbsent}
+use Rattle.instruction_parts.specs.declared.row_types.Row.{Row}
+use Rattle.instruction_parts.specs.RowTypes.Rows.{row}
+use Rattle.instruction_parts.specs.declared.row_types.RowKind.TheVariants.{Legacy as LegacyRow, Vex as VexRow}
+use Rattle.instruction_parts.specs.declared.row_types.Map.{Map}
+use Rattle.instruction_parts.specs.declared.row_types.Map.TheVariants.{One as MapOne, M0f, M0f38, M0f3a}
+use Rattle.instruction_parts.specs.declared.row_types.Class.TheVariants.{Any as AnyClass, Np, Nf3, P66, F3 as ClassF3}
+use Rattle.instruction_parts.specs.declared.row_types.Plus.TheVariants.{No as NoPlus, Register as PlusRegister, Stack as PlusStack}
+use Rattle.instruction_parts.specs.declared.row_types.ModRmRule.TheVariants.{No as NoModRm, Any as AnyModRm, Digit, Fixed as FixedByte}
+use Rattle.instruction_parts.specs.declared.row_types.Place.TheVariants.{Any as AnyPlace, Memory as MemoryPlace}
+use Rattle.instruction_parts.specs.declared.row_types.Size.TheVariants.{None as NoSize, O16, O32, O64, W0 as SizeW0}
+use Rattle.instruction_parts.specs.declared.row_types.WBit.TheVariants.{None as NoW, W0, Wig}
+use Rattle.instruction_parts.specs.declared.row_types.LBit.TheVariants.{None as NoL, L128, Lz}
+use Rattle.instruction_parts.specs.declared.row_types.OpKind.TheVariants.{Eb as KEb, Ew as KEw, Ev as KEv, Ey as KEy, Qq as KQq, Wx as KWx, Wd as KWd, Rm as KRm, Mp as KMp, GatherL as KGatherL, Gb as KGb, Gv as KGv, Gy as KGy, Sw as KSw, Cn as KCn, Dn as KDn, Pq as KPq, Vx as KVx, By as KBy, Hx as KHx, Zv as KZv, Lx as KLx, Ov as KOv, Ibs as KIbs, Iz as KIz, Iv as KIv, Jb as KJb, Jz as KJz, RaxAny as KRaxAny, St as KSt, StI as KStI, Ap as KAp, Absent as KAbsent}
 use Rattle.instruction_parts.specs.declared.spelling.Vex.{Vex}
 use Rattle.instruction_parts.specs.declared.spelling.ModRm.{ModRm}
 use Rattle.instruction_parts.specs.declared.spelling.Sib.{Sib}

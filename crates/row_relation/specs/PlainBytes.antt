@@ -1,7 +1,7 @@
 -- The bytes of a plain spelling from the opcode byte on, by its parts (Intel SDM volume 2, 2.1).
 use Rattle.std.specs.Prelude.{ℕ, ◌+◌, List, ◌∷◌, ◌++◌, length}
 use Rattle.x86_values.specs.declared.Instr.{Instr}
-use Rattle.row_types.specs.declared.Row.{Row}
+use Rattle.instruction_parts.specs.declared.row_types.Row.{Row}
 use Rattle.instruction_parts.specs.Bytes.{modrm_bytes, sib_bytes}
 use Rattle.row_fit.specs.Fits.{immediates_bytes}
 use Rattle.plain_spelling.specs.declared.parts.PlainParts.{PlainParts}

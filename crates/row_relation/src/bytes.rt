@@ -16,7 +16,7 @@ use instruction_parts::append::{append, append_few};
 use instruction_parts::{ModRm, Sib, Spelling, Vex};
 use plain_spelling::parts::PlainParts;
 use plain_spelling::tail::{self, append_displacement, append_immediates};
-use row_types::{Map, Row};
+use instruction_parts::row_types::{Map, Row};
 use x86_values::{Bits, Instr};
 
 /// The escape bytes of a map.

@@ -12,7 +12,7 @@ use encoder::encode;
 use instruction_parts::sizes::exists_in;
 use opcode_rows::{ROWS, name, row_of};
 use reading::{Answers, answers};
-use row_types::Row;
+use instruction_parts::row_types::Row;
 use sample::sample;
 use x86_values::{Bits, Code, Instr, same};
 

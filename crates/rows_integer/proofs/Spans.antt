@@ -1,5 +1,5 @@
 -- The spans say where the rows of each cell lie.
-use Rattle.row_types.specs.declared.RowKind.TheVariants.{Legacy}
+use Rattle.instruction_parts.specs.declared.row_types.RowKind.TheVariants.{Legacy}
 use Rattle.row_lists.specs.Spans.{AreCellSpansOf}
 use Rattle.row_lists.proofs.Spans.{spans-of_fit}
 use Rattle.rows_integer.specs.Table.{table, spans}

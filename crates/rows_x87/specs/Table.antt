@@ -1,6 +1,6 @@
 -- The x87 rows as one list, and where those of each cell lie.
 use Rattle.std.specs.Prelude.{List}
-use Rattle.row_types.specs.declared.Row.{Row}
+use Rattle.instruction_parts.specs.declared.row_types.Row.{Row}
 use Rattle.row_lists.specs.declared.FlatRow.{FlatRow}
 use Rattle.row_lists.specs.declared.Span.{Span}
 use Rattle.row_lists.specs.Flat.{rows_of}

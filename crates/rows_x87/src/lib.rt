@@ -4,14 +4,14 @@
 mod generated_table;
 pub mod laws;
 
-ghost use Rattle.row_types.specs.declared.RowKind.TheVariants.{Legacy};
+ghost use Rattle.instruction_parts.specs.declared.row_types.RowKind.TheVariants.{Legacy};
 ghost use Rattle.row_lists.specs.Lists.{IsListOf};
 ghost use Rattle.rows_x87.specs.Table.{table, spans};
 
 pub use generated_table::ROWS;
 use generated_table::{FLAT_ROWS, SPANS};
 use row_lists::RowList;
-use row_types::RowKind;
+use instruction_parts::row_types::RowKind;
 
 /// The rows as one list, by index and by cell.
 #[inline]

@@ -3,7 +3,7 @@ use Rattle.std.proofs.Common.{ℕ, ◌+◌, ◌^◌, ◌<◌, [], ◌∷◌, Som
 use Rattle.x86_values.specs.declared.Bits.TheVariants.{B64}
 use Rattle.x86_values.specs.declared.Instr.{Instr}
 use Rattle.x86_values.specs.Wrapping.{modulo_width}
-use Rattle.row_types.specs.declared.Row.{Row}
+use Rattle.instruction_parts.specs.declared.row_types.Row.{Row}
 use Rattle.instruction_parts.specs.declared.spelling.Spelling.{Spelling}
 use Rattle.instruction_parts.specs.Bytes.{bytes_of, front_bytes, lead_bytes, state_from, state_of, tail_bytes, vex_bytes, vex_last_byte, vex_map_byte}
 use Rattle.instruction_parts.specs.Counting.{counting_repeat, counting_rex, counting_segment, has_66, has_67, has_lock, is_legacy_prefix, is_prefix, is_segment, segment_named}

@@ -1,7 +1,7 @@
 -- Each instruction that is drawn is spelled by its bytes.
 use Rattle.std.proofs.Common.{◌≡◌, ℕ, zero, suc, ◌+◌, ◌<◌, true, false, List, [], ◌∷◌, Option, Some, None, nat_lt, refl, arith}
 use Rattle.x86_values.specs.declared.Bits.TheVariants.{B64}
-use Rattle.row_types.specs.declared.Map.TheVariants.{M0f}
+use Rattle.instruction_parts.specs.declared.row_types.Map.TheVariants.{M0f}
 use Rattle.instruction_parts.specs.declared.spelling.Vex.{Vex}
 use Rattle.instruction_parts.specs.declared.spelling.ModRm.{ModRm}
 use Rattle.instruction_parts.specs.declared.spelling.Spelling.{Spelling}

@@ -13,20 +13,20 @@ use Rattle.x86_values.specs.declared.Operand.{Operand}
 use Rattle.x86_values.specs.declared.Operand.TheVariants.{Absent as NoOperand, Reg, Mem as MemOperand, Imm, Near, Far}
 use Rattle.x86_values.specs.declared.Rep.TheVariants.{None as NoRep, F2 as RepF2, F3 as RepF3}
 use Rattle.x86_values.specs.declared.Instr.{Instr}
-use Rattle.row_types.specs.declared.Row.{Row}
-use Rattle.row_types.specs.declared.RowKind.TheVariants.{Legacy}
-use Rattle.row_types.specs.declared.Map.TheVariants.{One}
-use Rattle.row_types.specs.declared.Class.TheVariants.{Any as AnyClass}
-use Rattle.row_types.specs.declared.Plus.TheVariants.{No as NoPlus}
-use Rattle.row_types.specs.declared.ModRmRule.TheVariants.{Any as AnyModRm}
-use Rattle.row_types.specs.declared.Place.TheVariants.{Any as AnyPlace}
-use Rattle.row_types.specs.declared.Size.{Size}
-use Rattle.row_types.specs.declared.Size.TheVariants.{None as NoSize, O16, O32, O64, W0 as SizeW0}
-use Rattle.row_types.specs.declared.WBit.TheVariants.{None as NoW}
-use Rattle.row_types.specs.declared.LBit.{LBit}
-use Rattle.row_types.specs.declared.LBit.TheVariants.{None as NoL, L128}
-use Rattle.row_types.specs.declared.OpKind.{OpKind}
-use Rattle.row_types.specs.declared.OpKind.TheVariants as kind
+use Rattle.instruction_parts.specs.declared.row_types.Row.{Row}
+use Rattle.instruction_parts.specs.declared.row_types.RowKind.TheVariants.{Legacy}
+use Rattle.instruction_parts.specs.declared.row_types.Map.TheVariants.{One}
+use Rattle.instruction_parts.specs.declared.row_types.Class.TheVariants.{Any as AnyClass}
+use Rattle.instruction_parts.specs.declared.row_types.Plus.TheVariants.{No as NoPlus}
+use Rattle.instruction_parts.specs.declared.row_types.ModRmRule.TheVariants.{Any as AnyModRm}
+use Rattle.instruction_parts.specs.declared.row_types.Place.TheVariants.{Any as AnyPlace}
+use Rattle.instruction_parts.specs.declared.row_types.Size.{Size}
+use Rattle.instruction_parts.specs.declared.row_types.Size.TheVariants.{None as NoSize, O16, O32, O64, W0 as SizeW0}
+use Rattle.instruction_parts.specs.declared.row_types.WBit.TheVariants.{None as NoW}
+use Rattle.instruction_parts.specs.declared.row_types.LBit.{LBit}
+use Rattle.instruction_parts.specs.declared.row_types.LBit.TheVariants.{None as NoL, L128}
+use Rattle.instruction_parts.specs.declared.row_types.OpKind.{OpKind}
+use Rattle.instruction_parts.specs.declared.row_types.OpKind.TheVariants as kind
 use Rattle.instruction_parts.specs.Kinds.{memory_width}
 use Rattle.instruction_parts.specs.Sizes.{operand_size}
 use Rattle.row_meaning.specs.MemorySize.{row_size_bytes, has_w, vector_bytes, width_in_row, size_at, memory_size}

@@ -9,7 +9,7 @@ use crate::registers::segment_name;
 use crate::text::append_few;
 use arrayvec::ArrayVec;
 use instruction_parts::sizes::operand_size;
-use row_types::{Row, Size};
+use instruction_parts::row_types::{Row, Size};
 use x86_values::{Bits, Instr, Operand, Register, Rep, same_bits};
 
 /// Appends the word of LOCK.

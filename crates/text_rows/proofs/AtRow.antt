@@ -1,7 +1,7 @@
 -- The row of a code of the table.
 use Rattle.std.proofs.Common.{◌≡◌, ℕ, List, ap, sym, ◌∙◌, slice_get}
 use Rattle.std.specs.Prelude.{Some}
-use Rattle.row_types.specs.declared.Row.{Row}
+use Rattle.instruction_parts.specs.declared.row_types.Row.{Row}
 use Rattle.opcode_rows.specs.Table.{table, name_of}
 use Rattle.text_rows.specs.AtRow.{at_row, at_code}
 

@@ -1,6 +1,6 @@
 -- What the table's row of a code gives.
 use Rattle.std.specs.Prelude.{ℕ, List, [], Option, Some, None, slice_get}
-use Rattle.row_types.specs.declared.Row.{Row}
+use Rattle.instruction_parts.specs.declared.row_types.Row.{Row}
 use Rattle.opcode_rows.specs.Table.{table}
 
 -- what a function gives of a row that is there, and else nothing

@@ -11,7 +11,7 @@ ghost use Rattle.text_rows.specs.BracketText.{bracket_text};
 
 use arrayvec::ArrayVec;
 use opcode_rows::{name, row_of};
-use row_types::Row;
+use instruction_parts::row_types::Row;
 use text_parts::layout::append_bracket_layout;
 use text_parts::style::Style;
 use text_parts::text::TEXT_LEN;

@@ -1,7 +1,7 @@
 //! What holds of the fitting spellings of all rows.
 ghost use Rattle.std.specs.Prelude.{◌≡◌, ℕ, List, ◌++◌, IsTrue, slice_get, Some};
 ghost use Rattle.x86_values.specs.declared.Bits.{Bits};
-ghost use Rattle.row_types.specs.declared.Row.{Row};
+ghost use Rattle.instruction_parts.specs.declared.row_types.Row.{Row};
 ghost use Rattle.instruction_parts.specs.declared.spelling.Spelling.{Spelling};
 ghost use Rattle.instruction_parts.specs.Bytes.{bytes_of, state_of, tail_bytes};
 ghost use Rattle.row_fit.specs.Fits.{fits};

@@ -1,6 +1,6 @@
 -- Version 1 of the table: its rows and their names, by code.
 use Rattle.std.specs.Prelude.{ℕ, List, ◌++◌, map}
-use Rattle.row_types.specs.declared.Row.{Row}
+use Rattle.instruction_parts.specs.declared.row_types.Row.{Row}
 use Rattle.row_lists.specs.declared.FlatRow.{FlatRow}
 use Rattle.row_lists.specs.Flat.{rows_of}
 use Rattle.version1_rows.specs.declared.table.TheConstants.{LEGACY_ROWS, VEX_ROWS}

@@ -1,6 +1,6 @@
 //! The rows by code, as version 1 of the table had them. No program writes this file anew, and no edit of it is right: see the crate's page.
 use row_lists::{FlatRow, rows};
-use row_types::{
+use instruction_parts::row_types::{
     Class, LBit, Map, Marks, ModRmRule, ModeMask, OpKind, Place, Plus, RowKind, Size, WBit,
 };
 

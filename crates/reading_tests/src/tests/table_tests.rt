@@ -6,7 +6,7 @@ use crate::tests::compare::{same_of, same_text, same_value};
 use arrayvec::ArrayVec;
 use opcode_rows::{ROWS, VERSION1_ROWS, cell_len, code_of, first_of, name, row, well_formed};
 use row_lines::row_line;
-use row_types::{Map, Row, RowKind, Size};
+use instruction_parts::row_types::{Map, Row, RowKind, Size};
 use std::marker::Brand;
 use std::str::from_utf8;
 use std::sync::ledger::{Blank, Ledger};

@@ -15,7 +15,7 @@ use modrm_sib::{TailError, read_operands};
 use opcode_rows::laws::rows_are_sound;
 use opcode_rows::{ROWS, code_of, row_of, well_formed};
 use prefixes::read_prefixes;
-use row_types::Row;
+use instruction_parts::row_types::Row;
 use std::process::Abort;
 use std::str::from_utf8;
 use std::test::Fail;

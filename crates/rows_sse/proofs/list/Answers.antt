@@ -1,5 +1,5 @@
 use Rattle.std.proofs.Common.{refl}
-use Rattle.row_types.specs.declared.RowKind.TheVariants.{Legacy}
+use Rattle.instruction_parts.specs.declared.row_types.RowKind.TheVariants.{Legacy}
 use Rattle.row_lists.proofs.Lists.{list-of}
 use Rattle.rows_sse.specs.declared.generated_table.TheConstants.{ROWS}
 use Rattle.rows_sse.specs.Table.{flat_rows, table, spans}

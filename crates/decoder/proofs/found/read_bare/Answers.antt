@@ -1,5 +1,5 @@
 use Rattle.std.proofs.Common.{◌≡◌, ◌+◌, ℕ, true, refl, ap, sym, ◌∙◌, subst, drop, Option}
-use Rattle.row_types.specs.declared.Row.{Row}
+use Rattle.instruction_parts.specs.declared.row_types.Row.{Row}
 use Rattle.row_fit.specs.Fits.{immediates_bytes}
 use Rattle.row_fields.specs.Holds.{holds}
 use Rattle.row_relation.specs.RowReading.{RowReads}

@@ -3,7 +3,7 @@ use Rattle.std.proofs.lemmas.Option.{slice_get_within}
 use Rattle.x86_values.specs.declared.Bits.{Bits}
 use Rattle.prefixes.specs.Answer.{mode_of}
 use Rattle.row_relation.specs.RowReading.{RowReads}
-use Rattle.row_types.specs.declared.Row.{Row}
+use Rattle.instruction_parts.specs.declared.row_types.Row.{Row}
 use Rattle.row_fields.specs.declared.Fields.{Fields}
 use Rattle.row_fields.specs.Holds.{holds, HoldsNowhere, IsOnlyRow}
 use Rattle.opcode_rows.specs.Table.{table}

@@ -1,6 +1,6 @@
 use Rattle.std.proofs.Common.{◌≡◌, Bool, List, [], ◌∷◌, ◌&&◌, refl, ap, ◌∙◌}
 use Rattle.std.specs.List.{list_all}
-use Rattle.row_types.specs.declared.Row.{Row}
+use Rattle.instruction_parts.specs.declared.row_types.Row.{Row}
 use Rattle.opcode_rows.specs.Table.{part_table}
 use Rattle.opcode_rows.proofs.JoinFacts.{all_rows, in_each_part}
 use Rattle.opcode_rows.proofs.laws.rows_are_of_the_parts.Goals as goal

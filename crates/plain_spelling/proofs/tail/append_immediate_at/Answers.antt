@@ -1,7 +1,7 @@
 use Rattle.std.proofs.Common.{◌≡◌, ℕ, ◌≤◌, sym, ◌∙◌, arith, rules}
 use Rattle.std.proofs.lemmas.List.{append-nil}
 use Rattle.x86_values.specs.declared.Bits.{Bits}
-use Rattle.row_types.specs.declared.OpKind.{OpKind}
+use Rattle.instruction_parts.specs.declared.row_types.OpKind.{OpKind}
 use Rattle.instruction_parts.specs.declared.kinds.Method.{Method}
 use Rattle.instruction_parts.specs.declared.kinds.Method.TheVariants.{Pointer, LastByte}
 use Rattle.instruction_parts.specs.Kinds.{method_of}

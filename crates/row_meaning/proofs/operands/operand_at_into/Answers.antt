@@ -1,9 +1,9 @@
 use Rattle.std.proofs.Common.{◌≡◌, ◌≤◌, ℕ, ap, sym, ◌∙◌, arith, length, drop, List}
 use Rattle.std.proofs.lemmas.List.{length-take, length-drop}
 use Rattle.x86_values.specs.declared.Bits.{Bits}
-use Rattle.row_types.specs.declared.Row.{Row}
+use Rattle.instruction_parts.specs.declared.row_types.Row.{Row}
 use Rattle.instruction_parts.specs.Kinds.{method_of}
-use Rattle.row_types.specs.declared.OpKind.{OpKind}
+use Rattle.instruction_parts.specs.declared.row_types.OpKind.{OpKind}
 use Rattle.instruction_parts.specs.declared.kinds.Method.TheVariants.{Pointer}
 use Rattle.row_fit.specs.Fits.{immediate_bytes, kind_at}
 use Rattle.row_meaning.specs.Meaning.{immediates_before, own_immediate}
