@@ -1,10 +1,10 @@
 -- What is computed of the nested tables.
 use Rattle.std.proofs.Common.{◌≡◌, true, refl}
-use Rattle.row_fields.specs.Candidates.{rows_with_codes, of_number, at_opcode, cands, mask_at, clear, keep, is_empty, is_free, all_free, is_one, below}
+use Rattle.row_lists.specs.RowFields.Candidates.{rows_with_codes, of_number, at_opcode, cands, mask_at, clear, keep, is_empty, is_free, all_free, is_one, below}
 use Rattle.instruction_parts.specs.Sizes.{exists_in}
-use Rattle.row_fields.specs.Holds.{prefix_holds, w_holds, rex_b_holds}
-use Rattle.row_fields.specs.Masks.{nth, allows, meets, two, three, four, reg_mask, rm_mask, marked_size, size_mask, masks}
-use Rattle.row_fields.specs.FieldNumbers.{size_number}
+use Rattle.row_lists.specs.RowFields.Holds.{prefix_holds, w_holds, rex_b_holds}
+use Rattle.row_lists.specs.RowFields.Masks.{nth, allows, meets, two, three, four, reg_mask, rm_mask, marked_size, size_mask, masks}
+use Rattle.row_lists.specs.RowFields.FieldNumbers.{size_number}
 use Rattle.rows_integer.specs.Table.{table as integer_rows, flat_rows as integer_flat}
 use Rattle.rows_x87.specs.Table.{table as x87_rows, flat_rows as x87_flat}
 use Rattle.rows_sse.specs.Table.{table as sse_rows, flat_rows as sse_flat}

@@ -1,15 +1,15 @@
 -- What the test of the nested tables says of a walk.
 use Rattle.std.proofs.Common.{◌≡◌, ℕ, zero, suc, ◌+◌, ◌≤◌, Bool, true, List, [], ◌∷◌, slice_get, nat_le, refl, sym, ◌∙◌, arith, leb-true}
 use Rattle.std.proofs.lemmas.Bool.{and_parts}
-use Rattle.row_fields.specs.Candidates.{Cand, alive, keep, value_at}
-use Rattle.row_fields.proofs.Cands.{alive-keep, alive-is_empty, alive-is_one}
+use Rattle.row_lists.specs.RowFields.Candidates.{Cand, alive, keep, value_at}
+use Rattle.row_lists.proofs.RowFields.Cands.{alive-keep, alive-is_empty, alive-is_one}
 use Rattle.std.specs.Prelude.{Option, Some, None}
 use Rattle.x86_values.specs.declared.Bits.{Bits}
 use Rattle.x86_values.specs.declared.Code.{Code}
-use Rattle.row_fields.specs.declared.Fields.{Fields}
-use Rattle.row_fields.specs.Holds.{codes_holding}
-use Rattle.row_fields.specs.Masks.{values}
-use Rattle.row_fields.specs.FieldNumbers.{size_number}
+use Rattle.row_lists.specs.declared.row_fields.Fields.{Fields}
+use Rattle.row_lists.specs.RowFields.Holds.{codes_holding}
+use Rattle.row_lists.specs.RowFields.Masks.{values}
+use Rattle.row_lists.specs.RowFields.FieldNumbers.{size_number}
 use Rattle.opcode_rows.specs.Table.{table}
 use Rattle.handler_tables.specs.declared.node.Next.{Next}
 use Rattle.handler_tables.specs.declared.node.Next.TheVariants.{Stop, Leaf, N2, N3, N4, N8, N256}

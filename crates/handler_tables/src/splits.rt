@@ -1,8 +1,8 @@
 //! What nodes split by, as numbers of the fields.
 ghost use Rattle.std.specs.Prelude.{◌≡◌, is_some};
 ghost use Rattle.prefixes.specs.Answer.{mode_of};
-ghost use Rattle.row_fields.specs.Holds.{map_number, prefix_of, byte_of};
-ghost use Rattle.row_fields.specs.FieldNumbers.{size_number, plain_size};
+ghost use Rattle.row_lists.specs.RowFields.Holds.{map_number, prefix_of, byte_of};
+ghost use Rattle.row_lists.specs.RowFields.FieldNumbers.{size_number, plain_size};
 ghost use Rattle.instruction_parts.specs.Bytes as parts;
 ghost use Rattle.instruction_parts.specs.Counting.{rex_bit};
 ghost use Rattle.unique_spelling.specs.FieldsOf as fields;
@@ -12,7 +12,7 @@ use crate::node::Split;
 use instruction_parts::PrefixState;
 use instruction_parts::sizes::bit_of_rex;
 use prefixes::mode_of;
-use row_fields::{Map, Rep};
+use row_lists::row_fields::{Map, Rep};
 use x86_values::Bits;
 
 /// The number of what a node splits by, from a front and the byte behind its opcode byte.

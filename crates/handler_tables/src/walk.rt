@@ -1,7 +1,7 @@
 //! The walk from the root to a row.
 ghost use Rattle.std.specs.Prelude.{◌≡◌, ◌+◌, ◌<◌, ◌≤◌, length, slice_get, Some, MatchOption, IsSome, IsTrue};
 ghost use Rattle.prefixes.specs.Answer.{is_mode, mode_of};
-ghost use Rattle.row_fields.specs.Holds.{HoldsNowhere, IsOnlyRow};
+ghost use Rattle.row_lists.specs.RowFields.Holds.{HoldsNowhere, IsOnlyRow};
 ghost use Rattle.opcode_rows.specs.Table.{table};
 ghost use Rattle.handler_tables.specs.Nodes.{nodes2, nodes3, nodes4, nodes8, nodes256, splits2, splits3, splits4, splits8};
 ghost use Rattle.unique_spelling.specs.FieldsOf.{fields_of};

@@ -6,10 +6,10 @@ use Rattle.instruction_parts.specs.declared.row_types.Plus.{Plus}
 use Rattle.instruction_parts.specs.declared.row_types.Plus.TheVariants as plus
 use Rattle.instruction_parts.specs.declared.row_types.RowKind.{RowKind}
 use Rattle.instruction_parts.specs.declared.row_types.Row.{Row}
-use Rattle.row_fields.specs.Holds.{keep_if, opcode_holds}
-use Rattle.row_fields.specs.Candidates.{Coded, rows_with_codes, of_number, at_opcode, below}
-use Rattle.row_fields.proofs.Cands.{at_opcode-keep_if, below-at}
-use Rattle.row_fields.proofs.Apart.{cell_apart, kind_apart, table_apart}
+use Rattle.row_lists.specs.RowFields.Holds.{keep_if, opcode_holds}
+use Rattle.row_lists.specs.RowFields.Candidates.{Coded, rows_with_codes, of_number, at_opcode, below}
+use Rattle.row_lists.proofs.RowFields.Cands.{at_opcode-keep_if, below-at}
+use Rattle.row_lists.proofs.RowFields.Apart.{cell_apart, kind_apart, table_apart}
 use Rattle.row_lists.specs.declared.Span.{Span}
 use Rattle.row_lists.specs.Cells.{cell_span}
 use Rattle.row_lists.specs.Runs.{run_at, line_runs, first_number, spans_fit}

@@ -1,7 +1,7 @@
 -- The rows of each cell are a run of codes.
 use Rattle.std.proofs.Common.{◌≡◌, ℕ, Bool, true, refl, List, is_some, ◌+◌, ◌<◌, ◌≤◌, length, ◌-◌, arith}
-use Rattle.row_fields.specs.Candidates.{rows_with_codes, of_number, at_opcode, below, is_run}
-use Rattle.row_fields.proofs.Cands.{below-at}
+use Rattle.row_lists.specs.RowFields.Candidates.{rows_with_codes, of_number, at_opcode, below, is_run}
+use Rattle.row_lists.proofs.RowFields.Cands.{below-at}
 use Rattle.std.specs.Prelude.{Option, None, Some}
 use Rattle.std.proofs.lemmas.Option.{slice_get_within}
 use Rattle.instruction_parts.specs.declared.row_types.RowKind.{RowKind}

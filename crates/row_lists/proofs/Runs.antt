@@ -1,7 +1,7 @@
 -- A computed test that spans say where the rows of each cell lie, and what follows from it.
 use Rattle.std.proofs.Common.{◌≡◌, ℕ, Bool, true, false, zero, suc, ◌+◌, ◌-◌, refl, ap, sym, ◌∙◌, arith, List, [], ◌∷◌, ◌<◌, map, length, slice_get, option_map, inl, inr, lit<}
-use Rattle.row_fields.specs.Candidates.{Coded, rows_with_codes, of_number, at_opcode, below, is_run}
-use Rattle.row_fields.proofs.Cands.{at_opcode-keep_if, below-at}
+use Rattle.row_lists.specs.RowFields.Candidates.{Coded, rows_with_codes, of_number, at_opcode, below, is_run}
+use Rattle.row_lists.proofs.RowFields.Cands.{at_opcode-keep_if, below-at}
 use Rattle.std.specs.Prelude.{Option, Some, None, ◌==◌}
 use Rattle.std.proofs.lemmas.Option.{slice_get-map, slice_get_within}
 use Rattle.std.proofs.lemmas.List.{length-map}
@@ -10,9 +10,9 @@ use Rattle.instruction_parts.specs.declared.row_types.RowKind.{RowKind}
 use Rattle.instruction_parts.specs.declared.row_types.RowKind.TheVariants as kind
 use Rattle.instruction_parts.specs.declared.row_types.Map.{Map}
 use Rattle.instruction_parts.specs.declared.row_types.Map.TheVariants.{One, M0f, M0f38, M0f3a}
-use Rattle.row_fields.specs.Holds.{is_vex, map_number, keep_if, stands_in}
-use Rattle.row_fields.proofs.Cells.{length-is_run, code-is_run, rows-of_cell, table-at_code}
-use Rattle.row_fields.proofs.Apart.{bool_cases}
+use Rattle.row_lists.specs.RowFields.Holds.{is_vex, map_number, keep_if, stands_in}
+use Rattle.row_lists.proofs.RowFields.Cells.{length-is_run, code-is_run, rows-of_cell, table-at_code}
+use Rattle.row_lists.proofs.RowFields.Apart.{bool_cases}
 use Rattle.row_lists.specs.declared.Span.{Span}
 use Rattle.row_lists.specs.Cells.{map_index, line_number, cell_of, cell_span, IsRunOf}
 use Rattle.row_lists.specs.Runs.{run_at, line_runs, first_number, spans_fit, coded_cell}

@@ -1,7 +1,7 @@
 -- Spans that pass the computed test say where the rows of each cell lie.
 use Rattle.std.proofs.Common.{◌≡◌, ℕ, ◌+◌, ◌<◌, Bool, true, List, [], length, get_or, slice_get, refl, sym, subst, ◌∙◌}
-use Rattle.row_fields.specs.Candidates.{Coded, rows_with_codes, of_number, at_opcode}
-use Rattle.row_fields.proofs.Cands.{below-at}
+use Rattle.row_lists.specs.RowFields.Candidates.{Coded, rows_with_codes, of_number, at_opcode}
+use Rattle.row_lists.proofs.RowFields.Cands.{below-at}
 use Rattle.std.proofs.lemmas.Option.{slice_get-get_or, slice_get_within}
 use Rattle.std.specs.Prelude.{Option, None, Some}
 use Rattle.instruction_parts.specs.declared.row_types.Row.{Row}

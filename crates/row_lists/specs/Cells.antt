@@ -4,7 +4,7 @@ use Rattle.instruction_parts.specs.declared.row_types.Row.{Row}
 use Rattle.instruction_parts.specs.declared.row_types.RowKind.{RowKind}
 use Rattle.instruction_parts.specs.declared.row_types.Map.{Map}
 use Rattle.instruction_parts.specs.declared.row_types.Map.TheVariants.{One, M0f, M0f38, M0f3a}
-use Rattle.row_fields.specs.Holds.{is_vex, map_number, rows_at, stands_in}
+use Rattle.row_lists.specs.RowFields.Holds.{is_vex, map_number, rows_at, stands_in}
 use Rattle.row_lists.specs.declared.Span.{Span}
 
 -- the index of a map among the lines of cells

@@ -3,3 +3,4 @@ pub mod Cells
 pub mod Spans
 pub mod Runs
 pub mod Lists
+pub mod RowFields

@@ -6,7 +6,7 @@ use Rattle.instruction_parts.specs.declared.row_types.RowKind.TheVariants as kin
 use Rattle.instruction_parts.specs.declared.row_types.Map.{Map}
 use Rattle.row_lists.specs.declared.Span.{Span}
 use Rattle.row_lists.specs.Cells.{line_number, cell_span}
-use Rattle.row_fields.specs.Candidates.{Coded, rows_with_codes, of_number, at_opcode, below, is_run}
+use Rattle.row_lists.specs.RowFields.Candidates.{Coded, rows_with_codes, of_number, at_opcode, below, is_run}
 
 -- a span says where some rows lie: their codes follow one another from its first, and they are as many
 unfoldable pub run_at : Option Span → List Coded → Bool

@@ -1,6 +1,8 @@
 //! Rows as constant data, and the cells of a list of rows.
 #![tactic(auto)]
 
+pub mod row_fields;
+
 ghost use Rattle.std.specs.Prelude.{◌≡◌, ◌<◌, length, slice_get, Some};
 ghost use Rattle.row_lists.specs.Cells.{map_index, cell_of, cell_span};
 ghost use Rattle.row_lists.specs.declared.Span.{Span};

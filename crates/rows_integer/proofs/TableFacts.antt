@@ -1,6 +1,6 @@
 -- What is computed of the table.
 use Rattle.std.proofs.Common.{◌≡◌, true, refl, length}
-use Rattle.row_fields.specs.Candidates.{rows_with_codes, of_number, at_opcode, below, is_run}
+use Rattle.row_lists.specs.RowFields.Candidates.{rows_with_codes, of_number, at_opcode, below, is_run}
 use Rattle.instruction_parts.specs.declared.row_types.RowKind.TheVariants.{Legacy}
 use Rattle.row_lists.specs.Cells.{cell_span}
 use Rattle.row_lists.specs.Runs.{run_at, line_runs, spans_fit}

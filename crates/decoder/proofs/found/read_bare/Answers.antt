@@ -1,7 +1,7 @@
 use Rattle.std.proofs.Common.{◌≡◌, ◌+◌, ℕ, true, refl, ap, sym, ◌∙◌, subst, drop, Option}
 use Rattle.instruction_parts.specs.declared.row_types.Row.{Row}
 use Rattle.row_fit.specs.Fits.{immediates_bytes}
-use Rattle.row_fields.specs.Holds.{holds}
+use Rattle.row_lists.specs.RowFields.Holds.{holds}
 use Rattle.row_relation.specs.RowReading.{RowReads}
 use Rattle.opcode_rows.proofs.Sound.{sound-row}
 use Rattle.unique_spelling.specs.FieldsOf.{fields_of, first_byte}

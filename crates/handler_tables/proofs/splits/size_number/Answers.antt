@@ -1,5 +1,5 @@
 use Rattle.std.proofs.Common.{arith}
-use Rattle.row_fields.specs.FieldNumbers.{size_number}
+use Rattle.row_lists.specs.RowFields.FieldNumbers.{size_number}
 use Rattle.handler_tables.proofs.splits.size_number.Goals as goal
 
 pub returns-in-B16 : goal.returns-in-B16

@@ -2,9 +2,9 @@ use Rattle.std.proofs.Common.{is_some, ◌≡◌, ◌<◌, ◌≤◌, ◌+◌, �
 use Rattle.std.proofs.lemmas.Option.{slice_get_within}
 use Rattle.x86_values.specs.declared.Bits.{Bits}
 use Rattle.prefixes.specs.Answer.{mode_of}
-use Rattle.row_fields.specs.declared.Fields.{Fields}
-use Rattle.row_fields.proofs.Apart.{map_number-lt}
-use Rattle.row_fields.proofs.Holding.{nowhere, only_row}
+use Rattle.row_lists.specs.declared.row_fields.Fields.{Fields}
+use Rattle.row_lists.proofs.RowFields.Apart.{map_number-lt}
+use Rattle.row_lists.proofs.RowFields.Holding.{nowhere, only_row}
 use Rattle.opcode_rows.specs.Table.{table}
 use Rattle.handler_tables.specs.Nodes.{nodes2, nodes3, nodes4, nodes8, splits2, splits3, splits4, splits8}
 use Rattle.unique_spelling.specs.FieldsOf.{fields_of}

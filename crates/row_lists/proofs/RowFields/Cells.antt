@@ -1,13 +1,13 @@
 -- The rows of a cell as a run of codes.
 use Rattle.std.proofs.Common.{◌≡◌, ℕ, zero, suc, pred, ◌+◌, ◌<◌, Bool, true, false, ◌&&◌, List, [], ◌∷◌, length, map, slice_get, refl, ap, sym, ◌∙◌, arith, inl, inr, eqb-true, nat_lt, ltb-true}
 use Rattle.std.proofs.lemmas.Bool.{and_parts}
-use Rattle.row_fields.specs.Candidates.{Coded, rows_with_codes, of_number, at_opcode}
-use Rattle.row_fields.proofs.Cands.{at_opcode-keep_if}
+use Rattle.row_lists.specs.RowFields.Candidates.{Coded, rows_with_codes, of_number, at_opcode}
+use Rattle.row_lists.proofs.RowFields.Cands.{at_opcode-keep_if}
 use Rattle.std.specs.Prelude.{◌==◌, Some}
 use Rattle.instruction_parts.specs.declared.row_types.Row.{Row}
-use Rattle.row_fields.specs.Holds.{keep_if, stands_in, is_vex, opcode_holds, map_number, rows_at}
-use Rattle.row_fields.proofs.Apart.{bool_cases}
-use Rattle.row_fields.specs.Candidates.{is_run}
+use Rattle.row_lists.specs.RowFields.Holds.{keep_if, stands_in, is_vex, opcode_holds, map_number, rows_at}
+use Rattle.row_lists.proofs.RowFields.Apart.{bool_cases}
+use Rattle.row_lists.specs.RowFields.Candidates.{is_run}
 
 pub length-is_run : (first count : ℕ) (cs : List Coded) → is_run first count cs ≡ true → length cs ≡ count
 unfolding is_run

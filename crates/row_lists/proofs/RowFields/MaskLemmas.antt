@@ -12,11 +12,11 @@ use Rattle.x86_values.specs.declared.Bits.{Bits}
 use Rattle.x86_values.specs.declared.Bits.TheVariants.{B16, B32, B64}
 use Rattle.instruction_parts.specs.Counting.{is_64}
 use Rattle.instruction_parts.specs.Sizes.{exists_in, operand_size, has_bang}
-use Rattle.row_fields.specs.declared.Fields.{Fields}
-use Rattle.row_fields.specs.Holds.{holds, stands_in, map_number, byte_of, byte_holds, prefix_of, prefix_holds, place_holds, reg_holds, rm_holds, size_allows, size_holds, w_holds, l_holds, rex_b_holds}
+use Rattle.row_lists.specs.declared.row_fields.Fields.{Fields}
+use Rattle.row_lists.specs.RowFields.Holds.{holds, stands_in, map_number, byte_of, byte_holds, prefix_of, prefix_holds, place_holds, reg_holds, rm_holds, size_allows, size_holds, w_holds, l_holds, rex_b_holds}
 use Rattle.instruction_parts.specs.Bytes.{bit}
-use Rattle.row_fields.specs.FieldNumbers.{plain_size, size_number}
-use Rattle.row_fields.specs.Masks.{nth, allows, meets, two, three, four, reg_mask, rm_mask, marked_size, size_mask, masks, values}
+use Rattle.row_lists.specs.RowFields.FieldNumbers.{plain_size, size_number}
+use Rattle.row_lists.specs.RowFields.Masks.{nth, allows, meets, two, three, four, reg_mask, rm_mask, marked_size, size_mask, masks, values}
 
 pub both : {a b c d : Bool} → a ≡ b → c ≡ d → (a && c) ≡ (b && d)
 both p q = cc

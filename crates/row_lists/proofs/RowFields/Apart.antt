@@ -1,17 +1,17 @@
 -- Rows of one cell that no values meet together.
 use Rattle.std.proofs.Common.{◌≡◌, ℕ, zero, suc, ◌<◌, ◌≤◌, Bool, true, false, not, ◌&&◌, ◌||◌, List, [], ◌∷◌, length, refl, sym, ◌∙◌, arith, inl, inr, eqb-true, eq-eqb, lit<}
 use Rattle.std.proofs.lemmas.Bool.{and_parts}
-use Rattle.row_fields.specs.Candidates.{Cand, Coded, rows_with_codes, of_number, at_opcode, cands, alive, below}
-use Rattle.row_fields.proofs.Cands.{alive-cands, below-at}
+use Rattle.row_lists.specs.RowFields.Candidates.{Cand, Coded, rows_with_codes, of_number, at_opcode, cands, alive, below}
+use Rattle.row_lists.proofs.RowFields.Cands.{alive-cands, below-at}
 use Rattle.std.specs.Prelude.{◌==◌, ◌⊎◌}
 use Rattle.instruction_parts.specs.declared.row_types.Row.{Row}
 use Rattle.instruction_parts.specs.declared.row_types.Map.{Map}
 use Rattle.instruction_parts.specs.declared.row_types.Map.TheVariants as map
 use Rattle.x86_values.specs.declared.Bits.{Bits}
 use Rattle.x86_values.specs.declared.Bits.TheVariants.{B16, B32, B64}
-use Rattle.row_fields.specs.declared.Fields.{Fields}
-use Rattle.row_fields.specs.Holds.{map_number, codes_holding}
-use Rattle.row_fields.specs.Masks.{Mask, free, only, oneof, nth, allows, meets, values}
+use Rattle.row_lists.specs.declared.row_fields.Fields.{Fields}
+use Rattle.row_lists.specs.RowFields.Holds.{map_number, codes_holding}
+use Rattle.row_lists.specs.RowFields.Masks.{Mask, free, only, oneof, nth, allows, meets, values}
 
 unfoldable pub disjoint : List Bool → List Bool → Bool
 disjoint [] ys = true

@@ -1,5 +1,4 @@
 //! What the conditions of a row ask of an instruction's bytes, as nine fields.
-#![tactic(auto)]
 
 pub use instruction_parts::row_types::Map;
 pub use x86_values::Rep;

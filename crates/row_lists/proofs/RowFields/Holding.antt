@@ -3,9 +3,9 @@ use Rattle.std.proofs.Common.{◌≡◌, ℕ, zero, suc, ◌+◌, ◌≤◌, Boo
 use Rattle.std.specs.Prelude.{Some}
 use Rattle.instruction_parts.specs.declared.row_types.Row.{Row}
 use Rattle.x86_values.specs.declared.Bits.{Bits}
-use Rattle.row_fields.specs.declared.Fields.{Fields}
-use Rattle.row_fields.specs.Holds.{holds, codes_holding, HoldsNowhere, IsOnlyRow, RowsAreApart}
-use Rattle.row_fields.proofs.Apart.{bool_cases}
+use Rattle.row_lists.specs.declared.row_fields.Fields.{Fields}
+use Rattle.row_lists.specs.RowFields.Holds.{holds, codes_holding, HoldsNowhere, IsOnlyRow, RowsAreApart}
+use Rattle.row_lists.proofs.RowFields.Apart.{bool_cases}
 
 cons-empty : (n : ℕ) (ns : List ℕ) → n ∷ ns ≡ [] → ⊥
 cons-empty n ns h = cc

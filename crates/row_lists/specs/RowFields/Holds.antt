@@ -24,7 +24,7 @@ use Rattle.instruction_parts.specs.declared.row_types.LBit.{LBit}
 use Rattle.instruction_parts.specs.declared.row_types.LBit.TheVariants as l
 use Rattle.instruction_parts.specs.Counting.{is_16, is_32, is_64}
 use Rattle.instruction_parts.specs.Sizes.{exists_in, operand_size}
-use Rattle.row_fields.specs.declared.Fields.{Fields}
+use Rattle.row_lists.specs.declared.row_fields.Fields.{Fields}
 
 -- ---- where a row stands
 

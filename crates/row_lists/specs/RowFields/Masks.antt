@@ -5,13 +5,13 @@ use Rattle.instruction_parts.specs.declared.row_types.Plus.{Plus}
 use Rattle.instruction_parts.specs.declared.row_types.Plus.TheVariants as plus
 use Rattle.instruction_parts.specs.declared.row_types.ModRmRule.{ModRmRule}
 use Rattle.instruction_parts.specs.declared.row_types.ModRmRule.TheVariants as rule
-use Rattle.row_fields.specs.declared.Fields.{Fields}
+use Rattle.row_lists.specs.declared.row_fields.Fields.{Fields}
 use Rattle.x86_values.specs.declared.Bits.{Bits}
 use Rattle.x86_values.specs.declared.Bits.TheVariants.{B16, B32, B64}
 use Rattle.instruction_parts.specs.Bytes.{bit}
 use Rattle.instruction_parts.specs.Sizes.{has_bang, has_caret}
-use Rattle.row_fields.specs.FieldNumbers.{plain_size, size_number}
-use Rattle.row_fields.specs.Holds.{byte_of, byte_holds, prefix_of, prefix_holds, place_holds, size_allows, w_holds, l_holds, rex_b_holds}
+use Rattle.row_lists.specs.RowFields.FieldNumbers.{plain_size, size_number}
+use Rattle.row_lists.specs.RowFields.Holds.{byte_of, byte_holds, prefix_of, prefix_holds, place_holds, size_allows, w_holds, l_holds, rex_b_holds}
 
 -- the values that a field may have
 pub data Mask : Type 0 where

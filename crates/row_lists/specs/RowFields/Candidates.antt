@@ -3,8 +3,8 @@ use Rattle.std.specs.Prelude.{ℕ, zero, suc, Bool, true, false, ◌&&◌, List,
 use Rattle.instruction_parts.specs.declared.row_types.Row.{Row}
 use Rattle.x86_values.specs.declared.Bits.{Bits}
 use Rattle.instruction_parts.specs.Sizes.{exists_in}
-use Rattle.row_fields.specs.Holds.{keep_if, is_vex, opcode_holds, map_number}
-use Rattle.row_fields.specs.Masks.{Mask, free, allows, meets, masks}
+use Rattle.row_lists.specs.RowFields.Holds.{keep_if, is_vex, opcode_holds, map_number}
+use Rattle.row_lists.specs.RowFields.Masks.{Mask, free, allows, meets, masks}
 
 -- a row with its code
 pub record Coded : Type 0 where

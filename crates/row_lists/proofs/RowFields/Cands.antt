@@ -5,11 +5,11 @@ use Rattle.std.specs.Prelude.{◌==◌}
 use Rattle.instruction_parts.specs.declared.row_types.Row.{Row}
 use Rattle.x86_values.specs.declared.Bits.{Bits}
 use Rattle.instruction_parts.specs.Sizes.{exists_in}
-use Rattle.row_fields.specs.declared.Fields.{Fields}
-use Rattle.row_fields.specs.Holds.{holds, keep_if, codes_holding, is_vex, opcode_holds, map_number}
-use Rattle.row_fields.specs.Masks.{Mask, free, only, oneof, allows, meets, masks, values}
-use Rattle.row_fields.proofs.MaskLemmas.{holds-masks}
-use Rattle.row_fields.specs.Candidates.{Coded, Cand, rows_with_codes, of_number, at_opcode, cands, alive, mask_at, value_at, clear, keep, is_empty, is_free, all_free, is_one, below}
+use Rattle.row_lists.specs.declared.row_fields.Fields.{Fields}
+use Rattle.row_lists.specs.RowFields.Holds.{holds, keep_if, codes_holding, is_vex, opcode_holds, map_number}
+use Rattle.row_lists.specs.RowFields.Masks.{Mask, free, only, oneof, allows, meets, masks, values}
+use Rattle.row_lists.proofs.RowFields.MaskLemmas.{holds-masks}
+use Rattle.row_lists.specs.RowFields.Candidates.{Coded, Cand, rows_with_codes, of_number, at_opcode, cands, alive, mask_at, value_at, clear, keep, is_empty, is_free, all_free, is_one, below}
 
 pub at_opcode-keep_if : (op : ℕ) (b : Bool) (c : Coded) (cs : List Coded)
     → at_opcode op (keep_if b c cs) ≡ keep_if (b && opcode_holds c.row.plus c.row.opcode op) c (at_opcode op cs)
