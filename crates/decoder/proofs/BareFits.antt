@@ -31,8 +31,8 @@ use Rattle.row_fit.specs.Fits.{immediates_bytes, immediate_bytes, is_any_mode, i
 use Rattle.row_fit.specs.Sound.{has_modrm_rule}
 use Rattle.row_lists.specs.declared.row_fields.Fields.{Fields}
 use Rattle.row_lists.specs.RowFields.Holds.{is_vex, map_number, stands_in, opcode_holds, prefix_of, class_allows, prefix_holds, byte_of, byte_holds, place_holds, reg_holds, rm_holds, size_allows, size_holds, w_holds, l_holds, rex_b_holds, holds}
-use Rattle.unique_spelling.proofs.Parts.{legacy-class}
-use Rattle.unique_spelling.specs.FieldsOf.{fields_of, first_byte, repeat_of, size66_of, w_of}
+use Rattle.opcode_rows.proofs.UniqueSpelling.Parts.{legacy-class}
+use Rattle.opcode_rows.specs.UniqueSpelling.FieldsOf.{fields_of, first_byte, repeat_of, size66_of, w_of}
 use Rattle.modrm_sib.specs.Parts.{modrm_of_byte, lead_fits, parts_fit, modrm_in}
 use Rattle.rows_integer.specs.Table.{table as integer_rows, flat_rows as integer_flat}
 use Rattle.rows_x87.specs.Table.{table as x87_rows, flat_rows as x87_flat}

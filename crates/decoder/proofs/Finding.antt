@@ -9,8 +9,8 @@ use Rattle.instruction_parts.specs.Front.{Known, long_front, front_of}
 use Rattle.row_relation.specs.Spells.{SpellsNothing}
 use Rattle.row_lists.specs.RowFields.Holds.{holds, HoldsNowhere, IsOnlyRow}
 use Rattle.opcode_rows.specs.Table.{table}
-use Rattle.unique_spelling.specs.FieldsOf.{fields_of, first_byte}
-use Rattle.unique_spelling.proofs.Unique.{row-holds}
+use Rattle.opcode_rows.specs.UniqueSpelling.FieldsOf.{fields_of, first_byte}
+use Rattle.opcode_rows.proofs.UniqueSpelling.Unique.{row-holds}
 use Rattle.decoder.specs.Cells.{RowIsLate}
 use Rattle.decoder.proofs.Fronts.{known_is}
 use Rattle.decoder.proofs.ReadingLaws.{IsAtFront, at_front}

@@ -12,7 +12,7 @@ use Rattle.row_meaning.specs.Meaning.{meaning}
 use Rattle.row_relation.specs.Spells.{Reading, Read, TooShort, Invalid, ReadsAs}
 use Rattle.opcode_rows.specs.Table.{table}
 use Rattle.opcode_rows.specs.Reading.{IsRead}
-use Rattle.unique_spelling.proofs.Unique.{unique}
+use Rattle.opcode_rows.proofs.UniqueSpelling.Unique.{unique}
 use Rattle.decoder.specs.declared.DecodeError.{DecodeError}
 use Rattle.decoder.specs.Answer.{reading_of, IsOnlyReading}
 use Rattle.decoder.proofs.ReadingLaws.{at_front}

@@ -17,7 +17,7 @@ pub use items::{Item, Items};
 pub use modrm_sib::UNREAD;
 pub use reading::{decode, decode_counted};
 use thiserror::Error;
-pub use unique_spelling::laws;
+pub use opcode_rows::unique_spelling::laws;
 
 /// Why bytes are not read as an instruction.
 #[derive(Clone, Copy, PartialEq, Eq, Debug, Error)]

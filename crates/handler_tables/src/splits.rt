@@ -5,7 +5,7 @@ ghost use Rattle.row_lists.specs.RowFields.Holds.{map_number, prefix_of, byte_of
 ghost use Rattle.row_lists.specs.RowFields.FieldNumbers.{size_number, plain_size};
 ghost use Rattle.instruction_parts.specs.Bytes as parts;
 ghost use Rattle.instruction_parts.specs.Counting.{rex_bit};
-ghost use Rattle.unique_spelling.specs.FieldsOf as fields;
+ghost use Rattle.opcode_rows.specs.UniqueSpelling.FieldsOf as fields;
 ghost use Rattle.handler_tables.specs.Splits.{field_at};
 
 use crate::node::Split;
@@ -18,7 +18,7 @@ use x86_values::Bits;
 /// The number of what a node splits by, from a front and the byte behind its opcode byte.
 // Not built into the walk: there each of these numbers would be made before the first node, and most walks need one or two.
 #[inline(never)]
-#[tactic(auto, unfolding(unique_spelling::specs::FieldsOf::fields_of))]
+#[tactic(auto, unfolding(opcode_rows::specs::UniqueSpelling::FieldsOf::fields_of))]
 pub(crate) fn field_of<const BITS: u32>(
     split: Split,
     state: &PrefixState,
@@ -43,7 +43,7 @@ pub(crate) fn field_of<const BITS: u32>(
 
 /// The number of the field by which a node of three entries splits: mostly the mode or the operand size, which are told before the others.
 #[inline(always)]
-#[tactic(auto, unfolding(unique_spelling::specs::FieldsOf::fields_of))]
+#[tactic(auto, unfolding(opcode_rows::specs::UniqueSpelling::FieldsOf::fields_of))]
 pub(crate) fn size_field_of<const BITS: u32>(
     split: Split,
     state: &PrefixState,

@@ -4,7 +4,7 @@ ghost use Rattle.prefixes.specs.Answer.{is_mode, mode_of};
 ghost use Rattle.row_lists.specs.RowFields.Holds.{HoldsNowhere, IsOnlyRow};
 ghost use Rattle.opcode_rows.specs.Table.{table};
 ghost use Rattle.handler_tables.specs.Nodes.{nodes2, nodes3, nodes4, nodes8, nodes256, splits2, splits3, splits4, splits8};
-ghost use Rattle.unique_spelling.specs.FieldsOf.{fields_of};
+ghost use Rattle.opcode_rows.specs.UniqueSpelling.FieldsOf.{fields_of};
 ghost use Rattle.handler_tables.specs.Splits.{width_of, field_at, root_of};
 
 use crate::generated_nodes::{

@@ -14,3 +14,4 @@ pub mod Order
 pub mod Standing
 pub mod Growth
 pub mod Versions
+pub mod UniqueSpelling

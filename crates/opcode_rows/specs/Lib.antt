@@ -8,3 +8,4 @@ pub mod Reading
 pub mod Sweep
 pub mod Order
 pub mod Versions
+pub mod UniqueSpelling

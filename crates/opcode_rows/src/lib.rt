@@ -4,6 +4,7 @@
 //! stand behind them; `laws` says that nothing else changed with them.
 #![tactic(auto)]
 
+pub mod unique_spelling;
 mod by_name;
 mod form;
 mod generated_cells;

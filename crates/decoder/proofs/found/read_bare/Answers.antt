@@ -4,7 +4,7 @@ use Rattle.row_fit.specs.Fits.{immediates_bytes}
 use Rattle.row_lists.specs.RowFields.Holds.{holds}
 use Rattle.row_relation.specs.RowReading.{RowReads}
 use Rattle.opcode_rows.proofs.Sound.{sound-row}
-use Rattle.unique_spelling.specs.FieldsOf.{fields_of, first_byte}
+use Rattle.opcode_rows.specs.UniqueSpelling.FieldsOf.{fields_of, first_byte}
 use Rattle.decoder.specs.Bare.{row_is_bare}
 use Rattle.decoder.specs.Cells.{RowIsLate}
 use Rattle.decoder.proofs.BareFits.{known-of_row, known-bare, known-immediates, bare-fits, bare-one, bare-mode, bare-offset, front-of_drop, first-is_byte}

@@ -9,7 +9,7 @@ use Rattle.row_lists.specs.RowFields.Holds.{holds, HoldsNowhere, IsOnlyRow}
 use Rattle.opcode_rows.specs.Table.{table}
 use Rattle.opcode_rows.proofs.JoinFacts.{length-table}
 use Rattle.opcode_rows.proofs.Sound.{sound-row}
-use Rattle.unique_spelling.specs.FieldsOf.{fields_of}
+use Rattle.opcode_rows.specs.UniqueSpelling.FieldsOf.{fields_of}
 use Rattle.decoder.specs.Cells.{RowIsLate}
 use Rattle.decoder.proofs.Formed.{read_is_well_formed}
 use Rattle.decoder.proofs.ReadingLaws.{reads}

@@ -1,6 +1,6 @@
 use Rattle.std.proofs.Common.{◌<◌, arith}
 use Rattle.prefixes.specs.Answer.{mode_of}
-use Rattle.unique_spelling.specs.FieldsOf.{fields_of}
+use Rattle.opcode_rows.specs.UniqueSpelling.FieldsOf.{fields_of}
 use Rattle.handler_tables.specs.Splits.{width_of, field_at}
 use Rattle.handler_tables.proofs.FieldLemmas.{field_at-lt}
 use Rattle.handler_tables.proofs.walk.along.Goals as goal

@@ -7,7 +7,7 @@ use Rattle.row_lists.proofs.RowFields.Apart.{map_number-lt}
 use Rattle.row_lists.proofs.RowFields.Holding.{nowhere, only_row}
 use Rattle.opcode_rows.specs.Table.{table}
 use Rattle.handler_tables.specs.Nodes.{nodes2, nodes3, nodes4, nodes8, splits2, splits3, splits4, splits8}
-use Rattle.unique_spelling.specs.FieldsOf.{fields_of}
+use Rattle.opcode_rows.specs.UniqueSpelling.FieldsOf.{fields_of}
 use Rattle.handler_tables.specs.Splits.{width_of, field_at}
 use Rattle.handler_tables.specs.declared.node.Next.{Next}
 use Rattle.handler_tables.specs.declared.node.Split.{Split}

@@ -1,6 +1,6 @@
 use Rattle.std.proofs.Common.{◌≡◌, ◌+◌, ◌-◌}
 use Rattle.prefixes.specs.Answer.{mode_of}
-use Rattle.unique_spelling.specs.FieldsOf.{fields_of}
+use Rattle.opcode_rows.specs.UniqueSpelling.FieldsOf.{fields_of}
 use Rattle.handler_tables.proofs.TreeLemmas.{OnPath}
 use Rattle.handler_tables.proofs.walk.find.Given as goal
 

@@ -1,4 +1,3 @@
 //! That bytes have at most one spelling over the opcode table: decoding them is a function.
-#![tactic(auto)]
 
 pub mod laws;

@@ -24,10 +24,10 @@ use Rattle.row_fit.specs.Sound.{sound, kind_is_proper, legacy_is_proper, vex_is_
 use Rattle.row_fit.proofs.FitLaws.{all_conditions, modrm_range}
 use Rattle.row_fit.proofs.SoundLaws.{sound_conditions}
 use Rattle.row_lists.specs.RowFields.Holds.{holds, at_90, adds_register, prefix_of, prefix_holds, class_allows, rex_b_at_90, rex_b_holds, byte_of, size_allows, size_holds, w_as_size, w_allows, w_holds, l_holds}
-use Rattle.unique_spelling.specs.FieldsOf.{fields_of, repeat_of, repeat_of_pp, size66_of, w_of, l_of}
+use Rattle.opcode_rows.specs.UniqueSpelling.FieldsOf.{fields_of, repeat_of, repeat_of_pp, size66_of, w_of, l_of}
 use Rattle.opcode_rows.proofs.Standing.{VexSays, vex-says, stands, opcode-parts}
-use Rattle.unique_spelling.proofs.Parts.{nop-byte, legacy-class, vex-class, nf3, rex-64, size-allowed, size-of_vex, w-as_size, w-of_legacy, w-of_vex, l-of_legacy, l-of_vex}
-use Rattle.unique_spelling.proofs.ModRmParts.{ByteMeets, no_rule, byte-met}
+use Rattle.opcode_rows.proofs.UniqueSpelling.Parts.{nop-byte, legacy-class, vex-class, nf3, rex-64, size-allowed, size-of_vex, w-as_size, w-of_legacy, w-of_vex, l-of_legacy, l-of_vex}
+use Rattle.opcode_rows.proofs.UniqueSpelling.ModRmParts.{ByteMeets, no_rule, byte-met}
 
 -- ---- where the row stands
 

@@ -17,8 +17,8 @@ use Rattle.row_lists.specs.RowFields.Holds.{holds}
 use Rattle.opcode_rows.specs.Table.{table}
 use Rattle.opcode_rows.proofs.Sound.{sound-row}
 use Rattle.opcode_rows.proofs.Apart.{rows_apart}
-use Rattle.unique_spelling.specs.FieldsOf.{fields_of, first_byte}
-use Rattle.unique_spelling.proofs.Bridge.{NextIs, fit-holds, opcode-lt}
+use Rattle.opcode_rows.specs.UniqueSpelling.FieldsOf.{fields_of, first_byte}
+use Rattle.opcode_rows.proofs.UniqueSpelling.Bridge.{NextIs, fit-holds, opcode-lt}
 
 of_modrm : (m : Option ModRm) (more rest : List ℕ) → NextIs m (first_byte ((modrm_bytes m ++ more) ++ rest))
 of_modrm None more rest = tt

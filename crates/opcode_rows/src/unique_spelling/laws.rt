@@ -7,7 +7,7 @@ ghost use Rattle.instruction_parts.specs.Bytes.{bytes_of, state_of, tail_bytes};
 ghost use Rattle.row_fit.specs.Fits.{fits};
 ghost use Rattle.row_lists.specs.RowFields.Holds.{holds};
 ghost use Rattle.opcode_rows.specs.Table.{table};
-ghost use Rattle.unique_spelling.specs.FieldsOf.{fields_of, first_byte};
+ghost use Rattle.opcode_rows.specs.UniqueSpelling.FieldsOf.{fields_of, first_byte};
 
 /// Where a spelling fits a row of the table, the row's conditions hold on the nine fields that the spelling's prefixes, VEX, opcode byte and the
 /// byte behind it give, whatever stands behind the spelling.
