@@ -24,7 +24,7 @@ use Rattle.plain_form.specs.Given.{Given}
 use Rattle.plain_form.proofs.FitPlaces.{modrm_fits}
 use Rattle.plain_form.proofs.FitAddressLengths.{tail_fits}
 use Rattle.plain_form.proofs.FitLengths.{used_is, plain_long}
-use Rattle.plain_laws.proofs.Exact.{writable_row}
+use Rattle.plain_form.proofs.PlainLaws.Exact.{writable_row}
 use Rattle.row_relation.specs.PlainBytes.{plain_tail_bytes, tail_count}
 use Rattle.prefixes.specs.Written.{front_written}
 use Rattle.modrm_sib.proofs.WrittenTail.{bytes-parted}

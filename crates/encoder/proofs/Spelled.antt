@@ -16,7 +16,7 @@ use Rattle.plain_spelling.proofs.Failures.{failure-suits}
 use Rattle.plain_form.proofs.FitLengths.{plain_long}
 use Rattle.plain_form.specs.GivenSpelling.{Given}
 use Rattle.plain_form.proofs.NeedWhole.{NeedsHold, needs_hold}
-use Rattle.plain_laws.proofs.Exact.{writable_row}
+use Rattle.plain_form.proofs.PlainLaws.Exact.{writable_row}
 use Rattle.opcode_rows.specs.Table.{table}
 use Rattle.encoder.specs.Encoding.{encoding, encoded_by, plain_bytes}
 use Rattle.encoder.specs.Facts.{SuitsElsewhere}

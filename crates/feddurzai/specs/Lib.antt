@@ -21,7 +21,7 @@ pub use Rattle.code_items.specs.Items as CodeItems
 pub use Rattle.code_items.specs.Iteration
 -- writing and texts
 pub use Rattle.encoder.specs.Encoding
-pub use Rattle.plain_laws.specs.Plain
+pub use Rattle.plain_form.specs.PlainLaws.Plain
 pub use Rattle.intel_reader.specs.Assembled
 pub use Rattle.intel_text.specs.Text as IntelText
 pub use Rattle.att_text.specs.Text as AttText

@@ -9,7 +9,7 @@ use Rattle.x86_values.specs.declared.Code.{Code}
 use Rattle.x86_values.specs.declared.Instr.{Instr}
 use Rattle.x86_values.specs.Wrapping.{modulo_width}
 use Rattle.instruction_parts.specs.declared.row_types.Row.{Row}
-use Rattle.plain_laws.specs.Plain.{IsPlainlySpelled}
+use Rattle.plain_form.specs.PlainLaws.Plain.{IsPlainlySpelled}
 use Rattle.opcode_rows.specs.declared.generated_spots.TheConstants.{ROWS}
 use Rattle.opcode_rows.specs.Table.{table, name_of}
 use Rattle.opcode_rows.specs.Allowed.{is_well_formed}

@@ -34,8 +34,8 @@ use Rattle.plain_spelling.specs.PlainTail.{byte_count, plain_modrm, operand_disp
 use Rattle.plain_spelling.proofs.Asked.{address_operand-at, reads_address}
 use Rattle.plain_form.specs.Given.{Given}
 use Rattle.plain_form.proofs.FitLengths.{plain_long}
-use Rattle.plain_laws.specs.Plain.{IsPlainlySpelled}
-use Rattle.plain_laws.proofs.Exact.{plain_from}
+use Rattle.plain_form.specs.PlainLaws.Plain.{IsPlainlySpelled}
+use Rattle.plain_form.proofs.PlainLaws.Exact.{plain_from}
 use Rattle.opcode_rows.specs.Table.{table}
 use Rattle.encoder.proofs.OverTable.{written_table, none_fails, only_one}
 use Rattle.intel_words.specs.declared.words.IntelWords.{IntelWords}

@@ -21,8 +21,8 @@ use Rattle.opcode_rows.proofs.Sound.{sound-row}
 use Rattle.plain_spelling.specs.Forms.{operand_at}
 use Rattle.plain_spelling.proofs.Failures.{failure-suits}
 use Rattle.plain_form.specs.Given.{Given}
-use Rattle.plain_laws.specs.Plain.{IsPlainlySpelled}
-use Rattle.plain_laws.proofs.Exact.{given_fit}
+use Rattle.plain_form.specs.PlainLaws.Plain.{IsPlainlySpelled}
+use Rattle.plain_form.proofs.PlainLaws.Exact.{given_fit}
 use Rattle.encoder.proofs.OverTable.{written_table, none_fails}
 use Rattle.decoder.proofs.Formed.{meaning_formed}
 use Rattle.text_parts.specs.Layout.{is_long, long_at, has_one_long}

@@ -62,3 +62,4 @@ pub mod Values
 pub mod Tails
 pub mod Immediates
 pub mod One
+pub mod PlainLaws

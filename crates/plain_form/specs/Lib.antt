@@ -1,3 +1,4 @@
 pub mod IsPlain
 pub mod Given
 pub mod GivenSpelling
+pub mod PlainLaws

@@ -5,7 +5,7 @@ use Rattle.x86_values.specs.declared.Bits.{Bits}
 use Rattle.x86_values.specs.declared.Instr.{Instr}
 use Rattle.instruction_parts.specs.declared.row_types.Row.{Row}
 use Rattle.row_relation.specs.Spells.{Spells, ReadsAs}
-use Rattle.plain_laws.specs.Plain.{IsPlainlySpelled}
+use Rattle.plain_form.specs.PlainLaws.Plain.{IsPlainlySpelled}
 
 pub plain_spells : (table : List Row) (bits : Bits) (ip : ℕ) (bytes : List ℕ) (i : Instr) → IsPlainlySpelled table bits ip bytes i → Spells table bits ip bytes i
 plain_spells table bits ip bytes i p =

@@ -36,7 +36,7 @@ use Rattle.plain_form.proofs.PlainIs.{plain_is}
 use Rattle.plain_form.proofs.Lengths.{length_same, four_of}
 use Rattle.plain_form.proofs.One.{one_plain}
 use Rattle.row_relation.specs.Spells.{IsSpelledBy, SpellsUnbounded}
-use Rattle.plain_laws.specs.Plain.{IsPlainlySpelled, IsWritable, is_target, has_target}
+use Rattle.plain_form.specs.PlainLaws.Plain.{IsPlainlySpelled, IsWritable, is_target, has_target}
 use Rattle.plain_spelling.proofs.Failures.{failure-suits, suits-failure}
 
 -- ---- a writable row in a mode in which it exists
