@@ -84,7 +84,7 @@ pub mod rows {
         ROWS, VERSION1_ROWS, cell_len, code_of, first_of, laws, name, name as mnemonic, row,
         row_of, well_formed,
     };
-    pub use row_lines::{notation_of, row_line};
+    pub use text_rows::row_lines::{notation_of, row_line};
     pub use row_notation::{NotationFault, read_notation, shape_of, write_notation};
     pub use row_relation::{
         ModRm, PrefixState, Sib, Spelling, Vex, row_fits, row_meaning, row_memory_size,

@@ -19,7 +19,7 @@ use Rattle.encoder.specs.Encoding.{encoding}
 use Rattle.intel_text.specs.Text.{text as intel_text}
 use Rattle.att_text.specs.Text.{text as att_text}
 use Rattle.masm_text.specs.Text.{text as masm_text}
-use Rattle.row_lines.specs.Lines.{notation_at}
+use Rattle.text_rows.specs.RowLines.Lines.{notation_at}
 use Rattle.text_parts.specs.declared.style.Style.{Style}
 use Rattle.text_parts.specs.declared.style.Style.TheVariants.{Intel, Att, Masm}
 use Rattle.feddurzai_c.specs.declared.refusal.Refusal.{Refusal}

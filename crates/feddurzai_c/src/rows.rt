@@ -6,7 +6,7 @@ ghost use Rattle.feddurzai_c.specs.Answers as spec;
 use crate::refusal::{Refusal, refusal_status};
 use crate::room::put_text;
 use opcode_rows::ROWS;
-use row_lines::notation_of;
+use text_rows::row_lines::notation_of;
 use std::str::from_utf8;
 use x86_values::Code;
 

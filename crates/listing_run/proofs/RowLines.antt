@@ -4,7 +4,7 @@ use Rattle.std.specs.List.{flat_map, range_with_len}
 use Rattle.std.proofs.lemmas.List.{flat_map_more}
 use Rattle.std.proofs.lemmas.List.Folds.{flat_map-map}
 use Rattle.std.proofs.lemmas.List.FromFn.{map-range_with_len_more}
-use Rattle.row_lines.specs.Lines.{row_line}
+use Rattle.text_rows.specs.RowLines.Lines.{row_line}
 use Rattle.byte_ports.specs.Ports.{with_back}
 use Rattle.run_parts.specs.Facts.{HeldFacts}
 use Rattle.run_parts.specs.Writing.{HoldsFront, Moves, HeldText}

@@ -2,7 +2,7 @@
 use Rattle.std.specs.Prelude.{ℕ, List}
 use Rattle.std.specs.List.{flat_map, range_with_len}
 use Rattle.opcode_rows.specs.declared.generated_spots.TheConstants.{ROWS}
-use Rattle.row_lines.specs.Lines.{row_line}
+use Rattle.text_rows.specs.RowLines.Lines.{row_line}
 
 -- the lines of the codes below a number, in their order
 unfoldable pub lines_below : ℕ → List ℕ

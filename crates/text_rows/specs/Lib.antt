@@ -1,2 +1,3 @@
 pub mod AtRow
 pub mod BracketText
+pub mod RowLines

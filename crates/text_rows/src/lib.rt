@@ -1,6 +1,8 @@
 //! The row and the name that a well-formed instruction is printed by, with what keeps its text short, and the text in a style with brackets.
 #![tactic(auto)]
 
+pub mod row_lines;
+
 ghost use Rattle.std.specs.Prelude.{◌≡◌, ◌≤◌, ◌+◌, ◌++◌, length, slice_get, Some, IsTrue};
 ghost use Rattle.arrayvec.specs.ArrayVec.{array_vec_len};
 ghost use Rattle.row_fit.specs.Sound.{sound};

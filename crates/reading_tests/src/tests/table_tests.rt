@@ -5,7 +5,7 @@ ghost use Rattle.std.specs.Prelude.{◌≡◌, ◌<◌};
 use crate::tests::compare::{same_of, same_text, same_value};
 use arrayvec::ArrayVec;
 use opcode_rows::{ROWS, VERSION1_ROWS, cell_len, code_of, first_of, name, row, well_formed};
-use row_lines::row_line;
+use text_rows::row_lines::row_line;
 use instruction_parts::row_types::{Map, Row, RowKind, Size};
 use std::marker::Brand;
 use std::str::from_utf8;

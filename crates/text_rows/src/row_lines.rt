@@ -1,5 +1,4 @@
 //! The table printed: one line a row, with its code, its notation and its name.
-#![tactic(auto)]
 
 pub mod laws;
 
@@ -7,7 +6,7 @@ ghost use Rattle.std.specs.Prelude.{◌≡◌, ◌<◌, ◌≤◌, ◌+◌, ◌�
 ghost use Rattle.row_notation.specs.Shape.{is_proper, shape};
 ghost use Rattle.row_notation.specs.Notation.{notation};
 ghost use Rattle.opcode_rows.specs.Table.{table, name_of};
-ghost use Rattle.row_lines.specs.Lines as spec;
+ghost use Rattle.text_rows.specs.RowLines.Lines as spec;
 
 use arrayvec::ArrayVec;
 use itoa::Buffer;
@@ -27,7 +26,7 @@ fn proper_row(code: Code) -> Row
 }
 
 /// The notation of the row of a code below `ROWS`.
-#[tactic(auto, unfolding(crate::specs::Lines::notation_at))]
+#[tactic(auto, unfolding(crate::specs::RowLines::Lines::notation_at))]
 pub fn notation_of(code: Code) -> ArrayVec<u8, 64>
     requires { code.0 < ROWS }
     ensures { result.items ≡ spec.notation_at code.0 }
@@ -37,7 +36,7 @@ pub fn notation_of(code: Code) -> ArrayVec<u8, 64>
 
 /// The line of a code below `ROWS`: the code in decimal, the row's notation and its name, with a space between them and a
 /// line feed behind.
-#[tactic(auto, unfolding(crate::specs::Lines::row_line))]
+#[tactic(auto, unfolding(crate::specs::RowLines::Lines::row_line))]
 pub fn row_line(code: Code) -> ArrayVec<u8, 128>
     requires { code.0 < ROWS }
     ensures { result.items ≡ spec.row_line code.0 }
