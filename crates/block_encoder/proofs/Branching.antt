@@ -19,7 +19,7 @@ use Rattle.branch_sizes.specs.declared.plan.Reach.{Reach}
 use Rattle.branch_sizes.specs.Plan.{BlockPlan, IsWellFormed, no_choice}
 use Rattle.branch_sizes.specs.Plan as plan
 use Rattle.branch_sizes.specs.Layout.{IsLeast, Reaches, ReachesFromBoth, ReachesGoal, block_number, span_at, first_of_block, first_layout, item_choice, place, image_length, total}
-use Rattle.moved_targets.specs.Targets.{target_of}
+use Rattle.move_goals.specs.MovedTargets.Targets.{target_of}
 use Rattle.branch_forms.specs.declared.branch.Action.{Action}
 use Rattle.branch_forms.specs.declared.branch.Action.TheVariants.{Jump, Call, Condition, Count}
 use Rattle.branch_forms.specs.declared.branch.RelativeBranch.{RelativeBranch}

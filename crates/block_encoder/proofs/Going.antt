@@ -14,7 +14,7 @@ use Rattle.branch_sizes.specs.declared.plan.Form.TheVariants.{Itself, Short, Nea
 use Rattle.branch_sizes.specs.declared.plan.Goal.{Goal}
 use Rattle.branch_sizes.specs.Plan.{BlockPlan}
 use Rattle.branch_sizes.specs.Layout.{IsLayout, block_number, item_choice, place}
-use Rattle.moved_targets.specs.Targets.{target_of, with_target, plain_length}
+use Rattle.move_goals.specs.MovedTargets.Targets.{target_of, with_target, plain_length}
 use Rattle.branch_forms.specs.declared.branch.Action.{Action}
 use Rattle.branch_forms.specs.declared.branch.Action.TheVariants.{Jump, Call, Condition, Count}
 use Rattle.branch_forms.specs.declared.branch.RelativeBranch.{RelativeBranch}

@@ -19,7 +19,7 @@ use Rattle.plain_spelling.specs.PlainTail.{plain_size, plain_next, plain_spellin
 use Rattle.plain_spelling.specs.Expressible.{Suits, kind_suits, register_suits, address_suits, displacement_offered, immediate_suits, immediate_suits_how, near_reaches, target_suits, lock_suits, repeat_suits, prefixes_suit, has_memory_operand, address_size_suits}
 use Rattle.opcode_rows.specs.Table.{table}
 use Rattle.encoder.specs.Encoding.{encoding}
-use Rattle.moved_targets.specs.Targets.{plain_length}
+use Rattle.move_goals.specs.MovedTargets.Targets.{plain_length}
 use Rattle.branch_forms.specs.declared.branch.Action.TheVariants.{Jump}
 use Rattle.branch_forms.specs.Branches.{near_code}
 use Rattle.branch_forms.specs.Images.{branch_to}

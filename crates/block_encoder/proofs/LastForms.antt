@@ -12,7 +12,7 @@ use Rattle.branch_sizes.specs.declared.plan.Form.TheVariants.{Itself}
 use Rattle.branch_sizes.specs.Plan.{BlockPlan, IsWellFormed, no_choice, no_branch}
 use Rattle.branch_sizes.specs.Plan as plan
 use Rattle.branch_sizes.specs.Layout.{IsLayout, IsClosed, IsLeast, total, item_choice, image_length}
-use Rattle.moved_targets.specs.Targets.{target_of}
+use Rattle.move_goals.specs.MovedTargets.Targets.{target_of}
 use Rattle.branch_forms.specs.declared.branch.Action.{Action}
 use Rattle.branch_forms.specs.declared.branch.Action.TheVariants.{Count}
 use Rattle.branch_forms.specs.declared.branch.RelativeBranch.{RelativeBranch}

@@ -11,7 +11,7 @@ use Rattle.row_relation.specs.Spells.{Spells}
 use Rattle.opcode_rows.specs.Table.{table}
 use Rattle.branch_sizes.specs.declared.plan.Form.{Form}
 use Rattle.branch_sizes.specs.declared.plan.Form.TheVariants.{Itself, Short, Near as NearForm, Far, Bridge, FarBridge}
-use Rattle.moved_targets.specs.Targets.{aimed_operand, with_target}
+use Rattle.move_goals.specs.MovedTargets.Targets.{aimed_operand, with_target}
 use Rattle.branch_forms.specs.declared.branch.Action.{Action}
 use Rattle.branch_forms.specs.declared.branch.Action.TheVariants.{Jump, Call, Condition, Count}
 use Rattle.branch_forms.specs.declared.branch.RelativeBranch.{RelativeBranch}

@@ -8,7 +8,7 @@ use Rattle.branch_sizes.specs.declared.plan.BlockSpan.{BlockSpan}
 use Rattle.branch_sizes.specs.declared.plan.Form.{Form}
 use Rattle.branch_sizes.specs.declared.plan.Form.TheVariants.{Itself}
 use Rattle.branch_sizes.specs.Layout.{IsLayout, Reaches, place, image_length}
-use Rattle.moved_targets.specs.Targets.{target_of, target_reach, with_target, plain_length}
+use Rattle.move_goals.specs.MovedTargets.Targets.{target_of, target_reach, with_target, plain_length}
 use Rattle.branch_forms.specs.declared.branch.RelativeBranch.{RelativeBranch}
 use Rattle.branch_forms.specs.Branches.{branch_of}
 use Rattle.branch_forms.specs.Images.{image_by, image_of}

@@ -13,8 +13,8 @@ use Rattle.branch_sizes.specs.declared.plan.Form.TheVariants.{Itself}
 use Rattle.branch_sizes.specs.declared.plan.Reach.{Reach}
 use Rattle.branch_sizes.specs.declared.plan.Reach.TheVariants.{Always}
 use Rattle.branch_sizes.specs.Layout.{Reaches}
-use Rattle.moved_targets.specs.Targets.{target_reach, with_target}
-use Rattle.moved_targets.specs.Independent.{IsIndependent}
+use Rattle.move_goals.specs.MovedTargets.Targets.{target_reach, with_target}
+use Rattle.move_goals.specs.MovedTargets.Independent.{IsIndependent}
 use Rattle.branch_sizes.specs.declared.move_layout.layout.Fragment.{Fragment}
 use Rattle.move_goals.specs.Ready.{MayBeReady}
 use Rattle.block_encoder.specs.Bytes.{in_front, bytes_from, fragment_bytes}

@@ -19,7 +19,7 @@ use Rattle.plain_spelling.specs.PlainTail.{plain_size, plain_next, plain_spellin
 use Rattle.plain_spelling.specs.Expressible.{Suits, each_operand, kind_suits, register_suits, address_suits, displacement_offered, immediate_suits, immediate_suits_how, near_reaches, address_reaches, target_suits, lock_suits, repeat_suits, prefixes_suit, has_memory_operand, told_size, size_agrees, is_size_of, address_size_suits}
 use Rattle.opcode_rows.specs.Table.{table}
 use Rattle.encoder.specs.Encoding.{encoding}
-use Rattle.moved_targets.specs.Targets.{plain_length}
+use Rattle.move_goals.specs.MovedTargets.Targets.{plain_length}
 use Rattle.branch_forms.specs.Images.{branch_to, through_slot}
 use Rattle.branch_forms.specs.Rows.{offset_row, memory_row}
 use Rattle.block_encoder.specs.LawsBelow.{MovedLawsBelow}

@@ -16,7 +16,7 @@ use Rattle.branch_sizes.specs.declared.plan.Goal.{Goal}
 use Rattle.branch_sizes.specs.Plan.{IsWellFormed, no_choice}
 use Rattle.branch_sizes.specs.Plan as plan
 use Rattle.branch_sizes.specs.Layout.{IsLayout, IsLeast, Reaches, ReachesGoal, block_number, span_at, item_choice, place, image_length}
-use Rattle.moved_targets.specs.Targets.{target_of, with_target, plain_length}
+use Rattle.move_goals.specs.MovedTargets.Targets.{target_of, with_target, plain_length}
 use Rattle.branch_forms.specs.declared.branch.Action.TheVariants.{Jump}
 use Rattle.branch_forms.specs.Branches.{near_code}
 use Rattle.branch_forms.specs.Rows.{offset_row}

@@ -9,7 +9,7 @@ use Rattle.branch_sizes.specs.declared.plan.Form.TheVariants.{Itself}
 use Rattle.branch_sizes.specs.declared.plan.Reach.{Reach}
 use Rattle.branch_sizes.specs.Plan.{BlockPlan}
 use Rattle.branch_sizes.specs.Layout.{IsLeast, Reaches, item_choice, place}
-use Rattle.moved_targets.specs.Targets.{target_reach}
+use Rattle.move_goals.specs.MovedTargets.Targets.{target_reach}
 use Rattle.move_goals.specs.declared.items.Placed.{Placed}
 use Rattle.move_goals.specs.Items.{item_at, first_disorder, first_passing, first_old_pass}
 use Rattle.move_goals.specs.Plan.{plan_for}

@@ -11,7 +11,7 @@ use Rattle.operand_info.specs.Operands.{near_value, ip_value, first_value}
 use Rattle.encoder.specs.Encoding.{encoding}
 use Rattle.branch_sizes.specs.Plan.{BlockPlan}
 use Rattle.branch_sizes.specs.Layout.{first_of_block, span_at}
-use Rattle.moved_targets.specs.Targets.{plain_length}
+use Rattle.move_goals.specs.MovedTargets.Targets.{plain_length}
 use Rattle.move_goals.specs.declared.items.Placed.{Placed}
 use Rattle.branch_sizes.specs.declared.move_layout.layout.Fragment.{Fragment}
 use Rattle.branch_sizes.specs.MoveLayout.Laid.{has_far_form}

@@ -11,7 +11,7 @@ use branch_forms::{Image, image_of, near_image, short_image};
 use branch_sizes::{Form, Reach, reaches};
 use encoder::encode;
 use branch_sizes::move_layout::Fragment;
-use moved_targets::{target_reach, with_target};
+use move_goals::moved_targets::{target_reach, with_target};
 use std::alloc::AllocError;
 use x86_values::laws::wrapped_twice;
 use x86_values::{Bits, Instr, wrap};

@@ -2,7 +2,7 @@
 
 ghost use Rattle.std.specs.Prelude.{◌≡◌, ◌<◌, ◌≤◌, length, unwrap_or};
 ghost use Rattle.arrayvec.specs.ArrayVec.{array_vec_len};
-ghost use Rattle.moved_targets.specs.Targets.{target_of};
+ghost use Rattle.move_goals.specs.MovedTargets.Targets.{target_of};
 ghost use Rattle.move_goals.specs.Items.{ArePlaced, IsPlaced, item_at};
 ghost use Rattle.branch_sizes.specs.MoveLayout.Laid.{with_goal};
 ghost use Rattle.block_encoder.specs.Last as spec;
@@ -13,7 +13,7 @@ use branch_forms::choices_of;
 use branch_sizes::Choice;
 use move_goals::Placed;
 use branch_sizes::move_layout::{block_end, is_far_form, next_multiple_of_8};
-use moved_targets::target_of;
+use move_goals::moved_targets::target_of;
 use x86_values::{Bits, Instr};
 
 /// The last of the forms that an instruction may take.

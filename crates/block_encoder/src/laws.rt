@@ -9,7 +9,7 @@ ghost use Rattle.branch_sizes.specs.declared.plan.BlockSpan.{BlockSpan};
 ghost use Rattle.branch_sizes.specs.declared.plan.Form.TheVariants.{Itself};
 ghost use Rattle.branch_sizes.specs.declared.plan.Goal.{Goal};
 ghost use Rattle.branch_sizes.specs.Layout.{IsLayout, IsLeast, Reaches, block_number, span_at, place};
-ghost use Rattle.moved_targets.specs.Targets.{target_of, with_target};
+ghost use Rattle.move_goals.specs.MovedTargets.Targets.{target_of, with_target};
 ghost use Rattle.branch_forms.specs.Images.{pieces_length};
 ghost use Rattle.move_goals.specs.declared.items.Placed.{Placed};
 ghost use Rattle.move_goals.specs.Items.{AreSpansOf, ArePlaced, item_at, no_instr};

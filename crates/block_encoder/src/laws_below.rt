@@ -13,8 +13,8 @@ pub(crate) fn laws_below()
     branch_sizes::laws::blocks_have_all_items();
     branch_sizes::laws::images_are_short();
     branch_sizes::laws::totals_rise();
-    moved_targets::laws::near_addresses_are_reached();
-    moved_targets::laws::spellings_are_moved();
+    move_goals::moved_targets::laws::near_addresses_are_reached();
+    move_goals::moved_targets::laws::spellings_are_moved();
     branch_forms::laws::codes_have_their_rows();
     branch_forms::laws::pieces_have_their_lengths();
     branch_forms::laws::forms_are_fit();

@@ -16,7 +16,7 @@ use Rattle.plain_spelling.specs.PlainFront.{register_number, is_low_byte_of_rex,
 use Rattle.plain_spelling.specs.Addresses.{written_size, shown_size, general_size, pointer_size, form_of, address_fields, alone_fields, wide_fields, wide_needs_sib, displacement_count}
 use Rattle.plain_spelling.specs.PlainTail.{plain_size, rm_fields, fixed_rm, plain_modrm, plain_sib_of, plain_len}
 use Rattle.opcode_rows.specs.Table.{table}
-use Rattle.moved_targets.specs.Targets.{plain_length}
+use Rattle.move_goals.specs.MovedTargets.Targets.{plain_length}
 use Rattle.branch_forms.specs.declared.branch.Action.TheVariants.{Jump, Call, Condition, Count}
 use Rattle.branch_forms.specs.Branches.{is_pair, short_code, near_code, far_code, opposite_condition}
 use Rattle.branch_forms.specs.Images.{branch_to, through_slot}

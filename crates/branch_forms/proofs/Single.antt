@@ -6,7 +6,7 @@ use Rattle.x86_values.specs.declared.Instr.{Instr}
 use Rattle.operand_info.specs.Operands.{near_value, ip_value, first_value}
 use Rattle.branch_sizes.specs.declared.plan.Form.TheVariants.{Itself, Short, Near}
 use Rattle.branch_sizes.specs.declared.plan.Reach.TheVariants.{Always}
-use Rattle.moved_targets.specs.Targets.{target_of, with_target}
+use Rattle.move_goals.specs.MovedTargets.Targets.{target_of, with_target}
 use Rattle.branch_forms.specs.declared.branch.RelativeBranch.{RelativeBranch}
 use Rattle.branch_forms.specs.Branches.{branch_of, near_code}
 use Rattle.branch_forms.specs.Images.{image_of, branch_image, short_branch, branch_to, form_length}

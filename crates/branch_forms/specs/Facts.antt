@@ -12,7 +12,7 @@ use Rattle.opcode_rows.specs.Table.{table}
 use Rattle.operand_info.specs.Operands.{near_value, first_value}
 use Rattle.branch_sizes.specs.declared.plan.Form.{Form}
 use Rattle.branch_sizes.specs.Plan.{lengths_rise_from, is_fit_reach, forms_differ}
-use Rattle.moved_targets.specs.Targets.{plain_length}
+use Rattle.move_goals.specs.MovedTargets.Targets.{plain_length}
 use Rattle.branch_forms.specs.declared.branch.Action.TheVariants.{Jump, Call, Condition, Count}
 use Rattle.branch_forms.specs.declared.branch.RelativeBranch.{RelativeBranch}
 use Rattle.branch_forms.specs.Branches.{branch_in, branch_of, in_range, is_pair, short_code, near_code, far_code, opposite_condition}

@@ -5,7 +5,7 @@ use Rattle.instruction_parts.specs.declared.row_types.Row.{Row}
 use Rattle.opcode_rows.specs.declared.spot.Part.{Part}
 use Rattle.opcode_rows.specs.Table.{part_table, table}
 use Rattle.encoder.specs.Facts.{SpelledFacts}
-use Rattle.moved_targets.specs.Facts.{TargetFacts}
+use Rattle.move_goals.specs.MovedTargets.Facts.{TargetFacts}
 
 -- the table, what is spelled, and targets
 pub record FormLawsBelow : Type 0 where

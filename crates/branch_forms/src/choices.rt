@@ -6,7 +6,7 @@ ghost use Rattle.x86_values.specs.Wrapping.{width as bits_of};
 ghost use Rattle.branch_forms.specs.Choices as spec;
 ghost use Rattle.branch_sizes.specs.declared.plan.Form.TheVariants.{Itself};
 ghost use Rattle.branch_sizes.specs.declared.plan.Reach.TheVariants.{Always};
-ghost use Rattle.moved_targets.specs.Targets.{target_of, plain_length};
+ghost use Rattle.move_goals.specs.MovedTargets.Targets.{target_of, plain_length};
 
 use crate::branch::{Action, RelativeBranch, branch_of};
 use crate::form_lengths::branch_length;
@@ -14,7 +14,7 @@ use crate::image::bridge_inner;
 use crate::laws_below::laws_below;
 use arrayvec::ArrayVec;
 use branch_sizes::{Choice, Form, Reach};
-use moved_targets::plain_length;
+use move_goals::moved_targets::plain_length;
 use x86_values::{Bits, Instr};
 
 /// The number of bits that a size says.

@@ -9,7 +9,7 @@ use crate::branch::{Action, RelativeBranch};
 use crate::image::counter_size;
 use crate::laws_below::laws_below;
 use branch_sizes::Form;
-use moved_targets::plain_length;
+use move_goals::moved_targets::plain_length;
 use x86_values::{Bits, Instr};
 
 /// 66 stands before a branch for an operand size of 16 or 32 bits that is not the mode's own.

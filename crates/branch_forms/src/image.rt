@@ -9,7 +9,7 @@ use crate::branch::{
     Action, RelativeBranch, branch_of, far_code, near_code, opposite_condition, short_code,
 };
 use branch_sizes::Form;
-use moved_targets::{plain_length, with_target};
+use move_goals::moved_targets::{plain_length, with_target};
 use x86_values::{Bits, Code, DispSize, Instr, Mem, Operand, Register, Rep, wrap};
 
 /// The instructions that a moved instruction becomes, in order.

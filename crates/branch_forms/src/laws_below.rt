@@ -9,5 +9,5 @@ pub(crate) fn laws_below()
 {
     opcode_rows::laws::rows_are_of_the_parts();
     encoder::laws::spelled_meets_conditions();
-    moved_targets::laws::spellings_are_moved();
+    move_goals::moved_targets::laws::spellings_are_moved();
 }

@@ -5,7 +5,7 @@ use Rattle.x86_values.specs.Wrapping.{modulo_width}
 use Rattle.branch_sizes.specs.declared.plan.Goal.{Goal}
 use Rattle.branch_sizes.specs.declared.plan.Goal.TheVariants.{Inside, Outside}
 use Rattle.branch_sizes.specs.Plan.{BlockPlan}
-use Rattle.moved_targets.specs.Targets.{target_of, plain_length}
+use Rattle.move_goals.specs.MovedTargets.Targets.{target_of, plain_length}
 use Rattle.move_goals.specs.declared.items.Placed.{Placed}
 use Rattle.move_goals.specs.Items.{first_below, item_at, one_span}
 use Rattle.move_goals.specs.Goals.{begins_at}

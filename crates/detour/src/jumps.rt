@@ -9,7 +9,7 @@ use arrayvec::ArrayVec;
 use branch_forms::{Action, branch_to, near_code};
 use encoder::encode;
 use move_goals::Placed;
-use moved_targets::plain_length;
+use move_goals::moved_targets::plain_length;
 use plain_spelling::numbers::push_low_bytes;
 use x86_values::{Bits, Instr};
 

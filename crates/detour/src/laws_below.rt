@@ -12,7 +12,7 @@ pub(crate) fn laws_below()
     decoder::reading_laws::bytes_have_one_reading();
     decoder::reading_laws::wrapped_addresses_read_alike();
     branch_sizes::laws::least_is_unique();
-    moved_targets::laws::spellings_are_moved();
+    move_goals::moved_targets::laws::spellings_are_moved();
     branch_forms::laws::codes_have_their_rows();
     branch_forms::laws::pieces_have_their_lengths();
     move_goals::laws::first_numbers_pass();

@@ -16,7 +16,7 @@ use block_encoder::{MoveError, MovedBlocks, move_by_plan};
 use branch_forms::choices_of;
 use branch_sizes::{Branch, Goal, Plan};
 use move_goals::Placed;
-use moved_targets::target_of;
+use move_goals::moved_targets::target_of;
 use std::alloc::{AllocError, Global};
 use x86_values::{Bits, wrap};
 

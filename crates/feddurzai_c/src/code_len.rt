@@ -6,7 +6,7 @@ ghost use Rattle.feddurzai_c.specs.Moving as spec;
 
 use block_encoder::{Form, Placed};
 use branch_forms::{Image, image_of};
-use moved_targets::plain_length;
+use move_goals::moved_targets::plain_length;
 use x86_values::{Bits, Instr};
 
 /// How many bytes the instructions of an image have.

@@ -4,3 +4,4 @@ pub mod Began
 pub mod Aims
 pub mod Planned
 pub mod Pushed
+pub mod MovedTargets

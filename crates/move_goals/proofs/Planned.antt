@@ -17,7 +17,7 @@ use Rattle.branch_sizes.specs.declared.plan.Goal.{Goal}
 use Rattle.branch_sizes.specs.Facts.{BlockFacts}
 use Rattle.branch_sizes.specs.Layout.{span_at, first_of_block}
 use Rattle.branch_sizes.specs.Plan.{is_fit_goal, is_fit_branch, IsWellFormed}
-use Rattle.moved_targets.specs.Targets.{target_of}
+use Rattle.move_goals.specs.MovedTargets.Targets.{target_of}
 use Rattle.branch_forms.specs.Branches.{branch_of, branch_by}
 use Rattle.branch_forms.specs.Choices.{choices_of, choices_by}
 use Rattle.branch_forms.specs.Facts.{FormFacts}

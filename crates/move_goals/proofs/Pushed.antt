@@ -4,7 +4,7 @@ use Rattle.arrayvec.specs.ArrayVec.{ArrayVec}
 use Rattle.x86_values.specs.declared.Bits.{Bits}
 use Rattle.x86_values.specs.declared.Instr.{Instr}
 use Rattle.branch_sizes.specs.declared.plan.Goal.TheVariants.{None as Nowhere}
-use Rattle.moved_targets.specs.Targets.{target_of}
+use Rattle.move_goals.specs.MovedTargets.Targets.{target_of}
 use Rattle.branch_forms.specs.Choices.{choices_of}
 use Rattle.move_goals.specs.declared.items.Placed.{Placed}
 use Rattle.move_goals.specs.Items.{item_at}

@@ -7,7 +7,7 @@ use Rattle.branch_sizes.specs.declared.plan.BlockSpan.{BlockSpan}
 use Rattle.branch_sizes.specs.declared.plan.Branch.{Branch}
 use Rattle.branch_sizes.specs.declared.plan.Goal.{Goal}
 use Rattle.branch_sizes.specs.Plan.{is_fit_goal, IsWellFormed}
-use Rattle.moved_targets.specs.Targets.{target_of}
+use Rattle.move_goals.specs.MovedTargets.Targets.{target_of}
 use Rattle.branch_forms.specs.Choices.{choices_of}
 use Rattle.move_goals.specs.declared.items.Placed.{Placed}
 use Rattle.move_goals.specs.Items.{AreSpansOf, ArePlaced, item_at, first_below, one_span}

@@ -4,7 +4,7 @@ use Rattle.branch_sizes.specs.declared.plan.BlockSpan.{BlockSpan}
 use Rattle.branch_sizes.specs.declared.plan.Goal.{Goal}
 use Rattle.branch_sizes.specs.declared.plan.Goal.TheVariants.{None as NoGoal, Inside, Outside}
 use Rattle.branch_sizes.specs.Layout.{block_number}
-use Rattle.moved_targets.specs.Targets.{target_of}
+use Rattle.move_goals.specs.MovedTargets.Targets.{target_of}
 use Rattle.move_goals.specs.declared.items.Placed.{Placed}
 use Rattle.move_goals.specs.Items.{first_below, item_at}
 

@@ -4,3 +4,4 @@ pub mod Starts
 pub mod Ready
 pub mod Plan
 pub mod Facts
+pub mod MovedTargets

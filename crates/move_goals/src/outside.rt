@@ -7,7 +7,7 @@ ghost use Rattle.move_goals.specs.Plan as spec;
 use crate::items::Placed;
 use branch_forms::choices_of;
 use branch_sizes::{Branch, Goal, Plan};
-use moved_targets::target_of;
+use crate::moved_targets::target_of;
 use std::alloc::{AllocError, Global};
 use x86_values::Bits;
 

@@ -3,7 +3,7 @@
 ghost use Rattle.std.specs.Prelude.{◌≡◌, ◌-◌, ◌<◌, ◌≤◌, None, IfOk, length};
 ghost use Rattle.branch_sizes.specs.declared.plan.Goal.TheVariants.{None as Nowhere};
 ghost use Rattle.branch_forms.specs.Choices.{choices_of};
-ghost use Rattle.moved_targets.specs.Independent.{IsIndependent};
+ghost use Rattle.move_goals.specs.MovedTargets.Independent.{IsIndependent};
 ghost use Rattle.move_goals.specs.Items as old;
 ghost use Rattle.move_goals.specs.Ready.{MayBeReady, AreReady};
 ghost use Rattle.move_goals.specs.Plan as spec;
@@ -15,7 +15,7 @@ use crate::starts::{Starts, goal_in, starts_of};
 use arrayvec::ArrayVec;
 use branch_forms::{choices_of, choices_without_target};
 use branch_sizes::{BlockSpan, Branch, Goal, Plan};
-use moved_targets::target_of;
+use crate::moved_targets::target_of;
 use std::alloc::{AllocError, Global};
 use x86_values::{Bits, Instr};
 
@@ -25,7 +25,7 @@ fn ready_branch(bits: Bits, instr: &Instr, ready: &[u8]) -> Branch
     requires ready { IsIndependent bits instr.now ready.now }
     ensures { result ≡ record { choices = record { items = choices_of bits instr.now }; goal = Nowhere } }
 {
-    moved_targets::laws::spellings_are_moved();
+    crate::moved_targets::laws::spellings_are_moved();
     Branch {
         choices: choices_without_target(bits, instr, ready.len() as u8),
         goal: Goal::None,

@@ -5,7 +5,7 @@ ghost use Rattle.move_goals.specs.Ready as spec;
 
 use crate::items::Placed;
 use arrayvec::ArrayVec;
-use moved_targets::independent_bytes;
+use crate::moved_targets::independent_bytes;
 use std::alloc::{AllocError, Global};
 use x86_values::Bits;
 

@@ -13,7 +13,7 @@ use Rattle.instruction_parts.specs.Sizes.{address_size, bit_b, bit_r, bit_w, bit
 use Rattle.row_fit.specs.Fits.{immediate_bytes, index_number, is_displacement_alone, is_memory_method, reg_number, rm_number, vvvv_number}
 use Rattle.row_meaning.specs.Meaning.{disp_size_of, general_register, has_memory, immediates_before, instr_of, kept_address_size, kept_repeat, little_endian, meaning, ip_or_absolute, memory_at_base, memory_wide, memory_of, memory_operand, near_target, operand_at, operand_by, own_immediate, register_of, sign_extended, vector}
 use Rattle.operand_info.specs.Operands.{near_value, ip_value}
-use Rattle.moved_targets.specs.Targets.{target_of, base_reach, operand_reach, target_reach}
+use Rattle.move_goals.specs.MovedTargets.Targets.{target_of, base_reach, operand_reach, target_reach}
 use Rattle.sample_run.specs.Made.{IsAimedLow, nowhere, near, by_rip}
 use Rattle.sample_run.proofs.Rows.{nop_row, store_row, number_row, load_row, branch_row, call_row, wide_load_row, add_row}
 use Rattle.sample_run.proofs.Spelled.{parts, registers, short_vex}

@@ -14,7 +14,7 @@ use Rattle.branch_sizes.specs.declared.plan.Reach.TheVariants.{Always, Signed32}
 use Rattle.branch_sizes.specs.Plan.{IsWellFormed, no_choice}
 use Rattle.branch_sizes.specs.Layout.{IsLeast, Reaches, total, block_number, span_at, image_length, place}
 use Rattle.branch_sizes.specs.Facts.{LengthFacts, TotalFacts}
-use Rattle.moved_targets.specs.Targets.{target_of, target_reach}
+use Rattle.move_goals.specs.MovedTargets.Targets.{target_of, target_reach}
 use Rattle.branch_forms.specs.declared.branch.RelativeBranch.{RelativeBranch}
 use Rattle.branch_forms.specs.Branches.{branch_by, branch_of}
 use Rattle.branch_forms.specs.Choices.{choices_by, choices_of}

@@ -7,7 +7,7 @@ use Rattle.row_relation.specs.Spells.{Read}
 use Rattle.opcode_rows.specs.Sweep.{Item, IsSweep}
 use Rattle.operand_info.specs.Operands.{near_value, first_value}
 use Rattle.branch_sizes.specs.declared.plan.Reach.TheVariants.{Always, Signed32}
-use Rattle.moved_targets.specs.Targets.{target_of, target_reach}
+use Rattle.move_goals.specs.MovedTargets.Targets.{target_of, target_reach}
 use Rattle.sample_run.specs.Generator.{sample_base, sample_code}
 
 -- what an instruction is aimed at: nothing, a near target, or an address below 2 to the power of 24 by RIP

@@ -18,7 +18,7 @@ use Rattle.branch_sizes.specs.declared.plan.Goal.{Goal}
 use Rattle.branch_sizes.specs.declared.plan.Goal.TheVariants.{Outside}
 use Rattle.branch_sizes.specs.Plan.{no_choice}
 use Rattle.branch_sizes.specs.Layout.{IsLayout, IsLeast, Reaches, ReachesGoal, item_choice, place}
-use Rattle.moved_targets.specs.Targets.{target_of, plain_length}
+use Rattle.move_goals.specs.MovedTargets.Targets.{target_of, plain_length}
 use Rattle.branch_forms.specs.declared.branch.Action.TheVariants.{Jump}
 use Rattle.branch_forms.specs.declared.branch.RelativeBranch.{RelativeBranch}
 use Rattle.branch_forms.specs.Branches.{size_of, near_action, branch_in, branch_by, branch_of, near_code}

@@ -4,7 +4,7 @@ use Rattle.x86_values.specs.declared.Bits.{Bits}
 use Rattle.x86_values.specs.declared.Instr.{Instr}
 use Rattle.x86_values.specs.Wrapping.{modulo_width}
 use Rattle.branch_sizes.specs.Plan.{BlockPlan}
-use Rattle.moved_targets.specs.Targets.{plain_length}
+use Rattle.move_goals.specs.MovedTargets.Targets.{plain_length}
 use Rattle.branch_forms.specs.declared.branch.Action.TheVariants.{Jump}
 use Rattle.branch_forms.specs.Branches.{near_code}
 use Rattle.branch_forms.specs.Images.{branch_to}

@@ -14,7 +14,7 @@ use crate::refusals::StepError;
 use block_encoder::{MoveError, Placed, last_len, move_outside};
 use branch_forms::{Action, near_code};
 use code_region::{PlaceError, Region};
-use moved_targets::plain_length;
+use move_goals::moved_targets::plain_length;
 use std::alloc::Global;
 use x86_values::{Bits, Code, Instr, Operand, Rep, wrap};
 

@@ -1,5 +1,0 @@
-use Rattle.moved_targets.proofs.Aims.{with_target-target}
-use Rattle.moved_targets.proofs.laws.aimed_has_its_target.Goals as goal
-
-pub returns : goal.returns
-returns c = λ t old i four h. with_target-target t old i h

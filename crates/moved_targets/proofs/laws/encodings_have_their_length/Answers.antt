@@ -1,5 +1,0 @@
-use Rattle.moved_targets.proofs.Lengths.{encoding-length}
-use Rattle.moved_targets.proofs.laws.encodings_have_their_length.Goals as goal
-
-pub returns : goal.returns
-returns c = λ bits ip i bytes four h. encoding-length c.spelled_meets_conditions.ensures bits ip i bytes h

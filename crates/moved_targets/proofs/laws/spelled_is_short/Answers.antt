@@ -1,5 +1,0 @@
-use Rattle.moved_targets.proofs.Lengths.{spelled-length}
-use Rattle.moved_targets.proofs.laws.spelled_is_short.Goals as goal
-
-pub returns : goal.returns
-returns c = λ bits ip bytes i four s. spelled-length c.spelled_meets_conditions.ensures bits ip bytes i s
