@@ -20,12 +20,12 @@ use Rattle.branch_sizes.specs.Plan.{BlockPlan, IsWellFormed, no_choice}
 use Rattle.branch_sizes.specs.Plan as plan
 use Rattle.branch_sizes.specs.Layout.{IsLeast, Reaches, ReachesFromBoth, ReachesGoal, block_number, span_at, first_of_block, first_layout, item_choice, place, image_length, total}
 use Rattle.move_goals.specs.MovedTargets.Targets.{target_of}
-use Rattle.branch_forms.specs.declared.branch.Action.{Action}
-use Rattle.branch_forms.specs.declared.branch.Action.TheVariants.{Jump, Call, Condition, Count}
-use Rattle.branch_forms.specs.declared.branch.RelativeBranch.{RelativeBranch}
-use Rattle.branch_forms.specs.Branches.{branch_of, in_range}
-use Rattle.branch_forms.specs.Images.{form_length, branch_image, image_by, image_of, pieces_length}
-use Rattle.branch_forms.specs.Choices.{branch_forms, form_reach, branch_choice, choices_by, choices_of}
+use Rattle.move_goals.specs.declared.branch_forms.branch.Action.{Action}
+use Rattle.move_goals.specs.declared.branch_forms.branch.Action.TheVariants.{Jump, Call, Condition, Count}
+use Rattle.move_goals.specs.declared.branch_forms.branch.RelativeBranch.{RelativeBranch}
+use Rattle.move_goals.specs.BranchForms.Branches.{branch_of, in_range}
+use Rattle.move_goals.specs.BranchForms.Images.{form_length, branch_image, image_by, image_of, pieces_length}
+use Rattle.move_goals.specs.BranchForms.Choices.{branch_forms, form_reach, branch_choice, choices_by, choices_of}
 use Rattle.move_goals.specs.declared.items.Placed.{Placed}
 use Rattle.move_goals.specs.Items.{AreSpansOf, ArePlaced, item_at}
 use Rattle.move_goals.specs.Goals.{own_item, other_item, goal_among, goal_of_target, goal_of, goal_at}

@@ -11,12 +11,12 @@ use Rattle.branch_sizes.specs.declared.plan.Form.TheVariants.{Itself, Far, FarBr
 use Rattle.branch_sizes.specs.Plan.{BlockPlan, no_choice, no_branch}
 use Rattle.branch_sizes.specs.Plan as plan
 use Rattle.branch_sizes.specs.Layout.{IsLayout, item_choice, place, image_length}
-use Rattle.branch_forms.specs.declared.branch.Action.{Action}
-use Rattle.branch_forms.specs.declared.branch.Action.TheVariants.{Jump, Call, Condition, Count}
-use Rattle.branch_forms.specs.declared.branch.RelativeBranch.{RelativeBranch}
-use Rattle.branch_forms.specs.Branches.{branch_of}
-use Rattle.branch_forms.specs.Images.{form_length}
-use Rattle.branch_forms.specs.Choices.{in_64, branch_forms, branch_choice, choices_by, choices_of}
+use Rattle.move_goals.specs.declared.branch_forms.branch.Action.{Action}
+use Rattle.move_goals.specs.declared.branch_forms.branch.Action.TheVariants.{Jump, Call, Condition, Count}
+use Rattle.move_goals.specs.declared.branch_forms.branch.RelativeBranch.{RelativeBranch}
+use Rattle.move_goals.specs.BranchForms.Branches.{branch_of}
+use Rattle.move_goals.specs.BranchForms.Images.{form_length}
+use Rattle.move_goals.specs.BranchForms.Choices.{in_64, branch_forms, branch_choice, choices_by, choices_of}
 use Rattle.move_goals.specs.declared.items.Placed.{Placed}
 use Rattle.move_goals.specs.Items.{item_at}
 use Rattle.move_goals.specs.Plan.{branch_with, plan_with}

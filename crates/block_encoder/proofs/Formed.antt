@@ -13,13 +13,13 @@ use Rattle.branch_sizes.specs.declared.plan.Form.{Form}
 use Rattle.branch_sizes.specs.declared.plan.Form.TheVariants.{Itself, Short, Near as NearForm, Far, Bridge, FarBridge}
 use Rattle.branch_sizes.specs.Layout.{Reaches}
 use Rattle.move_goals.specs.MovedTargets.Targets.{plain_length}
-use Rattle.branch_forms.specs.declared.branch.Action.{Action}
-use Rattle.branch_forms.specs.declared.branch.Action.TheVariants.{Jump, Call, Condition, Count}
-use Rattle.branch_forms.specs.declared.branch.RelativeBranch.{RelativeBranch}
-use Rattle.branch_forms.specs.Branches.{in_range, short_code, near_code, far_code, opposite_condition}
-use Rattle.branch_forms.specs.Images.{branch_to, through_slot, counter_size, short_branch, skip, bridge_jump, bridge_inner, bridge, far_image, branch_image, pieces_length}
-use Rattle.branch_forms.specs.Choices.{near_reach, bridge_reach, form_reach}
-use Rattle.branch_forms.specs.Lengths.{address_byte}
+use Rattle.move_goals.specs.declared.branch_forms.branch.Action.{Action}
+use Rattle.move_goals.specs.declared.branch_forms.branch.Action.TheVariants.{Jump, Call, Condition, Count}
+use Rattle.move_goals.specs.declared.branch_forms.branch.RelativeBranch.{RelativeBranch}
+use Rattle.move_goals.specs.BranchForms.Branches.{in_range, short_code, near_code, far_code, opposite_condition}
+use Rattle.move_goals.specs.BranchForms.Images.{branch_to, through_slot, counter_size, short_branch, skip, bridge_jump, bridge_inner, bridge, far_image, branch_image, pieces_length}
+use Rattle.move_goals.specs.BranchForms.Choices.{near_reach, bridge_reach, form_reach}
+use Rattle.move_goals.specs.BranchForms.Lengths.{address_byte}
 use Rattle.branch_sizes.specs.MoveLayout.Laid.{has_far_form}
 use Rattle.block_encoder.specs.Bytes.{in_front, bytes_from}
 use Rattle.block_encoder.specs.LawsBelow.{MovedLawsBelow}

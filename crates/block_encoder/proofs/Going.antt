@@ -15,11 +15,11 @@ use Rattle.branch_sizes.specs.declared.plan.Goal.{Goal}
 use Rattle.branch_sizes.specs.Plan.{BlockPlan}
 use Rattle.branch_sizes.specs.Layout.{IsLayout, block_number, item_choice, place}
 use Rattle.move_goals.specs.MovedTargets.Targets.{target_of, with_target, plain_length}
-use Rattle.branch_forms.specs.declared.branch.Action.{Action}
-use Rattle.branch_forms.specs.declared.branch.Action.TheVariants.{Jump, Call, Condition, Count}
-use Rattle.branch_forms.specs.declared.branch.RelativeBranch.{RelativeBranch}
-use Rattle.branch_forms.specs.Branches.{branch_of, short_code, near_code, far_code, opposite_condition}
-use Rattle.branch_forms.specs.Images.{branch_to, through_slot, counter_size, short_branch, skip, bridge_jump, bridge_inner, bridge, far_image, branch_image, image_by, image_of, pieces_length}
+use Rattle.move_goals.specs.declared.branch_forms.branch.Action.{Action}
+use Rattle.move_goals.specs.declared.branch_forms.branch.Action.TheVariants.{Jump, Call, Condition, Count}
+use Rattle.move_goals.specs.declared.branch_forms.branch.RelativeBranch.{RelativeBranch}
+use Rattle.move_goals.specs.BranchForms.Branches.{branch_of, short_code, near_code, far_code, opposite_condition}
+use Rattle.move_goals.specs.BranchForms.Images.{branch_to, through_slot, counter_size, short_branch, skip, bridge_jump, bridge_inner, bridge, far_image, branch_image, image_by, image_of, pieces_length}
 use Rattle.move_goals.specs.declared.items.Placed.{Placed}
 use Rattle.move_goals.specs.Items.{ArePlaced, no_instr, item_at}
 use Rattle.move_goals.specs.Plan.{plan_with}

@@ -20,10 +20,10 @@ use Rattle.plain_spelling.specs.Expressible.{Suits, kind_suits, register_suits, 
 use Rattle.opcode_rows.specs.Table.{table}
 use Rattle.encoder.specs.Encoding.{encoding}
 use Rattle.move_goals.specs.MovedTargets.Targets.{plain_length}
-use Rattle.branch_forms.specs.declared.branch.Action.TheVariants.{Jump}
-use Rattle.branch_forms.specs.Branches.{near_code}
-use Rattle.branch_forms.specs.Images.{branch_to}
-use Rattle.branch_forms.specs.Rows.{offset_row}
+use Rattle.move_goals.specs.declared.branch_forms.branch.Action.TheVariants.{Jump}
+use Rattle.move_goals.specs.BranchForms.Branches.{near_code}
+use Rattle.move_goals.specs.BranchForms.Images.{branch_to}
+use Rattle.move_goals.specs.BranchForms.Rows.{offset_row}
 use Rattle.move_goals.specs.Items.{IsPlaced}
 use Rattle.block_encoder.specs.LawsBelow.{MovedLawsBelow}
 use Rattle.block_encoder.proofs.Spelled.{only_first, branch_to-code, near-encoded}

@@ -13,11 +13,11 @@ use Rattle.branch_sizes.specs.Plan.{BlockPlan, IsWellFormed, no_choice, no_branc
 use Rattle.branch_sizes.specs.Plan as plan
 use Rattle.branch_sizes.specs.Layout.{IsLayout, IsClosed, IsLeast, total, item_choice, image_length}
 use Rattle.move_goals.specs.MovedTargets.Targets.{target_of}
-use Rattle.branch_forms.specs.declared.branch.Action.{Action}
-use Rattle.branch_forms.specs.declared.branch.Action.TheVariants.{Count}
-use Rattle.branch_forms.specs.declared.branch.RelativeBranch.{RelativeBranch}
-use Rattle.branch_forms.specs.Branches.{branch_of}
-use Rattle.branch_forms.specs.Choices.{branch_forms, branch_choice, choices_by, choices_of}
+use Rattle.move_goals.specs.declared.branch_forms.branch.Action.{Action}
+use Rattle.move_goals.specs.declared.branch_forms.branch.Action.TheVariants.{Count}
+use Rattle.move_goals.specs.declared.branch_forms.branch.RelativeBranch.{RelativeBranch}
+use Rattle.move_goals.specs.BranchForms.Branches.{branch_of}
+use Rattle.move_goals.specs.BranchForms.Choices.{branch_forms, branch_choice, choices_by, choices_of}
 use Rattle.move_goals.specs.declared.items.Placed.{Placed}
 use Rattle.move_goals.specs.Items.{ArePlaced, item_at, one_span}
 use Rattle.move_goals.specs.Plan.{plan_with, kept_goal, kept_goals, plan_outside}

@@ -12,11 +12,11 @@ use Rattle.opcode_rows.specs.Table.{table}
 use Rattle.branch_sizes.specs.declared.plan.Form.{Form}
 use Rattle.branch_sizes.specs.declared.plan.Form.TheVariants.{Itself, Short, Near as NearForm, Far, Bridge, FarBridge}
 use Rattle.move_goals.specs.MovedTargets.Targets.{aimed_operand, with_target}
-use Rattle.branch_forms.specs.declared.branch.Action.{Action}
-use Rattle.branch_forms.specs.declared.branch.Action.TheVariants.{Jump, Call, Condition, Count}
-use Rattle.branch_forms.specs.declared.branch.RelativeBranch.{RelativeBranch}
-use Rattle.branch_forms.specs.Branches.{branch_of}
-use Rattle.branch_forms.specs.Images.{branch_to, through_slot, short_branch, skip, bridge_jump, bridge, far_image, branch_image, image_by, image_of}
+use Rattle.move_goals.specs.declared.branch_forms.branch.Action.{Action}
+use Rattle.move_goals.specs.declared.branch_forms.branch.Action.TheVariants.{Jump, Call, Condition, Count}
+use Rattle.move_goals.specs.declared.branch_forms.branch.RelativeBranch.{RelativeBranch}
+use Rattle.move_goals.specs.BranchForms.Branches.{branch_of}
+use Rattle.move_goals.specs.BranchForms.Images.{branch_to, through_slot, short_branch, skip, bridge_jump, bridge, far_image, branch_image, image_by, image_of}
 use Rattle.block_encoder.proofs.Sweeping.{HaveFour}
 
 -- ---- what is spelled

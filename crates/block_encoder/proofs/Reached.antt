@@ -9,10 +9,10 @@ use Rattle.branch_sizes.specs.declared.plan.Form.{Form}
 use Rattle.branch_sizes.specs.declared.plan.Form.TheVariants.{Itself}
 use Rattle.branch_sizes.specs.Layout.{IsLayout, Reaches, place, image_length}
 use Rattle.move_goals.specs.MovedTargets.Targets.{target_of, target_reach, with_target, plain_length}
-use Rattle.branch_forms.specs.declared.branch.RelativeBranch.{RelativeBranch}
-use Rattle.branch_forms.specs.Branches.{branch_of}
-use Rattle.branch_forms.specs.Images.{image_by, image_of}
-use Rattle.branch_forms.specs.Choices.{choices_of}
+use Rattle.move_goals.specs.declared.branch_forms.branch.RelativeBranch.{RelativeBranch}
+use Rattle.move_goals.specs.BranchForms.Branches.{branch_of}
+use Rattle.move_goals.specs.BranchForms.Images.{image_by, image_of}
+use Rattle.move_goals.specs.BranchForms.Choices.{choices_of}
 use Rattle.move_goals.specs.declared.items.Placed.{Placed}
 use Rattle.move_goals.specs.Items.{AreSpansOf, ArePlaced, item_at}
 use Rattle.move_goals.specs.Goals.{is_in_block_of, begins_at, own_item, other_item, goal_among, goal_of_target, goal_of, goal_at}

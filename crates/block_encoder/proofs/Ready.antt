@@ -5,9 +5,9 @@ use Rattle.std.proofs.lemmas.List.{append-nil}
 use Rattle.x86_values.specs.declared.Bits.{Bits}
 use Rattle.x86_values.specs.declared.Instr.{Instr}
 use Rattle.encoder.specs.Encoding.{encoding}
-use Rattle.branch_forms.specs.declared.branch.RelativeBranch.{RelativeBranch}
-use Rattle.branch_forms.specs.Branches.{branch_of}
-use Rattle.branch_forms.specs.Images.{image_of, image_by, branch_image}
+use Rattle.move_goals.specs.declared.branch_forms.branch.RelativeBranch.{RelativeBranch}
+use Rattle.move_goals.specs.BranchForms.Branches.{branch_of}
+use Rattle.move_goals.specs.BranchForms.Images.{image_of, image_by, branch_image}
 use Rattle.branch_sizes.specs.declared.plan.Form.{Form}
 use Rattle.branch_sizes.specs.declared.plan.Form.TheVariants.{Itself}
 use Rattle.branch_sizes.specs.declared.plan.Reach.{Reach}

@@ -20,8 +20,8 @@ use Rattle.plain_spelling.specs.Expressible.{Suits, each_operand, kind_suits, re
 use Rattle.opcode_rows.specs.Table.{table}
 use Rattle.encoder.specs.Encoding.{encoding}
 use Rattle.move_goals.specs.MovedTargets.Targets.{plain_length}
-use Rattle.branch_forms.specs.Images.{branch_to, through_slot}
-use Rattle.branch_forms.specs.Rows.{offset_row, memory_row}
+use Rattle.move_goals.specs.BranchForms.Images.{branch_to, through_slot}
+use Rattle.move_goals.specs.BranchForms.Rows.{offset_row, memory_row}
 use Rattle.block_encoder.specs.LawsBelow.{MovedLawsBelow}
 
 -- of four tests of which the others pass

@@ -12,7 +12,7 @@ use Rattle.plain_spelling.specs.declared.NoSpelling.TheVariants as cause
 use Rattle.opcode_rows.specs.Table.{table}
 use Rattle.opcode_rows.specs.Sweep.{IsReadAt, IsItemAt, Sweeps}
 use Rattle.encoder.specs.Encoding.{encoding}
-use Rattle.branch_forms.specs.Images.{pieces_length}
+use Rattle.move_goals.specs.BranchForms.Images.{pieces_length}
 use Rattle.block_encoder.specs.Bytes.{in_front, bytes_from}
 use Rattle.block_encoder.specs.Read.{read_item, read_items}
 use Rattle.block_encoder.specs.LawsBelow.{MovedLawsBelow}

@@ -8,7 +8,7 @@ use Rattle.operand_info.specs.Operands.{near_value, ip_value, first_value}
 use Rattle.branch_sizes.specs.Plan.{BlockPlan}
 use Rattle.branch_sizes.specs.Layout.{span_at, image_length, place}
 use Rattle.move_goals.specs.MovedTargets.Targets.{target_of, with_target}
-use Rattle.branch_forms.specs.Images.{pieces_length}
+use Rattle.move_goals.specs.BranchForms.Images.{pieces_length}
 use Rattle.move_goals.specs.declared.items.Placed.{Placed}
 use Rattle.move_goals.specs.Items.{item_at, no_instr}
 use Rattle.branch_sizes.specs.MoveLayout.Laid.{goal_address, images_end, is_far_at, new_end, slot_address}

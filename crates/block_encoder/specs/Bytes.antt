@@ -7,7 +7,7 @@ use Rattle.plain_spelling.specs.Values.{low_bytes}
 use Rattle.encoder.specs.Encoding.{encoding}
 use Rattle.branch_sizes.specs.Plan.{BlockPlan}
 use Rattle.branch_sizes.specs.Layout.{first_of_block, span_at}
-use Rattle.branch_forms.specs.Images.{image_of}
+use Rattle.move_goals.specs.BranchForms.Images.{image_of}
 use Rattle.move_goals.specs.declared.items.Placed.{Placed}
 use Rattle.move_goals.specs.Items.{item_at}
 use Rattle.branch_sizes.specs.declared.move_layout.layout.Fragment.{Fragment}

@@ -17,11 +17,11 @@ use Rattle.branch_sizes.specs.Plan.{IsWellFormed, no_choice}
 use Rattle.branch_sizes.specs.Plan as plan
 use Rattle.branch_sizes.specs.Layout.{IsLayout, IsLeast, Reaches, ReachesGoal, block_number, span_at, item_choice, place, image_length}
 use Rattle.move_goals.specs.MovedTargets.Targets.{target_of, with_target, plain_length}
-use Rattle.branch_forms.specs.declared.branch.Action.TheVariants.{Jump}
-use Rattle.branch_forms.specs.Branches.{near_code}
-use Rattle.branch_forms.specs.Rows.{offset_row}
-use Rattle.branch_forms.specs.Images.{branch_to, pieces_length}
-use Rattle.branch_forms.specs.Choices.{choices_of}
+use Rattle.move_goals.specs.declared.branch_forms.branch.Action.TheVariants.{Jump}
+use Rattle.move_goals.specs.BranchForms.Branches.{near_code}
+use Rattle.move_goals.specs.BranchForms.Rows.{offset_row}
+use Rattle.move_goals.specs.BranchForms.Images.{branch_to, pieces_length}
+use Rattle.move_goals.specs.BranchForms.Choices.{choices_of}
 use Rattle.move_goals.specs.declared.items.Placed.{Placed}
 use Rattle.move_goals.specs.Items.{AreSpansOf, IsPlaced, ArePlaced, item_at, no_instr}
 use Rattle.move_goals.specs.Plan.{branch_with, plan_with, plan_for, plan_outside}

@@ -7,7 +7,7 @@ use Rattle.opcode_rows.specs.Table.{part_table, table}
 use Rattle.encoder.specs.Facts.{EncodingFacts, SpelledFacts}
 use Rattle.branch_sizes.specs.Facts.{BlockFacts, LengthFacts, TotalFacts}
 use Rattle.move_goals.specs.MovedTargets.Facts.{DistanceFacts, TargetFacts}
-use Rattle.branch_forms.specs.Facts.{CodeFacts, PieceFacts, FormFacts}
+use Rattle.move_goals.specs.BranchForms.Facts.{CodeFacts, PieceFacts, FormFacts}
 use Rattle.move_goals.specs.Facts.{FirstFacts, PlanFacts}
 use Rattle.branch_sizes.specs.MoveLayout.Facts.{EndFacts, SlotFacts}
 

@@ -2,12 +2,12 @@
 
 ghost use Rattle.std.specs.Prelude.{◌≡◌, ◌+◌, ◌^◌, ◌<◌, ◌≤◌, [], ◌∷◌, IfOk, IfSome, MatchBool};
 ghost use Rattle.encoder.specs.Encoding.{encoding};
-ghost use Rattle.branch_forms.specs.Images.{instrs_of};
+ghost use Rattle.move_goals.specs.BranchForms.Images.{instrs_of};
 ghost use Rattle.block_encoder.specs.Bytes.{bytes_from, fragment_bytes};
 ghost use Rattle.block_encoder.specs.Moved as moved;
 ghost use Rattle.block_encoder.specs.Written.{IsPieceAppended, AreAppended, IsFragmentWritten};
 
-use branch_forms::{Image, image_of, near_image, short_image};
+use move_goals::branch_forms::{Image, image_of, near_image, short_image};
 use branch_sizes::{Form, Reach, reaches};
 use encoder::encode;
 use branch_sizes::move_layout::Fragment;

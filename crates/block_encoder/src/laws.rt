@@ -10,7 +10,7 @@ ghost use Rattle.branch_sizes.specs.declared.plan.Form.TheVariants.{Itself};
 ghost use Rattle.branch_sizes.specs.declared.plan.Goal.{Goal};
 ghost use Rattle.branch_sizes.specs.Layout.{IsLayout, IsLeast, Reaches, block_number, span_at, place};
 ghost use Rattle.move_goals.specs.MovedTargets.Targets.{target_of, with_target};
-ghost use Rattle.branch_forms.specs.Images.{pieces_length};
+ghost use Rattle.move_goals.specs.BranchForms.Images.{pieces_length};
 ghost use Rattle.move_goals.specs.declared.items.Placed.{Placed};
 ghost use Rattle.move_goals.specs.Items.{AreSpansOf, ArePlaced, item_at, no_instr};
 ghost use Rattle.move_goals.specs.Plan.{plan_for, plan_with};

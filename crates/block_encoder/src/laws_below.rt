@@ -15,9 +15,9 @@ pub(crate) fn laws_below()
     branch_sizes::laws::totals_rise();
     move_goals::moved_targets::laws::near_addresses_are_reached();
     move_goals::moved_targets::laws::spellings_are_moved();
-    branch_forms::laws::codes_have_their_rows();
-    branch_forms::laws::pieces_have_their_lengths();
-    branch_forms::laws::forms_are_fit();
+    move_goals::branch_forms::laws::codes_have_their_rows();
+    move_goals::branch_forms::laws::pieces_have_their_lengths();
+    move_goals::branch_forms::laws::forms_are_fit();
     move_goals::laws::first_numbers_pass();
     move_goals::laws::plans_are_well_formed();
     branch_sizes::move_layout::laws::blocks_end_behind_their_slots();

@@ -4,9 +4,9 @@ use Rattle.x86_values.specs.declared.Bits.{Bits}
 use Rattle.x86_values.specs.declared.Bits.TheVariants.{B16, B32, B64}
 use Rattle.x86_values.specs.Wrapping.{width}
 use Rattle.move_goals.specs.MovedTargets.Targets.{plain_length}
-use Rattle.branch_forms.specs.declared.branch.Action.TheVariants.{Jump}
-use Rattle.branch_forms.specs.Branches.{near_code}
-use Rattle.branch_forms.specs.Images.{branch_to}
+use Rattle.move_goals.specs.declared.branch_forms.branch.Action.TheVariants.{Jump}
+use Rattle.move_goals.specs.BranchForms.Branches.{near_code}
+use Rattle.move_goals.specs.BranchForms.Images.{branch_to}
 use Rattle.move_goals.specs.Items.{IsPlaced}
 use Rattle.detour.specs.Jumps.{near_jump_to, IsNearJump, IsOutOfReach}
 use Rattle.detour.specs.LawsBelow.{DetourLawsBelow}

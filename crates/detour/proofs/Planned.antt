@@ -11,7 +11,7 @@ use Rattle.x86_values.specs.Wrapping.{width, modulo_width}
 use Rattle.branch_sizes.specs.declared.plan.Branch.{Branch}
 use Rattle.branch_sizes.specs.Plan.{is_fit_goal, is_fit_branch}
 use Rattle.move_goals.specs.MovedTargets.Targets.{target_of}
-use Rattle.branch_forms.specs.Choices.{choices_of}
+use Rattle.move_goals.specs.BranchForms.Choices.{choices_of}
 use Rattle.move_goals.specs.declared.items.Placed.{Placed}
 use Rattle.move_goals.specs.Items.{IsPlaced, ArePlaced, item_at, first_below, one_span}
 use Rattle.move_goals.specs.Goals.{begins_at}

@@ -16,10 +16,10 @@ use Rattle.plain_spelling.specs.Expressible.{Suits, kind_suits, register_suits, 
 use Rattle.opcode_rows.specs.Table.{table}
 use Rattle.opcode_rows.specs.Reading.{IsRead}
 use Rattle.encoder.specs.Encoding.{encoding}
-use Rattle.branch_forms.specs.declared.branch.Action.TheVariants.{Jump}
-use Rattle.branch_forms.specs.Branches.{far_code}
-use Rattle.branch_forms.specs.Images.{through_slot}
-use Rattle.branch_forms.specs.Rows.{memory_row}
+use Rattle.move_goals.specs.declared.branch_forms.branch.Action.TheVariants.{Jump}
+use Rattle.move_goals.specs.BranchForms.Branches.{far_code}
+use Rattle.move_goals.specs.BranchForms.Images.{through_slot}
+use Rattle.move_goals.specs.BranchForms.Rows.{memory_row}
 use Rattle.detour.specs.LawsBelow.{DetourLawsBelow}
 use Rattle.detour.specs.Jumps.{absolute_jump}
 use Rattle.detour.specs.ReadBack.{through_reading, IsAbsoluteRead}

@@ -5,9 +5,9 @@ use Rattle.x86_values.specs.declared.Bits.{Bits}
 use Rattle.x86_values.specs.declared.Instr.{Instr}
 use Rattle.plain_spelling.specs.Values.{low_bytes}
 use Rattle.encoder.specs.Encoding.{encoding}
-use Rattle.branch_forms.specs.declared.branch.Action.TheVariants.{Jump}
-use Rattle.branch_forms.specs.Branches.{near_code}
-use Rattle.branch_forms.specs.Images.{branch_to}
+use Rattle.move_goals.specs.declared.branch_forms.branch.Action.TheVariants.{Jump}
+use Rattle.move_goals.specs.BranchForms.Branches.{near_code}
+use Rattle.move_goals.specs.BranchForms.Images.{branch_to}
 
 -- a JMP with an offset of the mode's own operand size
 unfoldable pub near_jump_to : Bits → ℕ → Instr

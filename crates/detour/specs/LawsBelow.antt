@@ -8,7 +8,7 @@ use Rattle.decoder.specs.OneReading.{OneReadingFacts, WrappedFacts}
 use Rattle.branch_sizes.specs.Plan.{BlockPlan}
 use Rattle.branch_sizes.specs.Layout.{IsLeast}
 use Rattle.move_goals.specs.MovedTargets.Facts.{TargetFacts}
-use Rattle.branch_forms.specs.Facts.{CodeFacts, PieceFacts}
+use Rattle.move_goals.specs.BranchForms.Facts.{CodeFacts, PieceFacts}
 use Rattle.move_goals.specs.Facts.{FirstFacts, PlanFacts}
 use Rattle.block_encoder.specs.Facts.{FragmentFacts, MovedFacts, JumpFacts}
 

@@ -6,9 +6,9 @@ use Rattle.x86_values.specs.Wrapping.{modulo_width}
 use Rattle.plain_spelling.specs.Values.{low_bytes}
 use Rattle.row_relation.specs.Spells.{Reading, Read}
 use Rattle.opcode_rows.specs.Reading.{IsRead}
-use Rattle.branch_forms.specs.declared.branch.Action.TheVariants.{Jump}
-use Rattle.branch_forms.specs.Branches.{far_code}
-use Rattle.branch_forms.specs.Images.{through_slot}
+use Rattle.move_goals.specs.declared.branch_forms.branch.Action.TheVariants.{Jump}
+use Rattle.move_goals.specs.BranchForms.Branches.{far_code}
+use Rattle.move_goals.specs.BranchForms.Images.{through_slot}
 use Rattle.move_goals.specs.declared.items.Placed.{Placed}
 use Rattle.block_encoder.specs.Aims.{StandsAtPlace, GoesToGoal}
 use Rattle.block_encoder.specs.Read.{IsReadAsImages}

@@ -13,8 +13,8 @@ pub(crate) fn laws_below()
     decoder::reading_laws::wrapped_addresses_read_alike();
     branch_sizes::laws::least_is_unique();
     move_goals::moved_targets::laws::spellings_are_moved();
-    branch_forms::laws::codes_have_their_rows();
-    branch_forms::laws::pieces_have_their_lengths();
+    move_goals::branch_forms::laws::codes_have_their_rows();
+    move_goals::branch_forms::laws::pieces_have_their_lengths();
     move_goals::laws::first_numbers_pass();
     move_goals::laws::plans_are_well_formed();
     block_encoder::laws::plans_lay_out_their_items();

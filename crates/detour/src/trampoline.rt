@@ -13,7 +13,7 @@ use crate::laws_below::laws_below;
 use crate::start::StartTarget;
 use crate::taken::{Taken, first_end, moved_count};
 use block_encoder::{MoveError, MovedBlocks, move_by_plan};
-use branch_forms::choices_of;
+use move_goals::branch_forms::choices_of;
 use branch_sizes::{Branch, Goal, Plan};
 use move_goals::Placed;
 use move_goals::moved_targets::target_of;

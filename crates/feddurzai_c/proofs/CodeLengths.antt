@@ -10,7 +10,7 @@ use Rattle.branch_sizes.specs.declared.plan.Form.{Form}
 use Rattle.branch_sizes.specs.declared.plan.Form.TheVariants.{Itself}
 use Rattle.branch_sizes.specs.Layout.{IsLayout, total, block_number, first_of_block, span_at, item_choice, image_length, place}
 use Rattle.branch_sizes.proofs.Totals.{total_rises, first_of_end, block_at}
-use Rattle.branch_forms.specs.Images.{form_length}
+use Rattle.move_goals.specs.BranchForms.Images.{form_length}
 use Rattle.move_goals.specs.declared.items.Placed.{Placed}
 use Rattle.move_goals.specs.Items.{item_at, AreSpansOf}
 use Rattle.move_goals.specs.Plan.{plan_with}

@@ -6,9 +6,9 @@ use Rattle.x86_values.specs.declared.Instr.{Instr}
 use Rattle.x86_values.specs.Wrapping.{modulo_width}
 use Rattle.plain_spelling.specs.Values.{low_bytes}
 use Rattle.encoder.specs.Encoding.{encoding}
-use Rattle.branch_forms.specs.declared.branch.Action.TheVariants.{Jump as ToJump, Call as ToCall}
-use Rattle.branch_forms.specs.Branches.{short_code, near_code, far_code}
-use Rattle.branch_forms.specs.Images.{branch_to, through_slot}
+use Rattle.move_goals.specs.declared.branch_forms.branch.Action.TheVariants.{Jump as ToJump, Call as ToCall}
+use Rattle.move_goals.specs.BranchForms.Branches.{short_code, near_code, far_code}
+use Rattle.move_goals.specs.BranchForms.Images.{branch_to, through_slot}
 use Rattle.feddurzai_c.specs.declared.refusal.Refusal.{Refusal}
 use Rattle.feddurzai_c.specs.declared.refusal.Refusal.TheVariants.{Mode, Jump as NoJump}
 use Rattle.feddurzai_c.specs.declared.jump.JumpForm.{JumpForm}

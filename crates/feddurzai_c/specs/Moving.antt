@@ -14,7 +14,7 @@ use Rattle.move_goals.specs.declared.items.Placed.{Placed}
 use Rattle.move_goals.specs.Items.{item_at, one_span, passes}
 use Rattle.block_encoder.specs.declared.error.MoveError.{MoveError}
 use Rattle.block_encoder.specs.declared.error.MoveError.TheVariants as error
-use Rattle.branch_forms.specs.Images.{form_length}
+use Rattle.move_goals.specs.BranchForms.Images.{form_length}
 use Rattle.block_encoder.specs.Moved.{MovedLists, IsAnswer}
 use Rattle.block_encoder.specs.ByPlan.{IsOutsideAnswer}
 use Rattle.feddurzai_c.specs.declared.refusal.Refusal.{Refusal}

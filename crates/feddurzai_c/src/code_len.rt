@@ -1,11 +1,11 @@
 //! Where moved code ends.
 
 ghost use Rattle.std.specs.Prelude.{◌≡◌, ◌+◌, ◌<◌, ◌≤◌, length};
-ghost use Rattle.branch_forms.specs.Images.{form_length, instrs_of, pieces_length};
+ghost use Rattle.move_goals.specs.BranchForms.Images.{form_length, instrs_of, pieces_length};
 ghost use Rattle.feddurzai_c.specs.Moving as spec;
 
 use block_encoder::{Form, Placed};
-use branch_forms::{Image, image_of};
+use move_goals::branch_forms::{Image, image_of};
 use move_goals::moved_targets::plain_length;
 use x86_values::{Bits, Instr};
 
@@ -26,7 +26,7 @@ fn image_len(bits: Bits, image: &Image) -> u64
 }
 
 /// How many bytes the image of an instruction in a form has, wherever it stands.
-#[tactic(auto, unfolding(branch_forms::specs::Images::form_length))]
+#[tactic(auto, unfolding(move_goals::specs::BranchForms::Images::form_length))]
 fn form_len(bits: Bits, instr: &Instr, form: Form) -> u64
     ensures value { result ≡ form_length bits instr.now form }
     ensures small { result < 192 }

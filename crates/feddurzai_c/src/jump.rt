@@ -3,7 +3,7 @@
 ghost use Rattle.std.specs.Prelude.{◌≡◌, ◌++◌, ◌≤◌, ◌+◌, length, MatchResult, Ok, Err};
 ghost use Rattle.arrayvec.specs.ArrayVec.{array_vec_len};
 ghost use Rattle.plain_spelling.specs.Values.{low_bytes};
-ghost use Rattle.branch_forms.specs.Branches as branches;
+ghost use Rattle.move_goals.specs.BranchForms.Branches as branches;
 ghost use Rattle.feddurzai_c.specs.Answers as said;
 ghost use Rattle.feddurzai_c.specs.Jumps as spec;
 
@@ -12,7 +12,7 @@ use crate::numbers::bits_numbered;
 use crate::refusal::{Refusal, refusal_status};
 use crate::room::put_bytes;
 use arrayvec::ArrayVec;
-use branch_forms::{CALL_REL16, CALL_RM64, JMP_REL8, JMP_REL16, JMP_RM64, branch_to, through_slot};
+use move_goals::branch_forms::{CALL_REL16, CALL_RM64, JMP_REL8, JMP_REL16, JMP_RM64, branch_to, through_slot};
 use encoder::encode;
 use instruction_parts::append::append_few;
 use plain_spelling::numbers::append_low_bytes;
@@ -52,7 +52,7 @@ fn jump_numbered(n: u32) -> Option<JumpForm>
 }
 
 /// The code of the branch of an operand size, where the codes of the three sizes stand one behind another.
-#[tactic(auto, unfolding(branch_forms::specs::Branches::size_number))]
+#[tactic(auto, unfolding(move_goals::specs::BranchForms::Branches::size_number))]
 fn code_of_size(first: u16, size: Bits) -> u16
     requires { first ≤ 1000 }
     ensures { result ≡ first + branches.size_number size }
@@ -65,7 +65,7 @@ fn code_of_size(first: u16, size: Bits) -> u16
 }
 
 /// The instruction of a form at an address.
-#[tactic(auto, unfolding(crate::specs::Jumps::jump_instr, branch_forms::specs::Branches::short_code, branch_forms::specs::Branches::near_code, branch_forms::specs::Branches::far_code))]
+#[tactic(auto, unfolding(crate::specs::Jumps::jump_instr, move_goals::specs::BranchForms::Branches::short_code, move_goals::specs::BranchForms::Branches::near_code, move_goals::specs::BranchForms::Branches::far_code))]
 fn jump_instr(bits: Bits, at: u64, target: u64, form: JumpForm) -> Instr
     ensures { result ≡ spec.jump_instr bits at target form }
 {

@@ -5,3 +5,4 @@ pub mod Aims
 pub mod Planned
 pub mod Pushed
 pub mod MovedTargets
+pub mod BranchForms

@@ -18,9 +18,9 @@ use Rattle.branch_sizes.specs.Facts.{BlockFacts}
 use Rattle.branch_sizes.specs.Layout.{span_at, first_of_block}
 use Rattle.branch_sizes.specs.Plan.{is_fit_goal, is_fit_branch, IsWellFormed}
 use Rattle.move_goals.specs.MovedTargets.Targets.{target_of}
-use Rattle.branch_forms.specs.Branches.{branch_of, branch_by}
-use Rattle.branch_forms.specs.Choices.{choices_of, choices_by}
-use Rattle.branch_forms.specs.Facts.{FormFacts}
+use Rattle.move_goals.specs.BranchForms.Branches.{branch_of, branch_by}
+use Rattle.move_goals.specs.BranchForms.Choices.{choices_of, choices_by}
+use Rattle.move_goals.specs.BranchForms.Facts.{FormFacts}
 use Rattle.move_goals.specs.declared.items.Placed.{Placed}
 use Rattle.move_goals.specs.Items.{AreSpansOf, ArePlaced, item_at, one_span}
 use Rattle.move_goals.specs.Goals.{own_item, other_item, goal_among, goal_of_target, goal_of, goal_at}

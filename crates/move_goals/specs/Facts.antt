@@ -8,7 +8,7 @@ use Rattle.branch_sizes.specs.declared.plan.Branch.{Branch}
 use Rattle.branch_sizes.specs.declared.plan.Goal.{Goal}
 use Rattle.branch_sizes.specs.Plan.{is_fit_goal, IsWellFormed}
 use Rattle.move_goals.specs.MovedTargets.Targets.{target_of}
-use Rattle.branch_forms.specs.Choices.{choices_of}
+use Rattle.move_goals.specs.BranchForms.Choices.{choices_of}
 use Rattle.move_goals.specs.declared.items.Placed.{Placed}
 use Rattle.move_goals.specs.Items.{AreSpansOf, ArePlaced, item_at, first_below, one_span}
 use Rattle.move_goals.specs.Plan.{plan_with, plan_for, kept_goal, plan_outside}

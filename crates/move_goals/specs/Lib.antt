@@ -5,3 +5,4 @@ pub mod Ready
 pub mod Plan
 pub mod Facts
 pub mod MovedTargets
+pub mod BranchForms

@@ -8,7 +8,7 @@ use Rattle.branch_sizes.specs.declared.plan.Goal.{Goal}
 use Rattle.branch_sizes.specs.declared.plan.Goal.TheVariants.{None as NoGoal, Outside}
 use Rattle.branch_sizes.specs.Plan.{BlockPlan, plan_of}
 use Rattle.move_goals.specs.MovedTargets.Targets.{target_of}
-use Rattle.branch_forms.specs.Choices.{choices_of}
+use Rattle.move_goals.specs.BranchForms.Choices.{choices_of}
 use Rattle.move_goals.specs.declared.items.Placed.{Placed}
 use Rattle.move_goals.specs.Items.{item_at, one_span}
 use Rattle.move_goals.specs.Goals.{goal_at}

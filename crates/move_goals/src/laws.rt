@@ -13,5 +13,5 @@ pub fn first_numbers_pass()
 pub fn plans_are_well_formed()
     ensures { PlanFacts }
 {
-    branch_forms::laws::forms_are_fit();
+    crate::branch_forms::laws::forms_are_fit();
 }

@@ -1,6 +1,7 @@
 //! The instructions that are moved, where their targets go, and the plan by which the forms of branches are chosen.
 #![tactic(auto)]
 
+pub mod branch_forms;
 pub mod moved_targets;
 mod items;
 pub mod laws;

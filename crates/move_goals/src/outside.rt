@@ -5,7 +5,7 @@ ghost use Rattle.move_goals.specs.Items.{ArePlaced};
 ghost use Rattle.move_goals.specs.Plan as spec;
 
 use crate::items::Placed;
-use branch_forms::choices_of;
+use crate::branch_forms::choices_of;
 use branch_sizes::{Branch, Goal, Plan};
 use crate::moved_targets::target_of;
 use std::alloc::{AllocError, Global};
@@ -45,7 +45,7 @@ pub fn plan_outside(
     requires placed { ArePlaced bits items.now }
     ensures { IfOk result (λ plan. plan ≡ spec.plan_outside bits items.now new_base) }
 {
-    branch_forms::laws::forms_are_fit();
+    crate::branch_forms::laws::forms_are_fit();
     let mut branches = Vec::with_capacity(alloc, items.len())?;
     'items: for k in 0..items.len() {
         branches.push(kept_branch(bits, items, k))?;

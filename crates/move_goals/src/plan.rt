@@ -2,7 +2,7 @@
 
 ghost use Rattle.std.specs.Prelude.{◌≡◌, ◌-◌, ◌<◌, ◌≤◌, None, IfOk, length};
 ghost use Rattle.branch_sizes.specs.declared.plan.Goal.TheVariants.{None as Nowhere};
-ghost use Rattle.branch_forms.specs.Choices.{choices_of};
+ghost use Rattle.move_goals.specs.BranchForms.Choices.{choices_of};
 ghost use Rattle.move_goals.specs.MovedTargets.Independent.{IsIndependent};
 ghost use Rattle.move_goals.specs.Items as old;
 ghost use Rattle.move_goals.specs.Ready.{MayBeReady, AreReady};
@@ -13,7 +13,7 @@ use crate::items::Placed;
 use crate::ready::ready_of;
 use crate::starts::{Starts, goal_in, starts_of};
 use arrayvec::ArrayVec;
-use branch_forms::{choices_of, choices_without_target};
+use crate::branch_forms::{choices_of, choices_without_target};
 use branch_sizes::{BlockSpan, Branch, Goal, Plan};
 use crate::moved_targets::target_of;
 use std::alloc::{AllocError, Global};
@@ -125,7 +125,7 @@ pub fn plan_with_ready(
     requires ready { AreReady bits items.now ready.now }
     ensures { IfOk result (λ plan. plan ≡ spec.plan_for bits spans.now items.now) }
 {
-    branch_forms::laws::forms_are_fit();
+    crate::branch_forms::laws::forms_are_fit();
     let branches = branches_of(alloc, bits, items, spans, ready)?;
     Ok(Plan::of_blocks(Vec::from_slice(alloc, spans)?, branches))
 }

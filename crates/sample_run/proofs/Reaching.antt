@@ -15,9 +15,9 @@ use Rattle.branch_sizes.specs.Plan.{IsWellFormed, no_choice}
 use Rattle.branch_sizes.specs.Layout.{IsLeast, Reaches, total, block_number, span_at, image_length, place}
 use Rattle.branch_sizes.specs.Facts.{LengthFacts, TotalFacts}
 use Rattle.move_goals.specs.MovedTargets.Targets.{target_of, target_reach}
-use Rattle.branch_forms.specs.declared.branch.RelativeBranch.{RelativeBranch}
-use Rattle.branch_forms.specs.Branches.{branch_by, branch_of}
-use Rattle.branch_forms.specs.Choices.{choices_by, choices_of}
+use Rattle.move_goals.specs.declared.branch_forms.branch.RelativeBranch.{RelativeBranch}
+use Rattle.move_goals.specs.BranchForms.Branches.{branch_by, branch_of}
+use Rattle.move_goals.specs.BranchForms.Choices.{choices_by, choices_of}
 use Rattle.move_goals.specs.declared.items.Placed.{Placed}
 use Rattle.move_goals.specs.Items.{AreSpansOf, ArePlaced, item_at, one_span, first_passing}
 use Rattle.move_goals.specs.Goals.{is_in_block_of, begins_at, own_item, other_item, goal_among, goal_of_target, goal_of, goal_at}

@@ -9,7 +9,7 @@ use Rattle.branch_sizes.specs.declared.plan.Form.{Form}
 use Rattle.branch_sizes.specs.declared.plan.Form.TheVariants.{Itself}
 use Rattle.branch_sizes.specs.Plan.{no_choice, is_same_form}
 use Rattle.branch_sizes.specs.Layout.{total}
-use Rattle.branch_forms.specs.Choices.{choices_of}
+use Rattle.move_goals.specs.BranchForms.Choices.{choices_of}
 use Rattle.move_goals.specs.declared.items.Placed.{Placed}
 use Rattle.move_goals.specs.Items.{item_at, one_span}
 use Rattle.block_encoder.specs.Moved.{MovedLists, IsMoved}

@@ -10,7 +10,7 @@ ghost use Rattle.sample_run.specs.Sample as spec;
 
 use crate::generator::{CODE_BASE, sample_code};
 use crate::laws::{made_code_has_instructions_alone, made_code_reaches_its_targets};
-use branch_forms::choices_of;
+use move_goals::branch_forms::choices_of;
 use branch_sizes::Form;
 use command_words::BlockWords;
 use move_goals::Placed;

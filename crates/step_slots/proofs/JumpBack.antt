@@ -19,12 +19,12 @@ use Rattle.branch_sizes.specs.declared.plan.Goal.TheVariants.{Outside}
 use Rattle.branch_sizes.specs.Plan.{no_choice}
 use Rattle.branch_sizes.specs.Layout.{IsLayout, IsLeast, Reaches, ReachesGoal, item_choice, place}
 use Rattle.move_goals.specs.MovedTargets.Targets.{target_of, plain_length}
-use Rattle.branch_forms.specs.declared.branch.Action.TheVariants.{Jump}
-use Rattle.branch_forms.specs.declared.branch.RelativeBranch.{RelativeBranch}
-use Rattle.branch_forms.specs.Branches.{size_of, near_action, branch_in, branch_by, branch_of, near_code}
-use Rattle.branch_forms.specs.Images.{branch_to, branch_image, image_by, image_of}
-use Rattle.branch_forms.specs.Choices.{branch_forms, near_reach, form_reach, branch_choice, choices_by, choices_of}
-use Rattle.branch_forms.specs.Rows.{offset_row}
+use Rattle.move_goals.specs.declared.branch_forms.branch.Action.TheVariants.{Jump}
+use Rattle.move_goals.specs.declared.branch_forms.branch.RelativeBranch.{RelativeBranch}
+use Rattle.move_goals.specs.BranchForms.Branches.{size_of, near_action, branch_in, branch_by, branch_of, near_code}
+use Rattle.move_goals.specs.BranchForms.Images.{branch_to, branch_image, image_by, image_of}
+use Rattle.move_goals.specs.BranchForms.Choices.{branch_forms, near_reach, form_reach, branch_choice, choices_by, choices_of}
+use Rattle.move_goals.specs.BranchForms.Rows.{offset_row}
 use Rattle.move_goals.specs.declared.items.Placed.{Placed}
 use Rattle.move_goals.specs.Items.{IsPlaced, ArePlaced, item_at, one_span}
 use Rattle.move_goals.specs.Plan.{kept_goal, kept_goals, plan_outside}

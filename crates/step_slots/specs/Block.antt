@@ -5,9 +5,9 @@ use Rattle.x86_values.specs.declared.Instr.{Instr}
 use Rattle.x86_values.specs.Wrapping.{modulo_width}
 use Rattle.branch_sizes.specs.Plan.{BlockPlan}
 use Rattle.move_goals.specs.MovedTargets.Targets.{plain_length}
-use Rattle.branch_forms.specs.declared.branch.Action.TheVariants.{Jump}
-use Rattle.branch_forms.specs.Branches.{near_code}
-use Rattle.branch_forms.specs.Images.{branch_to}
+use Rattle.move_goals.specs.declared.branch_forms.branch.Action.TheVariants.{Jump}
+use Rattle.move_goals.specs.BranchForms.Branches.{near_code}
+use Rattle.move_goals.specs.BranchForms.Images.{branch_to}
 use Rattle.move_goals.specs.declared.items.Placed.{Placed}
 use Rattle.move_goals.specs.Items.{old_end}
 use Rattle.move_goals.specs.Plan.{plan_outside}

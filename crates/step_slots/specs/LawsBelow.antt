@@ -1,7 +1,7 @@
 -- What the proofs of this crate use of the crates below: what their laws say.
 use Rattle.std.specs.Prelude.{ℕ}
 use Rattle.x86_values.specs.declared.Bits.{Bits}
-use Rattle.branch_forms.specs.Facts.{CodeFacts}
+use Rattle.move_goals.specs.BranchForms.Facts.{CodeFacts}
 use Rattle.move_goals.specs.Facts.{PlanFacts}
 use Rattle.block_encoder.specs.Facts.{FragmentFacts, ReachFacts, LastFacts, JumpFacts}
 use Rattle.code_region.specs.Facts.{PlaceFacts, RegionFacts}

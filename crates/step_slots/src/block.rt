@@ -12,14 +12,14 @@ ghost use Rattle.step_slots.specs.Stepping.{IsBlockStepped, IsOfLength, IsOfReac
 use crate::laws_below::laws_below;
 use crate::refusals::StepError;
 use block_encoder::{MoveError, Placed, last_len, move_outside};
-use branch_forms::{Action, near_code};
+use move_goals::branch_forms::{Action, near_code};
 use code_region::{PlaceError, Region};
 use move_goals::moved_targets::plain_length;
 use std::alloc::Global;
 use x86_values::{Bits, Code, Instr, Operand, Rep, wrap};
 
 /// A JMP with an offset of the mode's own operand size.
-#[tactic(auto, unfolding(crate::specs::Block::jump_to, branch_forms::specs::Images::branch_to))]
+#[tactic(auto, unfolding(crate::specs::Block::jump_to, move_goals::specs::BranchForms::Images::branch_to))]
 fn jump_to(bits: Bits, target: u64) -> Instr
     ensures { result ≡ spec.jump_to bits target }
 {

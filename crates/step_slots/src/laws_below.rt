@@ -9,7 +9,7 @@ use crate::slots::StepSlot;
 pub(crate) fn laws_below()
     ensures { StepLawsBelow }
 {
-    branch_forms::laws::codes_have_their_rows();
+    move_goals::branch_forms::laws::codes_have_their_rows();
     move_goals::laws::plans_are_well_formed();
     block_encoder::laws::plans_lay_out_their_items();
     block_encoder::laws::items_reach_their_goals();

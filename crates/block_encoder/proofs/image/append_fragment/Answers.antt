@@ -2,7 +2,7 @@ use Rattle.std.proofs.Common.{◌≡◌, [], ◌∷◌, List, sym, ap, subst, �
 use Rattle.x86_values.specs.declared.Instr.{Instr}
 use Rattle.branch_sizes.specs.declared.plan.Form.TheVariants.{Itself, Short, Near}
 use Rattle.move_goals.specs.MovedTargets.Targets.{with_target}
-use Rattle.branch_forms.specs.Images.{image_of}
+use Rattle.move_goals.specs.BranchForms.Images.{image_of}
 use Rattle.block_encoder.proofs.Ready.{itself-image, fragment_single}
 use Rattle.block_encoder.proofs.image.append_fragment.Goals as goal
 

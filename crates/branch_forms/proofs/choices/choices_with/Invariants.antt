@@ -1,6 +1,0 @@
-use Rattle.std.proofs.Common.{◌≡◌, map, take}
-use Rattle.branch_forms.specs.Choices as spec
-use Rattle.branch_forms.proofs.choices.choices_with.Given as goal
-
-abbrev pub invariant-loop-form : goal.invariant-loop-form
-invariant-loop-form l = l.choices.items ≡ map (spec.branch_choice l.bits l.instr l.branch) (take l.form-index l.forms)

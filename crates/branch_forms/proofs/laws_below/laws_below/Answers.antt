@@ -1,8 +1,0 @@
-use Rattle.branch_forms.proofs.laws_below.laws_below.Goals as goal
-
-pub returns : goal.returns
-returns c = record {
-  rows = c.rows_are_of_the_parts.ensures;
-  spelled = c.spelled_meets_conditions.ensures;
-  targets = c.spellings_are_moved.ensures;
-}
