@@ -12,3 +12,4 @@ pub mod Found
 pub mod Commanded
 pub mod Holding
 pub mod Units
+pub mod LiveEntries

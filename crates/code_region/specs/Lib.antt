@@ -10,3 +10,4 @@ pub mod Keeping
 pub mod Searching
 pub mod Laws
 pub mod Facts
+pub mod LiveEntries

@@ -12,9 +12,9 @@ use Rattle.code_region.specs.Placing.{place_answer, with_block, unfilled_block, 
 use Rattle.code_region.specs.Releasing.{release_answer, after_release}
 use Rattle.code_region.specs.Filling.{with_content, can_fill}
 use Rattle.code_region.specs.Keeping.{IsSound}
-use Rattle.live_entries.specs.Order.{AreAscending, StandsAt}
-use Rattle.live_entries.specs.Keeping.{AreLive}
-use Rattle.live_entries.specs.Facts.{LiveFacts}
+use Rattle.code_region.specs.LiveEntries.Order.{AreAscending, StandsAt}
+use Rattle.code_region.specs.LiveEntries.Keeping.{AreLive}
+use Rattle.code_region.specs.LiveEntries.Facts.{LiveFacts}
 use Rattle.detour.specs.declared.start.StartTarget.{StartTarget}
 use Rattle.hook_slots.specs.declared.making.Hook.{Hook}
 use Rattle.hook_slots.specs.declared.refusals.InstallError.{InstallError}

@@ -2,7 +2,7 @@
 use Rattle.std.specs.Prelude.{◌≡◌, ℕ, ◌+◌, ◌-◌, ◌*◌, ◌%◌, ◌<◌, ◌≤◌, List, [], ◌∷◌, ◌++◌, length, replicate}
 use Rattle.x86_values.specs.declared.Bits.{Bits}
 use Rattle.code_region.specs.State.{LiveBlock, RegionState, int3}
-use Rattle.live_entries.specs.Keeping.{AreLive}
+use Rattle.code_region.specs.LiveEntries.Keeping.{AreLive}
 use Rattle.hook_slots.specs.declared.making.Hook.{Hook}
 use Rattle.hook_slots.specs.State.{HooksState}
 use Rattle.hook_slots.specs.Holding.{HasDetour}

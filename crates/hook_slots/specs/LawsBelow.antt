@@ -2,7 +2,7 @@
 use Rattle.std.specs.Prelude.{ℕ}
 use Rattle.x86_values.specs.declared.Bits.{Bits}
 use Rattle.code_region.specs.Facts.{RegionFacts}
-use Rattle.live_entries.specs.Facts.{FillFacts, EntryFacts}
+use Rattle.code_region.specs.LiveEntries.Facts.{FillFacts, EntryFacts}
 use Rattle.hook_slots.specs.State.{hook_place}
 use Rattle.hook_slots.specs.Keeping.{IsHookBlock}
 

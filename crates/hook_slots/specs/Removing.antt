@@ -2,7 +2,7 @@
 use Rattle.std.specs.Prelude.{ℕ, List, Option, Some, None, Result, Ok, Err}
 use Rattle.code_region.specs.declared.refusals.NotTaken.{NotTaken}
 use Rattle.code_region.specs.Releasing.{after_release}
-use Rattle.live_entries.specs.Order.{without_entry}
+use Rattle.code_region.specs.LiveEntries.Order.{without_entry}
 use Rattle.hook_slots.specs.declared.making.Hook.{Hook}
 use Rattle.hook_slots.specs.State.{HooksState, hook_place, hook_at}
 

@@ -1,7 +1,7 @@
 -- What a list of commands leaves.
 use Rattle.std.specs.Prelude.{◌≡◌, ℕ, ◌≤◌, List, length, Result, Ok, Err}
 use Rattle.code_region.specs.declared.refusals.NotTaken.{NotTaken}
-use Rattle.live_entries.specs.Running.{IsRun}
+use Rattle.code_region.specs.LiveEntries.Running.{IsRun}
 use Rattle.hook_slots.specs.declared.making.Hook.{Hook}
 use Rattle.hook_slots.specs.declared.refusals.InstallError.{InstallError}
 use Rattle.hook_slots.specs.declared.commands.HookCommand.{HookCommand}

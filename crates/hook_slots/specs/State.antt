@@ -3,7 +3,7 @@ use Rattle.std.specs.Prelude.{ℕ, ◌/◌, List, [], Option}
 use Rattle.x86_values.specs.declared.Bits.{Bits}
 use Rattle.code_region.specs.State.{RegionState}
 use Rattle.code_region.specs.Opening.{empty_region}
-use Rattle.live_entries.specs.Order.{with_entry, live_entry}
+use Rattle.code_region.specs.LiveEntries.Order.{with_entry, live_entry}
 use Rattle.hook_slots.specs.declared.making.Hook.{Hook}
 
 -- the mode, the size of a slot, the region, and the live hooks by address

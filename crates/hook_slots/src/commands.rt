@@ -8,7 +8,7 @@ use crate::making::Hook;
 use crate::refusals::InstallError;
 use code_region::NotTaken;
 use detour::StartTarget;
-use live_entries::{Executor, run_commands};
+use code_region::live_entries::{Executor, run_commands};
 use std::alloc::Global;
 
 /// One command to hooks.

@@ -13,7 +13,7 @@ use crate::making::{Hook, place_hook};
 use crate::refusals::{InstallError, MakeError};
 use code_region::{NotTaken, Region};
 use detour::StartTarget;
-use live_entries::{insert_entry, remove_entry};
+use code_region::live_entries::{insert_entry, remove_entry};
 use move_goals::passes;
 use std::alloc::Global;
 use std::marker::Model;

@@ -10,6 +10,6 @@ pub(crate) fn laws_below()
     ensures { HookLawsBelow }
 {
     code_region::laws::sound_regions_keep_their_laws();
-    live_entries::laws::placed_blocks_are_filled();
-    live_entries::laws::entries_go_with_their_blocks::<Hook>();
+    code_region::live_entries::laws::placed_blocks_are_filled();
+    code_region::live_entries::laws::entries_go_with_their_blocks::<Hook>();
 }

@@ -10,7 +10,7 @@ use crate::laws_below::laws_below;
 use crate::refusals::InstallError;
 use code_region::{PlaceError, Region};
 use detour::{Detour, DetourError, StartTarget, detour};
-use live_entries::LiveEntry;
+use code_region::live_entries::LiveEntry;
 use std::alloc::{AllocError, Global};
 use x86_values::Bits;
 

@@ -11,9 +11,9 @@ use Rattle.code_region.specs.Placing.{place_answer, unfilled_block, after_place}
 use Rattle.code_region.specs.Releasing.{release_answer, after_release}
 use Rattle.code_region.specs.Filling.{with_content, after_fill}
 use Rattle.code_region.specs.Laws.{AreInUnits}
-use Rattle.live_entries.specs.Order.{AreAscending, StandsAt}
-use Rattle.live_entries.specs.Keeping.{AreLive}
-use Rattle.live_entries.specs.Facts.{LiveFacts}
+use Rattle.code_region.specs.LiveEntries.Order.{AreAscending, StandsAt}
+use Rattle.code_region.specs.LiveEntries.Keeping.{AreLive}
+use Rattle.code_region.specs.LiveEntries.Facts.{LiveFacts}
 use Rattle.step_slots.specs.declared.slots.StepSlot.{StepSlot}
 use Rattle.step_slots.specs.Block.{IsStepBlock, reserved_room}
 use Rattle.step_slots.specs.State.{SlotState, slot_place, slot_len, with_slot}

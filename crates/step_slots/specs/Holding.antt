@@ -2,7 +2,7 @@
 use Rattle.std.specs.Prelude.{◌≡◌, ℕ, ◌-◌, List, ◌++◌, All, length, replicate, take, drop}
 use Rattle.x86_values.specs.declared.Bits.{Bits}
 use Rattle.code_region.specs.State.{int3}
-use Rattle.live_entries.specs.Keeping.{EntriesAreApart, IsQuietElsewhere}
+use Rattle.code_region.specs.LiveEntries.Keeping.{EntriesAreApart, IsQuietElsewhere}
 use Rattle.step_slots.specs.declared.slots.StepSlot.{StepSlot}
 use Rattle.step_slots.specs.Block.{IsStepBlock}
 use Rattle.step_slots.specs.State.{SlotState, slot_place, slot_len}

@@ -3,7 +3,7 @@ use Rattle.std.specs.Prelude.{◌≡◌, ℕ, ◌+◌, ◌-◌, ◌%◌, ◌^◌
 use Rattle.x86_values.specs.declared.Bits.{Bits}
 use Rattle.x86_values.specs.Wrapping.{width}
 use Rattle.code_region.specs.State.{LiveBlock, RegionState, int3}
-use Rattle.live_entries.specs.Keeping.{AreLive}
+use Rattle.code_region.specs.LiveEntries.Keeping.{AreLive}
 use Rattle.step_slots.specs.declared.slots.StepSlot.{StepSlot}
 use Rattle.step_slots.specs.Block.{IsStepBlock}
 use Rattle.step_slots.specs.State.{slot_len}

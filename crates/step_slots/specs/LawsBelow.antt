@@ -5,7 +5,7 @@ use Rattle.move_goals.specs.BranchForms.Facts.{CodeFacts}
 use Rattle.move_goals.specs.Facts.{PlanFacts}
 use Rattle.block_encoder.specs.Facts.{FragmentFacts, ReachFacts, LastFacts, JumpFacts}
 use Rattle.code_region.specs.Facts.{PlaceFacts, RegionFacts}
-use Rattle.live_entries.specs.Facts.{FillFacts, EntryFacts}
+use Rattle.code_region.specs.LiveEntries.Facts.{FillFacts, EntryFacts}
 use Rattle.step_slots.specs.State.{slot_place, slot_len}
 use Rattle.step_slots.specs.Keeping.{IsSlotBlock}
 

@@ -5,7 +5,7 @@ use Rattle.x86_values.specs.declared.Bits.{Bits}
 use Rattle.move_goals.specs.Items.{IsPlaced}
 use Rattle.code_region.specs.declared.refusals.NotTaken.{NotTaken}
 use Rattle.code_region.specs.Releasing.{release_answer}
-use Rattle.live_entries.specs.Running.{IsRun}
+use Rattle.code_region.specs.LiveEntries.Running.{IsRun}
 use Rattle.step_slots.specs.declared.refusals.StepError.{StepError}
 use Rattle.step_slots.specs.declared.commands.StepCommand.{StepCommand}
 use Rattle.step_slots.specs.declared.commands.StepCommand.TheVariants.{Step, Finish}

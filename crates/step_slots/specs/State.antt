@@ -3,7 +3,7 @@ use Rattle.std.specs.Prelude.{ℕ, List, []}
 use Rattle.x86_values.specs.declared.Bits.{Bits}
 use Rattle.code_region.specs.State.{RegionState, len_in_units}
 use Rattle.code_region.specs.Opening.{empty_region}
-use Rattle.live_entries.specs.Order.{with_entry}
+use Rattle.code_region.specs.LiveEntries.Order.{with_entry}
 use Rattle.step_slots.specs.declared.slots.StepSlot.{StepSlot}
 use Rattle.step_slots.specs.Block.{reserved_room}
 

@@ -14,7 +14,7 @@ use Rattle.code_region.specs.Opening.{is_bad_size, is_bad_room}
 use Rattle.code_region.specs.Placing.{place_answer, after_place}
 use Rattle.code_region.specs.Releasing.{after_release}
 use Rattle.code_region.specs.Filling.{after_fill}
-use Rattle.live_entries.specs.Order.{without_entry}
+use Rattle.code_region.specs.LiveEntries.Order.{without_entry}
 use Rattle.step_slots.specs.declared.slots.StepSlot.{StepSlot}
 use Rattle.step_slots.specs.declared.refusals.StepError.{StepError}
 use Rattle.step_slots.specs.declared.refusals.StepError.TheVariants.{Memory, TooManyBlocks, Full, TooFar}

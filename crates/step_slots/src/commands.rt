@@ -7,7 +7,7 @@ use crate::refusals::StepError;
 use crate::slots::StepSlots;
 use block_encoder::Placed;
 use code_region::NotTaken;
-use live_entries::{Executor, run_commands};
+use code_region::live_entries::{Executor, run_commands};
 use std::alloc::Global;
 
 /// One command to slots.

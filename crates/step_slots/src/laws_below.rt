@@ -17,6 +17,6 @@ pub(crate) fn laws_below()
     block_encoder::laws::near_jumps_are_encoded();
     code_region::laws::sound_regions_keep_their_laws();
     code_region::laws::places_are_gaps();
-    live_entries::laws::placed_blocks_are_filled();
-    live_entries::laws::entries_go_with_their_blocks::<StepSlot>();
+    code_region::live_entries::laws::placed_blocks_are_filled();
+    code_region::live_entries::laws::entries_go_with_their_blocks::<StepSlot>();
 }

@@ -13,7 +13,7 @@ use crate::laws_below::laws_below;
 use crate::refusals::StepError;
 use block_encoder::Placed;
 use code_region::{NotTaken, OpenError, Region};
-use live_entries::{LiveEntry, insert_entry, remove_entry};
+use code_region::live_entries::{LiveEntry, insert_entry, remove_entry};
 use move_goals::passes;
 use std::alloc::Global;
 use std::marker::Model;
