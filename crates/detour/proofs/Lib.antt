@@ -6,3 +6,4 @@ pub mod Through
 pub mod OnePlace
 pub mod ReadBack
 pub mod Made
+pub mod HookSlots

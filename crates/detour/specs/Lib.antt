@@ -7,3 +7,4 @@ pub mod Trampoline
 pub mod ReadBack
 pub mod Detours
 pub mod Made
+pub mod HookSlots

@@ -3,7 +3,7 @@
 use crate::compare::{are_bytes, same};
 use code_region::NotTaken;
 use detour::{DetourError, StartTarget};
-use hook_slots::{Hook, HookCommand, HookReply, Hooks, InstallError, MakeError, replay};
+use detour::hook_slots::{Hook, HookCommand, HookReply, Hooks, InstallError, MakeError, replay};
 use std::alloc::Global;
 use std::process::Abort;
 use std::test::Fail;

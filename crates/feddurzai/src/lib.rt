@@ -151,7 +151,7 @@ pub mod flow {
 /// a range of addresses. `laws` has that these stay apart, each with its bytes, after any list of installs and removals.
 pub mod hooks {
     pub use detour::{Detour, DetourError, JumpForm, Parts, StartTarget, detour};
-    pub use hook_slots::{
+    pub use detour::hook_slots::{
         Hook, HookCommand, HookReply, Hooks, InstallError, MakeError, NotTaken, laws, replay,
     };
 }

@@ -1,0 +1,300 @@
+-- Hooks as they are made and removed, and what holds of them then.
+use Rattle.std.proofs.Common.{◌≡◌, ℕ, ◌-◌, ◌%◌, ◌/◌, ◌≤◌, ◌<◌, inl, inr, List, [], ◌∷◌, ◌++◌, length, replicate, arith, ap, refl, subst, sym, ◌∙◌, nat_lt, nat_eq, Option, None, Result, Ok, Err}
+use Rattle.std.specs.Prelude.{IsTrue}
+use Rattle.std.proofs.Math.Nat.{div-mul-le_self}
+use Rattle.std.proofs.lemmas.Bool.{cases_Bool, eqb-true, eqb-false, ltb-true, ltb-false}
+use Rattle.x86_values.specs.declared.Bits.{Bits}
+use Rattle.code_region.specs.State.{LiveBlock, RegionState, int3, len_in_units, region_image}
+use Rattle.code_region.specs.declared.refusals.NotTaken.{NotTaken}
+use Rattle.code_region.specs.declared.refusals.PlaceError.{PlaceError}
+use Rattle.code_region.specs.Opening.{empty_region}
+use Rattle.code_region.specs.Placing.{place_answer, with_block, unfilled_block, after_place}
+use Rattle.code_region.specs.Releasing.{release_answer, after_release}
+use Rattle.code_region.specs.Filling.{with_content, can_fill}
+use Rattle.code_region.specs.Keeping.{IsSound}
+use Rattle.code_region.specs.LiveEntries.Order.{AreAscending, StandsAt}
+use Rattle.code_region.specs.LiveEntries.Keeping.{AreLive}
+use Rattle.code_region.specs.LiveEntries.Facts.{LiveFacts}
+use Rattle.detour.specs.declared.start.StartTarget.{StartTarget}
+use Rattle.detour.specs.declared.hook_slots.making.Hook.{Hook}
+use Rattle.detour.specs.declared.hook_slots.refusals.InstallError.{InstallError}
+use Rattle.detour.specs.declared.hook_slots.refusals.InstallError.TheVariants.{Memory, Full, NoDetour, TooLong}
+use Rattle.detour.specs.HookSlots.State.{HooksState, hook_place, no_hooks, with_hook, hook_at}
+use Rattle.detour.specs.HookSlots.Opening.{make_refusal}
+use Rattle.detour.specs.HookSlots.Installing.{IsHookPlaced, place_refusal, hooks_after, IsInstalled}
+use Rattle.detour.specs.HookSlots.Removing.{remove_of, remove_answer, without_hook, after_removal}
+use Rattle.detour.specs.declared.hook_slots.commands.HookCommand.{HookCommand}
+use Rattle.detour.specs.declared.hook_slots.commands.HookCommand.TheVariants.{Install, Remove}
+use Rattle.detour.specs.declared.hook_slots.commands.HookReply.{HookReply}
+use Rattle.detour.specs.HookSlots.Running.{IsHookRun}
+use Rattle.detour.specs.HookSlots.Holding.{HooksAreApart, AreDetours, HoldsHooks}
+use Rattle.detour.specs.HookSlots.Keeping.{IsSlot, AreSpaced, IsHookBlock, AreHooksKept, AreKeptIn}
+use Rattle.detour.specs.HookSlots.LawsBelow.{HookLawsBelow}
+use Rattle.detour.proofs.HookSlots.Spaced.{rounded-slot, slots-with, slots-without, is-full, place-slot}
+
+-- a number that is not another, and not above it
+below : (n m : ℕ) → (n ≡ m → ⊥) → n ≤ m → n < m
+below n m ne le = elim (cases_Bool (nat_lt n m)) [
+  | inl lt ↦ ltb-true n m lt
+  | inr ge ↦ absurd (ne (omega (arith, le, ltb-false n m ge)))
+]
+
+-- ---- a slot that is asked for
+
+module _ (laws : HookLawsBelow) (slot : ℕ) (region : RegionState) (sound : IsSound region) (spaced : AreSpaced slot region) where
+  -- a trampoline that has no more bytes than a slot is filled in
+  pub slot-can_fill : (place : ℕ) → place_answer region slot ≡ Ok place → (n : ℕ) → n ≤ slot → IsTrue (can_fill (after_place region slot) place n)
+  slot-can_fill place e n le =
+      let same = rounded-slot slot spaced.is_slot in
+      laws.fills.placed-can_fill region slot place sound e n (omega (arith, le, same))
+
+  -- a place that is given back leaves the region as it was
+  pub given-back : (place : ℕ) → place_answer region slot ≡ Ok place → (now : RegionState) → now ≡ after_place region slot → (new : RegionState) → new ≡ after_release now place → new ≡ region
+  given-back place e now is new same =
+      same ∙ (ap (λ (r : RegionState). after_release r place) is ∙ (laws.regions.restores region slot place sound e).blocks)
+
+-- no place is handed out where each slot has a hook
+pub full-placed : (bits : Bits) (slot : ℕ) (region : RegionState) (sound : IsSound region) (spaced : AreSpaced slot region) (ip : ℕ) (code : List ℕ) (to : ℕ)
+    (start : StartTarget) (why : PlaceError) → place_answer region slot ≡ Err why → (new : RegionState) → new ≡ region → (said : InstallError) → said ≡ place_refusal why
+    → IsHookPlaced bits slot region ip code to start (Err said) new
+full-placed bits slot region sound spaced ip code to start why e new same said is =
+    let full = is-full slot region spaced sound why e in
+    subst (λ (w : InstallError). IsHookPlaced bits slot region ip code to start (Err w) new) (sym (is ∙ ap place_refusal full.0)) ((full.1, refl), same)
+
+-- ---- what is kept
+
+module _ (laws : HookLawsBelow) (bits : Bits) (slot : ℕ) (region : RegionState) (hooks : List Hook) (room : ℕ)
+    (kept : AreHooksKept bits slot region hooks room) where
+  live : LiveFacts hook_place (λ hook. slot) (IsHookBlock bits slot) region hooks room
+  live = laws.entries.live (bits, slot) region hooks room kept.live
+
+  -- the hooks stand by address
+  pub kept-ascend : AreAscending hook_place 0 hooks
+  kept-ascend = live.ascend
+
+  -- an install
+  module _ (ip : ℕ) (code : List ℕ) (to : ℕ) (start : StartTarget) (hook : Hook) (new : RegionState)
+      (made : IsHookPlaced bits slot region ip code to start (Ok hook) new) where
+    -- there is room for it
+    pub install-room : length hooks < room
+    install-room = live.has-room slot hook.place made.0.0
+
+    bytes : List ℕ
+    bytes = hook.detour.trampoline
+
+    block : LiveBlock
+    block = with_content bytes (unfilled_block hook.place (len_in_units slot))
+
+    now : RegionState
+    now = record region { live = with_block block region.live }
+
+    same_slot : len_in_units slot ≡ slot
+    same_slot = rounded-slot slot kept.spaced.is_slot
+
+    fits : length bytes ≤ len_in_units slot
+    unfolding bytes
+    fits = let le = made.0.1.1 in let same = same_slot in omega (arith, le, same)
+
+    is_now : new ≡ now
+    unfolding bytes block now
+    is_now = made.1 ∙ laws.fills.filled-is region slot hook.place kept.live.sound made.0.0 bytes
+
+    live_now : (more : ℕ) → room ≤ more → AreLive (IsHookBlock bits slot) now (with_hook hook hooks) more
+    unfolding bytes block now
+    live_now more roomy =
+        let this : IsHookBlock bits slot hook block =
+        record {
+          place = refl;
+          len = same_slot;
+          is_detour = (code, made.0.1.0.is);
+          short = made.0.1.1;
+          content = ap (λ (n : ℕ). hook.detour.trampoline ++ replicate (n - length hook.detour.trampoline) int3) same_slot;
+        } in
+        subst (λ (r : RegionState). AreLive (IsHookBlock bits slot) r (with_hook hook hooks) more)
+        (laws.fills.filled-is region slot hook.place kept.live.sound made.0.0 bytes)
+        (live.one-more slot hook.place made.0.0 bytes fits hook refl this more roomy)
+
+    spaced_now : AreSpaced slot now
+    unfolding bytes block now
+    spaced_now =
+        let at = place-slot slot region kept.spaced kept.live.sound hook.place made.0.0 in
+        record {
+          is_slot = kept.spaced.is_slot;
+          slots = slots-with region.base slot block region.live same_slot at.0 at.1 kept.spaced.slots;
+          few = (live_now room (omega arith)).few;
+          room = kept.spaced.room;
+        }
+
+    -- **a hook more is kept**
+    pub install-kept : (more : ℕ) → room ≤ more → (after : List Hook) → after ≡ with_hook hook hooks → AreHooksKept bits slot new after more
+    unfolding now
+    install-kept more roomy after same =
+        let on_now : AreHooksKept bits slot now (with_hook hook hooks) more = record { spaced = spaced_now; live = live_now more roomy } in
+        subst (λ (r : RegionState). AreHooksKept bits slot r after more) (sym is_now)
+        (subst (λ (xs : List Hook). AreHooksKept bits slot now xs more) (sym same) on_now)
+
+    pub install-max : new.max_blocks ≡ region.max_blocks
+    unfolding now
+    install-max = ap (λ (r : RegionState). r.max_blocks) is_now
+
+  -- a removal
+  pub remove-kept : (place : ℕ) → AreHooksKept bits slot (after_release region place) (without_hook place hooks) room
+  unfolding after_release
+  remove-kept place =
+      let left = live.one-less place in
+      record {
+        spaced = record {
+          is_slot = kept.spaced.is_slot;
+          slots = slots-without region.base slot place region.live kept.spaced.slots;
+          few = left.few;
+          room = kept.spaced.room;
+        };
+        live = left;
+      }
+
+  pub remove-stands : (place : ℕ) → release_answer region place ≡ Ok tt → StandsAt hook_place place hooks
+  remove-stands place e = live.stands place e
+
+  pub remove-made : (place : ℕ) (new : RegionState) → new ≡ after_release region place → (left : List Hook) → left ≡ without_hook place hooks
+      → (more : ℕ) → more ≡ room → AreHooksKept bits slot new left more
+  remove-made place new is left same more full =
+      subst (λ (r : RegionState). AreHooksKept bits slot r left more) (sym is)
+      (subst (λ (xs : List Hook). AreHooksKept bits slot (after_release region place) xs more) (sym same)
+      (subst (λ (n : ℕ). AreHooksKept bits slot (after_release region place) (without_hook place hooks) n) (sym full) (remove-kept place)))
+
+  remove-none : (place : ℕ) (why : NotTaken) → release_answer region place ≡ Err why → hook_at place hooks ≡ None
+  remove-none place why e = live.absent place why e
+
+  remove-same : (place : ℕ) (why : NotTaken) → release_answer region place ≡ Err why → without_hook place hooks ≡ hooks
+  remove-same place why e = live.unchanged place why e
+
+  -- a removal that is refused
+  module _ (place : ℕ) (why : NotTaken) (e : release_answer region place ≡ Err why) (now : HooksState)
+      (seen : record { bits = bits; slot = slot; region = region; hooks = hooks } ≡ now) where
+    pub refused-answer : Err why ≡ remove_answer now place
+    refused-answer =
+        let P : HooksState → Type 0 = λ s. Err why ≡ remove_answer s place in
+        let Q : Option Hook → Type 0 = λ o. Err why ≡ remove_of o place in
+        let wrapped_why : NotTaken → Result Hook NotTaken = λ w. Err w in
+        subst P seen (subst Q (sym (remove-none place why e)) (ap wrapped_why (laws.fills.release-why region place why e)))
+
+    pub refused-state : (new : RegionState) → new ≡ after_release region place → record { bits = bits; slot = slot; region = new; hooks = hooks } ≡ after_removal now place
+    refused-state new is =
+        let with_region : RegionState → HooksState = λ (r : RegionState). record { bits = bits; slot = slot; region = r; hooks = hooks } in
+        let with_hooks : List Hook → HooksState = λ (xs : List Hook). record { bits = bits; slot = slot; region = after_release region place; hooks = xs } in
+        ap with_region is ∙ (ap with_hooks (sym (remove-same place why e)) ∙ ap (λ (s : HooksState). after_removal s place) seen)
+
+-- ---- what is seen
+
+module _ (laws : HookLawsBelow) (state : HooksState) (room : ℕ)
+    (kept : AreHooksKept state.bits state.slot state.region state.hooks room) where
+  seen : LiveFacts hook_place (λ hook. state.slot) (IsHookBlock state.bits state.slot) state.region state.hooks room
+  seen = laws.entries.live (state.bits, state.slot) state.region state.hooks room kept.live
+
+  -- the slots of the hooks stand apart
+  pub kept-apart : HooksAreApart state
+  kept-apart = record { slots = seen.apart; short = λ k d lt. (seen.blocks k d lt).1.short }
+
+  -- each hook is the detour of some code
+  pub kept-detours : AreDetours state
+  kept-detours = λ k d lt. (seen.blocks k d lt).1.is_detour
+
+  -- the image has their trampolines
+  pub kept-holds : HoldsHooks state (region_image state.region)
+  kept-holds = record {
+    trampolines = λ k d lt. let held = seen.contents k d lt in held.1.1 ∙ held.1.0.content;
+    elsewhere = seen.quiet;
+  }
+
+-- ---- no hooks
+
+-- what is refused none of
+pub slot-good : (bits : Bits) (base size slot : ℕ) → make_refusal bits base size slot ≡ None → IsSlot slot
+unfolding make_refusal
+slot-good bits base size slot none =
+    elim (cases_Bool (nat_eq size 0)) [
+      | inl bad ↦ (let f = rw bad at none in absurd cc)
+      | inr some ↦ elim (cases_Bool (nat_eq (size % 16) 0)) [
+        | inr bad ↦ (let f = rw (some, bad) at none in absurd cc)
+        | inl units ↦ elim (cases_Bool (nat_lt 1048576 size)) [
+          | inl bad ↦ (let f = rw (some, units, bad) at none in absurd cc)
+          | inr small ↦ elim (cases_Bool (nat_eq slot 0)) [
+            | inl bad ↦ (let f = rw (some, units, small, bad) at none in absurd cc)
+            | inr has ↦ elim (cases_Bool (nat_eq (slot % 16) 0)) [
+              | inr bad ↦ (let f = rw (some, units, small, has, bad) at none in absurd cc)
+              | inl in_units ↦ elim (cases_Bool (nat_lt size slot)) [
+                | inl bad ↦ (let f = rw (some, units, small, has, in_units, bad) at none in absurd cc)
+                | inr within ↦ record {
+                  some = positive (eqb-false slot 0 has);
+                  units = eqb-true (slot % 16) 0 in_units;
+                  small = omega (arith, ltb-false 1048576 size small, ltb-false size slot within);
+                }
+              ]
+            ]
+          ]
+        ]
+      ]
+    ]
+  where
+    positive : (slot ≡ 0 → ⊥) → 0 < slot
+    positive ne = below 0 slot (λ e. ne (sym e)) (omega arith)
+
+pub kept-made : (laws : HookLawsBelow) (bits : Bits) (base size slot : ℕ) → make_refusal bits base size slot ≡ None → (region : RegionState)
+    → region ≡ empty_region base size (size / slot) → (hooks : List Hook) → hooks ≡ [] → (room : ℕ) → size / slot ≤ room → AreHooksKept bits slot region hooks room
+kept-made laws bits base size slot none region is hooks no_hooks room roomy =
+    let fit = div-mul-le_self size slot in
+    subst (λ (r : RegionState). AreHooksKept bits slot r hooks room) (sym is)
+    (subst (λ (xs : List Hook). AreHooksKept bits slot (empty_region base size (size / slot)) xs room) (sym no_hooks) (record {
+      spaced = record {
+        is_slot = slot-good bits base size slot none;
+        slots = tt;
+        few = omega arith;
+        room = fit;
+      };
+      live = laws.entries.none (bits, slot) base size (size / slot) room roomy;
+    }))
+
+-- ---- in runs
+
+pub made-kept : (laws : HookLawsBelow) (bits : Bits) (base size slot : ℕ) → make_refusal bits base size slot ≡ None → AreKeptIn (no_hooks bits base size slot)
+made-kept laws bits base size slot none =
+    kept-made laws bits base size slot none (empty_region base size (size / slot)) refl [] refl (size / slot) (omega arith)
+
+module _ (laws : HookLawsBelow) (old : HooksState) (kept : AreKeptIn old) where
+  pub removed-kept : (place : ℕ) → AreKeptIn (after_removal old place)
+  unfolding after_release
+  removed-kept place = remove-kept laws old.bits old.slot old.region old.hooks old.region.max_blocks kept place
+
+  unchanged : (region : RegionState) → region ≡ old.region → (hooks : List Hook) → hooks ≡ old.hooks → AreHooksKept old.bits old.slot region hooks region.max_blocks
+  unchanged region is hooks same =
+      subst (λ (r : RegionState). AreHooksKept old.bits old.slot r hooks r.max_blocks) (sym is)
+      (subst (λ (xs : List Hook). AreHooksKept old.bits old.slot old.region xs old.region.max_blocks) (sym same) kept)
+
+  module _ (ip : ℕ) (code : List ℕ) (to : ℕ) (start : StartTarget) where
+    -- the region and the hooks after an install
+    after-kept : (made : Result Hook InstallError) (region : RegionState) → IsHookPlaced old.bits old.slot old.region ip code to start made region
+        → (hooks : List Hook) → hooks ≡ hooks_after made old.hooks → AreHooksKept old.bits old.slot region hooks region.max_blocks
+    after-kept (Ok hook) region placed_there hooks same =
+        let max = install-max laws old.bits old.slot old.region old.hooks old.region.max_blocks kept ip code to start hook region placed_there in
+        install-kept laws old.bits old.slot old.region old.hooks old.region.max_blocks kept ip code to start hook region placed_there region.max_blocks
+        (omega (arith, max)) hooks same
+    after-kept (Err (Full max)) region left hooks same = unchanged region left.1 hooks same
+    after-kept (Err (NoDetour why)) region left hooks same = unchanged region left.1 hooks same
+    after-kept (Err (TooLong len size)) region left hooks same = unchanged region left.1 hooks same
+    after-kept (Err Memory) region left hooks same = unchanged region left hooks same
+
+    pub installed-kept : (answer : Result ℕ InstallError) (new : HooksState) → IsInstalled old ip code to start answer new → AreKeptIn new
+    installed-kept answer new done =
+        let here = after-kept done.made new.region done.region new.hooks done.hooks in
+        subst (λ (b : Bits). AreHooksKept b new.slot new.region new.hooks new.region.max_blocks) (sym done.bits)
+        (subst (λ (n : ℕ). AreHooksKept old.bits n new.region new.hooks new.region.max_blocks) (sym done.slot) here)
+
+-- **any list of commands keeps hooks**
+pub run-kept : (laws : HookLawsBelow) (commands : List HookCommand) (replies : List HookReply) (old new : HooksState) → AreKeptIn old → IsHookRun old commands replies new → AreKeptIn new
+run-kept laws [] [] old new kept run = subst AreKeptIn (sym run) kept
+run-kept laws [] (reply ∷ replies) old new kept run = absurd run
+run-kept laws (command ∷ commands) [] old new kept run = absurd run
+run-kept laws (Install ip code to start ∷ commands) (reply ∷ replies) old new kept run =
+    run-kept laws commands replies run.0 new (installed-kept laws old kept ip code.now to start run.1.0.0 run.0 run.1.0.1.1) run.1.1
+run-kept laws (Remove place ∷ commands) (reply ∷ replies) old new kept run =
+    run-kept laws commands replies run.0 new (subst AreKeptIn (sym run.1.0.1) (removed-kept laws old kept place)) run.1.1

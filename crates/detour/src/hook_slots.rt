@@ -1,0 +1,14 @@
+//! Hooks: detours whose trampolines stand in slots of one range of addresses.
+
+mod commands;
+mod hooking;
+pub mod laws;
+mod laws_below;
+mod making;
+mod refusals;
+
+pub use code_region::NotTaken;
+pub use commands::{HookCommand, HookReply, replay};
+pub use hooking::Hooks;
+pub use making::Hook;
+pub use refusals::{InstallError, MakeError};

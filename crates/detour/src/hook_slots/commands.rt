@@ -1,0 +1,97 @@
+//! Commands to hooks, and their replies.
+
+ghost use Rattle.std.specs.Prelude.{◌≡◌, All, length};
+ghost use Rattle.detour.specs.HookSlots.Running.{HookCommandFits, IsHookDone, IsHookRun, install_reply, remove_reply};
+
+use crate::hook_slots::hooking::Hooks;
+use crate::hook_slots::making::Hook;
+use crate::hook_slots::refusals::InstallError;
+use code_region::NotTaken;
+use crate::StartTarget;
+use code_region::live_entries::{Executor, run_commands};
+use std::alloc::Global;
+
+/// One command to hooks.
+#[derive(Clone, Copy)]
+pub enum HookCommand<'a> {
+    /// Hook the function at `ip`, as [`Hooks::install`] does.
+    Install {
+        ip: u64,
+        code: &'a [u8],
+        to: u64,
+        start: StartTarget,
+    },
+    /// End the hook at `place`, as [`Hooks::remove`] does.
+    Remove {
+        place: u64,
+    },
+}
+
+/// The reply to one command.
+#[derive(Clone, Copy, PartialEq, Eq, Debug)]
+pub enum HookReply {
+    /// The function is hooked, with its trampoline at `place`.
+    Installed { place: u64 },
+    /// The function is not hooked.
+    Refused { why: InstallError },
+    /// The hook is live no more.
+    Removed,
+    /// No trampoline of a live hook starts at `place`.
+    NotTaken { place: u64 },
+}
+
+/// The reply that says what an install answered.
+fn reply_to_install(answer: Result<u64, InstallError>) -> HookReply
+    ensures { result ≡ install_reply answer }
+{
+    match answer {
+        Ok(place) => HookReply::Installed { place },
+        Err(why) => HookReply::Refused { why },
+    }
+}
+
+/// The reply that says what a removal answered.
+fn reply_to_remove(answer: Result<Hook, NotTaken>) -> HookReply
+    ensures { result ≡ remove_reply answer }
+{
+    match answer {
+        Ok(_) => HookReply::Removed,
+        Err(NotTaken { place }) => HookReply::NotTaken { place },
+    }
+}
+
+impl<'a> Executor<HookCommand<'a>, HookReply> for Hooks {
+    ghost is_fit = { λ hooks. HookCommandFits };
+
+    ghost is_done = { IsHookDone };
+
+    fn execute(&mut self, alloc: Global, command: HookCommand<'a>) -> HookReply {
+        match command {
+            HookCommand::Install {
+                ip,
+                code,
+                to,
+                start,
+            } => reply_to_install(self.install(alloc, ip, code, to, start)),
+            HookCommand::Remove { place } => reply_to_remove(self.remove(place)),
+        }
+    }
+
+    ghost stays_fit = { λ old command reply new other done fit. fit };
+}
+
+/// Does these commands, in order, and writes the reply to each.
+///
+/// There is room for as many replies as there are commands, and each function has at most 1,048,576 bytes.
+pub fn replay(
+    hooks: &mut Hooks,
+    alloc: Global,
+    commands: &[HookCommand<'_>],
+    replies: &mut [HookReply],
+)
+    requires room { length replies.old ≡ length commands.now }
+    requires fit { All HookCommandFits commands.now }
+    ensures { IsHookRun hooks.old commands.now replies.new hooks.new }
+{
+    run_commands(hooks, alloc, commands, replies);
+}

@@ -1,0 +1,38 @@
+//! Why there are no hooks, and why a function is not hooked.
+
+use crate::DetourError;
+use thiserror::Error;
+
+/// Why no hooks are made.
+#[derive(Clone, Copy, PartialEq, Eq, Debug, Error)]
+pub enum MakeError {
+    /// The size of the range in bytes is 0, no multiple of 16, or above 1,048,576.
+    #[error("a range of {size} bytes: the size is a multiple of 16 from 16 to 1048576")]
+    BadSize { size: u64 },
+    /// The size of a slot in bytes is 0, no multiple of 16, or above that of the range.
+    #[error("slots of {slot} bytes: the size is a multiple of 16 up to that of the range")]
+    BadSlot { slot: u64 },
+    /// The range would end at `end`, which passes the address space of the mode.
+    #[error("the range ends at {end:#x}, past the address space")]
+    Wraps { end: u128 },
+    /// There is no memory for the bytes and the hooks.
+    #[error("out of memory")]
+    Memory,
+}
+
+/// Why a function is not hooked.
+#[derive(Clone, Copy, PartialEq, Eq, Debug, Error)]
+pub enum InstallError {
+    /// There was not enough memory.
+    #[error("out of memory")]
+    Memory,
+    /// Each of the slots, of which there are `max`, has a hook.
+    #[error("all {max} slots are taken")]
+    Full { max: u64 },
+    /// There is no detour, for this cause, which is not `Memory`.
+    #[error("{why}")]
+    NoDetour { why: DetourError },
+    /// The trampoline has `len` bytes, and a slot has `slot`.
+    #[error("a trampoline of {len} bytes: a slot has {slot}")]
+    TooLong { len: u64, slot: u64 },
+}
