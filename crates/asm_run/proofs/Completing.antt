@@ -1,10 +1,10 @@
 -- How the command ends when it meets no fault.
 use Rattle.std.proofs.Common.{◌≡◌, inl, inr, ℕ, List, length, Option, Some, None, refl, sym, ap, subst, arith}
 use Rattle.x86_values.specs.declared.Bits.{Bits}
-use Rattle.run_parts.specs.declared.status.Status.{Status}
-use Rattle.run_parts.specs.declared.status.Status.TheVariants.{Done, ReadFault, WriteFault, Memory, TooLarge, BadText}
-use Rattle.run_parts.specs.Facts.{ReadFacts}
-use Rattle.run_parts.specs.Reads.{whole_limit, ReadsAll, IsUnread}
+use Rattle.sweep.specs.declared.run_parts.status.Status.{Status}
+use Rattle.sweep.specs.declared.run_parts.status.Status.TheVariants.{Done, ReadFault, WriteFault, Memory, TooLarge, BadText}
+use Rattle.sweep.specs.RunParts.Facts.{ReadFacts}
+use Rattle.sweep.specs.RunParts.Reads.{whole_limit, ReadsAll, IsUnread}
 use Rattle.asm_run.specs.Assembling.{IsTextAnswer, IsTextRefusal, AssemblesAs, CompletesAssembling}
 use Rattle.asm_run.specs.Facts.{AssemblyAnswerFacts}
 

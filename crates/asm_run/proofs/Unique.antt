@@ -15,8 +15,8 @@ use Rattle.opcode_rows.specs.declared.generated_spots.TheConstants.{ROWS}
 use Rattle.opcode_rows.specs.Table.{table}
 use Rattle.intel_text.specs.Text.{text as text_of}
 use Rattle.intel_reader.specs.Assembled.{Assembly, compare_assemblies, IsCandidate, IsFirst, AssemblesTo, IsNoText}
-use Rattle.run_parts.specs.declared.status.Status.{Status}
-use Rattle.run_parts.specs.declared.status.Status.TheVariants.{Done, BadText}
+use Rattle.sweep.specs.declared.run_parts.status.Status.{Status}
+use Rattle.sweep.specs.declared.run_parts.status.Status.TheVariants.{Done, BadText}
 use Rattle.asm_run.specs.Lines.{IsByteLine, IsCodeOfLine, IsCodeOfLines, IsBadLine, lines_in}
 use Rattle.asm_run.specs.Assembling.{IsTextAnswer}
 use Rattle.asm_run.proofs.ByteLines.{front, line_text, byte_unique}

@@ -2,10 +2,10 @@
 use Rattle.std.specs.Prelude.{◌≡◌, ◌⊎◌, ℕ, ◌<◌, ◌≤◌, List, length, Option, Some, None}
 use Rattle.x86_values.specs.declared.Bits.{Bits}
 use Rattle.byte_ports.specs.Ports.{with_back}
-use Rattle.run_parts.specs.declared.status.Status.{Status}
-use Rattle.run_parts.specs.declared.status.Status.TheVariants.{Done, ReadFault, WriteFault, Memory, TooLarge, BadText}
-use Rattle.run_parts.specs.Reads.{whole_limit, ReadsAll, ReadsTooMany}
-use Rattle.run_parts.specs.Writing.{HoldsFront}
+use Rattle.sweep.specs.declared.run_parts.status.Status.{Status}
+use Rattle.sweep.specs.declared.run_parts.status.Status.TheVariants.{Done, ReadFault, WriteFault, Memory, TooLarge, BadText}
+use Rattle.sweep.specs.RunParts.Reads.{whole_limit, ReadsAll, ReadsTooMany}
+use Rattle.sweep.specs.RunParts.Writing.{HoldsFront}
 use Rattle.asm_run.specs.Lines.{lines_in, IsCodeOfLines, IsBadLine}
 
 -- the lines of a text stand for this code

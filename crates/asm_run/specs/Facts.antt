@@ -1,7 +1,7 @@
 -- What holds of all texts of code.
 use Rattle.std.specs.Prelude.{◌≡◌, ℕ, List}
 use Rattle.x86_values.specs.declared.Bits.{Bits}
-use Rattle.run_parts.specs.declared.status.Status.{Status}
+use Rattle.sweep.specs.declared.run_parts.status.Status.{Status}
 use Rattle.asm_run.specs.Assembling.{IsTextAnswer}
 
 -- a text has one answer

@@ -2,14 +2,14 @@
 
 ghost use Rattle.std.specs.Prelude.{◌≡◌};
 ghost use Rattle.byte_ports.specs.Ports.{Rose};
-ghost use Rattle.run_parts.specs.Reads.{whole_limit, Takes, EndsAtFault};
+ghost use Rattle.sweep.specs.RunParts.Reads.{whole_limit, Takes, EndsAtFault};
 ghost use Rattle.asm_run.specs.Assembling.{AssemblesAs, CompletesAssembling};
 
 use crate::code_lines::code_of_lines;
 use crate::laws::texts_have_one_answer;
 use byte_ports::{Sink, Source};
-use run_parts::laws::told_bytes_are_read;
-use run_parts::{Status, put_all, read_whole};
+use sweep::run_parts::laws::told_bytes_are_read;
+use sweep::run_parts::{Status, put_all, read_whole};
 use std::alloc::Global;
 use x86_values::Bits;
 
@@ -21,7 +21,7 @@ use x86_values::Bits;
 /// In this order: `ReadFault`, `TooLarge` above 1,048,576 bytes, `BadText` at the first line that is neither, `WriteFault`; `Memory` at any point before
 /// something is written. Nothing is written before all but `WriteFault` are past. At most 1,048,577 bytes are taken, and after `ReadFault` the source is not
 /// asked again.
-#[tactic(auto, unfolding(run_parts::specs::Reads::whole_limit))]
+#[tactic(auto, unfolding(sweep::specs::RunParts::Reads::whole_limit))]
 pub fn assemble_code<S: Source, K: Sink>(
     alloc: Global,
     bits: Bits,

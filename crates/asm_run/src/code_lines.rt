@@ -5,7 +5,7 @@ ghost use Rattle.asm_run.specs.Lines.{lines_in};
 ghost use Rattle.asm_run.specs.Assembling.{IsCodeOf, IsTextRefusal};
 
 use crate::code_of_line::code_of_line;
-use run_parts::Status;
+use sweep::run_parts::Status;
 use std::alloc::Global;
 use x86_values::{Bits, wrap};
 

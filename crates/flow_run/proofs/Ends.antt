@@ -1,10 +1,10 @@
 -- How the command ends, where its source was not read whole.
 use Rattle.std.proofs.Common.{◌≡◌, inl, inr, ℕ, List, Option, Some, None, refl, ap, arith}
 use Rattle.x86_values.specs.declared.Bits.{Bits}
-use Rattle.run_parts.specs.declared.status.Status.{Status}
-use Rattle.run_parts.specs.declared.status.Status.TheVariants.{ReadFault, Memory, TooLarge}
-use Rattle.run_parts.specs.Facts.{ReadFacts}
-use Rattle.run_parts.specs.Reads.{whole_limit, IsUnread}
+use Rattle.sweep.specs.declared.run_parts.status.Status.{Status}
+use Rattle.sweep.specs.declared.run_parts.status.Status.TheVariants.{ReadFault, Memory, TooLarge}
+use Rattle.sweep.specs.RunParts.Facts.{ReadFacts}
+use Rattle.sweep.specs.RunParts.Reads.{whole_limit, IsUnread}
 use Rattle.flow_run.specs.Flowing.{FlowsAs, CompletesFlow}
 
 -- nothing was written

@@ -9,8 +9,8 @@ use Rattle.row_relation.specs.Spells.{Reading}
 use Rattle.flow_graph.specs.Control.{CodeBytes, IsReadIn, code_bytes}
 use Rattle.flow_graph.specs.Told.{told_at}
 use Rattle.flow_graph.specs.Graphs.{Graph, IsFlowGraph}
-use Rattle.run_parts.specs.Facts.{HeldFacts}
-use Rattle.run_parts.specs.Writing.{HoldsFront, Moves, HeldText}
+use Rattle.sweep.specs.RunParts.Facts.{HeldFacts}
+use Rattle.sweep.specs.RunParts.Writing.{HoldsFront, Moves, HeldText}
 use Rattle.flow_run.specs.Lines.{Stop, flow_word, flow_line, stop_line, stop_lines, AreStops}
 use Rattle.flow_run.specs.Flowing.{WritesFlow, WritesFlowFront}
 

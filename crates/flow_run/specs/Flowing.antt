@@ -4,10 +4,10 @@ use Rattle.x86_values.specs.declared.Bits.{Bits}
 use Rattle.byte_ports.specs.Ports.{with_back}
 use Rattle.flow_graph.specs.Control.{code_bytes}
 use Rattle.flow_graph.specs.Graphs.{Graph, IsFlowGraph}
-use Rattle.run_parts.specs.declared.status.Status.{Status}
-use Rattle.run_parts.specs.declared.status.Status.TheVariants.{Done, ReadFault, WriteFault, Memory, TooLarge}
-use Rattle.run_parts.specs.Reads.{whole_limit, ReadsAll, ReadsTooMany}
-use Rattle.run_parts.specs.Writing.{HoldsFront}
+use Rattle.sweep.specs.declared.run_parts.status.Status.{Status}
+use Rattle.sweep.specs.declared.run_parts.status.Status.TheVariants.{Done, ReadFault, WriteFault, Memory, TooLarge}
+use Rattle.sweep.specs.RunParts.Reads.{whole_limit, ReadsAll, ReadsTooMany}
+use Rattle.sweep.specs.RunParts.Writing.{HoldsFront}
 use Rattle.flow_run.specs.Lines.{Stop, AreStops, stop_lines}
 
 -- the lines of all reached offsets of some code were written

@@ -2,14 +2,14 @@
 
 ghost use Rattle.std.specs.Prelude.{◌≡◌};
 ghost use Rattle.byte_ports.specs.Ports.{Rose};
-ghost use Rattle.run_parts.specs.Reads.{whole_limit, Takes, EndsAtFault};
+ghost use Rattle.sweep.specs.RunParts.Reads.{whole_limit, Takes, EndsAtFault};
 ghost use Rattle.flow_run.specs.Flowing.{FlowsAs, CompletesFlow};
 
 use crate::lines::write_flow;
 use byte_ports::{Sink, Source};
 use flow_graph::flow_graph_in;
-use run_parts::laws::told_bytes_are_read;
-use run_parts::{Status, read_whole};
+use sweep::run_parts::laws::told_bytes_are_read;
+use sweep::run_parts::{Status, read_whole};
 use std::alloc::Global;
 use x86_values::Bits;
 
@@ -19,7 +19,7 @@ use x86_values::Bits;
 ///
 /// In this order: `ReadFault`, `TooLarge` above 1,048,576 bytes, `WriteFault`; `Memory` at any point before something is written. Nothing is written before
 /// all but `WriteFault` are past. At most 1,048,577 bytes are taken, and after `ReadFault` the source is not asked again.
-#[tactic(auto, unfolding(run_parts::specs::Reads::whole_limit))]
+#[tactic(auto, unfolding(sweep::specs::RunParts::Reads::whole_limit))]
 pub fn flow_code<S: Source, K: Sink>(
     alloc: Global,
     bits: Bits,

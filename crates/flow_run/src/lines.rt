@@ -5,7 +5,7 @@ ghost use Rattle.arrayvec.specs.ArrayVec.{array_vec_len};
 ghost use Rattle.byte_ports.specs.Ports.{HasCause};
 ghost use Rattle.flow_graph.specs.Control.{code_bytes};
 ghost use Rattle.flow_graph.specs.Graphs.{IsFlowGraph};
-ghost use Rattle.run_parts.specs.Writing.{HoldsFront, Moves};
+ghost use Rattle.sweep.specs.RunParts.Writing.{HoldsFront, Moves};
 ghost use Rattle.flow_run.specs.Flowing.{WritesFlow, WritesFlowFront};
 ghost use Rattle.flow_run.specs.Lines as spec;
 
@@ -13,8 +13,8 @@ use byte_ports::{Failed, Sink};
 use decoder::DecodeError;
 use flow_graph::FlowGraph;
 use operand_info::Flow;
-use run_parts::laws::held_texts_arrive;
-use run_parts::{make_room, put_all};
+use sweep::run_parts::laws::held_texts_arrive;
+use sweep::run_parts::{make_room, put_all};
 use sweep_text::{CHUNK_LEN, Chunk, LINE_LEN, append, append_address, flow_name};
 use x86_values::Bits;
 

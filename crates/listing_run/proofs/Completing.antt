@@ -4,8 +4,8 @@ use Rattle.x86_values.specs.declared.Bits.{Bits}
 use Rattle.byte_ports.specs.Ports.{Rose}
 use Rattle.text_parts.specs.declared.style.Style.{Style}
 use Rattle.sweep_text.specs.declared.lines.Lines.TheVariants.{Listing}
-use Rattle.run_parts.specs.declared.status.Status.{Status}
-use Rattle.run_parts.specs.declared.status.Status.TheVariants.{Done, BadCode, ReadFault, WriteFault, TooLarge}
+use Rattle.sweep.specs.declared.run_parts.status.Status.{Status}
+use Rattle.sweep.specs.declared.run_parts.status.Status.TheVariants.{Done, BadCode, ReadFault, WriteFault, TooLarge}
 use Rattle.sweep.specs.declared.error.StreamError.TheVariants.{BadCode as StreamBadCode, ReadFault as StreamReadFault, WriteFault as StreamWriteFault, TooLarge as StreamTooLarge}
 use Rattle.sweep.specs.Facts.{ListingFacts}
 use Rattle.listing_run.specs.Outcome.{GoesThroughAs, CompletesList}

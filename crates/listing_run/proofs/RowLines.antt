@@ -6,8 +6,8 @@ use Rattle.std.proofs.lemmas.List.Folds.{flat_map-map}
 use Rattle.std.proofs.lemmas.List.FromFn.{map-range_with_len_more}
 use Rattle.text_rows.specs.RowLines.Lines.{row_line}
 use Rattle.byte_ports.specs.Ports.{with_back}
-use Rattle.run_parts.specs.Facts.{HeldFacts}
-use Rattle.run_parts.specs.Writing.{HoldsFront, Moves, HeldText}
+use Rattle.sweep.specs.RunParts.Facts.{HeldFacts}
+use Rattle.sweep.specs.RunParts.Writing.{HoldsFront, Moves, HeldText}
 use Rattle.listing_run.specs.Rows.{lines_below}
 
 lines-none : lines_below 0 ≡ []

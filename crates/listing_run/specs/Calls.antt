@@ -6,7 +6,7 @@ use Rattle.sweep_text.specs.declared.lines.Lines.{Lines}
 use Rattle.sweep_text.specs.declared.lines.Lines.TheVariants.{Listing, Info as InfoLines, Recode as RecodeLines}
 use Rattle.command_words.specs.declared.commands.Command.{Command}
 use Rattle.command_words.specs.declared.commands.Command.TheVariants.{List as ListCommand, Info, Recode}
-use Rattle.run_parts.specs.declared.status.Status.{Status}
+use Rattle.sweep.specs.declared.run_parts.status.Status.{Status}
 use Rattle.sweep.specs.declared.error.StreamError.{StreamError}
 use Rattle.sweep.specs.Calls.{IsCalled}
 use Rattle.listing_run.specs.Outcome.{stream_status}

@@ -7,9 +7,9 @@ use Rattle.sweep_text.specs.declared.lines.Lines.TheVariants.{Listing, Info as I
 use Rattle.command_words.specs.declared.commands.Command.{Command}
 use Rattle.command_words.specs.declared.commands.Command.TheVariants.{Help, Version, List as ListCommand, Info, Recode, Flow, Asm, Move, Map, Blocks, Slots, Rows, Sample, Wrong}
 use Rattle.command_words.specs.declared.commands.BlockWords.{BlockWords}
-use Rattle.run_parts.specs.declared.status.Status.{Status}
-use Rattle.run_parts.specs.declared.status.Status.TheVariants.{Done, Usage, BadCode, ReadFault, WriteFault, TooLarge}
-use Rattle.run_parts.specs.Writing.{HoldsFront}
+use Rattle.sweep.specs.declared.run_parts.status.Status.{Status}
+use Rattle.sweep.specs.declared.run_parts.status.Status.TheVariants.{Done, Usage, BadCode, ReadFault, WriteFault, TooLarge}
+use Rattle.sweep.specs.RunParts.Writing.{HoldsFront}
 use Rattle.sweep.specs.declared.error.StreamError.{StreamError}
 use Rattle.sweep.specs.declared.error.StreamError.TheVariants.{BadCode as StreamBadCode, ReadFault as StreamReadFault, WriteFault as StreamWriteFault, TooLarge as StreamTooLarge}
 use Rattle.sweep.specs.Streams.{StreamsAs}

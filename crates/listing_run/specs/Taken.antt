@@ -2,7 +2,7 @@
 use Rattle.std.specs.Prelude.{ℕ}
 use Rattle.command_words.specs.declared.commands.Command.{Command}
 use Rattle.command_words.specs.declared.commands.Command.TheVariants.{List as ListCommand, Info, Recode, Flow, Asm, Move, Map, Blocks, Slots}
-use Rattle.run_parts.specs.Reads.{code_limit, whole_limit}
+use Rattle.sweep.specs.RunParts.Reads.{code_limit, whole_limit}
 
 -- how many bytes a command reads at most
 abbrev pub limit_of : Command → ℕ

@@ -5,4 +5,4 @@ mod program;
 mod rows;
 
 pub use program::run;
-pub use run_parts::{Status, status_number};
+pub use sweep::run_parts::{Status, status_number};

@@ -3,14 +3,14 @@
 ghost use Rattle.std.specs.Prelude.{◌≡◌, ◌<◌, ◌≤◌, ◌+◌, OnOk, OnErr};
 ghost use Rattle.byte_ports.specs.Ports.{HasCause, with_back};
 ghost use Rattle.text_rows.specs.RowLines.Lines.{row_line as line_of};
-ghost use Rattle.run_parts.specs.Writing.{HoldsFront, Moves};
+ghost use Rattle.sweep.specs.RunParts.Writing.{HoldsFront, Moves};
 ghost use Rattle.listing_run.specs.Rows.{rows_text};
 
 use byte_ports::{Failed, Sink};
 use opcode_rows::ROWS;
 use text_rows::row_lines::row_line;
-use run_parts::laws::held_texts_arrive;
-use run_parts::{make_room, put_all};
+use sweep::run_parts::laws::held_texts_arrive;
+use sweep::run_parts::{make_room, put_all};
 use sweep_text::{Chunk, append};
 use x86_values::Code;
 

@@ -2,10 +2,10 @@
 use Rattle.std.proofs.Common.{inl, inr, ℕ, List, length, Option, Some, None, refl, sym, ap, subst, arith}
 use Rattle.x86_values.specs.declared.Bits.{Bits}
 use Rattle.command_words.specs.declared.commands.BlockWords.{BlockWords}
-use Rattle.run_parts.specs.declared.status.Status.{Status}
-use Rattle.run_parts.specs.declared.status.Status.TheVariants.{Done, BadCode, ReadFault, WriteFault, Memory, TooLarge, Wraps, TooFar, TooMany}
-use Rattle.run_parts.specs.Facts.{ReadFacts}
-use Rattle.run_parts.specs.Reads.{whole_limit, ReadsAll}
+use Rattle.sweep.specs.declared.run_parts.status.Status.{Status}
+use Rattle.sweep.specs.declared.run_parts.status.Status.TheVariants.{Done, BadCode, ReadFault, WriteFault, Memory, TooLarge, Wraps, TooFar, TooMany}
+use Rattle.sweep.specs.RunParts.Facts.{ReadFacts}
+use Rattle.sweep.specs.RunParts.Reads.{whole_limit, ReadsAll}
 use Rattle.moving_run.specs.declared.moving.Wanted.{Wanted}
 use Rattle.moving_run.specs.Moving.{IsMovingAnswer, MovesAs, CompletesMoving}
 use Rattle.moving_run.specs.Facts.{MovingAnswerFacts}

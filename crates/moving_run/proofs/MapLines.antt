@@ -8,8 +8,8 @@ use Rattle.x86_values.specs.declared.Bits.{Bits}
 use Rattle.branch_sizes.specs.declared.plan.Form.{Form}
 use Rattle.move_goals.specs.declared.items.Placed.{Placed}
 use Rattle.byte_ports.specs.Ports.{with_back}
-use Rattle.run_parts.specs.Facts.{HeldFacts}
-use Rattle.run_parts.specs.Writing.{HoldsFront, Moves, HeldText}
+use Rattle.sweep.specs.RunParts.Facts.{HeldFacts}
+use Rattle.sweep.specs.RunParts.Writing.{HoldsFront, Moves, HeldText}
 use Rattle.moving_run.specs.Map.{line_at, map_lines}
 
 module _ (facts : HeldFacts) (bits : Bits) (items : List Placed) (starts : List ℕ) (forms : List Form) where

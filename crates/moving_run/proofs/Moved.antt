@@ -8,9 +8,9 @@ use Rattle.block_encoder.specs.declared.error.MoveError.{MoveError}
 use Rattle.block_encoder.specs.declared.error.MoveError.TheVariants as error
 use Rattle.block_encoder.specs.Moved.{MovedLists, IsMoved, IsRefused}
 use Rattle.command_words.specs.declared.commands.BlockWords.{BlockWords}
-use Rattle.run_parts.specs.declared.status.Status.{Status}
-use Rattle.run_parts.specs.declared.status.Status.TheVariants.{BadCode, ReadFault, Memory, TooLarge, Wraps, TooFar, TooMany}
-use Rattle.run_parts.specs.Reads.{whole_limit, ReadsAll, IsUnread}
+use Rattle.sweep.specs.declared.run_parts.status.Status.{Status}
+use Rattle.sweep.specs.declared.run_parts.status.Status.TheVariants.{BadCode, ReadFault, Memory, TooLarge, Wraps, TooFar, TooMany}
+use Rattle.sweep.specs.RunParts.Reads.{whole_limit, ReadsAll, IsUnread}
 use Rattle.moving_run.specs.declared.moving.Wanted.{Wanted}
 use Rattle.moving_run.specs.declared.code.Code.{Code}
 use Rattle.moving_run.specs.Code.{all_placed, all_spans}

@@ -19,8 +19,8 @@ use Rattle.branch_sizes.specs.MoveLayout.Laid.{goal_address}
 use Rattle.block_encoder.specs.declared.error.MoveError.TheVariants as error
 use Rattle.block_encoder.specs.Moved.{MovedLists, IsMoved, IsRefused, IsOldPass, IsNewPass, IsTooFar, IsFirstUnreached, first_new_pass}
 use Rattle.command_words.specs.declared.commands.BlockWords.{BlockWords}
-use Rattle.run_parts.specs.declared.status.Status.{Status}
-use Rattle.run_parts.specs.declared.status.Status.TheVariants.{Done, BadCode, Wraps, TooFar, TooMany}
+use Rattle.sweep.specs.declared.run_parts.status.Status.{Status}
+use Rattle.sweep.specs.declared.run_parts.status.Status.TheVariants.{Done, BadCode, Wraps, TooFar, TooMany}
 use Rattle.moving_run.specs.declared.moving.Wanted.{Wanted}
 use Rattle.moving_run.specs.Code.{next_block_bytes, left_by, IsInstruction, AreSwept, BlockStopsAt, IsBadAt, here, later, all_placed, all_spans}
 use Rattle.moving_run.specs.Moving.{IsMovingAnswer}

@@ -12,10 +12,10 @@ use Rattle.block_encoder.specs.Aims.{StandsAtPlace, GoesToGoal}
 use Rattle.block_encoder.specs.Moved.{MovedLists, IsMoved, IsRefused}
 use Rattle.block_encoder.specs.Read.{IsReadAsImages}
 use Rattle.command_words.specs.declared.commands.BlockWords.{BlockWords}
-use Rattle.run_parts.specs.declared.status.Status.{Status}
-use Rattle.run_parts.specs.declared.status.Status.TheVariants.{Done, BadCode, ReadFault, WriteFault, Memory, TooLarge, Wraps, TooFar, TooMany}
-use Rattle.run_parts.specs.Reads.{whole_limit, ReadsAll, ReadsTooMany}
-use Rattle.run_parts.specs.Writing.{HoldsFront}
+use Rattle.sweep.specs.declared.run_parts.status.Status.{Status}
+use Rattle.sweep.specs.declared.run_parts.status.Status.TheVariants.{Done, BadCode, ReadFault, WriteFault, Memory, TooLarge, Wraps, TooFar, TooMany}
+use Rattle.sweep.specs.RunParts.Reads.{whole_limit, ReadsAll, ReadsTooMany}
+use Rattle.sweep.specs.RunParts.Writing.{HoldsFront}
 use Rattle.moving_run.specs.declared.moving.Wanted.{Wanted}
 use Rattle.moving_run.specs.declared.moving.Wanted.TheVariants.{MovedBytes, MapLines}
 use Rattle.moving_run.specs.Code.{AreSwept, IsBadAt, all_placed, all_spans}

@@ -3,14 +3,14 @@
 ghost use Rattle.std.specs.Prelude.{◌≡◌, ◌<◌, ◌≤◌, ◌+◌, ◌++◌, length, slice_index_or, OnOk, OnErr};
 ghost use Rattle.arrayvec.specs.ArrayVec.{array_vec_len};
 ghost use Rattle.byte_ports.specs.Ports.{HasCause, with_back};
-ghost use Rattle.run_parts.specs.Writing.{HoldsFront, Moves};
+ghost use Rattle.sweep.specs.RunParts.Writing.{HoldsFront, Moves};
 ghost use Rattle.moving_run.specs.Map as spec;
 
 use branch_sizes::Form;
 use byte_ports::{Failed, Sink};
 use move_goals::Placed;
-use run_parts::laws::held_texts_arrive;
-use run_parts::{make_room, put_all};
+use sweep::run_parts::laws::held_texts_arrive;
+use sweep::run_parts::{make_room, put_all};
 use sweep_text::{CHUNK_LEN, Chunk, LINE_LEN, append, append_address};
 use x86_values::Bits;
 

@@ -2,8 +2,8 @@
 
 ghost use Rattle.std.specs.Prelude.{◌≡◌, ◌≤◌, length, OnOk, OnErr, MatchResult};
 ghost use Rattle.byte_ports.specs.Ports.{HasCause, Rose, with_back};
-ghost use Rattle.run_parts.specs.Reads.{whole_limit, Takes, EndsAtFault};
-ghost use Rattle.run_parts.specs.Writing.{HoldsFront};
+ghost use Rattle.sweep.specs.RunParts.Reads.{whole_limit, Takes, EndsAtFault};
+ghost use Rattle.sweep.specs.RunParts.Writing.{HoldsFront};
 ghost use Rattle.moving_run.specs.Moving as spec;
 
 use crate::code::{Code, CodeError, first_pass, read_code};
@@ -15,8 +15,8 @@ use branch_sizes::laws::blocks_have_all_items;
 use byte_ports::{Failed, Sink, Source};
 use command_words::BlockWords;
 use move_goals::Placed;
-use run_parts::laws::told_bytes_are_read;
-use run_parts::{Status, put_all, read_whole};
+use sweep::run_parts::laws::told_bytes_are_read;
+use sweep::run_parts::{Status, put_all, read_whole};
 use std::alloc::Global;
 use x86_values::Bits;
 
@@ -102,7 +102,7 @@ fn write_wanted<K: Sink>(
 /// Each block has an old and a new base, addresses of the mode; all but the last have a length. In this order: `ReadFault`, `TooLarge` above 1,048,576
 /// bytes, `BadCode` at the first single byte of a block's sweep, `TooMany` above 65,536 instructions, `Wraps`, `TooFar`, `WriteFault`; `Memory` at any
 /// point. Nothing is written before all but `WriteFault` are past. At most 1,048,577 bytes are taken, and after `ReadFault` the source is not asked again.
-#[tactic(auto, unfolding(run_parts::specs::Reads::whole_limit))]
+#[tactic(auto, unfolding(sweep::specs::RunParts::Reads::whole_limit))]
 pub fn move_code<S: Source, K: Sink>(
     alloc: Global,
     wanted: Wanted,

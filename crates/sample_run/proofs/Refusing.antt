@@ -14,8 +14,8 @@ use Rattle.move_goals.specs.Items.{ArePlaced, item_at, one_span, first_old_pass}
 use Rattle.block_encoder.specs.declared.error.MoveError.{MoveError}
 use Rattle.block_encoder.specs.declared.error.MoveError.TheVariants as error
 use Rattle.block_encoder.specs.Moved.{MovedLists, IsMoved, IsRefused}
-use Rattle.run_parts.specs.declared.status.Status.{Status}
-use Rattle.run_parts.specs.declared.status.Status.TheVariants.{BadCode, Memory, Wraps, TooFar, TooMany}
+use Rattle.sweep.specs.declared.run_parts.status.Status.{Status}
+use Rattle.sweep.specs.declared.run_parts.status.Status.TheVariants.{BadCode, Memory, Wraps, TooFar, TooMany}
 use Rattle.moving_run.specs.Code.{IsInstruction, AreSwept, placed_by, placed_in, all_placed, all_spans}
 use Rattle.moving_run.specs.Ends.{first_pass}
 use Rattle.moving_run.specs.Moving.{MovesInput, RefusesBlocks, IsMovingRefusal}

@@ -6,8 +6,8 @@ use Rattle.move_goals.specs.declared.items.Placed.{Placed}
 use Rattle.move_goals.specs.Items.{one_span}
 use Rattle.block_encoder.specs.Moved.{MovedLists, IsMoved}
 use Rattle.command_words.specs.declared.commands.BlockWords.{BlockWords}
-use Rattle.run_parts.specs.declared.status.Status.{Status}
-use Rattle.run_parts.specs.declared.status.Status.TheVariants.{Memory}
+use Rattle.sweep.specs.declared.run_parts.status.Status.{Status}
+use Rattle.sweep.specs.declared.run_parts.status.Status.TheVariants.{Memory}
 use Rattle.moving_run.specs.Code.{placed_in}
 use Rattle.moving_run.specs.Moving.{MovesInput, IsMovingRefusal}
 use Rattle.sample_run.specs.Generator.{sample_base, sample_code}

@@ -15,9 +15,9 @@ use Rattle.move_goals.specs.Items.{item_at, one_span}
 use Rattle.block_encoder.specs.Moved.{MovedLists, IsMoved}
 use Rattle.moving_run.specs.Code.{placed_in}
 use Rattle.byte_ports.specs.Ports.{with_back}
-use Rattle.run_parts.specs.declared.status.Status.{Status}
-use Rattle.run_parts.specs.declared.status.Status.TheVariants.{Done, WriteFault, Memory}
-use Rattle.run_parts.specs.Writing.{HoldsFront}
+use Rattle.sweep.specs.declared.run_parts.status.Status.{Status}
+use Rattle.sweep.specs.declared.run_parts.status.Status.TheVariants.{Done, WriteFault, Memory}
+use Rattle.sweep.specs.RunParts.Writing.{HoldsFront}
 use Rattle.sample_run.specs.Generator.{sample_base, sample_code}
 use Rattle.sample_run.specs.declared.summary.Summary.{Summary}
 

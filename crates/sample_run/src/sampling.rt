@@ -7,7 +7,7 @@ ghost use Rattle.sample_run.specs.Sample.{SamplesAs, CompletesSample};
 use crate::lines::summary_text;
 use crate::summary::summarize;
 use byte_ports::Sink;
-use run_parts::{Status, put_all};
+use sweep::run_parts::{Status, put_all};
 use std::alloc::Global;
 
 /// Makes some instructions, lists and moves them, and writes what comes of it: six lines. It answers `Memory` before it writes anything, or `WriteFault`, and no

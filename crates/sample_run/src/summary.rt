@@ -16,7 +16,7 @@ use command_words::BlockWords;
 use move_goals::Placed;
 use moving_run::laws::instructions_are_placed;
 use moving_run::move_input;
-use run_parts::Status;
+use sweep::run_parts::Status;
 use std::alloc::Global;
 use sweep_text::laws::items_stand_in_turn;
 use sweep_text::{Chunk, Lines, Style, append_line, item_len, read_at};

@@ -1,10 +1,10 @@
 -- How the command ends when it meets no fault.
 use Rattle.std.proofs.Common.{◌≡◌, inl, inr, ℕ, List, length, Option, Some, None, refl, sym, ap, subst, arith}
 use Rattle.command_words.specs.Ranges.{Range}
-use Rattle.run_parts.specs.declared.status.Status.{Status}
-use Rattle.run_parts.specs.declared.status.Status.TheVariants.{Done, BadCode, ReadFault, WriteFault, Memory, TooLarge, TooFar, RegionFull}
-use Rattle.run_parts.specs.Facts.{ReadFacts}
-use Rattle.run_parts.specs.Reads.{whole_limit, ReadsAll, IsUnread}
+use Rattle.sweep.specs.declared.run_parts.status.Status.{Status}
+use Rattle.sweep.specs.declared.run_parts.status.Status.TheVariants.{Done, BadCode, ReadFault, WriteFault, Memory, TooLarge, TooFar, RegionFull}
+use Rattle.sweep.specs.RunParts.Facts.{ReadFacts}
+use Rattle.sweep.specs.RunParts.Reads.{whole_limit, ReadsAll, IsUnread}
 use Rattle.slots_run.specs.Slotting.{IsSlotsRefusal, IsSlotsAnswer, SlotsAs, CompletesSlots}
 use Rattle.slots_run.specs.Facts.{SlotsAnswerFacts}
 

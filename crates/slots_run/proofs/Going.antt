@@ -18,7 +18,7 @@ use Rattle.move_goals.specs.Items.{IsPlaced}
 use Rattle.step_slots.specs.State.{SlotState}
 use Rattle.step_slots.specs.Stepping.{IsStepped}
 use Rattle.command_words.specs.Ranges.{Range}
-use Rattle.run_parts.specs.declared.status.Status.{Status}
+use Rattle.sweep.specs.declared.run_parts.status.Status.{Status}
 use Rattle.moving_run.specs.Code.{IsInstruction, BlockStopsAt}
 use Rattle.slots_run.specs.Slotted.{slotted_by, slotted_in, empty_slots, AreSlotted}
 use Rattle.slots_run.specs.Steps.{IsTried, IsNextSlot, HasCome, IsGoneThrough}

@@ -20,8 +20,8 @@ use Rattle.step_slots.specs.Keeping.{AreSlotsKept}
 use Rattle.step_slots.specs.Holding.{HoldsSlots}
 use Rattle.step_slots.specs.Facts.{LiveSlotFacts, ReservedFacts}
 use Rattle.command_words.specs.Ranges.{Range, IsRange}
-use Rattle.run_parts.specs.declared.status.Status.{Status}
-use Rattle.run_parts.specs.declared.status.Status.TheVariants.{Memory, RegionFull, TooFar}
+use Rattle.sweep.specs.declared.run_parts.status.Status.{Status}
+use Rattle.sweep.specs.declared.run_parts.status.Status.TheVariants.{Memory, RegionFull, TooFar}
 use Rattle.slots_run.specs.Slotted.{slotted_in, empty_slots, AreSlotted, IsSlotRefusal, MakesSlots, RefusesSlot}
 use Rattle.slots_run.specs.Slotting.{IsSlotsRefusal}
 use Rattle.slots_run.specs.Steps.{step_status, IsGoneThrough}

@@ -17,8 +17,8 @@ use Rattle.step_slots.specs.Block.{IsStepBlock, IsStepOutOfReach, step_items, st
 use Rattle.step_slots.specs.State.{SlotState, with_slot}
 use Rattle.step_slots.specs.Stepping.{IsStepped}
 use Rattle.command_words.specs.Ranges.{Range}
-use Rattle.run_parts.specs.declared.status.Status.{Status}
-use Rattle.run_parts.specs.declared.status.Status.TheVariants.{Done, BadCode, TooFar, RegionFull}
+use Rattle.sweep.specs.declared.run_parts.status.Status.{Status}
+use Rattle.sweep.specs.declared.run_parts.status.Status.TheVariants.{Done, BadCode, TooFar, RegionFull}
 use Rattle.moving_run.specs.Facts.{InputFacts}
 use Rattle.slots_run.specs.Slotted.{slotted_in, empty_slots, AreSlotted, HasNoGap, IsSlotRefusal, MakesSlots, RefusesSlot}
 use Rattle.slots_run.specs.Slotting.{IsSlotsAnswer}

@@ -1,7 +1,7 @@
 -- What holds of all code whose instructions are given slots.
 use Rattle.std.specs.Prelude.{◌≡◌, ℕ, List}
 use Rattle.command_words.specs.Ranges.{Range}
-use Rattle.run_parts.specs.declared.status.Status.{Status}
+use Rattle.sweep.specs.declared.run_parts.status.Status.{Status}
 use Rattle.slots_run.specs.Slotting.{IsSlotsAnswer}
 
 -- some code has one answer

@@ -13,8 +13,8 @@ use Rattle.step_slots.specs.Block.{IsStepOutOfReach, reserved_room}
 use Rattle.step_slots.specs.State.{SlotState, no_slots}
 use Rattle.step_slots.specs.Stepping.{IsStepped}
 use Rattle.step_slots.specs.Holding.{SlotsAreApart, HoldsSlots}
-use Rattle.run_parts.specs.declared.status.Status.{Status}
-use Rattle.run_parts.specs.declared.status.Status.TheVariants.{RegionFull, TooFar}
+use Rattle.sweep.specs.declared.run_parts.status.Status.{Status}
+use Rattle.sweep.specs.declared.run_parts.status.Status.TheVariants.{RegionFull, TooFar}
 use Rattle.moving_run.specs.Code.{IsInstruction}
 
 -- ---- the instructions

@@ -8,8 +8,8 @@ use Rattle.step_slots.specs.declared.refusals.StepError.TheVariants as step_erro
 use Rattle.step_slots.specs.State.{SlotState}
 use Rattle.step_slots.specs.Stepping.{IsStepped}
 use Rattle.command_words.specs.Ranges.{Range}
-use Rattle.run_parts.specs.declared.status.Status.{Status}
-use Rattle.run_parts.specs.declared.status.Status.TheVariants.{Memory, TooFar, RegionFull}
+use Rattle.sweep.specs.declared.run_parts.status.Status.{Status}
+use Rattle.sweep.specs.declared.run_parts.status.Status.TheVariants.{Memory, TooFar, RegionFull}
 use Rattle.moving_run.specs.Code.{IsInstruction}
 use Rattle.slots_run.specs.Slotted.{slotted_in, empty_slots, AreSlotted}
 use Rattle.slots_run.specs.Slotting.{IsSlotsRefusal}

@@ -2,15 +2,15 @@
 
 ghost use Rattle.std.specs.Prelude.{◌≡◌};
 ghost use Rattle.byte_ports.specs.Ports.{Rose};
-ghost use Rattle.run_parts.specs.Reads.{whole_limit, Takes, EndsAtFault};
+ghost use Rattle.sweep.specs.RunParts.Reads.{whole_limit, Takes, EndsAtFault};
 ghost use Rattle.slots_run.specs.Slotting.{SlotsAs, CompletesSlots};
 
 use crate::laws::code_has_one_answer;
 use crate::stepping::step_all;
 use byte_ports::{Sink, Source};
 use command_words::SlotRange;
-use run_parts::laws::told_bytes_are_read;
-use run_parts::{Status, put_all, read_whole};
+use sweep::run_parts::laws::told_bytes_are_read;
+use sweep::run_parts::{Status, put_all, read_whole};
 use std::alloc::Global;
 use step_slots::StepSlots;
 use step_slots::laws::{reserved_lengths_are_short, slots_stay_apart};
@@ -24,7 +24,7 @@ const MOST: u64 = 65_536;
 /// In this order: `ReadFault`, `TooLarge` above 1,048,576 bytes, `BadCode` at the first single byte of the sweep; at the first instruction that gets no
 /// slot `RegionFull` where no gap has the length that is reserved for it, else `TooFar`; `WriteFault`; `Memory` at any point. Nothing is written before all
 /// but `WriteFault` are past. At most 1,048,577 bytes are taken, and after `ReadFault` the source is not asked again.
-#[tactic(auto, unfolding(run_parts::specs::Reads::whole_limit))]
+#[tactic(auto, unfolding(sweep::specs::RunParts::Reads::whole_limit))]
 pub fn slot_code<S: Source, K: Sink>(
     alloc: Global,
     range: &SlotRange,

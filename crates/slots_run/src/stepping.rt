@@ -6,7 +6,7 @@ ghost use Rattle.slots_run.specs.Slotted.{empty_slots};
 ghost use Rattle.slots_run.specs.Steps as spec;
 
 use command_words::SlotRange;
-use run_parts::Status;
+use sweep::run_parts::Status;
 use std::alloc::Global;
 use step_slots::laws::{reserved_lengths_are_short, slots_stay_apart};
 use step_slots::{Placed, StepError, StepSlots};

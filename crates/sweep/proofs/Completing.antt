@@ -12,8 +12,8 @@ use Rattle.sweep_text.specs.declared.lines.Lines.{Lines}
 use Rattle.opcode_rows.specs.Sweep.{Item, Sweeps, IsSweep, item_len}
 use Rattle.sweep_text.specs.Lines.{stop_of, LineGoesOn}
 use Rattle.sweep_text.specs.Facts.{OneSweepFacts}
-use Rattle.run_parts.specs.Facts.{ReadFacts}
-use Rattle.run_parts.specs.Reads.{code_limit}
+use Rattle.sweep.specs.RunParts.Facts.{ReadFacts}
+use Rattle.sweep.specs.RunParts.Reads.{code_limit}
 use Rattle.sweep.specs.declared.error.StreamError.{StreamError}
 use Rattle.sweep.specs.declared.error.StreamError.TheVariants.{BadCode, ReadFault, WriteFault, TooLarge}
 use Rattle.sweep.specs.Steps.{IsReady}

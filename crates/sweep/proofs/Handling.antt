@@ -11,8 +11,8 @@ use Rattle.decoder.specs.declared.DecodeError.{DecodeError}
 use Rattle.sweep_text.specs.declared.lines.Lines.{Lines}
 use Rattle.opcode_rows.specs.Sweep.{Item, Sweeps, item_len}
 use Rattle.sweep_text.specs.Lines.{LineGoesOn, line_of, lines_of}
-use Rattle.run_parts.specs.Facts.{HeldFacts}
-use Rattle.run_parts.specs.Writing.{HoldsFront, Moves, HeldText}
+use Rattle.sweep.specs.RunParts.Facts.{HeldFacts}
+use Rattle.sweep.specs.RunParts.Writing.{HoldsFront, Moves, HeldText}
 use Rattle.sweep.specs.Steps.{IsReady, WritesItem, StopsAtItem, HandlesItems, HandlesFront}
 use Rattle.sweep.proofs.Longer.{sweeps_join}
 

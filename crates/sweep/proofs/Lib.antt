@@ -3,3 +3,4 @@ pub mod Windows
 pub mod Handling
 pub mod Streaming
 pub mod Completing
+pub mod RunParts

@@ -12,8 +12,8 @@ use Rattle.decoder.specs.declared.DecodeError.{DecodeError}
 use Rattle.sweep_text.specs.declared.lines.Lines.{Lines}
 use Rattle.opcode_rows.specs.Sweep.{Item, Sweeps, item_len}
 use Rattle.sweep_text.specs.Lines.{LineGoesOn, line_of, lines_of}
-use Rattle.run_parts.specs.Reads.{code_limit, ReadsAll, ReadsTooMany}
-use Rattle.run_parts.specs.Facts.{TextPieceFacts}
+use Rattle.sweep.specs.RunParts.Reads.{code_limit, ReadsAll, ReadsTooMany}
+use Rattle.sweep.specs.RunParts.Facts.{TextPieceFacts}
 use Rattle.sweep.specs.Steps.{IsReady, HandlesEnd, HandlesItems, HandlesFront}
 use Rattle.sweep.specs.Calls.{IsWritten, Rounds, IsLastRound, IsNeeded, IsCalled}
 use Rattle.sweep.specs.Window.{Fills}

@@ -3,7 +3,7 @@ use Rattle.std.proofs.Common.{◌≡◌, ℕ, ◌+◌, ◌-◌, ◌≤◌, List,
 use Rattle.std.specs.Prelude.{IfSome}
 use Rattle.std.proofs.lemmas.List.{length-take-le, length-take, length-drop}
 use Rattle.byte_ports.specs.Ports.{with_front}
-use Rattle.run_parts.specs.Reads.{IsAtEnd}
+use Rattle.sweep.specs.RunParts.Reads.{IsAtEnd}
 use Rattle.std.proofs.lemmas.Slice.{take-put_mid}
 use borrow.Rule.Slice.PartMut.{put_mid}
 use Rattle.std.proofs.Math.Seq.{take-append-add}

@@ -3,7 +3,7 @@ use Rattle.std.specs.Prelude.{◌≡◌, ℕ, ◌+◌, ◌<◌, ◌≤◌, List,
 use Rattle.x86_values.specs.declared.Bits.{Bits}
 use Rattle.sweep_text.specs.declared.lines.Lines.{Lines}
 use Rattle.byte_ports.specs.declared.failed.Failed.{Failed}
-use Rattle.run_parts.specs.Writing.{Puts, PutsToFault}
+use Rattle.sweep.specs.RunParts.Writing.{Puts, PutsToFault}
 use Rattle.sweep.specs.declared.error.StreamError.{StreamError}
 use Rattle.sweep.specs.declared.error.StreamError.TheVariants.{BadCode, ReadFault, WriteFault, TooLarge}
 use Rattle.sweep.specs.Streams.{Reads, WritesHandled}

@@ -4,7 +4,7 @@ use Rattle.x86_values.specs.declared.Bits.{Bits}
 use Rattle.sweep_text.specs.declared.lines.Lines.{Lines}
 use Rattle.opcode_rows.specs.Sweep.{Item, IsSweep}
 use Rattle.sweep_text.specs.Lines.{stop_of}
-use Rattle.run_parts.specs.Reads.{code_limit}
+use Rattle.sweep.specs.RunParts.Reads.{code_limit}
 use Rattle.sweep.specs.declared.error.StreamError.{StreamError}
 use Rattle.sweep.specs.declared.error.StreamError.TheVariants.{BadCode, ReadFault, WriteFault, TooLarge}
 use Rattle.sweep.specs.declared.error.ListError.{ListError}

@@ -4,3 +4,4 @@ pub mod Streams
 pub mod Calls
 pub mod Ends
 pub mod Facts
+pub mod RunParts

@@ -6,7 +6,7 @@ use Rattle.sweep_text.specs.declared.lines.Lines.{Lines}
 use Rattle.opcode_rows.specs.Sweep.{Item, IsItemAt, Sweeps, item_len}
 use Rattle.sweep_text.specs.Lines.{stop_of, LineGoesOn, line_of, lines_of}
 use Rattle.byte_ports.specs.Ports.{with_back}
-use Rattle.run_parts.specs.Writing.{HoldsFront, Moves}
+use Rattle.sweep.specs.RunParts.Writing.{HoldsFront, Moves}
 use Rattle.sweep.specs.declared.ready.Step.{Step}
 use Rattle.sweep.specs.declared.ready.Step.TheVariants.{Line, Stop}
 use Rattle.sweep.specs.declared.ready.Handled.{Handled}

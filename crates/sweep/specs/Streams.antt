@@ -6,8 +6,8 @@ use Rattle.sweep_text.specs.declared.lines.Lines.{Lines}
 use Rattle.opcode_rows.specs.Sweep.{Item, IsSweep, BeginsSweep, Sweeps}
 use Rattle.sweep_text.specs.Lines.{stop_of, LineGoesOn, lines_of}
 use Rattle.byte_ports.specs.Ports.{with_front, with_back}
-use Rattle.run_parts.specs.Reads.{code_limit, ReadsAll, ReadsTooMany}
-use Rattle.run_parts.specs.Writing.{HoldsFront}
+use Rattle.sweep.specs.RunParts.Reads.{code_limit, ReadsAll, ReadsTooMany}
+use Rattle.sweep.specs.RunParts.Writing.{HoldsFront}
 use Rattle.sweep.specs.declared.error.StreamError.{StreamError}
 use Rattle.sweep.specs.declared.error.StreamError.TheVariants.{BadCode, ReadFault, WriteFault, TooLarge}
 use Rattle.sweep.specs.Steps.{IsReady}

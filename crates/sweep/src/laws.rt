@@ -6,7 +6,7 @@ ghost use Rattle.opcode_rows.specs.Sweep.{Item, Sweeps};
 ghost use Rattle.sweep.specs.Steps.{IsReady};
 ghost use Rattle.sweep.specs.Facts.{ListingFacts};
 
-use run_parts::laws::told_bytes_are_read;
+use crate::run_parts::laws::told_bytes_are_read;
 
 /// First items of a sweep of which 15 bytes were seen are first items of it whatever bytes follow: what is written does not depend on how the input is cut.
 pub fn seen_items_stay()

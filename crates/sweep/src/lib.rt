@@ -1,6 +1,7 @@
 //! The sweep over code of any length, in memory of fixed size: a line is written before the next byte is asked for.
 #![tactic(auto)]
 
+pub mod run_parts;
 mod error;
 pub mod laws;
 mod ready;

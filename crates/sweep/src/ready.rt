@@ -2,14 +2,14 @@
 
 ghost use Rattle.std.specs.Prelude.{◌≡◌, ◌<◌, ◌≤◌, ◌+◌, true, false, length, IfOk, OnOk, OnErr};
 ghost use Rattle.byte_ports.specs.Ports.{HasCause};
-ghost use Rattle.run_parts.specs.Writing.{HoldsFront, Puts, PutsToFault};
+ghost use Rattle.sweep.specs.RunParts.Writing.{HoldsFront, Puts, PutsToFault};
 ghost use Rattle.sweep.specs.Steps.{TakesStep, HandlesItems, HandlesFront};
 
 use crate::window::WINDOW_LEN;
 use byte_ports::{Failed, Sink};
 use decoder::{DecodeError, UNREAD};
-use run_parts::laws::{held_texts_arrive, puts_join};
-use run_parts::{make_room, put_all};
+use crate::run_parts::laws::{held_texts_arrive, puts_join};
+use crate::run_parts::{make_room, put_all};
 use sweep_text::{Chunk, Lines, append_line, item_len, read_onto, stop_of};
 use x86_values::Bits;
 

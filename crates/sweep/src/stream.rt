@@ -3,7 +3,7 @@
 ghost use Rattle.std.specs.Prelude.{◌≡◌, IsTrue};
 ghost use Rattle.byte_ports.specs.Ports.{Rose};
 ghost use Rattle.prefixes.specs.Answer.{is_mode, mode_of};
-ghost use Rattle.run_parts.specs.Reads.{code_limit, Takes, EndsAtFault};
+ghost use Rattle.sweep.specs.RunParts.Reads.{code_limit, Takes, EndsAtFault};
 ghost use Rattle.sweep.specs.Calls.{IsCalled};
 ghost use Rattle.sweep.specs.Streams.{StreamsAs};
 ghost use Rattle.sweep.specs.Ends.{of_listing, CompletesStream, CompletesListing};
@@ -16,8 +16,8 @@ use crate::ready::write_ready;
 use crate::window::{WINDOW_LEN, fill, keep};
 use byte_ports::{Failed, Sink, Source};
 use prefixes::mode_of;
-use run_parts::CODE_LIMIT;
-use run_parts::laws::{pieces_join, told_bytes_are_read};
+use crate::run_parts::CODE_LIMIT;
+use crate::run_parts::laws::{pieces_join, told_bytes_are_read};
 use sweep_text::laws::sweeps_agree;
 use sweep_text::{Lines, Style};
 use x86_values::Bits;
@@ -26,7 +26,7 @@ use x86_values::Bits;
 const LIMIT: usize = CODE_LIMIT as usize;
 
 /// Goes through the code of a source, a window at a time.
-#[tactic(auto, unfolding(run_parts::specs::Reads::code_limit))]
+#[tactic(auto, unfolding(crate::specs::RunParts::Reads::code_limit))]
 fn stream_all<S: Source, K: Sink>(
     bits: Bits,
     base: u64,

@@ -2,7 +2,7 @@
 
 ghost use Rattle.std.specs.Prelude.{◌≡◌, ◌+◌, ◌<◌, ◌≤◌, ◌-◌, length, take, drop, IfOk, OnErr};
 ghost use Rattle.byte_ports.specs.Ports.{HasCause};
-ghost use Rattle.run_parts.specs.Reads.{EndsAtFault};
+ghost use Rattle.sweep.specs.RunParts.Reads.{EndsAtFault};
 ghost use Rattle.sweep.specs.Calls.{Pull};
 ghost use Rattle.sweep.specs.Window.{Fills};
 

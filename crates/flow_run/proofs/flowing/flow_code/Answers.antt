@@ -1,5 +1,5 @@
 use Rattle.std.proofs.Common.{refl}
-use Rattle.run_parts.specs.Reads.{whole_limit}
+use Rattle.sweep.specs.RunParts.Reads.{whole_limit}
 use Rattle.flow_run.proofs.Ends.{unread, completes}
 use Rattle.flow_run.proofs.flowing.flow_code.Goals as goal
 

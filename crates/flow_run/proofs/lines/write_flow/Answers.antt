@@ -3,7 +3,7 @@ use Rattle.byte_ports.specs.Ports.{with_back}
 use Rattle.std.proofs.lemmas.Result.{err_from_is_err_and, on_err_weaker, on_ok_weaker}
 use Rattle.flow_graph.specs.Control.{code_bytes}
 use Rattle.flow_graph.specs.Graphs.{IsFlowGraph}
-use Rattle.run_parts.specs.Writing.{HoldsFront}
+use Rattle.sweep.specs.RunParts.Writing.{HoldsFront}
 use Rattle.flow_run.specs.Flowing.{WritesFlow, WritesFlowFront}
 use Rattle.flow_run.proofs.FlowLines.{progress-start, progress-step, progress-failed, progress-end}
 use Rattle.flow_run.proofs.lines.write_flow.Goals as goal

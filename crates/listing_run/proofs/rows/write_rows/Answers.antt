@@ -1,7 +1,7 @@
 use Rattle.std.proofs.Common.{arith}
 use Rattle.std.proofs.lemmas.Result.{err_from_is_err_and, on_err_weaker}
 use Rattle.opcode_rows.specs.declared.generated_spots.TheConstants.{ROWS}
-use Rattle.run_parts.specs.Writing.{HoldsFront}
+use Rattle.sweep.specs.RunParts.Writing.{HoldsFront}
 use Rattle.listing_run.specs.Rows.{rows_text}
 use Rattle.listing_run.proofs.RowLines.{rows-start, rows-step, rows-failed}
 use Rattle.listing_run.proofs.rows.write_rows.Goals as goal

@@ -1,7 +1,7 @@
 use Rattle.std.proofs.Common.{◌≤◌, ◌-◌}
 use Rattle.opcode_rows.specs.declared.generated_spots.TheConstants.{ROWS}
 use Rattle.listing_run.specs.Rows.{lines_below}
-use Rattle.run_parts.specs.Writing.{HeldText}
+use Rattle.sweep.specs.RunParts.Writing.{HeldText}
 use Rattle.listing_run.proofs.rows.write_rows.Given as goal
 
 abbrev pub invariant-loop-code : goal.invariant-loop-code

@@ -1,7 +1,7 @@
 use Rattle.std.proofs.Common.{◌≡◌, length, arith}
 use Rattle.byte_ports.specs.Ports.{with_back}
 use Rattle.std.proofs.lemmas.Result.{err_from_is_err_and, on_err_weaker, on_ok_weaker}
-use Rattle.run_parts.specs.Writing.{HoldsFront}
+use Rattle.sweep.specs.RunParts.Writing.{HoldsFront}
 use Rattle.moving_run.specs.Map.{map_lines}
 use Rattle.moving_run.proofs.MapLines.{map-start, map-step, map-failed, map-end}
 use Rattle.moving_run.proofs.map.write_map.Goals as goal

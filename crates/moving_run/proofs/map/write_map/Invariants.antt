@@ -1,6 +1,6 @@
 use Rattle.std.proofs.Common.{◌≤◌}
 use Rattle.moving_run.specs.Map.{map_lines}
-use Rattle.run_parts.specs.Writing.{HeldText}
+use Rattle.sweep.specs.RunParts.Writing.{HeldText}
 use Rattle.moving_run.proofs.map.write_map.Given as goal
 
 abbrev pub invariant-loop-k : goal.invariant-loop-k

@@ -1,6 +1,6 @@
 use Rattle.std.proofs.Common.{refl}
-use Rattle.run_parts.specs.Reads.{whole_limit}
-use Rattle.run_parts.specs.declared.status.Status.TheVariants.{Done}
+use Rattle.sweep.specs.RunParts.Reads.{whole_limit}
+use Rattle.sweep.specs.declared.run_parts.status.Status.TheVariants.{Done}
 use Rattle.moving_run.proofs.Moved.{starts_length, forms_length, moves_code, unread, refusal}
 use Rattle.moving_run.proofs.Completing.{completes}
 use Rattle.moving_run.proofs.moving.move_code.Goals as goal

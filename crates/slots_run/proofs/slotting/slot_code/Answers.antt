@@ -1,6 +1,6 @@
 use Rattle.std.proofs.Common.{refl}
-use Rattle.run_parts.specs.Reads.{whole_limit}
-use Rattle.run_parts.specs.declared.status.Status.TheVariants.{Done}
+use Rattle.sweep.specs.RunParts.Reads.{whole_limit}
+use Rattle.sweep.specs.declared.run_parts.status.Status.TheVariants.{Done}
 use Rattle.slots_run.proofs.Kept.{all-slotted}
 use Rattle.slots_run.proofs.Completing.{unread, refusal, completes}
 use Rattle.slots_run.proofs.slotting.slot_code.Goals as goal

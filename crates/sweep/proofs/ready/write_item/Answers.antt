@@ -1,7 +1,7 @@
 use Rattle.std.proofs.Common.{ℕ, take, refl, sym, ap}
 use Rattle.decoder.specs.Answer.{reading_of}
 use Rattle.opcode_rows.specs.Sweep.{item_len}
-use Rattle.run_parts.specs.Writing.{no_put}
+use Rattle.sweep.specs.RunParts.Writing.{no_put}
 use Rattle.sweep.proofs.Handling.{moves-line}
 use Rattle.sweep.proofs.ready.write_item.Goals as goal
 

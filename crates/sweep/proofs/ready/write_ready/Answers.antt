@@ -1,6 +1,6 @@
 use Rattle.std.proofs.Common.{arith, rules, refl}
 use Rattle.std.proofs.lemmas.Result.{err_from_is_err_and}
-use Rattle.run_parts.specs.Writing.{no_put}
+use Rattle.sweep.specs.RunParts.Writing.{no_put}
 use Rattle.sweep.proofs.Handling.{progress-start, progress-step, progress-end, progress-stop, progress-failed, progress-stop_failed}
 use Rattle.sweep.proofs.ready.write_ready.Goals as goal
 

@@ -1,5 +1,5 @@
 use Rattle.std.proofs.Common.{◌≤◌, ◌-◌, length}
-use Rattle.run_parts.specs.Writing.{Puts}
+use Rattle.sweep.specs.RunParts.Writing.{Puts}
 use Rattle.sweep.proofs.Handling.{Progress}
 use Rattle.sweep.proofs.ready.write_ready.Given as goal
 

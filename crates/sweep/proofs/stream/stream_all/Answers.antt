@@ -1,6 +1,6 @@
 use Rattle.std.proofs.Common.{rules, ◌≡◌, ◌+◌, ◌-◌, ◌≤◌, min, arith, refl, ◌∙◌}
 use Rattle.std.proofs.lemmas.Bool.{eqb-true, eq-eqb, ne_eqb}
-use Rattle.run_parts.specs.Reads.{code_limit}
+use Rattle.sweep.specs.RunParts.Reads.{code_limit}
 use Rattle.sweep.specs.Calls.{no_round, then_round}
 use Rattle.sweep.proofs.Streaming.{streamed_start, rose_since, written_so_far, called_so_far, window_is, at_write_fault, at_end_of_input, past_limit, at_bad_code, streamed_next}
 use Rattle.sweep.proofs.stream.stream_all.Goals as goal

@@ -1,8 +1,0 @@
-use Rattle.run_parts.proofs.Whole as whole
-use Rattle.run_parts.proofs.laws.told_bytes_are_read.Goals as goal
-
-pub returns : goal.returns
-returns c = record {
-  all_bytes = whole.all_bytes;
-  too_many = whole.too_many;
-}
