@@ -7,7 +7,7 @@ use Rattle.std.proofs.lemmas.Slice.Eq.{bytes_eq-Decides}
 use Rattle.std.proofs.lemmas.List.{take-append-drop}
 use Rattle.std.proofs.lemmas.Bool.{and_parts}
 use Rattle.text_parts.specs.declared.style.Style.TheVariants.{Intel}
-use Rattle.sweep_text.specs.Listing.{byte_directive, single_byte_text}
+use Rattle.sweep.specs.SweepText.Listing.{byte_directive, single_byte_text}
 use Rattle.text_parts.specs.Numbers.{hex_digit, digit_at, last_digits, digit_count, hexadecimal, number}
 use Rattle.text_parts.specs.declared.digit_values.LetterCase.TheVariants.{Lower}
 use Rattle.text_parts.specs.DigitValues.{digit_value, upper_value}

@@ -3,7 +3,7 @@ use Rattle.std.specs.Prelude.{◌≡◌, ◌⊎◌, ℕ, ◌+◌, ◌<◌, ◌==
 use Rattle.x86_values.specs.declared.Bits.{Bits}
 use Rattle.x86_values.specs.Wrapping.{modulo_width}
 use Rattle.text_parts.specs.declared.style.Style.TheVariants.{Intel}
-use Rattle.sweep_text.specs.Listing.{single_byte_text}
+use Rattle.sweep.specs.SweepText.Listing.{single_byte_text}
 use Rattle.intel_reader.specs.Assembled.{AssemblesTo}
 
 -- ---- the lines

@@ -138,7 +138,7 @@ pub mod streams {
         Lines, ListError, StreamError, Style, info_stream, laws, list_stream, recode_stream,
         stream_lines,
     };
-    pub use sweep_text::laws as sweep_laws;
+    pub use sweep::sweep_text::laws as sweep_laws;
 }
 
 /// The offsets that control reaches, and their basic blocks.

@@ -10,8 +10,8 @@ use Rattle.decoder.specs.declared.DecodeError.TheVariants.{Invalid as InvalidErr
 use Rattle.decoder.specs.Answer.{reading_of}
 use Rattle.row_relation.specs.Spells.{Reading}
 use Rattle.opcode_rows.specs.Sweep.{Item, IsReadAt, Sweeps, item_len}
-use Rattle.sweep_text.specs.Sweeping.{TakesSome, SweptTo, item_read}
-use Rattle.sweep_text.specs.Facts.{SweptFacts}
+use Rattle.sweep.specs.SweepText.Sweeping.{TakesSome, SweptTo, item_read}
+use Rattle.sweep.specs.SweepText.Facts.{SweptFacts}
 use Rattle.feddurzai_c.specs.declared.flat.FlatInstr.{FlatInstr}
 use Rattle.feddurzai_c.specs.Many.{flat_reading, structs_of, most_items, IsManyIn}
 

@@ -11,8 +11,8 @@ use crate::numbers::bits_numbered;
 use crate::refusal::{Refusal, refusal_status};
 use crate::room::count_answer;
 use decoder::DecodeError;
-use sweep_text::laws::items_stand_in_turn;
-use sweep_text::{item_len, read_at};
+use sweep::sweep_text::laws::items_stand_in_turn;
+use sweep::sweep_text::{item_len, read_at};
 use x86_values::{Bits, Decoded};
 
 /// How many items one call gives at most.

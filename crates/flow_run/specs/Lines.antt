@@ -6,8 +6,8 @@ use Rattle.row_relation.specs.Spells.{Reading}
 use Rattle.decoder.specs.declared.DecodeError.{DecodeError}
 use Rattle.decoder.specs.declared.DecodeError.TheVariants.{TooShort, Invalid}
 use Rattle.operand_info.specs.declared.columns.Flow.{Flow}
-use Rattle.sweep_text.specs.Info.{flow_name}
-use Rattle.sweep_text.specs.Listing.{address_text}
+use Rattle.sweep.specs.SweepText.Info.{flow_name}
+use Rattle.sweep.specs.SweepText.Listing.{address_text}
 use Rattle.flow_graph.specs.Control.{CodeBytes, IsReadIn}
 use Rattle.flow_graph.specs.Told.{told_of}
 use Rattle.flow_graph.specs.Graphs.{Graph}

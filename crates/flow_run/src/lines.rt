@@ -15,7 +15,7 @@ use flow_graph::FlowGraph;
 use operand_info::Flow;
 use sweep::run_parts::laws::held_texts_arrive;
 use sweep::run_parts::{make_room, put_all};
-use sweep_text::{CHUNK_LEN, Chunk, LINE_LEN, append, append_address, flow_name};
+use sweep::sweep_text::{CHUNK_LEN, Chunk, LINE_LEN, append, append_address, flow_name};
 use x86_values::Bits;
 
 /// The word for the flow of an instruction, or for why none is read.

@@ -3,7 +3,7 @@ use Rattle.std.proofs.Common.{ℕ, List, Option, Ok, Err, refl}
 use Rattle.x86_values.specs.declared.Bits.{Bits}
 use Rattle.byte_ports.specs.Ports.{Rose}
 use Rattle.text_parts.specs.declared.style.Style.{Style}
-use Rattle.sweep_text.specs.declared.lines.Lines.TheVariants.{Listing}
+use Rattle.sweep.specs.declared.sweep_text.lines.Lines.TheVariants.{Listing}
 use Rattle.sweep.specs.declared.run_parts.status.Status.{Status}
 use Rattle.sweep.specs.declared.run_parts.status.Status.TheVariants.{Done, BadCode, ReadFault, WriteFault, TooLarge}
 use Rattle.sweep.specs.declared.error.StreamError.TheVariants.{BadCode as StreamBadCode, ReadFault as StreamReadFault, WriteFault as StreamWriteFault, TooLarge as StreamTooLarge}

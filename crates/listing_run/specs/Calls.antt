@@ -2,8 +2,8 @@
 use Rattle.std.specs.Prelude.{◌≡◌, ℕ, List, Option, Result}
 use Rattle.x86_values.specs.declared.Bits.{Bits}
 use Rattle.byte_ports.specs.declared.failed.Failed.{Failed}
-use Rattle.sweep_text.specs.declared.lines.Lines.{Lines}
-use Rattle.sweep_text.specs.declared.lines.Lines.TheVariants.{Listing, Info as InfoLines, Recode as RecodeLines}
+use Rattle.sweep.specs.declared.sweep_text.lines.Lines.{Lines}
+use Rattle.sweep.specs.declared.sweep_text.lines.Lines.TheVariants.{Listing, Info as InfoLines, Recode as RecodeLines}
 use Rattle.command_words.specs.declared.commands.Command.{Command}
 use Rattle.command_words.specs.declared.commands.Command.TheVariants.{List as ListCommand, Info, Recode}
 use Rattle.sweep.specs.declared.run_parts.status.Status.{Status}

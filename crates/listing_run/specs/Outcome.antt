@@ -2,8 +2,8 @@
 use Rattle.std.specs.Prelude.{◌≡◌, ℕ, List, [], ◌∷◌, Option, None, Result, Ok, Err}
 use Rattle.byte_ports.specs.Ports.{with_back}
 use Rattle.x86_values.specs.declared.Bits.{Bits}
-use Rattle.sweep_text.specs.declared.lines.Lines.{Lines}
-use Rattle.sweep_text.specs.declared.lines.Lines.TheVariants.{Listing, Info as InfoLines, Recode as RecodeLines}
+use Rattle.sweep.specs.declared.sweep_text.lines.Lines.{Lines}
+use Rattle.sweep.specs.declared.sweep_text.lines.Lines.TheVariants.{Listing, Info as InfoLines, Recode as RecodeLines}
 use Rattle.command_words.specs.declared.commands.Command.{Command}
 use Rattle.command_words.specs.declared.commands.Command.TheVariants.{Help, Version, List as ListCommand, Info, Recode, Flow, Asm, Move, Map, Blocks, Slots, Rows, Sample, Wrong}
 use Rattle.command_words.specs.declared.commands.BlockWords.{BlockWords}

@@ -11,7 +11,7 @@ use opcode_rows::ROWS;
 use text_rows::row_lines::row_line;
 use sweep::run_parts::laws::held_texts_arrive;
 use sweep::run_parts::{make_room, put_all};
-use sweep_text::{Chunk, append};
+use sweep::sweep_text::{Chunk, append};
 use x86_values::Code;
 
 /// Writes the line of a row, or holds it back.

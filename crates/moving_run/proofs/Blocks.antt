@@ -9,7 +9,7 @@ use Rattle.x86_values.specs.Wrapping.{width}
 use Rattle.row_relation.specs.Spells.{Reading, Read, TooShort, Invalid}
 use Rattle.decoder.specs.declared.DecodeError.{DecodeError}
 use Rattle.opcode_rows.specs.Sweep.{Item}
-use Rattle.sweep_text.specs.Lines.{error_of}
+use Rattle.sweep.specs.SweepText.Lines.{error_of}
 use Rattle.branch_sizes.specs.declared.plan.BlockSpan.{BlockSpan}
 use Rattle.move_goals.specs.declared.items.Placed.{Placed}
 use Rattle.move_goals.specs.Items.{passes}

@@ -9,7 +9,7 @@ use Rattle.x86_values.specs.Wrapping.{modulo_width}
 use Rattle.row_relation.specs.Spells.{Reading, Read, TooShort, Invalid, Spells}
 use Rattle.opcode_rows.specs.Table.{table}
 use Rattle.opcode_rows.specs.Sweep.{Item, IsReadAt, IsItemAt, Sweeps, item_len}
-use Rattle.sweep_text.specs.Lines.{error_of}
+use Rattle.sweep.specs.SweepText.Lines.{error_of}
 use Rattle.branch_sizes.specs.declared.plan.BlockSpan.{BlockSpan}
 use Rattle.branch_sizes.specs.Layout.{total, block_number, first_of_block, span_at}
 use Rattle.branch_sizes.specs.Facts.{BlockFacts}

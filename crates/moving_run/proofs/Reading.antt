@@ -10,8 +10,8 @@ use Rattle.row_relation.specs.Spells.{Reading, Read}
 use Rattle.decoder.specs.declared.DecodeError.{DecodeError}
 use Rattle.decoder.specs.Answer.{reading_of}
 use Rattle.opcode_rows.specs.Sweep.{Item, IsReadAt, item_len}
-use Rattle.sweep_text.specs.Sweeping.{TakesSome, SweptTo, item_read}
-use Rattle.sweep_text.specs.Facts.{SweptFacts}
+use Rattle.sweep.specs.SweepText.Sweeping.{TakesSome, SweptTo, item_read}
+use Rattle.sweep.specs.SweepText.Facts.{SweptFacts}
 use Rattle.move_goals.specs.declared.items.Placed.{Placed}
 use Rattle.moving_run.specs.Code.{IsInstruction, BlockStopsAt, placed_by, placed_in}
 use Rattle.moving_run.specs.Read.{first_items, ReadsBlock}

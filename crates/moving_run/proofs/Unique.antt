@@ -7,8 +7,8 @@ use Rattle.x86_values.specs.declared.Bits.{Bits}
 use Rattle.row_relation.specs.Spells.{Reading}
 use Rattle.decoder.specs.declared.DecodeError.{DecodeError}
 use Rattle.opcode_rows.specs.Sweep.{Item, IsSweep, Sweeps, item_len}
-use Rattle.sweep_text.specs.Lines.{error_of}
-use Rattle.sweep_text.specs.Facts.{OneSweepFacts}
+use Rattle.sweep.specs.SweepText.Lines.{error_of}
+use Rattle.sweep.specs.SweepText.Facts.{OneSweepFacts}
 use Rattle.branch_sizes.specs.declared.plan.BlockSpan.{BlockSpan}
 use Rattle.branch_sizes.specs.Plan.{BlockPlan}
 use Rattle.branch_sizes.specs.Layout.{IsLeast}

@@ -4,7 +4,7 @@ use Rattle.x86_values.specs.declared.Bits.{Bits}
 use Rattle.row_relation.specs.Spells.{Reading, Read, TooShort, Invalid}
 use Rattle.decoder.specs.declared.DecodeError.{DecodeError}
 use Rattle.opcode_rows.specs.Sweep.{Item, IsSweep, BeginsSweep}
-use Rattle.sweep_text.specs.Lines.{error_of}
+use Rattle.sweep.specs.SweepText.Lines.{error_of}
 use Rattle.branch_sizes.specs.declared.plan.BlockSpan.{BlockSpan}
 use Rattle.move_goals.specs.declared.items.Placed.{Placed}
 use Rattle.command_words.specs.declared.commands.BlockWords.{BlockWords}

@@ -10,8 +10,8 @@ use command_words::BlockWords;
 use decoder::DecodeError;
 use move_goals::{Placed, passes};
 use std::alloc::{AllocError, Global};
-use sweep_text::laws::items_stand_in_turn;
-use sweep_text::read_at;
+use sweep::sweep_text::laws::items_stand_in_turn;
+use sweep::sweep_text::read_at;
 use thiserror::Error;
 use x86_values::Bits;
 

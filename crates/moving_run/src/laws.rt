@@ -4,7 +4,7 @@ ghost use Rattle.moving_run.specs.Facts.{InputFacts, PlacedFacts, MovingAnswerFa
 
 use block_encoder::laws::moved_blocks_keep_their_laws;
 use branch_sizes::laws::least_is_unique;
-use sweep_text::laws::sweeps_agree;
+use sweep::sweep_text::laws::sweeps_agree;
 
 /// Some input is read as one list of instructions, and has one first single byte, or none.
 #[inline]

@@ -11,7 +11,7 @@ use byte_ports::{Failed, Sink};
 use move_goals::Placed;
 use sweep::run_parts::laws::held_texts_arrive;
 use sweep::run_parts::{make_room, put_all};
-use sweep_text::{CHUNK_LEN, Chunk, LINE_LEN, append, append_address};
+use sweep::sweep_text::{CHUNK_LEN, Chunk, LINE_LEN, append, append_address};
 use x86_values::Bits;
 
 /// The word of a form.

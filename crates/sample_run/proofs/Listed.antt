@@ -4,9 +4,9 @@ use Rattle.x86_values.specs.declared.Bits.TheVariants.{B64}
 use Rattle.row_relation.specs.Spells.{Reading}
 use Rattle.opcode_rows.specs.Sweep.{Item, IsReadAt, IsSweep, item_len}
 use Rattle.text_parts.specs.declared.style.Style.TheVariants.{Intel}
-use Rattle.sweep_text.specs.Listing.{item_line, listing}
-use Rattle.sweep_text.specs.Sweeping.{TakesSome, SweptTo, item_read}
-use Rattle.sweep_text.specs.Facts.{SweptFacts}
+use Rattle.sweep.specs.SweepText.Listing.{item_line, listing}
+use Rattle.sweep.specs.SweepText.Sweeping.{TakesSome, SweptTo, item_read}
+use Rattle.sweep.specs.SweepText.Facts.{SweptFacts}
 use Rattle.sample_run.specs.Generator.{sample_base}
 
 -- the first items of some code are listed, and what stands behind them is the rest of its sweep

@@ -6,8 +6,8 @@ use Rattle.std.proofs.lemmas.List.Elements.{All-nil, All-cons, All-head, All-tai
 use Rattle.x86_values.specs.declared.Bits.TheVariants.{B64}
 use Rattle.row_relation.specs.Spells.{Reading}
 use Rattle.opcode_rows.specs.Sweep.{Item, IsSweep}
-use Rattle.sweep_text.specs.Lines.{error_of}
-use Rattle.sweep_text.specs.Facts.{OneSweepFacts}
+use Rattle.sweep.specs.SweepText.Lines.{error_of}
+use Rattle.sweep.specs.SweepText.Facts.{OneSweepFacts}
 use Rattle.branch_sizes.specs.declared.plan.BlockSpan.{BlockSpan}
 use Rattle.move_goals.specs.declared.items.Placed.{Placed}
 use Rattle.move_goals.specs.Items.{ArePlaced, item_at, one_span, first_old_pass}

@@ -5,8 +5,8 @@ use Rattle.x86_values.specs.declared.Bits.{Bits}
 use Rattle.x86_values.specs.declared.Bits.TheVariants.{B64}
 use Rattle.opcode_rows.specs.Sweep.{Item}
 use Rattle.text_parts.specs.declared.style.Style.TheVariants.{Intel}
-use Rattle.sweep_text.specs.Listing.{listing}
-use Rattle.sweep_text.specs.Facts.{OneSweepFacts}
+use Rattle.sweep.specs.SweepText.Listing.{listing}
+use Rattle.sweep.specs.SweepText.Facts.{OneSweepFacts}
 use Rattle.branch_sizes.specs.declared.plan.BlockSpan.{BlockSpan}
 use Rattle.branch_sizes.specs.Plan.{BlockPlan}
 use Rattle.branch_sizes.specs.Layout.{IsLeast, item_choice}

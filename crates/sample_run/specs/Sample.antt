@@ -4,7 +4,7 @@ use Rattle.x86_values.specs.declared.Bits.TheVariants.{B64}
 use Rattle.x86_values.specs.declared.Instr.{Instr}
 use Rattle.opcode_rows.specs.Sweep.{Item, IsSweep}
 use Rattle.text_parts.specs.declared.style.Style.TheVariants.{Intel}
-use Rattle.sweep_text.specs.Listing.{listing}
+use Rattle.sweep.specs.SweepText.Listing.{listing}
 use Rattle.branch_sizes.specs.declared.plan.Form.{Form}
 use Rattle.branch_sizes.specs.declared.plan.Form.TheVariants.{Itself}
 use Rattle.branch_sizes.specs.Plan.{no_choice, is_same_form}

@@ -11,7 +11,7 @@ use branch_sizes::laws::{images_are_short, least_is_unique, totals_rise};
 use move_goals::laws::{first_numbers_pass, plans_are_well_formed};
 use branch_sizes::move_layout::laws::far_forms_have_slots;
 use moving_run::laws::{inputs_are_read_in_one_way, instructions_are_placed};
-use sweep_text::laws::sweeps_agree;
+use sweep::sweep_text::laws::sweeps_agree;
 
 /// Made code is read as the instructions that were drawn, each with its bytes: nothing else stands in it, and what is aimed at an address by RIP is aimed
 /// at a low one.

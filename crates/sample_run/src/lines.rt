@@ -7,7 +7,7 @@ ghost use Rattle.sample_run.specs.Sample as spec;
 use crate::summary::Summary;
 use arrayvec::ArrayVec;
 use itoa::{Buffer, Integer};
-use sweep_text::append;
+use sweep::sweep_text::append;
 
 /// The text of a summary: six lines, each with a word and a number.
 pub type SummaryText = ArrayVec<u8, 384>;

@@ -1,7 +1,7 @@
 //! Made code, listed and moved, in numbers.
 
 ghost use Rattle.std.specs.Prelude.{◌≡◌, ◌≤◌, List, length, sum, MatchResult};
-ghost use Rattle.sweep_text.specs.Listing.{listing};
+ghost use Rattle.sweep.specs.SweepText.Listing.{listing};
 ghost use Rattle.x86_values.specs.declared.Bits.TheVariants.{B64};
 ghost use Rattle.text_parts.specs.declared.style.Style.TheVariants.{Intel};
 ghost use Rattle.opcode_rows.specs.Sweep.{IsSweep, Item};
@@ -18,8 +18,8 @@ use moving_run::laws::instructions_are_placed;
 use moving_run::move_input;
 use sweep::run_parts::Status;
 use std::alloc::Global;
-use sweep_text::laws::items_stand_in_turn;
-use sweep_text::{Chunk, Lines, Style, append_line, item_len, read_at};
+use sweep::sweep_text::laws::items_stand_in_turn;
+use sweep::sweep_text::{Chunk, Lines, Style, append_line, item_len, read_at};
 use x86_values::{Bits, Instr};
 
 /// The address that made code is moved to.

@@ -10,9 +10,9 @@ use Rattle.decoder.specs.declared.DecodeError.{DecodeError}
 use Rattle.decoder.specs.Answer.{reading_of}
 use Rattle.opcode_rows.specs.Table.{table}
 use Rattle.opcode_rows.specs.Sweep.{Item, IsReadAt, item_len}
-use Rattle.sweep_text.specs.Lines.{error_of}
-use Rattle.sweep_text.specs.Sweeping.{TakesSome, SweptTo, item_read}
-use Rattle.sweep_text.specs.Facts.{SweptFacts}
+use Rattle.sweep.specs.SweepText.Lines.{error_of}
+use Rattle.sweep.specs.SweepText.Sweeping.{TakesSome, SweptTo, item_read}
+use Rattle.sweep.specs.SweepText.Facts.{SweptFacts}
 use Rattle.move_goals.specs.declared.items.Placed.{Placed}
 use Rattle.move_goals.specs.Items.{IsPlaced}
 use Rattle.step_slots.specs.State.{SlotState}

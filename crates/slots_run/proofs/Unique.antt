@@ -1,7 +1,7 @@
 -- Some bytes have one answer.
 use Rattle.std.proofs.Common.{◌≡◌, ℕ, suc, ◌+◌, List, [], ◌∷◌, ◌++◌, length, Ok, refl, sym, ap, ◌∙◌, subst, arith}
 use Rattle.x86_values.specs.declared.Bits.{Bits}
-use Rattle.sweep_text.specs.Facts.{OneSweepFacts}
+use Rattle.sweep.specs.SweepText.Facts.{OneSweepFacts}
 use Rattle.branch_sizes.specs.Plan.{BlockPlan}
 use Rattle.branch_sizes.specs.Layout.{IsLeast}
 use Rattle.move_goals.specs.declared.items.Placed.{Placed}

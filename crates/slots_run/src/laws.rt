@@ -5,7 +5,7 @@ ghost use Rattle.slots_run.specs.Facts.{SlotsAnswerFacts};
 use branch_sizes::laws::least_is_unique;
 use code_region::laws::places_are_gaps;
 use moving_run::laws::inputs_are_read_in_one_way;
-use sweep_text::laws::sweeps_agree;
+use sweep::sweep_text::laws::sweeps_agree;
 
 /// Some code has one answer: the same refusal, or slots.
 #[inline]

@@ -10,8 +10,8 @@ use sweep::run_parts::Status;
 use std::alloc::Global;
 use step_slots::laws::{reserved_lengths_are_short, slots_stay_apart};
 use step_slots::{Placed, StepError, StepSlots};
-use sweep_text::laws::items_stand_in_turn;
-use sweep_text::read_at;
+use sweep::sweep_text::laws::items_stand_in_turn;
+use sweep::sweep_text::read_at;
 use x86_values::laws::wrapped_twice;
 use x86_values::wrap;
 

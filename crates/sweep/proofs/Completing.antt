@@ -8,10 +8,10 @@ use Rattle.std.proofs.lemmas.List.Elements.{All-nil, All-cons, All-head, All-tai
 use Rattle.byte_ports.specs.Ports.{with_front}
 use Rattle.x86_values.specs.declared.Bits.{Bits}
 use Rattle.decoder.specs.declared.DecodeError.{DecodeError}
-use Rattle.sweep_text.specs.declared.lines.Lines.{Lines}
+use Rattle.sweep.specs.declared.sweep_text.lines.Lines.{Lines}
 use Rattle.opcode_rows.specs.Sweep.{Item, Sweeps, IsSweep, item_len}
-use Rattle.sweep_text.specs.Lines.{stop_of, LineGoesOn}
-use Rattle.sweep_text.specs.Facts.{OneSweepFacts}
+use Rattle.sweep.specs.SweepText.Lines.{stop_of, LineGoesOn}
+use Rattle.sweep.specs.SweepText.Facts.{OneSweepFacts}
 use Rattle.sweep.specs.RunParts.Facts.{ReadFacts}
 use Rattle.sweep.specs.RunParts.Reads.{code_limit}
 use Rattle.sweep.specs.declared.error.StreamError.{StreamError}
@@ -20,7 +20,7 @@ use Rattle.sweep.specs.Steps.{IsReady}
 use Rattle.sweep.specs.Streams.{AreHandled, Sees, WritesLinesBefore, StreamsAs}
 use Rattle.sweep.specs.Ends.{end_of, CompletesStream, CompletesListing}
 use Rattle.text_parts.specs.declared.style.Style.{Style}
-use Rattle.sweep_text.specs.declared.lines.Lines.TheVariants.{Listing}
+use Rattle.sweep.specs.declared.sweep_text.lines.Lines.TheVariants.{Listing}
 use Rattle.sweep.proofs.Longer.{all_ready, sweeps_longer}
 
 -- ---- the end of some items

@@ -8,9 +8,9 @@ use Rattle.std.proofs.lemmas.List.Elements.{All-nil, All-cons, All-append}
 use Rattle.byte_ports.specs.Ports.{with_back}
 use Rattle.x86_values.specs.declared.Bits.{Bits}
 use Rattle.decoder.specs.declared.DecodeError.{DecodeError}
-use Rattle.sweep_text.specs.declared.lines.Lines.{Lines}
+use Rattle.sweep.specs.declared.sweep_text.lines.Lines.{Lines}
 use Rattle.opcode_rows.specs.Sweep.{Item, Sweeps, item_len}
-use Rattle.sweep_text.specs.Lines.{LineGoesOn, line_of, lines_of}
+use Rattle.sweep.specs.SweepText.Lines.{LineGoesOn, line_of, lines_of}
 use Rattle.sweep.specs.RunParts.Facts.{HeldFacts}
 use Rattle.sweep.specs.RunParts.Writing.{HoldsFront, Moves, HeldText}
 use Rattle.sweep.specs.Steps.{IsReady, WritesItem, StopsAtItem, HandlesItems, HandlesFront}

@@ -4,3 +4,4 @@ pub mod Handling
 pub mod Streaming
 pub mod Completing
 pub mod RunParts
+pub mod SweepText

@@ -9,9 +9,9 @@ use Rattle.byte_ports.specs.declared.failed.Failed.{Failed}
 use Rattle.byte_ports.specs.Ports.{Rose, with_front, with_back}
 use Rattle.x86_values.specs.declared.Bits.{Bits}
 use Rattle.decoder.specs.declared.DecodeError.{DecodeError}
-use Rattle.sweep_text.specs.declared.lines.Lines.{Lines}
+use Rattle.sweep.specs.declared.sweep_text.lines.Lines.{Lines}
 use Rattle.opcode_rows.specs.Sweep.{Item, Sweeps, item_len}
-use Rattle.sweep_text.specs.Lines.{LineGoesOn, line_of, lines_of}
+use Rattle.sweep.specs.SweepText.Lines.{LineGoesOn, line_of, lines_of}
 use Rattle.sweep.specs.RunParts.Reads.{code_limit, ReadsAll, ReadsTooMany}
 use Rattle.sweep.specs.RunParts.Facts.{TextPieceFacts}
 use Rattle.sweep.specs.Steps.{IsReady, HandlesEnd, HandlesItems, HandlesFront}

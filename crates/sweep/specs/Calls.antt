@@ -1,7 +1,7 @@
 -- The calls of a stream in their order: the source is asked, the lines of what can be handled are put, and only then is the source asked again.
 use Rattle.std.specs.Prelude.{◌≡◌, ℕ, ◌+◌, ◌<◌, ◌≤◌, List, length, Option, Result, Ok, Err}
 use Rattle.x86_values.specs.declared.Bits.{Bits}
-use Rattle.sweep_text.specs.declared.lines.Lines.{Lines}
+use Rattle.sweep.specs.declared.sweep_text.lines.Lines.{Lines}
 use Rattle.byte_ports.specs.declared.failed.Failed.{Failed}
 use Rattle.sweep.specs.RunParts.Writing.{Puts, PutsToFault}
 use Rattle.sweep.specs.declared.error.StreamError.{StreamError}

@@ -1,9 +1,9 @@
 -- How a stream of code ends that meets no fault.
 use Rattle.std.specs.Prelude.{◌≡◌, ◌⊎◌, ℕ, ◌<◌, ◌≤◌, List, [], ◌∷◌, length, take, Option, Some, None, Result, Ok, Err}
 use Rattle.x86_values.specs.declared.Bits.{Bits}
-use Rattle.sweep_text.specs.declared.lines.Lines.{Lines}
+use Rattle.sweep.specs.declared.sweep_text.lines.Lines.{Lines}
 use Rattle.opcode_rows.specs.Sweep.{Item, IsSweep}
-use Rattle.sweep_text.specs.Lines.{stop_of}
+use Rattle.sweep.specs.SweepText.Lines.{stop_of}
 use Rattle.sweep.specs.RunParts.Reads.{code_limit}
 use Rattle.sweep.specs.declared.error.StreamError.{StreamError}
 use Rattle.sweep.specs.declared.error.StreamError.TheVariants.{BadCode, ReadFault, WriteFault, TooLarge}

@@ -3,7 +3,7 @@ use Rattle.std.specs.Prelude.{ℕ, List, Option, Result}
 use Rattle.x86_values.specs.declared.Bits.{Bits}
 use Rattle.byte_ports.specs.Ports.{Rose}
 use Rattle.text_parts.specs.declared.style.Style.{Style}
-use Rattle.sweep_text.specs.declared.lines.Lines.TheVariants.{Listing}
+use Rattle.sweep.specs.declared.sweep_text.lines.Lines.TheVariants.{Listing}
 use Rattle.sweep.specs.declared.error.StreamError.{StreamError}
 use Rattle.sweep.specs.Streams.{StreamsAs}
 use Rattle.sweep.specs.Ends.{CompletesListing}

@@ -5,3 +5,4 @@ pub mod Calls
 pub mod Ends
 pub mod Facts
 pub mod RunParts
+pub mod SweepText

@@ -2,9 +2,9 @@
 use Rattle.std.specs.Prelude.{◌≡◌, ◌⊎◌, ℕ, ◌+◌, ◌<◌, ◌≤◌, Bool, true, false, List, [], All, length, drop, Option, Some, None}
 use Rattle.x86_values.specs.declared.Bits.{Bits}
 use Rattle.decoder.specs.declared.DecodeError.{DecodeError}
-use Rattle.sweep_text.specs.declared.lines.Lines.{Lines}
+use Rattle.sweep.specs.declared.sweep_text.lines.Lines.{Lines}
 use Rattle.opcode_rows.specs.Sweep.{Item, IsItemAt, Sweeps, item_len}
-use Rattle.sweep_text.specs.Lines.{stop_of, LineGoesOn, line_of, lines_of}
+use Rattle.sweep.specs.SweepText.Lines.{stop_of, LineGoesOn, line_of, lines_of}
 use Rattle.byte_ports.specs.Ports.{with_back}
 use Rattle.sweep.specs.RunParts.Writing.{HoldsFront, Moves}
 use Rattle.sweep.specs.declared.ready.Step.{Step}

@@ -2,9 +2,9 @@
 use Rattle.std.specs.Prelude.{◌≡◌, ◌⊎◌, ℕ, ◌+◌, ◌<◌, ◌≤◌, List, [], ◌∷◌, ◌++◌, All, length, take, Option, Some, Result, Ok, Err}
 use Rattle.x86_values.specs.declared.Bits.{Bits}
 use Rattle.decoder.specs.declared.DecodeError.{DecodeError}
-use Rattle.sweep_text.specs.declared.lines.Lines.{Lines}
+use Rattle.sweep.specs.declared.sweep_text.lines.Lines.{Lines}
 use Rattle.opcode_rows.specs.Sweep.{Item, IsSweep, BeginsSweep, Sweeps}
-use Rattle.sweep_text.specs.Lines.{stop_of, LineGoesOn, lines_of}
+use Rattle.sweep.specs.SweepText.Lines.{stop_of, LineGoesOn, lines_of}
 use Rattle.byte_ports.specs.Ports.{with_front, with_back}
 use Rattle.sweep.specs.RunParts.Reads.{code_limit, ReadsAll, ReadsTooMany}
 use Rattle.sweep.specs.RunParts.Writing.{HoldsFront}

@@ -1,6 +1,7 @@
 //! The sweep over code of any length, in memory of fixed size: a line is written before the next byte is asked for.
 #![tactic(auto)]
 
+pub mod sweep_text;
 pub mod run_parts;
 mod error;
 pub mod laws;
@@ -10,4 +11,4 @@ mod window;
 
 pub use error::{ListError, StreamError};
 pub use stream::{info_stream, list_stream, recode_stream, stream_lines};
-pub use sweep_text::{Lines, Style, Style as Syntax};
+pub use crate::sweep_text::{Lines, Style, Style as Syntax};

@@ -10,7 +10,7 @@ use byte_ports::{Failed, Sink};
 use decoder::{DecodeError, UNREAD};
 use crate::run_parts::laws::{held_texts_arrive, puts_join};
 use crate::run_parts::{make_room, put_all};
-use sweep_text::{Chunk, Lines, append_line, item_len, read_onto, stop_of};
+use crate::sweep_text::{Chunk, Lines, append_line, item_len, read_onto, stop_of};
 use x86_values::Bits;
 
 /// The most bytes of an instruction (Intel SDM volume 2, 2.3.11).

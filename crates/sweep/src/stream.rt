@@ -7,7 +7,7 @@ ghost use Rattle.sweep.specs.RunParts.Reads.{code_limit, Takes, EndsAtFault};
 ghost use Rattle.sweep.specs.Calls.{IsCalled};
 ghost use Rattle.sweep.specs.Streams.{StreamsAs};
 ghost use Rattle.sweep.specs.Ends.{of_listing, CompletesStream, CompletesListing};
-ghost use Rattle.sweep_text.specs.declared.lines.Lines.TheVariants as lines;
+ghost use Rattle.sweep.specs.declared.sweep_text.lines.Lines.TheVariants as lines;
 ghost use Rattle.sweep.specs.declared.error.ListError.TheVariants as lists;
 ghost use Rattle.sweep.specs.declared.error.StreamError.TheVariants as why;
 
@@ -18,8 +18,8 @@ use byte_ports::{Failed, Sink, Source};
 use prefixes::mode_of;
 use crate::run_parts::CODE_LIMIT;
 use crate::run_parts::laws::{pieces_join, told_bytes_are_read};
-use sweep_text::laws::sweeps_agree;
-use sweep_text::{Lines, Style};
+use crate::sweep_text::laws::sweeps_agree;
+use crate::sweep_text::{Lines, Style};
 use x86_values::Bits;
 
 /// The most bytes of a source that are handled.

@@ -6,7 +6,7 @@ ghost use Rattle.byte_ports.specs.Ports.{HasCause, Rose, with_back};
 ghost use Rattle.sweep.specs.RunParts.Writing.{HoldsFront, Moves, Says, Puts, PutsToFault};
 
 use byte_ports::{Failed, Sink};
-use sweep_text::{CHUNK_LEN, Chunk, LINE_LEN};
+use crate::sweep_text::{CHUNK_LEN, Chunk, LINE_LEN};
 
 /// Writes all the bytes. After `Failed` the first of them were written, and the `put` that failed was the last.
 pub fn put_all<K: Sink>(out: &mut K, bytes: &[u8]) -> Result<(), Failed>

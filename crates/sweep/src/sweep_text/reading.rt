@@ -1,0 +1,63 @@
+//! What is read at an offset of some code.
+
+ghost use Rattle.std.specs.Prelude.{◌≡◌, ◌<◌, ◌≤◌, length, IsTrue, IfOk};
+ghost use Rattle.opcode_rows.specs.Allowed.{is_well_formed};
+ghost use Rattle.decoder.specs.Answer.{reading_of};
+ghost use Rattle.opcode_rows.specs.Sweep as spec;
+ghost use Rattle.sweep.specs.SweepText.Sweeping.{TakesSome};
+
+use decoder::reading_laws::wrapped_addresses_read_alike;
+use decoder::{DecodeError, UNREAD, decode_in, decode_onto};
+use x86_values::{Bits, Decoded, wrap};
+
+/// Reads the bytes from an offset on, of code whose first byte has the address `base`. Addresses wrap in the mode.
+#[inline]
+#[tactic(auto, using(crate::proofs::SweepText::Covering::takes_some))]
+pub fn read_at(bits: Bits, base: u64, offset: usize, bytes: &[u8]) -> Result<Decoded, DecodeError>
+    ensures reading { spec.IsReadAt bits base offset bytes.now (reading_of result) }
+    ensures length { IfOk result (λ d. (0 < d.len) × (d.len ≤ 15) × (d.len ≤ length bytes.now)) }
+    ensures well { IfOk result (λ d. IsTrue (is_well_formed d.instr)) }
+    ensures takes { 0 < length bytes.now → TakesSome (reading_of result) (length bytes.now) }
+{
+    wrapped_addresses_read_alike();
+    let ip = wrap(bits, u128::from(base) + offset as u128);
+    decode_in(bits, ip, bytes)
+}
+
+/// Reads as [`read_at`], and makes the answer where it is wanted, so that no instruction is copied.
+#[inline(always)]
+#[tactic(auto, using(crate::proofs::SweepText::Covering::takes_some))]
+pub fn read_onto(
+    bits: Bits,
+    base: u64,
+    offset: usize,
+    bytes: &[u8],
+    out: &mut Result<Decoded, DecodeError>,
+)
+    ensures reading { spec.IsReadAt bits base offset bytes.now (reading_of out.new) }
+    ensures length { IfOk out.new (λ d. (0 < d.len) × (d.len ≤ 15) × (d.len ≤ length bytes.now)) }
+    ensures well { IfOk out.new (λ d. IsTrue (is_well_formed d.instr)) }
+    ensures takes { 0 < length bytes.now → TakesSome (reading_of out.new) (length bytes.now) }
+{
+    wrapped_addresses_read_alike();
+    let address = wrap(bits, u128::from(base) + offset as u128);
+    *out = Ok(UNREAD);
+    match out {
+        Ok(place) => match decode_onto(bits, address, bytes, place) {
+            Ok(()) => {}
+            Err(error) => *out = Err(error),
+        },
+        Err(_) => {}
+    }
+}
+
+/// How many bytes an item of the sweep takes: those of its instruction, or one where none is read.
+#[inline]
+pub fn item_len(reading: &Result<Decoded, DecodeError>) -> usize
+    ensures { result ≡ spec.item_len (reading_of reading.now) }
+{
+    match reading {
+        Ok(d) => usize::from(d.len),
+        Err(_) => 1,
+    }
+}

@@ -1,5 +1,0 @@
-use Rattle.sweep_text.proofs.OneSweep.{reading_unique}
-use Rattle.sweep_text.proofs.laws.readings_are_unique.Goals as goal
-
-pub returns : goal.returns
-returns c = reading_unique c.bytes_have_one_reading.ensures

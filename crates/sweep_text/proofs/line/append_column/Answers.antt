@@ -1,8 +1,0 @@
-use Rattle.std.proofs.Common.{List, ℕ, ap, ◌++◌, ◌∙◌}
-use Rattle.sweep_text.proofs.Lengths.{column_is}
-use Rattle.sweep_text.proofs.line.append_column.Goals as goal
-
-pub returns-clause-items : goal.returns-clause-items
-returns-clause-items c =
-    c.append.ensures
-    ∙ ap (λ (xs : List ℕ). c.args.out.now.items ++ xs) (column_is c.args.bytes.now _ c.in-Ok.ensures.written)
