@@ -19,7 +19,7 @@ use Rattle.asm_run.specs.Assembling.{AssemblesAs, CompletesAssembling}
 use Rattle.moving_run.specs.declared.moving.Wanted.TheVariants.{MovedBytes, MapLines}
 use Rattle.moving_run.specs.Moving.{MovesAs, CompletesMoving}
 use Rattle.sample_run.specs.Sample.{SamplesAs, CompletesSample}
-use Rattle.slots_run.specs.Slotting.{SlotsAs, CompletesSlots}
+use Rattle.moving_run.specs.SlotsRun.Slotting.{SlotsAs, CompletesSlots}
 use Rattle.listing_run.specs.Texts.{help_text, version_text}
 use Rattle.listing_run.specs.Rows.{rows_text}
 

@@ -22,7 +22,7 @@ use flow_run::flow_code;
 use moving_run::{Wanted, move_code};
 use sweep::run_parts::{Status, put_all, say, status_line};
 use sample_run::sample;
-use slots_run::slot_code;
+use moving_run::slots_run::slot_code;
 use std::alloc::Global;
 use sweep::laws::listings_come_to_their_end;
 use sweep::{Lines, StreamError, stream_lines};

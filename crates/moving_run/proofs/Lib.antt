@@ -7,3 +7,4 @@ pub mod Unique
 pub mod Completing
 pub mod Moved
 pub mod MapLines
+pub mod SlotsRun

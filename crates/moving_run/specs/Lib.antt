@@ -4,3 +4,4 @@ pub mod Facts
 pub mod Map
 pub mod Moving
 pub mod Read
+pub mod SlotsRun

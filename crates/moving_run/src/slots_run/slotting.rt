@@ -3,10 +3,10 @@
 ghost use Rattle.std.specs.Prelude.{◌≡◌};
 ghost use Rattle.byte_ports.specs.Ports.{Rose};
 ghost use Rattle.sweep.specs.RunParts.Reads.{whole_limit, Takes, EndsAtFault};
-ghost use Rattle.slots_run.specs.Slotting.{SlotsAs, CompletesSlots};
+ghost use Rattle.moving_run.specs.SlotsRun.Slotting.{SlotsAs, CompletesSlots};
 
-use crate::laws::code_has_one_answer;
-use crate::stepping::step_all;
+use crate::slots_run::laws::code_has_one_answer;
+use crate::slots_run::stepping::step_all;
 use byte_ports::{Sink, Source};
 use command_words::SlotRange;
 use sweep::run_parts::laws::told_bytes_are_read;

@@ -20,8 +20,8 @@ use Rattle.step_slots.specs.Stepping.{IsStepped}
 use Rattle.command_words.specs.Ranges.{Range}
 use Rattle.sweep.specs.declared.run_parts.status.Status.{Status}
 use Rattle.moving_run.specs.Code.{IsInstruction, BlockStopsAt}
-use Rattle.slots_run.specs.Slotted.{slotted_by, slotted_in, empty_slots, AreSlotted}
-use Rattle.slots_run.specs.Steps.{IsTried, IsNextSlot, HasCome, IsGoneThrough}
+use Rattle.moving_run.specs.SlotsRun.Slotted.{slotted_by, slotted_in, empty_slots, AreSlotted}
+use Rattle.moving_run.specs.SlotsRun.Steps.{IsTried, IsNextSlot, HasCome, IsGoneThrough}
 
 -- ---- one instruction
 

@@ -2,7 +2,7 @@
 use Rattle.std.specs.Prelude.{◌≡◌, ℕ, List}
 use Rattle.command_words.specs.Ranges.{Range}
 use Rattle.sweep.specs.declared.run_parts.status.Status.{Status}
-use Rattle.slots_run.specs.Slotting.{IsSlotsAnswer}
+use Rattle.moving_run.specs.SlotsRun.Slotting.{IsSlotsAnswer}
 
 -- some code has one answer
 pub record SlotsAnswerFacts : Type 0 where

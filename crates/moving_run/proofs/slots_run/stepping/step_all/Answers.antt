@@ -1,7 +1,7 @@
 use Rattle.std.proofs.Common.{◌<◌, length, arith}
-use Rattle.slots_run.proofs.Going.{item-placed, begun-step, begun-stop, begun-end}
-use Rattle.slots_run.proofs.Kept.{one-refused}
-use Rattle.slots_run.proofs.stepping.step_all.Goals as goal
+use Rattle.moving_run.proofs.SlotsRun.Going.{item-placed, begun-step, begun-stop, begun-end}
+use Rattle.moving_run.proofs.SlotsRun.Kept.{one-refused}
+use Rattle.moving_run.proofs.slots_run.stepping.step_all.Goals as goal
 
 pub step_next-refused-requires : goal.step_next-refused-requires
 step_next-refused-requires c =

@@ -2,8 +2,8 @@
 
 ghost use Rattle.std.specs.Prelude.{◌≡◌, ◌≤◌, length, Some, None};
 ghost use Rattle.move_goals.specs.Items.{IsPlaced};
-ghost use Rattle.slots_run.specs.Slotted.{empty_slots};
-ghost use Rattle.slots_run.specs.Steps as spec;
+ghost use Rattle.moving_run.specs.SlotsRun.Slotted.{empty_slots};
+ghost use Rattle.moving_run.specs.SlotsRun.Steps as spec;
 
 use command_words::SlotRange;
 use sweep::run_parts::Status;

@@ -1,5 +1,4 @@
 //! The command that makes slots for displaced single stepping: each instruction of the input gets one, and the range is written.
-#![tactic(auto)]
 
 pub mod laws;
 mod slotting;

@@ -20,8 +20,8 @@ use Rattle.command_words.specs.Ranges.{Range}
 use Rattle.sweep.specs.declared.run_parts.status.Status.{Status}
 use Rattle.sweep.specs.declared.run_parts.status.Status.TheVariants.{Done, BadCode, TooFar, RegionFull}
 use Rattle.moving_run.specs.Facts.{InputFacts}
-use Rattle.slots_run.specs.Slotted.{slotted_in, empty_slots, AreSlotted, HasNoGap, IsSlotRefusal, MakesSlots, RefusesSlot}
-use Rattle.slots_run.specs.Slotting.{IsSlotsAnswer}
+use Rattle.moving_run.specs.SlotsRun.Slotted.{slotted_in, empty_slots, AreSlotted, HasNoGap, IsSlotRefusal, MakesSlots, RefusesSlot}
+use Rattle.moving_run.specs.SlotsRun.Slotting.{IsSlotsAnswer}
 
 -- ---- one block
 

@@ -1,9 +1,9 @@
 use Rattle.std.proofs.Common.{refl}
 use Rattle.sweep.specs.RunParts.Reads.{whole_limit}
 use Rattle.sweep.specs.declared.run_parts.status.Status.TheVariants.{Done}
-use Rattle.slots_run.proofs.Kept.{all-slotted}
-use Rattle.slots_run.proofs.Completing.{unread, refusal, completes}
-use Rattle.slots_run.proofs.slotting.slot_code.Goals as goal
+use Rattle.moving_run.proofs.SlotsRun.Kept.{all-slotted}
+use Rattle.moving_run.proofs.SlotsRun.Completing.{unread, refusal, completes}
+use Rattle.moving_run.proofs.slots_run.slotting.slot_code.Goals as goal
 
 pub returns-in-Err-clause-complete : goal.returns-in-Err-clause-complete
 unfolding whole_limit

@@ -1,10 +1,10 @@
 //! What holds of all code whose instructions are given slots.
 
-ghost use Rattle.slots_run.specs.Facts.{SlotsAnswerFacts};
+ghost use Rattle.moving_run.specs.SlotsRun.Facts.{SlotsAnswerFacts};
 
 use branch_sizes::laws::least_is_unique;
 use code_region::laws::places_are_gaps;
-use moving_run::laws::inputs_are_read_in_one_way;
+use crate::laws::inputs_are_read_in_one_way;
 use sweep::sweep_text::laws::sweeps_agree;
 
 /// Some code has one answer: the same refusal, or slots.

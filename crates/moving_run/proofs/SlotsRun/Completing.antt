@@ -5,8 +5,8 @@ use Rattle.sweep.specs.declared.run_parts.status.Status.{Status}
 use Rattle.sweep.specs.declared.run_parts.status.Status.TheVariants.{Done, BadCode, ReadFault, WriteFault, Memory, TooLarge, TooFar, RegionFull}
 use Rattle.sweep.specs.RunParts.Facts.{ReadFacts}
 use Rattle.sweep.specs.RunParts.Reads.{whole_limit, ReadsAll, IsUnread}
-use Rattle.slots_run.specs.Slotting.{IsSlotsRefusal, IsSlotsAnswer, SlotsAs, CompletesSlots}
-use Rattle.slots_run.specs.Facts.{SlotsAnswerFacts}
+use Rattle.moving_run.specs.SlotsRun.Slotting.{IsSlotsRefusal, IsSlotsAnswer, SlotsAs, CompletesSlots}
+use Rattle.moving_run.specs.SlotsRun.Facts.{SlotsAnswerFacts}
 
 module _ (range : Range) (base : ℕ) where
   -- a source that was not read whole, after which nothing was written

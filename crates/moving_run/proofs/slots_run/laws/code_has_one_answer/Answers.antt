@@ -1,5 +1,5 @@
-use Rattle.slots_run.proofs.Unique as code
-use Rattle.slots_run.proofs.laws.code_has_one_answer.Goals as goal
+use Rattle.moving_run.proofs.SlotsRun.Unique as code
+use Rattle.moving_run.proofs.slots_run.laws.code_has_one_answer.Goals as goal
 
 pub returns : goal.returns
 returns c = record {

@@ -22,10 +22,10 @@ use Rattle.step_slots.specs.Facts.{LiveSlotFacts, ReservedFacts}
 use Rattle.command_words.specs.Ranges.{Range, IsRange}
 use Rattle.sweep.specs.declared.run_parts.status.Status.{Status}
 use Rattle.sweep.specs.declared.run_parts.status.Status.TheVariants.{Memory, RegionFull, TooFar}
-use Rattle.slots_run.specs.Slotted.{slotted_in, empty_slots, AreSlotted, IsSlotRefusal, MakesSlots, RefusesSlot}
-use Rattle.slots_run.specs.Slotting.{IsSlotsRefusal}
-use Rattle.slots_run.specs.Steps.{step_status, IsGoneThrough}
-use Rattle.slots_run.proofs.Crowded.{crowded, missing, full-is, many-is}
+use Rattle.moving_run.specs.SlotsRun.Slotted.{slotted_in, empty_slots, AreSlotted, IsSlotRefusal, MakesSlots, RefusesSlot}
+use Rattle.moving_run.specs.SlotsRun.Slotting.{IsSlotsRefusal}
+use Rattle.moving_run.specs.SlotsRun.Steps.{step_status, IsGoneThrough}
+use Rattle.moving_run.proofs.SlotsRun.Crowded.{crowded, missing, full-is, many-is}
 
 -- ---- the range
 

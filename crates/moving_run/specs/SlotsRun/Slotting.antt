@@ -7,7 +7,7 @@ use Rattle.sweep.specs.declared.run_parts.status.Status.TheVariants.{Done, BadCo
 use Rattle.sweep.specs.RunParts.Reads.{whole_limit, ReadsAll, ReadsTooMany}
 use Rattle.sweep.specs.RunParts.Writing.{HoldsFront}
 use Rattle.moving_run.specs.Code.{BlockStopsAt}
-use Rattle.slots_run.specs.Slotted.{MakesSlots, RefusesSlot}
+use Rattle.moving_run.specs.SlotsRun.Slotted.{MakesSlots, RefusesSlot}
 
 -- a status that tells why some bytes do not all get slots
 abbrev pub IsSlotsRefusal : Range → ℕ → List ℕ → Status → Type 0

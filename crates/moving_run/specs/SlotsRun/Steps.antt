@@ -11,8 +11,8 @@ use Rattle.command_words.specs.Ranges.{Range}
 use Rattle.sweep.specs.declared.run_parts.status.Status.{Status}
 use Rattle.sweep.specs.declared.run_parts.status.Status.TheVariants.{Memory, TooFar, RegionFull}
 use Rattle.moving_run.specs.Code.{IsInstruction}
-use Rattle.slots_run.specs.Slotted.{slotted_in, empty_slots, AreSlotted}
-use Rattle.slots_run.specs.Slotting.{IsSlotsRefusal}
+use Rattle.moving_run.specs.SlotsRun.Slotted.{slotted_in, empty_slots, AreSlotted}
+use Rattle.moving_run.specs.SlotsRun.Slotting.{IsSlotsRefusal}
 
 -- the status that tells why the instruction of a number gets no slot; with as many live slots as there may be no gap is left
 abbrev pub step_status : ℕ → StepError → Status
