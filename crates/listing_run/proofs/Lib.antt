@@ -1,2 +1,3 @@
 pub mod RowLines
 pub mod Completing
+pub mod AsmRun

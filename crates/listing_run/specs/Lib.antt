@@ -3,3 +3,4 @@ pub mod Calls
 pub mod Rows
 pub mod Texts
 pub mod Taken
+pub mod AsmRun

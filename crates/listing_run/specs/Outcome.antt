@@ -15,7 +15,7 @@ use Rattle.sweep.specs.declared.error.StreamError.TheVariants.{BadCode as Stream
 use Rattle.sweep.specs.Streams.{StreamsAs}
 use Rattle.sweep.specs.Ends.{CompletesStream, CompletesListing}
 use Rattle.flow_run.specs.Flowing.{FlowsAs, CompletesFlow}
-use Rattle.asm_run.specs.Assembling.{AssemblesAs, CompletesAssembling}
+use Rattle.listing_run.specs.AsmRun.Assembling.{AssemblesAs, CompletesAssembling}
 use Rattle.moving_run.specs.declared.moving.Wanted.TheVariants.{MovedBytes, MapLines}
 use Rattle.moving_run.specs.Moving.{MovesAs, CompletesMoving}
 use Rattle.sample_run.specs.Sample.{SamplesAs, CompletesSample}

@@ -15,7 +15,7 @@ ghost use Rattle.moving_run.specs.Moving.{MovesAs, CompletesMoving};
 ghost use Rattle.command_words.specs.declared.commands.Command.TheVariants.{Wrong};
 
 use crate::rows::write_rows;
-use asm_run::assemble_code;
+use crate::asm_run::assemble_code;
 use byte_ports::{Sink, Source};
 use command_words::{BlockWords, Command, command_of};
 use flow_run::flow_code;

@@ -1,5 +1,0 @@
-use Rattle.asm_run.proofs.Unique as texts
-use Rattle.asm_run.proofs.laws.texts_have_one_answer.Goals as goal
-
-pub returns : goal.returns
-returns c = record { answer_unique = texts.answer_unique c.rows_are_counted.ensures }

@@ -1,0 +1,53 @@
+//! The bytes of the texts of a source.
+
+ghost use Rattle.std.specs.Prelude.{◌≡◌};
+ghost use Rattle.byte_ports.specs.Ports.{Rose};
+ghost use Rattle.sweep.specs.RunParts.Reads.{whole_limit, Takes, EndsAtFault};
+ghost use Rattle.listing_run.specs.AsmRun.Assembling.{AssemblesAs, CompletesAssembling};
+
+use crate::asm_run::code_lines::code_of_lines;
+use crate::asm_run::laws::texts_have_one_answer;
+use byte_ports::{Sink, Source};
+use sweep::run_parts::laws::told_bytes_are_read;
+use sweep::run_parts::{Status, put_all, read_whole};
+use std::alloc::Global;
+use x86_values::Bits;
+
+/// Reads the source to its end, as lines of code of a mode whose first byte has the address `base`, and writes the bytes of all lines.
+///
+/// Each line is ended by a line feed; bytes behind the last one are one more line. A line is the Intel text of an instruction, which stands behind the bytes
+/// of the lines before it, at an address that wraps in the mode; or `db` and the number of a single byte, as `db 0x66`.
+///
+/// In this order: `ReadFault`, `TooLarge` above 1,048,576 bytes, `BadText` at the first line that is neither, `WriteFault`; `Memory` at any point before
+/// something is written. Nothing is written before all but `WriteFault` are past. At most 1,048,577 bytes are taken, and after `ReadFault` the source is not
+/// asked again.
+#[tactic(auto, unfolding(sweep::specs::RunParts::Reads::whole_limit))]
+pub fn assemble_code<S: Source, K: Sink>(
+    alloc: Global,
+    bits: Bits,
+    base: u64,
+    source: &mut S,
+    out: &mut K,
+) -> Status
+    ensures answer { AssemblesAs bits base (S.left source.old) (S.left source.new) (K.held out.old) (K.held out.new)
+        (Rose (S.faults source.old) (S.faults source.new)) (Rose (K.faults out.old) (K.faults out.new)) result }
+    ensures complete { (Rose (S.faults source.old) (S.faults source.new) → ⊥) → (Rose (K.faults out.old) (K.faults out.new) → ⊥)
+        → CompletesAssembling bits base (S.left source.old) result }
+    ensures taken { Takes whole_limit (S.left source.old) (S.left source.new)
+        × (result ≡ Status.ReadFault → EndsAtFault S.pull_gives S.left source.new) }
+{
+    told_bytes_are_read();
+    texts_have_one_answer();
+    let input = match read_whole(alloc, source) {
+        Ok(input) => input,
+        Err(unread) => return unread,
+    };
+    let code = match code_of_lines(alloc, bits, base, &input) {
+        Ok(code) => code,
+        Err(status) => return status,
+    };
+    match put_all(out, &code) {
+        Ok(()) => Status::Done,
+        Err(_) => Status::WriteFault,
+    }
+}
