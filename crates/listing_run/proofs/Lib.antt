@@ -1,3 +1,4 @@
 pub mod RowLines
 pub mod Completing
 pub mod AsmRun
+pub mod FlowRun

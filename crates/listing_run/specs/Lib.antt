@@ -4,3 +4,4 @@ pub mod Rows
 pub mod Texts
 pub mod Taken
 pub mod AsmRun
+pub mod FlowRun

@@ -14,7 +14,7 @@ use Rattle.sweep.specs.declared.error.StreamError.{StreamError}
 use Rattle.sweep.specs.declared.error.StreamError.TheVariants.{BadCode as StreamBadCode, ReadFault as StreamReadFault, WriteFault as StreamWriteFault, TooLarge as StreamTooLarge}
 use Rattle.sweep.specs.Streams.{StreamsAs}
 use Rattle.sweep.specs.Ends.{CompletesStream, CompletesListing}
-use Rattle.flow_run.specs.Flowing.{FlowsAs, CompletesFlow}
+use Rattle.listing_run.specs.FlowRun.Flowing.{FlowsAs, CompletesFlow}
 use Rattle.listing_run.specs.AsmRun.Assembling.{AssemblesAs, CompletesAssembling}
 use Rattle.moving_run.specs.declared.moving.Wanted.TheVariants.{MovedBytes, MapLines}
 use Rattle.moving_run.specs.Moving.{MovesAs, CompletesMoving}

@@ -18,7 +18,7 @@ use crate::rows::write_rows;
 use crate::asm_run::assemble_code;
 use byte_ports::{Sink, Source};
 use command_words::{BlockWords, Command, command_of};
-use flow_run::flow_code;
+use crate::flow_run::flow_code;
 use moving_run::{Wanted, move_code};
 use sweep::run_parts::{Status, put_all, say, status_line};
 use sample_run::sample;

@@ -1,7 +1,7 @@
 use Rattle.std.proofs.Common.{refl}
 use Rattle.sweep.specs.RunParts.Reads.{whole_limit}
-use Rattle.flow_run.proofs.Ends.{unread, completes}
-use Rattle.flow_run.proofs.flowing.flow_code.Goals as goal
+use Rattle.listing_run.proofs.FlowRun.Ends.{unread, completes}
+use Rattle.listing_run.proofs.flow_run.flowing.flow_code.Goals as goal
 
 pub returns-in-Err-clause-answer : goal.returns-in-Err-clause-answer
 unfolding whole_limit

@@ -4,9 +4,9 @@ use Rattle.std.proofs.lemmas.Result.{err_from_is_err_and, on_err_weaker, on_ok_w
 use Rattle.flow_graph.specs.Control.{code_bytes}
 use Rattle.flow_graph.specs.Graphs.{IsFlowGraph}
 use Rattle.sweep.specs.RunParts.Writing.{HoldsFront}
-use Rattle.flow_run.specs.Flowing.{WritesFlow, WritesFlowFront}
-use Rattle.flow_run.proofs.FlowLines.{progress-start, progress-step, progress-failed, progress-end}
-use Rattle.flow_run.proofs.lines.write_flow.Goals as goal
+use Rattle.listing_run.specs.FlowRun.Flowing.{WritesFlow, WritesFlowFront}
+use Rattle.listing_run.proofs.FlowRun.FlowLines.{progress-start, progress-step, progress-failed, progress-end}
+use Rattle.listing_run.proofs.flow_run.lines.write_flow.Goals as goal
 
 pub loop-k-init : goal.loop-k-init
 loop-k-init g c = record {

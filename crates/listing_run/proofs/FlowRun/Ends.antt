@@ -5,7 +5,7 @@ use Rattle.sweep.specs.declared.run_parts.status.Status.{Status}
 use Rattle.sweep.specs.declared.run_parts.status.Status.TheVariants.{ReadFault, Memory, TooLarge}
 use Rattle.sweep.specs.RunParts.Facts.{ReadFacts}
 use Rattle.sweep.specs.RunParts.Reads.{whole_limit, IsUnread}
-use Rattle.flow_run.specs.Flowing.{FlowsAs, CompletesFlow}
+use Rattle.listing_run.specs.FlowRun.Flowing.{FlowsAs, CompletesFlow}
 
 -- nothing was written
 pub unread : (bits : Bits) (base : ℕ) (left left' held held' : Option (List ℕ)) (source_rose out_rose : Type 0) (status : Status) → held' ≡ held →

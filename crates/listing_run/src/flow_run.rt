@@ -1,5 +1,4 @@
 //! The command that shows what control reaches: the input read, its flow graph, and a line for each reached offset.
-#![tactic(auto)]
 
 mod flowing;
 mod lines;

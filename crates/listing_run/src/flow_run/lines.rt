@@ -6,8 +6,8 @@ ghost use Rattle.byte_ports.specs.Ports.{HasCause};
 ghost use Rattle.flow_graph.specs.Control.{code_bytes};
 ghost use Rattle.flow_graph.specs.Graphs.{IsFlowGraph};
 ghost use Rattle.sweep.specs.RunParts.Writing.{HoldsFront, Moves};
-ghost use Rattle.flow_run.specs.Flowing.{WritesFlow, WritesFlowFront};
-ghost use Rattle.flow_run.specs.Lines as spec;
+ghost use Rattle.listing_run.specs.FlowRun.Flowing.{WritesFlow, WritesFlowFront};
+ghost use Rattle.listing_run.specs.FlowRun.Lines as spec;
 
 use byte_ports::{Failed, Sink};
 use decoder::DecodeError;
@@ -19,7 +19,7 @@ use sweep::sweep_text::{CHUNK_LEN, Chunk, LINE_LEN, append, append_address, flow
 use x86_values::Bits;
 
 /// The word for the flow of an instruction, or for why none is read.
-#[tactic(auto, unfolding(crate::specs::Lines::flow_word))]
+#[tactic(auto, unfolding(crate::specs::FlowRun::Lines::flow_word))]
 fn flow_word(flow: Result<Flow, DecodeError>) -> &'static [u8]
     ensures word { result.now ≡ spec.flow_word flow }
     ensures short { length result.now ≤ 19 }
@@ -32,7 +32,7 @@ fn flow_word(flow: Result<Flow, DecodeError>) -> &'static [u8]
 }
 
 /// Appends the line of a reached offset.
-#[tactic(auto, unfolding(crate::specs::Lines::flow_line))]
+#[tactic(auto, unfolding(crate::specs::FlowRun::Lines::flow_line))]
 fn append_flow_line(
     pending: &mut Chunk,
     bits: Bits,

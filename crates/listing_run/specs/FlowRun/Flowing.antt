@@ -8,7 +8,7 @@ use Rattle.sweep.specs.declared.run_parts.status.Status.{Status}
 use Rattle.sweep.specs.declared.run_parts.status.Status.TheVariants.{Done, ReadFault, WriteFault, Memory, TooLarge}
 use Rattle.sweep.specs.RunParts.Reads.{whole_limit, ReadsAll, ReadsTooMany}
 use Rattle.sweep.specs.RunParts.Writing.{HoldsFront}
-use Rattle.flow_run.specs.Lines.{Stop, AreStops, stop_lines}
+use Rattle.listing_run.specs.FlowRun.Lines.{Stop, AreStops, stop_lines}
 
 -- the lines of all reached offsets of some code were written
 pub record WritesFlow (bits : Bits) (base : ℕ) (bytes : List ℕ) (held held' : Option (List ℕ)) : Type 0 where

@@ -3,9 +3,9 @@
 ghost use Rattle.std.specs.Prelude.{◌≡◌};
 ghost use Rattle.byte_ports.specs.Ports.{Rose};
 ghost use Rattle.sweep.specs.RunParts.Reads.{whole_limit, Takes, EndsAtFault};
-ghost use Rattle.flow_run.specs.Flowing.{FlowsAs, CompletesFlow};
+ghost use Rattle.listing_run.specs.FlowRun.Flowing.{FlowsAs, CompletesFlow};
 
-use crate::lines::write_flow;
+use crate::flow_run::lines::write_flow;
 use byte_ports::{Sink, Source};
 use flow_graph::flow_graph_in;
 use sweep::run_parts::laws::told_bytes_are_read;

@@ -1,8 +1,8 @@
 use Rattle.std.proofs.Common.{◌≤◌, ℕ, List}
 use Rattle.flow_graph.specs.Control.{code_bytes}
 use Rattle.flow_graph.specs.Graphs.{IsFlowGraph}
-use Rattle.flow_run.proofs.FlowLines.{Progress}
-use Rattle.flow_run.proofs.lines.write_flow.Given as goal
+use Rattle.listing_run.proofs.FlowRun.FlowLines.{Progress}
+use Rattle.listing_run.proofs.flow_run.lines.write_flow.Given as goal
 
 abbrev pub invariant-loop-k : goal.invariant-loop-k
 invariant-loop-k g l = record {

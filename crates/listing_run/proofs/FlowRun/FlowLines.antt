@@ -11,8 +11,8 @@ use Rattle.flow_graph.specs.Told.{told_at}
 use Rattle.flow_graph.specs.Graphs.{Graph, IsFlowGraph}
 use Rattle.sweep.specs.RunParts.Facts.{HeldFacts}
 use Rattle.sweep.specs.RunParts.Writing.{HoldsFront, Moves, HeldText}
-use Rattle.flow_run.specs.Lines.{Stop, flow_word, flow_line, stop_line, stop_lines, AreStops}
-use Rattle.flow_run.specs.Flowing.{WritesFlow, WritesFlowFront}
+use Rattle.listing_run.specs.FlowRun.Lines.{Stop, flow_word, flow_line, stop_line, stop_lines, AreStops}
+use Rattle.listing_run.specs.FlowRun.Flowing.{WritesFlow, WritesFlowFront}
 
 -- the first so many offsets have their lines: those went to the sink or are held back
 pub record Progress (code : CodeBytes) (graph : Graph) (count : ℕ) (start held : Option (List ℕ)) (pending : List ℕ) : Type 0 where
