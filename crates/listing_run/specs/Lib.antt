@@ -5,3 +5,4 @@ pub mod Texts
 pub mod Taken
 pub mod AsmRun
 pub mod FlowRun
+pub mod SampleRun

@@ -18,7 +18,7 @@ use Rattle.listing_run.specs.FlowRun.Flowing.{FlowsAs, CompletesFlow}
 use Rattle.listing_run.specs.AsmRun.Assembling.{AssemblesAs, CompletesAssembling}
 use Rattle.moving_run.specs.declared.moving.Wanted.TheVariants.{MovedBytes, MapLines}
 use Rattle.moving_run.specs.Moving.{MovesAs, CompletesMoving}
-use Rattle.sample_run.specs.Sample.{SamplesAs, CompletesSample}
+use Rattle.listing_run.specs.SampleRun.Sample.{SamplesAs, CompletesSample}
 use Rattle.moving_run.specs.SlotsRun.Slotting.{SlotsAs, CompletesSlots}
 use Rattle.listing_run.specs.Texts.{help_text, version_text}
 use Rattle.listing_run.specs.Rows.{rows_text}

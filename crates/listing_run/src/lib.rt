@@ -1,6 +1,7 @@
 //! The program's one call: it does what the words of a command line ask for, between a source and two sinks.
 #![tactic(auto)]
 
+pub mod sample_run;
 pub mod flow_run;
 pub mod asm_run;
 mod program;

@@ -21,7 +21,7 @@ use command_words::{BlockWords, Command, command_of};
 use crate::flow_run::flow_code;
 use moving_run::{Wanted, move_code};
 use sweep::run_parts::{Status, put_all, say, status_line};
-use sample_run::sample;
+use crate::sample_run::sample;
 use moving_run::slots_run::slot_code;
 use std::alloc::Global;
 use sweep::laws::listings_come_to_their_end;
