@@ -10,3 +10,4 @@ mod NextItem
 mod FormedRegisters
 pub mod Formed
 pub mod OneReading
+pub mod ByteOffsets

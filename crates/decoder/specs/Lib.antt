@@ -4,3 +4,4 @@ pub mod Cells
 pub mod Cursor
 pub mod Items
 pub mod OneReading
+pub mod ByteOffsets

@@ -1,6 +1,7 @@
 //! Reading instructions from bytes (Intel SDM volume 2, 2.1 to 2.3). `laws` has that no bytes have two spellings.
 #![tactic(auto)]
 
+pub mod byte_offsets;
 mod bare;
 mod by_mode;
 mod cell;

@@ -15,7 +15,7 @@ pub use Rattle.row_relation.specs.Spells
 pub use Rattle.decoder.specs.Answer as Decoding
 pub use Rattle.decoder.specs.Items as DecodedItems
 pub use Rattle.decoder.specs.Cursor
-pub use Rattle.byte_offsets.specs.Offsets as PartOffsets
+pub use Rattle.decoder.specs.ByteOffsets.Offsets as PartOffsets
 pub use Rattle.code_items.specs.Sound as CodeLists
 pub use Rattle.code_items.specs.Items as CodeItems
 pub use Rattle.code_items.specs.Iteration

@@ -35,7 +35,7 @@ pub mod decoding {
 
 /// Where prefixes, opcode, ModRM, SIB, displacement and each immediate of an instruction stand in its bytes.
 pub mod parts {
-    pub use byte_offsets::{ByteOffsets, Part, laws, offsets};
+    pub use decoder::byte_offsets::{ByteOffsets, Part, laws, offsets};
 }
 
 /// Writing instructions: the shortest bytes of one, and its parts.

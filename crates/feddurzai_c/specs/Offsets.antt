@@ -3,9 +3,9 @@ use Rattle.std.specs.Prelude.{◌≡◌, ℕ, ℤ, pos, List, Option, Some, None
 use Rattle.x86_values.specs.declared.Bits.{Bits}
 use Rattle.decoder.specs.declared.DecodeError.{DecodeError}
 use Rattle.decoder.specs.declared.DecodeError.TheVariants.{Invalid as InvalidError, TooShort as TooShortError}
-use Rattle.byte_offsets.specs.declared.layout.Part.{Part}
-use Rattle.byte_offsets.specs.declared.layout.ByteOffsets.{ByteOffsets}
-use Rattle.byte_offsets.specs.Offsets.{part, IsOffsetsAnswer}
+use Rattle.decoder.specs.declared.byte_offsets.layout.Part.{Part}
+use Rattle.decoder.specs.declared.byte_offsets.layout.ByteOffsets.{ByteOffsets}
+use Rattle.decoder.specs.ByteOffsets.Offsets.{part, IsOffsetsAnswer}
 use Rattle.feddurzai_c.specs.declared.refusal.Refusal.TheVariants.{Mode, Invalid, TooShort}
 use Rattle.feddurzai_c.specs.declared.flat.FlatPart.{FlatPart}
 use Rattle.feddurzai_c.specs.declared.flat.FlatOffsets.{FlatOffsets}

@@ -7,7 +7,7 @@ ghost use Rattle.feddurzai_c.specs.Offsets as spec;
 use crate::flat::{FlatOffsets, FlatPart};
 use crate::numbers::bits_numbered;
 use crate::refusal::{Refusal, refusal_status};
-use byte_offsets::{ByteOffsets, Part, offsets};
+use decoder::byte_offsets::{ByteOffsets, Part, offsets};
 use decoder::DecodeError;
 use x86_values::Bits;
 

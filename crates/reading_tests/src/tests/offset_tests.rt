@@ -1,7 +1,7 @@
 //! Where the parts of instructions stand in their bytes, counted by hand.
 
 use crate::tests::compare::{same_text, same_value};
-use byte_offsets::{ByteOffsets, Part, offsets};
+use decoder::byte_offsets::{ByteOffsets, Part, offsets};
 use decoder::DecodeError;
 use std::alloc::Global;
 use std::process::Abort;

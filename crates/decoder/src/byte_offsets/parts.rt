@@ -1,0 +1,64 @@
+//! The parts of the instruction at the front of some bytes.
+
+ghost use Rattle.std.specs.Prelude.{◌≡◌, ◌+◌, ◌<◌, ◌≤◌, length, IsTrue};
+ghost use Rattle.instruction_parts.specs.Bytes.{lead_bytes};
+ghost use Rattle.instruction_parts.specs.Front.{front_of, Known};
+ghost use Rattle.row_relation.specs.Spells.{Read};
+ghost use Rattle.opcode_rows.specs.Allowed.{is_well_formed};
+ghost use Rattle.opcode_rows.specs.Reading.{IsRead};
+ghost use Rattle.decoder.specs.ByteOffsets.Offsets.{AreOffsets, IsOffsetsAnswer};
+
+use crate::byte_offsets::layout::{ByteOffsets, offsets_by};
+use crate::byte_offsets::tail::lengths_in;
+use crate::{DecodeError, decode_in};
+use instruction_parts::PrefixState;
+use instruction_parts::sizes::state_size;
+use opcode_rows::row_of;
+use operand_info::laws::well_formed_codes_are_in_the_table;
+use prefixes::read_front;
+use row_fit::laws::{fits_each_condition, front_is_state};
+use x86_values::{Bits, Decoded};
+
+/// The front of bytes that an instruction is read from.
+fn front_read(bits: Bits, ip: u64, bytes: &[u8], decoded: &Decoded) -> PrefixState
+    requires { IsRead bits ip bytes.now (Read decoded.now) }
+    ensures known { front_of bits bytes.now ≡ Known result }
+    ensures short { result.used < 15 }
+    ensures inside { result.used + 1 ≤ length bytes.now }
+    ensures lead { length (lead_bytes result.map result.vex) ≤ result.used }
+{
+    front_is_state();
+    match read_front(bits, bytes) {
+        Ok(state) => state,
+        Err(_) => unreachable!(),
+    }
+}
+
+/// The parts of an instruction that is read from some bytes.
+fn offsets_read(bits: Bits, ip: u64, bytes: &[u8], decoded: &Decoded) -> ByteOffsets
+    requires reads { IsRead bits ip bytes.now (Read decoded.now) }
+    requires form { IsTrue (is_well_formed decoded.now.instr) }
+    ensures { AreOffsets bits ip bytes.now result }
+{
+    front_is_state();
+    fits_each_condition();
+    well_formed_codes_are_in_the_table();
+    let row = row_of(decoded.instr.code);
+    let state = front_read(bits, ip, bytes, decoded);
+    let (_, tail) = bytes.split_at(usize::from(state.used) + 1);
+    let lengths = lengths_in(bits, &row, &state, tail);
+    offsets_by(lengths, state_size(bits, &row, &state), &row)
+}
+
+/// Where the parts of the instruction at the front of some bytes stand. `ip` is the address of the first byte; only what the instruction means depends on it, not
+/// where its parts stand.
+///
+/// The answer is an error exactly where none is read: that of [`decode_in`].
+pub fn offsets(bits: Bits, ip: u64, bytes: &[u8]) -> Result<ByteOffsets, DecodeError>
+    ensures { IsOffsetsAnswer bits ip bytes.now result }
+{
+    match decode_in(bits, ip, bytes) {
+        Ok(decoded) => Ok(offsets_read(bits, ip, bytes, &decoded)),
+        Err(why) => Err(why),
+    }
+}
