@@ -2,10 +2,7 @@
 
 ghost use Rattle.std.specs.Prelude.{IsTrue};
 ghost use Rattle.std.specs.List.{list_all};
-ghost use Rattle.rows_integer.specs.Table.{table as integer_rows};
-ghost use Rattle.rows_x87.specs.Table.{table as x87_rows};
-ghost use Rattle.rows_sse.specs.Table.{table as sse_rows};
-ghost use Rattle.rows_vex.specs.Table.{table as vex_rows};
+ghost use Rattle.opcode_rows.specs.Parts.{integer_rows, x87_rows, sse_rows, vex_rows};
 ghost use Rattle.att_text.specs.Names.{is_integer, is_x87, has_no_letter_by_size};
 
 /// A name takes a letter by the size of its memory on the integer rows, and on no MMX, SSE or VEX

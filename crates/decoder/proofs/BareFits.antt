@@ -34,10 +34,7 @@ use Rattle.row_lists.specs.RowFields.Holds.{is_vex, map_number, stands_in, opcod
 use Rattle.opcode_rows.proofs.UniqueSpelling.Parts.{legacy-class}
 use Rattle.opcode_rows.specs.UniqueSpelling.FieldsOf.{fields_of, first_byte, repeat_of, size66_of, w_of}
 use Rattle.modrm_sib.specs.Parts.{modrm_of_byte, lead_fits, parts_fit, modrm_in}
-use Rattle.rows_integer.specs.Table.{table as integer_rows, flat_rows as integer_flat}
-use Rattle.rows_x87.specs.Table.{table as x87_rows, flat_rows as x87_flat}
-use Rattle.rows_sse.specs.Table.{table as sse_rows, flat_rows as sse_flat}
-use Rattle.rows_vex.specs.Table.{table as vex_rows, flat_rows as vex_flat}
+use Rattle.opcode_rows.specs.Parts.{integer_rows, integer_flat, x87_rows, x87_flat, sse_rows, sse_flat, vex_rows, vex_flat}
 use Rattle.opcode_rows.specs.Table.{spots, rows_in, table}
 use Rattle.instruction_parts.specs.Kinds.{immediate_width}
 use Rattle.row_meaning.specs.Given.{has_one_immediate}

@@ -8,10 +8,7 @@ use Rattle.instruction_parts.specs.declared.row_types.Row.{Row}
 use Rattle.instruction_parts.specs.Kinds.{method_of}
 use Rattle.plain_spelling.specs.declared.NoSpelling.{NoSpelling}
 use Rattle.plain_spelling.specs.Expressible.{failure}
-use Rattle.rows_integer.specs.Table.{table as integer_rows, flat_rows as integer_flat}
-use Rattle.rows_x87.specs.Table.{table as x87_rows, flat_rows as x87_flat}
-use Rattle.rows_sse.specs.Table.{table as sse_rows, flat_rows as sse_flat}
-use Rattle.rows_vex.specs.Table.{table as vex_rows, flat_rows as vex_flat}
+use Rattle.opcode_rows.specs.Parts.{integer_rows, integer_flat, x87_rows, x87_flat, sse_rows, sse_flat, vex_rows, vex_flat}
 use Rattle.opcode_rows.specs.declared.spot.Part.{Part}
 use Rattle.opcode_rows.specs.declared.spot.Part.TheVariants as part
 use Rattle.opcode_rows.specs.Table.{part_table, table}

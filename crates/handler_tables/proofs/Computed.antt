@@ -5,10 +5,7 @@ use Rattle.instruction_parts.specs.Sizes.{exists_in}
 use Rattle.row_lists.specs.RowFields.Holds.{prefix_holds, w_holds, rex_b_holds}
 use Rattle.row_lists.specs.RowFields.Masks.{nth, allows, meets, two, three, four, reg_mask, rm_mask, marked_size, size_mask, masks}
 use Rattle.row_lists.specs.RowFields.FieldNumbers.{size_number}
-use Rattle.rows_integer.specs.Table.{table as integer_rows, flat_rows as integer_flat}
-use Rattle.rows_x87.specs.Table.{table as x87_rows, flat_rows as x87_flat}
-use Rattle.rows_sse.specs.Table.{table as sse_rows, flat_rows as sse_flat}
-use Rattle.rows_vex.specs.Table.{table as vex_rows, flat_rows as vex_flat}
+use Rattle.opcode_rows.specs.Parts.{integer_rows, integer_flat, x87_rows, x87_flat, sse_rows, sse_flat, vex_rows, vex_flat}
 use Rattle.opcode_rows.specs.Table.{spots, rows_in, table}
 use Rattle.handler_tables.specs.Nodes.{nodes2, nodes3, nodes4, nodes8, nodes256, splits2, splits3, splits4, splits8}
 use Rattle.handler_tables.proofs.Tree.{mask_of, is_mode_split, entry_ok, each_ok, split_ok, node_ok, ok, get_in, under, both_ok, cell_ok, kind_ok, root_entry, tables_ok}

@@ -8,10 +8,7 @@ use Rattle.std.proofs.lemmas.List.{append_assoc}
 use Rattle.x86_values.specs.declared.Bits.{Bits}
 use Rattle.x86_values.specs.declared.Instr.{Instr}
 use Rattle.instruction_parts.specs.declared.row_types.Row.{Row}
-use Rattle.rows_integer.specs.Table.{table as integer_rows, flat_rows as integer_flat}
-use Rattle.rows_x87.specs.Table.{table as x87_rows, flat_rows as x87_flat}
-use Rattle.rows_sse.specs.Table.{table as sse_rows, flat_rows as sse_flat}
-use Rattle.rows_vex.specs.Table.{table as vex_rows, flat_rows as vex_flat}
+use Rattle.opcode_rows.specs.Parts.{integer_rows, integer_flat, x87_rows, x87_flat, sse_rows, sse_flat, vex_rows, vex_flat}
 use Rattle.opcode_rows.specs.declared.generated_spots.TheConstants.{ROWS, VERSION1_ROWS}
 use Rattle.opcode_rows.proofs.JoinFacts.{length-table}
 use Rattle.opcode_rows.specs.Table.{spots, rows_in, table, names, name_of}

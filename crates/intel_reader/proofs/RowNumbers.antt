@@ -9,10 +9,7 @@ use Rattle.instruction_parts.specs.Sizes.{exists_in, operand_size}
 use Rattle.plain_spelling.specs.Forms.{is_allowed_in, is_variant_of}
 use Rattle.plain_spelling.specs.PlainFront.{asks_rex_w, asks_66}
 use Rattle.plain_spelling.specs.PlainTail.{plain_size}
-use Rattle.rows_integer.specs.Table.{table as integer_rows, flat_rows as integer_flat}
-use Rattle.rows_x87.specs.Table.{table as x87_rows, flat_rows as x87_flat}
-use Rattle.rows_sse.specs.Table.{table as sse_rows, flat_rows as sse_flat}
-use Rattle.rows_vex.specs.Table.{table as vex_rows, flat_rows as vex_flat}
+use Rattle.opcode_rows.specs.Parts.{integer_rows, integer_flat, x87_rows, x87_flat, sse_rows, sse_flat, vex_rows, vex_flat}
 use Rattle.opcode_rows.specs.Table.{spots, rows_in, table}
 use Rattle.intel_reader.specs.Operands.{sample, is_of_size, is_byte, is_xmm, is_other, names_operand, class_has_number, has_fixed, names_class, words_suit_register, is_near, admits, by_class, row_flags, number_of, row_numbers}
 

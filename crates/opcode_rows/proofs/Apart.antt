@@ -9,10 +9,7 @@ use Rattle.row_lists.proofs.RowFields.Holding.{apart}
 use Rattle.row_lists.specs.RowFields.Masks.{nth, allows, meets, two, three, four, reg_mask, rm_mask, marked_size, size_mask, masks}
 use Rattle.row_lists.proofs.RowFields.Apart.{disjoint, mask_apart, masks_apart, apart_from, all_apart, cell_apart, at_most_one}
 use Rattle.opcode_rows.proofs.Blocks.{each_of_256, each_of_16, near_rows, apart_by_16, apart-by_16}
-use Rattle.rows_integer.specs.Table.{table as integer_rows, flat_rows as integer_flat}
-use Rattle.rows_x87.specs.Table.{table as x87_rows, flat_rows as x87_flat}
-use Rattle.rows_sse.specs.Table.{table as sse_rows, flat_rows as sse_flat}
-use Rattle.rows_vex.specs.Table.{table as vex_rows, flat_rows as vex_flat}
+use Rattle.opcode_rows.specs.Parts.{integer_rows, integer_flat, x87_rows, x87_flat, sse_rows, sse_flat, vex_rows, vex_flat}
 use Rattle.opcode_rows.specs.Table.{spots, table}
 use Rattle.opcode_rows.proofs.Woven.{woven, woven_table, by_walk}
 

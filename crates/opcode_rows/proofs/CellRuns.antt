@@ -12,10 +12,7 @@ use Rattle.row_lists.specs.Cells.{map_index, cell_span, IsRunOf}
 use Rattle.row_lists.specs.Runs.{run_at, spans_fit}
 use Rattle.opcode_rows.proofs.Blocks.{each_of_256, each_of_16, near_rows, fit_by_16, fit-by_16}
 use Rattle.row_lists.proofs.Runs.{map_index-lt, length-cell, row-of_span, run-of_span}
-use Rattle.rows_integer.specs.Table.{table as integer_rows, flat_rows as integer_flat}
-use Rattle.rows_x87.specs.Table.{table as x87_rows, flat_rows as x87_flat}
-use Rattle.rows_sse.specs.Table.{table as sse_rows, flat_rows as sse_flat}
-use Rattle.rows_vex.specs.Table.{table as vex_rows, flat_rows as vex_flat}
+use Rattle.opcode_rows.specs.Parts.{integer_rows, integer_flat, x87_rows, x87_flat, sse_rows, sse_flat, vex_rows, vex_flat}
 use Rattle.opcode_rows.specs.declared.generated_spots.TheConstants.{ROWS}
 use Rattle.opcode_rows.proofs.Woven.{woven, woven_table, by_walk}
 use Rattle.opcode_rows.specs.Table.{spots, table, cell, legacy_spans, vex_spans, table_spans}

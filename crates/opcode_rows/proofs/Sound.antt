@@ -7,10 +7,7 @@ use Rattle.instruction_parts.specs.Counting.{is_segment, is_legacy_prefix, is_pr
 use Rattle.instruction_parts.specs.Sizes.{exists_in}
 use Rattle.row_fit.specs.Fits.{immediate_bytes, immediates_bytes}
 use Rattle.row_fit.specs.Sound.{has_four_operands, opcodes_are_bytes, kind_is_proper, size_says_w, rule_in_range, plus_is_proper, opcode_is_proper, legacy_is_proper, vex_is_proper, opcode_is_no_prefix_in, opcode_is_no_prefix, operands_are_proper, operands_are_apart, immediates_are_short, sound}
-use Rattle.rows_integer.specs.Table.{table as integer_rows, flat_rows as integer_flat}
-use Rattle.rows_x87.specs.Table.{table as x87_rows, flat_rows as x87_flat}
-use Rattle.rows_sse.specs.Table.{table as sse_rows, flat_rows as sse_flat}
-use Rattle.rows_vex.specs.Table.{table as vex_rows, flat_rows as vex_flat}
+use Rattle.opcode_rows.specs.Parts.{integer_rows, integer_flat, x87_rows, x87_flat, sse_rows, sse_flat, vex_rows, vex_flat}
 use Rattle.opcode_rows.specs.declared.spot.Part.{Part}
 use Rattle.opcode_rows.specs.declared.spot.Part.TheVariants as part
 use Rattle.opcode_rows.specs.Table.{part_table, table}

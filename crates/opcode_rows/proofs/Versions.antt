@@ -17,10 +17,7 @@ use Rattle.instruction_parts.specs.Bytes.{state_of}
 use Rattle.row_lists.specs.RowFields.Holds.{is_vex, map_number, opcode_holds, stands_in}
 use Rattle.row_lists.specs.Cells.{stands_in_cell}
 use Rattle.version1_rows.specs.Table.{table as first_rows, names as first_names, legacy_rows as first_legacy, vex_rows as first_vex}
-use Rattle.rows_integer.specs.Table.{table as integer_rows, flat_rows as integer_flat}
-use Rattle.rows_x87.specs.Table.{table as x87_rows, flat_rows as x87_flat}
-use Rattle.rows_sse.specs.Table.{table as sse_rows, flat_rows as sse_flat}
-use Rattle.rows_vex.specs.Table.{table as vex_rows, flat_rows as vex_flat}
+use Rattle.opcode_rows.specs.Parts.{integer_rows, integer_flat, x87_rows, x87_flat, sse_rows, sse_flat, vex_rows, vex_flat}
 use Rattle.opcode_rows.specs.declared.generated_spots.TheConstants.{VERSION1_ROWS}
 use Rattle.opcode_rows.specs.Table.{spots, table, names}
 use Rattle.opcode_rows.specs.Versions.{version1, version1_names, is_within, is_added_cell, kind_behind, is_added_state}

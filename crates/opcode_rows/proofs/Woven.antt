@@ -3,10 +3,7 @@ use Rattle.std.proofs.Common.{◌≡◌, ℕ, zero, suc, Bool, true, ◌&&◌, L
 use Rattle.std.proofs.lemmas.Bool.{and_parts}
 use Rattle.std.specs.Prelude.{Option, Some, None, ◌==◌}
 use Rattle.instruction_parts.specs.declared.row_types.Row.{Row}
-use Rattle.rows_integer.specs.Table.{table as integer_rows}
-use Rattle.rows_x87.specs.Table.{table as x87_rows}
-use Rattle.rows_sse.specs.Table.{table as sse_rows}
-use Rattle.rows_vex.specs.Table.{table as vex_rows}
+use Rattle.opcode_rows.specs.Parts.{integer_rows, x87_rows, sse_rows, vex_rows}
 use Rattle.opcode_rows.specs.declared.spot.Spot.{Spot}
 use Rattle.opcode_rows.specs.declared.spot.Part.{Part}
 use Rattle.opcode_rows.specs.declared.spot.Part.TheVariants as part

@@ -9,10 +9,7 @@ use Rattle.row_fit.specs.Fits.{size_fits, is_opcode}
 use Rattle.plain_spelling.specs.PlainFront.{asks_rex_w, asks_vex_w, asks_66}
 use Rattle.plain_spelling.specs.PlainTail.{plain_size}
 use Rattle.plain_spelling.specs.Writable.{plain_w, has_plain_size, says_w, file_is_told, width_is_told, value_is_told, kind_is_told, class_allows_size, lock_is_legacy, opcode_is_allowed, opcode_is_plain, nop_is_bare, rule_is_plain, place_is_plain, gather_is_whole, writable_in, writable}
-use Rattle.rows_integer.specs.Table.{table as integer_rows, flat_rows as integer_flat}
-use Rattle.rows_x87.specs.Table.{table as x87_rows, flat_rows as x87_flat}
-use Rattle.rows_sse.specs.Table.{table as sse_rows, flat_rows as sse_flat}
-use Rattle.rows_vex.specs.Table.{table as vex_rows, flat_rows as vex_flat}
+use Rattle.opcode_rows.specs.Parts.{integer_rows, integer_flat, x87_rows, x87_flat, sse_rows, sse_flat, vex_rows, vex_flat}
 use Rattle.opcode_rows.specs.declared.spot.Part.{Part}
 use Rattle.opcode_rows.specs.declared.spot.Part.TheVariants as part
 use Rattle.opcode_rows.specs.Table.{part_table, table}

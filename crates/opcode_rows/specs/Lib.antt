@@ -1,3 +1,4 @@
+pub mod Parts
 pub mod Table
 pub mod NameLines
 pub mod Kept

@@ -6,10 +6,7 @@ use Rattle.instruction_parts.specs.declared.row_types.RowKind.TheVariants as kin
 use Rattle.instruction_parts.specs.declared.row_types.Map.{Map}
 use Rattle.row_lists.specs.declared.Span.{Span}
 use Rattle.row_lists.specs.Cells.{cell_of}
-use Rattle.rows_integer.specs.Table.{table as integer_rows}
-use Rattle.rows_x87.specs.Table.{table as x87_rows}
-use Rattle.rows_sse.specs.Table.{table as sse_rows}
-use Rattle.rows_vex.specs.Table.{table as vex_rows}
+use Rattle.opcode_rows.specs.Parts.{integer_rows, x87_rows, sse_rows, vex_rows}
 use Rattle.opcode_rows.specs.declared.spot.Part.{Part}
 use Rattle.opcode_rows.specs.declared.spot.Part.TheVariants as part
 use Rattle.opcode_rows.specs.declared.spot.Spot.{Spot}

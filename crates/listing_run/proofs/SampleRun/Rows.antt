@@ -18,10 +18,7 @@ use Rattle.instruction_parts.specs.declared.row_types.WBit.TheVariants.{None as 
 use Rattle.instruction_parts.specs.declared.row_types.LBit.TheVariants.{None as NoL, L128}
 use Rattle.instruction_parts.specs.declared.row_types.OpKind.{OpKind}
 use Rattle.instruction_parts.specs.declared.row_types.OpKind.TheVariants.{Absent, Ev, Gv, Zv, Iv, Jb, Jz, Vx, Hx, Wx}
-use Rattle.rows_integer.specs.Table.{table as integer_rows, flat_rows as integer_flat}
-use Rattle.rows_x87.specs.Table.{table as x87_rows, flat_rows as x87_flat}
-use Rattle.rows_sse.specs.Table.{table as sse_rows, flat_rows as sse_flat}
-use Rattle.rows_vex.specs.Table.{table as vex_rows, flat_rows as vex_flat}
+use Rattle.opcode_rows.specs.Parts.{integer_rows, integer_flat, x87_rows, x87_flat, sse_rows, sse_flat, vex_rows, vex_flat}
 use Rattle.opcode_rows.specs.Table.{spots, rows_in, table}
 
 -- a legacy row of the one-byte map

@@ -8,10 +8,7 @@ use Rattle.instruction_parts.specs.declared.row_types.Map.{Map}
 use Rattle.instruction_parts.specs.declared.row_types.Map.TheVariants.{One, M0f}
 use Rattle.instruction_parts.specs.declared.row_types.OpKind.{OpKind}
 use Rattle.instruction_parts.specs.declared.row_types.OpKind.TheVariants.{Jb, Jz}
-use Rattle.rows_integer.specs.Table.{table as integer_rows, flat_rows as integer_flat}
-use Rattle.rows_x87.specs.Table.{table as x87_rows, flat_rows as x87_flat}
-use Rattle.rows_sse.specs.Table.{table as sse_rows, flat_rows as sse_flat}
-use Rattle.rows_vex.specs.Table.{table as vex_rows, flat_rows as vex_flat}
+use Rattle.opcode_rows.specs.Parts.{integer_rows, integer_flat, x87_rows, x87_flat, sse_rows, sse_flat, vex_rows, vex_flat}
 use Rattle.opcode_rows.specs.Table.{spots, rows_in, table}
 use Rattle.move_goals.specs.declared.branch_forms.branch.Action.TheVariants.{Jump, Call, Condition, Count}
 use Rattle.move_goals.specs.declared.branch_forms.generated_codes.TheConstants.{JMP_REL8, JMP_REL16, CALL_REL16, JO_REL8, JO_REL16, LOOPNE_REL8, JMP_RM64, CALL_RM64}

@@ -4,10 +4,7 @@ use Rattle.std.specs.Prelude.{Option, Some, None}
 use Rattle.std.proofs.lemmas.Bool.{and_parts, eqb-true}
 use Rattle.x86_values.specs.declared.Instr.{Instr}
 use Rattle.instruction_parts.specs.declared.row_types.Row.{Row}
-use Rattle.rows_integer.specs.Table.{table as integer_rows, flat_rows as integer_flat}
-use Rattle.rows_x87.specs.Table.{table as x87_rows, flat_rows as x87_flat}
-use Rattle.rows_sse.specs.Table.{table as sse_rows, flat_rows as sse_flat}
-use Rattle.rows_vex.specs.Table.{table as vex_rows, flat_rows as vex_flat}
+use Rattle.opcode_rows.specs.Parts.{integer_rows, integer_flat, x87_rows, x87_flat, sse_rows, sse_flat, vex_rows, vex_flat}
 use Rattle.opcode_rows.specs.Table.{spots, rows_in, table}
 use Rattle.move_goals.specs.declared.branch_forms.branch.RelativeBranch.{RelativeBranch}
 use Rattle.move_goals.specs.BranchForms.Branches.{size_of, short_action, near_action, branch_in, branch_of, size_number, short_code, near_code, own_code}

@@ -3,10 +3,7 @@ use Rattle.std.proofs.Common.{◌≡◌, ℕ, Bool, true, refl, slice_get}
 use Rattle.std.specs.Prelude.{Some, IsTrue}
 use Rattle.instruction_parts.specs.declared.row_types.Row.{Row}
 use Rattle.row_notation.specs.Shape.{size_prefix_word, plus_word, imm_word_of, imm_word, shape, is_opcode_of_map, is_rule_in_range, is_stack_proper, is_legacy_proper, is_vex_proper, is_proper}
-use Rattle.rows_integer.specs.Table.{table as integer_rows, flat_rows as integer_flat}
-use Rattle.rows_x87.specs.Table.{table as x87_rows, flat_rows as x87_flat}
-use Rattle.rows_sse.specs.Table.{table as sse_rows, flat_rows as sse_flat}
-use Rattle.rows_vex.specs.Table.{table as vex_rows, flat_rows as vex_flat}
+use Rattle.opcode_rows.specs.Parts.{integer_rows, integer_flat, x87_rows, x87_flat, sse_rows, sse_flat, vex_rows, vex_flat}
 use Rattle.opcode_rows.specs.declared.spot.Part.{Part}
 use Rattle.opcode_rows.specs.declared.spot.Part.TheVariants as part
 use Rattle.opcode_rows.specs.Table.{part_table, table}
