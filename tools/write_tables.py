@@ -20,8 +20,8 @@ The entries are read once (docs/entries.md says how a line is read) and expanded
   bare      crates/decoder/src/generated_bare_rows.rt
   names     crates/intel_reader/src/generated_buckets.rt
   operands  crates/intel_reader/src/generated_operands.rt
-  branches  crates/branch_forms/src/generated_codes.rt
-  effects   crates/instruction_info/src/generated_effects.rt, from the lines in crates/effect_entries/data too (docs/instruction-info.md)
+  branches  crates/move_goals/src/branch_forms/generated_codes.rt
+  effects   crates/instruction_info/src/generated_effects.rt, from the lines in crates/row_entries/data too (docs/instruction-info.md)
 
 Nothing rests on this program: the crates prove of what it writes what their contracts and laws say, and row_entries compares the entries with the
 rows. The exit status is 0 where all files are as the entries say, with --check 1 where a file differs (each is named), and 2 where a line is no

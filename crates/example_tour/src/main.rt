@@ -2,6 +2,7 @@
 //! away that its call needs another form.
 #![tactic(auto)]
 
+mod first_client;
 mod show;
 
 use feddurzai::encoding::encode;
@@ -19,7 +20,8 @@ fn main(rt: HostRuntime) -> anyhow::Result<()> {
     let (bits, old, new) = (Bits::B64, 0x40_1000, 0x7fff_0000_0000);
     show(&rt, bits, old, &FUNCTION)?;
     show_made(&rt, bits, old)?;
-    show_moved(&rt, bits, old, new)
+    show_moved(&rt, bits, old, new)?;
+    first_client::run(&rt)
 }
 
 /// Makes `add r12, rax` and shows its bytes and what is read of them.

@@ -1,8 +1,10 @@
-//! Compares the opcode table with the entries that it is made from: the files in data/, as docs/entries.md says how they are read.
+//! Compares the generated tables with the files in data/ that they are made from: the opcode table with the entries that docs/entries.md describes,
+//! and what `instruction_info` says of each row with the lines that docs/instruction-info.md describes.
 //!
-//! It prints how many entries and rows of each file agree, and ends with an error at the first row that is not its entry's.
+//! It prints how many entries and rows of each file agree, and ends with an error at the first row that differs.
 #![tactic(auto)]
 
+mod effect_entries;
 mod entry;
 mod merging;
 mod rows;
@@ -13,6 +15,7 @@ mod variants;
 mod words;
 
 use anyhow::{Result, bail};
+use effect_entries::compare_instruction_info;
 use merging::merge;
 use opcode_rows::{ROWS, name};
 use instruction_parts::row_types::RowKind;
@@ -132,5 +135,5 @@ fn main(rt: HostRuntime) -> Result<()> {
     agree(&all)?;
     let count = all.len();
     println!(rt; "{entries} entries agree with the {count} rows of the table")?;
-    Ok(())
+    compare_instruction_info(&rt)
 }

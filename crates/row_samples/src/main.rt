@@ -1,11 +1,12 @@
 //! One instruction of each row of the table, in each mode in which the row exists: it is made from the row's operand kinds, encoded, and
 //! read again by the three decoding calls, from its bytes and from its bytes without the last one. For each mode a line says how many rows
-//! there are and on how many all calls agree; each other row has a line of its own.
+//! there are and on how many all calls agree; each other row has a line of its own. The bytes of standard input follow, with what is read of them.
 #![tactic(auto)]
 
 ghost use Rattle.std.specs.Prelude.{◌<◌};
 
 mod reading;
+mod reading_examples;
 mod sample;
 
 use encoder::encode;
@@ -13,6 +14,7 @@ use instruction_parts::sizes::exists_in;
 use opcode_rows::{ROWS, name, row_of};
 use reading::{Answers, answers};
 use instruction_parts::row_types::Row;
+use reading_examples::tell_lines;
 use sample::sample;
 use x86_values::{Bits, Code, Instr, same};
 
@@ -110,5 +112,5 @@ fn main(rt: HostRuntime) -> anyhow::Result<()> {
     for bits in [Bits::B16, Bits::B32, Bits::B64] {
         tell_mode(&rt, bits)?;
     }
-    Ok(())
+    tell_lines(&rt)
 }

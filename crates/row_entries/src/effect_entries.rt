@@ -2,7 +2,6 @@
 //! are read.
 //!
 //! It prints of how many rows each file speaks, and ends with an error at the first row of which the lines say something else.
-#![tactic(auto)]
 
 mod lines;
 mod words;
@@ -18,7 +17,11 @@ use words::{Told, features_in, is_told};
 use x86_values::{Code, DispSize, Instr, Mem, Operand, Register, Rep};
 
 /// The files of effects, of which one at most speaks of a row.
-const FILES: [&str; 3] = ["integer.txt", "x87.txt", "vector.txt"];
+const FILES: [&str; 3] = [
+    "effects_integer.txt",
+    "effects_x87.txt",
+    "effects_vector.txt",
+];
 
 /// The error that something else is said of the row of a code: what is wrong, and the word that is.
 fn refuse(code: Code, wrong: &str, word: &str) -> Result<()>
@@ -194,7 +197,7 @@ fn compare_all_features(rt: &HostRuntime) -> Result<()> {
 }
 
 /// Reads the files and compares their lines with the rows.
-fn main(rt: HostRuntime) -> Result<()> {
-    compare_effects(&rt)?;
-    compare_all_features(&rt)
+pub fn compare_instruction_info(rt: &HostRuntime) -> Result<()> {
+    compare_effects(rt)?;
+    compare_all_features(rt)
 }

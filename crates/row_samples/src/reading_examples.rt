@@ -1,6 +1,5 @@
 //! What is read of some bytes. A line of the input has a mode and the bytes in hexadecimal, as `64 f00100`, and behind ` -> ` the output has the
 //! length and the Intel text of the instruction that stands at their front at address 0, or why there is none.
-#![tactic(auto)]
 
 ghost use Rattle.std.specs.Prelude.{IfOk, IsTrue};
 ghost use Rattle.opcode_rows.specs.Allowed.{is_well_formed};
@@ -43,13 +42,14 @@ fn tell(rt: &HostRuntime, line: &str, bits: Bits, bytes: &[u8]) -> anyhow::Resul
     Ok(())
 }
 
-fn main(rt: HostRuntime) -> anyhow::Result<()> {
+/// Writes what is read of the lines of standard input.
+pub fn tell_lines(rt: &HostRuntime) -> anyhow::Result<()> {
     for line in rt.lines(rt.alloc()) {
         let line = line?;
         let text = line.as_str();
         if let Some((mode, digits)) = text.split_once(' ') {
             let bytes = hex::decode(rt.alloc(), digits)?;
-            tell(&rt, text, mode_of(mode), &bytes)?;
+            tell(rt, text, mode_of(mode), &bytes)?;
         }
     }
     Ok(())

@@ -1,6 +1,5 @@
 //! A first program over the library, as one writes it who proves nothing: the code of standard input is listed, moved, placed in a region, stepped, and
 //! followed.
-#![tactic(auto)]
 
 use feddurzai::decoding::{CodeItem, read_items};
 use feddurzai::flow::{FlowGraph, graph_of_code};
@@ -100,11 +99,12 @@ fn show_graph(rt: &HostRuntime, code: &[u8]) -> anyhow::Result<()> {
     show_reached(rt, &graph)
 }
 
-fn main(rt: HostRuntime) -> anyhow::Result<()> {
+/// Does all of it with the code of standard input.
+pub fn run(rt: &HostRuntime) -> anyhow::Result<()> {
     let mut code = Vec::new(rt.alloc());
     rt.reader().read_to_end(&mut code)?;
-    show_items(&rt, &code)?;
-    show_moved(&rt, &code)?;
-    show_slot(&rt, &code)?;
-    show_graph(&rt, &code)
+    show_items(rt, &code)?;
+    show_moved(rt, &code)?;
+    show_slot(rt, &code)?;
+    show_graph(rt, &code)
 }

@@ -1,6 +1,6 @@
 //! Hooks that are made, removed and made again, with the bytes of their range by hand, and what is refused.
 
-use crate::compare::{are_bytes, same};
+use crate::detours::compare::{are_bytes, same};
 use code_region::NotTaken;
 use detour::{DetourError, StartTarget};
 use detour::hook_slots::{Hook, HookCommand, HookReply, Hooks, InstallError, MakeError, replay};

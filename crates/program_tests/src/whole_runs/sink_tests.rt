@@ -1,5 +1,5 @@
-use crate::compare::same;
-use crate::ports::{FUNCTION, LISTING, run_at_once, run_in_pieces, run_slowly};
+use crate::whole_runs::compare::same;
+use crate::whole_runs::ports::{FUNCTION, LISTING, run_at_once, run_in_pieces, run_slowly};
 use listing_run::{Status, status_number};
 use std::process::Abort;
 use std::str::from_utf8;

@@ -1,5 +1,5 @@
-use crate::compare::same;
-use crate::ports::{run_at_once, run_slowly};
+use crate::whole_runs::compare::same;
+use crate::whole_runs::ports::{run_at_once, run_slowly};
 use decoder::DecodeError;
 use listing_run::Status;
 use std::str::from_utf8;

@@ -1,5 +1,5 @@
-use crate::compare::same;
-use crate::ports::status_of;
+use crate::whole_runs::compare::same;
+use crate::whole_runs::ports::status_of;
 use byte_ports::{CountSink, MemSink, MemSource};
 use listing_run::{Status, status_number};
 use std::str::from_utf8;

@@ -1,6 +1,6 @@
 //! Tables of functions, with the patch and the trampoline that each has, or why it has none.
 
-use crate::compare::{are_bytes, same};
+use crate::detours::compare::{are_bytes, same};
 use decoder::DecodeError;
 use detour::{Detour, DetourError, JumpForm, Parts, StartTarget, detour};
 use std::alloc::Global;
