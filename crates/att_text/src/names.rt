@@ -8,9 +8,9 @@ ghost use Rattle.att_text.specs.Names as spec;
 
 use arrayvec::ArrayVec;
 use instruction_parts::kinds::{File, file_of_kind};
+use instruction_parts::row_types::{Map, OpKind, Row, Size};
 use instruction_parts::sizes::is_vex_row;
 use row_meaning::row_memory_size;
-use instruction_parts::row_types::{Map, OpKind, Row, Size};
 use text_parts::prefix_words::{has_memory, name_text};
 use text_parts::text::{append, append_few};
 use x86_values::{Bits, Instr};

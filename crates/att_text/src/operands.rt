@@ -8,8 +8,8 @@ ghost use Rattle.att_text.specs.Operands as spec;
 
 use crate::names::is_word;
 use arrayvec::ArrayVec;
-use row_fit::tail_fits::kind_at;
 use instruction_parts::row_types::{OpKind, Row};
+use row_fit::tail_fits::kind_at;
 use text_parts::addresses::{
     append_base, append_lone_displacement, append_scale, append_signed_displacement, is_absolute,
     is_instruction_pointer,

@@ -11,8 +11,8 @@ use crate::moved::MovedBlocks;
 use crate::write::write_blocks;
 use arrayvec::ArrayVec;
 use branch_sizes::Plan;
-use move_goals::{Placed, passes};
 use branch_sizes::move_layout::{BlockEnd, lay_out};
+use move_goals::{Placed, passes};
 use std::alloc::Global;
 use x86_values::Bits;
 

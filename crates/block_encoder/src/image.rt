@@ -7,10 +7,10 @@ ghost use Rattle.block_encoder.specs.Bytes.{bytes_from, fragment_bytes};
 ghost use Rattle.block_encoder.specs.Moved as moved;
 ghost use Rattle.block_encoder.specs.Written.{IsPieceAppended, AreAppended, IsFragmentWritten};
 
-use move_goals::branch_forms::{Image, image_of, near_image, short_image};
+use branch_sizes::move_layout::Fragment;
 use branch_sizes::{Form, Reach, reaches};
 use encoder::encode;
-use branch_sizes::move_layout::Fragment;
+use move_goals::branch_forms::{Image, image_of, near_image, short_image};
 use move_goals::moved_targets::{target_reach, with_target};
 use std::alloc::AllocError;
 use x86_values::laws::wrapped_twice;

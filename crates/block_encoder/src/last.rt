@@ -9,10 +9,10 @@ ghost use Rattle.block_encoder.specs.Last as spec;
 
 use crate::laws_below::laws_below;
 use arrayvec::ArrayVec;
-use move_goals::branch_forms::choices_of;
 use branch_sizes::Choice;
-use move_goals::Placed;
 use branch_sizes::move_layout::{block_end, is_far_form, next_multiple_of_8};
+use move_goals::Placed;
+use move_goals::branch_forms::choices_of;
 use move_goals::moved_targets::target_of;
 use x86_values::{Bits, Instr};
 

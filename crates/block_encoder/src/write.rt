@@ -12,10 +12,12 @@ use crate::image::write_image;
 use crate::laws_below::laws_below;
 use crate::moved::MovedBlocks;
 use arrayvec::ArrayVec;
-use branch_sizes::{BlockSpan, Branch, Form, Goal, Plan};
-use move_goals::{Placed, ready_of};
 use branch_sizes::move_layout::{BlockEnd, Fragment, Layout};
-use move_goals::moved_targets::laws::{without_target_all_is_reached, without_target_nothing_changes};
+use branch_sizes::{BlockSpan, Branch, Form, Goal, Plan};
+use move_goals::moved_targets::laws::{
+    without_target_all_is_reached, without_target_nothing_changes,
+};
+use move_goals::{Placed, ready_of};
 use std::alloc::Global;
 use x86_values::{Bits, Instr};
 

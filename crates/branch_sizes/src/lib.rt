@@ -1,10 +1,10 @@
 //! Branch displacement selection: which form each branch of some moved blocks takes.
 #![tactic(auto)]
 
-pub mod move_layout;
 pub mod laws;
 mod layout;
 mod limits;
+pub mod move_layout;
 mod order;
 mod plan;
 mod sums;

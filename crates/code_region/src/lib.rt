@@ -4,12 +4,12 @@
 //! enough. Live blocks never overlap, a released place is used again, and each byte that is not content is CC (INT3).
 #![tactic(auto)]
 
-pub mod live_entries;
 mod blocks;
 mod commands;
 mod contents;
 mod gaps;
 pub mod laws;
+pub mod live_entries;
 mod refusals;
 
 pub use blocks::Region;

@@ -10,9 +10,9 @@ ghost use Rattle.decoder.specs.Cells.{CellIs, cell_count};
 
 use crate::DecodeError;
 use instruction_parts::PrefixState;
+use instruction_parts::row_types::RowKind;
 use modrm_sib::{TailError, read_row};
 use opcode_rows::{ROWS, cell_len, first_of, row};
-use instruction_parts::row_types::RowKind;
 use std::sync::ledger::Ledger;
 use step_count::Steps;
 use x86_values::{Bits, Code};

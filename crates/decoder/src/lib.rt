@@ -1,9 +1,9 @@
 //! Reading instructions from bytes (Intel SDM volume 2, 2.1 to 2.3). `laws` has that no bytes have two spellings.
 #![tactic(auto)]
 
-pub mod byte_offsets;
 mod bare;
 mod by_mode;
+pub mod byte_offsets;
 mod cell;
 mod cursor;
 mod found;
@@ -16,9 +16,9 @@ pub use by_mode::{decode_in, decode_onto};
 pub use cursor::Decoder;
 pub use items::{Item, Items};
 pub use modrm_sib::UNREAD;
+pub use opcode_rows::unique_spelling::laws;
 pub use reading::{decode, decode_counted};
 use thiserror::Error;
-pub use opcode_rows::unique_spelling::laws;
 
 /// Why bytes are not read as an instruction.
 #[derive(Clone, Copy, PartialEq, Eq, Debug, Error)]

@@ -6,9 +6,9 @@ ghost use Rattle.detour.specs.Jumps.{IsNearAnswer};
 ghost use Rattle.detour.specs.Trampoline as trampoline;
 
 use arrayvec::ArrayVec;
-use move_goals::branch_forms::{Action, branch_to, near_code};
 use encoder::encode;
 use move_goals::Placed;
+use move_goals::branch_forms::{Action, branch_to, near_code};
 use move_goals::moved_targets::plain_length;
 use plain_spelling::numbers::push_low_bytes;
 use x86_values::{Bits, Instr};

@@ -1,9 +1,9 @@
 //! Detours: a jump over the first bytes of a function, and a trampoline that does what they did and goes on behind them.
 #![tactic(auto)]
 
-pub mod hook_slots;
 mod entries;
 mod error;
+pub mod hook_slots;
 mod jumps;
 mod laws_below;
 mod making;

@@ -18,6 +18,7 @@ ghost use Rattle.opcode_rows.specs.Reading.{IsRead};
 ghost use Rattle.encoder.specs.Encoding.{encoding, encoded_by, answer_bytes, written_onto, length_of, reading_of_bytes};
 
 use arrayvec::ArrayVec;
+use instruction_parts::row_types::Row;
 use instruction_parts::sizes::{exists_in, is_vex_row};
 use opcode_rows::{ROWS, row_of};
 pub use plain_spelling::NoSpelling;
@@ -26,7 +27,6 @@ use plain_spelling::parts::{PlainParts, legacy_parts, plain_parts};
 use prefixes::append_front;
 use row_fit::fits::reads_gather;
 use row_relation::append_plain_tail;
-use instruction_parts::row_types::Row;
 use x86_values::{Bits, Instr, wrap};
 
 pub mod laws;

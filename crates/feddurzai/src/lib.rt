@@ -80,19 +80,19 @@ pub mod info {
 
 /// The rows of the table, by code, name and opcode byte, and their notation. `mnemonic` is `name`.
 pub mod rows {
-    pub use opcode_rows::{
-        ROWS, VERSION1_ROWS, cell_len, code_of, first_of, laws, name, name as mnemonic, row,
-        row_of, well_formed,
-    };
-    pub use text_rows::row_lines::{notation_of, row_line};
-    pub use row_notation::{NotationFault, read_notation, shape_of, write_notation};
-    pub use row_relation::{
-        ModRm, PrefixState, Sib, Spelling, Vex, row_fits, row_meaning, row_memory_size,
-    };
     pub use instruction_parts::row_types::{
         Class, ImmWord, LBit, Map, Marks, ModRmRule, ModeMask, OpKind, Place, Plus, PlusWord, Row,
         RowKind, RowShape, Size, SizeWord, WBit,
     };
+    pub use opcode_rows::{
+        ROWS, VERSION1_ROWS, cell_len, code_of, first_of, laws, name, name as mnemonic, row,
+        row_of, well_formed,
+    };
+    pub use row_notation::{NotationFault, read_notation, shape_of, write_notation};
+    pub use row_relation::{
+        ModRm, PrefixState, Sib, Spelling, Vex, row_fits, row_meaning, row_memory_size,
+    };
+    pub use text_rows::row_lines::{notation_of, row_line};
 }
 
 /// Moving code to other addresses: `move_code` takes bytes, `move_items` what was read of them, and the others instructions that some bytes spell.
@@ -134,11 +134,11 @@ pub mod streams {
         CountSink, FailAt, Failed, MakeError, MemSink, MemSource, ReaderSource, Sink, SlowSource,
         Source, WriterSink,
     };
+    pub use sweep::sweep_text::laws as sweep_laws;
     pub use sweep::{
         Lines, ListError, StreamError, Style, info_stream, laws, list_stream, recode_stream,
         stream_lines,
     };
-    pub use sweep::sweep_text::laws as sweep_laws;
 }
 
 /// The offsets that control reaches, and their basic blocks.
@@ -150,8 +150,8 @@ pub mod flow {
 /// Hooks: what is written over the first bytes of a function, and the trampoline that does what they did; and those that are live, with their trampolines in
 /// a range of addresses. `laws` has that these stay apart, each with its bytes, after any list of installs and removals.
 pub mod hooks {
-    pub use detour::{Detour, DetourError, JumpForm, Parts, StartTarget, detour};
     pub use detour::hook_slots::{
         Hook, HookCommand, HookReply, Hooks, InstallError, MakeError, NotTaken, laws, replay,
     };
+    pub use detour::{Detour, DetourError, JumpForm, Parts, StartTarget, detour};
 }

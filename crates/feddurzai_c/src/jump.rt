@@ -12,9 +12,11 @@ use crate::numbers::bits_numbered;
 use crate::refusal::{Refusal, refusal_status};
 use crate::room::put_bytes;
 use arrayvec::ArrayVec;
-use move_goals::branch_forms::{CALL_REL16, CALL_RM64, JMP_REL8, JMP_REL16, JMP_RM64, branch_to, through_slot};
 use encoder::encode;
 use instruction_parts::append::append_few;
+use move_goals::branch_forms::{
+    CALL_REL16, CALL_RM64, JMP_REL8, JMP_REL16, JMP_RM64, branch_to, through_slot,
+};
 use plain_spelling::numbers::append_low_bytes;
 use x86_values::{Bits, Instr, wrap};
 

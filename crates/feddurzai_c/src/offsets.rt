@@ -7,8 +7,8 @@ ghost use Rattle.feddurzai_c.specs.Offsets as spec;
 use crate::flat::{FlatOffsets, FlatPart};
 use crate::numbers::bits_numbered;
 use crate::refusal::{Refusal, refusal_status};
-use decoder::byte_offsets::{ByteOffsets, Part, offsets};
 use decoder::DecodeError;
+use decoder::byte_offsets::{ByteOffsets, Part, offsets};
 use x86_values::Bits;
 
 /// A part as a flat struct.

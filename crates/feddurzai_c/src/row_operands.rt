@@ -10,9 +10,9 @@ use crate::info::access_number;
 use crate::refusal::{Refusal, refusal_status};
 use crate::room::put_text;
 use crate::rows::code_numbered;
+use instruction_parts::row_types::OpKind;
 use opcode_rows::{ROWS, row_of};
 use operand_info::{Access, access_of};
-use instruction_parts::row_types::OpKind;
 use x86_values::Code;
 
 /// The word of a kind, empty where there is no operand.

@@ -6,8 +6,8 @@ ghost use Rattle.feddurzai_c.specs.Answers as spec;
 use crate::refusal::{Refusal, refusal_status};
 use crate::room::put_text;
 use opcode_rows::ROWS;
-use text_rows::row_lines::notation_of;
 use std::str::from_utf8;
+use text_rows::row_lines::notation_of;
 use x86_values::Code;
 
 /// The code of a number, where it is one of the table.

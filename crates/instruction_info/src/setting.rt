@@ -5,8 +5,8 @@ ghost use Rattle.opcode_rows.specs.Table.{table};
 ghost use Rattle.instruction_info.specs.Settings as spec;
 
 use crate::effect::{AccessKind, RegisterGroup, repeats};
-use opcode_rows::{ROWS, row_of};
 use instruction_parts::row_types::Size;
+use opcode_rows::{ROWS, row_of};
 use x86_values::{Bits, Code, Instr, Register, Rep, Segment};
 
 /// The mode, which is the stack size too, the operand and address sizes, the segment prefix that counts, and whether a repeat prefix repeats.

@@ -6,8 +6,8 @@ ghost use Rattle.instruction_parts.specs.Bytes as spec;
 use crate::counting::{
     counting_repeat, counting_rex, counting_segment, has_66, has_67, has_lock, is_64, is_rex,
 };
-use crate::spelling::{PrefixState, Spelling, Vex};
 use crate::row_types::{Map, Row};
+use crate::spelling::{PrefixState, Spelling, Vex};
 use x86_values::{Bits, Rep};
 
 /// The length of the VEX, else of the escape bytes of the map.

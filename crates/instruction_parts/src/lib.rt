@@ -2,11 +2,11 @@
 //! says, and the front of some bytes (Intel SDM volume 2, 2.1 to 2.3 and A.2).
 #![tactic(auto)]
 
-pub mod row_types;
 pub mod append;
 pub mod bytes;
 pub mod counting;
 pub mod kinds;
+pub mod row_types;
 pub mod sizes;
 pub mod spelling;
 

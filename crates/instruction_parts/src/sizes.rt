@@ -5,8 +5,8 @@ ghost use Rattle.instruction_parts.specs.Sizes as spec;
 ghost use Rattle.instruction_parts.specs.Counting.{bit_of, rex_bit};
 
 use crate::counting::is_64;
-use crate::spelling::PrefixState;
 use crate::row_types::{Row, RowKind};
+use crate::spelling::PrefixState;
 use x86_values::Bits;
 
 /// Bit n of a byte.

@@ -1,7 +1,7 @@
 //! The parts of an instruction's bytes (Intel SDM volume 2, 2.1 and 2.3.5).
 
-use arrayvec::ArrayVec;
 use crate::row_types::Map;
+use arrayvec::ArrayVec;
 use x86_values::{Rep, Segment};
 
 /// The fields of a VEX (2.3.5). Those that are stored inverted, `r`, `x`, `b` and `vvvv`, are kept after inversion.

@@ -5,9 +5,9 @@ ghost use Rattle.x86_values.specs.Wrapping.{width};
 ghost use Rattle.intel_reader.specs.Candidate as spec;
 
 use instruction_parts::kinds::{Method, method_of_kind};
+use instruction_parts::row_types::Row;
 use intel_words::words::{Inside, IntelWords, OperandText, SignedText};
 use row_fit::tail_fits::kind_at;
-use instruction_parts::row_types::Row;
 use x86_values::{Bits, Code, DispSize, Instr, Mem, Operand, Register, Segment, wrap};
 
 /// 2 to the number of bits.

@@ -23,11 +23,11 @@ use crate::operands::takes_at;
 use crate::possible::{asked_by, displacement_allowed, has_address, has_size, size_allowed};
 use arrayvec::ArrayVec;
 use encoder::encode;
+use instruction_parts::row_types::Row;
 use intel_text::print;
 use intel_words::reading::read_words;
 use intel_words::words::IntelWords;
 use opcode_rows::{ROWS, name, row_of, well_formed};
-use instruction_parts::row_types::Row;
 use std::cmp::Ordering;
 use x86_values::{Bits, Code, DispSize, Instr};
 

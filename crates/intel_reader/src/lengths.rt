@@ -7,12 +7,12 @@ ghost use Rattle.intel_reader.specs.Lengths as spec;
 
 use crate::possible::has_address;
 use instruction_parts::bytes::lead_len;
+use instruction_parts::row_types::{ModRmRule, Row};
 use instruction_parts::sizes::is_vex_row;
 use intel_words::words::IntelWords;
 use plain_spelling::addresses::displacement_count;
 use plain_spelling::front::{asks_66, asks_rex_w, plain_size};
 use row_fit::tail_fits::immediates_bytes;
-use instruction_parts::row_types::{ModRmRule, Row};
 use x86_values::{Bits, DispSize};
 
 /// A byte that is there or not.

@@ -7,11 +7,11 @@ ghost use Rattle.intel_reader.specs.Possible as spec;
 use crate::candidate::address_from;
 use crate::operands::{OperandClass, class_of_register, flags_of_classes};
 use instruction_parts::kinds::{Method, method_of_kind};
+use instruction_parts::row_types::Row;
 use instruction_parts::sizes::has_address_mark;
 use intel_words::words::{IntelWords, OperandText};
 use plain_spelling::addresses::{displacement_suits, has_address_size, told_size, written_size};
 use row_fit::tail_fits::kind_at;
-use instruction_parts::row_types::Row;
 use x86_values::{Bits, DispSize, same_bits};
 
 /// The class of an operand.

@@ -1,11 +1,11 @@
 //! The program's one call: it does what the words of a command line ask for, between a source and two sinks.
 #![tactic(auto)]
 
-pub mod sample_run;
-pub mod flow_run;
 pub mod asm_run;
+pub mod flow_run;
 mod program;
 mod rows;
+pub mod sample_run;
 
 pub use program::run;
 pub use sweep::run_parts::{Status, status_number};

@@ -14,17 +14,17 @@ ghost use Rattle.listing_run.specs.Taken.{limit_of};
 ghost use Rattle.moving_run.specs.Moving.{MovesAs, CompletesMoving};
 ghost use Rattle.command_words.specs.declared.commands.Command.TheVariants.{Wrong};
 
-use crate::rows::write_rows;
 use crate::asm_run::assemble_code;
+use crate::flow_run::flow_code;
+use crate::rows::write_rows;
+use crate::sample_run::sample;
 use byte_ports::{Sink, Source};
 use command_words::{BlockWords, Command, command_of};
-use crate::flow_run::flow_code;
-use moving_run::{Wanted, move_code};
-use sweep::run_parts::{Status, put_all, say, status_line};
-use crate::sample_run::sample;
 use moving_run::slots_run::slot_code;
+use moving_run::{Wanted, move_code};
 use std::alloc::Global;
 use sweep::laws::listings_come_to_their_end;
+use sweep::run_parts::{Status, put_all, say, status_line};
 use sweep::{Lines, StreamError, stream_lines};
 use x86_values::Bits;
 

@@ -8,10 +8,10 @@ ghost use Rattle.listing_run.specs.Rows.{rows_text};
 
 use byte_ports::{Failed, Sink};
 use opcode_rows::ROWS;
-use text_rows::row_lines::row_line;
 use sweep::run_parts::laws::held_texts_arrive;
 use sweep::run_parts::{make_room, put_all};
 use sweep::sweep_text::{Chunk, append};
+use text_rows::row_lines::row_line;
 use x86_values::Code;
 
 /// Writes the line of a row, or holds it back.

@@ -4,8 +4,8 @@ ghost use Rattle.std.specs.Prelude.{◌≡◌};
 ghost use Rattle.modrm_sib.specs.Parts as spec;
 
 use crate::parts::{parts_fit, takes_sib};
-use instruction_parts::{ModRm, PrefixState, Sib};
 use instruction_parts::row_types::Row;
+use instruction_parts::{ModRm, PrefixState, Sib};
 use x86_values::Bits;
 
 /// Whether some SIB can stand behind this ModRM. Of a SIB only the index decides.

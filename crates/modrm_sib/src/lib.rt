@@ -20,11 +20,11 @@ mod read;
 mod write;
 
 use instruction_parts::PrefixState;
+use instruction_parts::row_types::Row;
 use known::read_known_tail;
 pub use parts::{modrm_of_byte, sib_of_byte};
 use prefixes::mode_of;
 use row_meaning::operands;
-use instruction_parts::row_types::Row;
 use thiserror::Error;
 pub use write::{write_operands, write_tail};
 use x86_values::{Bits, Code, Decoded};

@@ -5,13 +5,13 @@ ghost use Rattle.modrm_sib.specs.Parts as spec;
 ghost use Rattle.row_fit.specs.Fits as fits;
 ghost use Rattle.instruction_parts.specs.declared.row_types.Row.{Row};
 
+use instruction_parts::row_types::Row;
 use instruction_parts::sizes::{is_vex_row, size_bytes, state_address_size};
 use instruction_parts::{ModRm, PrefixState, Sib};
 use row_fit::fits::{
     opcode_allows, opcode_and_modrm_fit, reads_mode, reads_offset, same_map, state_fits,
 };
 use row_fit::tail_fits::{displacement_bytes, lock_fits, needs_sib, registers_fit};
-use instruction_parts::row_types::Row;
 use x86_values::Bits;
 
 /// The fields of a ModRM byte: mod in bits 6 and 7, reg in bits 3 to 5, rm in bits 0 to 2.

@@ -13,11 +13,11 @@ use crate::ends::{some_modrm_fits, some_sib_fits};
 use crate::parts::{
     displacement_len, has_sib, modrm_of_byte, parts_fit, plain_displacement_len, sib_of_byte,
 };
+use instruction_parts::row_types::{ModRmRule, Row};
 use instruction_parts::sizes::state_size;
 use instruction_parts::{ModRm, PrefixState, Sib};
 use row_fit::tail_fits::immediates_bytes;
 use row_meaning::operands::{Behind, instr_into};
-use instruction_parts::row_types::{ModRmRule, Row};
 use x86_values::{Bits, Code, Decoded, wrap};
 
 /// The answer where the bytes end: whether something can complete them.

@@ -7,11 +7,11 @@ ghost use Rattle.plain_spelling.specs.Parts.{ArePartsOf};
 ghost use Rattle.plain_spelling.specs.PlainTail.{plain_tail as tail_of};
 
 use instruction_parts::Spelling;
+use instruction_parts::row_types::Row;
 use plain_spelling::NoSpelling;
 use plain_spelling::conditions::first_failed_condition;
 use plain_spelling::parts::{PlainParts, plain_parts};
 use plain_spelling::tail::plain_tail;
-use instruction_parts::row_types::Row;
 use x86_values::{Bits, Instr};
 
 /// The plain spelling of an instruction of a row from the opcode byte on, as `write_operands` gives it, by the parts of the plain spelling, which

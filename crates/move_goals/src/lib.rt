@@ -2,9 +2,9 @@
 #![tactic(auto)]
 
 pub mod branch_forms;
-pub mod moved_targets;
 mod items;
 pub mod laws;
+pub mod moved_targets;
 mod order;
 mod outside;
 mod plan;

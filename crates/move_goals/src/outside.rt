@@ -4,10 +4,10 @@ ghost use Rattle.std.specs.Prelude.{◌≡◌, ◌<◌, ◌≤◌, IfOk, length}
 ghost use Rattle.move_goals.specs.Items.{ArePlaced};
 ghost use Rattle.move_goals.specs.Plan as spec;
 
-use crate::items::Placed;
 use crate::branch_forms::choices_of;
-use branch_sizes::{Branch, Goal, Plan};
+use crate::items::Placed;
 use crate::moved_targets::target_of;
+use branch_sizes::{Branch, Goal, Plan};
 use std::alloc::{AllocError, Global};
 use x86_values::Bits;
 

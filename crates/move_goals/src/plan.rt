@@ -9,13 +9,13 @@ ghost use Rattle.move_goals.specs.Ready.{MayBeReady, AreReady};
 ghost use Rattle.move_goals.specs.Plan as spec;
 ghost use Rattle.move_goals.specs.Starts.{AreStartsBelow, Ascend};
 
+use crate::branch_forms::{choices_of, choices_without_target};
 use crate::items::Placed;
+use crate::moved_targets::target_of;
 use crate::ready::ready_of;
 use crate::starts::{Starts, goal_in, starts_of};
 use arrayvec::ArrayVec;
-use crate::branch_forms::{choices_of, choices_without_target};
 use branch_sizes::{BlockSpan, Branch, Goal, Plan};
-use crate::moved_targets::target_of;
 use std::alloc::{AllocError, Global};
 use x86_values::{Bits, Instr};
 

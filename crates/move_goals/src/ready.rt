@@ -4,8 +4,8 @@ ghost use Rattle.std.specs.Prelude.{◌≡◌, IfOk, length};
 ghost use Rattle.move_goals.specs.Ready as spec;
 
 use crate::items::Placed;
-use arrayvec::ArrayVec;
 use crate::moved_targets::independent_bytes;
+use arrayvec::ArrayVec;
 use std::alloc::{AllocError, Global};
 use x86_values::Bits;
 

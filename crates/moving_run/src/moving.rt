@@ -15,9 +15,9 @@ use branch_sizes::laws::blocks_have_all_items;
 use byte_ports::{Failed, Sink, Source};
 use command_words::BlockWords;
 use move_goals::Placed;
+use std::alloc::Global;
 use sweep::run_parts::laws::told_bytes_are_read;
 use sweep::run_parts::{Status, put_all, read_whole};
-use std::alloc::Global;
 use x86_values::Bits;
 
 /// What is written of moved code.

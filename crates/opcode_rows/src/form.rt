@@ -5,9 +5,9 @@ ghost use Rattle.opcode_rows.specs.Allowed as spec;
 
 use crate::generated_spots::ROWS;
 use instruction_parts::kinds::method_of_kind;
+use instruction_parts::row_types::Row;
 use plain_spelling::forms::{is_scale, is_variant_of, operand_at};
 use row_fit::tail_fits::kind_at;
-use instruction_parts::row_types::Row;
 use x86_values::{Instr, Operand, Register};
 
 /// Whether the code is below `ROWS`, each operand's variant is one that the row's kind allows, each scale is 1, 2, 4 or 8, and each register's

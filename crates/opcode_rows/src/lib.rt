@@ -4,7 +4,6 @@
 //! stand behind them; `laws` says that nothing else changed with them.
 #![tactic(auto)]
 
-pub mod unique_spelling;
 mod by_name;
 mod form;
 mod generated_cells;
@@ -13,6 +12,7 @@ mod generated_spots;
 pub mod laws;
 mod names;
 mod spot;
+pub mod unique_spelling;
 
 ghost use Rattle.std.specs.Prelude.{◌≡◌, ◌+◌, ◌<◌, ◌≤◌, ◌↔◌, length, map, slice_get, Some, IfSome, IsNone};
 ghost use Rattle.row_lists.specs.Cells.{map_index, cell_span, IsRunOf};
@@ -23,9 +23,9 @@ pub use form::well_formed;
 use generated_cells::{LEGACY_SPANS, VEX_SPANS};
 use generated_spots::SPOTS;
 pub use generated_spots::{ROWS, VERSION1_ROWS};
+use instruction_parts::row_types::{Map, Row, RowKind};
 use names::{early_name, later_name};
 use row_lists::{Span, span_in};
-use instruction_parts::row_types::{Map, Row, RowKind};
 use spot::{Part, Spot};
 use std::sync::ledger::Ledger;
 use step_count::Steps;

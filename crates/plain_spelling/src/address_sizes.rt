@@ -6,9 +6,9 @@ ghost use Rattle.plain_spelling.specs.Expressible as spec;
 use crate::addresses::{has_address_size, told_size};
 use crate::forms::operand_at;
 use instruction_parts::counting::is_16;
+use instruction_parts::row_types::Row;
 use instruction_parts::sizes::has_address_mark;
 use row_fit::fits::reads_gather;
-use instruction_parts::row_types::Row;
 use x86_values::{Bits, Instr, Operand, same_bits};
 
 /// Whether some operand is memory.

@@ -11,9 +11,9 @@ use crate::numbers::{is_extended_of, is_of_width};
 use crate::registers::register_number;
 use instruction_parts::counting::{is_16, is_64};
 use instruction_parts::kinds::{File, Method};
+use instruction_parts::row_types::{LBit, Row};
 use instruction_parts::sizes::size_bytes;
 use instruction_parts::spelling::Sib;
-use instruction_parts::row_types::{LBit, Row};
 use x86_values::{Bits, DispSize, Mem, Register, same_bits, same_register};
 
 /// The ways to write an address by ModRM.

@@ -29,12 +29,12 @@ use crate::parts::{PlainParts, immediate_len};
 use crate::registers::{numbers_asked, register_number};
 use instruction_parts::counting::{is_16, is_64};
 use instruction_parts::kinds::{File, Method, file_of_kind, fixed_number_of_kind, method_of_kind};
+use instruction_parts::row_types::{Class, OpKind, Plus, Row};
 use instruction_parts::sizes::{has_address_mark, is_lockable};
 use instruction_parts::spelling::PrefixState;
 use row_fit::fits::{is_no_repeat, is_repeat_f3, reads_gather};
 use row_fit::tail_fits::{is_control_number, is_nop_byte, kind_at};
 use row_meaning::meaning::{general_register, register_of};
-use instruction_parts::row_types::{Class, OpKind, Plus, Row};
 use x86_values::{Bits, Instr, Mem, Operand, Register, same_bits, same_register};
 
 // ---- 2. each operand has a variant that its kind allows

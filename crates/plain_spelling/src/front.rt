@@ -12,10 +12,10 @@ ghost use Rattle.plain_spelling.specs.Asked.{AreAskedOf};
 use crate::registers::{Asked, asks_low_byte, numbers_asked};
 use instruction_parts::bytes::lead_len;
 use instruction_parts::counting::is_16;
+use instruction_parts::row_types::{Class, LBit, Map, Plus, Row, Size, WBit};
 use instruction_parts::sizes::{has_bang, has_caret, is_vex_row, operand_size};
 use instruction_parts::spelling::{PrefixState, Vex};
 use row_fit::fits::same_map;
-use instruction_parts::row_types::{Class, LBit, Map, Plus, Row, Size, WBit};
 use x86_values::{Bits, Instr, Rep, same_bits};
 
 /// A flag as a bit.

@@ -7,9 +7,9 @@ ghost use Rattle.plain_spelling.specs.Expressible as spec;
 use crate::forms::operand_at;
 use crate::registers::numbers_asked;
 use instruction_parts::kinds::{Method, method_of_kind};
+use instruction_parts::row_types::Row;
 use row_fit::fits::reads_gather;
 use row_fit::tail_fits::kind_at;
-use instruction_parts::row_types::Row;
 use x86_values::{Instr, Operand, Register};
 
 /// Whether a register is XMM or YMM.

@@ -13,10 +13,10 @@ ghost use Rattle.plain_spelling.specs.Asked.{AreAskedOf};
 use crate::front::{asks_66_of, asks_rex_w, byte_vex, front_with, plain_size_of};
 use crate::registers::{Asked, numbers_asked};
 use crate::tail::{Addressing, plain_addressing};
+use instruction_parts::row_types::{OpKind, Row};
 use instruction_parts::sizes::is_vex_row;
 use instruction_parts::spelling::{PrefixState, Vex};
 use row_fit::tail_fits::{immediate_bytes, kind_at};
-use instruction_parts::row_types::{OpKind, Row};
 use x86_values::{Bits, Instr, wrap};
 
 /// What the plain spelling of an instruction at an address is made of.

@@ -25,9 +25,9 @@ use crate::parts::{PlainParts, immediate_len};
 use crate::registers::{Asked, register_number};
 use arrayvec::ArrayVec;
 use instruction_parts::kinds::{Method, method_of_kind};
+use instruction_parts::row_types::{ModRmRule, OpKind, Place, Plus, Row};
 use instruction_parts::spelling::{ModRm, Sib, Spelling};
 use row_fit::tail_fits::kind_at;
-use instruction_parts::row_types::{ModRmRule, OpKind, Place, Plus, Row};
 use x86_values::{Bits, Instr, Mem, Operand, wrap};
 
 /// The ModRM and the SIB of a spelling.

@@ -8,8 +8,8 @@ ghost use Rattle.prefixes.specs.Written.{front_written};
 
 use arrayvec::ArrayVec;
 use instruction_parts::PrefixState;
-use row_relation::append_lead;
 use instruction_parts::row_types::Row;
+use row_relation::append_lead;
 use x86_values::{Bits, Rep, Segment};
 
 /// Appends a byte where it is needed.

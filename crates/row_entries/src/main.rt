@@ -16,9 +16,9 @@ mod words;
 
 use anyhow::{Result, bail};
 use effect_entries::compare_instruction_info;
+use instruction_parts::row_types::RowKind;
 use merging::merge;
 use opcode_rows::{ROWS, name};
-use instruction_parts::row_types::RowKind;
 use rows::{NamedRow, NoRows, Section, add_rows};
 use std::alloc::Global;
 use std::fs;

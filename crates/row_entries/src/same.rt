@@ -3,7 +3,9 @@
 ghost use Rattle.std.specs.Prelude.{◌≡◌, ◌↔◌, IsTrue};
 ghost use Rattle.row_entries.specs.Same.{AgreeInFront, AgreeInTail};
 
-use instruction_parts::row_types::{Class, LBit, Map, ModRmRule, OpKind, Place, Plus, Row, RowKind, Size, WBit};
+use instruction_parts::row_types::{
+    Class, LBit, Map, ModRmRule, OpKind, Place, Plus, Row, RowKind, Size, WBit,
+};
 
 /// Whether two kinds of rows are one.
 fn same_kind(a: RowKind, b: RowKind) -> bool

@@ -7,9 +7,11 @@ ghost use Rattle.instruction_parts.specs.Kinds.{method_of};
 
 use instruction_parts::counting::{forbids_vex, is_16, is_32, is_64, is_prefix};
 use instruction_parts::kinds::{Method, method_of_kind};
+use instruction_parts::row_types::{
+    Class, LBit, Map, ModRmRule, OpKind, Place, Plus, Row, Size, WBit,
+};
 use instruction_parts::sizes::{bit_w, exists_in, is_vex_row, state_size};
 use instruction_parts::spelling::{ModRm, PrefixState, Vex};
-use instruction_parts::row_types::{Class, LBit, Map, ModRmRule, OpKind, Place, Plus, Row, Size, WBit};
 use x86_values::{Bits, Rep};
 
 /// Whether the map is the one-byte map.

@@ -7,8 +7,8 @@ ghost use Rattle.row_fit.specs.Sound.{sound};
 use crate::fits::{is_map_one, prefixes_fit, same_map, state_fits, vex_fits};
 use crate::tail_fits::tail_fits;
 use instruction_parts::bytes::state_of;
-use instruction_parts::spelling::{ModRm, Sib, Spelling, Vex};
 use instruction_parts::row_types::{Map, Row};
+use instruction_parts::spelling::{ModRm, Sib, Spelling, Vex};
 use x86_values::Bits;
 
 /// Each byte is below 256, as its type says.

@@ -11,11 +11,11 @@ use crate::fits::{
 };
 use instruction_parts::counting::{is_16, is_64};
 use instruction_parts::kinds::{Method, method_of_kind};
+use instruction_parts::row_types::{Class, OpKind, Plus, Row};
 use instruction_parts::sizes::{
     bit_b, bit_r, bit_x, is_lockable, is_vex_row, size_bytes, state_address_size, state_size,
 };
 use instruction_parts::spelling::{ModRm, PrefixState, Sib};
-use instruction_parts::row_types::{Class, OpKind, Plus, Row};
 use x86_values::Bits;
 
 /// Whether both hold, or neither.

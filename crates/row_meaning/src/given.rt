@@ -13,9 +13,9 @@ use crate::operands::{
     register_into, rm_number_u8,
 };
 use instruction_parts::kinds::{Method, method_of_kind};
+use instruction_parts::row_types::{LBit, OpKind, Row};
 use instruction_parts::spelling::PrefixState;
 use row_fit::fits::mode_is_memory;
-use instruction_parts::row_types::{LBit, OpKind, Row};
 use x86_values::{Bits, Code, Instr, Operand};
 
 /// What each operand of an instruction is read by: the mode, the operand size, the row's L, and what stands behind the opcode byte.

@@ -8,10 +8,10 @@ ghost use Rattle.instruction_parts.specs.Sizes.{state_size};
 
 use crate::numbers::sign_extended;
 use instruction_parts::kinds::File;
+use instruction_parts::row_types::{LBit, Row};
 use instruction_parts::sizes::{bit_w, state_size};
 use instruction_parts::spelling::{ModRm, PrefixState};
 use row_fit::tail_fits::{is_displacement_alone, with_high_bit};
-use instruction_parts::row_types::{LBit, Row};
 use x86_values::{Bits, DispSize, Mem, Register, Segment, wrap};
 
 /// The segment register of a number.

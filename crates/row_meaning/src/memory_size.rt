@@ -6,8 +6,8 @@ ghost use Rattle.row_fit.specs.Sound.{sound};
 ghost use Rattle.instruction_parts.specs.Kinds.{IsShort, memory_width};
 
 use instruction_parts::kinds::{Width, memory_width_of_kind};
-use row_fit::tail_fits::kind_at;
 use instruction_parts::row_types::{LBit, OpKind, Place, Row, Size, WBit};
+use row_fit::tail_fits::kind_at;
 
 /// The operand size that a row has in bytes.
 #[tactic(auto, unfolding(crate::specs::MemorySize::row_size_bytes))]

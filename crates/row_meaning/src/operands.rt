@@ -19,13 +19,13 @@ use crate::numbers::{little_endian, sign_extended};
 use instruction_parts::bytes::{lead_len, state_of};
 use instruction_parts::counting::is_64;
 use instruction_parts::kinds::{File, Method, file_of_kind, fixed_number_of_kind, method_of_kind};
+use instruction_parts::row_types::{Class, LBit, OpKind, Row};
 use instruction_parts::sizes::{bit_b, has_address_mark, state_address_size, state_size};
 use instruction_parts::spelling::{ModRm, PrefixState, Sib, Spelling};
 use row_fit::fits::mode_is_memory;
 use row_fit::tail_fits::{
     immediate_bytes, index_number, kind_at, reg_number, rm_number, vvvv_number, with_high_bit,
 };
-use instruction_parts::row_types::{Class, LBit, OpKind, Row};
 use x86_values::{Bits, Code, Instr, Mem, Operand, Register, Rep, wrap};
 
 /// A register number, which is small.

@@ -7,10 +7,10 @@ mod shape;
 mod words;
 mod writing;
 
-pub use reading::{NotationFault, read_notation};
 pub use instruction_parts::row_types::{
     Class, ImmWord, LBit, Map, Marks, ModRmRule, ModeMask, OpKind, Place, Plus, PlusWord, Row,
     RowKind, RowShape, Size, SizeWord, WBit,
 };
+pub use reading::{NotationFault, read_notation};
 pub use shape::shape_of;
 pub use writing::write_notation;

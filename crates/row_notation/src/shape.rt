@@ -3,8 +3,10 @@
 ghost use Rattle.std.specs.Prelude.{◌≡◌, ◌<◌, IsTrue, length};
 ghost use Rattle.row_notation.specs.Shape as spec;
 
+use instruction_parts::row_types::{
+    ImmWord, OpKind, Plus, PlusWord, Row, RowKind, RowShape, Size, SizeWord,
+};
 use instruction_parts::sizes::{has_bang, has_caret};
-use instruction_parts::row_types::{ImmWord, OpKind, Plus, PlusWord, Row, RowKind, RowShape, Size, SizeWord};
 
 /// The kind of operand `n`, `Absent` where the row has none.
 fn kind_of(row: &Row, n: usize) -> OpKind

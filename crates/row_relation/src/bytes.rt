@@ -13,10 +13,10 @@ ghost use Rattle.row_relation.specs.PlainBytes.{plain_tail_bytes, tail_count};
 
 use arrayvec::ArrayVec;
 use instruction_parts::append::{append, append_few};
+use instruction_parts::row_types::{Map, Row};
 use instruction_parts::{ModRm, Sib, Spelling, Vex};
 use plain_spelling::parts::PlainParts;
 use plain_spelling::tail::{self, append_displacement, append_immediates};
-use instruction_parts::row_types::{Map, Row};
 use x86_values::{Bits, Instr};
 
 /// The escape bytes of a map.

@@ -7,8 +7,8 @@ ghost use Rattle.plain_spelling.specs.PlainFront.{plain_front_of};
 ghost use Rattle.plain_spelling.specs.Expressible.{each_operand, register_suits};
 
 use instruction_parts::PrefixState;
-use plain_spelling::front;
 use instruction_parts::row_types::Row;
+use plain_spelling::front;
 use x86_values::{Bits, Instr};
 
 /// The front of the plain spelling of an instruction of the row: the prefixes that stand in it, the VEX, the map and the opcode

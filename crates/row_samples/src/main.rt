@@ -10,10 +10,10 @@ mod reading_examples;
 mod sample;
 
 use encoder::encode;
+use instruction_parts::row_types::Row;
 use instruction_parts::sizes::exists_in;
 use opcode_rows::{ROWS, name, row_of};
 use reading::{Answers, answers};
-use instruction_parts::row_types::Row;
 use reading_examples::tell_lines;
 use sample::sample;
 use x86_values::{Bits, Code, Instr, same};

@@ -1,8 +1,8 @@
 //! An instruction of a row, made from the kinds of its operands.
 
+use instruction_parts::row_types::{LBit, OpKind, Place, Row, Size};
 use instruction_parts::sizes::has_address_mark;
 use instruction_parts::{File, Method, file_of_kind, fixed_number_of_kind, method_of_kind};
-use instruction_parts::row_types::{LBit, OpKind, Place, Row, Size};
 use x86_values::{Bits, Code, DispSize, Instr, Mem, Operand, Register, Rep, Segment};
 
 /// The general register of a size with a number.

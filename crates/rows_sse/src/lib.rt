@@ -10,8 +10,8 @@ ghost use Rattle.rows_sse.specs.Table.{table, spans};
 
 pub use generated_table::ROWS;
 use generated_table::{FLAT_ROWS, SPANS};
-use row_lists::RowList;
 use instruction_parts::row_types::RowKind;
+use row_lists::RowList;
 
 /// The rows as one list, by index and by cell.
 #[inline]

@@ -12,8 +12,8 @@ ghost use Rattle.step_slots.specs.Stepping.{IsBlockStepped, IsOfLength, IsOfReac
 use crate::laws_below::laws_below;
 use crate::refusals::StepError;
 use block_encoder::{MoveError, Placed, last_len, move_outside};
-use move_goals::branch_forms::{Action, near_code};
 use code_region::{PlaceError, Region};
+use move_goals::branch_forms::{Action, near_code};
 use move_goals::moved_targets::plain_length;
 use std::alloc::Global;
 use x86_values::{Bits, Code, Instr, Operand, Rep, wrap};

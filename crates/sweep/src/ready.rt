@@ -5,12 +5,12 @@ ghost use Rattle.byte_ports.specs.Ports.{HasCause};
 ghost use Rattle.sweep.specs.RunParts.Writing.{HoldsFront, Puts, PutsToFault};
 ghost use Rattle.sweep.specs.Steps.{TakesStep, HandlesItems, HandlesFront};
 
-use crate::window::WINDOW_LEN;
-use byte_ports::{Failed, Sink};
-use decoder::{DecodeError, UNREAD};
 use crate::run_parts::laws::{held_texts_arrive, puts_join};
 use crate::run_parts::{make_room, put_all};
 use crate::sweep_text::{Chunk, Lines, append_line, item_len, read_onto, stop_of};
+use crate::window::WINDOW_LEN;
+use byte_ports::{Failed, Sink};
+use decoder::{DecodeError, UNREAD};
 use x86_values::Bits;
 
 /// The most bytes of an instruction (Intel SDM volume 2, 2.3.11).

@@ -13,13 +13,13 @@ ghost use Rattle.sweep.specs.declared.error.StreamError.TheVariants as why;
 
 use crate::error::{ListError, StreamError};
 use crate::ready::write_ready;
-use crate::window::{WINDOW_LEN, fill, keep};
-use byte_ports::{Failed, Sink, Source};
-use prefixes::mode_of;
 use crate::run_parts::CODE_LIMIT;
 use crate::run_parts::laws::{pieces_join, told_bytes_are_read};
 use crate::sweep_text::laws::sweeps_agree;
 use crate::sweep_text::{Lines, Style};
+use crate::window::{WINDOW_LEN, fill, keep};
+use byte_ports::{Failed, Sink, Source};
+use prefixes::mode_of;
 use x86_values::Bits;
 
 /// The most bytes of a source that are handled.

@@ -15,9 +15,9 @@ use crate::registers::append_register;
 use crate::style::Style;
 use crate::text::{TEXT_LEN, append, append_few};
 use arrayvec::ArrayVec;
+use instruction_parts::row_types::{OpKind, Row, Size};
 use row_fit::tail_fits::kind_at;
 use row_meaning::row_memory_size;
-use instruction_parts::row_types::{OpKind, Row, Size};
 use x86_values::{Bits, Instr, Mem, Operand};
 
 /// Appends a size name and what stands behind it.

@@ -8,8 +8,8 @@ ghost use Rattle.text_parts.specs.PrefixWords as spec;
 use crate::registers::segment_name;
 use crate::text::append_few;
 use arrayvec::ArrayVec;
-use instruction_parts::sizes::operand_size;
 use instruction_parts::row_types::{Row, Size};
+use instruction_parts::sizes::operand_size;
 use x86_values::{Bits, Instr, Operand, Register, Rep, same_bits};
 
 /// Appends the word of LOCK.

@@ -12,8 +12,8 @@ ghost use Rattle.text_parts.specs.Layout.{has_one_long};
 ghost use Rattle.text_rows.specs.BracketText.{bracket_text};
 
 use arrayvec::ArrayVec;
-use opcode_rows::{name, row_of};
 use instruction_parts::row_types::Row;
+use opcode_rows::{name, row_of};
 use text_parts::layout::append_bracket_layout;
 use text_parts::style::Style;
 use text_parts::text::TEXT_LEN;

@@ -9,10 +9,10 @@ ghost use Rattle.opcode_rows.specs.Table.{table, name_of};
 ghost use Rattle.text_rows.specs.RowLines.Lines as spec;
 
 use arrayvec::ArrayVec;
+use instruction_parts::row_types::Row;
 use itoa::Buffer;
 use opcode_rows::{ROWS, name, row_of};
 use row_notation::write_notation;
-use instruction_parts::row_types::Row;
 use text_parts::text::append;
 use x86_values::Code;
 

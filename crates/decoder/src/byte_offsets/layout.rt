@@ -4,8 +4,8 @@ ghost use Rattle.std.specs.Prelude.{◌≡◌, ◌≤◌, ◌<◌, ◌+◌};
 ghost use Rattle.row_fit.specs.Fits.{kind_at, immediate_bytes};
 ghost use Rattle.decoder.specs.ByteOffsets.Offsets as spec;
 
-use row_fit::tail_fits::{immediate_bytes, kind_at};
 use instruction_parts::row_types::Row;
+use row_fit::tail_fits::{immediate_bytes, kind_at};
 use x86_values::Bits;
 
 /// A part of an instruction: the offset of its first byte from the first one of the instruction, and how many bytes it has. A part that is not

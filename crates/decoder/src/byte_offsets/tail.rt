@@ -8,12 +8,12 @@ ghost use Rattle.decoder.specs.ByteOffsets.Tails as spec;
 
 use crate::byte_offsets::layout::Lengths;
 use instruction_parts::bytes::lead_len;
+use instruction_parts::row_types::{ModRmRule, Row};
 use instruction_parts::sizes::{size_bytes, state_address_size};
 use instruction_parts::{ModRm, PrefixState, Sib};
 use modrm_sib::{modrm_of_byte, sib_of_byte};
 use row_fit::fits::{reads_mode, reads_offset};
 use row_fit::tail_fits::{displacement_bytes, needs_sib};
-use instruction_parts::row_types::{ModRmRule, Row};
 use x86_values::Bits;
 
 /// Whether the row has a ModRM.

@@ -3,11 +3,11 @@
 ghost use Rattle.std.specs.Prelude.{◌≡◌, All, length};
 ghost use Rattle.detour.specs.HookSlots.Running.{HookCommandFits, IsHookDone, IsHookRun, install_reply, remove_reply};
 
+use crate::StartTarget;
 use crate::hook_slots::hooking::Hooks;
 use crate::hook_slots::making::Hook;
 use crate::hook_slots::refusals::InstallError;
 use code_region::NotTaken;
-use crate::StartTarget;
 use code_region::live_entries::{Executor, run_commands};
 use std::alloc::Global;
 

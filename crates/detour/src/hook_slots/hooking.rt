@@ -8,12 +8,12 @@ ghost use Rattle.detour.specs.HookSlots.Installing.{IsInstalled};
 ghost use Rattle.detour.specs.HookSlots.Removing.{remove_answer, after_removal};
 ghost use Rattle.detour.specs.HookSlots.Holding.{HooksAreApart, AreDetours, HoldsHooks};
 
+use crate::StartTarget;
 use crate::hook_slots::laws_below::laws_below;
 use crate::hook_slots::making::{Hook, place_hook};
 use crate::hook_slots::refusals::{InstallError, MakeError};
-use code_region::{NotTaken, Region};
-use crate::StartTarget;
 use code_region::live_entries::{insert_entry, remove_entry};
+use code_region::{NotTaken, Region};
 use move_goals::passes;
 use std::alloc::Global;
 use std::marker::Model;

@@ -8,9 +8,9 @@ ghost use Rattle.detour.specs.HookSlots.Keeping.{AreSpaced};
 
 use crate::hook_slots::laws_below::laws_below;
 use crate::hook_slots::refusals::InstallError;
-use code_region::{PlaceError, Region};
 use crate::{Detour, DetourError, StartTarget, detour};
 use code_region::live_entries::LiveEntry;
+use code_region::{PlaceError, Region};
 use std::alloc::{AllocError, Global};
 use x86_values::Bits;
 

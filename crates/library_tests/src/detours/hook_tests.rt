@@ -2,8 +2,8 @@
 
 use crate::detours::compare::{are_bytes, same};
 use code_region::NotTaken;
-use detour::{DetourError, StartTarget};
 use detour::hook_slots::{Hook, HookCommand, HookReply, Hooks, InstallError, MakeError, replay};
+use detour::{DetourError, StartTarget};
 use std::alloc::Global;
 use std::process::Abort;
 use std::test::Fail;

@@ -8,9 +8,9 @@ ghost use Rattle.listing_run.specs.AsmRun.Assembling.{AssemblesAs, CompletesAsse
 use crate::asm_run::code_lines::code_of_lines;
 use crate::asm_run::laws::texts_have_one_answer;
 use byte_ports::{Sink, Source};
+use std::alloc::Global;
 use sweep::run_parts::laws::told_bytes_are_read;
 use sweep::run_parts::{Status, put_all, read_whole};
-use std::alloc::Global;
 use x86_values::Bits;
 
 /// Reads the source to its end, as lines of code of a mode whose first byte has the address `base`, and writes the bytes of all lines.

@@ -5,8 +5,8 @@ ghost use Rattle.listing_run.specs.AsmRun.Lines.{lines_in};
 ghost use Rattle.listing_run.specs.AsmRun.Assembling.{IsCodeOf, IsTextRefusal};
 
 use crate::asm_run::code_of_line::code_of_line;
-use sweep::run_parts::Status;
 use std::alloc::Global;
+use sweep::run_parts::Status;
 use x86_values::{Bits, wrap};
 
 /// The first line of some bytes without its line feed, and what stands behind that.

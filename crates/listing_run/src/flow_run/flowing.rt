@@ -8,9 +8,9 @@ ghost use Rattle.listing_run.specs.FlowRun.Flowing.{FlowsAs, CompletesFlow};
 use crate::flow_run::lines::write_flow;
 use byte_ports::{Sink, Source};
 use flow_graph::flow_graph_in;
+use std::alloc::Global;
 use sweep::run_parts::laws::told_bytes_are_read;
 use sweep::run_parts::{Status, read_whole};
-use std::alloc::Global;
 use x86_values::Bits;
 
 /// Reads the source to its end, as code of a mode whose first byte has the address `base`, and writes a line for each offset that control reaches from the

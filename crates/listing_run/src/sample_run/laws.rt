@@ -8,8 +8,8 @@ ghost use Rattle.listing_run.specs.SampleRun.Made.{HasInstructions};
 
 use block_encoder::laws::{items_reach_their_goals, plans_lay_out_their_items};
 use branch_sizes::laws::{images_are_short, least_is_unique, totals_rise};
-use move_goals::laws::{first_numbers_pass, plans_are_well_formed};
 use branch_sizes::move_layout::laws::far_forms_have_slots;
+use move_goals::laws::{first_numbers_pass, plans_are_well_formed};
 use moving_run::laws::{inputs_are_read_in_one_way, instructions_are_placed};
 use sweep::sweep_text::laws::sweeps_agree;
 

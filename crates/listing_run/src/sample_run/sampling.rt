@@ -7,8 +7,8 @@ ghost use Rattle.listing_run.specs.SampleRun.Sample.{SamplesAs, CompletesSample}
 use crate::sample_run::lines::summary_text;
 use crate::sample_run::summary::summarize;
 use byte_ports::Sink;
-use sweep::run_parts::{Status, put_all};
 use std::alloc::Global;
+use sweep::run_parts::{Status, put_all};
 
 /// Makes some instructions, lists and moves them, and writes what comes of it: six lines. It answers `Memory` before it writes anything, or `WriteFault`, and no
 /// other refusal.

@@ -10,14 +10,14 @@ ghost use Rattle.listing_run.specs.SampleRun.Sample as spec;
 
 use crate::sample_run::generator::{CODE_BASE, sample_code};
 use crate::sample_run::laws::{made_code_has_instructions_alone, made_code_reaches_its_targets};
-use move_goals::branch_forms::choices_of;
 use branch_sizes::Form;
 use command_words::BlockWords;
 use move_goals::Placed;
+use move_goals::branch_forms::choices_of;
 use moving_run::laws::instructions_are_placed;
 use moving_run::move_input;
-use sweep::run_parts::Status;
 use std::alloc::Global;
+use sweep::run_parts::Status;
 use sweep::sweep_text::laws::items_stand_in_turn;
 use sweep::sweep_text::{Chunk, Lines, Style, append_line, item_len, read_at};
 use x86_values::{Bits, Instr};

@@ -6,9 +6,9 @@ ghost use Rattle.move_goals.specs.BranchForms.Branches as spec;
 use crate::branch_forms::generated_codes::{
     CALL_REL16, CALL_RM64, JMP_REL8, JMP_REL16, JMP_RM64, JO_REL8, JO_REL16, LOOPNE_REL8,
 };
+use instruction_parts::row_types::{OpKind, Row, Size};
 use opcode_rows::{ROWS, row_of};
 use operand_info::near_target;
-use instruction_parts::row_types::{OpKind, Row, Size};
 use x86_values::{Bits, Instr};
 
 /// What a relative branch does.

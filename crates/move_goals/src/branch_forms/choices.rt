@@ -12,9 +12,9 @@ use crate::branch_forms::branch::{Action, RelativeBranch, branch_of};
 use crate::branch_forms::form_lengths::branch_length;
 use crate::branch_forms::image::bridge_inner;
 use crate::branch_forms::laws_below::laws_below;
+use crate::moved_targets::plain_length;
 use arrayvec::ArrayVec;
 use branch_sizes::{Choice, Form, Reach};
-use crate::moved_targets::plain_length;
 use x86_values::{Bits, Instr};
 
 /// The number of bits that a size says.

@@ -8,8 +8,8 @@ ghost use Rattle.move_goals.specs.BranchForms.Lengths as spec;
 use crate::branch_forms::branch::{Action, RelativeBranch};
 use crate::branch_forms::image::counter_size;
 use crate::branch_forms::laws_below::laws_below;
-use branch_sizes::Form;
 use crate::moved_targets::plain_length;
+use branch_sizes::Form;
 use x86_values::{Bits, Instr};
 
 /// 66 stands before a branch for an operand size of 16 or 32 bits that is not the mode's own.

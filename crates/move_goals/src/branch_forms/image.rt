@@ -8,8 +8,8 @@ ghost use Rattle.move_goals.specs.BranchForms.Images as spec;
 use crate::branch_forms::branch::{
     Action, RelativeBranch, branch_of, far_code, near_code, opposite_condition, short_code,
 };
-use branch_sizes::Form;
 use crate::moved_targets::{plain_length, with_target};
+use branch_sizes::Form;
 use x86_values::{Bits, Code, DispSize, Instr, Mem, Operand, Register, Rep, wrap};
 
 /// The instructions that a moved instruction becomes, in order.

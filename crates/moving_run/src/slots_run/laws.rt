@@ -2,9 +2,9 @@
 
 ghost use Rattle.moving_run.specs.SlotsRun.Facts.{SlotsAnswerFacts};
 
+use crate::laws::inputs_are_read_in_one_way;
 use branch_sizes::laws::least_is_unique;
 use code_region::laws::places_are_gaps;
-use crate::laws::inputs_are_read_in_one_way;
 use sweep::sweep_text::laws::sweeps_agree;
 
 /// Some code has one answer: the same refusal, or slots.

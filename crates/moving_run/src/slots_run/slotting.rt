@@ -9,11 +9,11 @@ use crate::slots_run::laws::code_has_one_answer;
 use crate::slots_run::stepping::step_all;
 use byte_ports::{Sink, Source};
 use command_words::SlotRange;
-use sweep::run_parts::laws::told_bytes_are_read;
-use sweep::run_parts::{Status, put_all, read_whole};
 use std::alloc::Global;
 use step_slots::StepSlots;
 use step_slots::laws::{reserved_lengths_are_short, slots_stay_apart};
+use sweep::run_parts::laws::told_bytes_are_read;
+use sweep::run_parts::{Status, put_all, read_whole};
 
 /// The greatest number of slots.
 const MOST: u64 = 65_536;

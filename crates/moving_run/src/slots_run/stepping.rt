@@ -6,10 +6,10 @@ ghost use Rattle.moving_run.specs.SlotsRun.Slotted.{empty_slots};
 ghost use Rattle.moving_run.specs.SlotsRun.Steps as spec;
 
 use command_words::SlotRange;
-use sweep::run_parts::Status;
 use std::alloc::Global;
 use step_slots::laws::{reserved_lengths_are_short, slots_stay_apart};
 use step_slots::{Placed, StepError, StepSlots};
+use sweep::run_parts::Status;
 use sweep::sweep_text::laws::items_stand_in_turn;
 use sweep::sweep_text::read_at;
 use x86_values::laws::wrapped_twice;

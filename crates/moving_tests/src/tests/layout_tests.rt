@@ -6,8 +6,8 @@ ghost use Rattle.branch_sizes.specs.Plan.{is_fit_branch, is_fit_goal};
 
 use crate::tests::compare::{same, same_items};
 use arrayvec::ArrayVec;
-use branch_sizes::{BlockSpan, Branch, Choice, Form, Goal, Plan, Reach};
 use branch_sizes::move_layout::{BlockEnd, Fragment, Layout, lay_out};
+use branch_sizes::{BlockSpan, Branch, Choice, Form, Goal, Plan, Reach};
 use std::alloc::{AllocError, Global};
 use std::process::Abort;
 use std::test::Fail;

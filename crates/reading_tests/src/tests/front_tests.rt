@@ -3,11 +3,11 @@
 ghost use Rattle.std.specs.Prelude.{◌≡◌};
 
 use crate::tests::compare::{same_items, same_value};
-use instruction_parts::{PrefixState, Vex};
-use prefixes::{PrefixError, read_prefixes, write_prefixes};
 use instruction_parts::row_types::{
     Class, LBit, Map, Marks, ModRmRule, ModeMask, OpKind, Place, Plus, Row, RowKind, Size, WBit,
 };
+use instruction_parts::{PrefixState, Vex};
+use prefixes::{PrefixError, read_prefixes, write_prefixes};
 use std::test::Fail;
 use x86_values::{Bits, Rep, Segment};
 

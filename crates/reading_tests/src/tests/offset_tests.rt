@@ -1,8 +1,8 @@
 //! Where the parts of instructions stand in their bytes, counted by hand.
 
 use crate::tests::compare::{same_text, same_value};
-use decoder::byte_offsets::{ByteOffsets, Part, offsets};
 use decoder::DecodeError;
+use decoder::byte_offsets::{ByteOffsets, Part, offsets};
 use std::alloc::Global;
 use std::process::Abort;
 use std::test::Fail;

@@ -8,10 +8,10 @@ ghost use Rattle.row_fit.specs.Sound.{sound};
 
 use crate::tests::compare::{same_items, same_value};
 use arrayvec::ArrayVec;
-use row_relation::{ModRm, Spelling, row_fits, row_meaning, row_memory_size, spelling_bytes};
 use instruction_parts::row_types::{
     Class, LBit, Map, Marks, ModRmRule, ModeMask, OpKind, Place, Plus, Row, RowKind, Size, WBit,
 };
+use row_relation::{ModRm, Spelling, row_fits, row_meaning, row_memory_size, spelling_bytes};
 use std::test::Fail;
 use x86_values::{Bits, Code, Operand, Register};
 

@@ -4,14 +4,14 @@ ghost use Rattle.std.specs.Prelude.{◌≡◌, ◌<◌};
 
 use crate::tests::compare::{same_of, same_text, same_value};
 use arrayvec::ArrayVec;
-use opcode_rows::{ROWS, VERSION1_ROWS, cell_len, code_of, first_of, name, row, well_formed};
-use text_rows::row_lines::row_line;
 use instruction_parts::row_types::{Map, Row, RowKind, Size};
+use opcode_rows::{ROWS, VERSION1_ROWS, cell_len, code_of, first_of, name, row, well_formed};
 use std::marker::Brand;
 use std::str::from_utf8;
 use std::sync::ledger::{Blank, Ledger};
 use std::test::Fail;
 use step_count::Steps;
+use text_rows::row_lines::row_line;
 use x86_values::{Code, DispSize, Instr, Mem, Operand, Register, Rep};
 
 /// The name of the `n`-th row of a cell, empty where it has fewer rows.

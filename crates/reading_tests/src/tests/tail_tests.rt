@@ -9,13 +9,13 @@ use Sample::{
     Add16, Add32, Add64, AddImmediate, AddStack, Bound, Call, Gather, LoadFar, MoveByte,
     MoveFromAddress, MoveFromDebug, Pop,
 };
+use instruction_parts::row_types::Row;
 use intel_text::print;
 use modrm_sib::TailError::{Ended, Forbidden};
 use modrm_sib::{TailError, read_operands};
 use opcode_rows::laws::rows_are_sound;
 use opcode_rows::{ROWS, code_of, row_of, well_formed};
 use prefixes::read_prefixes;
-use instruction_parts::row_types::Row;
 use std::process::Abort;
 use std::str::from_utf8;
 use std::test::Fail;

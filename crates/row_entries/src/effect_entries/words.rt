@@ -7,8 +7,8 @@ use instruction_info::{
     AccessKind, Features, FlagSet, ImpliedMemory, ImpliedRegister, NamedMemory, RegisterGroup,
     SegmentRule, flags_of, implied_memory, implied_registers, repeats, stated_access, stated_size,
 };
-use opcode_rows::{ROWS, row_of};
 use instruction_parts::row_types::{OpKind, Place, Row, Size};
+use opcode_rows::{ROWS, row_of};
 use x86_values::Code;
 
 /// What a line has told so far: its flags, how many registers and uses of memory, whether a repeat prefix repeats, and of the memory operand.

@@ -5,8 +5,8 @@ ghost use Rattle.arrayvec.specs.ArrayVec.{array_vec_len};
 ghost use Rattle.byte_ports.specs.Ports.{HasCause, Rose, with_back};
 ghost use Rattle.sweep.specs.RunParts.Writing.{HoldsFront, Moves, Says, Puts, PutsToFault};
 
-use byte_ports::{Failed, Sink};
 use crate::sweep_text::{CHUNK_LEN, Chunk, LINE_LEN};
+use byte_ports::{Failed, Sink};
 
 /// Writes all the bytes. After `Failed` the first of them were written, and the `put` that failed was the last.
 pub fn put_all<K: Sink>(out: &mut K, bytes: &[u8]) -> Result<(), Failed>
