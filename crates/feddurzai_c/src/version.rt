@@ -2,12 +2,14 @@
 
 ghost use Rattle.std.specs.Prelude.{◌≡◌};
 
+use c_calls::version;
+
 /// The version: major, minor and patch in a byte each, the last the lowest. The program tells the same by `--version`.
 #[unsafe(no_mangle)]
 pub extern "C" fn feddurzai_version() -> u32
     ensures { result ≡ 0x000200 }
 {
-    0x00_02_00
+    version::version()
 }
 
 /// The number of the interface. It rises when a struct, a number or a call of it changes.
@@ -15,5 +17,5 @@ pub extern "C" fn feddurzai_version() -> u32
 pub extern "C" fn feddurzai_interface() -> u32
     ensures { result ≡ 3 }
 {
-    3
+    version::interface()
 }
