@@ -1,7 +1,7 @@
 /*
  * Feddurzai: x86 instructions read, written, told and moved (16, 32 and 64-bit code).
  *
- * The functions below are a proved library: each meets a definition that a person can read (crates/feddurzai_c),
+ * The functions below are a proved library: each meets a definition that a person can read (crates/c_calls),
  * for every value of its arguments. What is no mode, no instruction, no row of the table or too small a room is
  * answered by a number below zero, never by undefined behaviour.
  *

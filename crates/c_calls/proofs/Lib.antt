@@ -18,3 +18,8 @@ pub mod OneTarget
 pub mod StepAnswers
 pub mod BlockPlaces
 pub mod BlockAnswers
+pub mod ShortTexts
+pub mod ShortWords
+pub mod ShortJumps
+pub mod ShortPatches
+pub mod RegionUnits

@@ -21,3 +21,4 @@ pub mod Steps
 pub mod Failing
 pub mod Regions
 pub mod RegionSearch
+pub mod Sizes

@@ -2,6 +2,7 @@
 use Rattle.std.specs.Prelude.{ℕ, Bool, true, false, ◌==◌, if◌then◌else◌, Option, Some, None}
 use Rattle.x86_values.specs.declared.Bits.{Bits}
 use Rattle.x86_values.specs.declared.Bits.TheVariants.{B16, B32, B64}
+use Rattle.x86_values.specs.Wrapping.{width}
 use Rattle.x86_values.specs.declared.Segment.{Segment}
 use Rattle.x86_values.specs.declared.Segment.TheVariants.{Es, Cs, Ss, Ds, Fs, Gs}
 use Rattle.x86_values.specs.declared.Register.{Register}
@@ -15,12 +16,6 @@ use Rattle.text_parts.specs.declared.style.Style.TheVariants.{Intel, Att, Masm}
 
 -- ---- modes and sizes: their numbers of bits
 
--- the number of a mode or a size
-abbrev pub bits_number : Bits → ℕ
-bits_number B16 = 16
-bits_number B32 = 32
-bits_number B64 = 64
-
 -- the mode or the size of a number: none of another number
 unfoldable pub bits_numbered : ℕ → Option Bits
 bits_numbered n =
@@ -31,7 +26,7 @@ bits_numbered n =
 -- an address size that may be absent: 0 without one
 abbrev pub asize_number : Option Bits → ℕ
 asize_number None = 0
-asize_number (Some bits) = bits_number bits
+asize_number (Some bits) = width bits
 
 -- and back
 unfoldable pub asize_numbered : ℕ → Option (Option Bits)

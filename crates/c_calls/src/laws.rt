@@ -1,6 +1,6 @@
-//! What holds of the structs, whatever is called.
+//! What holds of the structs, of regions, and of the rooms that are always enough, as the contracts of functions that do nothing.
 
-ghost use Rattle.std.specs.Prelude.{◌≡◌, ℕ, ◌-◌, ◌%◌, ◌^◌, ◌<◌, List, length, slice_get, slice_index_or, Some, Err};
+ghost use Rattle.std.specs.Prelude.{◌≡◌, ℕ, ◌-◌, ◌%◌, ◌^◌, ◌<◌, ◌≤◌, List, Option, IsTrue, length, slice_get, slice_index_or, Some, Ok, Err};
 ghost use Rattle.x86_values.specs.declared.Bits.{Bits};
 ghost use Rattle.x86_values.specs.Wrapping.{modulo_width};
 ghost use Rattle.instruction_parts.specs.declared.row_types.Row.{Row};
@@ -14,6 +14,14 @@ ghost use Rattle.move_goals.specs.Items.{AreSpansOf, one_span};
 ghost use Rattle.move_goals.specs.Plan.{plan_for, plan_outside};
 ghost use Rattle.branch_sizes.specs.MoveLayout.Laid.{images_end};
 ghost use Rattle.x86_values.specs.declared.Instr.{Instr};
+ghost use Rattle.code_region.specs.Laws.{AreInUnits};
+ghost use Rattle.code_region.specs.Placing.{place_answer};
+ghost use Rattle.step_slots.specs.Block.{reserved_room};
+ghost use Rattle.detour.specs.declared.start.StartTarget.{StartTarget};
+ghost use Rattle.detour.specs.Detours.{DetourState};
+ghost use Rattle.c_calls.specs.declared.flat.FlatRegion.{FlatRegion};
+ghost use Rattle.c_calls.specs.declared.flat.FlatLive.{FlatLive};
+ghost use Rattle.c_calls.specs.declared.stepping.StepCode.{StepCode};
 ghost use Rattle.c_calls.specs.declared.moved.MovedCode.{MovedCode};
 ghost use Rattle.c_calls.specs.declared.moved_blocks.CodeBlocks.{CodeBlocks};
 ghost use Rattle.c_calls.specs.declared.moved.Targets.TheVariants.{Follow, Stay};
@@ -22,6 +30,18 @@ ghost use Rattle.c_calls.specs.Blocks.{AreBlocksMoved, no_place};
 ghost use Rattle.c_calls.specs.Failing.{IsFailing};
 ghost use Rattle.c_calls.specs.Flat.{flat_instr};
 ghost use Rattle.c_calls.specs.Back.{instr_back};
+ghost use Rattle.c_calls.specs.Answers.{name_answer, notation_answer};
+ghost use Rattle.c_calls.specs.Effects.{feature_answer};
+ghost use Rattle.c_calls.specs.Hooks.{IsDetourAnswerBy};
+ghost use Rattle.c_calls.specs.Jumps.{jump_answer};
+ghost use Rattle.c_calls.specs.Names.{register_answer, segment_answer};
+ghost use Rattle.c_calls.specs.Regions.{is_region, region_of};
+ghost use Rattle.c_calls.specs.RowOperands.{kind_answer};
+ghost use Rattle.c_calls.specs.Sizes.{HasAtMost};
+ghost use Rattle.c_calls.specs.Steps.{IsSteppedBy};
+
+use crate::rows::code_numbered;
+use text_rows::row_lines::notation_of;
 
 /// Every instruction comes back from its struct; so two with the same struct are the same.
 #[tactic(auto, using(crate::proofs::ThereAndBack::instr_back_flat))]
@@ -48,4 +68,79 @@ pub fn code_ends_with_its_images()
 pub fn told_operands_fail()
     ensures { (bits : Bits) (ip : ℕ) (row : Row) (i : Instr) (why : NoSpelling) → slice_get table i.code.0 ≡ Some row → encoding bits ip i ≡ Err why
         → IsFailing bits (modulo_width bits ip) row i why }
+{}
+
+/// Each live block of a region stands a multiple of 16 bytes behind its base and takes a multiple of 16 bytes, and so does each place that is handed out in
+/// it.
+pub fn regions_are_in_units()
+    ensures live { (region : FlatRegion) (blocks : List FlatLive) → IsTrue (is_region region blocks) → AreInUnits (region_of region blocks) }
+    ensures place { (region : FlatRegion) (blocks : List FlatLive) (len place : ℕ) → IsTrue (is_region region blocks)
+        → place_answer (region_of region blocks) len ≡ Ok place → (region.base ≤ place) × ((place - region.base) % 16 ≡ 0) }
+{
+    code_region::laws::places_are_gaps();
+}
+
+/// The code of a step at a place that is handed out in a region has no more bytes than [`step_len`](crate::stepping::step_len) says for the base of that.
+pub fn steps_fit_their_places()
+    ensures { (region : FlatRegion) (blocks : List FlatLive) (len place : ℕ) → IsTrue (is_region region blocks)
+        → place_answer (region_of region blocks) len ≡ Ok place
+        → (bits : Bits) (ip : ℕ) (bytes : List ℕ) (code : StepCode) (stepped : IsSteppedBy bits ip bytes place code)
+        → length code.moved.bytes ≤ reserved_room bits region.base stepped.item }
+{
+    code_region::laws::places_are_gaps();
+}
+
+/// The patch of a detour has at most 28 bytes.
+pub fn patches_are_short()
+    ensures { (bits : Option Bits) (start : Option StartTarget) (ip : ℕ) (code : List ℕ) (to place : ℕ) (d : DetourState)
+        → IsDetourAnswerBy bits start ip code to place (Ok d) → length d.patch ≤ 28 }
+{
+    move_goals::branch_forms::laws::codes_have_their_rows();
+    move_goals::branch_forms::laws::pieces_have_their_lengths();
+    encoder::laws::spelled_meets_conditions();
+}
+
+/// A jump or a call of a form has at most 16 bytes.
+pub fn jumps_are_short()
+    ensures { (bits at target form : ℕ) → HasAtMost 16 (jump_answer bits at target form) }
+{
+    move_goals::branch_forms::laws::codes_have_their_rows();
+    move_goals::branch_forms::laws::pieces_have_their_lengths();
+    encoder::laws::spelled_meets_conditions();
+}
+
+/// The text of a register has at most 6 bytes, so that a room of 7 holds it.
+pub fn register_texts_are_short()
+    ensures registers { (syntax class n : ℕ) → HasAtMost 6 (register_answer syntax class n) }
+    ensures segments { (syntax prefix : ℕ) → HasAtMost 6 (segment_answer syntax prefix) }
+{}
+
+/// The name of a feature has at most 10 bytes, so that a room of 11 holds it.
+pub fn feature_names_are_short()
+    ensures { (bit : ℕ) → HasAtMost 10 (feature_answer bit) }
+{}
+
+/// The name of a row has at most 16 bytes, so that a room of 17 holds it.
+pub fn row_names_are_short()
+    ensures { (code : ℕ) → HasAtMost 16 (name_answer code) }
+{
+    opcode_rows::laws::names_are_words();
+}
+
+/// The notation of the row of a code has at most 64 bytes, so that a room of 65 holds it.
+#[tactic(auto, unfolding(crate::specs::Answers::notation_answer))]
+pub fn notations_are_short(code: u32)
+    ensures { HasAtMost 64 (notation_answer code) }
+{
+    match code_numbered(code) {
+        Some(code) => {
+            let _ = notation_of(code);
+        }
+        None => {}
+    }
+}
+
+/// The word of the kind of an operand has at most 5 bytes, so that a room of 6 holds it.
+pub fn kind_words_are_short()
+    ensures { (code index : ℕ) → HasAtMost 5 (kind_answer code index) }
 {}

@@ -1,14 +1,15 @@
 //! Modes, styles, registers and other words as numbers, and back.
 
 ghost use Rattle.std.specs.Prelude.{◌≡◌, ◌==◌, if◌then◌else◌};
+ghost use Rattle.x86_values.specs.Wrapping.{width};
 ghost use Rattle.c_calls.specs.Numbers as spec;
 
 use text_parts::style::Style;
 use x86_values::{Bits, DispSize, Register, Rep, Segment};
 
 /// The number of bits.
-pub(crate) fn bits_number(bits: Bits) -> u8
-    ensures { result ≡ spec.bits_number bits }
+fn bits_number(bits: Bits) -> u8
+    ensures { result ≡ width bits }
 {
     match bits {
         Bits::B16 => 16,

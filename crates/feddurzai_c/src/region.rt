@@ -10,7 +10,7 @@ use c_calls::region;
 /// The region is the caller's: its first address, its size, and how many blocks are live, which are the first ones of `blocks`, by address. `place` gets the
 /// address, and the new block its place among the others. Refused with nothing changed, in this order: `Region` where size, room and end are none of a
 /// region (a size of 16 to 1,048,576 in units of 16, room for 1 to 65,536 blocks, an end at 2 to the 64 or before), or the blocks do not stand by address
-/// inside it, none over another; `Empty` for a length of 0; `Room` where all blocks of the array are live; `Full`.
+/// inside it, none over another, each in units of 16 bytes behind the base; `Empty` for a length of 0; `Room` where all blocks of the array are live; `Full`.
 #[unsafe(no_mangle)]
 pub extern "C" fn feddurzai_region_reserve(
     region: &mut FlatRegion,
