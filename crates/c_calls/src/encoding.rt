@@ -210,7 +210,7 @@ fn encode_sized(bits: u32, mode: Bits, ip: u64, f: &FlatInstr, out: &mut [u8]) -
     }
 }
 
-/// Writes the plain (shortest) spelling of an instruction at an address, and says how many bytes it has.
+/// Writes the plain (shortest) spelling of an instruction at an address, and returns how many bytes it has.
 #[tactic(auto, unfolding(crate::specs::Answers::bytes_within, crate::specs::Answers::encoding_of))]
 pub fn encode(bits: u32, ip: u64, instr: &FlatInstr, out: &mut [u8]) -> i32
     ensures said { result ≡ spec.count_or_refusal (spec.bytes_within (length out.old) (spec.encode_answer bits ip instr.now)) }

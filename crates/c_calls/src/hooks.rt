@@ -230,7 +230,7 @@ fn put_hook(answer: &Result<Detour, HookRefusal>, patch: &mut [u8], trampoline: 
     }
 }
 
-/// Makes a detour of a function: a patch and a trampoline. It says 0.
+/// Makes a detour of a function: a patch and a trampoline.
 pub fn make_detour(
     alloc: Global,
     bits: u32,

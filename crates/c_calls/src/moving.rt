@@ -132,7 +132,7 @@ fn move_by(
     put_moved(&answer, out, map)
 }
 
-/// Moves code to another address, where a branch to a moved instruction follows it. It says 0.
+/// Moves code to another address; a branch to a moved instruction follows it.
 pub fn move_code(
     alloc: Global,
     bits: u32,
@@ -158,7 +158,7 @@ pub fn move_code(
     )
 }
 
-/// Moves code to another address, where a branch to a moved instruction goes to its old place. It says 0.
+/// Moves code to another address; a branch to a moved instruction goes to its old place.
 pub fn move_outside(
     alloc: Global,
     bits: u32,

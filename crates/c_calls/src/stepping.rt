@@ -174,7 +174,7 @@ fn put_step(answer: &Result<StepCode, StepRefusal>, out: &mut [u8]) -> i32
     }
 }
 
-/// Writes the code by which the instruction at the front of some bytes is stepped at another place, and says how many bytes it has.
+/// Writes the code by which the instruction at the front of some bytes is stepped at another place, and returns how many bytes it has.
 pub fn step(
     alloc: Global,
     bits: u32,
