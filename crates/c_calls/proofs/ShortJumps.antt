@@ -66,15 +66,15 @@ module _ (facts : JumpFacts) where
   -- a branch through memory is of 64-bit mode
   far_jump-bytes : (bits : Bits) (at slot : ℕ) (bytes : List ℕ) → encoding bits at (through_slot (far_code ToJump) slot) ≡ Ok bytes → length bytes ≤ 6
   unfolding exists_in
-  far_jump-bytes B16 at slot bytes h = let none = without_mode B16 at (memory_row 4) (through_slot (far_code ToJump) slot) facts.codes.far-jump refl in cc
-  far_jump-bytes B32 at slot bytes h = let none = without_mode B32 at (memory_row 4) (through_slot (far_code ToJump) slot) facts.codes.far-jump refl in cc
+  far_jump-bytes B16 at slot bytes h = let none = without_mode B16 at (memory_row 4) (through_slot (far_code ToJump) slot) facts.codes.far-jump refl in absurd cc
+  far_jump-bytes B32 at slot bytes h = let none = without_mode B32 at (memory_row 4) (through_slot (far_code ToJump) slot) facts.codes.far-jump refl in absurd cc
   far_jump-bytes B64 at slot bytes h =
       omega (arith, encoding-length facts.spelled B64 at (through_slot (far_code ToJump) slot) bytes h, facts.pieces.slot_jump-length B64 slot)
 
   far_call-bytes : (bits : Bits) (at slot : ℕ) (bytes : List ℕ) → encoding bits at (through_slot (far_code ToCall) slot) ≡ Ok bytes → length bytes ≤ 6
   unfolding exists_in
-  far_call-bytes B16 at slot bytes h = let none = without_mode B16 at (memory_row 2) (through_slot (far_code ToCall) slot) facts.codes.far-call refl in cc
-  far_call-bytes B32 at slot bytes h = let none = without_mode B32 at (memory_row 2) (through_slot (far_code ToCall) slot) facts.codes.far-call refl in cc
+  far_call-bytes B16 at slot bytes h = let none = without_mode B16 at (memory_row 2) (through_slot (far_code ToCall) slot) facts.codes.far-call refl in absurd cc
+  far_call-bytes B32 at slot bytes h = let none = without_mode B32 at (memory_row 2) (through_slot (far_code ToCall) slot) facts.codes.far-call refl in absurd cc
   far_call-bytes B64 at slot bytes h =
       omega (arith, encoding-length facts.spelled B64 at (through_slot (far_code ToCall) slot) bytes h, facts.pieces.slot_call-length B64 slot)
 

@@ -73,6 +73,6 @@ patch-short facts bits ip code to place start d is =
 -- **a patch has at most 28 bytes**
 pub patches-short : (facts : JumpFacts) (bits : Option Bits) (start : Option StartTarget) (ip : ℕ) (code : List ℕ) (to place : ℕ) (d : DetourState)
     → IsDetourAnswerBy bits start ip code to place (Ok d) → length d.patch ≤ 28
-patches-short facts None start ip code to place d h = cc
-patches-short facts (Some bits) None ip code to place d h = cc
+patches-short facts None start ip code to place d h = absurd cc
+patches-short facts (Some bits) None ip code to place d h = absurd cc
 patches-short facts (Some bits) (Some start) ip code to place d (few, is) = patch-short facts bits ip code (modulo_width bits to) place start d is

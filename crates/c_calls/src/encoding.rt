@@ -168,7 +168,7 @@ fn width_of(bits: u32, ip: u64, f: &FlatInstr) -> u8
 
 /// A struct whose displacement has a width: its own, or the shortest where that is left to the library.
 #[tactic(auto, using(crate::proofs::Widths::of_width_closed))]
-fn with_displacement_size(bits: u32, ip: u64, f: &FlatInstr) -> FlatInstr
+pub(crate) fn with_displacement_size(bits: u32, ip: u64, f: &FlatInstr) -> FlatInstr
     ensures { result ≡ spec.with_displacement_size bits ip f.now }
 {
     if is_open(&f.op0) || is_open(&f.op1) || is_open(&f.op2) || is_open(&f.op3) {

@@ -30,7 +30,7 @@ ghost use Rattle.c_calls.specs.Blocks.{AreBlocksMoved, no_place};
 ghost use Rattle.c_calls.specs.Failing.{IsFailing};
 ghost use Rattle.c_calls.specs.Flat.{flat_instr};
 ghost use Rattle.c_calls.specs.Back.{instr_back};
-ghost use Rattle.c_calls.specs.Answers.{name_answer, notation_answer};
+ghost use Rattle.c_calls.specs.Answers.{encode_answer, name_answer, notation_answer, text_answer};
 ghost use Rattle.c_calls.specs.Effects.{feature_answer};
 ghost use Rattle.c_calls.specs.Hooks.{IsDetourAnswerBy};
 ghost use Rattle.c_calls.specs.Jumps.{jump_answer};
@@ -38,9 +38,17 @@ ghost use Rattle.c_calls.specs.Names.{register_answer, segment_answer};
 ghost use Rattle.c_calls.specs.Regions.{is_region, region_of};
 ghost use Rattle.c_calls.specs.RowOperands.{kind_answer};
 ghost use Rattle.c_calls.specs.Sizes.{HasAtMost};
-ghost use Rattle.c_calls.specs.Steps.{IsSteppedBy};
+ghost use Rattle.c_calls.specs.Steps.{IsStepCode, IsSteppedBy};
 
+use crate::encoding::with_displacement_size;
+use crate::flat::FlatInstr;
+use crate::numbers::{bits_numbered, style_numbered};
 use crate::rows::code_numbered;
+use crate::texts::append_style_text;
+use crate::unflatten::instr_back;
+use encoder::encode;
+use opcode_rows::well_formed;
+use text_parts::text::Text;
 use text_rows::row_lines::notation_of;
 
 /// Every instruction comes back from its struct; so two with the same struct are the same.
@@ -144,3 +152,42 @@ pub fn notations_are_short(code: u32)
 pub fn kind_words_are_short()
     ensures { (code index : ℕ) → HasAtMost 5 (kind_answer code index) }
 {}
+
+/// The code of a step has at most 53 bytes.
+pub fn steps_are_short()
+    ensures { (bits : Option Bits) (ip : ℕ) (bytes : List ℕ) (place : ℕ) (code : StepCode) → IsStepCode bits ip bytes place (Ok code) → length code.moved.bytes ≤ 53 }
+{}
+
+/// The encoding of the instruction of a struct has at most 15 bytes.
+#[tactic(auto, unfolding(crate::specs::Answers::encoding_of))]
+pub fn encodings_are_short(bits: u32, ip: u64, instr: &FlatInstr)
+    ensures { HasAtMost 15 (encode_answer bits ip instr.now) }
+{
+    let sized = with_displacement_size(bits, ip, instr);
+    let Some(bits) = bits_numbered(bits) else {
+        return;
+    };
+    let Some(read) = instr_back(&sized) else {
+        return;
+    };
+    let _ = encode(bits, ip, &read);
+}
+
+/// The text of the instruction of a struct has at most 160 bytes, so that a room of 161 holds it.
+#[tactic(auto, unfolding(crate::specs::Answers::instr_text_of))]
+pub fn texts_are_short(bits: u32, syntax: u32, instr: &FlatInstr)
+    ensures { HasAtMost 160 (text_answer bits syntax instr.now) }
+{
+    let Some(bits) = bits_numbered(bits) else {
+        return;
+    };
+    let Some(style) = style_numbered(syntax) else {
+        return;
+    };
+    let Some(read) = instr_back(instr) else {
+        return;
+    };
+    if well_formed(&read) {
+        append_style_text(&mut Text::new(), style, bits, &read);
+    }
+}
