@@ -4,7 +4,7 @@ use Rattle.row_relation.specs.RowReading.{RowReads}
 use Rattle.modrm_sib.specs.Answer.{tail_answer}
 use Rattle.modrm_sib.proofs.InPlace.{some_in, some_in_both}
 use Rattle.modrm_sib.proofs.Rows.{front_known, bytes_from_type, answer_of_row, answered_read, answered_over}
-use Rattle.modrm_sib.proofs.read_known_into.Goals as goal
+use Rattle.modrm_sib.proofs.read_fitting_into.Goals as goal
 
 pub split_at-requires : goal.split_at-requires
 split_at-requires c =

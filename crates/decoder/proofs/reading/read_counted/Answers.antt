@@ -11,7 +11,7 @@ use Rattle.opcode_rows.specs.Table.{table}
 use Rattle.decoder.specs.Answer.{reading_of}
 use Rattle.decoder.proofs.OneReading.{only_reading}
 use Rattle.decoder.proofs.ReadingLaws.{open_is_short, forbidden_is_invalid}
-use Rattle.decoder.proofs.reading.decode_into.Goals as goal
+use Rattle.decoder.proofs.reading.read_counted.Goals as goal
 
 ended_is_open : (f : Front) (e : PrefixError) → e ≡ Ended → Err e ≡ answer_of f → f ≡ Open
 ended_is_open Open e is h = refl
