@@ -128,6 +128,11 @@ def text_of(path):
 
 
 def main():
+    words = sys.argv[1:]
+    if words not in ([], ["--check"]):
+        print(__doc__.strip())
+        sys.exit(0 if words in (["-h"], ["--help"]) else 2)
+    check = words == ["--check"]
     header_path = os.path.join(HERE, "feddurzai.h")
     header = text_of(header_path)
     constants, tests, members = parts(read_rows(sys.stdin))
@@ -137,7 +142,7 @@ def main():
         os.path.join(HERE, "tests", "codes.h"): tests,
         os.path.join(HERE, "python", "feddurzai", "_codes.py"): members,
     }
-    if sys.argv[1:] == ["--check"]:
+    if check:
         other = [path for path, text in written.items() if text_of(path) != text]
         sys.exit(f"codes.py: the codes are not those of the rows in {', '.join(other)}" if other else 0)
     for path, text in written.items():

@@ -17,9 +17,8 @@ ROOT = Path(__file__).resolve().parent.parent
 
 # their proofs use the public contracts of what is below them, and definitions
 BY_CONTRACTS = [
-    "moved_targets", "branch_forms", "move_goals", "move_layout", "block_encoder", "step_slots", "hook_slots", "sweep", "command_words", "run_parts",
-    "asm_run", "moving_run", "flow_run", "slots_run", "sample_run", "listing_run", "sweep_text", "byte_ports", "listing_program",
-    "detour", "code_items", "byte_offsets", "flow_graph", "code_region", "live_entries", "branch_sizes",
+    "branch_sizes", "move_goals", "block_encoder", "code_items", "code_region", "step_slots", "flow_graph", "detour", "byte_ports", "sweep",
+    "command_words", "moving_run", "listing_run", "listing_program",
 ]
 
 IN_PROOF = re.compile(r"\bRattle\.([a-z_0-9]+)\.proofs\.([A-Za-z_0-9.]+?)(?:\.\{([^}]*)\}| as \S+)?\s*$")
