@@ -46,7 +46,7 @@ all_names-at [] k h lt = absurd (omega arith)
 all_names-at (n ∷ ns) zero h lt = (and_parts (is_name n) (all_names ns) h).0
 all_names-at (n ∷ ns) (suc k) h lt = all_names-at ns k (and_parts (is_name n) (all_names ns) h).1 (omega arith)
 
--- each name has 1 to 20 lower-case letters and digits
+-- each name has 1 to 16 lower-case letters and digits
 pub name-is_name : (code : ℕ) → code < ROWS → IsTrue (is_name (name_of code))
 unfolding name_of
 name-is_name code lt = all_names-at names code are_names (omega (arith, lt, length-names))
