@@ -106,7 +106,7 @@ mov_byte = row LegacyRow MapOne AnyClass 0x88 NoPlus AnyModRm AnyPlace NoSize No
 abbrev pub jmp_short : Row
 jmp_short = row LegacyRow MapOne AnyClass 0xEB NoPlus NoModRm AnyPlace O64 NoW NoL 4 KJb KAbsent KAbsent KAbsent 20
 
--- VADDPS ymm, ymm, ymm/m256
+-- VADDPS xmm, xmm, xmm/m128
 abbrev pub vaddps : Row
 vaddps = row VexRow M0f Np 0x58 NoPlus AnyModRm AnyPlace NoSize Wig L128 7 KVx KHx KWx KAbsent 0
 
