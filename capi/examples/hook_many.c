@@ -384,7 +384,7 @@ static const uint8_t *code_of(function f)
     return (const uint8_t *)(uintptr_t)f;
 }
 
-/* a function of a library and its size, as the library's symbols tell it; none where the symbol is made when it is loaded */
+/* finds a function of a library and its size by the library's symbols; none if the loader resolves the symbol (IFUNC) */
 static void look_up(struct hook *hook)
 {
     void *library = dlopen(hook->library, RTLD_NOW), *symbol = library == NULL ? NULL : dlsym(library, hook->name);
