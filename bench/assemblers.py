@@ -103,9 +103,9 @@ def main():
             half = "\n".join(lines[: len(lines) // 2]) + "\n"
             more = len(lines) - len(lines) // 2
             times = [min(run(command, it, is_input, folder)[0] for _ in range(RUNS)) for it in (text, half)]
-            told = f"{name:<16} {(times[0] - times[1]) * 1e9 / more:9.0f} ns a line"
+            told = f"{name:<16} {(times[0] - times[1]) * 1e9 / more:9.0f} ns per line"
             if shutil.which("valgrind"):
-                told += f" {(count(command, text, is_input, folder) - count(command, half, is_input, folder)) / more:9.0f} machine instructions a line"
+                told += f" {(count(command, text, is_input, folder) - count(command, half, is_input, folder)) / more:9.0f} machine instructions per line"
             print(told, flush=True)
 
 

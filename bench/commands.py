@@ -87,7 +87,7 @@ def main():
         for size in (131_072, 262_144, 524_288, 1_048_576):
             given = behind_calls(program, code[:size])
             reached = len(lines([program, "flow", "64", "0"], given))
-            row(f"{size:,}, of which {reached:,} starts are reached", [program, "flow", "64", "0"], given, reached, b"\xc3", folder)
+            row(f"{size:,}, with {reached:,} starts reached", [program, "flow", "64", "0"], given, reached, b"\xc3", folder)
         print(f"\n| `list`, bytes {head}")
         for size in (16_384, 1_048_576, 16_000_000):
             given = (code * (size // len(code) + 1))[:size]

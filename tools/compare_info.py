@@ -258,7 +258,7 @@ def main():
             group.setdefault((row.name, aspect, str(a), str(b)), []).append(key)
     print(f'{len(rows) - sum(unread.values())} instructions of {len(seen)} rows; {agree} agree in everything')
     if unread:
-        print(f'{sum(unread.values())} instructions that LLVM does not decode are left out: {" ".join(sorted(unread))}')
+        print(f'{sum(unread.values())} instructions are left out, which LLVM does not decode, or decodes with another operand size: {" ".join(sorted(unread))}')
     for kind, _ in named:
         print(f'  {kinds[kind]:6d} {kind}')
         if args.all:

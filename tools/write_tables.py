@@ -12,7 +12,7 @@ from tables.rows import table_of  # noqa: E402
 CRATES = os.path.join(os.path.dirname(os.path.dirname(os.path.abspath(__file__))), 'crates')
 
 HELP = '''\
-The entries are read once (docs/entries.md says how a line is read) and expanded to the rows of the table; the stages behind make of these rows
+The entries are read once (docs/entries.md describes a line) and expanded to the rows of the table. From the rows these stages make
 
   rows      crates/rows_*/src/generated_table.rt, crates/opcode_rows/src/generated_{spots,cells,names}.rt
   columns   crates/operand_info/src/generated_columns.rt

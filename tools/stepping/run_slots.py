@@ -58,7 +58,7 @@ static void on_trap(int signal, siginfo_t *info, void *context)
     steps++;
 }
 
-/* the results of all calls, one behind another; each that differs from the one of the first time is told */
+/* the results of all calls, in order; each that differs from its first result is reported */
 static u64 call_all(int again, u64 *wrong)
 {
     u64 calls = 0;
