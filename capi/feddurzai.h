@@ -492,8 +492,8 @@ typedef struct feddurzai_about {
 } feddurzai_about;
 
 /*
- * Reports control flow, operand access, memory size and named registers of an instruction. feddurzai_effects also
- * reports implied registers and memory, and flags.
+ * Reports control flow, operand access, memory size and named registers of an instruction (SDM chapters 3 to 5).
+ * feddurzai_effects also reports implied registers and memory, and flags.
  *
  * Returns 0, or FEDDURZAI_BAD_INSTR, _BAD_FORM; then *about is unchanged.
  *
