@@ -40,7 +40,7 @@ number-le Masm n =
 number-le Intel n = omega (arith, hexadecimal-le n)
 number-le Att n = omega (arith, hexadecimal-le n)
 
--- a decimal number below 100 has at most 2
+-- a register number in decimal has at most 2
 pub decimal-le : (n : ℕ) → length (decimal n) ≤ 2
 unfolding decimal
 decimal-le n = search (rules, short_if)
