@@ -42,7 +42,7 @@ pub fn sib_of_byte(b: u8) -> Sib
     }
 }
 
-/// Whether a SIB stands behind this ModRM.
+/// Whether a SIB follows this ModRM.
 #[inline]
 #[tactic(auto, unfolding(crate::specs::Parts::takes_sib))]
 pub(crate) fn takes_sib(bits: Bits, row: &Row, state: &PrefixState, m: ModRm) -> bool
